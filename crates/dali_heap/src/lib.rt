@@ -1,0 +1,341 @@
+//! Operations on the cells of a heap region.
+//!
+//! Cell c, from 1 to 7, stands at the words 8c to 8c+7: its state (0 free, 1 live, 2 dead), its key,
+//! the length of its value, and five words that hold the value. Each operation is a function of the
+//! region's 64 words, on any words: it says which words it reads and writes, all words afterwards,
+//! and what it found. It stops at the first test that fails and has read no more. What it does
+//! depends on the words that it reads alone.
+#![tactic(auto)]
+
+ghost use Rattle.std.specs.Prelude.{◌≡◌, ◌≤◌};
+ghost use Rattle.dali_words.specs.Effects.{DependsOnReads, AnswersByReads};
+ghost use Rattle.dali_heap.specs.Cells;
+ghost use Rattle.dali_heap.specs.Rows as rows;
+
+pub mod laws;
+
+use dali_words::{Effect, KillOutcome, Value, bit, bits, is_size, pack, unpack};
+
+/// The states of a cell.
+const FREE: u64 = 0;
+
+const LIVE: u64 = 1;
+
+const DEAD: u64 = 2;
+
+/// What storing a value found.
+#[derive(Clone, Copy, Debug, PartialEq, Eq)]
+pub enum PutOutcome {
+    /// It is in this cell, which was the first free one.
+    Put { cell: u8 },
+    /// No cell is free.
+    NoCell,
+}
+
+/// What reading a cell found.
+#[derive(Clone, Copy, Debug, PartialEq, Eq)]
+pub enum ReadOutcome {
+    /// The state isn't that of a live cell.
+    NotLive { state: u64 },
+    /// It has another key.
+    OtherKey { key: u64 },
+    /// The length isn't 1 to 40.
+    OddLength { length: u64 },
+    /// It has this value.
+    Value { value: Value },
+}
+
+/// What changing a cell found.
+#[derive(Clone, Copy, Debug, PartialEq, Eq)]
+pub enum ChangeOutcome {
+    /// The state isn't that of a live cell.
+    NotLive { state: u64 },
+    /// It has another key.
+    OtherKey { key: u64 },
+    /// The length isn't 1 to 40.
+    OddLength { length: u64 },
+    /// It has the new value.
+    Changed,
+}
+
+/// The five words that hold the value of a cell.
+pub fn value_words(words: &[u64; 64], cell: u8) -> [u64; 5]
+    requires low { 1 ≤ cell }
+    requires high { cell ≤ 7 }
+    ensures { result ≡ Cells.value_of words.now cell }
+{
+    let first = 8 * cell as usize + 3;
+    let mut value = [0; 5];
+    value.copy_from_slice(&words[first..first + 5]);
+    value
+}
+
+/// Stores a value for `key` in the first free cell: writes its state, key, length and value, the
+/// padding too. Reads the states of the cells up to it, and the words that it writes.
+pub fn put(words: &[u64; 64], key: u64, value: &Value) -> (Effect, PutOutcome)
+    ensures row { result ≡ rows.put words.now key value.now }
+    ensures by_reads { AnswersByReads (λ ws. rows.put ws key value.now) words.now }
+{
+    let mut read = 0;
+    for cell in 1..8 {
+        let first = 8 * cell;
+        if words[first as usize] == FREE {
+            let mut news = [LIVE, key, value.bytes().len() as u64, 0, 0, 0, 0, 0];
+            news[3..].copy_from_slice(&pack(value));
+            let read = read | bits(first, 8);
+            return (
+                Effect::writing(words, read, first, &news),
+                PutOutcome::Put { cell },
+            );
+        }
+        read |= bit(first);
+    }
+    (Effect::reading(words, read), PutOutcome::NoCell)
+}
+
+/// The value of a live cell with this key. Reads the cell's state, key, length and value, in this order.
+pub fn read(words: &[u64; 64], cell: u8, key: u64) -> (Effect, ReadOutcome)
+    requires low { 1 ≤ cell }
+    requires high { cell ≤ 7 }
+    ensures row { result ≡ rows.read words.now cell key }
+    ensures by_reads { AnswersByReads (λ ws. rows.read ws cell key) words.now }
+{
+    let first = 8 * cell;
+    let state = words[first as usize];
+    if state != LIVE {
+        return (
+            Effect::reading(words, bits(first, 1)),
+            ReadOutcome::NotLive { state },
+        );
+    }
+    let found = words[first as usize + 1];
+    if found != key {
+        return (
+            Effect::reading(words, bits(first, 2)),
+            ReadOutcome::OtherKey { key: found },
+        );
+    }
+    let length = words[first as usize + 2];
+    match unpack(length, &value_words(words, cell)) {
+        None => (
+            Effect::reading(words, bits(first, 3)),
+            ReadOutcome::OddLength { length },
+        ),
+        Some(value) => (
+            Effect::reading(words, bits(first, 8)),
+            ReadOutcome::Value { value },
+        ),
+    }
+}
+
+/// Gives a live cell with this key another value: writes its length and value, the padding too.
+/// Reads the cell's state, key, length and value.
+pub fn change(words: &[u64; 64], cell: u8, key: u64, value: &Value) -> (Effect, ChangeOutcome)
+    requires low { 1 ≤ cell }
+    requires high { cell ≤ 7 }
+    ensures row { result ≡ rows.change words.now cell key value.now }
+    ensures by_reads { AnswersByReads (λ ws. rows.change ws cell key value.now) words.now }
+{
+    let first = 8 * cell;
+    let state = words[first as usize];
+    if state != LIVE {
+        return (
+            Effect::reading(words, bits(first, 1)),
+            ChangeOutcome::NotLive { state },
+        );
+    }
+    let found = words[first as usize + 1];
+    if found != key {
+        return (
+            Effect::reading(words, bits(first, 2)),
+            ChangeOutcome::OtherKey { key: found },
+        );
+    }
+    let length = words[first as usize + 2];
+    if !is_size(length) {
+        return (
+            Effect::reading(words, bits(first, 3)),
+            ChangeOutcome::OddLength { length },
+        );
+    }
+    let mut news = [value.bytes().len() as u64, 0, 0, 0, 0, 0];
+    news[1..].copy_from_slice(&pack(value));
+    (
+        Effect::writing(words, bits(first, 8), first + 2, &news),
+        ChangeOutcome::Changed,
+    )
+}
+
+/// Kills a live cell with this key: writes its state. Reads the cell's state, key and length.
+pub fn kill(words: &[u64; 64], cell: u8, key: u64) -> (Effect, KillOutcome)
+    requires low { 1 ≤ cell }
+    requires high { cell ≤ 7 }
+    ensures row { result ≡ rows.kill words.now cell key }
+    ensures by_reads { AnswersByReads (λ ws. rows.kill ws cell key) words.now }
+{
+    let first = 8 * cell;
+    let state = words[first as usize];
+    if state != LIVE {
+        return (
+            Effect::reading(words, bits(first, 1)),
+            KillOutcome::NotLive { state },
+        );
+    }
+    let found = words[first as usize + 1];
+    if found != key {
+        return (
+            Effect::reading(words, bits(first, 2)),
+            KillOutcome::OtherKey { key: found },
+        );
+    }
+    let length = words[first as usize + 2];
+    if !is_size(length) {
+        return (
+            Effect::reading(words, bits(first, 3)),
+            KillOutcome::OddLength { length },
+        );
+    }
+    (
+        Effect::writing(words, bits(first, 3), first, &[DEAD]),
+        KillOutcome::Killed,
+    )
+}
+
+/// Makes a cell free: reads and writes its state.
+pub fn free(words: &[u64; 64], cell: u8) -> Effect
+    requires low { 1 ≤ cell }
+    requires high { cell ≤ 7 }
+    ensures row { result ≡ rows.free words.now cell }
+    ensures by_reads { DependsOnReads (λ ws. rows.free ws cell) words.now }
+{
+    Effect::writing(words, bit(8 * cell), 8 * cell, &[FREE])
+}
+
+/// Makes a cell live again: reads and writes its state.
+pub fn revive(words: &[u64; 64], cell: u8) -> Effect
+    requires low { 1 ≤ cell }
+    requires high { cell ≤ 7 }
+    ensures row { result ≡ rows.revive words.now cell }
+    ensures by_reads { DependsOnReads (λ ws. rows.revive ws cell) words.now }
+{
+    Effect::writing(words, bit(8 * cell), 8 * cell, &[LIVE])
+}
+
+/// Gives a cell the length and the value words that it had: reads and writes them.
+pub fn restore(words: &[u64; 64], cell: u8, length: u64, value: &[u64; 5]) -> Effect
+    requires low { 1 ≤ cell }
+    requires high { cell ≤ 7 }
+    ensures row { result ≡ rows.restore words.now cell length value.now }
+    ensures by_reads { DependsOnReads (λ ws. rows.restore ws cell length value.now) words.now }
+{
+    let first = 8 * cell + 2;
+    let mut news = [length, 0, 0, 0, 0, 0];
+    news[1..].copy_from_slice(value);
+    Effect::writing(words, bits(first, 6), first, &news)
+}
+
+#[cfg(test)]
+mod tests {
+    use super::*;
+    use std::test::Fail;
+
+    const ABC: [u64; 5] = [0x6162_6300_0000_0000, 0, 0, 0, 0];
+
+    // The words of a heap region in which nothing is stored.
+    fn formatted() -> [u64; 64] {
+        let mut words = [0; 64];
+        words[0] = 1;
+        words
+    }
+
+    #[test]
+    fn a_value_is_stored_and_read(rt: HostRuntime) -> Result<(), Fail> {
+        let abc = Value::from_bytes(b"abc").ok_or("no value")?;
+        let words = formatted();
+        let (effect, outcome) = put(&words, 5, &abc);
+        assert_eq!(rt; (effect.read, effect.write), (0xff00, 0xff00));
+        assert_eq!(rt; outcome, PutOutcome::Put { cell: 1 });
+        assert_eq!(rt;
+            effect.after[..16],
+            [1, 0, 0, 0, 0, 0, 0, 0, 1, 5, 3, ABC[0], 0, 0, 0, 0][..]
+        );
+        let (second, outcome) = put(&effect.after, 6, &abc);
+        assert_eq!(rt; (second.read, second.write), (0xff_0100, 0xff_0000));
+        assert_eq!(rt; outcome, PutOutcome::Put { cell: 2 });
+        let (found, outcome) = read(&effect.after, 1, 5);
+        assert_eq!(rt; (found.read, found.write), (0xff00, 0));
+        assert_eq!(rt; found.after, effect.after);
+        assert_eq!(rt; outcome, ReadOutcome::Value { value: abc });
+        Ok(())
+    }
+
+    #[test]
+    fn damaged_words_are_told(rt: HostRuntime) -> Result<(), Fail> {
+        let abc = Value::from_bytes(b"abc").ok_or("no value")?;
+        let (effect, outcome) = read(&formatted(), 1, 5);
+        assert_eq!(rt; (effect.read, effect.write), (0x100, 0));
+        assert_eq!(rt; outcome, ReadOutcome::NotLive { state: 0 });
+        let mut words = put(&formatted(), 5, &abc).0.after;
+        let (effect, outcome) = read(&words, 1, 6);
+        assert_eq!(rt;
+            (effect.read, outcome),
+            (0x300, ReadOutcome::OtherKey { key: 5 })
+        );
+        words[10] = 1 << 40;
+        let (effect, outcome) = read(&words, 1, 5);
+        assert_eq!(rt;
+            (effect.read, outcome),
+            (0x700, ReadOutcome::OddLength { length: 1 << 40 })
+        );
+        let (effect, outcome) = change(&words, 1, 5, &abc);
+        assert_eq!(rt; (effect.read, effect.write), (0x700, 0));
+        assert_eq!(rt; effect.after, words);
+        assert_eq!(rt; outcome, ChangeOutcome::OddLength { length: 1 << 40 });
+        let (effect, outcome) = kill(&words, 1, 5);
+        assert_eq!(rt; (effect.read, effect.write), (0x700, 0));
+        assert_eq!(rt; effect.after, words);
+        assert_eq!(rt; outcome, KillOutcome::OddLength { length: 1 << 40 });
+        words[8] = 7;
+        let (effect, outcome) = kill(&words, 1, 5);
+        assert_eq!(rt;
+            (effect.read, outcome),
+            (0x100, KillOutcome::NotLive { state: 7 })
+        );
+        let (effect, outcome) = put(&[7; 64], 5, &abc);
+        assert_eq!(rt; (effect.read, effect.write), (0x0101_0101_0101_0100, 0));
+        assert_eq!(rt; outcome, PutOutcome::NoCell);
+        Ok(())
+    }
+
+    #[test]
+    fn changes_and_their_undoing(rt: HostRuntime) -> Result<(), Fail> {
+        let abc = Value::from_bytes(b"abc").ok_or("no value")?;
+        let longer = Value::from_bytes(b"123456789").ok_or("no value")?;
+        let words = put(&formatted(), 5, &abc).0.after;
+        let (changed, outcome) = change(&words, 1, 5, &longer);
+        assert_eq!(rt; (changed.read, changed.write), (0xff00, 0xfc00));
+        assert_eq!(rt; outcome, ChangeOutcome::Changed);
+        assert_eq!(rt;
+            read(&changed.after, 1, 5).1,
+            ReadOutcome::Value { value: longer }
+        );
+        let back = restore(&changed.after, 1, words[10], &value_words(&words, 1));
+        assert_eq!(rt; (back.read, back.write), (0xfc00, 0xfc00));
+        assert_eq!(rt; back.after, words);
+        let (killed, outcome) = kill(&words, 1, 5);
+        assert_eq!(rt;
+            (killed.read, killed.write, killed.after[8]),
+            (0x700, 0x100, 2)
+        );
+        assert_eq!(rt; outcome, KillOutcome::Killed);
+        let revived = revive(&killed.after, 1);
+        assert_eq!(rt; (revived.read, revived.write), (0x100, 0x100));
+        assert_eq!(rt; revived.after, words);
+        let freed = free(&killed.after, 1);
+        assert_eq!(rt;
+            (freed.read, freed.write, freed.after[8]),
+            (0x100, 0x100, 0)
+        );
+        Ok(())
+    }
+}

@@ -1,0 +1,107 @@
+//! Laws of the operations on entries and of the index's invariant, each the contract of a function that does nothing.
+
+ghost use Rattle.dali_index.specs.Laws.{OperationsStay, EntriesCommute, WalksWithin, UndoesKill, UndoesAdd, LookFindsFirst, AddTakesFirst};
+ghost use Rattle.dali_index.specs.Keeps.{GapsAreNone, PutKeeps, AddKeeps, KillCellKeeps, KillEntryKeeps, OthersKeep, FreeEntryKeeps, FreeCellKeeps, ReviveEntryKeeps, ReviveCellKeeps, DeadAreFreed, InsertKeeps, DeleteKeeps};
+
+/// An operation that names an entry reads words of this entry alone, writes only words that it reads,
+/// and depends on no others.
+pub fn operations_stay_in_their_entry()
+    ensures { OperationsStay }
+{}
+
+/// Operations on two entries do the same in either order.
+pub fn operations_on_two_entries_commute()
+    ensures { EntriesCommute }
+{}
+
+/// A look writes nothing. An add writes only words that it reads, and leaves all others.
+pub fn a_walk_writes_what_it_reads()
+    ensures { WalksWithin }
+{}
+
+/// A look finds the first live entry with the key, and says that there is none exactly where there is
+/// none; then it also tells whether the overflow flag is up.
+pub fn a_look_finds_the_first_entry()
+    ensures { LookFindsFirst }
+{}
+
+/// An add takes the first free entry, and says that there is none exactly where none is free.
+pub fn an_add_takes_the_first_free_entry()
+    ensures { AddTakesFirst }
+{}
+
+/// To revive an entry right after it was killed gives the words before.
+pub fn a_kill_is_undone()
+    ensures { UndoesKill }
+{}
+
+/// To free an entry right after it was added gives the words before, but for its key and its place.
+pub fn an_add_is_undone()
+    ensures { UndoesAdd }
+{}
+
+/// Without gaps, the invariant where calls are under way is the index's invariant.
+pub fn no_gap_is_the_invariant()
+    ensures { GapsAreNone }
+{}
+
+/// A put for a key without an entry leaves its cell alone.
+pub fn a_put_keeps_the_index()
+    ensures { PutKeeps }
+{}
+
+/// An add that names the cell alone, in a region that the walk of the key comes to, matches them. One
+/// that finds no free entry keeps each gap.
+pub fn an_add_keeps_the_index()
+    ensures { AddKeeps }
+{}
+
+/// A kill of the cell that the key's entry names leaves the entry alone.
+pub fn a_kill_of_a_cell_keeps_the_index()
+    ensures { KillCellKeeps }
+{}
+
+/// A kill of the entry alone leaves nothing unmatched.
+pub fn a_kill_of_an_entry_keeps_the_index()
+    ensures { KillEntryKeeps }
+{}
+
+/// A look, a read, a change and a restore keep each gap.
+pub fn other_operations_keep_the_index()
+    ensures { OthersKeep }
+{}
+
+/// To free the key's entry leaves its cell alone.
+pub fn a_freed_entry_keeps_the_index()
+    ensures { FreeEntryKeeps }
+{}
+
+/// To free the cell alone leaves nothing unmatched.
+pub fn a_freed_cell_keeps_the_index()
+    ensures { FreeCellKeeps }
+{}
+
+/// To revive a dead entry whose cell is dead leaves the entry alone.
+pub fn a_revived_entry_keeps_the_index()
+    ensures { ReviveEntryKeeps }
+{}
+
+/// To revive the cell of the entry alone matches them.
+pub fn a_revived_cell_keeps_the_index()
+    ensures { ReviveCellKeeps }
+{}
+
+/// To free a dead entry, or a dead cell of a key without a gap, keeps each gap.
+pub fn what_is_dead_is_freed()
+    ensures { DeadAreFreed }
+{}
+
+/// A put and the add that names its cell keep the index's invariant.
+pub fn an_insert_keeps_the_index()
+    ensures { InsertKeeps }
+{}
+
+/// A kill of a cell and of the entry that names it keep the index's invariant.
+pub fn a_delete_keeps_the_index()
+    ensures { DeleteKeeps }
+{}

@@ -1,0 +1,7 @@
+pub mod Masks
+pub mod Writes
+pub mod Apart
+pub mod Dependence
+pub mod Rows
+pub mod Bytes
+mod Fields
