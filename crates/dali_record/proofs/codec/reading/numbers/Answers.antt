@@ -1,0 +1,13 @@
+use Rattle.std.proofs.Common.{arith, rules}
+use Rattle.dali_bytes.specs.Cursor.{left}
+use Rattle.dali_bytes.specs.Reading.{number64_at}
+use Rattle.dali_record.specs.Reading.{many}
+use Rattle.dali_record.proofs.Loops.{goes_on}
+use Rattle.dali_record.proofs.codec.reading.numbers.Goals as goal
+
+pub loop-preserved : goal.loop-preserved
+loop-preserved c = record {
+  same = search rules;
+  later = rw c.in_ok-number64.ensures.moved (omega arith);
+  so_far = rw c.in_ok-push.ensures.items (goes_on number64_at c.loop.numbers.items c.in_ok-count.count c.loop.counter (left c.loop.reader) c.in_ok-number64.field-0 (left c.number64.new.self) (many c.in_ok-count.count number64_at (left c.number32.new.self)) c.loop-test.true c.in_ok-number64.ensures.exact c.loop.invariant.so_far);
+}

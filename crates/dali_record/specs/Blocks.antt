@@ -1,0 +1,44 @@
+-- Blocks.
+--     AreWords ws            the words of a region: 64 numbers of 64 bits
+--     made ws key r op           the block that the operation gives on the words ws of region r
+--     IsSoundOn ws b             b is the block that its operation gives on these words
+--     rewritten b ws             ws with the new words of b
+use Rattle.std.specs.Prelude.{◌≡◌, ℕ, ◌<◌, ◌^◌, Bool, List, length}
+use Rattle.std.specs.List.{AllByRecursion}
+use Rattle.dali_words.specs.Words.{xor_under, under, write_under}
+use Rattle.dali_record.specs.declared.operations.Op.{Op}
+use Rattle.dali_record.specs.declared.operations.Block.{Block}
+use Rattle.dali_record.specs.declared.operations.Pending.{Pending}
+use Rattle.dali_record.specs.declared.operations.Undo.{Undo}
+use Rattle.dali_record.specs.Operations.{effect, changes}
+
+-- the words of a region
+abbrev pub AreWords : List ℕ → Type 0
+AreWords ws = (length ws ≡ 64) × AllByRecursion (λ w. w < 2 ^ 64) ws
+
+abbrev pub made : List ℕ → ℕ → ℕ → Op → Block
+made ws key r op =
+    let e = effect op key ws in
+    record {
+      key = key;
+      region = r;
+      op = op;
+      read = e.0.read;
+      xor = xor_under e.0.read ws;
+      write = e.0.write;
+      after = under e.0.write e.0.after;
+      outcome = e.1;
+      undo = e.2;
+    }
+
+abbrev pub IsSoundOn : List ℕ → Block → Type 0
+IsSoundOn ws b = made ws b.key b.region b.op ≡ b
+
+abbrev pub rewritten : Block → List ℕ → List ℕ
+rewritten b ws = write_under b.write b.after ws
+
+abbrev pub changes_item : Block → Bool
+changes_item b = changes b.outcome
+
+abbrev pub pending : Block → Undo → Pending
+pending b u = record { key = b.key; region = b.region; undo = u }

@@ -1,0 +1,14 @@
+pub mod Operations
+pub mod Blocks
+pub mod Log
+pub mod Epochs
+pub mod Locks
+pub mod Damage
+pub mod Settled
+pub mod Spelling
+pub mod Reading
+pub mod Calls
+pub mod Legal
+pub mod Files
+pub mod Laws
+pub mod Scan

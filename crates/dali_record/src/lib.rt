@@ -1,0 +1,20 @@
+//! Records of the log, and the operations that their blocks name.
+#![tactic(auto)]
+
+mod codec;
+mod effects;
+mod error;
+pub mod laws;
+pub mod lists;
+pub mod operations;
+pub mod records;
+
+pub use codec::{decode, encode, length};
+pub use effects::{effect, undo_op};
+pub use error::DecodeError;
+pub use lists::{Numbers, Regions, Words};
+pub use operations::{Block, Op, Outcome, Pending, Undo};
+pub use records::{Answer, Call, Record};
+
+#[cfg(test)]
+mod tests;
