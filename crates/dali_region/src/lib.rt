@@ -1,0 +1,412 @@
+//! A region of 64 words with its codeword, its latch and its dirty flags.
+//!
+//! The codeword and its audits are those of Bohannon, Rastogi, Seshadri, Silberschatz and Sudarshan,
+//! "Detection and recovery techniques for database corruption" (IEEE TKDE 15(5), 2003): an update that goes
+//! through the region changes the codeword by the difference of the old and the new word, so a word that is
+//! changed in any other way leaves the two apart.
+#![tactic(auto)]
+
+ghost use Rattle.std.specs.Prelude.{◌≡◌, ◌≢◌, ◌<◌, IsSome, OnOk, OnErr};
+ghost use Rattle.dali_region.specs.State;
+ghost use Rattle.dali_region.specs.State.{IsProtected, damaged, IsLive, IsUnwritten, HasRead, loaded, latched, with_reads, updated, taken_back, touched, poked, checked, dead};
+ghost use Rattle.dali_region.specs.Answers.{latch_answer, is_dirty, cleaned};
+
+mod mirror;
+
+use dali_words::{bit, parity, xor_under};
+use mirror::Mirror;
+use std::marker::Model;
+use std::mem::size_of;
+use thiserror::Error;
+
+/// The latch of a region: which transaction has it, and what its operation has read and written so far.
+#[derive(Clone, Copy, Debug, PartialEq, Eq)]
+pub struct Hold {
+    /// The number of the transaction.
+    pub txn: u64,
+    /// The client has died with the latch held.
+    pub dead: bool,
+    /// The words read: bit i stands for word i.
+    pub read: u64,
+    /// The exclusive-or of the words read.
+    pub xor: u64,
+    /// The words written.
+    pub write: u64,
+}
+
+/// The number of a log record that a call has made.
+#[derive(Clone, Copy, Debug, PartialEq, Eq)]
+pub struct Receipt {
+    pub number: u64,
+}
+
+/// One of the two checkpoint images.
+#[derive(Clone, Copy, Debug, PartialEq, Eq)]
+pub enum Side {
+    A,
+    B,
+}
+
+/// Why a latch was refused.
+#[derive(Clone, Copy, Debug, Error, PartialEq, Eq)]
+pub enum LatchError {
+    /// A live hold stands.
+    #[error("latched by transaction {holder}")]
+    Latched { holder: u64 },
+    /// The hold of a client that died stands.
+    #[error("held by transaction {txn}, whose client is dead")]
+    DeadHolder { txn: u64 },
+    /// The precheck found another parity than the codeword tells.
+    #[error("damaged: codeword {codeword:016x}, parity {found:016x}")]
+    Damaged { codeword: u64, found: u64 },
+}
+
+const _: () = prove!(size_of::<Region>() == 1120);
+
+/// 64 words with their codeword, latch and dirty flags.
+///
+/// Each word is a `u64`; words are numbered from 0, and a set of words is a `u64` in which bit i stands for word i.
+/// The codeword is the exclusive-or of all words as they were loaded, changed at each update by the exclusive-or of
+/// the old and the new word. A poke changes a word and nothing else that running code can see.
+///
+/// No call takes memory. A region has 1,120 bytes: 512 for its words, 512 for the words as they would be without the
+/// updates of the open operation, and 96 for all else. The second 512 are the price of taking an operation back
+/// whatever it wrote: it may write each word that it has read, so all 64 old values may be wanted.
+#[derive(Drop)]
+pub struct Region {
+    words: [u64; 64],
+    settled: [u64; 64],
+    hold: Option<Hold>,
+    codeword: u64,
+    touches: u64,
+    mirror: Mirror,
+    dirty_a: bool,
+    dirty_b: bool,
+}
+
+impl Model for Region {
+    ghost use Rattle.dali_region.specs.State.{RegionState};
+
+    ghost Value = { RegionState };
+
+    ghost use Rattle.dali_region.specs.Fields.{state_of, KeepsItsCodeword};
+
+    ghost view = { state_of };
+
+    ghost invariant = { KeepsItsCodeword };
+}
+
+fn has_written(hold: &Option<Hold>, word: u8) -> bool
+    requires { word < 64 }
+    ensures { result ≡ State.has_written hold.now word }
+{
+    match hold {
+        Some(hold) => hold.write & bit(word) != 0,
+        None => false,
+    }
+}
+
+fn damage(words: &mut [u64; 64], word: u8, mask: u64)
+    requires { word < 64 }
+    ensures { words.new ≡ damaged word mask words.old }
+{
+    words[word as usize] ^= mask;
+}
+
+impl Region {
+    /// A region with these words: no hold, both flags set, no operation done, its codeword the parity of the words.
+    pub fn load(words: [u64; 64]) -> Self
+        ensures { result ≡ loaded words }
+    {
+        Region {
+            words,
+            settled: words,
+            hold: None,
+            codeword: parity(&words),
+            touches: 0,
+            mirror: Mirror::new(),
+            dirty_a: true,
+            dirty_b: true,
+        }
+    }
+
+    /// Latches the region for an operation of a transaction. With a precheck the parity of the words is compared
+    /// with the codeword first.
+    pub fn latch(&mut self, txn: u64, precheck: bool) -> Result<(), LatchError>
+        ensures answer { result ≡ latch_answer precheck self.old }
+        ensures taken { OnOk result (self.new ≡ latched txn self.old) }
+        ensures refused { OnErr result (self.new ≡ self.old) }
+    {
+        if let Some(hold) = self.hold {
+            return Err(if hold.dead {
+                LatchError::DeadHolder { txn: hold.txn }
+            } else {
+                LatchError::Latched { holder: hold.txn }
+            });
+        }
+        if precheck {
+            let found = parity(&self.words);
+            if found != self.codeword {
+                return Err(LatchError::Damaged {
+                    codeword: self.codeword,
+                    found,
+                });
+            }
+        }
+        self.hold = Some(Hold {
+            txn,
+            dead: false,
+            read: 0,
+            xor: 0,
+            write: 0,
+        });
+        Ok(())
+    }
+
+    /// The words as they stand, the updates of an open operation among them.
+    pub fn words(&self) -> &[u64; 64]
+        ensures value { result.now ≡ self.now.words }
+        ensures protected { IsProtected self.now }
+    {
+        &self.words
+    }
+
+    /// The latch, if it is held.
+    pub fn hold(&self) -> Option<Hold>
+        ensures value { result ≡ self.now.hold }
+        ensures protected { IsProtected self.now }
+    {
+        self.hold
+    }
+
+    /// How many operations were done since the load. The count stands still at its type's end.
+    pub fn touches(&self) -> u64
+        ensures { result ≡ self.now.touches }
+    {
+        self.touches
+    }
+
+    /// The operation reads the words in the set `mask`: those that it hasn't read yet go into the hold.
+    /// The hold is to be live and to have written nothing.
+    pub fn note_reads(&mut self, mask: u64)
+        requires { IsUnwritten self.old }
+        ensures { self.new ≡ with_reads mask self.old }
+    {
+        let hold = self.hold.unwrap();
+        let unread = mask & !hold.read;
+        self.hold = Some(Hold {
+            read: hold.read | mask,
+            xor: hold.xor ^ xor_under(&self.words, unread),
+            ..hold
+        });
+    }
+
+    /// Writes a word of an open operation. The hold is to be live and to have read the word.
+    pub fn update(&mut self, word: u8, value: u64)
+        requires { HasRead self.old word }
+        ensures { self.new ≡ updated word value self.old }
+    {
+        let hold = self.hold.unwrap();
+        let at = word as usize;
+        self.codeword ^= self.words[at] ^ value;
+        self.words[at] = value;
+        self.hold = Some(Hold {
+            write: hold.write | bit(word),
+            ..hold
+        });
+    }
+
+    /// Gives each word that the open operation has written its value from before the first write, and ends the hold.
+    /// A hold is to stand, live or dead.
+    pub fn take_back(&mut self)
+        requires { IsSome self.old.hold }
+        ensures { self.new ≡ taken_back self.old }
+    {
+        self.codeword ^= parity(&self.words) ^ parity(&self.settled);
+        self.words = self.settled;
+        self.hold = None;
+    }
+
+    /// The operation is done: counts it, ends the hold, and sets both flags where a word was written.
+    /// The hold is to be live. The count of touches stands still at its type's end.
+    pub fn touch(&mut self)
+        requires { IsLive self.old }
+        ensures { self.new ≡ touched self.old }
+    {
+        let hold = self.hold.unwrap();
+        if hold.write != 0 {
+            self.settled = self.words;
+            self.dirty_a = true;
+            self.dirty_b = true;
+        }
+        self.hold = None;
+        self.touches = self.touches.saturating_add(1);
+        self.mirror.touch();
+    }
+
+    /// Damages a word, as a stray write would: no codeword, hold, flag or count changes.
+    /// The word's number is to be below 64, and the mask not 0.
+    pub fn poke(&mut self, word: u8, mask: u64)
+        requires in_range { word < 64 }
+        requires changes { mask ≢ 0 }
+        ensures { self.new ≡ poked word mask self.old }
+    {
+        let written = has_written(&self.hold, word);
+        damage(&mut self.words, word, mask);
+        if !written {
+            damage(&mut self.settled, word, mask);
+        }
+        self.mirror.poke(mask);
+    }
+
+    /// The codeword compared with the parity of the words: the exclusive-or of the two, 0 where they agree.
+    pub fn check(&mut self) -> u64
+        ensures answer { result ≡ self.old.stray }
+        ensures after { self.new ≡ checked self.old }
+    {
+        let stray = self.codeword ^ parity(&self.words);
+        self.mirror.check(stray);
+        stray
+    }
+
+    /// The codeword.
+    pub fn codeword(&mut self) -> u64
+        ensures answer { result ≡ self.old.codeword }
+        ensures same { self.new ≡ self.old }
+    {
+        self.codeword
+    }
+
+    /// Copies the words with the updates of an open operation taken back.
+    pub fn copy_settled(&self, into: &mut [u64; 64])
+        ensures { into.new ≡ self.now.back }
+    {
+        *into = self.settled;
+    }
+
+    /// The client that has the latch died. The hold is to be live.
+    pub fn mark_dead(&mut self)
+        requires { IsLive self.old }
+        ensures { self.new ≡ dead self.old }
+    {
+        let hold = self.hold.unwrap();
+        self.hold = Some(Hold { dead: true, ..hold });
+    }
+
+    /// Whether the region was loaded or written since this image's flag was cleared.
+    pub fn dirty(&self, side: Side) -> bool
+        ensures { result ≡ is_dirty self.now side }
+    {
+        match side {
+            Side::A => self.dirty_a,
+            Side::B => self.dirty_b,
+        }
+    }
+
+    /// Clears the flag of this image.
+    pub fn clear_dirty(&mut self, side: Side)
+        ensures { self.new ≡ cleaned side self.old }
+    {
+        match side {
+            Side::A => self.dirty_a = false,
+            Side::B => self.dirty_b = false,
+        }
+    }
+}
+
+#[cfg(test)]
+mod tests {
+    use super::*;
+    use std::test::Fail;
+
+    // a heap region as it is formatted: word 0 is 1
+    fn formatted() -> [u64; 64] {
+        let mut words = [0; 64];
+        words[0] = 1;
+        words
+    }
+
+    #[test]
+    fn operations_on_a_formatted_region(rt: HostRuntime) -> Result<(), Fail> {
+        let mut region = Region::load(formatted());
+        assert_eq!(rt; (region.codeword(), region.touches()), (1, 0));
+        assert!(rt; region.dirty(Side::A) && region.dirty(Side::B));
+        region.clear_dirty(Side::A);
+        region.clear_dirty(Side::B);
+        assert!(rt; !region.dirty(Side::A) && !region.dirty(Side::B));
+
+        // words 0 and 8 are read and word 8 is written twice, then all is taken back
+        region.latch(5, true)?;
+        region.note_reads(0x101);
+        region.update(8, 6);
+        region.update(8, 2);
+        let hold = Hold {
+            txn: 5,
+            dead: false,
+            read: 0x101,
+            xor: 1,
+            write: 0x100,
+        };
+        assert_eq!(rt;
+            (region.hold(), region.codeword(), region.words()[8]),
+            (Some(hold), 3, 2)
+        );
+        let mut settled = [7; 64];
+        region.copy_settled(&mut settled);
+        assert_eq!(rt; (settled[0], settled[8], settled[63]), (1, 0, 0));
+        region.take_back();
+        assert_eq!(rt;
+            (region.hold(), region.codeword(), region.words()[8]),
+            (None, 1, 0)
+        );
+        assert!(rt; !region.dirty(Side::A));
+
+        // the same write done
+        region.latch(6, true)?;
+        region.note_reads(0x101);
+        region.update(8, 2);
+        region.touch();
+        assert_eq!(rt;
+            (
+                region.hold(),
+                region.codeword(),
+                region.words()[8],
+                region.touches()
+            ),
+            (None, 3, 2, 1)
+        );
+        assert!(rt; region.dirty(Side::A) && region.dirty(Side::B));
+        Ok(())
+    }
+
+    #[test]
+    fn refusals_and_a_poke(rt: HostRuntime) -> Result<(), Fail> {
+        let mut region = Region::load(formatted());
+        region.latch(5, true)?;
+        assert_eq!(rt;
+            region.latch(6, true),
+            Err(LatchError::Latched { holder: 5 })
+        );
+        region.mark_dead();
+        assert_eq!(rt;
+            region.latch(6, true),
+            Err(LatchError::DeadHolder { txn: 5 })
+        );
+        region.take_back();
+        assert_eq!(rt; region.check(), 0);
+        region.poke(11, 4);
+        assert_eq!(rt;
+            (region.check(), region.codeword(), region.words()[11]),
+            (4, 1, 4)
+        );
+        assert_eq!(rt;
+            region.latch(6, true),
+            Err(LatchError::Damaged {
+                codeword: 1,
+                found: 5
+            })
+        );
+        assert_eq!(rt; region.latch(6, false), Ok(()));
+        Ok(())
+    }
+}
