@@ -1,0 +1,5 @@
+pub mod Order
+pub mod Ranges
+pub mod Kept
+pub mod Outcomes
+pub mod Changes
