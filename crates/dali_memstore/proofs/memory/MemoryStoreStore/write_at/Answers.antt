@@ -1,0 +1,20 @@
+use Rattle.dali_memstore.specs.Laws.{wrote_law, wrote_torn, wrote_crash, torn_told, torn_crash, elapses_push, elapses_same}
+use Rattle.dali_memstore.specs.declared.event.Event.TheVariants.{Wrote}
+use Rattle.dali_memstore.proofs.Results.{on_ok, by_result}
+use Rattle.std.proofs.Common.{length}
+use Rattle.dali_memstore.proofs.memory.MemoryStoreStore.write_at.Goals as goal
+
+pub returns-clause-written : goal.returns-clause-written
+returns-clause-written c = on_ok c.write_at.result (wrote_law c.args.file c.args.at c.args.bytes.now _ _) c.write_at.ensures.written
+
+pub returns-clause-torn : goal.returns-clause-torn
+returns-clause-torn c =
+    by_result c.write_at.result (wrote_torn c.args.file c.args.at c.args.bytes.now _ _ c.requires) (torn_told c.args.file c.args.at (length c.args.bytes.now) _ _) c.write_at.ensures.written c.write_at.ensures.unwritten
+
+pub returns-clause-crash : goal.returns-clause-crash
+returns-clause-crash c =
+    by_result c.write_at.result (wrote_crash c.args.file c.args.at c.args.bytes.now _ _ c.requires) (torn_crash c.args.file c.args.at (length c.args.bytes.now) _ _) c.write_at.ensures.written c.write_at.ensures.unwritten
+
+pub returns-clause-time : goal.returns-clause-time
+returns-clause-time c =
+    by_result c.write_at.result (elapses_push _ _ (Wrote c.args.file c.args.at c.args.bytes.now)) (elapses_same _ _) c.write_at.ensures.written c.write_at.ensures.unwritten

@@ -1,0 +1,43 @@
+-- A fuse over a store.
+-- Words: inner, passes_of, failed_of; one_less, PassesOn, Burns.
+use Rattle.std.specs.Prelude.{◌≡◌, ◌≢◌, ℕ, ◌-◌, Option, Some, None, Result, IsErr}
+use Rattle.dali_store.specs.Faults.{HasCause}
+use Rattle.dali_store.specs.declared.store.StoreFault.{StoreFault}
+use Rattle.dali_memstore.specs.Counts.{one_more}
+use Rattle.dali_memstore.specs.declared.fuse.Fuse.{Fuse}
+
+-- one call fewer to pass on, where these are counted
+abbrev pub one_less : Option ℕ → Option ℕ
+one_less None = None
+one_less (Some n) = Some (n - 1)
+
+module _ {V : Type 0} where
+  -- the store
+  abbrev pub inner : Fuse V → V
+  inner f = f.store
+
+  -- how many more calls it passes on, if not all
+  abbrev pub passes_of : Fuse V → Option ℕ
+  passes_of f = f.passes
+
+  -- how many calls it failed
+  abbrev pub failed_of : Fuse V → ℕ
+  failed_of f = f.failed
+
+  -- the call was the store's, and failed only where the store's count rose
+  pub record PassesOn {T : Type 0} (faults : V → ℕ) (old new : Fuse V) (result : Result T StoreFault) : Type 0 where
+    pub cause : HasCause (faults (inner old)) (faults (inner new)) result
+    pub passes : passes_of new ≡ one_less (passes_of old)
+    pub failed : failed_of new ≡ failed_of old
+
+  -- the call wasn't made: it failed, and is counted
+  pub record Blows {T : Type 0} (old new : Fuse V) (result : Result T StoreFault) : Type 0 where
+    pub fails : IsErr result
+    pub unchanged : inner new ≡ inner old
+    pub passes : passes_of new ≡ passes_of old
+    pub failed : failed_of new ≡ one_more (failed_of old)
+
+  -- the call is passed on exactly where calls to pass on are left
+  pub record Burns {T : Type 0} (faults : V → ℕ) (old new : Fuse V) (result : Result T StoreFault) : Type 0 where
+    pub left : passes_of old ≢ Some 0 → PassesOn faults old new result
+    pub none_left : passes_of old ≡ Some 0 → Blows old new result

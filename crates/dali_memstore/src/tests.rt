@@ -1,0 +1,169 @@
+//! What no clause says: that calls succeed where there is memory, that the formula of a cut gives the bytes that were worked
+//! out by hand, and what a hook is told.
+use super::*;
+use dali_store::{FileName, Store, StoreFault};
+use std::alloc::Global;
+use std::cell::Cell;
+use std::test::Fail;
+
+// What stands in a file, with 99 past its end, after a write that was synced, another one, and a cut.
+fn cut_file<V: Store>(
+    store: &mut V,
+    file: FileName,
+    synced: &[u8],
+    at: u64,
+    bytes: &[u8],
+    choice: u32,
+) -> Result<[u8; 6], StoreFault> {
+    store.write_at(file, 0, synced)?;
+    store.sync(file)?;
+    if at > store.length(file)? {
+        return Err(StoreFault);
+    }
+    store.write_at(file, at, bytes)?;
+    store.cut(choice)?;
+    let mut read = [99; 6];
+    store.read_at(file, 0, &mut read)?;
+    Ok(read)
+}
+
+// Over 1 2 3, at 1, come 7 8 9. Then the store is cut.
+fn cut_three(alloc: Global, file: FileName, choice: u32) -> Result<[u8; 6], StoreFault> {
+    let mut store = MemoryStore::new(alloc, Vec::new(alloc));
+    cut_file(&mut store, file, &[1, 2, 3], 1, &[7, 8, 9], choice)
+}
+
+#[test]
+fn a_cut_gives_the_bytes_of_its_formula(rt: HostRuntime) -> Result<(), Fail> {
+    let alloc = rt.alloc();
+    // 31 choice + 17 file + 7 place, at the places 1, 2 and 3, are
+    // 69, 76, 83: the old byte, the new one, 2 + 3
+    // 100, 107, 114: the new byte, 3 + 2, and 0 past the old end
+    // 131, 138, 145
+    // 86, 93, 100
+    // 103, 110, 117
+    // 120, 127, 134
+    // 7912, 7919, 7926: 255 + 2 is 1 modulo 256
+    for (choice, file, second, third, fourth) in [
+        (0, FileName::Log, 7, 8, 9),
+        (2, FileName::Log, 2, 8, 5),
+        (3, FileName::Log, 7, 5, 0),
+        (4, FileName::Log, 5, 3, 9),
+        (2, FileName::ImageA, 3, 3, 9),
+        (2, FileName::ImageB, 7, 4, 0),
+        (2, FileName::Anchor, 2, 8, 5),
+        (255, FileName::Log, 7, 1, 0),
+    ] {
+        let read = cut_three(alloc, file, choice)?;
+        assert_eq!(rt; read, [1, second, third, fourth, 99, 99]);
+    }
+
+    // Dropped is what no sync kept; over an empty file 62, 69, 76, 83; in the middle of a file 169, 176.
+    assert_eq!(rt;
+        cut_three(alloc, FileName::ImageB, 1),
+        Ok([1, 2, 3, 99, 99, 99])
+    );
+    let mut empty = MemoryStore::new(alloc, Vec::new(alloc));
+    let read = cut_file(&mut empty, FileName::Log, &[], 0, &[11, 12, 13, 14], 2);
+    assert_eq!(rt; read, Ok([2, 0, 13, 5, 99, 99]));
+    let mut longer = MemoryStore::new(alloc, Vec::new(alloc));
+    let read = cut_file(&mut longer, FileName::Log, &[1, 2, 3, 4, 5], 2, &[7, 7], 5);
+    assert_eq!(rt; read, Ok([1, 2, 7, 8, 5, 99]));
+    Ok(())
+}
+
+// Each call once: the length, and what a read past the middle gave.
+fn each_call<V: Store>(store: &mut V) -> Result<(u64, usize, [u8; 4]), StoreFault> {
+    store.write_at(FileName::ImageB, 0, &[5, 6, 7])?;
+    let length = store.length(FileName::ImageB)?;
+    let mut read = [0; 4];
+    let count = store.read_at(FileName::ImageB, 1, &mut read)?;
+    store.sync(FileName::ImageB)?;
+    store.cut(1)?;
+    Ok((length, count, read))
+}
+
+const ANSWER: (u64, usize, [u8; 4]) = (3, 2, [6, 7, 0, 0]);
+
+#[test]
+fn calls_succeed_in_memory(rt: HostRuntime) -> Result<(), Fail> {
+    let alloc = rt.alloc();
+    let files = [
+        vec![in alloc; 1, 2]?,
+        Vec::new(alloc),
+        vec![in alloc; 3]?,
+        Vec::new(alloc),
+    ];
+    let mut store = MemoryStore::with(files, vec![in alloc; 5]?);
+    assert_eq!(rt; store.file(FileName::Log), [1, 2].as_slice());
+    assert_eq!(rt; each_call(&mut store), Ok(ANSWER));
+    assert_eq!(rt; each_call(&mut store), Err(StoreFault));
+    assert_eq!(rt; store.refused(), 0);
+    Ok(())
+}
+
+// What each call answers through a fuse, whether the fuse is spent, and the same after it was set to pass all calls.
+fn through_a_fuse(alloc: Global, passes: u64) -> (bool, bool, bool) {
+    let mut fuse = Fuse::new(MemoryStore::new(alloc, Vec::new(alloc)), Some(passes));
+    let first = each_call(&mut fuse).is_ok();
+    let spent = fuse.spent();
+    fuse.set(None);
+    let mut store = fuse.into_inner();
+    (first, spent, each_call(&mut store).is_ok())
+}
+
+#[test]
+fn a_fuse_passes_so_many_calls_on(rt: HostRuntime) {
+    let alloc = rt.alloc();
+    for (passes, works) in [
+        (0, false),
+        (1, false),
+        (2, false),
+        (3, false),
+        (4, true),
+        (5, true),
+    ] {
+        assert_eq!(rt; through_a_fuse(alloc, passes), (works, !works, true));
+    }
+}
+
+#[derive(Drop)]
+struct Recorder<'a> {
+    number: u64,
+    order: &'a Cell<u64>,
+    last: &'a Cell<(CallKind, Option<FileName>, u64, u64)>,
+}
+
+impl<'a> Hook for Recorder<'a> {
+    fn called(&self, kind: CallKind, file: Option<FileName>, at: u64, length: u64) {
+        let order = self.order.get().wrapping_mul(10).wrapping_add(self.number);
+        self.order.set(order);
+        self.last.set((kind, file, at, length));
+    }
+}
+
+#[test]
+fn a_hook_is_told_before_the_call(rt: HostRuntime) -> Result<(), Fail> {
+    let alloc = rt.alloc();
+    let order = Cell::new(0);
+    let last = Cell::new((CallKind::Cut, None, 0, 0));
+    let within = Recorder {
+        number: 2,
+        order: &order,
+        last: &last,
+    };
+    let around = Recorder {
+        number: 1,
+        order: &order,
+        last: &last,
+    };
+    let store = MemoryStore::new(alloc, Vec::new(alloc));
+    let mut store = Watch::new(Watch::new(store, within), around);
+    store.write_at(FileName::Log, 0, &[5, 6, 7])?;
+    assert_eq!(rt; last.get(), (CallKind::Write, Some(FileName::Log), 0, 3));
+    store.cut(0)?;
+    assert_eq!(rt; last.get(), (CallKind::Cut, None, 0, 0));
+    assert_eq!(rt; each_call(&mut store), Ok(ANSWER));
+    assert_eq!(rt; order.get(), 12121212121212);
+    Ok(())
+}

@@ -1,0 +1,12 @@
+//! Laws of every store, each the contract of a function that does nothing.
+ghost use Rattle.std.specs.Prelude.{Bool, IsTrue};
+ghost use Rattle.dali_store.specs.Laws.{ARunGoesOn};
+ghost use Rattle.dali_store.specs.Store.{Files};
+
+use crate::Store;
+
+/// A crash at any moment of a run of calls: where each crash since the start leaves files that pass some test,
+/// and after each further call a crash may leave only such files, then each crash since the start still does.
+pub fn runs_go_on<V: Store>()
+    ensures { (test : Files → Bool) → ARunGoesOn V.moment V.left_since V.may_leave (λ c. IsTrue (test c)) }
+{}

@@ -1,0 +1,126 @@
+//! The trait of a store of four files.
+ghost use Rattle.std.specs.Prelude.{◌≡◌, ◌≤◌, ◌<◌, ◌^◌, Option, List, ℕ, length, IfOk, OnOk, IfSome, is_some};
+ghost use Rattle.dali_store.specs.Faults.{HasCause};
+ghost use Rattle.dali_store.specs.Store.{Files, file_of, NoLonger, Only, Follows, TornIn, TornTold, HoldsIn, ReadsAt, Elapses};
+
+use std::fmt;
+use thiserror::Error;
+
+/// The four files of a store.
+#[derive(Clone, Copy, Debug, PartialEq, Eq)]
+pub enum FileName {
+    /// The log: batches of records behind gates.
+    Log,
+    /// The image that the checkpoints of odd number write.
+    ImageA,
+    /// The image that the checkpoints of even number write.
+    ImageB,
+    /// The anchor: one gate for each completed checkpoint.
+    Anchor,
+}
+
+impl fmt::Display for FileName {
+    ghost use Rattle.std.specs.Prelude.{Some};
+    ghost use Rattle.dali_store.specs.Store.{name_of};
+
+    ghost output = { λ f. Some (name_of f) };
+
+    fn fmt<W: fmt::Write>(&self, f: &mut fmt::Formatter<W>) -> fmt::Result {
+        f.write_str(match self {
+            FileName::Log => "log",
+            FileName::ImageA => "a",
+            FileName::ImageB => "b",
+            FileName::Anchor => "anchor",
+        })
+    }
+}
+
+/// A call of a store failed. It is answered only where the store's count of faults rose in that call.
+#[derive(Clone, Copy, Debug, PartialEq, Eq, Error)]
+#[error("store fault")]
+pub struct StoreFault;
+
+/// Four files under one clock. A file that was never written has length 0.
+///
+/// Between two syncs of a file each written range, and the part past the old end, may hold any bytes after a crash;
+/// the length is anything from the one at the last sync to the present one; all other bytes stay. A write that
+/// fails counts as written in any part. After a sync that succeeds, a crash leaves what reads give.
+///
+/// A store tells what its reads give, as one in memory does, or it doesn't, as one over real files. Every call,
+/// one that fails among them, leaves this as it is.
+pub trait Store {
+    /// What reads of the four files give, where the store tells it.
+    ghost told: { Self → Option Files };
+
+    /// What a crash at this moment may leave of the four files.
+    ghost may_leave: { Self → Files → Type 0 };
+
+    /// The moment, as a number that doesn't fall.
+    ghost moment: { Self → ℕ };
+
+    /// What a crash at some moment from that one on might have left, during a call or between two.
+    ghost left_since: { Self → ℕ → Files → Type 0 };
+
+    /// How often a call has failed. The count never falls, and stands still at its type's end.
+    ghost faults: { Self → ℕ };
+
+    /// The length of a file in bytes. A length of 2^62 or more counts as a fault. Takes no memory.
+    fn length(&mut self, file: FileName) -> Result<u64, StoreFault>
+        ensures bound { IfOk result (λ n. n < 2 ^ 62) }
+        ensures length { IfOk result (λ n. IfSome (told self.old) (λ fs. n ≡ length (file_of file fs))) }
+        ensures told { told self.new ≡ told self.old }
+        ensures crash { (c : Files) → may_leave self.new c → may_leave self.old c }
+        ensures time { Elapses (moment self.old) (moment self.new) (left_since self.old) (left_since self.new) (may_leave self.new) }
+        ensures cause { HasCause (faults self.old) (faults self.new) result };
+
+    /// Reads from a place on into the front of a buffer, and answers how many bytes. Fewer than asked come only at the end.
+    /// After a fault the buffer may hold anything. Takes no memory.
+    fn read_at(&mut self, file: FileName, at: u64, into: &mut [u8]) -> Result<usize, StoreFault>
+        ensures count { IfOk result (λ n. n ≤ length into.old) }
+        ensures bytes { IfOk result (λ n. IfSome (told self.old) (λ fs. ReadsAt (file_of file fs) at into.old n into.new)) }
+        ensures told { told self.new ≡ told self.old }
+        ensures crash { (c : Files) → may_leave self.new c → may_leave self.old c }
+        ensures time { Elapses (moment self.old) (moment self.new) (left_since self.old) (left_since self.new) (may_leave self.new) }
+        ensures cause { HasCause (faults self.old) (faults self.new) result };
+
+    /// Writes over what is there, and past the end. Until a sync, a crash may leave any bytes in the range.
+    /// After a fault any part of it may be written. It may take memory.
+    fn write_at(&mut self, file: FileName, at: u64, bytes: &[u8]) -> Result<(), StoreFault>
+        requires { IfSome (told self.old) (λ fs. at ≤ length (file_of file fs)) }
+        ensures tells { is_some (told self.new) ≡ is_some (told self.old) }
+        ensures written { OnOk result (HoldsIn file at bytes.now (told self.old) (told self.new)) }
+        ensures torn { TornTold file at (length bytes.now) (told self.old) (told self.new) }
+        ensures crash { Follows (TornIn file at (length bytes.now)) (may_leave self.old) (may_leave self.new) }
+        ensures time { Elapses (moment self.old) (moment self.new) (left_since self.old) (left_since self.new) (may_leave self.new) }
+        ensures cause { HasCause (faults self.old) (faults self.new) result };
+
+    /// Keeps what was written to a file: after Ok a crash leaves of it what reads give. Takes no memory.
+    fn sync(&mut self, file: FileName) -> Result<(), StoreFault>
+        ensures durable { OnOk result (IfSome (told self.old) (λ fs. (c : Files) → may_leave self.new c → file_of file c ≡ file_of file fs)) }
+        ensures told { told self.new ≡ told self.old }
+        ensures crash { (c : Files) → may_leave self.new c → may_leave self.old c }
+        ensures time { Elapses (moment self.old) (moment self.new) (left_since self.old) (left_since self.new) (may_leave self.new) }
+        ensures cause { HasCause (faults self.old) (faults self.new) result };
+
+    /// A crash: afterwards reads give one of the things that a crash might have left, and a crash leaves just this.
+    /// Which one, `choice` says. Takes no memory.
+    fn cut(&mut self, choice: u32) -> Result<(), StoreFault>
+        ensures tells { is_some (told self.new) ≡ is_some (told self.old) }
+        ensures cut { OnOk result (IfSome (told self.new) (λ fs. may_leave self.old fs)) }
+        ensures durable { OnOk result (IfSome (told self.new) (λ fs. Only fs (may_leave self.new))) }
+        ensures crash { (c : Files) → may_leave self.new c → may_leave self.old c }
+        ensures time { Elapses (moment self.old) (moment self.new) (left_since self.old) (left_since self.new) (may_leave self.new) }
+        ensures cause { HasCause (faults self.old) (faults self.new) result };
+
+    /// The files as they read are one of the things that a crash may leave.
+    ghost reads_now: { (s : Self) → IfSome (told s) (λ fs. may_leave s fs) };
+
+    /// What a crash leaves of a file is never longer than the file is now.
+    ghost no_longer: { (s : Self) → IfSome (told s) (λ fs. (c : Files) → may_leave s c → NoLonger c fs) };
+
+    /// This moment is one of those since an earlier one.
+    ghost counts_now: { (s : Self) (t : ℕ) (c : Files) → t ≤ moment s → may_leave s c → left_since s t c };
+
+    /// Since this moment there is no other.
+    ghost only_now: { (s : Self) (c : Files) → left_since s (moment s) c → may_leave s c };
+}
