@@ -1,0 +1,9 @@
+pub mod Texts
+pub mod Lines
+pub mod Names
+pub mod Faults
+pub mod Items
+pub mod Places
+pub mod Grammar
+pub mod Reading
+pub mod Parser

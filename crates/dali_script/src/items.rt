@@ -1,0 +1,157 @@
+//! What a command line says on its own, wherever it stands.
+ghost use Rattle.std.specs.Prelude.{◌≡◌, ◌≤◌, IfOk, map};
+ghost use Rattle.dali_script.specs.Items.{number_in, none, poke_of, item_of};
+
+use crate::faults::Kind;
+use crate::names::Name;
+use crate::texts::{mask, number, value};
+use dali_words::Value;
+
+/// A command line.
+#[derive(Clone, Copy, Debug)]
+pub enum Item {
+    Size { index: u32, heap: u32 },
+    Open,
+    Client { number: u32 },
+    End,
+    Begin,
+    Insert { key: u64, value: Value },
+    Get { key: u64 },
+    Commit,
+    Poke { region: u32, word: u8, mask: u64 },
+    Audit,
+    Crash { choice: u32 },
+    Restart,
+    Show,
+    Next,
+    Fuse { passes: u64 },
+}
+
+fn ranged(text: &[u8], low: u64, high: u64) -> Result<u64, Kind>
+    ensures value { result ≡ number_in low high text.now }
+    ensures bound { IfOk result (λ n. n ≤ high) }
+{
+    match number(text) {
+        Some(number) if low <= number && number <= high => Ok(number),
+        _ => Err(Kind::Number),
+    }
+}
+
+fn alone(item: Item, arguments: &[&[u8]]) -> Result<Item, Kind>
+    ensures { result ≡ none item (map (λ text. text.now) arguments.now) }
+{
+    match arguments {
+        [] => Ok(item),
+        _ => Err(Kind::Arguments),
+    }
+}
+
+fn size(arguments: &[&[u8]]) -> Result<Item, Kind>
+    ensures { result ≡ item_of Name.Size (map (λ text. text.now) arguments.now) }
+{
+    let [index, heap] = arguments else {
+        return Err(Kind::Arguments);
+    };
+    Ok(Item::Size {
+        index: ranged(index, 1, 32_768)? as u32,
+        heap: ranged(heap, 1, 65_536)? as u32,
+    })
+}
+
+fn client(arguments: &[&[u8]]) -> Result<Item, Kind>
+    ensures { result ≡ item_of Name.Client (map (λ text. text.now) arguments.now) }
+{
+    let [number] = arguments else {
+        return Err(Kind::Arguments);
+    };
+    Ok(Item::Client {
+        number: ranged(number, 1, 64)? as u32,
+    })
+}
+
+fn insert(arguments: &[&[u8]]) -> Result<Item, Kind>
+    ensures { result ≡ item_of Name.Insert (map (λ text. text.now) arguments.now) }
+{
+    let [key, text] = arguments else {
+        return Err(Kind::Arguments);
+    };
+    Ok(Item::Insert {
+        key: number(key).ok_or(Kind::Number)?,
+        value: value(text).ok_or(Kind::Value)?,
+    })
+}
+
+fn get(arguments: &[&[u8]]) -> Result<Item, Kind>
+    ensures { result ≡ item_of Name.Get (map (λ text. text.now) arguments.now) }
+{
+    let [key] = arguments else {
+        return Err(Kind::Arguments);
+    };
+    Ok(Item::Get {
+        key: number(key).ok_or(Kind::Number)?,
+    })
+}
+
+fn poke_at(region: &[u8], word: &[u8], text: &[u8]) -> Result<Item, Kind>
+    ensures { result ≡ poke_of region.now word.now text.now }
+{
+    Ok(Item::Poke {
+        region: ranged(region, 0, 4_294_967_295)? as u32,
+        word: ranged(word, 0, 63)? as u8,
+        mask: mask(text).ok_or(Kind::Number)?,
+    })
+}
+
+fn poke(arguments: &[&[u8]]) -> Result<Item, Kind>
+    ensures { result ≡ item_of Name.Poke (map (λ text. text.now) arguments.now) }
+{
+    match arguments {
+        [region, word, text] => poke_at(region, word, text),
+        _ => Err(Kind::Arguments),
+    }
+}
+
+fn crash(arguments: &[&[u8]]) -> Result<Item, Kind>
+    ensures { result ≡ item_of Name.Crash (map (λ text. text.now) arguments.now) }
+{
+    let [choice] = arguments else {
+        return Err(Kind::Arguments);
+    };
+    Ok(Item::Crash {
+        choice: ranged(choice, 0, 1_000_000)? as u32,
+    })
+}
+
+fn fuse(arguments: &[&[u8]]) -> Result<Item, Kind>
+    ensures { result ≡ item_of Name.Fuse (map (λ text. text.now) arguments.now) }
+{
+    let [passes] = arguments else {
+        return Err(Kind::Arguments);
+    };
+    Ok(Item::Fuse {
+        passes: ranged(passes, 0, 1_000_000_000)?,
+    })
+}
+
+/// The command line that a command's name and arguments make.
+pub fn make_item(name: Name, arguments: &[&[u8]]) -> Result<Item, Kind>
+    ensures { result ≡ item_of name (map (λ text. text.now) arguments.now) }
+{
+    match name {
+        Name::Size => size(arguments),
+        Name::Open => alone(Item::Open, arguments),
+        Name::Client => client(arguments),
+        Name::End => alone(Item::End, arguments),
+        Name::Begin => alone(Item::Begin, arguments),
+        Name::Insert => insert(arguments),
+        Name::Get => get(arguments),
+        Name::Commit => alone(Item::Commit, arguments),
+        Name::Poke => poke(arguments),
+        Name::Audit => alone(Item::Audit, arguments),
+        Name::Crash => crash(arguments),
+        Name::Restart => alone(Item::Restart, arguments),
+        Name::Show => alone(Item::Show, arguments),
+        Name::Next => alone(Item::Next, arguments),
+        Name::Fuse => fuse(arguments),
+    }
+}

@@ -1,0 +1,14 @@
+//! What holds of the grammar itself.
+ghost use Rattle.std.specs.Prelude.{◌≡◌, ◌⊎◌, ℕ, List};
+ghost use Rattle.dali_script.specs.declared.faults.Kind.{Kind};
+ghost use Rattle.dali_script.specs.declared.commands.Command.{Command};
+ghost use Rattle.dali_script.specs.Grammar.{IsSpelled, IsWrong};
+
+/// Bytes spell a script or have a first line that is wrong, and never both; there is one such script, and one such
+/// line with one fault.
+pub fn spelled_or_wrong()
+    ensures either { (bytes : List ℕ) → ((script : List Command) × IsSpelled bytes script) ⊎ ((line : ℕ) × (kind : Kind) × IsWrong bytes line kind) }
+    ensures never_both { (bytes : List ℕ) (script : List Command) (line : ℕ) (kind : Kind) → IsSpelled bytes script → IsWrong bytes line kind → ⊥ }
+    ensures one_script { (bytes : List ℕ) (s t : List Command) → IsSpelled bytes s → IsSpelled bytes t → s ≡ t }
+    ensures one_fault { (bytes : List ℕ) (m n : ℕ) (j k : Kind) → IsWrong bytes m j → IsWrong bytes n k → (m ≡ n) × (j ≡ k) }
+{}
