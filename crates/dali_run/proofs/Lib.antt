@@ -1,0 +1,11 @@
+mod Appends
+mod Blocks
+mod Courses
+mod Endings
+mod Listings
+mod Lines
+mod Maps
+mod Replays
+mod Rounds
+mod Standing
+mod Texts

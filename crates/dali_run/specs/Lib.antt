@@ -1,0 +1,16 @@
+pub mod Commands
+pub mod Ends
+pub mod Form
+pub mod Goes
+pub mod Halts
+pub mod Leaves
+pub mod Lines
+pub mod Listing
+pub mod Log
+pub mod Order
+pub mod Replay
+pub mod Run
+pub mod Session
+pub mod Stages
+pub mod Standing
+pub mod Steps
