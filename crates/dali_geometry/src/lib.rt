@@ -155,6 +155,7 @@ impl Geometry {
 #[cfg(test)]
 mod tests {
     use super::*;
+    use std::test::Fail;
 
     #[test]
     fn sizes_in_range(rt: HostRuntime) {
@@ -172,7 +173,19 @@ mod tests {
         }
     }
 
-    // Two index regions and four heap regions: transaction 1 puts key 42 into cell 1 of region 2.
+    #[test]
+    fn limits_and_the_refusal(rt: HostRuntime) -> Result<(), Fail> {
+        assert_eq!(rt; (MAX_INDEX, MAX_HEAP), (32_768, 65_536));
+        assert_eq!(rt; Geometry::new(0, 0), Err(OutOfRange));
+        let text = format!(in rt.alloc(); "{}", OutOfRange)?;
+        assert_eq!(rt;
+            text.as_str(),
+            "a database has 1 to 32768 index regions and 1 to 65536 heap regions"
+        );
+        Ok(())
+    }
+
+    // Two index regions, 0 and 1, and four heap regions, 2 to 5.
     #[test]
     fn regions_and_places(rt: HostRuntime) -> Result<(), OutOfRange> {
         let geometry = Geometry::new(2, 4)?;

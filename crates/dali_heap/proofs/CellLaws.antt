@@ -34,7 +34,7 @@ row_in_cell c k n is e read row low high i h =
 cell_three : (c : ℕ) → row_of (8 * c) 3 ≡ state_word c ∷ key_word c ∷ length_word c ∷ []
 cell_three c = let e : 8 * c + 1 + 1 ≡ 8 * c + 2 = omega arith in rw e refl
 
-cell_six : (c : ℕ) → row_of (8 * c + 2) 6 ≡ length_word c ∷ value_words c
+pub cell_six : (c : ℕ) → row_of (8 * c + 2) 6 ≡ length_word c ∷ value_words c
 cell_six c =
     let e3 : 8 * c + 2 + 1 ≡ 8 * c + 3 = omega arith in
     let e4 : 8 * c + 3 + 1 ≡ 8 * c + 4 = omega arith in
@@ -114,7 +114,7 @@ operations_stay = record {
   };
 }
 
-bit_none : (m i : ℕ) → (bit_at m i ≡ 1 → ⊥) → bit_at m i ≡ 0
+pub bit_none : (m i : ℕ) → (bit_at m i ≡ 1 → ⊥) → bit_at m i ≡ 0
 bit_none m i h = let low = bit_at-lt m i in grind arith
 
 pub cells_commute : CellsCommute

@@ -1,3 +1,4 @@
 pub mod Dependence
 pub mod CellLaws
+pub mod Orders
 mod Walk

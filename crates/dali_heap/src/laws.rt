@@ -1,6 +1,7 @@
 //! Laws of the operations on cells, each the contract of a function that does nothing.
 
 ghost use Rattle.dali_heap.specs.Laws.{OperationsStay, CellsCommute, PutsWithin, UndoesKill, UndoesChange, UndoesPut, PutTakesFirst};
+ghost use Rattle.dali_heap.specs.Orders.{PutReads, OperationsCommute, PutCommutes, PutTakesFreed};
 
 /// An operation that names a cell reads words of this cell alone, writes only words that it reads,
 /// and depends on no others.
@@ -36,4 +37,26 @@ pub fn a_change_is_undone()
 /// To free a cell right after a put gives the words before, but for those behind the cell's state.
 pub fn a_put_is_undone()
     ensures { UndoesPut }
+{}
+
+/// A put reads the states of the cells before the first free one, and that cell whole; where none is
+/// free, the states of all seven. So its whole effect is known from the states alone.
+pub fn a_put_reads_up_to_the_first_free_cell()
+    ensures { PutReads }
+{}
+
+/// Operations on two cells do and find the same in either order: the same masks, new words and outcomes.
+pub fn operations_on_two_cells_find_the_same()
+    ensures { OperationsCommute }
+{}
+
+/// A put and an operation on another cell do and find the same in either order, where that cell stands
+/// behind the one that the put takes, or isn't free after the operation.
+pub fn a_put_commutes_with_other_cells()
+    ensures { PutCommutes }
+{}
+
+/// A put after an operation that freed a cell which it would have passed takes that cell.
+pub fn a_put_takes_a_cell_freed_before()
+    ensures { PutTakesFreed }
 {}

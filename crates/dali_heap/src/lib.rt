@@ -307,6 +307,22 @@ mod tests {
         Ok(())
     }
 
+    // A dead cell is passed, and keeps its words.
+    #[test]
+    fn a_put_passes_a_dead_cell(rt: HostRuntime) -> Result<(), Fail> {
+        let abc = Value::from_bytes(b"abc").ok_or("no value")?;
+        let words = put(&formatted(), 5, &abc).0.after;
+        let words = kill(&words, 1, 5).0.after;
+        let (effect, outcome) = put(&words, 6, &abc);
+        assert_eq!(rt; (effect.read, effect.write), (0xff_0100, 0xff_0000));
+        assert_eq!(rt; outcome, PutOutcome::Put { cell: 2 });
+        assert_eq!(rt;
+            effect.after[8..24],
+            [2, 5, 3, ABC[0], 0, 0, 0, 0, 1, 6, 3, ABC[0], 0, 0, 0, 0][..]
+        );
+        Ok(())
+    }
+
     #[test]
     fn changes_and_their_undoing(rt: HostRuntime) -> Result<(), Fail> {
         let abc = Value::from_bytes(b"abc").ok_or("no value")?;

@@ -69,7 +69,7 @@ operations_stay = record {
   };
 }
 
-bit_none : (m i : ℕ) → (bit_at m i ≡ 1 → ⊥) → bit_at m i ≡ 0
+pub bit_none : (m i : ℕ) → (bit_at m i ≡ 1 → ⊥) → bit_at m i ≡ 0
 bit_none m i h = let low = bit_at-lt m i in grind arith
 
 pub entries_commute : EntriesCommute

@@ -169,7 +169,7 @@ reads_stay ws c key = go (cell.state_of ws c == 1) refl (cell.key_of ws c == key
     go true p false q z r = rw (p, q) refl
     go false p y q z r = rw (p) refl
 
-abbrev value_written : List ℕ → ℕ → List ℕ → List ℕ
+abbrev pub value_written : List ℕ → ℕ → List ℕ → List ℕ
 value_written ws c news = write_all ws (zip (cell.length_word c ∷ cell.value_words c) news)
 
 pub changes_are : (ws : List ℕ) (c key : ℕ) (v : List ℕ) → ((heap.change ws c key v).0.after ≡ value_written ws c (length v ∷ packed v)) ⊎ ((heap.change ws c key v).0.after ≡ ws)
@@ -182,7 +182,7 @@ changes_are ws c key v = go (cell.state_of ws c == 1) refl (cell.key_of ws c == 
     go false p y q z r = rw (p) (inr refl)
 
 -- ---- the length and the value of a cell are written
-in_value : (c i : ℕ) → IsIn (cell.length_word c ∷ cell.value_words c) i → (8 * c + 2 ≤ i) × (i < 8 * c + 8)
+pub in_value : (c i : ℕ) → IsIn (cell.length_word c ∷ cell.value_words c) i → (8 * c + 2 ≤ i) × (i < 8 * c + 8)
 in_value c i (inl e) = (omega (arith, e), omega (arith, e))
 in_value c i (inr (inl e)) = (omega (arith, e), omega (arith, e))
 in_value c i (inr (inr (inl e))) = (omega (arith, e), omega (arith, e))
@@ -191,7 +191,7 @@ in_value c i (inr (inr (inr (inr (inl e))))) = (omega (arith, e), omega (arith, 
 in_value c i (inr (inr (inr (inr (inr (inl e)))))) = (omega (arith, e), omega (arith, e))
 in_value c i (inr (inr (inr (inr (inr (inr h)))))) = absurd h
 
-value_stays : (ws : List ℕ) (c : ℕ) (news : List ℕ) (i : ℕ) → (i < 8 * c + 2) ⊎ (8 * c + 8 ≤ i) → get_or (value_written ws c news) i 0 ≡ get_or ws i 0
+pub value_stays : (ws : List ℕ) (c : ℕ) (news : List ℕ) (i : ℕ) → (i < 8 * c + 2) ⊎ (8 * c + 8 ≤ i) → get_or (value_written ws c news) i 0 ≡ get_or ws i 0
 value_stays ws c news i out = unwritten ws (zip (cell.length_word c ∷ cell.value_words c) news) i (λ h. let at = in_value c i (zip_within (cell.length_word c ∷ cell.value_words c) news i h) in ⊎_elim (λ a. omega (arith, at.0, a)) (λ a. omega (arith, at.1, a)) out)
 
 other_cell : (q : ℕ) (ws : List ℕ) (c j : ℕ) (news : List ℕ) → j ≢ c → cell_part q (value_written ws c news) j ≡ cell_part q ws j

@@ -6,8 +6,11 @@ pub mod Worlds
 pub mod Parts
 pub mod Reaches
 pub mod Starts
+pub mod Stored
 pub mod Gaps
 pub mod Fitting
 pub mod Keeping
 pub mod Steps
+pub mod Forms
+pub mod Orders
 mod Walks

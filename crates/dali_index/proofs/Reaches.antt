@@ -1,14 +1,14 @@
--- The walk of a key as a relation.
+-- The walk of a key as a relation on the flags alone, which an operation may have raised.
 --     walk s n r               the index region n steps after r
 --     Reach s F k r            the walk of k comes to r: each region before it has its flag raised
-use Rattle.std.proofs.Common.{◌≡◌, ℕ, zero, suc, ◌<◌, true}
+use Rattle.std.proofs.Common.{◌≡◌, ℕ, ◌<◌, true}
 use Rattle.dali_geometry.specs.Sizes.{Sizes}
-use Rattle.dali_geometry.specs.Places.{home, next_index}
+use Rattle.dali_geometry.specs.Places.{home}
+use Rattle.dali_index.specs.Reached.{region_after}
 use Rattle.dali_index.proofs.Worlds.{Flags}
 
 abbrev pub walk : Sizes → ℕ → ℕ → ℕ
-walk s zero r = r
-walk s (suc n) r = next_index s (walk s n r)
+walk s n r = region_after s n r
 
 abbrev pub Raised : Sizes → Flags → ℕ → ℕ → Type 0
 Raised s F k n = (m : ℕ) → m < n → F (walk s m (home s k)) ≡ true

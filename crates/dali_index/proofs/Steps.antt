@@ -8,7 +8,7 @@ use Rattle.dali_words.specs.Values.{packed}
 use Rattle.dali_words.specs.Effects.{write_all}
 use Rattle.dali_words.proofs.Masks.{length-write_all}
 use Rattle.dali_geometry.specs.Sizes.{Sizes}
-use Rattle.dali_geometry.specs.Places.{is_index, is_heap, is_place, region_at, cell_at, place}
+use Rattle.dali_geometry.specs.Places.{is_index, is_heap, region_at, cell_at, place}
 use Rattle.dali_heap.specs.declared.PutOutcome.TheVariants.{Put, NoCell}
 use Rattle.dali_heap.specs.Cells as cell
 use Rattle.dali_heap.specs.Rows as heap

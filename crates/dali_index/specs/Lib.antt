@@ -1,6 +1,11 @@
 pub mod Entries
 pub mod Rows
 pub mod Records
+pub mod Reached
 pub mod Laws
+pub mod Operations
+pub mod Orders
+pub mod Within
 pub mod Invariant
 pub mod Keeps
+pub mod Form

@@ -1,6 +1,10 @@
 //! Laws of the operations on entries and of the index's invariant, each the contract of a function that does nothing.
 
 ghost use Rattle.dali_index.specs.Laws.{OperationsStay, EntriesCommute, WalksWithin, UndoesKill, UndoesAdd, LookFindsFirst, AddTakesFirst};
+ghost use Rattle.dali_index.specs.Orders.{LookReads, AddReads, OperationsCommute, LookFinds, LookCommutes, AddCommutes, AddTakesFreed, LookAfterAdd};
+ghost use Rattle.dali_index.specs.Within.{WritesWithinReads};
+ghost use Rattle.dali_index.specs.Reached.{WalksAreReached, RecordsAreStored};
+ghost use Rattle.dali_index.specs.Form.{TidyIsForm, FormIsKept, FormattedIsEmpty};
 ghost use Rattle.dali_index.specs.Keeps.{GapsAreNone, PutKeeps, AddKeeps, KillCellKeeps, KillEntryKeeps, OthersKeep, FreeEntryKeeps, FreeCellKeeps, ReviveEntryKeeps, ReviveCellKeeps, DeadAreFreed, InsertKeeps, DeleteKeeps};
 
 /// An operation that names an entry reads words of this entry alone, writes only words that it reads,
@@ -104,4 +108,82 @@ pub fn an_insert_keeps_the_index()
 /// A kill of a cell and of the entry that names it keep the index's invariant.
 pub fn a_delete_keeps_the_index()
     ensures { DeleteKeeps }
+{}
+
+/// A look reads the state of each entry before the one that it finds, and the key of each live one among
+/// them, and that entry whole; where it finds none, these of all entries, and the overflow flag.
+pub fn a_look_reads_up_to_its_entry()
+    ensures { LookReads }
+{}
+
+/// An add reads the states of the entries before the first free one, and that entry whole; where none is
+/// free, the states of all, and the overflow flag.
+pub fn an_add_reads_up_to_the_first_free_entry()
+    ensures { AddReads }
+{}
+
+/// Operations on two entries do and find the same in either order: the same masks, new words and outcomes.
+pub fn operations_on_two_entries_find_the_same()
+    ensures { OperationsCommute }
+{}
+
+/// A look finds the same after an operation on another entry, where that entry stands behind the one that
+/// it finds, or isn't a live one of its key after the operation.
+pub fn a_look_finds_the_same_after_other_entries()
+    ensures { LookFinds }
+{}
+
+/// Where that entry is also live both before and after, or at neither time, or stands behind the one that
+/// the look finds, the two do and find the same in either order.
+pub fn a_look_commutes_with_other_entries()
+    ensures { LookCommutes }
+{}
+
+/// An add and an operation on another entry do and find the same in either order, where that entry stands
+/// behind the one that the add takes, or isn't free after the operation.
+pub fn an_add_commutes_with_other_entries()
+    ensures { AddCommutes }
+{}
+
+/// An add after an operation that freed an entry which it would have passed takes that entry.
+pub fn an_add_takes_an_entry_freed_before()
+    ensures { AddTakesFreed }
+{}
+
+/// Each operation on cells or entries writes only words that it reads, and leaves all others.
+pub fn operations_write_what_they_read()
+    ensures { WritesWithinReads }
+{}
+
+/// The test whether the walk of a key comes to a region says just that each region before it on the walk
+/// has its overflow flag raised.
+pub fn walks_reach_what_is_reached()
+    ensures { WalksAreReached }
+{}
+
+/// The records of an image are just the pairs that some entry stands for.
+pub fn records_are_what_entries_stand_for()
+    ensures { RecordsAreStored }
+{}
+
+/// An image is tidy exactly where it is in form and nothing in it is dead.
+pub fn tidy_images_are_in_form()
+    ensures { TidyIsForm }
+{}
+
+/// Each operation leads from an image in form to one in form: states stay 0, 1 or 2, and live and dead
+/// cells keep a length of 1 to 40.
+pub fn operations_keep_the_form()
+    ensures { FormIsKept }
+{}
+
+/// The formatted image is an image, has the index's invariant, is tidy, and stores no records.
+pub fn the_formatted_image_is_empty()
+    ensures { FormattedIsEmpty }
+{}
+
+/// A look finds the same after an add of another key that took an entry. Where no live entry of its own key
+/// stood before, it finds the one that was added.
+pub fn a_look_after_an_add()
+    ensures { LookAfterAdd }
 {}

@@ -218,10 +218,9 @@ mod tests {
         let (killed, outcome) = kill(&words, 0, 5);
         assert_eq!(rt; (killed.read, killed.write, killed.after[1]), (0x6, 0x2, 2));
         assert_eq!(rt; outcome, KillOutcome::Killed);
-        assert_eq!(rt;
-            look(&killed.after, 5).1,
-            LookOutcome::Absent { overflow: false }
-        );
+        let (passed, outcome) = look(&killed.after, 5);
+        assert_eq!(rt; (passed.read, passed.write), (0x2492_4924_9249_2493, 0));
+        assert_eq!(rt; outcome, LookOutcome::Absent { overflow: false });
         assert_eq!(rt;
             kill(&killed.after, 0, 5).1,
             KillOutcome::NotLive { state: 2 }
@@ -232,5 +231,20 @@ mod tests {
         assert_eq!(rt; revived.after, words);
         let freed = free(&killed.after, 0);
         assert_eq!(rt; (freed.read, freed.write, freed.after[1]), (0x2, 0x2, 0));
+    }
+    // Any flag but 0 says that the walk goes on, and stays as it is.
+    #[test]
+    fn a_damaged_overflow_flag_counts_as_raised(rt: HostRuntime) {
+        for flag in [1, 7, u64::MAX] {
+            let mut words = [7; 64];
+            words[0] = flag;
+            let (effect, outcome) = look(&words, 5);
+            assert_eq!(rt; (effect.read, effect.write), (0x2492_4924_9249_2493, 0));
+            assert_eq!(rt; outcome, LookOutcome::Absent { overflow: true });
+            let (effect, outcome) = add(&words, 5, 17);
+            assert_eq!(rt; (effect.read, effect.write), (0x2492_4924_9249_2493, 0));
+            assert_eq!(rt; effect.after, words);
+            assert_eq!(rt; outcome, AddOutcome::NoEntry);
+        }
     }
 }

@@ -1,20 +1,22 @@
 -- What a hold has written and read, and that each call keeps what is true of every region.
-use Rattle.std.proofs.Common.{◌≡◌, ◌≢◌, ℕ, zero, suc, ◌+◌, ◌-◌, ◌*◌, ◌<◌, ◌≤◌, ◌^◌, Bool, true, false, not, List, length, cond, refl, ap, sym, subst, ◌∙◌, ◌⊎◌, inl, inr, ⊎_elim, arith, get_or, set, max, Option, Some, None}
-use Rattle.std.specs.Prelude.{◌==◌, bit_and, bit_or, bit_xor, IsBitSet, IsSomeAnd, IfSome, slice_index, slice_set}
+use Rattle.std.proofs.Common.{◌≡◌, ◌≢◌, ℕ, zero, suc, ◌+◌, ◌-◌, ◌*◌, ◌<◌, ◌≤◌, ◌^◌, Bool, true, false, not, List, [], ◌∷◌, length, cond, refl, ap, sym, subst, ◌∙◌, ◌⊎◌, inl, inr, ⊎_elim, arith, get_or, set, max, Option, Some, None}
+use Rattle.std.specs.Prelude.{◌==◌, bit_and, bit_or, bit_xor, IsBitSet, IsSomeAnd, IfSome, All, slice_index, slice_set}
 use Rattle.std.specs.Option.{option_map_or}
-use Rattle.std.proofs.lemmas.Nat.{and_le_l, pow_pos}
+use Rattle.std.specs.Int.Bits.{xor_assoc, xor_self, xor_zero_r}
+use Rattle.std.proofs.lemmas.Nat.{and_le_l, pow_pos, xor_lt}
 use Rattle.std.proofs.Math.Nat.{pow-le-pow_right, zero-mul}
 use Rattle.std.specs.Int.{bit_at, w64}
-use Rattle.std.proofs.lemmas.Nat.Bits.{bit_at_or, bit_at_and, bit_at_not, bit_at-lt, bit_at-pow_same, and_pow}
+use Rattle.std.proofs.lemmas.Nat.Bits.{bit_at_or, bit_at_and, bit_at_not, bit_at-lt, bit_at-zero, bit_at-pow_same, bit_at-pow_other, and_pow}
+use Rattle.std.proofs.lemmas.List.Elements.{All-set, All-get_or, All-from_get_or}
 use Rattle.std.proofs.lemmas.List.{length-set, ext_get_or, get_or-set_same, get_or-set_other}
 use Rattle.std.proofs.lemmas.Bool.Decides.{Decides-eqb, leb_tells}
 use Rattle.dali_words.specs.Words.{parity_of, xor_under}
 use Rattle.dali_region.specs.declared.Hold.{Hold}
-use Rattle.dali_region.specs.State.{RegionState, IsProtected, HasRead, IsUnwritten, latched, is_in, has_written, is_written, unread, damaged, poked}
+use Rattle.dali_region.specs.State.{RegionState, IsProtected, HasRead, IsUnwritten, latched, is_in, has_written, is_written, unread, damaged, poked, loaded, taken_back, counted, touched, updated, writing, map_hold}
 use Rattle.dali_region.proofs.Words.{parity_of-set, twice, damage, xor_under-apart, xor_under-nothing}
 
 -- ---- bits
-same_or_not : (i j : ℕ) → (i ≡ j) ⊎ (i ≢ j)
+pub same_or_not : (i j : ℕ) → (i ≡ j) ⊎ (i ≢ j)
 same_or_not i j = by_test (i == j) refl
   where
     by_test : (c : Bool) → (i == j) ≡ c → (i ≡ j) ⊎ (i ≢ j)
@@ -98,19 +100,28 @@ unwritten-same g h p e z = outside_nothing g.words g.back (p.size ∙ sym p.back
     agree : AgreeOutside 0 g.words g.back
     agree i out = p.rest i (ap (λ o. option_map_or (λ k. is_in k.write i) o false) e ∙ ap (λ m. is_in m i) z ∙ out)
 
-pub updated_keeps : (g : RegionState) (h : Hold) (i v b : ℕ) → IsProtected g → g.hold ≡ Some h → i < 64 → b ≡ 2 ^ i → IsProtected (record g { words = slice_set g.words i v; codeword = bit_xor g.codeword (bit_xor (slice_index g.words i) v); hold = Some (record h { write = bit_or h.write b }) })
-updated_keeps g h i v b p e lt is = record {
+pub updated_keeps : (g : RegionState) (h : Hold) (i v b : ℕ) → IsProtected g → g.hold ≡ Some h → i < 64 → b ≡ 2 ^ i → v < 2 ^ 64 → bit_at h.read i ≡ 1 → IsProtected (record g { words = slice_set g.words i v; codeword = bit_xor g.codeword (bit_xor (slice_index g.words i) v); hold = Some (record h { write = bit_or h.write b }) })
+updated_keeps g h i v b p e lt is small has = record {
   size = length-set g.words i v ∙ p.size;
   back_size = p.back_size;
+  fits = All-set (λ w. w < 2 ^ 64) g.words i v small p.fits;
+  back_fits = p.back_fits;
   codeword = law;
   rest = λ k out. outside-set h.write i v g.words g.back agree k (ap (λ m. is_in (bit_or h.write m) k) (sym is) ∙ out);
   within = p.within;
   all_sound = p.all_sound;
   no_stray = p.no_stray;
   reads = λ un. subst (λ (o : Option Hold). IfSome o (λ k. k.xor ≡ xor_under k.read g.back)) e (p.reads un);
+  writes = λ k w. writes k (subst (λ m. bit_at (bit_or h.write m) k ≡ 1) is w);
   none_missed = p.none_missed;
 }
   where
+    writes : (k : ℕ) → bit_at (bit_or h.write (2 ^ i)) k ≡ 1 → bit_at h.read k ≡ 1
+    writes k w = ⊎_elim (λ a. ap (bit_at h.read) a ∙ has) (λ a. was k (omega (arith, w, bit_at_or h.write (2 ^ i) k, bit_at-pow_other i k a))) (same_or_not k i)
+      where
+        was : (j : ℕ) → bit_at h.write j ≡ 1 → bit_at h.read j ≡ 1
+        was = subst (λ (o : Option Hold). IfSome o (λ x. (j : ℕ) → bit_at x.write j ≡ 1 → bit_at x.read j ≡ 1)) e p.writes
+
     agree : AgreeOutside h.write g.words g.back
     agree k out = p.rest k (ap (λ o. option_map_or (λ j. is_in j.write k) o false) e ∙ out)
 
@@ -119,14 +130,26 @@ updated_keeps g h i v b p e lt is = record {
         let within : i < length g.words = omega (arith, p.size, lt) in
         ap (bit_xor (bit_xor g.codeword (bit_xor (slice_index g.words i) v))) (parity_of-set g.words i v within) ∙ twice g.codeword (parity_of g.words) (bit_xor (slice_index g.words i) v) ∙ p.codeword
 
-pub poked_keeps : (g : RegionState) (i m : ℕ) → IsProtected g → i < 64 → IsProtected (poked i m g)
-poked_keeps g i m p lt = by_test (is_written g i) refl
+past : (ws : List ℕ) (i : ℕ) → length ws ≤ i → get_or ws i 0 ≡ 0
+past [] i h = refl
+past (w ∷ ws) zero h = absurd (omega arith)
+past (w ∷ ws) (suc i) h = past ws i (omega arith)
+
+-- the words in a region fit, whichever it is
+word_fits : (ws : List ℕ) (i : ℕ) → All (λ w. w < 2 ^ 64) ws → get_or ws i 0 < 2 ^ 64
+word_fits ws i all = ⊎_elim (λ t. subst (λ n. n < 2 ^ 64) (sym (past ws i t.1)) (omega arith)) (λ t. All-get_or (λ w. w < 2 ^ 64) ws i 0 t.1 all) (leb_tells (length ws) i)
+
+pub poked_keeps : (g : RegionState) (i m : ℕ) → IsProtected g → i < 64 → m < 2 ^ 64 → IsProtected (poked i m g)
+poked_keeps g i m p lt small = by_test (is_written g i) refl
   where
     within : i < length g.words
     within = omega (arith, p.size, lt)
 
     within_back : i < length g.back
     within_back = omega (arith, p.back_size, lt)
+
+    fits : (ws : List ℕ) → All (λ w. w < 2 ^ 64) ws → All (λ w. w < 2 ^ 64) (damaged i m ws)
+    fits ws all = All-set (λ w. w < 2 ^ 64) ws i (bit_xor (get_or ws i 0) m) (xor_lt 64 (get_or ws i 0) m (word_fits ws i all) small) all
 
     law : bit_xor g.codeword (parity_of (damaged i m g.words)) ≡ bit_xor g.stray m
     law = ap (bit_xor g.codeword) (parity_of-set g.words i _ within) ∙ damage g.codeword (parity_of g.words) (slice_index g.words i) m ∙ ap (λ n. bit_xor n m) p.codeword
@@ -135,23 +158,29 @@ poked_keeps g i m p lt = by_test (is_written g i) refl
     by_test true e = record {
       size = length-set g.words i _ ∙ p.size;
       back_size = p.back_size;
+      fits = fits g.words p.fits;
+      back_fits = p.back_fits;
       codeword = law;
       rest = but-set (is_written g) i _ g.words g.back e p.rest;
       within = p.within;
       all_sound = λ h. absurd (cc);
       no_stray = λ h. absurd (cc);
       reads = λ h. absurd (cc);
+      writes = p.writes;
       none_missed = λ h. absurd (cc);
     }
     by_test false e = record {
       size = length-set g.words i _ ∙ p.size;
       back_size = length-set g.back i _ ∙ p.back_size;
+      fits = fits g.words p.fits;
+      back_fits = fits g.back p.back_fits;
       codeword = law;
       rest = but-both (is_written g) i m g.words g.back within within_back e p.rest;
       within = p.within;
       all_sound = λ h. absurd (cc);
       no_stray = λ h. absurd (cc);
       reads = λ h. absurd (cc);
+      writes = p.writes;
       none_missed = λ h. absurd (cc);
     }
 
@@ -161,9 +190,6 @@ read_word_is_below g g' h i same e fits read =
     let both : (h.dead ≡ false) × IsBitSet h.read i = subst (λ (o : Option Hold). IsSomeAnd o (λ k. (k.dead ≡ false) × IsBitSet k.read i)) e at in
     in_is_below h.read i fits both.1
 
-pub poked_is_kept : (g : RegionState) (i m : ℕ) (ws bs : List ℕ) → IsProtected g → i < 64 → ws ≡ damaged i m g.words → bs ≡ cond (is_written g i) g.back (damaged i m g.back) → IsProtected (record g { words = ws; back = bs; stray = bit_xor g.stray m; poked = true })
-poked_is_kept g i m ws bs p lt e f = rw (e, f) (poked_keeps g i m p lt)
-
 -- the words of m that aren't in r, and those in r, are those in either
 unread-split : (r m i : ℕ) → r < 2 ^ 64 → i < 64 → bit_at (bit_or r m) i ≡ bit_at r i + bit_at (unread m r) i
 unread-split r m i fits lt = omega (arith, bit_at_or r m i, bit_at_and m (2 ^ 64 - 1 - r) i, bit_at_not w64 r i fits lt, bit_at-lt r i, bit_at-lt m i)
@@ -172,6 +198,9 @@ pub reading_keeps : (g : RegionState) (h : Hold) (m x r : ℕ) → IsProtected g
 reading_keeps g h m x r p e z fits is_r is_x = record {
   size = p.size;
   back_size = p.back_size;
+  fits = p.fits;
+  back_fits = p.back_fits;
+  writes = λ k w. absurd (omega (arith, ap (λ n. bit_at n k) (sym z), bit_at-zero k, w));
   codeword = p.codeword;
   rest = λ k out. p.rest k (ap (λ o. has_written o k) e ∙ out);
   within = p.within;
@@ -189,6 +218,9 @@ pub latched_keeps : (g : RegionState) (t : ℕ) → IsProtected g → g.hold ≡
 latched_keeps g t p e = record {
   size = p.size;
   back_size = p.back_size;
+  fits = p.fits;
+  back_fits = p.back_fits;
+  writes = λ k w. absurd (omega (arith, bit_at-zero k, w));
   codeword = p.codeword;
   rest = λ k out. p.rest k (ap (λ o. has_written o k) e);
   within = p.within;
@@ -208,3 +240,116 @@ unwritten_hold g g' h same e unwritten =
 -- without a hold the words are as they would be without it
 pub unheld-same : (g : RegionState) → IsProtected g → g.hold ≡ None → g.words ≡ g.back
 unheld-same g p e = outside_nothing g.words g.back (p.size ∙ sym p.back_size) (λ i out. p.rest i (ap (λ o. has_written o i) e))
+
+-- ---- what was computed anew is the same
+pub with_back : (g : RegionState) (bs : List ℕ) → bs ≡ g.back → IsProtected g → IsProtected (record g { back = bs })
+with_back g bs e p = rw e p
+
+-- a set bit
+pub set_is_one : (m i : ℕ) → IsBitSet m i → bit_at m i ≡ 1
+set_is_one m i h = one (bit_at m i) (bit_at-lt m i) (λ z. h (and_pow m i ∙ ap (λ b. b * 2 ^ i) z ∙ zero-mul (2 ^ i)))
+  where
+    one : (b : ℕ) → b < 2 → b ≢ 0 → b ≡ 1
+    one b lt ne = omega arith
+
+pub has_read_word : (g g' : RegionState) (h : Hold) (i : ℕ) → g ≡ g' → g.hold ≡ Some h → HasRead g' i → bit_at h.read i ≡ 1
+has_read_word g g' h i same e read =
+    let at : HasRead g i = subst (λ (s : RegionState). HasRead s i) (sym same) read in
+    let both : (h.dead ≡ false) × IsBitSet h.read i = subst (λ (o : Option Hold). IsSomeAnd o (λ k. (k.dead ≡ false) × IsBitSet k.read i)) e at in
+    set_is_one h.read i both.1
+
+-- ---- a taking back
+-- the codeword, changed by what the words changed by, tells the same pokes
+pub same_stray : (g : RegionState) (c b a : ℕ) → IsProtected g → b ≡ parity_of g.words → c ≡ bit_xor g.codeword (bit_xor b a) → c ≡ bit_xor g.stray a
+same_stray g c b a p e f = f ∙ ap (λ n. bit_xor g.codeword (bit_xor n a)) e ∙ sym (xor_assoc g.codeword (parity_of g.words) a) ∙ ap (λ n. bit_xor n a) p.codeword
+
+pub taken_back_keeps : (g : RegionState) → IsProtected g → IsProtected (taken_back g)
+taken_back_keeps g p = record {
+  size = p.back_size;
+  back_size = p.back_size;
+  fits = p.back_fits;
+  back_fits = p.back_fits;
+  codeword = xor_assoc g.stray (parity_of g.back) (parity_of g.back) ∙ ap (bit_xor g.stray) (xor_self (parity_of g.back)) ∙ xor_zero_r g.stray;
+  rest = λ i out. refl;
+  within = p.within;
+  all_sound = p.all_sound;
+  no_stray = p.no_stray;
+  reads = λ un. tt;
+  writes = tt;
+  none_missed = p.none_missed;
+}
+
+pub touched_keeps : (g : RegionState) → IsProtected g → g.touches < 2 ^ 64 → IsProtected (touched g)
+touched_keeps g p small = by_poked g.poked refl
+  where
+    higher : (a b : ℕ) → a ≤ b → b < 2 ^ 64 → a ≤ counted b
+    higher a b h lt = omega arith
+
+    both : (a b : ℕ) → a ≤ b → counted a ≤ counted b
+    both a b h = omega arith
+
+    by_poked : (b : Bool) → g.poked ≡ b → IsProtected (touched g)
+    by_poked true e = record {
+      size = p.size;
+      back_size = p.size;
+      fits = p.fits;
+      back_fits = p.fits;
+      codeword = p.codeword;
+      rest = λ i out. refl;
+      within = rw e (higher g.sound g.touches p.within small);
+      all_sound = λ h. absurd (cc);
+      no_stray = λ h. absurd (cc);
+      reads = λ h. tt;
+      writes = tt;
+      none_missed = λ h. absurd (cc);
+    }
+    by_poked false e = record {
+      size = p.size;
+      back_size = p.size;
+      fits = p.fits;
+      back_fits = p.fits;
+      codeword = p.codeword;
+      rest = λ i out. refl;
+      within = rw e (both g.sound g.touches p.within);
+      all_sound = λ h. rw e (ap counted (p.all_sound h));
+      no_stray = p.no_stray;
+      reads = λ h. tt;
+      writes = tt;
+      none_missed = p.none_missed;
+    }
+
+-- ---- what contracts say of a call, from the fields
+pub updated_is : (g g' : RegionState) (h : Hold) (i v b : ℕ) (bs : List ℕ) → g ≡ g' → g.hold ≡ Some h → b ≡ 2 ^ i → bs ≡ g.back → record g { words = slice_set g.words i v; back = bs; codeword = bit_xor g.codeword (bit_xor (slice_index g.words i) v); hold = Some (record h { write = bit_or h.write b }) } ≡ updated i v g'
+updated_is g g' h i v b bs same e is_bit is_back = rw (is_bit, is_back) (step ∙ ap (updated i v) same)
+  where
+    step : record g { words = slice_set g.words i v; codeword = bit_xor g.codeword (bit_xor (slice_index g.words i) v); hold = Some (writing i h) } ≡ updated i v g
+    step = ap (λ o. record g { words = slice_set g.words i v; codeword = bit_xor g.codeword (bit_xor (slice_index g.words i) v); hold = o }) (sym (ap (map_hold (writing i)) e))
+
+pub poked_is : (g g' : RegionState) (i m : ℕ) (ws bs : List ℕ) → g ≡ g' → ws ≡ damaged i m g.words → bs ≡ cond (is_written g i) g.back (damaged i m g.back) → record g { words = ws; back = bs; stray = bit_xor g.stray m; poked = true } ≡ poked i m g'
+poked_is g g' i m ws bs same e f = rw (e, f) (ap (poked i m) same)
+
+pub taken_back_is : (g g' : RegionState) (c : ℕ) (ws bs : List ℕ) → g ≡ g' → ws ≡ g.back → bs ≡ g.back → c ≡ bit_xor g.stray (parity_of g.back) → record g { words = ws; back = bs; codeword = c; hold = None } ≡ taken_back g'
+taken_back_is g g' c ws bs same e f h = rw (e, f, h) (ap taken_back same)
+
+pub to_same : (g g' : RegionState) → g ≡ g' → IsProtected g' → IsProtected g
+to_same g g' e p = subst (λ (s : RegionState). IsProtected s) (sym e) p
+
+pub loaded_keeps : (ws : List ℕ) → length ws ≡ 64 → ((i : ℕ) → get_or ws i 0 < 2 ^ 64) → IsProtected (loaded ws)
+loaded_keeps ws long small = record {
+  size = long;
+  back_size = long;
+  fits = All-from_get_or (λ w. w < 2 ^ 64) ws 0 (λ i _. small i);
+  back_fits = All-from_get_or (λ w. w < 2 ^ 64) ws 0 (λ i _. small i);
+  codeword = xor_self (parity_of ws);
+  rest = λ i out. refl;
+  within = omega arith;
+  all_sound = λ h. refl;
+  no_stray = λ h. refl;
+  reads = λ h. tt;
+  writes = tt;
+  none_missed = λ h. refl;
+}
+
+-- words that the hold hasn't written stay
+pub others_stay : (g g' : RegionState) (ws : List ℕ) → g ≡ g' → IsProtected g → ws ≡ g.back → (i : ℕ) → is_written g' i ≡ false → slice_index ws i ≡ slice_index g'.words i
+others_stay g g' ws same p e = subst (λ (s : RegionState). (i : ℕ) → is_written s i ≡ false → slice_index ws i ≡ slice_index s.words i) same (λ i h. ap (λ (xs : List ℕ). get_or xs i 0) e ∙ sym (p.rest i h))

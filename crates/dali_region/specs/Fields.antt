@@ -1,11 +1,11 @@
 -- A region's fields, as what contracts see of it.
 use Rattle.dali_region.specs.declared.Region.TheInside.{Inside}
-use Rattle.dali_region.specs.State.{RegionState, IsProtected}
+use Rattle.dali_region.specs.State.{RegionState, IsProtected, restored, written}
 
 abbrev pub state_of : Inside → RegionState
 state_of r = record {
   words = r.words;
-  back = r.settled;
+  back = restored (written r.hold) r.olds r.words;
   hold = r.hold;
   codeword = r.codeword;
   dirty_a = r.dirty_a;

@@ -5,25 +5,31 @@
 --     damaged i m ws               words of which word i is changed by the mask m
 --     has_written o i              whether the hold o, if there is one, has written word i
 --     is_written g i               whether the region's hold has written word i
+--     restored m olds ws           ws with the words in the set m as they are in olds
+--     written o                    the set of the words that the hold o, if there is one, has written
 --     IsProtected g                what is true of every region
 --     loaded ws                    a region as it is loaded
 --     counted n                    a count one higher, up to its type's end
 --     latched t g                  with a live hold of t that has read nothing
 --     with_reads m g               with the words in m that weren't read yet added to the hold's reads
 --     updated i v g                with word i set to v, the codeword changed by the difference
---     taken_back g                 with the hold's updates taken back, and no hold
+--     taken_back g                 with each word that the hold has written as before its first update, all others as they
+--                                  stand, a codeword that tells the same pokes, and no hold
+--     KeepsOthers g h              the words that the hold of g hasn't written are in h as in g
 --     touched g                    with the hold's operation done, and no hold
 --     poked i m g                  with a word damaged
 --     checked g                    after a check: a check that answers 0 misses the pokes that came
 --     dead g                       with its hold dead
-use Rattle.std.specs.Prelude.{◌≡◌, ℕ, ◌+◌, ◌-◌, ◌^◌, ◌≤◌, Bool, true, false, not, ◌&&◌, ◌||◌, if◌then◌else◌, ◌==◌, List, Option, Some, None, IfSome, IsSomeAnd, IsBitSet, length, slice_index, slice_set, bit_and, bit_or, bit_xor, min}
+use Rattle.std.specs.Prelude.{◌≡◌, ℕ, ◌+◌, ◌-◌, ◌^◌, ◌<◌, ◌≤◌, Bool, true, false, not, ◌&&◌, ◌||◌, if◌then◌else◌, ◌==◌, List, Option, Some, None, IfSome, IsSomeAnd, IsBitSet, All, length, slice_index, slice_set, bit_and, bit_or, bit_xor, min}
 use Rattle.std.specs.Option.{option_map_or}
-use Rattle.dali_words.specs.Words.{parity_of, xor_under}
+use Rattle.std.specs.Int.{bit_at}
+use Rattle.dali_words.specs.Words.{parity_of, xor_under, under, write_under}
 use Rattle.dali_region.specs.declared.Hold.{Hold}
 
 pub record RegionState : Type 0 where
   pub words : List ℕ
-  -- the words with the updates of the hold taken back
+  -- the words with the updates of the hold taken back: each word that it has written has its value from before
+  -- the first update, all others are as they stand
   pub back : List ℕ
   pub hold : Option Hold
   pub codeword : ℕ
@@ -61,9 +67,21 @@ has_written o i = option_map_or (λ h. is_in h.write i) o false
 abbrev pub is_written : RegionState → ℕ → Bool
 is_written g i = has_written g.hold i
 
+abbrev pub restored : ℕ → List ℕ → List ℕ → List ℕ
+restored m olds ws = write_under m (under m olds) ws
+
+-- olds with the value of word i, where it isn't in the set m
+abbrev pub kept : ℕ → ℕ → List ℕ → List ℕ → List ℕ
+kept m i ws olds = if is_in m i then olds else slice_set olds i (slice_index ws i)
+
+abbrev pub written : Option Hold → ℕ
+written o = option_map_or (λ h. h.write) o 0
+
 pub record IsProtected (g : RegionState) : Type 0 where
   pub size : length g.words ≡ 64
   pub back_size : length g.back ≡ 64
+  pub fits : All (λ w. w < 2 ^ 64) g.words
+  pub back_fits : All (λ w. w < 2 ^ 64) g.back
   -- the codeword tells exactly the masks of the pokes
   pub codeword : bit_xor g.codeword (parity_of g.words) ≡ g.stray
   -- a word that the hold hasn't written is as it would be without the hold
@@ -73,6 +91,8 @@ pub record IsProtected (g : RegionState) : Type 0 where
   pub no_stray : g.poked ≡ false → g.stray ≡ 0
   -- what a hold keeps of its reads is the exclusive-or of the words as they are without it
   pub reads : g.poked ≡ false → IfSome g.hold (λ h. h.xor ≡ xor_under h.read g.back)
+  -- a hold has written only words that it has read
+  pub writes : IfSome g.hold (λ h. (i : ℕ) → bit_at h.write i ≡ 1 → bit_at h.read i ≡ 1)
   pub none_missed : g.poked ≡ false → g.missed ≡ false
 
 abbrev pub loaded : List ℕ → RegionState
@@ -120,9 +140,12 @@ updated i v g = record g {
 abbrev pub taken_back : RegionState → RegionState
 taken_back g = record g {
   words = g.back;
-  codeword = bit_xor g.codeword (bit_xor (parity_of g.words) (parity_of g.back));
+  codeword = bit_xor g.stray (parity_of g.back);
   hold = None;
 }
+
+abbrev pub KeepsOthers : RegionState → RegionState → Type 0
+KeepsOthers g h = (i : ℕ) → is_written g i ≡ false → slice_index h.words i ≡ slice_index g.words i
 
 -- a count one higher, up to its type's end
 abbrev pub counted : ℕ → ℕ

@@ -9,6 +9,7 @@
 ghost use Rattle.std.specs.Prelude.{◌≡◌, ◌≢◌, ◌<◌, IsSome, OnOk, OnErr};
 ghost use Rattle.dali_region.specs.State;
 ghost use Rattle.dali_region.specs.State.{IsProtected, damaged, IsLive, IsUnwritten, HasRead, loaded, latched, with_reads, updated, taken_back, touched, poked, checked, dead};
+ghost use Rattle.dali_region.specs.State.{KeepsOthers, restored, kept};
 ghost use Rattle.dali_region.specs.Answers.{latch_answer, is_dirty, cleaned};
 
 mod mirror;
@@ -69,13 +70,14 @@ const _: () = prove!(size_of::<Region>() == 1120);
 /// The codeword is the exclusive-or of all words as they were loaded, changed at each update by the exclusive-or of
 /// the old and the new word. A poke changes a word and nothing else that running code can see.
 ///
-/// No call takes memory. A region has 1,120 bytes: 512 for its words, 512 for the words as they would be without the
-/// updates of the open operation, and 96 for all else. The second 512 are the price of taking an operation back
-/// whatever it wrote: it may write each word that it has read, so all 64 old values may be wanted.
+/// No call takes memory. A region has 1,120 bytes: 512 for its words, 512 for the values that words had before the open
+/// operation wrote them, and 96 for all else. The second 512 are the price of taking an operation back whatever it
+/// wrote: it may write each word that it has read, so all 64 old values may be wanted.
 #[derive(Drop)]
 pub struct Region {
     words: [u64; 64],
-    settled: [u64; 64],
+    // of each word that the hold has written its value before the first write; those of other words mean nothing
+    olds: [u64; 64],
     hold: Option<Hold>,
     codeword: u64,
     touches: u64,
@@ -96,13 +98,34 @@ impl Model for Region {
     ghost invariant = { KeepsItsCodeword };
 }
 
-fn has_written(hold: &Option<Hold>, word: u8) -> bool
-    requires { word < 64 }
-    ensures { result ≡ State.has_written hold.now word }
+// The set of the words that a hold has written.
+fn written(hold: &Option<Hold>) -> u64
+    ensures { result ≡ State.written hold.now }
 {
     match hold {
-        Some(hold) => hold.write & bit(word) != 0,
-        None => false,
+        Some(hold) => hold.write,
+        None => 0,
+    }
+}
+
+// Gives the words in a set their old values.
+fn restore(words: &mut [u64; 64], olds: &[u64; 64], set: u64)
+    ensures { words.new ≡ restored set olds.now words.old }
+{
+    for word in 0..64 {
+        if set & bit(word) != 0 {
+            words[word as usize] = olds[word as usize];
+        }
+    }
+}
+
+// Keeps the value of a word that is about to be written, where it wasn't written before.
+fn keep(olds: &mut [u64; 64], words: &[u64; 64], set: u64, word: u8)
+    requires { word < 64 }
+    ensures { olds.new ≡ kept set word words.now olds.old }
+{
+    if set & bit(word) == 0 {
+        olds[word as usize] = words[word as usize];
     }
 }
 
@@ -120,7 +143,7 @@ impl Region {
     {
         Region {
             words,
-            settled: words,
+            olds: words,
             hold: None,
             codeword: parity(&words),
             touches: 0,
@@ -136,6 +159,8 @@ impl Region {
         ensures answer { result ≡ latch_answer precheck self.old }
         ensures taken { OnOk result (self.new ≡ latched txn self.old) }
         ensures refused { OnErr result (self.new ≡ self.old) }
+        ensures was_protected { IsProtected self.old }
+        ensures protected { IsProtected self.new }
     {
         if let Some(hold) = self.hold {
             return Err(if hold.dead {
@@ -208,6 +233,7 @@ impl Region {
     {
         let hold = self.hold.unwrap();
         let at = word as usize;
+        keep(&mut self.olds, &self.words, hold.write, word);
         self.codeword ^= self.words[at] ^ value;
         self.words[at] = value;
         self.hold = Some(Hold {
@@ -220,10 +246,14 @@ impl Region {
     /// A hold is to stand, live or dead.
     pub fn take_back(&mut self)
         requires { IsSome self.old.hold }
-        ensures { self.new ≡ taken_back self.old }
+        ensures after { self.new ≡ taken_back self.old }
+        ensures others { KeepsOthers self.old self.new }
+        ensures was_protected { IsProtected self.old }
+        ensures protected { IsProtected self.new }
     {
-        self.codeword ^= parity(&self.words) ^ parity(&self.settled);
-        self.words = self.settled;
+        let before = parity(&self.words);
+        restore(&mut self.words, &self.olds, written(&self.hold));
+        self.codeword ^= before ^ parity(&self.words);
         self.hold = None;
     }
 
@@ -231,11 +261,12 @@ impl Region {
     /// The hold is to be live. The count of touches stands still at its type's end.
     pub fn touch(&mut self)
         requires { IsLive self.old }
-        ensures { self.new ≡ touched self.old }
+        ensures after { self.new ≡ touched self.old }
+        ensures was_protected { IsProtected self.old }
+        ensures protected { IsProtected self.new }
     {
         let hold = self.hold.unwrap();
         if hold.write != 0 {
-            self.settled = self.words;
             self.dirty_a = true;
             self.dirty_b = true;
         }
@@ -251,11 +282,7 @@ impl Region {
         requires changes { mask ≢ 0 }
         ensures { self.new ≡ poked word mask self.old }
     {
-        let written = has_written(&self.hold, word);
         damage(&mut self.words, word, mask);
-        if !written {
-            damage(&mut self.settled, word, mask);
-        }
         self.mirror.poke(mask);
     }
 
@@ -263,6 +290,8 @@ impl Region {
     pub fn check(&mut self) -> u64
         ensures answer { result ≡ self.old.stray }
         ensures after { self.new ≡ checked self.old }
+        ensures was_protected { IsProtected self.old }
+        ensures protected { IsProtected self.new }
     {
         let stray = self.codeword ^ parity(&self.words);
         self.mirror.check(stray);
@@ -281,7 +310,8 @@ impl Region {
     pub fn copy_settled(&self, into: &mut [u64; 64])
         ensures { into.new ≡ self.now.back }
     {
-        *into = self.settled;
+        *into = self.words;
+        restore(into, &self.olds, written(&self.hold));
     }
 
     /// The client that has the latch died. The hold is to be live.
@@ -407,6 +437,83 @@ mod tests {
             })
         );
         assert_eq!(rt; region.latch(6, false), Ok(()));
+        Ok(())
+    }
+    // The masks of two pokes cancel: the check answers 0 although two words are damaged.
+    #[test]
+    fn pokes_that_cancel(rt: HostRuntime) {
+        let mut region = Region::load(formatted());
+        for (word, mask, answer) in [(11, 1, 1), (12, 1, 0), (12, 6, 6), (63, 6, 0)] {
+            region.poke(word, mask);
+            assert_eq!(rt; region.check(), answer, "{word}");
+        }
+        assert_eq!(rt; (region.words()[11], region.words()[12]), (1, 7));
+        assert_eq!(rt; region.latch(5, true), Ok(()));
+    }
+
+    // A poke of a word that the operation has written is gone after the taking back, and the check still
+    // tells its mask; a poke of any other word stays.
+    #[test]
+    fn a_poke_and_a_taking_back(rt: HostRuntime) -> Result<(), Fail> {
+        for (word, left, answer) in [(8, 0, 4), (9, 4, 4)] {
+            let mut region = Region::load(formatted());
+            region.latch(5, false)?;
+            region.note_reads(0x300);
+            region.update(8, 2);
+            region.poke(word, 4);
+            region.take_back();
+            assert_eq!(rt; region.words()[8], if word == 8 { left } else { 0 });
+            assert_eq!(rt; region.words()[9], if word == 9 { left } else { 0 });
+            assert_eq!(rt; region.check(), answer, "{word}");
+        }
+        Ok(())
+    }
+
+    #[test]
+    fn reads_and_a_touch_without_a_write(rt: HostRuntime) -> Result<(), Fail> {
+        let mut words = formatted();
+        words[8] = 6;
+        words[9] = 9;
+        let mut region = Region::load(words);
+        region.clear_dirty(Side::A);
+        region.clear_dirty(Side::B);
+        region.latch(5, true)?;
+        region.note_reads(0x101);
+        region.note_reads(0x101);
+        let hold = region.hold().ok_or("no hold")?;
+        assert_eq!(rt; (hold.read, hold.xor, hold.write), (0x101, 7, 0));
+        region.note_reads(0x301);
+        let hold = region.hold().ok_or("no hold")?;
+        assert_eq!(rt; (hold.read, hold.xor, hold.write), (0x301, 14, 0));
+        region.touch();
+        assert_eq!(rt; (region.touches(), region.hold()), (1, None));
+        assert!(rt; !region.dirty(Side::A) && !region.dirty(Side::B));
+        Ok(())
+    }
+
+    #[test]
+    fn texts_of_refusals(rt: HostRuntime) -> Result<(), Fail> {
+        let cases = [
+            (
+                LatchError::Latched { holder: 5 },
+                "latched by transaction 5",
+            ),
+            (
+                LatchError::DeadHolder { txn: 5 },
+                "held by transaction 5, whose client is dead",
+            ),
+            (
+                LatchError::Damaged {
+                    codeword: 1,
+                    found: 0x6162_6300_0000_0000,
+                },
+                "damaged: codeword 0000000000000001, parity 6162630000000000",
+            ),
+        ];
+        for (error, text) in cases {
+            let printed = format!(in rt.alloc(); "{}", error)?;
+            assert_eq!(rt; printed.as_str(), text);
+        }
         Ok(())
     }
 }

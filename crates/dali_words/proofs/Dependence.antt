@@ -58,3 +58,11 @@ effect_within reads writes ws inside = record {
 
 pub row_within : {O : Type 0} (f : List ℕ → Effect × O) (ws : List ℕ) → Row O f ws → IsWithin ws (f ws).0
 row_within {O} f ws R = subst (λ (r : Effect × O). IsWithin ws r.0) (sym (R.gives ws (refl, λ i h. refl))) (effect_within R.reads R.writes ws R.inside)
+
+-- the same reads, writes and outcome on other words
+pub answer_carried : {O : Type 0} (r t : Effect × O) (reads : List ℕ) (writes : List (ℕ × ℕ)) (ws us : List ℕ) (o : O) → length ws ≡ length us → r ≡ (effect_of ws reads writes, o) → t ≡ (effect_of us reads writes, o) → t ≡ (carried r.0 us, r.1)
+answer_carried {O} r t reads writes ws us o size here there = there ∙ ap (λ (e : Effect). (e, o)) (effect_carried reads writes ws us size) ∙ sym (ap (λ (x : Effect × O). (carried x.0 us, x.1)) here)
+
+-- with an outcome that tells nothing
+pub depends_answers : {O : Type 0} (f : List ℕ → Effect) (o : O) (ws : List ℕ) → DependsOnReads f ws → AnswersByReads (λ us. (f us, o)) ws
+depends_answers f o ws d us a = ap (λ (e : Effect). (e, o)) (d us a)

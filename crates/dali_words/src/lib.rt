@@ -176,7 +176,7 @@ impl Effect {
     }
 
     /// Reads the words in the set `read`, and writes these over the words from `first` on. The caller
-    /// names the written words among those read.
+    /// names the written words among those read, as each operation on cells and entries does.
     pub fn writing(words: &[u64; 64], read: u64, first: u8, news: &[u64]) -> Effect
         requires { first + length news.now ≤ 64 }
         ensures { result ≡ Effects.writing words.now read first news.now }

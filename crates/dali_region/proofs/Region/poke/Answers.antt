@@ -1,18 +1,19 @@
-use Rattle.std.proofs.Common.{◌≡◌, true, false, cond, ap, sym, ◌∙◌}
-use Rattle.dali_region.specs.State.{damaged, is_written}
+use Rattle.std.proofs.Common.{◌≡◌, ◌<◌, length, refl, sym, ◌∙◌, arith}
 use Rattle.dali_region.specs.Fields.{state_of}
-use Rattle.dali_region.proofs.Holds.{poked_is_kept}
+use Rattle.dali_region.proofs.Holds.{poked_keeps, poked_is, to_same}
+use Rattle.dali_region.proofs.Olds.{poked_back}
 use Rattle.dali_region.proofs.Region.poke.Goals as goal
-use Rattle.dali_region.proofs.Region.poke.Goals.{then-not-written, else-not-written}
 
 pub invariant_of-self : goal.invariant_of-self
-invariant_of-self c = elim c.if-not-written.branch [
-  | then-not-written w ↦
-      let out : is_written (state_of c.self.inside) c.args.word ≡ false = sym c.has_written-written.ensures ∙ w.if-not-written.true in
-      let back = ap (λ b. cond b c.self.inside.settled (damaged c.args.word c.args.mask c.self.inside.settled)) (sym out) in
-      rw (c.poke.ensures, w.self-inside-is) (poked_is_kept (state_of c.self.inside) c.args.word c.args.mask _ _ c.self.invariant c.requires.in_range c.damage.ensures (w.damage-then-not-written.ensures ∙ back))
-  | else-not-written w ↦
-      let «in» : is_written (state_of c.self.inside) c.args.word ≡ true = sym c.has_written-written.ensures ∙ w.if-not-written.false in
-      let back = ap (λ b. cond b c.self.inside.settled (damaged c.args.word c.args.mask c.self.inside.settled)) (sym «in») in
-      rw (c.poke.ensures, w.self-inside-is) (poked_is_kept (state_of c.self.inside) c.args.word c.args.mask _ _ c.self.invariant c.requires.in_range c.damage.ensures back)
-]
+invariant_of-self c =
+    let even : length c.self.inside.olds ≡ length c.self.inside.words = c.self.told.1 ∙ sym c.self.told.0 in
+    let within : c.args.word < length c.self.inside.words = omega (arith, c.self.told.0, c.requires.in_range) in
+    let back = poked_back c.self.inside.hold c.args.word c.args.mask c.self.inside.olds c.self.inside.words c.damage.new.words even within c.damage.ensures in
+    rw (c.poke.ensures) (to_same _ _ (poked_is (state_of c.self.inside) (state_of c.self.inside) c.args.word c.args.mask c.damage.new.words _ refl c.damage.ensures back) (poked_keeps (state_of c.self.inside) c.args.word c.args.mask c.self.invariant c.requires.in_range c.ranges.mask.fits))
+
+pub returns : goal.returns
+returns c =
+    let even : length c.self.inside.olds ≡ length c.self.inside.words = c.self.told.1 ∙ sym c.self.told.0 in
+    let within : c.args.word < length c.self.inside.words = omega (arith, c.self.told.0, c.requires.in_range) in
+    let back = poked_back c.self.inside.hold c.args.word c.args.mask c.self.inside.olds c.self.inside.words c.damage.new.words even within c.damage.ensures in
+    rw (c.poke.ensures) (poked_is (state_of c.self.inside) c.args.self.now c.args.word c.args.mask c.damage.new.words _ c.self.view_is c.damage.ensures back)
