@@ -1,20 +1,16 @@
 -- What an operation does depends on the words that it reads.
-use Rattle.std.proofs.Common.{◌≡◌, ℕ, List, Option, None, refl, ap, ◌∙◌}
-use Rattle.dali_words.specs.declared.Effect.{Effect}
+use Rattle.std.proofs.Common.{◌≡◌, ℕ, List, None, ap, ◌∙◌}
 use Rattle.dali_words.specs.Words.{AgreeUnder}
 use Rattle.dali_words.specs.Effects.{carried}
 use Rattle.dali_heap.specs.Rows as heap
 use Rattle.dali_heap.proofs.Dependence as cells
-use Rattle.dali_index.specs.Rows as index
 use Rattle.dali_index.proofs.Dependence as entries
 use Rattle.dali_record.specs.declared.operations.Op.{Op}
 use Rattle.dali_record.specs.declared.operations.Op.TheVariants.{Look, Add, KillEntry, Put, Read, Change, KillCell, FreeCell, ReviveCell, Restore, FreeEntry, ReviveEntry}
-use Rattle.dali_record.specs.declared.operations.Outcome.{Outcome}
 use Rattle.dali_record.specs.declared.operations.Outcome.TheVariants.{Undone}
-use Rattle.dali_record.specs.declared.operations.Undo.{Undo}
 use Rattle.dali_record.specs.declared.operations.Undo.TheVariants.{ReviveCell as UndoReviveCell, ReviveEntry as UndoReviveEntry}
 use Rattle.dali_record.specs.declared.operations.Block.{Block}
-use Rattle.dali_record.specs.Operations.{effect, looked, added, undo_of_add, killed, undo_of_kill, stored, undo_of_put, read, changed, undo_of_change, EffectByReads}
+use Rattle.dali_record.specs.Operations.{effect, looked, added, undo_of_add, killed, undo_of_kill, stored, undo_of_put, read, changed, EffectByReads}
 use Rattle.dali_record.proofs.Dependence.{made_same}
 
 -- a change's undo has the old words, which it reads

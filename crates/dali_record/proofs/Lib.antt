@@ -23,3 +23,4 @@ pub mod Whole
 pub mod Undos
 pub mod Makes
 pub mod Made
+pub mod Batches

@@ -1,18 +1,18 @@
 -- What each operation gives on 64 words, row by row.
-use Rattle.std.proofs.Common.{◌≡◌, ℕ, suc, ◌+◌, ◌*◌, ◌^◌, ◌<◌, ◌≤◌, Bool, true, false, cond, not, ◌&&◌, List, [], ◌∷◌, ◌++◌, length, map, get_or, Option, Some, None, refl, sym, ap, subst, ◌∙◌, ◌⊎◌, inl, inr, arith, length-take, length-drop}
-use Rattle.std.specs.Prelude.{⊤, ◌==◌, nat_le, zip, fold, take, drop}
+use Rattle.std.proofs.Common.{◌≡◌, ℕ, suc, ◌+◌, ◌*◌, ◌^◌, ◌<◌, ◌≤◌, Bool, true, false, cond, not, ◌&&◌, List, [], ◌∷◌, ◌++◌, length, map, get_or, Option, Some, None, refl, sym, ap, subst, ◌∙◌, inl, inr, arith, length-take, length-drop}
+use Rattle.std.specs.Prelude.{◌==◌, nat_le, zip, drop}
 use Rattle.std.specs.List.{AllByRecursion}
-use Rattle.std.proofs.lemmas.Bool.{and_parts, and_from, leb-true, le-leb}
+use Rattle.std.proofs.lemmas.Bool.{and_parts, leb-true, le-leb}
 use Rattle.std.proofs.lemmas.Bool.Decides.{Decides-eqb}
 use Rattle.dali_words.specs.declared.Effect.{Effect}
 use Rattle.dali_words.specs.declared.KillOutcome.{KillOutcome}
 use Rattle.dali_words.specs.declared.KillOutcome.TheVariants.{NotLive as KillNotLive, OtherKey as KillOtherKey, OddLength as KillOddLength, Killed as KillKilled}
-use Rattle.dali_words.specs.Words.{xor_under, under, mask_of}
+use Rattle.dali_words.specs.Words.{under, mask_of}
 use Rattle.dali_words.specs.Values.{is_size, IsValue, packed, unpacked}
-use Rattle.dali_words.specs.Effects.{effect_of, write_all}
+use Rattle.dali_words.specs.Effects.{effect_of}
 use Rattle.dali_words.proofs.Masks.{IsIn, in_right, length-write_all}
 use Rattle.dali_heap.specs.declared.PutOutcome.{PutOutcome}
-use Rattle.dali_heap.specs.declared.PutOutcome.TheVariants.{Put as PutDone, NoCell as PutNoCell}
+use Rattle.dali_heap.specs.declared.PutOutcome.TheVariants.{Put as PutDone}
 use Rattle.dali_heap.specs.declared.ReadOutcome.{ReadOutcome}
 use Rattle.dali_heap.specs.declared.ReadOutcome.TheVariants.{NotLive as ReadNotLive, OtherKey as ReadOtherKey, OddLength as ReadOddLength, Value as ReadValue}
 use Rattle.dali_heap.specs.declared.ChangeOutcome.{ChangeOutcome}
@@ -21,7 +21,7 @@ use Rattle.dali_heap.specs.Cells as cell
 use Rattle.dali_heap.specs.Cells.{cells}
 use Rattle.dali_heap.specs.Rows as heap
 use Rattle.dali_index.specs.declared.LookOutcome.{LookOutcome}
-use Rattle.dali_index.specs.declared.LookOutcome.TheVariants.{Found as LookFound, Absent as LookAbsent}
+use Rattle.dali_index.specs.declared.LookOutcome.TheVariants.{Found as LookFound}
 use Rattle.dali_index.specs.declared.AddOutcome.{AddOutcome}
 use Rattle.dali_index.specs.declared.AddOutcome.TheVariants.{Added as AddDone, NoEntry as AddNoEntry}
 use Rattle.dali_index.specs.Entries as entry
@@ -33,8 +33,7 @@ use Rattle.dali_record.specs.declared.operations.Outcome.{Outcome}
 use Rattle.dali_record.specs.declared.operations.Outcome.TheVariants.{Found, Absent, Added, NoEntry, Killed, Put as PutIn, NoCell, Value, Changed, NotLive, OtherKey, OddLength, Undone}
 use Rattle.dali_record.specs.declared.operations.Undo.{Undo}
 use Rattle.dali_record.specs.declared.operations.Undo.TheVariants.{FreeCell as UndoFreeCell, ReviveCell as UndoReviveCell, Restore as UndoRestore, FreeEntry as UndoFreeEntry, ReviveEntry as UndoReviveEntry}
-use Rattle.dali_record.specs.declared.operations.Block.{Block}
-use Rattle.dali_record.specs.Spelling.{Is32, Is64, is_cell, is_entry, IsCell, IsEntry, AreFive, IsOperation, IsOutcome, MayBeUndo, is_outcome_of, undoes, is_within, fits, IsBlock}
+use Rattle.dali_record.specs.Spelling.{Is32, Is64, IsCell, IsEntry, AreFive, IsOperation, IsOutcome, MayBeUndo, is_outcome_of, undoes, is_within, IsBlock}
 use Rattle.dali_record.specs.Operations.{effect, looked, added, undo_of_add, killed, undo_of_kill, stored, undo_of_put, read, changed, undo_of_change}
 use Rattle.dali_record.specs.Blocks.{made, AreWords}
 use Rattle.dali_record.proofs.Makes.{all_append, all_get, all_take, all_drop, all_written, all_under, xor_small, mask_small, members, within, packed_words, unpacked_is}

@@ -1,6 +1,6 @@
 -- What an operation gives on 64 words can be spelled.
-use Rattle.std.proofs.Common.{◌≡◌, ℕ, zero, suc, ◌+◌, ◌-◌, ◌*◌, ◌/◌, ◌%◌, ◌^◌, ◌<◌, ◌≤◌, ◌≢◌, Bool, true, false, cond, not, ◌&&◌, List, [], ◌∷◌, ◌++◌, length, take, drop, map, get_or, set, replicate, Option, Some, None, refl, sym, ap, subst, ◌∙◌, ◌⊎◌, inl, inr, ⊎_elim, arith, length-append, length-take}
-use Rattle.std.specs.Prelude.{⊤, ◌==◌, nat_le, fold, zip, flat_map, All, bit_and, bit_or, bit_xor, count_ones, slice_index}
+use Rattle.std.proofs.Common.{◌≡◌, ℕ, zero, suc, ◌-◌, ◌*◌, ◌/◌, ◌%◌, ◌^◌, ◌<◌, ◌≤◌, ◌≢◌, Bool, true, false, cond, List, [], ◌∷◌, ◌++◌, length, take, drop, get_or, set, replicate, refl, sym, ap, subst, ◌∙◌, arith, length-append, length-take}
+use Rattle.std.specs.Prelude.{◌==◌, nat_le, fold, bit_and, bit_or, bit_xor, count_ones}
 use Rattle.std.specs.Int.{bit_at}
 use Rattle.std.specs.List.{AllByRecursion}
 use Rattle.std.proofs.Math.Pow.{pow-lt}
@@ -12,12 +12,11 @@ use Rattle.std.proofs.lemmas.Bool.Decides.{Decides-eqb}
 use Rattle.std.proofs.lemmas.List.Elements.{All-from_recursion, recursion_from_All}
 use Rattle.std.proofs.lemmas.List.Concat.{flat_map-cons}
 use lib.Count.{ones_step}
-use Rattle.dali_words.specs.declared.Effect.{Effect}
-use Rattle.dali_words.specs.Words.{has_first, under, xor_under, parity_of, mask_of}
-use Rattle.dali_words.specs.Values.{is_size, IsValue, packed, number_after, word_at, bytes_of_word, bytes_of_words, unpacked}
-use Rattle.dali_words.specs.Effects.{effect_of, write_all}
-use Rattle.dali_words.proofs.Masks.{IsIn, in_left, in_right, mask_of-in, in-mask_of, length-write_all}
-use Rattle.dali_record.specs.Spelling.{Is32, Is64, is_within}
+use Rattle.dali_words.specs.Words.{has_first, under, mask_of}
+use Rattle.dali_words.specs.Values.{is_size, IsValue, packed, number_after, bytes_of_word, bytes_of_words, unpacked}
+use Rattle.dali_words.specs.Effects.{write_all}
+use Rattle.dali_words.proofs.Masks.{IsIn, mask_of-in, in-mask_of}
+use Rattle.dali_record.specs.Spelling.{Is64, is_within}
 
 -- ---- words and sets of words
 all_set : (P : ℕ → Type 0) (xs : List ℕ) (j v : ℕ) → P v → AllByRecursion P xs → AllByRecursion P (set xs j v)

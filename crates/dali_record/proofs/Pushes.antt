@@ -11,6 +11,7 @@ use Rattle.dali_geometry.specs.Sizes.{Sizes}
 use Rattle.dali_record.specs.declared.records.Record.{Record}
 use Rattle.dali_record.specs.declared.records.Record.TheVariants.{Format, Begin, Op as Forward, Done, Commit, Ended, Solo, AuditBegin, AuditClean, AuditFail, Restarted, Back}
 use Rattle.dali_record.specs.Log.{Touch, touch_of, touch_in, touch_at, undos_of, undo_step, committed, commit_by, calls_of, call_by}
+pub use Rattle.dali_record.specs.Epochs.{separates}
 use Rattle.dali_record.specs.Epochs.{Epoch, Cut, cut, cut_step, last_epoch, AllEpochs}
 use Rattle.dali_record.specs.Locks.{conflicts, EndedBetween, IsLockLegalIn, IsLockLegal}
 use Rattle.dali_record.specs.Damage.{Damage, marks, mark_step, mark_of, rolled_list, deleted_list}
@@ -200,12 +201,6 @@ IsLegalFor-push s L r legal rule step scan reads = record {
 all_push : {X : Type 0} (P : X → Type 0) (xs : List X) (x : X) → AllByRecursion P xs → P x → AllByRecursion P (xs ++ x ∷ [])
 all_push P [] x h p = (p, tt)
 all_push P (y ∷ xs) x h p = (h.0, all_push P xs x h.1 p)
-
--- whether r separates epochs
-abbrev pub separates : Record → Bool
-separates (Format i h) = true
-separates (Restarted rs ds) = true
-separates _ = false
 
 AllCut : (Epoch → Type 0) → Cut → Type 0
 AllCut P c = AllByRecursion P c.closed × P c.now

@@ -1,5 +1,5 @@
 -- An undo comes only with a change.
-use Rattle.std.proofs.Common.{◌≡◌, ℕ, Bool, true, false, Option, Some, None, refl}
+use Rattle.std.proofs.Common.{◌≡◌, ℕ, true, Option, Some, None, refl}
 use Rattle.std.specs.Prelude.{IsSome, is_none}
 use Rattle.std.proofs.lemmas.Bool.{and_parts}
 use Rattle.dali_record.specs.declared.operations.Op.{Op}
@@ -10,7 +10,7 @@ use Rattle.dali_record.specs.declared.operations.Undo.{Undo}
 use Rattle.dali_record.specs.declared.operations.Block.{Block}
 use Rattle.dali_record.specs.Operations.{changes}
 use Rattle.dali_record.specs.Blocks.{changes_item}
-use Rattle.dali_record.specs.Spelling.{undoes_add, undoes_kill_entry, undoes_put, undoes_change, undoes_kill_cell, undoes, is_within, is_outcome_of, IsBlock}
+use Rattle.dali_record.specs.Spelling.{undoes_add, undoes_kill_entry, undoes_put, undoes_change, undoes_kill_cell, undoes, IsBlock}
 
 no_undo : (o : Outcome) (u : Option Undo) → is_none u ≡ true → IsSome u → changes o ≡ true
 no_undo o None e h = absurd cc

@@ -1,8 +1,9 @@
 -- Four files that fit a log. What their bytes say is taken as read.
 --     Files                    the batches of the log, the number of leading open gates of the anchor, and what the current image holds
+--     with_batch F rs          the files with one batch more
 --     Fits s base L F          a restart from these files comes to the same as one that reads the whole log
-use Rattle.std.specs.Prelude.{◌≡◌, ℕ, ◌+◌, ◌-◌, ◌<◌, ◌≤◌, Bool, true, false, ◌⊎◌, List, [], ◌∷◌, Option, Some, None, filter, filter_map, map, take, drop, length, sum_by, slice_get, flat_map, if◌then◌else◌, not, ◌||◌, nat_le, nat_lt}
-use Rattle.std.specs.List.{find}
+use Rattle.std.specs.Prelude.{◌≡◌, ℕ, ◌+◌, ◌-◌, ◌<◌, ◌≤◌, Bool, true, false, ◌⊎◌, List, [], ◌∷◌, ◌++◌, Option, Some, None, filter, filter_map, map, take, drop, length, sum_by, slice_get, flat_map, if◌then◌else◌, not, ◌||◌, nat_le, nat_lt}
+use Rattle.std.specs.List.{find, list_any}
 use Rattle.dali_geometry.specs.Sizes.{Sizes}
 use Rattle.dali_geometry.specs.Places.{regions, formatted_image}
 use Rattle.dali_record.specs.declared.operations.Pending.{Pending}
@@ -36,15 +37,18 @@ pub record Files : Type 0 where
 abbrev pub batch_length : List Record → ℕ
 batch_length rs = 5 + sum_by record_length rs
 
+abbrev pub is_restarted : Record → Bool
+is_restarted (Restarted a b) = true
+is_restarted _ = false
+
 -- each Restarted of the batch is its first record
 abbrev pub is_restarted_first : List Record → Bool
 is_restarted_first [] = true
-is_restarted_first (r ∷ rs) = no_restarted rs
-  where
-    no_restarted : List Record → Bool
-    no_restarted [] = true
-    no_restarted (Restarted a b ∷ xs) = false
-    no_restarted (x ∷ xs) = no_restarted xs
+is_restarted_first (r ∷ rs) = not (list_any is_restarted rs)
+
+-- with one batch more at the log's end
+abbrev pub with_batch : Files → List Record → Files
+with_batch F rs = record F { batches = F.batches ++ rs ∷ [] }
 
 -- the table of the transactions of the epoch that had begun and not ended before record n
 abbrev pub row_of : List Record → ℕ → Row

@@ -12,7 +12,9 @@ ghost use Rattle.dali_record.specs.declared.records.Record.TheVariants.{Restarte
 ghost use Rattle.dali_record.specs.Spelling.{Is32, Is64, IsOperation, IsBlock, CanBeSpelled, spelling, record_length};
 ghost use Rattle.dali_record.specs.Blocks.{AreWords, made, IsSoundOn, changes_item};
 ghost use Rattle.dali_record.specs.Log.{Touch, touch_of, touch_at, undos_of, undo_step, calls_of, committed};
-ghost use Rattle.dali_record.specs.Epochs.{cut, cut_step, last_epoch};
+ghost use Rattle.std.specs.List.{list_any};
+ghost use Rattle.dali_record.specs.Epochs.{separates, cut, cut_step, last_epoch, clean_place, clean_step, failing, failing_step, recovered_epoch};
+ghost use Rattle.dali_record.specs.Files.{Files, Fits, with_batch};
 ghost use Rattle.dali_record.specs.Locks.{IsLockLegal, EndedBetween, conflicts};
 ghost use Rattle.dali_record.specs.Settled.{redo_all, redo, AreSound, IsSoundIn};
 ghost use Rattle.dali_record.specs.Damage.{Damage, marks, mark_of, kept, is_dropped, has_corrupt, IsCorrupt, rolled_list, deleted_list};
@@ -43,6 +45,23 @@ pub fn one_more_record_of_a_transaction()
 pub fn one_more_record_of_a_log()
     ensures cut { (L : List Record) (r : Record) → cut (L ++ r ∷ []) ≡ cut_step (cut L) r }
     ensures rules { (s : Sizes) (L : List Record) (r : Record) → rules_state s (L ++ r ∷ []) ≡ rules_next s (rules_state s L) r }
+{}
+
+/// What one more record does to the epoch that is open, and which one a restart recovers.
+pub fn one_more_record_of_an_epoch()
+    ensures longer { (L : List Record) (r : Record) → separates r ≡ false → last_epoch (L ++ r ∷ []) ≡ record { first = (last_epoch L).first; records = (last_epoch L).records ++ r ∷ [] } }
+    ensures clean { (L : List Record) (r : Record) → separates r ≡ false → clean_place (last_epoch (L ++ r ∷ [])) ≡ clean_step (clean_place (last_epoch L)) r }
+    ensures failing { (L : List Record) (r : Record) → separates r ≡ false → failing (last_epoch (L ++ r ∷ [])) ≡ failing_step (failing (last_epoch L)) r }
+    ensures going_on { (L : List Record) (r : Record) → separates r ≡ false → recovered_epoch (L ++ r ∷ []) ≡ last_epoch (L ++ r ∷ []) }
+    ensures restarted { (L : List Record) (rs ds : List ℕ) → recovered_epoch (L ++ Restarted rs ds ∷ []) ≡ last_epoch L }
+{}
+
+/// Files that fit a log still fit it with one more batch at its end.
+pub fn one_more_batch()
+    ensures going_on { (s : Sizes) (base : List (List ℕ)) (L B : List Record) (F : Files) → list_any separates B ≡ false
+        → Fits s base L F (last_epoch L) → Fits s base (L ++ B) (with_batch F B) (last_epoch (L ++ B)) }
+    ensures restarted { (s : Sizes) (base : List (List ℕ)) (L : List Record) (rs ds : List ℕ) (F : Files)
+        → Fits s base L F (last_epoch L) → Fits s base (L ++ Restarted rs ds ∷ []) (with_batch F (Restarted rs ds ∷ [])) (last_epoch L) }
 {}
 
 /// What one more record does to the blocks of a log, and to the words that they leave.

@@ -63,6 +63,7 @@ impl ClientCommands {
 pub struct Block {
     /// The client's number.
     pub client: u32,
+    /// The commands between `client` and `end`.
     pub commands: ClientCommands,
 }
 

@@ -47,6 +47,10 @@ impl Kind {
 }
 
 impl fmt::Display for Kind {
+    ghost use Rattle.std.specs.Prelude.{Some};
+
+    ghost output = { λ kind. Some (text_of kind) };
+
     fn fmt<W: fmt::Write>(&self, f: &mut fmt::Formatter<W>) -> fmt::Result {
         f.write_str(self.text())
     }
@@ -58,6 +62,7 @@ pub enum ScriptError {
     /// The first line that is wrong, counted from 1, and the first test that it fails.
     #[error("line {line}: {kind}")]
     BadLine { line: u64, kind: Kind },
+    /// Memory ran out.
     #[error("out of memory")]
     OutOfMemory,
 }

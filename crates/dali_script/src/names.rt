@@ -64,6 +64,7 @@ impl Name {
         }
     }
 
+    /// The name that is this word; none where the word begins no command.
     pub fn of(word: &[u8]) -> Option<Name>
         ensures { result ≡ name_of word.now }
     {

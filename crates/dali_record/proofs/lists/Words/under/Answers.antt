@@ -1,4 +1,4 @@
-use Rattle.std.proofs.Common.{◌∙◌, ◌+◌, ◌/◌, ◌<◌, ◌≡◌, drop, length, arith}
+use Rattle.std.proofs.Common.{◌∙◌, ◌<◌, length, arith}
 use Rattle.dali_words.specs.Words.{under}
 use Rattle.dali_record.proofs.Loops.{word_chosen, word_passed}
 use Rattle.dali_record.proofs.lists.Words.under.Goals as goal
