@@ -40,26 +40,18 @@ fn path_in(folder: &str, file: FileName) -> Result<ArrayString<PATH_MAX>, StoreF
     }
 }
 
-// Opens a file for reading and writing, and says whether it had to be made.
-fn open_or_make<R: Files>(rt: &R, path: &str) -> io::Result<(R::File, bool)> {
-    let mut options = OpenOptions::new();
-    options.read(true).write(true);
-    match options.open(rt, path) {
-        Ok(file) => Ok((file, false)),
-        Err(error) if error.kind() == ErrorKind::NotFound => {
-            options.create_new(true);
-            Ok((options.open(rt, path)?, true))
-        }
-        Err(error) => Err(error),
-    }
-}
-
-fn open_in<R: Files>(rt: &R, folder: &str, file: FileName) -> Result<(R::File, bool), StoreFault> {
+// Opens one of the files for reading and writing, and makes it where it is absent.
+fn open_in<R: Files>(rt: &R, folder: &str, file: FileName) -> Result<R::File, StoreFault> {
     let path = path_in(folder, file)?;
-    open_or_make(rt, path.as_str()).map_err(|_| StoreFault)
+    OpenOptions::new()
+        .read(true)
+        .write(true)
+        .create(true)
+        .open(rt, path.as_str())
+        .map_err(|_| StoreFault)
 }
 
-// Makes it last that files were made in a folder.
+// Makes it last that the files stand in the folder.
 fn sync_folder<R: Files>(rt: &R, folder: &str) -> io::Result<()> {
     fs::open(rt, folder)?.sync_all()
 }
@@ -93,18 +85,16 @@ fn read_from<F: FileExt>(file: &F, at: u64, into: &mut [u8]) -> io::Result<usize
 }
 
 impl<F: OpenFile + FileExt + Drop> FileStore<F> {
-    /// Opens the files in this folder, and makes those that are absent. It fails where one can't be opened or made, or where
-    /// the folder can't be synced after a file was made. Takes no memory.
+    /// Opens the files in this folder, `FOLDER/dali.log` and so on, makes those that are absent, and syncs the folder. It fails
+    /// where a file can't be opened or made, or where the folder can't be synced. Takes no memory.
     pub fn in_folder<R: Files<File = F>>(rt: &R, folder: &str) -> Result<FileStore<F>, StoreFault>
         ensures { IfOk result (λ store. faults_of store ≡ 0) }
     {
-        let (log, made_log) = open_in(rt, folder, FileName::Log)?;
-        let (a, made_a) = open_in(rt, folder, FileName::ImageA)?;
-        let (b, made_b) = open_in(rt, folder, FileName::ImageB)?;
-        let (anchor, made_anchor) = open_in(rt, folder, FileName::Anchor)?;
-        if made_log || made_a || made_b || made_anchor {
-            sync_folder(rt, folder).map_err(|_| StoreFault)?;
-        }
+        let log = open_in(rt, folder, FileName::Log)?;
+        let a = open_in(rt, folder, FileName::ImageA)?;
+        let b = open_in(rt, folder, FileName::ImageB)?;
+        let anchor = open_in(rt, folder, FileName::Anchor)?;
+        sync_folder(rt, folder).map_err(|_| StoreFault)?;
         Ok(FileStore {
             log,
             a,
@@ -139,7 +129,7 @@ impl<F: OpenFile + FileExt + Drop> FileStore<F> {
 }
 
 impl<F: OpenFile + FileExt + Drop> Store for FileStore<F> {
-    ghost use Rattle.std.specs.Prelude.{None};
+    ghost use Rattle.std.specs.Prelude.{None, refl};
 
     ghost told = { λ s. None };
 
@@ -151,9 +141,15 @@ impl<F: OpenFile + FileExt + Drop> Store for FileStore<F> {
 
     ghost faults = { λ s. s.faults };
 
+    ghost cuts = { λ s choice. None };
+
     ghost reads_now = { λ s. tt };
 
     ghost no_longer = { λ s. tt };
+
+    ghost tells_cuts = { λ s choice. refl };
+
+    ghost cuts_leave = { λ s choice. tt };
 
     ghost counts_now = { λ s t c le left. left };
 

@@ -1,1 +1,6 @@
 mod Results
+mod Mix
+mod Images
+mod Copies
+mod Crashes
+mod Events

@@ -2,7 +2,8 @@
 -- Words: Counts, one_more, passed, failed, refused.
 use Rattle.std.specs.Prelude.{ℕ, ◌+◌, ◌-◌, ◌^◌, min, List, Contains}
 
--- the numbers of the calls that fail, from 0; how many calls were made, how many failed, and how many of these found no memory
+-- the numbers of the calls that fail, from 0; how many calls were made, how many failed, and how many of these
+-- found no memory
 pub record Counts : Type 0 where
   pub failing : List ℕ
   pub calls : ℕ

@@ -2,8 +2,7 @@ pub mod State
 pub mod Mixed
 pub mod Counts
 pub mod Memory
-pub mod Mix
-pub mod Images
+pub mod Sound
 pub mod Laws
 pub mod Fuse
 pub mod Watch

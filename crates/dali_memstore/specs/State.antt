@@ -1,6 +1,8 @@
 -- A file between two syncs, and what a crash may leave of it.
--- Words: State, state_of, begun_with, wrote, kept, dropped; IsIn, IsPending, IsImage; in_spans, waits_at, mixed_byte, byte_after, mixed_from, mixed, cut_by; waits_in, waits; IsRoomy.
-use Rattle.std.specs.Prelude.{◌<◌, ◌≡◌, ◌⊎◌, ℕ, zero, suc, ◌+◌, ◌≤◌, List, [], ◌∷◌, ◌++◌, length, take, drop, slice_index, Bool, true, false, not, nat_lt, ◌&&◌, ◌||◌, ◌==◌, ◌*◌, ◌%◌, if◌then◌else◌}
+-- Words: State, state_of, begun_with, written, wrote, kept, dropped; IsIn, IsPending, IsImage;
+-- in_spans, waits_at, mixed_byte, byte_after, mixed_from, mixed, cut_by; waits_in, waits; Agree, IsRoomy.
+use Rattle.std.specs.Prelude.{◌<◌, ◌≡◌, ◌⊎◌, ℕ, zero, suc, ◌+◌, ◌≤◌, List, [], ◌∷◌, ◌++◌, length, take, drop, slice_index}
+use Rattle.std.specs.Prelude.{Bool, true, false, not, nat_lt, ◌&&◌, ◌||◌, ◌==◌, ◌*◌, ◌%◌, if◌then◌else◌}
 use Rattle.dali_memstore.specs.declared.disk.Span.{Span}
 
 -- what a file began with, what reads give, what the last sync kept, and the ranges written since
@@ -19,9 +21,13 @@ abbrev pub state_of : Bool → List ℕ → List ℕ → List ℕ → List Span 
 state_of false start seen synced spans = begun_with start
 state_of true start seen synced spans = record { start = start; seen = seen; synced = synced; spans = spans }
 
+-- the bytes of a file after a write at a place in it
+abbrev pub written : ℕ → List ℕ → List ℕ → List ℕ
+written at bytes file = take at file ++ bytes ++ drop (at + length bytes) file
+
 abbrev pub wrote : ℕ → List ℕ → State → State
 wrote at bytes s = record s {
-  seen = take at s.seen ++ bytes ++ drop (at + length bytes) s.seen;
+  seen = written at bytes s.seen;
   spans = s.spans ++ record { at = at; count = length bytes } ∷ [];
 }
 
@@ -40,7 +46,8 @@ IsIn (span ∷ spans) i = ((span.at ≤ i) × (i < span.at + span.count)) ⊎ Is
 abbrev pub IsPending : State → ℕ → Type 0
 IsPending s i = (length s.synced ≤ i) ⊎ IsIn s.spans i
 
--- A crash may leave this: some length between the two, any bytes where they are pending, and the others as they are.
+-- A crash may leave this: some length from that at the last sync to the present one, any bytes where they are
+-- pending, and the others as they are.
 pub record IsImage (s : State) (c : List ℕ) : Type 0 where
   pub no_shorter : length s.synced ≤ length c
   pub no_longer : length c ≤ length s.seen
@@ -61,17 +68,22 @@ mixed_byte choice file synced seen i =
     if r == 0 then slice_index synced i else (if r == 1 then seen else (choice + i) % 256)
 
 abbrev pub byte_after : ℕ → ℕ → List ℕ → List Span → ℕ → ℕ → ℕ
-byte_after choice file synced spans i seen = if waits_at synced spans i then mixed_byte choice file synced seen i else seen
+byte_after choice file synced spans i seen =
+    if waits_at synced spans i then mixed_byte choice file synced seen i else seen
 
 -- the bytes from place i on
 abbrev pub mixed_from : ℕ → ℕ → List ℕ → List Span → ℕ → List ℕ → List ℕ
 mixed_from choice file synced spans i [] = []
-mixed_from choice file synced spans i (byte ∷ bytes) = byte_after choice file synced spans i byte ∷ mixed_from choice file synced spans (i + 1) bytes
+mixed_from choice file synced spans i (byte ∷ bytes) =
+    byte_after choice file synced spans i byte ∷ mixed_from choice file synced spans (i + 1) bytes
 
 abbrev pub mixed : ℕ → ℕ → State → State
-mixed choice file s = let bytes = mixed_from choice file s.synced s.spans 0 s.seen in record { start = s.start; seen = bytes; synced = bytes; spans = [] }
+mixed choice file s =
+    let bytes = mixed_from choice file s.synced s.spans 0 s.seen in
+    record { start = s.start; seen = bytes; synced = bytes; spans = [] }
 
--- a crash: choice 0 keeps all writes, 1 drops the pending ones, and every other one mixes them; the file has a number from 0 to 3
+-- a crash: choice 0 keeps all writes, 1 drops the pending ones, and every other one mixes them;
+-- the file has a number from 0 to 3
 abbrev pub cut_by : ℕ → ℕ → State → State
 cut_by zero file s = kept s
 cut_by (suc zero) file s = dropped s
@@ -84,6 +96,11 @@ waits_in (span ∷ spans) = 1
 
 abbrev pub waits : State → ℕ
 waits s = waits_in s.spans
+
+-- two lists are the same but in those of the ranges that stand before the old end
+abbrev pub Agree : ℕ → List Span → List ℕ → List ℕ → Type 0
+Agree old spans xs ys =
+    (i : ℕ) → i < length xs → (i < old → IsIn spans i → ⊥) → slice_index xs i ≡ slice_index ys i
 
 -- there is room to keep what was written, and to drop it
 pub record IsRoomy (seen synced seen_room synced_room : ℕ) : Type 0 where

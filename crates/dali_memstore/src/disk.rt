@@ -1,8 +1,8 @@
 //! One file in memory: what reads give, what the last sync kept, and what was written since.
 ghost use Rattle.std.specs.Prelude.{◌≡◌, ◌≤◌, ◌<◌, ◌+◌, ◌-◌, List, [], ◌∷◌, ◌++◌, length, take, drop, OnOk, OnErr, vec_capacity, not, ◌==◌};
-ghost use Rattle.dali_memstore.specs.State.{begun_with, wrote, kept, dropped, waits, cut_by, mixed, mixed_from, byte_after, in_spans, IsRoomy};
+ghost use Rattle.dali_memstore.specs.State.{begun_with, wrote, kept, dropped, waits, cut_by, mixed, mixed_from, byte_after, in_spans, written, Agree, IsRoomy};
 ghost use Rattle.dali_memstore.specs.declared.disk.Span.{Span};
-ghost use Rattle.dali_memstore.specs.Images.{IsSound, Agree, written};
+ghost use Rattle.dali_memstore.specs.Sound.{IsSound};
 
 use std::alloc::{AllocError, Global};
 use std::marker::Model;
@@ -136,7 +136,7 @@ fn put(
 ) -> Result<(), AllocError>
     requires place { at ≤ length seen.old.items }
     requires room { IsRoomy (length seen.old.items) (length synced.old.items) (vec_capacity seen.old) (vec_capacity synced.old) }
-    ensures seen { OnOk result (seen.new.items ≡ take at seen.old.items ++ bytes.now ++ drop (at + length bytes.now) seen.old.items) }
+    ensures seen { OnOk result (seen.new.items ≡ written at bytes.now seen.old.items) }
     ensures spans { OnOk result (spans.new.items ≡ spans.old.items ++ record { at = at; count = length bytes.now } ∷ []) }
     ensures synced { synced.new.items ≡ synced.old.items }
     ensures seen_err { OnErr result (seen.new.items ≡ seen.old.items) }

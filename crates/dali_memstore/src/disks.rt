@@ -1,7 +1,7 @@
 //! The four files of a store in memory.
 ghost use Rattle.std.specs.Prelude.{◌≡◌, ◌≤◌, length, OnOk, OnErr, not, ◌==◌};
-ghost use Rattle.dali_memstore.specs.Laws.{AllSound, waits_of};
-ghost use Rattle.dali_memstore.specs.Memory.{disk_of, with_disk, apply};
+ghost use Rattle.dali_memstore.specs.Sound.{AllSound};
+ghost use Rattle.dali_memstore.specs.Memory.{disk_of, with_disk, apply, waits_of};
 ghost use Rattle.dali_memstore.specs.State.{wrote, kept, waits};
 ghost use Rattle.dali_memstore.specs.declared.event.Event.TheVariants.{Cut};
 

@@ -95,9 +95,15 @@ impl<V: Store> Store for Fuse<V> {
 
     ghost faults = { λ f. V.faults f.store + f.failed };
 
+    ghost cuts = { λ f. V.cuts f.store };
+
     ghost reads_now = { λ f. V.reads_now f.store };
 
     ghost no_longer = { λ f. V.no_longer f.store };
+
+    ghost tells_cuts = { λ f. V.tells_cuts f.store };
+
+    ghost cuts_leave = { λ f. V.cuts_leave f.store };
 
     ghost counts_now = { λ f. V.counts_now f.store };
 
@@ -166,6 +172,7 @@ impl<V: Store> Store for Fuse<V> {
     fn cut(&mut self, choice: u32) -> Result<(), StoreFault>
         ensures passed { PassesOn V.faults self.old self.new result }
         ensures tells { is_some (V.told (inner self.new)) ≡ is_some (V.told (inner self.old)) }
+        ensures chosen { OnOk result (V.told (inner self.new) ≡ V.cuts (inner self.old) choice) }
         ensures cut { OnOk result (IfSome (V.told (inner self.new)) (λ fs. V.may_leave (inner self.old) fs)) }
         ensures durable { OnOk result (IfSome (V.told (inner self.new)) (λ fs. Only fs (V.may_leave (inner self.new)))) }
         ensures crash { (c : Files) → V.may_leave (inner self.new) c → V.may_leave (inner self.old) c }

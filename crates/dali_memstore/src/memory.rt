@@ -3,8 +3,7 @@ ghost use Rattle.std.specs.Prelude.{◌≡◌, ◌≤◌, ◌<◌, ◌^◌, ◌�
 ghost use Rattle.dali_store.specs.Faults.{Rose, HasCause};
 ghost use Rattle.dali_store.specs.Store.{file_of, HoldsIn, ReadsAt};
 ghost use Rattle.dali_memstore.specs.Counts.{IsListed, one_more, passed, failed, refused};
-ghost use Rattle.dali_memstore.specs.Laws.{Happened, waits_of};
-ghost use Rattle.dali_memstore.specs.Memory.{disks, disk_of, files_of, no_files, starting_with, push};
+ghost use Rattle.dali_memstore.specs.Memory.{disks, disk_of, files_of, no_files, starting_with, push, Happened, waits_of};
 ghost use Rattle.dali_memstore.specs.State.{waits};
 ghost use Rattle.dali_memstore.specs.declared.event.Event.TheVariants.{Wrote, Synced, Cut};
 
@@ -302,9 +301,10 @@ impl MemoryStore {
 }
 
 impl Store for MemoryStore {
-    ghost use Rattle.std.specs.Prelude.{Some, length};
-    ghost use Rattle.dali_memstore.specs.Memory.{disks, files_of, IsCrash, LeftSince};
-    ghost use Rattle.dali_memstore.specs.Laws.{sound, seen_crash, no_longer_law, counts_now_law, only_now_law};
+    ghost use Rattle.std.specs.Prelude.{Some, length, refl};
+    ghost use Rattle.dali_memstore.specs.Memory.{disks, files_of, cut_files, IsCrash, LeftSince};
+    ghost use Rattle.dali_memstore.specs.Sound.{sound};
+    ghost use Rattle.dali_memstore.specs.Laws.{seen_crash, no_longer_law, cuts_leave_law, counts_now_law, only_now_law};
 
     ghost told = { λ m. Some (files_of m) };
 
@@ -316,9 +316,15 @@ impl Store for MemoryStore {
 
     ghost faults = { λ m. m.counts.faults };
 
+    ghost cuts = { λ m choice. Some (cut_files choice m) };
+
     ghost reads_now = { λ m. seen_crash (disks m.history) (sound m.history) };
 
     ghost no_longer = { λ m. no_longer_law (disks m.history) };
+
+    ghost tells_cuts = { λ m choice. refl };
+
+    ghost cuts_leave = { λ m choice. cuts_leave_law choice (disks m.history) (sound m.history) };
 
     ghost counts_now = { λ m. counts_now_law m.history };
 

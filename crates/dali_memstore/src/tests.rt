@@ -127,11 +127,13 @@ fn a_fuse_passes_so_many_calls_on(rt: HostRuntime) {
     }
 }
 
+type Told = (CallKind, Option<FileName>, u64, u64);
+
 #[derive(Drop)]
 struct Recorder<'a> {
     number: u64,
     order: &'a Cell<u64>,
-    last: &'a Cell<(CallKind, Option<FileName>, u64, u64)>,
+    last: &'a Cell<Told>,
 }
 
 impl<'a> Hook for Recorder<'a> {
@@ -142,6 +144,21 @@ impl<'a> Hook for Recorder<'a> {
     }
 }
 
+// Each kind of call once, and what was told of it last.
+fn told_calls<V: Store>(store: &mut V, last: &Cell<Told>) -> Result<[Told; 5], StoreFault> {
+    store.write_at(FileName::Log, 0, &[5, 6, 7])?;
+    let write = last.get();
+    store.read_at(FileName::Log, 1, &mut [0; 4])?;
+    let read = last.get();
+    store.length(FileName::ImageA)?;
+    let length = last.get();
+    store.sync(FileName::Anchor)?;
+    let sync = last.get();
+    store.cut(0)?;
+    Ok([write, read, length, sync, last.get()])
+}
+
+// Each digit of the order is a hook's number: the outer hook, then the inner one, once for each call.
 #[test]
 fn a_hook_is_told_before_the_call(rt: HostRuntime) -> Result<(), Fail> {
     let alloc = rt.alloc();
@@ -158,12 +175,17 @@ fn a_hook_is_told_before_the_call(rt: HostRuntime) -> Result<(), Fail> {
         last: &last,
     };
     let store = MemoryStore::new(alloc, Vec::new(alloc));
-    let mut store = Watch::new(Watch::new(store, within), around);
-    store.write_at(FileName::Log, 0, &[5, 6, 7])?;
-    assert_eq!(rt; last.get(), (CallKind::Write, Some(FileName::Log), 0, 3));
-    store.cut(0)?;
-    assert_eq!(rt; last.get(), (CallKind::Cut, None, 0, 0));
+    let mut store = Watch::new(Fuse::new(Watch::new(store, within), Some(10)), around);
+    let told = told_calls(&mut store, &last)?;
+    let wanted = [
+        (CallKind::Write, Some(FileName::Log), 0, 3),
+        (CallKind::Read, Some(FileName::Log), 1, 4),
+        (CallKind::Length, Some(FileName::ImageA), 0, 0),
+        (CallKind::Sync, Some(FileName::Anchor), 0, 0),
+        (CallKind::Cut, None, 0, 0),
+    ];
+    assert_eq!(rt; told, wanted);
     assert_eq!(rt; each_call(&mut store), Ok(ANSWER));
-    assert_eq!(rt; order.get(), 12121212121212);
+    assert_eq!(rt; order.get(), 12121212121212121212);
     Ok(())
 }

@@ -50,9 +50,15 @@ impl<V: Store, H: Hook> Store for Watch<V, H> {
 
     ghost faults = { λ w. V.faults w.store };
 
+    ghost cuts = { λ w. V.cuts w.store };
+
     ghost reads_now = { λ w. V.reads_now w.store };
 
     ghost no_longer = { λ w. V.no_longer w.store };
+
+    ghost tells_cuts = { λ w. V.tells_cuts w.store };
+
+    ghost cuts_leave = { λ w. V.cuts_leave w.store };
 
     ghost counts_now = { λ w. V.counts_now w.store };
 

@@ -64,6 +64,9 @@ pub trait Store {
     /// How often a call has failed. The count never falls, and stands still at its type's end.
     ghost faults: { Self → ℕ };
 
+    /// What a cut with this choice makes of the four files, where the store tells what its reads give.
+    ghost cuts: { Self → ℕ → Option Files };
+
     /// The length of a file in bytes. A length of 2^62 or more counts as a fault. Takes no memory.
     fn length(&mut self, file: FileName) -> Result<u64, StoreFault>
         ensures bound { IfOk result (λ n. n < 2 ^ 62) }
@@ -103,9 +106,10 @@ pub trait Store {
         ensures cause { HasCause (faults self.old) (faults self.new) result };
 
     /// A crash: afterwards reads give one of the things that a crash might have left, and a crash leaves just this.
-    /// Which one, `choice` says. Takes no memory.
+    /// Which one, the store and `choice` determine. Takes no memory.
     fn cut(&mut self, choice: u32) -> Result<(), StoreFault>
         ensures tells { is_some (told self.new) ≡ is_some (told self.old) }
+        ensures chosen { OnOk result (told self.new ≡ cuts self.old choice) }
         ensures cut { OnOk result (IfSome (told self.new) (λ fs. may_leave self.old fs)) }
         ensures durable { OnOk result (IfSome (told self.new) (λ fs. Only fs (may_leave self.new))) }
         ensures crash { (c : Files) → may_leave self.new c → may_leave self.old c }
@@ -117,6 +121,12 @@ pub trait Store {
 
     /// What a crash leaves of a file is never longer than the file is now.
     ghost no_longer: { (s : Self) → IfSome (told s) (λ fs. (c : Files) → may_leave s c → NoLonger c fs) };
+
+    /// What a cut makes of the files is told exactly where it is told what reads give.
+    ghost tells_cuts: { (s : Self) (choice : ℕ) → is_some (cuts s choice) ≡ is_some (told s) };
+
+    /// What a cut makes of the files is one of the things that a crash may leave.
+    ghost cuts_leave: { (s : Self) (choice : ℕ) → IfSome (cuts s choice) (λ fs. may_leave s fs) };
 
     /// This moment is one of those since an earlier one.
     ghost counts_now: { (s : Self) (t : ℕ) (c : Files) → t ≤ moment s → may_leave s c → left_since s t c };

@@ -1,5 +1,6 @@
 use Rattle.std.proofs.Common.{List, ℕ, sym, subst, arith}
-use Rattle.dali_memstore.specs.Images.{Agree, agree_step}
+use Rattle.dali_memstore.specs.State.{Agree}
+use Rattle.dali_memstore.proofs.Copies.{agree_step}
 use Rattle.dali_memstore.proofs.disk.keep_span.Goals as goal
 
 pub returns-then-span-end-clause-agree : goal.returns-then-span-end-clause-agree

@@ -1,7 +1,8 @@
 use Rattle.std.proofs.Common.{List, subst, arith}
 use Rattle.std.proofs.lemmas.List.{drop_more, drop_all}
 use Rattle.dali_memstore.specs.declared.disk.Span.{Span}
-use Rattle.dali_memstore.specs.Images.{Agree, agree_all}
+use Rattle.dali_memstore.specs.State.{Agree}
+use Rattle.dali_memstore.proofs.Copies.{agree_all}
 use Rattle.dali_memstore.proofs.disk.keep_spans.Goals as goal
 
 pub loop-number-preserved : goal.loop-number-preserved

@@ -1,6 +1,6 @@
 use Rattle.std.proofs.Common.{◌≡◌, ◌≤◌, length, drop}
 use Rattle.std.specs.Prelude.{vec_capacity}
-use Rattle.dali_memstore.specs.Images.{Agree}
+use Rattle.dali_memstore.specs.State.{Agree}
 use Rattle.dali_memstore.proofs.disk.keep_spans.Given as goal
 
 abbrev pub invariant-loop-number : goal.invariant-loop-number

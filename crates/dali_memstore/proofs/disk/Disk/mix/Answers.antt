@@ -1,6 +1,7 @@
 use Rattle.std.proofs.Common.{◌≡◌, refl, sym, ◌∙◌, ap, subst}
 use Rattle.dali_memstore.specs.State.{State, state_of, begun_with, mixed}
-use Rattle.dali_memstore.specs.Images.{kept_sound, mixed_quiet}
+use Rattle.dali_memstore.specs.Sound.{kept_sound}
+use Rattle.dali_memstore.proofs.Images.{mixed_quiet}
 use Rattle.dali_memstore.proofs.disk.Disk.mix.Goals as goal
 
 pub returns-else-self : goal.returns-else-self

@@ -1,6 +1,7 @@
 use Rattle.std.proofs.Common.{◌≡◌, [], ◌∷◌, ◌++◌, length, sym, ◌∙◌, ap, arith, length-append}
 use Rattle.dali_memstore.specs.Memory.{apply, replay, begun, starts_of}
-use Rattle.dali_memstore.specs.Laws.{replay_push, waits_few, starts_apply}
+use Rattle.dali_memstore.proofs.Crashes.{waits_few, starts_apply}
+use Rattle.dali_memstore.proofs.Events.{replay_push}
 use Rattle.dali_memstore.specs.declared.event.Event.TheVariants.{Wrote}
 use Rattle.dali_memstore.proofs.memory.MemoryStore.add.Goals as goal
 

@@ -1,7 +1,8 @@
 use Rattle.std.proofs.Common.{◌<◌, ◌≡◌, [], ◌∷◌, length, sym, ◌∙◌, ap, subst, arith, length-append}
 use Rattle.dali_memstore.specs.declared.disks.Disks.{Disks}
-use Rattle.dali_memstore.specs.Memory.{disks, apply, replay, begun, starts_of}
-use Rattle.dali_memstore.specs.Laws.{replay_push, waits_of, waits_cut, starts_apply, replayed_sound}
+use Rattle.dali_memstore.specs.Memory.{disks, apply, replay, begun, starts_of, waits_of}
+use Rattle.dali_memstore.proofs.Crashes.{waits_cut, starts_apply}
+use Rattle.dali_memstore.proofs.Events.{replay_push, replayed_sound}
 use Rattle.dali_memstore.specs.declared.event.Event.TheVariants.{Cut}
 use Rattle.dali_memstore.proofs.memory.MemoryStore.crash.Goals as goal
 

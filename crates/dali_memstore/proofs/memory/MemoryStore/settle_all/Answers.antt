@@ -1,4 +1,4 @@
-use Rattle.dali_memstore.specs.Laws.{happened_push, quiet_cut, not_waiting}
+use Rattle.dali_memstore.proofs.Events.{happened_push, quiet_cut, not_waiting}
 use Rattle.dali_memstore.specs.declared.event.Event.TheVariants.{Cut}
 use Rattle.dali_memstore.proofs.memory.MemoryStore.settle_all.Goals as goal
 

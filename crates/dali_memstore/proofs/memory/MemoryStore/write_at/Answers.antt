@@ -1,5 +1,5 @@
 use Rattle.std.proofs.Common.{◌∙◌, ap}
-use Rattle.dali_memstore.specs.Laws.{wrote_law}
+use Rattle.dali_memstore.proofs.Events.{wrote_law}
 use Rattle.dali_memstore.specs.Memory.{push}
 use Rattle.dali_memstore.specs.declared.event.Event.TheVariants.{Wrote}
 use Rattle.dali_memstore.proofs.memory.MemoryStore.write_at.Goals as goal

@@ -1,5 +1,5 @@
 use Rattle.std.proofs.Common.{ap, Some, subst}
-use Rattle.dali_memstore.specs.Laws.{synced_told, synced_crash, synced_durable, elapses_happened, elapses_same}
+use Rattle.dali_memstore.proofs.Events.{synced_told, synced_crash, synced_durable, elapses_happened, elapses_same}
 use Rattle.dali_memstore.specs.Memory.{History, disks, seen_of, IsCrash}
 use Rattle.dali_memstore.specs.declared.event.Event.TheVariants.{Synced}
 use Rattle.dali_memstore.proofs.Results.{on_ok, by_result}

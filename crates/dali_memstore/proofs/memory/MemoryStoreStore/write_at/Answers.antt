@@ -1,4 +1,4 @@
-use Rattle.dali_memstore.specs.Laws.{wrote_law, wrote_torn, wrote_crash, torn_told, torn_crash, elapses_push, elapses_same}
+use Rattle.dali_memstore.proofs.Events.{wrote_law, wrote_torn, wrote_crash, torn_told, torn_crash, elapses_push, elapses_same}
 use Rattle.dali_memstore.specs.declared.event.Event.TheVariants.{Wrote}
 use Rattle.dali_memstore.proofs.Results.{on_ok, by_result}
 use Rattle.std.proofs.Common.{length}
