@@ -1,0 +1,34 @@
+use Rattle.std.proofs.Common.{◌≡◌, ◌∙◌, ◌++◌, ℕ, ap, length, arith, length-append, List, vec_len}
+use Rattle.dali_batch.specs.Batch.{body_of}
+use Rattle.dali_batch.proofs.Bytes.{length-frame_of}
+use Rattle.dali_batch.proofs.Frames.{is_frame, written_whole, body_of-frame}
+use Rattle.dali_batch.proofs.frame.Frame.add.Goals as goal
+
+pub settle-requires-clause-long : goal.settle-requires-clause-long
+settle-requires-clause-long c =
+    let long = ap length c.self.invariant.whole ∙ length-frame_of (body_of c.self.inside.bytes.items) in
+    let all = ap length (c.deref_mut.ensures.value ∙ c.in_ok-extend_from_slice.ensures.items) ∙ length-append c.self.inside.bytes.items c.args.bytes.now in
+    omega (arith, long, all)
+
+pub invariant_of-self-2 : goal.invariant_of-self-2
+invariant_of-self-2 c =
+    let body = body_of c.self.inside.bytes.items in
+    let added = c.args.bytes.now in
+    let long = ap length c.self.invariant.whole ∙ length-frame_of body in
+    let stood = c.deref_mut.ensures.value ∙ c.in_ok-extend_from_slice.ensures.items ∙ ap (λ (l : List ℕ). l ++ added) c.self.invariant.whole in
+    let stands = c.settle.ensures body added stood (omega (arith, c.len-gate.ensures, long)) in
+    let size = ap length stands ∙ length-frame_of (body ++ added) in
+    let count : vec_len c.extend_from_slice.new.self ≡ length c.settle.new.bytes = omega (arith, size, long, c.in_ok-extend_from_slice.ensures.len, length-append body added) in
+    is_frame _ (body ++ added) (written_whole _ c.settle.new.bytes c.extend_from_slice.new.self.items count ∙ stands)
+    (omega (arith, length-append body added, c.requires, ap length c.self.view_is))
+
+pub returns-clause-ok : goal.returns-clause-ok
+returns-clause-ok c =
+    let body = body_of c.self.inside.bytes.items in
+    let added = c.args.bytes.now in
+    let long = ap length c.self.invariant.whole ∙ length-frame_of body in
+    let stood = c.deref_mut.ensures.value ∙ c.in_ok-extend_from_slice.ensures.items ∙ ap (λ (l : List ℕ). l ++ added) c.self.invariant.whole in
+    let stands = c.settle.ensures body added stood (omega (arith, c.len-gate.ensures, long)) in
+    let size = ap length stands ∙ length-frame_of (body ++ added) in
+    let count : vec_len c.extend_from_slice.new.self ≡ length c.settle.new.bytes = omega (arith, size, long, c.in_ok-extend_from_slice.ensures.len, length-append body added) in
+    ap body_of (written_whole _ c.settle.new.bytes c.extend_from_slice.new.self.items count ∙ stands) ∙ body_of-frame (body ++ added) ∙ ap (λ (l : List ℕ). l ++ added) c.self.view_is

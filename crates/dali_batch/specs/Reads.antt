@@ -1,0 +1,9 @@
+-- A call that only reads.
+--     OnlyReads told moment left_since may old new     reads give what they gave, and a crash during the call or after it leaves what it might have left before
+use Rattle.std.specs.Prelude.{◌≡◌, ℕ, Option}
+use Rattle.dali_store.specs.Store.{Files, LeavesOnly}
+
+pub record OnlyReads {V : Type 0} (told : V → Option Files) (moment : V → ℕ) (left_since : V → ℕ → Files → Type 0) (may_leave : V → Files → Type 0) (old new : V) : Type 0 where
+  pub same : told new ≡ told old
+  pub crash : (c : Files) → may_leave new c → may_leave old c
+  pub any_moment : LeavesOnly moment left_since old new (may_leave old)

@@ -1,0 +1,147 @@
+//! What no clause says: how many store calls a batch takes, that each call succeeds with ample memory, and worked bytes.
+ghost use Rattle.std.specs.Prelude.{◌<◌, length};
+
+use dali_batch::{Frame, LogError, flush, format, is_formatted, read_log};
+use dali_memstore::{Fuse, MemoryStore};
+use dali_store::{Store, StoreFault};
+use std::alloc::Global;
+use std::test::Fail;
+
+// The first batch, of a format with one index region and one heap region.
+const FIRST: [u8; 15] = [0xa5, 0, 0, 0, 10, 1, 1, 0, 0, 0, 1, 0, 0, 0, 1];
+
+// A Commit of transaction 1.
+const COMMIT: [u8; 9] = [5, 0, 0, 0, 0, 0, 0, 0, 1];
+
+// No log is so long.
+const LIMIT: u64 = 1 << 62;
+
+// A store whose log has these bytes and then those.
+fn store_of(alloc: Global, front: &[u8], rest: &[u8]) -> Result<MemoryStore, LogError> {
+    let mut log = Vec::new(alloc);
+    if log.extend_from_slice(front).is_err() || log.extend_from_slice(rest).is_err() {
+        return Err(LogError::OutOfMemory);
+    }
+    let files = [log, Vec::new(alloc), Vec::new(alloc), Vec::new(alloc)];
+    Ok(MemoryStore::with(files, Vec::new(alloc)))
+}
+
+// How many records a log of these bytes has, and where it ends.
+fn read(alloc: Global, front: &[u8], rest: &[u8]) -> Result<(usize, u64), LogError> {
+    let mut store = store_of(alloc, front, rest)?;
+    let log = read_log(alloc, &mut store)?;
+    Ok((log.records.len(), log.end))
+}
+
+#[test]
+fn logs_are_read_or_refused_at_their_place(rt: HostRuntime) -> Result<(), Fail> {
+    let alloc = rt.alloc();
+    for (length, expected) in [
+        (0, LogError::Unformatted),
+        (1, LogError::Unformatted),
+        (2, LogError::BadLog { at: 1 }),
+        (14, LogError::BadLog { at: 1 }),
+        (15, LogError::BadLog { at: 15 }),
+    ] {
+        assert_eq!(rt; read(alloc, &FIRST[..length], &[]), Err(expected));
+    }
+    assert_eq!(rt; read(alloc, &[0, 0xa5], &[]), Err(LogError::Unformatted));
+    assert_eq!(rt; read(alloc, &FIRST, &[0]), Ok((1, 15)));
+    assert_eq!(rt; read(alloc, &FIRST, &[1, 0, 0]), Ok((1, 15)));
+    let length_of_100 = [0xa5, 0, 0, 0, 100, 0];
+    assert_eq!(rt;
+        read(alloc, &FIRST, &length_of_100),
+        Err(LogError::BadLog { at: 16 })
+    );
+    let record_of_no_row = [0xa5, 0, 0, 0, 2, 8, 0, 0];
+    assert_eq!(rt;
+        read(alloc, &FIRST, &record_of_no_row),
+        Err(LogError::BadLog { at: 21 })
+    );
+    let an_audit_begins = [0xa5, 0, 0, 0, 1, 8, 0];
+    assert_eq!(rt; read(alloc, &FIRST, &an_audit_begins), Ok((2, 21)));
+    assert_eq!(rt;
+        read(alloc, &an_audit_begins, &[]),
+        Err(LogError::BadLog { at: 5 })
+    );
+    Ok(())
+}
+
+// Formats a log with a first batch, and adds another one.
+fn add_to_first<V: Store>(store: &mut V, first: &Frame, second: &Frame) -> Result<u64, StoreFault>
+    requires { 0 < length first.now }
+{
+    if is_formatted(store)? {
+        return Err(StoreFault);
+    }
+    let end = format(store, first)?;
+    if end >= LIMIT {
+        return Err(StoreFault);
+    }
+    flush(store, end, second)
+}
+
+// The calls before the second batch: a sync, a length and a read; a length, two writes and two syncs; a batch's four.
+const BEFORE: u64 = 12;
+
+// Where the log ends, where it gets the first batch and then these bytes in one, whether more calls were wanted than so many, and how many records
+// it has after a cut.
+fn cut_short(
+    alloc: Global,
+    bytes: &[u8],
+    passes: u64,
+    choice: u32,
+) -> Result<(u64, bool, usize), LogError>
+    requires few { passes < 100 }
+    requires short { length bytes.now < 100 }
+{
+    let mut fuse = Fuse::new(
+        MemoryStore::new(alloc, Vec::new(alloc)),
+        Some(BEFORE + passes),
+    );
+    let (Ok(mut first), Ok(mut second)) = (Frame::new(alloc), Frame::new(alloc)) else {
+        return Err(LogError::OutOfMemory);
+    };
+    if first.add(&FIRST[5..]).is_err() || second.add(bytes).is_err() {
+        return Err(LogError::OutOfMemory);
+    }
+    let end = if first.is_empty() {
+        0
+    } else {
+        add_to_first(&mut fuse, &first, &second).unwrap_or(0)
+    };
+    let spent = fuse.spent();
+    let mut store = fuse.into_inner();
+    store.cut(choice)?;
+    let log = read_log(alloc, &mut store)?;
+    Ok((end, spent, log.records.len()))
+}
+
+#[test]
+fn a_batch_takes_four_calls(rt: HostRuntime) -> Result<(), Fail> {
+    let alloc = rt.alloc();
+    for (passes, end, kept, dropped) in [
+        (0, 0, 1, 1),
+        (1, 0, 1, 1),
+        (2, 0, 1, 1),
+        (3, 0, 2, 1),
+        (4, 29, 2, 2),
+    ] {
+        assert_eq!(rt;
+            cut_short(alloc, &COMMIT, passes, 0),
+            Ok((end, end == 0, kept))
+        );
+        assert_eq!(rt;
+            cut_short(alloc, &COMMIT, passes, 1),
+            Ok((end, end == 0, dropped))
+        );
+    }
+    Ok(())
+}
+
+#[test]
+fn an_empty_frame_takes_no_call(rt: HostRuntime) -> Result<(), Fail> {
+    let alloc = rt.alloc();
+    assert_eq!(rt; cut_short(alloc, &[], 0, 1), Ok((15, false, 1)));
+    Ok(())
+}
