@@ -1,4 +1,4 @@
-//! What a log stands for: the calls that its transactions made, replayed one transaction after another.
+//! What a log stands for: the map that its surviving transactions leave, and the image that a restart recovers.
 #![tactic(auto)]
 
 pub mod laws;

@@ -1,0 +1,3 @@
+mod Rows
+mod ByTests
+mod Premises

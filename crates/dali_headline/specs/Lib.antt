@@ -1,0 +1,3 @@
+pub mod Holds
+pub mod Rollback
+pub mod Bridge

@@ -1,0 +1,22 @@
+mod WithoutLast
+mod Invariant
+mod OperationsKeep
+mod Removals
+mod CommitsKeep
+mod AnswersKeep
+mod BacksKeep
+mod SolosKeep
+mod KnownTxns
+mod InvariantAlong
+mod InvariantSteps
+mod UndoOnImage
+mod AtBase
+mod Counts
+mod OneBegin
+mod AllUndos
+mod AnyOrderWords
+mod UndoOrder
+mod FreedImage
+mod AtEnd
+mod LawRecord
+pub mod Law

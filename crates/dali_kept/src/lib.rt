@@ -1,0 +1,4 @@
+//! The law of kept records.
+#![tactic(auto)]
+
+pub mod laws;

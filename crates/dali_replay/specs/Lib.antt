@@ -1,0 +1,5 @@
+pub mod Marking
+pub mod Cutting
+pub mod Following
+pub mod Seen
+pub mod Replayed

@@ -1,0 +1,83 @@
+ghost use Rattle.std.specs.Prelude.{◌≤◌};
+
+use crate::{Replay, replay};
+use anyhow::Result;
+use dali_bytes::Reader;
+use dali_record::{Record, decode};
+use std::alloc::Global;
+
+mod logs;
+
+use logs::{ABORT, CHAIN, DAMAGED_WRITER, MISSING_AFTER_INSERT, RESTARTED, UNDONE_CHANGE};
+
+fn digit(byte: u8) -> u8
+    ensures { result ≤ 15 }
+{
+    match byte {
+        b'0'..=b'9' => byte - b'0',
+        b'a'..=b'f' => byte - b'a' + 10,
+        _ => 0,
+    }
+}
+
+fn read_record(alloc: Global, hexadecimal: &str) -> Result<Record> {
+    let digits = hexadecimal.as_bytes();
+    let mut bytes = Vec::new(alloc);
+    for i in 0..digits.len() / 2 {
+        bytes.push(16 * digit(digits[2 * i]) + digit(digits[2 * i + 1]))?;
+    }
+    let mut reader = Reader::new(&bytes);
+    Ok(decode(alloc, &mut reader)?)
+}
+
+fn read_log(alloc: Global, lines: &str) -> Result<Vec<Record>> {
+    let mut log = Vec::new(alloc);
+    for line in lines.lines() {
+        log.push(read_record(alloc, line)?)?;
+    }
+    Ok(log)
+}
+
+/// What a replay came to, as text.
+fn shown(alloc: Global, replay: &Replay) -> Result<String> {
+    let mut text = format!(in alloc; "deleted {:?} agrees {}", replay.deleted(), replay.agrees())?;
+    for (key, value) in replay.map() {
+        write!(text, " {key} {:?}", value.bytes())?;
+    }
+    Ok(text)
+}
+
+#[test]
+fn worked_logs_are_replayed(rt: HostRuntime) -> Result<()> {
+    for (lines, expected) in [
+        ("", "deleted [] agrees true"),
+        (CHAIN, "deleted [3, 5] agrees true 4 [97, 98, 99] 5 [121]"),
+        (
+            UNDONE_CHANGE,
+            "deleted [3, 4] agrees true 4 [97, 98, 99] 5 [120, 121, 122]",
+        ),
+        (DAMAGED_WRITER, "deleted [2] agrees true 4 [97, 98, 99]"),
+        (ABORT, "deleted [] agrees true"),
+        (
+            MISSING_AFTER_INSERT,
+            "deleted [] agrees false 5 [97, 98, 99]",
+        ),
+    ] {
+        let log = read_log(rt.alloc(), lines)?;
+        let found = replay(rt.alloc(), &log)?;
+        assert_eq!(rt; shown(rt.alloc(), &found)?.as_str(), expected);
+    }
+    Ok(())
+}
+
+#[test]
+fn the_record_of_a_restart_changes_nothing(rt: HostRuntime) -> Result<()> {
+    let mut log = read_log(rt.alloc(), CHAIN)?;
+    log.push(read_record(rt.alloc(), RESTARTED)?)?;
+    let found = replay(rt.alloc(), &log)?;
+    assert_eq!(rt;
+        shown(rt.alloc(), &found)?.as_str(),
+        "deleted [3, 5] agrees true 4 [97, 98, 99] 5 [121]"
+    );
+    Ok(())
+}

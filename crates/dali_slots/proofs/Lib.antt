@@ -1,0 +1,12 @@
+pub mod OperationFinds
+pub mod BlockOnSlots
+pub mod SoundBlocks
+pub mod SlotUndos
+pub mod SlotSteps
+pub mod ValueSlots
+pub mod StoredRecords
+pub mod CallProgress
+pub mod CallStep
+pub mod CallKey
+pub mod RunningTxn
+pub mod AnswersAndBacks
