@@ -1,0 +1,5 @@
+pub mod Lists
+pub mod Tallies
+pub mod NewNumbers
+pub mod SmallLogs
+pub mod Fronts

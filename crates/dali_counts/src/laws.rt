@@ -1,0 +1,18 @@
+//! Laws over the definitions, each the contract of a function that does nothing.
+
+ghost use Rattle.dali_counts.specs.Counts.{UnbegunAbove, PrefixLegal, IsSmall};
+
+/// A number that wasn't given yet has no record.
+pub fn a_new_number_has_no_record()
+    ensures { UnbegunAbove }
+{}
+
+/// A legal log stays legal where it is cut off.
+pub fn a_beginning_is_legal()
+    ensures { PrefixLegal }
+{}
+
+/// A legal log has fewer than 2^40 records, since those that use no room come after ones that do.
+pub fn a_legal_log_is_small()
+    ensures { IsSmall }
+{}

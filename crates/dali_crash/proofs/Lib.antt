@@ -1,0 +1,5 @@
+pub mod Honest
+pub mod CrashLogs
+pub mod Restarts
+pub mod Courses
+pub mod Worked

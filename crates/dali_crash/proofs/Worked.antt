@@ -1,0 +1,207 @@
+-- The worked run: each premise of each step is met.
+use Rattle.std.proofs.Common.{◌≡◌, true, List, [], ◌∷◌, refl, ap, ℕ, ◌++◌, sym, arith, zero, suc, ◌<◌, Some, false, Option, None, ◌∙◌}
+use Rattle.std.specs.Prelude.{◌==◌, replicate, flat_map, sum_by, slice_get, is_some}
+use Rattle.dali_record.specs.declared.records.Record.{Record}
+use Rattle.dali_record.specs.declared.records.Record.TheVariants.{Format, Begin, Commit, Done, Op as Forward}
+use Rattle.dali_counts.proofs.Lists.{equal, and_left, and_right, some_same}
+use Rattle.dali_crash.specs.Worked.{first_log, is_format, one_batch, small, first_vault, is_first_commit, two_batches, start, look, steps, WorkedRun}
+use Rattle.dali_record.specs.declared.records.Call.TheVariants.{Get}
+use Rattle.dali_record.specs.declared.records.Answer.TheVariants.{Missing}
+use Rattle.dali_record.specs.Files.{Files, batch_length}
+use Rattle.dali_region.specs.State.{RegionState, loaded, latched, with_reads, touched}
+use Rattle.dali_locks.specs.declared.mode.Mode.TheVariants.{Shared, Exclusive}
+use Rattle.dali_system.specs.Run.{log_in, VaultRun, blocks_on, covers}
+use Rattle.dali_system.specs.Steps.{begun, commit_logged, op_logged, done_logged, granted, flushed}
+use Rattle.dali_system.specs.Keeps.{with_system, with_region, with_touched}
+use Rattle.dali_system.specs.Regions.{Latch, NoteReads}
+use Rattle.dali_system.specs.Flushes.{with_vault, longer, frame_of}
+use Rattle.dali_system.specs.Courses.{Begins, Operates, Answers, Commits, Locks, OnRegion, Flushes, Moment, MayLeave, IsStepAt, IsCourse}
+use Rattle.dali_system.proofs.Loads.{no_lock}
+use Rattle.dali_record.specs.Blocks.{AreWords}
+use Rattle.dali_record.specs.Spelling.{IsBlock}
+use Rattle.dali_record.specs.declared.operations.Op.TheVariants.{Look}
+use Rattle.dali_index.specs.Entries.{entries}
+use Rattle.dali_record.proofs.Made.{made_is_block}
+use Rattle.dali_record.specs.Legal.{passes, rules_start}
+use Rattle.dali_geometry.specs.Places.{formatted_image}
+use Rattle.dali_record.specs.Epochs.{last_epoch}
+use Rattle.dali_crash.proofs.Courses.{format_is_history, every_run_is_right}
+use Rattle.dali_crash.specs.Restarts.{RestartsRight}
+use Rattle.std.specs.FinMap.{get}
+use Rattle.dali_att.specs.Table.{fresh_row}
+use Rattle.dali_system.proofs.Tables.{added}
+use Rattle.dali_system.specs.State.{TxnRow, lock_of}
+use Rattle.dali_locks.specs.declared.mode.Mode.{Mode}
+use Rattle.dali_locks.specs.Locks.{stronger_mode}
+use Rattle.dali_locks.proofs.Changes.{get-locks_with}
+
+-- ---- what the tests tell
+format_is : (b : List Record) → is_format b ≡ true → b ≡ Format 1 1 ∷ []
+format_is [] e = absurd (cc)
+format_is (Format i h ∷ []) e = let m : i ≡ 1 = equal i 1 (and_left (i == 1) (h == 1) e) in let n : h ≡ 1 = equal h 1 (and_right (i == 1) (h == 1) e) in rw (m, n) refl
+format_is (Format i h ∷ x ∷ b) e = absurd (cc)
+format_is (x ∷ b) e = absurd (cc)
+
+one_is : (bs : List (List Record)) → one_batch bs ≡ true → bs ≡ first_log ∷ []
+one_is [] e = absurd (cc)
+one_is (b ∷ []) e = ap (λ z. z ∷ []) (format_is b e)
+one_is (b ∷ c ∷ bs) e = absurd (cc)
+
+commit_is : (b : List Record) → is_first_commit b ≡ true → b ≡ Begin 1 ∷ Commit 1 ∷ []
+commit_is (Begin t ∷ Commit u ∷ []) e = let m : t ≡ 1 = equal t 1 (and_left (t == 1) (u == 1) e) in let n : u ≡ 1 = equal u 1 (and_right (t == 1) (u == 1) e) in rw (m, n) refl
+commit_is b e = absurd (cc)
+
+two_are : (bs : List (List Record)) → two_batches bs ≡ true → bs ≡ first_log ∷ (Begin 1 ∷ Commit 1 ∷ []) ∷ []
+two_are (a ∷ b ∷ []) e = let x : a ≡ Format 1 1 ∷ [] = format_is a (and_left (is_format a) (is_first_commit b) e) in let y : b ≡ Begin 1 ∷ Commit 1 ∷ [] = commit_is b (and_right (is_format a) (is_first_commit b) e) in rw (x, y) refl
+two_are bs e = absurd (cc)
+
+-- ---- the first moment
+only_format : (F : Files) → MayLeave start.leave F → log_in F ≡ first_log
+only_format F h = ap (λ bs. flat_map (λ b. b) bs) (one_is F.batches h)
+
+stored : VaultRun (MayLeave start.leave) first_log 1 first_vault
+stored = record {
+  within = omega arith;
+  prefix = λ F h. record { count = 1; flushed = omega arith; within = omega arith; log = only_format F h };
+  exact = λ e F h. record { log = only_format F h; end = sym (ap (λ bs. sum_by batch_length bs) (one_is F.batches h)) };
+  rose = λ h. absurd (cc);
+}
+
+-- ---- the moments
+abbrev begun_1 : Moment
+begun_1 = record { log = first_log ++ Begin 1 ∷ []; core = with_system start.core (begun start.core.system); leave = start.leave }
+
+abbrev committed_1 : Moment
+committed_1 = record { log = begun_1.log ++ Commit 1 ∷ []; core = with_system begun_1.core (commit_logged begun_1.core.system 1); leave = start.leave }
+
+abbrev flushed_1 : Moment
+flushed_1 = record {
+  log = committed_1.log;
+  core = with_vault committed_1.core (flushed committed_1.core.system) (longer committed_1.core.vault (frame_of committed_1.log committed_1.core.system));
+  leave = λ F. two_batches F.batches;
+}
+
+abbrev begun_2 : Moment
+begun_2 = record { log = flushed_1.log ++ Begin 2 ∷ []; core = with_system flushed_1.core (begun flushed_1.core.system); leave = flushed_1.leave }
+
+abbrev locked : Moment
+locked = record { log = begun_2.log; core = with_system begun_2.core (granted begun_2.core.system 2 5 Shared); leave = flushed_1.leave }
+
+abbrev words : List ℕ
+words = replicate 64 0
+
+abbrev held : RegionState
+held = latched 2 (loaded words)
+
+abbrev latch : Moment
+latch = record { log = begun_2.log; core = with_region locked.core 0 held; leave = flushed_1.leave }
+
+abbrev opened : RegionState
+opened = with_reads look.read held
+
+abbrev read : Moment
+read = record { log = begun_2.log; core = with_region latch.core 0 opened; leave = flushed_1.leave }
+
+abbrev operated : Moment
+operated = record { log = begun_2.log ++ Forward 2 look ∷ []; core = with_touched read.core (op_logged read.core.system 2 look) 0 opened; leave = flushed_1.leave }
+
+abbrev answered : Moment
+answered = record { log = operated.log ++ Done 2 (Get 5) Missing ∷ []; core = with_system operated.core (done_logged operated.core.system 2 (Get 5) Missing); leave = flushed_1.leave }
+
+-- ---- each step
+step_1 : IsStepAt start Begins begun_1
+step_1 = ((record { runs = refl; room = omega arith }, (refl, refl)), λ F h. h)
+
+step_2 : IsStepAt begun_1 (Commits 1) committed_1
+step_2 = ((refl, refl, (refl, refl)), λ F h. h)
+
+step_3 : IsStepAt committed_1 Flushes flushed_1
+step_3 = ((refl, (refl, refl)), record { each = λ F h. (record F { batches = first_log ∷ [] }, refl, ap (λ bs. record F { batches = bs }) (two_are F.batches h)) })
+
+step_4 : IsStepAt flushed_1 Begins begun_2
+step_4 = ((record { runs = refl; room = omega arith }, (refl, refl)), λ F h. h)
+
+step_5 : IsStepAt begun_2 (Locks 2 5 Shared) locked
+step_5 = ((ap (λ (row : Option TxnRow). is_some row) (added flushed_1.core.system.table 2 fresh_row 2), (λ u n d e. absurd (no_lock u 5 n e)), (refl, refl)), λ F h. h)
+
+step_6 : IsStepAt locked (OnRegion 0 (Latch 2)) latch
+step_6 = ((loaded words, refl, (refl, refl)), λ F h. h)
+
+step_7 : IsStepAt latch (OnRegion 0 (NoteReads look.read)) read
+step_7 = ((held, refl, (refl, refl)), λ F h. h)
+
+are_words : AreWords words
+are_words = (refl, omega arith)
+
+is_look : IsBlock look
+unfolding look
+is_look = made_is_block Look 5 0 words tt (omega arith) (omega arith) are_words
+
+shared : (o : Option Mode) → covers (Some (stronger_mode o Shared)) false ≡ true
+shared None = refl
+shared (Some Shared) = refl
+shared (Some Exclusive) = refl
+
+has_lock : covers (lock_of locked.core.system 2 5) false ≡ true
+has_lock = ap (λ (o : Option Mode). covers o false) (get-locks_with begun_2.core.system.locks 2 5 Shared 2 5) ∙ shared (get begun_2.core.system.locks (2, 5))
+
+step_8 : IsStepAt read (Operates 2 look) operated
+unfolding look entries
+step_8 = (
+  (
+    opened,
+    record { runs = refl; room = omega arith },
+    record {
+      runs = refl;
+      spelled = (omega arith, is_look, refl);
+      next = refl;
+      kind = refl;
+      locked = has_lock;
+      at = refl;
+      is_open = record { hold = refl; reads = refl; sound = λ h. refl; stands = λ h. refl };
+    },
+    (refl, refl),
+  ),
+  λ F h. h,
+)
+
+step_9 : IsStepAt operated (Answers 2 (Get 5) Missing) answered
+unfolding look entries
+step_9 = ((record { runs = refl; room = omega arith }, (omega arith, omega arith, tt, refl), refl, (refl, refl)), λ F h. h)
+
+course : IsCourse start steps answered
+course = (begun_1, step_1, (committed_1, step_2, (flushed_1, step_3, (begun_2, step_4, (locked, step_5, (latch, step_6, (read, step_7, (operated, step_8, (answered, step_9, refl)))))))))
+
+-- ---- what is left
+crash : Files
+crash = record { batches = first_log ∷ (Begin 1 ∷ Commit 1 ∷ []) ∷ []; gates = 0; number = 0; place = 15; first = 1; weight = 10; next = 1; image = formatted_image small; table = [] }
+
+right : RestartsRight first_log answered.core crash
+unfolding crash look entries
+right =
+    every_run_is_right first_log (passes rules_start (Format 1 1)) 1000000 first_vault start.leave (format_is_history small (refl, refl)) refl refl (omega arith) stored
+    steps answered course crash refl
+    (record { seen = λ r g e. not_missed r g e; named = λ r g e h. absurd (none_lost r g e h) })
+  where
+    not_missed : (r : ℕ) (g : RegionState) → slice_get answered.core.regions r ≡ Some g → g.missed ≡ false
+    not_missed zero g e = let is : slice_get answered.core.regions 0 ≡ Some (touched opened) = refl in sym (ap (λ (z : RegionState). z.missed) (some_same e))
+    not_missed (suc zero) g e = sym (ap (λ (z : RegionState). z.missed) (some_same e))
+    not_missed (suc (suc r)) g e = absurd (cc)
+
+    none_lost : (r : ℕ) (g : RegionState) → slice_get answered.core.regions r ≡ Some g → g.sound < blocks_on r (last_epoch (log_in crash)).records → ⊥
+    none_lost r g e h = none r h
+      where
+        none : (q : ℕ) → g.sound < blocks_on q (Begin 1 ∷ Commit 1 ∷ []) → ⊥
+        none q k = omega (arith, k)
+
+pub worked_run : WorkedRun
+unfolding crash look entries
+worked_run = record {
+  finish = answered;
+  course = course;
+  log = refl;
+  acknowledged = (0, omega arith, refl);
+  crash = crash;
+  left = refl;
+  right = right;
+}

@@ -1,0 +1,3 @@
+pub mod CrashLogs
+pub mod Restarts
+pub mod Worked

@@ -1,0 +1,4 @@
+//! What a crash of a run leaves: a history, from which a restart is right.
+#![tactic(auto)]
+
+pub mod laws;

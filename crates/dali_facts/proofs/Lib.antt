@@ -1,0 +1,4 @@
+pub mod KeysAndUndos
+pub mod Commits
+pub mod Plans
+pub mod Begun

@@ -1,0 +1,49 @@
+//! Laws over the definitions, each the contract of a function that does nothing.
+
+ghost use Rattle.dali_facts.specs.Facts.{HoldsItsKeys, HasItsUndos, HasCounts, CommittedIsLogged, HoldsTheBegun};
+ghost use Rattle.dali_facts.specs.Plans.{PlanGoesOn, PlanStarts, PlanAnswers, TakeBackGoesOn};
+
+/// A running transaction holds the keys of its blocks.
+pub fn a_run_holds_its_keys()
+    ensures { HoldsItsKeys }
+{}
+
+/// The table has the undo lists of the log.
+pub fn a_run_has_its_undos()
+    ensures { HasItsUndos }
+{}
+
+/// The counts are those of the log.
+pub fn a_run_has_its_counts()
+    ensures { HasCounts }
+{}
+
+/// A row says Committed exactly where the log has the Commit.
+pub fn a_run_has_its_commits()
+    ensures { CommittedIsLogged }
+{}
+
+/// The next block of a plan is allowed.
+pub fn a_plan_goes_on()
+    ensures { PlanGoesOn }
+{}
+
+/// The first block of a plan is allowed.
+pub fn a_plan_starts()
+    ensures { PlanStarts }
+{}
+
+/// The answer of a plan is allowed.
+pub fn a_plan_answers()
+    ensures { PlanAnswers }
+{}
+
+/// The block of the last undo is allowed.
+pub fn a_taking_back_goes_on()
+    ensures { TakeBackGoesOn }
+{}
+
+/// The table has just the transactions of the last epoch with a Begin and no Ended.
+pub fn a_run_holds_the_begun()
+    ensures { HoldsTheBegun }
+{}

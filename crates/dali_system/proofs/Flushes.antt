@@ -1,0 +1,81 @@
+-- A flush, and a fault in one, keep a run.
+use Rattle.std.proofs.Common.{◌≡◌, ℕ, ◌+◌, false, List, [], ◌∷◌, ◌++◌, length, take, drop, refl, ap, sym, ◌∙◌, ⊎_elim, arith}
+use Rattle.std.specs.Prelude.{flat_map, sum_by}
+use Rattle.std.proofs.lemmas.List.{take-append-drop, take_all, append-nil}
+use Rattle.std.proofs.lemmas.List.Sums.{sum_by_push}
+use Rattle.std.proofs.lemmas.Grind.{flat_map-append}
+use Rattle.dali_record.specs.declared.records.Record.{Record}
+use Rattle.dali_record.specs.Files.{Files, batch_length}
+use Rattle.dali_system.specs.State.{VaultState}
+use Rattle.dali_system.specs.Run.{CountRun, log_in, IsPrefix}
+use Rattle.dali_system.specs.Flushes.{frame_of, with_batch, longer, FlushKeeps, FaultKeeps, FlushLeaves, FaultLeaves}
+
+batch_added : (batches : List (List Record)) (frame : List Record) → flat_map (λ b. b) (with_batch batches frame) ≡ flat_map (λ b. b) batches ++ frame
+batch_added batches [] = sym (append-nil (flat_map (λ b. b) batches))
+batch_added batches (r ∷ rs) = flat_map-append (λ b. b) batches ((r ∷ rs) ∷ []) ∙ ap (λ l. flat_map (λ b. b) batches ++ l) (append-nil (r ∷ rs))
+
+pub log_with : (F D : Files) (frame : List Record) → F.batches ≡ with_batch D.batches frame → log_in F ≡ log_in D ++ frame
+log_with F D frame e = ap (flat_map (λ b. b)) e ∙ batch_added D.batches frame
+
+whole_log : (L : List Record) (n : ℕ) (F D : Files) → log_in D ≡ take n L → F.batches ≡ with_batch D.batches (drop n L) → log_in F ≡ L
+whole_log L n F D was is = log_with F D (drop n L) is ∙ (ap (λ l. l ++ drop n L) was ∙ take-append-drop n L)
+
+as_whole : (L : List Record) (n : ℕ) (l : List Record) → n ≡ length L → l ≡ L → l ≡ take n L
+as_whole L n l e f = f ∙ sym (take_all n L (omega (arith, e)))
+
+length-with : (batches : List (List Record)) (frame : List Record) (v : VaultState) → v.end ≡ sum_by batch_length batches → (longer v frame).end ≡ sum_by batch_length (with_batch batches frame)
+length-with batches [] v e = e
+length-with batches (r ∷ rs) v e = ap (λ k. k + batch_length (r ∷ rs)) e ∙ sym (sum_by_push batch_length batches (r ∷ rs))
+
+longer_stopped : (v : VaultState) (frame : List Record) → (longer v frame).stopped ≡ v.stopped
+longer_stopped v [] = refl
+longer_stopped v (r ∷ rs) = refl
+
+pub flush_keeps : FlushKeeps
+flush_keeps bases L c run = record {
+  log = run.log;
+  counts = let q : CountRun c.system.sizes L c.system = run.counts in record { now = q.now; rules = q.rules; some = q.some; records = q.records; end = q.end; next = q.next; limit = q.limit; fresh = q.fresh; number = q.number; clean = q.clean };
+  table = run.table;
+  locks = record { held = run.locks.held; apart = run.locks.apart; owned = run.locks.owned; refused = run.locks.refused };
+  stop = record { damage = run.stop.damage; failed = run.stop.failed; store = λ e. longer_stopped c.vault (frame_of L c.system) ∙ run.stop.store e };
+  whole = run.whole;
+  base = run.base;
+  regions = run.regions;
+}
+
+pub fault_keeps : FaultKeeps
+fault_keeps bases L c faults run = record {
+  log = run.log;
+  counts = run.counts;
+  table = run.table;
+  locks = run.locks;
+  stop = record { damage = run.stop.damage; failed = run.stop.failed; store = λ e. refl };
+  whole = run.whole;
+  base = run.base;
+  regions = run.regions;
+}
+
+pub flush_leaves : (old new : Files → Type 0) → FlushLeaves old new
+flush_leaves old new L n v run runs store = record {
+  within = omega arith;
+  prefix = λ F h. record { count = length L; flushed = omega arith; within = omega arith; log = as_whole L (length L) (log_in F) refl (has_all F h) };
+  exact = λ running F h. record { log = as_whole L (length L) (log_in F) refl (has_all F h); end = ends F h };
+  rose = λ h. let isnt : (longer v (drop n L)).stopped ≡ false = longer_stopped v (drop n L) ∙ runs in absurd (cc);
+}
+  where
+    has_all : (F : Files) → new F → log_in F ≡ L
+    has_all F h = let w = store.each F h in whole_log L n F w.0 (run.exact runs w.0 w.1).log (ap (λ (f : Files). f.batches) w.2)
+
+    ends : (F : Files) → new F → (longer v (drop n L)).end ≡ sum_by batch_length F.batches
+    ends F h = let w = store.each F h in length-with w.0.batches (drop n L) v (run.exact runs w.0 w.1).end ∙ sym (ap (λ (f : Files). sum_by batch_length f.batches) w.2)
+
+pub fault_leaves : (old new : Files → Type 0) → FaultLeaves old new
+fault_leaves old new L n faults v run runs rose store = record {
+  within = run.within;
+  prefix = λ F h. let w = store.each F h in ⊎_elim (λ same. without F w.0 (run.prefix w.0 w.1) (ap (λ (f : Files). f.batches) same)) (λ more. record { count = length L; flushed = run.within; within = omega arith; log = as_whole L (length L) (log_in F) refl (whole_log L n F w.0 (run.exact runs w.0 w.1).log (ap (λ (f : Files). f.batches) more)) }) w.2;
+  exact = λ running. absurd (cc);
+  rose = λ h. rose;
+}
+  where
+    without : (F D : Files) → IsPrefix L n D → F.batches ≡ D.batches → IsPrefix L n F
+    without F D is same = record { count = is.count; flushed = is.flushed; within = is.within; log = ap (flat_map (λ b. b)) same ∙ is.log }

@@ -1,0 +1,12 @@
+pub mod OneMore
+pub mod OneMoreTouch
+pub mod Logging
+pub mod Tables
+pub mod RecordSteps
+pub mod AuditSteps
+pub mod QuietSteps
+pub mod Flushes
+pub mod Loads
+pub mod OpenAudits
+pub mod Courses
+pub mod ImageSteps

@@ -1,0 +1,253 @@
+-- The steps that log nothing keep a run.
+use Rattle.std.proofs.Common.{◌≡◌, ℕ, Bool, true, false, cond, List, [], ◌∷◌, ◌++◌, length, take, Option, Some, None, refl, ap, sym, subst, ◌∙◌, inl, inr, ⊎_elim, arith}
+use Rattle.std.specs.Prelude.{IsSome, is_some, ◌==◌, ◌&&◌}
+use Rattle.std.proofs.lemmas.List.{length-set, take_all}
+use Rattle.dali_record.specs.declared.records.Record.{Record}
+use Rattle.dali_record.specs.Blocks.{changes_item}
+use Rattle.dali_record.specs.Epochs.{Epoch, last_epoch}
+use Rattle.dali_record.specs.Legal.{TxnState, Unbegun, Active, Committed as Ending, Over, txn_state}
+use Rattle.dali_record.proofs.Ends.{get_push_cases}
+use Rattle.dali_region.specs.State.{RegionState, latched, with_reads, updated, taken_back, poked, dead}
+use Rattle.dali_locks.specs.declared.mode.Mode.{Mode}
+use Rattle.dali_locks.specs.declared.mode.Mode.TheVariants.{Shared, Exclusive}
+use Rattle.dali_att.specs.declared.state.State.{State}
+use Rattle.dali_att.specs.declared.state.State.TheVariants.{Committed}
+use Rattle.dali_system.specs.State.{TxnRow, SystemState, CoreState, lock_of, row_of}
+use Rattle.dali_system.specs.declared.refusals.Refusal.{Refusal}
+use Rattle.dali_system.specs.declared.causes.Cause.{Cause}
+use Rattle.dali_system.specs.declared.causes.Cause.TheVariants.{Damage, Store}
+use Rattle.dali_system.specs.Run.{CountRun, is_committed, IsRow, TableRun, covers, IsRefusal, is_running, LockRun, damage_in, RegionRun, Bases, base_at, RunsOn}
+use Rattle.dali_locks.specs.Locks.{both_shared, Locks, stronger_mode, locks_with}
+use Rattle.dali_system.specs.Steps.{stopped_by}
+use Rattle.dali_system.specs.Keeps.{with_system, GrantKeeps, RefuseKeeps, RegionKeeps, StopKeeps, StateKeeps, CheckpointFlagKeeps}
+use Rattle.dali_counts.proofs.Tallies.{tallies}
+use Rattle.dali_system.proofs.AuditSteps.{RegionRun-checked}
+use Rattle.dali_counts.proofs.Lists.{equal, same_number, set_cases, and_left, and_right, some_same}
+use Rattle.dali_system.proofs.Tables.{changed, Puts, some_changed, still_there}
+use Rattle.dali_system.specs.Regions.{RegionStep, region_after, Latch, NoteReads, Update, TakeBack, Poke, Check, Die, Clean}
+use Rattle.dali_att.specs.Table.{Table, with_row, with_state}
+use Rattle.std.specs.Option.{option_map}
+use Rattle.std.specs.FinMap.{get}
+use Rattle.dali_locks.proofs.Changes.{get-locks_with}
+use Rattle.dali_record.specs.declared.operations.Pending.{Pending}
+use Rattle.dali_region.specs.Answers.{cleaned}
+use Rattle.dali_region.specs.declared.Side.TheVariants.{A, B}
+
+-- ---- what no count depends on
+RunsOn-held :
+    (bases : Bases) (L : List Record) (c : CoreState) (run : RunsOn bases L c)
+    (T : Table Pending) (K : Locks) (R : List Refusal) (b : Bool)
+    → TableRun c.system.sizes L T
+    → LockRun c.system.sizes L (record c.system { table = T; locks = K; refusals = R; checking = b })
+    → RunsOn bases L (with_system c (record c.system { table = T; locks = K; refusals = R; checking = b }))
+RunsOn-held bases L c run T K R b table locks = record {
+  log = run.log;
+  counts = let q : CountRun c.system.sizes L c.system = run.counts in record { now = q.now; rules = q.rules; some = q.some; records = q.records; end = q.end; next = q.next; limit = q.limit; fresh = q.fresh; number = q.number; clean = q.clean };
+  table = table;
+  locks = locks;
+  stop = record { damage = run.stop.damage; failed = run.stop.failed; store = run.stop.store };
+  whole = run.whole;
+  base = run.base;
+  regions = run.regions;
+}
+
+-- ---- a lock that is granted
+stronger_covers : (o : Option Mode) (m : Mode) (d : Bool) → covers o d ≡ true → covers (Some (stronger_mode o m)) d ≡ true
+stronger_covers None m d e = absurd (cc)
+stronger_covers (Some Shared) Shared d e = e
+stronger_covers (Some Shared) Exclusive d e = refl
+stronger_covers (Some Exclusive) m d e = refl
+
+shared_sym : (m n : Mode) → both_shared m n ≡ true → both_shared n m ≡ true
+shared_sym Shared Shared e = refl
+shared_sym Shared Exclusive e = absurd (cc)
+shared_sym Exclusive n e = absurd (cc)
+
+-- the mode that the transaction has then is apart from that of another holder
+stronger_apart : (o : Option Mode) (m n : Mode) → ((p : Mode) → o ≡ Some p → both_shared p n ≡ true) → both_shared m n ≡ true → both_shared (stronger_mode o m) n ≡ true
+stronger_apart None m n h e = e
+stronger_apart (Some Shared) m n h e = e
+stronger_apart (Some Exclusive) m n h e = h Exclusive refl
+
+differ : (t u : ℕ) → (t == u) ≡ false → (u == t) ≡ false
+differ t u e = by_test (u == t) refl
+  where
+    by_test : (b : Bool) → (u == t) ≡ b → b ≡ false
+    by_test false f = refl
+    by_test true f = let g : (t == u) ≡ true = same_number t u (sym (equal u t f)) in absurd (cc)
+
+pub grant_keeps : GrantKeeps
+grant_keeps bases L c t k m run here free = RunsOn-held bases L c run y.table K y.refusals y.checking run.table (record {
+  held = λ i a e. ⊎_elim (λ w. inl w) (λ h. inr (rw (at a.owner a.block.key) (still a.owner a.block.key (changes_item a.block) ((t == a.owner) && (k == a.block.key)) h))) (run.locks.held i a e);
+  apart = λ u v l p q d e f. apart u v l p q d ((t == u) && (k == l)) refl ((t == v) && (k == l)) refl (sym (at u l) ∙ e) (sym (at v l) ∙ f);
+  owned = λ u l p e. owned u l p ((t == u) && (k == l)) refl (sym (at u l) ∙ e);
+  refused = run.locks.refused;
+})
+  where
+    y : SystemState
+    y = c.system
+
+    K : Locks
+    K = locks_with y.locks t k m
+
+    at : (u l : ℕ) → get K (u, l) ≡ cond ((t == u) && (k == l)) (Some (stronger_mode (lock_of y u l) m)) (lock_of y u l)
+    at u l = get-locks_with y.locks t k m u l
+
+    still : (u l : ℕ) (d b : Bool) → covers (lock_of y u l) d ≡ true → covers (cond b (Some (stronger_mode (lock_of y u l) m)) (lock_of y u l)) d ≡ true
+    still u l d true h = stronger_covers (lock_of y u l) m d h
+    still u l d false h = h
+
+    owned : (u l : ℕ) (p : Mode) (b : Bool) → ((t == u) && (k == l)) ≡ b → cond b (Some (stronger_mode (lock_of y u l) m)) (lock_of y u l) ≡ Some p → IsSome (row_of y u)
+    owned u l p true e f = subst (λ v. IsSome (row_of y v)) (equal t u (and_left (t == u) (k == l) e)) here
+    owned u l p false e f = run.locks.owned u l p f
+
+    -- t has the lock, v another one's
+    against : (u v l : ℕ) (p q : Mode) → (u == v) ≡ false → ((t == u) && (k == l)) ≡ true → Some (stronger_mode (lock_of y u l) m) ≡ Some p → lock_of y v l ≡ Some q → both_shared p q ≡ true
+    against u v l p q d e f g =
+        let tu : t ≡ u = equal t u (and_left (t == u) (k == l) e) in
+        let kl : k ≡ l = equal k l (and_right (t == u) (k == l) e) in
+        let is : stronger_mode (lock_of y u l) m ≡ p = some_same f in
+        let apart_t : (t == v) ≡ false = ap (λ z. z == v) tu ∙ d in
+        let at_k : lock_of y v k ≡ Some q = ap (λ z. lock_of y v z) kl ∙ g in
+        subst (λ z. both_shared z q ≡ true) is (stronger_apart (lock_of y u l) m q (λ z h. run.locks.apart u v l z q d h g) (free v q apart_t at_k))
+
+    apart : (u v l : ℕ) (p q : Mode) → (u == v) ≡ false → (a : Bool) → ((t == u) && (k == l)) ≡ a → (b : Bool) → ((t == v) && (k == l)) ≡ b → cond a (Some (stronger_mode (lock_of y u l) m)) (lock_of y u l) ≡ Some p → cond b (Some (stronger_mode (lock_of y v l) m)) (lock_of y v l) ≡ Some q → both_shared p q ≡ true
+    apart u v l p q d true e true f g h = let same : u ≡ v = sym (equal t u (and_left (t == u) (k == l) e)) ∙ equal t v (and_left (t == v) (k == l) f) in let is : (u == v) ≡ true = same_number u v same in absurd (cc)
+    apart u v l p q d true e false f g h = against u v l p q d e g h
+    apart u v l p q d false e true f g h = shared_sym q p (against v u l q p (differ u v d) f h g)
+    apart u v l p q d false e false f g h = run.locks.apart u v l p q d g h
+
+-- ---- a lock that is refused
+row_running : (o : Option TxnState) (row : Option TxnRow) → IsRow o row → IsSome row → is_running o ≡ true
+row_running None row r h = absurd r
+row_running (Some Unbegun) row r h = let none : is_some row ≡ false = ap is_some r in absurd (cc)
+row_running (Some (Active w)) row r h = refl
+row_running (Some (Ending ps)) row r h = refl
+row_running (Some Over) row r h = let none : is_some row ≡ false = ap is_some r in absurd (cc)
+
+pub refuse_keeps : RefuseKeeps
+refuse_keeps bases L c t k h m run busy = RunsOn-held bases L c run y.table y.locks (y.refusals ++ new ∷ []) y.checking run.table (record {
+  held = run.locks.held;
+  apart = run.locks.apart;
+  owned = run.locks.owned;
+  refused = λ n f e. ⊎_elim (λ old. run.locks.refused n f old.1) (λ last. subst (IsRefusal y.sizes L) last.1 here) (get_push_cases y.refusals new n f e);
+})
+  where
+    y : SystemState
+    y = c.system
+
+    new : Refusal
+    new = record { txn = t; key = k; mode = m; holder = h; at = y.records }
+
+    all : y.records ≡ length L
+    all = run.counts.records ∙ (tallies y.sizes L run.counts.now run.counts.rules).0
+
+    here : IsRefusal y.sizes L new
+    here = record {
+      older = busy.1;
+      within = omega (arith, all);
+      running = ap (λ l. is_running (txn_state y.sizes h l)) (ap (λ n. take n L) all ∙ take_all (length L) L (omega arith)) ∙ row_running (txn_state y.sizes h L) (row_of y h) (run.table h) (run.locks.owned h k busy.0.conflict.mode busy.0.conflict.holds);
+    }
+
+-- ---- one region
+-- what a run says of a region is left
+record IsAlike (old new : RegionState) : Type 0 where
+  back : new.back ≡ old.back
+  touches : new.touches ≡ old.touches
+  poked : new.poked ≡ old.poked
+  sound : new.sound ≡ old.sound
+  missed : new.missed ≡ old.missed
+
+RegionRun-alike : (base : List (List ℕ)) (e : Epoch) (r : ℕ) (old new : RegionState) → IsAlike old new → RegionRun base e r old → RegionRun base e r new
+RegionRun-alike base e r old new same run = record {
+  touches = same.touches ∙ run.touches;
+  within = rw (same.sound, same.touches) run.within;
+  all = λ h. same.sound ∙ (run.all (sym same.poked ∙ h) ∙ sym same.touches);
+  sound = λ i a at on below. run.sound i a at on (rw same.sound at below);
+  settled = λ h. same.back ∙ run.settled (sym same.poked ∙ h);
+  certified = λ h. rw same.sound (run.certified (sym same.missed ∙ h));
+}
+
+RegionRun-poked : (base : List (List ℕ)) (e : Epoch) (r word mask : ℕ) (g : RegionState) → RegionRun base e r g → RegionRun base e r (poked word mask g)
+RegionRun-poked base e r word mask g run = record {
+  touches = run.touches;
+  within = run.within;
+  all = λ h. absurd (cc);
+  sound = run.sound;
+  settled = λ h. absurd (cc);
+  certified = run.certified;
+}
+
+pub RegionRun-after : (base : List (List ℕ)) (e : Epoch) (r : ℕ) (g : RegionState) (x : RegionStep) → RegionRun base e r g → RegionRun base e r (region_after x g)
+RegionRun-after base e r g (Latch txn) run = RegionRun-alike base e r g (latched txn g) (record { back = refl; touches = refl; poked = refl; sound = refl; missed = refl }) run
+RegionRun-after base e r g (NoteReads mask) run = RegionRun-alike base e r g (with_reads mask g) (record { back = refl; touches = refl; poked = refl; sound = refl; missed = refl }) run
+RegionRun-after base e r g (Update word value) run = RegionRun-alike base e r g (updated word value g) (record { back = refl; touches = refl; poked = refl; sound = refl; missed = refl }) run
+RegionRun-after base e r g TakeBack run = RegionRun-alike base e r g (taken_back g) (record { back = refl; touches = refl; poked = refl; sound = refl; missed = refl }) run
+RegionRun-after base e r g (Poke word mask) run = RegionRun-poked base e r word mask g run
+RegionRun-after base e r g Check run = RegionRun-checked base e r g run
+RegionRun-after base e r g Die run = RegionRun-alike base e r g (dead g) (record { back = refl; touches = refl; poked = refl; sound = refl; missed = refl }) run
+RegionRun-after base e r g (Clean A) run = RegionRun-alike base e r g (cleaned A g) (record { back = refl; touches = refl; poked = refl; sound = refl; missed = refl }) run
+RegionRun-after base e r g (Clean B) run = RegionRun-alike base e r g (cleaned B g) (record { back = refl; touches = refl; poked = refl; sound = refl; missed = refl }) run
+
+pub region_keeps : RegionKeeps
+region_keeps bases L c r g x run at = record {
+  log = run.log;
+  counts = run.counts;
+  table = run.table;
+  locks = run.locks;
+  stop = run.stop;
+  whole = length-set c.regions r (region_after x g) ∙ run.whole;
+  base = run.base;
+  regions = λ q h e. ⊎_elim
+      (λ here. subst (λ z. RegionRun (base_at bases L) (last_epoch L) q z) (sym here.1) (subst (λ z. RegionRun (base_at bases L) (last_epoch L) z (region_after x g)) (sym here.0) (RegionRun-after (base_at bases L) (last_epoch L) r g x (run.regions r g at))))
+      (λ there. run.regions q h there.1)
+      (set_cases c.regions r (region_after x g) q h e);
+}
+
+-- ---- the stop after a fault
+same_damage : (o : Option Cause) → damage_in (stopped_by o) ≡ damage_in o
+same_damage None = refl
+same_damage (Some (Damage r)) = refl
+same_damage (Some Store) = refl
+
+pub stop_keeps : StopKeeps
+stop_keeps bases L c run stopped = record {
+  log = run.log;
+  counts = let q : CountRun c.system.sizes L c.system = run.counts in record { now = q.now; rules = q.rules; some = q.some; records = q.records; end = q.end; next = q.next; limit = q.limit; fresh = q.fresh; number = q.number; clean = q.clean };
+  table = run.table;
+  locks = record { held = run.locks.held; apart = run.locks.apart; owned = run.locks.owned; refused = run.locks.refused };
+  stop = record { damage = same_damage c.system.stop ∙ run.stop.damage; failed = λ g e. run.stop.failed g e ∙ ap is_some (sym (same_damage c.system.stop)); store = λ e. stopped };
+  whole = run.whole;
+  base = run.base;
+  regions = run.regions;
+}
+
+-- ---- the state of a transaction
+state_row : (o : Option TxnState) (row : Option TxnRow) (r : TxnRow) (st : State) → IsRow o row → row ≡ Some r → is_committed r.state ≡ false → is_committed st ≡ false → IsRow o (option_map (with_state st) row)
+state_row None row r st i e f g = absurd i
+state_row (Some Unbegun) row r st i e f g = absurd (cc)
+state_row (Some (Active w)) row r st i e f g = (st, g, ap (option_map (with_state st)) i.2)
+state_row (Some (Ending ps)) row r st i e f g = let same : record { state = Committed; undos = [] } ≡ r = cc in let is : true ≡ is_committed r.state = ap (λ q. is_committed q.state) same in absurd (cc)
+state_row (Some Over) row r st i e f g = absurd (cc)
+
+pub state_keeps : StateKeeps
+state_keeps bases L c t st run may = RunsOn-held bases L c run T y.locks y.refusals y.checking
+    (λ u. rw (puts u) (table u (t == u) refl))
+    (record { held = run.locks.held; apart = run.locks.apart; owned = λ u k m e. still_there y.table t _ T puts (some_changed (with_state st) (row_of y t)) u (run.locks.owned u k m e); refused = run.locks.refused })
+  where
+    y : SystemState
+    y = c.system
+
+    T : Table Pending
+    T = with_row y.table t (with_state st)
+
+    puts : Puts y.table t (option_map (with_state st) (row_of y t)) T
+    puts = changed y.table t (with_state st)
+
+    table : (u : ℕ) (b : Bool) → (t == u) ≡ b → IsRow (txn_state y.sizes u L) (cond b (option_map (with_state st) (row_of y t)) (row_of y u))
+    table u true e = subst (λ v. IsRow (txn_state y.sizes v L) (option_map (with_state st) (row_of y t))) (equal t u e) (state_row (txn_state y.sizes t L) (row_of y t) may.row st (run.table t) may.at may.was may.turns)
+    table u false e = run.table u
+
+-- ---- the flag of a checkpoint
+pub checkpoint_flag_keeps : CheckpointFlagKeeps
+checkpoint_flag_keeps bases L c b run = RunsOn-held bases L c run c.system.table c.system.locks c.system.refusals b run.table (record { held = run.locks.held; apart = run.locks.apart; owned = run.locks.owned; refused = run.locks.refused })

@@ -1,0 +1,116 @@
+-- Every kind of step, and lists of them.
+--     Step                     the kinds of step
+--     IsStep L c x M d         the step x leads from the log L and the core c to the log M and the core d
+--     Moment                   the log and the core, with what a crash may leave of the store: a test on files
+--     LeavesBy old new L c x   what a crash may leave after the step x
+--     IsCourse m steps n       these steps, one after another, lead from the moment m to the moment n
+--     RunsAt bases before m    the core is a run at this moment
+--     StepKeeps, CourseKeeps   each step keeps a run, and so does each list of steps
+--     LoadRunsAt               a core that was just made is a run
+use Rattle.std.specs.Prelude.{◌≡◌, ℕ, ◌+◌, ◌≤◌, Bool, true, false, List, [], ◌∷◌, ◌++◌, Some, None, IsSome, length, slice_get}
+use Rattle.dali_geometry.specs.Sizes.{Sizes}
+use Rattle.dali_geometry.specs.Places.{regions}
+use Rattle.dali_record.specs.declared.operations.Block.{Block}
+use Rattle.dali_record.specs.declared.records.Call.{Call}
+use Rattle.dali_record.specs.declared.records.Answer.{Answer}
+use Rattle.dali_record.specs.declared.records.Record.{Record}
+use Rattle.dali_record.specs.declared.records.Record.TheVariants.{Begin, Op as Forward, Done, Commit, Ended, Solo, AuditBegin, Back}
+use Rattle.dali_record.specs.Spelling.{CanBeSpelled}
+use Rattle.dali_record.specs.Legal.{Rules}
+use Rattle.dali_record.specs.Files.{Files}
+use Rattle.dali_region.specs.State.{RegionState}
+use Rattle.dali_locks.specs.declared.mode.Mode.{Mode}
+use Rattle.dali_locks.specs.declared.mode.LockAnswer.TheVariants.{Granted, Busy}
+use Rattle.dali_locks.specs.Locks.{IsAnswer}
+use Rattle.dali_att.specs.declared.state.State.{State}
+use Rattle.dali_system.specs.State.{CoreState, row_of, log_after, VaultState}
+use Rattle.dali_system.specs.Run.{Bases, HasRisen, IsRun, base_at, VaultRun}
+use Rattle.dali_system.specs.Steps.{begun, op_logged, back_logged, solo_logged, done_logged, commit_logged, ended_logged, audit_begun, audit_ended, audit_record, granted, refused, in_state, store_stopped, in_checkpoint, flushed}
+use Rattle.dali_system.specs.Regions.{RegionStep, region_after}
+use Rattle.dali_system.specs.Keeps.{with_system, with_region, with_touched, HasRoom, IsNext, MayLogBlock, MayTurn}
+use Rattle.dali_system.specs.Audits.{MayEndAudit}
+use Rattle.dali_system.specs.Loads.{IsAtRest, new_core}
+use Rattle.dali_system.specs.Flushes.{frame_of, Appended, Appending, with_vault, longer, faulted}
+
+pub data Step : Type 0 where
+  Begins : Step
+  Operates : (txn : ℕ) → (block : Block) → Step
+  TakesBack : (txn : ℕ) → (block : Block) → Step
+  Frees : (parent : ℕ) → (block : Block) → Step
+  Answers : (txn : ℕ) → (call : Call) → (answer : Answer) → Step
+  Commits : (txn : ℕ) → Step
+  Ends : (txn : ℕ) → Step
+  AuditBegins : Step
+  AuditEnds : (begin : ℕ) → (found : List ℕ) → Step
+  Locks : (txn key : ℕ) → (mode : Mode) → Step
+  Refuses : (txn key : ℕ) → (mode : Mode) → (holder : ℕ) → Step
+  OnRegion : (region : ℕ) → (step : RegionStep) → Step
+  Turns : (txn : ℕ) → (state : State) → Step
+  Stops : Step
+  Checkpoints : (under_way : Bool) → Step
+  Flushes : Step
+  Faults : (faults : ℕ) → Step
+
+abbrev pub Adds : List Record → Record → CoreState → List Record → CoreState → Type 0
+Adds L x e M d = (M ≡ L ++ x ∷ []) × (d ≡ e)
+
+abbrev pub AddsNone : List Record → CoreState → List Record → CoreState → Type 0
+AddsNone L e M d = (M ≡ L) × (d ≡ e)
+
+abbrev pub IsStep : List Record → CoreState → Step → List Record → CoreState → Type 0
+IsStep L c Begins M d = HasRoom c.system (Begin c.system.next) × Adds L (Begin c.system.next) (with_system c (begun c.system)) M d
+IsStep L c (Operates t b) M d = (g : RegionState) × HasRoom c.system (Forward t b) × MayLogBlock L c (Forward t b) t b g × Adds L (Forward t b) (with_touched c (op_logged c.system t b) b.region g) M d
+IsStep L c (TakesBack t b) M d = (g : RegionState) × MayLogBlock L c (Back t b) t b g × Adds L (Back t b) (with_touched c (back_logged c.system t b) b.region g) M d
+IsStep L c (Frees p b) M d = (g : RegionState) × MayLogBlock L c (Solo c.system.next p b) p b g × Adds L (Solo c.system.next p b) (with_touched c (solo_logged c.system p b) b.region g) M d
+IsStep L c (Answers t k a) M d = HasRoom c.system (Done t k a) × CanBeSpelled (Done t k a) × IsNext c.system.sizes L t (Done t k a) × Adds L (Done t k a) (with_system c (done_logged c.system t k a)) M d
+IsStep L c (Commits t) M d = (c.system.stop ≡ None) × IsNext c.system.sizes L t (Commit t) × Adds L (Commit t) (with_system c (commit_logged c.system t)) M d
+IsStep L c (Ends t) M d = (c.system.stop ≡ None) × IsNext c.system.sizes L t (Ended t) × Adds L (Ended t) (with_system c (ended_logged c.system t)) M d
+IsStep L c AuditBegins M d = (c.system.stop ≡ None) × (c.system.end + 1 ≤ c.system.limit + 1048576) × Adds L AuditBegin (with_system c (audit_begun c.system)) M d
+IsStep L c (AuditEnds b found) M d = MayEndAudit L c b found × Adds L (audit_record b found) (with_system c (audit_ended c.system b found)) M d
+IsStep L c (Locks t k m) M d = IsSome (row_of c.system t) × IsAnswer c.system.locks t k m Granted × AddsNone L (with_system c (granted c.system t k m)) M d
+IsStep L c (Refuses t k m h) M d = IsAnswer c.system.locks t k m (Busy h) × AddsNone L (with_system c (refused c.system t k m h)) M d
+IsStep L c (OnRegion r x) M d = (g : RegionState) × (slice_get c.regions r ≡ Some g) × AddsNone L (with_region c r (region_after x g)) M d
+IsStep L c (Turns t state) M d = MayTurn c t state × AddsNone L (with_system c (in_state c.system t state)) M d
+IsStep L c Stops M d = (c.vault.stopped ≡ true) × AddsNone L (with_system c (store_stopped c.system)) M d
+IsStep L c (Checkpoints b) M d = AddsNone L (with_system c (in_checkpoint c.system b)) M d
+IsStep L c Flushes M d = (c.vault.stopped ≡ false) × AddsNone L (with_vault c (flushed c.system) (longer c.vault (frame_of L c.system))) M d
+IsStep L c (Faults n) M d = (c.vault.stopped ≡ false) × HasRisen c.vault.faults_then n × AddsNone L (with_vault c c.system (faulted c.vault n)) M d
+
+-- ---- with what a crash may leave
+pub record Moment : Type 0 where
+  pub log : List Record
+  pub core : CoreState
+  pub leave : Files → Bool
+
+abbrev pub MayLeave : (Files → Bool) → Files → Type 0
+MayLeave leave F = leave F ≡ true
+
+-- only a flush makes it more
+abbrev pub LeavesBy : (Files → Bool) → (Files → Bool) → List Record → CoreState → Step → Type 0
+LeavesBy old new L c Flushes = Appended (MayLeave old) (MayLeave new) (frame_of L c.system)
+LeavesBy old new L c (Faults n) = Appending (MayLeave old) (MayLeave new) (frame_of L c.system)
+LeavesBy old new L c x = (F : Files) → MayLeave new F → MayLeave old F
+
+abbrev pub IsStepAt : Moment → Step → Moment → Type 0
+IsStepAt m x n = IsStep m.log m.core x n.log n.core × LeavesBy m.leave n.leave m.log m.core x
+
+abbrev pub IsCourse : Moment → List Step → Moment → Type 0
+IsCourse m [] n = m ≡ n
+IsCourse m (x ∷ xs) n = (k : Moment) × IsStepAt m x k × IsCourse k xs n
+
+pub record RunsAt (bases : Bases) (before : List Record) (m : Moment) : Type 0 where
+  pub log : m.log ≡ log_after before m.core.system
+  pub run : IsRun bases before (MayLeave m.leave) m.core
+
+abbrev pub StepKeeps : Type 0
+StepKeeps = (bases : Bases) (before : List Record) (m n : Moment) (x : Step) → RunsAt bases before m → IsStepAt m x n → RunsAt bases before n
+
+abbrev pub CourseKeeps : Type 0
+CourseKeeps = (bases : Bases) (before : List Record) (m n : Moment) (xs : List Step) → RunsAt bases before m → IsCourse m xs n → RunsAt bases before n
+
+-- a core that was just made over a log at rest, whose records are all flushed
+abbrev pub LoadRunsAt : Type 0
+LoadRunsAt =
+    (bases : Bases) (s : Sizes) (L : List Record) (g : Rules) (limit : ℕ) (v : VaultState) (leave : Files → Bool) → IsAtRest s L g
+    → limit ≤ 268435456 → length (base_at bases L) ≡ regions s → VaultRun (MayLeave leave) L (length L) v
+    → RunsAt bases L (record { log = L; core = new_core s (base_at bases L) g limit v; leave = leave })

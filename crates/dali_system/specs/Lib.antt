@@ -1,0 +1,12 @@
+pub mod State
+pub mod Run
+pub mod Steps
+pub mod Regions
+pub mod Keeps
+pub mod Flushes
+pub mod Audits
+pub mod Loads
+pub mod Courses
+pub mod Crashes
+pub mod Images
+pub mod ImageSteps

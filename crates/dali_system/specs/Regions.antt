@@ -1,0 +1,40 @@
+-- The steps on one region, and the operation that is open there.
+--     IsOpen g owner b         the region's hold is the operation b of this owner, done but for its logging
+--     RegionStep, region_after x g      the steps that change one region and log nothing, and what each leaves
+use Rattle.std.specs.Prelude.{◌≡◌, ℕ, true, false, not, ◌==◌, Some}
+use Rattle.dali_record.specs.declared.operations.Block.{Block}
+use Rattle.dali_record.specs.Blocks.{IsSoundOn, rewritten}
+use Rattle.dali_region.specs.declared.Side.{Side}
+use Rattle.dali_region.specs.State.{RegionState, latched, with_reads, updated, taken_back, poked, checked, dead}
+use Rattle.dali_region.specs.Answers.{cleaned}
+
+pub record IsOpen (g : RegionState) (owner : ℕ) (b : Block) : Type 0 where
+  pub hold : g.hold ≡ Some (record { txn = owner; dead = false; read = b.read; xor = b.xor; write = b.write })
+  -- every operation reads some word
+  pub reads : not (b.read == 0) ≡ true
+  -- where no stray write came, the block is what its operation gives on the words before it, and its new words stand
+  pub sound : g.poked ≡ false → IsSoundOn g.back b
+  pub stands : g.poked ≡ false → g.words ≡ rewritten b g.back
+
+pub data RegionStep : Type 0 where
+  Latch : (txn : ℕ) → RegionStep
+  NoteReads : (mask : ℕ) → RegionStep
+  Update : (word value : ℕ) → RegionStep
+  TakeBack : RegionStep
+  Poke : (word mask : ℕ) → RegionStep
+  -- an audit passes the region
+  Check : RegionStep
+  -- the client that holds it dies
+  Die : RegionStep
+  -- its copy for a checkpoint is written
+  Clean : (side : Side) → RegionStep
+
+abbrev pub region_after : RegionStep → RegionState → RegionState
+region_after (Latch txn) g = latched txn g
+region_after (NoteReads mask) g = with_reads mask g
+region_after (Update word value) g = updated word value g
+region_after TakeBack g = taken_back g
+region_after (Poke word mask) g = poked word mask g
+region_after Check g = checked g
+region_after Die g = dead g
+region_after (Clean side) g = cleaned side g

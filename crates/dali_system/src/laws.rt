@@ -1,0 +1,153 @@
+//! Laws over the definitions, each the contract of a function that does nothing: a step takes a run to a run.
+
+ghost use Rattle.dali_system.specs.Keeps.{BeginKeeps, OpKeeps, BackKeeps, SoloKeeps, DoneKeeps, CommitKeeps, EndedKeeps, GrantKeeps, RefuseKeeps, RegionKeeps, StopKeeps, StateKeeps, CheckpointFlagKeeps};
+ghost use Rattle.dali_system.specs.Flushes.{FlushKeeps, FaultKeeps};
+ghost use Rattle.dali_system.specs.Audits.{AuditBeginKeeps, AuditEndKeeps, AuditStarts, AuditGoesOn, PassCertifies, CertifiesStays};
+ghost use Rattle.dali_system.specs.Courses.{StepKeeps, CourseKeeps, LoadRunsAt};
+ghost use Rattle.dali_system.specs.ImageSteps.{ImagesKeep, CopyKeeps};
+ghost use Rattle.dali_system.specs.Loads.{LoadRuns, FormatRests, EmptyRests};
+
+/// A transaction begins.
+pub fn begin_keeps_a_run()
+    ensures { BeginKeeps }
+{}
+
+/// An operation is logged, and its region touched.
+pub fn operation_keeps_a_run()
+    ensures { OpKeeps }
+{}
+
+/// A change is taken back.
+pub fn back_keeps_a_run()
+    ensures { BackKeeps }
+{}
+
+/// A removed cell or entry is freed.
+pub fn solo_keeps_a_run()
+    ensures { SoloKeeps }
+{}
+
+/// A call is answered.
+pub fn done_keeps_a_run()
+    ensures { DoneKeeps }
+{}
+
+/// A transaction is committed.
+pub fn commit_keeps_a_run()
+    ensures { CommitKeeps }
+{}
+
+/// A transaction ends, and its locks are free.
+pub fn ended_keeps_a_run()
+    ensures { EndedKeeps }
+{}
+
+/// An audit begins.
+pub fn audit_begin_keeps_a_run()
+    ensures { AuditBeginKeeps }
+{}
+
+/// An audit ends.
+pub fn audit_end_keeps_a_run()
+    ensures { AuditEndKeeps }
+{}
+
+/// A lock is granted.
+pub fn grant_keeps_a_run()
+    ensures { GrantKeeps }
+{}
+
+/// A lock is refused.
+pub fn refusal_keeps_a_run()
+    ensures { RefuseKeeps }
+{}
+
+/// One region is latched, read, updated, taken back, poked or checked.
+pub fn region_keeps_a_run()
+    ensures { RegionKeeps }
+{}
+
+/// The engine stops after a fault.
+pub fn stop_keeps_a_run()
+    ensures { StopKeeps }
+{}
+
+/// A client dies, and its transaction is claimed.
+pub fn state_keeps_a_run()
+    ensures { StateKeeps }
+{}
+
+/// A checkpoint starts and ends.
+pub fn checkpoint_flag_keeps_a_run()
+    ensures { CheckpointFlagKeeps }
+{}
+
+/// The log is flushed.
+pub fn flush_keeps_a_run()
+    ensures { FlushKeeps }
+{}
+
+/// A flush meets a fault.
+pub fn fault_keeps_a_run()
+    ensures { FaultKeeps }
+{}
+
+/// A core that was just made over a log at rest is a run.
+pub fn a_load_is_a_run()
+    ensures { LoadRuns }
+{}
+
+/// The log of a store that was just formatted is at rest.
+pub fn a_format_rests()
+    ensures { FormatRests }
+{}
+
+/// An audit that begins is open.
+pub fn an_audit_starts()
+    ensures { AuditStarts }
+{}
+
+/// A log whose last epoch has no record, as behind a format or a restart, is at rest.
+pub fn a_log_with_an_empty_epoch_rests()
+    ensures { EmptyRests }
+{}
+
+/// Each step takes a run to a run, the store with it.
+pub fn each_step_keeps_a_run()
+    ensures { StepKeeps }
+{}
+
+/// So does each list of steps, in whatever order.
+pub fn each_list_of_steps_keeps_a_run()
+    ensures { CourseKeeps }
+{}
+
+/// A core that was just made, over a log whose records are all flushed, is a run.
+pub fn a_load_is_a_run_with_its_store()
+    ensures { LoadRunsAt }
+{}
+
+/// An audit stays open while others log.
+pub fn an_audit_goes_on()
+    ensures { AuditGoesOn }
+{}
+
+/// A check that answers 0 certifies the blocks so far, or a stray write is missed.
+pub fn a_pass_certifies()
+    ensures { PassCertifies }
+{}
+
+/// What a pass found out stays.
+pub fn what_a_pass_found_stays()
+    ensures { CertifiesStays }
+{}
+
+/// Images and log stay as they fit with every step that writes nothing to the store.
+pub fn steps_leave_the_images()
+    ensures { ImagesKeep }
+{}
+
+/// So they do when a region was copied for a checkpoint and its flag is cleared.
+pub fn a_copy_keeps_the_images()
+    ensures { CopyKeeps }
+{}
