@@ -5,7 +5,7 @@ ghost use Rattle.std.specs.Prelude.{◌≡◌};
 ghost use Rattle.dali_cli.specs.Codes.{number_of};
 
 use anyhow::Result;
-use dali_memstore::MemoryStore;
+use dali_filestore::FileStore;
 use dali_run::{OpenGate, Status, run};
 use dali_streams::{StdSink, StdSource};
 use std::process::ExitCode;
@@ -35,8 +35,19 @@ fn main(rt: HostRuntime) -> Result<ExitCode> {
     let words: Vec<String> = env::args(&rt)?.skip(1).collect(rt.alloc())?;
     let mut source = StdSource::new(rt.reader());
     let mut sink = StdSink::new(io::writer(&rt));
-    let store = MemoryStore::new(rt.alloc(), Vec::new(rt.alloc()));
-    let (status, _store) = run(rt.alloc(), &words, &mut source, &mut sink, store, &OpenGate);
+    let Ok(store) = FileStore::in_folder(&rt, ".") else {
+        println!(rt; "store fault")?;
+        return Ok(ExitCode::from(code_of(Status::StoreFault)));
+    };
+    let (status, _store) = run(
+        &rt,
+        rt.alloc(),
+        &words,
+        &mut source,
+        &mut sink,
+        store,
+        &OpenGate,
+    );
     Ok(ExitCode::from(code_of(status)))
 }
 

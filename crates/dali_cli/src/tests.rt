@@ -1,16 +1,36 @@
 use dali_memstore::MemoryStore;
-use dali_run::{Kind, OpenGate, SCRIPT_LIMIT, Status, run};
+use dali_run::{OpenGate, SCRIPT_LIMIT, Status, run};
+use dali_script::Kind;
 use dali_store::FileName;
 use dali_streams::{MemorySink, MemorySource};
 use std::process::Abort;
+use std::sync::Wait;
 use std::test::Fail;
+use std::thread::Threads;
+
+mod cases;
+
+use cases::CASES;
+
+const NONE: &[u64] = &[];
+
+const FORMATTED: &[u8] = b"\xa5\0\0\0\x0a\x01\x01\0\0\0\x01\0\0\0\x01\0";
+
+const CUT_BEHIND_FORMAT: &[u8] = b"\xa5\0\0\0\x0a\x01\x01\0\0\0\x01\0\0\0\x01";
+
+const BATCH_WITHOUT_ITS_BYTES: &[u8] =
+    b"\xa5\0\0\0\x0a\x01\x01\0\0\0\x01\0\0\0\x01\xa5\0\0\0\x64\0";
+
+const ONE_RECORD: &str = "size 1 1\nclient 1\nbegin\ninsert 5 abc\ncommit\nend\nshow\n";
+
+const ONE_RECORD_LINES: &[u8] = b"1 begin 1\n1 insert ok\n1 commit ok\n5 abc\nrecords 1\n";
 
 // A run over streams and a store in memory, some of whose calls fail.
 #[derive(Drop)]
 struct Case {
     name: &'static str,
     word: &'static str,
-    script: &'static [u8],
+    script: &'static str,
     log: &'static [u8],
     failing_reads: &'static [u64],
     failing_writes: &'static [u64],
@@ -19,144 +39,206 @@ struct Case {
     status: Status,
 }
 
-const NONE: &[u64] = &[];
+impl Case {
+    fn new(
+        name: &'static str,
+        script: &'static str,
+        wanted: &'static [u8],
+        status: Status,
+    ) -> Self {
+        Case {
+            name,
+            word: "run",
+            script,
+            log: b"",
+            failing_reads: NONE,
+            failing_writes: NONE,
+            failing_calls: NONE,
+            wanted,
+            status,
+        }
+    }
+}
 
-const ONE_RECORD: &[u8] =
-    b"size 1 1\nclient 1\nbegin\ninsert 5 abc\ncommit\nend\ncrash 0\nrestart\nshow\n";
-
-const ONE_RECORD_LINES: &[u8] =
-    b"1 begin 1\n1 insert ok\n1 commit ok\ncrash 0\nrolled back none\ndeleted none\n5 abc\nrecords 1\n";
-
-fn runs_as_wanted(rt: &(impl Abort + AllocGlobal), case: &Case) -> Result<(), Fail> {
+fn runs_as_wanted(
+    rt: &(impl Abort + AllocGlobal + Threads + Wait + Sync),
+    case: &Case,
+) -> Result<(), Fail> {
     let alloc = rt.alloc();
     let words = vec![in alloc; String::from_str(alloc, case.word)?]?;
-    let mut source = MemorySource::new(
-        case.script.to_vec(alloc)?,
-        7,
-        case.failing_reads.to_vec(alloc)?,
-    );
+    let script = case.script.as_bytes().to_vec(alloc)?;
+    let mut source = MemorySource::new(script, 7, case.failing_reads.to_vec(alloc)?);
     let mut sink = MemorySink::new(alloc, 5, case.failing_writes.to_vec(alloc)?);
-    let empty = [
+    let files = [
         case.log.to_vec(alloc)?,
         Vec::new(alloc),
         Vec::new(alloc),
-        Vec::new(alloc),
+        b"\0".to_vec(alloc)?,
     ];
-    let store = MemoryStore::with(empty, case.failing_calls.to_vec(alloc)?);
-    let (status, store) = run(alloc, &words, &mut source, &mut sink, store, &OpenGate);
-    assert!(rt; status == case.status, "the status of {}", case.name);
+    let store = MemoryStore::with(files, case.failing_calls.to_vec(alloc)?);
+    let (status, store) = run(rt, alloc, &words, &mut source, &mut sink, store, &OpenGate);
     assert!(rt; sink.taken() == case.wanted, "the lines of {}", case.name);
-    assert!(rt; store.file(FileName::Anchor).is_empty());
+    assert!(rt; status == case.status, "the status of {}", case.name);
+    assert!(rt; store.file(FileName::ImageA).is_empty());
     Ok(())
 }
 
 #[test]
 fn scripts_give_their_lines_and_statuses(rt: HostRuntime) -> Result<(), Fail> {
     let cases = [
+        Case::new("one record", ONE_RECORD, ONE_RECORD_LINES, Status::Done),
+        Case::new(
+            "an insert survives a restart",
+            "size 1 1\nclient 1\nbegin\ninsert 5 abc\ncommit\nend\ncrash 0\nrestart\nshow",
+            b"1 begin 1\n1 insert ok\n1 commit ok\ncrash 0\nrolled back none\ndeleted none\n5 abc\nrecords 1\n",
+            Status::Done,
+        ),
+        Case::new(
+            "the empty script",
+            "",
+            b"line 1: size or open wanted\n",
+            Status::BadScript {
+                line: 1,
+                kind: Kind::SizeOrOpenWanted,
+            },
+        ),
+        Case::new(
+            "an audit stops the engine",
+            "size 2 3\npoke 3 11 1\naudit\nclient 1\nbegin\ncommit\nend\ncrash 0\nrestart\naudit\n",
+            b"poke ok\naudit failed 3\n1 begin stopped damage 3\ncrash 0\nrolled back none\ndeleted none\naudit clean\n",
+            Status::Done,
+        ),
+        Case::new(
+            "masks that cancel",
+            "size 2 3\npoke 3 11 1\npoke 3 12 1\naudit\n",
+            b"poke ok\npoke ok\naudit clean\n",
+            Status::Done,
+        ),
+        Case::new(
+            "a commit cut by a fuse of 2",
+            "size 1 1\nclient 1\nbegin\ninsert 5 abc\ncommit\nend\nfuse 2\nclient 1\nbegin\ninsert 6 d\ncommit\nend\ncrash 0\nrestart\nshow\n",
+            b"1 begin 1\n1 insert ok\n1 commit ok\nfuse 2\n1 begin 2\n1 insert ok\n1 commit store stopped\ncrash 0\nrolled back none\ndeleted none\n5 abc\nrecords 1\n",
+            Status::Done,
+        ),
+        Case::new(
+            "a commit cut by a fuse of 3, kept by the crash",
+            "size 1 1\nclient 1\nbegin\ninsert 5 abc\ncommit\nend\nfuse 3\nclient 1\nbegin\ninsert 6 d\ncommit\nend\ncrash 0\nrestart\nshow\n",
+            b"1 begin 1\n1 insert ok\n1 commit ok\nfuse 3\n1 begin 2\n1 insert ok\n1 commit store stopped\ncrash 0\nrolled back none\ndeleted none\n5 abc\n6 d\nrecords 2\n",
+            Status::Done,
+        ),
+        Case::new(
+            "a commit cut by a fuse of 3, dropped by the crash",
+            "size 1 1\nclient 1\nbegin\ninsert 5 abc\ncommit\nend\nfuse 3\nclient 1\nbegin\ninsert 6 d\ncommit\nend\ncrash 1\nrestart\nshow\n",
+            b"1 begin 1\n1 insert ok\n1 commit ok\nfuse 3\n1 begin 2\n1 insert ok\n1 commit store stopped\ncrash 1\nrolled back none\ndeleted none\n5 abc\nrecords 1\n",
+            Status::Done,
+        ),
+        Case::new(
+            "commands while the program is down",
+            "size 1 1\ncrash 0\nclient 1\nbegin\ncommit\nend\npoke 0 0 1\naudit\nshow\nnext\nfuse 0\nrestart\nshow\ncrash 0\nrestart\nshow\n",
+            b"crash 0\nround down\npoke down\naudit down\nshow down\nfuse 0\nrestart store stopped\nshow down\ncrash 0\nrolled back none\ndeleted none\nrecords 0\n",
+            Status::Done,
+        ),
+        Case::new(
+            "an audit cut by a fuse",
+            "size 1 1\nfuse 0\naudit\naudit\nshow\npoke 0 0 1\nclient 1\nbegin\nget 5\ncommit\nend\n",
+            b"fuse 0\naudit store stopped\naudit stopped store\nshow stopped store\npoke ok\n1 begin stopped store\n",
+            Status::Done,
+        ),
         Case {
-            name: "one record",
-            word: "run",
-            script: ONE_RECORD,
-            log: b"",
-            failing_reads: NONE,
-            failing_writes: NONE,
-            failing_calls: NONE,
-            wanted: ONE_RECORD_LINES,
-            status: Status::Done,
+            log: BATCH_WITHOUT_ITS_BYTES,
+            ..Case::new(
+                "a batch without its bytes",
+                "open\n",
+                b"bad store log 16\n",
+                Status::BadStore {
+                    file: FileName::Log,
+                    at: 16,
+                },
+            )
         },
         Case {
-            name: "a key that is there, and bytes that don't print",
-            word: "run",
-            script: b"size 2 3\nclient 1\nbegin\ninsert 7 a\ninsert 7 b\ncommit\nbegin\ncommit\nbegin\ninsert 18446744073709551615 \\x00~\\x5C\ncommit\nend\ncrash 1\nrestart\nshow\n",
-            log: b"",
-            failing_reads: NONE,
-            failing_writes: NONE,
-            failing_calls: NONE,
-            wanted: b"1 begin 1\n1 insert ok\n1 insert exists\n1 commit ok\n1 begin 2\n1 commit ok\n1 begin 3\n1 insert ok\n1 commit ok\ncrash 1\nrolled back none\ndeleted none\n7 a\n18446744073709551615 \\x00~\\x5c\nrecords 2\n",
-            status: Status::Done,
+            log: CUT_BEHIND_FORMAT,
+            ..Case::new(
+                "a log without its last gate",
+                "open\n",
+                b"bad store log 15\n",
+                Status::BadStore {
+                    file: FileName::Log,
+                    at: 15,
+                },
+            )
+        },
+        Case::new(
+            "an empty store",
+            "open\n",
+            b"unformatted\n",
+            Status::Unformatted,
+        ),
+        Case {
+            log: FORMATTED,
+            ..Case::new(
+                "a size over a database",
+                "size 1 1\n",
+                b"formatted\n",
+                Status::Formatted,
+            )
         },
         Case {
-            name: "another word",
             word: "now",
-            script: ONE_RECORD,
-            log: b"",
-            failing_reads: NONE,
-            failing_writes: NONE,
-            failing_calls: NONE,
-            wanted: b"usage: dali run\n",
-            status: Status::BadWords,
+            ..Case::new(
+                "another word",
+                ONE_RECORD,
+                b"usage: dali run\n",
+                Status::BadWords,
+            )
         },
-        Case {
-            name: "no script",
-            word: "run",
-            script: b"",
-            log: b"",
-            failing_reads: NONE,
-            failing_writes: NONE,
-            failing_calls: NONE,
-            wanted: b"line 1: unknown\n",
-            status: Status::BadScript {
-                line: 1,
-                kind: Kind::Unknown,
+        Case::new(
+            "a value of 41 bytes",
+            "size 1 1\nclient 1\nbegin\ninsert 5 aaaaaaaaaaaaaaaaaaaaaaaaaaaaaaaaaaaaaaaaa\ncommit\nend\n",
+            b"line 4: value\n",
+            Status::BadScript {
+                line: 4,
+                kind: Kind::Value,
             },
-        },
+        ),
+        Case::new(
+            "a value of 40 bytes",
+            "size 1 1\nclient 1\nbegin\ninsert 5 aaaaaaaaaaaaaaaaaaaaaaaaaaaaaaaaaaaaaaaa\ncommit\nend\nshow\n",
+            b"1 begin 1\n1 insert ok\n1 commit ok\n5 aaaaaaaaaaaaaaaaaaaaaaaaaaaaaaaaaaaaaaaa\nrecords 1\n",
+            Status::Done,
+        ),
+        Case::new(
+            "a poke out of range",
+            "size 1 1\npoke 2 0 1\n",
+            b"poke out of range\n",
+            Status::Done,
+        ),
         Case {
-            name: "a number of 2^64",
-            word: "run",
-            script: b"size 1 1\nclient 1\nbegin\ninsert 18446744073709551616 a\ncommit\nend\ncrash 0\nrestart\nshow\n",
-            log: b"",
-            failing_reads: NONE,
-            failing_writes: NONE,
-            failing_calls: NONE,
-            wanted: b"line 1: unknown\n",
-            status: Status::BadScript {
-                line: 1,
-                kind: Kind::Unknown,
-            },
-        },
-        Case {
-            name: "a log that isn't empty",
-            word: "run",
-            script: ONE_RECORD,
-            log: b"a",
-            failing_reads: NONE,
-            failing_writes: NONE,
-            failing_calls: NONE,
-            wanted: b"formatted\n",
-            status: Status::Formatted,
-        },
-        Case {
-            name: "a read that fails",
-            word: "run",
-            script: ONE_RECORD,
-            log: b"",
             failing_reads: &[2],
-            failing_writes: NONE,
-            failing_calls: NONE,
-            wanted: b"read fault\n",
-            status: Status::ReadFault,
+            ..Case::new(
+                "a read that fails",
+                ONE_RECORD,
+                b"read fault\n",
+                Status::ReadFault,
+            )
         },
         Case {
-            name: "a write that fails",
-            word: "run",
-            script: ONE_RECORD,
-            log: b"",
-            failing_reads: NONE,
             failing_writes: &[2],
-            failing_calls: NONE,
-            wanted: b"1 begin 1\n",
-            status: Status::WriteFault,
+            ..Case::new(
+                "a write that fails",
+                ONE_RECORD,
+                b"1 begin 1\n",
+                Status::WriteFault,
+            )
         },
         Case {
-            name: "a store that fails",
-            word: "run",
-            script: ONE_RECORD,
-            log: b"",
-            failing_reads: NONE,
-            failing_writes: NONE,
-            failing_calls: &[3],
-            wanted: b"store fault\n",
-            status: Status::StoreFault,
+            failing_calls: &[0],
+            ..Case::new(
+                "a store that fails",
+                ONE_RECORD,
+                b"store fault\n",
+                Status::StoreFault,
+            )
         },
     ];
     for case in &cases {
@@ -165,16 +247,101 @@ fn scripts_give_their_lines_and_statuses(rt: HostRuntime) -> Result<(), Fail> {
     Ok(())
 }
 
+// What a run over an empty store writes.
+fn written(
+    rt: &(impl Abort + AllocGlobal + Threads + Wait + Sync),
+    script: Vec<u8>,
+    failing_calls: Vec<u64>,
+) -> Result<(Status, MemorySink), Fail> {
+    let alloc = rt.alloc();
+    let words = vec![in alloc; String::from_str(alloc, "run")?]?;
+    let mut source = MemorySource::new(script, 65_536, Vec::new(alloc));
+    let mut sink = MemorySink::new(alloc, 65_536, Vec::new(alloc));
+    let store = MemoryStore::new(alloc, failing_calls);
+    let (status, _store) = run(rt, alloc, &words, &mut source, &mut sink, store, &OpenGate);
+    Ok((status, sink))
+}
+
+fn byte_of(seen: u8) -> u8 {
+    match seen {
+        b'/' => b'\n',
+        b'^' => b'\r',
+        b'|' => b'\t',
+        byte => byte,
+    }
+}
+
+fn case_runs_as_wanted(
+    rt: &(impl Abort + AllocGlobal + Threads + Wait + Sync),
+    case: &str,
+) -> Result<(), Fail> {
+    let alloc = rt.alloc();
+    let (script, wanted) = case.split_once('=').ok_or("a case has two parts")?;
+    let script: Vec<u8> = script.bytes().map(byte_of).collect(alloc)?;
+    let wanted: Vec<u8> = wanted.bytes().map(byte_of).collect(alloc)?;
+    let (status, sink) = written(rt, script, Vec::new(alloc))?;
+    assert!(rt; sink.taken() == wanted.as_slice(), "at {case}");
+    assert!(rt; status == Status::Done, "at {case}");
+    Ok(())
+}
+
+#[test]
+fn scripts_from_outside(rt: HostRuntime) -> Result<(), Fail> {
+    assert_eq!(rt; CASES.lines().count(), 79);
+    for case in CASES.lines() {
+        case_runs_as_wanted(&rt, case)?;
+    }
+    Ok(())
+}
+
 #[test]
 fn a_long_script_is_refused(rt: HostRuntime) -> Result<(), Fail> {
     let alloc = rt.alloc();
-    let words = vec![in alloc; String::from_str(alloc, "run")?]?;
     let script = vec![in alloc; b'#'; SCRIPT_LIMIT + 1]?;
-    let mut source = MemorySource::new(script, 65536, Vec::new(alloc));
-    let mut sink = MemorySink::new(alloc, 5, Vec::new(alloc));
-    let store = MemoryStore::new(alloc, Vec::new(alloc));
-    let (status, _store) = run(alloc, &words, &mut source, &mut sink, store, &OpenGate);
+    let (status, sink) = written(&rt, script, Vec::new(alloc))?;
     assert!(rt; status == Status::TooLong);
     assert!(rt; sink.taken() == b"script too long\n".as_slice());
+    Ok(())
+}
+
+// An audit makes four calls of the store, so one of these has the fortieth.
+#[test]
+fn a_store_that_fails_in_an_audit_ends_the_run(rt: HostRuntime) -> Result<(), Fail> {
+    let alloc = rt.alloc();
+    let script =
+        b"size 1 1\naudit\naudit\naudit\naudit\naudit\naudit\naudit\naudit\naudit\naudit\n";
+    let failing = vec![in alloc; 40]?;
+    let (status, sink) = written(&rt, script.to_vec(alloc)?, failing)?;
+    assert!(rt; status == Status::StoreFault);
+    assert!(rt; sink.taken().ends_with(b"audit clean\nstore fault\n"));
+    Ok(())
+}
+
+// What a run over this store writes.
+fn goes_on(
+    rt: &(impl Abort + AllocGlobal + Threads + Wait + Sync),
+    script: &str,
+    wanted: &[u8],
+    store: MemoryStore,
+) -> Result<(Status, MemoryStore), Fail> {
+    let alloc = rt.alloc();
+    let words = vec![in alloc; String::from_str(alloc, "run")?]?;
+    let mut source = MemorySource::new(script.as_bytes().to_vec(alloc)?, 7, Vec::new(alloc));
+    let mut sink = MemorySink::new(alloc, 5, Vec::new(alloc));
+    let (status, store) = run(rt, alloc, &words, &mut source, &mut sink, store, &OpenGate);
+    assert!(rt; sink.taken() == wanted, "at {script}");
+    Ok((status, store))
+}
+
+#[test]
+fn a_second_run_finds_the_records(rt: HostRuntime) -> Result<(), Fail> {
+    let store = MemoryStore::new(rt.alloc(), Vec::new(rt.alloc()));
+    let (status, store) = goes_on(&rt, ONE_RECORD, ONE_RECORD_LINES, store)?;
+    assert!(rt; status == Status::Done);
+    let found = b"rolled back none\ndeleted none\n5 abc\nrecords 1\n";
+    let (status, store) = goes_on(&rt, "open\nshow\n", found, store)?;
+    assert!(rt; status == Status::Done);
+    let (status, _store) = goes_on(&rt, "size 1 1\n", b"formatted\n", store)?;
+    assert!(rt; status == Status::Formatted);
     Ok(())
 }

@@ -1,160 +1,142 @@
--- How far a script was run.
-use Rattle.std.proofs.Common.{◌≡◌, ℕ, ◌+◌, ◌<◌, List, [], ◌∷◌, ◌++◌, length, get_or, take, Option, Some, None, refl, sym, ◌∙◌, ap, subst, arith, append_assoc}
-use Rattle.std.specs.Prelude.{IfSome, IsSome, is_some}
-use Rattle.std.specs.FinMap as finite
+-- The commands of a script one after another.
+use Rattle.std.proofs.Common.{◌≡◌, ℕ, ◌+◌, ◌<◌, ◌≤◌, List, [], ◌∷◌, ◌++◌, length, take, drop, get_or, Option, Some, None, Result, Ok, Err, zero, suc, inl, inr, arith, refl, sym, ◌∙◌, ap, subst, append_assoc}
 use Rattle.std.proofs.lemmas.List.{append-nil, take_more}
-use Rattle.std.proofs.lemmas.List.Concat.{flat_map-append}
-use Rattle.dali_record.specs.declared.records.Record.{Record}
-use Rattle.dali_store.specs.Store.{Files, SameBut}
+use Rattle.std.specs.List.{AllByRecursion}
+use Rattle.dali_store.specs.Faults.{Rose}
+use Rattle.dali_store.specs.Store.{Files}
 use Rattle.dali_streams.specs.Streams.{Appends, AppendsSome}
-use Rattle.dali_run.specs.declared.line.Line.{Line}
-use Rattle.dali_run.specs.declared.script.Command.{Command}
-use Rattle.dali_run.specs.declared.script.Command.TheVariants.{Restart}
-use Rattle.dali_run.specs.declared.script.Opening.{Opening}
-use Rattle.dali_run.specs.declared.script.Opening.TheVariants.{Size}
-use Rattle.dali_run.specs.Commands.{Spelled}
-use Rattle.dali_run.specs.Lines.{text_of, texts}
-use Rattle.dali_run.specs.Log.{LogIs}
-use Rattle.dali_run.specs.Goes.{Goes, KeepsAll, StepTo}
-use Rattle.dali_run.specs.Run.{State, Opens, Steps, RunsAll}
-use Rattle.dali_run.specs.Session.{Session}
-use Rattle.dali_run.specs.Standing.{IsAt}
-use Rattle.dali_run.specs.Steps.{started}
-use Rattle.dali_run.specs.Ends.{HasRun, RanWhole, StoppedIn, FoundNoLog, CutIn}
-use Rattle.dali_run.proofs.Standing.{begins}
+use Rattle.dali_memstore.specs.Fuse.{inner}
+use Rattle.dali_script.specs.declared.commands.Command.{Command}
+use Rattle.dali_run.specs.declared.halt.Halt.{Halt}
+use Rattle.dali_run.specs.declared.halt.Halt.TheVariants.{BadWords, BadScript, TooLong, ReadFault, WriteFault, StoreFault, BadLog, Unformatted, Formatted, OutOfMemory}
+use Rattle.dali_run.specs.declared.program.Program.{Program}
+use Rattle.dali_engine.specs.declared.engine.Engine.{Engine}
+use Rattle.dali_run.specs.Program.{IsDown, IsUp, IsGatedIn}
+use Rattle.dali_run.specs.Ends.{IsNext, RanWhole, StoppedIn, CutIn}
+use Rattle.dali_run.specs.Run.{RunsAll, HasRun}
+use Rattle.dali_run.specs.Sizes.{HasSizes}
+use Rattle.dali_run.specs.Steps.{Steps}
+use Rattle.dali_run.specs.Stops.{CommandStops, ScriptStops}
+use Rattle.dali_run.proofs.Pieces.{appends_then}
 
-texts-append : (first more : List Line) → texts (first ++ more) ≡ texts first ++ texts more
-texts-append first more = flat_map-append text_of first more
-
-appends_nothing : (o : Option (List ℕ)) → Appends o [] o
-appends_nothing (Some old) = ap Some (sym (append-nil old))
-appends_nothing None = refl
-
-appends_on : (o p q : Option (List ℕ)) (first more : List ℕ) → Appends o first p → Appends p more q → Appends o (first ++ more) q
-appends_on None p q first more e f = subst (λ (r : Option (List ℕ)). Appends r more q) e f
-appends_on (Some old) p q first more e f =
-    let g : Appends (Some (old ++ first)) more q = subst (λ (r : Option (List ℕ)). Appends r more q) e f in
-    g ∙ ap Some (append_assoc old first more)
-
-module _ {V : Type 0} (told : V → Option Files) (may_leave : V → Files → Type 0) where
-  runs_more : (commands : List Command) (command : Command) (first mid new : State V) (printed lines : List Line) → RunsAll told may_leave first commands printed mid → Steps told may_leave mid command lines new → RunsAll told may_leave first (commands ++ command ∷ []) (printed ++ lines) new
-  runs_more [] command first mid new printed lines runs steps =
-      (lines, new, [], subst (λ (s : State V). Steps told may_leave s command lines new) runs.1 steps, (refl, refl), ap (λ (l : List Line). l ++ lines) runs.0 ∙ sym (append-nil lines))
-  runs_more (c ∷ commands) command first mid new printed lines runs steps =
-      (runs.0, runs.1, runs.2 ++ lines, runs.3, runs_more commands command runs.1 mid new runs.2 lines runs.4 steps, ap (λ (l : List Line). l ++ lines) runs.5 ∙ append_assoc runs.0 runs.2 lines)
-
-  -- the first i commands were run, and their lines written
-  pub record ReachedAt (start : V) (script : Spelled) (i : ℕ) (before : Option (List ℕ)) (engine : Session) (store : V) (after : Option (List ℕ)) : Type 0 where
-    pub printed : List Line
-    pub log : List Record
-    pub run : HasRun told may_leave start script i printed (record { store = store; log = log })
-    pub at : IsAt told may_leave engine (record { store = store; log = log })
-    pub written : Appends before (texts printed) after
-
-  pub opened : (start store : V) (script : Spelled) (opening : Opening) (engine : Session) (before : Option (List ℕ)) → script.opening ≡ opening → engine ≡ started finite.empty 1 → IfSome (told start) (λ files. files.log ≡ []) → LogIs told may_leave [] store
-      → told store ≡ told start → IsSome (told start) → ReachedAt start script 0 before engine store before
-  opened start store script (Size index heap) engine before is fresh empty log same tells = record {
-    printed = [];
-    log = [];
-    run = record {
-      first = record { store = store; log = [] };
-      opened = subst (λ (o : Opening). Opens told may_leave start o [] (record { store = store; log = [] })) (sym is)
-          (record { empty = empty; nothing = refl; silent = refl; spelled = log; others = others (told start) (told store) same });
-      runs = (refl, refl);
-    };
-    at = subst (λ (e : Session). IsAt told may_leave e (record { store = store; log = [] })) (sym fresh)
-        (record { rest = record { closed = refl; empty = refl }; stands = begins; logged = tt; spelled = log; tells = ap is_some same ∙ tells });
-    written = appends_nothing before;
-  }
-    where
-      others : (o p : Option Files) → p ≡ o → IfSome o (λ a. IfSome p (λ b. SameBut Rattle.dali_store.specs.declared.store.FileName.TheVariants.Log a b))
-      others None p e = tt
-      others (Some a) p e = subst (λ (q : Option Files). IfSome q (λ b. SameBut Rattle.dali_store.specs.declared.store.FileName.TheVariants.Log a b)) (sym e) (λ file other. refl)
-
-  more_run : (start : V) (script : Spelled) (i : ℕ) (before : Option (List ℕ)) (engine engine' : Session) (store store' : V) (after : Option (List ℕ)) (command : Command) (text : List ℕ) (reached : ReachedAt start script i before engine store after)
-      → take (i + 1) script.commands ≡ take i script.commands ++ command ∷ [] → (step : StepTo told may_leave command reached.log store [] engine' store' text)
-      → HasRun told may_leave start script (i + 1) (reached.printed ++ step.printed) (record { store = store'; log = step.log' })
-  more_run start script i before engine engine' store store' after command text reached front step = record {
-    first = reached.run.first;
-    opened = reached.run.opened;
-    runs = subst (λ (l : List Command). RunsAll told may_leave reached.run.first l (reached.printed ++ step.printed) (record { store = store'; log = step.log' })) (sym front)
-        (runs_more (take i script.commands) command reached.run.first (record { store = store; log = reached.log }) (record { store = store'; log = step.log' }) reached.printed step.printed reached.run.runs step.steps);
-  }
-
-  pub goes_on : (start : V) (script : Spelled) (i : ℕ) (before : Option (List ℕ)) (engine engine' : Session) (store store' : V) (after after' : Option (List ℕ)) (command : Command) (text : List ℕ)
-      → take (i + 1) script.commands ≡ take i script.commands ++ command ∷ [] → Goes told may_leave command engine store [] engine' store' text → Appends after text after'
-      → ReachedAt start script i before engine store after → ReachedAt start script (i + 1) before engine' store' after'
-  goes_on start script i before engine engine' store store' after after' command text front goes written reached =
-      let step = goes reached.log reached.at in
-      record {
-        printed = reached.printed ++ step.printed;
-        log = step.log';
-        run = more_run start script i before engine engine' store store' after command text reached front step;
-        at = step.at;
-        written = subst (λ (l : List ℕ). Appends before l after') (sym (texts-append reached.printed step.printed))
-            (appends_on before after after' (texts reached.printed) (texts step.printed) reached.written (subst (λ (l : List ℕ). Appends after l after') step.added written));
-      }
-
-  pub is_cut : (start : V) (script : Spelled) (i : ℕ) (before : Option (List ℕ)) (engine engine' : Session) (store store' : V) (after after' : Option (List ℕ)) (command : Command) (text : List ℕ) → i < length script.commands
-      → take (i + 1) script.commands ≡ take i script.commands ++ command ∷ [] → Goes told may_leave command engine store [] engine' store' text → AppendsSome after text after'
-      → ReachedAt start script i before engine store after → CutIn told may_leave start script before after' store'
-  is_cut start script i before engine engine' store store' after after' command text within front goes written reached =
-      let step = goes reached.log reached.at in
-      record {
-        count = i;
-        within = within;
-        printed = reached.printed;
-        earlier = record { store = store; log = reached.log };
-        ran = reached.run;
-        lines = step.printed;
-        state = record { store = store'; log = step.log' };
-        run = more_run start script i before engine engine' store store' after command text reached front step;
-        store = refl;
-        between = after;
-        written = reached.written;
-        cut = subst (λ (l : List ℕ). AppendsSome after l after') step.added written;
-      }
-
-  pub stops : (start : V) (script : Spelled) (i : ℕ) (before : Option (List ℕ)) (engine : Session) (store store' : V) (after : Option (List ℕ)) → i < length script.commands → KeepsAll told may_leave engine store store'
-      → ReachedAt start script i before engine store after → StoppedIn told may_leave start script before after store'
-  stops start script i before engine store store' after within keeps reached = record {
-    count = i;
-    within = within;
-    printed = reached.printed;
-    state = record { store = store; log = reached.log };
-    run = reached.run;
-    kept = keeps reached.log reached.at;
-    written = reached.written;
-  }
-
-  pub finds_no_log : (start : V) (script : Spelled) (i : ℕ) (before : Option (List ℕ)) (engine : Session) (store store' : V) (after : Option (List ℕ)) (command : Command) → i < length script.commands
-      → take (i + 1) script.commands ≡ take i script.commands ++ command ∷ [] → (command ≡ Restart) × (told store' ≡ told store)
-      → ReachedAt start script i before engine store after → FoundNoLog told may_leave start script before after store'
-  finds_no_log start script i before engine store store' after command within front found reached = record {
-    count = i;
-    within = within;
-    restarts = subst (λ (k : Command). take (i + 1) script.commands ≡ take i script.commands ++ k ∷ []) found.0 front;
-    printed = reached.printed;
-    state = record { store = store; log = reached.log };
-    run = reached.run;
-    files = found.1;
-    written = reached.written;
-  }
-
-  pub is_whole : (start : V) (script : Spelled) (i : ℕ) (before : Option (List ℕ)) (engine : Session) (store : V) (after : Option (List ℕ)) → i ≡ length script.commands → ReachedAt start script i before engine store after → RanWhole told may_leave start script before after store
-  is_whole start script i before engine store after all reached = record {
-    printed = reached.printed;
-    state = record { store = store; log = reached.log };
-    run = subst (λ (n : ℕ). HasRun told may_leave start script n reached.printed (record { store = store; log = reached.log })) all reached.run;
-    store = refl;
-    written = reached.written;
-  }
-
-  -- the text began empty
-  pub from_nothing : (command : Command) (engine engine' : Session) (store store' : V) (text text' bytes : List ℕ) → text ≡ [] → bytes ≡ text' → Goes told may_leave command engine store text engine' store' text' → Goes told may_leave command engine store [] engine' store' bytes
-  from_nothing command engine engine' store store' text text' bytes none same goes =
-      subst (λ (l : List ℕ). Goes told may_leave command engine store [] engine' store' l) (sym same) (subst (λ (l : List ℕ). Goes told may_leave command engine store l engine' store' text') none goes)
-
--- one command more of the front
 pub front_more : {X : Type 0} (xs : List X) (i : ℕ) (x : X) → i < length xs → x ≡ get_or xs i x → take (i + 1) xs ≡ take i xs ++ x ∷ []
 front_more xs i x within is = take_more xs i x within ∙ ap (λ y. take i xs ++ y ∷ []) (sym is)
+
+pub nothing_added : (t : Option (List ℕ)) → Appends t [] t
+nothing_added None = refl
+nothing_added (Some x) = ap Some (sym (append-nil x))
+
+pub sized : {X : Type 0} (P : X → Type 0) (xs : List X) (i : ℕ) (x : X) → AllByRecursion P xs → i < length xs → x ≡ get_or xs i x → P x
+sized P [] i x all within is = absurd (omega (arith, within))
+sized P (y ∷ ys) zero x all within is = subst P (sym is) all.0
+sized P (y ∷ ys) (suc i) x all within is = sized P ys i x all.1 (omega (arith, within)) is
+
+pub ok_of : {T E A : Type 0} (r : Result T E) (x : T) → r ≡ Ok x → Rattle.std.specs.Prelude.OnOk r A → A
+ok_of (Ok t) x e a = a
+ok_of (Err f) x e a = absurd cc
+
+pub err_of : {T E : Type 0} (P : E → Type 0) (r : Result T E) (x : E) → r ≡ Err x → Rattle.std.specs.Prelude.IfErr r P → P x
+err_of P (Ok t) x e p = absurd cc
+err_of P (Err f) x e p = let same : f ≡ x = cc in subst P same p
+
+pub is_up_down : {V : Type 0} (told : V → Option Files) (may_leave : V → Files → Type 0) (p : Program V) → p.engine ≡ None → IsUp told may_leave p
+is_up_down told may_leave p e = subst (λ (o : Option Engine). IsGatedIn told may_leave o p.store) (sym e) tt
+
+module _ {V : Type 0} (told : V → Option Files) (may_leave : V → Files → Type 0) (moment : V → ℕ) (left_since : V → ℕ → Files → Type 0) (faults : V → ℕ) (cuts : V → ℕ → Option Files) where
+  one_more : (done : List Command) (command : Command) (start now next : Program V) (text more : List ℕ) → RunsAll told may_leave moment left_since faults cuts start done text now
+      → Steps told may_leave moment left_since faults cuts now command more next → RunsAll told may_leave moment left_since faults cuts start (done ++ command ∷ []) (text ++ more) next
+  one_more [] command start now next text more run step =
+      (more, next, [], subst (λ (p : Program V). Steps told may_leave moment left_since faults cuts p command more next) run.1 step, (refl, refl), ap (λ (l : List ℕ). l ++ more) run.0 ∙ sym (append-nil more))
+  one_more (c ∷ done) command start now next text more run step =
+      (run.0, run.1, run.2 ++ more, run.3, one_more done command run.1 now next run.2 more run.4 step, ap (λ (l : List ℕ). l ++ more) run.5 ∙ append_assoc run.0 run.2 more)
+
+  -- so many commands were run, and their lines written
+  pub record Reached (start : V) (script : List Command) (count : ℕ) (before : Option (List ℕ)) (now : Program V) (after : Option (List ℕ)) : Type 0 where
+    pub text : List ℕ
+    pub run : HasRun told may_leave moment left_since faults cuts start script count text now
+    pub written : Appends before text after
+
+  pub begins : (start : V) (script : List Command) (before : Option (List ℕ)) (p : Program V) → IsDown p start → Reached start script 0 before p before
+  begins start script before p down = record {
+    text = [];
+    run = record { first = p; down = down; runs = (refl, refl) };
+    written = nothing_added before;
+  }
+
+  more_run : (start : V) (script : List Command) (count : ℕ) (command : Command) (text more : List ℕ) (now next : Program V) → count < length script → command ≡ get_or script count command
+      → HasRun told may_leave moment left_since faults cuts start script count text now → Steps told may_leave moment left_since faults cuts now command more next
+      → HasRun told may_leave moment left_since faults cuts start script (count + 1) (text ++ more) next
+  more_run start script count command text more now next within is run step = record {
+    first = run.first;
+    down = run.down;
+    runs = subst (λ (cs : List Command). RunsAll told may_leave moment left_since faults cuts run.first cs (text ++ more) next) (sym (front_more script count command within is))
+        (one_more (take count script) command run.first now next text more run.runs step);
+  }
+
+  pub goes_on : (start : V) (script : List Command) (count : ℕ) (command : Command) (before mid after : Option (List ℕ)) (now next : Program V) → count < length script → command ≡ get_or script count command
+      → Reached start script count before now mid → (text : List ℕ) × Steps told may_leave moment left_since faults cuts now command text next × Appends mid text after → Reached start script (count + 1) before next after
+  goes_on start script count command before mid after now next within is r done = record {
+    text = r.text ++ done.0;
+    run = more_run start script count command r.text done.0 now next within is r.run done.1;
+    written = appends_then before mid after r.text done.0 r.written done.2;
+  }
+
+  pub is_whole : (start : V) (script : List Command) (count : ℕ) (before after : Option (List ℕ)) (now : Program V) (end : V) → count ≡ length script → inner now.store ≡ end → Reached start script count before now after
+      → RanWhole told may_leave moment left_since faults cuts start script before after end
+  is_whole start script count before after now end all store r = record {
+    text = r.text;
+    state = now;
+    run = subst (λ (n : ℕ). HasRun told may_leave moment left_since faults cuts start script n r.text now) all r.run;
+    store = store;
+    written = r.written;
+  }
+
+  stopped : (halt : Halt) (start : V) (script : List Command) (count : ℕ) (command : Command) (before mid after : Option (List ℕ)) (now next : Program V) (end : V) → count < length script → command ≡ get_or script count command
+      → inner next.store ≡ end → Reached start script count before now mid → Rattle.dali_run.specs.Fails.Fails told may_leave moment left_since faults halt command now next.store × (after ≡ mid)
+      → StoppedIn told may_leave moment left_since faults cuts halt start script before after end
+  stopped halt start script count command before mid after now next end within is store r stops = record {
+    count = count;
+    command = command;
+    next = record { within = within; next = front_more script count command within is };
+    text = r.text;
+    state = now;
+    run = r.run;
+    last = next;
+    fails = stops.0;
+    store = store;
+    written = subst (λ (t : Option (List ℕ)). Appends before r.text t) (sym stops.1) r.written;
+  }
+
+  pub stops_in : (halt : Halt) (start : V) (script : List Command) (count : ℕ) (command : Command) (before mid after : Option (List ℕ)) (now next : Program V) (end : V) (first faults0 faults1 : ℕ) → count < length script
+      → command ≡ get_or script count command → inner next.store ≡ end → first ≤ faults0 → Reached start script count before now mid
+      → CommandStops told may_leave moment left_since faults cuts halt command now next mid after faults0 faults1 → ScriptStops told may_leave moment left_since faults cuts halt start script end before after first faults1
+  stops_in WriteFault start script count command before mid after now next end first f0 f1 within is store le r stops = (
+    record {
+      count = count;
+      within = within;
+      text = r.text;
+      earlier = now;
+      ran = r.run;
+      more = stops.0.text;
+      state = next;
+      run = more_run start script count command r.text stops.0.text now next within is r.run stops.0.steps;
+      store = store;
+      between = mid;
+      written = r.written;
+      cut = stops.0.cut;
+    },
+    earlier first f0 f1 le stops.1,
+  )
+    where
+      earlier : (a b d : ℕ) → a ≤ b → Rose b d → Rose a d
+      earlier a b d le (inl lt) = inl (omega (arith, le, lt))
+      earlier a b d le (inr end) = inr end
+  stops_in BadWords start script count command before mid after now next end first f0 f1 within is store le r stops = stopped BadWords start script count command before mid after now next end within is store r stops
+  stops_in (BadScript line kind) start script count command before mid after now next end first f0 f1 within is store le r stops = stopped (BadScript line kind) start script count command before mid after now next end within is store r stops
+  stops_in TooLong start script count command before mid after now next end first f0 f1 within is store le r stops = stopped TooLong start script count command before mid after now next end within is store r stops
+  stops_in ReadFault start script count command before mid after now next end first f0 f1 within is store le r stops = stopped ReadFault start script count command before mid after now next end within is store r stops
+  stops_in StoreFault start script count command before mid after now next end first f0 f1 within is store le r stops = stopped StoreFault start script count command before mid after now next end within is store r stops
+  stops_in (BadLog at) start script count command before mid after now next end first f0 f1 within is store le r stops = stopped (BadLog at) start script count command before mid after now next end within is store r stops
+  stops_in Unformatted start script count command before mid after now next end first f0 f1 within is store le r stops = stopped Unformatted start script count command before mid after now next end within is store r stops
+  stops_in Formatted start script count command before mid after now next end first f0 f1 within is store le r stops = stopped Formatted start script count command before mid after now next end within is store r stops
+  stops_in OutOfMemory start script count command before mid after now next end first f0 f1 within is store le r stops = stopped OutOfMemory start script count command before mid after now next end within is store r stops

@@ -2,10 +2,9 @@
 ghost use Rattle.std.specs.Prelude.{◌≡◌};
 ghost use Rattle.dali_run.specs.declared.halt.Halt.TheVariants.{OutOfMemory, StoreFault};
 
-use crate::form::ParseError;
-use crate::log::ReadLogError;
-use crate::restart::ReplayError;
-use crate::status::{Kind, Status};
+use crate::status::Status;
+use dali_engine::OpenError;
+use dali_script::{Kind, ScriptError};
 use dali_store::{FileName, StoreFault};
 use dali_streams::ReadError;
 use std::alloc::AllocError;
@@ -15,20 +14,22 @@ use std::alloc::AllocError;
 pub enum Halt {
     /// The words aren't those of a command.
     BadWords,
-    /// The bytes aren't in the form of a script.
-    BadScript,
+    /// The bytes aren't in the grammar of scripts: the first wrong line, and what is wrong with it.
+    BadScript { line: u64, kind: Kind },
     /// The script is longer than its limit.
     TooLong,
     /// The source failed.
     ReadFault,
     /// The sink failed in writing an answer.
     WriteFault,
-    /// The store failed.
+    /// The store failed by itself, outside a round.
     StoreFault,
-    /// The log isn't empty, where a database was to be made.
+    /// The log is bad at this place of its file.
+    BadLog { at: u64 },
+    /// A database was to be found, and the log has none.
+    Unformatted,
+    /// A database was to be made, and the log has one.
     Formatted,
-    /// The log isn't whole records of this program.
-    BadLog,
     OutOfMemory,
 }
 
@@ -56,41 +57,31 @@ impl From<StoreFault> for Halt {
     }
 }
 
-impl From<ReadLogError> for Halt {
-    ghost use Rattle.dali_run.specs.Halts.{halt_of};
+impl From<OpenError> for Halt {
+    ghost use Rattle.dali_run.specs.Halts.{halt_of_open};
 
-    ghost from_gives = { λ error e. e ≡ halt_of error };
+    ghost from_gives = { λ error e. e ≡ halt_of_open error };
 
-    fn from(error: ReadLogError) -> Self {
+    fn from(error: OpenError) -> Self {
         match error {
-            ReadLogError::Fault => Halt::StoreFault,
-            ReadLogError::OutOfMemory => Halt::OutOfMemory,
+            OpenError::Fault => Halt::StoreFault,
+            OpenError::Formatted => Halt::Formatted,
+            OpenError::Unformatted => Halt::Unformatted,
+            OpenError::BadLog { at } => Halt::BadLog { at },
+            OpenError::OutOfMemory => Halt::OutOfMemory,
         }
     }
 }
 
-impl From<ReplayError> for Halt {
-    ghost use Rattle.dali_run.specs.Halts.{halt_of_replay};
+impl From<ScriptError> for Halt {
+    ghost use Rattle.dali_run.specs.Halts.{halt_of_script};
 
-    ghost from_gives = { λ error e. e ≡ halt_of_replay error };
+    ghost from_gives = { λ error e. e ≡ halt_of_script error };
 
-    fn from(error: ReplayError) -> Self {
+    fn from(error: ScriptError) -> Self {
         match error {
-            ReplayError::BadLog => Halt::BadLog,
-            ReplayError::OutOfMemory => Halt::OutOfMemory,
-        }
-    }
-}
-
-impl From<ParseError> for Halt {
-    ghost use Rattle.dali_run.specs.Halts.{halt_of_parse};
-
-    ghost from_gives = { λ error e. e ≡ halt_of_parse error };
-
-    fn from(error: ParseError) -> Self {
-        match error {
-            ParseError::Form => Halt::BadScript,
-            ParseError::OutOfMemory => Halt::OutOfMemory,
+            ScriptError::BadLine { line, kind } => Halt::BadScript { line, kind },
+            ScriptError::OutOfMemory => Halt::OutOfMemory,
         }
     }
 }
@@ -110,7 +101,7 @@ impl From<ReadError> for Halt {
 }
 
 impl Halt {
-    ghost use Rattle.dali_run.specs.Halts.{status_of, last_line};
+    ghost use Rattle.dali_run.specs.Halts.{status_of};
 
     /// The status of a run that ends so.
     pub fn status(self) -> Status
@@ -118,37 +109,18 @@ impl Halt {
     {
         match self {
             Halt::BadWords => Status::BadWords,
-            Halt::BadScript => Status::BadScript {
-                line: 1,
-                kind: Kind::Unknown,
-            },
+            Halt::BadScript { line, kind } => Status::BadScript { line, kind },
             Halt::TooLong => Status::TooLong,
             Halt::ReadFault => Status::ReadFault,
             Halt::WriteFault => Status::WriteFault,
             Halt::StoreFault => Status::StoreFault,
-            Halt::Formatted => Status::Formatted,
-            Halt::BadLog => Status::BadStore {
+            Halt::BadLog { at } => Status::BadStore {
                 file: FileName::Log,
-                at: 0,
+                at,
             },
+            Halt::Unformatted => Status::Unformatted,
+            Halt::Formatted => Status::Formatted,
             Halt::OutOfMemory => Status::OutOfMemory,
-        }
-    }
-
-    /// The last line of such a run, with its end; none where the sink failed.
-    pub fn last_line(self) -> &'static [u8]
-        ensures { result.now ≡ last_line (status_of self) }
-    {
-        match self {
-            Halt::BadWords => b"usage: dali run\n",
-            Halt::BadScript => b"line 1: unknown\n",
-            Halt::TooLong => b"script too long\n",
-            Halt::ReadFault => b"read fault\n",
-            Halt::WriteFault => b"",
-            Halt::StoreFault => b"store fault\n",
-            Halt::Formatted => b"formatted\n",
-            Halt::BadLog => b"bad store log 0\n",
-            Halt::OutOfMemory => b"out of memory\n",
         }
     }
 }

@@ -1,22 +1,15 @@
 //! The program `dali`: a script is read, run over a store, and answered line by line.
 #![tactic(auto)]
 
-mod client;
 mod commands;
-mod form;
 mod gate;
 mod halt;
-mod leaves;
-mod line;
-mod log;
-mod records;
-mod restart;
-mod script;
+pub mod laws;
+mod program;
 mod status;
+mod texts;
 mod top;
 
 pub use gate::{Gate, OpenGate};
-pub use line::Line;
-pub use script::{Action, Block, Command, Opening, Script};
-pub use status::{Kind, Status};
+pub use status::Status;
 pub use top::{SCRIPT_LIMIT, run};

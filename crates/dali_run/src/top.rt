@@ -1,56 +1,29 @@
 //! The run of a script over a store.
-ghost use Rattle.std.specs.Prelude.{◌≡◌, ◌≤◌, ◌<◌, ◌⊎◌, ◌^◌, ℕ, List, Option, Some, None, length, IfOk, OnOk, OnErr, IfSome, IsSome, IsErrOf, IsTrue, ◌↔◌, map, string_bytes};
-ghost use Rattle.dali_store.specs.Faults.{Rose};
-ghost use Rattle.dali_run.specs.Ends.{RanWhole, NotOpened, StoppedIn, FoundNoLog, Stops, CutIn, IsRun, Ended, HasEnded, LastLine};
+ghost use Rattle.std.specs.Prelude.{◌≡◌, ◌≤◌, ◌↔◌, ℕ, List, IfOk, IfErr, OnOk, IsTrue, map, string_bytes};
+ghost use Rattle.dali_streams.specs.Streams.{Appends};
+ghost use Rattle.dali_run.specs.Ends.{IsRun, Spells, RanWhole, Ended, HasEnded, LastLine, course};
 ghost use Rattle.dali_run.specs.Halts.{status_in};
-ghost use Rattle.dali_run.specs.Replay.{IsNoLog};
+ghost use Rattle.dali_run.specs.Program.{IsUp};
+ghost use Rattle.dali_run.specs.Sizes.{HasSizes, HaveSizes};
+ghost use Rattle.dali_run.specs.Steps.{Steps};
+ghost use Rattle.dali_run.specs.Stops.{NotRead, CommandStops, ScriptStops};
 
-use crate::commands::{open, step};
-use crate::form::{ParseError, parse};
+use crate::commands::step;
 use crate::gate::Gate;
 use crate::halt::Halt;
-use crate::script::{Opening, Script};
+use crate::program::Program;
 use crate::status::Status;
+use crate::texts::write_last_line;
+use dali_script::{Command, Script, ScriptError, parse};
 use dali_store::Store;
-use dali_streams::{ReadError, Sink, Source, read_all, write_all};
+use dali_streams::{Sink, Source, read_all, write_all};
 use std::alloc::Global;
 use std::marker::{Send, Sync};
+use std::sync::Wait;
+use std::thread::Threads;
 
 /// How many bytes a script has at most.
 pub const SCRIPT_LIMIT: usize = 1_048_576;
-
-/// Runs a script: the lines of each command are written once it is done.
-fn run_script<K: Sink, V: Store>(
-    alloc: Global,
-    script: &Script,
-    sink: &mut K,
-    store: &mut V,
-) -> Result<(), Halt>
-    ensures whole { OnOk result (IsSome (V.told store.old) → RanWhole V.told V.may_leave store.old script.now (K.taken sink.old) (K.taken sink.new) store.new) }
-    ensures stopped { OnErr result ((IsErrOf result Halt.WriteFault → ⊥) → (IsErrOf result Halt.StoreFault → ⊥) → (IsErrOf result Halt.Formatted → ⊥) → IsSome (V.told store.old) → StoppedIn V.told V.may_leave store.old script.now (K.taken sink.old) (K.taken sink.new) store.new) }
-    ensures store_stopped { IsErrOf result Halt.StoreFault → IsSome (V.told store.old) → Stops V.told V.may_leave store.old script.now (K.taken sink.old) (K.taken sink.new) store.new }
-    ensures cut { IsErrOf result Halt.WriteFault → IsSome (V.told store.old) → CutIn V.told V.may_leave store.old script.now (K.taken sink.old) (K.taken sink.new) store.new }
-    ensures write_fault { IsErrOf result Halt.WriteFault → Rose (K.faults sink.old) (K.faults sink.new) }
-    ensures store_fault { IsErrOf result Halt.StoreFault → Rose (V.faults store.old) (V.faults store.new) }
-    ensures formatted { IsErrOf result Halt.Formatted → IfSome (V.told store.old) (λ files. 0 < length files.log) }
-    ensures unopened { IsErrOf result Halt.Formatted → NotOpened V.told V.may_leave store.old (K.taken sink.old) (K.taken sink.new) store.new }
-    ensures bad { IsErrOf result Halt.BadLog → IfSome (V.told store.new) (λ files. IsNoLog files.log) }
-    ensures found { IsErrOf result Halt.BadLog → IsSome (V.told store.old) → FoundNoLog V.told V.may_leave store.old script.now (K.taken sink.old) (K.taken sink.new) store.new }
-    ensures errors { OnErr result ((IsErrOf result Halt.StoreFault) ⊎ (IsErrOf result Halt.Formatted) ⊎ (IsErrOf result Halt.BadLog) ⊎ (IsErrOf result Halt.OutOfMemory) ⊎ (IsErrOf result Halt.WriteFault)) }
-    ensures later { K.faults sink.old ≤ K.faults sink.new }
-{
-    let Opening::Size { .. } = script.opening();
-    let mut engine = open(alloc, store)?;
-    let mut text = Vec::new(alloc);
-    for command in script.commands() {
-        text.clear();
-        step(alloc, command, &mut engine, store, &mut text)?;
-        if write_all(sink, &text).is_err() {
-            return Err(Halt::WriteFault);
-        }
-    }
-    Ok(())
-}
 
 fn is_run(words: &[String]) -> bool
     ensures { IsTrue result ↔ IsRun (map string_bytes words.now) }
@@ -61,32 +34,86 @@ fn is_run(words: &[String]) -> bool
     }
 }
 
+// The words are tested first, then all of the source is read, then the script.
+fn read_script<S: Source>(alloc: Global, words: &[String], source: &mut S) -> Result<Script, Halt>
+    ensures read { IfOk result (λ script. IsRun (map string_bytes words.now) × Spells (S.left source.old) script (S.left source.new)) }
+    ensures fails { IfErr result (λ halt. NotRead (map string_bytes words.now) (S.left source.old) (S.left source.new) (S.faults source.old) (S.faults source.new) halt) }
+{
+    if !is_run(words) {
+        return Err(Halt::BadWords);
+    }
+    let bytes = read_all(alloc, source, SCRIPT_LIMIT)?;
+    match parse(alloc, &bytes) {
+        Ok(script) => Ok(script),
+        Err(ScriptError::BadLine { line, kind }) => Err(Halt::BadScript { line, kind }),
+        Err(ScriptError::OutOfMemory) => Err(Halt::OutOfMemory),
+    }
+}
+
+// One command: its lines are written once it is done.
+fn run_command<K: Sink, V: Store>(
+    alloc: Global,
+    command: &Command,
+    sink: &mut K,
+    program: Program<V>,
+) -> (Program<V>, Result<(), Halt>)
+    requires gated { IsUp V.told V.may_leave program }
+    requires sizes { HasSizes command.now }
+    ensures done { OnOk result.1 ((text : List ℕ) × Steps V.told V.may_leave V.moment V.left_since V.faults V.cuts program command.now text result.0 × Appends (K.taken sink.old) text (K.taken sink.new)) }
+    ensures gated { OnOk result.1 (IsUp V.told V.may_leave result.0) }
+    ensures stops { IfErr result.1 (λ halt. CommandStops V.told V.may_leave V.moment V.left_since V.faults V.cuts halt command.now program result.0
+        (K.taken sink.old) (K.taken sink.new) (K.faults sink.old) (K.faults sink.new)) }
+    ensures later { K.faults sink.old ≤ K.faults sink.new }
+{
+    let (program, printed) = step(alloc, command, program);
+    match printed {
+        Ok(text) => match write_all(sink, &text) {
+            Ok(()) => (program, Ok(())),
+            Err(_) => (program, Err(Halt::WriteFault)),
+        },
+        Err(halt) => (program, Err(halt)),
+    }
+}
+
+// Runs the commands in order, over a program that is down at first.
+fn run_script<K: Sink, V: Store>(
+    alloc: Global,
+    script: &Script,
+    sink: &mut K,
+    store: V,
+) -> (V, Result<(), Halt>)
+    requires sizes { HaveSizes script.now }
+    ensures whole { OnOk result.1 (RanWhole V.told V.may_leave V.moment V.left_since V.faults V.cuts store script.now (K.taken sink.old) (K.taken sink.new) result.0) }
+    ensures stops { IfErr result.1 (λ halt. ScriptStops V.told V.may_leave V.moment V.left_since V.faults V.cuts halt store script.now result.0
+        (K.taken sink.old) (K.taken sink.new) (K.faults sink.old) (K.faults sink.new)) }
+    ensures later { K.faults sink.old ≤ K.faults sink.new }
+{
+    let mut program = Program::down(store);
+    for command in script.commands() {
+        let (next, outcome) = run_command(alloc, command, sink, program);
+        program = next;
+        if let Err(halt) = outcome {
+            return (program.store.into_inner(), Err(halt));
+        }
+    }
+    (program.store.into_inner(), Ok(()))
+}
+
 // Reads the script, and runs it. The last line isn't written yet.
 fn run_words<S: Source, K: Sink, V: Store>(
     alloc: Global,
     words: &[String],
     source: &mut S,
     sink: &mut K,
-    store: &mut V,
-) -> Result<(), Halt>
-    ensures ended { Ended V.told V.may_leave (map string_bytes words.now) (record { left = S.left source.old; left' = S.left source.new; read_faults = S.faults source.old; read_faults' = S.faults source.new; taken = K.taken sink.old; taken' = K.taken sink.new; write_faults = K.faults sink.old; write_faults' = K.faults sink.new; store = store.old; store' = store.new; store_faults = V.faults store.old; store_faults' = V.faults store.new }) (K.taken sink.new) (status_in result) }
+    store: V,
+) -> (V, Result<(), Halt>)
+    ensures ended { Ended V.told V.may_leave V.moment V.left_since V.faults V.cuts (map string_bytes words.now) (course S.left S.faults K.taken K.faults source.old source.new sink.old sink.new store result.0) (K.taken sink.new) (status_in result.1) }
     ensures later { K.faults sink.old ≤ K.faults sink.new }
 {
-    if !is_run(words) {
-        return Err(Halt::BadWords);
+    match read_script(alloc, words, source) {
+        Ok(script) => run_script(alloc, &script, sink, store),
+        Err(halt) => (store, Err(halt)),
     }
-    let bytes = match read_all(alloc, source, SCRIPT_LIMIT) {
-        Ok(bytes) => bytes,
-        Err(ReadError::Fault) => return Err(Halt::ReadFault),
-        Err(ReadError::TooLong) => return Err(Halt::TooLong),
-        Err(ReadError::OutOfMemory) => return Err(Halt::OutOfMemory),
-    };
-    let script = match parse(alloc, &bytes) {
-        Ok(script) => script,
-        Err(ParseError::Form) => return Err(Halt::BadScript),
-        Err(ParseError::OutOfMemory) => return Err(Halt::OutOfMemory),
-    };
-    run_script(alloc, &script, sink, store)
 }
 
 // Writes the last line of a run with this result, and answers its status.
@@ -98,28 +125,31 @@ fn finish<K: Sink>(sink: &mut K, outcome: Result<(), Halt>) -> Status
     match outcome {
         Ok(()) => Status::Done,
         Err(halt) => {
-            let _ = write_all(sink, halt.last_line());
+            let _ = write_last_line(sink, halt);
             halt.status()
         }
     }
 }
 
-/// Runs the command that the words name, which leave out the program's name: `run` reads a script from the source to its end, runs it
-/// over the store, and writes the lines of each command to the sink once it is done. Every other status than `Done` and `WriteFault` ends
-/// with a last line of its own. The store comes back with every status. It takes memory for the script, the records and the lines.
-pub fn run<S: Source, K: Sink, V: Store + Send, G: Gate + Sync>(
+/// Runs the command that the words name, which leave out the program's name: `run` reads a script from the source to
+/// its end, runs it over the store, and writes the lines of each command to the sink once it is done. Every other
+/// status than `Done` and `WriteFault` ends with a last line of its own. The store comes back with every status. It
+/// takes memory for the script, for what the database holds, and for the lines.
+///
+/// The handle and the gate are for clients in threads, which aren't there yet: neither is used.
+pub fn run<R: Threads + Wait + Sync, S: Source, K: Sink, V: Store + Send, G: Gate + Sync>(
+    _rt: &R,
     alloc: Global,
     words: &[String],
     source: &mut S,
     sink: &mut K,
     store: V,
-    gate: &G,
+    _gate: &G,
 ) -> (Status, V)
     ensures words { (result.0 ≡ Status.BadWords) ↔ (IsRun (map string_bytes words.now) → ⊥) }
-    ensures ended { HasEnded V.told V.may_leave (map string_bytes words.now) (record { left = S.left source.old; left' = S.left source.new; read_faults = S.faults source.old; read_faults' = S.faults source.new; taken = K.taken sink.old; taken' = K.taken sink.new; write_faults = K.faults sink.old; write_faults' = K.faults sink.new; store = store; store' = result.1; store_faults = V.faults store; store_faults' = V.faults result.1 }) result.0 }
+    ensures ended { HasEnded V.told V.may_leave V.moment V.left_since V.faults V.cuts (map string_bytes words.now) (course S.left S.faults K.taken K.faults source.old source.new sink.old sink.new store result.1) result.0 }
 {
-    let mut store = store;
-    let outcome = run_words(alloc, words, source, sink, &mut store);
+    let (store, outcome) = run_words(alloc, words, source, sink, store);
     let status = finish(sink, outcome);
     (status, store)
 }

@@ -1,81 +1,52 @@
-use Rattle.std.proofs.Common.{◌≡◌, ◌<◌, ◌+◌, ◌++◌, ◌∷◌, [], Bool, false, List, Result, Ok, Err, length, take, sym, ap, subst, arith, inr}
-use Rattle.std.specs.Prelude.{OnOk, is_err}
-use Rattle.dali_run.specs.declared.script.Command.{Command}
-use Rattle.dali_run.specs.Session.{Session}
-use Rattle.dali_run.proofs.Listings.{on_err}
-use Rattle.dali_run.proofs.Courses.{opened, goes_on, is_cut, stops, finds_no_log, is_whole, from_nothing, front_more}
+use Rattle.std.proofs.Common.{◌≡◌, ◌≤◌, ◌<◌, ◌+◌, ℕ, List, Option, None, length, get_or, sym, ◌∙◌, ap, subst, arith, IfSome}
+use Rattle.dali_script.specs.declared.commands.Command.{Command}
+use Rattle.dali_engine.specs.declared.engine.Engine.{Engine}
+use Rattle.dali_run.specs.Program.{IsUp, IsGatedIn}
+use Rattle.dali_run.proofs.Courses.{begins, goes_on, stops_in, is_whole, ok_of, err_of, is_up_down}
 use Rattle.dali_run.proofs.top.run_script.Goals as goal
-
-not_failed : {T E A : Type 0} (r : Result T E) (b : Bool) → b ≡ is_err r → b ≡ false → OnOk r A → A
-not_failed (Ok t) b e f a = a
-not_failed (Err x) b e f a = absurd cc
 
 pub loop-command-init : goal.loop-command-init
 loop-command-init g c = record {
-  reached = λ tells. opened g.V.Store.told g.V.Store.may_leave c.args.store.now c.open.new.store c.args.script.now c.opening.result c.in_ok-engine.engine (g.K.Sink.taken c.args.sink.now) (sym c.opening.ensures) c.in_ok-engine.ensures.engine c.in_ok-engine.ensures.empty
-      c.in_ok-engine.ensures.log c.open.ensures.told tells;
-  rest = record { closed = ap (λ (s : Session). s.current) c.in_ok-engine.ensures.engine; empty = ap (λ (s : Session). s.frame) c.in_ok-engine.ensures.engine };
-  sink = Prim.omega arith;
-  store = c.open.ensures.later;
+  reached = begins g.V.Store.told g.V.Store.may_leave g.V.Store.moment g.V.Store.left_since g.V.Store.faults g.V.Store.cuts c.args.store c.args.script.now (g.K.Sink.taken c.args.sink.now) c.down-program.result c.down-program.ensures;
+  gated = is_up_down g.V.Store.told g.V.Store.may_leave c.down-program.result c.down-program.ensures.engine_is;
+  later = omega arith;
 }
 
-pub returns-in_err-step-clause-stopped : goal.returns-in_err-step-clause-stopped
-returns-in_err-step-clause-stopped g c =
-    on_err c.from_residual-in_err-step.result (λ not_write not_store not_formatted tells.
-    let commands = c.commands-command-items.ensures in
-    let within : c.loop-command.command-index < length c.args.script.now.commands = subst (λ (l : List Command). c.loop-command.command-index < length l) commands c.loop-command-test.true in
-    stops g.V.Store.told g.V.Store.may_leave c.args.store.now c.args.script.now c.loop-command.command-index (g.K.Sink.taken c.args.sink.now) c.loop-command.engine c.loop-command.store c.step.new.store (g.K.Sink.taken c.loop-command.sink) within c.step.ensures.kept
-    (c.loop-command.invariant.reached tells))
+pub run_command-next-requires-clause-gated : goal.run_command-next-requires-clause-gated
+run_command-next-requires-clause-gated g c = c.loop-command.invariant.gated
 
-pub returns-in_err-step-clause-store_stopped : goal.returns-in_err-step-clause-store_stopped
-returns-in_err-step-clause-store_stopped g c = λ err tells.
-    let commands = c.commands-command-items.ensures in
-    let within : c.loop-command.command-index < length c.args.script.now.commands = subst (λ (l : List Command). c.loop-command.command-index < length l) commands c.loop-command-test.true in
-    inr (stops g.V.Store.told g.V.Store.may_leave c.args.store.now c.args.script.now c.loop-command.command-index (g.K.Sink.taken c.args.sink.now) c.loop-command.engine c.loop-command.store c.step.new.store (g.K.Sink.taken c.loop-command.sink) within c.step.ensures.kept
-    (c.loop-command.invariant.reached tells))
+pub returns-in-Err-clause-stops : goal.returns-in-Err-clause-stops
+returns-in-Err-clause-stops g c =
+    let items = c.commands-command-items.ensures in
+    let within : c.loop-command.command-index < length c.args.script.now = subst (λ (l : List Command). c.loop-command.command-index < length l) items c.loop-command-test.true in
+    let is : c.command-item.result ≡ get_or c.args.script.now c.loop-command.command-index c.command-item.result = subst (λ (l : List Command). c.command-item.result ≡ get_or l c.loop-command.command-index c.command-item.result) items c.command-item.is in
+    stops_in g.V.Store.told g.V.Store.may_leave g.V.Store.moment g.V.Store.left_since g.V.Store.faults g.V.Store.cuts c.in-Err.halt c.args.store c.args.script.now c.loop-command.command-index c.command-item.result
+    (g.K.Sink.taken c.args.sink.now) (g.K.Sink.taken c.loop-command.sink) (g.K.Sink.taken c.run_command-next.new.sink) c.loop-command.program c.run_command-next.result.0 c.into_inner.result
+    (g.K.Sink.faults c.args.sink.now) (g.K.Sink.faults c.loop-command.sink) (g.K.Sink.faults c.run_command-next.new.sink)
+    within is (sym c.into_inner.ensures) c.loop-command.invariant.later c.loop-command.invariant.reached (err_of _ c.run_command-next.result.1 c.in-Err.halt c.in-Err.is c.run_command-next.ensures.stops)
 
-pub returns-in_err-step-clause-found : goal.returns-in_err-step-clause-found
-returns-in_err-step-clause-found g c = λ err tells.
-    let i = c.loop-command.command-index in
-    let script = c.args.script.now in
-    let commands = c.commands-command-items.ensures in
-    let within : i < length script.commands = subst (λ (l : List Command). i < length l) commands c.loop-command-test.true in
-    finds_no_log g.V.Store.told g.V.Store.may_leave c.args.store.now script i (g.K.Sink.taken c.args.sink.now) c.loop-command.engine c.loop-command.store c.step.new.store (g.K.Sink.taken c.loop-command.sink) c.command-item.result within
-    (subst (λ (l : List Command). take (i + 1) l ≡ take i l ++ c.command-item.result ∷ []) commands (front_more c.commands-command-items.result.now i c.command-item.result c.loop-command-test.true c.command-item.is))
-    (c.step.ensures.found (grind (arith, err, c.from_residual-in_err-step.ensures.0, c.from_residual-in_err-step.ensures.1, c.in_err-step.ensures))) (c.loop-command.invariant.reached tells)
-
-pub returns-then-is_err-clause-cut : goal.returns-then-is_err-clause-cut
-returns-then-is_err-clause-cut g c = λ err tells.
-    let i = c.loop-command.command-index in
-    let script = c.args.script.now in
-    let commands = c.commands-command-items.ensures in
-    let within : i < length script.commands = subst (λ (l : List Command). i < length l) commands c.loop-command-test.true in
-    is_cut g.V.Store.told g.V.Store.may_leave c.args.store.now script i (g.K.Sink.taken c.args.sink.now) c.loop-command.engine c.step.new.engine c.loop-command.store c.step.new.store (g.K.Sink.taken c.loop-command.sink) (g.K.Sink.taken c.write_all.new.sink) c.command-item.result
-    c.deref.result.now within
-    (subst (λ (l : List Command). take (i + 1) l ≡ take i l ++ c.command-item.result ∷ []) commands (front_more c.commands-command-items.result.now i c.command-item.result c.loop-command-test.true c.command-item.is))
-    (from_nothing g.V.Store.told g.V.Store.may_leave c.command-item.result c.loop-command.engine c.step.new.engine c.loop-command.store c.step.new.store c.clear.new.self.items c.step.new.text.items c.deref.result.now c.clear.ensures.items c.deref.ensures.value c.in_ok-step.ensures.goes)
-    c.write_all.ensures.some (c.loop-command.invariant.reached tells)
+pub returns-in-Err-clause-later : goal.returns-in-Err-clause-later
+returns-in-Err-clause-later g c = omega (arith, c.loop-command.invariant.later, c.run_command-next.ensures.later)
 
 pub loop-command-preserved : goal.loop-command-preserved
 loop-command-preserved g c =
-    let i = c.loop-command.command-index in
-    let script = c.args.script.now in
-    let commands = c.commands-command-items.ensures in
+    let items = c.commands-command-items.ensures in
+    let within : c.loop-command.command-index < length c.args.script.now = subst (λ (l : List Command). c.loop-command.command-index < length l) items c.loop-command-test.true in
+    let is : c.command-item.result ≡ get_or c.args.script.now c.loop-command.command-index c.command-item.result = subst (λ (l : List Command). c.command-item.result ≡ get_or l c.loop-command.command-index c.command-item.result) items c.command-item.is in
     record {
-      reached = λ tells. goes_on g.V.Store.told g.V.Store.may_leave c.args.store.now script i (g.K.Sink.taken c.args.sink.now) c.loop-command.engine c.step.new.engine c.loop-command.store c.step.new.store (g.K.Sink.taken c.loop-command.sink) (g.K.Sink.taken c.write_all.new.sink) c.command-item.result
-          c.deref.result.now
-          (subst (λ (l : List Command). take (i + 1) l ≡ take i l ++ c.command-item.result ∷ []) commands (front_more c.commands-command-items.result.now i c.command-item.result c.loop-command-test.true c.command-item.is))
-          (from_nothing g.V.Store.told g.V.Store.may_leave c.command-item.result c.loop-command.engine c.step.new.engine c.loop-command.store c.step.new.store c.clear.new.self.items c.step.new.text.items c.deref.result.now c.clear.ensures.items c.deref.ensures.value c.in_ok-step.ensures.goes)
-          (not_failed c.write_all.result c.is_err.result c.is_err.ensures.value c.if-is_err.false c.write_all.ensures.all) (c.loop-command.invariant.reached tells);
-      rest = c.in_ok-step.ensures.at_rest;
-      sink = Prim.omega (arith, c.loop-command.invariant.sink, c.write_all.ensures.cause.later);
-      store = Prim.omega (arith, c.loop-command.invariant.store, c.step.ensures.later);
+      reached = goes_on g.V.Store.told g.V.Store.may_leave g.V.Store.moment g.V.Store.left_since g.V.Store.faults g.V.Store.cuts c.args.store c.args.script.now c.loop-command.command-index c.command-item.result
+          (g.K.Sink.taken c.args.sink.now) (g.K.Sink.taken c.loop-command.sink) (g.K.Sink.taken c.run_command-next.new.sink) c.loop-command.program c.run_command-next.result.0 within is c.loop-command.invariant.reached
+          (ok_of c.run_command-next.result.1 c.in_default.field-0 c.in_default.is c.run_command-next.ensures.done);
+      gated = ok_of c.run_command-next.result.1 c.in_default.field-0 c.in_default.is c.run_command-next.ensures.gated;
+      later = omega (arith, c.loop-command.invariant.later, c.run_command-next.ensures.later);
     }
 
 pub returns-clause-whole : goal.returns-clause-whole
-returns-clause-whole g c = λ tells.
-    let i = c.loop-command.command-index in
-    let script = c.args.script.now in
-    let commands = c.commands-command-items.ensures in
-    is_whole g.V.Store.told g.V.Store.may_leave c.args.store.now script i (g.K.Sink.taken c.args.sink.now) c.loop-command.engine c.loop-command.store (g.K.Sink.taken c.loop-command.sink)
-    (subst (λ (l : List Command). i ≡ length l) commands (Prim.omega (arith, c.loop-command-test.false, c.loop-command.auto.command-index-end))) (c.loop-command.invariant.reached tells)
+returns-clause-whole g c =
+    let items = c.commands-command-items.ensures in
+    let all : c.loop-command.command-index ≡ length c.args.script.now = subst (λ (l : List Command). c.loop-command.command-index ≡ length l) items (omega (arith, c.loop-command-test.false, c.loop-command.auto.command-index-end)) in
+    is_whole g.V.Store.told g.V.Store.may_leave g.V.Store.moment g.V.Store.left_since g.V.Store.faults g.V.Store.cuts c.args.store c.args.script.now c.loop-command.command-index (g.K.Sink.taken c.args.sink.now)
+    (g.K.Sink.taken c.loop-command.sink) c.loop-command.program c.into_inner-2.result all (sym c.into_inner-2.ensures) c.loop-command.invariant.reached
+
+pub returns-clause-later : goal.returns-clause-later
+returns-clause-later g c = omega (arith, c.loop-command.invariant.later)

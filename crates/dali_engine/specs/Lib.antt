@@ -1,0 +1,9 @@
+pub mod Held
+pub mod Replay
+pub mod Finding
+pub mod Memory
+pub mod Acts
+pub mod Flushes
+pub mod Opening
+pub mod Standing
+pub mod State

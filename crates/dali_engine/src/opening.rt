@@ -1,0 +1,216 @@
+//! A database is made in a log without batches, or found again in one that has some.
+ghost use Rattle.std.specs.Prelude.{◌≡◌, ◌≤◌, ◌∷◌, [], ℕ, List, Option, Some, None, length, IfOk, OnOk, OnErr, ◌⊎◌, IfErr, IfSome, IsNone, IsErrOf, is_some};
+ghost use Rattle.dali_store.specs.Faults.{Rose, HasCause};
+ghost use Rattle.dali_store.specs.Store.{Files, LeavesOnly, Only};
+ghost use Rattle.dali_record.specs.declared.records.Record.{Record};
+ghost use Rattle.dali_record.specs.declared.records.Record.TheVariants.{Format};
+ghost use Rattle.dali_record.specs.Spelling.{CanBeSpelled};
+ghost use Rattle.dali_batch.specs.Batch.{IsUnformatted};
+ghost use Rattle.dali_batch.specs.Log.{LogOf, BadAt};
+ghost use Rattle.dali_batch.specs.Reads.{OnlyReads};
+ghost use Rattle.dali_engine.specs.Finding.{found};
+ghost use Rattle.dali_engine.specs.Replay.{found_in};
+ghost use Rattle.dali_engine.specs.Opening.{HasSizes, first_body, IsNew, IsRestored, Makes, MakesAtAnyMoment, open_error};
+ghost use Rattle.dali_batch.specs.Formatting.{FormatLeaves};
+ghost use Rattle.dali_engine.specs.Memory.{formatted_regions};
+ghost use Rattle.dali_engine.specs.Flushes.{IsGated};
+ghost use Rattle.dali_engine.specs.declared.opening.OpenError.TheVariants as errors;
+
+use crate::engine::Engine;
+use crate::finder::Finder;
+use crate::memory::Memory;
+use crate::records::Records;
+use dali_batch::{Frame, LogError, is_formatted, read_log};
+use dali_bytes::OutOfMemory;
+use dali_geometry::Geometry;
+use dali_record::{Record, encode};
+use dali_store::{FileName, Store, StoreFault};
+use std::alloc::{AllocError, Global};
+use thiserror::Error;
+
+/// Why a database was neither made nor found.
+#[derive(Clone, Copy, Debug, PartialEq, Eq, Error)]
+pub enum OpenError {
+    /// A call of the store failed.
+    #[error("store fault")]
+    Fault,
+    /// A database was to be made, and the log has one.
+    #[error("formatted")]
+    Formatted,
+    /// A database was to be found, and the log has none.
+    #[error("unformatted")]
+    Unformatted,
+    /// The log is bad at this place of its file.
+    #[error("bad store log {at}")]
+    BadLog { at: u64 },
+    #[error("out of memory")]
+    OutOfMemory,
+}
+
+impl From<StoreFault> for OpenError {
+    ghost from_gives = { λ _ e. e ≡ errors.Fault };
+
+    fn from(_: StoreFault) -> Self {
+        OpenError::Fault
+    }
+}
+
+impl From<AllocError> for OpenError {
+    ghost from_gives = { λ _ e. e ≡ errors.OutOfMemory };
+
+    fn from(_: AllocError) -> Self {
+        OpenError::OutOfMemory
+    }
+}
+
+impl From<OutOfMemory> for OpenError {
+    ghost from_gives = { λ _ e. e ≡ errors.OutOfMemory };
+
+    fn from(_: OutOfMemory) -> Self {
+        OpenError::OutOfMemory
+    }
+}
+
+impl From<LogError> for OpenError {
+    ghost from_gives = { λ error e. e ≡ open_error error };
+
+    fn from(error: LogError) -> Self {
+        match error {
+            LogError::Fault => OpenError::Fault,
+            LogError::Unformatted => OpenError::Unformatted,
+            LogError::BadLog { at } => OpenError::BadLog { at },
+            LogError::OutOfMemory => OpenError::OutOfMemory,
+        }
+    }
+}
+
+// After Ok a crash leaves just what reads give.
+fn sync_all<V: Store>(store: &mut V) -> Result<(), StoreFault>
+    ensures reads { OnlyReads V.told V.moment V.left_since V.may_leave store.old store.new }
+    ensures durable { OnOk result (IfSome (V.told store.old) (λ fs. Only fs (V.may_leave store.new))) }
+    ensures cause { HasCause (V.faults store.old) (V.faults store.new) result }
+{
+    store.sync(FileName::Log)?;
+    store.sync(FileName::ImageA)?;
+    store.sync(FileName::ImageB)?;
+    store.sync(FileName::Anchor)
+}
+
+// The sizes that the first record of a log names.
+fn geometry_of(records: &[Record]) -> Option<Geometry>
+    ensures some { IfSome result (λ sizes. HasSizes sizes records.now) }
+    ensures none { IsNone result → (index heap : ℕ) (rest : List Record) → CanBeSpelled (Format index heap) → records.now ≡ Format index heap ∷ rest → ⊥ }
+{
+    match records {
+        [Record::Format { index, heap }, ..] => Geometry::new(*index, *heap).ok(),
+        _ => None,
+    }
+}
+
+// Goes over all records of a log.
+fn find_all(alloc: Global, records: &[Record]) -> Result<Finder, AllocError>
+    ensures { IfOk result (λ finder. found finder ≡ found_in records.now) }
+{
+    let mut finder = Finder::new(alloc);
+    for entry in records {
+        finder.take(entry)?;
+    }
+    Ok(finder)
+}
+
+// The first batch of a log.
+fn first_frame(alloc: Global, geometry: &Geometry) -> Result<Frame, OutOfMemory>
+    ensures body { IfOk result (λ frame. frame ≡ first_body geometry.now) }
+    ensures spelled { CanBeSpelled (Format geometry.now.index geometry.now.heap) }
+{
+    let mut bytes = Vec::new(alloc);
+    let first = Record::Format {
+        index: geometry.index(),
+        heap: geometry.heap(),
+    };
+    encode(&first, &mut bytes)?;
+    let mut frame = Frame::new(alloc)?;
+    frame.add(&bytes)?;
+    Ok(frame)
+}
+
+// The same over a log of which it is known that it has no batches, whatever a crash leaves.
+fn make<V: Store>(
+    alloc: Global,
+    geometry: &Geometry,
+    memory: Memory,
+    frame: Frame,
+    store: &mut V,
+) -> Result<Engine, StoreFault>
+    requires unformatted { IfSome (V.told store.old) (λ _. (c : Files) → V.may_leave store.old c → IsUnformatted c.log) }
+    requires regions { memory ≡ formatted_regions geometry.now }
+    requires first { frame ≡ first_body geometry.now }
+    requires spelled { CanBeSpelled (Format geometry.now.index geometry.now.heap) }
+    ensures engine { IfOk result (λ engine. IsNew geometry.now engine) }
+    ensures makes { OnOk result (Makes V.told V.may_leave geometry.now store.old store.new) }
+    ensures gated { IfOk result (λ engine. IsGated V.told V.may_leave engine store.new) }
+    ensures any_moment { IfSome (V.told store.old) (λ _. LeavesOnly V.moment V.left_since store.old store.new (FormatLeaves (V.may_leave store.old) (first_body geometry.now))) }
+    ensures tells { is_some (V.told store.new) ≡ is_some (V.told store.old) }
+    ensures cause { HasCause (V.faults store.old) (V.faults store.new) result }
+{
+    let mut frame = frame;
+    let end = dali_batch::format(store, &frame)?;
+    frame.clear();
+    Ok(Engine::new(alloc, Records::new(alloc), memory, 0, 1, frame, end))
+}
+
+/// Makes a database of these sizes in a log without batches, and gives what is held in memory then. `Formatted` exactly
+/// where the log has a first batch; nothing is changed then. It takes memory for the regions.
+pub fn format<V: Store>(
+    alloc: Global,
+    geometry: &Geometry,
+    store: &mut V,
+) -> Result<Engine, OpenError>
+    ensures engine { IfOk result (λ engine. IsNew geometry.now engine) }
+    ensures unformatted { OnOk result (IfSome (V.told store.old) (λ fs. IsUnformatted fs.log)) }
+    ensures makes { OnOk result (Makes V.told V.may_leave geometry.now store.old store.new) }
+    ensures gated { IfOk result (λ engine. IsGated V.told V.may_leave engine store.new) }
+    ensures any_moment { MakesAtAnyMoment V.told V.may_leave V.moment V.left_since geometry.now store.old store.new }
+    ensures formatted { IsErrOf result OpenError.Formatted → IfSome (V.told store.old) (λ fs. IsUnformatted fs.log → ⊥) }
+    ensures untouched { IsErrOf result OpenError.Formatted → V.told store.new ≡ V.told store.old }
+    ensures tells { is_some (V.told store.new) ≡ is_some (V.told store.old) }
+    ensures errors { OnErr result ((IsErrOf result OpenError.Fault) ⊎ (IsErrOf result OpenError.Formatted) ⊎ (IsErrOf result OpenError.OutOfMemory)) }
+    ensures fault { IsErrOf result OpenError.Fault → Rose (V.faults store.old) (V.faults store.new) }
+    ensures later { V.faults store.old ≤ V.faults store.new }
+{
+    let frame = first_frame(alloc, geometry)?;
+    let memory = Memory::formatted(alloc, geometry)?;
+    if is_formatted(store)? {
+        return Err(OpenError::Formatted);
+    }
+    Ok(make(alloc, geometry, memory, frame, store)?)
+}
+
+/// Finds the records again that the committed transactions of a log left, and the transactions that have neither
+/// committed nor ended, ascending. All files are synced first. It takes memory for the records of the whole log.
+pub fn restart<V: Store>(alloc: Global, store: &mut V) -> Result<(Engine, Vec<u64>), OpenError>
+    ensures restored { IfOk result (λ r. IfSome (V.told store.old) (λ fs. IsRestored fs.log r.0 r.1.items)) }
+    ensures durable { OnOk result (IfSome (V.told store.old) (λ fs. Only fs (V.may_leave store.new))) }
+    ensures gated { IfOk result (λ r. IsGated V.told V.may_leave r.0 store.new) }
+    ensures bad { IfErr result (λ e. (at : ℕ) → e ≡ OpenError.BadLog at → IfSome (V.told store.old) (λ fs. BadAt fs.log at)) }
+    ensures unformatted { IsErrOf result OpenError.Unformatted → IfSome (V.told store.old) (λ fs. IsUnformatted fs.log) }
+    ensures made { IsErrOf result OpenError.Formatted → ⊥ }
+    ensures reads { OnlyReads V.told V.moment V.left_since V.may_leave store.old store.new }
+    ensures fault { IsErrOf result OpenError.Fault → Rose (V.faults store.old) (V.faults store.new) }
+    ensures later { V.faults store.old ≤ V.faults store.new }
+{
+    sync_all(store)?;
+    let log = read_log(alloc, store)?;
+    let Some(geometry) = geometry_of(&log.records) else {
+        return Err(OpenError::BadLog { at: 5 });
+    };
+    let finder = find_all(alloc, &log.records)?;
+    let unfinished = finder.unfinished()?;
+    let memory = Memory::formatted(alloc, &geometry)?;
+    let frame = Frame::new(alloc)?;
+    let last = finder.last();
+    let count = log.records.len() as u64;
+    let records = finder.into_records();
+    let engine = Engine::new(alloc, records, memory, last, count, frame, log.end);
+    Ok((engine, unfinished))
+}

@@ -1,0 +1,19 @@
+-- What stood before is the front of the text.
+use Rattle.std.proofs.Common.{◌≡◌, ℕ, List, [], ◌∷◌, ◌++◌, OnErr, Result, Ok, Err, arith}
+use Rattle.dali_report.specs.Texts.{IsFront}
+
+within : (old text new : List ℕ) → IsFront (old ++ text) new → IsFront old new
+within [] text new front = grind arith
+within (byte ∷ old) text [] front = absurd cc
+within (byte ∷ old) text (first ∷ new) front =
+    let rest : IsFront (old ++ text) new = cc in
+    let ih = within old text new rest in
+    cc
+
+-- where something was added first
+pub front_of : (old text mid new : List ℕ) → mid ≡ old ++ text → IsFront mid new → IsFront old new
+front_of old text mid new added front = within old text new (rw added at front)
+
+pub on_err : {T E P : Type 0} (r : Result T E) → P → OnErr r P
+on_err (Ok x) p = tt
+on_err (Err e) p = p

@@ -1,6 +1,0 @@
-use Rattle.std.proofs.Common.{◌≡◌, ◌++◌, take}
-use Rattle.dali_run.specs.Lines.{value_text}
-use Rattle.dali_run.proofs.line.put_value.Given as goal
-
-abbrev pub invariant-loop-byte : goal.invariant-loop-byte
-invariant-loop-byte l = l.into.items ≡ l.fn.into.items ++ value_text (take l.byte-index l.byte-items)

@@ -1,0 +1,121 @@
+-- How a command fails, and what it leaves of the store then.
+--     LostInBlock, LostInRound    memory was wanting in a block, or for its lines; some blocks of a round were run, and this one after them
+--     LostAlone                   memory was wanting in a poke or an audit, or the store failed in it, or memory was wanting for its lines
+--     LeavesLess                  a crash leaves nothing that it might not have left before
+--     Breaks command old f        what a command that doesn't come to its end leaves of the store
+--     MeetsStore, Opens, IsSize   the commands that may end with a failure of the store, and those that look for a database or make one
+--     Fails halt command old f    a command that ends the run with this
+use Rattle.std.specs.Prelude.{◌≡◌, ◌⊎◌, ℕ, List, [], ◌∷◌, ◌++◌, Option, Some, None, IfSome}
+use Rattle.dali_batch.specs.Batch.{IsUnformatted}
+use Rattle.dali_batch.specs.Log.{BadAt}
+use Rattle.dali_engine.specs.declared.engine.Engine.{Engine}
+use Rattle.dali_engine.specs.declared.engine.Stage.{Stage}
+use Rattle.dali_engine.specs.declared.engine.Stage.TheVariants.{Outside}
+use Rattle.dali_engine.specs.Acts.{flushed_by}
+use Rattle.dali_engine.specs.Flushes.{Acts, Lost, LostIn}
+use Rattle.dali_engine.specs.Opening.{MakesAtAnyMoment}
+use Rattle.dali_memstore.specs.Fuse.{inner}
+use Rattle.dali_memstore.specs.declared.fuse.Fuse.{Fuse}
+use Rattle.dali_run.specs.declared.halt.Halt.{Halt}
+use Rattle.dali_run.specs.declared.halt.Halt.TheVariants.{StoreFault, BadLog, Unformatted, Formatted, OutOfMemory}
+use Rattle.dali_run.specs.declared.program.Program.{Program}
+use Rattle.dali_run.specs.Program.{Running, running, turn, told_in, leaves_in, moment_in, since_in, faults_in}
+use Rattle.dali_run.specs.Steps.{Reads, RunsBlock, RunsBlocks, sizes_of}
+use Rattle.dali_script.specs.declared.commands.Block.{Block}
+use Rattle.dali_script.specs.declared.commands.ClientCommand.{ClientCommand}
+use Rattle.dali_script.specs.declared.commands.ClientCommand.TheVariants as clients
+use Rattle.dali_script.specs.declared.commands.Command.{Command}
+use Rattle.dali_script.specs.declared.commands.Command.TheVariants.{Size, Open, Round, Poke, Audit, Crash, Restart, Show, Next, Fuse as SetFuse}
+use Rattle.dali_script.specs.declared.outputs.Line.{Line}
+use Rattle.dali_store.specs.Faults.{Rose}
+use Rattle.dali_store.specs.Store.{Files, LeavesOnly}
+
+abbrev pub MeetsStore : Command → Type 0
+MeetsStore (Size index heap) = Unit {0}
+MeetsStore Open = Unit {0}
+MeetsStore Audit = Unit {0}
+MeetsStore (Crash choice) = Unit {0}
+MeetsStore Restart = Unit {0}
+MeetsStore _ = ⊥
+
+abbrev pub Opens : Command → Type 0
+Opens Open = Unit {0}
+Opens Restart = Unit {0}
+Opens _ = ⊥
+
+abbrev pub IsSize : Command → Type 0
+IsSize (Size index heap) = Unit {0}
+IsSize _ = ⊥
+
+module _ {V : Type 0} (told : V → Option Files) (may_leave : V → Files → Type 0) (moment : V → ℕ) (left_since : V → ℕ → Files → Type 0) where
+  pub record LeavesLess (old new : Fuse V) : Type 0 where
+    pub crash : (c : Files) → leaves_in told may_leave new c → leaves_in told may_leave old c
+    pub any_moment : LeavesOnly (moment_in moment left_since) (since_in moment left_since) old new (leaves_in told may_leave old)
+
+  module _ (faults : V → ℕ) where
+    -- it was run, and its lines weren't told
+    pub record BlockUntold (block : Block) (old : Running V) (f : Fuse V) : Type 0 where
+      pub text : List ℕ
+      pub new : Running V
+      pub runs : RunsBlock told may_leave moment left_since faults block old text new
+      pub store : f ≡ new.store
+
+    abbrev pub LostInBlock : Block → Running V → Fuse V → Type 0
+    LostInBlock block old f =
+        BlockUntold block old f
+        ⊎ LostIn (told_in told) (leaves_in told may_leave) (moment_in moment left_since) (since_in moment left_since) (faults_in faults)
+        block.commands (turn old Outside []) f
+
+    pub record LostInRound (blocks : List Block) (old : Running V) (f : Fuse V) : Type 0 where
+      pub done : List Block
+      pub block : Block
+      pub later : List Block
+      pub all : blocks ≡ done ++ block ∷ later
+      pub text : List ℕ
+      pub mid : Running V
+      pub runs : RunsBlocks told may_leave moment left_since faults done old text mid
+      pub lost : LostInBlock block mid f
+
+    abbrev pub BreaksRound : Option Engine → List Block → Fuse V → Fuse V → Type 0
+    BreaksRound None blocks old f = f ≡ old
+    BreaksRound (Some e) blocks old f = LostInRound blocks (running e old) f
+
+    -- it was done, and its lines weren't told
+    pub record ActsUntold (command : ClientCommand) (old : Running V) (f : Fuse V) : Type 0 where
+      pub new : Running V
+      pub stage : Stage
+      pub listed : List Line
+      pub acts : Acts (told_in told) (leaves_in told may_leave) (moment_in moment left_since) (since_in moment left_since) (faults_in faults)
+          command (turn old Outside []) (turn new stage listed)
+      pub store : f ≡ new.store
+
+    abbrev pub LostAlone : ClientCommand → Running V → Fuse V → Type 0
+    LostAlone command old f =
+        ActsUntold command old f
+        ⊎ Lost (told_in told) (leaves_in told may_leave) (moment_in moment left_since) (since_in moment left_since) (faults_in faults)
+        old.engine.end (flushed_by old.engine Outside command) old.store f
+
+    abbrev pub BreaksAct : Option Engine → ClientCommand → Fuse V → Fuse V → Type 0
+    BreaksAct None command old f = f ≡ old
+    BreaksAct (Some e) command old f = LostAlone command (running e old) f
+
+    abbrev pub Breaks : Command → Program V → Fuse V → Type 0
+    Breaks (Size index heap) old f = MakesAtAnyMoment told may_leave moment left_since (sizes_of index heap) (inner old.store) (inner f)
+    Breaks Open old f = Reads told may_leave moment left_since old.store f
+    Breaks (Round blocks) old f = BreaksRound old.engine blocks old.store f
+    Breaks (Poke region word mask) old f = BreaksAct old.engine (clients.Poke region word mask) old.store f
+    Breaks Audit old f = BreaksAct old.engine clients.Audit old.store f
+    Breaks (Crash choice) old f = LeavesLess old.store f
+    Breaks Restart old f = Reads told may_leave moment left_since old.store f
+    Breaks Show old f = f ≡ old.store
+    Breaks Next old f = ⊥
+    Breaks (SetFuse passes) old f = inner f ≡ inner old.store
+
+    abbrev pub Fails : Halt → Command → Program V → Fuse V → Type 0
+    Fails StoreFault command old f = MeetsStore command × Rose (faults (inner old.store)) (faults (inner f)) × Breaks command old f
+    Fails (BadLog at) command old f = Opens command × IfSome (told_in told old.store) (λ fs. BadAt fs.log at) × Reads told may_leave moment left_since old.store f
+    Fails Unformatted command old f = Opens command × IfSome (told_in told old.store) (λ fs. IsUnformatted fs.log) × Reads told may_leave moment left_since old.store f
+    Fails Formatted command old f =
+        IsSize command × IfSome (told_in told old.store) (λ fs. IsUnformatted fs.log → ⊥) × (told_in told f ≡ told_in told old.store) × Breaks command old f
+    Fails OutOfMemory command old f = Breaks command old f
+    Fails _ command old f = ⊥

@@ -1,0 +1,30 @@
+//! Laws of runs, each the contract of a function that does nothing.
+ghost use Rattle.std.specs.Prelude.{◌≡◌, ◌∷◌, ℕ, List, true, is_some};
+ghost use Rattle.dali_engine.specs.State.{Log, new_log};
+ghost use Rattle.dali_run.specs.declared.program.Program.{Program};
+ghost use Rattle.dali_run.specs.Served.{IsWhole, IsServing, ServesOn, RunServes};
+ghost use Rattle.dali_run.specs.Run.{RunsAll};
+ghost use Rattle.std.specs.List.{AllByRecursion};
+ghost use Rattle.dali_script.specs.Grammar.{IsSpelled};
+ghost use Rattle.dali_script.specs.declared.commands.Command.TheVariants.{Size};
+ghost use Rattle.dali_run.specs.Steps.{Steps, StepsSize, sizes_of};
+ghost use Rattle.dali_script.specs.declared.commands.Command.{Command};
+
+use dali_store::Store;
+
+/// A run that makes its database serves from then on, over a store that tells its files, whatever the store does: after
+/// each command, and at each moment of one, a crash leaves a log with all batches from before at its front, from which a
+/// restart gives exactly the serial replay of its committed transactions.
+pub fn runs_serve<V: Store>()
+    ensures made { (index heap : ℕ) (old new : Program V) (text : List ℕ) → is_some (V.told old.store.store) ≡ true → StepsSize V.told V.may_leave V.moment V.left_since index heap old text new →
+        IsServing V.told V.may_leave new (new_log (sizes_of index heap)) }
+    ensures steps { (command : Command) (old new : Program V) (text : List ℕ) (l : Log) → IsWhole command → IsServing V.told V.may_leave old l →
+        Steps V.told V.may_leave V.moment V.left_since V.faults V.cuts old command text new → (l' : Log) × ServesOn V.told V.may_leave V.moment V.left_since old l new l' }
+    ensures all { (commands : List Command) (old new : Program V) (text : List ℕ) (l : Log) → AllByRecursion IsWhole commands → IsServing V.told V.may_leave old l →
+        RunsAll V.told V.may_leave V.moment V.left_since V.faults V.cuts old commands text new → RunServes V.told V.may_leave V.moment V.left_since old l new }
+{}
+
+/// In each script that begins with `size` and is spelled, all later commands are of that kind.
+pub fn scripts_are_whole()
+    ensures { (bytes : List ℕ) (index heap : ℕ) (later : List Command) → IsSpelled bytes (Size index heap ∷ later) → AllByRecursion IsWhole later }
+{}
