@@ -18,6 +18,9 @@ const FORMATTED: &[u8] = b"\xa5\0\0\0\x0a\x01\x01\0\0\0\x01\0\0\0\x01\0";
 
 const CUT_BEHIND_FORMAT: &[u8] = b"\xa5\0\0\0\x0a\x01\x01\0\0\0\x01\0\0\0\x01";
 
+const WITH_A_BEGIN: &[u8] =
+    b"\xa5\0\0\0\x0a\x01\x01\0\0\0\x01\0\0\0\x01\xa5\0\0\0\x09\x02\0\0\0\0\0\0\0\x01\0";
+
 const BATCH_WITHOUT_ITS_BYTES: &[u8] =
     b"\xa5\0\0\0\x0a\x01\x01\0\0\0\x01\0\0\0\x01\xa5\0\0\0\x64\0";
 
@@ -168,6 +171,21 @@ fn scripts_give_their_lines_and_statuses(rt: HostRuntime) -> Result<(), Fail> {
                 },
             )
         },
+        Case {
+            log: WITH_A_BEGIN,
+            ..Case::new(
+                "a transaction that had begun",
+                "open\nclient 1\nbegin\ncommit\nend\nshow\n",
+                b"rolled back 1\ndeleted none\n1 begin 2\n1 commit ok\nrecords 0\n",
+                Status::Done,
+            )
+        },
+        Case::new(
+            "a fuse stays blown until the next one",
+            "size 1 1\nfuse 0\naudit\ncrash 0\nfuse 0\nrestart\nrestart\nfuse 1000\nrestart\nshow\n",
+            b"fuse 0\naudit store stopped\ncrash 0\nfuse 0\nrestart store stopped\nrestart store stopped\nfuse 1000\nrolled back none\ndeleted none\nrecords 0\n",
+            Status::Done,
+        ),
         Case::new(
             "an empty store",
             "open\n",
@@ -287,7 +305,7 @@ fn case_runs_as_wanted(
 
 #[test]
 fn scripts_from_outside(rt: HostRuntime) -> Result<(), Fail> {
-    assert_eq!(rt; CASES.lines().count(), 79);
+    assert_eq!(rt; CASES.lines().count(), 80);
     for case in CASES.lines() {
         case_runs_as_wanted(&rt, case)?;
     }
@@ -314,6 +332,39 @@ fn a_store_that_fails_in_an_audit_ends_the_run(rt: HostRuntime) -> Result<(), Fa
     let (status, sink) = written(&rt, script.to_vec(alloc)?, failing)?;
     assert!(rt; status == Status::StoreFault);
     assert!(rt; sink.taken().ends_with(b"audit clean\nstore fault\n"));
+    Ok(())
+}
+
+// A restart makes two calls of the store or more, so one of these has the fortieth.
+#[test]
+fn a_store_that_fails_in_a_restart_ends_the_run(rt: HostRuntime) -> Result<(), Fail> {
+    let alloc = rt.alloc();
+    let script =
+        b"size 1 1\nrestart\nrestart\nrestart\nrestart\nrestart\nrestart\nrestart\nrestart\nrestart\nrestart\nrestart\nrestart\nrestart\nrestart\nrestart\nrestart\nrestart\nrestart\nrestart\nrestart\n";
+    let failing = vec![in alloc; 40]?;
+    let (status, sink) = written(&rt, script.to_vec(alloc)?, failing)?;
+    assert!(rt; status == Status::StoreFault);
+    assert!(rt; sink.taken().ends_with(b"deleted none\nstore fault\n"));
+    Ok(())
+}
+
+// A commit makes four calls of the store, so one of these has the fortieth.
+#[test]
+fn a_store_that_fails_in_a_commit_stops_the_engine(rt: HostRuntime) -> Result<(), Fail> {
+    let alloc = rt.alloc();
+    let script =
+        b"size 1 1\nclient 1\nbegin\ncommit\nbegin\ncommit\nbegin\ncommit\nbegin\ncommit\nbegin\ncommit\nbegin\ncommit\nbegin\ncommit\nbegin\ncommit\nbegin\ncommit\nbegin\ncommit\nbegin\ncommit\nend\nshow\n";
+    let failing = vec![in alloc; 40]?;
+    let (status, sink) = written(&rt, script.to_vec(alloc)?, failing)?;
+    assert!(rt; status == Status::Done);
+    assert!(rt;
+        sink.taken()
+            .starts_with(b"1 begin 1\n1 commit ok\n1 begin 2\n")
+    );
+    assert!(rt;
+        sink.taken()
+            .ends_with(b"1 begin stopped store\nshow stopped store\n")
+    );
     Ok(())
 }
 
