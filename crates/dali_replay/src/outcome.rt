@@ -52,15 +52,16 @@ impl Replay {
         }
     }
 
-    /// The records that the surviving transactions leave, by key, where each of their calls gave its logged answer. Else those up to the
-    /// first call that didn't.
+    /// The records that the surviving transactions leave, by key, where each of their calls gave its logged answer
+    /// (`agrees`). Else nothing is promised of it.
     pub fn map(&self) -> &BTreeMap<u64, Value>
         ensures { finite.from_entries result.now.entries ≡ self.now.map }
     {
         &self.map
     }
 
-    /// The numbers of the transactions that damage reached, ascending, of all epochs.
+    /// The numbers of the committed transactions that a chain of logged reads or undone changes links to a region that failed its
+    /// audit, ascending, of all epochs.
     pub fn deleted(&self) -> &[u64]
         ensures { result.now ≡ self.now.deleted }
     {
