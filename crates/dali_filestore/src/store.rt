@@ -73,6 +73,10 @@ fn read_from<F: FileExt>(file: &F, at: u64, into: &mut [u8]) -> io::Result<usize
 {
     let mut count = 0;
     for _ in 0..u64::MAX {
+        // A full buffer needs no further call to see the end.
+        if count == into.len() {
+            return Ok(count);
+        }
         let place = at.saturating_add(count as u64);
         match file.read_at(&mut into[count..], place) {
             Ok(0) => return Ok(count),

@@ -13,7 +13,8 @@ use Rattle.std.proofs.lemmas.Bool.Decides.{Decides-eqb, leb_tells}
 use Rattle.dali_words.specs.Words.{parity_of, xor_under}
 use Rattle.dali_region.specs.declared.Hold.{Hold}
 use Rattle.dali_region.specs.State.{RegionState, IsProtected, HasRead, IsUnwritten, latched, is_in, has_written, is_written, unread, damaged, poked, loaded, taken_back, counted, touched, updated, writing, map_hold}
-use Rattle.dali_region.proofs.Words.{parity_of-set, twice, damage, xor_under-apart, xor_under-nothing}
+use Rattle.dali_words.proofs.Lowest.{xor_under-nothing}
+use Rattle.dali_region.proofs.Words.{parity_of-set, twice, damage, xor_under-apart}
 
 -- ---- bits
 pub same_or_not : (i j : ℕ) → (i ≡ j) ⊎ (i ≢ j)

@@ -7,13 +7,7 @@ use Rattle.std.specs.Int.{bit_at}
 use Rattle.std.proofs.lemmas.Nat.Bits.{bit_at-suc, bit_at_lowest}
 use Rattle.std.proofs.lemmas.Bool.Decides.{Decides-eqb, eqb_tells}
 use Rattle.dali_words.specs.Words.{has_first, under, xor_under, parity_of}
-
-pub fold-xor : (a : ℕ) (ws : List ℕ) → fold bit_xor a ws ≡ bit_xor a (parity_of ws)
-fold-xor a [] = sym (xor_zero_r a)
-fold-xor a (w ∷ ws) = fold-xor (bit_xor a w) ws ∙ xor_assoc a w (parity_of ws) ∙ ap (bit_xor a) (sym (fold-xor w ws) ∙ ap (λ n. fold bit_xor n ws) (sym (xor_zero_l w)))
-
-pub parity_of-cons : (w : ℕ) (ws : List ℕ) → parity_of (w ∷ ws) ≡ bit_xor w (parity_of ws)
-parity_of-cons w ws = ap (λ n. fold bit_xor n ws) (xor_zero_l w) ∙ fold-xor w ws
+use Rattle.dali_words.proofs.Lowest.{parity_of-cons}
 
 -- a word's old value and new value change the parity by their exclusive-or
 pub parity_of-set : (ws : List ℕ) (i v : ℕ) → i < length ws → parity_of (set ws i v) ≡ bit_xor (parity_of ws) (bit_xor (get_or ws i 0) v)
@@ -35,13 +29,6 @@ pub damage : (a b w m : ℕ) → bit_xor a (bit_xor b (bit_xor w (bit_xor w m)))
 damage a b w m = ap (λ n. bit_xor a (bit_xor b n)) (sym (xor_assoc w w m) ∙ ap (λ n. bit_xor n m) (xor_self w) ∙ xor_zero_l m) ∙ sym (xor_assoc a b m)
 
 -- ---- words in sets
-nothing_under : (ws : List ℕ) → under 0 ws ≡ []
-nothing_under [] = refl
-nothing_under (w ∷ ws) = nothing_under ws
-
-pub xor_under-nothing : (ws : List ℕ) → xor_under 0 ws ≡ 0
-xor_under-nothing ws = ap parity_of (nothing_under ws)
-
 one_first : (m : ℕ) → has_first m ≡ true → m % 2 ≡ 1
 one_first m e = (Decides-eqb (m % 2) 1).0 e
 

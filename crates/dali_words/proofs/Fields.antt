@@ -1,29 +1,11 @@
--- What the code does with the fields of a value, and with the words of a set.
-use Rattle.std.proofs.Common.{◌≡◌, ℕ, ◌+◌, ◌-◌, ◌*◌, ◌/◌, ◌%◌, ◌<◌, ◌≤◌, ◌≢◌, true, false, cond, List, [], ◌∷◌, ◌++◌, length, take, drop, replicate, ap, sym, ◌∙◌, subst, arith, get_or, All, length-append, length-drop}
-use Rattle.std.specs.Prelude.{fold, bit_xor}
+-- What the code does with the fields of a value.
+use Rattle.std.proofs.Common.{◌≡◌, ℕ, ◌-◌, ◌*◌, ◌<◌, ◌≤◌, true, List, [], ◌∷◌, ◌++◌, length, take, drop, replicate, ap, sym, ◌∙◌, subst, arith, get_or, All, length-append, length-drop}
 use Rattle.std.proofs.Math.Seq.{take-append_seam}
-use Rattle.std.proofs.lemmas.Bool.Decides.{nat_tests, Decides-eqb}
-use Rattle.std.proofs.lemmas.List.{drop_more, drop-replicate, length-replicate, length-take-le}
+use Rattle.std.proofs.lemmas.Bool.Decides.{nat_tests}
+use Rattle.std.proofs.lemmas.List.{drop-replicate, length-replicate, length-take-le}
 use Rattle.std.proofs.lemmas.List.Elements.{All-from_get_or}
 use Rattle.byteorder.specs.Endian.{big_from, big_number, IsRead}
-use Rattle.dali_words.specs.Words.{has_first, under}
 use Rattle.dali_words.specs.Values.{number_after, word_at, packed, IsValue, is_size}
-
--- ---- one word more of a set
-under_more : (m i : ℕ) (ws : List ℕ) → i < length ws → under m (drop i ws) ≡ cond (has_first m) (get_or ws i 0 ∷ under (m / 2) (drop (i + 1) ws)) (under (m / 2) (drop (i + 1) ws))
-under_more m i ws inside = ap (under m) (drop_more ws i 0 inside)
-
-pub word_taken : (m i a b : ℕ) (ws : List ℕ) (r : ℕ) → i < length ws → m % 2 ≡ 1 → b ≡ bit_xor a (get_or ws i 0) → fold bit_xor a (under m (drop i ws)) ≡ r → fold bit_xor b (under (m / 2) (drop (i + 1) ws)) ≡ r
-word_taken m i a b ws r inside odd is so_far =
-    let test : has_first m ≡ true = (Decides-eqb (m % 2) 1).1 odd in
-    let here : under m (drop i ws) ≡ get_or ws i 0 ∷ under (m / 2) (drop (i + 1) ws) = under_more m i ws inside ∙ ap (λ c. cond c (get_or ws i 0 ∷ under (m / 2) (drop (i + 1) ws)) (under (m / 2) (drop (i + 1) ws))) test in
-    ap (λ n. fold bit_xor n (under (m / 2) (drop (i + 1) ws))) is ∙ sym (ap (fold bit_xor a) here) ∙ so_far
-
-pub word_passed : (m i a b : ℕ) (ws : List ℕ) (r : ℕ) → i < length ws → m % 2 ≢ 1 → b ≡ a → fold bit_xor a (under m (drop i ws)) ≡ r → fold bit_xor b (under (m / 2) (drop (i + 1) ws)) ≡ r
-word_passed m i a b ws r inside even is so_far =
-    let test : has_first m ≡ false = grind (arith, nat_tests) in
-    let here : under m (drop i ws) ≡ under (m / 2) (drop (i + 1) ws) = under_more m i ws inside ∙ ap (λ c. cond c (get_or ws i 0 ∷ under (m / 2) (drop (i + 1) ws)) (under (m / 2) (drop (i + 1) ws))) test in
-    ap (λ n. fold bit_xor n (under (m / 2) (drop (i + 1) ws))) is ∙ sym (ap (fold bit_xor a) here) ∙ so_far
 
 -- ---- eight bytes as a number
 eight : (a b c d e f g h : ℕ) (xs : List ℕ) → big_from 0 8 (a ∷ b ∷ c ∷ d ∷ e ∷ f ∷ g ∷ h ∷ xs) ≡ number_after 0 (a ∷ b ∷ c ∷ d ∷ e ∷ f ∷ g ∷ h ∷ [])

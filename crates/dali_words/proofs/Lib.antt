@@ -4,4 +4,5 @@ pub mod Apart
 pub mod Dependence
 pub mod Rows
 pub mod Bytes
+pub mod Lowest
 mod Fields

@@ -232,17 +232,16 @@ pub fn parity(words: &[u64; 64]) -> u64
     words.iter().fold(0, |all, word| all ^ *word)
 }
 
-/// The exclusive-or of the words in the set `mask`.
+/// The exclusive-or of the words in the set `mask`. It goes from one word of the set to the next, since an operation
+/// reads few.
 pub fn xor_under(words: &[u64; 64], mask: u64) -> u64
     ensures { result ≡ Words.xor_under mask words.now }
 {
     let mut all = 0;
     let mut left = mask;
-    for word in words {
-        if left % 2 == 1 {
-            all ^= *word;
-        }
-        left /= 2;
+    while left != 0 {
+        all ^= words[left.trailing_zeros() as usize];
+        left &= left - 1;
     }
     all
 }

@@ -1,10 +1,10 @@
 ghost use Rattle.std.specs.Prelude.{◌≡◌, ◌≤◌, ◌++◌, ◌&&◌, ◌⊎◌, ◌↔◌, true, IsErrOf, length, IsTrue, IsSome, IfOk, IfErr, OnOk, OnErr, count_ones};
 ghost use Rattle.dali_bytes.specs.Cursor.{left};
-ghost use Rattle.dali_bytes.specs.Reading.{Reads};
+ghost use Rattle.dali_bytes.specs.Reading.{Reads, number64_at};
 ghost use Rattle.dali_record.specs.Spelling;
 ghost use Rattle.dali_record.specs.Spelling.{CanBeSpelled, Begins, spelling, has_list};
 ghost use Rattle.dali_record.specs.declared.records.Record.{Record};
-ghost use Rattle.dali_record.specs.Reading.{Gives, HasList, Passes, is_above, cell_at, entry_at, flag_at, value_at, numbers_at, counted32_at, counted64_at, op_at, outcome_at, undo_at, block_at, block_of_at, call_at, answer_at, done_at, format_at, audit_fail_at, restarted_at, record_at};
+ghost use Rattle.dali_record.specs.Reading.{Gives, HasList, Passes, is_above, cell_at, entry_at, flag_at, value_at, numbers_at, counted32_at, counted64_at, op_at, outcome_at, undo_at, block_at, block_of_at, call_at, answer_at, done_at, format_at, audit_fail_at, restarted_at, record_at, two, three};
 
 use crate::codec::VERSION;
 use crate::codec::failure::{Failure, NoSpelling};
@@ -339,37 +339,84 @@ fn solo(reader: &mut Reader) -> Result<Block, NoSpelling>
     Ok(block)
 }
 
-#[tactic(auto, unfolding(crate::specs::Reading::done_at))]
-fn done(reader: &mut Reader) -> Result<Record, NoSpelling>
+/// An operation of a transaction's call.
+#[inline(never)]
+fn operation(reader: &mut Reader) -> Result<Record, Failure>
     ensures same { reader.new.all ≡ reader.old.all }
     ensures later { reader.old.at ≤ reader.new.at }
-    ensures read { Reads result (left reader.new) (done_at (left reader.old)) }
+    ensures read { Gives result (left reader.new) (two Record.Op number64_at (block_of_at Spelling.is_forward) (left reader.old)) }
+    ensures known { IsErrOf result Failure.OutOfMemory → ⊥ }
+{
+    Ok(Record::Op {
+        txn: reader.number64()?,
+        block: forward(reader)?,
+    })
+}
+
+/// A block that is a transaction of its own.
+#[inline(never)]
+fn freeing(reader: &mut Reader) -> Result<Record, Failure>
+    ensures same { reader.new.all ≡ reader.old.all }
+    ensures later { reader.old.at ≤ reader.new.at }
+    ensures read { Gives result (left reader.new) (three Record.Solo number64_at number64_at (block_of_at Spelling.is_solo) (left reader.old)) }
+    ensures known { IsErrOf result Failure.OutOfMemory → ⊥ }
+{
+    Ok(Record::Solo {
+        txn: reader.number64()?,
+        parent: reader.number64()?,
+        block: solo(reader)?,
+    })
+}
+
+/// An operation that takes back.
+#[inline(never)]
+fn taking_back(reader: &mut Reader) -> Result<Record, Failure>
+    ensures same { reader.new.all ≡ reader.old.all }
+    ensures later { reader.old.at ≤ reader.new.at }
+    ensures read { Gives result (left reader.new) (two Record.Back number64_at (block_of_at Spelling.is_back) (left reader.old)) }
+    ensures known { IsErrOf result Failure.OutOfMemory → ⊥ }
+{
+    Ok(Record::Back {
+        txn: reader.number64()?,
+        block: back(reader)?,
+    })
+}
+
+#[tactic(auto, unfolding(crate::specs::Reading::done_at))]
+#[inline(never)]
+fn done(reader: &mut Reader) -> Result<Record, Failure>
+    ensures same { reader.new.all ≡ reader.old.all }
+    ensures later { reader.old.at ≤ reader.new.at }
+    ensures read { Gives result (left reader.new) (done_at (left reader.old)) }
+    ensures known { IsErrOf result Failure.OutOfMemory → ⊥ }
 {
     let txn = reader.number64()?;
     let call = call(reader)?;
     let answer = answer(reader)?;
     if !is_answer_of(&call, &answer) {
-        return Err(NoSpelling);
+        return Err(Failure::NoSpelling);
     }
     Ok(Record::Done { txn, call, answer })
 }
 
 #[tactic(auto, unfolding(crate::specs::Reading::format_at, crate::specs::Reading::version_at))]
-fn format(reader: &mut Reader) -> Result<Record, NoSpelling>
+#[inline(never)]
+fn format(reader: &mut Reader) -> Result<Record, Failure>
     ensures same { reader.new.all ≡ reader.old.all }
     ensures later { reader.old.at ≤ reader.new.at }
-    ensures read { Reads result (left reader.new) (format_at (left reader.old)) }
+    ensures read { Gives result (left reader.new) (format_at (left reader.old)) }
+    ensures known { IsErrOf result Failure.OutOfMemory → ⊥ }
 {
     if reader.byte()? != VERSION {
-        return Err(NoSpelling);
+        return Err(Failure::NoSpelling);
     }
     let index = reader.number32()?;
     if index < 1 || MAX_INDEX < index {
-        return Err(NoSpelling);
+        return Err(Failure::NoSpelling);
     }
     let heap = reader.number32()?;
     if heap < 1 || MAX_HEAP < heap {
-        return Err(NoSpelling);
+        return Err(Failure::NoSpelling);
     }
     Ok(Record::Format { index, heap })
 }
@@ -455,6 +502,7 @@ fn regions(alloc: Global, reader: &mut Reader) -> Result<Regions, Failure>
 }
 
 #[tactic(auto, unfolding(crate::specs::Reading::audit_fail_at))]
+#[inline(never)]
 fn audit_fail(alloc: Global, reader: &mut Reader) -> Result<Record, Failure>
     ensures same { reader.new.all ≡ reader.old.all }
     ensures later { reader.old.at ≤ reader.new.at }
@@ -471,6 +519,7 @@ fn audit_fail(alloc: Global, reader: &mut Reader) -> Result<Record, Failure>
 }
 
 #[tactic(auto, unfolding(crate::specs::Reading::restarted_at))]
+#[inline(never)]
 fn restarted(alloc: Global, reader: &mut Reader) -> Result<Record, Failure>
     ensures same { reader.new.all ≡ reader.old.all }
     ensures later { reader.old.at ≤ reader.new.at }
@@ -496,39 +545,29 @@ fn record(alloc: Global, reader: &mut Reader) -> Result<Record, Failure>
     ensures read { Gives result (left reader.new) (record_at (left reader.old)) }
     ensures lists { IsErrOf result Failure.OutOfMemory → HasList (record_at (left reader.old)) }
 {
-    Ok(match reader.byte()? {
-        1 => format(reader)?,
-        2 => Record::Begin {
+    match reader.byte()? {
+        1 => format(reader),
+        2 => Ok(Record::Begin {
             txn: reader.number64()?,
-        },
-        3 => Record::Op {
+        }),
+        3 => operation(reader),
+        4 => done(reader),
+        5 => Ok(Record::Commit {
             txn: reader.number64()?,
-            block: forward(reader)?,
-        },
-        4 => done(reader)?,
-        5 => Record::Commit {
+        }),
+        6 => Ok(Record::Ended {
             txn: reader.number64()?,
-        },
-        6 => Record::Ended {
-            txn: reader.number64()?,
-        },
-        7 => Record::Solo {
-            txn: reader.number64()?,
-            parent: reader.number64()?,
-            block: solo(reader)?,
-        },
-        8 => Record::AuditBegin,
-        9 => Record::AuditClean {
+        }),
+        7 => freeing(reader),
+        8 => Ok(Record::AuditBegin),
+        9 => Ok(Record::AuditClean {
             begin: reader.number64()?,
-        },
-        10 => audit_fail(alloc, reader)?,
-        11 => restarted(alloc, reader)?,
-        12 => Record::Back {
-            txn: reader.number64()?,
-            block: back(reader)?,
-        },
-        _ => return Err(Failure::NoSpelling),
-    })
+        }),
+        10 => audit_fail(alloc, reader),
+        11 => restarted(alloc, reader),
+        12 => taking_back(reader),
+        _ => Err(Failure::NoSpelling),
+    }
 }
 
 /// Reads the record whose spelling begins at the reader, and leaves the reader behind it.

@@ -1,7 +1,10 @@
-use Rattle.std.proofs.Common.{◌≡◌, drop}
-use Rattle.std.specs.Prelude.{fold, bit_xor}
-use Rattle.dali_words.specs.Words.{under, xor_under}
+use Rattle.std.proofs.Common.{◌≡◌}
+use Rattle.std.specs.Prelude.{bit_xor}
+use Rattle.dali_words.specs.Words.{xor_under}
 use Rattle.dali_words.proofs.xor_under.Given as goal
 
-abbrev pub invariant-loop-word : goal.invariant-loop-word
-invariant-loop-word l = fold bit_xor l.all (under l.left (drop l.word-index l.words)) ≡ xor_under l.mask l.words
+abbrev pub invariant-loop-left : goal.invariant-loop-left
+invariant-loop-left l = bit_xor l.all (xor_under l.left l.words) ≡ xor_under l.mask l.words
+
+abbrev pub decreases-loop-left : goal.decreases-loop-left
+decreases-loop-left l = l.left
