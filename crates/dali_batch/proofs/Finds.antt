@@ -13,6 +13,15 @@ pub if_some_two : {A : Type 0} (P Q R : A → Type 0) (o : Option A) → IfSome 
 if_some_two P Q R None p q f = tt
 if_some_two P Q R (Some x) p q f = f x p q
 
+pub if_some_three : {A : Type 0} (P Q S R : A → Type 0) (o : Option A) → IfSome o P → IfSome o Q → IfSome o S → ((x : A) → P x → Q x → S x → R x) → IfSome o R
+if_some_three P Q S R None p q s f = tt
+if_some_three P Q S R (Some x) p q s f = f x p q s
+
+-- said of any contents
+pub if_some_any : {A : Type 0} (P : A → Type 0) (o : Option A) → ((x : A) → P x) → IfSome o P
+if_some_any P None f = tt
+if_some_any P (Some x) f = f x
+
 -- said of what another store told, which is the same
 pub if_some_same : {A : Type 0} (P : A → Type 0) (o p : Option A) → p ≡ o → IfSome p P → IfSome o P
 if_some_same {A = A} P o p same h = subst (λ (t : Option A). IfSome t P) same h

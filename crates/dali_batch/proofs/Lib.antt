@@ -10,3 +10,4 @@ pub mod Readings
 pub mod Rows
 pub mod Unique
 pub mod Walks
+pub mod Streaming

@@ -6,3 +6,4 @@ pub mod Log
 pub mod Errors
 pub mod Formatting
 pub mod Laws
+pub mod Stream

@@ -44,7 +44,7 @@ pub enum Found {
 }
 
 // Reads so many bytes as the buffer has. It answers whether all were there.
-fn fill<V: Store>(store: &mut V, at: u64, into: &mut [u8]) -> Result<bool, StoreFault>
+pub fn fill<V: Store>(store: &mut V, at: u64, into: &mut [u8]) -> Result<bool, StoreFault>
     requires { 0 < length into.old }
     ensures whole { IfOk result (λ whole. whole ≡ true → IfSome (V.told store.old) (λ fs.
         (at + length into.old ≤ length fs.log) × (into.new ≡ take (length into.old) (drop at fs.log)))) }
@@ -58,7 +58,7 @@ fn fill<V: Store>(store: &mut V, at: u64, into: &mut [u8]) -> Result<bool, Store
 }
 
 // The number that four bytes spell.
-fn number_of(bytes: &[u8]) -> u32
+pub fn number_of(bytes: &[u8]) -> u32
     requires { length bytes.now ≡ 4 }
     ensures { bytes.now ≡ number32 result }
 {

@@ -9,6 +9,7 @@ mod finding;
 mod formatting;
 mod frame;
 pub mod laws;
+mod reader;
 mod reading;
 mod writing;
 
@@ -16,6 +17,7 @@ pub use error::{BatchError, LogError};
 pub use finding::{Body, Found, find};
 pub use formatting::{format, is_formatted};
 pub use frame::Frame;
+pub use reader::LogReader;
 pub use reading::{Log, read_log};
 pub use writing::{append, flush};
 

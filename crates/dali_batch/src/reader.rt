@@ -1,0 +1,276 @@
+//! The log, record by record.
+ghost use Rattle.std.specs.Prelude.{◌≡◌, ◌≤◌, ◌<◌, ◌+◌, ◌-◌, ◌^◌, ◌++◌, ◌⊎◌, [], ◌∷◌, ℕ, true, false, Bool, List, length, take, drop, IfOk, OnOk, IfErr, IsErrOf, IfSome, IsNone, IsSome};
+ghost use Rattle.dali_store.specs.Faults.{Rose};
+ghost use Rattle.dali_record.specs.declared.records.Record.{Record};
+ghost use Rattle.dali_record.specs.Spelling.{CanBeSpelled, Begins, spelling};
+ghost use Rattle.dali_batch.specs.Batch.{IsUnformatted, IsClosedAt};
+ghost use Rattle.dali_batch.specs.Finding.{IsBad};
+ghost use Rattle.dali_batch.specs.Reads.{OnlyReads};
+ghost use Rattle.dali_batch.specs.Log.{LogOf, BadAt, records_in};
+ghost use Rattle.dali_batch.specs.Stream.{Covers, IsWhole, IsWindow, IsReadTo, HasBatch, Keeps};
+
+use crate::finding::{fill, number_of};
+use crate::{BatchError, LogError, MOST_BYTES, OPEN};
+use dali_bytes::Reader;
+use dali_record::{DecodeError, Record, decode};
+use dali_store::{FileName, Store};
+use std::alloc::Global;
+
+/// How many bytes of the log are read at once, where it has so many.
+const AHEAD: u64 = 1 << 18;
+
+/// Reads a log from its first gate to its end, one record after another. It holds a part of the file, 2^18 bytes or one
+/// batch where that is longer, and for a moment the next part too.
+#[derive(Drop)]
+pub struct LogReader {
+    alloc: Global,
+    // the part of the file that was read, and its place
+    bytes: Vec<u8>,
+    from: u64,
+    // the length of the file
+    length: u64,
+    // the next record's place in the batch that is being read, and the end of that batch
+    at: u64,
+    end: u64,
+}
+
+// The sizes in a Format.
+fn sizes_of(entry: &Record) -> Option<(u32, u32)>
+    ensures some { IfSome result (λ sizes. entry.now ≡ Record.Format sizes.0 sizes.1) }
+    ensures none { IsNone result → (index heap : ℕ) → entry.now ≡ Record.Format index heap → ⊥ }
+{
+    match entry {
+        Record::Format { index, heap } => Some((*index, *heap)),
+        _ => None,
+    }
+}
+
+// The sizes in a body that holds the one record Format, else none.
+fn format_of(alloc: Global, body: &[u8]) -> Option<(u32, u32)>
+    ensures some { IfSome result (λ sizes. CanBeSpelled (Record.Format sizes.0 sizes.1) × (body.now ≡ spelling (Record.Format sizes.0 sizes.1))) }
+    ensures none { IsNone result → (index heap : ℕ) → CanBeSpelled (Record.Format index heap) → body.now ≡ spelling (Record.Format index heap) → ⊥ }
+{
+    let mut reader = Reader::new(body);
+    let entry = match decode(alloc, &mut reader) {
+        Ok(entry) => entry,
+        Err(_) => return None,
+    };
+    if reader.left() > 0 {
+        return None;
+    }
+    sizes_of(&entry)
+}
+
+impl LogReader {
+    // Reads the part of the file that begins at a place where it has so many bytes.
+    fn read_ahead<V: Store>(
+        &mut self,
+        store: &mut V,
+        at: u64,
+        size: u32,
+    ) -> Result<bool, BatchError>
+        requires some { 0 < size }
+        requires inside { at + size ≤ self.old.length }
+        ensures whole { IfOk result (λ whole. whole ≡ true → Covers self.new at size) }
+        ensures short { IfOk result (λ whole. whole ≡ false → IfSome (V.told store.old) (λ fs. self.old.length ≡ length fs.log → ⊥)) }
+        ensures window { OnOk result (IfSome (V.told store.old) (λ fs. IsWindow fs.log self.old → IsWindow fs.log self.new)) }
+        ensures keeps { Keeps self.old self.new }
+        ensures good { IfErr result (λ e. (bad : ℕ) → e ≡ BatchError.BadLog bad → ⊥) }
+        ensures reads { OnlyReads V.told V.moment V.left_since V.may_leave store.old store.new }
+        ensures later { V.faults store.old ≤ V.faults store.new }
+        ensures fault { IsErrOf result BatchError.Fault → Rose (V.faults store.old) (V.faults store.new) }
+    {
+        let count = (self.length - at).min(AHEAD.max(size as u64));
+        let mut bytes = vec![in self.alloc; 0; count as usize]?;
+        if !fill(store, at, &mut bytes)? {
+            return Ok(false);
+        }
+        self.bytes = bytes;
+        self.from = at;
+        Ok(true)
+    }
+
+    // Answers whether the file has so many bytes from a place on; they stand in the part that was read then.
+    fn need<V: Store>(&mut self, store: &mut V, at: u64, size: u32) -> Result<bool, BatchError>
+        requires some { 0 < size }
+        ensures whole { IfOk result (λ whole. whole ≡ true → Covers self.new at size × (at + size ≤ self.new.length)) }
+        ensures short { IfOk result (λ whole. whole ≡ false → IfSome (V.told store.old) (λ fs. IsWindow fs.log self.old → length fs.log < at + size)) }
+        ensures window { OnOk result (IfSome (V.told store.old) (λ fs. IsWindow fs.log self.old → IsWindow fs.log self.new)) }
+        ensures keeps { Keeps self.old self.new }
+        ensures good { IfErr result (λ e. (bad : ℕ) → e ≡ BatchError.BadLog bad → ⊥) }
+        ensures reads { OnlyReads V.told V.moment V.left_since V.may_leave store.old store.new }
+        ensures later { V.faults store.old ≤ V.faults store.new }
+        ensures fault { IsErrOf result BatchError.Fault → Rose (V.faults store.old) (V.faults store.new) }
+    {
+        if self.length < at || self.length - at < size as u64 {
+            return Ok(false);
+        }
+        let have = self.bytes.len() as u64;
+        if self.from <= at && at - self.from <= have && size as u64 <= have - (at - self.from) {
+            return Ok(true);
+        }
+        self.read_ahead(store, at, size)
+    }
+
+    // So many bytes from a place on, which stand in the part that was read.
+    fn part(&self, at: u64, size: u64) -> &[u8]
+        requires { Covers self.now at size }
+        ensures { result.now ≡ take size (drop (at - self.now.from) self.now.bytes.items) }
+    {
+        let start = (at - self.from) as usize;
+        &self.bytes[start..start + size as usize]
+    }
+
+    // The size of the batch at a place, whose body stands in the part that was read then; none at a closed gate.
+    fn batch_at<V: Store>(&mut self, store: &mut V, at: u64) -> Result<Option<u32>, BatchError>
+        requires small { self.old.length < 2 ^ 62 }
+        requires inside { at ≤ self.old.length }
+        ensures batch { IfOk result (λ found. IfSome found (λ size. IfSome (V.told store.old) (λ fs. IsWindow fs.log self.old → HasBatch fs.log at size))) }
+        ensures none { IfOk result (λ found. IsNone found → IfSome (V.told store.old) (λ fs. IsWindow fs.log self.old → IsClosedAt at fs.log)) }
+        ensures there { IfOk result (λ found. IfSome found (λ size. Covers self.new (at + 5) size × (at + 5 + size ≤ self.new.length) × (0 < size))) }
+        ensures window { OnOk result (IfSome (V.told store.old) (λ fs. IsWindow fs.log self.old → IsWindow fs.log self.new)) }
+        ensures keeps { Keeps self.old self.new }
+        ensures bad { IfErr result (λ e. (bad : ℕ) → e ≡ BatchError.BadLog bad → IfSome (V.told store.old) (λ fs. IsWindow fs.log self.old → IsBad fs.log at bad)) }
+        ensures reads { OnlyReads V.told V.moment V.left_since V.may_leave store.old store.new }
+        ensures later { V.faults store.old ≤ V.faults store.new }
+        ensures fault { IsErrOf result BatchError.Fault → Rose (V.faults store.old) (V.faults store.new) }
+    {
+        if !self.need(store, at, 1)? {
+            return Err(BatchError::BadLog { at });
+        }
+        if self.part(at, 1)[0] != OPEN {
+            return Ok(None);
+        }
+        if !self.need(store, at + 1, 4)? {
+            return Err(BatchError::BadLog { at: at + 1 });
+        }
+        let size = number_of(self.part(at + 1, 4));
+        if size == 0 || size > MOST_BYTES {
+            return Err(BatchError::BadLog { at: at + 1 });
+        }
+        if !self.need(store, at + 5, size)? {
+            return Err(BatchError::BadLog { at: at + 1 });
+        }
+        Ok(Some(size))
+    }
+
+    /// A reader of the log, and the sizes in its first batch, which it has read: `Unformatted` exactly where the log has
+    /// fewer than two bytes or its first gate is closed, `BadLog` where no first batch with one Format stands there. It
+    /// takes memory for the part that it holds.
+    pub fn open<V: Store>(alloc: Global, store: &mut V) -> Result<(Self, (u32, u32)), LogError>
+        ensures whole { IfOk result (λ opened. IsWhole opened.0) }
+        ensures further { IfOk result (λ opened. 0 < opened.0.at) }
+        ensures first { IfOk result (λ opened. IfSome (V.told store.old) (λ fs. IsReadTo fs.log opened.0 (Record.Format opened.1.0 opened.1.1 ∷ []))) }
+        ensures spelled { IfOk result (λ opened. CanBeSpelled (Record.Format opened.1.0 opened.1.1)) }
+        ensures bad { IfErr result (λ e. (bad : ℕ) → e ≡ LogError.BadLog bad → IfSome (V.told store.old) (λ fs. BadAt fs.log bad)) }
+        ensures unformatted { IsErrOf result LogError.Unformatted → IfSome (V.told store.old) (λ fs. IsUnformatted fs.log) }
+        ensures reads { OnlyReads V.told V.moment V.left_since V.may_leave store.old store.new }
+        ensures later { V.faults store.old ≤ V.faults store.new }
+        ensures fault { IsErrOf result LogError.Fault → Rose (V.faults store.old) (V.faults store.new) }
+    {
+        let length = store.length(FileName::Log)?;
+        if length < 2 {
+            return Err(LogError::Unformatted);
+        }
+        let mut reader = LogReader {
+            alloc,
+            bytes: Vec::new(alloc),
+            from: 0,
+            length,
+            at: 0,
+            end: 0,
+        };
+        let Some(size) = reader.batch_at(store, 0)? else {
+            return Err(LogError::Unformatted);
+        };
+        let Some(sizes) = format_of(alloc, reader.part(5, size as u64)) else {
+            return Err(LogError::BadLog { at: 5 });
+        };
+        reader.at = 5 + size as u64;
+        reader.end = reader.at;
+        Ok((reader, sizes))
+    }
+
+    // Goes on to the batch behind the one that was read. It answers whether there is one.
+    fn next_batch<V: Store>(&mut self, store: &mut V) -> Result<bool, LogError>
+        requires whole { IsWhole self.old }
+        requires read { self.old.at ≡ self.old.end }
+        ensures whole { OnOk result (IsWhole self.new) }
+        ensures more { IfOk result (λ more. more ≡ true → (self.old.at < self.new.at) × (self.new.at < self.new.end)) }
+        ensures none { IfOk result (λ more. more ≡ false → self.new.at ≡ self.new.end) }
+        ensures stands { IfOk result (λ more. more ≡ true → IfSome (V.told store.old) (λ fs. (rs : List Record) → IsReadTo fs.log self.old rs → IsReadTo fs.log self.new rs)) }
+        ensures ends { IfOk result (λ more. more ≡ false → IfSome (V.told store.old) (λ fs. (rs : List Record) → IsReadTo fs.log self.old rs →
+            (L : List (List Record)) × LogOf fs.log L self.new.at × (rs ≡ records_in L))) }
+        ensures bad { IfErr result (λ e. (bad : ℕ) → e ≡ LogError.BadLog bad → IfSome (V.told store.old) (λ fs. (rs : List Record) → IsReadTo fs.log self.old rs → BadAt fs.log bad)) }
+        ensures formatted { IsErrOf result LogError.Unformatted → ⊥ }
+        ensures reads { OnlyReads V.told V.moment V.left_since V.may_leave store.old store.new }
+        ensures later { V.faults store.old ≤ V.faults store.new }
+        ensures fault { IsErrOf result LogError.Fault → Rose (V.faults store.old) (V.faults store.new) }
+    {
+        let place = self.end;
+        let Some(size) = self.batch_at(store, place)? else {
+            return Ok(false);
+        };
+        self.at = place + 5;
+        self.end = self.at + size as u64;
+        Ok(true)
+    }
+
+    // The next record of the batch, of which some is left.
+    fn next_record(&mut self) -> Result<Record, LogError>
+        requires whole { IsWhole self.old }
+        requires left { self.old.at < self.old.end }
+        ensures whole { OnOk result (IsWhole self.new) }
+        ensures further { OnOk result (self.old.at < self.new.at) }
+        ensures read { IfOk result (λ entry. (log : List ℕ) (rs : List Record) → IsReadTo log self.old rs → IsReadTo log self.new (rs ++ entry ∷ [])) }
+        ensures bad { IfErr result (λ e. (bad : ℕ) → e ≡ LogError.BadLog bad → (log : List ℕ) (rs : List Record) → IsReadTo log self.old rs → BadAt log bad) }
+        ensures errors { IfErr result (λ e. ((bad : ℕ) × (e ≡ LogError.BadLog bad)) ⊎ (e ≡ LogError.OutOfMemory)) }
+    {
+        let at = self.at;
+        let mut reader = Reader::new(self.part(at, self.end - at));
+        match decode(self.alloc, &mut reader) {
+            Ok(entry) => {
+                let size = reader.at() as u64;
+                self.at = at + size;
+                Ok(entry)
+            }
+            Err(DecodeError::OutOfMemory) => Err(LogError::OutOfMemory),
+            Err(DecodeError::BadRecord { .. }) => Err(LogError::BadLog { at }),
+        }
+    }
+
+    /// The next record, or none where the log ends. `BadLog` exactly where the bytes are no log, with the first bad
+    /// place: a place without a gate, a length that isn't 1 to 2^30 with so many bytes behind it, a place in a batch
+    /// where no record begins. `Fault` only where the store's count of faults rose. It takes memory for a record's lists,
+    /// and for the next part of the file where the one that is held ends. Nothing is said of the reader after an error,
+    /// nor after the end of the log.
+    pub fn next<V: Store>(&mut self, store: &mut V) -> Result<Option<Record>, LogError>
+        requires whole { IsWhole self.old }
+        ensures whole { OnOk result (IsWhole self.new) }
+        ensures further { IfOk result (λ next. IsSome next → self.old.at < self.new.at) }
+        ensures read { IfOk result (λ next. IfSome next (λ entry. IfSome (V.told store.old) (λ fs. (rs : List Record) →
+            IsReadTo fs.log self.old rs → IsReadTo fs.log self.new (rs ++ entry ∷ [])))) }
+        ensures ends { IfOk result (λ next. IsNone next → IfSome (V.told store.old) (λ fs. (rs : List Record) → IsReadTo fs.log self.old rs →
+            (L : List (List Record)) × LogOf fs.log L self.new.at × (rs ≡ records_in L))) }
+        ensures bad { IfErr result (λ e. (bad : ℕ) → e ≡ LogError.BadLog bad → IfSome (V.told store.old) (λ fs. (rs : List Record) → IsReadTo fs.log self.old rs → BadAt fs.log bad)) }
+        ensures formatted { IsErrOf result LogError.Unformatted → ⊥ }
+        ensures reads { OnlyReads V.told V.moment V.left_since V.may_leave store.old store.new }
+        ensures later { V.faults store.old ≤ V.faults store.new }
+        ensures fault { IsErrOf result LogError.Fault → Rose (V.faults store.old) (V.faults store.new) }
+    {
+        if self.at < self.end {
+            return Ok(Some(self.next_record()?));
+        }
+        if !self.next_batch(store)? {
+            return Ok(None);
+        }
+        Ok(Some(self.next_record()?))
+    }
+
+    /// The place behind the record that was read last; at the end of the log its place.
+    pub fn at(&self) -> u64
+        ensures { result ≡ self.now.at }
+    {
+        self.at
+    }
+}
