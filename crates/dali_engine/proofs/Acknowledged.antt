@@ -19,7 +19,7 @@ use Rattle.dali_engine.proofs.Goes.{records_push}
 itself : (t : ℕ) → Contains (t ∷ []) t
 itself t = (0, omega arith, refl)
 
-commit_there : (L : List (List Record)) (waiting : List Record) (t : ℕ) → Contains (committed (records_in (L ++ (waiting ++ Commit t ∷ []) ∷ []))) t
+pub commit_there : (L : List (List Record)) (waiting : List Record) (t : ℕ) → Contains (committed (records_in (L ++ (waiting ++ Commit t ∷ []) ∷ []))) t
 commit_there L waiting t =
     let last : Contains (committed (waiting ++ Commit t ∷ [])) t = subst (λ (ts : List ℕ). Contains ts t) (sym (filter_map-append commit_by waiting (Commit t ∷ []))) (Contains-append_right (committed waiting) (t ∷ []) t (itself t)) in
     subst (λ (log : List Record). Contains (committed log) t) (sym (records_push L (waiting ++ Commit t ∷ [])))

@@ -20,6 +20,7 @@ grown_before own l mid l' c more is g = record {
   front = g.front;
   later = g.later ++ more;
   within = is ∙ ap (λ (b : List (List Record)). b ++ more) g.within ∙ append_assoc g.L g.later more;
+  rests = g.rests;
   serves = g.serves;
 }
 
@@ -31,6 +32,7 @@ grown_behind own own' l mid l' c more is goes g = record {
   front = g.front ∙ ap (λ (b : List (List Record)). b ++ g.more) is ∙ append_assoc l.batches more g.more;
   later = g.later;
   within = g.within;
+  rests = λ o. g.rests (goes o);
   serves = λ o. g.serves (goes o);
 }
 

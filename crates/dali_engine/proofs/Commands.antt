@@ -58,7 +58,7 @@ other_runs e e' l end frame count runs = record { certain = runs.certain; end = 
 moved_in : (L : List (List Record)) (waiting : List Record) (rs : List Record) → records_in L ++ (waiting ++ rs) ≡ (records_in L ++ waiting) ++ rs
 moved_in L waiting rs = sym (append_assoc (records_in L) waiting rs)
 
-some_spelling : (front : List ℕ) (r : Record) → 0 < length (front ++ spelling r)
+pub some_spelling : (front : List ℕ) (r : Record) → 0 < length (front ++ spelling r)
 some_spelling front r = omega (arith, length-append front (spelling r), some r)
   where
     some : (r : Record) → 0 < length (spelling r)
@@ -76,8 +76,8 @@ some_spelling front r = omega (arith, length-append front (spelling r), some r)
     some (Rattle.dali_record.specs.declared.records.Record.TheVariants.Back t b) = omega arith
 
 verdict_stands : (log : List Record) (records : Rattle.dali_engine.specs.Held.Held) (last begin : ℕ) (rs : List ℕ) → Stands log records last None → Stands (log ++ verdict begin rs ∷ []) records last None
-verdict_stands log records last begin [] s = other_stands log records last (verdict begin []) s (λ t. refl) refl refl
-verdict_stands log records last begin (r ∷ rs) s = other_stands log records last (verdict begin (r ∷ rs)) s (λ t. refl) refl refl
+verdict_stands log records last begin [] s = other_stands log records last (verdict begin []) s (λ t. refl) refl refl refl
+verdict_stands log records last begin (r ∷ rs) s = other_stands log records last (verdict begin (r ∷ rs)) s (λ t. refl) refl refl refl
 
 is_stopped : (rs : List ℕ) → stop (stopped_by rs) Store ≡ None → ⊥
 is_stopped [] e = absurd cc
@@ -289,7 +289,7 @@ module _ {V : Type 0} (told : V → Option Files) (may_leave : V → Files → T
         stands own = subst (λ (log : List Record). Stands log e.records e.last None)
             (sym (records_push l.batches (l.waiting ++ AuditBegin ∷ verdict e.count (failing e.memory) ∷ []) ∙ moved_in l.batches l.waiting (AuditBegin ∷ verdict e.count (failing e.memory) ∷ [])
             ∙ sym (append_assoc (all_records l) (AuditBegin ∷ []) (verdict e.count (failing e.memory) ∷ []))))
-            (verdict_stands (all_records l ++ AuditBegin ∷ []) e.records e.last e.count (failing e.memory) (other_stands (all_records l) e.records e.last AuditBegin (own.stands is) (λ t. refl) refl refl))
+            (verdict_stands (all_records l ++ AuditBegin ∷ []) e.records e.last e.count (failing e.memory) (other_stands (all_records l) e.records e.last AuditBegin (own.stands is) (λ t. refl) refl refl refl))
 
         all : AreSpelled (l.waiting ++ AuditBegin ∷ verdict e.count (failing e.memory) ∷ [])
         all = spelled_more l.waiting (AuditBegin ∷ verdict e.count (failing e.memory) ∷ []) runs.spelled spelled

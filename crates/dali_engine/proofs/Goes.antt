@@ -46,7 +46,7 @@ pub served : (log : List Record) → Rests log → Serves log
 served log rests = serves log (replayed log) (last_in log) rests
 
 -- ---- what a crash leaves of the log
-none_in_doubt : (bytes : List ℕ) (L doubt : List (List Record)) → doubt ≡ [] → LogIs bytes L ⊎ LogIs bytes (L ++ doubt) → LogIs bytes L
+pub none_in_doubt : (bytes : List ℕ) (L doubt : List (List Record)) → doubt ≡ [] → LogIs bytes L ⊎ LogIs bytes (L ++ doubt) → LogIs bytes L
 none_in_doubt bytes L doubt none (inl here) = here
 none_in_doubt bytes L doubt none (inr there) = subst (LogIs bytes) (ap (λ (d : List (List Record)). L ++ d) none ∙ append-nil L) there
 
@@ -60,6 +60,7 @@ module _ (own : Type 0) (l l' : Log) (one : own → Rests (records_in l.batches)
     front = sym (append-nil l.batches);
     later = l'.doubt;
     within = ap (λ (b : List (List Record)). b ++ l'.doubt) same;
+    rests = one;
     serves = λ o. served (records_in l.batches) (one o);
   }
   here_or_more c same still (inr there) = record {
@@ -69,6 +70,7 @@ module _ (own : Type 0) (l l' : Log) (one : own → Rests (records_in l.batches)
     front = refl;
     later = [];
     within = ap (λ (b : List (List Record)). b ++ l'.doubt) same ∙ ap (λ (d : List (List Record)). l.batches ++ d) still ∙ sym (append-nil (l.batches ++ l.doubt));
+    rests = two;
     serves = λ o. served (records_in (l.batches ++ l.doubt)) (two o);
   }
 
@@ -119,8 +121,8 @@ module _ {V : Type 0} (told : V → Option Files) (may_leave : V → Files → T
     -- the log with the batch, or without
     grown_by : (own : Type 0) (l' : Log) → l'.batches ++ l'.doubt ≡ l.batches ++ rs ∷ [] → (own → Rests (records_in l.batches)) → (own → Rests (records_in (l.batches ++ rs ∷ []))) → (c : Files)
         → LogIs c.log l.batches ⊎ LogIs c.log (l.batches ++ rs ∷ []) → Grows own l l' c
-    grown_by own l' is one two c (inl here) = record { L = l.batches; log = here; more = []; front = sym (append-nil l.batches); later = rs ∷ []; within = is; serves = λ o. served (records_in l.batches) (one o) }
-    grown_by own l' is one two c (inr there) = record { L = l.batches ++ rs ∷ []; log = there; more = rs ∷ []; front = refl; later = []; within = is ∙ sym (append-nil (l.batches ++ rs ∷ [])); serves = λ o. served (records_in (l.batches ++ rs ∷ [])) (two o) }
+    grown_by own l' is one two c (inl here) = record { L = l.batches; log = here; more = []; front = sym (append-nil l.batches); later = rs ∷ []; within = is; rests = one; serves = λ o. served (records_in l.batches) (one o) }
+    grown_by own l' is one two c (inr there) = record { L = l.batches ++ rs ∷ []; log = there; more = rs ∷ []; front = refl; later = []; within = is ∙ sym (append-nil (l.batches ++ rs ∷ [])); rests = two; serves = λ o. served (records_in (l.batches ++ rs ∷ [])) (two o) }
 
     nothing_doubted : l.batches ++ rs ∷ [] ≡ (l.batches ++ l.doubt) ++ rs ∷ []
     nothing_doubted = ap (λ (b : List (List Record)). b ++ rs ∷ []) (sym (append-nil l.batches) ∙ ap (λ (d : List (List Record)). l.batches ++ d) (sym runs.certain))

@@ -5,10 +5,16 @@ mod Tables
 mod Named
 mod Runs
 mod First
-mod Opens
+pub mod Ordered
+pub mod Rolled
 pub mod Standing
+pub mod Replays
+mod Streams
+mod Legals
 pub mod Goes
 pub mod Commands
 pub mod Opened
 pub mod Blocks
-mod Acknowledged
+pub mod Acknowledged
+pub mod Wanting
+pub mod Knowing

@@ -8,7 +8,6 @@ use Rattle.dali_store.specs.Store.{Files, Only}
 use Rattle.dali_store.proofs.Moments.{moved}
 use Rattle.dali_record.specs.declared.records.Record.{Record}
 use Rattle.dali_record.specs.declared.records.Record.TheVariants.{Format}
-use Rattle.dali_record.specs.Spelling.{CanBeSpelled}
 use Rattle.dali_batch.specs.Appending.{next_place}
 use Rattle.dali_batch.specs.Batch.{batches}
 use Rattle.dali_batch.specs.Log.{LogOf, records_in}
@@ -50,26 +49,18 @@ module _ {V : Type 0} (told : V → Option Files) (may_leave : V → Files → T
       }
 
   -- one that was found
-  pub found_at : (e : Engine) (rolled : List ℕ) (old new : V) → told new ≡ told old → IfSome (told old) (λ fs. Only fs (may_leave new)) → (r : IfSome (told old) (λ fs. IsRestored fs.log e rolled))
-      → IfSome (told old) (λ fs. (l : Log) × IsAt told may_leave e new l)
-  found_at e rolled old new same only r = by_told (told old) refl only r
-    where
-      by_told : (o : Option Files) → told old ≡ o → IfSome o (λ fs. Only fs (may_leave new)) → IfSome o (λ fs. IsRestored fs.log e rolled) → IfSome o (λ fs. (l : Log) × IsAt told may_leave e new l)
-      by_told None is only r = tt
-      by_told (Some fs) is only r = (
-        found_log r.L,
-        record {
-          leaves = subst (λ (o : Option Files). IfSome o (λ _. (c : Files) → may_leave new c → LogIs c.log r.L ⊎ LogIs c.log (r.L ++ []))) (sym (same ∙ is))
-              (λ c left. inl (e.end, subst (λ (f : Files). LogOf f.log r.L e.end) (sym (only c left)) r.log));
-          runs = λ none. record {
-            certain = refl;
-            end = r.log.front.place;
-            frame = r.frame;
-            spelled = tt;
-            count = r.count ∙ ap length (sym (append-nil (records_in r.L)));
-          };
-        },
-      )
+  pub found_at : (fs : Files) (e : Engine) (rolled : List ℕ) (old new : V) → told old ≡ Some fs → told new ≡ told old → Only fs (may_leave new) → (r : IsRestored fs.log e rolled) → IsAt told may_leave e new (found_log r.L)
+  found_at fs e rolled old new is same only r = record {
+    leaves = subst (λ (o : Option Files). IfSome o (λ _. (c : Files) → may_leave new c → LogIs c.log r.L ⊎ LogIs c.log (r.L ++ []))) (sym (same ∙ is))
+        (λ c left. inl (e.end, subst (λ (f : Files). LogOf f.log r.L e.end) (sym (only c left)) r.log));
+    runs = λ none. record {
+      certain = refl;
+      end = r.log.front.place;
+      frame = r.frame;
+      spelled = tt;
+      count = r.count ∙ ap length (sym (append-nil (records_in r.L)));
+    };
+  }
 
 own_by : (bytes : List ℕ) (e : Engine) (rolled : List ℕ) (r : IsRestored bytes e rolled) (L : List (List Record)) → r.L ≡ L → Rests (records_in L) → IsOwn e (found_log r.L) None
 own_by bytes e rolled r L is rests =

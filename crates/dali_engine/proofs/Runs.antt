@@ -4,7 +4,7 @@ use Rattle.std.proofs.lemmas.List.{take_more, take-append-drop}
 use Rattle.std.specs.Prelude.{Option}
 use Rattle.dali_store.specs.Store.{Files}
 use Rattle.dali_script.specs.declared.commands.ClientCommand.{ClientCommand}
-use Rattle.dali_engine.specs.Acts.{flushed_by}
+use Rattle.dali_engine.specs.Acts.{logs, flushes, flushed_by}
 use Rattle.dali_engine.specs.Flushes.{Turn, Acts, ActsAll, Lost, LostIn}
 
 -- one item more of the front
@@ -29,7 +29,7 @@ module _ {V : Type 0} (told : V → Option Files) (may_leave : V → Files → T
 
   pub is_lost : (commands : List ClientCommand) (i : ℕ) (command : ClientCommand) (start now : Turn V) (store : V) → i < length commands → command ≡ slice_index_or commands i command
       → ActsAll told may_leave moment left_since faults (take i commands) start now
-      → Lost told may_leave moment left_since faults now.engine.end (flushed_by now.engine now.stage command) now.store store → LostIn told may_leave moment left_since faults commands start store
+      → Lost told may_leave moment left_since faults (flushes now.engine now.stage command) (logs now.engine now.stage command) now.engine.end (flushed_by now.engine now.stage command) now.store store → LostIn told may_leave moment left_since faults commands start store
   is_lost commands i command start now store within is all lost = record {
     done = take i commands;
     command = command;

@@ -20,34 +20,33 @@ use Rattle.dali_record.specs.declared.records.Answer.TheVariants.{Ok as AnswerOk
 use Rattle.dali_record.specs.declared.records.Call.{Call}
 use Rattle.dali_record.specs.declared.records.Call.TheVariants as calls
 use Rattle.dali_record.specs.declared.records.Record.{Record}
-use Rattle.dali_record.specs.declared.records.Record.TheVariants.{Begin, Done, Commit, Ended}
+use Rattle.dali_record.specs.declared.records.Record.TheVariants.{Format, Begin, Done, Commit, Ended}
 use Rattle.dali_record.specs.Log.{call_by, calls_of, commit_by, committed}
 use Rattle.dali_history.specs.Serial.{Map, empty_map, set_at, value_after, map_after, call_step, calls_after, serial, with_value}
 use Rattle.dali_engine.specs.Held.{Held, is_free, after_insert, answer_to_insert, answer_to_get, answer_of_value, applied, applied_all}
-use Rattle.dali_engine.specs.Replay.{Found, nothing_found, found_in, replay_step, after_number, after_commit, after_done, joined, last_in}
+use Rattle.dali_engine.specs.Replay.{Found, found_in, replay_step, after_number, after_commit, after_done, joined, last_in}
+use Rattle.dali_engine.specs.Order.{last_number, is_running}
 use Rattle.dali_engine.specs.Standing.{row_of, IsFound, Stands, Rests, Serves}
+use Rattle.dali_engine.proofs.Ordered.{order_nil, order_push, found_last, is_running_runs, one_epoch, are_running, found_push}
 
 -- ---- one record more
-calls_push : (t : ℕ) (log : List Record) (r : Record) → calls_of t (log ++ r ∷ []) ≡ calls_of t log ++ filter_map (call_by t) (r ∷ [])
+pub calls_push : (t : ℕ) (log : List Record) (r : Record) → calls_of t (log ++ r ∷ []) ≡ calls_of t log ++ filter_map (call_by t) (r ∷ [])
 calls_push t log r = filter_map-append (call_by t) log (r ∷ [])
 
-committed_push : (log : List Record) (r : Record) → committed (log ++ r ∷ []) ≡ committed log ++ filter_map commit_by (r ∷ [])
+pub committed_push : (log : List Record) (r : Record) → committed (log ++ r ∷ []) ≡ committed log ++ filter_map commit_by (r ∷ [])
 committed_push log r = filter_map-append commit_by log (r ∷ [])
 
-found_push : (log : List Record) (r : Record) → found_in (log ++ r ∷ []) ≡ replay_step (found_in log) r
-found_push log r = fold_push replay_step nothing_found log r
-
 -- a replay looks at a log through the calls of its transactions alone
-serial_same : (ts : List ℕ) (log other : List Record) (o : Option Map) → AllByRecursion (λ t. calls_of t log ≡ calls_of t other) ts
+pub serial_same : (ts : List ℕ) (log other : List Record) (o : Option Map) → AllByRecursion (λ t. calls_of t log ≡ calls_of t other) ts
     → fold (λ p t. calls_after p (calls_of t log)) o ts ≡ fold (λ p t. calls_after p (calls_of t other)) o ts
 serial_same [] log other o same = refl
 serial_same (t ∷ ts) log other o same =
     ap (λ p. fold (λ q u. calls_after q (calls_of u log)) p ts) (ap (λ cs. calls_after o cs) same.0) ∙ serial_same ts log other (calls_after o (calls_of t other)) same.1
 
-serial_push : (m : Map) (ts : List ℕ) (t : ℕ) (log : List Record) → serial m (ts ++ t ∷ []) log ≡ calls_after (serial m ts log) (calls_of t log)
+pub serial_push : (m : Map) (ts : List ℕ) (t : ℕ) (log : List Record) → serial m (ts ++ t ∷ []) log ≡ calls_after (serial m ts log) (calls_of t log)
 serial_push m ts t log = fold_push (λ o u. calls_after o (calls_of u log)) (Some m) ts t
 
-same_number : (t : ℕ) → (t == t) ≡ true
+pub same_number : (t : ℕ) → (t == t) ≡ true
 same_number t = grind (arith, nat_tests)
 
 other_number : (u t : ℕ) → u < t → (t == u) ≡ false
@@ -56,7 +55,7 @@ other_number u t lt = grind (arith, nat_tests)
 later_number : (u t : ℕ) → t < u → (t == u) ≡ false
 later_number u t lt = grind (arith, nat_tests)
 
-all_the_same : (ts : List ℕ) (log other : List Record) → ((t : ℕ) → calls_of t log ≡ calls_of t other) → AllByRecursion (λ t. calls_of t log ≡ calls_of t other) ts
+pub all_the_same : (ts : List ℕ) (log other : List Record) → ((t : ℕ) → calls_of t log ≡ calls_of t other) → AllByRecursion (λ t. calls_of t log ≡ calls_of t other) ts
 all_the_same [] log other same = tt
 all_the_same (t ∷ ts) log other same = (same t, all_the_same ts log other same)
 
@@ -108,14 +107,11 @@ nothing_removed t = finite.same_map nat_cmp_total exact_unsigned _ _ (λ q.
 joined_first : (t : ℕ) → joined finite.empty t ≡ finite.insert finite.empty t (row_of [])
 joined_first t = ap (λ (o : Option (Row Call)). cond (is_some o) finite.empty (finite.insert finite.empty t fresh_row)) (finite.get-empty nat_cmp t)
 
-joined_again : (m : Table Call) (t : ℕ) (row : Row Call) → finite.get m t ≡ Some row → joined m t ≡ m
-joined_again m t row e = ap (λ (o : Option (Row Call)). cond (is_some o) m (finite.insert m t fresh_row)) e
-
-more_calls : (t : ℕ) (cs : List Call) (c : Call) → with_row (joined (finite.insert finite.empty t (row_of cs)) t) t (with_undo c) ≡ finite.insert finite.empty t (row_of (cs ++ c ∷ []))
+more_calls : (t : ℕ) (cs : List Call) (c : Call) → with_row (finite.insert finite.empty t (row_of cs)) t (with_undo c) ≡ finite.insert finite.empty t (row_of (cs ++ c ∷ []))
 more_calls t cs c =
     let m = finite.insert finite.empty t (row_of cs) in
     let there = same_there finite.empty t (row_of cs) in
-    ap (λ (n : Table Call). with_row n t (with_undo c)) (joined_again m t (row_of cs) there) ∙ by_row m (finite.get m t) there ∙ inserted_twice finite.empty t (row_of cs) (row_of (cs ++ c ∷ []))
+    by_row m (finite.get m t) there ∙ inserted_twice finite.empty t (row_of cs) (row_of (cs ++ c ∷ []))
   where
     by_row : (m : Table Call) (o : Option (Row Call)) → o ≡ Some (row_of cs) → Rattle.std.specs.Option.option_map_or (λ row. finite.insert m t (with_undo c row)) o m ≡ finite.insert m t (row_of (cs ++ c ∷ []))
     by_row m o e = ap (λ (p : Option (Row Call)). Rattle.std.specs.Option.option_map_or (λ row. finite.insert m t (with_undo c row)) p m) e
@@ -134,6 +130,7 @@ new_log index heap = record {
   now = λ k. sym (finite.get-empty nat_cmp k);
   found = (refl, refl);
   number = refl;
+  order = order_push [] (Format index heap) order_nil refl;
 }
 
 -- ---- what a restart finds
@@ -151,6 +148,7 @@ serves log records last s = record {
   replays = s.replays;
   finds = λ k. s.now k ∙ ap (λ (m : Held). finite.get m k) (sym s.found.1);
   nothing_open = no_keys (found_in log).unfinished s.found.0;
+  in_order = s.order;
 }
 
 pub at_rest : (log : List Record) (records : Held) (last : ℕ) → Stands log records last None → Rests log
@@ -180,13 +178,23 @@ module _ (log : List Record) (records : Held) (last : ℕ) (s : Stands log recor
     now = (s.base, ap (calls_after (Some s.base)) (begin_calls (last + 1) ∙ s.fresh (last + 1) (omega arith)), s.now);
     found = begin_found;
     number = ap (λ (f : Found). f.last) (found_push log (Begin (last + 1))) ∙ omega (arith, s.number);
+    order = order_push log (Begin (last + 1)) s.order new_number;
   }
+    where
+      new_number : Rattle.std.specs.Prelude.nat_lt (last_number log) (last + 1) ≡ true
+      new_number = let same : last_number log ≡ last = sym (found_last log) ∙ s.number in grind (arith, nat_tests, same)
+
+-- the open transaction runs
+runs_now : (log : List Record) (records : Held) (last t : ℕ) → Stands log records last (Some t) → is_running log t ≡ true
+runs_now log records last t s =
+    is_running_runs log (one_epoch log s.order) t
+    ∙ sym (sym (ap (λ (m : Table Call). is_some (finite.get m t)) s.found.1 ∙ ap (λ (o : Option (Row Call)). is_some o) (same_there finite.empty t (row_of s.found.0))) ∙ are_running log s.order t)
 
 -- ---- a call that was answered
-one_call : (t : ℕ) (c : Call) (a : Answer) → filter_map (call_by t) (Done t c a ∷ []) ≡ (c, a) ∷ []
+pub one_call : (t : ℕ) (c : Call) (a : Answer) → filter_map (call_by t) (Done t c a ∷ []) ≡ (c, a) ∷ []
 one_call t c a = ap (λ (b : Bool). filter_map (λ (o : Option (Call × Answer)). o) (cond b (Some (c, a)) None ∷ [])) (same_number t)
 
-no_call : (u t : ℕ) (c : Call) (a : Answer) → (t == u) ≡ false → filter_map (call_by u) (Done t c a ∷ []) ≡ []
+pub no_call : (u t : ℕ) (c : Call) (a : Answer) → (t == u) ≡ false → filter_map (call_by u) (Done t c a ∷ []) ≡ []
 no_call u t c a apart = ap (λ (b : Bool). filter_map (λ (o : Option (Call × Answer)). o) (cond b (Some (c, a)) None ∷ [])) apart
 
 -- what a call leaves, by the table of calls and in memory
@@ -234,6 +242,7 @@ module _ (log : List Record) (records : Held) (last t : ℕ) (c : Call) (a : Ans
         );
         found = subst (λ f. IsFound f records' (Some t)) (sym (found_push log (Done t c a))) (finds s.found);
         number = ap (λ (f : Found). f.last) (found_push log (Done t c a)) ∙ same_last (found_in log) a s.number s.latest;
+        order = order_push log (Done t c a) s.order (runs_now log records last t s);
       }
     where
       same_last : (f : Found) (b : Answer) → f.last ≡ last → t ≡ last → max (after_done f t c b).last t ≡ last
@@ -251,7 +260,7 @@ bools_agree true d f g = sym (f refl)
 bools_agree false true f g = g refl
 bools_agree false false f g = refl
 
-same_test : (q k : ℕ) → eq_by_cmp nat_cmp q k ≡ (q == k)
+pub same_test : (q k : ℕ) → eq_by_cmp nat_cmp q k ≡ (q == k)
 same_test q k = bools_agree (eq_by_cmp nat_cmp q k) (q == k)
     (λ e. (Decides-eqb q k).1 (exact_unsigned q k (of_eq (nat_cmp q k) e)))
     (λ e. subst (λ (x : ℕ). eq_by_cmp nat_cmp q x ≡ true) ((Decides-eqb q k).0 e) ((eq_by_cmp_equiv nat_cmp_total).refl q))
@@ -287,7 +296,7 @@ insert_finds f records t k v is = by_free (is_free records k)
     by_free : (b : Bool) → IsFound (after_done f t (calls.Insert k v) (cond b AnswerOk Exists)) (cond b (finite.insert records k v) records) (Some t)
     by_free true = (
       is.0 ++ calls.Insert k v ∷ [],
-      ap (λ (m : Table Call). with_row (joined m t) t (with_undo (calls.Insert k v))) is.1 ∙ more_calls t is.0 (calls.Insert k v),
+      ap (λ (m : Table Call). with_row m t (with_undo (calls.Insert k v))) is.1 ∙ more_calls t is.0 (calls.Insert k v),
       fold_push applied f.records is.0 (calls.Insert k v) ∙ ap (λ (m : Held). finite.insert m k v) is.2,
     )
     by_free false = is
@@ -354,11 +363,12 @@ module _ (log : List Record) (records : Held) (last t : ℕ) (s : Stands log rec
     now = s.now.2;
     found = subst (λ f. IsFound f records None) (sym (found_push log (Commit t))) commit_found;
     number = ap (λ (f : Found). f.last) (found_push log (Commit t)) ∙ omega (arith, s.number, s.latest);
+    order = order_push log (Commit t) s.order (runs_now log records last t s);
   }
 
 -- ---- a record of no call, and of no transaction that stands open
 module _ (log : List Record) (records : Held) (last : ℕ) (r : Record) (s : Stands log records last None) (none : (t : ℕ) → filter_map (call_by t) (r ∷ []) ≡ []) (no_commit : filter_map commit_by (r ∷ []) ≡ [])
-    (finds : replay_step (found_in log) r ≡ found_in log) where
+    (finds : replay_step (found_in log) r ≡ found_in log) (goes : Rattle.dali_engine.specs.Order.follows log r ≡ true) where
   other_calls : (t : ℕ) → calls_of t (log ++ r ∷ []) ≡ calls_of t log
   other_calls t = calls_push t log r ∙ ap (λ (l : List (Call × Answer)). calls_of t log ++ l) (none t) ∙ append-nil (calls_of t log)
 
@@ -377,11 +387,12 @@ module _ (log : List Record) (records : Held) (last : ℕ) (r : Record) (s : Sta
     now = s.now;
     found = subst (λ f. IsFound f records None) (sym (found_push log r ∙ finds)) s.found;
     number = ap (λ (f : Found). f.last) (found_push log r ∙ finds) ∙ s.number;
+    order = order_push log r s.order goes;
   }
 
 pub ended_stands : (log : List Record) (records : Held) (last t : ℕ) → t ≤ last → Stands log records last None → Stands (log ++ Ended t ∷ []) records last None
 unfolding no_rows
-ended_stands log records last t le s = other_stands log records last (Ended t) s (λ u. refl) refl (same (found_in log) s.found.0 s.number)
+ended_stands log records last t le s = other_stands log records last (Ended t) s (λ u. refl) refl (same (found_in log) s.found.0 s.number) refl
   where
     same : (f : Found) → f.unfinished ≡ finite.empty → f.last ≡ last → replay_step f (Ended t) ≡ f
     same f e n = λ i. record {

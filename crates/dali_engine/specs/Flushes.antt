@@ -6,7 +6,7 @@
 --     Does F bytes old new    a command, by what it does in memory and the batch that it adds
 --     Acts c old new          a client's command
 --     ActsAll cs old new      some commands in order
---     Lost at bytes old new   a command for which memory was wanting;  LostIn: the last of some commands
+--     Lost flushing rs at bytes old new     a command for which memory was wanting;  LostIn: the last of some commands
 use Rattle.std.specs.Prelude.{◌≡◌, ◌⊎◌, ℕ, Bool, true, false, List, [], ◌∷◌, ◌++◌, Option, Some, None, IfSome, is_some}
 use Rattle.dali_store.specs.Faults.{Rose}
 use Rattle.dali_store.specs.Store.{Files, LeavesOnly, SameBut}
@@ -21,7 +21,7 @@ use Rattle.dali_engine.specs.declared.engine.Engine.{Engine}
 use Rattle.dali_engine.specs.declared.engine.Stage.{Stage}
 use Rattle.dali_script.specs.declared.names.Name.TheVariants as names
 use Rattle.dali_engine.specs.declared.engine.Cause.{Cause}
-use Rattle.dali_engine.specs.Acts.{Acted, act, logs, flushed_by, stopped_line}
+use Rattle.dali_engine.specs.Acts.{Acted, act, logs, flushes, flushed_by, stopped_line}
 use Rattle.dali_engine.specs.Held.{Held, value_in, ShowsAll}
 
 -- what reads give of the files but the log stays
@@ -68,9 +68,9 @@ module _ {V : Type 0} (told : V → Option Files) (may_leave : V → Files → T
   ActsAll [] old new = new ≡ old
   ActsAll (command ∷ later) old new = (mid : Turn V) × Acts command old mid × ActsAll later mid new
 
-  -- a command for which memory was wanting: its batch was added, or the store failed in that, or nothing was written
-  abbrev pub Lost : ℕ → List ℕ → V → V → Type 0
-  Lost at bytes old new = (new ≡ old) ⊎ ((ok : Bool) × Flushes ok at bytes old new)
+  -- a command for which memory was wanting: nothing was written; or, where it flushes, its batch was added, with these records last, or the store failed in that
+  abbrev pub Lost : Bool → List Record → ℕ → List ℕ → V → V → Type 0
+  Lost flushing logged at bytes old new = (new ≡ old) ⊎ ((flushing ≡ true) × AreSpelled logged × ((ok : Bool) × Flushes ok at bytes old new))
 
   -- the same of the last of some commands
   pub record LostIn (commands : List ClientCommand) (old : Turn V) (new : V) : Type 0 where
@@ -80,7 +80,7 @@ module _ {V : Type 0} (told : V → Option Files) (may_leave : V → Files → T
     pub all : commands ≡ done ++ command ∷ later
     pub before : Turn V
     pub acts : ActsAll done old before
-    pub lost : Lost before.engine.end (flushed_by before.engine before.stage command) before.store new
+    pub lost : Lost (flushes before.engine before.stage command) (logs before.engine before.stage command) before.engine.end (flushed_by before.engine before.stage command) before.store new
 
 -- all records are shown, unless the engine is stopped
 abbrev pub ShowsUnless : Option Cause → Held → List Line → List Line → Type 0

@@ -1,9 +1,11 @@
 pub mod Held
 pub mod Replay
 pub mod Finding
+pub mod Order
 pub mod Memory
 pub mod Acts
 pub mod Flushes
 pub mod Opening
 pub mod Standing
 pub mod State
+pub mod Told

@@ -1,9 +1,9 @@
 -- How a database is made, and how it is found again.
 --     HasSizes s log          the log's first record names these sizes
 --     IsNew s e               what is held in memory of a new database
---     IsRestored bytes e ts   what is held in memory of a database that is found in these bytes of a log, and the transactions that are unfinished there
+--     IsRestored bytes e ts   what is held in memory of a database that is found in these bytes of a log, and the transactions that are unfinished there; of a log in order that is what the definitions of history say
 --     Makes .. s old new      the log was without batches, and a crash leaves the first one now; the images are as before
---     MakesAtAnyMoment ..     a crash at any moment leaves the log as before, without batches, or with the first one
+--     MakesAtAnyMoment ..     a crash at any moment leaves the files as before, or, where the log was without batches, a log without batches or with the first one
 use Rattle.std.specs.FinMap as finite
 use Rattle.std.specs.Prelude.{◌≡◌, ◌⊎◌, ℕ, List, [], ◌∷◌, length, Option, None, IfSome}
 use Rattle.dali_geometry.specs.Sizes.{Sizes}
@@ -14,12 +14,14 @@ use Rattle.dali_store.specs.Store.{Files, LeavesOnly}
 use Rattle.dali_batch.specs.declared.error.LogError.{LogError}
 use Rattle.dali_batch.specs.declared.error.LogError.TheVariants as logs
 use Rattle.dali_batch.specs.Appending.{next_place}
+use Rattle.dali_batch.specs.Batch.{IsUnformatted}
 use Rattle.dali_batch.specs.Formatting.{FormatLeaves, IsFormattedBy}
 use Rattle.dali_batch.specs.Log.{LogOf, records_in}
 use Rattle.dali_engine.specs.declared.engine.Engine.{Engine}
 use Rattle.dali_engine.specs.declared.opening.OpenError.{OpenError}
 use Rattle.dali_engine.specs.declared.opening.OpenError.TheVariants as errors
 use Rattle.dali_engine.specs.Memory.{formatted_regions}
+use Rattle.dali_engine.specs.Order.{IsInOrder, RestoresCommitted}
 use Rattle.dali_engine.specs.Replay.{replayed, unfinished, last_in}
 
 abbrev pub open_error : LogError → OpenError
@@ -57,6 +59,7 @@ pub record IsRestored (bytes : List ℕ) (e : Engine) (rolled_back : List ℕ) :
   pub frame : e.frame ≡ []
   pub running : e.stopped ≡ None
   pub rolled_back_are : rolled_back ≡ unfinished (records_in L)
+  pub right : IsInOrder (records_in L) → RestoresCommitted (records_in L) e.records rolled_back
 
 module _ {V : Type 0} (told : V → Option Files) (may_leave : V → Files → Type 0) where
   abbrev pub Makes : Sizes → V → V → Type 0
@@ -64,4 +67,5 @@ module _ {V : Type 0} (told : V → Option Files) (may_leave : V → Files → T
 
   module _ (moment : V → ℕ) (left_since : V → ℕ → Files → Type 0) where
     abbrev pub MakesAtAnyMoment : Sizes → V → V → Type 0
-    MakesAtAnyMoment s old new = IfSome (told old) (λ _. LeavesOnly moment left_since old new (λ c. may_leave old c ⊎ FormatLeaves (may_leave old) (first_body s) c))
+    MakesAtAnyMoment s old new =
+        IfSome (told old) (λ fs. LeavesOnly moment left_since old new (λ c. may_leave old c ⊎ (IsUnformatted fs.log × FormatLeaves (may_leave old) (first_body s) c)))

@@ -28,8 +28,9 @@ nothing_found = record { records = finite.empty; unfinished = finite.empty; last
 abbrev pub joined : Table Call → ℕ → Table Call
 joined m t = if is_some (finite.get m t) then m else finite.insert m t fresh_row
 
+-- a call of a transaction that hasn't begun waits for nothing
 abbrev pub after_done : Found → ℕ → Call → Answer → Found
-after_done f t call AnswerOk = record f { unfinished = with_row (joined f.unfinished t) t (with_undo call) }
+after_done f t call AnswerOk = record f { unfinished = with_row f.unfinished t (with_undo call) }
 after_done f t call answer = f
 
 abbrev pub after_commit : Found → ℕ → Found

@@ -1,7 +1,7 @@
 -- What stands between two records of a log that this engine writes.
---     Stands log m last c      the committed transactions of the log replay; those and the open one c give the records m in memory; last is the greatest number; a restart finds what is committed
+--     Stands log m last c      the committed transactions of the log replay; those and the open one c give the records m in memory; last is the greatest number; a restart finds what is committed; the records stand in order
 --     Rests log                the same where no transaction is open, with the records that a restart finds
---     Serves log               the committed transactions replay, with the answers that they got; a restart finds just what they leave, and nothing unfinished
+--     Serves log               the committed transactions replay, with the answers that they got; a restart finds just what they leave, and nothing unfinished; the records stand in order
 use Rattle.std.specs.Prelude.{◌≡◌, ℕ, ◌+◌, ◌<◌, List, [], Option, Some, None, IfSome}
 use Rattle.std.specs.List.{AllByRecursion}
 use Rattle.std.specs.FinMap as finite
@@ -13,12 +13,14 @@ use Rattle.dali_record.specs.Log.{calls_of, committed}
 use Rattle.dali_history.specs.Serial.{Map, empty_map, calls_after, serial}
 use Rattle.dali_engine.specs.Held.{Held, applied_all}
 use Rattle.dali_engine.specs.Replay.{Found, found_in, replayed, unfinished, last_in}
+use Rattle.dali_engine.specs.Order.{IsInOrder}
 
 pub record Serves (log : List Record) : Type 0 where
   pub map : Map
   pub replays : serial empty_map (committed log) log ≡ Some map
   pub finds : (k : ℕ) → map k ≡ finite.get (replayed log) k
   pub nothing_open : unfinished log ≡ []
+  pub in_order : IsInOrder log
 
 abbrev pub bound : Option ℕ → ℕ → ℕ
 bound None last = last + 1
@@ -44,6 +46,7 @@ pub record Stands (log : List Record) (records : Held) (last : ℕ) (current : O
   pub now : Now base log records current
   pub found : IsFound (found_in log) records current
   pub number : (found_in log).last ≡ last
+  pub order : IsInOrder log
 
 -- the same of a log at which no transaction is open, with the records that a restart finds
 abbrev pub Rests : List Record → Type 0

@@ -79,7 +79,7 @@ module _ {V : Type 0} (told : V → Option Files) (may_leave : V → Files → T
     pub leaves : Leaves store l
     pub runs : RunsUnless e l
 
--- the log of some files has the old batches at its front, and of the new log some first ones; where the log is one that the engine wrote, it serves
+-- the log of some files has the old batches at its front, and of the new log some first ones; where the log is one that the engine wrote, no transaction is open in it, and it serves
 pub record Grows (own : Type 0) (old new : Log) (c : Files) : Type 0 where
   pub L : List (List Record)
   pub log : LogIs c.log L
@@ -87,6 +87,7 @@ pub record Grows (own : Type 0) (old new : Log) (c : Files) : Type 0 where
   pub front : L ≡ old.batches ++ more
   pub later : List (List Record)
   pub within : new.batches ++ new.doubt ≡ L ++ later
+  pub rests : own → Rests (records_in L)
   pub serves : own → Serves (records_in L)
 
 -- what a client's command leads to, beside what it does in memory

@@ -278,7 +278,7 @@ impl Engine {
             (record { engine = self.new; stage = Outside; lines = lines.new; store = store.new })) }
         ensures gated { OnOk result (IsGated V.told V.may_leave self.new store.new) }
         ensures later { V.faults store.old ≤ V.faults store.new }
-        ensures memory { OnErr result (Lost V.told V.may_leave V.moment V.left_since V.faults self.old.end (log_one self.old (CommitRecord txn)).frame store.old store.new) }
+        ensures memory { OnErr result (Lost V.told V.may_leave V.moment V.left_since V.faults true (CommitRecord txn ∷ []) self.old.end (log_one self.old (CommitRecord txn)).frame store.old store.new) }
     {
         self.log(&Record::Commit { txn })?;
         if self.flush(store)? {
@@ -351,7 +351,7 @@ impl Engine {
             (record { engine = self.new; stage = Outside; lines = lines.new; store = store.new })) }
         ensures gated { OnOk result (IsGated V.told V.may_leave self.new store.new) }
         ensures later { V.faults store.old ≤ V.faults store.new }
-        ensures memory { OnErr result (Lost V.told V.may_leave V.moment V.left_since V.faults self.old.end (noted self.old).frame store.old store.new) }
+        ensures memory { OnErr result (Lost V.told V.may_leave V.moment V.left_since V.faults true (Acts.audit_logs None self.old) self.old.end (noted self.old).frame store.old store.new) }
     {
         let verdict = self.note()?;
         let taken = self.flush(store)?;
@@ -374,7 +374,7 @@ impl Engine {
             (record { engine = self.new; stage = stage.new; lines = lines.new; store = store.new })) }
         ensures gated { OnOk result (IsGated V.told V.may_leave self.new store.new) }
         ensures later { V.faults store.old ≤ V.faults store.new }
-        ensures memory { OnErr result (Lost V.told V.may_leave V.moment V.left_since V.faults self.old.end (flushed_by self.old stage.old command.now) store.old store.new) }
+        ensures memory { OnErr result (Lost V.told V.may_leave V.moment V.left_since V.faults (Acts.flushes self.old stage.old command.now) (Acts.logs self.old stage.old command.now) self.old.end (flushed_by self.old stage.old command.now) store.old store.new) }
     {
         match (command, *stage, self.stopped) {
             (ClientCommand::Begin | ClientCommand::Audit, Stage::Within { .. }, _) => Ok(()),

@@ -44,10 +44,7 @@ impl Finder {
         ensures ok { OnOk result (found self.new ≡ after_done (found self.old) txn call answer.now) }
     {
         match answer {
-            Answer::Ok => {
-                self.join(txn)?;
-                self.unfinished.push(txn, call)
-            }
+            Answer::Ok if self.unfinished.state(txn).is_some() => self.unfinished.push(txn, call),
             _ => Ok(()),
         }
     }

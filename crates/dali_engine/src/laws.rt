@@ -14,13 +14,20 @@ ghost use Rattle.dali_script.specs.declared.outputs.Line.TheVariants.{CommitOk};
 ghost use Rattle.dali_engine.specs.declared.engine.Stage.TheVariants.{Within};
 ghost use Rattle.dali_engine.specs.declared.engine.Stage.{Stage};
 ghost use Rattle.dali_engine.specs.Acts.{act};
+ghost use Rattle.dali_engine.specs.Memory.{failing};
+ghost use Rattle.dali_engine.specs.Told.{Told, told_by, AreNamed, Knows};
 ghost use Rattle.dali_engine.specs.State.{Log, LogIs, IsAt, IsOwn, GoesOn, open_in, log_by, new_log, found_log};
 ghost use Rattle.dali_engine.specs.Opening.{IsNew, IsRestored, Makes};
 ghost use Rattle.dali_engine.specs.declared.engine.Engine.{Engine};
 ghost use Rattle.dali_batch.specs.Log.{records_in};
-ghost use Rattle.dali_store.specs.Store.{Only};
+ghost use Rattle.dali_store.specs.Store.{Files, Only};
 ghost use Rattle.dali_geometry.specs.Sizes.{Sizes};
 ghost use Rattle.dali_record.specs.Spelling.{CanBeSpelled};
+ghost use Rattle.std.specs.List.Sorted.{IsStrictlyIncreasing};
+ghost use Rattle.dali_record.specs.Epochs.{cut};
+ghost use Rattle.dali_record.specs.Legal.{IsLegalFor};
+ghost use Rattle.dali_engine.specs.Order.{IsInOrder, RestoresCommitted};
+ghost use Rattle.dali_engine.specs.Replay.{replayed, unfinished};
 
 use dali_store::Store;
 
@@ -60,6 +67,16 @@ pub fn an_acknowledged_commit_is_logged()
         Contains (committed (records_in (log_by ok e stage Commit l).batches)) t }
 {}
 
+/// What the lines of a client have told is so, after each command of it: each transaction whose commit was answered ok
+/// is committed in the log's batches, and the masks of the pokes that were answered ok since the load are just what the
+/// regions went astray by. So an audit names exactly the regions whose masks have another exclusive-or than 0.
+pub fn lines_tell_what_is_so<V: Store>()
+    ensures commands { (command : ClientCommand) (old new : Turn V) (l : Log) (t : Told) (does : Acts V.told V.may_leave V.moment V.left_since V.faults command old new) →
+        Knows old.engine old.stage l.batches t → Knows new.engine new.stage (log_by does.ok old.engine old.stage command l).batches
+        (told_by command (act does.ok old.engine old.stage command).lines t) }
+    ensures audits { (e : Engine) (stage : Stage) (L : List (List Record)) (t : Told) → Knows e stage L t → AreNamed t.pokes (failing e.memory) }
+{}
+
 /// A database that was made begins with a log of the one record Format, which the engine wrote.
 pub fn new_logs_are_own<V: Store>()
     ensures at { (s : Sizes) (e : Engine) (old new : V) → is_some (V.told new) ≡ is_some (V.told old) → IsNew s e → Makes V.told V.may_leave s old new →
@@ -70,8 +87,19 @@ pub fn new_logs_are_own<V: Store>()
 /// A database that was found again stands at the log that it was found in; where an engine wrote it, whatever its last
 /// flush left, it goes on as one that the engine wrote.
 pub fn found_logs_stay_own<V: Store>()
-    ensures at { (e : Engine) (rolled : List ℕ) (old new : V) → V.told new ≡ V.told old → IfSome (V.told old) (λ fs. Only fs (V.may_leave new)) → IfSome (V.told old) (λ fs. IsRestored fs.log e rolled) →
-        IfSome (V.told old) (λ fs. (l : Log) × IsAt V.told V.may_leave e new l) }
+    ensures at { (fs : Files) (e : Engine) (rolled : List ℕ) (old new : V) → V.told old ≡ Some fs → V.told new ≡ V.told old → Only fs (V.may_leave new) →
+        (r : IsRestored fs.log e rolled) → IsAt V.told V.may_leave e new (found_log r.L) }
     ensures own { (bytes : List ℕ) (e : Engine) (rolled : List ℕ) (l : Log) (r : IsRestored bytes e rolled) → LogIs bytes l.batches ⊎ LogIs bytes (l.batches ++ l.doubt) →
         Rests (records_in l.batches) → Rests (records_in (l.batches ++ l.doubt)) → IsOwn e (found_log r.L) None }
+{}
+
+/// What a restart answers of a log whose records stand in order, by what the definitions say of a log.
+pub fn a_restart_finds_what_is_committed()
+    ensures ascends { (log : List Record) → IsInOrder log → IsStrictlyIncreasing (unfinished log) }
+    ensures restores { (log : List Record) → IsInOrder log → RestoresCommitted log (replayed log) (unfinished log) }
+{}
+
+/// A log that keeps the rules of logs, and is one epoch, stands in order.
+pub fn legal_logs_stand_in_order()
+    ensures { (s : Sizes) (log : List Record) → IsLegalFor s log → (cut log).closed ≡ [] → IsInOrder log }
 {}

@@ -1,15 +1,16 @@
 //! A database is made in a log without batches, or found again in one that has some.
-ghost use Rattle.std.specs.Prelude.{◌≡◌, ◌≤◌, ◌∷◌, [], ℕ, List, Option, Some, None, length, IfOk, OnOk, OnErr, ◌⊎◌, IfErr, IfSome, IsNone, IsErrOf, is_some};
+ghost use Rattle.std.specs.Prelude.{◌≡◌, ◌≤◌, ◌<◌, ◌^◌, ◌∷◌, [], ℕ, List, Option, Some, None, length, IfOk, OnOk, OnErr, ◌⊎◌, IfErr, IfSome, IsNone, IsErrOf, is_some};
 ghost use Rattle.dali_store.specs.Faults.{Rose, HasCause};
 ghost use Rattle.dali_store.specs.Store.{Files, LeavesOnly, Only};
 ghost use Rattle.dali_record.specs.declared.records.Record.{Record};
 ghost use Rattle.dali_record.specs.declared.records.Record.TheVariants.{Format};
 ghost use Rattle.dali_record.specs.Spelling.{CanBeSpelled};
 ghost use Rattle.dali_batch.specs.Batch.{IsUnformatted};
-ghost use Rattle.dali_batch.specs.Log.{LogOf, BadAt};
+ghost use Rattle.dali_batch.specs.Log.{LogOf, BadAt, records_in};
+ghost use Rattle.dali_batch.specs.Stream.{IsWhole, IsReadTo};
 ghost use Rattle.dali_batch.specs.Reads.{OnlyReads};
 ghost use Rattle.dali_engine.specs.Finding.{found};
-ghost use Rattle.dali_engine.specs.Replay.{found_in};
+ghost use Rattle.dali_engine.specs.Replay.{found_in, replay_step};
 ghost use Rattle.dali_engine.specs.Opening.{HasSizes, first_body, IsNew, IsRestored, Makes, MakesAtAnyMoment, open_error};
 ghost use Rattle.dali_batch.specs.Formatting.{FormatLeaves};
 ghost use Rattle.dali_engine.specs.Memory.{formatted_regions};
@@ -20,7 +21,7 @@ use crate::engine::Engine;
 use crate::finder::Finder;
 use crate::memory::Memory;
 use crate::records::Records;
-use dali_batch::{Frame, LogError, is_formatted, read_log};
+use dali_batch::{Frame, LogError, LogReader, is_formatted};
 use dali_bytes::OutOfMemory;
 use dali_geometry::Geometry;
 use dali_record::{Record, encode};
@@ -96,26 +97,52 @@ fn sync_all<V: Store>(store: &mut V) -> Result<(), StoreFault>
     store.sync(FileName::Anchor)
 }
 
-// The sizes that the first record of a log names.
-fn geometry_of(records: &[Record]) -> Option<Geometry>
-    ensures some { IfSome result (λ sizes. HasSizes sizes records.now) }
-    ensures none { IsNone result → (index heap : ℕ) (rest : List Record) → CanBeSpelled (Format index heap) → records.now ≡ Format index heap ∷ rest → ⊥ }
+// The geometry that a Format names.
+fn geometry_of(index: u32, heap: u32) -> Geometry
+    requires { CanBeSpelled (Format index heap) }
+    ensures { result ≡ record { index = index; heap = heap } }
 {
-    match records {
-        [Record::Format { index, heap }, ..] => Geometry::new(*index, *heap).ok(),
-        _ => None,
+    match Geometry::new(index, heap) {
+        Ok(geometry) => geometry,
+        Err(_) => unreachable!(),
     }
 }
 
-// Goes over all records of a log.
-fn find_all(alloc: Global, records: &[Record]) -> Result<Finder, AllocError>
-    ensures { IfOk result (λ finder. found finder ≡ found_in records.now) }
+// Goes on by one record, which is let go then.
+fn take(finder: &mut Finder, entry: Record) -> Result<(), AllocError>
+    ensures ok { OnOk result (found finder.new ≡ replay_step (found finder.old) entry) }
+{
+    finder.take(&entry)
+}
+
+// Goes over all records of a log, of which the first was read: what they lead to, and how many there are.
+fn find_all<V: Store>(
+    alloc: Global,
+    index: u32,
+    heap: u32,
+    reader: &mut LogReader,
+    store: &mut V,
+) -> Result<(Finder, u64), OpenError>
+    requires whole { IsWhole reader.old }
+    requires some { 0 < reader.old.at }
+    ensures all { IfOk result (λ all. IfSome (V.told store.old) (λ fs. IsReadTo fs.log reader.old (Format index heap ∷ []) →
+        (L : List (List Record)) × LogOf fs.log L reader.new.at × HasSizes (record { index = index; heap = heap }) (records_in L) × (found all.0 ≡ found_in (records_in L)) × (all.1 ≡ length (records_in L)))) }
+    ensures small { OnOk result (reader.new.at < 2 ^ 62) }
+    ensures bad { IfErr result (λ e. (at : ℕ) → e ≡ OpenError.BadLog at → IfSome (V.told store.old) (λ fs. IsReadTo fs.log reader.old (Format index heap ∷ []) → BadAt fs.log at)) }
+    ensures unformatted { IsErrOf result OpenError.Unformatted → ⊥ }
+    ensures made { IsErrOf result OpenError.Formatted → ⊥ }
+    ensures reads { OnlyReads V.told V.moment V.left_since V.may_leave store.old store.new }
+    ensures fault { IsErrOf result OpenError.Fault → Rose (V.faults store.old) (V.faults store.new) }
+    ensures later { V.faults store.old ≤ V.faults store.new }
 {
     let mut finder = Finder::new(alloc);
-    for entry in records {
-        finder.take(entry)?;
+    take(&mut finder, Record::Format { index, heap })?;
+    let mut count = 1;
+    'records: while let Some(entry) = reader.next(store)? {
+        take(&mut finder, entry)?;
+        count += 1;
     }
-    Ok(finder)
+    Ok((finder, count))
 }
 
 // The first batch of a log.
@@ -134,7 +161,7 @@ fn first_frame(alloc: Global, geometry: &Geometry) -> Result<Frame, OutOfMemory>
     Ok(frame)
 }
 
-// The same over a log of which it is known that it has no batches, whatever a crash leaves.
+// Makes a database in a log of which it is known that it has no batches, whatever a crash leaves.
 fn make<V: Store>(
     alloc: Global,
     geometry: &Geometry,
@@ -172,7 +199,7 @@ pub fn format<V: Store>(
     ensures gated { IfOk result (λ engine. IsGated V.told V.may_leave engine store.new) }
     ensures any_moment { MakesAtAnyMoment V.told V.may_leave V.moment V.left_since geometry.now store.old store.new }
     ensures formatted { IsErrOf result OpenError.Formatted → IfSome (V.told store.old) (λ fs. IsUnformatted fs.log → ⊥) }
-    ensures untouched { IsErrOf result OpenError.Formatted → V.told store.new ≡ V.told store.old }
+    ensures untouched { IfSome (V.told store.old) (λ fs. (IsUnformatted fs.log → ⊥) → V.told store.new ≡ V.told store.old) }
     ensures tells { is_some (V.told store.new) ≡ is_some (V.told store.old) }
     ensures errors { OnErr result ((IsErrOf result OpenError.Fault) ⊎ (IsErrOf result OpenError.Formatted) ⊎ (IsErrOf result OpenError.OutOfMemory)) }
     ensures fault { IsErrOf result OpenError.Fault → Rose (V.faults store.old) (V.faults store.new) }
@@ -187,7 +214,9 @@ pub fn format<V: Store>(
 }
 
 /// Finds the records again that the committed transactions of a log left, and the transactions that have neither
-/// committed nor ended, ascending. All files are synced first. It takes memory for the records of the whole log.
+/// committed nor ended, ascending. All files are synced first. It reads the log from front to end, record by record, and
+/// takes memory for the records that it finds, for the calls of transactions that haven't ended, for the regions, and for
+/// a part of the log. That a record may stand behind those before it isn't tested.
 pub fn restart<V: Store>(alloc: Global, store: &mut V) -> Result<(Engine, Vec<u64>), OpenError>
     ensures restored { IfOk result (λ r. IfSome (V.told store.old) (λ fs. IsRestored fs.log r.0 r.1.items)) }
     ensures durable { OnOk result (IfSome (V.told store.old) (λ fs. Only fs (V.may_leave store.new))) }
@@ -200,17 +229,13 @@ pub fn restart<V: Store>(alloc: Global, store: &mut V) -> Result<(Engine, Vec<u6
     ensures later { V.faults store.old ≤ V.faults store.new }
 {
     sync_all(store)?;
-    let log = read_log(alloc, store)?;
-    let Some(geometry) = geometry_of(&log.records) else {
-        return Err(OpenError::BadLog { at: 5 });
-    };
-    let finder = find_all(alloc, &log.records)?;
+    let (mut reader, (index, heap)) = LogReader::open(alloc, store)?;
+    let (finder, count) = find_all(alloc, index, heap, &mut reader, store)?;
     let unfinished = finder.unfinished()?;
-    let memory = Memory::formatted(alloc, &geometry)?;
+    let memory = Memory::formatted(alloc, &geometry_of(index, heap))?;
     let frame = Frame::new(alloc)?;
     let last = finder.last();
-    let count = log.records.len() as u64;
     let records = finder.into_records();
-    let engine = Engine::new(alloc, records, memory, last, count, frame, log.end);
+    let engine = Engine::new(alloc, records, memory, last, count, frame, reader.at());
     Ok((engine, unfinished))
 }

@@ -1,7 +1,19 @@
-use Rattle.std.proofs.Common.{◌≡◌, drop}
+use Rattle.std.proofs.Common.{◌≤◌, ◌-◌, ◌^◌, [], ◌∷◌, IfSome}
+use Rattle.dali_record.specs.declared.records.Record.TheVariants.{Format}
+use Rattle.dali_batch.specs.Reads.{OnlyReads}
+use Rattle.dali_batch.specs.Stream.{IsWhole, IsReadTo}
 use Rattle.dali_engine.specs.Finding.{found}
-use Rattle.dali_engine.specs.Replay.{found_in, replay_from}
+use Rattle.dali_engine.proofs.Streams.{FoundTo}
 use Rattle.dali_engine.proofs.opening.find_all.Given as goal
 
-abbrev pub invariant-loop-entry : goal.invariant-loop-entry
-invariant-loop-entry l = replay_from (found l.finder) (drop l.entry-index l.records) ≡ found_in l.fn.records
+abbrev pub invariant-records : goal.invariant-records
+invariant-records g l = record {
+  whole : IsWhole l.reader;
+  few : l.count ≤ l.reader.at;
+  read : IfSome (g.V.Store.told l.fn.store) (λ fs. IsReadTo fs.log l.fn.reader (Format l.index l.heap ∷ []) → FoundTo fs.log l.reader l.index l.heap (found l.finder) l.count);
+  reads : OnlyReads g.V.Store.told g.V.Store.moment g.V.Store.left_since g.V.Store.may_leave l.fn.store l.store;
+  later : g.V.Store.faults l.fn.store ≤ g.V.Store.faults l.store;
+}
+
+abbrev pub decreases-records : goal.decreases-records
+decreases-records g l = 2 ^ 62 - l.reader.at
