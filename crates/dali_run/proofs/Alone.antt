@@ -113,7 +113,7 @@ module _ {V : Type 0} (told : V → Option Files) (may_leave : V → Files → T
       noted_bytes e stopped is running = rw (is, running) refl
 
   pub faulted : (command : ClientCommand) (old : Running V) (before : List Line) (new : Turn (Fuse V)) → before ≡ [] → ActsFrom command old before new → Stopped new.lines → (0 < failed_of new.store → ⊥)
-      → (command ≡ clients.Audit) × Rose (faults (inner old.store)) (faults (inner new.store))
+      → (command ≡ clients.Audit) × Rose (faults (inner old.store)) (faults (inner new.store)) × (0 < failed_of new.store → ⊥)
   faulted command old before new none acts same unspent =
       let printed : Stopped (act acts.ok old.engine Outside command).lines = here old.engine before new.lines acts.ok command none acts.lines same in
       let audit = only_audits acts.ok old.engine command printed in
@@ -123,6 +123,7 @@ module _ {V : Type 0} (told : V → Option Files) (may_leave : V → Files → T
             (audit_faults acts.ok old.engine.stopped old.engine old.store new.store refl found.0 found.1
             (subst (λ (k : ClientCommand). Wrote (told_in told) (leaves_in told may_leave) (moment_in moment left_since) (since_in moment left_since) (faults_in faults) acts.ok old.engine.end (flushed_by old.engine Outside k) old.store new.store) audit acts.store))
             unspent,
+        unspent,
       )
     where
       here : (e : Engine) (before all : List Line) (ok : Bool) (command : ClientCommand) → before ≡ [] → all ≡ before ++ (act ok e Outside command).lines → Stopped all → Stopped (act ok e Outside command).lines

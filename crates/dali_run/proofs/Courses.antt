@@ -113,13 +113,14 @@ module _ {V : Type 0} (told : V → Option Files) (may_leave : V → Files → T
   stops_in WriteFault start script count command before mid after now next end first f0 f1 within is store le r stops = (
     record {
       count = count;
-      within = within;
+      command = command;
+      next = record { within = within; next = front_more script count command within is };
       text = r.text;
       earlier = now;
       ran = r.run;
       more = stops.0.text;
       state = next;
-      run = more_run start script count command r.text stops.0.text now next within is r.run stops.0.steps;
+      steps = stops.0.steps;
       store = store;
       between = mid;
       written = r.written;

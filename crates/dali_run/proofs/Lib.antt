@@ -3,6 +3,8 @@ mod Blocks
 mod Courses
 mod Endings
 mod Fronts
+mod Keeping
+mod Kept
 mod Made
 mod Pieces
 mod Served

@@ -65,7 +65,7 @@ get_stays None LeftOut e k = refl
 get_stays (Some cause) Outside e k = refl
 get_stays (Some cause) LeftOut e k = refl
 
-audit_stays : (ok : Bool) (stage : Stage) (o : Option Cause) (e : Engine) → (audit_in ok stage o e).stage ≡ stage
+pub audit_stays : (ok : Bool) (stage : Stage) (o : Option Cause) (e : Engine) → (audit_in ok stage o e).stage ≡ stage
 audit_stays ok (Within t) o e = refl
 audit_stays ok Outside None e = refl
 audit_stays ok LeftOut None e = refl
@@ -76,7 +76,7 @@ still_closed : (now : Bool) (stage stage' : Stage) → stage' ≡ stage → IsCl
 still_closed now stage stage' same closed = λ e. ap open_in same ∙ closed e
 
 module _ {W : Type 0} (told : W → Option Files) (may_leave : W → Files → Type 0) (moment : W → ℕ) (left_since : W → ℕ → Files → Type 0) (faults : W → ℕ) where
-  closed_after : (commands : List ClientCommand) (now : Bool) (old new : Turn W) → ActsAll told may_leave moment left_since faults commands old new → IsClosed now old.stage → IsClosed (is_open_after now commands) new.stage
+  pub closed_after : (commands : List ClientCommand) (now : Bool) (old new : Turn W) → ActsAll told may_leave moment left_since faults commands old new → IsClosed now old.stage → IsClosed (is_open_after now commands) new.stage
   closed_after [] now old new all closed = λ e. ap (λ (t : Turn W). open_in t.stage) all ∙ closed e
   closed_after (clients.Begin ∷ later) now old new all closed = closed_after later true all.0 new all.2 (λ e. absurd cc)
   closed_after (clients.Commit ∷ later) now old new all closed = closed_after later false all.0 new all.2 (λ e. ap open_in all.1.stage ∙ commit_outside all.1.ok old.engine.stopped old.stage old.engine)
@@ -89,21 +89,21 @@ module _ {W : Type 0} (told : W → Option Files) (may_leave : W → Files → T
       closed_after later now all.0 new all.2 (still_closed now old.stage all.0.stage (all.1.stage ∙ audit_stays all.1.ok old.stage old.engine.stopped old.engine) closed)
 
 -- ---- what grew serves
-grown_serves : (own : Type 0) (l l' : Log) (c : Files) → own → Grows own l l' c → ServesBehind l c
-grown_serves own l l' c o g = record { L = g.L; log = g.log; more = g.more; front = g.front; serves = g.serves o }
+pub grown_serves : (own : Type 0) (l l' : Log) (c : Files) → own → Grows own l l' c → ServesBehind l c
+grown_serves own l l' c o g = record { L = g.L; log = g.log; more = g.more; front = g.front; rests = g.rests o; serves = g.serves o }
 
-left_serves : (l : Log) (c : Files) → Rests (records_in l.batches) → Rests (records_in (l.batches ++ l.doubt)) → LogIs c.log l.batches ⊎ LogIs c.log (l.batches ++ l.doubt) → ServesBehind l c
-left_serves l c one two (inl here) = record { L = l.batches; log = here; more = []; front = sym (append-nil l.batches); serves = served (records_in l.batches) one }
-left_serves l c one two (inr there) = record { L = l.batches ++ l.doubt; log = there; more = l.doubt; front = refl; serves = served (records_in (l.batches ++ l.doubt)) two }
+pub left_serves : (l : Log) (c : Files) → Rests (records_in l.batches) → Rests (records_in (l.batches ++ l.doubt)) → LogIs c.log l.batches ⊎ LogIs c.log (l.batches ++ l.doubt) → ServesBehind l c
+left_serves l c one two (inl here) = record { L = l.batches; log = here; more = []; front = sym (append-nil l.batches); rests = one; serves = served (records_in l.batches) one }
+left_serves l c one two (inr there) = record { L = l.batches ++ l.doubt; log = there; more = l.doubt; front = refl; rests = two; serves = served (records_in (l.batches ++ l.doubt)) two }
 
-behind_more : (l l' : Log) (c : Files) (more : List (List Record)) → l'.batches ≡ l.batches ++ more → ServesBehind l' c → ServesBehind l c
-behind_more l l' c more is s = record { L = s.L; log = s.log; more = more ++ s.more; front = s.front ∙ ap (λ (b : List (List Record)). b ++ s.more) is ∙ append_assoc l.batches more s.more; serves = s.serves }
+pub behind_more : (l l' : Log) (c : Files) (more : List (List Record)) → l'.batches ≡ l.batches ++ more → ServesBehind l' c → ServesBehind l c
+behind_more l l' c more is s = record { L = s.L; log = s.log; more = more ++ s.more; front = s.front ∙ ap (λ (b : List (List Record)). b ++ s.more) is ∙ append_assoc l.batches more s.more; rests = s.rests; serves = s.serves }
 
 with_told : {X : Type 0} (P : Type 0) (o : Option X) → is_some o ≡ true → IfSome o (λ _. P) → P
 with_told P (Some x) tells p = p
 with_told P None tells p = absurd cc
 
-kept_told : {X : Type 0} (P : Type 0) (o : Option X) → P → IfSome o (λ _. P)
+pub kept_told : {X : Type 0} (P : Type 0) (o : Option X) → P → IfSome o (λ _. P)
 kept_told P None p = tt
 kept_told P (Some x) p = p
 
@@ -121,11 +121,11 @@ module _ {V : Type 0} (told : V → Option Files) (may_leave : V → Files → T
   leaves_of : (p : Program V) (l : Log) → IsServing told may_leave p l → (c : Files) → may_leave (inner p.store) c → LogIs c.log l.batches ⊎ LogIs c.log (l.batches ++ l.doubt)
   leaves_of p l s = with_told _ (told (inner p.store)) s.tells s.leaves
 
-  behind : (p : Program V) (l : Log) → IsServing told may_leave p l → (c : Files) → may_leave (inner p.store) c → ServesBehind l c
+  pub behind : (p : Program V) (l : Log) → IsServing told may_leave p l → (c : Files) → may_leave (inner p.store) c → ServesBehind l c
   behind p l s c left = left_serves l c s.rests s.rests_more (leaves_of p l s c left)
 
   -- the store's files stay as they were
-  same_store : (old new : Program V) (l : Log) → IsServing told may_leave old l → inner new.store ≡ inner old.store → IfSome new.engine (λ e. RunsUnless e l × IsOwn e l None) → ServesOn told may_leave moment left_since old l new l
+  pub same_store : (old new : Program V) (l : Log) → IsServing told may_leave old l → inner new.store ≡ inner old.store → IfSome new.engine (λ e. RunsUnless e l × IsOwn e l None) → ServesOn told may_leave moment left_since old l new l
   same_store old new l s same engine = record {
     serving = record {
       tells = ap (λ (v : V). is_some (told v)) same ∙ s.tells;
@@ -158,7 +158,7 @@ module _ {V : Type 0} (told : V → Option Files) (may_leave : V → Files → T
   }
 
   -- what a command of a client leads to
-  from_goes : (old new : Program V) (e e' : Engine) (l l' : Log) → IsServing told may_leave old l → is_some (told (inner new.store)) ≡ true → new.engine ≡ Some e' → IsOwn e l None
+  pub from_goes : (old new : Program V) (e e' : Engine) (l l' : Log) → IsServing told may_leave old l → is_some (told (inner new.store)) ≡ true → new.engine ≡ Some e' → IsOwn e l None
       → GoesOn (told_in told) (leaves_in told may_leave) (moment_in moment left_since) (since_in moment left_since) e None old.store l e' None new.store l' → ServesOn told may_leave moment left_since old l new l'
   from_goes old new e e' l l' s tells up own goes =
       let now = goes.own own in
@@ -189,7 +189,7 @@ module _ {V : Type 0} (told : V → Option Files) (may_leave : V → Files → T
   }
 
   -- ---- a round
-  acts_tell : (commands : List ClientCommand) (old new : Turn (Fuse V)) → ActsAll (told_in told) (leaves_in told may_leave) (moment_in moment left_since) (since_in moment left_since) (faults_in faults) commands old new
+  pub acts_tell : (commands : List ClientCommand) (old new : Turn (Fuse V)) → ActsAll (told_in told) (leaves_in told may_leave) (moment_in moment left_since) (since_in moment left_since) (faults_in faults) commands old new
       → is_some (told (inner new.store)) ≡ is_some (told (inner old.store))
   acts_tell [] old new all = ap (λ (t : Turn (Fuse V)). is_some (told (inner t.store))) all
   acts_tell (command ∷ later) old new all = acts_tell later all.0 new all.2
@@ -198,7 +198,7 @@ module _ {V : Type 0} (told : V → Option Files) (may_leave : V → Files → T
   a_program : Engine → Fuse V → Program V
   a_program e f = record { store = f; engine = Some e }
 
-  block_serves : (block : Block) (e e' : Engine) (f f' : Fuse V) (text : List ℕ) (l : Log) → EndsOutside block → IsServing told may_leave (record { store = f; engine = Some e }) l
+  pub block_serves : (block : Block) (e e' : Engine) (f f' : Fuse V) (text : List ℕ) (l : Log) → EndsOutside block → IsServing told may_leave (record { store = f; engine = Some e }) l
       → RunsBlock told may_leave moment left_since faults block (running e f) text (running e' f')
       → (l' : Log) × ServesOn told may_leave moment left_since (record { store = f; engine = Some e }) l (record { store = f'; engine = Some e' }) l'
   block_serves block e e' f f' text l ends s runs =
@@ -211,7 +211,7 @@ module _ {V : Type 0} (told : V → Option Files) (may_leave : V → Files → T
             (subst (λ (o : Option ℕ). GoesOn (told_in told) (leaves_in told may_leave) (moment_in moment left_since) (since_in moment left_since) e None f l e' o f' goes.0) outside goes.1),
       )
 
-  blocks_serve : (blocks : List Block) (old new : Running V) (text : List ℕ) (l : Log) → AllByRecursion EndsOutside blocks → IsServing told may_leave (record { store = old.store; engine = Some old.engine }) l
+  pub blocks_serve : (blocks : List Block) (old new : Running V) (text : List ℕ) (l : Log) → AllByRecursion EndsOutside blocks → IsServing told may_leave (record { store = old.store; engine = Some old.engine }) l
       → RunsBlocks told may_leave moment left_since faults blocks old text new
       → (l' : Log) × ServesOn told may_leave moment left_since (record { store = old.store; engine = Some old.engine }) l (record { store = new.store; engine = Some new.engine }) l'
   blocks_serve [] old new text l whole s runs = (
@@ -225,7 +225,7 @@ module _ {V : Type 0} (told : V → Option Files) (may_leave : V → Files → T
       let rest = blocks_serve later mid new runs.2 first.0 whole.1 first.1.serving runs.4 in
       (rest.0, then_serves (record { store = old.store; engine = Some old.engine }) (record { store = mid.store; engine = Some mid.engine }) (record { store = new.store; engine = Some new.engine }) l first.0 rest.0 first.1 rest.1)
 
-  same_program : (p : Program V) (e : Engine) → p.engine ≡ Some e → p ≡ record { store = p.store; engine = Some e }
+  pub same_program : (p : Program V) (e : Engine) → p.engine ≡ Some e → p ≡ record { store = p.store; engine = Some e }
   same_program p e up = λ i. record { store = p.store; engine = up i }
 
   round_serves : (o : Option Engine) (blocks : List Block) (old new : Program V) (text : List ℕ) (l : Log) → old.engine ≡ o → AllByRecursion EndsOutside blocks → IsServing told may_leave old l
@@ -294,7 +294,7 @@ module _ {V : Type 0} (told : V → Option Files) (may_leave : V → Files → T
       )
 
   restart_serves : (old new : Program V) (text : List ℕ) (l : Log) → IsServing told may_leave old l
-      → Restarts told may_leave moment left_since old text new ⊎ RestartStops told may_leave moment left_since old text new → (l' : Log) × ServesOn told may_leave moment left_since old l new l'
+      → Restarts told may_leave moment left_since old text new ⊎ RestartStops told may_leave moment left_since faults old text new → (l' : Log) × ServesOn told may_leave moment left_since old l new l'
   restart_serves old new text l s step = ⊎_elim
       (λ r. restarts_serve old new text l s r (told (inner old.store)) refl r.restored r.durable (reads_now (inner old.store)))
       (λ stops. (l, less_left old new l s (ap is_some stops.reads.same ∙ s.tells) stops.down stops.reads.crash stops.reads.any_moment)) step

@@ -21,7 +21,7 @@ use Rattle.dali_script.specs.declared.commands.ClientCommand.{ClientCommand}
 use Rattle.dali_script.specs.declared.commands.ClientCommand.TheVariants as clients
 use Rattle.dali_script.specs.declared.commands.Command.{Command}
 use Rattle.dali_script.specs.declared.commands.Command.TheVariants as single
-use Rattle.dali_run.specs.Served.{is_open_after, EndsOutside, IsWhole}
+use Rattle.dali_run.specs.Served.{is_open_after, EndsOutside, ClosesBlocks, IsWhole}
 
 abbrev pub Numbered : Type 0
 Numbered = List (ℕ × List Text)
@@ -153,3 +153,22 @@ all_whole (command ∷ later) c ls d e r =
 pub whole_behind : (index heap : ℕ) (later : List Command) (c : Context) (ls : Numbered) (d : Context) → Reads c ls (lines_of_script (single.Size index heap ∷ later)) d → AllByRecursion IsWhole later
 whole_behind index heap later c [] d r = absurd r
 whole_behind index heap later c (l ∷ ls) d r = all_whole later (next l.0 (item.Size index heap) c) ls d refl r.1
+
+-- the blocks of any script
+one_closes : (command : Command) (c : Context) (ls : Numbered) (d : Context) → Reads c ls (lines_of_command command) d → ClosesBlocks command
+one_closes (single.Size index heap) c ls d r = tt
+one_closes single.Open c ls d r = tt
+one_closes (single.Round blocks) c ls d r = all_blocks blocks c ls d r
+one_closes (single.Poke q w m) c ls d r = tt
+one_closes single.Audit c ls d r = tt
+one_closes (single.Crash n) c ls d r = tt
+one_closes single.Restart c ls d r = tt
+one_closes single.Show c ls d r = tt
+one_closes single.Next c ls d r = tt
+one_closes (single.Fuse n) c ls d r = tt
+
+pub all_close : (script : List Command) (c : Context) (ls : Numbered) (d : Context) → Reads c ls (lines_of_script script) d → AllByRecursion ClosesBlocks script
+all_close [] c ls d r = tt
+all_close (command ∷ later) c ls d r =
+    let two = parts c ls (lines_of_command command) (lines_of_script later) d r in
+    (one_closes command c two.first two.mid two.front, all_close later two.mid two.second d two.rest)

@@ -18,6 +18,7 @@ use Rattle.dali_run.specs.declared.status.Status.TheVariants.{Done, BadWords, Ba
 use Rattle.dali_run.specs.Fails.{Fails}
 use Rattle.dali_run.specs.Halts.{last_line}
 use Rattle.dali_run.specs.Run.{HasRun}
+use Rattle.dali_run.specs.Steps.{Steps}
 use Rattle.dali_script.specs.declared.commands.Command.{Command}
 use Rattle.dali_script.specs.declared.faults.Kind.{Kind}
 use Rattle.dali_script.specs.Grammar.{IsSpelled, IsWrong}
@@ -71,13 +72,14 @@ module _ {V : Type 0} (told : V → Option Files) (may_leave : V → Files → T
 
   pub record CutIn (start : V) (script : List Command) (before after : Option (List ℕ)) (end : V) : Type 0 where
     pub count : ℕ
-    pub within : count < length script
+    pub command : Command
+    pub next : IsNext script count command
     pub text : List ℕ
     pub earlier : Program V
     pub ran : HasRun told may_leave moment left_since faults cuts start script count text earlier
     pub more : List ℕ
     pub state : Program V
-    pub run : HasRun told may_leave moment left_since faults cuts start script (count + 1) (text ++ more) state
+    pub steps : Steps told may_leave moment left_since faults cuts earlier command more state
     pub store : inner state.store ≡ end
     pub between : Option (List ℕ)
     pub written : Appends before text between

@@ -4,17 +4,17 @@
 --     LeavesLess                  a crash leaves nothing that it might not have left before
 --     Breaks command old f        what a command that doesn't come to its end leaves of the store
 --     MeetsStore, Opens, IsSize   the commands that may end with a failure of the store, and those that look for a database or make one
---     Fails halt command old f    a command that ends the run with this
-use Rattle.std.specs.Prelude.{◌≡◌, ◌⊎◌, ℕ, List, [], ◌∷◌, ◌++◌, Option, Some, None, IfSome}
+--     Fails halt command old f    a command that ends the run with this; with a failure of the store only where the fuse has failed no call
+use Rattle.std.specs.Prelude.{◌≡◌, ◌<◌, ◌⊎◌, ℕ, List, [], ◌∷◌, ◌++◌, Option, Some, None, IfSome, is_some}
 use Rattle.dali_batch.specs.Batch.{IsUnformatted}
 use Rattle.dali_batch.specs.Log.{BadAt}
 use Rattle.dali_engine.specs.declared.engine.Engine.{Engine}
 use Rattle.dali_engine.specs.declared.engine.Stage.{Stage}
 use Rattle.dali_engine.specs.declared.engine.Stage.TheVariants.{Outside}
-use Rattle.dali_engine.specs.Acts.{flushed_by}
+use Rattle.dali_engine.specs.Acts.{logs, flushes, flushed_by}
 use Rattle.dali_engine.specs.Flushes.{Acts, Lost, LostIn}
 use Rattle.dali_engine.specs.Opening.{MakesAtAnyMoment}
-use Rattle.dali_memstore.specs.Fuse.{inner}
+use Rattle.dali_memstore.specs.Fuse.{inner, failed_of}
 use Rattle.dali_memstore.specs.declared.fuse.Fuse.{Fuse}
 use Rattle.dali_run.specs.declared.halt.Halt.{Halt}
 use Rattle.dali_run.specs.declared.halt.Halt.TheVariants.{StoreFault, BadLog, Unformatted, Formatted, OutOfMemory}
@@ -49,6 +49,7 @@ IsSize _ = ⊥
 
 module _ {V : Type 0} (told : V → Option Files) (may_leave : V → Files → Type 0) (moment : V → ℕ) (left_since : V → ℕ → Files → Type 0) where
   pub record LeavesLess (old new : Fuse V) : Type 0 where
+    pub tells : is_some (told_in told new) ≡ is_some (told_in told old)
     pub crash : (c : Files) → leaves_in told may_leave new c → leaves_in told may_leave old c
     pub any_moment : LeavesOnly (moment_in moment left_since) (since_in moment left_since) old new (leaves_in told may_leave old)
 
@@ -93,14 +94,17 @@ module _ {V : Type 0} (told : V → Option Files) (may_leave : V → Files → T
     LostAlone command old f =
         ActsUntold command old f
         ⊎ Lost (told_in told) (leaves_in told may_leave) (moment_in moment left_since) (since_in moment left_since) (faults_in faults)
-        old.engine.end (flushed_by old.engine Outside command) old.store f
+        (flushes old.engine Outside command) (logs old.engine Outside command) old.engine.end (flushed_by old.engine Outside command) old.store f
 
     abbrev pub BreaksAct : Option Engine → ClientCommand → Fuse V → Fuse V → Type 0
     BreaksAct None command old f = f ≡ old
     BreaksAct (Some e) command old f = LostAlone command (running e old) f
 
     abbrev pub Breaks : Command → Program V → Fuse V → Type 0
-    Breaks (Size index heap) old f = MakesAtAnyMoment told may_leave moment left_since (sizes_of index heap) (inner old.store) (inner f)
+    Breaks (Size index heap) old f =
+        MakesAtAnyMoment told may_leave moment left_since (sizes_of index heap) (inner old.store) (inner f)
+        × (is_some (told_in told f) ≡ is_some (told_in told old.store))
+        × IfSome (told_in told old.store) (λ fs. (IsUnformatted fs.log → ⊥) → told_in told f ≡ told_in told old.store)
     Breaks Open old f = Reads told may_leave moment left_since old.store f
     Breaks (Round blocks) old f = BreaksRound old.engine blocks old.store f
     Breaks (Poke region word mask) old f = BreaksAct old.engine (clients.Poke region word mask) old.store f
@@ -112,7 +116,7 @@ module _ {V : Type 0} (told : V → Option Files) (may_leave : V → Files → T
     Breaks (SetFuse passes) old f = inner f ≡ inner old.store
 
     abbrev pub Fails : Halt → Command → Program V → Fuse V → Type 0
-    Fails StoreFault command old f = MeetsStore command × Rose (faults (inner old.store)) (faults (inner f)) × Breaks command old f
+    Fails StoreFault command old f = MeetsStore command × Rose (faults (inner old.store)) (faults (inner f)) × (0 < failed_of f → ⊥) × Breaks command old f
     Fails (BadLog at) command old f = Opens command × IfSome (told_in told old.store) (λ fs. BadAt fs.log at) × Reads told may_leave moment left_since old.store f
     Fails Unformatted command old f = Opens command × IfSome (told_in told old.store) (λ fs. IsUnformatted fs.log) × Reads told may_leave moment left_since old.store f
     Fails Formatted command old f =

@@ -7,3 +7,4 @@ pub mod Served
 pub mod Sizes
 pub mod Steps
 pub mod Stops
+pub mod Survives

@@ -1,6 +1,7 @@
 -- What a run that began with `size` leaves at any moment, whatever the store does.
 --     is_open_after b cs       whether a transaction is open after these commands of a block, where b says whether one was
---     IsWhole command          each block of a round ends outside of a transaction
+--     ClosesBlocks command     each block of a round ends outside of a transaction
+--     IsWhole command          the same, and no database is made; each block of a round ends outside of a transaction
 --     IsServing p l            the store tells its files, and they hold the log l, in all that a crash may leave, as the engine wrote it; an engine that runs stands at it
 --     ServesBehind l c         files that a crash leaves: a log with all batches of l at its front, from which a restart gives just the serial replay of its committed transactions
 --     ServesOn old l new l'    a command led from one to the other: no batch is lost, and a crash at any moment of it leaves such files
@@ -28,6 +29,11 @@ is_open_after open_now (_ ∷ later) = is_open_after open_now later
 abbrev pub EndsOutside : Block → Type 0
 EndsOutside block = is_open_after false block.commands ≡ false
 
+-- each block of a round does
+abbrev pub ClosesBlocks : Command → Type 0
+ClosesBlocks (Round blocks) = AllByRecursion EndsOutside blocks
+ClosesBlocks _ = Unit {0}
+
 abbrev pub IsWhole : Command → Type 0
 IsWhole (Size index heap) = ⊥
 IsWhole (Round blocks) = AllByRecursion EndsOutside blocks
@@ -38,6 +44,7 @@ pub record ServesBehind (l : Log) (c : Files) : Type 0 where
   pub log : LogIs c.log L
   pub more : List (List Record)
   pub front : L ≡ l.batches ++ more
+  pub rests : Rests (records_in L)
   pub serves : Serves (records_in L)
 
 module _ {V : Type 0} (told : V → Option Files) (may_leave : V → Files → Type 0) where

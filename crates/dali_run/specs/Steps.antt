@@ -27,6 +27,7 @@ use Rattle.dali_script.specs.declared.names.Name.{Name}
 use Rattle.dali_script.specs.declared.names.Name.TheVariants as names
 use Rattle.dali_script.specs.declared.outputs.Line.{Line}
 use Rattle.dali_script.specs.declared.outputs.Line.TheVariants as lines
+use Rattle.dali_store.specs.Faults.{Rose}
 use Rattle.dali_store.specs.Store.{Files, LeavesOnly, Only}
 
 abbrev pub Prints : {V : Type 0} → Line → Program V → List ℕ → Program V → Type 0
@@ -77,17 +78,18 @@ module _ {V : Type 0} (told : V → Option Files) (may_leave : V → Files → T
     pub reads : Reads old.store new.store
     pub printed : text ≡ texts (lines.RolledBack rolled_back ∷ lines.Deleted [] ∷ [])
 
-  -- the fuse failed a call of it
-  pub record RestartStops (old : Program V) (text : List ℕ) (new : Program V) : Type 0 where
-    pub down : new.engine ≡ None
-    pub by_fuse : 0 < failed_of new.store
-    pub reads : Reads old.store new.store
-    pub printed : text ≡ texts (lines.RestartStoreStopped ∷ [])
-
-  abbrev pub StepsRestart : Program V → List ℕ → Program V → Type 0
-  StepsRestart old text new = Restarts old text new ⊎ RestartStops old text new
-
   module _ (faults : V → ℕ) where
+    -- a call of the store failed in it, and the fuse has failed one
+    pub record RestartStops (old : Program V) (text : List ℕ) (new : Program V) : Type 0 where
+      pub down : new.engine ≡ None
+      pub by_fuse : 0 < failed_of new.store
+      pub rose : Rose (faults_in faults old.store) (faults_in faults new.store)
+      pub reads : Reads old.store new.store
+      pub printed : text ≡ texts (lines.RestartStoreStopped ∷ [])
+
+    abbrev pub StepsRestart : Program V → List ℕ → Program V → Type 0
+    StepsRestart old text new = Restarts old text new ⊎ RestartStops old text new
+
     -- a block of a round: its commands in order, and their lines behind the client's number
     pub record RunsBlock (block : Block) (old : Running V) (text : List ℕ) (new : Running V) : Type 0 where
       pub stage : Stage

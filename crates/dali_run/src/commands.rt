@@ -1,8 +1,8 @@
 //! The commands of a script, each on what the run holds.
-ghost use Rattle.std.specs.Prelude.{◌≡◌, ◌++◌, ◌∷◌, [], ◌⊎◌, ◌↔◌, ℕ, List, IfOk, IfErr, OnOk, OnErr, IfSome, IsErrOf, IsTrue};
+ghost use Rattle.std.specs.Prelude.{◌≡◌, ◌<◌, ◌++◌, ◌∷◌, [], ◌⊎◌, ◌↔◌, ℕ, List, IfOk, IfErr, OnOk, OnErr, IfSome, IsErrOf, IsTrue};
 ghost use Rattle.dali_engine.specs.Flushes.{IsGated, Shows};
 ghost use Rattle.dali_geometry.specs.Sizes.{AreInRange};
-ghost use Rattle.dali_memstore.specs.Fuse.{inner};
+ghost use Rattle.dali_memstore.specs.Fuse.{inner, failed_of};
 ghost use Rattle.dali_report.specs.Texts.{texts};
 ghost use Rattle.dali_script.specs.declared.commands.ClientCommand.TheVariants as clients;
 ghost use Rattle.dali_script.specs.declared.commands.Command.TheVariants as commands;
@@ -126,7 +126,7 @@ fn act<V: Store>(
     ensures acts { IfOk result (λ text. ActsAlone V.told V.may_leave V.moment V.left_since V.faults command.now (running engine.old store.old) text.items (running engine.new store.new)) }
     ensures gated { OnOk result (IsGated (told_in V.told) (leaves_in V.told V.may_leave) engine.new store.new) }
     ensures lost { OnErr result (LostAlone V.told V.may_leave V.moment V.left_since V.faults command.now (running engine.old store.old) store.new) }
-    ensures fault { IsErrOf result Halt.StoreFault → (command.now ≡ clients.Audit) × Rose (V.faults (inner store.old)) (V.faults (inner store.new)) }
+    ensures fault { IsErrOf result Halt.StoreFault → (command.now ≡ clients.Audit) × Rose (V.faults (inner store.old)) (V.faults (inner store.new)) × (0 < failed_of store.new → ⊥) }
     ensures errors { OnErr result (IsErrOf result Halt.StoreFault ⊎ IsErrOf result Halt.OutOfMemory) }
 {
     let mut lines = Lines::new(alloc);
@@ -149,7 +149,7 @@ fn show_lines(alloc: Global, engine: &Engine) -> Result<Vec<u8>, OutOfMemory>
 impl<V: Store> Program<V> {
     // Gives the memory up, and finds the database in the store's files.
     fn restart(&mut self, alloc: Global) -> Result<Vec<u8>, Halt>
-        ensures steps { IfOk result (λ text. StepsRestart V.told V.may_leave V.moment V.left_since self.old text.items self.new) }
+        ensures steps { IfOk result (λ text. StepsRestart V.told V.may_leave V.moment V.left_since V.faults self.old text.items self.new) }
         ensures gated { OnOk result (IsUp V.told V.may_leave self.new) }
         ensures fails { IfErr result (λ halt. Fails V.told V.may_leave V.moment V.left_since V.faults halt commands.Restart self.old self.new.store) }
     {

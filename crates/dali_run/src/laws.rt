@@ -1,9 +1,13 @@
 //! Laws of runs, each the contract of a function that does nothing.
-ghost use Rattle.std.specs.Prelude.{◌≡◌, ◌∷◌, ℕ, List, true, is_some};
+ghost use Rattle.std.specs.Prelude.{◌≡◌, ◌∷◌, [], ℕ, List, Some, true, is_some};
 ghost use Rattle.dali_engine.specs.State.{Log, new_log};
 ghost use Rattle.dali_run.specs.declared.program.Program.{Program};
 ghost use Rattle.dali_run.specs.Served.{IsWhole, IsServing, ServesOn, RunServes};
 ghost use Rattle.dali_run.specs.Run.{RunsAll};
+ghost use Rattle.dali_run.specs.Survives.{Holds, IsOwn};
+ghost use Rattle.dali_record.specs.declared.records.Record.{Record};
+ghost use Rattle.dali_batch.specs.Batch.{IsUnformatted};
+ghost use Rattle.dali_store.specs.Store.{Files, Only};
 ghost use Rattle.std.specs.List.{AllByRecursion};
 ghost use Rattle.dali_script.specs.Grammar.{IsSpelled};
 ghost use Rattle.dali_script.specs.declared.commands.Command.TheVariants.{Size};
@@ -22,6 +26,13 @@ pub fn runs_serve<V: Store>()
         Steps V.told V.may_leave V.moment V.left_since V.faults V.cuts old command text new → (l' : Log) × ServesOn V.told V.may_leave V.moment V.left_since old l new l' }
     ensures all { (commands : List Command) (old new : Program V) (text : List ℕ) (l : Log) → AllByRecursion IsWhole commands → IsServing V.told V.may_leave old l →
         RunsAll V.told V.may_leave V.moment V.left_since V.faults V.cuts old commands text new → RunServes V.told V.may_leave V.moment V.left_since old l new }
+{}
+
+/// A store that holds just the files which a crash may leave of a run is this program's own again, with all batches that
+/// were there before the crash. So is a store without a database, as each new one is.
+pub fn what_a_crash_leaves_is_own<V: Store>()
+    ensures left { (base : List (List Record)) (c : Files) (s : V) → V.told s ≡ Some c → Only c (V.may_leave s) → Holds base c → IsOwn V.told V.may_leave base s }
+    ensures without { (c : Files) (s : V) → V.told s ≡ Some c → Only c (V.may_leave s) → IsUnformatted c.log → IsOwn V.told V.may_leave [] s }
 {}
 
 /// In each script that begins with `size` and is spelled, all later commands are of that kind.

@@ -1,5 +1,6 @@
 //! The run of a script over a store.
 ghost use Rattle.std.specs.Prelude.{◌≡◌, ◌≤◌, ◌↔◌, ℕ, List, IfOk, IfErr, OnOk, IsTrue, map, string_bytes};
+ghost use Rattle.dali_record.specs.declared.records.Record.{Record};
 ghost use Rattle.dali_streams.specs.Streams.{Appends};
 ghost use Rattle.dali_run.specs.Ends.{IsRun, Spells, RanWhole, Ended, HasEnded, LastLine, course};
 ghost use Rattle.dali_run.specs.Halts.{status_in};
@@ -7,6 +8,7 @@ ghost use Rattle.dali_run.specs.Program.{IsUp};
 ghost use Rattle.dali_run.specs.Sizes.{HasSizes, HaveSizes};
 ghost use Rattle.dali_run.specs.Steps.{Steps};
 ghost use Rattle.dali_run.specs.Stops.{NotRead, CommandStops, ScriptStops};
+ghost use Rattle.dali_run.specs.Survives.{IsOwn, HasKept};
 
 use crate::commands::step;
 use crate::gate::Gate;
@@ -148,6 +150,13 @@ pub fn run<R: Threads + Wait + Sync, S: Source, K: Sink, V: Store + Send, G: Gat
 ) -> (Status, V)
     ensures words { (result.0 ≡ Status.BadWords) ↔ (IsRun (map string_bytes words.now) → ⊥) }
     ensures ended { HasEnded V.told V.may_leave V.moment V.left_since V.faults V.cuts (map string_bytes words.now) (course S.left S.faults K.taken K.faults source.old source.new sink.old sink.new store result.1) result.0 }
+    // What was committed is never lost. Where a crash may leave of the store that was handed in only no database, or a
+    // log of this program with the batches of base at its front, then at each moment of the run, and behind it, it leaves
+    // such files again, with base and the batches of each transaction whose `commit ok` was written until then. From them
+    // a restart gives exactly the serial replay of the committed transactions, with the answers that they got.
+    ensures survives { (base : List (List Record)) → IsOwn V.told V.may_leave base store →
+        (e : HasEnded V.told V.may_leave V.moment V.left_since V.faults V.cuts (map string_bytes words.now) (course S.left S.faults K.taken K.faults source.old source.new sink.old sink.new store result.1) result.0) →
+        HasKept V.told V.may_leave V.moment V.left_since V.faults V.cuts (map string_bytes words.now) base (course S.left S.faults K.taken K.faults source.old source.new sink.old sink.new store result.1) e.mid result.0 e.ended }
 {
     let (store, outcome) = run_words(alloc, words, source, sink, store);
     let status = finish(sink, outcome);
