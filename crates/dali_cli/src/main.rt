@@ -6,10 +6,12 @@ ghost use Rattle.dali_cli.specs.Codes.{number_of};
 
 use anyhow::Result;
 use dali_filestore::FileStore;
+use dali_memstore::{Fuse, MemoryStore};
 use dali_run::{OpenGate, Status, run};
 use dali_streams::{StdSink, StdSource};
+use std::env::{self, Env};
+use std::io::{self, ErrorKind};
 use std::process::ExitCode;
-use std::{env, io};
 
 // The number that the program ends with.
 fn code_of(status: Status) -> u8
@@ -31,23 +33,28 @@ fn code_of(status: Status) -> u8
     }
 }
 
+// The words behind the program's name. Where one isn't UTF-8 there are none, which are as wrong.
+fn words_of<R: Env + AllocGlobal>(rt: &R) -> Result<Vec<String>> {
+    match env::args(rt) {
+        Ok(words) => Ok(words.skip(1).collect(rt.alloc())?),
+        Err(error) if error.kind() == ErrorKind::InvalidData => Ok(Vec::new(rt.alloc())),
+        Err(error) => Err(error.into()),
+    }
+}
+
 fn main(rt: HostRuntime) -> Result<ExitCode> {
-    let words: Vec<String> = env::args(&rt)?.skip(1).collect(rt.alloc())?;
+    let words = words_of(&rt)?;
     let mut source = StdSource::new(rt.reader());
     let mut sink = StdSink::new(io::writer(&rt));
-    let Ok(store) = FileStore::in_folder(&rt, ".") else {
-        println!(rt; "store fault")?;
-        return Ok(ExitCode::from(code_of(Status::StoreFault)));
+    let alloc = rt.alloc();
+    let status = match FileStore::in_folder(&rt, ".") {
+        Ok(store) => run(&rt, alloc, &words, &mut source, &mut sink, store, &OpenGate).0,
+        // Each call fails of a store that can't be opened.
+        Err(_) => {
+            let store = Fuse::new(MemoryStore::new(alloc, Vec::new(alloc)), Some(0));
+            run(&rt, alloc, &words, &mut source, &mut sink, store, &OpenGate).0
+        }
     };
-    let (status, _store) = run(
-        &rt,
-        rt.alloc(),
-        &words,
-        &mut source,
-        &mut sink,
-        store,
-        &OpenGate,
-    );
     Ok(ExitCode::from(code_of(status)))
 }
 

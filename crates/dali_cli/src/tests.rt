@@ -24,6 +24,9 @@ const WITH_A_BEGIN: &[u8] =
 const BATCH_WITHOUT_ITS_BYTES: &[u8] =
     b"\xa5\0\0\0\x0a\x01\x01\0\0\0\x01\0\0\0\x01\xa5\0\0\0\x64\0";
 
+const WITH_ONE_RECORD: &[u8] =
+    b"\xa5\0\0\0\x0a\x01\x01\0\0\0\x01\0\0\0\x01\xa5\0\0\0\x29\x02\0\0\0\0\0\0\0\x01\x04\0\0\0\0\0\0\0\x01\x01\0\0\0\0\0\0\0\x05\x03abc\x01\x05\0\0\0\0\0\0\0\x01\0";
+
 const ONE_RECORD: &str = "size 1 1\nclient 1\nbegin\ninsert 5 abc\ncommit\nend\nshow\n";
 
 const ONE_RECORD_LINES: &[u8] = b"1 begin 1\n1 insert ok\n1 commit ok\n5 abc\nrecords 1\n";
@@ -147,6 +150,12 @@ fn scripts_give_their_lines_and_statuses(rt: HostRuntime) -> Result<(), Fail> {
             b"fuse 0\naudit store stopped\naudit stopped store\nshow stopped store\npoke ok\n1 begin stopped store\n",
             Status::Done,
         ),
+        Case::new(
+            "a fuse that lets one audit pass, of four calls",
+            "size 1 1\nfuse 5\naudit\naudit\nshow\n",
+            b"fuse 5\naudit clean\naudit store stopped\nshow stopped store\n",
+            Status::Done,
+        ),
         Case {
             log: BATCH_WITHOUT_ITS_BYTES,
             ..Case::new(
@@ -247,6 +256,18 @@ fn scripts_give_their_lines_and_statuses(rt: HostRuntime) -> Result<(), Fail> {
                 ONE_RECORD,
                 b"1 begin 1\n",
                 Status::WriteFault,
+            )
+        },
+        Case {
+            failing_writes: &[0],
+            ..Case::new(
+                "a last line that can't be written",
+                "begin\n",
+                b"",
+                Status::BadScript {
+                    line: 1,
+                    kind: Kind::SizeOrOpenWanted,
+                },
             )
         },
         Case {
@@ -382,6 +403,18 @@ fn goes_on(
     let (status, store) = run(rt, alloc, &words, &mut source, &mut sink, store, &OpenGate);
     assert!(rt; sink.taken() == wanted, "at {script}");
     Ok((status, store))
+}
+
+// The log after each run, put together by hand: a batch with the format, then one with a transaction.
+#[test]
+fn a_log_has_these_bytes(rt: HostRuntime) -> Result<(), Fail> {
+    let store = MemoryStore::new(rt.alloc(), Vec::new(rt.alloc()));
+    let (_, store) = goes_on(&rt, "size 1 1\n", b"", store)?;
+    assert!(rt; store.file(FileName::Log) == FORMATTED);
+    let store = MemoryStore::new(rt.alloc(), Vec::new(rt.alloc()));
+    let (_, store) = goes_on(&rt, ONE_RECORD, ONE_RECORD_LINES, store)?;
+    assert!(rt; store.file(FileName::Log) == WITH_ONE_RECORD);
+    Ok(())
 }
 
 #[test]
