@@ -200,7 +200,7 @@ stops_honest bases L c m run safe i a e = ⊎_elim (λ lt. inl (as_before (regio
 
 -- ---- without pokes
 pub unpoked_honest : UnpokedHonest
-unpoked_honest bases L c run clean i a e = region.sound i a e refl (omega (arith, region.all (clean r has_region.0 has_region.1).0, region.touches, before_less r 0 (last_epoch L).records i a e refl))
+unpoked_honest bases L c run clean i a e = region.sound i a e refl (omega (arith, region.protected.all_sound (clean r has_region.0 has_region.1).0, region.touches, before_less r 0 (last_epoch L).records i a e refl))
   where
     r : ℕ
     r = a.block.region
@@ -214,5 +214,5 @@ unpoked_honest bases L c run clean i a e = region.sound i a e refl (omega (arith
 pub unpoked_escapes_none : UnpokedEscapesNone
 unpoked_escapes_none bases L c m run clean = record {
   seen = λ r g e. (clean r g e).1;
-  named = λ r g e h. let region : RegionRun (base_at bases L) (last_epoch L) r g = run.regions r g e in absurd (omega (arith, h, region.all (clean r g e).0, region.touches, blocks_on-take r m (last_epoch L).records));
+  named = λ r g e h. let region : RegionRun (base_at bases L) (last_epoch L) r g = run.regions r g e in absurd (omega (arith, h, region.protected.all_sound (clean r g e).0, region.touches, blocks_on-take r m (last_epoch L).records));
 }

@@ -17,18 +17,19 @@ use Rattle.dali_history.specs.History.{IsHistory}
 use Rattle.dali_history.specs.Acknowledged.{KeepsCommitted}
 use Rattle.dali_history.specs.Promise.{RestartIsRight}
 use Rattle.dali_history.proofs.Restarts.{restarted, honest_push}
+use Rattle.dali_history.proofs.Chained.{keeps_committed}
 use Rattle.dali_headline.proofs.NothingToFree.{recovered-restarted_history, recovered-base}
 use Rattle.dali_headline.proofs.Headline.{restart_is_right}
 use Rattle.dali_counts.proofs.Lists.{take_take, and_left}
 use Rattle.dali_system.specs.State.{CoreState, stable, log_after}
 use Rattle.dali_system.specs.Run.{Bases, base_at, log_in, IsRun, IsPrefix}
 use Rattle.dali_crash.specs.CrashLogs.{cut_to, IsCrashLog}
-use Rattle.dali_crash.specs.Restarts.{HasRightBase, FormatHasRightBase, RestartHasRightBase, CrashIsHistory, CrashIsRight, RestartsRight, RunIsRight}
-use Rattle.dali_crash.proofs.CrashLogs.{crash_logs, cut_parts, first_before}
+use Rattle.dali_crash.specs.Restarts.{HasRightBase, FormatHasRightBase, RestartHasRightBase, CrashIsHistory, CrashIsRight, RestartsRight, RunIsRight, FlushedStays, AcknowledgedStays}
+use Rattle.dali_crash.proofs.CrashLogs.{crash_logs, cut_parts, first_before, flushed_stays}
 use Rattle.dali_system.specs.Crashes.{NoneEscapes}
 
 -- ---- the sizes
-sizes_take : (s : Sizes) (L : List Record) (n : ℕ) → slice_get L 0 ≡ Some (Format s.index s.heap) → 0 < n → sizes_of (take n L) ≡ s
+pub sizes_take : (s : Sizes) (L : List Record) (n : ℕ) → slice_get L 0 ≡ Some (Format s.index s.heap) → 0 < n → sizes_of (take n L) ≡ s
 sizes_take s [] n e h = absurd (cc)
 sizes_take s (x ∷ L) zero e h = absurd (omega arith)
 sizes_take s (x ∷ L) (suc n) e h = let same : x ≡ Format s.index s.heap = cc in ap (λ y. sizes_of (y ∷ take n L)) same
@@ -38,7 +39,7 @@ first_rises : (c : Cut) (L : List Record) → c.now.first ≤ (fold cut_step c L
 first_rises c [] = omega arith
 first_rises c (x ∷ L) = omega (arith, first_before c x, first_rises (cut_step c x) L)
 
-begins_behind : (s : Sizes) (L : List Record) → slice_get L 0 ≡ Some (Format s.index s.heap) → 0 < (last_epoch L).first
+pub begins_behind : (s : Sizes) (L : List Record) → slice_get L 0 ≡ Some (Format s.index s.heap) → 0 < (last_epoch L).first
 begins_behind s [] e = absurd (cc)
 begins_behind s (x ∷ L) e = let same : x ≡ Format s.index s.heap = cc in subst (λ y. 0 < (last_epoch (y ∷ L)).first) (sym same) (omega (arith, first_rises (cut_step (record { closed = []; now = record { first = 0; records = [] } }) (Format s.index s.heap)) L))
 
@@ -73,9 +74,12 @@ pub crash_is_right : CrashIsRight
 crash_is_right bases L c n run right from to safe = restart_is_right (take n L) (crash_is_history bases L c n run right from to safe)
 
 -- ---- a run
+goes_on_to : (L K : List Record) (k n : ℕ) → k ≤ n → K ≡ take n L → take k L ++ drop k (take n L) ≡ K
+goes_on_to L K k n h e = ap (λ l. l ++ drop k (take n L)) (sym (take_take k n L h)) ∙ (take-append-drop k (take n L) ∙ sym e)
+
 -- what stands in a beginning of the log stands in a longer one, and survives there unless a chain deletes it
 keeps_in : (L K : List Record) (k n : ℕ) → k ≤ n → K ≡ take n L → RestartIsRight K → KeepsCommitted (take k L) K
-keeps_in L K k n h e right = right.keeps (take k L) (drop k (take n L)) (ap (λ l. l ++ drop k (take n L)) (sym (take_take k n L h)) ∙ (take-append-drop k (take n L) ∙ sym e))
+keeps_in L K k n h e right = right.keeps (take k L) (drop k (take n L)) (goes_on_to L K k n h e)
 
 pub run_is_right_for :
     (bases : Bases) (before : List Record) (leave : Files → Type 0) (c : CoreState) → IsRun bases before leave c
@@ -96,6 +100,17 @@ run_is_right_for bases before leave c run right F l safe =
 
 pub run_is_right : RunIsRight
 run_is_right bases before leave c run right F l safe = run_is_right_for bases before (λ D. leave D ≡ true) c run right F l safe
+
+-- ---- with damage or without
+pub flushed_stays_in : FlushedStays
+flushed_stays_in bases before leave c k x run h e F l = flushed_stays (λ D. leave D ≡ true) (log_after before c.system) (stable c.system) c.vault run.vault k x h e F l
+
+pub acknowledged_stays : AcknowledgedStays
+acknowledged_stays bases before leave c t run acknowledged F l =
+    let L : List Record = log_after before c.system in
+    let is : IsPrefix L (stable c.system) F = run.vault.prefix F l in
+    let keeps : KeepsCommitted (take (stable c.system) L) (log_in F) = subst (KeepsCommitted (take (stable c.system) L)) (goes_on_to L (log_in F) (stable c.system) is.count is.flushed is.log) (keeps_committed (take (stable c.system) L) (drop (stable c.system) (take is.count L))) in
+    keeps.stays t acknowledged
 
 -- ---- where a core is made
 pub format_has_right_base : FormatHasRightBase

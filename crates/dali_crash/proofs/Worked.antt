@@ -36,7 +36,7 @@ use Rattle.dali_locks.specs.Locks.{stronger_mode}
 use Rattle.dali_locks.proofs.Changes.{get-locks_with}
 
 -- ---- what the tests tell
-format_is : (b : List Record) → is_format b ≡ true → b ≡ Format 1 1 ∷ []
+pub format_is : (b : List Record) → is_format b ≡ true → b ≡ Format 1 1 ∷ []
 format_is [] e = absurd (cc)
 format_is (Format i h ∷ []) e = let m : i ≡ 1 = equal i 1 (and_left (i == 1) (h == 1) e) in let n : h ≡ 1 = equal h 1 (and_right (i == 1) (h == 1) e) in rw (m, n) refl
 format_is (Format i h ∷ x ∷ b) e = absurd (cc)
@@ -64,6 +64,8 @@ stored = record {
   within = omega arith;
   prefix = λ F h. record { count = 1; flushed = omega arith; within = omega arith; log = only_format F h };
   exact = λ e F h. record { log = only_format F h; end = sym (ap (λ bs. sum_by batch_length bs) (one_is F.batches h)) };
+  then_fits = omega arith;
+  counts = omega arith;
   rose = λ h. absurd (cc);
 }
 
@@ -125,10 +127,11 @@ step_5 : IsStepAt begun_2 (Locks 2 5 Shared) locked
 step_5 = ((ap (λ (row : Option TxnRow). is_some row) (added flushed_1.core.system.table 2 fresh_row 2), (λ u n d e. absurd (no_lock u 5 n e)), (refl, refl)), λ F h. h)
 
 step_6 : IsStepAt locked (OnRegion 0 (Latch 2)) latch
-step_6 = ((loaded words, refl, (refl, refl)), λ F h. h)
+step_6 = ((loaded words, refl, refl, (refl, refl)), λ F h. h)
 
 step_7 : IsStepAt latch (OnRegion 0 (NoteReads look.read)) read
-step_7 = ((held, refl, (refl, refl)), λ F h. h)
+unfolding look entries
+step_7 = ((held, refl, ((refl, refl), omega arith), (refl, refl)), λ F h. h)
 
 are_words : AreWords words
 are_words = (refl, omega arith)

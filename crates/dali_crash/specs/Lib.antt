@@ -1,3 +1,11 @@
 pub mod CrashLogs
 pub mod Restarts
 pub mod Worked
+pub mod Fitting
+pub mod Starts
+pub mod Checkpoints
+pub mod StoreRuns
+pub mod Checkpointed
+pub mod Damaged
+pub mod Unpoked
+pub mod CheckpointFaults

@@ -5,9 +5,11 @@
 --     CrashIsRight             a restart from it is right
 --     RestartsRight before c F       the crash image F: its log is a history, a restart is right, and keeps what was acknowledged
 --     RunIsRight               so it is of each crash image of a run, where no damage escapes
+--     FlushedStays, AcknowledgedStays      what was flushed stands in each crash image of a run, and what was
+--                              acknowledged is committed there, damage or not
 --     CourseKeepsTheBase       the right base stays, whatever steps are taken
 --     EveryRunIsRight          so from a format or a restart on, after any list of steps, each crash image restarts right
-use Rattle.std.specs.Prelude.{◌≡◌, ℕ, ◌≤◌, Bool, true, ◌⊎◌, List, [], ◌∷◌, ◌++◌, length, take, Contains, Some}
+use Rattle.std.specs.Prelude.{◌≡◌, ℕ, ◌<◌, ◌≤◌, Bool, true, ◌⊎◌, List, [], ◌∷◌, ◌++◌, length, take, slice_get, Contains, Some}
 use Rattle.dali_geometry.specs.Sizes.{Sizes}
 use Rattle.dali_geometry.specs.Places.{formatted_image}
 use Rattle.dali_record.specs.declared.records.Record.{Record}
@@ -21,7 +23,7 @@ use Rattle.dali_history.specs.Recovered.{base_of, recovered, AreHonest}
 use Rattle.dali_history.specs.History.{IsHistory}
 use Rattle.dali_history.specs.Acknowledged.{IsDeletedByChain}
 use Rattle.dali_history.specs.Promise.{RestartIsRight}
-use Rattle.dali_system.specs.State.{CoreState, log_after, VaultState}
+use Rattle.dali_system.specs.State.{CoreState, stable, log_after, VaultState}
 use Rattle.dali_system.specs.Run.{Bases, base_at, log_in, RunsOn, IsRun, VaultRun}
 use Rattle.dali_system.specs.Crashes.{NoneEscapes, IsAcknowledged}
 use Rattle.dali_record.specs.Spelling.{CanBeSpelled}
@@ -69,6 +71,19 @@ RunIsRight =
     → HasRightBase bases c.system.sizes (log_after before c.system)
     → (F : Files) → leave F ≡ true → NoneEscapes (last_epoch (log_in F)) c
     → RestartsRight before c F
+
+-- ---- with damage or without
+abbrev pub FlushedStays : Type 0
+FlushedStays =
+    (bases : Bases) (before : List Record) (leave : Files → Bool) (c : CoreState) (k : ℕ) (x : Record) → IsRun bases before (λ F. leave F ≡ true) c
+    → k < stable c.system → slice_get (log_after before c.system) k ≡ Some x
+    → (F : Files) → leave F ≡ true → slice_get (log_in F) k ≡ Some x
+
+abbrev pub AcknowledgedStays : Type 0
+AcknowledgedStays =
+    (bases : Bases) (before : List Record) (leave : Files → Bool) (c : CoreState) (t : ℕ) → IsRun bases before (λ F. leave F ≡ true) c
+    → IsAcknowledged before c.system t
+    → (F : Files) → leave F ≡ true → Contains (committed (log_in F)) t
 
 -- ---- along steps
 -- the right base stays, whatever steps are taken

@@ -2,7 +2,14 @@
 
 ghost use Rattle.dali_crash.specs.CrashLogs.{StopsHonest, UnpokedHonest, UnpokedEscapesNone, CrashLogs};
 ghost use Rattle.dali_crash.specs.Worked.{WorkedRun};
-ghost use Rattle.dali_crash.specs.Restarts.{FormatHasRightBase, RestartHasRightBase, CrashIsHistory, CrashIsRight, RunIsRight, CourseKeepsTheBase, FormatIsHistory, EveryRunIsRight};
+ghost use Rattle.dali_crash.specs.Checkpointed.{WorkedCheckpoint};
+ghost use Rattle.dali_crash.specs.CheckpointFaults.{WorkedFaults};
+ghost use Rattle.dali_crash.specs.Damaged.{DamagedRun};
+ghost use Rattle.dali_crash.specs.Restarts.{FormatHasRightBase, RestartHasRightBase, CrashIsHistory, CrashIsRight, RunIsRight, FlushedStays, AcknowledgedStays, CourseKeepsTheBase, FormatIsHistory, EveryRunIsRight};
+ghost use Rattle.dali_crash.specs.Fitting.{ButIsWhole, RedoesTheEpoch, RecoversFromImage};
+ghost use Rattle.dali_crash.specs.Starts.{FreshFits, RestartStarts};
+ghost use Rattle.dali_crash.specs.StoreRuns.{StoreStepKeeps, StoreCourseKeeps, TurnEnds, FreshStarts, EveryStoreRunIsRight};
+ghost use Rattle.dali_crash.specs.Unpoked.{UnpokedRunIsRight, UnpokedStoreRunIsRight};
 
 /// Where no damage escapes a stop, the last epoch of what it leaves is honest.
 pub fn a_stop_is_honest()
@@ -49,6 +56,16 @@ pub fn a_run_may_crash_anywhere()
     ensures { RunIsRight }
 {}
 
+/// What a run flushed stands in every crash image, damage or not.
+pub fn what_was_flushed_stands_in_each_crash_image()
+    ensures { FlushedStays }
+{}
+
+/// What a run acknowledged is committed in every crash image, damage or not.
+pub fn what_was_acknowledged_is_in_each_crash_image()
+    ensures { AcknowledgedStays }
+{}
+
 /// The base of the last epoch stays right, whatever steps are taken.
 pub fn steps_keep_the_base()
     ensures { CourseKeepsTheBase }
@@ -64,7 +81,93 @@ pub fn every_run_is_right()
     ensures { EveryRunIsRight }
 {}
 
+/// Without a stray write a restart after a stop is right, wherever the stop came; and where no audit named a
+/// region, it deletes nobody.
+pub fn every_run_without_stray_writes_is_right()
+    ensures { UnpokedRunIsRight }
+{}
+
+/// So it is of a core with its store, and from its current image.
+pub fn every_run_with_its_store_and_without_stray_writes_is_right()
+    ensures { UnpokedStoreRunIsRight }
+{}
+
 /// A formatted store, one transaction that is flushed and one that looks for a key: the premises of each step are met.
 pub fn a_worked_run()
     ensures { WorkedRun }
+{}
+
+/// Files that fit a log but for missed regions fit it whole, where none is missed.
+pub fn files_fit_whole()
+    ensures { ButIsWhole }
+{}
+
+/// The records from an image's number on, written over it, come to what the whole epoch comes to over
+/// its base.
+pub fn an_image_redoes_its_epoch()
+    ensures { RedoesTheEpoch }
+{}
+
+/// A restart that begins with the image of files that fit, and reads the records from its number on,
+/// comes to the same as one that reads the whole epoch over its base.
+pub fn a_restart_may_begin_with_the_image()
+    ensures { RecoversFromImage }
+{}
+
+/// The files that a format or a restart leaves fit their log.
+pub fn fresh_files_fit()
+    ensures { FreshFits }
+{}
+
+/// The log that a restart leaves is a history without a record in its last epoch: so a core may be made
+/// over it again.
+pub fn a_restart_starts_a_run()
+    ensures { RestartStarts }
+{}
+
+/// Each step keeps a run with its store, those of a checkpoint too: each crash image goes on to fit its
+/// log.
+pub fn each_store_step_keeps_a_run()
+    ensures { StoreStepKeeps }
+{}
+
+/// So does each list of steps, in whatever order.
+pub fn each_list_of_store_steps_keeps_a_run()
+    ensures { StoreCourseKeeps }
+{}
+
+/// Once the anchor moved, every crash image has the checkpoint's number, and its image stands at the
+/// record where the checkpoint began.
+pub fn a_checkpoint_ends()
+    ensures { TurnEnds }
+{}
+
+/// A core that a format or a restart hands out is a run with its store.
+pub fn a_fresh_store_is_a_run()
+    ensures { FreshStarts }
+{}
+
+/// From a format or a restart on, after any steps, those of checkpoints too, and a stop at any of them:
+/// the current image fits the log that the stop left, and where no damage escapes, a restart gives exactly
+/// the records of the survivors.
+pub fn every_run_with_its_store_is_right()
+    ensures { EveryStoreRunIsRight }
+{}
+
+/// A formatted store, one transaction, and a checkpoint that ends: the premises of each of its steps are
+/// met, and a crash leaves its image.
+pub fn a_worked_checkpoint()
+    ensures { WorkedCheckpoint }
+{}
+
+/// The same checkpoint up to a fault in a copy, in the head, in the sync or in the anchor's move, and a
+/// region that is skipped: the premises of these steps are met, and a crash then leaves files that restart right.
+pub fn worked_checkpoints_that_fail()
+    ensures { WorkedFaults }
+{}
+
+/// A poke, a transaction that reads it and commits, an audit that fails: a crash leaves a history, and a restart
+/// deletes the transaction.
+pub fn a_worked_run_with_damage()
+    ensures { DamagedRun }
 {}

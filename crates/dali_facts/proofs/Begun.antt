@@ -1,6 +1,6 @@
 -- The table has just the transactions of the last epoch with a Begin and no Ended.
 use Rattle.std.proofs.Common.{◌≡◌, ℕ, Bool, true, false, cond, List, [], ◌∷◌, ◌++◌, Option, Some, None, refl, ap, sym, subst, ◌∙◌}
-use Rattle.std.specs.Prelude.{◌==◌, ◌&&◌, ◌||◌, not, ⊤, IsSome, is_some, filter_map}
+use Rattle.std.specs.Prelude.{◌==◌, ◌&&◌, ◌||◌, not, ⊤, is_some, filter_map}
 use Rattle.std.proofs.lemmas.List.{append-nil}
 use Rattle.std.proofs.lemmas.List.Elements.{filter_map-append}
 use Rattle.dali_geometry.specs.Sizes.{Sizes}
@@ -17,13 +17,13 @@ use Rattle.dali_record.proofs.Ends.{by_push}
 use Rattle.dali_record.proofs.Pushes.{txn_state_push, rules_state_push, cut_push}
 use Rattle.dali_record.proofs.EpochRules.{format_first}
 use Rattle.dali_system.specs.State.{TxnRow}
-use Rattle.dali_system.specs.Run.{IsRow}
+use Rattle.dali_system.specs.Run.{IsRow, is_running}
 use Rattle.dali_system.proofs.OneMore.{is_inside, step_inside}
 use Rattle.dali_facts.specs.Facts.{HoldsTheBegun}
 use Rattle.dali_facts.proofs.Commits.{has_push}
 
 -- b tells whether the epoch has its Begin, e whether it has its Ended
-abbrev Stands : Option TxnState → Bool → Bool → Type 0
+abbrev pub Stands : Option TxnState → Bool → Bool → Type 0
 Stands None b e = ⊤
 Stands (Some Unbegun) b e = (b ≡ false) × (e ≡ false)
 Stands (Some (Active w)) b e = (b ≡ true) × (e ≡ false)
@@ -196,7 +196,7 @@ filter_hits h E x t = ap (λ l. has l t) (filter_map-append h E (x ∷ [])) ∙ 
     by_value None e = rw e (ap (λ l. has l t) (append-nil (filter_map h E)) ∙ sym (or_none (has (filter_map h E) t)))
     by_value (Some u) e = rw e (has_push (filter_map h E) u t)
 
-abbrev StandsIn : Sizes → ℕ → List Record → Type 0
+abbrev pub StandsIn : Sizes → ℕ → List Record → Type 0
 StandsIn s t L = (g : Rules) → rules_state s L ≡ Some g → Stands (txn_state s t L) (has (begun (last_epoch L).records) t) (has (ended (last_epoch L).records) t)
 
 abbrev StandsCut : Sizes → ℕ → Option TxnState → Cut → Type 0
@@ -244,7 +244,7 @@ stands_push s t L x ih g e = by_kind x e
     by_kind (AuditFail a rs) f = more (AuditFail a rs) refl f
     by_kind (Back u q) f = more (Back u q) refl f
 
-stands : (s : Sizes) (t : ℕ) (L : List Record) → StandsIn s t L
+pub stands : (s : Sizes) (t : ℕ) (L : List Record) → StandsIn s t L
 stands s t = by_push (StandsIn s t) (λ g e. (refl, refl)) (λ L x ih. stands_push s t L x ih)
 
 -- ---- the table
@@ -265,3 +265,11 @@ pub holds_the_begun : HoldsTheBegun
 holds_the_begun bases L c run t =
     let same = row_stands (txn_state c.system.sizes t L) _ (has (begun (last_epoch L).records) t) (has (ended (last_epoch L).records) t) (run.table t) (stands c.system.sizes t L run.counts.now run.counts.rules) in
     (λ h. sym same ∙ h, λ h. same ∙ h)
+
+-- who runs by the rules has a Begin and no Ended
+pub running_stands : (o : Option TxnState) (b e : Bool) → is_running o ≡ true → Stands o b e → (b && not e) ≡ true
+running_stands None b e r h = absurd (cc)
+running_stands (Some Unbegun) b e r h = absurd (cc)
+running_stands (Some (Active w)) b e r h = running b e h
+running_stands (Some (Ending ps)) b e r h = running b e h
+running_stands (Some Over) b e r h = absurd (cc)

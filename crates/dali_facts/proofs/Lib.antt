@@ -2,3 +2,4 @@ pub mod KeysAndUndos
 pub mod Commits
 pub mod Plans
 pub mod Begun
+pub mod Told

@@ -35,12 +35,12 @@ plan_goes_on s L t p q mark b plan f = record {
   mark_is = plan.mark_is;
 }
 
-none_first : (c : Bool) (o p : Option TxnState) → o ≡ None → either_state (allowed c o) p ≡ p
-none_first true o p e = rw e refl
+none_first : (c : Bool) (o p : Option TxnState) → (c ≡ true → o ≡ None) → either_state (allowed c o) p ≡ p
+none_first true o p e = rw (e refl) refl
 none_first false o p e = refl
 
-began : (s : Sizes) (t : ℕ) (w : Working) (b : Block) (q : Progress) → is_level w ≡ true → follow s t w.progress b ≡ None → follow s t Fresh b ≡ Some q → forward s t w b ≡ Some (Active (record { undos = w.undos ++ undo_added b b.undo; mark = length w.undos; progress = q; way = Onward }))
-began s t w b q e f g = none_first (is_onward w.way) (goes_on w b (follow s t w.progress b)) _ (ap (goes_on w b) f) ∙ (ap (λ c. allowed c (starts w b (follow s t Fresh b))) e ∙ ap (starts w b) g)
+began : (s : Sizes) (t : ℕ) (w : Working) (b : Block) (q : Progress) → is_level w ≡ true → (is_onward w.way ≡ true → follow s t w.progress b ≡ None) → follow s t Fresh b ≡ Some q → forward s t w b ≡ Some (Active (record { undos = w.undos ++ undo_added b b.undo; mark = length w.undos; progress = q; way = Onward }))
+began s t w b q e f g = none_first (is_onward w.way) (goes_on w b (follow s t w.progress b)) _ (λ onward. ap (goes_on w b) (f onward)) ∙ (ap (λ c. allowed c (starts w b (follow s t Fresh b))) e ∙ ap (starts w b) g)
 
 pub plan_starts : PlanStarts
 plan_starts s L t w q b at level none f = record {
@@ -80,4 +80,4 @@ own_back s t L w b p e l i = txn_state_push s t L (Back t b) ∙ (ap (λ o. txn_
     test false h = absurd (cc)
 
 pub take_back_goes_on : TakeBackGoesOn
-take_back_goes_on s L t w p b at l k r o = (record { undos = drop_last w.undos; mark = w.mark; progress = w.progress; way = way_back w }, own_back s t L w b p at l (is_its p b k r o), refl, refl, refl)
+take_back_goes_on s L t w p b at l k r o = (record { undos = drop_last w.undos; mark = w.mark; progress = w.progress; way = way_back w }, own_back s t L w b p at l (is_its p b k r o), refl, refl, refl, refl)

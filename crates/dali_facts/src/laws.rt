@@ -1,6 +1,6 @@
 //! Laws over the definitions, each the contract of a function that does nothing.
 
-ghost use Rattle.dali_facts.specs.Facts.{HoldsItsKeys, HasItsUndos, HasCounts, CommittedIsLogged, HoldsTheBegun};
+ghost use Rattle.dali_facts.specs.Facts.{HoldsItsKeys, HasItsUndos, HasCounts, CommittedIsLogged, HoldsTheBegun, RefusalsTell, StopTells, RegionsTell};
 ghost use Rattle.dali_facts.specs.Plans.{PlanGoesOn, PlanStarts, PlanAnswers, TakeBackGoesOn};
 
 /// A running transaction holds the keys of its blocks.
@@ -46,4 +46,20 @@ pub fn a_taking_back_goes_on()
 /// The table has just the transactions of the last epoch with a Begin and no Ended.
 pub fn a_run_holds_the_begun()
     ensures { HoldsTheBegun }
+{}
+
+/// A refused request names an older transaction that ran then, and has ended since or is in its way still.
+pub fn a_run_tells_its_refusals()
+    ensures { RefusalsTell }
+{}
+
+/// The engine is stopped by damage exactly where an audit of the epoch failed, and by the store only where it
+/// failed since the load.
+pub fn a_run_tells_its_stop()
+    ensures { StopTells }
+{}
+
+/// A region's codeword tells its stray writes, and without one its words are those that the log leaves.
+pub fn a_run_tells_its_words()
+    ensures { RegionsTell }
 {}

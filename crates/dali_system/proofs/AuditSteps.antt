@@ -18,6 +18,7 @@ use Rattle.dali_system.specs.Audits.{Certifies, AuditBeginKeeps, AuditEndKeeps, 
 use Rattle.dali_system.proofs.OneMore.{is_inside, one_more, last_epoch-push, clean_place-push, failed_first-push, TableRun-push, LogRun-push, CountRun-push, LockRun-push}
 use Rattle.dali_system.proofs.OneMoreTouch.{RegionRun-off, blocks_on-take}
 use Rattle.dali_system.proofs.Logging.{RunsOn-logged, no_conflict, regions_quiet}
+use Rattle.dali_system.proofs.Protected.{checked_keeps}
 use Rattle.dali_system.proofs.RecordSteps.{not_failed, rule_of}
 use Rattle.dali_counts.proofs.Lists.{length-push, or_false, some_same}
 use Rattle.dali_att.specs.Table.{Table}
@@ -58,9 +59,9 @@ audit_begin_keeps bases L c run none fits = RunsOn-logged bases L c run AuditBeg
 -- a check changes nothing that a run says of the region, but that a poke may be missed
 pub RegionRun-checked : (base : List (List ℕ)) (e : Epoch) (r : ℕ) (g : RegionState) → RegionRun base e r g → RegionRun base e r (checked g)
 RegionRun-checked base e r g run = record {
+  protected = checked_keeps g run.protected;
+  reads = run.reads;
   touches = run.touches;
-  within = run.within;
-  all = run.all;
   sound = run.sound;
   settled = run.settled;
   certified = λ h. run.certified (or_false g.missed _ h).0;
@@ -68,7 +69,7 @@ RegionRun-checked base e r g run = record {
 
 -- a check that answers 0 certifies the blocks so far
 pub pass_certifies : PassCertifies
-pass_certifies base e b r g run zero_stray h = omega (arith, run.all unpoked, run.touches, blocks_on-take r (b - e.first) e.records)
+pass_certifies base e b r g run zero_stray h = omega (arith, run.protected.all_sound unpoked, run.touches, blocks_on-take r (b - e.first) e.records)
   where
     first : (p q : Bool) → (p && q) ≡ false → q ≡ true → p ≡ false
     first true q f e = absurd (cc)

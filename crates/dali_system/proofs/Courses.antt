@@ -24,6 +24,8 @@ vault_less old new L n v less run = record {
   within = run.within;
   prefix = λ F h. run.prefix F (less F h);
   exact = λ e F h. run.exact e F (less F h);
+  then_fits = run.then_fits;
+  counts = run.counts;
   rose = run.rose;
 }
 
@@ -129,7 +131,7 @@ step_keeps bases before m n AuditBegins at s = logged_at bases before m n _ Audi
 step_keeps bases before m n (AuditEnds b found) at s = logged_at bases before m n _ (audit_record b found) at (audit_inside b found) s.1 refl refl refl refl (λ run. audit_end_keeps bases m.log m.core b found run s.0.0) s.0.1
 step_keeps bases before m n (Locks t k mode) at s = quiet_at bases before m n _ at s.1 refl refl refl refl (λ run. grant_keeps bases m.log m.core t k mode run s.0.0 s.0.1) s.0.2
 step_keeps bases before m n (Refuses t k mode h) at s = quiet_at bases before m n _ at s.1 refl refl refl refl (λ run. refuse_keeps bases m.log m.core t k h mode run s.0.0) s.0.1
-step_keeps bases before m n (OnRegion r x) at s = quiet_at bases before m n _ at s.1 refl refl refl refl (λ run. region_keeps bases m.log m.core r s.0.0 x run s.0.1) s.0.2
+step_keeps bases before m n (OnRegion r x) at s = quiet_at bases before m n _ at s.1 refl refl refl refl (λ run. region_keeps bases m.log m.core r s.0.0 x run s.0.1 s.0.2) s.0.3
 step_keeps bases before m n (Turns t state) at s = quiet_at bases before m n _ at s.1 refl refl refl refl (λ run. state_keeps bases m.log m.core t state run s.0.0) s.0.1
 step_keeps bases before m n Stops at s = quiet_at bases before m n _ at s.1 refl refl refl refl (λ run. stop_keeps bases m.log m.core run s.0.0) s.0.1
 step_keeps bases before m n (Checkpoints b) at s = quiet_at bases before m n _ at s.1 refl refl refl refl (λ run. checkpoint_flag_keeps bases m.log m.core b run) s.0
@@ -152,12 +154,12 @@ course_keeps bases before m n (x ∷ xs) at s = course_keeps bases before s.0 n 
 
 -- ---- a core that was just made
 pub load_runs_at : LoadRunsAt
-load_runs_at bases s L g limit v leave rest fits whole vault = record {
+load_runs_at bases s L g limit v leave rest fits whole words vault = record {
   log = sym all;
   run = record {
     first = count;
     began = rw all (omega (arith, rest.number, count));
-    runs = subst (λ M. RunsOn bases M (new_core s (base_at bases L) g limit v)) (sym all) (load_runs bases s L g limit v rest fits whole);
+    runs = subst (λ M. RunsOn bases M (new_core s (base_at bases L) g limit v)) (sym all) (load_runs bases s L g limit v rest fits whole words);
     vault = subst (λ M. VaultRun (MayLeave leave) M (g.count + 0) v) (sym all) (subst (λ k. VaultRun (MayLeave leave) L k v) (omega (arith, count)) vault);
   };
 }
@@ -191,7 +193,7 @@ step_goes m n AuditBegins s = goes_with m n _ AuditBegin refl refl s.0.2
 step_goes m n (AuditEnds b found) s = goes_with m n _ (audit_record b found) (audit_inside b found) refl s.0.1
 step_goes m n (Locks t k mode) s = goes_on m n _ refl s.0.2
 step_goes m n (Refuses t k mode h) s = goes_on m n _ refl s.0.1
-step_goes m n (OnRegion r x) s = goes_on m n _ refl s.0.2
+step_goes m n (OnRegion r x) s = goes_on m n _ refl s.0.3
 step_goes m n (Turns t state) s = goes_on m n _ refl s.0.1
 step_goes m n Stops s = goes_on m n _ refl s.0.1
 step_goes m n (Checkpoints b) s = goes_on m n _ refl s.0

@@ -1,13 +1,13 @@
 -- A flush, and a fault in one, keep a run.
-use Rattle.std.proofs.Common.{◌≡◌, ℕ, ◌+◌, false, List, [], ◌∷◌, ◌++◌, length, take, drop, refl, ap, sym, ◌∙◌, ⊎_elim, arith}
-use Rattle.std.specs.Prelude.{flat_map, sum_by}
+use Rattle.std.proofs.Common.{◌≡◌, ℕ, ◌+◌, ◌<◌, ◌≤◌, false, List, [], ◌∷◌, ◌++◌, length, take, drop, refl, ap, sym, ◌∙◌, inl, inr, ⊎_elim, arith}
+use Rattle.std.specs.Prelude.{◌^◌, flat_map, sum_by}
 use Rattle.std.proofs.lemmas.List.{take-append-drop, take_all, append-nil}
 use Rattle.std.proofs.lemmas.List.Sums.{sum_by_push}
 use Rattle.std.proofs.lemmas.Grind.{flat_map-append}
 use Rattle.dali_record.specs.declared.records.Record.{Record}
 use Rattle.dali_record.specs.Files.{Files, batch_length}
 use Rattle.dali_system.specs.State.{VaultState}
-use Rattle.dali_system.specs.Run.{CountRun, log_in, IsPrefix}
+use Rattle.dali_system.specs.Run.{CountRun, log_in, IsPrefix, HasRisen}
 use Rattle.dali_system.specs.Flushes.{frame_of, with_batch, longer, FlushKeeps, FaultKeeps, FlushLeaves, FaultLeaves}
 
 batch_added : (batches : List (List Record)) (frame : List Record) → flat_map (λ b. b) (with_batch batches frame) ≡ flat_map (λ b. b) batches ++ frame
@@ -26,6 +26,21 @@ as_whole L n l e f = f ∙ sym (take_all n L (omega (arith, e)))
 length-with : (batches : List (List Record)) (frame : List Record) (v : VaultState) → v.end ≡ sum_by batch_length batches → (longer v frame).end ≡ sum_by batch_length (with_batch batches frame)
 length-with batches [] v e = e
 length-with batches (r ∷ rs) v e = ap (λ k. k + batch_length (r ∷ rs)) e ∙ sym (sum_by_push batch_length batches (r ∷ rs))
+
+longer_counts : (v : VaultState) (frame : List Record) → v.faults_then ≤ v.faults → (longer v frame).faults_then ≤ (longer v frame).faults
+longer_counts v [] h = h
+longer_counts v (r ∷ rs) h = h
+
+longer_then : (v : VaultState) (frame : List Record) → v.faults_then < 2 ^ 64 → (longer v frame).faults_then < 2 ^ 64
+longer_then v [] h = h
+longer_then v (r ∷ rs) h = h
+
+-- a count that rose in a call rose since the load too
+pub risen_since : (then before now : ℕ) → then ≤ before → HasRisen before now → HasRisen then now
+risen_since then before now h rose = ⊎_elim (λ more. inl (omega (arith, h, more))) (λ full. inr full) rose
+
+pub no_less : (then before now : ℕ) → then < 2 ^ 64 → then ≤ before → HasRisen before now → then ≤ now
+no_less then before now fits h rose = ⊎_elim (λ more. omega (arith, h, more)) (λ full. omega (arith, fits, full)) rose
 
 longer_stopped : (v : VaultState) (frame : List Record) → (longer v frame).stopped ≡ v.stopped
 longer_stopped v [] = refl
@@ -60,6 +75,8 @@ flush_leaves old new L n v run runs store = record {
   within = omega arith;
   prefix = λ F h. record { count = length L; flushed = omega arith; within = omega arith; log = as_whole L (length L) (log_in F) refl (has_all F h) };
   exact = λ running F h. record { log = as_whole L (length L) (log_in F) refl (has_all F h); end = ends F h };
+  then_fits = longer_then v (drop n L) run.then_fits;
+  counts = longer_counts v (drop n L) run.counts;
   rose = λ h. let isnt : (longer v (drop n L)).stopped ≡ false = longer_stopped v (drop n L) ∙ runs in absurd (cc);
 }
   where
@@ -74,7 +91,9 @@ fault_leaves old new L n faults v run runs rose store = record {
   within = run.within;
   prefix = λ F h. let w = store.each F h in ⊎_elim (λ same. without F w.0 (run.prefix w.0 w.1) (ap (λ (f : Files). f.batches) same)) (λ more. record { count = length L; flushed = run.within; within = omega arith; log = as_whole L (length L) (log_in F) refl (whole_log L n F w.0 (run.exact runs w.0 w.1).log (ap (λ (f : Files). f.batches) more)) }) w.2;
   exact = λ running. absurd (cc);
-  rose = λ h. rose;
+  then_fits = run.then_fits;
+  counts = no_less v.faults_then v.faults faults run.then_fits run.counts rose;
+  rose = λ h. risen_since v.faults_then v.faults faults run.counts rose;
 }
   where
     without : (F D : Files) → IsPrefix L n D → F.batches ≡ D.batches → IsPrefix L n F

@@ -1,5 +1,5 @@
 -- Steps that write no image leave images and log as they fit.
-use Rattle.std.proofs.Common.{◌≡◌, ◌≢◌, ℕ, zero, suc, Bool, true, false, cond, List, [], ◌∷◌, Option, Some, None, refl, ap, sym, subst, ◌∙◌, ⊎_elim}
+use Rattle.std.proofs.Common.{◌≡◌, ◌≢◌, ℕ, zero, suc, Bool, true, false, cond, List, [], ◌∷◌, Option, Some, refl, ap, sym, subst, ◌∙◌, ⊎_elim}
 use Rattle.std.specs.Prelude.{◌==◌, ◌&&◌, ◌||◌, not, slice_get, slice_set}
 use Rattle.std.proofs.lemmas.Bool.{ne_eqb}
 use Rattle.dali_words.specs.Words.{write_under}
@@ -14,14 +14,13 @@ use Rattle.dali_region.specs.declared.Side.{Side}
 use Rattle.dali_region.specs.declared.Side.TheVariants.{A, B}
 use Rattle.dali_region.specs.State.{RegionState, touched, wrote}
 use Rattle.dali_region.specs.Answers.{is_dirty, cleaned}
-use Rattle.dali_counts.proofs.Lists.{equal, same_number, and_left, and_right, or_false, set_cases, self}
+use Rattle.dali_counts.proofs.Lists.{equal, same_number, or_false, set_cases}
 use Rattle.dali_system.specs.State.{SystemState, CoreState}
 use Rattle.dali_system.specs.Run.{Bases, log_in}
 use Rattle.dali_system.specs.Regions.{IsOpen, RegionStep, Latch, NoteReads, Update, TakeBack, Poke, Check, Die, Clean, region_after}
-use Rattle.dali_system.specs.Keeps.{with_region, with_touched}
-use Rattle.dali_system.specs.Courses.{Step, Begins, Operates, TakesBack, Frees, Answers, Commits, Ends, AuditBegins, AuditEnds, Locks, Refuses, OnRegion, Turns, Stops, Checkpoints, Flushes, Faults, Moment, MayLeave, IsStepAt}
-use Rattle.dali_system.specs.Images.{Told, FilesRun, FitsBut, is_missed, ImageRun}
-use Rattle.dali_system.specs.ImageSteps.{clears, writes_images, ImagesKeep, same_side, told_with, CopyKeeps}
+use Rattle.dali_system.specs.Courses.{Begins, Operates, TakesBack, Frees, Answers, Commits, Ends, AuditBegins, AuditEnds, Locks, Refuses, OnRegion, Turns, Stops, Checkpoints, Flushes, Faults, MayLeave}
+use Rattle.dali_system.specs.Images.{Told, FitsBut, is_missed, ImageRun}
+use Rattle.dali_system.specs.ImageSteps.{clears, ImagesKeep, same_side, CopyKeeps}
 
 -- ---- regions that are missed
 missed_set : (xs : List RegionState) (r q : ℕ) (g h : RegionState) → slice_get xs r ≡ Some g → (h.missed ≡ false → g.missed ≡ false) → is_missed (slice_get (slice_set xs r h) q) ≡ false → is_missed (slice_get xs q) ≡ false
@@ -149,7 +148,7 @@ images_keep bases told m n AuditBegins run s w = images_same bases told (MayLeav
 images_keep bases told m n (AuditEnds b found) run s w = images_same bases told (MayLeave m.leave) (MayLeave n.leave) m.core n.core _ s.0.1.1 refl refl s.1 run
 images_keep bases told m n (Locks t k mode) run s w = images_same bases told (MayLeave m.leave) (MayLeave n.leave) m.core n.core _ s.0.2.1 refl refl s.1 run
 images_keep bases told m n (Refuses t k mode h) run s w = images_same bases told (MayLeave m.leave) (MayLeave n.leave) m.core n.core _ s.0.1.1 refl refl s.1 run
-images_keep bases told m n (OnRegion r x) run s w = images_region bases told (MayLeave m.leave) (MayLeave n.leave) m.core n.core m.core.system r s.0.0 (region_after x s.0.0) s.0.2.1 refl s.0.1 (clears_after x s.0.0 w) (misses_after x s.0.0) s.1 run
+images_keep bases told m n (OnRegion r x) run s w = images_region bases told (MayLeave m.leave) (MayLeave n.leave) m.core n.core m.core.system r s.0.0 (region_after x s.0.0) s.0.3.1 refl s.0.1 (clears_after x s.0.0 w) (misses_after x s.0.0) s.1 run
 images_keep bases told m n (Turns t state) run s w = images_same bases told (MayLeave m.leave) (MayLeave n.leave) m.core n.core _ s.0.1.1 refl refl s.1 run
 images_keep bases told m n Stops run s w = images_same bases told (MayLeave m.leave) (MayLeave n.leave) m.core n.core _ s.0.1.1 refl refl s.1 run
 images_keep bases told m n (Checkpoints b) run s w = images_same bases told (MayLeave m.leave) (MayLeave n.leave) m.core n.core _ s.0.1 refl refl s.1 run

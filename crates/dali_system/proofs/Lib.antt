@@ -3,6 +3,7 @@ pub mod OneMoreTouch
 pub mod Logging
 pub mod Tables
 pub mod RecordSteps
+pub mod Protected
 pub mod AuditSteps
 pub mod QuietSteps
 pub mod Flushes
@@ -10,3 +11,12 @@ pub mod Loads
 pub mod OpenAudits
 pub mod Courses
 pub mod ImageSteps
+pub mod Redone
+pub mod LastEpochs
+pub mod FlushedImages
+pub mod Touching
+pub mod Worked
+pub mod Removal
+pub mod Abandoned
+pub mod Batches
+pub mod Damage

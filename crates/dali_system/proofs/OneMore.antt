@@ -3,6 +3,7 @@ use Rattle.std.proofs.Common.{◌≡◌, ℕ, ◌+◌, ◌<◌, ◌≤◌, Bool,
 use Rattle.std.specs.Prelude.{IsSome, ◌==◌, not, slice_get}
 use Rattle.std.specs.FinMap.{get}
 use Rattle.std.proofs.lemmas.List.{take-append-le}
+use Rattle.std.proofs.lemmas.Option.{slice_get_within}
 use Rattle.std.proofs.lemmas.Bool.{ne_eqb}
 use Rattle.std.proofs.lemmas.List.Sums.{fold_push}
 use Rattle.dali_geometry.specs.Sizes.{Sizes}
@@ -16,11 +17,13 @@ use Rattle.dali_record.specs.Legal.{TxnState, Unbegun, Active, Committed as Endi
 use Rattle.dali_record.proofs.Ends.{get_old, get_new, get_push_cases}
 use Rattle.dali_record.proofs.Pushes.{txn_state_push, txn_step-other, rules_state_push, cut_push, touch_push_cases, IsLegalFor-push, IsLockLegal-push}
 use Rattle.dali_locks.specs.declared.mode.Mode.{Mode}
+use Rattle.dali_locks.specs.Locks.{IsConflict}
+use Rattle.dali_system.specs.declared.refusals.Refusal.{Refusal}
 use Rattle.dali_att.specs.Table.{Table}
 use Rattle.dali_system.specs.State.{TxnRow, SystemState, VaultState, row_of, lock_of}
 use Rattle.dali_record.specs.Files.{Files}
 use Rattle.dali_record.specs.Spelling.{record_length, CanBeSpelled}
-use Rattle.dali_system.specs.Run.{LogRun, CountRun, IsRow, TableRun, holds, IsRefusal, LockRun, fail_step, failed_first, on_step, blocks_on, VaultRun, IsPrefix, IsFlushed}
+use Rattle.dali_system.specs.Run.{LogRun, CountRun, IsRow, TableRun, holds, EndedSince, IsRefusal, LockRun, fail_step, failed_first, on_step, blocks_on, VaultRun, IsPrefix, IsFlushed}
 use Rattle.dali_counts.proofs.Lists.{length-push}
 use Rattle.dali_counts.specs.Counts.{next_with}
 
@@ -203,9 +206,20 @@ LockRun-push s L x y z run inside same keeps fewer owner = record {
   held = λ i a. let e : List Record = (last_epoch L).records in rw (last_epoch-push L x inside) (λ h. ⊎_elim (λ old. ⊎_elim (λ w. inl (longer a.owner i w old.0)) (λ holding. ⊎_elim (λ ends. inl (ends_here a.owner i old.0 ends)) (λ stays. inr (rw stays holding)) (keeps a.owner a.block.key)) (run.held i a old.1)) (λ new. inr (owner a new.1)) (touch_push_cases e x i a h));
   apart = λ t u k m n d p q. run.apart t u k m n d (fewer t k m p).0 (fewer u k n q).0;
   owned = λ t k m p. (fewer t k m p).1;
-  refused = λ n f e. let old : IsRefusal s L f = run.refused n f (rw same at e) in record { older = old.older; within = omega (arith, old.within, length-push L x); running = rw (take-append-le f.at L (x ∷ []) old.within) old.running };
+  refused = λ n f e. refusal f (run.refused n f (rw same at e));
 }
   where
+    in_the_way : (f : Refusal) → f.at ≤ length L → IsConflict y.locks f.txn f.key f.mode f.holder → EndedSince f.holder f.at (L ++ x ∷ []) ⊎ IsConflict z.locks f.txn f.key f.mode f.holder
+    in_the_way f within way = ⊎_elim (λ ends. inl (length L, within, get_new L x ∙ ap Some ends)) (λ stays. inr (record { other = way.other; mode = way.mode; holds = stays ∙ way.holds; clash = way.clash })) (keeps f.holder f.key)
+
+    refusal : (f : Refusal) → IsRefusal s L y.locks f → IsRefusal s (L ++ x ∷ []) z.locks f
+    refusal f old = record {
+      older = old.older;
+      within = omega (arith, old.within, length-push L x);
+      running = rw (take-append-le f.at L (x ∷ []) old.within) old.running;
+      conflict = ⊎_elim (λ w. inl (w.0, w.1, get_old L x w.0 (slice_get_within L w.0 (Ended f.holder) w.2) ∙ w.2)) (in_the_way f old.within) old.conflict;
+    }
+
     longer : (t i : ℕ) → EndedBetween t i (length (last_epoch L).records) (last_epoch L).records → i < length (last_epoch L).records → EndedBetween t i (length ((last_epoch L).records ++ x ∷ [])) ((last_epoch L).records ++ x ∷ [])
     longer t i w h = (w.0, w.1, omega (arith, w.2, length-push (last_epoch L).records x), get_old (last_epoch L).records x w.0 w.2 ∙ w.3)
 
@@ -218,5 +232,7 @@ VaultRun-push leave L x n v run = record {
   within = omega (arith, run.within, length-push L x);
   prefix = λ F h. let old : IsPrefix L n F = run.prefix F h in record { count = old.count; flushed = old.flushed; within = omega (arith, old.within, length-push L x); log = old.log ∙ sym (take-append-le old.count L (x ∷ []) old.within) };
   exact = λ running F h. let old : IsFlushed L n v F = run.exact running F h in record { log = old.log ∙ sym (take-append-le n L (x ∷ []) run.within); end = old.end };
+  then_fits = run.then_fits;
+  counts = run.counts;
   rose = run.rose;
 }

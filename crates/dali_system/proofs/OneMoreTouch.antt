@@ -13,6 +13,7 @@ use Rattle.dali_record.specs.Settled.{words_in, redo, redo_touch, redo_all, sett
 use Rattle.dali_record.specs.Legal.{Rules, rules_state, rules_next}
 use Rattle.dali_record.proofs.Pushes.{rules_state_push, redo_all_push, touch_push_cases, IsSoundAt-old, IsSoundAt-new}
 use Rattle.dali_region.specs.State.{RegionState, counted, touched}
+use Rattle.dali_region.proofs.Holds.{touched_keeps}
 use Rattle.dali_system.specs.State.{SystemState, VaultState}
 use Rattle.dali_system.specs.Run.{failed_first, damage_in, StopRun, on_region, on_step, blocks_on, certified_on, RegionRun}
 use Rattle.dali_system.specs.Regions.{IsOpen}
@@ -75,9 +76,9 @@ pub RegionRun-off :
     → on_region r x ≡ false → (g.missed ≡ false → certified_on r (one_more e x) ≤ g.sound)
     → RegionRun base (one_more e x) r g
 RegionRun-off base e x r g run off certified = record {
+  protected = run.protected;
+  reads = run.reads;
   touches = run.touches ∙ sym (blocks_on-push r e.records x ∙ not_on r (blocks_on r e.records) x off);
-  within = run.within;
-  all = run.all;
   sound = λ i a h on below. ⊎_elim
       (λ old. IsSoundAt-old base e.records x i old.0 (run.sound i a old.1 on (rw (take-append-le i e.records (x ∷ []) (omega (arith, old.0))) at below)))
       (λ new. let f : (a.block.region == r) ≡ false = other_touch x r a off new.1 on in let t : (a.block.region == r) ≡ true = (Decides-eqb a.block.region r).1 on in absurd (cc))
@@ -99,10 +100,6 @@ on_its x a e = rw e ((Decides-eqb a.block.region a.block.region).1 refl)
 more_if : (b : Bool) (n : ℕ) → n ≤ cond b n (n + 1)
 more_if true n = omega arith
 more_if false n = omega arith
-
-no_more_if : (b : Bool) (n m : ℕ) → n ≤ m → cond b n (n + 1) ≤ m + 1
-no_more_if true n m h = omega (arith, h)
-no_more_if false n m h = omega (arith, h)
 
 step_grows : (r n : ℕ) (x : Record) → n ≤ on_step r n x
 step_grows r n x = by_test (on_region r x)
@@ -148,9 +145,9 @@ pub RegionRun-touched :
     → is_plain x ≡ true → clean_place e ≤ next_number e → a.block.region < length base → length e.records < 2 ^ 40
     → RegionRun base (one_more e x) a.block.region (touched g)
 RegionRun-touched base e x g a owner is run is_open plain within inside few = record {
+  protected = touched_keeps g run.protected (omega (arith, touches_few));
+  reads = tt;
   touches = counted_few g.touches touches_few ∙ (ap (λ n. n + 1) run.touches ∙ sym one);
-  within = rw (counted_few g.touches touches_few, counted_few g.sound sound_few) (no_more_if g.poked g.sound g.touches run.within);
-  all = λ h. rw h (ap counted (run.all h));
   sound = λ i b h on below. by_cases i b on (rw (counted_few g.sound sound_few) at below) (touch_push_cases e.records x i b h);
   settled = λ h. is_open.stands h ∙ (ap (rewritten a.block) (run.settled h) ∙ sym (settled-touch base e.records x a is inside));
   certified = λ h. rw (certified-plain a.block.region e x plain within, counted_few g.sound sound_few) (omega (arith, run.certified h, more_if g.poked g.sound));
@@ -160,7 +157,7 @@ RegionRun-touched base e x g a owner is run is_open plain within inside few = re
     touches_few = omega (arith, run.touches, blocks_few a.block.region 0 e.records, few)
 
     sound_few : g.sound < 2 ^ 40
-    sound_few = omega (arith, run.within, touches_few)
+    sound_few = omega (arith, run.protected.within, touches_few)
 
     one : blocks_on a.block.region (e.records ++ x ∷ []) ≡ blocks_on a.block.region e.records + 1
     one = blocks_on-push a.block.region e.records x ∙ is_on a.block.region (blocks_on a.block.region e.records) x (on_its x a is)
@@ -168,10 +165,10 @@ RegionRun-touched base e x g a owner is run is_open plain within inside few = re
     -- an old block among the first `sound`, or the region isn't poked and all are
     by_poked : (p : Bool) → g.poked ≡ p → (i : ℕ) (b : Touch) → i < length e.records → touch_at e.records i ≡ Some b → b.block.region ≡ a.block.region → blocks_on a.block.region (take i e.records) < cond g.poked g.sound (g.sound + 1) → IsSoundAt base e.records i
     by_poked true q i b h at on below = run.sound i b at on (rw q at below)
-    by_poked false q i b h at on below = run.sound i b at on (omega (arith, run.all q, run.touches, before_less a.block.region 0 e.records i b at on))
+    by_poked false q i b h at on below = run.sound i b at on (omega (arith, run.protected.all_sound q, run.touches, before_less a.block.region 0 e.records i b at on))
 
     at_end : (p : Bool) → g.poked ≡ p → blocks_on a.block.region e.records < cond g.poked g.sound (g.sound + 1) → IsSoundIn (redo_all base e.records) x
-    at_end true q below = let f : blocks_on a.block.region e.records < g.sound = rw q at below in absurd (omega (arith, f, run.within, run.touches))
+    at_end true q below = let f : blocks_on a.block.region e.records < g.sound = rw q at below in absurd (omega (arith, f, run.protected.within, run.touches))
     at_end false q below = rw is (subst (λ ws. IsSoundOn ws a.block) (run.settled q) (is_open.sound q))
 
     by_cases :

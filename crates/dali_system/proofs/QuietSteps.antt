@@ -1,5 +1,5 @@
 -- The steps that log nothing keep a run.
-use Rattle.std.proofs.Common.{◌≡◌, ℕ, Bool, true, false, cond, List, [], ◌∷◌, ◌++◌, length, take, Option, Some, None, refl, ap, sym, subst, ◌∙◌, inl, inr, ⊎_elim, arith}
+use Rattle.std.proofs.Common.{◌≡◌, ℕ, Bool, true, false, cond, List, [], ◌∷◌, ◌++◌, length, take, Option, Some, None, refl, ap, sym, subst, ◌∙◌, inl, inr, ⊎_elim, arith, ◌<◌, ◌^◌}
 use Rattle.std.specs.Prelude.{IsSome, is_some, ◌==◌, ◌&&◌}
 use Rattle.std.proofs.lemmas.List.{length-set, take_all}
 use Rattle.dali_record.specs.declared.records.Record.{Record}
@@ -7,7 +7,8 @@ use Rattle.dali_record.specs.Blocks.{changes_item}
 use Rattle.dali_record.specs.Epochs.{Epoch, last_epoch}
 use Rattle.dali_record.specs.Legal.{TxnState, Unbegun, Active, Committed as Ending, Over, txn_state}
 use Rattle.dali_record.proofs.Ends.{get_push_cases}
-use Rattle.dali_region.specs.State.{RegionState, latched, with_reads, updated, taken_back, poked, dead}
+use Rattle.dali_region.specs.State.{RegionState, IsProtected, latched, with_reads, updated, taken_back, poked, dead}
+use Rattle.dali_region.proofs.Holds.{latched_keeps, taken_back_keeps, poked_keeps}
 use Rattle.dali_locks.specs.declared.mode.Mode.{Mode}
 use Rattle.dali_locks.specs.declared.mode.Mode.TheVariants.{Shared, Exclusive}
 use Rattle.dali_att.specs.declared.state.State.{State}
@@ -17,14 +18,15 @@ use Rattle.dali_system.specs.declared.refusals.Refusal.{Refusal}
 use Rattle.dali_system.specs.declared.causes.Cause.{Cause}
 use Rattle.dali_system.specs.declared.causes.Cause.TheVariants.{Damage, Store}
 use Rattle.dali_system.specs.Run.{CountRun, is_committed, IsRow, TableRun, covers, IsRefusal, is_running, LockRun, damage_in, RegionRun, Bases, base_at, RunsOn}
-use Rattle.dali_locks.specs.Locks.{both_shared, Locks, stronger_mode, locks_with}
+use Rattle.dali_locks.specs.Locks.{both_shared, IsConflict, Locks, stronger_mode, locks_with}
 use Rattle.dali_system.specs.Steps.{stopped_by}
 use Rattle.dali_system.specs.Keeps.{with_system, GrantKeeps, RefuseKeeps, RegionKeeps, StopKeeps, StateKeeps, CheckpointFlagKeeps}
 use Rattle.dali_counts.proofs.Tallies.{tallies}
 use Rattle.dali_system.proofs.AuditSteps.{RegionRun-checked}
+use Rattle.dali_system.proofs.Protected.{ReadsFit, noted, wrote_word, dead_keeps, reads_same, cleaned_keeps}
 use Rattle.dali_counts.proofs.Lists.{equal, same_number, set_cases, and_left, and_right, some_same}
 use Rattle.dali_system.proofs.Tables.{changed, Puts, some_changed, still_there}
-use Rattle.dali_system.specs.Regions.{RegionStep, region_after, Latch, NoteReads, Update, TakeBack, Poke, Check, Die, Clean}
+use Rattle.dali_system.specs.Regions.{RegionStep, region_after, MayChange, Latch, NoteReads, Update, TakeBack, Poke, Check, Die, Clean}
 use Rattle.dali_att.specs.Table.{Table, with_row, with_state}
 use Rattle.std.specs.Option.{option_map}
 use Rattle.std.specs.FinMap.{get}
@@ -69,6 +71,12 @@ stronger_apart None m n h e = e
 stronger_apart (Some Shared) m n h e = e
 stronger_apart (Some Exclusive) m n h e = h Exclusive refl
 
+-- a mode that clashes with another one clashes with a stronger one
+stronger_clash : (n o m : Mode) → both_shared n o ≡ false → both_shared n (stronger_mode (Some o) m) ≡ false
+stronger_clash Shared Shared m e = absurd (cc)
+stronger_clash Shared Exclusive m e = refl
+stronger_clash Exclusive o m e = refl
+
 differ : (t u : ℕ) → (t == u) ≡ false → (u == t) ≡ false
 differ t u e = by_test (u == t) refl
   where
@@ -81,7 +89,7 @@ grant_keeps bases L c t k m run here free = RunsOn-held bases L c run y.table K 
   held = λ i a e. ⊎_elim (λ w. inl w) (λ h. inr (rw (at a.owner a.block.key) (still a.owner a.block.key (changes_item a.block) ((t == a.owner) && (k == a.block.key)) h))) (run.locks.held i a e);
   apart = λ u v l p q d e f. apart u v l p q d ((t == u) && (k == l)) refl ((t == v) && (k == l)) refl (sym (at u l) ∙ e) (sym (at v l) ∙ f);
   owned = λ u l p e. owned u l p ((t == u) && (k == l)) refl (sym (at u l) ∙ e);
-  refused = run.locks.refused;
+  refused = λ n f e. refusal f (run.locks.refused n f e);
 })
   where
     y : SystemState
@@ -100,6 +108,27 @@ grant_keeps bases L c t k m run here free = RunsOn-held bases L c run y.table K 
     owned : (u l : ℕ) (p : Mode) (b : Bool) → ((t == u) && (k == l)) ≡ b → cond b (Some (stronger_mode (lock_of y u l) m)) (lock_of y u l) ≡ Some p → IsSome (row_of y u)
     owned u l p true e f = subst (λ v. IsSome (row_of y v)) (equal t u (and_left (t == u) (k == l) e)) here
     owned u l p false e f = run.locks.owned u l p f
+
+    -- what was in the way of a request is in its way in a stronger mode too
+    in_the_way : (f : Refusal) → IsConflict y.locks f.txn f.key f.mode f.holder → IsConflict K f.txn f.key f.mode f.holder
+    in_the_way f way = by_test ((t == f.holder) && (k == f.key)) refl
+      where
+        by_test : (b : Bool) → ((t == f.holder) && (k == f.key)) ≡ b → IsConflict K f.txn f.key f.mode f.holder
+        by_test true e = record {
+          other = way.other;
+          mode = stronger_mode (Some way.mode) m;
+          holds = at f.holder f.key ∙ (ap (λ b. cond b (Some (stronger_mode (lock_of y f.holder f.key) m)) (lock_of y f.holder f.key)) e ∙ ap (λ o. Some (stronger_mode o m)) way.holds);
+          clash = stronger_clash f.mode way.mode m way.clash;
+        }
+        by_test false e = record {
+          other = way.other;
+          mode = way.mode;
+          holds = at f.holder f.key ∙ (ap (λ b. cond b (Some (stronger_mode (lock_of y f.holder f.key) m)) (lock_of y f.holder f.key)) e ∙ way.holds);
+          clash = way.clash;
+        }
+
+    refusal : (f : Refusal) → IsRefusal y.sizes L y.locks f → IsRefusal y.sizes L K f
+    refusal f old = record { older = old.older; within = old.within; running = old.running; conflict = ⊎_elim (λ w. inl w) (λ way. inr (in_the_way f way)) old.conflict }
 
     -- t has the lock, v another one's
     against : (u v l : ℕ) (p q : Mode) → (u == v) ≡ false → ((t == u) && (k == l)) ≡ true → Some (stronger_mode (lock_of y u l) m) ≡ Some p → lock_of y v l ≡ Some q → both_shared p q ≡ true
@@ -130,7 +159,7 @@ refuse_keeps bases L c t k h m run busy = RunsOn-held bases L c run y.table y.lo
   held = run.locks.held;
   apart = run.locks.apart;
   owned = run.locks.owned;
-  refused = λ n f e. ⊎_elim (λ old. run.locks.refused n f old.1) (λ last. subst (IsRefusal y.sizes L) last.1 here) (get_push_cases y.refusals new n f e);
+  refused = λ n f e. ⊎_elim (λ old. run.locks.refused n f old.1) (λ last. subst (λ f. IsRefusal y.sizes L y.locks f) last.1 here) (get_push_cases y.refusals new n f e);
 })
   where
     y : SystemState
@@ -142,11 +171,12 @@ refuse_keeps bases L c t k h m run busy = RunsOn-held bases L c run y.table y.lo
     all : y.records ≡ length L
     all = run.counts.records ∙ (tallies y.sizes L run.counts.now run.counts.rules).0
 
-    here : IsRefusal y.sizes L new
+    here : IsRefusal y.sizes L y.locks new
     here = record {
       older = busy.1;
       within = omega (arith, all);
       running = ap (λ l. is_running (txn_state y.sizes h l)) (ap (λ n. take n L) all ∙ take_all (length L) L (omega arith)) ∙ row_running (txn_state y.sizes h L) (row_of y h) (run.table h) (run.locks.owned h k busy.0.conflict.mode busy.0.conflict.holds);
+      conflict = inr busy.0.conflict;
     }
 
 -- ---- one region
@@ -158,39 +188,39 @@ record IsAlike (old new : RegionState) : Type 0 where
   sound : new.sound ≡ old.sound
   missed : new.missed ≡ old.missed
 
-RegionRun-alike : (base : List (List ℕ)) (e : Epoch) (r : ℕ) (old new : RegionState) → IsAlike old new → RegionRun base e r old → RegionRun base e r new
-RegionRun-alike base e r old new same run = record {
+RegionRun-alike : (base : List (List ℕ)) (e : Epoch) (r : ℕ) (old new : RegionState) → IsAlike old new → IsProtected new → ReadsFit new.hold → RegionRun base e r old → RegionRun base e r new
+RegionRun-alike base e r old new same protected reads run = record {
+  protected = protected;
+  reads = reads;
   touches = same.touches ∙ run.touches;
-  within = rw (same.sound, same.touches) run.within;
-  all = λ h. same.sound ∙ (run.all (sym same.poked ∙ h) ∙ sym same.touches);
   sound = λ i a at on below. run.sound i a at on (rw same.sound at below);
   settled = λ h. same.back ∙ run.settled (sym same.poked ∙ h);
   certified = λ h. rw same.sound (run.certified (sym same.missed ∙ h));
 }
 
-RegionRun-poked : (base : List (List ℕ)) (e : Epoch) (r word mask : ℕ) (g : RegionState) → RegionRun base e r g → RegionRun base e r (poked word mask g)
-RegionRun-poked base e r word mask g run = record {
+RegionRun-poked : (base : List (List ℕ)) (e : Epoch) (r word mask : ℕ) (g : RegionState) → word < 64 → mask < 2 ^ 64 → RegionRun base e r g → RegionRun base e r (poked word mask g)
+RegionRun-poked base e r word mask g within small run = record {
+  protected = poked_keeps g word mask run.protected within small;
+  reads = run.reads;
   touches = run.touches;
-  within = run.within;
-  all = λ h. absurd (cc);
   sound = run.sound;
   settled = λ h. absurd (cc);
   certified = run.certified;
 }
 
-pub RegionRun-after : (base : List (List ℕ)) (e : Epoch) (r : ℕ) (g : RegionState) (x : RegionStep) → RegionRun base e r g → RegionRun base e r (region_after x g)
-RegionRun-after base e r g (Latch txn) run = RegionRun-alike base e r g (latched txn g) (record { back = refl; touches = refl; poked = refl; sound = refl; missed = refl }) run
-RegionRun-after base e r g (NoteReads mask) run = RegionRun-alike base e r g (with_reads mask g) (record { back = refl; touches = refl; poked = refl; sound = refl; missed = refl }) run
-RegionRun-after base e r g (Update word value) run = RegionRun-alike base e r g (updated word value g) (record { back = refl; touches = refl; poked = refl; sound = refl; missed = refl }) run
-RegionRun-after base e r g TakeBack run = RegionRun-alike base e r g (taken_back g) (record { back = refl; touches = refl; poked = refl; sound = refl; missed = refl }) run
-RegionRun-after base e r g (Poke word mask) run = RegionRun-poked base e r word mask g run
-RegionRun-after base e r g Check run = RegionRun-checked base e r g run
-RegionRun-after base e r g Die run = RegionRun-alike base e r g (dead g) (record { back = refl; touches = refl; poked = refl; sound = refl; missed = refl }) run
-RegionRun-after base e r g (Clean A) run = RegionRun-alike base e r g (cleaned A g) (record { back = refl; touches = refl; poked = refl; sound = refl; missed = refl }) run
-RegionRun-after base e r g (Clean B) run = RegionRun-alike base e r g (cleaned B g) (record { back = refl; touches = refl; poked = refl; sound = refl; missed = refl }) run
+pub RegionRun-after : (base : List (List ℕ)) (e : Epoch) (r : ℕ) (g : RegionState) (x : RegionStep) → MayChange x g → RegionRun base e r g → RegionRun base e r (region_after x g)
+RegionRun-after base e r g (Latch txn) may run = RegionRun-alike base e r g (latched txn g) (record { back = refl; touches = refl; poked = refl; sound = refl; missed = refl }) (latched_keeps g txn run.protected may) (omega arith) run
+RegionRun-after base e r g (NoteReads mask) may run = let kept = noted g mask g.hold refl run.protected run.reads may.0 may.1 in RegionRun-alike base e r g (with_reads mask g) (record { back = refl; touches = refl; poked = refl; sound = refl; missed = refl }) kept.0 kept.1 run
+RegionRun-after base e r g (Update word value) may run = let kept = wrote_word g word value g.hold refl run.protected run.reads may.0 may.1 in RegionRun-alike base e r g (updated word value g) (record { back = refl; touches = refl; poked = refl; sound = refl; missed = refl }) kept.0 kept.1 run
+RegionRun-after base e r g TakeBack may run = RegionRun-alike base e r g (taken_back g) (record { back = refl; touches = refl; poked = refl; sound = refl; missed = refl }) (taken_back_keeps g run.protected) tt run
+RegionRun-after base e r g (Poke word mask) may run = RegionRun-poked base e r word mask g may.0 may.2 run
+RegionRun-after base e r g Check may run = RegionRun-checked base e r g run
+RegionRun-after base e r g Die may run = RegionRun-alike base e r g (dead g) (record { back = refl; touches = refl; poked = refl; sound = refl; missed = refl }) (dead_keeps g run.protected) (reads_same g.hold run.reads) run
+RegionRun-after base e r g (Clean A) may run = RegionRun-alike base e r g (cleaned A g) (record { back = refl; touches = refl; poked = refl; sound = refl; missed = refl }) (cleaned_keeps A g run.protected) run.reads run
+RegionRun-after base e r g (Clean B) may run = RegionRun-alike base e r g (cleaned B g) (record { back = refl; touches = refl; poked = refl; sound = refl; missed = refl }) (cleaned_keeps B g run.protected) run.reads run
 
 pub region_keeps : RegionKeeps
-region_keeps bases L c r g x run at = record {
+region_keeps bases L c r g x run at may = record {
   log = run.log;
   counts = run.counts;
   table = run.table;
@@ -199,7 +229,7 @@ region_keeps bases L c r g x run at = record {
   whole = length-set c.regions r (region_after x g) ∙ run.whole;
   base = run.base;
   regions = λ q h e. ⊎_elim
-      (λ here. subst (λ z. RegionRun (base_at bases L) (last_epoch L) q z) (sym here.1) (subst (λ z. RegionRun (base_at bases L) (last_epoch L) z (region_after x g)) (sym here.0) (RegionRun-after (base_at bases L) (last_epoch L) r g x (run.regions r g at))))
+      (λ here. subst (λ z. RegionRun (base_at bases L) (last_epoch L) q z) (sym here.1) (subst (λ z. RegionRun (base_at bases L) (last_epoch L) z (region_after x g)) (sym here.0) (RegionRun-after (base_at bases L) (last_epoch L) r g x may (run.regions r g at))))
       (λ there. run.regions q h there.1)
       (set_cases c.regions r (region_after x g) q h e);
 }

@@ -24,9 +24,9 @@ use Rattle.dali_locks.specs.declared.mode.LockAnswer.TheVariants.{Granted, Busy}
 use Rattle.dali_locks.specs.Locks.{IsAnswer}
 use Rattle.dali_att.specs.declared.state.State.{State}
 use Rattle.dali_system.specs.State.{CoreState, row_of, log_after, VaultState}
-use Rattle.dali_system.specs.Run.{Bases, HasRisen, IsRun, base_at, VaultRun}
+use Rattle.dali_system.specs.Run.{AllAreWords, Bases, HasRisen, IsRun, base_at, VaultRun}
 use Rattle.dali_system.specs.Steps.{begun, op_logged, back_logged, solo_logged, done_logged, commit_logged, ended_logged, audit_begun, audit_ended, audit_record, granted, refused, in_state, store_stopped, in_checkpoint, flushed}
-use Rattle.dali_system.specs.Regions.{RegionStep, region_after}
+use Rattle.dali_system.specs.Regions.{RegionStep, region_after, MayChange}
 use Rattle.dali_system.specs.Keeps.{with_system, with_region, with_touched, HasRoom, IsNext, MayLogBlock, MayTurn}
 use Rattle.dali_system.specs.Audits.{MayEndAudit}
 use Rattle.dali_system.specs.Loads.{IsAtRest, new_core}
@@ -69,12 +69,12 @@ IsStep L c AuditBegins M d = (c.system.stop ≡ None) × (c.system.end + 1 ≤ c
 IsStep L c (AuditEnds b found) M d = MayEndAudit L c b found × Adds L (audit_record b found) (with_system c (audit_ended c.system b found)) M d
 IsStep L c (Locks t k m) M d = IsSome (row_of c.system t) × IsAnswer c.system.locks t k m Granted × AddsNone L (with_system c (granted c.system t k m)) M d
 IsStep L c (Refuses t k m h) M d = IsAnswer c.system.locks t k m (Busy h) × AddsNone L (with_system c (refused c.system t k m h)) M d
-IsStep L c (OnRegion r x) M d = (g : RegionState) × (slice_get c.regions r ≡ Some g) × AddsNone L (with_region c r (region_after x g)) M d
+IsStep L c (OnRegion r x) M d = (g : RegionState) × (slice_get c.regions r ≡ Some g) × MayChange x g × AddsNone L (with_region c r (region_after x g)) M d
 IsStep L c (Turns t state) M d = MayTurn c t state × AddsNone L (with_system c (in_state c.system t state)) M d
 IsStep L c Stops M d = (c.vault.stopped ≡ true) × AddsNone L (with_system c (store_stopped c.system)) M d
 IsStep L c (Checkpoints b) M d = AddsNone L (with_system c (in_checkpoint c.system b)) M d
 IsStep L c Flushes M d = (c.vault.stopped ≡ false) × AddsNone L (with_vault c (flushed c.system) (longer c.vault (frame_of L c.system))) M d
-IsStep L c (Faults n) M d = (c.vault.stopped ≡ false) × HasRisen c.vault.faults_then n × AddsNone L (with_vault c c.system (faulted c.vault n)) M d
+IsStep L c (Faults n) M d = (c.vault.stopped ≡ false) × HasRisen c.vault.faults n × AddsNone L (with_vault c c.system (faulted c.vault n)) M d
 
 -- ---- with what a crash may leave
 pub record Moment : Type 0 where
@@ -112,5 +112,5 @@ CourseKeeps = (bases : Bases) (before : List Record) (m n : Moment) (xs : List S
 abbrev pub LoadRunsAt : Type 0
 LoadRunsAt =
     (bases : Bases) (s : Sizes) (L : List Record) (g : Rules) (limit : ℕ) (v : VaultState) (leave : Files → Bool) → IsAtRest s L g
-    → limit ≤ 268435456 → length (base_at bases L) ≡ regions s → VaultRun (MayLeave leave) L (length L) v
+    → limit ≤ 268435456 → length (base_at bases L) ≡ regions s → AllAreWords (base_at bases L) → VaultRun (MayLeave leave) L (length L) v
     → RunsAt bases L (record { log = L; core = new_core s (base_at bases L) g limit v; leave = leave })

@@ -58,5 +58,5 @@ FlushLeaves old new =
 abbrev pub FaultLeaves : (Files → Type 0) → (Files → Type 0) → Type 0
 FaultLeaves old new =
     (L : List Record) (n faults : ℕ) (v : VaultState) → VaultRun old L n v
-    → v.stopped ≡ false → HasRisen v.faults_then faults → Appending old new (drop n L)
+    → v.stopped ≡ false → HasRisen v.faults faults → Appending old new (drop n L)
     → VaultRun new L n (faulted v faults)

@@ -3,7 +3,7 @@
 --     ImagesKeep               every other step leaves images and log as they fit
 --     told_with told side r ws     the files once the words ws were written in the place of region r
 --     CopyKeeps                a copy for a checkpoint, once it is written
---     FlushKeepsImages, FaultKeepsImages       a flush, and a fault in one: not proved yet
+--     FlushKeepsImages, FaultKeepsImages       a flush, and a fault in one
 use Rattle.std.specs.Prelude.{◌≡◌, ℕ, Bool, true, false, ◌&&◌, ◌==◌, if◌then◌else◌, List, Some, slice_get}
 use Rattle.dali_record.specs.declared.records.Record.{Record}
 use Rattle.dali_record.specs.Files.{Files}
@@ -48,7 +48,7 @@ CopyKeeps =
     → slice_get c.regions r ≡ Some g
     → ImageRun bases (MayLeave leave) (told_with told side r g.back) (with_region c r (cleaned side g))
 
--- ---- not proved yet: a flush adds one batch, all of whose records stand in the last epoch
+-- ---- a flush adds one batch, all of whose records stand in the last epoch
 abbrev pub FlushKeepsImages : Type 0
 FlushKeepsImages =
     (bases : Bases) (before : List Record) (told : Told) (m n : Moment) → RunsAt bases before m → ImageRun bases (MayLeave m.leave) told m.core

@@ -1,6 +1,7 @@
 -- The parts of a run that look at images. They come with checkpoints: a run has them besides the rest.
 --     FilesRun told c          where a region's flag for a side is clear, the file of that side has its words
---     ImageRun bases leave told L c     that, and each crash image fits the log that it has
+--     FitsBut s bases missed K F e      the files F fit the log K, but for missed regions
+--     ImageRun bases leave told c       each region's clear flags are right, and each crash image fits the log that it has
 use Rattle.std.specs.Prelude.{◌≡◌, ℕ, ◌-◌, ◌<◌, ◌≤◌, Bool, true, false, ◌⊎◌, List, [], Option, Some, length, take, drop, slice_get, flat_map, sum_by}
 use Rattle.dali_geometry.specs.Sizes.{Sizes}
 use Rattle.dali_geometry.specs.Places.{regions, formatted_image}

@@ -21,7 +21,7 @@ use Rattle.dali_att.specs.declared.state.State.{State}
 use Rattle.dali_system.specs.State.{TxnRow, SystemState, CoreState, row_of}
 use Rattle.dali_system.specs.Run.{Bases, RunsOn, holds, is_committed}
 use Rattle.dali_system.specs.Steps.{begun, op_logged, back_logged, solo_logged, done_logged, commit_logged, ended_logged, granted, refused, store_stopped, in_state, in_checkpoint}
-use Rattle.dali_system.specs.Regions.{IsOpen, RegionStep, region_after}
+use Rattle.dali_system.specs.Regions.{IsOpen, RegionStep, region_after, MayChange}
 
 -- ---- the core with a part changed
 abbrev pub with_system : CoreState → SystemState → CoreState
@@ -114,7 +114,7 @@ RefuseKeeps =
 abbrev pub RegionKeeps : Type 0
 RegionKeeps =
     (bases : Bases) (L : List Record) (c : CoreState) (r : ℕ) (g : RegionState) (x : RegionStep) → RunsOn bases L c
-    → slice_get c.regions r ≡ Some g
+    → slice_get c.regions r ≡ Some g → MayChange x g
     → RunsOn bases L (with_region c r (region_after x g))
 
 abbrev pub StopKeeps : Type 0

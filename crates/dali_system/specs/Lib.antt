@@ -10,3 +10,4 @@ pub mod Courses
 pub mod Crashes
 pub mod Images
 pub mod ImageSteps
+pub mod Worked

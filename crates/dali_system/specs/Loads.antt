@@ -15,7 +15,7 @@ use Rattle.dali_record.specs.Epochs.{last_epoch}
 use Rattle.dali_record.specs.Legal.{Rules, passes, rules_start, rules_state, txn_state, Unbegun}
 use Rattle.dali_region.specs.State.{loaded}
 use Rattle.dali_system.specs.State.{SystemState, VaultState, CoreState}
-use Rattle.dali_system.specs.Run.{LogRun, Bases, base_at, RunsOn, is_running}
+use Rattle.dali_system.specs.Run.{LogRun, AllAreWords, Bases, base_at, RunsOn, is_running}
 
 abbrev pub new_system : Sizes → ℕ → ℕ → ℕ → ℕ → SystemState
 new_system s first next end limit = record { sizes = s; first = first; since = []; flushed = 0; table = empty; locks = empty; refusals = []; records = first; end = end; next = next; limit = limit; stop = None; checking = false }
@@ -37,7 +37,7 @@ new_core s base g limit v = record { regions = map loaded base; system = new_sys
 abbrev pub LoadRuns : Type 0
 LoadRuns =
     (bases : Bases) (s : Sizes) (L : List Record) (g : Rules) (limit : ℕ) (v : VaultState) → IsAtRest s L g
-    → limit ≤ 268435456 → length (base_at bases L) ≡ regions s
+    → limit ≤ 268435456 → length (base_at bases L) ≡ regions s → AllAreWords (base_at bases L)
     → RunsOn bases L (new_core s (base_at bases L) g limit v)
 
 -- the log of a store that was just formatted

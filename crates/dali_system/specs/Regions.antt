@@ -1,11 +1,12 @@
 -- The steps on one region, and the operation that is open there.
 --     IsOpen g owner b         the region's hold is the operation b of this owner, done but for its logging
 --     RegionStep, region_after x g      the steps that change one region and log nothing, and what each leaves
-use Rattle.std.specs.Prelude.{◌≡◌, ℕ, true, false, not, ◌==◌, Some}
+--     MayChange x g            the step x may be taken on the region g
+use Rattle.std.specs.Prelude.{◌≡◌, ◌≢◌, ℕ, ◌<◌, ◌^◌, true, false, not, ⊤, ◌==◌, Some, None, IsSome}
 use Rattle.dali_record.specs.declared.operations.Block.{Block}
 use Rattle.dali_record.specs.Blocks.{IsSoundOn, rewritten}
 use Rattle.dali_region.specs.declared.Side.{Side}
-use Rattle.dali_region.specs.State.{RegionState, latched, with_reads, updated, taken_back, poked, checked, dead}
+use Rattle.dali_region.specs.State.{RegionState, IsLive, IsUnwritten, HasRead, latched, with_reads, updated, taken_back, poked, checked, dead}
 use Rattle.dali_region.specs.Answers.{cleaned}
 
 pub record IsOpen (g : RegionState) (owner : ℕ) (b : Block) : Type 0 where
@@ -38,3 +39,14 @@ region_after (Poke word mask) g = poked word mask g
 region_after Check g = checked g
 region_after Die g = dead g
 region_after (Clean side) g = cleaned side g
+
+-- a hold reads before it writes, and writes only words that it has read; a poke changes its word
+abbrev pub MayChange : RegionStep → RegionState → Type 0
+MayChange (Latch txn) g = g.hold ≡ None
+MayChange (NoteReads mask) g = IsUnwritten g × (mask < 2 ^ 64)
+MayChange (Update word value) g = HasRead g word × (value < 2 ^ 64)
+MayChange TakeBack g = IsSome g.hold
+MayChange (Poke word mask) g = (word < 64) × (mask ≢ 0) × (mask < 2 ^ 64)
+MayChange Check g = ⊤
+MayChange Die g = IsLive g
+MayChange (Clean side) g = ⊤

@@ -8,15 +8,15 @@
 --     VaultRun leave L n v              what crash images hold of the log, of which n records are flushed
 --     RunsOn bases L c                  all of these but the last
 --     IsRun bases before leave c        all of these, of the log that the system has
-use Rattle.std.specs.Prelude.{◌≡◌, ℕ, ◌+◌, ◌-◌, ◌^◌, ◌<◌, ◌≤◌, Bool, true, false, not, ◌⊎◌, List, [], ◌∷◌, if◌then◌else◌, ◌==◌, Option, Some, None, IsSome, is_some, fold, take, length, sum_by, slice_get, flat_map}
+use Rattle.std.specs.Prelude.{◌≡◌, ℕ, ◌+◌, ◌-◌, ◌^◌, ◌<◌, ◌≤◌, Bool, true, false, not, ◌⊎◌, List, [], ◌∷◌, if◌then◌else◌, ◌==◌, Option, Some, None, IsSome, is_some, IfSome, fold, take, length, sum_by, slice_get, flat_map}
 use Rattle.std.specs.FinMap as map
 use Rattle.dali_geometry.specs.Sizes.{Sizes}
 use Rattle.dali_geometry.specs.Places.{regions}
 use Rattle.dali_record.specs.declared.operations.Block.{Block}
 use Rattle.dali_record.specs.declared.operations.Pending.{Pending}
 use Rattle.dali_record.specs.declared.records.Record.{Record}
-use Rattle.dali_record.specs.declared.records.Record.TheVariants.{Format, AuditFail}
-use Rattle.dali_record.specs.Blocks.{changes_item}
+use Rattle.dali_record.specs.declared.records.Record.TheVariants.{Format, AuditFail, Ended}
+use Rattle.dali_record.specs.Blocks.{AreWords, changes_item}
 use Rattle.dali_record.specs.Log.{Touch, touch_of, touch_at}
 use Rattle.dali_record.specs.Epochs.{Epoch, last_epoch, next_number, clean_place}
 use Rattle.dali_record.specs.Damage.{any_touch}
@@ -25,10 +25,10 @@ use Rattle.dali_record.specs.Locks.{EndedBetween, IsLockLegal}
 use Rattle.dali_record.specs.Settled.{settled, IsSoundAt}
 use Rattle.dali_record.specs.Legal.{TxnState, Unbegun, Active, Committed as Ending, Over, txn_state, Rules, rules_state, IsLegalFor}
 use Rattle.dali_record.specs.Files.{Files, batch_length}
-use Rattle.dali_region.specs.State.{RegionState}
+use Rattle.dali_region.specs.State.{RegionState, IsProtected}
 use Rattle.dali_locks.specs.declared.mode.Mode.{Mode}
 use Rattle.dali_locks.specs.declared.mode.Mode.TheVariants.{Shared, Exclusive}
-use Rattle.dali_locks.specs.Locks.{both_shared}
+use Rattle.dali_locks.specs.Locks.{Locks, both_shared, IsConflict}
 use Rattle.dali_att.specs.declared.state.State.{State}
 use Rattle.dali_att.specs.declared.state.State.TheVariants.{Committed}
 use Rattle.dali_att.specs.Table.{Table}
@@ -87,11 +87,16 @@ is_running (Some (Active w)) = true
 is_running (Some (Ending dead)) = true
 is_running _ = false
 
--- the holder was running when the request was refused
-pub record IsRefusal (s : Sizes) (L : List Record) (f : Refusal) : Type 0 where
+-- t has ended, behind the first n records
+abbrev pub EndedSince : ℕ → ℕ → List Record → Type 0
+EndedSince t n L = (k : ℕ) × (n ≤ k) × (slice_get L k ≡ Some (Ended t))
+
+-- the holder ran when the request was refused; it is in the request's way until it ends
+pub record IsRefusal (s : Sizes) (L : List Record) (locks : Locks) (f : Refusal) : Type 0 where
   pub older : f.holder < f.txn
   pub within : f.at ≤ length L
   pub running : is_running (txn_state s f.holder (take f.at L)) ≡ true
+  pub conflict : EndedSince f.holder f.at L ⊎ IsConflict locks f.txn f.key f.mode f.holder
 
 pub record LockRun (s : Sizes) (L : List Record) (y : SystemState) : Type 0 where
   -- of each block of the epoch: its owner has ended since, or holds its key
@@ -99,7 +104,7 @@ pub record LockRun (s : Sizes) (L : List Record) (y : SystemState) : Type 0 wher
       → EndedBetween a.owner i (length (last_epoch L).records) (last_epoch L).records ⊎ (holds y a.owner a.block ≡ true)
   pub apart : (t u k : ℕ) (m n : Mode) → (t == u) ≡ false → lock_of y t k ≡ Some m → lock_of y u k ≡ Some n → both_shared m n ≡ true
   pub owned : (t k : ℕ) (m : Mode) → lock_of y t k ≡ Some m → IsSome (row_of y t)
-  pub refused : (n : ℕ) (f : Refusal) → slice_get y.refusals n ≡ Some f → IsRefusal s L f
+  pub refused : (n : ℕ) (f : Refusal) → slice_get y.refusals n ≡ Some f → IsRefusal s L y.locks f
 
 -- ---- the stop
 abbrev pub first_of : List ℕ → Option ℕ
@@ -140,9 +145,10 @@ abbrev pub certified_on : ℕ → Epoch → ℕ
 certified_on r e = blocks_on r (take (clean_place e - e.first) e.records)
 
 pub record RegionRun (base : List (List ℕ)) (e : Epoch) (r : ℕ) (g : RegionState) : Type 0 where
+  -- the words tie with the codeword, with the hold, and with the words without the hold's updates
+  pub protected : IsProtected g
+  pub reads : IfSome g.hold (λ h. h.read < 2 ^ 64)
   pub touches : g.touches ≡ blocks_on r e.records
-  pub within : g.sound ≤ g.touches
-  pub all : g.poked ≡ false → g.sound ≡ g.touches
   -- the first `sound` blocks are sound
   pub sound : (i : ℕ) (a : Touch) → touch_at e.records i ≡ Some a → a.block.region ≡ r → blocks_on r (take i e.records) < g.sound → IsSoundAt base e.records i
   pub settled : g.poked ≡ false → g.back ≡ settled base e.records r
@@ -170,10 +176,17 @@ pub record VaultRun (leave : Files → Type 0) (L : List Record) (n : ℕ) (v : 
   pub within : n ≤ length L
   pub prefix : (F : Files) → leave F → IsPrefix L n F
   pub exact : v.stopped ≡ false → (F : Files) → leave F → IsFlushed L n v F
+  -- the count of faults is one of 64 bits, and never falls
+  pub then_fits : v.faults_then < 2 ^ 64
+  pub counts : v.faults_then ≤ v.faults
   -- it stopped at a fault since the load
   pub rose : v.stopped ≡ true → HasRisen v.faults_then v.faults
 
 -- ---- all
+-- each region of the base is 64 words
+abbrev pub AllAreWords : List (List ℕ) → Type 0
+AllAreWords base = (r : ℕ) (ws : List ℕ) → slice_get base r ≡ Some ws → AreWords ws
+
 -- the base of the epoch whose first record has this number
 abbrev pub Bases : Type 0
 Bases = ℕ → List (List ℕ)

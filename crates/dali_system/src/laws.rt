@@ -4,8 +4,9 @@ ghost use Rattle.dali_system.specs.Keeps.{BeginKeeps, OpKeeps, BackKeeps, SoloKe
 ghost use Rattle.dali_system.specs.Flushes.{FlushKeeps, FaultKeeps};
 ghost use Rattle.dali_system.specs.Audits.{AuditBeginKeeps, AuditEndKeeps, AuditStarts, AuditGoesOn, PassCertifies, CertifiesStays};
 ghost use Rattle.dali_system.specs.Courses.{StepKeeps, CourseKeeps, LoadRunsAt};
-ghost use Rattle.dali_system.specs.ImageSteps.{ImagesKeep, CopyKeeps};
+ghost use Rattle.dali_system.specs.ImageSteps.{ImagesKeep, CopyKeeps, FlushKeepsImages, FaultKeepsImages};
 ghost use Rattle.dali_system.specs.Loads.{LoadRuns, FormatRests, EmptyRests};
+ghost use Rattle.dali_system.specs.Worked.{Removal, Abandoned, Damaged};
 
 /// A transaction begins.
 pub fn begin_keeps_a_run()
@@ -150,4 +151,30 @@ pub fn steps_leave_the_images()
 /// So they do when a region was copied for a checkpoint and its flag is cleared.
 pub fn a_copy_keeps_the_images()
     ensures { CopyKeeps }
+{}
+
+/// So they do with one batch more, once it is flushed.
+pub fn a_flush_keeps_the_images()
+    ensures { FlushKeepsImages }
+{}
+
+/// So they do where a flush meets a fault, with the batch or without it.
+pub fn a_fault_keeps_the_images()
+    ensures { FaultKeepsImages }
+{}
+
+/// A record is removed, freed and audited: these steps can be taken.
+pub fn a_removal()
+    ensures { Removal }
+{}
+
+/// A request is refused, a client dies, its transaction is taken back, the store fails: these steps can be
+/// taken.
+pub fn an_abandoned_transaction()
+    ensures { Abandoned }
+{}
+
+/// A poke, a transaction that reads it and commits, an audit that fails: no damage escapes.
+pub fn a_damaged_region()
+    ensures { Damaged }
 {}

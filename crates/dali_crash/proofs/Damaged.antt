@@ -1,0 +1,48 @@
+-- The crash of the worked run with damage.
+use Rattle.std.proofs.Common.{◌≡◌, true, false, [], refl, ap, arith}
+use Rattle.dali_record.specs.declared.operations.Block.{Block}
+use Rattle.dali_record.specs.declared.operations.Outcome.TheVariants.{Absent}
+use Rattle.dali_record.specs.declared.records.Record.TheVariants.{Format}
+use Rattle.dali_record.specs.Epochs.{last_epoch}
+use Rattle.dali_record.specs.Settled.{IsSoundAt}
+use Rattle.dali_record.specs.Legal.{passes, rules_start}
+use Rattle.dali_geometry.specs.Places.{formatted_image}
+use Rattle.dali_index.specs.Entries.{entries}
+use Rattle.dali_history.specs.Acknowledged.{IsDeletedByChain}
+use Rattle.dali_system.specs.Run.{log_in}
+use Rattle.dali_system.specs.Worked.{small, first_log, first_vault, one_batch, damaged_look, damage}
+use Rattle.dali_system.proofs.Worked.{first_store}
+use Rattle.dali_system.proofs.Damage.{finish, crash, damage_course, none_escapes}
+use Rattle.dali_crash.specs.Damaged.{DamagedRun}
+use Rattle.dali_crash.specs.Restarts.{RestartsRight}
+use Rattle.dali_crash.proofs.Courses.{format_is_history, every_run_is_right}
+
+restarts : RestartsRight first_log finish.core crash
+unfolding damaged_look entries
+restarts =
+    every_run_is_right first_log (passes rules_start (Format 1 1)) 1000000 first_vault (λ F. one_batch F.batches) (format_is_history small (refl, refl)) refl refl (omega arith) first_store
+    damage finish damage_course crash refl none_escapes
+
+-- on the formatted words the look would have answered otherwise
+is_unsound : IsSoundAt (formatted_image small) (last_epoch (log_in crash)).records 3 → ⊥
+unfolding damaged_look entries
+is_unsound sound = let same : Absent false ≡ Absent true = ap (λ (b : Block). b.outcome) sound in cc
+
+is_deleted : IsDeletedByChain (log_in crash) 2
+unfolding damaged_look entries
+is_deleted = (last_epoch (log_in crash), (0, omega arith, refl), ((5, omega arith, refl), (3, record { txn = 2; owner = 2; block = damaged_look }, refl, refl, (3, [], (record { txn = 2; owner = 2; block = damaged_look }, refl, refl), refl))))
+
+pub damaged_run : DamagedRun
+unfolding damaged_look entries
+damaged_run = record {
+  finish = finish;
+  course = damage_course;
+  crash = crash;
+  left = refl;
+  unsound = is_unsound;
+  escapes = none_escapes;
+  right = restarts;
+  acknowledged = (1, omega arith, refl);
+  survive = refl;
+  deleted = is_deleted;
+}

@@ -1,0 +1,478 @@
+-- Each step keeps a run with its store, and each list of steps.
+use Rattle.std.proofs.Common.{◌≡◌, ℕ, ◌+◌, ◌-◌, ◌%◌, ◌<◌, Bool, true, false, cond, List, [], ◌∷◌, length, take, Option, Some, None, refl, ap, sym, subst, ◌∙◌, inl, inr, ⊎_elim, arith}
+use Rattle.std.specs.Prelude.{◌==◌, ◌&&◌, ◌||◌, slice_get, slice_set, flat_map, sum_by}
+use Rattle.std.specs.List.{range_with_len}
+use Rattle.std.proofs.lemmas.List.{length-map, take_all}
+use Rattle.std.proofs.lemmas.List.FromFn.{length-range_with_len, get_or-map-range_with_len}
+use Rattle.dali_geometry.specs.Places.{regions}
+use Rattle.dali_record.specs.declared.records.Record.{Record}
+use Rattle.dali_record.specs.Epochs.{Epoch, last_epoch}
+use Rattle.dali_record.specs.Settled.{words_in, redo_all}
+use Rattle.dali_record.specs.Spelling.{record_length}
+use Rattle.dali_record.specs.Files.{Files, batch_length, next_after, table_before}
+use Rattle.dali_region.specs.declared.Side.{Side}
+use Rattle.dali_region.specs.declared.Side.TheVariants.{A, B}
+use Rattle.dali_region.specs.State.{RegionState}
+use Rattle.dali_region.specs.Answers.{is_dirty, cleaned}
+use Rattle.dali_counts.proofs.Lists.{equal, same_number, and_left, and_right, set_cases, some_same, found}
+use Rattle.dali_counts.proofs.Tallies.{numbers, number_is, tallies, numbers_drawn}
+use Rattle.dali_system.specs.State.{VaultState, CoreState, stable, log_after}
+use Rattle.dali_system.specs.Run.{Bases, log_in, RunsOn, IsPrefix, VaultRun, HasRisen}
+use Rattle.dali_system.specs.Regions.{Clean}
+use Rattle.dali_system.specs.Keeps.{with_region}
+use Rattle.dali_system.specs.Flushes.{faulted}
+use Rattle.dali_system.specs.Courses.{Step, OnRegion, Flushes, Faults, Moment, MayLeave, IsStepAt, RunsAt}
+use Rattle.dali_system.specs.Images.{Told, FilesRun, FitsBut, is_missed, ImageRun}
+use Rattle.dali_system.specs.ImageSteps.{same_side, told_with}
+use Rattle.dali_system.proofs.Courses.{Goes, step_goes, step_keeps}
+use Rattle.dali_system.proofs.Flushes.{risen_since, no_less, fault_keeps}
+use Rattle.dali_system.proofs.ImageSteps.{images_keep, copy_keeps}
+use Rattle.dali_system.proofs.FlushedImages.{flush_keeps_images, fault_keeps_images, frame_inside}
+use Rattle.dali_crash.specs.Checkpoints.{Head, Copy, Stored, Does, Starts, Copies, Skips, WritesHead, Syncs, Turns, CopyFails, HeadFails, SyncFails, TurnFails, side_of, image_side, target, copies_with, head_now, pass_copy, passes_region, copies_after, clears_flag, image_in, MayHold, turned, IsWritten, IsTurned, IsTurning, MayTurn, IsFault, with_fault, with_current, moment_with}
+use Rattle.dali_crash.specs.StoreRuns.{IsCopied, IsKept, StoreRun, StoreStepKeeps, StoreCourseKeeps, TurnEnds}
+use Rattle.dali_crash.proofs.StepLeaves.{VaultGoes, vault_goes, RegionGoes, regions_go}
+use Rattle.dali_crash.proofs.Kept.{got_none, kept_goes, copied_goes, copied_onward}
+use Rattle.dali_crash.proofs.Turned.{IsRightPlace, turned_fits}
+
+-- ---- sides
+-- the next checkpoint isn't written where the current image stands
+other_side : (c : ℕ) → image_side c ≡ Some (side_of (c + 1)) → ⊥
+other_side c e = by_tests (c == 0) (c % 2 == 1) ((c + 1) % 2 == 1) refl refl e
+  where
+    by_tests : (a b d : Bool) → (c % 2 == 1) ≡ b → ((c + 1) % 2 == 1) ≡ d → cond a None (Some (cond b A B)) ≡ Some (cond d A B) → ⊥
+    by_tests true b d p q f = cc
+    by_tests false true true p q f = let x : c % 2 ≡ 1 = equal (c % 2) 1 p in let y : (c + 1) % 2 ≡ 1 = equal ((c + 1) % 2) 1 q in omega (arith, x, y)
+    by_tests false true false p q f = cc
+    by_tests false false true p q f = cc
+    by_tests false false false p q f = odd_or (λ x. absurd (clash (same_number (c % 2) 1 x) p)) (λ y. absurd (clash (same_number ((c + 1) % 2) 1 y) q))
+      where
+        clash : {b : Bool} → b ≡ true → b ≡ false → ⊥
+        clash g h = cc
+
+        odd_or : (c % 2 ≡ 1 → ⊥) → ((c + 1) % 2 ≡ 1 → ⊥) → ⊥
+        odd_or x y = omega (arith, x, y)
+
+-- ---- what a crash leaves
+-- what is written to the target leaves the current image
+fewer : (bases : Bases) (before : List Record) (st : Stored) (new : Files → Type 0) → StoreRun bases before st → st.moment.core.vault.stopped ≡ false → IsWritten (MayLeave st.moment.leave) new (target st) → (F : Files) → new F → MayLeave st.moment.leave F
+fewer bases before st new run runs written F h =
+    let w = written.each F h in
+    ⊎_elim (λ same. subst (MayLeave st.moment.leave) (sym same) w.1)
+    (λ other. absurd (other_side st.moment.core.vault.current (ap image_side (sym (run.anchor runs w.0 w.1)) ∙ other.0)))
+    w.2
+
+images_less : (bases : Bases) (told : Told) (old new : Files → Type 0) (c : CoreState) → ((F : Files) → new F → old F) → ImageRun bases old told c → ImageRun bases new told c
+images_less bases told old new c less run = record { files = run.files; fits = λ F h. run.fits F (less F h) }
+
+kept_less : (L : List Record) (v w : VaultState) (old new : Files → Type 0) (h : Head) → w.current ≡ v.current → ((F : Files) → new F → old F) → IsKept L v old h → IsKept L w new h
+kept_less L v w old new h same less kept = record { number = kept.number ∙ ap (λ c. c + 1) (sym same); from = kept.from; to = kept.to; weight = kept.weight; next = kept.next; table = kept.table; held = λ F l. kept.held F (less F l); place = λ F l. kept.place F (less F l) }
+
+-- ---- runs
+vault_less : (old new : Files → Type 0) (L : List Record) (n : ℕ) (v w : VaultState) → w.end ≡ v.end → w.stopped ≡ v.stopped → w.faults ≡ v.faults → w.faults_then ≡ v.faults_then → ((F : Files) → new F → (D : Files) × old D × (F.batches ≡ D.batches)) → VaultRun old L n v → VaultRun new L n w
+vault_less old new L n v w end stopped faults then less run = record {
+  within = run.within;
+  prefix = λ F h. let s = less F h in let is = run.prefix s.0 s.1 in record { count = is.count; flushed = is.flushed; within = is.within; log = ap (flat_map (λ b. b)) s.2 ∙ is.log };
+  exact = λ e F h. let s = less F h in let is = run.exact (sym stopped ∙ e) s.0 s.1 in record { log = ap (flat_map (λ b. b)) s.2 ∙ is.log; end = end ∙ (is.end ∙ ap (sum_by batch_length) (sym s.2)) };
+  then_fits = rw then run.then_fits;
+  counts = rw (faults, then) run.counts;
+  rose = λ e. rw (faults, then) (run.rose (sym stopped ∙ e));
+}
+
+vault_faults : (old new : Files → Type 0) (L : List Record) (n k : ℕ) (v : VaultState) → HasRisen v.faults k → ((F : Files) → new F → (D : Files) × old D × (F.batches ≡ D.batches)) → VaultRun old L n v → VaultRun new L n (faulted v k)
+vault_faults old new L n k v rose less run = record {
+  within = run.within;
+  prefix = λ F h. let s = less F h in let is = run.prefix s.0 s.1 in record { count = is.count; flushed = is.flushed; within = is.within; log = ap (flat_map (λ b. b)) s.2 ∙ is.log };
+  exact = λ e. absurd (cc);
+  then_fits = run.then_fits;
+  counts = no_less v.faults_then v.faults k run.then_fits run.counts rose;
+  rose = λ e. risen_since v.faults_then v.faults k run.counts rose;
+}
+
+abbrev Batches : (old new : Files → Bool) → Type 0
+Batches old new = (F : Files) → MayLeave new F → (D : Files) × MayLeave old D × (F.batches ≡ D.batches)
+
+-- the same core, and crash images with the same logs
+run_less : (bases : Bases) (before : List Record) (m : Moment) (leave : Files → Bool) → ((F : Files) → MayLeave leave F → MayLeave m.leave F) → RunsAt bases before m → RunsAt bases before (record { log = m.log; core = m.core; leave = leave })
+run_less bases before m leave less at = record {
+  log = at.log;
+  run = record {
+    first = at.run.first;
+    began = at.run.began;
+    runs = at.run.runs;
+    vault = vault_less (MayLeave m.leave) (MayLeave leave) (log_after before m.core.system) (stable m.core.system) m.core.vault m.core.vault refl refl refl refl (λ F h. (F, less F h, refl)) at.run.vault;
+  };
+}
+
+-- the anchor moved
+run_turned : (bases : Bases) (before : List Record) (m : Moment) (leave : Files → Bool) → Batches m.leave leave → RunsAt bases before m → RunsAt bases before (record { log = m.log; core = with_current m.core; leave = leave })
+run_turned bases before m leave less at = record {
+  log = at.log;
+  run = record {
+    first = at.run.first;
+    began = at.run.began;
+    runs = let q : RunsOn bases (log_after before m.core.system) m.core = at.run.runs in record {
+      log = q.log;
+      counts = q.counts;
+      table = q.table;
+      locks = q.locks;
+      stop = record { damage = q.stop.damage; failed = q.stop.failed; store = q.stop.store };
+      whole = q.whole;
+      base = q.base;
+      regions = q.regions;
+    };
+    vault = vault_less (MayLeave m.leave) (MayLeave leave) (log_after before m.core.system) (stable m.core.system) m.core.vault _ refl refl refl refl less at.run.vault;
+  };
+}
+
+-- a fault
+run_faults : (bases : Bases) (before : List Record) (m : Moment) (leave : Files → Bool) (k : ℕ) → HasRisen m.core.vault.faults k → Batches m.leave leave → RunsAt bases before m → RunsAt bases before (record { log = m.log; core = with_fault m.core k; leave = leave })
+run_faults bases before m leave k rose less at = record {
+  log = at.log;
+  run = record {
+    first = at.run.first;
+    began = at.run.began;
+    runs = fault_keeps bases (log_after before m.core.system) m.core k at.run.runs;
+    vault = vault_faults (MayLeave m.leave) (MayLeave leave) (log_after before m.core.system) (stable m.core.system) k m.core.vault rose less at.run.vault;
+  };
+}
+
+-- ---- a step that writes no image
+images_do : (bases : Bases) (before : List Record) (st : Stored) (n : Moment) (x : Step) → StoreRun bases before st → clears_flag x ≡ false → IsStepAt st.moment x n → ImageRun bases (MayLeave n.leave) st.told n.core
+images_do bases before st n Flushes run quiet s = flush_keeps_images bases before st.told st.moment n run.run run.images s
+images_do bases before st n (Faults k) run quiet s = fault_keeps_images bases before st.told st.moment n k run.run run.images s
+images_do bases before st n (OnRegion r y) run quiet s = images_keep bases st.told st.moment n (OnRegion r y) run.images s quiet
+images_do bases before st n x run quiet s = images_keep bases st.told st.moment n x run.images s refl
+
+some_copy : (b : Bool) (o : Option Copy) (k : Copy) → pass_copy b o ≡ Some k → (c : Copy) × (o ≡ Some c) × (k ≡ record c { passed = c.passed || b })
+some_copy b None k e = absurd (cc)
+some_copy b (Some c) k e = (c, refl, sym (some_same e))
+
+does : (bases : Bases) (before : List Record) (st : Stored) (x : Step) (n : Moment) → StoreRun bases before st → clears_flag x ≡ false → IsStepAt st.moment x n → StoreRun bases before (record st { moment = n; copies = copies_after st.moment.core x st.copies })
+does bases before st x n run quiet s = record {
+  run = step_keeps bases before st.moment n x run.run s;
+  images = images_do bases before st n x run quiet s;
+  anchor = λ runs F h. let w = vault.files F h in
+      ⊎_elim (λ same. ap (λ (f : Files). f.gates) same) (λ more. ap (λ (f : Files). f.gates) more) w.2
+      ∙ (run.anchor (vault.runs runs) w.0 w.1 ∙ sym vault.current);
+  kept = λ h e. kept_goes st.moment n h st.moment.core.vault n.core.vault (MayLeave st.moment.leave) (MayLeave n.leave) _ (run.kept h e) goes vault.current (frame_inside bases before st.moment run.run) vault.files;
+  copied = λ side r k g e at. copied side r k g (some_copy (passes_region st.moment.core x r) (st.copies side r) k e) (regions_go st.moment n x r g s at);
+}
+  where
+    vault : VaultGoes st.moment n
+    vault = vault_goes st.moment n x s
+
+    goes : Goes st.moment n
+    goes = step_goes st.moment n x s
+
+    copied :
+        (side : Side) (r : ℕ) (k : Copy) (g : RegionState)
+        → (c : Copy) × (st.copies side r ≡ Some c) × (k ≡ record c { passed = c.passed || passes_region st.moment.core x r })
+        → RegionGoes (passes_region st.moment.core x r) st.moment.core.regions r g
+        → IsCopied (bases (last_epoch n.log).first) (last_epoch n.log) r g k (st.told side r)
+    copied side r k g w q = copied_goes bases st.moment n r g k (st.told side r) goes
+        (subst (λ z. IsCopied (bases (last_epoch st.moment.log).first) (last_epoch st.moment.log) r g z (st.told side r)) (sym w.2)
+        (copied_onward (bases (last_epoch st.moment.log).first) (last_epoch st.moment.log) r (passes_region st.moment.core x r) q.was g w.0 (st.told side r) q.onward (run.copied side r w.0 q.was w.1 q.at)))
+
+-- ---- a checkpoint starts
+keeps_now : (bases : Bases) (before : List Record) (m : Moment) → RunsAt bases before m → m.core.vault.stopped ≡ false → stable m.core.system ≡ m.core.system.records → IsKept m.log m.core.vault (MayLeave m.leave) (head_now m.log m.core)
+keeps_now bases before m at runs all = record {
+  number = refl;
+  from = omega (arith, number_is m.log, count);
+  to = omega (arith, count);
+  weight = run.counts.end ∙ (tell.1 ∙ ap (sum_by record_length) (sym whole));
+  next = run.counts.next ∙ (tell.2 ∙ (numbers_drawn m.log ∙ ap next_after (sym whole)));
+  table = ap (table_before (last_epoch m.log)) (sym count);
+  held = λ F l. omega (arith, size F l);
+  place = λ F l. (
+    length F.batches,
+    ap (flat_map (λ b. b)) (every F) ∙ sym (take_all m.core.system.records (log_in F) (omega (arith, size F l))),
+    (vault.exact runs F l).end ∙ ap (sum_by batch_length) (sym (every F)),
+    λ j b h e. absurd (got_none F.batches j b h e),
+  );
+}
+  where
+    run : RunsOn bases m.log m.core
+    run = subst (λ L. RunsOn bases L m.core) (sym at.log) at.run.runs
+
+    vault : VaultRun (MayLeave m.leave) m.log (stable m.core.system) m.core.vault
+    vault = subst (λ L. VaultRun (MayLeave m.leave) L (stable m.core.system) m.core.vault) (sym at.log) at.run.vault
+
+    tell : (run.counts.now.count ≡ length m.log) × (run.counts.now.weight ≡ sum_by record_length m.log) × (run.counts.now.next ≡ numbers m.log)
+    tell = tallies m.core.system.sizes m.log run.counts.now run.counts.rules
+
+    count : m.core.system.records ≡ length m.log
+    count = run.counts.records ∙ tell.0
+
+    whole : take m.core.system.records m.log ≡ m.log
+    whole = take_all m.core.system.records m.log (omega (arith, count))
+
+    size : (F : Files) → MayLeave m.leave F → length (log_in F) ≡ m.core.system.records
+    size F l = ap length ((vault.exact runs F l).log ∙ (ap (λ n. take n m.log) all ∙ whole)) ∙ sym count
+
+    every : (F : Files) → take (length F.batches) F.batches ≡ F.batches
+    every F = take_all (length F.batches) F.batches (omega arith)
+
+-- ---- a copy
+-- what is known of a place right after it was brought up to date
+up_to_date : (bases : Bases) (L : List Record) (c : CoreState) (r : ℕ) (g : RegionState) (ws : List ℕ) → RunsOn bases L c → slice_get c.regions r ≡ Some g → (g.poked ≡ false → ws ≡ g.back) → IsCopied (bases (last_epoch L).first) (last_epoch L) r g (record { at = c.system.records; passed = false }) ws
+up_to_date bases L c r g ws run at same = by_test g.poked refl
+  where
+    count : c.system.records ≡ length L
+    count = run.counts.records ∙ (tallies c.system.sizes L run.counts.now run.counts.rules).0
+
+    by_test : (b : Bool) → g.poked ≡ b → IsCopied (bases (last_epoch L).first) (last_epoch L) r g (record { at = c.system.records; passed = false }) ws
+    by_test true e = inr (record { poked = e; missed = λ f. absurd (cc) })
+    by_test false e = inl (record {
+      from = omega (arith, number_is L, count);
+      to = omega (arith, number_is L, count);
+      words = same e ∙ ((run.regions r g at).settled e ∙ ap (λ E. words_in (redo_all (bases (last_epoch L).first) E) r) (sym (take_all (c.system.records - (last_epoch L).first) (last_epoch L).records (omega (arith, number_is L, count)))));
+    })
+
+runs_at : (bases : Bases) (before : List Record) (m : Moment) → RunsAt bases before m → RunsOn bases m.log m.core
+runs_at bases before m at = subst (λ L. RunsOn bases L m.core) (sym at.log) at.run.runs
+
+-- the places of the others are as they were
+abbrev IsKnown : Bases → List Record → List RegionState → (Side → ℕ → Option Copy) → Told → Type 0
+IsKnown bases L regions copies told = (side : Side) (r : ℕ) (k : Copy) (g : RegionState) → copies side r ≡ Some k → slice_get regions r ≡ Some g → IsCopied (bases (last_epoch L).first) (last_epoch L) r g k (told side r)
+
+-- one place changes, and perhaps the region's flag
+known_with :
+    (bases : Bases) (L : List Record) (old new : List RegionState) (copies : Side → ℕ → Option Copy) (told : Told) (t : Side) (r : ℕ) (o : Option Copy) (ws : List ℕ)
+    → IsKnown bases L old copies told
+    → ((q : ℕ) (h : RegionState) → slice_get new q ≡ Some h → (g : RegionState) × (slice_get old q ≡ Some g) × (h.poked ≡ g.poked) × (h.missed ≡ g.missed))
+    → ((k : Copy) (h : RegionState) → o ≡ Some k → slice_get new r ≡ Some h → IsCopied (bases (last_epoch L).first) (last_epoch L) r h k ws)
+    → IsKnown bases L new (copies_with copies t r o) (told_with told t r ws)
+known_with bases L old new copies told t r o ws known same here side q k h e at = by_test (same_side side t && (q == r)) refl e
+  where
+    by_test :
+        (b : Bool) → (same_side side t && (q == r)) ≡ b → cond b o (copies side q) ≡ Some k
+        → IsCopied (bases (last_epoch L).first) (last_epoch L) q h k (cond b ws (told side q))
+    by_test true f d = subst (λ p. IsCopied (bases (last_epoch L).first) (last_epoch L) p h k ws) (sym (equal q r (and_right (same_side side t) (q == r) f))) (here k h d (subst (λ p. slice_get new p ≡ Some h) (equal q r (and_right (same_side side t) (q == r) f)) at))
+    by_test false f d = let w = same q h at in ⊎_elim
+        (λ a. inl (record { from = a.from; to = a.to; words = a.words }))
+        (λ a. inr (record { poked = w.2 ∙ a.poked; missed = λ p. w.3 ∙ a.missed p }))
+        (known side q k w.0 d w.1)
+
+as_before : (rs : List RegionState) (q : ℕ) (h : RegionState) → slice_get rs q ≡ Some h → (g : RegionState) × (slice_get rs q ≡ Some g) × (h.poked ≡ g.poked) × (h.missed ≡ g.missed)
+as_before rs q h e = (h, e, refl, refl)
+
+cleaned_same : (t : Side) (g : RegionState) → ((cleaned t g).poked ≡ g.poked) × ((cleaned t g).missed ≡ g.missed)
+cleaned_same A g = (refl, refl)
+cleaned_same B g = (refl, refl)
+
+one_cleaned : (rs : List RegionState) (t : Side) (r : ℕ) (g : RegionState) → slice_get rs r ≡ Some g → (q : ℕ) (h : RegionState) → slice_get (slice_set rs r (cleaned t g)) q ≡ Some h → (k : RegionState) × (slice_get rs q ≡ Some k) × (h.poked ≡ k.poked) × (h.missed ≡ k.missed)
+one_cleaned rs t r g at q h e = ⊎_elim
+    (λ w. (g, subst (λ p. slice_get rs p ≡ Some g) (sym w.0) at, ap (λ (z : RegionState). z.poked) w.1 ∙ (cleaned_same t g).0, ap (λ (z : RegionState). z.missed) w.1 ∙ (cleaned_same t g).1))
+    (λ w. (h, w.1, refl, refl))
+    (set_cases rs r (cleaned t g) q h e)
+
+-- with the flag cleared the region is known as before
+copied_same : (base : List (List ℕ)) (e : Epoch) (r : ℕ) (g h : RegionState) (k : Copy) (ws : List ℕ) → h.poked ≡ g.poked → h.missed ≡ g.missed → IsCopied base e r g k ws → IsCopied base e r h k ws
+copied_same base e r g h k ws p m is = ⊎_elim (λ a. inl a) (λ a. inr (record { poked = p ∙ a.poked; missed = λ f. m ∙ a.missed f })) is
+
+copies_keep :
+    (bases : Bases) (before : List Record) (st : Stored) (r : ℕ) (g : RegionState) (leave : Files → Bool) (synced : Side → Bool) → StoreRun bases before st
+    → slice_get st.moment.core.regions r ≡ Some g → st.moment.core.vault.stopped ≡ false
+    → IsWritten (MayLeave st.moment.leave) (MayLeave leave) (target st)
+    → StoreRun bases before (record st {
+      moment = moment_with st (with_region st.moment.core r (cleaned (target st) g)) leave;
+      told = told_with st.told (target st) r g.back;
+      synced = synced;
+      copies = copies_with st.copies (target st) r (Some (record { at = st.moment.core.system.records; passed = false }));
+    })
+copies_keep bases before st r g leave synced run at runs written = record {
+  run = step_keeps bases before st.moment (moment_with st (with_region st.moment.core r (cleaned (target st) g)) leave) (OnRegion r (Clean (target st))) run.run ((g, at, tt, (refl, refl)), less);
+  images = images_less bases (told_with st.told (target st) r g.back) (MayLeave st.moment.leave) (MayLeave leave) (with_region st.moment.core r (cleaned (target st) g)) less (copy_keeps bases st.told st.moment.leave st.moment.core (target st) r g run.images at);
+  anchor = λ e F h. run.anchor e F (less F h);
+  kept = λ h e. kept_less st.moment.log st.moment.core.vault st.moment.core.vault (MayLeave st.moment.leave) (MayLeave leave) h refl less (run.kept h e);
+  copied = known;
+}
+  where
+    less : (F : Files) → MayLeave leave F → MayLeave st.moment.leave F
+    less = fewer bases before st (MayLeave leave) run runs written
+
+    known : IsKnown bases st.moment.log (slice_set st.moment.core.regions r (cleaned (target st) g)) (copies_with st.copies (target st) r (Some (record { at = st.moment.core.system.records; passed = false }))) (told_with st.told (target st) r g.back)
+    known = known_with bases st.moment.log st.moment.core.regions (slice_set st.moment.core.regions r (cleaned (target st) g)) st.copies st.told (target st) r _ g.back run.copied (one_cleaned st.moment.core.regions (target st) r g at)
+        (λ k h e new. let w = one_cleaned st.moment.core.regions (target st) r g at r h new in
+        let same : w.0 ≡ g = some_same (sym w.1 ∙ at) in
+        subst (λ z. IsCopied (bases (last_epoch st.moment.log).first) (last_epoch st.moment.log) r h z g.back) (some_same e)
+        (copied_same (bases (last_epoch st.moment.log).first) (last_epoch st.moment.log) r g h _ g.back (w.2 ∙ ap (λ (z : RegionState). z.poked) same) (w.3 ∙ ap (λ (z : RegionState). z.missed) same)
+        (up_to_date bases st.moment.log st.moment.core r g g.back (runs_at bases before st.moment run.run) at (λ p. refl))))
+
+-- ---- steps that leave the core, but for a fault
+still :
+    (bases : Bases) (before : List Record) (st : Stored) (leave : Files → Bool) (told : Told) (heads : Side → Head) (synced : Side → Bool) (copies : Side → ℕ → Option Copy) → StoreRun bases before st
+    → ((F : Files) → MayLeave leave F → MayLeave st.moment.leave F)
+    → FilesRun told st.moment.core → IsKnown bases st.moment.log st.moment.core.regions copies told
+    → StoreRun bases before (record st { moment = moment_with st st.moment.core leave; told = told; heads = heads; synced = synced; copies = copies })
+still bases before st leave told heads synced copies run less files known = record {
+  run = run_less bases before st.moment leave less run.run;
+  images = record { files = files; fits = λ F h. run.images.fits F (less F h) };
+  anchor = λ e F h. run.anchor e F (less F h);
+  kept = λ h e. kept_less st.moment.log st.moment.core.vault st.moment.core.vault (MayLeave st.moment.leave) (MayLeave leave) h refl less (run.kept h e);
+  copied = known;
+}
+
+failed :
+    (bases : Bases) (before : List Record) (st : Stored) (leave : Files → Bool) (told : Told) (heads : Side → Head) (synced : Side → Bool) (copies : Side → ℕ → Option Copy) (n : ℕ) → StoreRun bases before st
+    → IsFault st.moment.core n
+    → ((F : Files) → MayLeave leave F → MayLeave st.moment.leave F)
+    → FilesRun told st.moment.core → IsKnown bases st.moment.log st.moment.core.regions copies told
+    → StoreRun bases before (record st { moment = moment_with st (with_fault st.moment.core n) leave; told = told; heads = heads; synced = synced; copies = copies })
+failed bases before st leave told heads synced copies n run fault less files known = record {
+  run = run_faults bases before st.moment leave n fault.rose (λ F h. (F, less F h, refl)) run.run;
+  images = record { files = files; fits = λ F h. run.images.fits F (less F h) };
+  anchor = λ e. absurd (cc);
+  kept = λ h e. kept_less st.moment.log st.moment.core.vault _ (MayLeave st.moment.leave) (MayLeave leave) h refl less (run.kept h e);
+  copied = known;
+}
+
+side_is : (a b : Side) → same_side a b ≡ true → a ≡ b
+side_is A A f = refl
+side_is B B f = refl
+side_is A B f = absurd (cc)
+side_is B A f = absurd (cc)
+
+-- a place of a region whose flag stands may read anything
+dirty_told : (told : Told) (c : CoreState) (t : Side) (r : ℕ) (g : RegionState) (ws : List ℕ) → slice_get c.regions r ≡ Some g → is_dirty g t ≡ true → FilesRun told c → FilesRun (told_with told t r ws) c
+dirty_told told c t r g ws at dirty files s q h e clean cleared = by_test (same_side s t) (q == r) refl refl
+  where
+    by_test : (a b : Bool) → same_side s t ≡ a → (q == r) ≡ b → cond (a && b) ws (told s q) ≡ h.back
+    by_test true true f d =
+        let same : h ≡ g = some_same (sym e ∙ (ap (slice_get c.regions) (equal q r d) ∙ at)) in
+        let stands : is_dirty h s ≡ true = ap (λ (z : RegionState). is_dirty z s) same ∙ (ap (is_dirty g) (side_is s t f) ∙ dirty) in
+        absurd (cc)
+    by_test true false f d = files s q h e clean cleared
+    by_test false b f d = files s q h e clean cleared
+
+-- ---- the anchor moves
+turn_fits :
+    (bases : Bases) (before : List Record) (st : Stored) (h : Head) (b k : ℕ) (D : Files) (head : Head) (image : List (List ℕ)) → StoreRun bases before st
+    → st.moment.core.vault.stopped ≡ false → MayTurn st h b k → MayLeave st.moment.leave D → MayHold st (side_of (D.gates + 1)) head image
+    → FitsBut st.moment.core.system.sizes bases (λ r. is_missed (slice_get st.moment.core.regions r)) (log_in (turned D head image)) (turned D head image) (last_epoch (log_in (turned D head image)))
+turn_fits bases before st h b k D head image run runs may l hold =
+    subst (λ (z : Head). FitsBut c.system.sizes bases (λ r. is_missed (slice_get c.regions r)) (log_in D) (turned D z image) (last_epoch (log_in D))) (sym same)
+    (turned_fits c.system.sizes bases (λ r. is_missed (slice_get c.regions r)) L c.vault (MayLeave st.moment.leave) D h image b k is.count
+    (run.kept h may.begun) l is.log is.within may.clean may.later may.ends (omega (arith, may.flushed, is.flushed))
+    ((run.kept h may.begun).number ∙ ap (λ n. n + 1) (sym gates)) (ap length words ∙ (length-map (range_with_len 0 (regions c.system.sizes)) (st.told (target st)) ∙ length-range_with_len 0 (regions c.system.sizes))) places)
+  where
+    c : CoreState
+    c = st.moment.core
+
+    L : List Record
+    L = st.moment.log
+
+    gates : D.gates ≡ c.vault.current
+    gates = run.anchor runs D l
+
+    side : side_of (D.gates + 1) ≡ target st
+    side = ap (λ n. side_of (n + 1)) gates
+
+    same : head ≡ h
+    same = hold.head_is (ap st.synced side ∙ may.synced) ∙ (ap st.heads side ∙ may.head)
+
+    words : image ≡ image_in c.system.sizes st.told (target st)
+    words = hold.image_is (ap st.synced side ∙ may.synced) ∙ ap (image_in c.system.sizes st.told) side
+
+    is : IsPrefix L (stable c.system) D
+    is = subst (λ M. IsPrefix M (stable c.system) D) (sym run.run.log) (run.run.run.vault.prefix D l)
+
+    places : (r : ℕ) → r < regions c.system.sizes → is_missed (slice_get c.regions r) ≡ false → IsRightPlace (bases (last_epoch L).first) (last_epoch L) h b r (words_in image r)
+    places r hr seen =
+        let w = may.copies r hr in
+        let region : (g : RegionState) × (slice_get c.regions r ≡ Some g) = found c.regions r (omega (arith, hr, (runs_at bases before st.moment run.run).whole)) in
+        let read : words_in image r ≡ st.told (target st) r = ap (λ im. words_in im r) words ∙ get_or-map-range_with_len (st.told (target st)) 0 (regions c.system.sizes) r r [] hr (omega arith) in
+        ⊎_elim
+        (λ a. record { at = w.0.at; from = w.2.since; to = omega (arith, w.2.until); settled = record { from = a.from; to = a.to; words = read ∙ a.words } })
+        (λ a. let missed : region.0.missed ≡ true = a.missed w.2.passed in let not_missed : region.0.missed ≡ false = ap is_missed (sym region.1) ∙ seen in absurd (cc))
+        (run.copied (target st) r w.0 region.0 w.1 region.1)
+
+turns :
+    (bases : Bases) (before : List Record) (st : Stored) (leave : Files → Bool) (h : Head) (b k : ℕ) → StoreRun bases before st
+    → st.moment.core.vault.stopped ≡ false → MayTurn st h b k → IsTurned st (MayLeave leave)
+    → StoreRun bases before (record st { moment = moment_with st (with_current st.moment.core) leave; begun = None })
+turns bases before st leave h b k run runs may store = record {
+  run = run_turned bases before st.moment leave (λ F l. let w = store.each F l in (w.0, w.1, ap (λ (f : Files). f.batches) w.2.3)) run.run;
+  images = record {
+    files = run.images.files;
+    fits = λ F l. let w = store.each F l in subst (λ (f : Files). FitsBut st.moment.core.system.sizes bases (λ r. is_missed (slice_get st.moment.core.regions r)) (log_in f) f (last_epoch (log_in f))) (sym w.2.3) (turn_fits bases before st h b k w.0 w.2.0 w.2.1 run runs may w.1 w.2.2);
+  };
+  anchor = λ e F l. let w = store.each F l in ap (λ (f : Files). f.gates) w.2.3 ∙ ap (λ n. n + 1) (run.anchor runs w.0 w.1);
+  kept = λ z e. absurd (cc);
+  copied = run.copied;
+}
+
+turn_fails :
+    (bases : Bases) (before : List Record) (st : Stored) (leave : Files → Bool) (h : Head) (b k n : ℕ) → StoreRun bases before st
+    → IsFault st.moment.core n → MayTurn st h b k → IsTurning st (MayLeave leave)
+    → StoreRun bases before (record st { moment = moment_with st (with_fault st.moment.core n) leave; begun = None })
+turn_fails bases before st leave h b k n run fault may store = record {
+  run = run_faults bases before st.moment leave n fault.rose (λ F l. let w = store.each F l in (w.0, w.1, ⊎_elim (λ e. ap (λ (f : Files). f.batches) e) (λ s. ap (λ (f : Files). f.batches) s.3) w.2)) run.run;
+  images = record {
+    files = run.images.files;
+    fits = λ F l. let w = store.each F l in ⊎_elim
+        (λ e. subst (λ (f : Files). FitsBut st.moment.core.system.sizes bases (λ r. is_missed (slice_get st.moment.core.regions r)) (log_in f) f (last_epoch (log_in f))) (sym e) (run.images.fits w.0 w.1))
+        (λ s. subst (λ (f : Files). FitsBut st.moment.core.system.sizes bases (λ r. is_missed (slice_get st.moment.core.regions r)) (log_in f) f (last_epoch (log_in f))) (sym s.3) (turn_fits bases before st h b k w.0 s.0 s.1 run fault.runs may w.1 s.2))
+        w.2;
+  };
+  anchor = λ e. absurd (cc);
+  kept = λ z e. absurd (cc);
+  copied = run.copied;
+}
+
+-- ---- each step
+pub store_step_keeps : StoreStepKeeps
+store_step_keeps bases before st new (Does x) run s = subst (StoreRun bases before) (sym s.2) (does bases before st x new.moment run s.0 s.1)
+store_step_keeps bases before st new Starts run s = subst (StoreRun bases before) (sym s.2) (record { run = run.run; images = run.images; anchor = run.anchor; kept = λ h e. subst (IsKept st.moment.log st.moment.core.vault (MayLeave st.moment.leave)) (some_same e) (keeps_now bases before st.moment run.run s.0 s.1); copied = run.copied })
+store_step_keeps bases before st new (Copies r) run s = subst (StoreRun bases before) (sym s.5) (copies_keep bases before st r s.0 new.moment.leave _ run s.1 s.2 s.4)
+store_step_keeps bases before st new (Skips r) run s =
+    subst (StoreRun bases before) (sym s.3)
+    (record { run = run.run; images = run.images; anchor = run.anchor; kept = run.kept; copied = skipped })
+  where
+    skipped : IsKnown bases st.moment.log st.moment.core.regions (copies_with st.copies (target st) r (Some (record { at = st.moment.core.system.records; passed = false }))) st.told
+    skipped side q k h e at = by_test (same_side side (target st) && (q == r)) refl e
+      where
+        by_test :
+            (b : Bool) → (same_side side (target st) && (q == r)) ≡ b → cond b (Some (record { at = st.moment.core.system.records; passed = false })) (st.copies side q) ≡ Some k
+            → IsCopied (bases (last_epoch st.moment.log).first) (last_epoch st.moment.log) q h k (st.told side q)
+        by_test false f d = run.copied side q k h d at
+        by_test true f d =
+            let there : side ≡ target st = side_is side (target st) (and_left (same_side side (target st)) (q == r) f) in
+            let here : q ≡ r = equal q r (and_right (same_side side (target st)) (q == r) f) in
+            let same : h ≡ s.0 = some_same (sym at ∙ (ap (slice_get st.moment.core.regions) here ∙ s.1)) in
+            let clear : is_dirty h side ≡ false = ap (λ (z : RegionState). is_dirty z side) same ∙ (ap (is_dirty s.0) there ∙ s.2) in
+            subst (λ z. IsCopied (bases (last_epoch st.moment.log).first) (last_epoch st.moment.log) q h z (st.told side q)) (some_same d)
+            (up_to_date bases st.moment.log st.moment.core q h (st.told side q) (runs_at bases before st.moment run.run) at (λ p. run.images.files side q h at p clear))
+store_step_keeps bases before st new (WritesHead h) run s = subst (StoreRun bases before) (sym s.2) (still bases before st new.moment.leave st.told _ _ st.copies run (fewer bases before st (MayLeave new.moment.leave) run s.0 s.1) run.images.files run.copied)
+store_step_keeps bases before st new Syncs run s = subst (StoreRun bases before) (sym s.2) (still bases before st new.moment.leave st.told st.heads _ st.copies run s.1 run.images.files run.copied)
+store_step_keeps bases before st new Turns run s = subst (StoreRun bases before) (sym s.6) (turns bases before st new.moment.leave s.0 s.1 s.2 run s.3 s.4 s.5)
+store_step_keeps bases before st new (CopyFails r ws n) run s =
+    subst (StoreRun bases before) (sym s.5)
+    (failed bases before st new.moment.leave _ st.heads _ _ n run s.3 (fewer bases before st (MayLeave new.moment.leave) run s.3.runs s.4) (dirty_told st.told st.moment.core (target st) r s.0 ws s.1 s.2 run.images.files)
+    (known_with bases st.moment.log st.moment.core.regions st.moment.core.regions st.copies st.told (target st) r None ws run.copied (as_before st.moment.core.regions) (λ k h e. absurd (cc))))
+store_step_keeps bases before st new (HeadFails h n) run s = subst (StoreRun bases before) (sym s.2) (failed bases before st new.moment.leave st.told _ _ st.copies n run s.0 (fewer bases before st (MayLeave new.moment.leave) run s.0.runs s.1) run.images.files run.copied)
+store_step_keeps bases before st new (SyncFails n) run s = subst (StoreRun bases before) (sym s.2) (failed bases before st new.moment.leave st.told st.heads st.synced st.copies n run s.0 s.1 run.images.files run.copied)
+store_step_keeps bases before st new (TurnFails n) run s = subst (StoreRun bases before) (sym s.6) (turn_fails bases before st new.moment.leave s.0 s.1 s.2 n run s.3 s.4 s.5)
+
+pub store_course_keeps : StoreCourseKeeps
+store_course_keeps bases before st new [] run course = subst (StoreRun bases before) course run
+store_course_keeps bases before st new (x ∷ xs) run course = store_course_keeps bases before course.0 new xs (store_step_keeps bases before st course.0 x run course.1) course.2
+
+-- ---- once the anchor moved
+pub turn_ends : TurnEnds
+turn_ends bases before st new run s = record {
+  head = s.0;
+  begun = may.begun;
+  number = (run.kept s.0 may.begun).number;
+  current = current;
+  gates = λ F l. (store_step_keeps bases before st new Turns run s).anchor (ap (λ (z : Stored). z.moment.core.vault.stopped) s.6 ∙ s.3) F l;
+  first = λ F l. let w = s.5.each F l in
+      let side : side_of (w.0.gates + 1) ≡ target st = ap (λ n. side_of (n + 1)) (run.anchor s.3 w.0 w.1) in
+      ap (λ (f : Files). f.first) w.2.3 ∙ ap (λ (z : Head). z.first) (w.2.2.head_is (ap st.synced side ∙ may.synced) ∙ (ap st.heads side ∙ may.head));
+}
+  where
+    may : MayTurn st s.0 s.1 s.2
+    may = s.4
+
+    current : new.moment.core.vault.current ≡ st.moment.core.vault.current + 1
+    current = ap (λ (z : Stored). z.moment.core.vault.current) s.6

@@ -1,0 +1,249 @@
+-- Without stray writes no region is poked, no damage escapes a stop, and where no audit names a region, nobody
+-- is deleted.
+use Rattle.std.proofs.Common.{◌≡◌, ℕ, zero, suc, ◌-◌, ◌≤◌, Bool, true, false, List, [], ◌∷◌, ◌++◌, length, take, Some, refl, ap, sym, subst, ◌∙◌, ⊎_elim, arith}
+use Rattle.std.specs.Prelude.{map, fold, slice_get, slice_set, ⊤}
+use Rattle.std.specs.List.{list_any}
+use Rattle.std.proofs.lemmas.Bool.{or_parts}
+use Rattle.dali_record.specs.declared.records.Record.{Record}
+use Rattle.dali_record.specs.declared.records.Record.TheVariants.{Format, Begin, Op as Forward, Done, Commit, Ended, Solo, AuditBegin, AuditClean, AuditFail, Restarted, Back}
+use Rattle.dali_record.specs.Epochs.{Epoch, Cut, last_epoch, failing_step}
+use Rattle.dali_record.specs.Damage.{deleted_list}
+use Rattle.dali_record.specs.Legal.{sizes_of}
+use Rattle.dali_record.specs.Files.{Files}
+use Rattle.dali_region.specs.declared.Side.{Side}
+use Rattle.dali_region.specs.declared.Side.TheVariants.{A, B}
+use Rattle.dali_region.specs.State.{RegionState, loaded, touched}
+use Rattle.dali_region.specs.Answers.{cleaned}
+use Rattle.dali_history.specs.Recovered.{recovered}
+use Rattle.dali_headline.proofs.Undamaged.{undamaged_deleted}
+use Rattle.dali_counts.proofs.Lists.{set_cases}
+use Rattle.dali_system.specs.State.{CoreState, stable}
+use Rattle.dali_system.specs.Run.{Bases, log_in, RunsOn, IsPrefix}
+use Rattle.dali_system.specs.Crashes.{NoneEscapes}
+use Rattle.dali_system.specs.Regions.{RegionStep, Latch, NoteReads, Update, TakeBack, Poke, Check, Die, Clean, region_after}
+use Rattle.dali_system.specs.Loads.{new_core}
+use Rattle.dali_system.specs.Courses.{Step, Begins, Operates, TakesBack, Frees, Answers, Commits, Ends, AuditBegins, AuditEnds, Locks, Refuses, OnRegion, Turns as TurnsTo, Stops, Checkpoints, Flushes, Faults, Adds, Moment, MayLeave, IsStepAt, IsCourse, RunsAt}
+use Rattle.dali_system.proofs.OneMore.{is_inside, last_epoch-push}
+use Rattle.dali_system.proofs.Courses.{course_keeps}
+use Rattle.dali_crash.specs.CrashLogs.{cut_to, IsUnpoked}
+use Rattle.dali_crash.specs.Checkpoints.{Stored, StoreStep, Does, Starts, Copies, Skips, WritesHead, Syncs, Turns, CopyFails, HeadFails, SyncFails, TurnFails, target, IsStoreStep, IsStoreCourse}
+use Rattle.dali_crash.specs.StoreRuns.{StoreRun, stored_start}
+use Rattle.dali_crash.specs.Unpoked.{is_poke, pokes, finds_damage, store_pokes, store_finds_damage, DeletesNobody, UnpokedRunIsRight, UnpokedStoreRunIsRight}
+use Rattle.dali_crash.proofs.CrashLogs.{cut_parts}
+use Rattle.dali_crash.proofs.Honest.{unpoked_escapes_none}
+use Rattle.dali_crash.proofs.Courses.{starts_run, every_run_is_right}
+use Rattle.dali_crash.proofs.StoreRuns.{store_course_keeps}
+use Rattle.dali_crash.proofs.StoreStarts.{fresh_starts, every_store_run_is_right}
+
+-- ---- no region is poked
+abbrev NonePoked : List RegionState → Type 0
+NonePoked rs = (r : ℕ) (g : RegionState) → slice_get rs r ≡ Some g → g.poked ≡ false
+
+as_was : (old new : List RegionState) → new ≡ old → NonePoked old → NonePoked new
+as_was old new same none q h e = none q h (ap (λ rs. slice_get rs q) (sym same) ∙ e)
+
+one_set : (old new : List RegionState) (r : ℕ) (g k : RegionState) → new ≡ slice_set old r k → slice_get old r ≡ Some g → k.poked ≡ g.poked → NonePoked old → NonePoked new
+one_set old new r g k is at same none q h e = ⊎_elim
+    (λ w. ap (λ (z : RegionState). z.poked) w.1 ∙ (same ∙ none r g at))
+    (λ w. none q h w.1)
+    (set_cases old r k q h (ap (λ rs. slice_get rs q) (sym is) ∙ e))
+
+none_loaded : (image : List (List ℕ)) → NonePoked (map loaded image)
+none_loaded [] r g e = absurd (cc)
+none_loaded (ws ∷ image) zero g e = let same : loaded ws ≡ g = cc in ap (λ (z : RegionState). z.poked) (sym same)
+none_loaded (ws ∷ image) (suc r) g e = none_loaded image r g e
+
+same_poked : (x : RegionStep) (g : RegionState) → is_poke x ≡ false → (region_after x g).poked ≡ g.poked
+same_poked (Latch t) g e = refl
+same_poked (NoteReads m) g e = refl
+same_poked (Update i v) g e = refl
+same_poked TakeBack g e = refl
+same_poked (Poke i m) g e = absurd (cc)
+same_poked Check g e = refl
+same_poked Die g e = refl
+same_poked (Clean A) g e = refl
+same_poked (Clean B) g e = refl
+
+step_unpoked : (m n : Moment) (x : Step) → pokes x ≡ false → IsStepAt m x n → NonePoked m.core.regions → NonePoked n.core.regions
+step_unpoked m n Begins quiet s = as_was m.core.regions n.core.regions (ap (λ (c : CoreState). c.regions) s.0.1.1)
+step_unpoked m n (Operates t b) quiet s = one_set m.core.regions n.core.regions b.region s.0.0 (touched s.0.0) (ap (λ (c : CoreState). c.regions) s.0.3.1) s.0.2.at refl
+step_unpoked m n (TakesBack t b) quiet s = one_set m.core.regions n.core.regions b.region s.0.0 (touched s.0.0) (ap (λ (c : CoreState). c.regions) s.0.2.1) s.0.1.at refl
+step_unpoked m n (Frees p b) quiet s = one_set m.core.regions n.core.regions b.region s.0.0 (touched s.0.0) (ap (λ (c : CoreState). c.regions) s.0.2.1) s.0.1.at refl
+step_unpoked m n (Answers t k a) quiet s = as_was m.core.regions n.core.regions (ap (λ (c : CoreState). c.regions) s.0.3.1)
+step_unpoked m n (Commits t) quiet s = as_was m.core.regions n.core.regions (ap (λ (c : CoreState). c.regions) s.0.2.1)
+step_unpoked m n (Ends t) quiet s = as_was m.core.regions n.core.regions (ap (λ (c : CoreState). c.regions) s.0.2.1)
+step_unpoked m n AuditBegins quiet s = as_was m.core.regions n.core.regions (ap (λ (c : CoreState). c.regions) s.0.2.1)
+step_unpoked m n (AuditEnds b found) quiet s = as_was m.core.regions n.core.regions (ap (λ (c : CoreState). c.regions) s.0.1.1)
+step_unpoked m n (Locks t k mode) quiet s = as_was m.core.regions n.core.regions (ap (λ (c : CoreState). c.regions) s.0.2.1)
+step_unpoked m n (Refuses t k mode o) quiet s = as_was m.core.regions n.core.regions (ap (λ (c : CoreState). c.regions) s.0.1.1)
+step_unpoked m n (OnRegion r x) quiet s = one_set m.core.regions n.core.regions r s.0.0 (region_after x s.0.0) (ap (λ (c : CoreState). c.regions) s.0.3.1) s.0.1 (same_poked x s.0.0 quiet)
+step_unpoked m n (TurnsTo t state) quiet s = as_was m.core.regions n.core.regions (ap (λ (c : CoreState). c.regions) s.0.1.1)
+step_unpoked m n Stops quiet s = as_was m.core.regions n.core.regions (ap (λ (c : CoreState). c.regions) s.0.1.1)
+step_unpoked m n (Checkpoints b) quiet s = as_was m.core.regions n.core.regions (ap (λ (c : CoreState). c.regions) s.0.1)
+step_unpoked m n Flushes quiet s = as_was m.core.regions n.core.regions (ap (λ (c : CoreState). c.regions) s.0.1.1)
+step_unpoked m n (Faults k) quiet s = as_was m.core.regions n.core.regions (ap (λ (c : CoreState). c.regions) s.0.2.1)
+
+course_unpoked : (m n : Moment) (xs : List Step) → list_any pokes xs ≡ false → IsCourse m xs n → NonePoked m.core.regions → NonePoked n.core.regions
+course_unpoked m n [] quiet s none = subst (λ (k : Moment). NonePoked k.core.regions) s none
+course_unpoked m n (x ∷ xs) quiet s none = let p = or_parts (pokes x) (list_any pokes xs) quiet in course_unpoked s.0 n xs p.1 s.2 (step_unpoked m s.0 x p.0 s.1 none)
+
+-- ---- no audit named a region
+abbrev is_fail : Record → Bool
+is_fail (AuditFail b rs) = true
+is_fail _ = false
+
+abbrev NoneFails : List Record → Type 0
+NoneFails [] = ⊤
+NoneFails (x ∷ E) = (is_fail x ≡ false) × NoneFails E
+
+none_fails_push : (E : List Record) (x : Record) → NoneFails E → is_fail x ≡ false → NoneFails (E ++ x ∷ [])
+none_fails_push [] x h e = (e, tt)
+none_fails_push (y ∷ E) x h e = (h.0, none_fails_push E x h.1 e)
+
+none_fails_take : (n : ℕ) (E : List Record) → NoneFails E → NoneFails (take n E)
+none_fails_take zero E h = tt
+none_fails_take (suc n) [] h = tt
+none_fails_take (suc n) (x ∷ E) h = (h.0, none_fails_take n E h.1)
+
+step_none : (x : Record) → is_fail x ≡ false → failing_step [] x ≡ []
+step_none (Format i h) e = refl
+step_none (Begin t) e = refl
+step_none (Forward t b) e = refl
+step_none (Done t q r) e = refl
+step_none (Commit t) e = refl
+step_none (Ended t) e = refl
+step_none (Solo t p b) e = refl
+step_none AuditBegin e = refl
+step_none (AuditClean b) e = refl
+step_none (AuditFail b rs) e = absurd (cc)
+step_none (Restarted rs ds) e = refl
+step_none (Back t b) e = refl
+
+none_failing : (E : List Record) → NoneFails E → fold failing_step [] E ≡ []
+none_failing [] h = refl
+none_failing (x ∷ E) h = ap (λ rs. fold failing_step rs E) (step_none x h.0) ∙ none_failing E h.1
+
+abbrev IsClean : Moment → Type 0
+IsClean m = NoneFails (last_epoch m.log).records
+
+clean_adds : (m n : Moment) (e : CoreState) (x : Record) → is_inside x ≡ true → is_fail x ≡ false → Adds m.log x e n.log n.core → IsClean m → IsClean n
+clean_adds m n e x inside isnt adds h = subst (λ (k : Epoch). NoneFails k.records) (sym (ap last_epoch adds.0 ∙ last_epoch-push m.log x inside)) (none_fails_push (last_epoch m.log).records x h isnt)
+
+clean_on : (m n : Moment) → n.log ≡ m.log → IsClean m → IsClean n
+clean_on m n same h = subst (λ L. NoneFails (last_epoch L).records) (sym same) h
+
+step_clean : (m n : Moment) (x : Step) → finds_damage x ≡ false → IsStepAt m x n → IsClean m → IsClean n
+step_clean m n Begins quiet s = clean_adds m n _ (Begin m.core.system.next) refl refl s.0.1
+step_clean m n (Operates t b) quiet s = clean_adds m n _ (Forward t b) refl refl s.0.3
+step_clean m n (TakesBack t b) quiet s = clean_adds m n _ (Back t b) refl refl s.0.2
+step_clean m n (Frees p b) quiet s = clean_adds m n _ (Solo m.core.system.next p b) refl refl s.0.2
+step_clean m n (Answers t k a) quiet s = clean_adds m n _ (Done t k a) refl refl s.0.3
+step_clean m n (Commits t) quiet s = clean_adds m n _ (Commit t) refl refl s.0.2
+step_clean m n (Ends t) quiet s = clean_adds m n _ (Ended t) refl refl s.0.2
+step_clean m n AuditBegins quiet s = clean_adds m n _ AuditBegin refl refl s.0.2
+step_clean m n (AuditEnds b []) quiet s = clean_adds m n _ (AuditClean b) refl refl s.0.1
+step_clean m n (AuditEnds b (r ∷ rs)) quiet s = absurd (cc)
+step_clean m n (Locks t k mode) quiet s = clean_on m n s.0.2.0
+step_clean m n (Refuses t k mode o) quiet s = clean_on m n s.0.1.0
+step_clean m n (OnRegion r x) quiet s = clean_on m n s.0.3.0
+step_clean m n (TurnsTo t state) quiet s = clean_on m n s.0.1.0
+step_clean m n Stops quiet s = clean_on m n s.0.1.0
+step_clean m n (Checkpoints b) quiet s = clean_on m n s.0.0
+step_clean m n Flushes quiet s = clean_on m n s.0.1.0
+step_clean m n (Faults k) quiet s = clean_on m n s.0.2.0
+
+course_clean : (m n : Moment) (xs : List Step) → list_any finds_damage xs ≡ false → IsCourse m xs n → IsClean m → IsClean n
+course_clean m n [] quiet s clean = subst IsClean s clean
+course_clean m n (x ∷ xs) quiet s clean = let p = or_parts (finds_damage x) (list_any finds_damage xs) quiet in course_clean s.0 n xs p.1 s.2 (step_clean m s.0 x p.0 s.1 clean)
+
+-- ---- what a crash leaves
+-- its last epoch is the run's, cut off
+left_epoch : (bases : Bases) (before : List Record) (m : Moment) (F : Files) → RunsAt bases before m → MayLeave m.leave F → (k : ℕ) × (last_epoch (log_in F) ≡ cut_to k (last_epoch m.log))
+left_epoch bases before m F at l = (is.count - (last_epoch m.log).first, ap last_epoch is.log ∙ ap (λ (q : Cut). q.now) (cut_parts m.log is.count (omega (arith, is.flushed, began, at.run.first)) is.within))
+  where
+    is : IsPrefix m.log (stable m.core.system) F
+    is = subst (λ M. IsPrefix M (stable m.core.system) F) (sym at.log) (at.run.vault.prefix F l)
+
+    began : (last_epoch m.log).first ≤ length before
+    began = subst (λ M. (last_epoch M).first ≤ length before) (sym at.log) at.run.began
+
+none_escapes : (bases : Bases) (before : List Record) (m : Moment) (F : Files) → RunsAt bases before m → MayLeave m.leave F → NonePoked m.core.regions → NoneEscapes (last_epoch (log_in F)) m.core
+none_escapes bases before m F at l none = let w = left_epoch bases before m F at l in subst (λ (e : Epoch). NoneEscapes e m.core) (sym w.1) (unpoked_escapes_none bases m.log m.core w.0 runs unpoked)
+  where
+    runs : RunsOn bases m.log m.core
+    runs = subst (λ M. RunsOn bases M m.core) (sym at.log) at.run.runs
+
+    unpoked : IsUnpoked m.core
+    unpoked r g e = (none r g e, (runs.regions r g e).protected.none_missed (none r g e))
+
+deletes_nobody : (bases : Bases) (before : List Record) (m : Moment) (F : Files) → RunsAt bases before m → MayLeave m.leave F → IsClean m → DeletesNobody F
+deletes_nobody bases before m F at l clean = let w = left_epoch bases before m F at l in subst (λ (e : Epoch). deleted_list e ≡ []) (sym w.1) (undamaged_deleted (cut_to w.0 (last_epoch m.log)) (none_failing (take w.0 (last_epoch m.log).records) (none_fails_take w.0 (last_epoch m.log).records clean)))
+
+pub unpoked_run_is_right : UnpokedRunIsRight
+unpoked_run_is_right L g limit v leave history rules none fits vault xs n quiet course F l = (
+  every_run_is_right L g limit v leave history rules none fits vault xs n course F l (none_escapes bases L n F there l (course_unpoked start n xs quiet course (none_loaded (recovered (sizes_of L) L)))),
+  λ clean. deletes_nobody bases L n F there l (course_clean start n xs clean course (subst NoneFails (sym none) tt)),
+)
+  where
+    bases : Bases
+    bases = λ k. recovered (sizes_of L) L
+
+    start : Moment
+    start = record { log = L; core = new_core (sizes_of L) (recovered (sizes_of L) L) g limit v; leave = leave }
+
+    there : RunsAt bases L n
+    there = course_keeps bases L start n xs (starts_run L g limit v leave history rules none fits vault) course
+
+-- ---- with its store
+cleaned_poked : (t : Side) (g : RegionState) → (cleaned t g).poked ≡ g.poked
+cleaned_poked A g = refl
+cleaned_poked B g = refl
+
+store_unpoked : (st new : Stored) (x : StoreStep) → store_pokes x ≡ false → IsStoreStep st x new → NonePoked st.moment.core.regions → NonePoked new.moment.core.regions
+store_unpoked st new (Does x) quiet s = step_unpoked st.moment new.moment x quiet s.1
+store_unpoked st new Starts quiet s = as_was st.moment.core.regions new.moment.core.regions (ap (λ (z : Stored). z.moment.core.regions) s.2)
+store_unpoked st new (Copies r) quiet s = one_set st.moment.core.regions new.moment.core.regions r s.0 (cleaned (target st) s.0) (ap (λ (z : Stored). z.moment.core.regions) s.5) s.1 (cleaned_poked (target st) s.0)
+store_unpoked st new (Skips r) quiet s = as_was st.moment.core.regions new.moment.core.regions (ap (λ (z : Stored). z.moment.core.regions) s.3)
+store_unpoked st new (WritesHead h) quiet s = as_was st.moment.core.regions new.moment.core.regions (ap (λ (z : Stored). z.moment.core.regions) s.2)
+store_unpoked st new Syncs quiet s = as_was st.moment.core.regions new.moment.core.regions (ap (λ (z : Stored). z.moment.core.regions) s.2)
+store_unpoked st new Turns quiet s = as_was st.moment.core.regions new.moment.core.regions (ap (λ (z : Stored). z.moment.core.regions) s.6)
+store_unpoked st new (CopyFails r ws n) quiet s = as_was st.moment.core.regions new.moment.core.regions (ap (λ (z : Stored). z.moment.core.regions) s.5)
+store_unpoked st new (HeadFails h n) quiet s = as_was st.moment.core.regions new.moment.core.regions (ap (λ (z : Stored). z.moment.core.regions) s.2)
+store_unpoked st new (SyncFails n) quiet s = as_was st.moment.core.regions new.moment.core.regions (ap (λ (z : Stored). z.moment.core.regions) s.2)
+store_unpoked st new (TurnFails n) quiet s = as_was st.moment.core.regions new.moment.core.regions (ap (λ (z : Stored). z.moment.core.regions) s.6)
+
+store_course_unpoked : (st new : Stored) (xs : List StoreStep) → list_any store_pokes xs ≡ false → IsStoreCourse st xs new → NonePoked st.moment.core.regions → NonePoked new.moment.core.regions
+store_course_unpoked st new [] quiet s none = subst (λ (k : Stored). NonePoked k.moment.core.regions) s none
+store_course_unpoked st new (x ∷ xs) quiet s none = let p = or_parts (store_pokes x) (list_any store_pokes xs) quiet in store_course_unpoked s.0 new xs p.1 s.2 (store_unpoked st s.0 x p.0 s.1 none)
+
+store_clean : (st new : Stored) (x : StoreStep) → store_finds_damage x ≡ false → IsStoreStep st x new → IsClean st.moment → IsClean new.moment
+store_clean st new (Does x) quiet s = step_clean st.moment new.moment x quiet s.1
+store_clean st new Starts quiet s = clean_on st.moment new.moment (ap (λ (z : Stored). z.moment.log) s.2)
+store_clean st new (Copies r) quiet s = clean_on st.moment new.moment (ap (λ (z : Stored). z.moment.log) s.5)
+store_clean st new (Skips r) quiet s = clean_on st.moment new.moment (ap (λ (z : Stored). z.moment.log) s.3)
+store_clean st new (WritesHead h) quiet s = clean_on st.moment new.moment (ap (λ (z : Stored). z.moment.log) s.2)
+store_clean st new Syncs quiet s = clean_on st.moment new.moment (ap (λ (z : Stored). z.moment.log) s.2)
+store_clean st new Turns quiet s = clean_on st.moment new.moment (ap (λ (z : Stored). z.moment.log) s.6)
+store_clean st new (CopyFails r ws n) quiet s = clean_on st.moment new.moment (ap (λ (z : Stored). z.moment.log) s.5)
+store_clean st new (HeadFails h n) quiet s = clean_on st.moment new.moment (ap (λ (z : Stored). z.moment.log) s.2)
+store_clean st new (SyncFails n) quiet s = clean_on st.moment new.moment (ap (λ (z : Stored). z.moment.log) s.2)
+store_clean st new (TurnFails n) quiet s = clean_on st.moment new.moment (ap (λ (z : Stored). z.moment.log) s.6)
+
+store_course_clean : (st new : Stored) (xs : List StoreStep) → list_any store_finds_damage xs ≡ false → IsStoreCourse st xs new → IsClean st.moment → IsClean new.moment
+store_course_clean st new [] quiet s clean = subst (λ (k : Stored). IsClean k.moment) s clean
+store_course_clean st new (x ∷ xs) quiet s clean = let p = or_parts (store_finds_damage x) (list_any store_finds_damage xs) quiet in store_course_clean s.0 new xs p.1 s.2 (store_clean st s.0 x p.0 s.1 clean)
+
+pub unpoked_store_run_is_right : UnpokedStoreRunIsRight
+unpoked_store_run_is_right L g limit v leave told heads synced history rules none fits fresh xs n quiet course F l = (
+  (every_store_run_is_right L g limit v leave told heads synced history rules none fits fresh xs n course F l).right (none_escapes bases L n.moment F there.run l (store_course_unpoked start n xs quiet course (none_loaded (recovered (sizes_of L) L)))),
+  λ clean. deletes_nobody bases L n.moment F there.run l (store_course_clean start n xs clean course (subst NoneFails (sym none) tt)),
+)
+  where
+    bases : Bases
+    bases = λ k. recovered (sizes_of L) L
+
+    start : Stored
+    start = stored_start L g limit v leave told heads synced
+
+    there : StoreRun bases L n
+    there = store_course_keeps bases L start n xs (fresh_starts L g limit v leave told heads synced history rules none fits fresh) course

@@ -1,0 +1,5 @@
+use Rattle.dali_crash.proofs.Starts.{restart_starts}
+use Rattle.dali_crash.proofs.laws.a_restart_starts_a_run.Goals as goal
+
+pub returns : goal.returns
+returns c = restart_starts

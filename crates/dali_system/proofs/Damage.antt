@@ -1,0 +1,267 @@
+-- The worked run with damage: a poke, a transaction that reads it and commits, an audit that fails.
+use Rattle.std.proofs.Common.{◌≡◌, ℕ, zero, suc, ◌<◌, true, false, List, [], ◌∷◌, ◌++◌, Option, Some, None, refl, ap, sym, ◌∙◌, subst, arith, inl, inr, ◌⊎◌}
+use Rattle.std.specs.Prelude.{slice_get, replicate, is_some}
+use Rattle.std.specs.FinMap.{get}
+use Rattle.dali_geometry.specs.Places.{formatted_image}
+use Rattle.dali_record.specs.declared.operations.Op.TheVariants.{Look}
+use Rattle.dali_record.specs.declared.records.Call.TheVariants.{Get}
+use Rattle.dali_record.specs.declared.records.Answer.TheVariants.{Missing}
+use Rattle.dali_record.specs.declared.records.Record.TheVariants.{Begin, Op as Forward, Done, Commit, AuditBegin, AuditFail}
+use Rattle.dali_record.specs.Blocks.{AreWords}
+use Rattle.dali_record.specs.Spelling.{IsBlock}
+use Rattle.dali_record.specs.Epochs.{last_epoch}
+use Rattle.dali_record.specs.Damage.{has}
+use Rattle.dali_record.specs.Files.{Files}
+use Rattle.dali_record.specs.Legal.{rules_state}
+use Rattle.dali_record.proofs.Made.{made_is_block}
+use Rattle.dali_index.specs.Entries.{entries}
+use Rattle.dali_region.specs.State.{RegionState, loaded, poked, touched, checked}
+use Rattle.dali_locks.specs.declared.mode.Mode.{Mode}
+use Rattle.dali_locks.specs.declared.mode.Mode.TheVariants.{Shared, Exclusive}
+use Rattle.dali_locks.specs.Locks.{stronger_mode}
+use Rattle.dali_locks.proofs.Changes.{get-locks_with}
+use Rattle.dali_att.specs.Table.{fresh_row}
+use Rattle.dali_counts.proofs.Lists.{some_same}
+use Rattle.dali_system.specs.State.{TxnRow, lock_of}
+use Rattle.dali_system.specs.Run.{log_in, covers, blocks_on, AllAreWords}
+use Rattle.dali_system.specs.Steps.{begun, commit_logged, granted, op_logged, done_logged, flushed, audit_begun, audit_ended}
+use Rattle.dali_system.specs.Keeps.{with_system}
+use Rattle.dali_system.specs.Regions.{Poke, Check}
+use Rattle.dali_system.specs.Flushes.{with_vault, longer, frame_of}
+use Rattle.dali_system.specs.Audits.{IsAuditing, Certifies}
+use Rattle.dali_system.specs.Crashes.{NoneEscapes}
+use Rattle.dali_system.specs.Courses.{Step, Begins, Commits, OnRegion, Locks as Asks, Operates, Answers, Flushes, AuditBegins, AuditEnds, Moment, IsStepAt, IsCourse}
+use Rattle.dali_system.specs.Worked.{small, first_log, start, opening, touching, damaged_words, damaged_look, damage, committed_batch, audit_batch, Damaged}
+use Rattle.dali_system.proofs.Loads.{no_lock}
+use Rattle.dali_system.proofs.Tables.{added}
+use Rattle.dali_system.proofs.Courses.{course_keeps}
+use Rattle.dali_system.proofs.Touching.{join, with_one, after_all, touches}
+use Rattle.dali_system.proofs.Worked.{start_runs, logging}
+use Rattle.dali_system.proofs.Batches.{two_batches, three_batches, two_are, three_are}
+use Rattle.dali_system.proofs.Removal.{named_by}
+
+-- ---- the moments
+abbrev formatted : List (List ℕ)
+formatted = formatted_image small
+
+abbrev begun_1 : Moment
+begun_1 = record { log = first_log ++ Begin 1 ∷ []; core = with_system (start formatted).core (begun (start formatted).core.system); leave = (start formatted).leave }
+
+abbrev committed_1 : Moment
+committed_1 = record { log = begun_1.log ++ Commit 1 ∷ []; core = with_system begun_1.core (commit_logged begun_1.core.system 1); leave = begun_1.leave }
+
+abbrev hit : RegionState
+hit = poked 0 1 (loaded (replicate 64 0))
+
+abbrev poked_0 : Moment
+poked_0 = with_one committed_1 0 hit
+
+abbrev begun_2 : Moment
+begun_2 = record { log = poked_0.log ++ Begin 2 ∷ []; core = with_system poked_0.core (begun poked_0.core.system); leave = poked_0.leave }
+
+abbrev locked : Moment
+locked = record { log = begun_2.log; core = with_system begun_2.core (granted begun_2.core.system 2 5 Shared); leave = begun_2.leave }
+
+abbrev at_look : RegionState
+at_look = after_all (opening 2 damaged_look []) hit
+
+abbrev looked : Moment
+looked = logging locked (Forward 2 damaged_look) (op_logged locked.core.system 2 damaged_look) 0 at_look
+
+abbrev answered : Moment
+answered = record { log = looked.log ++ Done 2 (Get 5) Missing ∷ []; core = with_system looked.core (done_logged looked.core.system 2 (Get 5) Missing); leave = looked.leave }
+
+abbrev committed_2 : Moment
+committed_2 = record { log = answered.log ++ Commit 2 ∷ []; core = with_system answered.core (commit_logged answered.core.system 2); leave = answered.leave }
+
+abbrev flushed_2 : Moment
+flushed_2 = record {
+  log = committed_2.log;
+  core = with_vault committed_2.core (flushed committed_2.core.system) (longer committed_2.core.vault (frame_of committed_2.log committed_2.core.system));
+  leave = λ F. two_batches F.batches;
+}
+
+abbrev auditing : Moment
+auditing = record { log = flushed_2.log ++ AuditBegin ∷ []; core = with_system flushed_2.core (audit_begun flushed_2.core.system); leave = flushed_2.leave }
+
+abbrev passed_0 : Moment
+passed_0 = with_one auditing 0 (checked (touched at_look))
+
+abbrev passed : Moment
+passed = with_one passed_0 1 (checked (loaded (1 ∷ replicate 63 0)))
+
+abbrev audited : Moment
+audited = record { log = passed.log ++ AuditFail 7 (0 ∷ []) ∷ []; core = with_system passed.core (audit_ended passed.core.system 7 (0 ∷ [])); leave = passed.leave }
+
+abbrev pub finish : Moment
+finish = record {
+  log = audited.log;
+  core = with_vault audited.core (flushed audited.core.system) (longer audited.core.vault (frame_of audited.log audited.core.system));
+  leave = λ F. three_batches F.batches;
+}
+
+-- ---- the steps
+begins_1 : IsStepAt (start formatted) Begins begun_1
+begins_1 = ((record { runs = refl; room = omega arith }, (refl, refl)), λ F h. h)
+
+commits_1 : IsStepAt begun_1 (Commits 1) committed_1
+commits_1 = ((refl, refl, (refl, refl)), λ F h. h)
+
+pokes : IsStepAt committed_1 (OnRegion 0 (Poke 0 1)) poked_0
+pokes = ((loaded (replicate 64 0), refl, (omega arith, omega arith, omega arith), (refl, refl)), λ F h. h)
+
+begins_2 : IsStepAt poked_0 Begins begun_2
+begins_2 = ((record { runs = refl; room = omega arith }, (refl, refl)), λ F h. h)
+
+asks : IsStepAt begun_2 (Asks 2 5 Shared) locked
+asks = ((ap (λ (row : Option TxnRow). is_some row) (added poked_0.core.system.table 2 fresh_row 2), (λ u n d e. absurd (no_lock u 5 n e)), (refl, refl)), λ F h. h)
+
+are_damaged : AreWords damaged_words
+are_damaged = (refl, omega arith)
+
+is_damaged_look : IsBlock damaged_look
+unfolding damaged_look
+is_damaged_look = made_is_block Look 5 0 damaged_words tt (omega arith) (omega arith) are_damaged
+
+shared : (o : Option Mode) → covers (Some (stronger_mode o Shared)) false ≡ true
+shared None = refl
+shared (Some Shared) = refl
+shared (Some Exclusive) = refl
+
+has_lock : covers (lock_of locked.core.system 2 5) false ≡ true
+has_lock = ap (λ (o : Option Mode). covers o false) (get-locks_with begun_2.core.system.locks 2 5 Shared 2 5) ∙ shared (get begun_2.core.system.locks (2, 5))
+
+looks : IsStepAt (with_one locked 0 at_look) (Operates 2 damaged_look) looked
+unfolding damaged_look entries
+looks = (
+  (
+    at_look,
+    record { runs = refl; room = omega arith },
+    record {
+      runs = refl;
+      spelled = (omega arith, is_damaged_look, refl);
+      next = refl;
+      kind = refl;
+      locked = has_lock;
+      at = refl;
+      is_open = record { hold = refl; reads = refl; sound = λ h. absurd (cc); stands = λ h. absurd (cc) };
+    },
+    (refl, refl),
+  ),
+  λ F h. h,
+)
+
+look_course : IsCourse locked (touching 2 damaged_look [] (Operates 2 damaged_look)) looked
+unfolding damaged_look entries
+look_course = touches locked looked 2 damaged_look [] (Operates 2 damaged_look) hit refl (refl, (((refl, refl), omega arith), tt)) looks
+
+answers : IsStepAt looked (Answers 2 (Get 5) Missing) answered
+unfolding damaged_look entries
+answers = ((record { runs = refl; room = omega arith }, (omega arith, omega arith, tt, refl), refl, (refl, refl)), λ F h. h)
+
+commits_2 : IsStepAt answered (Commits 2) committed_2
+unfolding damaged_look entries
+commits_2 = ((refl, refl, (refl, refl)), λ F h. h)
+
+flushes : IsStepAt committed_2 Flushes flushed_2
+flushes = ((refl, (refl, refl)), record { each = λ F h. (record F { batches = first_log ∷ [] }, refl, ap (λ bs. record F { batches = bs }) (two_are F.batches h)) })
+
+begins_audit : IsStepAt flushed_2 AuditBegins auditing
+unfolding damaged_look entries
+begins_audit = ((refl, omega arith, (refl, refl)), λ F h. h)
+
+passes_0 : IsStepAt auditing (OnRegion 0 Check) passed_0
+passes_0 = ((touched at_look, refl, tt, (refl, refl)), λ F h. h)
+
+passes_1 : IsStepAt passed_0 (OnRegion 1 Check) passed
+passes_1 = ((loaded (1 ∷ replicate 63 0), refl, tt, (refl, refl)), λ F h. h)
+
+is_auditing : IsAuditing small passed.log 7
+unfolding damaged_look entries
+is_auditing = record { named = named_by 7 (rules_state small passed.log) refl; within = omega arith }
+
+-- region 0 is named, and no block is on region 1
+found_or_certified : (r : ℕ) (g : RegionState) → slice_get passed.core.regions r ≡ Some g → (has (0 ∷ []) r ≡ true) ⊎ Certifies (last_epoch passed.log) 7 r g
+unfolding damaged_look entries
+found_or_certified zero g e = inl refl
+found_or_certified (suc zero) g e = inr (λ h. omega arith)
+found_or_certified (suc (suc r)) g e = absurd (cc)
+
+ends_audit : IsStepAt passed (AuditEnds 7 (0 ∷ [])) audited
+unfolding damaged_look entries
+ends_audit = ((record { runs = refl; auditing = is_auditing; spelled = (omega arith, (omega arith, (omega arith, tt), refl), omega arith); numbers = refl; each = found_or_certified }, (refl, refl)), λ F h. h)
+
+accepted : two_batches (first_log ∷ committed_batch ∷ []) ≡ true
+unfolding damaged_look entries
+accepted = refl
+
+flushes_audit : IsStepAt audited Flushes finish
+flushes_audit = ((refl, (refl, refl)), record { each = λ F h. (record F { batches = first_log ∷ committed_batch ∷ [] }, accepted, ap (λ bs. record F { batches = bs }) (three_are F.batches h)) })
+
+-- ---- all of it
+abbrev auditing_steps : List Step
+auditing_steps = Answers 2 (Get 5) Missing ∷ Commits 2 ∷ Flushes ∷ AuditBegins ∷ OnRegion 0 Check ∷ OnRegion 1 Check ∷ AuditEnds 7 (0 ∷ []) ∷ Flushes ∷ []
+
+audit_course : IsCourse looked auditing_steps finish
+audit_course = (answered, answers, (committed_2, commits_2, (flushed_2, flushes, (auditing, begins_audit, (passed_0, passes_0, (passed, passes_1, (audited, ends_audit, (finish, flushes_audit, refl))))))))
+
+pub damage_course : IsCourse (start formatted) damage finish
+damage_course = (
+  begun_1,
+  begins_1,
+  (
+    committed_1,
+    commits_1,
+    (
+      poked_0,
+      pokes,
+      (
+        begun_2,
+        begins_2,
+        (
+          locked,
+          asks,
+          join locked looked finish (touching 2 damaged_look [] (Operates 2 damaged_look)) auditing_steps look_course audit_course,
+        ),
+      ),
+    ),
+  ),
+)
+
+formatted_regions : AllAreWords formatted
+formatted_regions zero ws e = subst AreWords (some_same e) (refl, omega arith)
+formatted_regions (suc zero) ws e = subst AreWords (some_same e) (refl, omega arith)
+formatted_regions (suc (suc r)) ws e = absurd (cc)
+
+-- ---- what is left
+abbrev pub crash : Files
+crash = record { batches = first_log ∷ committed_batch ∷ audit_batch ∷ []; gates = 0; number = 0; place = 15; first = 1; weight = 10; next = 1; image = formatted; table = [] }
+
+pub none_escapes : NoneEscapes (last_epoch (log_in crash)) finish.core
+unfolding damaged_look entries
+none_escapes = record { seen = seen; named = named }
+  where
+    seen : (r : ℕ) (g : RegionState) → slice_get finish.core.regions r ≡ Some g → g.missed ≡ false
+    seen zero g e = sym (ap (λ (z : RegionState). z.missed) (some_same e))
+    seen (suc zero) g e = sym (ap (λ (z : RegionState). z.missed) (some_same e))
+    seen (suc (suc r)) g e = absurd (cc)
+
+    named : (r : ℕ) (g : RegionState) → slice_get finish.core.regions r ≡ Some g → g.sound < blocks_on r (last_epoch (log_in crash)).records → has (0 ∷ []) r ≡ true
+    named zero g e h = refl
+    named (suc zero) g e h = absurd (omega (arith, h))
+    named (suc (suc r)) g e h = absurd (cc)
+
+pub was_damaged : Damaged
+unfolding damaged_look entries
+was_damaged = record {
+  finish = finish;
+  course = damage_course;
+  run = course_keeps (λ n. formatted) first_log (start formatted) finish damage (start_runs formatted refl formatted_regions) damage_course;
+  log = refl;
+  words = refl;
+  stop = refl;
+  crash = crash;
+  left = refl;
+  batches = refl;
+  escapes = none_escapes;
+}

@@ -1,0 +1,133 @@
+-- The last epoch of a log, and the records behind its beginning.
+use Rattle.std.proofs.Common.{◌≡◌, ℕ, zero, suc, ◌+◌, ◌-◌, ◌<◌, ◌≤◌, Bool, true, false, List, [], ◌∷◌, ◌++◌, length, drop, Some, refl, ap, sym, subst, ◌∙◌, inl, inr, ◌⊎◌, append_assoc, arith}
+use Rattle.std.specs.Prelude.{◌||◌, nat_le, nat_lt}
+use Rattle.std.specs.List.{AllByRecursion, list_any}
+use Rattle.std.proofs.lemmas.List.{append-nil, drop-append-le, drop_all, drop-drop}
+use Rattle.std.proofs.lemmas.Bool.{leb-true, le-leb, ltb-true, lt-ltb}
+use Rattle.std.proofs.lemmas.List.Folds.{list_any-append}
+use Rattle.dali_record.specs.declared.records.Record.{Record}
+use Rattle.dali_record.specs.declared.records.Record.TheVariants.{Format, Begin, Op as Forward, Done, Commit, Ended, Solo, AuditBegin, AuditClean, AuditFail, Restarted, Back}
+use Rattle.dali_record.specs.Epochs.{separates, Epoch, Cut, next_number, cut_step, cut, last_epoch, epochs}
+use Rattle.dali_record.specs.Files.{is_epoch_for, epoch_from}
+use Rattle.dali_record.proofs.Ends.{by_push}
+use Rattle.dali_record.proofs.Pushes.{cut_push}
+use Rattle.dali_record.proofs.Batches.{last_push}
+use Rattle.dali_record.proofs.EpochRules.{all_push}
+use Rattle.dali_counts.proofs.Lists.{or_false, length-push}
+
+-- ---- records behind it
+pub last_epoch-append : (L B : List Record) → list_any separates B ≡ false → last_epoch (L ++ B) ≡ record { first = (last_epoch L).first; records = (last_epoch L).records ++ B }
+last_epoch-append L [] h = ap last_epoch (append-nil L) ∙ ap (λ (rs : List Record). record { first = (last_epoch L).first; records = rs }) (sym (append-nil (last_epoch L).records))
+last_epoch-append L (x ∷ B) h =
+    let parts = or_false (separates x) (list_any separates B) h in
+    ap last_epoch (sym (append_assoc L (x ∷ []) B))
+    ∙ (last_epoch-append (L ++ x ∷ []) B parts.1
+    ∙ (ap (λ (e : Epoch). record { first = e.first; records = e.records ++ B }) (last_push L x parts.0)
+    ∙ ap (λ (rs : List Record). record { first = (last_epoch L).first; records = rs }) (append_assoc (last_epoch L).records (x ∷ []) B)))
+
+-- ---- its own records
+abbrev IsBehind : Cut → List Record → Type 0
+IsBehind c L = (c.now.records ≡ drop c.now.first L) × (list_any separates c.now.records ≡ false) × (c.now.first + length c.now.records ≡ length L)
+
+any_push : (E : List Record) (x : Record) → list_any separates E ≡ false → separates x ≡ false → list_any separates (E ++ x ∷ []) ≡ false
+any_push E x h g = list_any-append separates E (x ∷ []) ∙ rw (h, g) refl
+
+one_inside : (c : Cut) (L : List Record) (x : Record) → separates x ≡ false → IsBehind c L → IsBehind (record { closed = c.closed; now = record { first = c.now.first; records = c.now.records ++ x ∷ [] } }) (L ++ x ∷ [])
+one_inside c L x h is = (
+  ap (λ l. l ++ x ∷ []) is.0 ∙ sym (drop-append-le c.now.first L (x ∷ []) (omega (arith, is.2))),
+  any_push c.now.records x is.1 h,
+  omega (arith, is.2, length-push c.now.records x, length-push L x),
+)
+
+one_apart : (closed : List Epoch) (c : Cut) (L : List Record) (x : Record) → IsBehind c L → IsBehind (record { closed = closed; now = record { first = next_number c.now + 1; records = [] } }) (L ++ x ∷ [])
+one_apart closed c L x is = (
+  sym (drop_all (next_number c.now + 1) (L ++ x ∷ []) (omega (arith, is.2, length-push L x))),
+  refl,
+  omega (arith, is.2, length-push L x),
+)
+
+behind_step : (c : Cut) (L : List Record) (x : Record) → IsBehind c L → IsBehind (cut_step c x) (L ++ x ∷ [])
+behind_step c L (Format i h) is = one_apart c.closed c L (Format i h) is
+behind_step c L (Restarted rs ds) is = one_apart (c.closed ++ c.now ∷ []) c L (Restarted rs ds) is
+behind_step c L (Begin t) is = one_inside c L (Begin t) refl is
+behind_step c L (Forward t b) is = one_inside c L (Forward t b) refl is
+behind_step c L (Done t q r) is = one_inside c L (Done t q r) refl is
+behind_step c L (Commit t) is = one_inside c L (Commit t) refl is
+behind_step c L (Ended t) is = one_inside c L (Ended t) refl is
+behind_step c L (Solo t p b) is = one_inside c L (Solo t p b) refl is
+behind_step c L AuditBegin is = one_inside c L AuditBegin refl is
+behind_step c L (AuditClean b) is = one_inside c L (AuditClean b) refl is
+behind_step c L (AuditFail b rs) is = one_inside c L (AuditFail b rs) refl is
+behind_step c L (Back t b) is = one_inside c L (Back t b) refl is
+
+-- the log from the number of its first record on
+pub is_behind : (L : List Record) → IsBehind (cut L) L
+is_behind L = by_push (λ M. IsBehind (cut M) M) (refl, refl, refl) (λ M x is. subst (λ (c : Cut). IsBehind c (M ++ x ∷ [])) (sym (cut_push M x)) (behind_step (cut M) M x is)) L
+
+any_drop : (n : ℕ) (E : List Record) → list_any separates E ≡ false → list_any separates (drop n E) ≡ false
+any_drop zero E h = h
+any_drop (suc n) [] h = refl
+any_drop (suc n) (x ∷ E) h = any_drop n E (or_false (separates x) (list_any separates E) h).1
+
+-- none of the records from there on separates epochs
+pub none_separates : (L : List Record) (n : ℕ) → (last_epoch L).first ≤ n → list_any separates (drop n L) ≡ false
+none_separates L n h =
+    let is : IsBehind (cut L) L = is_behind L in
+    let parts : drop (n - (last_epoch L).first) (last_epoch L).records ≡ drop n L = ap (drop (n - (last_epoch L).first)) is.0 ∙ (drop-drop (n - (last_epoch L).first) (last_epoch L).first L ∙ ap (λ k. drop k L) (omega (arith, h))) in
+    subst (λ l. list_any separates l ≡ false) parts (any_drop (n - (last_epoch L).first) (last_epoch L).records is.1)
+
+-- ---- the epochs before it
+abbrev pub EndBefore : ℕ → List Epoch → Type 0
+EndBefore n es = AllByRecursion (λ (e : Epoch). next_number e < n) es
+
+before_more : (m n : ℕ) (es : List Epoch) → m ≤ n → EndBefore m es → EndBefore n es
+before_more m n [] h b = tt
+before_more m n (e ∷ es) h b = (omega (arith, h, b.0), before_more m n es h b.1)
+
+before_step : (c : Cut) (x : Record) → EndBefore c.now.first c.closed → EndBefore (cut_step c x).now.first (cut_step c x).closed
+before_step c (Format i h) b = before_more c.now.first (next_number c.now + 1) c.closed (omega arith) b
+before_step c (Restarted rs ds) b = all_push (λ (e : Epoch). next_number e < next_number c.now + 1) c.closed c.now (before_more c.now.first (next_number c.now + 1) c.closed (omega arith) b) (omega arith)
+before_step c (Begin t) b = b
+before_step c (Forward t k) b = b
+before_step c (Done t k a) b = b
+before_step c (Commit t) b = b
+before_step c (Ended t) b = b
+before_step c (Solo t p k) b = b
+before_step c AuditBegin b = b
+before_step c (AuditClean k) b = b
+before_step c (AuditFail k rs) b = b
+before_step c (Back t k) b = b
+
+-- each of them ends before it begins
+pub end_before : (L : List Record) → EndBefore (last_epoch L).first (cut L).closed
+end_before L = by_push (λ M. EndBefore (cut M).now.first (cut M).closed) tt (λ M x b. subst (λ (c : Cut). EndBefore c.now.first c.closed) (sym (cut_push M x)) (before_step (cut M) x b)) L
+
+-- ---- the epoch of a number
+not_for : (n : ℕ) (e : Epoch) → next_number e ≤ n → e.first < n → is_epoch_for n e ≡ false
+not_for n e h g = by_tests (nat_le n e.first) (nat_lt n (next_number e)) refl refl
+  where
+    by_tests : (a b : Bool) → nat_le n e.first ≡ a → nat_lt n (next_number e) ≡ b → (a || b) ≡ false
+    by_tests true b p q = absurd (omega (arith, leb-true n e.first p, g))
+    by_tests false true p q = absurd (omega (arith, ltb-true n (next_number e) q, h))
+    by_tests false false p q = refl
+
+is_for : (n : ℕ) (e : Epoch) → (n ≤ e.first) ⊎ (n < next_number e) → is_epoch_for n e ≡ true
+is_for n e (inl h) = rw (le-leb n e.first h) refl
+is_for n e (inr h) = or_true (nat_le n e.first) (nat_lt n (next_number e)) (lt-ltb n (next_number e) h)
+  where
+    or_true : (a b : Bool) → b ≡ true → (a || b) ≡ true
+    or_true true b p = refl
+    or_true false b p = p
+
+-- the epochs before n, and one for it
+pub found_for : (n : ℕ) (es : List Epoch) (e : Epoch) → AllByRecursion (λ (d : Epoch). (next_number d ≤ n) × (d.first < n)) es → (n ≤ e.first) ⊎ (n < next_number e) → epoch_from n (es ++ e ∷ []) ≡ Some e
+found_for n [] e b h = rw (is_for n e h) refl
+found_for n (d ∷ es) e b h = rw (not_for n d b.0.0 b.0.1) (found_for n es e b.1 h)
+
+pub sooner : (m n : ℕ) (es : List Epoch) → m ≤ n → EndBefore m es → AllByRecursion (λ (d : Epoch). (next_number d ≤ n) × (d.first < n)) es
+sooner m n [] h b = tt
+sooner m n (d ∷ es) h b = ((omega (arith, h, b.0), omega (arith, h, b.0)), sooner m n es h b.1)
+
+-- a number in the last epoch
+pub epoch_of : (L : List Record) (n : ℕ) → (last_epoch L).first ≤ n → n < next_number (last_epoch L) → epoch_from n (epochs L) ≡ Some (last_epoch L)
+epoch_of L n h g = found_for n (cut L).closed (last_epoch L) (sooner (last_epoch L).first n (cut L).closed h (end_before L)) (inr g)

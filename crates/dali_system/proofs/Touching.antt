@@ -1,0 +1,60 @@
+-- Courses one behind another, and the steps of one operation on its region.
+use Rattle.std.proofs.Common.{◌≡◌, ℕ, zero, suc, List, [], ◌∷◌, ◌++◌, map, Some, refl, ap, sym, subst}
+use Rattle.std.specs.Prelude.{⊤, slice_get, slice_set}
+use Rattle.dali_record.specs.declared.operations.Block.{Block}
+use Rattle.dali_region.specs.State.{RegionState}
+use Rattle.dali_system.specs.Regions.{RegionStep, region_after, MayChange}
+use Rattle.dali_system.specs.Keeps.{with_region}
+use Rattle.dali_system.specs.Courses.{Step, OnRegion, Moment, IsStepAt, IsCourse}
+use Rattle.dali_system.specs.Worked.{opening, touching}
+
+pub join : (m k n : Moment) (xs ys : List Step) → IsCourse m xs k → IsCourse k ys n → IsCourse m (xs ++ ys) n
+join m k n [] ys p q = subst (λ (j : Moment). IsCourse j ys n) (sym p) q
+join m k n (x ∷ xs) ys p q = (p.0, p.1, join p.0 k n xs ys p.2 q)
+
+-- ---- a list of which one element changes
+set_here : {X : Type 0} (xs : List X) (r : ℕ) (x : X) → slice_get xs r ≡ Some x → slice_set xs r x ≡ xs
+set_here [] r x e = refl
+set_here (y ∷ xs) zero x e = let same : y ≡ x = cc in ap (λ z. z ∷ xs) (sym same)
+set_here (y ∷ xs) (suc r) x e = ap (λ l. y ∷ l) (set_here xs r x e)
+
+set_twice : {X : Type 0} (xs : List X) (r : ℕ) (x y : X) → slice_set (slice_set xs r x) r y ≡ slice_set xs r y
+set_twice [] r x y = refl
+set_twice (z ∷ xs) zero x y = refl
+set_twice (z ∷ xs) (suc r) x y = ap (λ l. z ∷ l) (set_twice xs r x y)
+
+get_set : {X : Type 0} (xs : List X) (r : ℕ) (x y : X) → slice_get xs r ≡ Some x → slice_get (slice_set xs r y) r ≡ Some y
+get_set [] r x y e = absurd (cc)
+get_set (z ∷ xs) zero x y e = refl
+get_set (z ∷ xs) (suc r) x y e = get_set xs r x y e
+
+-- ---- steps on one region
+abbrev pub with_one : Moment → ℕ → RegionState → Moment
+with_one m r g = record { log = m.log; core = with_region m.core r g; leave = m.leave }
+
+abbrev pub after_all : List RegionStep → RegionState → RegionState
+after_all [] g = g
+after_all (x ∷ xs) g = after_all xs (region_after x g)
+
+abbrev pub MayAll : List RegionStep → RegionState → Type 0
+MayAll [] g = ⊤
+MayAll (x ∷ xs) g = MayChange x g × MayAll xs (region_after x g)
+
+pub on_region : (m : Moment) (r : ℕ) (xs : List RegionStep) (g : RegionState) → slice_get m.core.regions r ≡ Some g → MayAll xs g → IsCourse m (map (λ x. OnRegion r x) xs) (with_one m r (after_all xs g))
+on_region m r [] g at may = ap (λ (rs : List RegionState). record { log = m.log; core = record m.core { regions = rs }; leave = m.leave }) (sym (set_here m.core.regions r g at))
+on_region m r (x ∷ xs) g at may = (with_one m r h, ((g, at, may.0, (refl, refl)), λ F l. l), subst (λ (n : Moment). IsCourse (with_one m r h) (map (λ x. OnRegion r x) xs) n) again (on_region (with_one m r h) r xs h (get_set m.core.regions r g h at) may.1))
+  where
+    h : RegionState
+    h = region_after x g
+
+    again : with_one (with_one m r h) r (after_all xs h) ≡ with_one m r (after_all xs h)
+    again = ap (λ (rs : List RegionState). record { log = m.log; core = record m.core { regions = rs }; leave = m.leave }) (set_twice m.core.regions r h (after_all xs h))
+
+-- an operation, and the step that logs it
+pub touches :
+    (m n : Moment) (owner : ℕ) (b : Block) (writes : List (ℕ × ℕ)) (last : Step) (g : RegionState) → slice_get m.core.regions b.region ≡ Some g
+    → MayAll (opening owner b writes) g → IsStepAt (with_one m b.region (after_all (opening owner b writes) g)) last n
+    → IsCourse m (touching owner b writes last) n
+touches m n owner b writes last g at may step =
+    join m (with_one m b.region (after_all (opening owner b writes) g)) n (map (λ x. OnRegion b.region x) (opening owner b writes)) (last ∷ [])
+    (on_region m b.region (opening owner b writes) g at may) (n, step, refl)

@@ -1,0 +1,168 @@
+-- The worked runs' beginnings: a core over a base that stores key 5, in which transaction 1 has killed the cell of that key.
+use Rattle.std.proofs.Common.{◌≡◌, ℕ, zero, suc, ◌<◌, ◌^◌, Bool, true, false, List, [], ◌∷◌, ◌++◌, length, Option, Some, None, refl, ap, sym, subst, ◌∙◌, arith}
+use Rattle.std.specs.Prelude.{◌==◌, flat_map, sum_by, is_some}
+use Rattle.std.specs.FinMap.{get, empty}
+use Rattle.dali_record.specs.declared.operations.Op.TheVariants.{Look, KillCell}
+use Rattle.dali_record.specs.declared.records.Record.{Record}
+use Rattle.dali_record.specs.declared.records.Record.TheVariants.{Format, Begin, Op as Forward}
+use Rattle.dali_record.specs.Blocks.{AreWords}
+use Rattle.dali_record.specs.Spelling.{IsBlock}
+use Rattle.dali_record.specs.Files.{Files, batch_length}
+use Rattle.dali_record.specs.Legal.{passes, rules_start}
+use Rattle.dali_record.proofs.Made.{made_is_block}
+use Rattle.dali_index.specs.Entries.{entries}
+use Rattle.dali_region.specs.State.{RegionState, loaded}
+use Rattle.dali_locks.specs.declared.mode.Mode.{Mode}
+use Rattle.dali_locks.specs.declared.mode.Mode.TheVariants.{Shared, Exclusive}
+use Rattle.dali_locks.specs.Locks.{stronger_mode, locks_with}
+use Rattle.dali_locks.proofs.Changes.{get-locks_with}
+use Rattle.dali_att.specs.Table.{fresh_row}
+use Rattle.dali_counts.proofs.Lists.{equal, and_left, and_right, some_same}
+use Rattle.dali_system.specs.State.{TxnRow, SystemState}
+use Rattle.dali_system.specs.Run.{log_in, VaultRun, covers, AllAreWords}
+use Rattle.dali_system.specs.Steps.{begun, op_logged, granted}
+use Rattle.dali_system.specs.Keeps.{with_system, with_touched}
+use Rattle.dali_system.specs.Courses.{Begins, Operates, Locks as Asks, Moment, IsStepAt, IsCourse, RunsAt}
+use Rattle.dali_system.specs.Worked.{small, first_log, first_vault, is_format, one_batch, start, opening, touching, index_words, heap_words, stored, look, kill_cell, kills}
+use Rattle.dali_system.proofs.Loads.{no_lock, format_rests}
+use Rattle.dali_system.proofs.Tables.{added}
+use Rattle.dali_system.proofs.Courses.{load_runs_at}
+use Rattle.dali_system.proofs.Touching.{join, with_one, after_all, touches}
+
+-- ---- the first moment
+pub format_is : (b : List Record) → is_format b ≡ true → b ≡ first_log
+format_is [] e = absurd (cc)
+format_is (Format i h ∷ []) e = let m : i ≡ 1 = equal i 1 (and_left (i == 1) (h == 1) e) in let n : h ≡ 1 = equal h 1 (and_right (i == 1) (h == 1) e) in rw (m, n) refl
+format_is (Format i h ∷ x ∷ b) e = absurd (cc)
+format_is (x ∷ b) e = absurd (cc)
+
+pub one_is : (bs : List (List Record)) → one_batch bs ≡ true → bs ≡ first_log ∷ []
+one_is [] e = absurd (cc)
+one_is (b ∷ []) e = ap (λ z. z ∷ []) (format_is b e)
+one_is (b ∷ c ∷ bs) e = absurd (cc)
+
+only_format : (F : Files) → one_batch F.batches ≡ true → log_in F ≡ first_log
+only_format F h = ap (λ bs. flat_map (λ b. b) bs) (one_is F.batches h)
+
+pub first_store : VaultRun (λ F. one_batch F.batches ≡ true) first_log 1 first_vault
+first_store = record {
+  within = omega arith;
+  prefix = λ F h. record { count = 1; flushed = omega arith; within = omega arith; log = only_format F h };
+  exact = λ e F h. record { log = only_format F h; end = sym (ap (λ bs. sum_by batch_length bs) (one_is F.batches h)) };
+  then_fits = omega arith;
+  counts = omega arith;
+  rose = λ h. absurd (cc);
+}
+
+pub start_runs : (base : List (List ℕ)) → length base ≡ 2 → AllAreWords base → RunsAt (λ n. base) first_log (start base)
+start_runs base whole words = load_runs_at (λ n. base) small first_log (passes rules_start (Format 1 1)) 1000000 first_vault (λ F. one_batch F.batches) (format_rests small (refl, refl)) (omega arith) whole words first_store
+
+-- ---- the words
+pub are_index : (state : ℕ) → state < 2 ^ 64 → AreWords (index_words state)
+are_index state h = (refl, omega (arith, h))
+
+pub are_heap : (state : ℕ) → state < 2 ^ 64 → AreWords (heap_words state)
+are_heap state h = (refl, omega (arith, h))
+
+pub stored_regions : AllAreWords stored
+stored_regions zero ws e = subst AreWords (some_same e) (are_index 1 (omega arith))
+stored_regions (suc zero) ws e = subst AreWords (some_same e) (are_heap 1 (omega arith))
+stored_regions (suc (suc r)) ws e = absurd (cc)
+
+-- ---- a lock
+strongest : (o : Option Mode) (d : Bool) → covers (Some (stronger_mode o Exclusive)) d ≡ true
+strongest None d = refl
+strongest (Some Shared) d = refl
+strongest (Some Exclusive) d = refl
+
+pub exclusive_covers : (d : Bool) → covers (get (locks_with (empty) 1 5 Exclusive) (1, 5)) d ≡ true
+exclusive_covers d = ap (λ (o : Option Mode). covers o d) (get-locks_with empty 1 5 Exclusive 1 5) ∙ strongest (get empty (1, 5)) d
+
+-- ---- the moments
+abbrev pub begun_1 : Moment
+begun_1 = record { log = first_log ++ Begin 1 ∷ []; core = with_system (start stored).core (begun (start stored).core.system); leave = (start stored).leave }
+
+abbrev pub locked : Moment
+locked = record { log = begun_1.log; core = with_system begun_1.core (granted begun_1.core.system 1 5 Exclusive); leave = begun_1.leave }
+
+-- one more record, with its region touched
+abbrev pub logging : Moment → Record → SystemState → ℕ → RegionState → Moment
+logging m x y r g = record { log = m.log ++ x ∷ []; core = with_touched (with_one m r g).core y r g; leave = m.leave }
+
+abbrev pub at_look : RegionState
+at_look = after_all (opening 1 look []) (loaded (index_words 1))
+
+abbrev pub looked : Moment
+looked = logging locked (Forward 1 look) (op_logged locked.core.system 1 look) 0 at_look
+
+abbrev pub at_kill_cell : RegionState
+at_kill_cell = after_all (opening 1 kill_cell ((8, 2) ∷ [])) (loaded (heap_words 1))
+
+abbrev pub cell_killed : Moment
+cell_killed = logging looked (Forward 1 kill_cell) (op_logged looked.core.system 1 kill_cell) 1 at_kill_cell
+
+-- ---- the steps
+begins : IsStepAt (start stored) Begins begun_1
+begins = ((record { runs = refl; room = omega arith }, (refl, refl)), λ F h. h)
+
+asks : IsStepAt begun_1 (Asks 1 5 Exclusive) locked
+asks = ((ap (λ (row : Option TxnRow). is_some row) (added (start stored).core.system.table 1 fresh_row 1), (λ u n d e. absurd (no_lock u 5 n e)), (refl, refl)), λ F h. h)
+
+is_look : IsBlock look
+unfolding look
+is_look = made_is_block Look 5 0 (index_words 1) tt (omega arith) (omega arith) (are_index 1 (omega arith))
+
+is_kill_cell : IsBlock kill_cell
+unfolding kill_cell
+is_kill_cell = made_is_block (KillCell 1) 5 1 (heap_words 1) refl (omega arith) (omega arith) (are_heap 1 (omega arith))
+
+looks : IsStepAt (with_one locked 0 at_look) (Operates 1 look) looked
+unfolding look entries
+looks = (
+  (
+    at_look,
+    record { runs = refl; room = omega arith },
+    record {
+      runs = refl;
+      spelled = (omega arith, is_look, refl);
+      next = refl;
+      kind = refl;
+      locked = exclusive_covers false;
+      at = refl;
+      is_open = record { hold = refl; reads = refl; sound = λ h. refl; stands = λ h. refl };
+    },
+    (refl, refl),
+  ),
+  λ F h. h,
+)
+
+kills_cell : IsStepAt (with_one looked 1 at_kill_cell) (Operates 1 kill_cell) cell_killed
+unfolding look kill_cell entries
+kills_cell = (
+  (
+    at_kill_cell,
+    record { runs = refl; room = omega arith },
+    record {
+      runs = refl;
+      spelled = (omega arith, is_kill_cell, refl);
+      next = refl;
+      kind = refl;
+      locked = exclusive_covers true;
+      at = refl;
+      is_open = record { hold = refl; reads = refl; sound = λ h. refl; stands = λ h. refl };
+    },
+    (refl, refl),
+  ),
+  λ F h. h,
+)
+
+look_course : IsCourse locked (touching 1 look [] (Operates 1 look)) looked
+unfolding look entries
+look_course = touches locked looked 1 look [] (Operates 1 look) (loaded (index_words 1)) refl (refl, (((refl, refl), omega arith), tt)) looks
+
+kill_course : IsCourse looked (touching 1 kill_cell ((8, 2) ∷ []) (Operates 1 kill_cell)) cell_killed
+unfolding kill_cell
+kill_course = touches looked cell_killed 1 kill_cell ((8, 2) ∷ []) (Operates 1 kill_cell) (loaded (heap_words 1)) refl (refl, (((refl, refl), omega arith), (((refl, omega arith), omega arith), tt))) kills_cell
+
+pub kills_course : IsCourse (start stored) kills cell_killed
+kills_course = (begun_1, begins, (locked, asks, join locked looked cell_killed (touching 1 look [] (Operates 1 look)) (touching 1 kill_cell ((8, 2) ∷ []) (Operates 1 kill_cell)) look_course kill_course))
