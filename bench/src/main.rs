@@ -1,0 +1,55 @@
+//! The plain Rust side of the benches: the same work as `dali_bench` on the same data, and the table of both.
+mod codec;
+mod files;
+mod keys;
+mod locks;
+mod regions;
+mod script;
+mod table;
+mod timing;
+
+use std::path::Path;
+use std::process::ExitCode;
+use timing::Timing;
+
+/// What a subcommand times. None where there is no such subcommand, or where it failed.
+fn time(words: &[&str]) -> Option<Timing> {
+    match *words {
+        ["codec", count] => codec::run(count.parse().ok()?),
+        ["locks", count] => locks::run(count.parse().ok()?),
+        ["update", count] => regions::update(count.parse().ok()?, regions::REGIONS),
+        ["check", count] => regions::copy(count.parse().ok()?, regions::REGIONS),
+        ["parse", count] => script::run(count.parse().ok()?),
+        ["commit", count, folder] => files::commit(count.parse().ok()?, Path::new(folder)),
+        ["restart", folder] => files::read(Path::new(folder)),
+        _ => None,
+    }
+}
+
+const USAGE: &str = "usage: bench codec|locks|update|check|parse COUNT, bench commit COUNT FOLDER, \
+    bench restart FOLDER, or bench table PROGRAM FOLDER";
+
+fn main() -> ExitCode {
+    let words: Vec<String> = std::env::args().skip(1).collect();
+    let words: Vec<&str> = words.iter().map(String::as_str).collect();
+    let outcome = match words.as_slice() {
+        [] => Err(USAGE.to_string()),
+        ["table", program, folder] => {
+            table::print(Path::new(program), Path::new(folder)).map_err(|error| error.to_string())
+        }
+        [name, ..] => match time(&words) {
+            Some(timing) => {
+                println!("{timing}");
+                Ok(())
+            }
+            None => Err(format!("{name} failed; {USAGE}")),
+        },
+    };
+    match outcome {
+        Ok(()) => ExitCode::SUCCESS,
+        Err(text) => {
+            eprintln!("bench: {text}");
+            ExitCode::FAILURE
+        }
+    }
+}

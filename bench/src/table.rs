@@ -1,0 +1,421 @@
+//! Runs both sides in turn, and prints the table of their medians.
+use std::fs;
+use std::io::{self, Read};
+use std::path::{Path, PathBuf};
+use std::process::{Child, Command, Stdio};
+
+const TURNS: usize = 5;
+
+const HEAD: &str = "\
+| what is timed | beside | dali | the other | ratio | goal | met | dali's MiB | the other's MiB |
+|---|---|---|---|---|---|---|---|---|";
+
+/// What one run of a program gave: its rate, its check number, and the most memory that was resident.
+#[derive(Clone, Copy)]
+struct Run {
+    rate: u64,
+    check: u64,
+    kibibytes: i64,
+}
+
+/// How a row's two medians are compared.
+enum Goal {
+    /// dali's time is at most so many times that of the other side.
+    Times(f64),
+    /// dali's rate is at least so much of that of the other side.
+    Share(f64),
+}
+
+/// Which files both sides work on.
+enum Files {
+    /// None.
+    Absent,
+    /// New ones, which each run removes.
+    New,
+    /// The log that was written for all runs.
+    Log,
+}
+
+struct Row {
+    name: &'static str,
+    /// How often both sides do it, where they are told.
+    count: Option<u64>,
+    files: Files,
+    dali: &'static str,
+    beside: &'static str,
+    unit: &'static str,
+    goal: Goal,
+}
+
+const ROWS: [Row; 7] = [
+    Row {
+        name: "codec",
+        count: Some(1_000_000),
+        files: Files::Absent,
+        dali: "encode and decode a million block records of three-byte values",
+        beside: "Rust structs and `match`",
+        unit: "records",
+        goal: Goal::Times(2.0),
+    },
+    Row {
+        name: "locks",
+        count: Some(1_000_000),
+        files: Files::Absent,
+        dali: "a million lock requests and their releases, 64 transactions, 100,000 keys",
+        beside: "Rust over `BTreeMap`",
+        unit: "requests",
+        goal: Goal::Times(2.0),
+    },
+    Row {
+        name: "update",
+        count: Some(1_000_000),
+        files: Files::Absent,
+        dali: "update and touch one word of a region, a million times over 64 MiB of regions",
+        beside: "the same in Rust, without a codeword",
+        unit: "updates",
+        goal: Goal::Times(1.5),
+    },
+    Row {
+        name: "check",
+        count: Some(10),
+        files: Files::Absent,
+        dali: "check every region of 64 MiB, ten times",
+        beside: "`copy_from_slice` of 64 MiB in one piece",
+        unit: "bytes",
+        goal: Goal::Times(2.0),
+    },
+    Row {
+        name: "parse",
+        count: Some(20),
+        files: Files::Absent,
+        dali: "parse a script of 1 MiB, twenty times",
+        beside: "a Rust parser",
+        unit: "bytes",
+        goal: Goal::Times(3.0),
+    },
+    Row {
+        name: "commit",
+        count: Some(1_000),
+        files: Files::New,
+        dali: "a thousand durable commits of one insert, one client, real files",
+        beside: "the bare four store calls",
+        unit: "commits",
+        goal: Goal::Share(0.9),
+    },
+    Row {
+        name: "restart",
+        count: None,
+        files: Files::Log,
+        dali: "restart over a log of 60 MiB, which the system has cached",
+        beside: "reading the cached file once",
+        unit: "bytes",
+        goal: Goal::Times(4.0),
+    },
+];
+
+/// The transactions of ten inserts in the log of the restart.
+const LOGGED: u64 = 240_132;
+
+const GROWTH: [u64; 3] = [1_000, 10_000, 100_000];
+
+const MOST_GROWTH: f64 = 1.3;
+
+/// The layout of `struct rusage` on Linux with 64 bits.
+#[repr(C)]
+#[derive(Default)]
+struct Usage {
+    times: [i64; 4],
+    most_resident: i64,
+    rest: [i64; 13],
+}
+
+extern "C" {
+    fn wait4(process: i32, status: *mut i32, options: i32, usage: *mut Usage) -> i32;
+}
+
+/// Waits for a program that ends well, and answers how many KiB were resident at most.
+fn wait(child: &Child, what: &str) -> io::Result<i64> {
+    let mut status = 0;
+    let mut usage = Usage::default();
+    // SAFETY: both pointers are to values that live on, and `Usage` has the size of the system's struct.
+    let waited = unsafe { wait4(child.id() as i32, &mut status, 0, &mut usage) };
+    if waited < 0 {
+        return Err(io::Error::last_os_error());
+    }
+    if status != 0 {
+        return Err(io::Error::other(format!("{what} failed")));
+    }
+    Ok(usage.most_resident)
+}
+
+fn output(command: &mut Command) -> io::Result<(String, i64)> {
+    let what = format!("{command:?}");
+    let mut child = command.stdout(Stdio::piped()).spawn()?;
+    let mut text = String::new();
+    if let Some(stdout) = &mut child.stdout {
+        stdout.read_to_string(&mut text)?;
+    }
+    let kibibytes = wait(&child, &what)?;
+    Ok((text, kibibytes))
+}
+
+/// Runs a program that prints `RATE UNIT a second, check CHECK`.
+fn run(command: &mut Command) -> io::Result<Run> {
+    let (text, kibibytes) = output(command)?;
+    let mut words = text.split_whitespace();
+    let rate = words.next().and_then(|word| word.parse().ok());
+    let check = words.next_back().and_then(|word| word.parse().ok());
+    match (rate, check) {
+        (Some(rate), Some(check)) => Ok(Run {
+            rate,
+            check,
+            kibibytes,
+        }),
+        _ => Err(io::Error::other(format!("{command:?} printed {text:?}"))),
+    }
+}
+
+/// Refuses runs that didn't all do the same work.
+fn compare<'a>(what: &str, runs: impl IntoIterator<Item = &'a Run>) -> io::Result<()> {
+    let mut checks: Vec<u64> = runs.into_iter().map(|run| run.check).collect();
+    checks.dedup();
+    match checks.as_slice() {
+        [_] => Ok(()),
+        _ => Err(io::Error::other(format!(
+            "{what}: the runs did different work, with the check numbers {checks:?}"
+        ))),
+    }
+}
+
+/// The medians of the rates and of the sizes, of runs that did the same work.
+fn median(runs: &[Run]) -> Run {
+    let mut rates: Vec<u64> = runs.iter().map(|run| run.rate).collect();
+    let mut sizes: Vec<i64> = runs.iter().map(|run| run.kibibytes).collect();
+    rates.sort_unstable();
+    sizes.sort_unstable();
+    Run {
+        rate: rates[rates.len() / 2],
+        check: runs[0].check,
+        kibibytes: sizes[sizes.len() / 2],
+    }
+}
+
+/// The number with its digits in threes.
+fn in_threes(number: u64) -> String {
+    let digits = number.to_string();
+    let mut text = String::new();
+    for (place, digit) in digits.chars().enumerate() {
+        if place > 0 && (digits.len() - place) % 3 == 0 {
+            text.push(',');
+        }
+        text.push(digit);
+    }
+    text
+}
+
+fn mebibytes(run: Run) -> String {
+    format!("{:.1}", run.kibibytes as f64 / 1024.0)
+}
+
+fn print_row(row: &Row, dali: Run, beside: Run) {
+    let times = beside.rate as f64 / dali.rate as f64;
+    let (ratio, goal, met) = match row.goal {
+        Goal::Times(most) => (
+            format!("{times:.2} times"),
+            format!("at most {most} times"),
+            times <= most,
+        ),
+        Goal::Share(least) => (
+            format!("{:.2} of its rate", 1.0 / times),
+            format!("at least {least} of its rate"),
+            1.0 / times >= least,
+        ),
+    };
+    println!(
+        "| {} | {} | {} {} | {} | {ratio} | {goal} | {} | {} | {} |",
+        row.dali,
+        row.beside,
+        in_threes(dali.rate),
+        row.unit,
+        in_threes(beside.rate),
+        if met { "yes" } else { "no" },
+        mebibytes(dali),
+        mebibytes(beside),
+    );
+}
+
+fn print_growth(counts: [u64; 2], runs: [Run; 2]) {
+    let times = runs[0].rate as f64 / runs[1].rate as f64;
+    println!(
+        "| insert {} records in memory, in transactions of ten | dali with {} records | {} inserts | {} | {times:.2} times | at most {MOST_GROWTH} times | {} | {} | {} |",
+        in_threes(counts[1]),
+        in_threes(counts[0]),
+        in_threes(runs[1].rate),
+        in_threes(runs[0].rate),
+        if times <= MOST_GROWTH { "yes" } else { "no" },
+        mebibytes(runs[1]),
+        mebibytes(runs[0]),
+    );
+}
+
+/// The device and the kind of the file system in which the folder stands.
+fn disk_of(folder: &Path) -> io::Result<String> {
+    let folder = fs::canonicalize(folder)?;
+    let mounts = fs::read_to_string("/proc/mounts")?;
+    let found = mounts
+        .lines()
+        .filter_map(|line| {
+            let mut words = line.split(' ');
+            Some((words.next()?, words.next()?, words.next()?))
+        })
+        .filter(|(_, place, _)| folder.starts_with(place))
+        .max_by_key(|(_, place, _)| place.len());
+    Ok(match found {
+        Some((device, _, kind)) => format!("{kind} on {device}"),
+        None => "an unknown disk".to_string(),
+    })
+}
+
+fn print_machine(folder: &Path) -> io::Result<()> {
+    let cores = std::thread::available_parallelism()?;
+    let processors = fs::read_to_string("/proc/cpuinfo")?;
+    let model = processors
+        .lines()
+        .find_map(|line| line.strip_prefix("model name")?.split_once(": "))
+        .map_or("an unknown processor", |(_, model)| model);
+    println!("{cores} cores of {model}; files on {}.", disk_of(folder)?);
+    println!("Medians of {TURNS} runs each. Rates are a second.");
+    println!("Memory is the most that was resident, in MiB (2^20 bytes). Near 2 or 3 MiB it says nothing, since what this");
+    println!("program has resident is counted in each that it starts.");
+    println!();
+    Ok(())
+}
+
+/// A folder that was made for this run, and goes with it.
+struct OwnFolder {
+    path: PathBuf,
+}
+
+impl OwnFolder {
+    /// Makes a folder within this one, with the first name that is free.
+    fn make(within: &Path) -> io::Result<OwnFolder> {
+        fs::create_dir_all(within)?;
+        for number in 0..1000 {
+            let path = within.join(format!("dali_bench.{number}"));
+            match fs::create_dir(&path) {
+                Ok(()) => return Ok(OwnFolder { path }),
+                Err(error) if error.kind() == io::ErrorKind::AlreadyExists => {}
+                Err(error) => return Err(error),
+            }
+        }
+        Err(io::Error::other("too many folders were left by runs that were cut off"))
+    }
+}
+
+impl Drop for OwnFolder {
+    fn drop(&mut self) {
+        if let Err(error) = fs::remove_dir_all(&self.path) {
+            eprintln!("bench: {} can't be removed: {error}", self.path.display());
+        }
+    }
+}
+
+/// Both programs, and the folders of their files.
+struct Sides<'a> {
+    dali: &'a Path,
+    beside: PathBuf,
+    /// Where runs make files and remove them.
+    commits: PathBuf,
+    /// Where the log is.
+    log: PathBuf,
+}
+
+impl Sides<'_> {
+    fn folder_of(&self, row: &Row) -> Option<&Path> {
+        match row.files {
+            Files::Absent => None,
+            Files::New => Some(&self.commits),
+            Files::Log => Some(&self.log),
+        }
+    }
+
+    fn dali(&self, row: &Row) -> io::Result<Run> {
+        let mut command = Command::new(self.dali);
+        command.arg(row.name);
+        if let Some(count) = row.count {
+            command.arg("--count").arg(count.to_string());
+        }
+        if let Some(folder) = self.folder_of(row) {
+            command.arg("--folder").arg(folder);
+        }
+        run(&mut command)
+    }
+
+    fn beside(&self, row: &Row) -> io::Result<Run> {
+        let mut command = Command::new(&self.beside);
+        command.arg(row.name);
+        command.args(row.count.map(|count| count.to_string()));
+        command.args(self.folder_of(row));
+        run(&mut command)
+    }
+
+    fn write_log(&self) -> io::Result<()> {
+        let mut command = Command::new(self.dali);
+        command.arg("log").arg("--count").arg(LOGGED.to_string());
+        output(command.arg("--folder").arg(&self.log))?;
+        Ok(())
+    }
+
+    fn growth(&self, count: u64) -> io::Result<Run> {
+        let mut command = Command::new(self.dali);
+        command.arg("growth").arg("--count").arg(count.to_string());
+        run(&mut command)
+    }
+}
+
+fn print_rows(sides: &Sides) -> io::Result<()> {
+    for row in &ROWS {
+        let mut dali = Vec::new();
+        let mut beside = Vec::new();
+        for _ in 0..TURNS {
+            dali.push(sides.dali(row)?);
+            beside.push(sides.beside(row)?);
+        }
+        compare(row.name, dali.iter().chain(&beside))?;
+        print_row(row, median(&dali), median(&beside));
+    }
+    Ok(())
+}
+
+fn print_growths(sides: &Sides) -> io::Result<()> {
+    let mut grown = [const { Vec::new() }; GROWTH.len()];
+    for _ in 0..TURNS {
+        for (count, runs) in GROWTH.iter().zip(&mut grown) {
+            runs.push(sides.growth(*count)?);
+        }
+    }
+    compare("growth", grown.iter().flatten())?;
+    let grown = grown.map(|runs| median(&runs));
+    for (counts, runs) in GROWTH.windows(2).zip(grown.windows(2)) {
+        print_growth([counts[0], counts[1]], [runs[0], runs[1]]);
+    }
+    Ok(())
+}
+
+/// Runs `program` and this one in turn, with files in a new folder within this one, and prints the table.
+pub fn print(program: &Path, folder: &Path) -> io::Result<()> {
+    let own = OwnFolder::make(folder)?;
+    let sides = Sides {
+        dali: program,
+        beside: std::env::current_exe()?,
+        commits: own.path.join("commit"),
+        log: own.path.join("restart"),
+    };
+    fs::create_dir(&sides.commits)?;
+    fs::create_dir(&sides.log)?;
+    print_machine(&own.path)?;
+    println!("{HEAD}");
+    sides.write_log()?;
+    print_rows(&sides)?;
+    print_growths(&sides)
+}

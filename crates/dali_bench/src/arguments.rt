@@ -1,0 +1,135 @@
+//! The words of the command line.
+use anyhow::Result;
+use clap::{Arg, ArgAction, ArgMatches, Command, value_parser};
+use std::alloc::{AllocError, Global};
+
+/// What a subcommand does.
+#[derive(Clone, Copy, Debug, PartialEq, Eq)]
+pub enum Task {
+    /// Encodes and decodes records.
+    Codec,
+    /// Requests and releases locks.
+    Locks,
+    /// Updates words of regions.
+    Update,
+    /// Checks regions.
+    Check,
+    /// Parses a script.
+    Parse,
+    /// Commits transactions to files in a new folder within a folder.
+    Commit,
+    /// Writes a log into a folder.
+    Log,
+    /// Restarts from the log in a folder.
+    Restart,
+    /// Inserts records into a database in memory.
+    Growth,
+    /// Does a little of each, in a new folder within a folder.
+    Small,
+}
+
+const TASKS: [Task; 10] = [
+    Task::Codec,
+    Task::Locks,
+    Task::Update,
+    Task::Check,
+    Task::Parse,
+    Task::Commit,
+    Task::Log,
+    Task::Restart,
+    Task::Growth,
+    Task::Small,
+];
+
+impl Task {
+    fn name<'a>(self) -> &'a str {
+        match self {
+            Task::Codec => "codec",
+            Task::Locks => "locks",
+            Task::Update => "update",
+            Task::Check => "check",
+            Task::Parse => "parse",
+            Task::Commit => "commit",
+            Task::Log => "log",
+            Task::Restart => "restart",
+            Task::Growth => "growth",
+            Task::Small => "small",
+        }
+    }
+
+    fn about<'a>(self) -> &'a str {
+        match self {
+            Task::Codec => "Encodes and decodes COUNT records of blocks",
+            Task::Locks => "Requests COUNT locks, and releases them",
+            Task::Update => "Updates a word of some region of 64 MiB, COUNT times",
+            Task::Check => "Checks every region of 64 MiB, COUNT times",
+            Task::Parse => "Parses a script of 1 MiB, COUNT times",
+            Task::Commit =>
+                "Commits COUNT transactions of one insert to files in a folder within FOLDER",
+            Task::Log =>
+                "Writes the log of COUNT transactions of ten inserts as a new file into FOLDER",
+            Task::Restart => "Restarts from the log in FOLDER",
+            Task::Growth => "Inserts COUNT records in transactions of ten, in memory",
+            Task::Small => "Does a little of each, in a folder within FOLDER, and prints ok",
+        }
+    }
+
+    fn has_count(self) -> bool {
+        !matches!(self, Task::Restart | Task::Small)
+    }
+
+    fn has_folder(self) -> bool {
+        matches!(self, Task::Commit | Task::Log | Task::Restart | Task::Small)
+    }
+}
+
+/// What the command line asks for.
+#[derive(Clone, Copy, Debug)]
+pub struct Job<'a> {
+    pub task: Task,
+    /// How often it is done; 0 where the subcommand has no count.
+    pub count: u32,
+    /// Where its files are made or found: the current folder where none is named.
+    pub folder: &'a str,
+}
+
+fn subcommand<'a>(alloc: Global, task: Task) -> Result<Command<'a>, AllocError> {
+    let mut command = Command::new(alloc, task.name()).about(task.about());
+    if task.has_count() {
+        let count = Arg::new(alloc, "count")
+            .long("count")
+            .required(true)
+            .action(ArgAction::Set)
+            .value_parser(value_parser!(u32));
+        command = command.arg(count)?;
+    }
+    if task.has_folder() {
+        let folder = Arg::new(alloc, "folder")
+            .long("folder")
+            .action(ArgAction::Set);
+        command = command.arg(folder)?;
+    }
+    Ok(command)
+}
+
+/// The command line's form.
+pub fn command<'a>(alloc: Global) -> Result<Command<'a>, AllocError> {
+    let mut command = Command::new(alloc, "dali_bench")
+        .about("Times one thing, and prints its rate")
+        .subcommand_required(true);
+    for task in TASKS {
+        command = command.subcommand(subcommand(alloc, task)?)?;
+    }
+    Ok(command)
+}
+
+/// What the matches ask for. None where no subcommand was given.
+pub fn asked<'a>(matches: &ArgMatches<'a>) -> Option<Job<'a>> {
+    let (name, matches) = matches.subcommand()?;
+    let task = TASKS.iter().copied().find(|task| task.name() == name)?;
+    Some(Job {
+        task,
+        count: matches.get_one::<u32>("count").unwrap_or(0),
+        folder: matches.get_str("folder").unwrap_or("."),
+    })
+}

@@ -1,0 +1,116 @@
+//! The program `dali_bench`: it times one thing, and prints its rate.
+#![tactic(auto)]
+
+mod arguments;
+mod codec;
+mod databases;
+mod keys;
+mod locks;
+mod regions;
+mod scripts;
+mod timing;
+
+use anyhow::{Context, Result, bail};
+use arguments::{Job, Task};
+use dali_filestore::FileStore;
+use std::io::ErrorKind;
+use std::process::ExitCode;
+use std::{env, fs};
+use timing::Timing;
+
+/// How many names of folders are tried.
+const FOLDERS: u32 = 1000;
+
+// Does a little of each.
+fn run_small(rt: &HostRuntime, folder: &str) -> Result<()> {
+    let alloc = rt.alloc();
+    codec::run(rt, alloc, 1000)?;
+    locks::run(rt, alloc, 10_000)?;
+    regions::update(rt, alloc, 1000, 16)?;
+    regions::check(rt, alloc, 2, 16)?;
+    scripts::run(rt, alloc, 1, 4096)?;
+    databases::grow(rt, alloc, 100)?;
+    let commits = make_folder(rt, folder)?;
+    time_commits(rt, 3, commits.as_str())?;
+    make_log(rt, 5, folder)?;
+    time_restart(rt, folder)?;
+    Ok(())
+}
+
+// Makes a folder within this one, with the first name that is free.
+fn make_folder(rt: &HostRuntime, folder: &str) -> Result<String> {
+    for number in 0..FOLDERS {
+        let path = format!(in rt.alloc(); "{folder}/dali_bench.{number}")?;
+        match fs::create_dir(rt, path.as_str()) {
+            Ok(()) => return Ok(path),
+            Err(error) if error.kind() == ErrorKind::AlreadyExists => {}
+            Err(error) => return Err(error.into()),
+        }
+    }
+    bail!("too many folders were left by runs that were cut off")
+}
+
+fn time_commits(rt: &HostRuntime, count: u32, folder: &str) -> Result<Timing> {
+    let mut store = FileStore::in_folder(rt, folder)?;
+    databases::commit(rt, rt.alloc(), &mut store, count)
+}
+
+fn make_log(rt: &HostRuntime, count: u32, folder: &str) -> Result<()> {
+    let path = format!(in rt.alloc(); "{folder}/dali.log")?;
+    databases::make_log(rt, rt.alloc(), count, path.as_str())
+}
+
+fn time_restart(rt: &HostRuntime, folder: &str) -> Result<Timing> {
+    let mut store = FileStore::in_folder(rt, folder)?;
+    databases::restart(rt, rt.alloc(), &mut store)
+}
+
+fn run_job(rt: &HostRuntime, job: &Job) -> Result<()> {
+    let alloc = rt.alloc();
+    let count = job.count;
+    let timing = match job.task {
+        Task::Codec => codec::run(rt, alloc, count)?,
+        Task::Locks => locks::run(rt, alloc, count)?,
+        Task::Update => regions::update(rt, alloc, count, regions::REGIONS)?,
+        Task::Check => regions::check(rt, alloc, count, regions::REGIONS)?,
+        Task::Parse => scripts::run(rt, alloc, count, scripts::LIMIT)?,
+        Task::Growth => databases::grow(rt, alloc, count)?,
+        Task::Commit => {
+            let folder = make_folder(rt, job.folder)?;
+            let timing = time_commits(rt, count, folder.as_str());
+            let removed = fs::remove_dir_all(rt, folder.as_str());
+            let timing = timing?;
+            removed?;
+            timing
+        }
+        Task::Restart => time_restart(rt, job.folder)?,
+        Task::Log => return make_log(rt, count, job.folder),
+        Task::Small => {
+            let folder = make_folder(rt, job.folder)?;
+            let small = run_small(rt, folder.as_str());
+            let removed = fs::remove_dir_all(rt, folder.as_str());
+            small?;
+            removed?;
+            println!(rt; "ok")?;
+            return Ok(());
+        }
+    };
+    println!(rt; "{timing}")?;
+    Ok(())
+}
+
+fn main(rt: HostRuntime) -> Result<ExitCode> {
+    let alloc = rt.alloc();
+    let words: Vec<String> = env::args(&rt)?.collect(alloc)?;
+    let command = arguments::command(alloc)?;
+    let matches = match command.try_get_matches_from(words.as_slice()) {
+        Ok(matches) => matches,
+        Err(error) => {
+            error.print(&rt)?;
+            return Ok(ExitCode::from(error.exit_code() as u8));
+        }
+    };
+    let job = arguments::asked(&matches).context("no subcommand")?;
+    run_job(&rt, &job)?;
+    Ok(ExitCode::SUCCESS)
+}
