@@ -1,6 +1,9 @@
 -- Reading records from the left, a field at a time: what was read with the bytes after it, or None where nothing that can be spelled begins.
 --     one f at, two f g .., chosen rows n bytes      ways to put readers together
 --     record_at bytes                                the record that begins there
+--     Gives result rest read                         what reading a record answered, unless memory was refused
+--     Fills result x rest read                       what reading into a place answered, which has x then
+--     Passes result rest read                        what passing over a list answered: how many numbers it has
 use Rattle.std.specs.Prelude.{◌≡◌, ℕ, ⊤, Bool, true, false, List, [], ◌∷◌, Option, Some, None, Result, Ok, Err, IsSome, zero, suc, length, nat_lt, ◌==◌, if◌then◌else◌, count_ones}
 use Rattle.dali_words.specs.Values.{value_of}
 use Rattle.dali_bytes.specs.Reading.{byte_at, number32_at, number64_at, bytes_at}
@@ -251,6 +254,11 @@ abbrev pub Gives : {X : Type 0} → Result X Failure → List ℕ → Option (X 
 Gives (Ok x) rest read = read ≡ Some (x, rest)
 Gives (Err NoSpelling) rest read = read ≡ None
 Gives (Err OutOfMemory) rest read = IsSome read
+
+-- what reading into a place answered, which has x then
+abbrev pub Fills : {U X E : Type 0} → Result U E → X → List ℕ → Option (X × List ℕ) → Type 0
+Fills (Ok done) x rest read = read ≡ Some (x, rest)
+Fills (Err e) x rest read = read ≡ None
 
 -- whether n may follow the last number of an ascending list, if there is one
 abbrev pub is_above : Option ℕ → ℕ → Bool

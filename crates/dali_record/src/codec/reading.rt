@@ -1,10 +1,10 @@
-ghost use Rattle.std.specs.Prelude.{◌≡◌, ◌≤◌, ◌++◌, ◌&&◌, ◌⊎◌, ◌↔◌, true, IsErrOf, length, IsTrue, IsSome, IfOk, IfErr, OnOk, OnErr, count_ones};
+ghost use Rattle.std.specs.Prelude.{◌≡◌, ◌≤◌, [], ◌++◌, ◌&&◌, ◌⊎◌, ◌↔◌, true, IsErrOf, length, IsTrue, IsSome, IfOk, IfErr, OnOk, OnErr, count_ones};
 ghost use Rattle.dali_bytes.specs.Cursor.{left};
 ghost use Rattle.dali_bytes.specs.Reading.{Reads, number64_at};
 ghost use Rattle.dali_record.specs.Spelling;
 ghost use Rattle.dali_record.specs.Spelling.{CanBeSpelled, Begins, spelling, has_list};
 ghost use Rattle.dali_record.specs.declared.records.Record.{Record};
-ghost use Rattle.dali_record.specs.Reading.{Gives, HasList, Passes, is_above, cell_at, entry_at, flag_at, value_at, numbers_at, counted32_at, counted64_at, op_at, outcome_at, undo_at, block_at, block_of_at, call_at, answer_at, done_at, format_at, audit_fail_at, restarted_at, record_at, two, three};
+ghost use Rattle.dali_record.specs.Reading.{Gives, Fills, HasList, Passes, is_above, cell_at, entry_at, flag_at, value_at, numbers_at, counted32_at, counted64_at, op_at, outcome_at, undo_at, block_at, block_of_at, call_at, answer_at, done_at, format_at, audit_fail_at, restarted_at, record_at, two, three};
 
 use crate::codec::VERSION;
 use crate::codec::failure::{Failure, NoSpelling};
@@ -251,92 +251,104 @@ fn answer(reader: &mut Reader) -> Result<Answer, NoSpelling>
     })
 }
 
+/// So many words, into a list without any.
 #[tactic(auto, unfolding(crate::specs::Reading::numbers_at))]
-fn words(reader: &mut Reader, count: u32) -> Result<Words, NoSpelling>
-    requires { count ≤ 64 }
+fn words(reader: &mut Reader, count: u32, into: &mut Words) -> Result<(), NoSpelling>
+    requires few { count ≤ 64 }
+    requires none { into.old ≡ [] }
     ensures same { reader.new.all ≡ reader.old.all }
     ensures later { reader.old.at ≤ reader.new.at }
-    ensures read { Reads result (left reader.new) (numbers_at count (left reader.old)) }
+    ensures read { Fills result into.new (left reader.new) (numbers_at count (left reader.old)) }
 {
-    let mut words = Words::new();
     for _ in 0..count {
-        words.push(reader.number64()?);
+        into.push(reader.number64()?);
     }
-    Ok(words)
+    Ok(())
 }
 
+/// A block without new words, whose fields are then filled in place: a block is large, and so is moved only once.
+fn blank() -> Block
+    ensures { result.after ≡ [] }
+{
+    Block {
+        key: 0,
+        region: 0,
+        op: Op::Look,
+        read: 0,
+        xor: 0,
+        write: 0,
+        after: Words::new(),
+        outcome: Outcome::NoEntry,
+        undo: None,
+    }
+}
+
+/// A block, into one without new words.
 #[tactic(auto, unfolding(crate::specs::Reading::block_at))]
-fn block(reader: &mut Reader) -> Result<Block, NoSpelling>
+fn block(reader: &mut Reader, into: &mut Block) -> Result<(), NoSpelling>
+    requires { into.old.after ≡ [] }
     ensures same { reader.new.all ≡ reader.old.all }
     ensures later { reader.old.at ≤ reader.new.at }
-    ensures read { Reads result (left reader.new) (block_at (left reader.old)) }
+    ensures read { Fills result into.new (left reader.new) (block_at (left reader.old)) }
 {
-    let key = reader.number64()?;
-    let region = reader.number32()?;
-    let op = op(reader)?;
-    let read = reader.number64()?;
-    let xor = reader.number64()?;
-    let write = reader.number64()?;
-    let after = words(reader, write.count_ones())?;
-    let outcome = outcome(reader)?;
-    let undo = undo(reader)?;
-    let block = Block {
-        key,
-        region,
-        op,
-        read,
-        xor,
-        write,
-        after,
-        outcome,
-        undo,
-    };
-    if !fits(&block) {
+    into.key = reader.number64()?;
+    into.region = reader.number32()?;
+    into.op = op(reader)?;
+    into.read = reader.number64()?;
+    into.xor = reader.number64()?;
+    into.write = reader.number64()?;
+    words(reader, into.write.count_ones(), &mut into.after)?;
+    into.outcome = outcome(reader)?;
+    into.undo = undo(reader)?;
+    if !fits(into) {
         return Err(NoSpelling);
     }
-    Ok(block)
+    Ok(())
 }
 
 /// A block whose operation passes the test.
 #[tactic(auto, unfolding(crate::specs::Reading::block_of_at))]
-fn forward(reader: &mut Reader) -> Result<Block, NoSpelling>
+fn forward(reader: &mut Reader, into: &mut Block) -> Result<(), NoSpelling>
+    requires { into.old.after ≡ [] }
     ensures same { reader.new.all ≡ reader.old.all }
     ensures later { reader.old.at ≤ reader.new.at }
-    ensures read { Reads result (left reader.new) (block_of_at Spelling.is_forward (left reader.old)) }
+    ensures read { Fills result into.new (left reader.new) (block_of_at Spelling.is_forward (left reader.old)) }
 {
-    let block = block(reader)?;
-    if !is_forward(&block.op) {
+    block(reader, into)?;
+    if !is_forward(&into.op) {
         return Err(NoSpelling);
     }
-    Ok(block)
+    Ok(())
 }
 
 /// A block that takes back.
 #[tactic(auto, unfolding(crate::specs::Reading::block_of_at))]
-fn back(reader: &mut Reader) -> Result<Block, NoSpelling>
+fn back(reader: &mut Reader, into: &mut Block) -> Result<(), NoSpelling>
+    requires { into.old.after ≡ [] }
     ensures same { reader.new.all ≡ reader.old.all }
     ensures later { reader.old.at ≤ reader.new.at }
-    ensures read { Reads result (left reader.new) (block_of_at Spelling.is_back (left reader.old)) }
+    ensures read { Fills result into.new (left reader.new) (block_of_at Spelling.is_back (left reader.old)) }
 {
-    let block = block(reader)?;
-    if is_forward(&block.op) {
+    block(reader, into)?;
+    if is_forward(&into.op) {
         return Err(NoSpelling);
     }
-    Ok(block)
+    Ok(())
 }
 
 /// A block that frees what a removal left.
 #[tactic(auto, unfolding(crate::specs::Reading::block_of_at))]
-fn solo(reader: &mut Reader) -> Result<Block, NoSpelling>
+fn solo(reader: &mut Reader, into: &mut Block) -> Result<(), NoSpelling>
+    requires { into.old.after ≡ [] }
     ensures same { reader.new.all ≡ reader.old.all }
     ensures later { reader.old.at ≤ reader.new.at }
-    ensures read { Reads result (left reader.new) (block_of_at Spelling.is_solo (left reader.old)) }
+    ensures read { Fills result into.new (left reader.new) (block_of_at Spelling.is_solo (left reader.old)) }
 {
-    let block = block(reader)?;
-    if !is_solo(&block.op) {
+    block(reader, into)?;
+    if !is_solo(&into.op) {
         return Err(NoSpelling);
     }
-    Ok(block)
+    Ok(())
 }
 
 /// An operation of a transaction's call.
@@ -347,10 +359,10 @@ fn operation(reader: &mut Reader) -> Result<Record, Failure>
     ensures read { Gives result (left reader.new) (two Record.Op number64_at (block_of_at Spelling.is_forward) (left reader.old)) }
     ensures known { IsErrOf result Failure.OutOfMemory → ⊥ }
 {
-    Ok(Record::Op {
-        txn: reader.number64()?,
-        block: forward(reader)?,
-    })
+    let txn = reader.number64()?;
+    let mut block = blank();
+    forward(reader, &mut block)?;
+    Ok(Record::Op { txn, block })
 }
 
 /// A block that is a transaction of its own.
@@ -361,11 +373,11 @@ fn freeing(reader: &mut Reader) -> Result<Record, Failure>
     ensures read { Gives result (left reader.new) (three Record.Solo number64_at number64_at (block_of_at Spelling.is_solo) (left reader.old)) }
     ensures known { IsErrOf result Failure.OutOfMemory → ⊥ }
 {
-    Ok(Record::Solo {
-        txn: reader.number64()?,
-        parent: reader.number64()?,
-        block: solo(reader)?,
-    })
+    let txn = reader.number64()?;
+    let parent = reader.number64()?;
+    let mut block = blank();
+    solo(reader, &mut block)?;
+    Ok(Record::Solo { txn, parent, block })
 }
 
 /// An operation that takes back.
@@ -376,10 +388,10 @@ fn taking_back(reader: &mut Reader) -> Result<Record, Failure>
     ensures read { Gives result (left reader.new) (two Record.Back number64_at (block_of_at Spelling.is_back) (left reader.old)) }
     ensures known { IsErrOf result Failure.OutOfMemory → ⊥ }
 {
-    Ok(Record::Back {
-        txn: reader.number64()?,
-        block: back(reader)?,
-    })
+    let txn = reader.number64()?;
+    let mut block = blank();
+    back(reader, &mut block)?;
+    Ok(Record::Back { txn, block })
 }
 
 #[tactic(auto, unfolding(crate::specs::Reading::done_at))]
@@ -539,6 +551,7 @@ fn restarted(alloc: Global, reader: &mut Reader) -> Result<Record, Failure>
 
 /// The record that begins at the reader, if one does.
 #[tactic(auto, unfolding(crate::specs::Reading::record_at), using(crate::proofs::Spelled::audit_fail_lists, crate::proofs::Spelled::restarted_lists))]
+#[inline(never)]
 fn record(alloc: Global, reader: &mut Reader) -> Result<Record, Failure>
     ensures same { reader.new.all ≡ reader.old.all }
     ensures later { reader.old.at ≤ reader.new.at }
@@ -575,6 +588,8 @@ fn record(alloc: Global, reader: &mut Reader) -> Result<Record, Failure>
 /// BadRecord comes exactly where no spelling begins there, and names its first byte. Only the lists
 /// of AuditFail and Restarted take memory, and only once the whole record was found good. After an
 /// error the reader stands where it was.
+// Inlined, so that the record isn't moved once more.
+#[inline(always)]
 pub fn decode(alloc: Global, reader: &mut Reader) -> Result<Record, DecodeError>
     // A record that can be spelled, and the reader is behind its spelling.
     ensures record { IfOk result (λ r. CanBeSpelled r × (left reader.old ≡ spelling r ++ left reader.new)) }

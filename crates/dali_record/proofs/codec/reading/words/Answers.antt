@@ -9,6 +9,6 @@ pub loop-preserved : goal.loop-preserved
 loop-preserved c = record {
   same = search rules;
   later = rw c.in_ok-number64.ensures.moved (omega arith);
-  filled = rw c.push.ensures (omega (arith, length-append c.loop.words (c.in_ok-number64.field-0 ∷ [])));
-  so_far = rw c.push.ensures (goes_on number64_at c.loop.words c.args.count c.loop.counter (left c.loop.reader) c.in_ok-number64.field-0 (left c.number64.new.self) (many c.args.count number64_at (left c.args.reader.now)) c.loop-test.true c.in_ok-number64.ensures.exact c.loop.invariant.so_far);
+  filled = rw c.push.ensures (omega (arith, length-append c.loop.into (c.in_ok-number64.field-0 ∷ [])));
+  so_far = rw c.push.ensures (goes_on number64_at c.loop.into c.args.count c.loop.counter (left c.loop.reader) c.in_ok-number64.field-0 (left c.number64.new.self) (many c.args.count number64_at (left c.args.reader.now)) c.loop-test.true c.in_ok-number64.ensures.exact c.loop.invariant.so_far);
 }

@@ -9,6 +9,6 @@ abbrev pub invariant-loop : goal.invariant-loop
 invariant-loop l = record {
   same : l.reader.all ≡ l.fn.reader.all;
   later : l.fn.reader.at ≤ l.reader.at;
-  filled : length l.words ≡ l.counter;
-  so_far : with_front l.words (many (l.count - l.counter) number64_at (left l.reader)) ≡ many l.count number64_at (left l.fn.reader);
+  filled : length l.into ≡ l.counter;
+  so_far : with_front l.into (many (l.count - l.counter) number64_at (left l.reader)) ≡ many l.count number64_at (left l.fn.reader);
 }
