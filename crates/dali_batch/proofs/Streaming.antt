@@ -6,19 +6,18 @@ use Rattle.dali_bytes.proofs.Numbers.{length-number32}
 use Rattle.dali_record.specs.declared.records.Record.{Record}
 use Rattle.dali_record.specs.declared.records.Record.TheVariants.{Format}
 use Rattle.dali_record.specs.Spelling.{spelling, CanBeSpelled, Begins}
-use Rattle.dali_batch.specs.declared.reader.LogReader.{LogReader}
 use Rattle.dali_batch.specs.Batch.{batch, IsClosedAt}
 use Rattle.dali_batch.specs.Finding.{BatchAt, IsBad}
 use Rattle.dali_batch.specs.Log.{body_bytes, records_in, IsFront, LogOf, BadAt}
-use Rattle.dali_batch.specs.Stream.{Covers, IsWindow, IsBetween, IsWithin, IsReadTo}
+use Rattle.dali_batch.specs.Stream.{Reading, Covers, IsWindow, IsBetween, IsWithin, IsReadTo}
 use Rattle.dali_batch.proofs.Bodies.{spelled_push, bytes_push}
 use Rattle.dali_batch.proofs.Fronts.{front_push, format_more, log_ends, later_bad, later_body_bad, records_push}
 
 -- ---- the part that the reader holds
 -- what it holds is what the log has
-pub part_of : (log : List ℕ) (r : LogReader) (at size : ℕ) → IsWindow log r → Covers r at size → (at + size ≤ length log) × (take size (drop (at - r.from) r.bytes.items) ≡ take size (drop at log))
+pub part_of : (log : List ℕ) (r : Reading) (at size : ℕ) → IsWindow log r → Covers r at size → (at + size ≤ length log) × (take size (drop (at - r.from) r.bytes) ≡ take size (drop at log))
 part_of log r at size window covers =
-    let n = length r.bytes.items in
+    let n = length r.bytes in
     let skip = at - r.from in
     let more = n - skip in
     let all : skip + more ≡ n = omega (arith, covers.0, covers.1) in
@@ -31,7 +30,7 @@ part_of log r at size window covers =
     )
 
 -- nothing was read yet
-pub empty_window : (log : List ℕ) (r : LogReader) → r.length ≡ length log → r.bytes.items ≡ [] → r.from ≡ 0 → IsWindow log r
+pub empty_window : (log : List ℕ) (r : Reading) → r.length ≡ length log → r.bytes ≡ [] → r.from ≡ 0 → IsWindow log r
 empty_window log r all none start = record {
   all = all;
   part = none ∙ sym (ap (λ (l : List ℕ). take (length l) (drop r.from log)) none);
@@ -65,13 +64,13 @@ rest_of log body past rest place found e =
     ap (λ (l : List ℕ). take (length rest) l) there ∙ take_at rest found.1 (length rest) refl
 
 -- behind the first batch
-pub first_read : (log : List ℕ) (r : LogReader) (index heap : ℕ) (end : ℕ) → IsFront log ((Format index heap ∷ []) ∷ []) end → r.at ≡ end → r.end ≡ end → IsWindow log r → IsReadTo log r (Format index heap ∷ [])
+pub first_read : (log : List ℕ) (r : Reading) (index heap : ℕ) (end : ℕ) → IsFront log ((Format index heap ∷ []) ∷ []) end → r.at ≡ end → r.end ≡ end → IsWindow log r → IsReadTo log r (Format index heap ∷ [])
 first_read log r index heap end front at ends window = record {
   window = window;
   stands = inl (at ∙ sym ends, record { front = (Format index heap ∷ []) ∷ []; format = (index, heap, [], refl); good = subst (IsFront log ((Format index heap ∷ []) ∷ [])) (sym at) front; records = refl });
 }
 
-module _ (log : List ℕ) (r s : LogReader) where
+module _ (log : List ℕ) (r s : Reading) where
   between_of : (rs : List Record) → r.at ≡ r.end → IsReadTo log r rs → IsBetween log r.end rs
   between_of rs e read = by_place read.stands
     where
@@ -122,7 +121,7 @@ module _ (log : List ℕ) (r s : LogReader) where
       }
 
 -- ---- the records of a batch
-module _ (log : List ℕ) (r : LogReader) (rs : List Record) (lt : r.at < r.end) (whole : (r.from ≤ r.at) × (r.end ≤ r.from + length r.bytes.items)) (read : IsReadTo log r rs) where
+module _ (log : List ℕ) (r : Reading) (rs : List Record) (lt : r.at < r.end) (whole : (r.from ≤ r.at) × (r.end ≤ r.from + length r.bytes)) (read : IsReadTo log r rs) where
   within : IsWithin log r.at r.end rs
   within = within_of log r r rs lt read
 
@@ -130,7 +129,7 @@ module _ (log : List ℕ) (r : LogReader) (rs : List Record) (lt : r.at < r.end)
   rest_long = omega (arith, within.ends, within.reached, ap length within.begins.1, length-append (body_bytes within.done) within.begins.0)
 
   -- what is left of the body
-  rest_is : (part : List ℕ) → part ≡ take (r.end - r.at) (drop (r.at - r.from) r.bytes.items) → part ≡ within.begins.0
+  rest_is : (part : List ℕ) → part ≡ take (r.end - r.at) (drop (r.at - r.from) r.bytes) → part ≡ within.begins.0
   rest_is part e =
       let covers : Covers r r.at (r.end - r.at) = (whole.0, omega (arith, whole.1, lt)) in
       e ∙ (part_of log r r.at (r.end - r.at) read.window covers).1
@@ -139,14 +138,14 @@ module _ (log : List ℕ) (r : LogReader) (rs : List Record) (lt : r.at < r.end)
       ∙ rest_of log within.body (body_bytes within.done) within.begins.0 within.place within.batch within.begins.1
 
   -- no record begins there
-  pub bad_record : (part : List ℕ) → part ≡ take (r.end - r.at) (drop (r.at - r.from) r.bytes.items) → ((x : Record) → Begins part x → ⊥) → BadAt log r.at
+  pub bad_record : (part : List ℕ) → part ≡ take (r.end - r.at) (drop (r.at - r.from) r.bytes) → ((x : Record) → Begins part x → ⊥) → BadAt log r.at
   bad_record part e none =
       let rest = within.begins.0 in
       let some : 0 < length rest = omega (arith, rest_long, lt) in
       later_body_bad log within.front within.place within.body (length (body_bytes within.done)) r.at within.good within.format within.batch
       (within.done, rest, within.spelled, within.begins.1, refl, some, subst (λ (l : List ℕ). (x : Record) → Begins l x → ⊥) (rest_is part e) none) within.reached
 
-  module _ (s : LogReader) (x : Record) (part more : List ℕ) (can : CanBeSpelled x) (part_is : part ≡ take (r.end - r.at) (drop (r.at - r.from) r.bytes.items)) (spells : part ≡ spelling x ++ more)
+  module _ (s : Reading) (x : Record) (part more : List ℕ) (can : CanBeSpelled x) (part_is : part ≡ take (r.end - r.at) (drop (r.at - r.from) r.bytes)) (spells : part ≡ spelling x ++ more)
       (at : s.at ≡ r.at + length (spelling x)) (ends : s.end ≡ r.end) (window : IsWindow log s) where
     body_is : within.body ≡ body_bytes (within.done ++ x ∷ []) ++ more
     body_is =

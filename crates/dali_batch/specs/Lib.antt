@@ -4,6 +4,7 @@ pub mod Reads
 pub mod Finding
 pub mod Log
 pub mod Errors
+pub mod Fields
 pub mod Formatting
 pub mod Laws
 pub mod Stream

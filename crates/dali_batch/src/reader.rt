@@ -15,6 +15,7 @@ use dali_bytes::Reader;
 use dali_record::{DecodeError, Record, decode};
 use dali_store::{FileName, Store};
 use std::alloc::Global;
+use std::marker::Model;
 
 /// How many bytes of the log are read at once, where it has so many.
 const AHEAD: u64 = 1 << 18;
@@ -32,6 +33,18 @@ pub struct LogReader {
     // the next record's place in the batch that is being read, and the end of that batch
     at: u64,
     end: u64,
+}
+
+impl Model for LogReader {
+    ghost use Rattle.dali_batch.specs.Stream.{Reading};
+
+    ghost Value = { Reading };
+
+    ghost use Rattle.dali_batch.specs.Fields.{reading_of, IsInOrder};
+
+    ghost view = { reading_of };
+
+    ghost invariant = { IsInOrder };
 }
 
 // The sizes in a Format.
@@ -70,6 +83,7 @@ impl LogReader {
         size: u32,
     ) -> Result<bool, BatchError>
         requires some { 0 < size }
+        requires read { self.old.at ≡ self.old.end }
         requires inside { at + size ≤ self.old.length }
         ensures whole { IfOk result (λ whole. whole ≡ true → Covers self.new at size) }
         ensures short { IfOk result (λ whole. whole ≡ false → IfSome (V.told store.old) (λ fs. self.old.length ≡ length fs.log → ⊥)) }
@@ -93,6 +107,7 @@ impl LogReader {
     // Answers whether the file has so many bytes from a place on; they stand in the part that was read then.
     fn need<V: Store>(&mut self, store: &mut V, at: u64, size: u32) -> Result<bool, BatchError>
         requires some { 0 < size }
+        requires read { self.old.at ≡ self.old.end }
         ensures whole { IfOk result (λ whole. whole ≡ true → Covers self.new at size × (at + size ≤ self.new.length)) }
         ensures short { IfOk result (λ whole. whole ≡ false → IfSome (V.told store.old) (λ fs. IsWindow fs.log self.old → length fs.log < at + size)) }
         ensures window { OnOk result (IfSome (V.told store.old) (λ fs. IsWindow fs.log self.old → IsWindow fs.log self.new)) }
@@ -115,7 +130,7 @@ impl LogReader {
     // So many bytes from a place on, which stand in the part that was read.
     fn part(&self, at: u64, size: u64) -> &[u8]
         requires { Covers self.now at size }
-        ensures { result.now ≡ take size (drop (at - self.now.from) self.now.bytes.items) }
+        ensures { result.now ≡ take size (drop (at - self.now.from) self.now.bytes) }
     {
         let start = (at - self.from) as usize;
         &self.bytes[start..start + size as usize]
@@ -123,6 +138,7 @@ impl LogReader {
 
     // The size of the batch at a place, whose body stands in the part that was read then; none at a closed gate.
     fn batch_at<V: Store>(&mut self, store: &mut V, at: u64) -> Result<Option<u32>, BatchError>
+        requires read { self.old.at ≡ self.old.end }
         requires small { self.old.length < 2 ^ 62 }
         requires inside { at ≤ self.old.length }
         ensures batch { IfOk result (λ found. IfSome found (λ size. IfSome (V.told store.old) (λ fs. IsWindow fs.log self.old → HasBatch fs.log at size))) }
@@ -193,9 +209,8 @@ impl LogReader {
 
     // Goes on to the batch behind the one that was read. It answers whether there is one.
     fn next_batch<V: Store>(&mut self, store: &mut V) -> Result<bool, LogError>
-        requires whole { IsWhole self.old }
         requires read { self.old.at ≡ self.old.end }
-        ensures whole { OnOk result (IsWhole self.new) }
+        ensures whole { IsWhole self.new }
         ensures more { IfOk result (λ more. more ≡ true → (self.old.at < self.new.at) × (self.new.at < self.new.end)) }
         ensures none { IfOk result (λ more. more ≡ false → self.new.at ≡ self.new.end) }
         ensures stands { IfOk result (λ more. more ≡ true → IfSome (V.told store.old) (λ fs. (rs : List Record) → IsReadTo fs.log self.old rs → IsReadTo fs.log self.new rs)) }
@@ -218,9 +233,8 @@ impl LogReader {
 
     // The next record of the batch, of which some is left.
     fn next_record(&mut self) -> Result<Record, LogError>
-        requires whole { IsWhole self.old }
         requires left { self.old.at < self.old.end }
-        ensures whole { OnOk result (IsWhole self.new) }
+        ensures whole { IsWhole self.new }
         ensures further { OnOk result (self.old.at < self.new.at) }
         ensures read { IfOk result (λ entry. (log : List ℕ) (rs : List Record) → IsReadTo log self.old rs → IsReadTo log self.new (rs ++ entry ∷ [])) }
         ensures bad { IfErr result (λ e. (bad : ℕ) → e ≡ LogError.BadLog bad → (log : List ℕ) (rs : List Record) → IsReadTo log self.old rs → BadAt log bad) }
@@ -243,10 +257,9 @@ impl LogReader {
     /// place: a place without a gate, a length that isn't 1 to 2^30 with so many bytes behind it, a place in a batch
     /// where no record begins. `Fault` only where the store's count of faults rose. It takes memory for a record's lists,
     /// and for the next part of the file where the one that is held ends. Nothing is said of the reader after an error,
-    /// nor after the end of the log.
+    /// nor after the end of the log, but that its places are in order.
     pub fn next<V: Store>(&mut self, store: &mut V) -> Result<Option<Record>, LogError>
-        requires whole { IsWhole self.old }
-        ensures whole { OnOk result (IsWhole self.new) }
+        ensures whole { IsWhole self.new }
         ensures further { IfOk result (λ next. IsSome next → self.old.at < self.new.at) }
         ensures read { IfOk result (λ next. IfSome next (λ entry. IfSome (V.told store.old) (λ fs. (rs : List Record) →
             IsReadTo fs.log self.old rs → IsReadTo fs.log self.new (rs ++ entry ∷ [])))) }

@@ -2,6 +2,7 @@
 ghost use Rattle.std.specs.Prelude.{◌<◌, length};
 
 use dali_batch::{Frame, LogError, flush, format, is_formatted, read_log};
+use dali_bytes::{OutOfMemory, put, put_byte, put32};
 use dali_memstore::{Fuse, MemoryStore};
 use dali_store::{Store, StoreFault};
 use std::alloc::Global;
@@ -143,5 +144,75 @@ fn a_batch_takes_four_calls(rt: HostRuntime) -> Result<(), Fail> {
 fn an_empty_frame_takes_no_call(rt: HostRuntime) -> Result<(), Fail> {
     let alloc = rt.alloc();
     assert_eq!(rt; cut_short(alloc, &[], 0, 1), Ok((15, false, 1)));
+    Ok(())
+}
+
+// Adds a batch of so many Commits and then so many AuditBegins.
+fn add_batch(log: &mut Vec<u8>, commits: u32, audits: u32) -> Result<(), OutOfMemory>
+    requires few_commits { commits < 100_000 }
+    requires few_audits { audits < 100 }
+{
+    put_byte(log, 0xa5)?;
+    put32(log, commits * 9 + audits)?;
+    for _ in 0..commits {
+        put(log, &COMMIT)?;
+    }
+    for _ in 0..audits {
+        put_byte(log, 8)?;
+    }
+    Ok(())
+}
+
+// A log of the first batch, one of so many Commits and AuditBegins, and one of so many Commits more.
+fn long_log(alloc: Global, commits: u32, audits: u32, more: u32) -> Result<Vec<u8>, OutOfMemory>
+    requires few_commits { commits < 100_000 }
+    requires few_audits { audits < 100 }
+    requires few_more { more < 100_000 }
+{
+    let mut log = Vec::new(alloc);
+    put(&mut log, &FIRST)?;
+    add_batch(&mut log, commits, audits)?;
+    add_batch(&mut log, more, 0)?;
+    put_byte(&mut log, 0)?;
+    Ok(log)
+}
+
+// How many records that log has, and where it ends, without so many of its last bytes.
+fn read_long(
+    alloc: Global,
+    commits: u32,
+    audits: u32,
+    more: u32,
+    cut: usize,
+) -> Result<(usize, u64), LogError>
+    requires few_commits { commits < 100_000 }
+    requires few_audits { audits < 100 }
+    requires few_more { more < 100_000 }
+{
+    match long_log(alloc, commits, audits, more) {
+        Ok(log) => read(alloc, &log[..log.len().saturating_sub(cut)], &[]),
+        Err(OutOfMemory) => Err(LogError::OutOfMemory),
+    }
+}
+
+// A part of the file that is read at once has 262,144 bytes. The second batch here is longer, or ends so that the third
+// one's gate stands last in the first part or right behind it, or its length, its body or its first record lies across
+// the end. Without the log's last byte its last gate is missing; without two the third batch is cut short.
+#[test]
+fn logs_are_read_across_the_parts(rt: HostRuntime) -> Result<(), Fail> {
+    let alloc = rt.alloc();
+    for (commits, audits, more, cut, expected) in [
+        (30_000, 0, 1, 0, Ok((30_002, 270_034))),
+        (29_124, 0, 1, 0, Ok((29_126, 262_150))),
+        (29_124, 0, 1, 1, Err(LogError::BadLog { at: 262_150 })),
+        (29_124, 0, 1, 2, Err(LogError::BadLog { at: 262_137 })),
+        (29_124, 6, 1, 0, Ok((29_132, 262_156))),
+        (29_124, 7, 1, 0, Ok((29_133, 262_157))),
+        (29_124, 8, 1, 0, Ok((29_134, 262_158))),
+        (29_123, 3, 2, 0, Ok((29_129, 262_153))),
+        (29_123, 3, 30_000, 0, Ok((59_127, 532_135))),
+    ] {
+        assert_eq!(rt; read_long(alloc, commits, audits, more, cut), expected);
+    }
     Ok(())
 }

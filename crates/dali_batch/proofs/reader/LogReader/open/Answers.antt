@@ -2,6 +2,7 @@ use Rattle.std.proofs.Common.{◌≡◌, ◌∙◌, ◌+◌, arith, sym, refl, r
 use Rattle.std.specs.Prelude.{IsNone}
 use Rattle.std.proofs.lemmas.Result.{err_from_is_err_and}
 use Rattle.dali_batch.specs.Log.{BadAt}
+use Rattle.dali_batch.specs.Stream.{IsWindow}
 use Rattle.dali_batch.proofs.Finds.{if_some_two, if_some_three, if_some_same}
 use Rattle.dali_batch.proofs.Fronts.{log_bad, first_bad, first_front, no_format}
 use Rattle.dali_batch.proofs.Streaming.{part_of, empty_window, first_read}
@@ -38,8 +39,9 @@ returns-clause-first g c =
     let start = empty_window fs.log _ long c.new.ensures.items refl in
     let found = is start in
     let seen = opens start in
+    let held = subst (IsWindow fs.log) (sym c.reader.view_is) seen in
     let body = part_of fs.log c.batch_at.new.self 5 c.in-Some.size seen there.0 in
     let place : 5 + c.in-Some.size ≡ 0 + 5 + length (take c.in-Some.size (drop (0 + 5) fs.log)) = omega (arith, found.1) in
     first_read fs.log _ c.in-Some-format_of.sizes.0 c.in-Some-format_of.sizes.1 (0 + 5 + length (take c.in-Some.size (drop (0 + 5) fs.log)))
     (first_front fs.log (take c.in-Some.size (drop (0 + 5) fs.log)) c.in-Some-format_of.sizes.0 c.in-Some-format_of.sizes.1 found.0 some.0 (sym body.1 ∙ sym c.part.ensures ∙ some.1)) place place
-    (record { all = seen.all; part = seen.part; within = seen.within }))
+    (record { all = held.all; part = held.part; within = held.within }))
