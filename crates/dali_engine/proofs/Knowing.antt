@@ -1,7 +1,6 @@
 -- What is held in memory and in the log goes on to be what the lines told.
 use Rattle.std.proofs.Common.{◌≡◌, ◌≢◌, ◌⊎◌, inl, inr, ⊎_elim, ℕ, zero, suc, ◌+◌, ◌<◌, ◌≤◌, Bool, true, false, cond, List, [], ◌∷◌, ◌++◌, length, map, slice_index, Option, Some, None, refl, sym, ◌∙◌, ap, subst, arith}
-use Rattle.std.specs.Prelude.{Contains, ◌↔◌, ◌&&◌, ◌==◌, nat_lt, not, bit_xor, IfSome}
-use Rattle.std.specs.List.{AllByRecursion}
+use Rattle.std.specs.Prelude.{Contains, ◌&&◌, ◌==◌, nat_lt, not, bit_xor}
 use Rattle.std.proofs.lemmas.Bool.Decides.{nat_tests}
 use Rattle.std.proofs.lemmas.List.Concat.{flat_map-append}
 use Rattle.std.proofs.lemmas.List.Elements.{filter_map-append, Contains-append_left, Contains-append_right, Contains-append_cases}
@@ -9,18 +8,17 @@ use Rattle.dali_geometry.specs.Sizes.{Sizes}
 use Rattle.dali_record.specs.declared.records.Record.{Record}
 use Rattle.dali_record.specs.declared.records.Record.TheVariants.{Commit}
 use Rattle.dali_record.specs.Log.{committed, commit_by}
-use Rattle.dali_region.specs.State.{RegionState, checked, poked}
+use Rattle.dali_region.specs.State.{RegionState, checked}
 use Rattle.dali_store.specs.Store.{Files}
 use Rattle.dali_batch.specs.Log.{records_in}
 use Rattle.dali_script.specs.declared.commands.ClientCommand.{ClientCommand}
 use Rattle.dali_script.specs.declared.commands.ClientCommand.TheVariants as commands
-use Rattle.dali_script.specs.declared.outputs.Line.TheVariants as lines
 use Rattle.dali_engine.specs.declared.engine.Cause.{Cause}
 use Rattle.dali_engine.specs.declared.engine.Cause.TheVariants.{Damage, Store}
 use Rattle.dali_engine.specs.declared.engine.Engine.{Engine}
 use Rattle.dali_engine.specs.declared.engine.Stage.{Stage}
 use Rattle.dali_engine.specs.declared.engine.Stage.TheVariants.{Outside, Within, LeftOut}
-use Rattle.dali_engine.specs.Acts.{act, begin_in, insert_in, get_in, commit_in, poke, poked_in, poke_line, is_in_range, audit_in, flushed, noted, commit_flushes, commit_logs, commit_ends, audit_flushes, audit_logs_in, left_out}
+use Rattle.dali_engine.specs.Acts.{act, begin_in, insert_in, get_in, commit_in, poke, poked_in, poke_line, is_in_range, audit_in, commit_flushes, commit_logs, commit_ends, audit_flushes, audit_logs_in}
 use Rattle.dali_engine.specs.Flushes.{Turn, Acts, ActsAll}
 use Rattle.dali_engine.specs.Memory.{strays, poked_at, failing, failing_from, named, first_regions, formatted_regions}
 use Rattle.dali_engine.specs.State.{Log, log_after, log_by, open_in, IsAt, GoesOn}

@@ -3,11 +3,10 @@ use Rattle.std.proofs.Common.{◌≡◌, ℕ, ◌+◌, List, [], ◌∷◌, ◌+
 use Rattle.std.specs.FinMap as finite
 use Rattle.dali_record.specs.declared.records.Record.{Record}
 use Rattle.dali_record.specs.declared.records.Record.TheVariants.{Format}
-use Rattle.dali_batch.specs.declared.reader.LogReader.{LogReader}
 use Rattle.dali_batch.specs.declared.error.LogError.{LogError}
 use Rattle.dali_batch.specs.declared.error.LogError.TheVariants as logs
 use Rattle.dali_batch.specs.Log.{LogOf, records_in}
-use Rattle.dali_batch.specs.Stream.{IsReadTo}
+use Rattle.dali_batch.specs.Stream.{Reading, IsReadTo}
 use Rattle.dali_engine.specs.declared.opening.OpenError.TheVariants as errors
 use Rattle.dali_engine.specs.Opening.{open_error, HasSizes, IsRestored}
 use Rattle.dali_engine.specs.declared.engine.Engine.{Engine}
@@ -19,16 +18,16 @@ use Rattle.dali_engine.proofs.Ordered.{found_push}
 use Rattle.dali_engine.proofs.Replays.{restores}
 
 -- the reader stands behind records that begin with this format; what they lead to, and their number
-pub record FoundTo (log : List ℕ) (r : LogReader) (index heap : ℕ) (f : Found) (count : ℕ) : Type 0 where
+pub record FoundTo (log : List ℕ) (r : Reading) (index heap : ℕ) (f : Found) (count : ℕ) : Type 0 where
   pub rest : List Record
   pub read : IsReadTo log r (Format index heap ∷ rest)
   pub finds : f ≡ found_in (Format index heap ∷ rest)
   pub counts : count ≡ length (Format index heap ∷ rest)
 
-pub found_first : (log : List ℕ) (r : LogReader) (index heap : ℕ) (f : Found) → f ≡ found_in (Format index heap ∷ []) → IsReadTo log r (Format index heap ∷ []) → FoundTo log r index heap f 1
+pub found_first : (log : List ℕ) (r : Reading) (index heap : ℕ) (f : Found) → f ≡ found_in (Format index heap ∷ []) → IsReadTo log r (Format index heap ∷ []) → FoundTo log r index heap f 1
 found_first log r index heap f is read = record { rest = []; read = read; finds = is; counts = refl }
 
-pub found_next : (log : List ℕ) (r s : LogReader) (index heap : ℕ) (f g : Found) (count : ℕ) (x : Record) → FoundTo log r index heap f count → ((rs : List Record) → IsReadTo log r rs → IsReadTo log s (rs ++ x ∷ [])) → g ≡ replay_step f x → FoundTo log s index heap g (count + 1)
+pub found_next : (log : List ℕ) (r s : Reading) (index heap : ℕ) (f g : Found) (count : ℕ) (x : Record) → FoundTo log r index heap f count → ((rs : List Record) → IsReadTo log r rs → IsReadTo log s (rs ++ x ∷ [])) → g ≡ replay_step f x → FoundTo log s index heap g (count + 1)
 found_next log r s index heap f g count x so goes is = record {
   rest = so.rest ++ x ∷ [];
   read = goes (Format index heap ∷ so.rest) so.read;
@@ -37,7 +36,7 @@ found_next log r s index heap f g count x so goes is = record {
 }
 
 -- all records of the log were found
-pub found_all : (log : List ℕ) (r s : LogReader) (index heap : ℕ) (f : Found) (count : ℕ) → FoundTo log r index heap f count → ((rs : List Record) → IsReadTo log r rs → (L : List (List Record)) × LogOf log L s.at × (rs ≡ records_in L))
+pub found_all : (log : List ℕ) (r s : Reading) (index heap : ℕ) (f : Found) (count : ℕ) → FoundTo log r index heap f count → ((rs : List Record) → IsReadTo log r rs → (L : List (List Record)) × LogOf log L s.at × (rs ≡ records_in L))
     → (L : List (List Record)) × LogOf log L s.at × HasSizes (record { index = index; heap = heap }) (records_in L) × (f ≡ found_in (records_in L)) × (count ≡ length (records_in L))
 found_all log r s index heap f count so ends =
     let all = ends (Format index heap ∷ so.rest) so.read in

@@ -1,5 +1,5 @@
 -- A command for which memory was wanting has written what it writes where its lines are told, or nothing.
-use Rattle.std.proofs.Common.{◌≡◌, ◌⊎◌, inl, inr, ℕ, ◌<◌, Bool, true, false, List, [], ◌∷◌, ◌++◌, length, Option, Some, None, refl, arith}
+use Rattle.std.proofs.Common.{◌≡◌, ◌⊎◌, inl, inr, ℕ, ◌<◌, Bool, true, List, [], ◌∷◌, ◌++◌, length, Option, Some, None, refl, arith}
 use Rattle.dali_store.specs.Store.{Files}
 use Rattle.dali_record.specs.declared.records.Record.TheVariants.{Commit, AuditBegin}
 use Rattle.dali_record.specs.Spelling.{spelling}

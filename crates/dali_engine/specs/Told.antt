@@ -6,7 +6,7 @@
 --     AreNamed ps rs           these are the regions whose masks have another exclusive-or than 0, ascending
 --     AllCommitted ts L        each of these transactions is committed in these batches
 --     Knows e stage L t        what is held in memory, and logged in these batches, is what the lines told
-use Rattle.std.specs.Prelude.{◌≡◌, ◌≢◌, ◌↔◌, ℕ, ◌+◌, true, List, [], ◌∷◌, ◌++◌, if◌then◌else◌, ◌==◌, bit_xor, slice_index, Option, Some, None, IfSome, Contains}
+use Rattle.std.specs.Prelude.{◌≡◌, ◌≢◌, ◌↔◌, ℕ, true, List, [], ◌∷◌, ◌++◌, if◌then◌else◌, ◌==◌, bit_xor, slice_index, Option, Some, None, IfSome, Contains}
 use Rattle.std.specs.List.{AllByRecursion}
 use Rattle.dali_record.specs.declared.records.Record.{Record}
 use Rattle.dali_record.specs.Log.{committed}

@@ -1,6 +1,9 @@
 //! The records in memory: an ordered map from keys to values.
-ghost use Rattle.std.specs.Prelude.{◌≡◌, ◌++◌, IfOk, OnOk, OnErr};
+ghost use Rattle.std.specs.Prelude.{◌≡◌, ◌++◌, ◌+◌, if◌then◌else◌, is_some, Some, IfOk, OnOk, OnErr};
 ghost use Rattle.std.specs.FinMap as map;
+ghost use Rattle.std.specs.BTreeMap.{Updates, IsUnchanged, btree_map_len, get};
+ghost use Rattle.std.specs.Option.{unwrap_or};
+ghost use Rattle.std.specs.Ordering.{nat_cmp};
 ghost use Rattle.dali_engine.specs.Held.{is_free, after_insert, applied, applied_all, value_in, ShowsAll};
 
 use crate::lines::Lines;
@@ -30,6 +33,16 @@ impl Model for Records {
     ghost view = { λ a. map.from_entries a.tree.entries };
 }
 
+// Stores a value under a key that has none.
+fn add(tree: &mut BTreeMap<u64, Value>, key: u64, value: Value) -> Result<(), AllocError>
+    ensures updates { OnOk result (Updates nat_cmp tree.old tree.new key (Some (unwrap_or (get nat_cmp tree.old key) value))) }
+    ensures len { OnOk result (btree_map_len tree.new ≡ btree_map_len tree.old + (if is_some (get nat_cmp tree.old key) then 0 else 1)) }
+    ensures err { OnErr result (IsUnchanged tree.old tree.new) }
+{
+    tree.entry(key)?.or_insert(value);
+    Ok(())
+}
+
 impl Records {
     /// No records. It takes no memory.
     pub fn new(alloc: Global) -> Self
@@ -54,11 +67,9 @@ impl Records {
         ensures ok { OnOk result (self.new ≡ after_insert self.old key value) }
         ensures err { OnErr result (self.new ≡ self.old) }
     {
-        if self.tree.contains_key(&key) {
-            return Ok(false);
-        }
-        let _ = self.tree.insert(key, value)?;
-        Ok(true)
+        let count = self.tree.len();
+        add(&mut self.tree, key, value)?;
+        Ok(count < self.tree.len())
     }
 
     /// Stores a value under a key, in place of one that is there. It may take memory, and changes nothing where that

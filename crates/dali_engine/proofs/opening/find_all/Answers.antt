@@ -19,7 +19,7 @@ records-preserved g c =
     let some : IsSome c.in_ok-entry.field-0 = search rules in
     let read = rw c.in-Some.is at c.in_ok-entry.ensures.read in
     record {
-      whole = c.in_ok-entry.ensures.whole;
+      whole = c.next.ensures.whole;
       few = omega (arith, c.records.invariant.few, c.in_ok-entry.ensures.further some);
       read = if_some_two _ _ _ (g.V.Store.told c.args.store.now) c.records.invariant.read (if_some_same _ _ _ c.records.invariant.reads.same read)
           (λ fs so goes first. found_next fs.log c.records.reader c.next.new.self c.args.index c.args.heap _ _ c.records.count c.in-Some.entry (so first) goes c.in_ok-take-2.ensures.ok);
