@@ -1,5 +1,5 @@
 -- The worked checkpoint: each premise of each step is met.
-use Rattle.std.proofs.Common.{◌≡◌, ℕ, zero, suc, ◌<◌, Bool, true, false, List, [], ◌∷◌, ◌++◌, Some, None, refl, ap, sym, ◌∙◌, inl, inr, arith}
+use Rattle.std.proofs.Common.{◌≡◌, ℕ, zero, suc, ◌<◌, Bool, true, false, List, [], ◌∷◌, ◌++◌, Some, None, refl, ap, sym, ◌∙◌, inl, arith}
 use Rattle.std.specs.Prelude.{◌==◌, ◌&&◌, not, flat_map, sum_by, slice_get, replicate}
 use Rattle.dali_geometry.specs.Places.{formatted_image}
 use Rattle.dali_record.specs.declared.records.Record.{Record}
@@ -21,17 +21,17 @@ use Rattle.dali_system.specs.Crashes.{NoneEscapes}
 use Rattle.dali_system.specs.Flushes.{with_vault, longer, frame_of}
 use Rattle.dali_system.specs.Courses.{Begins, Commits, Ends, AuditBegins, AuditEnds, OnRegion, Flushes, Step, Moment, MayLeave}
 use Rattle.dali_system.specs.ImageSteps.{told_with}
-use Rattle.dali_crash.specs.Worked.{small, first_log, first_vault, is_format}
+use Rattle.dali_system.specs.Worked.{small, first_log, first_vault, is_format, one_batch}
 use Rattle.dali_crash.specs.Starts.{IsFormatted, IsFreshStore}
-use Rattle.dali_crash.specs.Checkpoints.{Copy, Stored, Does, Starts, Copies, WritesHead, Syncs, Turns, target, head_now, head_with, synced_with, copies_with, copies_after, IsWritten, IsCertified, MayTurn, IsStoreStep, IsStoreCourse, moment_with, with_current}
+use Rattle.dali_crash.specs.Checkpoints.{Copy, Stored, Does, Starts, Copies, WritesHead, Syncs, Turns, Finishes, target, head_now, head_with, synced_with, copies_with, copies_after, IsWritten, IsCertified, MayTurn, IsStoreStep, IsStoreCourse, moment_with, with_current, with_flag}
 use Rattle.dali_crash.specs.StoreRuns.{LeavesRight}
-use Rattle.dali_crash.specs.Checkpointed.{same_words, same_image, has_no_rows, is_whole_txn, is_audit, only_format, with_txn, with_audit, is_unmoved, is_moved, new_head, checkpoint_start, checkpoint_steps, WorkedCheckpoint}
+use Rattle.dali_crash.specs.Checkpointed.{same_words, same_image, has_no_rows, is_whole_txn, is_audit, with_txn, with_audit, is_unmoved, is_moved, new_head, checkpoint_start, checkpoint_steps, WorkedCheckpoint}
 use Rattle.dali_crash.proofs.Courses.{format_is_history}
 use Rattle.dali_crash.proofs.StoreStarts.{every_store_run_is_right}
-use Rattle.dali_crash.proofs.Worked.{format_is}
+use Rattle.dali_system.proofs.Worked.{format_is, one_is}
 
 -- ---- what the tests tell
-words_are : (xs ys : List ℕ) → same_words xs ys ≡ true → xs ≡ ys
+pub words_are : (xs ys : List ℕ) → same_words xs ys ≡ true → xs ≡ ys
 words_are [] [] e = refl
 words_are [] (y ∷ ys) e = absurd (cc)
 words_are (x ∷ xs) [] e = absurd (cc)
@@ -47,7 +47,7 @@ no_rows_are : (rows : List Row) → has_no_rows rows ≡ true → rows ≡ []
 no_rows_are [] e = refl
 no_rows_are (r ∷ rs) e = absurd (cc)
 
-txn_is : (b : List Record) → is_whole_txn b ≡ true → b ≡ Begin 1 ∷ Commit 1 ∷ Ended 1 ∷ []
+pub txn_is : (b : List Record) → is_whole_txn b ≡ true → b ≡ Begin 1 ∷ Commit 1 ∷ Ended 1 ∷ []
 txn_is (Begin t ∷ Commit u ∷ Ended v ∷ []) e =
     let l : ((t == 1) && (u == 1)) ≡ true = and_left ((t == 1) && (u == 1)) (v == 1) e in
     let x : t ≡ 1 = equal t 1 (and_left (t == 1) (u == 1) l) in
@@ -68,11 +68,6 @@ batches_2 = (Format 1 1 ∷ []) ∷ (Begin 1 ∷ Commit 1 ∷ Ended 1 ∷ []) �
 
 abbrev pub batches_3 : List (List Record)
 batches_3 = (Format 1 1 ∷ []) ∷ (Begin 1 ∷ Commit 1 ∷ Ended 1 ∷ []) ∷ (AuditBegin ∷ AuditClean 4 ∷ []) ∷ []
-
-one_is : (bs : List (List Record)) → only_format bs ≡ true → bs ≡ batches_1
-one_is [] e = absurd (cc)
-one_is (a ∷ []) e = ap (λ z. z ∷ []) (format_is a e)
-one_is (a ∷ b ∷ bs) e = absurd (cc)
 
 two_are : (bs : List (List Record)) → with_txn bs ≡ true → bs ≡ batches_2
 two_are (a ∷ b ∷ []) e = let x : a ≡ Format 1 1 ∷ [] = format_is a (and_left (is_format a) (is_whole_txn b) e) in let y : b ≡ Begin 1 ∷ Commit 1 ∷ Ended 1 ∷ [] = txn_is b (and_right (is_format a) (is_whole_txn b) e) in rw (x, y) refl
@@ -118,7 +113,7 @@ eight a b c d e f g h x =
     }
 
 -- ---- the store after the format
-formatted : (F : Files) → only_format F.batches ≡ true → is_unmoved F ≡ true → IsFormatted small F
+formatted : (F : Files) → one_batch F.batches ≡ true → is_unmoved F ≡ true → IsFormatted small F
 formatted F h g = let t = eight (F.gates == 0) (F.number == 0) (F.place == 15) (F.first == 1) (F.weight == 10) (F.next == 1) (has_no_rows F.table) (same_image F.image (formatted_image small)) g in record {
   batches = one_is F.batches h;
   gates = equal F.gates 0 t.a_is;
@@ -135,9 +130,9 @@ fresh = record {
   runs = refl;
   faults = omega arith;
   faults_fit = omega arith;
-  files = λ F h. record { log = ap (λ bs. flat_map (λ b. b) bs) (one_is F.batches (and_left (only_format F.batches) (is_unmoved F) h)); kind = inl (formatted F (and_left (only_format F.batches) (is_unmoved F) h) (and_right (only_format F.batches) (is_unmoved F) h)) };
-  end = λ F h. sym (ap (λ bs. sum_by batch_length bs) (one_is F.batches (and_left (only_format F.batches) (is_unmoved F) h)));
-  current = λ F h. (formatted F (and_left (only_format F.batches) (is_unmoved F) h) (and_right (only_format F.batches) (is_unmoved F) h)).gates;
+  files = λ F h. record { log = ap (λ bs. flat_map (λ b. b) bs) (one_is F.batches (and_left (one_batch F.batches) (is_unmoved F) h)); kind = inl (formatted F (and_left (one_batch F.batches) (is_unmoved F) h) (and_right (one_batch F.batches) (is_unmoved F) h)) };
+  end = λ F h. sym (ap (λ bs. sum_by batch_length bs) (one_is F.batches (and_left (one_batch F.batches) (is_unmoved F) h)));
+  current = λ F h. (formatted F (and_left (one_batch F.batches) (is_unmoved F) h) (and_right (one_batch F.batches) (is_unmoved F) h)).gates;
 }
 
 -- ---- the moments
@@ -157,7 +152,7 @@ abbrev pub m4 : Stored
 m4 = after m3 Flushes (record { log = m3.moment.log; core = with_vault m3.moment.core (flushed m3.moment.core.system) (longer m3.moment.core.vault (frame_of m3.moment.log m3.moment.core.system)); leave = λ F. with_txn F.batches && is_unmoved F })
 
 abbrev pub m5 : Stored
-m5 = record m4 { begun = Some (head_now m4.moment.log m4.moment.core) }
+m5 = record m4 { moment = moment_with m4 (with_flag m4.moment.core true) m4.moment.leave; begun = Some (head_now m4.moment.log m4.moment.core) }
 
 abbrev pub index_region : RegionState
 index_region = loaded (replicate 64 0)
@@ -165,7 +160,7 @@ index_region = loaded (replicate 64 0)
 abbrev pub heap_region : RegionState
 heap_region = loaded (1 ∷ replicate 63 0)
 
-abbrev copied : Stored → ℕ → RegionState → Stored
+abbrev pub copied : Stored → ℕ → RegionState → Stored
 copied st r g = record st {
   moment = moment_with st (with_region st.moment.core r (cleaned (target st) g)) st.moment.leave;
   told = told_with st.told (target st) r g.back;
@@ -203,6 +198,9 @@ m14 = record m13 { moment = moment_with m13 m13.moment.core m13.moment.leave; sy
 abbrev m15 : Stored
 m15 = record m14 { moment = moment_with m14 (with_current m14.moment.core) (λ F. with_audit F.batches && is_moved F); begun = None }
 
+abbrev m16 : Stored
+m16 = record m15 { moment = moment_with m15 (with_flag m15.moment.core false) m15.moment.leave; begun = None }
+
 -- ---- each step
 pub step_1 : IsStoreStep checkpoint_start (Does Begins) m1
 step_1 = (refl, ((record { runs = refl; room = omega arith }, (refl, refl)), λ F h. h), refl)
@@ -217,19 +215,19 @@ pub step_4 : IsStoreStep m3 (Does Flushes) m4
 step_4 = (refl, ((refl, (refl, refl)), record { each = λ F h. (record F { batches = batches_1 }, and_right (with_txn F.batches) (is_unmoved F) h, ap (λ bs. record F { batches = bs }) (two_are F.batches (and_left (with_txn F.batches) (is_unmoved F) h))) }), refl)
 
 pub step_5 : IsStoreStep m4 Starts m5
-step_5 = (refl, refl, refl)
+step_5 = (refl, refl, refl, refl)
 
 pub unwritten : (st : Stored) → IsWritten (MayLeave st.moment.leave) (MayLeave st.moment.leave) (target st)
 unwritten st = record { each = λ F h. (F, h, inl refl) }
 
 pub step_6 : IsStoreStep m5 (Copies 0) m6
-step_6 = (index_region, refl, refl, refl, unwritten m5, refl)
+step_6 = (index_region, refl, record { runs = refl; under_way = refl }, refl, unwritten m5, refl)
 
 pub step_7 : IsStoreStep m6 (Copies 1) m7
-step_7 = (heap_region, refl, refl, refl, unwritten m6, refl)
+step_7 = (heap_region, refl, record { runs = refl; under_way = refl }, refl, unwritten m6, refl)
 
 pub step_8 : IsStoreStep m7 (WritesHead new_head) m8
-step_8 = (refl, unwritten m7, refl)
+step_8 = (record { runs = refl; under_way = refl }, unwritten m7, refl)
 
 pub step_9 : IsStoreStep m8 (Does AuditBegins) m9
 step_9 = (refl, ((refl, omega arith, (refl, refl)), λ F h. h), refl)
@@ -246,7 +244,8 @@ audits = record {
   auditing = record { named = λ g e. ap (λ (z : Rules). has z.audits 4 && not (has z.closed 4)) (some_same (sym e)); within = omega arith };
   spelled = omega arith;
   numbers = refl;
-  each = λ r g e. inr (λ h. omega arith);
+  stray = λ r g e h. absurd (cc);
+  certified = λ r g e n h. omega arith;
 }
 
 pub step_12 : IsStoreStep m11 (Does (AuditEnds 4 [])) m12
@@ -256,7 +255,7 @@ pub step_13 : IsStoreStep m12 (Does Flushes) m13
 step_13 = (refl, ((refl, (refl, refl)), record { each = λ F h. (record F { batches = batches_2 }, and_right (with_audit F.batches) (is_unmoved F) h, ap (λ bs. record F { batches = bs }) (three_are F.batches (and_left (with_audit F.batches) (is_unmoved F) h))) }), refl)
 
 pub step_14 : IsStoreStep m13 Syncs m14
-step_14 = (refl, λ F h. h, refl)
+step_14 = (record { runs = refl; under_way = refl }, λ F h. h, refl)
 
 both : (P : ℕ → Type 0) → P 0 → P 1 → (r : ℕ) → r < 2 → P r
 both P a b zero h = a
@@ -269,7 +268,6 @@ may = record {
   head = refl;
   synced = refl;
   clean = refl;
-  later = omega arith;
   ends = omega arith;
   flushed = omega arith;
   copies = both (λ r. (c : Copy) × (m14.copies (target m14) r ≡ Some c) × IsCertified new_head 4 c) (record { at = 4; passed = true }, refl, record { since = omega arith; until = omega arith; passed = refl }) (record { at = 4; passed = true }, refl, record { since = omega arith; until = omega arith; passed = refl });
@@ -304,7 +302,7 @@ step_15 = (
   new_head,
   4,
   5,
-  refl,
+  record { runs = refl; under_way = refl },
   may,
   record {
     each = λ F l. (
@@ -316,22 +314,25 @@ step_15 = (
   refl,
 )
 
-course : IsStoreCourse checkpoint_start checkpoint_steps m15
-course = (m1, step_1, (m2, step_2, (m3, step_3, (m4, step_4, (m5, step_5, (m6, step_6, (m7, step_7, (m8, step_8, (m9, step_9, (m10, step_10, (m11, step_11, (m12, step_12, (m13, step_13, (m14, step_14, (m15, step_15, refl)))))))))))))))
+step_16 : IsStoreStep m15 Finishes m16
+step_16 = (refl, refl)
+
+course : IsStoreCourse checkpoint_start checkpoint_steps m16
+course = (m1, step_1, (m2, step_2, (m3, step_3, (m4, step_4, (m5, step_5, (m6, step_6, (m7, step_7, (m8, step_8, (m9, step_9, (m10, step_10, (m11, step_11, (m12, step_12, (m13, step_13, (m14, step_14, (m15, step_15, (m16, step_16, refl))))))))))))))))
 
 -- ---- what is left
 unfoldable pub crash : Files
 crash = record { batches = batches_3; gates = 1; number = 1; place = 47; first = 4; weight = 37; next = 2; image = formatted_image small; table = [] }
 
-left : MayLeave m15.moment.leave crash
+left : MayLeave m16.moment.leave crash
 unfolding crash
 left = refl
 
-safe : NoneEscapes (last_epoch (log_in crash)) m15.moment.core
+safe : NoneEscapes (last_epoch (log_in crash)) m16.moment.core
 unfolding crash
 safe = record { seen = λ r g e. not_missed r g e; named = λ r g e h. absurd (none r g h) }
   where
-    not_missed : (r : ℕ) (g : RegionState) → slice_get m15.moment.core.regions r ≡ Some g → g.missed ≡ false
+    not_missed : (r : ℕ) (g : RegionState) → slice_get m16.moment.core.regions r ≡ Some g → g.missed ≡ false
     not_missed zero g e = sym (ap (λ (z : RegionState). z.missed) (some_same e))
     not_missed (suc zero) g e = sym (ap (λ (z : RegionState). z.missed) (some_same e))
     not_missed (suc (suc r)) g e = absurd (cc)
@@ -339,15 +340,16 @@ safe = record { seen = λ r g e. not_missed r g e; named = λ r g e h. absurd (n
     none : (q : ℕ) (g : RegionState) → g.sound < blocks_on q (Begin 1 ∷ Commit 1 ∷ Ended 1 ∷ AuditBegin ∷ AuditClean 4 ∷ []) → ⊥
     none q g k = omega (arith, k)
 
-leaves : LeavesRight (λ k. formatted_image small) first_log m15.moment.core crash
-leaves = every_store_run_is_right first_log (passes rules_start (Format 1 1)) 1000000 first_vault checkpoint_start.moment.leave (λ side r. []) _ (λ side. false) (format_is_history small (refl, refl)) refl refl (omega arith) fresh checkpoint_steps m15 course crash left
+leaves : LeavesRight (λ k. formatted_image small) first_log m16.moment.core crash
+leaves = every_store_run_is_right first_log (passes rules_start (Format 1 1)) 1000000 first_vault checkpoint_start.moment.leave (λ side r. []) _ (λ side. false) (format_is_history small (refl, refl)) refl refl (omega arith) fresh checkpoint_steps m16 course crash left
 
 pub worked_checkpoint : WorkedCheckpoint
 unfolding crash
 worked_checkpoint = record {
-  finish = m15;
+  finish = m16;
   course = course;
   number = refl;
+  free = refl;
   crash = crash;
   left = left;
   gates = refl;

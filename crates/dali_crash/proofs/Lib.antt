@@ -16,3 +16,5 @@ pub mod Checkpointed
 pub mod Damaged
 pub mod Unpoked
 pub mod CheckpointFaults
+pub mod Flags
+pub mod Restarted

@@ -9,7 +9,7 @@ use Rattle.dali_counts.proofs.Lists.{equal, and_right, set_cases}
 use Rattle.dali_system.specs.State.{VaultState, CoreState}
 use Rattle.dali_system.specs.Regions.{RegionStep, Latch, NoteReads, Update, TakeBack, Poke, Check, Die, Clean, region_after}
 use Rattle.dali_system.specs.Flushes.{frame_of, with_frame, longer}
-use Rattle.dali_system.specs.Courses.{Step, Begins, Operates, TakesBack, Frees, Answers, Commits, Ends, AuditBegins, AuditEnds, Locks, Refuses, OnRegion, Turns, Stops, Checkpoints, Flushes, Faults, Moment, MayLeave, IsStepAt}
+use Rattle.dali_system.specs.Courses.{Step, Begins, Operates, TakesBack, Frees, Answers, Commits, Ends, AuditBegins, AuditEnds, Locks, Refuses, OnRegion, ChangesState, Stops, Checkpoints, Flushes, Faults, Moment, MayLeave, IsStepAt}
 use Rattle.dali_crash.specs.Checkpoints.{answers_none, passes_region}
 
 -- ---- the vault, and what a crash leaves
@@ -42,11 +42,11 @@ vault_goes m n (Ends t) s = same_vault m n _ s.0.2.1 refl s.1
 vault_goes m n AuditBegins s = same_vault m n _ s.0.2.1 refl s.1
 vault_goes m n (AuditEnds b found) s = same_vault m n _ s.0.1.1 refl s.1
 vault_goes m n (Locks t k mode) s = same_vault m n _ s.0.2.1 refl s.1
-vault_goes m n (Refuses t k mode h) s = same_vault m n _ s.0.1.1 refl s.1
+vault_goes m n (Refuses t k mode h) s = same_vault m n _ s.0.2.1 refl s.1
 vault_goes m n (OnRegion r x) s = same_vault m n _ s.0.3.1 refl s.1
-vault_goes m n (Turns t state) s = same_vault m n _ s.0.1.1 refl s.1
+vault_goes m n (ChangesState t state) s = same_vault m n _ s.0.1.1 refl s.1
 vault_goes m n Stops s = same_vault m n _ s.0.1.1 refl s.1
-vault_goes m n (Checkpoints b) s = same_vault m n _ s.0.1 refl s.1
+vault_goes m n (Checkpoints b) s = same_vault m n _ s.0.1.1 refl s.1
 vault_goes m n Flushes s = record {
   current = ap (λ (c : CoreState). c.vault.current) s.0.1.1 ∙ longer_parts m.core.vault (frame_of m.log m.core.system);
   runs = λ h. s.0.0;
@@ -144,10 +144,10 @@ regions_go m n (Ends t) q h s e = unchanged m.core.regions n.core.regions q h (a
 regions_go m n AuditBegins q h s e = unchanged m.core.regions n.core.regions q h (ap (λ (c : CoreState). c.regions) s.0.2.1) e
 regions_go m n (AuditEnds b found) q h s e = unchanged m.core.regions n.core.regions q h (ap (λ (c : CoreState). c.regions) s.0.1.1) e
 regions_go m n (Locks t k mode) q h s e = unchanged m.core.regions n.core.regions q h (ap (λ (c : CoreState). c.regions) s.0.2.1) e
-regions_go m n (Refuses t k mode o) q h s e = unchanged m.core.regions n.core.regions q h (ap (λ (c : CoreState). c.regions) s.0.1.1) e
+regions_go m n (Refuses t k mode o) q h s e = unchanged m.core.regions n.core.regions q h (ap (λ (c : CoreState). c.regions) s.0.2.1) e
 regions_go m n (OnRegion r x) q h s e = region_goes x m.core n.core.regions r q s.0.0 h (ap (λ (c : CoreState). c.regions) s.0.3.1) s.0.1 e
-regions_go m n (Turns t state) q h s e = unchanged m.core.regions n.core.regions q h (ap (λ (c : CoreState). c.regions) s.0.1.1) e
+regions_go m n (ChangesState t state) q h s e = unchanged m.core.regions n.core.regions q h (ap (λ (c : CoreState). c.regions) s.0.1.1) e
 regions_go m n Stops q h s e = unchanged m.core.regions n.core.regions q h (ap (λ (c : CoreState). c.regions) s.0.1.1) e
-regions_go m n (Checkpoints b) q h s e = unchanged m.core.regions n.core.regions q h (ap (λ (c : CoreState). c.regions) s.0.1) e
+regions_go m n (Checkpoints b) q h s e = unchanged m.core.regions n.core.regions q h (ap (λ (c : CoreState). c.regions) s.0.1.1) e
 regions_go m n Flushes q h s e = unchanged m.core.regions n.core.regions q h (ap (λ (c : CoreState). c.regions) s.0.1.1) e
 regions_go m n (Faults k) q h s e = unchanged m.core.regions n.core.regions q h (ap (λ (c : CoreState). c.regions) s.0.2.1) e

@@ -1,6 +1,6 @@
 -- Each step keeps a run with its store, and each list of steps.
-use Rattle.std.proofs.Common.{◌≡◌, ℕ, ◌+◌, ◌-◌, ◌%◌, ◌<◌, Bool, true, false, cond, List, [], ◌∷◌, length, take, Option, Some, None, refl, ap, sym, subst, ◌∙◌, inl, inr, ⊎_elim, arith}
-use Rattle.std.specs.Prelude.{◌==◌, ◌&&◌, ◌||◌, slice_get, slice_set, flat_map, sum_by}
+use Rattle.std.proofs.Common.{◌≡◌, ℕ, zero, suc, ◌+◌, ◌-◌, ◌%◌, ◌<◌, ◌≤◌, Bool, true, false, cond, List, [], ◌∷◌, length, take, Option, Some, None, refl, ap, sym, subst, ◌∙◌, inl, inr, ⊎_elim, arith}
+use Rattle.std.specs.Prelude.{◌==◌, ◌&&◌, ◌||◌, not, slice_get, slice_set, flat_map, sum_by}
 use Rattle.std.specs.List.{range_with_len}
 use Rattle.std.proofs.lemmas.List.{length-map, take_all}
 use Rattle.std.proofs.lemmas.List.FromFn.{length-range_with_len, get_or-map-range_with_len}
@@ -21,14 +21,16 @@ use Rattle.dali_system.specs.Run.{Bases, log_in, RunsOn, IsPrefix, VaultRun, Has
 use Rattle.dali_system.specs.Regions.{Clean}
 use Rattle.dali_system.specs.Keeps.{with_region}
 use Rattle.dali_system.specs.Flushes.{faulted}
-use Rattle.dali_system.specs.Courses.{Step, OnRegion, Flushes, Faults, Moment, MayLeave, IsStepAt, RunsAt}
+use Rattle.dali_system.specs.Courses.{Step, OnRegion, Checkpoints, Flushes, Faults, Moment, MayLeave, IsStepAt, RunsAt}
 use Rattle.dali_system.specs.Images.{Told, FilesRun, FitsBut, is_missed, ImageRun}
 use Rattle.dali_system.specs.ImageSteps.{same_side, told_with}
 use Rattle.dali_system.proofs.Courses.{Goes, step_goes, step_keeps}
 use Rattle.dali_system.proofs.Flushes.{risen_since, no_less, fault_keeps}
+use Rattle.dali_record.specs.declared.records.Record.TheVariants.{Format}
+use Rattle.dali_record.specs.Spelling.{is_size_of_index}
 use Rattle.dali_system.proofs.ImageSteps.{images_keep, copy_keeps}
 use Rattle.dali_system.proofs.FlushedImages.{flush_keeps_images, fault_keeps_images, frame_inside}
-use Rattle.dali_crash.specs.Checkpoints.{Head, Copy, Stored, Does, Starts, Copies, Skips, WritesHead, Syncs, Turns, CopyFails, HeadFails, SyncFails, TurnFails, side_of, image_side, target, copies_with, head_now, pass_copy, passes_region, copies_after, clears_flag, image_in, MayHold, turned, IsWritten, IsTurned, IsTurning, MayTurn, IsFault, with_fault, with_current, moment_with}
+use Rattle.dali_crash.specs.Checkpoints.{Head, Copy, Stored, Does, Starts, Copies, Skips, WritesHead, Syncs, Turns, CopyFails, HeadFails, SyncFails, TurnFails, Finishes, side_of, image_side, target, copies_with, head_now, pass_copy, passes_region, copies_after, is_of_checkpoint, image_in, MayHold, turned, IsWritten, IsTurned, IsTurning, MayTurn, IsFault, with_fault, with_current, with_flag, moment_with}
 use Rattle.dali_crash.specs.StoreRuns.{IsCopied, IsKept, StoreRun, StoreStepKeeps, StoreCourseKeeps, TurnEnds}
 use Rattle.dali_crash.proofs.StepLeaves.{VaultGoes, vault_goes, RegionGoes, regions_go}
 use Rattle.dali_crash.proofs.Kept.{got_none, kept_goes, copied_goes, copied_onward}
@@ -137,7 +139,7 @@ run_faults bases before m leave k rose less at = record {
 }
 
 -- ---- a step that writes no image
-images_do : (bases : Bases) (before : List Record) (st : Stored) (n : Moment) (x : Step) → StoreRun bases before st → clears_flag x ≡ false → IsStepAt st.moment x n → ImageRun bases (MayLeave n.leave) st.told n.core
+images_do : (bases : Bases) (before : List Record) (st : Stored) (n : Moment) (x : Step) → StoreRun bases before st → is_of_checkpoint x ≡ false → IsStepAt st.moment x n → ImageRun bases (MayLeave n.leave) st.told n.core
 images_do bases before st n Flushes run quiet s = flush_keeps_images bases before st.told st.moment n run.run run.images s
 images_do bases before st n (Faults k) run quiet s = fault_keeps_images bases before st.told st.moment n k run.run run.images s
 images_do bases before st n (OnRegion r y) run quiet s = images_keep bases st.told st.moment n (OnRegion r y) run.images s quiet
@@ -147,7 +149,7 @@ some_copy : (b : Bool) (o : Option Copy) (k : Copy) → pass_copy b o ≡ Some k
 some_copy b None k e = absurd (cc)
 some_copy b (Some c) k e = (c, refl, sym (some_same e))
 
-does : (bases : Bases) (before : List Record) (st : Stored) (x : Step) (n : Moment) → StoreRun bases before st → clears_flag x ≡ false → IsStepAt st.moment x n → StoreRun bases before (record st { moment = n; copies = copies_after st.moment.core x st.copies })
+does : (bases : Bases) (before : List Record) (st : Stored) (x : Step) (n : Moment) → StoreRun bases before st → is_of_checkpoint x ≡ false → IsStepAt st.moment x n → StoreRun bases before (record st { moment = n; copies = copies_after st.moment.core x st.copies })
 does bases before st x n run quiet s = record {
   run = step_keeps bases before st.moment n x run.run s;
   images = images_do bases before st n x run quiet s;
@@ -172,6 +174,31 @@ does bases before st x n run quiet s = record {
     copied side r k g w q = copied_goes bases st.moment n r g k (st.told side r) goes
         (subst (λ z. IsCopied (bases (last_epoch st.moment.log).first) (last_epoch st.moment.log) r g z (st.told side r)) (sym w.2)
         (copied_onward (bases (last_epoch st.moment.log).first) (last_epoch st.moment.log) r (passes_region st.moment.core x r) q.was g w.0 (st.told side r) q.onward (run.copied side r w.0 q.was w.1 q.at)))
+
+-- ---- the flag of a checkpoint
+flag_set :
+    (bases : Bases) (before : List Record) (st : Stored) (b : Bool) → StoreRun bases before st → st.moment.core.system.checking ≡ not b
+    → StoreRun bases before (record st { moment = moment_with st (with_flag st.moment.core b) st.moment.leave })
+flag_set bases before st b run was = record {
+  run = step_keeps bases before st.moment n (Checkpoints b) run.run s;
+  images = images_keep bases st.told st.moment n (Checkpoints b) run.images s refl;
+  anchor = run.anchor;
+  kept = run.kept;
+  copied = run.copied;
+}
+  where
+    n : Moment
+    n = moment_with st (with_flag st.moment.core b) st.moment.leave
+
+    s : IsStepAt st.moment (Checkpoints b) n
+    s = ((was, (refl, refl)), λ F h. h)
+
+-- one starts or ends, and keeps something or nothing from then on
+flag_turns :
+    (bases : Bases) (before : List Record) (st : Stored) (b : Bool) (o : Option Head) → StoreRun bases before st → st.moment.core.system.checking ≡ not b
+    → ((h : Head) → o ≡ Some h → IsKept st.moment.log st.moment.core.vault (MayLeave st.moment.leave) h)
+    → StoreRun bases before (record st { moment = moment_with st (with_flag st.moment.core b) st.moment.leave; begun = o })
+flag_turns bases before st b o run was kept = flag_set bases before (record st { begun = o }) b (record { run = run.run; images = run.images; anchor = run.anchor; kept = kept; copied = run.copied }) was
 
 -- ---- a checkpoint starts
 keeps_now : (bases : Bases) (before : List Record) (m : Moment) → RunsAt bases before m → m.core.vault.stopped ≡ false → stable m.core.system ≡ m.core.system.records → IsKept m.log m.core.vault (MayLeave m.leave) (head_now m.log m.core)
@@ -315,7 +342,7 @@ still bases before st leave told heads synced copies run less files known = reco
 
 failed :
     (bases : Bases) (before : List Record) (st : Stored) (leave : Files → Bool) (told : Told) (heads : Side → Head) (synced : Side → Bool) (copies : Side → ℕ → Option Copy) (n : ℕ) → StoreRun bases before st
-    → IsFault st.moment.core n
+    → IsFault st n
     → ((F : Files) → MayLeave leave F → MayLeave st.moment.leave F)
     → FilesRun told st.moment.core → IsKnown bases st.moment.log st.moment.core.regions copies told
     → StoreRun bases before (record st { moment = moment_with st (with_fault st.moment.core n) leave; told = told; heads = heads; synced = synced; copies = copies })
@@ -353,7 +380,7 @@ turn_fits :
 turn_fits bases before st h b k D head image run runs may l hold =
     subst (λ (z : Head). FitsBut c.system.sizes bases (λ r. is_missed (slice_get c.regions r)) (log_in D) (turned D z image) (last_epoch (log_in D))) (sym same)
     (turned_fits c.system.sizes bases (λ r. is_missed (slice_get c.regions r)) L c.vault (MayLeave st.moment.leave) D h image b k is.count
-    (run.kept h may.begun) l is.log is.within may.clean may.later may.ends (omega (arith, may.flushed, is.flushed))
+    (run.kept h may.begun) l is.log is.within may.clean later may.ends (omega (arith, may.flushed, is.flushed))
     ((run.kept h may.begun).number ∙ ap (λ n. n + 1) (sym gates)) (ap length words ∙ (length-map (range_with_len 0 (regions c.system.sizes)) (st.told (target st)) ∙ length-range_with_len 0 (regions c.system.sizes))) places)
   where
     c : CoreState
@@ -367,6 +394,20 @@ turn_fits bases before st h b k D head image run runs may l hold =
 
     side : side_of (D.gates + 1) ≡ target st
     side = ap (λ n. side_of (n + 1)) gates
+
+    on : RunsOn bases L c
+    on = runs_at bases before st.moment run.run
+
+    some : 0 < regions c.system.sizes
+    some = by_index c.system.sizes.index (on.log.spelled 0 (Format c.system.sizes.index c.system.sizes.heap) on.log.format).0
+      where
+        by_index : (i : ℕ) → is_size_of_index i ≡ true → 0 < i + c.system.sizes.heap
+        by_index zero e = absurd (cc)
+        by_index (suc i) e = omega arith
+
+    -- there is a region, which was brought up to date between them
+    later : h.first ≤ b
+    later = let w = may.copies 0 some in omega (arith, w.2.since, w.2.until)
 
     same : head ≡ h
     same = hold.head_is (ap st.synced side ∙ may.synced) ∙ (ap st.heads side ∙ may.head)
@@ -404,7 +445,7 @@ turns bases before st leave h b k run runs may store = record {
 
 turn_fails :
     (bases : Bases) (before : List Record) (st : Stored) (leave : Files → Bool) (h : Head) (b k n : ℕ) → StoreRun bases before st
-    → IsFault st.moment.core n → MayTurn st h b k → IsTurning st (MayLeave leave)
+    → IsFault st n → MayTurn st h b k → IsTurning st (MayLeave leave)
     → StoreRun bases before (record st { moment = moment_with st (with_fault st.moment.core n) leave; begun = None })
 turn_fails bases before st leave h b k n run fault may store = record {
   run = run_faults bases before st.moment leave n fault.rose (λ F l. let w = store.each F l in (w.0, w.1, ⊎_elim (λ e. ap (λ (f : Files). f.batches) e) (λ s. ap (λ (f : Files). f.batches) s.3) w.2)) run.run;
@@ -412,7 +453,7 @@ turn_fails bases before st leave h b k n run fault may store = record {
     files = run.images.files;
     fits = λ F l. let w = store.each F l in ⊎_elim
         (λ e. subst (λ (f : Files). FitsBut st.moment.core.system.sizes bases (λ r. is_missed (slice_get st.moment.core.regions r)) (log_in f) f (last_epoch (log_in f))) (sym e) (run.images.fits w.0 w.1))
-        (λ s. subst (λ (f : Files). FitsBut st.moment.core.system.sizes bases (λ r. is_missed (slice_get st.moment.core.regions r)) (log_in f) f (last_epoch (log_in f))) (sym s.3) (turn_fits bases before st h b k w.0 s.0 s.1 run fault.runs may w.1 s.2))
+        (λ s. subst (λ (f : Files). FitsBut st.moment.core.system.sizes bases (λ r. is_missed (slice_get st.moment.core.regions r)) (log_in f) f (last_epoch (log_in f))) (sym s.3) (turn_fits bases before st h b k w.0 s.0 s.1 run fault.may.runs may w.1 s.2))
         w.2;
   };
   anchor = λ e. absurd (cc);
@@ -423,10 +464,12 @@ turn_fails bases before st leave h b k n run fault may store = record {
 -- ---- each step
 pub store_step_keeps : StoreStepKeeps
 store_step_keeps bases before st new (Does x) run s = subst (StoreRun bases before) (sym s.2) (does bases before st x new.moment run s.0 s.1)
-store_step_keeps bases before st new Starts run s = subst (StoreRun bases before) (sym s.2) (record { run = run.run; images = run.images; anchor = run.anchor; kept = λ h e. subst (IsKept st.moment.log st.moment.core.vault (MayLeave st.moment.leave)) (some_same e) (keeps_now bases before st.moment run.run s.0 s.1); copied = run.copied })
-store_step_keeps bases before st new (Copies r) run s = subst (StoreRun bases before) (sym s.5) (copies_keep bases before st r s.0 new.moment.leave _ run s.1 s.2 s.4)
-store_step_keeps bases before st new (Skips r) run s =
+store_step_keeps bases before st new Starts run s =
     subst (StoreRun bases before) (sym s.3)
+    (flag_turns bases before st true (Some (head_now st.moment.log st.moment.core)) run s.1 (λ h e. subst (IsKept st.moment.log st.moment.core.vault (MayLeave st.moment.leave)) (some_same e) (keeps_now bases before st.moment run.run s.0 s.2)))
+store_step_keeps bases before st new (Copies r) run s = subst (StoreRun bases before) (sym s.5) (copies_keep bases before st r s.0 new.moment.leave _ run s.1 s.2.runs s.4)
+store_step_keeps bases before st new (Skips r) run s =
+    subst (StoreRun bases before) (sym s.4)
     (record { run = run.run; images = run.images; anchor = run.anchor; kept = run.kept; copied = skipped })
   where
     skipped : IsKnown bases st.moment.log st.moment.core.regions (copies_with st.copies (target st) r (Some (record { at = st.moment.core.system.records; passed = false }))) st.told
@@ -440,19 +483,20 @@ store_step_keeps bases before st new (Skips r) run s =
             let there : side ≡ target st = side_is side (target st) (and_left (same_side side (target st)) (q == r) f) in
             let here : q ≡ r = equal q r (and_right (same_side side (target st)) (q == r) f) in
             let same : h ≡ s.0 = some_same (sym at ∙ (ap (slice_get st.moment.core.regions) here ∙ s.1)) in
-            let clear : is_dirty h side ≡ false = ap (λ (z : RegionState). is_dirty z side) same ∙ (ap (is_dirty s.0) there ∙ s.2) in
+            let clear : is_dirty h side ≡ false = ap (λ (z : RegionState). is_dirty z side) same ∙ (ap (is_dirty s.0) there ∙ s.3) in
             subst (λ z. IsCopied (bases (last_epoch st.moment.log).first) (last_epoch st.moment.log) q h z (st.told side q)) (some_same d)
             (up_to_date bases st.moment.log st.moment.core q h (st.told side q) (runs_at bases before st.moment run.run) at (λ p. run.images.files side q h at p clear))
-store_step_keeps bases before st new (WritesHead h) run s = subst (StoreRun bases before) (sym s.2) (still bases before st new.moment.leave st.told _ _ st.copies run (fewer bases before st (MayLeave new.moment.leave) run s.0 s.1) run.images.files run.copied)
+store_step_keeps bases before st new (WritesHead h) run s = subst (StoreRun bases before) (sym s.2) (still bases before st new.moment.leave st.told _ _ st.copies run (fewer bases before st (MayLeave new.moment.leave) run s.0.runs s.1) run.images.files run.copied)
 store_step_keeps bases before st new Syncs run s = subst (StoreRun bases before) (sym s.2) (still bases before st new.moment.leave st.told st.heads _ st.copies run s.1 run.images.files run.copied)
-store_step_keeps bases before st new Turns run s = subst (StoreRun bases before) (sym s.6) (turns bases before st new.moment.leave s.0 s.1 s.2 run s.3 s.4 s.5)
+store_step_keeps bases before st new Turns run s = subst (StoreRun bases before) (sym s.6) (turns bases before st new.moment.leave s.0 s.1 s.2 run s.3.runs s.4 s.5)
 store_step_keeps bases before st new (CopyFails r ws n) run s =
     subst (StoreRun bases before) (sym s.5)
-    (failed bases before st new.moment.leave _ st.heads _ _ n run s.3 (fewer bases before st (MayLeave new.moment.leave) run s.3.runs s.4) (dirty_told st.told st.moment.core (target st) r s.0 ws s.1 s.2 run.images.files)
+    (failed bases before st new.moment.leave _ st.heads _ _ n run s.3 (fewer bases before st (MayLeave new.moment.leave) run s.3.may.runs s.4) (dirty_told st.told st.moment.core (target st) r s.0 ws s.1 s.2 run.images.files)
     (known_with bases st.moment.log st.moment.core.regions st.moment.core.regions st.copies st.told (target st) r None ws run.copied (as_before st.moment.core.regions) (λ k h e. absurd (cc))))
-store_step_keeps bases before st new (HeadFails h n) run s = subst (StoreRun bases before) (sym s.2) (failed bases before st new.moment.leave st.told _ _ st.copies n run s.0 (fewer bases before st (MayLeave new.moment.leave) run s.0.runs s.1) run.images.files run.copied)
+store_step_keeps bases before st new (HeadFails h n) run s = subst (StoreRun bases before) (sym s.2) (failed bases before st new.moment.leave st.told _ _ st.copies n run s.0 (fewer bases before st (MayLeave new.moment.leave) run s.0.may.runs s.1) run.images.files run.copied)
 store_step_keeps bases before st new (SyncFails n) run s = subst (StoreRun bases before) (sym s.2) (failed bases before st new.moment.leave st.told st.heads st.synced st.copies n run s.0 s.1 run.images.files run.copied)
 store_step_keeps bases before st new (TurnFails n) run s = subst (StoreRun bases before) (sym s.6) (turn_fails bases before st new.moment.leave s.0 s.1 s.2 n run s.3 s.4 s.5)
+store_step_keeps bases before st new Finishes run s = subst (StoreRun bases before) (sym s.1) (flag_turns bases before st false None run s.0 (λ h e. absurd (cc)))
 
 pub store_course_keeps : StoreCourseKeeps
 store_course_keeps bases before st new [] run course = subst (StoreRun bases before) course run
@@ -465,9 +509,9 @@ turn_ends bases before st new run s = record {
   begun = may.begun;
   number = (run.kept s.0 may.begun).number;
   current = current;
-  gates = λ F l. (store_step_keeps bases before st new Turns run s).anchor (ap (λ (z : Stored). z.moment.core.vault.stopped) s.6 ∙ s.3) F l;
+  gates = λ F l. (store_step_keeps bases before st new Turns run s).anchor (ap (λ (z : Stored). z.moment.core.vault.stopped) s.6 ∙ s.3.runs) F l;
   first = λ F l. let w = s.5.each F l in
-      let side : side_of (w.0.gates + 1) ≡ target st = ap (λ n. side_of (n + 1)) (run.anchor s.3 w.0 w.1) in
+      let side : side_of (w.0.gates + 1) ≡ target st = ap (λ n. side_of (n + 1)) (run.anchor s.3.runs w.0 w.1) in
       ap (λ (f : Files). f.first) w.2.3 ∙ ap (λ (z : Head). z.first) (w.2.2.head_is (ap st.synced side ∙ may.synced) ∙ (ap st.heads side ∙ may.head));
 }
   where

@@ -28,7 +28,7 @@ use Rattle.dali_system.proofs.Courses.{Goes, step_goes, load_runs_at}
 use Rattle.dali_crash.specs.Restarts.{HasRightBase, RestartsRight}
 use Rattle.dali_crash.specs.Fitting.{FitsWhole, recover_from}
 use Rattle.dali_crash.specs.Starts.{IsFreshStore}
-use Rattle.dali_crash.specs.Checkpoints.{Stored, StoreStep, Does, Starts, Copies, Skips, WritesHead, Syncs, Turns, CopyFails, HeadFails, SyncFails, TurnFails, IsStoreStep, IsStoreCourse}
+use Rattle.dali_crash.specs.Checkpoints.{Stored, StoreStep, Does, Starts, Copies, Skips, WritesHead, Syncs, Turns, CopyFails, HeadFails, SyncFails, TurnFails, Finishes, IsStoreStep, IsStoreCourse}
 use Rattle.dali_crash.specs.StoreRuns.{StoreRun, stored_start, FreshStarts, EveryStoreRunIsRight}
 use Rattle.dali_crash.proofs.CrashLogs.{cut_parts}
 use Rattle.dali_crash.proofs.RecoveredWords.{recovered_words}
@@ -90,12 +90,9 @@ same_log m n sizes log = record { sizes = sizes; log = inl log }
 
 store_goes : (st new : Stored) (x : StoreStep) → IsStoreStep st x new → Goes st.moment new.moment
 store_goes st new (Does x) s = step_goes st.moment new.moment x s.1
-store_goes st new Starts s = by_moment st new (ap (λ (z : Stored). z.moment) s.2)
-  where
-    by_moment : (a b : Stored) → b.moment ≡ a.moment → Goes a.moment b.moment
-    by_moment a b e = same_log a.moment b.moment (ap (λ (m : Moment). m.core.system.sizes) e) (ap (λ (m : Moment). m.log) e)
+store_goes st new Starts s = same_log st.moment new.moment (ap (λ (z : Stored). z.moment.core.system.sizes) s.3) (ap (λ (z : Stored). z.moment.log) s.3)
 store_goes st new (Copies r) s = same_log st.moment new.moment (ap (λ (z : Stored). z.moment.core.system.sizes) s.5) (ap (λ (z : Stored). z.moment.log) s.5)
-store_goes st new (Skips r) s = same_log st.moment new.moment (ap (λ (z : Stored). z.moment.core.system.sizes) s.3) (ap (λ (z : Stored). z.moment.log) s.3)
+store_goes st new (Skips r) s = same_log st.moment new.moment (ap (λ (z : Stored). z.moment.core.system.sizes) s.4) (ap (λ (z : Stored). z.moment.log) s.4)
 store_goes st new (WritesHead h) s = same_log st.moment new.moment (ap (λ (z : Stored). z.moment.core.system.sizes) s.2) (ap (λ (z : Stored). z.moment.log) s.2)
 store_goes st new Syncs s = same_log st.moment new.moment (ap (λ (z : Stored). z.moment.core.system.sizes) s.2) (ap (λ (z : Stored). z.moment.log) s.2)
 store_goes st new Turns s = same_log st.moment new.moment (ap (λ (z : Stored). z.moment.core.system.sizes) s.6) (ap (λ (z : Stored). z.moment.log) s.6)
@@ -103,6 +100,7 @@ store_goes st new (CopyFails r ws n) s = same_log st.moment new.moment (ap (λ (
 store_goes st new (HeadFails h n) s = same_log st.moment new.moment (ap (λ (z : Stored). z.moment.core.system.sizes) s.2) (ap (λ (z : Stored). z.moment.log) s.2)
 store_goes st new (SyncFails n) s = same_log st.moment new.moment (ap (λ (z : Stored). z.moment.core.system.sizes) s.2) (ap (λ (z : Stored). z.moment.log) s.2)
 store_goes st new (TurnFails n) s = same_log st.moment new.moment (ap (λ (z : Stored). z.moment.core.system.sizes) s.6) (ap (λ (z : Stored). z.moment.log) s.6)
+store_goes st new Finishes s = same_log st.moment new.moment (ap (λ (z : Stored). z.moment.core.system.sizes) s.1) (ap (λ (z : Stored). z.moment.log) s.1)
 
 store_base : (bases : Bases) (st new : Stored) (xs : List StoreStep) → HasRightBase bases st.moment.core.system.sizes st.moment.log → IsStoreCourse st xs new → HasRightBase bases new.moment.core.system.sizes new.moment.log
 store_base bases st new [] right course = subst (λ (k : Stored). HasRightBase bases k.moment.core.system.sizes k.moment.log) course right

@@ -1,13 +1,13 @@
--- Without stray writes no region is poked, no damage escapes a stop, and where no audit names a region, nobody
--- is deleted.
-use Rattle.std.proofs.Common.{◌≡◌, ℕ, zero, suc, ◌-◌, ◌≤◌, Bool, true, false, List, [], ◌∷◌, ◌++◌, length, take, Some, refl, ap, sym, subst, ◌∙◌, ⊎_elim, arith}
-use Rattle.std.specs.Prelude.{map, fold, slice_get, slice_set, ⊤}
-use Rattle.std.specs.List.{list_any}
-use Rattle.std.proofs.lemmas.Bool.{or_parts}
+-- Without stray writes no region is poked, no damage escapes a stop, no audit names a region, and nobody is deleted.
+use Rattle.std.proofs.Common.{◌≡◌, ℕ, zero, suc, ◌-◌, ◌<◌, ◌≤◌, Bool, true, false, List, [], ◌∷◌, ◌++◌, length, take, Some, refl, ap, sym, subst, ◌∙◌, ⊎_elim, arith}
+use Rattle.std.specs.Prelude.{map, fold, slice_get, slice_set, ⊤, nat_lt}
+use Rattle.std.specs.List.{list_any, list_all}
+use Rattle.dali_geometry.specs.Places.{regions}
+use Rattle.std.proofs.lemmas.Bool.{or_parts, ltb-true}
 use Rattle.dali_record.specs.declared.records.Record.{Record}
 use Rattle.dali_record.specs.declared.records.Record.TheVariants.{Format, Begin, Op as Forward, Done, Commit, Ended, Solo, AuditBegin, AuditClean, AuditFail, Restarted, Back}
 use Rattle.dali_record.specs.Epochs.{Epoch, Cut, last_epoch, failing_step}
-use Rattle.dali_record.specs.Damage.{deleted_list}
+use Rattle.dali_record.specs.Damage.{deleted_list, has}
 use Rattle.dali_record.specs.Legal.{sizes_of}
 use Rattle.dali_record.specs.Files.{Files}
 use Rattle.dali_region.specs.declared.Side.{Side}
@@ -16,23 +16,24 @@ use Rattle.dali_region.specs.State.{RegionState, loaded, touched}
 use Rattle.dali_region.specs.Answers.{cleaned}
 use Rattle.dali_history.specs.Recovered.{recovered}
 use Rattle.dali_headline.proofs.Undamaged.{undamaged_deleted}
-use Rattle.dali_counts.proofs.Lists.{set_cases}
+use Rattle.dali_counts.proofs.Lists.{set_cases, found, same_number, and_left}
 use Rattle.dali_system.specs.State.{CoreState, stable}
 use Rattle.dali_system.specs.Run.{Bases, log_in, RunsOn, IsPrefix}
 use Rattle.dali_system.specs.Crashes.{NoneEscapes}
 use Rattle.dali_system.specs.Regions.{RegionStep, Latch, NoteReads, Update, TakeBack, Poke, Check, Die, Clean, region_after}
 use Rattle.dali_system.specs.Loads.{new_core}
-use Rattle.dali_system.specs.Courses.{Step, Begins, Operates, TakesBack, Frees, Answers, Commits, Ends, AuditBegins, AuditEnds, Locks, Refuses, OnRegion, Turns as TurnsTo, Stops, Checkpoints, Flushes, Faults, Adds, Moment, MayLeave, IsStepAt, IsCourse, RunsAt}
+use Rattle.dali_system.specs.Audits.{MayEndAudit}
+use Rattle.dali_system.specs.Courses.{Step, Begins, Operates, TakesBack, Frees, Answers, Commits, Ends, AuditBegins, AuditEnds, Locks, Refuses, OnRegion, ChangesState, Stops, Checkpoints, Flushes, Faults, Adds, Moment, MayLeave, IsStepAt, IsCourse, RunsAt}
 use Rattle.dali_system.proofs.OneMore.{is_inside, last_epoch-push}
-use Rattle.dali_system.proofs.Courses.{course_keeps}
+use Rattle.dali_system.proofs.Courses.{step_keeps, course_keeps}
 use Rattle.dali_crash.specs.CrashLogs.{cut_to, IsUnpoked}
-use Rattle.dali_crash.specs.Checkpoints.{Stored, StoreStep, Does, Starts, Copies, Skips, WritesHead, Syncs, Turns, CopyFails, HeadFails, SyncFails, TurnFails, target, IsStoreStep, IsStoreCourse}
+use Rattle.dali_crash.specs.Checkpoints.{Stored, StoreStep, Does, Starts, Copies, Skips, WritesHead, Syncs, Turns, CopyFails, HeadFails, SyncFails, TurnFails, Finishes, target, IsStoreStep, IsStoreCourse}
 use Rattle.dali_crash.specs.StoreRuns.{StoreRun, stored_start}
-use Rattle.dali_crash.specs.Unpoked.{is_poke, pokes, finds_damage, store_pokes, store_finds_damage, DeletesNobody, UnpokedRunIsRight, UnpokedStoreRunIsRight}
+use Rattle.dali_crash.specs.Unpoked.{is_poke, pokes, store_pokes, DeletesNobody, UnpokedRunIsRight, UnpokedStoreRunIsRight}
 use Rattle.dali_crash.proofs.CrashLogs.{cut_parts}
 use Rattle.dali_crash.proofs.Honest.{unpoked_escapes_none}
 use Rattle.dali_crash.proofs.Courses.{starts_run, every_run_is_right}
-use Rattle.dali_crash.proofs.StoreRuns.{store_course_keeps}
+use Rattle.dali_crash.proofs.StoreRuns.{store_step_keeps, store_course_keeps}
 use Rattle.dali_crash.proofs.StoreStarts.{fresh_starts, every_store_run_is_right}
 
 -- ---- no region is poked
@@ -75,11 +76,11 @@ step_unpoked m n (Ends t) quiet s = as_was m.core.regions n.core.regions (ap (λ
 step_unpoked m n AuditBegins quiet s = as_was m.core.regions n.core.regions (ap (λ (c : CoreState). c.regions) s.0.2.1)
 step_unpoked m n (AuditEnds b found) quiet s = as_was m.core.regions n.core.regions (ap (λ (c : CoreState). c.regions) s.0.1.1)
 step_unpoked m n (Locks t k mode) quiet s = as_was m.core.regions n.core.regions (ap (λ (c : CoreState). c.regions) s.0.2.1)
-step_unpoked m n (Refuses t k mode o) quiet s = as_was m.core.regions n.core.regions (ap (λ (c : CoreState). c.regions) s.0.1.1)
+step_unpoked m n (Refuses t k mode o) quiet s = as_was m.core.regions n.core.regions (ap (λ (c : CoreState). c.regions) s.0.2.1)
 step_unpoked m n (OnRegion r x) quiet s = one_set m.core.regions n.core.regions r s.0.0 (region_after x s.0.0) (ap (λ (c : CoreState). c.regions) s.0.3.1) s.0.1 (same_poked x s.0.0 quiet)
-step_unpoked m n (TurnsTo t state) quiet s = as_was m.core.regions n.core.regions (ap (λ (c : CoreState). c.regions) s.0.1.1)
+step_unpoked m n (ChangesState t state) quiet s = as_was m.core.regions n.core.regions (ap (λ (c : CoreState). c.regions) s.0.1.1)
 step_unpoked m n Stops quiet s = as_was m.core.regions n.core.regions (ap (λ (c : CoreState). c.regions) s.0.1.1)
-step_unpoked m n (Checkpoints b) quiet s = as_was m.core.regions n.core.regions (ap (λ (c : CoreState). c.regions) s.0.1)
+step_unpoked m n (Checkpoints b) quiet s = as_was m.core.regions n.core.regions (ap (λ (c : CoreState). c.regions) s.0.1.1)
 step_unpoked m n Flushes quiet s = as_was m.core.regions n.core.regions (ap (λ (c : CoreState). c.regions) s.0.1.1)
 step_unpoked m n (Faults k) quiet s = as_was m.core.regions n.core.regions (ap (λ (c : CoreState). c.regions) s.0.2.1)
 
@@ -132,29 +133,48 @@ clean_adds m n e x inside isnt adds h = subst (λ (k : Epoch). NoneFails k.recor
 clean_on : (m n : Moment) → n.log ≡ m.log → IsClean m → IsClean n
 clean_on m n same h = subst (λ L. NoneFails (last_epoch L).records) (sym same) h
 
-step_clean : (m n : Moment) (x : Step) → finds_damage x ≡ false → IsStepAt m x n → IsClean m → IsClean n
-step_clean m n Begins quiet s = clean_adds m n _ (Begin m.core.system.next) refl refl s.0.1
-step_clean m n (Operates t b) quiet s = clean_adds m n _ (Forward t b) refl refl s.0.3
-step_clean m n (TakesBack t b) quiet s = clean_adds m n _ (Back t b) refl refl s.0.2
-step_clean m n (Frees p b) quiet s = clean_adds m n _ (Solo m.core.system.next p b) refl refl s.0.2
-step_clean m n (Answers t k a) quiet s = clean_adds m n _ (Done t k a) refl refl s.0.3
-step_clean m n (Commits t) quiet s = clean_adds m n _ (Commit t) refl refl s.0.2
-step_clean m n (Ends t) quiet s = clean_adds m n _ (Ended t) refl refl s.0.2
-step_clean m n AuditBegins quiet s = clean_adds m n _ AuditBegin refl refl s.0.2
-step_clean m n (AuditEnds b []) quiet s = clean_adds m n _ (AuditClean b) refl refl s.0.1
-step_clean m n (AuditEnds b (r ∷ rs)) quiet s = absurd (cc)
-step_clean m n (Locks t k mode) quiet s = clean_on m n s.0.2.0
-step_clean m n (Refuses t k mode o) quiet s = clean_on m n s.0.1.0
-step_clean m n (OnRegion r x) quiet s = clean_on m n s.0.3.0
-step_clean m n (TurnsTo t state) quiet s = clean_on m n s.0.1.0
-step_clean m n Stops quiet s = clean_on m n s.0.1.0
-step_clean m n (Checkpoints b) quiet s = clean_on m n s.0.0
-step_clean m n Flushes quiet s = clean_on m n s.0.1.0
-step_clean m n (Faults k) quiet s = clean_on m n s.0.2.0
+runs_at : (bases : Bases) (before : List Record) (m : Moment) → RunsAt bases before m → RunsOn bases m.log m.core
+runs_at bases before m at = subst (λ M. RunsOn bases M m.core) (sym at.log) at.run.runs
 
-course_clean : (m n : Moment) (xs : List Step) → list_any finds_damage xs ≡ false → IsCourse m xs n → IsClean m → IsClean n
-course_clean m n [] quiet s clean = subst IsClean s clean
-course_clean m n (x ∷ xs) quiet s clean = let p = or_parts (finds_damage x) (list_any finds_damage xs) quiet in course_clean s.0 n xs p.1 s.2 (step_clean m s.0 x p.0 s.1 clean)
+-- an audit names only a region to which a stray write came
+names_none : (bases : Bases) (before : List Record) (m : Moment) (b r : ℕ) (rs : List ℕ) → RunsAt bases before m → NonePoked m.core.regions → MayEndAudit m.log m.core b (r ∷ rs) → ⊥
+names_none bases before m b r rs at none may = not_both (none r region.0 region.1) (may.stray r region.0 region.1 named)
+  where
+    within : r < length m.core.regions
+    within = omega (arith, ltb-true r (regions m.core.system.sizes) (and_left (nat_lt r (regions m.core.system.sizes)) (list_all (λ q. nat_lt q (regions m.core.system.sizes)) rs) may.numbers), (runs_at bases before m at).whole)
+
+    region : (g : RegionState) × (slice_get m.core.regions r ≡ Some g)
+    region = found m.core.regions r within
+
+    named : has (r ∷ rs) r ≡ true
+    named = rw (same_number r r refl) refl
+
+    not_both : {p : Bool} → p ≡ false → p ≡ true → ⊥
+    not_both e f = cc
+
+step_clean : (bases : Bases) (before : List Record) (m n : Moment) (x : Step) → RunsAt bases before m → NonePoked m.core.regions → IsStepAt m x n → IsClean m → IsClean n
+step_clean bases before m n Begins at none s = clean_adds m n _ (Begin m.core.system.next) refl refl s.0.1
+step_clean bases before m n (Operates t b) at none s = clean_adds m n _ (Forward t b) refl refl s.0.3
+step_clean bases before m n (TakesBack t b) at none s = clean_adds m n _ (Back t b) refl refl s.0.2
+step_clean bases before m n (Frees p b) at none s = clean_adds m n _ (Solo m.core.system.next p b) refl refl s.0.2
+step_clean bases before m n (Answers t k a) at none s = clean_adds m n _ (Done t k a) refl refl s.0.3
+step_clean bases before m n (Commits t) at none s = clean_adds m n _ (Commit t) refl refl s.0.2
+step_clean bases before m n (Ends t) at none s = clean_adds m n _ (Ended t) refl refl s.0.2
+step_clean bases before m n AuditBegins at none s = clean_adds m n _ AuditBegin refl refl s.0.2
+step_clean bases before m n (AuditEnds b []) at none s = clean_adds m n _ (AuditClean b) refl refl s.0.1
+step_clean bases before m n (AuditEnds b (r ∷ rs)) at none s = absurd (names_none bases before m b r rs at none s.0.0)
+step_clean bases before m n (Locks t k mode) at none s = clean_on m n s.0.2.0
+step_clean bases before m n (Refuses t k mode o) at none s = clean_on m n s.0.2.0
+step_clean bases before m n (OnRegion r x) at none s = clean_on m n s.0.3.0
+step_clean bases before m n (ChangesState t state) at none s = clean_on m n s.0.1.0
+step_clean bases before m n Stops at none s = clean_on m n s.0.1.0
+step_clean bases before m n (Checkpoints b) at none s = clean_on m n s.0.1.0
+step_clean bases before m n Flushes at none s = clean_on m n s.0.1.0
+step_clean bases before m n (Faults k) at none s = clean_on m n s.0.2.0
+
+course_clean : (bases : Bases) (before : List Record) (m n : Moment) (xs : List Step) → RunsAt bases before m → list_any pokes xs ≡ false → IsCourse m xs n → NonePoked m.core.regions → IsClean m → IsClean n
+course_clean bases before m n [] at quiet s none clean = subst IsClean s clean
+course_clean bases before m n (x ∷ xs) at quiet s none clean = let p = or_parts (pokes x) (list_any pokes xs) quiet in course_clean bases before s.0 n xs (step_keeps bases before m s.0 x at s.1) p.1 s.2 (step_unpoked m s.0 x p.0 s.1 none) (step_clean bases before m s.0 x at none s.1 clean)
 
 -- ---- what a crash leaves
 -- its last epoch is the run's, cut off
@@ -182,7 +202,7 @@ deletes_nobody bases before m F at l clean = let w = left_epoch bases before m F
 pub unpoked_run_is_right : UnpokedRunIsRight
 unpoked_run_is_right L g limit v leave history rules none fits vault xs n quiet course F l = (
   every_run_is_right L g limit v leave history rules none fits vault xs n course F l (none_escapes bases L n F there l (course_unpoked start n xs quiet course (none_loaded (recovered (sizes_of L) L)))),
-  λ clean. deletes_nobody bases L n F there l (course_clean start n xs clean course (subst NoneFails (sym none) tt)),
+  deletes_nobody bases L n F there l (course_clean bases L start n xs begins quiet course (none_loaded (recovered (sizes_of L) L)) (subst NoneFails (sym none) tt)),
 )
   where
     bases : Bases
@@ -191,8 +211,11 @@ unpoked_run_is_right L g limit v leave history rules none fits vault xs n quiet 
     start : Moment
     start = record { log = L; core = new_core (sizes_of L) (recovered (sizes_of L) L) g limit v; leave = leave }
 
+    begins : RunsAt bases L start
+    begins = starts_run L g limit v leave history rules none fits vault
+
     there : RunsAt bases L n
-    there = course_keeps bases L start n xs (starts_run L g limit v leave history rules none fits vault) course
+    there = course_keeps bases L start n xs begins course
 
 -- ---- with its store
 cleaned_poked : (t : Side) (g : RegionState) → (cleaned t g).poked ≡ g.poked
@@ -201,9 +224,9 @@ cleaned_poked B g = refl
 
 store_unpoked : (st new : Stored) (x : StoreStep) → store_pokes x ≡ false → IsStoreStep st x new → NonePoked st.moment.core.regions → NonePoked new.moment.core.regions
 store_unpoked st new (Does x) quiet s = step_unpoked st.moment new.moment x quiet s.1
-store_unpoked st new Starts quiet s = as_was st.moment.core.regions new.moment.core.regions (ap (λ (z : Stored). z.moment.core.regions) s.2)
+store_unpoked st new Starts quiet s = as_was st.moment.core.regions new.moment.core.regions (ap (λ (z : Stored). z.moment.core.regions) s.3)
 store_unpoked st new (Copies r) quiet s = one_set st.moment.core.regions new.moment.core.regions r s.0 (cleaned (target st) s.0) (ap (λ (z : Stored). z.moment.core.regions) s.5) s.1 (cleaned_poked (target st) s.0)
-store_unpoked st new (Skips r) quiet s = as_was st.moment.core.regions new.moment.core.regions (ap (λ (z : Stored). z.moment.core.regions) s.3)
+store_unpoked st new (Skips r) quiet s = as_was st.moment.core.regions new.moment.core.regions (ap (λ (z : Stored). z.moment.core.regions) s.4)
 store_unpoked st new (WritesHead h) quiet s = as_was st.moment.core.regions new.moment.core.regions (ap (λ (z : Stored). z.moment.core.regions) s.2)
 store_unpoked st new Syncs quiet s = as_was st.moment.core.regions new.moment.core.regions (ap (λ (z : Stored). z.moment.core.regions) s.2)
 store_unpoked st new Turns quiet s = as_was st.moment.core.regions new.moment.core.regions (ap (λ (z : Stored). z.moment.core.regions) s.6)
@@ -211,32 +234,34 @@ store_unpoked st new (CopyFails r ws n) quiet s = as_was st.moment.core.regions 
 store_unpoked st new (HeadFails h n) quiet s = as_was st.moment.core.regions new.moment.core.regions (ap (λ (z : Stored). z.moment.core.regions) s.2)
 store_unpoked st new (SyncFails n) quiet s = as_was st.moment.core.regions new.moment.core.regions (ap (λ (z : Stored). z.moment.core.regions) s.2)
 store_unpoked st new (TurnFails n) quiet s = as_was st.moment.core.regions new.moment.core.regions (ap (λ (z : Stored). z.moment.core.regions) s.6)
+store_unpoked st new Finishes quiet s = as_was st.moment.core.regions new.moment.core.regions (ap (λ (z : Stored). z.moment.core.regions) s.1)
 
 store_course_unpoked : (st new : Stored) (xs : List StoreStep) → list_any store_pokes xs ≡ false → IsStoreCourse st xs new → NonePoked st.moment.core.regions → NonePoked new.moment.core.regions
 store_course_unpoked st new [] quiet s none = subst (λ (k : Stored). NonePoked k.moment.core.regions) s none
 store_course_unpoked st new (x ∷ xs) quiet s none = let p = or_parts (store_pokes x) (list_any store_pokes xs) quiet in store_course_unpoked s.0 new xs p.1 s.2 (store_unpoked st s.0 x p.0 s.1 none)
 
-store_clean : (st new : Stored) (x : StoreStep) → store_finds_damage x ≡ false → IsStoreStep st x new → IsClean st.moment → IsClean new.moment
-store_clean st new (Does x) quiet s = step_clean st.moment new.moment x quiet s.1
-store_clean st new Starts quiet s = clean_on st.moment new.moment (ap (λ (z : Stored). z.moment.log) s.2)
-store_clean st new (Copies r) quiet s = clean_on st.moment new.moment (ap (λ (z : Stored). z.moment.log) s.5)
-store_clean st new (Skips r) quiet s = clean_on st.moment new.moment (ap (λ (z : Stored). z.moment.log) s.3)
-store_clean st new (WritesHead h) quiet s = clean_on st.moment new.moment (ap (λ (z : Stored). z.moment.log) s.2)
-store_clean st new Syncs quiet s = clean_on st.moment new.moment (ap (λ (z : Stored). z.moment.log) s.2)
-store_clean st new Turns quiet s = clean_on st.moment new.moment (ap (λ (z : Stored). z.moment.log) s.6)
-store_clean st new (CopyFails r ws n) quiet s = clean_on st.moment new.moment (ap (λ (z : Stored). z.moment.log) s.5)
-store_clean st new (HeadFails h n) quiet s = clean_on st.moment new.moment (ap (λ (z : Stored). z.moment.log) s.2)
-store_clean st new (SyncFails n) quiet s = clean_on st.moment new.moment (ap (λ (z : Stored). z.moment.log) s.2)
-store_clean st new (TurnFails n) quiet s = clean_on st.moment new.moment (ap (λ (z : Stored). z.moment.log) s.6)
+store_clean : (bases : Bases) (before : List Record) (st new : Stored) (x : StoreStep) → StoreRun bases before st → NonePoked st.moment.core.regions → IsStoreStep st x new → IsClean st.moment → IsClean new.moment
+store_clean bases before st new (Does x) run none s = step_clean bases before st.moment new.moment x run.run none s.1
+store_clean bases before st new Starts run none s = clean_on st.moment new.moment (ap (λ (z : Stored). z.moment.log) s.3)
+store_clean bases before st new (Copies r) run none s = clean_on st.moment new.moment (ap (λ (z : Stored). z.moment.log) s.5)
+store_clean bases before st new (Skips r) run none s = clean_on st.moment new.moment (ap (λ (z : Stored). z.moment.log) s.4)
+store_clean bases before st new (WritesHead h) run none s = clean_on st.moment new.moment (ap (λ (z : Stored). z.moment.log) s.2)
+store_clean bases before st new Syncs run none s = clean_on st.moment new.moment (ap (λ (z : Stored). z.moment.log) s.2)
+store_clean bases before st new Turns run none s = clean_on st.moment new.moment (ap (λ (z : Stored). z.moment.log) s.6)
+store_clean bases before st new (CopyFails r ws n) run none s = clean_on st.moment new.moment (ap (λ (z : Stored). z.moment.log) s.5)
+store_clean bases before st new (HeadFails h n) run none s = clean_on st.moment new.moment (ap (λ (z : Stored). z.moment.log) s.2)
+store_clean bases before st new (SyncFails n) run none s = clean_on st.moment new.moment (ap (λ (z : Stored). z.moment.log) s.2)
+store_clean bases before st new (TurnFails n) run none s = clean_on st.moment new.moment (ap (λ (z : Stored). z.moment.log) s.6)
+store_clean bases before st new Finishes run none s = clean_on st.moment new.moment (ap (λ (z : Stored). z.moment.log) s.1)
 
-store_course_clean : (st new : Stored) (xs : List StoreStep) → list_any store_finds_damage xs ≡ false → IsStoreCourse st xs new → IsClean st.moment → IsClean new.moment
-store_course_clean st new [] quiet s clean = subst (λ (k : Stored). IsClean k.moment) s clean
-store_course_clean st new (x ∷ xs) quiet s clean = let p = or_parts (store_finds_damage x) (list_any store_finds_damage xs) quiet in store_course_clean s.0 new xs p.1 s.2 (store_clean st s.0 x p.0 s.1 clean)
+store_course_clean : (bases : Bases) (before : List Record) (st new : Stored) (xs : List StoreStep) → StoreRun bases before st → list_any store_pokes xs ≡ false → IsStoreCourse st xs new → NonePoked st.moment.core.regions → IsClean st.moment → IsClean new.moment
+store_course_clean bases before st new [] run quiet s none clean = subst (λ (k : Stored). IsClean k.moment) s clean
+store_course_clean bases before st new (x ∷ xs) run quiet s none clean = let p = or_parts (store_pokes x) (list_any store_pokes xs) quiet in store_course_clean bases before s.0 new xs (store_step_keeps bases before st s.0 x run s.1) p.1 s.2 (store_unpoked st s.0 x p.0 s.1 none) (store_clean bases before st s.0 x run none s.1 clean)
 
 pub unpoked_store_run_is_right : UnpokedStoreRunIsRight
 unpoked_store_run_is_right L g limit v leave told heads synced history rules none fits fresh xs n quiet course F l = (
   (every_store_run_is_right L g limit v leave told heads synced history rules none fits fresh xs n course F l).right (none_escapes bases L n.moment F there.run l (store_course_unpoked start n xs quiet course (none_loaded (recovered (sizes_of L) L)))),
-  λ clean. deletes_nobody bases L n.moment F there.run l (store_course_clean start n xs clean course (subst NoneFails (sym none) tt)),
+  deletes_nobody bases L n.moment F there.run l (store_course_clean bases L start n xs begins quiet course (none_loaded (recovered (sizes_of L) L)) (subst NoneFails (sym none) tt)),
 )
   where
     bases : Bases
@@ -245,5 +270,8 @@ unpoked_store_run_is_right L g limit v leave told heads synced history rules non
     start : Stored
     start = stored_start L g limit v leave told heads synced
 
+    begins : StoreRun bases L start
+    begins = fresh_starts L g limit v leave told heads synced history rules none fits fresh
+
     there : StoreRun bases L n
-    there = store_course_keeps bases L start n xs (fresh_starts L g limit v leave told heads synced history rules none fits fresh) course
+    there = store_course_keeps bases L start n xs begins course

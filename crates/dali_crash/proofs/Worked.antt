@@ -1,21 +1,23 @@
 -- The worked run: each premise of each step is met.
 use Rattle.std.proofs.Common.{◌≡◌, true, List, [], ◌∷◌, refl, ap, ℕ, ◌++◌, sym, arith, zero, suc, ◌<◌, Some, false, Option, None, ◌∙◌}
-use Rattle.std.specs.Prelude.{◌==◌, replicate, flat_map, sum_by, slice_get, is_some}
+use Rattle.std.specs.Prelude.{◌==◌, replicate, slice_get, is_some}
 use Rattle.dali_record.specs.declared.records.Record.{Record}
 use Rattle.dali_record.specs.declared.records.Record.TheVariants.{Format, Begin, Commit, Done, Op as Forward}
 use Rattle.dali_counts.proofs.Lists.{equal, and_left, and_right, some_same}
-use Rattle.dali_crash.specs.Worked.{first_log, is_format, one_batch, small, first_vault, is_first_commit, two_batches, start, look, steps, WorkedRun}
+use Rattle.dali_system.specs.Worked.{small, first_log, first_vault, is_format, start}
+use Rattle.dali_system.proofs.Worked.{format_is, first_store}
+use Rattle.dali_crash.specs.Worked.{is_first_commit, two_batches, look, steps, WorkedRun}
 use Rattle.dali_record.specs.declared.records.Call.TheVariants.{Get}
 use Rattle.dali_record.specs.declared.records.Answer.TheVariants.{Missing}
-use Rattle.dali_record.specs.Files.{Files, batch_length}
+use Rattle.dali_record.specs.Files.{Files}
 use Rattle.dali_region.specs.State.{RegionState, loaded, latched, with_reads, touched}
 use Rattle.dali_locks.specs.declared.mode.Mode.TheVariants.{Shared, Exclusive}
-use Rattle.dali_system.specs.Run.{log_in, VaultRun, blocks_on, covers}
+use Rattle.dali_system.specs.Run.{log_in, blocks_on, covers}
 use Rattle.dali_system.specs.Steps.{begun, commit_logged, op_logged, done_logged, granted, flushed}
 use Rattle.dali_system.specs.Keeps.{with_system, with_region, with_touched}
 use Rattle.dali_system.specs.Regions.{Latch, NoteReads}
 use Rattle.dali_system.specs.Flushes.{with_vault, longer, frame_of}
-use Rattle.dali_system.specs.Courses.{Begins, Operates, Answers, Commits, Locks, OnRegion, Flushes, Moment, MayLeave, IsStepAt, IsCourse}
+use Rattle.dali_system.specs.Courses.{Begins, Operates, Answers, Commits, Locks, OnRegion, Flushes, Moment, IsStepAt, IsCourse}
 use Rattle.dali_system.proofs.Loads.{no_lock}
 use Rattle.dali_record.specs.Blocks.{AreWords}
 use Rattle.dali_record.specs.Spelling.{IsBlock}
@@ -36,17 +38,6 @@ use Rattle.dali_locks.specs.Locks.{stronger_mode}
 use Rattle.dali_locks.proofs.Changes.{get-locks_with}
 
 -- ---- what the tests tell
-pub format_is : (b : List Record) → is_format b ≡ true → b ≡ Format 1 1 ∷ []
-format_is [] e = absurd (cc)
-format_is (Format i h ∷ []) e = let m : i ≡ 1 = equal i 1 (and_left (i == 1) (h == 1) e) in let n : h ≡ 1 = equal h 1 (and_right (i == 1) (h == 1) e) in rw (m, n) refl
-format_is (Format i h ∷ x ∷ b) e = absurd (cc)
-format_is (x ∷ b) e = absurd (cc)
-
-one_is : (bs : List (List Record)) → one_batch bs ≡ true → bs ≡ first_log ∷ []
-one_is [] e = absurd (cc)
-one_is (b ∷ []) e = ap (λ z. z ∷ []) (format_is b e)
-one_is (b ∷ c ∷ bs) e = absurd (cc)
-
 commit_is : (b : List Record) → is_first_commit b ≡ true → b ≡ Begin 1 ∷ Commit 1 ∷ []
 commit_is (Begin t ∷ Commit u ∷ []) e = let m : t ≡ 1 = equal t 1 (and_left (t == 1) (u == 1) e) in let n : u ≡ 1 = equal u 1 (and_right (t == 1) (u == 1) e) in rw (m, n) refl
 commit_is b e = absurd (cc)
@@ -55,26 +46,15 @@ two_are : (bs : List (List Record)) → two_batches bs ≡ true → bs ≡ first
 two_are (a ∷ b ∷ []) e = let x : a ≡ Format 1 1 ∷ [] = format_is a (and_left (is_format a) (is_first_commit b) e) in let y : b ≡ Begin 1 ∷ Commit 1 ∷ [] = commit_is b (and_right (is_format a) (is_first_commit b) e) in rw (x, y) refl
 two_are bs e = absurd (cc)
 
--- ---- the first moment
-only_format : (F : Files) → MayLeave start.leave F → log_in F ≡ first_log
-only_format F h = ap (λ bs. flat_map (λ b. b) bs) (one_is F.batches h)
-
-stored : VaultRun (MayLeave start.leave) first_log 1 first_vault
-stored = record {
-  within = omega arith;
-  prefix = λ F h. record { count = 1; flushed = omega arith; within = omega arith; log = only_format F h };
-  exact = λ e F h. record { log = only_format F h; end = sym (ap (λ bs. sum_by batch_length bs) (one_is F.batches h)) };
-  then_fits = omega arith;
-  counts = omega arith;
-  rose = λ h. absurd (cc);
-}
-
 -- ---- the moments
+abbrev first : Moment
+first = start (formatted_image small)
+
 abbrev begun_1 : Moment
-begun_1 = record { log = first_log ++ Begin 1 ∷ []; core = with_system start.core (begun start.core.system); leave = start.leave }
+begun_1 = record { log = first_log ++ Begin 1 ∷ []; core = with_system first.core (begun first.core.system); leave = first.leave }
 
 abbrev committed_1 : Moment
-committed_1 = record { log = begun_1.log ++ Commit 1 ∷ []; core = with_system begun_1.core (commit_logged begun_1.core.system 1); leave = start.leave }
+committed_1 = record { log = begun_1.log ++ Commit 1 ∷ []; core = with_system begun_1.core (commit_logged begun_1.core.system 1); leave = first.leave }
 
 abbrev flushed_1 : Moment
 flushed_1 = record {
@@ -111,7 +91,7 @@ abbrev answered : Moment
 answered = record { log = operated.log ++ Done 2 (Get 5) Missing ∷ []; core = with_system operated.core (done_logged operated.core.system 2 (Get 5) Missing); leave = flushed_1.leave }
 
 -- ---- each step
-step_1 : IsStepAt start Begins begun_1
+step_1 : IsStepAt first Begins begun_1
 step_1 = ((record { runs = refl; room = omega arith }, (refl, refl)), λ F h. h)
 
 step_2 : IsStepAt begun_1 (Commits 1) committed_1
@@ -172,7 +152,7 @@ step_9 : IsStepAt operated (Answers 2 (Get 5) Missing) answered
 unfolding look entries
 step_9 = ((record { runs = refl; room = omega arith }, (omega arith, omega arith, tt, refl), refl, (refl, refl)), λ F h. h)
 
-course : IsCourse start steps answered
+course : IsCourse first steps answered
 course = (begun_1, step_1, (committed_1, step_2, (flushed_1, step_3, (begun_2, step_4, (locked, step_5, (latch, step_6, (read, step_7, (operated, step_8, (answered, step_9, refl)))))))))
 
 -- ---- what is left
@@ -182,7 +162,7 @@ crash = record { batches = first_log ∷ (Begin 1 ∷ Commit 1 ∷ []) ∷ []; g
 right : RestartsRight first_log answered.core crash
 unfolding crash look entries
 right =
-    every_run_is_right first_log (passes rules_start (Format 1 1)) 1000000 first_vault start.leave (format_is_history small (refl, refl)) refl refl (omega arith) stored
+    every_run_is_right first_log (passes rules_start (Format 1 1)) 1000000 first_vault first.leave (format_is_history small (refl, refl)) refl refl (omega arith) first_store
     steps answered course crash refl
     (record { seen = λ r g e. not_missed r g e; named = λ r g e h. absurd (none_lost r g e h) })
   where

@@ -14,8 +14,8 @@ use Rattle.dali_record.specs.Legal.{passes, rules_start}
 use Rattle.dali_record.specs.Files.{Files, Row}
 use Rattle.dali_system.specs.Regions.{Check}
 use Rattle.dali_system.specs.Courses.{Begins, Commits, Ends, AuditBegins, AuditEnds, OnRegion, Flushes, MayLeave}
-use Rattle.dali_crash.specs.Worked.{small, first_log, first_vault, is_format}
-use Rattle.dali_crash.specs.Checkpoints.{Head, Stored, StoreStep, Does, Starts, Copies, WritesHead, Syncs, Turns, IsStoreCourse}
+use Rattle.dali_system.specs.Worked.{small, first_log, first_vault, is_format, one_batch}
+use Rattle.dali_crash.specs.Checkpoints.{Head, Stored, StoreStep, Does, Starts, Copies, WritesHead, Syncs, Turns, Finishes, IsStoreCourse}
 use Rattle.dali_crash.specs.StoreRuns.{stored_start, CrashIsRightWith}
 
 abbrev pub same_words : List ℕ → List ℕ → Bool
@@ -40,10 +40,6 @@ is_whole_txn _ = false
 abbrev pub is_audit : List Record → Bool
 is_audit (AuditBegin ∷ AuditClean b ∷ []) = b == 4
 is_audit _ = false
-
-abbrev pub only_format : List (List Record) → Bool
-only_format (a ∷ []) = is_format a
-only_format _ = false
 
 abbrev pub with_txn : List (List Record) → Bool
 with_txn (a ∷ b ∷ []) = is_format a && is_whole_txn b
@@ -72,19 +68,21 @@ abbrev pub no_head : Head
 no_head = record { number = 0; place = 0; first = 0; weight = 0; next = 0; table = [] }
 
 abbrev pub checkpoint_start : Stored
-checkpoint_start = stored_start first_log (passes rules_start (Format 1 1)) 1000000 first_vault (λ F. only_format F.batches && is_unmoved F) (λ side r. []) (λ side. no_head) (λ side. false)
+checkpoint_start = stored_start first_log (passes rules_start (Format 1 1)) 1000000 first_vault (λ F. one_batch F.batches && is_unmoved F) (λ side r. []) (λ side. no_head) (λ side. false)
 
 abbrev pub checkpoint_steps : List StoreStep
 checkpoint_steps =
     Does Begins ∷ Does (Commits 1) ∷ Does (Ends 1) ∷ Does Flushes
     ∷ Starts ∷ Copies 0 ∷ Copies 1 ∷ WritesHead new_head
     ∷ Does AuditBegins ∷ Does (OnRegion 0 Check) ∷ Does (OnRegion 1 Check) ∷ Does (AuditEnds 4 []) ∷ Does Flushes
-    ∷ Syncs ∷ Turns ∷ []
+    ∷ Syncs ∷ Turns ∷ Finishes ∷ []
 
 pub record WorkedCheckpoint : Type 0 where
   pub finish : Stored
   pub course : IsStoreCourse checkpoint_start checkpoint_steps finish
   pub number : finish.moment.core.vault.current ≡ 1
+  -- no checkpoint is under way, so another one may start
+  pub free : finish.moment.core.system.checking ≡ false
   pub crash : Files
   pub left : MayLeave finish.moment.leave crash
   pub gates : crash.gates ≡ 1

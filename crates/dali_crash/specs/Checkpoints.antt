@@ -15,9 +15,11 @@
 --                              the anchor's move
 --     IsCertified h b c        an audit passed the place, which was brought up to date since the start
 --     MayTurn st h b k         the anchor may move to the image with the head h, by the audit from record b to k
+--     is_of_checkpoint x       the step x of the core is a checkpoint's: its start, its end, a region's flag
+--     MayWrite st              the vault runs, and a checkpoint has begun whose anchor hasn't moved
 --     StoreStep, IsStoreStep st x new      the kinds of step, and when one leads from st to new
 --     IsStoreCourse st xs new  these steps, one after another
-use Rattle.std.specs.Prelude.{◌≡◌, ℕ, ◌+◌, ◌%◌, ◌<◌, ◌≤◌, Bool, true, false, ◌&&◌, ◌||◌, ◌==◌, ◌⊎◌, if◌then◌else◌, List, [], ◌∷◌, Option, Some, None, map, length, slice_get}
+use Rattle.std.specs.Prelude.{◌≡◌, ℕ, ◌+◌, ◌%◌, ◌<◌, ◌≤◌, Bool, true, false, ◌&&◌, ◌||◌, ◌==◌, ◌⊎◌, if◌then◌else◌, List, [], ◌∷◌, Option, Some, None, is_some, map, length, slice_get}
 use Rattle.std.specs.List.{range_with_len}
 use Rattle.dali_geometry.specs.Sizes.{Sizes}
 use Rattle.dali_geometry.specs.Places.{regions}
@@ -32,9 +34,10 @@ use Rattle.dali_region.specs.Answers.{is_dirty, cleaned}
 use Rattle.dali_system.specs.State.{CoreState, stable}
 use Rattle.dali_system.specs.Run.{HasRisen}
 use Rattle.dali_system.specs.Regions.{Check}
-use Rattle.dali_system.specs.Keeps.{with_region}
+use Rattle.dali_system.specs.Keeps.{with_system, with_region}
+use Rattle.dali_system.specs.Steps.{in_checkpoint}
 use Rattle.dali_system.specs.Flushes.{with_vault, faulted}
-use Rattle.dali_system.specs.Courses.{Step, OnRegion, Moment, MayLeave, IsStepAt}
+use Rattle.dali_system.specs.Courses.{Step, OnRegion, Checkpoints, Moment, MayLeave, IsStepAt}
 use Rattle.dali_system.specs.Images.{Told}
 use Rattle.dali_system.specs.ImageSteps.{clears, same_side, told_with}
 
@@ -56,7 +59,7 @@ pub record Stored : Type 0 where
   pub heads : Side → Head
   -- whether a sync that succeeded came after the last write
   pub synced : Side → Bool
-  -- what the checkpoint under way kept at its start
+  -- what the checkpoint under way kept at its start, until its anchor moves
   pub begun : Option Head
   pub copies : Side → ℕ → Option Copy
 
@@ -107,10 +110,11 @@ pass_copy b (Some k) = Some (record k { passed = k.passed || b })
 abbrev pub copies_after : CoreState → Step → (Side → ℕ → Option Copy) → Side → ℕ → Option Copy
 copies_after c x copies side q = pass_copy (passes_region c x q) (copies side q)
 
--- the flag of a region is cleared by a copy alone
-abbrev pub clears_flag : Step → Bool
-clears_flag (OnRegion r x) = clears x
-clears_flag _ = false
+-- a checkpoint's start and end, and the clearing of a region's flag, which a copy does alone
+abbrev pub is_of_checkpoint : Step → Bool
+is_of_checkpoint (OnRegion r x) = clears x
+is_of_checkpoint (Checkpoints under_way) = true
+is_of_checkpoint _ = false
 
 -- ---- crashes
 abbrev pub image_in : Sizes → Told → Side → List (List ℕ)
@@ -166,7 +170,6 @@ pub record MayTurn (st : Stored) (h : Head) (b k : ℕ) : Type 0 where
   pub head : st.heads (target st) ≡ h
   pub synced : st.synced (target st) ≡ true
   pub clean : slice_get st.moment.log k ≡ Some (AuditClean b)
-  pub later : h.first ≤ b
   pub ends : b ≤ k
   pub flushed : k < stable st.moment.core.system
   pub copies : (r : ℕ) → r < regions st.moment.core.system.sizes
@@ -176,7 +179,7 @@ pub record MayTurn (st : Stored) (h : Head) (b k : ℕ) : Type 0 where
 pub data StoreStep : Type 0 where
   -- one that writes no image
   Does : (step : Step) → StoreStep
-  -- a checkpoint keeps the log's end, and which transactions run
+  -- a checkpoint keeps the log's end, and which transactions run, where none is under way
   Starts : StoreStep
   -- a region that changed is written, without the updates of an open operation, and its flag cleared
   Copies : (region : ℕ) → StoreStep
@@ -184,13 +187,15 @@ pub data StoreStep : Type 0 where
   Skips : (region : ℕ) → StoreStep
   WritesHead : (head : Head) → StoreStep
   Syncs : StoreStep
-  -- the anchor moves to the image
+  -- the anchor moves to the image, and nothing is kept any more
   Turns : StoreStep
   -- a fault in one of these
   CopyFails : (region : ℕ) → (words : List ℕ) → (faults : ℕ) → StoreStep
   HeadFails : (head : Head) → (faults : ℕ) → StoreStep
   SyncFails : (faults : ℕ) → StoreStep
   TurnFails : (faults : ℕ) → StoreStep
+  -- a checkpoint ends: its anchor has moved or failed to, or it is given up
+  Finishes : StoreStep
 
 abbrev pub core_of : Stored → CoreState
 core_of st = st.moment.core
@@ -206,10 +211,18 @@ with_current c = with_vault c c.system (record c.vault { current = c.vault.curre
 abbrev pub copy_now : Stored → Copy
 copy_now st = record { at = (core_of st).system.records; passed = false }
 
--- the store's count of faults rose, at a call of a vault that ran
-pub record IsFault (c : CoreState) (faults : ℕ) : Type 0 where
-  pub runs : c.vault.stopped ≡ false
-  pub rose : HasRisen c.vault.faults faults
+abbrev pub with_flag : CoreState → Bool → CoreState
+with_flag c under_way = with_system c (in_checkpoint c.system under_way)
+
+-- the vault runs, and a checkpoint has begun whose anchor hasn't moved
+pub record MayWrite (st : Stored) : Type 0 where
+  pub runs : (core_of st).vault.stopped ≡ false
+  pub under_way : is_some st.begun ≡ true
+
+-- the store's count of faults rose, at a call that a checkpoint made of a vault that ran
+pub record IsFault (st : Stored) (faults : ℕ) : Type 0 where
+  pub may : MayWrite st
+  pub rose : HasRisen (core_of st).vault.faults faults
 
 abbrev pub with_fault : CoreState → ℕ → CoreState
 with_fault c faults = with_vault c c.system (faulted c.vault faults)
@@ -222,14 +235,18 @@ Writes st new = IsWritten (MayLeave st.moment.leave) (MayLeave new.moment.leave)
 
 abbrev pub IsStoreStep : Stored → StoreStep → Stored → Type 0
 IsStoreStep st (Does x) new =
-    (clears_flag x ≡ false) × IsStepAt st.moment x new.moment
+    (is_of_checkpoint x ≡ false) × IsStepAt st.moment x new.moment
     × (new ≡ record st { moment = new.moment; copies = copies_after (core_of st) x st.copies })
 IsStoreStep st Starts new =
-    ((core_of st).vault.stopped ≡ false) × (stable (core_of st).system ≡ (core_of st).system.records)
-    × (new ≡ record st { begun = Some (head_now st.moment.log (core_of st)) })
+    ((core_of st).vault.stopped ≡ false) × ((core_of st).system.checking ≡ false)
+    × (stable (core_of st).system ≡ (core_of st).system.records)
+    × (new ≡ record st {
+      moment = moment_with st (with_flag (core_of st) true) st.moment.leave;
+      begun = Some (head_now st.moment.log (core_of st));
+    })
 IsStoreStep st (Copies r) new =
     (g : RegionState) × (slice_get (core_of st).regions r ≡ Some g)
-    × ((core_of st).vault.stopped ≡ false) × (is_dirty g (target st) ≡ true) × Writes st new
+    × MayWrite st × (is_dirty g (target st) ≡ true) × Writes st new
     × (new ≡ record st {
       moment = moment_with st (with_region (core_of st) r (cleaned (target st) g)) new.moment.leave;
       told = told_with st.told (target st) r g.back;
@@ -237,28 +254,28 @@ IsStoreStep st (Copies r) new =
       copies = copies_with st.copies (target st) r (Some (copy_now st));
     })
 IsStoreStep st (Skips r) new =
-    (g : RegionState) × (slice_get (core_of st).regions r ≡ Some g) × (is_dirty g (target st) ≡ false)
+    (g : RegionState) × (slice_get (core_of st).regions r ≡ Some g) × (is_some st.begun ≡ true) × (is_dirty g (target st) ≡ false)
     × (new ≡ record st { copies = copies_with st.copies (target st) r (Some (copy_now st)) })
 IsStoreStep st (WritesHead h) new =
-    ((core_of st).vault.stopped ≡ false) × Writes st new
+    MayWrite st × Writes st new
     × (new ≡ record st {
       moment = moment_with st (core_of st) new.moment.leave;
       heads = head_with st.heads (target st) h;
       synced = synced_with st.synced (target st) false;
     })
 IsStoreStep st Syncs new =
-    ((core_of st).vault.stopped ≡ false) × Fewer st new
+    MayWrite st × Fewer st new
     × (new ≡ record st {
       moment = moment_with st (core_of st) new.moment.leave;
       synced = synced_with st.synced (target st) true;
     })
 IsStoreStep st Turns new =
-    (h : Head) × (b : ℕ) × (k : ℕ) × ((core_of st).vault.stopped ≡ false) × MayTurn st h b k
+    (h : Head) × (b : ℕ) × (k : ℕ) × MayWrite st × MayTurn st h b k
     × IsTurned st (MayLeave new.moment.leave)
     × (new ≡ record st { moment = moment_with st (with_current (core_of st)) new.moment.leave; begun = None })
 IsStoreStep st (CopyFails r ws n) new =
     (g : RegionState) × (slice_get (core_of st).regions r ≡ Some g)
-    × (is_dirty g (target st) ≡ true) × IsFault (core_of st) n × Writes st new
+    × (is_dirty g (target st) ≡ true) × IsFault st n × Writes st new
     × (new ≡ record st {
       moment = moment_with st (with_fault (core_of st) n) new.moment.leave;
       told = told_with st.told (target st) r ws;
@@ -266,19 +283,22 @@ IsStoreStep st (CopyFails r ws n) new =
       copies = copies_with st.copies (target st) r None;
     })
 IsStoreStep st (HeadFails h n) new =
-    IsFault (core_of st) n × Writes st new
+    IsFault st n × Writes st new
     × (new ≡ record st {
       moment = moment_with st (with_fault (core_of st) n) new.moment.leave;
       heads = head_with st.heads (target st) h;
       synced = synced_with st.synced (target st) false;
     })
 IsStoreStep st (SyncFails n) new =
-    IsFault (core_of st) n × Fewer st new
+    IsFault st n × Fewer st new
     × (new ≡ record st { moment = moment_with st (with_fault (core_of st) n) new.moment.leave })
 IsStoreStep st (TurnFails n) new =
-    (h : Head) × (b : ℕ) × (k : ℕ) × IsFault (core_of st) n × MayTurn st h b k
+    (h : Head) × (b : ℕ) × (k : ℕ) × IsFault st n × MayTurn st h b k
     × IsTurning st (MayLeave new.moment.leave)
     × (new ≡ record st { moment = moment_with st (with_fault (core_of st) n) new.moment.leave; begun = None })
+IsStoreStep st Finishes new =
+    ((core_of st).system.checking ≡ true)
+    × (new ≡ record st { moment = moment_with st (with_flag (core_of st) false) st.moment.leave; begun = None })
 
 abbrev pub IsStoreCourse : Stored → List StoreStep → Stored → Type 0
 IsStoreCourse st [] new = st ≡ new

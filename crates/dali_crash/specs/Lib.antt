@@ -9,3 +9,4 @@ pub mod Checkpointed
 pub mod Damaged
 pub mod Unpoked
 pub mod CheckpointFaults
+pub mod Restarted

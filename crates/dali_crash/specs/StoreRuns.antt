@@ -10,9 +10,18 @@
 --     CrashIsRightWith before c F      that of a crash image, and a restart of its log is right
 --     LeavesRight bases before c F     the crash image F fits its log but for the missed regions; and where no damage
 --                              escapes, a restart from its image and the rest of its log is right
+--     FlagTells st             the flag is set where a checkpoint keeps something
+--     FlagStays, CourseFlagTells           so it is after each step, and after each list of steps
+--     FlagGoes x was is        what the step x finds of the flag, and what it leaves
+--     FlagChanges              so it is at each step
+--     LeavesImages st new      the image files are left, and all of a crash image but its batches
+--     IdleLeavesImages         where none keeps anything, a step leaves the image files and the current number
+--     KeptStays                what a checkpoint kept at its start stays until it is given up or its anchor moves
+--     IsLeft st new side       the file of this side was synced, and reads as it did
+--     SyncedStays              so it is after each step but a sync that leaves the file synced
 --     EveryStoreRunIsRight     from a format or a restart on, after any list of steps, each crash image fits and
 --                              restarts right
-use Rattle.std.specs.Prelude.{◌≡◌, ℕ, ◌+◌, ◌≤◌, Bool, true, false, ◌⊎◌, List, [], Some, None, length, take, sum_by, slice_get, flat_map}
+use Rattle.std.specs.Prelude.{◌≡◌, ℕ, ◌+◌, ◌≤◌, Bool, true, false, ◌⊎◌, List, [], Some, None, is_some, length, take, sum_by, slice_get, flat_map}
 use Rattle.dali_record.specs.declared.records.Record.{Record}
 use Rattle.dali_record.specs.Epochs.{Epoch, last_epoch, next_number}
 use Rattle.dali_record.specs.Settled.{settled_before}
@@ -32,7 +41,7 @@ use Rattle.dali_system.specs.Images.{Told, FitsBut, is_missed, ImageRun}
 use Rattle.dali_crash.specs.Restarts.{RestartsRight}
 use Rattle.dali_crash.specs.Fitting.{FitsWhole, recover_from}
 use Rattle.dali_crash.specs.Starts.{IsFreshStore}
-use Rattle.dali_crash.specs.Checkpoints.{Head, Copy, Stored, StoreStep, Turns, IsStoreStep, IsStoreCourse}
+use Rattle.dali_crash.specs.Checkpoints.{Head, Copy, Stored, StoreStep, Starts, Syncs, Turns, Finishes, IsStoreStep, IsStoreCourse}
 
 -- ---- what is known of a place in an image file
 -- it reads the words that the blocks below number n leave
@@ -141,6 +150,59 @@ pub record CrashIsRightWith (before : List Record) (c : CoreState) (F : Files) :
 pub record LeavesRight (bases : Bases) (before : List Record) (c : CoreState) (F : Files) : Type 0 where
   pub fits : FitsBut c.system.sizes bases (λ r. is_missed (slice_get c.regions r)) (log_in F) F (last_epoch (log_in F))
   pub right : NoneEscapes (last_epoch (log_in F)) c → CrashIsRightWith before c F
+
+-- ---- the flag of a checkpoint
+abbrev pub FlagTells : Stored → Type 0
+FlagTells st = is_some st.begun ≡ true → st.moment.core.system.checking ≡ true
+
+abbrev pub FlagStays : Type 0
+FlagStays = (st new : Stored) (x : StoreStep) → FlagTells st → IsStoreStep st x new → FlagTells new
+
+abbrev pub CourseFlagTells : Type 0
+CourseFlagTells =
+    (L : List Record) (g : Rules) (limit : ℕ) (v : VaultState) (leave : Files → Bool)
+    (told : Told) (heads : Side → Head) (synced : Side → Bool) (xs : List StoreStep) (n : Stored)
+    → IsStoreCourse (stored_start L g limit v leave told heads synced) xs n
+    → FlagTells n
+
+-- a start finds it clear and sets it, an end finds it set and clears it, and no other step changes it
+abbrev pub FlagGoes : StoreStep → Bool → Bool → Type 0
+FlagGoes Starts was is = (was ≡ false) × (is ≡ true)
+FlagGoes Finishes was is = (was ≡ true) × (is ≡ false)
+FlagGoes _ was is = is ≡ was
+
+abbrev pub FlagChanges : Type 0
+FlagChanges = (st new : Stored) (x : StoreStep) → IsStoreStep st x new → FlagGoes x st.moment.core.system.checking new.moment.core.system.checking
+
+-- what the image files read, their heads, and which of them is synced stays, and the number of the current one; no place is brought up to
+-- date; and each crash image is one from before, but for its batches
+pub record LeavesImages (st new : Stored) : Type 0 where
+  pub told : new.told ≡ st.told
+  pub heads : new.heads ≡ st.heads
+  pub synced : new.synced ≡ st.synced
+  pub current : new.moment.core.vault.current ≡ st.moment.core.vault.current
+  pub copies : (side : Side) (r : ℕ) (k : Copy) → new.copies side r ≡ Some k → (j : Copy) × (st.copies side r ≡ Some j) × (j.at ≡ k.at)
+  pub crashes : (F : Files) → MayLeave new.moment.leave F → (D : Files) × MayLeave st.moment.leave D × (F ≡ record D { batches = F.batches })
+
+abbrev pub IdleLeavesImages : Type 0
+IdleLeavesImages = (st new : Stored) (x : StoreStep) → st.begun ≡ None → IsStoreStep st x new → LeavesImages st new
+
+-- what a checkpoint kept stays, until nothing is kept any more
+abbrev pub KeptStays : Type 0
+KeptStays = (st new : Stored) (x : StoreStep) (h : Head) → FlagTells st → st.begun ≡ Some h → IsStoreStep st x new → (new.begun ≡ Some h) ⊎ (new.begun ≡ None)
+
+-- the file was synced, and reads as it did
+pub record IsLeft (st new : Stored) (side : Side) : Type 0 where
+  pub synced : st.synced side ≡ true
+  pub told : (r : ℕ) → new.told side r ≡ st.told side r
+  pub head : new.heads side ≡ st.heads side
+
+abbrev pub is_sync : StoreStep → Bool
+is_sync Syncs = true
+is_sync _ = false
+
+abbrev pub SyncedStays : Type 0
+SyncedStays = (st new : Stored) (x : StoreStep) (side : Side) → is_sync x ≡ false → IsStoreStep st x new → new.synced side ≡ true → IsLeft st new side
 
 abbrev pub EveryStoreRunIsRight : Type 0
 EveryStoreRunIsRight =

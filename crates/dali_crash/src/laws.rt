@@ -4,11 +4,12 @@ ghost use Rattle.dali_crash.specs.CrashLogs.{StopsHonest, UnpokedHonest, Unpoked
 ghost use Rattle.dali_crash.specs.Worked.{WorkedRun};
 ghost use Rattle.dali_crash.specs.Checkpointed.{WorkedCheckpoint};
 ghost use Rattle.dali_crash.specs.CheckpointFaults.{WorkedFaults};
+ghost use Rattle.dali_crash.specs.Restarted.{WorkedRestart};
 ghost use Rattle.dali_crash.specs.Damaged.{DamagedRun};
 ghost use Rattle.dali_crash.specs.Restarts.{FormatHasRightBase, RestartHasRightBase, CrashIsHistory, CrashIsRight, RunIsRight, FlushedStays, AcknowledgedStays, CourseKeepsTheBase, FormatIsHistory, EveryRunIsRight};
 ghost use Rattle.dali_crash.specs.Fitting.{ButIsWhole, RedoesTheEpoch, RecoversFromImage};
 ghost use Rattle.dali_crash.specs.Starts.{FreshFits, RestartStarts};
-ghost use Rattle.dali_crash.specs.StoreRuns.{StoreStepKeeps, StoreCourseKeeps, TurnEnds, FreshStarts, EveryStoreRunIsRight};
+ghost use Rattle.dali_crash.specs.StoreRuns.{StoreStepKeeps, StoreCourseKeeps, TurnEnds, FlagStays, CourseFlagTells, FlagChanges, IdleLeavesImages, KeptStays, SyncedStays, FreshStarts, EveryStoreRunIsRight};
 ghost use Rattle.dali_crash.specs.Unpoked.{UnpokedRunIsRight, UnpokedStoreRunIsRight};
 
 /// Where no damage escapes a stop, the last epoch of what it leaves is honest.
@@ -81,8 +82,9 @@ pub fn every_run_is_right()
     ensures { EveryRunIsRight }
 {}
 
-/// Without a stray write a restart after a stop is right, wherever the stop came; and where no audit named a
-/// region, it deletes nobody.
+/// Without a stray write a restart after a stop is right, wherever the stop came, and it deletes nobody of the epoch
+/// of these steps. Where a crash leaves none of their records, right behind a restart, the next one reports the lists
+/// of that one again.
 pub fn every_run_without_stray_writes_is_right()
     ensures { UnpokedRunIsRight }
 {}
@@ -142,6 +144,38 @@ pub fn a_checkpoint_ends()
     ensures { TurnEnds }
 {}
 
+/// Each step leaves the flag set where a checkpoint keeps what it took down at its start.
+pub fn each_step_keeps_what_the_flag_tells()
+    ensures { FlagStays }
+{}
+
+/// So it is from the making of a core on, after any steps.
+pub fn a_flag_tells_its_checkpoint()
+    ensures { CourseFlagTells }
+{}
+
+/// Where no checkpoint keeps anything, as before its start and behind its anchor's move, a step leaves what the image
+/// files read, their heads, which of them is synced and the number of the current one, brings no place up to date, and
+/// what a crash may leave has all but its batches from before.
+pub fn without_a_checkpoint_no_image_is_written()
+    ensures { IdleLeavesImages }
+{}
+
+/// What a checkpoint kept at its start stays until it is given up or its anchor moves: so none starts under another.
+pub fn what_a_checkpoint_kept_stays()
+    ensures { KeptStays }
+{}
+
+/// A file that is synced behind a step reads as before it, and was synced, but where the step is a sync.
+pub fn what_is_synced_stays()
+    ensures { SyncedStays }
+{}
+
+/// A start finds the flag clear and sets it, an end finds it set and clears it, and no other step changes it.
+pub fn the_flag_changes_at_starts_and_ends()
+    ensures { FlagChanges }
+{}
+
 /// A core that a format or a restart hands out is a run with its store.
 pub fn a_fresh_store_is_a_run()
     ensures { FreshStarts }
@@ -160,8 +194,9 @@ pub fn a_worked_checkpoint()
     ensures { WorkedCheckpoint }
 {}
 
-/// The same checkpoint up to a fault in a copy, in the head, in the sync or in the anchor's move, and a
-/// region that is skipped: the premises of these steps are met, and a crash then leaves files that restart right.
+/// The same checkpoint up to a fault in a copy, in the head, in the sync or in the anchor's move, with a region
+/// that is skipped, and given up behind the first of these; and given up without a fault, with another one that
+/// starts behind it: the premises of these steps are met, and a crash then leaves files that restart right.
 pub fn worked_checkpoints_that_fail()
     ensures { WorkedFaults }
 {}
@@ -170,4 +205,10 @@ pub fn worked_checkpoints_that_fail()
 /// deletes the transaction.
 pub fn a_worked_run_with_damage()
     ensures { DamagedRun }
+{}
+
+/// The files of a restart, whose anchor has moved, and a transaction that inserts a key: a crash leaves records
+/// behind the image, and redone over it they store the key.
+pub fn a_worked_restart()
+    ensures { WorkedRestart }
 {}

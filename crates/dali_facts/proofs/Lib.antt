@@ -3,3 +3,4 @@ pub mod Commits
 pub mod Plans
 pub mod Begun
 pub mod Told
+pub mod States

@@ -27,6 +27,7 @@ pub refusals_tell : RefusalsTell
 refusals_tell bases L c run n f at = record {
   older = old.older;
   within = old.within;
+  asked = running_stands (txn_state s f.txn front) (has (begun (last_epoch front).records) f.txn) (has (ended (last_epoch front).records) f.txn) old.asking (stands s f.txn front rules.0 rules.1);
   ran = running_stands (txn_state s f.holder front) (has (begun (last_epoch front).records) f.holder) (has (ended (last_epoch front).records) f.holder) old.running (stands s f.holder front rules.0 rules.1);
   conflict = ⊎_elim (λ since. inl since) (λ way. inr ((holds_the_begun bases L c run f.holder).0 (run.locks.owned f.holder f.key way.mode way.holds), way)) old.conflict;
 }

@@ -4,7 +4,7 @@
 --     HasCounts                the system's counts are those of the list
 --     CommittedIsLogged        a row says Committed exactly where the log has the Commit
 --     HoldsTheBegun            the table has just the transactions of the last epoch with a Begin and no Ended
---     RefusalsTell             a refusal names an older transaction that ran then, and is in the request's way until it ends
+--     RefusalsTell             a transaction that ran was refused; an older one ran then, and is in the request's way until it ends
 --     StopTells                what stopped the engine
 --     RegionsTell              the words of a region against its codeword and its settled words
 use Rattle.std.specs.Prelude.{◌≡◌, ℕ, ◌<◌, ◌≤◌, ◌↔◌, ◌⊎◌, Bool, true, false, not, ◌&&◌, List, Some, None, IsSome, length, sum_by, take, slice_get, slice_index, bit_xor}
@@ -61,6 +61,7 @@ HoldsTheBegun = (bases : Bases) (L : List Record) (c : CoreState) → RunsOn bas
 pub record RefusalTells (L : List Record) (c : CoreState) (f : Refusal) : Type 0 where
   pub older : f.holder < f.txn
   pub within : f.at ≤ length L
+  pub asked : runs_in (take f.at L) f.txn ≡ true
   pub ran : runs_in (take f.at L) f.holder ≡ true
   -- it has ended since, or runs and holds the key in a mode that isn't shared with the one that was asked for
   pub conflict : EndedSince f.holder f.at L ⊎ ((runs_in L f.holder ≡ true) × IsConflict c.system.locks f.txn f.key f.mode f.holder)

@@ -1,6 +1,7 @@
 //! Laws over the definitions, each the contract of a function that does nothing.
 
 ghost use Rattle.dali_facts.specs.Facts.{HoldsItsKeys, HasItsUndos, HasCounts, CommittedIsLogged, HoldsTheBegun, RefusalsTell, StopTells, RegionsTell};
+ghost use Rattle.dali_facts.specs.States.{StatesComeFrom};
 ghost use Rattle.dali_facts.specs.Plans.{PlanGoesOn, PlanStarts, PlanAnswers, TakeBackGoesOn};
 
 /// A running transaction holds the keys of its blocks.
@@ -48,7 +49,8 @@ pub fn a_run_holds_the_begun()
     ensures { HoldsTheBegun }
 {}
 
-/// A refused request names an older transaction that ran then, and has ended since or is in its way still.
+/// A transaction that ran made each refused request, which names an older one that ran then, and has ended since
+/// or is in its way still.
 pub fn a_run_tells_its_refusals()
     ensures { RefusalsTell }
 {}
@@ -62,4 +64,10 @@ pub fn a_run_tells_its_stop()
 /// A region's codeword tells its stray writes, and without one its words are those that the log leaves.
 pub fn a_run_tells_its_words()
     ensures { RegionsTell }
+{}
+
+/// A row is Live only where it was or is new, Dead only where it was or was Live or Cleaning, Cleaning only where it was
+/// or was Dead, and Committed only where there was one.
+pub fn states_come_from_states()
+    ensures { StatesComeFrom }
 {}

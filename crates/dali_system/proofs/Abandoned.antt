@@ -1,7 +1,9 @@
--- The worked run of a client that dies: transaction 2 is refused, 1 dies in its next operation, is claimed and taken back, and ends; the store fails.
+-- The worked run of a client that dies: transaction 2 is refused, 1 dies in its next operation, is claimed, given back, claimed again and taken
+-- back, and ends; the store fails.
 use Rattle.std.proofs.Common.{◌≡◌, ℕ, zero, suc, ◌≤◌, true, List, [], ◌∷◌, ◌++◌, Option, Some, None, refl, ap, sym, ◌∙◌, arith, inl}
 use Rattle.std.specs.FinMap.{get, empty, get-empty}
 use Rattle.std.specs.Option.{option_map}
+use Rattle.std.specs.Prelude.{is_some}
 use Rattle.dali_record.specs.declared.operations.Op.TheVariants.{ReviveCell}
 use Rattle.dali_record.specs.declared.operations.Undo.TheVariants.{ReviveCell as UndoReviveCell}
 use Rattle.dali_record.specs.declared.records.Record.TheVariants.{Begin, Back, Ended}
@@ -21,7 +23,7 @@ use Rattle.dali_system.specs.Steps.{begun, refused, in_state, back_logged, ended
 use Rattle.dali_system.specs.Keeps.{with_system}
 use Rattle.dali_system.specs.Regions.{Die, TakeBack}
 use Rattle.dali_system.specs.Flushes.{with_vault, faulted}
-use Rattle.dali_system.specs.Courses.{Step, Begins, Refuses, Turns, OnRegion, TakesBack, Ends, Faults, Stops, Moment, IsStepAt, IsCourse}
+use Rattle.dali_system.specs.Courses.{Step, Begins, Refuses, ChangesState, OnRegion, TakesBack, Ends, Faults, Stops, Moment, IsStepAt, IsCourse}
 use Rattle.dali_system.specs.Worked.{first_log, start, opening, touching, heap_words, stored, look, kill_cell, kill_entry, revive_cell, kills, abandoned, Abandoned}
 use Rattle.dali_system.proofs.Courses.{course_keeps}
 use Rattle.dali_system.proofs.Tables.{added, changed}
@@ -54,9 +56,9 @@ in_the_way : IsOldestConflict begun_2.core.system.locks 2 5 Shared 1
 in_the_way = record { conflict = record { other = refl; mode = Exclusive; holds = holds_key; clash = refl }; oldest = oldest }
 
 refuses : IsStepAt begun_2 (Refuses 2 5 Shared 1) refused_2
-refuses = (((in_the_way, omega arith), (refl, refl)), λ F h. h)
+refuses = ((ap (λ (row : Option TxnRow). is_some row) (added cell_killed.core.system.table 2 fresh_row 2), (in_the_way, omega arith), (refl, refl)), λ F h. h)
 
--- ---- the client of transaction 1 dies in an operation, and another client claims it
+-- ---- the client of transaction 1 dies in an operation, and another client claims it, gives it back, and claims it again
 abbrev at_death : RegionState
 at_death = after_all (opening 1 kill_entry ((1, 2) ∷ [])) (touched at_look)
 
@@ -66,8 +68,14 @@ died = with_one (with_one refused_2 0 at_death) 0 (dead at_death)
 abbrev left_dead : Moment
 left_dead = record { log = died.log; core = with_system died.core (in_state died.core.system 1 Dead); leave = died.leave }
 
+abbrev claimed_first : Moment
+claimed_first = record { log = left_dead.log; core = with_system left_dead.core (in_state left_dead.core.system 1 Cleaning); leave = left_dead.leave }
+
+abbrev given_back : Moment
+given_back = record { log = claimed_first.log; core = with_system claimed_first.core (in_state claimed_first.core.system 1 Dead); leave = claimed_first.leave }
+
 abbrev claimed : Moment
-claimed = record { log = left_dead.log; core = with_system left_dead.core (in_state left_dead.core.system 1 Cleaning); leave = left_dead.leave }
+claimed = record { log = given_back.log; core = with_system given_back.core (in_state given_back.core.system 1 Cleaning); leave = given_back.leave }
 
 dies : IsStepAt (with_one refused_2 0 at_death) (OnRegion 0 Die) died
 unfolding look kill_entry entries
@@ -91,11 +99,23 @@ row_killed =
 row_dead : row_of left_dead.core.system 1 ≡ Some (with_state Dead killed_row)
 row_dead = changed died.core.system.table 1 (with_state Dead) 1 ∙ ap (option_map (with_state Dead)) row_killed
 
-turns_dead : IsStepAt died (Turns 1 Dead) left_dead
-turns_dead = ((record { row = killed_row; at = row_killed; was = refl; turns = refl }, (refl, refl)), λ F h. h)
+turns_dead : IsStepAt died (ChangesState 1 Dead) left_dead
+turns_dead = ((record { row = killed_row; at = row_killed; moves = refl }, (refl, refl)), λ F h. h)
 
-claims : IsStepAt left_dead (Turns 1 Cleaning) claimed
-claims = ((record { row = with_state Dead killed_row; at = row_dead; was = refl; turns = refl }, (refl, refl)), λ F h. h)
+row_claimed : row_of claimed_first.core.system 1 ≡ Some (with_state Cleaning killed_row)
+row_claimed = changed left_dead.core.system.table 1 (with_state Cleaning) 1 ∙ ap (option_map (with_state Cleaning)) row_dead
+
+row_given_back : row_of given_back.core.system 1 ≡ Some (with_state Dead killed_row)
+row_given_back = changed claimed_first.core.system.table 1 (with_state Dead) 1 ∙ ap (option_map (with_state Dead)) row_claimed
+
+claims_first : IsStepAt left_dead (ChangesState 1 Cleaning) claimed_first
+claims_first = ((record { row = with_state Dead killed_row; at = row_dead; moves = refl }, (refl, refl)), λ F h. h)
+
+gives_back : IsStepAt claimed_first (ChangesState 1 Dead) given_back
+gives_back = ((record { row = with_state Cleaning killed_row; at = row_claimed; moves = refl }, (refl, refl)), λ F h. h)
+
+claims : IsStepAt given_back (ChangesState 1 Cleaning) claimed
+claims = ((record { row = with_state Dead killed_row; at = row_given_back; moves = refl }, (refl, refl)), λ F h. h)
 
 -- ---- it is taken back
 abbrev taken : Moment
@@ -167,7 +187,7 @@ abbrev reviving : List Step
 reviving = touching 1 revive_cell ((8, 1) ∷ []) (TakesBack 1 revive_cell) ++ ending
 
 abbrev claiming : List Step
-claiming = Turns 1 Dead ∷ Turns 1 Cleaning ∷ OnRegion 0 TakeBack ∷ reviving
+claiming = ChangesState 1 Dead ∷ ChangesState 1 Cleaning ∷ ChangesState 1 Dead ∷ ChangesState 1 Cleaning ∷ OnRegion 0 TakeBack ∷ reviving
 
 abbrev dying : List Step
 dying = touching 1 kill_entry ((1, 2) ∷ []) (OnRegion 0 Die) ++ claiming
@@ -176,7 +196,7 @@ revive_to_end : IsCourse taken reviving finish
 revive_to_end = join taken revived finish (touching 1 revive_cell ((8, 1) ∷ []) (TakesBack 1 revive_cell)) ending revive_course (ended, ends, (failed, fails, (finish, stops, refl)))
 
 claim_course : IsCourse died claiming finish
-claim_course = (left_dead, turns_dead, (claimed, claims, (taken, takes, revive_to_end)))
+claim_course = (left_dead, turns_dead, (claimed_first, claims_first, (given_back, gives_back, (claimed, claims, (taken, takes, revive_to_end)))))
 
 refuse_course : IsCourse cell_killed (Begins ∷ Refuses 2 5 Shared 1 ∷ dying) finish
 refuse_course = (begun_2, begins, (refused_2, refuses, join refused_2 died finish (touching 1 kill_entry ((1, 2) ∷ []) (OnRegion 0 Die)) claiming death_course claim_course))

@@ -14,7 +14,7 @@ use Rattle.dali_record.specs.Legal.{concerns, Rules, rules_state, rules_next, ru
 use Rattle.dali_record.proofs.Pushes.{rules_state_push}
 use Rattle.dali_region.specs.State.{RegionState, checked}
 use Rattle.dali_system.specs.Run.{TableRun, failed_first, blocks_on, certified_on, RegionRun, base_at}
-use Rattle.dali_system.specs.Audits.{Certifies, AuditBeginKeeps, AuditEndKeeps, PassCertifies, CertifiesStays}
+use Rattle.dali_system.specs.Audits.{Certifies, AuditBeginKeeps, AuditEndKeeps, PassCertifies, PassFinds, CertifiesStays}
 use Rattle.dali_system.proofs.OneMore.{is_inside, one_more, last_epoch-push, clean_place-push, failed_first-push, TableRun-push, LogRun-push, CountRun-push, LockRun-push}
 use Rattle.dali_system.proofs.OneMoreTouch.{RegionRun-off, blocks_on-take}
 use Rattle.dali_system.proofs.Logging.{RunsOn-logged, no_conflict, regions_quiet}
@@ -77,6 +77,14 @@ pass_certifies base e b r g run zero_stray h = omega (arith, run.protected.all_s
 
     unpoked : g.poked ≡ false
     unpoked = first g.poked (g.stray == 0) (or_false g.missed _ h).1 zero_stray
+
+-- one that doesn't finds a stray write
+pub pass_finds : PassFinds
+pass_finds base e r g run other = by_test g.poked refl
+  where
+    by_test : (b : Bool) → g.poked ≡ b → b ≡ true
+    by_test true f = refl
+    by_test false f = let none : (g.stray == 0) ≡ true = ap (λ n. n == 0) (run.protected.no_stray f) in absurd (cc)
 
 -- what a pass found out stays
 pub certifies_stays : CertifiesStays
@@ -145,7 +153,7 @@ audit_end_keeps bases L c b [] run may = record {
     table = TableRun-none s L x c.system.table run.table (λ u. refl)
 
     each : (r : ℕ) (g : RegionState) → slice_get c.regions r ≡ Some g → Certifies (last_epoch L) b r g
-    each r g e = ⊎_elim (λ h. absurd (cc)) (λ h. h) (may.each r g e)
+    each r g e = may.certified r g e refl
 audit_end_keeps bases L c b (f ∷ fs) run may = record {
   log = LogRun-push s L x c.system.table run.log table (rw rule refl) refl may.spelled (λ a e. absurd (cc)) (no_conflict s L x c.system run.locks (λ a e. absurd (cc)));
   counts = CountRun-push s L x c.system run.counts then refl rule refl refl refl (λ t h. refl) (omega arith) (clean_within L x (clean_place (last_epoch L)) refl run.counts.clean refl) _ refl refl refl refl;

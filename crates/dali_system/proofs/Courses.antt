@@ -10,7 +10,7 @@ use Rattle.dali_system.specs.Run.{Bases, base_at, RunsOn, VaultRun, IsRun}
 use Rattle.dali_system.specs.Steps.{audit_record, flushed}
 use Rattle.dali_system.specs.Loads.{new_core}
 use Rattle.dali_system.specs.Flushes.{frame_of, longer, faulted, with_vault, Appended, Appending}
-use Rattle.dali_system.specs.Courses.{Begins, Operates, TakesBack, Frees, Answers, Commits, Ends, AuditBegins, AuditEnds, Locks, Refuses, OnRegion, Turns, Stops, Checkpoints, Flushes, Faults, Adds, AddsNone, Moment, MayLeave, RunsAt, StepKeeps, CourseKeeps, Step, LoadRunsAt, IsStepAt}
+use Rattle.dali_system.specs.Courses.{Begins, Operates, TakesBack, Frees, Answers, Commits, Ends, AuditBegins, AuditEnds, Locks, Refuses, OnRegion, ChangesState, Stops, Checkpoints, Flushes, Faults, Adds, AddsNone, Moment, MayLeave, RunsAt, StepKeeps, CourseKeeps, Step, LoadRunsAt, IsStepAt}
 use Rattle.dali_system.proofs.OneMore.{is_inside, last_epoch-push, VaultRun-push}
 use Rattle.dali_system.proofs.RecordSteps.{begin_keeps, op_keeps, back_keeps, solo_keeps, done_keeps, commit_keeps, ended_keeps}
 use Rattle.dali_system.proofs.AuditSteps.{audit_begin_keeps, audit_end_keeps}
@@ -130,11 +130,11 @@ step_keeps bases before m n (Ends t) at s = logged_at bases before m n _ (Ended 
 step_keeps bases before m n AuditBegins at s = logged_at bases before m n _ AuditBegin at refl s.1 refl refl refl refl (λ run. audit_begin_keeps bases m.log m.core run s.0.0 s.0.1) s.0.2
 step_keeps bases before m n (AuditEnds b found) at s = logged_at bases before m n _ (audit_record b found) at (audit_inside b found) s.1 refl refl refl refl (λ run. audit_end_keeps bases m.log m.core b found run s.0.0) s.0.1
 step_keeps bases before m n (Locks t k mode) at s = quiet_at bases before m n _ at s.1 refl refl refl refl (λ run. grant_keeps bases m.log m.core t k mode run s.0.0 s.0.1) s.0.2
-step_keeps bases before m n (Refuses t k mode h) at s = quiet_at bases before m n _ at s.1 refl refl refl refl (λ run. refuse_keeps bases m.log m.core t k h mode run s.0.0) s.0.1
+step_keeps bases before m n (Refuses t k mode h) at s = quiet_at bases before m n _ at s.1 refl refl refl refl (λ run. refuse_keeps bases m.log m.core t k h mode run s.0.0 s.0.1) s.0.2
 step_keeps bases before m n (OnRegion r x) at s = quiet_at bases before m n _ at s.1 refl refl refl refl (λ run. region_keeps bases m.log m.core r s.0.0 x run s.0.1 s.0.2) s.0.3
-step_keeps bases before m n (Turns t state) at s = quiet_at bases before m n _ at s.1 refl refl refl refl (λ run. state_keeps bases m.log m.core t state run s.0.0) s.0.1
+step_keeps bases before m n (ChangesState t state) at s = quiet_at bases before m n _ at s.1 refl refl refl refl (λ run. state_keeps bases m.log m.core t state run s.0.0) s.0.1
 step_keeps bases before m n Stops at s = quiet_at bases before m n _ at s.1 refl refl refl refl (λ run. stop_keeps bases m.log m.core run s.0.0) s.0.1
-step_keeps bases before m n (Checkpoints b) at s = quiet_at bases before m n _ at s.1 refl refl refl refl (λ run. checkpoint_flag_keeps bases m.log m.core b run) s.0
+step_keeps bases before m n (Checkpoints b) at s = quiet_at bases before m n _ at s.1 refl refl refl refl (λ run. checkpoint_flag_keeps bases m.log m.core b run) s.0.1
 step_keeps bases before m n Flushes at s =
     at_once bases before m n (with_vault m.core (flushed m.core.system) (longer m.core.vault (frame_of m.log m.core.system))) s.0.1.1 (s.0.1.0 ∙ at.log)
     (subst (λ L. IsRun bases before (MayLeave n.leave) (with_vault m.core (flushed m.core.system) (longer m.core.vault (frame_of L m.core.system)))) (sym at.log)
@@ -192,10 +192,10 @@ step_goes m n (Ends t) s = goes_with m n _ (Ended t) refl refl s.0.2
 step_goes m n AuditBegins s = goes_with m n _ AuditBegin refl refl s.0.2
 step_goes m n (AuditEnds b found) s = goes_with m n _ (audit_record b found) (audit_inside b found) refl s.0.1
 step_goes m n (Locks t k mode) s = goes_on m n _ refl s.0.2
-step_goes m n (Refuses t k mode h) s = goes_on m n _ refl s.0.1
+step_goes m n (Refuses t k mode h) s = goes_on m n _ refl s.0.2
 step_goes m n (OnRegion r x) s = goes_on m n _ refl s.0.3
-step_goes m n (Turns t state) s = goes_on m n _ refl s.0.1
+step_goes m n (ChangesState t state) s = goes_on m n _ refl s.0.1
 step_goes m n Stops s = goes_on m n _ refl s.0.1
-step_goes m n (Checkpoints b) s = goes_on m n _ refl s.0
+step_goes m n (Checkpoints b) s = goes_on m n _ refl s.0.1
 step_goes m n Flushes s = goes_on m n _ refl s.0.1
 step_goes m n (Faults k) s = goes_on m n _ refl s.0.2

@@ -1,5 +1,5 @@
 -- The worked run with damage: a poke, a transaction that reads it and commits, an audit that fails.
-use Rattle.std.proofs.Common.{◌≡◌, ℕ, zero, suc, ◌<◌, true, false, List, [], ◌∷◌, ◌++◌, Option, Some, None, refl, ap, sym, ◌∙◌, subst, arith, inl, inr, ◌⊎◌}
+use Rattle.std.proofs.Common.{◌≡◌, ℕ, zero, suc, ◌<◌, true, false, List, [], ◌∷◌, ◌++◌, Option, Some, None, refl, ap, sym, ◌∙◌, subst, arith}
 use Rattle.std.specs.Prelude.{slice_get, replicate, is_some}
 use Rattle.std.specs.FinMap.{get}
 use Rattle.dali_geometry.specs.Places.{formatted_image}
@@ -180,16 +180,29 @@ is_auditing : IsAuditing small passed.log 7
 unfolding damaged_look entries
 is_auditing = record { named = named_by 7 (rules_state small passed.log) refl; within = omega arith }
 
--- region 0 is named, and no block is on region 1
-found_or_certified : (r : ℕ) (g : RegionState) → slice_get passed.core.regions r ≡ Some g → (has (0 ∷ []) r ≡ true) ⊎ Certifies (last_epoch passed.log) 7 r g
+not_second : has (0 ∷ []) 1 ≡ true → ⊥
+not_second h = cc
+
+not_first : has (0 ∷ []) 0 ≡ false → ⊥
+not_first h = cc
+
+-- region 0 is named, to which the poke came
+named_is_poked : (r : ℕ) (g : RegionState) → slice_get passed.core.regions r ≡ Some g → has (0 ∷ []) r ≡ true → g.poked ≡ true
 unfolding damaged_look entries
-found_or_certified zero g e = inl refl
-found_or_certified (suc zero) g e = inr (λ h. omega arith)
-found_or_certified (suc (suc r)) g e = absurd (cc)
+named_is_poked zero g e h = ap (λ (z : RegionState). z.poked) (sym (some_same e))
+named_is_poked (suc zero) g e h = absurd (not_second h)
+named_is_poked (suc (suc r)) g e h = absurd (cc)
+
+-- no block is on region 1
+others_certified : (r : ℕ) (g : RegionState) → slice_get passed.core.regions r ≡ Some g → has (0 ∷ []) r ≡ false → Certifies (last_epoch passed.log) 7 r g
+unfolding damaged_look entries
+others_certified zero g e n = absurd (not_first n)
+others_certified (suc zero) g e n = λ h. omega arith
+others_certified (suc (suc r)) g e n = absurd (cc)
 
 ends_audit : IsStepAt passed (AuditEnds 7 (0 ∷ [])) audited
 unfolding damaged_look entries
-ends_audit = ((record { runs = refl; auditing = is_auditing; spelled = (omega arith, (omega arith, (omega arith, tt), refl), omega arith); numbers = refl; each = found_or_certified }, (refl, refl)), λ F h. h)
+ends_audit = ((record { runs = refl; auditing = is_auditing; spelled = (omega arith, (omega arith, (omega arith, tt), refl), omega arith); numbers = refl; stray = named_is_poked; certified = others_certified }, (refl, refl)), λ F h. h)
 
 accepted : two_batches (first_log ∷ committed_batch ∷ []) ≡ true
 unfolding damaged_look entries

@@ -18,7 +18,7 @@ use Rattle.dali_counts.proofs.Lists.{equal, same_number, or_false, set_cases}
 use Rattle.dali_system.specs.State.{SystemState, CoreState}
 use Rattle.dali_system.specs.Run.{Bases, log_in}
 use Rattle.dali_system.specs.Regions.{IsOpen, RegionStep, Latch, NoteReads, Update, TakeBack, Poke, Check, Die, Clean, region_after}
-use Rattle.dali_system.specs.Courses.{Begins, Operates, TakesBack, Frees, Answers, Commits, Ends, AuditBegins, AuditEnds, Locks, Refuses, OnRegion, Turns, Stops, Checkpoints, Flushes, Faults, MayLeave}
+use Rattle.dali_system.specs.Courses.{Begins, Operates, TakesBack, Frees, Answers, Commits, Ends, AuditBegins, AuditEnds, Locks, Refuses, OnRegion, ChangesState, Stops, Checkpoints, Flushes, Faults, MayLeave}
 use Rattle.dali_system.specs.Images.{Told, FitsBut, is_missed, ImageRun}
 use Rattle.dali_system.specs.ImageSteps.{clears, ImagesKeep, same_side, CopyKeeps}
 
@@ -147,11 +147,11 @@ images_keep bases told m n (Ends t) run s w = images_same bases told (MayLeave m
 images_keep bases told m n AuditBegins run s w = images_same bases told (MayLeave m.leave) (MayLeave n.leave) m.core n.core _ s.0.2.1 refl refl s.1 run
 images_keep bases told m n (AuditEnds b found) run s w = images_same bases told (MayLeave m.leave) (MayLeave n.leave) m.core n.core _ s.0.1.1 refl refl s.1 run
 images_keep bases told m n (Locks t k mode) run s w = images_same bases told (MayLeave m.leave) (MayLeave n.leave) m.core n.core _ s.0.2.1 refl refl s.1 run
-images_keep bases told m n (Refuses t k mode h) run s w = images_same bases told (MayLeave m.leave) (MayLeave n.leave) m.core n.core _ s.0.1.1 refl refl s.1 run
+images_keep bases told m n (Refuses t k mode h) run s w = images_same bases told (MayLeave m.leave) (MayLeave n.leave) m.core n.core _ s.0.2.1 refl refl s.1 run
 images_keep bases told m n (OnRegion r x) run s w = images_region bases told (MayLeave m.leave) (MayLeave n.leave) m.core n.core m.core.system r s.0.0 (region_after x s.0.0) s.0.3.1 refl s.0.1 (clears_after x s.0.0 w) (misses_after x s.0.0) s.1 run
-images_keep bases told m n (Turns t state) run s w = images_same bases told (MayLeave m.leave) (MayLeave n.leave) m.core n.core _ s.0.1.1 refl refl s.1 run
+images_keep bases told m n (ChangesState t state) run s w = images_same bases told (MayLeave m.leave) (MayLeave n.leave) m.core n.core _ s.0.1.1 refl refl s.1 run
 images_keep bases told m n Stops run s w = images_same bases told (MayLeave m.leave) (MayLeave n.leave) m.core n.core _ s.0.1.1 refl refl s.1 run
-images_keep bases told m n (Checkpoints b) run s w = images_same bases told (MayLeave m.leave) (MayLeave n.leave) m.core n.core _ s.0.1 refl refl s.1 run
+images_keep bases told m n (Checkpoints b) run s w = images_same bases told (MayLeave m.leave) (MayLeave n.leave) m.core n.core _ s.0.1.1 refl refl s.1 run
 images_keep bases told m n Flushes run s w = absurd (cc)
 images_keep bases told m n (Faults k) run s w = absurd (cc)
 

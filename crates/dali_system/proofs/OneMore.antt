@@ -216,6 +216,7 @@ LockRun-push s L x y z run inside same keeps fewer owner = record {
     refusal f old = record {
       older = old.older;
       within = omega (arith, old.within, length-push L x);
+      asking = rw (take-append-le f.at L (x ∷ []) old.within) old.asking;
       running = rw (take-append-le f.at L (x ∷ []) old.within) old.running;
       conflict = ⊎_elim (λ w. inl (w.0, w.1, get_old L x w.0 (slice_get_within L w.0 (Ended f.holder) w.2) ∙ w.2)) (in_the_way f old.within) old.conflict;
     }

@@ -12,7 +12,7 @@ use Rattle.dali_region.proofs.Holds.{latched_keeps, taken_back_keeps, poked_keep
 use Rattle.dali_locks.specs.declared.mode.Mode.{Mode}
 use Rattle.dali_locks.specs.declared.mode.Mode.TheVariants.{Shared, Exclusive}
 use Rattle.dali_att.specs.declared.state.State.{State}
-use Rattle.dali_att.specs.declared.state.State.TheVariants.{Committed}
+use Rattle.dali_att.specs.declared.state.State.TheVariants.{Live, Dead, Cleaning, Committed}
 use Rattle.dali_system.specs.State.{TxnRow, SystemState, CoreState, lock_of, row_of}
 use Rattle.dali_system.specs.declared.refusals.Refusal.{Refusal}
 use Rattle.dali_system.specs.declared.causes.Cause.{Cause}
@@ -20,7 +20,7 @@ use Rattle.dali_system.specs.declared.causes.Cause.TheVariants.{Damage, Store}
 use Rattle.dali_system.specs.Run.{CountRun, is_committed, IsRow, TableRun, covers, IsRefusal, is_running, LockRun, damage_in, RegionRun, Bases, base_at, RunsOn}
 use Rattle.dali_locks.specs.Locks.{both_shared, IsConflict, Locks, stronger_mode, locks_with}
 use Rattle.dali_system.specs.Steps.{stopped_by}
-use Rattle.dali_system.specs.Keeps.{with_system, GrantKeeps, RefuseKeeps, RegionKeeps, StopKeeps, StateKeeps, CheckpointFlagKeeps}
+use Rattle.dali_system.specs.Keeps.{with_system, moves_to, GrantKeeps, RefuseKeeps, RegionKeeps, StopKeeps, StateKeeps, CheckpointFlagKeeps}
 use Rattle.dali_counts.proofs.Tallies.{tallies}
 use Rattle.dali_system.proofs.AuditSteps.{RegionRun-checked}
 use Rattle.dali_system.proofs.Protected.{ReadsFit, noted, wrote_word, dead_keeps, reads_same, cleaned_keeps}
@@ -128,7 +128,7 @@ grant_keeps bases L c t k m run here free = RunsOn-held bases L c run y.table K 
         }
 
     refusal : (f : Refusal) → IsRefusal y.sizes L y.locks f → IsRefusal y.sizes L K f
-    refusal f old = record { older = old.older; within = old.within; running = old.running; conflict = ⊎_elim (λ w. inl w) (λ way. inr (in_the_way f way)) old.conflict }
+    refusal f old = record { older = old.older; within = old.within; asking = old.asking; running = old.running; conflict = ⊎_elim (λ w. inl w) (λ way. inr (in_the_way f way)) old.conflict }
 
     -- t has the lock, v another one's
     against : (u v l : ℕ) (p q : Mode) → (u == v) ≡ false → ((t == u) && (k == l)) ≡ true → Some (stronger_mode (lock_of y u l) m) ≡ Some p → lock_of y v l ≡ Some q → both_shared p q ≡ true
@@ -155,7 +155,7 @@ row_running (Some (Ending ps)) row r h = refl
 row_running (Some Over) row r h = let none : is_some row ≡ false = ap is_some r in absurd (cc)
 
 pub refuse_keeps : RefuseKeeps
-refuse_keeps bases L c t k h m run busy = RunsOn-held bases L c run y.table y.locks (y.refusals ++ new ∷ []) y.checking run.table (record {
+refuse_keeps bases L c t k h m run here_is busy = RunsOn-held bases L c run y.table y.locks (y.refusals ++ new ∷ []) y.checking run.table (record {
   held = run.locks.held;
   apart = run.locks.apart;
   owned = run.locks.owned;
@@ -171,11 +171,16 @@ refuse_keeps bases L c t k h m run busy = RunsOn-held bases L c run y.table y.lo
     all : y.records ≡ length L
     all = run.counts.records ∙ (tallies y.sizes L run.counts.now run.counts.rules).0
 
+    -- a transaction of the table runs, behind all records so far
+    runs : (u : ℕ) → IsSome (row_of y u) → is_running (txn_state y.sizes u (take y.records L)) ≡ true
+    runs u some = ap (λ l. is_running (txn_state y.sizes u l)) (ap (λ n. take n L) all ∙ take_all (length L) L (omega arith)) ∙ row_running (txn_state y.sizes u L) (row_of y u) (run.table u) some
+
     here : IsRefusal y.sizes L y.locks new
     here = record {
       older = busy.1;
       within = omega (arith, all);
-      running = ap (λ l. is_running (txn_state y.sizes h l)) (ap (λ n. take n L) all ∙ take_all (length L) L (omega arith)) ∙ row_running (txn_state y.sizes h L) (row_of y h) (run.table h) (run.locks.owned h k busy.0.conflict.mode busy.0.conflict.holds);
+      asking = runs t here_is;
+      running = runs h (run.locks.owned h k busy.0.conflict.mode busy.0.conflict.holds);
       conflict = inr busy.0.conflict;
     }
 
@@ -260,6 +265,25 @@ state_row (Some (Active w)) row r st i e f g = (st, g, ap (option_map (with_stat
 state_row (Some (Ending ps)) row r st i e f g = let same : record { state = Committed; undos = [] } ≡ r = cc in let is : true ≡ is_committed r.state = ap (λ q. is_committed q.state) same in absurd (cc)
 state_row (Some Over) row r st i e f g = absurd (cc)
 
+-- the state is none of a committed transaction, before and after
+none_committed : (old new : State) → moves_to old new ≡ true → (is_committed old ≡ false) × (is_committed new ≡ false)
+none_committed Live Live e = absurd (cc)
+none_committed Live Dead e = (refl, refl)
+none_committed Live Cleaning e = absurd (cc)
+none_committed Live Committed e = absurd (cc)
+none_committed Dead Live e = absurd (cc)
+none_committed Dead Dead e = absurd (cc)
+none_committed Dead Cleaning e = (refl, refl)
+none_committed Dead Committed e = absurd (cc)
+none_committed Cleaning Live e = absurd (cc)
+none_committed Cleaning Dead e = (refl, refl)
+none_committed Cleaning Cleaning e = absurd (cc)
+none_committed Cleaning Committed e = absurd (cc)
+none_committed Committed Live e = absurd (cc)
+none_committed Committed Dead e = absurd (cc)
+none_committed Committed Cleaning e = absurd (cc)
+none_committed Committed Committed e = absurd (cc)
+
 pub state_keeps : StateKeeps
 state_keeps bases L c t st run may = RunsOn-held bases L c run T y.locks y.refusals y.checking
     (λ u. rw (puts u) (table u (t == u) refl))
@@ -275,7 +299,7 @@ state_keeps bases L c t st run may = RunsOn-held bases L c run T y.locks y.refus
     puts = changed y.table t (with_state st)
 
     table : (u : ℕ) (b : Bool) → (t == u) ≡ b → IsRow (txn_state y.sizes u L) (cond b (option_map (with_state st) (row_of y t)) (row_of y u))
-    table u true e = subst (λ v. IsRow (txn_state y.sizes v L) (option_map (with_state st) (row_of y t))) (equal t u e) (state_row (txn_state y.sizes t L) (row_of y t) may.row st (run.table t) may.at may.was may.turns)
+    table u true e = subst (λ v. IsRow (txn_state y.sizes v L) (option_map (with_state st) (row_of y t))) (equal t u e) (let none : (is_committed may.row.state ≡ false) × (is_committed st ≡ false) = none_committed may.row.state st may.moves in state_row (txn_state y.sizes t L) (row_of y t) may.row st (run.table t) may.at none.0 none.1)
     table u false e = run.table u
 
 -- ---- the flag of a checkpoint

@@ -1,5 +1,5 @@
 -- The worked run of a removal: the entry is killed too, the transaction commits, what it removed is freed, an audit is clean.
-use Rattle.std.proofs.Common.{◌≡◌, ℕ, zero, suc, ◌-◌, ◌≤◌, Bool, true, false, List, [], ◌∷◌, ◌++◌, Option, Some, None, refl, subst, arith, inr, take}
+use Rattle.std.proofs.Common.{◌≡◌, ℕ, zero, suc, ◌-◌, ◌≤◌, Bool, true, false, List, [], ◌∷◌, ◌++◌, Option, Some, None, refl, subst, arith, take}
 use Rattle.std.specs.Prelude.{slice_get, not, ◌&&◌}
 use Rattle.std.proofs.lemmas.Bool.{leb-true}
 use Rattle.dali_record.specs.declared.operations.Op.TheVariants.{KillEntry, FreeCell, FreeEntry}
@@ -174,7 +174,7 @@ unfolding look kill_cell kill_entry free_cell free_entry entries
 ends = ((refl, refl, (refl, refl)), λ F h. h)
 
 starts_checkpoint : IsStepAt ended (Checkpoints true) checking
-starts_checkpoint = ((refl, refl), λ F h. h)
+starts_checkpoint = ((refl, (refl, refl)), λ F h. h)
 
 copies : IsStepAt checking (OnRegion 0 (Clean A)) copied
 copies = ((touched at_free_entry, refl, tt, (refl, refl)), λ F h. h)
@@ -210,10 +210,10 @@ certified (suc (suc r)) g e = absurd (cc)
 
 ends_audit : IsStepAt passed (AuditEnds 10 []) audited
 unfolding look kill_cell kill_entry free_cell free_entry entries
-ends_audit = ((record { runs = refl; auditing = is_auditing; spelled = omega arith; numbers = refl; each = λ r g e. inr (certified r g e) }, (refl, refl)), λ F h. h)
+ends_audit = ((record { runs = refl; auditing = is_auditing; spelled = omega arith; numbers = refl; stray = λ r g e h. absurd (cc); certified = λ r g e h. certified r g e }, (refl, refl)), λ F h. h)
 
 ends_checkpoint : IsStepAt audited (Checkpoints false) finish
-ends_checkpoint = ((refl, refl), λ F h. h)
+ends_checkpoint = ((refl, (refl, refl)), λ F h. h)
 
 -- ---- all of it
 abbrev last_steps : List Step

@@ -1,10 +1,12 @@
 -- What an audit that began at record b knows while it goes on, and the steps that keep it.
 --     IsAuditing s L b         the epoch has an AuditBegin at b that no record ended
 --     Certifies e b r g        the blocks on region r before b are sound, or a stray write was missed
---     MayEndAudit L c b found  each region was passed, and these failed
+--     MayEndAudit L c b found  the audit from record b may end and name these: a stray write came to each of them, and each other region is
+--                              certified
 --     AuditBeginKeeps, AuditEndKeeps       the audit's records keep a run
---     AuditStarts, AuditGoesOn, PassCertifies, CertifiesStays   what an audit knows stays
-use Rattle.std.specs.Prelude.{◌≡◌, ℕ, ◌+◌, ◌-◌, ◌≤◌, true, false, not, ◌&&◌, ◌⊎◌, List, [], ◌∷◌, ◌++◌, Some, None, nat_lt, take, slice_get, Bool, IsSome, ◌==◌}
+--     PassCertifies, PassFinds a pass that answers 0 certifies, and one that doesn't tells of a stray write
+--     AuditStarts, AuditGoesOn, CertifiesStays   what an audit knows stays
+use Rattle.std.specs.Prelude.{◌≡◌, ℕ, ◌+◌, ◌-◌, ◌≤◌, true, false, not, ◌&&◌, List, [], ◌∷◌, ◌++◌, Some, None, nat_lt, take, slice_get, Bool, IsSome, ◌==◌}
 use Rattle.std.specs.List.{list_all}
 use Rattle.dali_geometry.specs.Sizes.{Sizes}
 use Rattle.dali_geometry.specs.Places.{regions}
@@ -29,13 +31,15 @@ pub record IsAuditing (s : Sizes) (L : List Record) (b : ℕ) : Type 0 where
 abbrev pub Certifies : Epoch → ℕ → ℕ → RegionState → Type 0
 Certifies e b r g = g.missed ≡ false → blocks_on r (take (b - e.first) e.records) ≤ g.sound
 
--- the audit that began at b passed each region and found these
+-- the audit that began at b may end, and name these regions in ascending order (so they are spelled): to each of them a stray write came
+-- since the load, and each other one is certified
 pub record MayEndAudit (L : List Record) (c : CoreState) (b : ℕ) (found : List ℕ) : Type 0 where
   pub runs : c.system.stop ≡ None
   pub auditing : IsAuditing c.system.sizes L b
   pub spelled : CanBeSpelled (audit_record b found)
   pub numbers : list_all (λ r. nat_lt r (regions c.system.sizes)) found ≡ true
-  pub each : (r : ℕ) (g : RegionState) → slice_get c.regions r ≡ Some g → (has found r ≡ true) ⊎ Certifies (last_epoch L) b r g
+  pub stray : (r : ℕ) (g : RegionState) → slice_get c.regions r ≡ Some g → has found r ≡ true → g.poked ≡ true
+  pub certified : (r : ℕ) (g : RegionState) → slice_get c.regions r ≡ Some g → has found r ≡ false → Certifies (last_epoch L) b r g
 
 abbrev pub AuditBeginKeeps : Type 0
 AuditBeginKeeps = (bases : Bases) (L : List Record) (c : CoreState) → RunsOn bases L c → c.system.stop ≡ None → c.system.end + 1 ≤ c.system.limit + 1048576 → RunsOn bases (L ++ AuditBegin ∷ []) (with_system c (audit_begun c.system))
@@ -65,6 +69,10 @@ AuditGoesOn =
 -- a check that answers 0 certifies the blocks so far, in a region of a run
 abbrev pub PassCertifies : Type 0
 PassCertifies = (base : List (List ℕ)) (e : Epoch) (b r : ℕ) (g : RegionState) → RegionRun base e r g → (g.stray == 0) ≡ true → Certifies e b r (checked g)
+
+-- a check that answers another number tells of a stray write
+abbrev pub PassFinds : Type 0
+PassFinds = (base : List (List ℕ)) (e : Epoch) (r : ℕ) (g : RegionState) → RegionRun base e r g → (g.stray == 0) ≡ false → (checked g).poked ≡ true
 
 -- what a pass found out stays, with one more record and whatever is done in the region
 abbrev pub CertifiesStays : Type 0

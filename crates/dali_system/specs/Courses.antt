@@ -4,10 +4,11 @@
 --     Moment                   the log and the core, with what a crash may leave of the store: a test on files
 --     LeavesBy old new L c x   what a crash may leave after the step x
 --     IsCourse m steps n       these steps, one after another, lead from the moment m to the moment n
+--     CheckpointsTurn          a checkpoint's start sets the flag where it is clear, its end clears it where it is set
 --     RunsAt bases before m    the core is a run at this moment
 --     StepKeeps, CourseKeeps   each step keeps a run, and so does each list of steps
 --     LoadRunsAt               a core that was just made is a run
-use Rattle.std.specs.Prelude.{◌≡◌, ℕ, ◌+◌, ◌≤◌, Bool, true, false, List, [], ◌∷◌, ◌++◌, Some, None, IsSome, length, slice_get}
+use Rattle.std.specs.Prelude.{◌≡◌, ℕ, ◌+◌, ◌≤◌, Bool, true, false, not, List, [], ◌∷◌, ◌++◌, Some, None, IsSome, length, slice_get}
 use Rattle.dali_geometry.specs.Sizes.{Sizes}
 use Rattle.dali_geometry.specs.Places.{regions}
 use Rattle.dali_record.specs.declared.operations.Block.{Block}
@@ -27,7 +28,7 @@ use Rattle.dali_system.specs.State.{CoreState, row_of, log_after, VaultState}
 use Rattle.dali_system.specs.Run.{AllAreWords, Bases, HasRisen, IsRun, base_at, VaultRun}
 use Rattle.dali_system.specs.Steps.{begun, op_logged, back_logged, solo_logged, done_logged, commit_logged, ended_logged, audit_begun, audit_ended, audit_record, granted, refused, in_state, store_stopped, in_checkpoint, flushed}
 use Rattle.dali_system.specs.Regions.{RegionStep, region_after, MayChange}
-use Rattle.dali_system.specs.Keeps.{with_system, with_region, with_touched, HasRoom, IsNext, MayLogBlock, MayTurn}
+use Rattle.dali_system.specs.Keeps.{with_system, with_region, with_touched, HasRoom, IsNext, MayLogBlock, MayChangeState}
 use Rattle.dali_system.specs.Audits.{MayEndAudit}
 use Rattle.dali_system.specs.Loads.{IsAtRest, new_core}
 use Rattle.dali_system.specs.Flushes.{frame_of, Appended, Appending, with_vault, longer, faulted}
@@ -45,8 +46,9 @@ pub data Step : Type 0 where
   Locks : (txn key : ℕ) → (mode : Mode) → Step
   Refuses : (txn key : ℕ) → (mode : Mode) → (holder : ℕ) → Step
   OnRegion : (region : ℕ) → (step : RegionStep) → Step
-  Turns : (txn : ℕ) → (state : State) → Step
+  ChangesState : (txn : ℕ) → (state : State) → Step
   Stops : Step
+  -- a checkpoint starts where none is under way, and ends where one is
   Checkpoints : (under_way : Bool) → Step
   Flushes : Step
   Faults : (faults : ℕ) → Step
@@ -68,13 +70,16 @@ IsStep L c (Ends t) M d = (c.system.stop ≡ None) × IsNext c.system.sizes L t 
 IsStep L c AuditBegins M d = (c.system.stop ≡ None) × (c.system.end + 1 ≤ c.system.limit + 1048576) × Adds L AuditBegin (with_system c (audit_begun c.system)) M d
 IsStep L c (AuditEnds b found) M d = MayEndAudit L c b found × Adds L (audit_record b found) (with_system c (audit_ended c.system b found)) M d
 IsStep L c (Locks t k m) M d = IsSome (row_of c.system t) × IsAnswer c.system.locks t k m Granted × AddsNone L (with_system c (granted c.system t k m)) M d
-IsStep L c (Refuses t k m h) M d = IsAnswer c.system.locks t k m (Busy h) × AddsNone L (with_system c (refused c.system t k m h)) M d
+IsStep L c (Refuses t k m h) M d = IsSome (row_of c.system t) × IsAnswer c.system.locks t k m (Busy h) × AddsNone L (with_system c (refused c.system t k m h)) M d
 IsStep L c (OnRegion r x) M d = (g : RegionState) × (slice_get c.regions r ≡ Some g) × MayChange x g × AddsNone L (with_region c r (region_after x g)) M d
-IsStep L c (Turns t state) M d = MayTurn c t state × AddsNone L (with_system c (in_state c.system t state)) M d
+IsStep L c (ChangesState t state) M d = MayChangeState c t state × AddsNone L (with_system c (in_state c.system t state)) M d
 IsStep L c Stops M d = (c.vault.stopped ≡ true) × AddsNone L (with_system c (store_stopped c.system)) M d
-IsStep L c (Checkpoints b) M d = AddsNone L (with_system c (in_checkpoint c.system b)) M d
+IsStep L c (Checkpoints b) M d = (c.system.checking ≡ not b) × AddsNone L (with_system c (in_checkpoint c.system b)) M d
 IsStep L c Flushes M d = (c.vault.stopped ≡ false) × AddsNone L (with_vault c (flushed c.system) (longer c.vault (frame_of L c.system))) M d
 IsStep L c (Faults n) M d = (c.vault.stopped ≡ false) × HasRisen c.vault.faults n × AddsNone L (with_vault c c.system (faulted c.vault n)) M d
+
+abbrev pub CheckpointsTurn : Type 0
+CheckpointsTurn = (L M : List Record) (c d : CoreState) (b : Bool) → IsStep L c (Checkpoints b) M d → (c.system.checking ≡ not b) × (d.system.checking ≡ b)
 
 -- ---- with what a crash may leave
 pub record Moment : Type 0 where

@@ -2,7 +2,8 @@
 --     HasRoom y x              the engine runs, and the record x has room
 --     IsNext s L t x           the rules allow x to the transaction t
 --     MayLogBlock L c x owner b g      x, with the block b of this owner, may follow
---     MayTurn c t state        a transaction that isn't committed may get this state
+--     moves_to old new         the state of a transaction may change so, without a record
+--     MayChangeState c t state the transaction t may get this state
 --     BeginKeeps, OpKeeps ..   each step keeps a run
 use Rattle.std.specs.Prelude.{◌≡◌, ℕ, ◌+◌, ◌≤◌, true, false, List, [], ◌∷◌, ◌++◌, Bool, Some, None, IsSome, slice_get, slice_set}
 use Rattle.dali_geometry.specs.Sizes.{Sizes}
@@ -18,8 +19,9 @@ use Rattle.dali_locks.specs.declared.mode.Mode.{Mode}
 use Rattle.dali_locks.specs.declared.mode.LockAnswer.TheVariants.{Granted, Busy}
 use Rattle.dali_locks.specs.Locks.{IsAnswer}
 use Rattle.dali_att.specs.declared.state.State.{State}
+use Rattle.dali_att.specs.declared.state.State.TheVariants.{Live, Dead, Cleaning}
 use Rattle.dali_system.specs.State.{TxnRow, SystemState, CoreState, row_of}
-use Rattle.dali_system.specs.Run.{Bases, RunsOn, holds, is_committed}
+use Rattle.dali_system.specs.Run.{Bases, RunsOn, holds}
 use Rattle.dali_system.specs.Steps.{begun, op_logged, back_logged, solo_logged, done_logged, commit_logged, ended_logged, granted, refused, store_stopped, in_state, in_checkpoint}
 use Rattle.dali_system.specs.Regions.{IsOpen, RegionStep, region_after, MayChange}
 
@@ -104,11 +106,11 @@ GrantKeeps =
     → IsSome (row_of c.system t) → IsAnswer c.system.locks t k m Granted
     → RunsOn bases L (with_system c (granted c.system t k m))
 
--- it answers Busy, and names an older holder
+-- it answers Busy to one, and names an older holder
 abbrev pub RefuseKeeps : Type 0
 RefuseKeeps =
     (bases : Bases) (L : List Record) (c : CoreState) (t k h : ℕ) (m : Mode) → RunsOn bases L c
-    → IsAnswer c.system.locks t k m (Busy h)
+    → IsSome (row_of c.system t) → IsAnswer c.system.locks t k m (Busy h)
     → RunsOn bases L (with_system c (refused c.system t k m h))
 
 abbrev pub RegionKeeps : Type 0
@@ -123,17 +125,22 @@ StopKeeps =
     → c.vault.stopped ≡ true
     → RunsOn bases L (with_system c (store_stopped c.system))
 
--- a transaction that isn't committed dies, is claimed, or is dead again
-pub record MayTurn (c : CoreState) (t : ℕ) (state : State) : Type 0 where
+-- its client dies; it is claimed, and so being cleaned up; it is dead again, where its clean-up is refused and the claim given back
+abbrev pub moves_to : State → State → Bool
+moves_to Live Dead = true
+moves_to Dead Cleaning = true
+moves_to Cleaning Dead = true
+moves_to _ _ = false
+
+pub record MayChangeState (c : CoreState) (t : ℕ) (state : State) : Type 0 where
   pub row : TxnRow
   pub at : row_of c.system t ≡ Some row
-  pub was : is_committed row.state ≡ false
-  pub turns : is_committed state ≡ false
+  pub moves : moves_to row.state state ≡ true
 
 abbrev pub StateKeeps : Type 0
 StateKeeps =
     (bases : Bases) (L : List Record) (c : CoreState) (t : ℕ) (state : State) → RunsOn bases L c
-    → MayTurn c t state
+    → MayChangeState c t state
     → RunsOn bases L (with_system c (in_state c.system t state))
 
 abbrev pub CheckpointFlagKeeps : Type 0

@@ -91,10 +91,11 @@ is_running _ = false
 abbrev pub EndedSince : ℕ → ℕ → List Record → Type 0
 EndedSince t n L = (k : ℕ) × (n ≤ k) × (slice_get L k ≡ Some (Ended t))
 
--- the holder ran when the request was refused; it is in the request's way until it ends
+-- who asked and the holder ran when the request was refused; the holder is in the request's way until it ends
 pub record IsRefusal (s : Sizes) (L : List Record) (locks : Locks) (f : Refusal) : Type 0 where
   pub older : f.holder < f.txn
   pub within : f.at ≤ length L
+  pub asking : is_running (txn_state s f.txn (take f.at L)) ≡ true
   pub running : is_running (txn_state s f.holder (take f.at L)) ≡ true
   pub conflict : EndedSince f.holder f.at L ⊎ IsConflict locks f.txn f.key f.mode f.holder
 

@@ -5,7 +5,7 @@
 --     kills                    transaction 1 gets an exclusive lock on key 5, finds it, and kills its cell
 --     removal, Removal         it kills the entry too, is answered and commits; both are freed; it ends. In a checkpoint an audit is clean
 --     abandoned, Abandoned     transaction 2 asks for the key and is refused. The client of 1 dies in its next operation; 1 is claimed,
---                              taken back, and ends. The store fails, and the engine stops
+--                              given back, claimed again, taken back, and ends. The store fails, and the engine stops
 --     damage, Damaged          transaction 1 commits without a call. A poke hits region 0; transaction 2 looks for key 5 there, finds
 --                              nothing, and commits; this is flushed. An audit finds the region and stops the engine; its record is flushed
 use Rattle.std.specs.Prelude.{◌≡◌, ◌==◌, ◌&&◌, ℕ, Bool, true, false, List, [], ◌∷◌, ◌++◌, Some, map, replicate}
@@ -31,7 +31,7 @@ use Rattle.dali_system.specs.Run.{log_in}
 use Rattle.dali_system.specs.Regions.{RegionStep, Latch, NoteReads, Update, TakeBack, Poke, Check, Die, Clean}
 use Rattle.dali_system.specs.Loads.{new_core}
 use Rattle.dali_system.specs.Crashes.{NoneEscapes}
-use Rattle.dali_system.specs.Courses.{Step, Begins, Operates, TakesBack, Frees, Answers, Commits, Ends, AuditBegins, AuditEnds, Locks, Refuses, OnRegion, Turns, Stops, Checkpoints, Flushes, Faults, Moment, IsCourse, RunsAt}
+use Rattle.dali_system.specs.Courses.{Step, Begins, Operates, TakesBack, Frees, Answers, Commits, Ends, AuditBegins, AuditEnds, Locks, Refuses, OnRegion, ChangesState, Stops, Checkpoints, Flushes, Faults, Moment, IsCourse, RunsAt}
 
 -- ---- the first moment
 abbrev pub small : Sizes
@@ -131,7 +131,7 @@ abandoned =
     kills
     ++ Begins ∷ Refuses 2 5 Shared 1 ∷ []
     ++ touching 1 kill_entry ((1, 2) ∷ []) (OnRegion 0 Die)
-    ++ Turns 1 Dead ∷ Turns 1 Cleaning ∷ OnRegion 0 TakeBack ∷ []
+    ++ ChangesState 1 Dead ∷ ChangesState 1 Cleaning ∷ ChangesState 1 Dead ∷ ChangesState 1 Cleaning ∷ OnRegion 0 TakeBack ∷ []
     ++ touching 1 revive_cell ((8, 1) ∷ []) (TakesBack 1 revive_cell)
     ++ Ends 1 ∷ Faults 1 ∷ Stops ∷ []
 

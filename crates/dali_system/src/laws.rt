@@ -2,8 +2,8 @@
 
 ghost use Rattle.dali_system.specs.Keeps.{BeginKeeps, OpKeeps, BackKeeps, SoloKeeps, DoneKeeps, CommitKeeps, EndedKeeps, GrantKeeps, RefuseKeeps, RegionKeeps, StopKeeps, StateKeeps, CheckpointFlagKeeps};
 ghost use Rattle.dali_system.specs.Flushes.{FlushKeeps, FaultKeeps};
-ghost use Rattle.dali_system.specs.Audits.{AuditBeginKeeps, AuditEndKeeps, AuditStarts, AuditGoesOn, PassCertifies, CertifiesStays};
-ghost use Rattle.dali_system.specs.Courses.{StepKeeps, CourseKeeps, LoadRunsAt};
+ghost use Rattle.dali_system.specs.Audits.{AuditBeginKeeps, AuditEndKeeps, AuditStarts, AuditGoesOn, PassCertifies, PassFinds, CertifiesStays};
+ghost use Rattle.dali_system.specs.Courses.{StepKeeps, CourseKeeps, LoadRunsAt, CheckpointsTurn};
 ghost use Rattle.dali_system.specs.ImageSteps.{ImagesKeep, CopyKeeps, FlushKeepsImages, FaultKeepsImages};
 ghost use Rattle.dali_system.specs.Loads.{LoadRuns, FormatRests, EmptyRests};
 ghost use Rattle.dali_system.specs.Worked.{Removal, Abandoned, Damaged};
@@ -83,6 +83,11 @@ pub fn checkpoint_flag_keeps_a_run()
     ensures { CheckpointFlagKeeps }
 {}
 
+/// A checkpoint starts only where the flag is clear, and sets it; it ends only where the flag is set, and clears it.
+pub fn a_checkpoint_turns_the_flag()
+    ensures { CheckpointsTurn }
+{}
+
 /// The log is flushed.
 pub fn flush_keeps_a_run()
     ensures { FlushKeeps }
@@ -138,6 +143,11 @@ pub fn a_pass_certifies()
     ensures { PassCertifies }
 {}
 
+/// A check that answers another number tells of a stray write.
+pub fn a_pass_finds_a_stray_write()
+    ensures { PassFinds }
+{}
+
 /// What a pass found out stays.
 pub fn what_a_pass_found_stays()
     ensures { CertifiesStays }
@@ -168,8 +178,8 @@ pub fn a_removal()
     ensures { Removal }
 {}
 
-/// A request is refused, a client dies, its transaction is taken back, the store fails: these steps can be
-/// taken.
+/// A request is refused, a client dies, its transaction is claimed, given back, claimed again and taken back,
+/// the store fails: these steps can be taken.
 pub fn an_abandoned_transaction()
     ensures { Abandoned }
 {}

@@ -1,0 +1,112 @@
+-- Where the state of a transaction's row comes from, step by step.
+use Rattle.std.proofs.Common.{◌≡◌, ℕ, Bool, true, false, cond, List, Option, Some, None, refl, ap, sym, subst, ◌∙◌, inl, inr, arith}
+use Rattle.std.specs.Prelude.{◌==◌}
+use Rattle.std.specs.FinMap.{get}
+use Rattle.std.specs.Option.{option_map}
+use Rattle.dali_record.specs.declared.operations.Pending.{Pending}
+use Rattle.dali_record.specs.declared.records.Record.{Record}
+use Rattle.dali_record.specs.Legal.{TxnState}
+use Rattle.dali_att.specs.declared.state.State.{State}
+use Rattle.dali_att.specs.declared.state.State.TheVariants.{Live, Dead, Cleaning, Committed}
+use Rattle.dali_att.specs.Table.{Table, fresh_row, with_state}
+use Rattle.dali_counts.proofs.Lists.{equal, some_same}
+use Rattle.dali_system.specs.State.{TxnRow, CoreState, row_of}
+use Rattle.dali_system.specs.Run.{Bases, IsRow, RunsOn}
+use Rattle.dali_system.specs.Steps.{committed_row}
+use Rattle.dali_system.specs.Keeps.{moves_to}
+use Rattle.dali_system.specs.Courses.{Begins, Operates, TakesBack, Frees, Answers, Commits, Ends, AuditBegins, AuditEnds, Locks, Refuses, OnRegion, ChangesState, Stops, Checkpoints, Flushes, Faults}
+use Rattle.dali_system.proofs.Tables.{Puts, with_undos, changed, added, ended, kept, dropped}
+use Rattle.dali_facts.specs.States.{state_in, CameFrom, StatesComeFrom}
+
+abbrev Comes : Option TxnRow → Option TxnRow → Type 0
+Comes old new = (st : State) → state_in new ≡ Some st → CameFrom (state_in old) st
+
+stays : (st : State) → CameFrom (Some st) st
+stays Live = inl refl
+stays Dead = inl refl
+stays Cleaning = inl refl
+stays Committed = refl
+
+comes_same : (old new : Option TxnRow) → state_in new ≡ state_in old → Comes old new
+comes_same old new same st e = subst (λ (o : Option State). CameFrom o st) (sym (sym same ∙ e)) (stays st)
+
+-- one row of the table is put or removed
+one_row : (old new : Table Pending) (t : ℕ) (row : Option TxnRow) → Puts old t row new → Comes (get old t) row → (u : ℕ) → Comes (get old u) (get new u)
+one_row old new t row puts comes u = subst (λ (o : Option TxnRow). Comes (get old u) o) (sym (puts u)) (by_test (t == u) refl)
+  where
+    by_test : (b : Bool) → (t == u) ≡ b → Comes (get old u) (cond b row (get old u))
+    by_test true e = subst (λ v. Comes (get old v) row) (equal t u e) comes
+    by_test false e = comes_same (get old u) (get old u) refl
+
+undos_only : (f : List Pending → List Pending) (o : Option TxnRow) → Comes o (with_undos f o)
+undos_only f None = comes_same None None refl
+undos_only f (Some row) = comes_same (Some row) (with_undos f (Some row)) refl
+
+begins : (old : Option TxnRow) → old ≡ None → Comes old (Some fresh_row)
+begins old none Live e = inr (ap state_in none)
+begins old none Dead e = absurd (cc)
+begins old none Cleaning e = absurd (cc)
+begins old none Committed e = absurd (cc)
+
+commits : (o : Option TxnRow) → Comes o (option_map committed_row o)
+commits None st e = absurd (cc)
+commits (Some row) Live e = absurd (cc)
+commits (Some row) Dead e = absurd (cc)
+commits (Some row) Cleaning e = absurd (cc)
+commits (Some row) Committed e = refl
+
+ends : (o : Option TxnRow) → Comes o None
+ends o st e = absurd (cc)
+
+by_move : (old new : State) → moves_to old new ≡ true → CameFrom (Some old) new
+by_move Live Live e = absurd (cc)
+by_move Live Dead e = inr (inl refl)
+by_move Live Cleaning e = absurd (cc)
+by_move Live Committed e = absurd (cc)
+by_move Dead Live e = absurd (cc)
+by_move Dead Dead e = absurd (cc)
+by_move Dead Cleaning e = inr refl
+by_move Dead Committed e = absurd (cc)
+by_move Cleaning Live e = absurd (cc)
+by_move Cleaning Dead e = inr (inr refl)
+by_move Cleaning Cleaning e = absurd (cc)
+by_move Cleaning Committed e = absurd (cc)
+by_move Committed Live e = absurd (cc)
+by_move Committed Dead e = absurd (cc)
+by_move Committed Cleaning e = absurd (cc)
+by_move Committed Committed e = absurd (cc)
+
+moves : (o : Option TxnRow) (row : TxnRow) (new : State) → o ≡ Some row → moves_to row.state new ≡ true → Comes o (option_map (with_state new) o)
+moves o row new at may = subst (λ (p : Option TxnRow). Comes p (option_map (with_state new) p)) (sym at) (λ st e. subst (λ z. CameFrom (Some row.state) z) (some_same e) (by_move row.state new may))
+
+-- the next number has no row
+none_yet : (bases : Bases) (L : List Record) (c : CoreState) → RunsOn bases L c → row_of c.system c.system.next ≡ None
+none_yet bases L c run = subst (λ (o : Option TxnState). IsRow o (row_of c.system c.system.next)) (run.counts.fresh c.system.next (omega (arith, run.counts.next))) (run.table c.system.next)
+
+same_table : (c d : CoreState) (t : ℕ) → d.system.table ≡ c.system.table → Comes (row_of c.system t) (row_of d.system t)
+same_table c d t same = comes_same (row_of c.system t) (row_of d.system t) (ap (λ (z : Table Pending). state_in (get z t)) same)
+
+one_changed : (c d : CoreState) (new : Table Pending) (u : ℕ) (row : Option TxnRow) (t : ℕ) → d.system.table ≡ new → Puts c.system.table u row new → Comes (row_of c.system u) row → Comes (row_of c.system t) (row_of d.system t)
+one_changed c d new u row t is puts comes = subst (λ (z : Table Pending). Comes (row_of c.system t) (get z t)) (sym is) (one_row c.system.table new u row puts comes t)
+
+abbrev table_of : CoreState → Table Pending
+table_of c = c.system.table
+
+pub states_come_from : StatesComeFrom
+states_come_from bases L M c d Begins run s t = one_changed c d _ c.system.next _ t (ap table_of s.1.1) (added c.system.table c.system.next fresh_row) (begins (row_of c.system c.system.next) (none_yet bases L c run))
+states_come_from bases L M c d (Operates u b) run s t = one_changed c d _ u _ t (ap table_of s.3.1) (kept c.system.table u b b.undo) (undos_only _ (row_of c.system u))
+states_come_from bases L M c d (TakesBack u b) run s t = one_changed c d _ u _ t (ap table_of s.2.1) (dropped c.system.table u) (undos_only _ (row_of c.system u))
+states_come_from bases L M c d (Frees p b) run s t = same_table c d t (ap table_of s.2.1)
+states_come_from bases L M c d (Answers u k a) run s t = same_table c d t (ap table_of s.3.1)
+states_come_from bases L M c d (Commits u) run s t = one_changed c d _ u _ t (ap table_of s.2.1) (changed c.system.table u committed_row) (commits (row_of c.system u))
+states_come_from bases L M c d (Ends u) run s t = one_changed c d _ u _ t (ap table_of s.2.1) (ended c.system.table u) (ends (row_of c.system u))
+states_come_from bases L M c d AuditBegins run s t = same_table c d t (ap table_of s.2.1)
+states_come_from bases L M c d (AuditEnds b found) run s t = same_table c d t (ap table_of s.1.1)
+states_come_from bases L M c d (Locks u k m) run s t = same_table c d t (ap table_of s.2.1)
+states_come_from bases L M c d (Refuses u k m h) run s t = same_table c d t (ap table_of s.2.1)
+states_come_from bases L M c d (OnRegion r x) run s t = same_table c d t (ap table_of s.3.1)
+states_come_from bases L M c d (ChangesState u new) run s t = one_changed c d _ u _ t (ap table_of s.1.1) (changed c.system.table u (with_state new)) (moves (row_of c.system u) s.0.row new s.0.at s.0.moves)
+states_come_from bases L M c d Stops run s t = same_table c d t (ap table_of s.1.1)
+states_come_from bases L M c d (Checkpoints b) run s t = same_table c d t (ap table_of s.1.1)
+states_come_from bases L M c d Flushes run s t = same_table c d t (ap table_of s.1.1)
+states_come_from bases L M c d (Faults n) run s t = same_table c d t (ap table_of s.2.1)
