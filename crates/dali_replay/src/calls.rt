@@ -1,7 +1,8 @@
 //! Calls on a map in memory, and whether each gets there the answer that was logged.
-ghost use Rattle.std.specs.Prelude.{◌≡◌, ℕ, ◌==◌, if◌then◌else◌, ◌∷◌, [], Some, IfOk, OnOk};
+ghost use Rattle.std.specs.Prelude.{◌≡◌, ℕ, ◌==◌, if◌then◌else◌, ◌∷◌, [], IfOk, OnOk};
 ghost use Rattle.dali_record.specs.Log.{calls_of, committed};
-ghost use Rattle.dali_history.specs.Serial.{insert_after, update_after, delete_after, get_after, value_after, call_key, map_after, calls_after, serial};
+ghost use Rattle.dali_history.specs.Serial.{insert_after, update_after, delete_after, get_after, value_after, call_key};
+ghost use Rattle.dali_replay.specs.Walking.{call_made, calls_made, serial_made};
 ghost use Rattle.dali_replay.specs.Following.{value_at, Follows, survive_among};
 
 use dali_record::{Answer, Call, Record};
@@ -122,7 +123,7 @@ fn put(map: &mut BTreeMap<u64, Value>, key: u64, value: Option<Value>) -> Result
 
 // Makes the call on the map, and answers whether it gets this answer there. Where it doesn't, the map stays.
 fn apply(map: &mut BTreeMap<u64, Value>, call: &Call, answer: &Answer) -> Result<bool, AllocError>
-    ensures { IfOk result (λ agrees. Follows (λ m. map_after m call.now answer.now) map.old.entries map.new.entries agrees) }
+    ensures { IfOk result (λ agrees. Follows (λ m. call_made m (call.now, answer.now)) map.old.entries map.new.entries agrees) }
 {
     let key = key_of(call);
     let standing = map.get(&key).copied();
@@ -138,12 +139,12 @@ fn apply(map: &mut BTreeMap<u64, Value>, call: &Call, answer: &Answer) -> Result
 // Makes the call of the record, where it is one of `txn` that was answered.
 fn replay_record(
     map: &mut BTreeMap<u64, Value>,
-    record: &Record,
+    logged: &Record,
     txn: u64,
 ) -> Result<bool, AllocError>
-    ensures { IfOk result (λ agrees. Follows (λ m. calls_after (Some m) (calls_of txn (record.now ∷ []))) map.old.entries map.new.entries agrees) }
+    ensures { IfOk result (λ agrees. Follows (λ m. calls_made m (calls_of txn (logged.now ∷ []))) map.old.entries map.new.entries agrees) }
 {
-    match record {
+    match logged {
         Record::Done {
             txn: owner,
             call,
@@ -160,7 +161,7 @@ fn replay_record(
 
 // Makes all answered calls of `txn`, in order, up to one that doesn't get its answer.
 fn replay_txn(map: &mut BTreeMap<u64, Value>, log: &[Record], txn: u64) -> Result<bool, AllocError>
-    ensures { IfOk result (λ agrees. Follows (λ m. calls_after (Some m) (calls_of txn log.now)) map.old.entries map.new.entries agrees) }
+    ensures { IfOk result (λ agrees. Follows (λ m. calls_made m (calls_of txn log.now)) map.old.entries map.new.entries agrees) }
 {
     for record in log {
         if !replay_record(map, record, txn)? {
@@ -175,11 +176,11 @@ fn replay_commit(
     map: &mut BTreeMap<u64, Value>,
     log: &[Record],
     deleted: &[u64],
-    record: &Record,
+    logged: &Record,
 ) -> Result<bool, AllocError>
-    ensures { IfOk result (λ agrees. Follows (λ m. serial m (survive_among deleted.now (committed (record.now ∷ []))) log.now) map.old.entries map.new.entries agrees) }
+    ensures { IfOk result (λ agrees. Follows (λ m. serial_made m (survive_among deleted.now (committed (logged.now ∷ []))) log.now) map.old.entries map.new.entries agrees) }
 {
-    match record {
+    match logged {
         Record::Commit { txn } => {
             if deleted.contains(txn) {
                 return Ok(true);
@@ -197,7 +198,7 @@ pub fn replay_all(
     log: &[Record],
     deleted: &[u64],
 ) -> Result<bool, AllocError>
-    ensures { IfOk result (λ agrees. Follows (λ m. serial m (survive_among deleted.now (committed log.now)) log.now) map.old.entries map.new.entries agrees) }
+    ensures { IfOk result (λ agrees. Follows (λ m. serial_made m (survive_among deleted.now (committed log.now)) log.now) map.old.entries map.new.entries agrees) }
 {
     for record in log {
         if !replay_commit(map, log, deleted, record)? {

@@ -91,13 +91,13 @@ impl<'a> Damage<'a> {
         alloc: Global,
         records: &[Record],
         marks: &[bool],
-        record: &Record,
+        logged: &Record,
     ) -> Result<bool, AllocError>
         requires number { self.now.first + length records.now < 2 ^ 64 }
         requires marks { length marks.now ≡ length records.now }
-        ensures { IfOk result (λ corrupt. corrupt ≡ mark_by (damage_in self.now) records.now marks.now record.now) }
+        ensures { IfOk result (λ corrupt. corrupt ≡ mark_by (damage_in self.now) records.now marks.now logged.now) }
     {
-        match record {
+        match logged {
             Record::Op { txn, block } => self.is_corrupt(alloc, records, marks, *txn, block),
             Record::Back { txn, block } => self.is_corrupt(alloc, records, marks, *txn, block),
             Record::Solo { txn, block, .. } => self.is_corrupt(alloc, records, marks, *txn, block),

@@ -15,13 +15,13 @@ use std::alloc::{AllocError, Global};
 fn keep_deleted(
     records: &[Record],
     marks: &[bool],
-    record: &Record,
+    logged: &Record,
     deleted: &mut Vec<u64>,
 ) -> Result<(), AllocError>
     requires { length marks.now ≡ length records.now }
-    ensures { OnOk result (deleted.new.items ≡ deleted.old.items ++ filter (corrupted records.now marks.now) (committed (record.now ∷ []))) }
+    ensures { OnOk result (deleted.new.items ≡ deleted.old.items ++ filter (corrupted records.now marks.now) (committed (logged.now ∷ []))) }
 {
-    match record {
+    match logged {
         Record::Commit { txn } => {
             if is_corrupted(records, marks, *txn) {
                 deleted.push(*txn)?;
@@ -51,10 +51,10 @@ fn delete_in(
 }
 
 // Whether an epoch begins behind the record.
-fn opens(record: &Record) -> bool
-    ensures { result ≡ opens record.now }
+fn opens(logged: &Record) -> bool
+    ensures { result ≡ opens logged.now }
 {
-    match record {
+    match logged {
         Record::Format { .. } => true,
         Record::Restarted { .. } => true,
         _ => false,
@@ -62,10 +62,10 @@ fn opens(record: &Record) -> bool
 }
 
 // Whether an epoch ends before the record.
-fn closes(record: &Record) -> bool
-    ensures { result ≡ closes record.now }
+fn closes(logged: &Record) -> bool
+    ensures { result ≡ closes logged.now }
 {
-    match record {
+    match logged {
         Record::Restarted { .. } => true,
         _ => false,
     }

@@ -33,10 +33,10 @@ fn touches(earlier: &Block, block: &Block) -> bool
 }
 
 // Whether the record is a block of `txn` that touches `block`.
-fn reaches(record: &Record, txn: u64, block: &Block) -> bool
-    ensures { result ≡ reaches txn block.now record.now }
+fn reaches(logged: &Record, txn: u64, block: &Block) -> bool
+    ensures { result ≡ reaches txn block.now logged.now }
 {
-    match record {
+    match logged {
         Record::Op {
             txn: writer,
             block: earlier,
@@ -55,10 +55,10 @@ fn reaches(record: &Record, txn: u64, block: &Block) -> bool
 }
 
 // The transaction of the record's block, if it has one.
-pub fn toucher(record: &Record) -> Option<u64>
-    ensures { result ≡ toucher record.now }
+pub fn toucher(logged: &Record) -> Option<u64>
+    ensures { result ≡ toucher logged.now }
 {
-    match record {
+    match logged {
         Record::Op { txn, .. } => Some(*txn),
         Record::Back { txn, .. } => Some(*txn),
         Record::Solo { txn, .. } => Some(*txn),
@@ -67,10 +67,10 @@ pub fn toucher(record: &Record) -> Option<u64>
 }
 
 // Keeps the key of an undo that the record adds for `txn`, or drops that of the one it takes back.
-fn keep_undo(keys: &mut Vec<u64>, record: &Record, txn: u64) -> Result<(), AllocError>
-    ensures { OnOk result (keys.new.items ≡ key_step txn keys.old.items record.now) }
+fn keep_undo(keys: &mut Vec<u64>, logged: &Record, txn: u64) -> Result<(), AllocError>
+    ensures { OnOk result (keys.new.items ≡ key_step txn keys.old.items logged.now) }
 {
-    match record {
+    match logged {
         Record::Op { txn: writer, block } => {
             if *writer == txn {
                 if let Some(_) = block.undo {

@@ -53,7 +53,7 @@ impl Replay {
     }
 
     /// The records that the surviving transactions leave, by key, where each of their calls gave its logged answer
-    /// (`agrees`). Else nothing is promised of it.
+    /// (`agrees`). Else those that their calls leave up to the first that didn't.
     pub fn map(&self) -> &BTreeMap<u64, Value>
         ensures { finite.from_entries result.now.entries ≡ self.now.map }
     {

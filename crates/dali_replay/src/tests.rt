@@ -8,7 +8,10 @@ use std::alloc::Global;
 
 mod logs;
 
-use logs::{ABORT, CHAIN, DAMAGED_WRITER, MISSING_AFTER_INSERT, RESTARTED, UNDONE_CHANGE};
+use logs::{
+    ABORT, CHAIN, DAMAGED_WRITER, MISSING_AFTER_INSERT, RESTARTED, UNDONE_CHANGE,
+    texts_spell_the_worked_logs,
+};
 
 fn digit(byte: u8) -> u8
     ensures { result ≤ 15 }
@@ -49,6 +52,7 @@ fn shown(alloc: Global, replay: &Replay) -> Result<String> {
 
 #[test]
 fn worked_logs_are_replayed(rt: HostRuntime) -> Result<()> {
+    texts_spell_the_worked_logs();
     for (lines, expected) in [
         ("", "deleted [] agrees true"),
         (CHAIN, "deleted [3, 5] agrees true 4 [97, 98, 99] 5 [121]"),

@@ -1,4 +1,7 @@
 //! Worked logs, one record a line, spelled by a program that knows nothing of this crate.
+ghost use Rattle.std.specs.Prelude.{◌≡◌, ◌++◌, ◌∷◌, []};
+ghost use Rattle.dali_examples.specs.Logs.{chain_log, chain_restarted_log, undone_change_log, damaged_writer_log, abort_log};
+ghost use Rattle.dali_replay.specs.Texts.{text_of};
 
 /// Transaction 3 reads a damaged word and inserts key 6, which 5 reads. 4 reads neither.
 pub const CHAIN: &str = "\
@@ -157,3 +160,12 @@ pub const MISSING_AFTER_INSERT: &str = "\
 
 /// The record that a restart adds to the first of these logs.
 pub const RESTARTED: &str = "0b000000000000000200000000000000030000000000000005";
+
+/// The texts spell the worked logs, and the last one the record that follows the first of them.
+pub fn texts_spell_the_worked_logs()
+    ensures chain { CHAIN.now ≡ text_of chain_log }
+    ensures undone_change { UNDONE_CHANGE.now ≡ text_of undone_change_log }
+    ensures damaged_writer { DAMAGED_WRITER.now ≡ text_of damaged_writer_log }
+    ensures abort { ABORT.now ≡ text_of abort_log }
+    ensures restarted { CHAIN.now ++ RESTARTED.now ++ 10 ∷ [] ≡ text_of chain_restarted_log }
+{}
