@@ -4,11 +4,16 @@ use std::io::{self, Read};
 use std::path::{Path, PathBuf};
 use std::process::{Child, Command, Stdio};
 
+/// How many turns most rows have. It is odd, as are those of each row, so that one run is the median.
 const TURNS: usize = 5;
 
+/// How many turns the commits and the growth have. A disk varies from moment to moment by more than the goal allows, and
+/// so does a run of some 50 milliseconds: many short turns meet the machine in the same moments on both sides.
+const SHORT_TURNS: usize = 25;
+
 const HEAD: &str = "\
-| what is timed | beside | dali | the other | ratio | goal | met | dali's MiB | the other's MiB |
-|---|---|---|---|---|---|---|---|---|";
+| what is timed | beside | dali | the other | ratio | half of the turns | goal | met | dali's MiB | the other's MiB |
+|---|---|---|---|---|---|---|---|---|---|";
 
 /// What one run of a program gave: its rate, its check number, and the most memory that was resident.
 #[derive(Clone, Copy)]
@@ -41,6 +46,8 @@ struct Row {
     /// How often both sides do it, where they are told.
     count: Option<u64>,
     files: Files,
+    /// How often each side is run.
+    turns: usize,
     dali: &'static str,
     beside: &'static str,
     unit: &'static str,
@@ -52,6 +59,7 @@ const ROWS: [Row; 7] = [
         name: "codec",
         count: Some(1_000_000),
         files: Files::Absent,
+        turns: TURNS,
         dali: "encode and decode a million block records of three-byte values",
         beside: "Rust structs and `match`",
         unit: "records",
@@ -61,6 +69,7 @@ const ROWS: [Row; 7] = [
         name: "locks",
         count: Some(1_000_000),
         files: Files::Absent,
+        turns: TURNS,
         dali: "a million lock requests and their releases, 64 transactions, 100,000 keys",
         beside: "Rust over `BTreeMap`",
         unit: "requests",
@@ -70,6 +79,7 @@ const ROWS: [Row; 7] = [
         name: "update",
         count: Some(1_000_000),
         files: Files::Absent,
+        turns: TURNS,
         dali: "update and touch one word of a region, a million times over 64 MiB of regions",
         beside: "the same in Rust, without a codeword",
         unit: "updates",
@@ -79,6 +89,7 @@ const ROWS: [Row; 7] = [
         name: "check",
         count: Some(10),
         files: Files::Absent,
+        turns: TURNS,
         dali: "check every region of 64 MiB, ten times",
         beside: "`copy_from_slice` of 64 MiB in one piece",
         unit: "bytes",
@@ -88,6 +99,7 @@ const ROWS: [Row; 7] = [
         name: "parse",
         count: Some(20),
         files: Files::Absent,
+        turns: TURNS,
         dali: "parse a script of 1 MiB, twenty times",
         beside: "a Rust parser",
         unit: "bytes",
@@ -95,9 +107,10 @@ const ROWS: [Row; 7] = [
     },
     Row {
         name: "commit",
-        count: Some(1_000),
+        count: Some(500),
         files: Files::New,
-        dali: "a thousand durable commits of one insert, one client, real files",
+        turns: SHORT_TURNS,
+        dali: "500 durable commits of one insert, one client, real files",
         beside: "the bare four store calls",
         unit: "commits",
         goal: Goal::Share(0.9),
@@ -106,6 +119,7 @@ const ROWS: [Row; 7] = [
         name: "restart",
         count: None,
         files: Files::Log,
+        turns: TURNS,
         dali: "restart over a log of 60 MiB, which the system has cached",
         beside: "reading the cached file once",
         unit: "bytes",
@@ -200,6 +214,26 @@ fn median(runs: &[Run]) -> Run {
     }
 }
 
+/// The ratio's form in the table: of times, or of rates.
+fn ratio_of(goal: &Goal, dali: u64, beside: u64) -> f64 {
+    match goal {
+        Goal::Times(_) => beside as f64 / dali as f64,
+        Goal::Share(_) => dali as f64 / beside as f64,
+    }
+}
+
+/// Between which two ratios half of the turns lie.
+fn middle_half(goal: &Goal, dali: &[Run], beside: &[Run]) -> String {
+    let mut ratios: Vec<f64> = dali
+        .iter()
+        .zip(beside)
+        .map(|(dali, beside)| ratio_of(goal, dali.rate, beside.rate))
+        .collect();
+    ratios.sort_unstable_by(f64::total_cmp);
+    let last = ratios.len() - 1;
+    format!("{:.2} to {:.2}", ratios[last / 4], ratios[last - last / 4])
+}
+
 /// The number with its digits in threes.
 fn in_threes(number: u64) -> String {
     let digits = number.to_string();
@@ -217,41 +251,48 @@ fn mebibytes(run: Run) -> String {
     format!("{:.1}", run.kibibytes as f64 / 1024.0)
 }
 
-fn print_row(row: &Row, dali: Run, beside: Run) {
-    let times = beside.rate as f64 / dali.rate as f64;
+/// Prints a row of runs that did the same work, of which the two of one turn stand at one place.
+fn print_row(row: &Row, dali_runs: &[Run], beside_runs: &[Run]) {
+    let dali = median(dali_runs);
+    let beside = median(beside_runs);
+    let ratio = ratio_of(&row.goal, dali.rate, beside.rate);
     let (ratio, goal, met) = match row.goal {
         Goal::Times(most) => (
-            format!("{times:.2} times"),
+            format!("{ratio:.2} times"),
             format!("at most {most} times"),
-            times <= most,
+            ratio <= most,
         ),
         Goal::Share(least) => (
-            format!("{:.2} of its rate", 1.0 / times),
+            format!("{ratio:.2} of its rate"),
             format!("at least {least} of its rate"),
-            1.0 / times >= least,
+            ratio >= least,
         ),
     };
     println!(
-        "| {} | {} | {} {} | {} | {ratio} | {goal} | {} | {} | {} |",
+        "| {} | {} | {} {} | {} | {ratio} | {} | {goal} | {} | {} | {} |",
         row.dali,
         row.beside,
         in_threes(dali.rate),
         row.unit,
         in_threes(beside.rate),
+        middle_half(&row.goal, dali_runs, beside_runs),
         if met { "yes" } else { "no" },
         mebibytes(dali),
         mebibytes(beside),
     );
 }
 
-fn print_growth(counts: [u64; 2], runs: [Run; 2]) {
+/// Prints the row of the greater count, beside that of the smaller one.
+fn print_growth(counts: [u64; 2], grown: [&[Run]; 2]) {
+    let runs = grown.map(median);
     let times = runs[0].rate as f64 / runs[1].rate as f64;
     println!(
-        "| insert {} records in memory, in transactions of ten | dali with {} records | {} inserts | {} | {times:.2} times | at most {MOST_GROWTH} times | {} | {} | {} |",
+        "| insert {} records in memory, in transactions of ten | dali with {} records | {} inserts | {} | {times:.2} times | {} | at most {MOST_GROWTH} times | {} | {} | {} |",
         in_threes(counts[1]),
         in_threes(counts[0]),
         in_threes(runs[1].rate),
         in_threes(runs[0].rate),
+        middle_half(&Goal::Times(MOST_GROWTH), grown[1], grown[0]),
         if times <= MOST_GROWTH { "yes" } else { "no" },
         mebibytes(runs[1]),
         mebibytes(runs[0]),
@@ -284,7 +325,9 @@ fn print_machine(folder: &Path) -> io::Result<()> {
         .find_map(|line| line.strip_prefix("model name")?.split_once(": "))
         .map_or("an unknown processor", |(_, model)| model);
     println!("{cores} cores of {model}; files on {}.", disk_of(folder)?);
-    println!("Medians of {TURNS} runs each. Rates are a second.");
+    println!("Medians of {TURNS} runs each, of commits and growth {SHORT_TURNS}. `half of the turns` says between which two ratios");
+    println!("half of them lie.");
+    println!("Rates are a second.");
     println!("Memory is the most that was resident, in MiB (2^20 bytes). Near 2 or 3 MiB it says nothing, since what this");
     println!("program has resident is counted in each that it starts.");
     println!();
@@ -377,27 +420,36 @@ fn print_rows(sides: &Sides) -> io::Result<()> {
     for row in &ROWS {
         let mut dali = Vec::new();
         let mut beside = Vec::new();
-        for _ in 0..TURNS {
-            dali.push(sides.dali(row)?);
-            beside.push(sides.beside(row)?);
+        for turn in 0..row.turns {
+            // Each side begins every other turn, so that what one run leaves to the next falls on both.
+            if turn % 2 == 0 {
+                dali.push(sides.dali(row)?);
+                beside.push(sides.beside(row)?);
+            } else {
+                beside.push(sides.beside(row)?);
+                dali.push(sides.dali(row)?);
+            }
         }
         compare(row.name, dali.iter().chain(&beside))?;
-        print_row(row, median(&dali), median(&beside));
+        print_row(row, &dali, &beside);
     }
     Ok(())
 }
 
 fn print_growths(sides: &Sides) -> io::Result<()> {
     let mut grown = [const { Vec::new() }; GROWTH.len()];
-    for _ in 0..TURNS {
-        for (count, runs) in GROWTH.iter().zip(&mut grown) {
-            runs.push(sides.growth(*count)?);
+    for turn in 0..SHORT_TURNS {
+        for place in 0..GROWTH.len() {
+            // The order is turned around every other turn, as in the other rows.
+            let place = if turn % 2 == 0 { place } else { GROWTH.len() - 1 - place };
+            grown[place].push(sides.growth(GROWTH[place])?);
         }
     }
-    compare("growth", grown.iter().flatten())?;
-    let grown = grown.map(|runs| median(&runs));
+    for runs in &grown {
+        compare("growth", runs)?;
+    }
     for (counts, runs) in GROWTH.windows(2).zip(grown.windows(2)) {
-        print_growth([counts[0], counts[1]], [runs[0], runs[1]]);
+        print_growth([counts[0], counts[1]], [&runs[0], &runs[1]]);
     }
     Ok(())
 }

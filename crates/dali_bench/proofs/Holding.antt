@@ -1,5 +1,5 @@
 -- An operation that notes one word has read it.
-use Rattle.std.proofs.Common.{◌≡◌, ◌∙◌, ◌≢◌, sym, ap, subst, refl, arith, ℕ, ◌<◌, ◌^◌}
+use Rattle.std.proofs.Common.{◌≡◌, ◌∙◌, sym, ap, subst, refl, arith, ℕ, ◌^◌}
 use Rattle.std.specs.Prelude.{bit_and, bit_or, IsBitSet}
 use Rattle.std.specs.Int.Bits.{and_self, or_zero_l}
 use Rattle.std.proofs.lemmas.Nat.{pow_pos}

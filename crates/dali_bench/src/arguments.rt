@@ -1,4 +1,7 @@
 //! The words of the command line.
+ghost use Rattle.std.specs.Prelude.{◌≡◌};
+ghost use Rattle.dali_bench.specs.Tasks.{name_of, has_count, has_folder};
+
 use anyhow::Result;
 use clap::{Arg, ArgAction, ArgMatches, Command, value_parser};
 use std::alloc::{AllocError, Global};
@@ -42,7 +45,9 @@ const TASKS: [Task; 10] = [
 ];
 
 impl Task {
-    fn name<'a>(self) -> &'a str {
+    fn name<'a>(self) -> &'a str
+        ensures { result.now ≡ name_of self }
+    {
         match self {
             Task::Codec => "codec",
             Task::Locks => "locks",
@@ -74,11 +79,15 @@ impl Task {
         }
     }
 
-    fn has_count(self) -> bool {
+    fn has_count(self) -> bool
+        ensures { result ≡ has_count self }
+    {
         !matches!(self, Task::Restart | Task::Small)
     }
 
-    fn has_folder(self) -> bool {
+    fn has_folder(self) -> bool
+        ensures { result ≡ has_folder self }
+    {
         matches!(self, Task::Commit | Task::Log | Task::Restart | Task::Small)
     }
 }
@@ -86,6 +95,7 @@ impl Task {
 /// What the command line asks for.
 #[derive(Clone, Copy, Debug)]
 pub struct Job<'a> {
+    /// What is done.
     pub task: Task,
     /// How often it is done; 0 where the subcommand has no count.
     pub count: u32,

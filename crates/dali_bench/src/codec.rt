@@ -1,7 +1,15 @@
 //! Records of blocks, encoded and decoded.
-ghost use Rattle.std.specs.Prelude.{◌≡◌, ◌≤◌, true};
+ghost use Rattle.std.specs.Prelude.{◌≡◌, ◌≤◌, ◌+◌, ◌*◌, ◌/◌, ◌%◌, ◌^◌, ◌++◌, List, [], true, fold, codes, OnOk, IfOk};
+ghost use Rattle.std.specs.List.{AllByRecursion};
 ghost use Rattle.dali_words.specs.Values.{IsValue};
-ghost use Rattle.dali_record.specs.Spelling.{IsOperation, is_forward};
+ghost use Rattle.dali_record.specs.declared.records.Record.{Record as RecordOf};
+ghost use Rattle.dali_record.specs.declared.records.Record.TheVariants.{Op as Forward};
+ghost use Rattle.dali_record.specs.Blocks.{made};
+ghost use Rattle.dali_record.specs.Spelling.{IsOperation, CanBeSpelled, is_forward};
+ghost use Rattle.dali_bench.specs.Amounts.{Tells};
+ghost use Rattle.dali_bench.specs.Databases.{abc};
+ghost use Rattle.dali_bench.specs.Keys.{mixed};
+ghost use Rattle.dali_bench.specs.Samples.{filled, sample, first_samples, spell_all, words_of, words_in, AreRead};
 
 use crate::keys::mix_bytes;
 use crate::timing::Timing;
@@ -14,7 +22,7 @@ use std::marker::Model;
 use std::rt::Clock;
 use std::time::Instant;
 
-const RECORDS: usize = 1000;
+const RECORDS: u32 = 1000;
 
 const REGION: u32 = 7;
 
@@ -39,6 +47,7 @@ impl Model for Sample {
 fn make_sample(txn: u64, op: Op, key: u64, words: &[u64; 64]) -> Sample
     requires operation { IsOperation op }
     requires forward { is_forward op ≡ true }
+    ensures { result ≡ Forward txn (made words.now key 7 op) }
 {
     Sample {
         entry: Record::Op {
@@ -48,50 +57,61 @@ fn make_sample(txn: u64, op: Op, key: u64, words: &[u64; 64]) -> Sample
     }
 }
 
-// The words of a region in which the cells from 1 to below this one hold the value, each under its key.
-fn words_before(cell: u8, value: Value) -> [u64; 64]
-    requires cell { cell ≤ 8 }
+// The words of a region in which the cells from 1 to this one hold the value, each under its key.
+fn words_with(cells: u8, value: Value) -> [u64; 64]
+    requires few { cells ≤ 7 }
     requires value { IsValue value }
+    ensures { result ≡ filled cells value }
 {
     let mut words = [0; 64];
     words[0] = 1;
-    for full in 1..cell {
-        words = effect(&Op::Put { value }, key_of(full), &words).0.after;
+    for full in 0..cells {
+        words = effect(&Op::Put { value }, key_of(full + 1), &words).0.after;
     }
     words
 }
 
-fn key_of(cell: u8) -> u64 {
+fn key_of(cell: u8) -> u64
+    ensures { result ≡ 1000 + cell }
+{
     1000 + cell as u64
 }
 
 // A put, a read or a change in one of the cells 1 to 7, by turns.
 fn sample_at(place: u64, value: Value) -> Sample
     requires value { IsValue value }
+    ensures { result ≡ sample place value }
 {
-    let cell = (1 + place % 7) as u8;
-    let words = words_before(cell, value);
+    let full = (place % 7) as u8;
+    let cell = full + 1;
     if place % 3 == 0 {
+        let words = words_with(full, value);
         return make_sample(place, Op::Put { value }, key_of(cell), &words);
     }
-    let words = words_before(cell + 1, value);
+    let words = words_with(cell, value);
     if place % 3 == 1 {
         return make_sample(place, Op::Read { cell }, key_of(cell), &words);
     }
     make_sample(place, Op::Change { cell, value }, key_of(cell), &words)
 }
 
-fn samples(alloc: Global) -> Result<Vec<Sample>> {
+// So many records.
+fn samples(alloc: Global, count: u32) -> Result<Vec<Sample>>
+    ensures { IfOk result (λ samples. samples.items ≡ first_samples count abc) }
+{
     let value = Value::from_bytes(b"abc").context("no value")?;
     let _bytes = value.bytes();
-    let mut samples = Vec::with_capacity(alloc, RECORDS)?;
-    for place in 0..RECORDS as u64 {
-        samples.push(sample_at(place, value))?;
+    let mut samples = Vec::with_capacity(alloc, count as usize)?;
+    for place in 0..count {
+        samples.push(sample_at(place as u64, value))?;
     }
     Ok(samples)
 }
 
-fn encode_all(samples: &[Sample], bytes: &mut Vec<u8>) -> Result<()> {
+fn encode_all(samples: &[Sample], bytes: &mut Vec<u8>) -> Result<()>
+    ensures bytes { OnOk result (bytes.new.items ≡ bytes.old.items ++ spell_all samples.now) }
+    ensures spelled { OnOk result (AllByRecursion CanBeSpelled samples.now) }
+{
     for sample in samples {
         encode(&sample.entry, bytes)?;
     }
@@ -99,7 +119,9 @@ fn encode_all(samples: &[Sample], bytes: &mut Vec<u8>) -> Result<()> {
 }
 
 // How many new words a block has.
-fn words_in(entry: &Record) -> usize {
+fn count_words(entry: &Record) -> usize
+    ensures { result ≡ words_of entry.now }
+{
     match entry {
         Record::Op { block, .. } => block.after.as_slice().len(),
         _ => 0,
@@ -107,28 +129,44 @@ fn words_in(entry: &Record) -> usize {
 }
 
 // Decodes so many records. It answers how many new words their blocks have.
-fn decode_all(alloc: Global, bytes: &[u8], count: usize) -> Result<usize> {
+fn decode_all(alloc: Global, bytes: &[u8], count: usize) -> Result<usize>
+    ensures { IfOk result (λ words. (rs : List RecordOf) × AreRead count bytes.now rs [] words) }
+{
     let mut reader = Reader::new(bytes);
     let mut words: usize = 0;
-    for _ in 0..count {
+    for done in 0..count {
         let entry = decode(alloc, &mut reader)?;
-        words = words.wrapping_add(words_in(&entry));
+        words = words.wrapping_add(count_words(&entry));
     }
     ensure!(reader.left() == 0, "bytes are left");
     Ok(words)
 }
 
-/// Encodes and decodes so many records of blocks, a thousand at a time.
-pub fn run(clock: &impl Clock, alloc: Global, count: u32) -> Result<Timing> {
-    let samples = samples(alloc)?;
-    let passes = count / RECORDS as u32;
+// Encodes the records into a buffer that is cleared, and decodes them again. It answers how many new words their
+// blocks have.
+fn pass(alloc: Global, samples: &[Sample], bytes: &mut Vec<u8>) -> Result<usize>
+    ensures bytes { OnOk result (bytes.new.items ≡ spell_all samples.now) }
+    ensures words { IfOk result (λ words. words ≡ words_in samples.now % 2 ^ 64) }
+{
+    bytes.clear();
+    encode_all(samples, bytes)?;
+    let words = decode_all(alloc, bytes.as_slice(), samples.len())?;
+    Ok(words)
+}
+
+/// Encodes and decodes so many records of blocks, rounded down to thousands, a thousand at a time. The check number is
+/// made of the bytes that they spell and of the new words that were decoded in all.
+pub fn run(clock: &impl Clock, alloc: Global, count: u32) -> Result<Timing>
+    ensures { IfOk result (Tells (count / 1000 * 1000) (codes "records")
+        ((fold mixed 0 (spell_all (first_samples 1000 abc)) + count / 1000 * words_in (first_samples 1000 abc)) % 2 ^ 64)) }
+{
+    let samples = samples(alloc, RECORDS)?;
+    let passes = count / RECORDS;
     let mut bytes = Vec::new(alloc);
     let mut words: usize = 0;
     let start = Instant::now(clock)?;
     for _ in 0..passes {
-        bytes.clear();
-        encode_all(&samples, &mut bytes)?;
-        words = words.wrapping_add(decode_all(alloc, &bytes, samples.len())?);
+        words = words.wrapping_add(pass(alloc, &samples, &mut bytes)?);
     }
     let timing = Timing::since(clock, start, passes as u64 * RECORDS as u64, "records")?;
     ensure!(words > 0, "no words were read");

@@ -1,6 +1,11 @@
 //! Databases that are filled, and found again.
-ghost use Rattle.std.specs.Prelude.{◌≤◌};
+ghost use Rattle.std.specs.Prelude.{◌≡◌, ◌*◌, ◌/◌, ◌%◌, ◌^◌, codes, length, [], Ok, OnOk, IfOk, IfSome};
+ghost use Rattle.dali_store.specs.Store.{Files};
 ghost use Rattle.dali_engine.specs.Flushes.{IsGated};
+ghost use Rattle.dali_engine.specs.Opening.{IsRestored};
+ghost use Rattle.dali_engine.specs.declared.engine.Engine.{Engine as EngineOf};
+ghost use Rattle.dali_bench.specs.Amounts.{Counts, Tells};
+ghost use Rattle.dali_bench.specs.Databases.{sizes_of, inserts_from, transaction, abc, records_grown, rounds_grown, Database, Commits, Fills, Filled, FilledInMemory, Grown};
 
 use crate::keys::scattered;
 use crate::timing::Timing;
@@ -24,7 +29,9 @@ const INSERTS: u32 = 10;
 const RECORDS: u32 = 100_000;
 
 // Sizes with a cell for each of so many records and two entries, or the greatest.
-fn sizes_for(records: u32) -> Result<Geometry> {
+fn sizes_for(records: u32) -> Result<Geometry>
+    ensures { result ≡ Ok (sizes_of records) }
+{
     let index = (records / 10 + 1).min(MAX_INDEX);
     let heap = (records / 7 + 1).min(MAX_HEAP);
     Ok(Geometry::new(index, heap)?)
@@ -36,7 +43,9 @@ fn put_transaction(
     inserts: u32,
     value: Value,
     commands: &mut Vec<ClientCommand>,
-) -> Result<()> {
+) -> Result<()>
+    ensures { OnOk result (commands.new.items ≡ transaction first value inserts) }
+{
     commands.clear();
     commands.push(ClientCommand::Begin)?;
     for insert in 0..inserts as u64 {
@@ -44,6 +53,72 @@ fn put_transaction(
         commands.push(ClientCommand::Insert { key, value })?;
     }
     commands.push(ClientCommand::Commit)?;
+    Ok(())
+}
+
+// Runs one client's commands, which are to end in a commit.
+fn run_transaction<V: Store>(
+    alloc: Global,
+    engine: &mut Engine,
+    store: &mut V,
+    commands: &[ClientCommand],
+) -> Result<()>
+    requires { IsGated V.told V.may_leave engine.old store.old }
+    ensures gated { OnOk result (IsGated V.told V.may_leave engine.new store.new) }
+    ensures commits { OnOk result (Commits V.told V.may_leave V.moment V.left_since V.faults commands.now
+        (record { engine = engine.old; store = store.old }) (record { engine = engine.new; store = store.new })) }
+{
+    let mut lines = Lines::new(alloc);
+    engine.run_block(commands, store, &mut lines)?;
+    ensure!(
+        matches!(lines.as_slice().last(), Some(Line::CommitOk)),
+        "a commit failed"
+    );
+    Ok(())
+}
+
+// Commits the transaction with this number, of so many inserts.
+fn run_number<V: Store>(
+    alloc: Global,
+    engine: &mut Engine,
+    store: &mut V,
+    commands: &mut Vec<ClientCommand>,
+    number: u64,
+    inserts: u32,
+    value: Value,
+) -> Result<()>
+    requires { IsGated V.told V.may_leave engine.old store.old }
+    ensures gated { OnOk result (IsGated V.told V.may_leave engine.new store.new) }
+    ensures commits { OnOk result (Commits V.told V.may_leave V.moment V.left_since V.faults (transaction (number * inserts % 2 ^ 64) value inserts)
+        (record { engine = engine.old; store = store.old }) (record { engine = engine.new; store = store.new })) }
+{
+    put_transaction(
+        number.wrapping_mul(inserts as u64),
+        inserts,
+        value,
+        commands,
+    )?;
+    run_transaction(alloc, engine, store, commands)?;
+    Ok(())
+}
+
+// Commits so many transactions with so many inserts of the value each.
+fn fill_with<V: Store>(
+    alloc: Global,
+    engine: &mut Engine,
+    store: &mut V,
+    transactions: u32,
+    inserts: u32,
+    value: Value,
+) -> Result<()>
+    requires { IsGated V.told V.may_leave engine.old store.old }
+    ensures { OnOk result (Fills V.told V.may_leave V.moment V.left_since V.faults value inserts transactions
+        (record { engine = engine.old; store = store.old }) (record { engine = engine.new; store = store.new })) }
+{
+    let mut commands = Vec::new(alloc);
+    for number in 0..transactions as u64 {
+        run_number(alloc, engine, store, &mut commands, number, inserts, value)?;
+    }
     Ok(())
 }
 
@@ -56,24 +131,31 @@ fn fill<V: Store>(
     inserts: u32,
 ) -> Result<()>
     requires { IsGated V.told V.may_leave engine.old store.old }
+    ensures { OnOk result (Fills V.told V.may_leave V.moment V.left_since V.faults abc inserts transactions
+        (record { engine = engine.old; store = store.old }) (record { engine = engine.new; store = store.new })) }
 {
     let value = Value::from_bytes(b"abc").context("no value")?;
-    let mut commands = Vec::new(alloc);
-    for transaction in 0..transactions as u64 {
-        put_transaction(
-            transaction.wrapping_mul(inserts as u64),
-            inserts,
-            value,
-            &mut commands,
-        )?;
-        let mut lines = Lines::new(alloc);
-        engine.run_block(&commands, store, &mut lines)?;
-        ensure!(
-            matches!(lines.as_slice().last(), Some(Line::CommitOk)),
-            "a commit failed"
-        );
-    }
+    fill_with(alloc, engine, store, transactions, inserts, value)?;
     Ok(())
+}
+
+// Makes a database with sizes for so many records, and commits so many transactions with so many inserts each. It
+// answers how long the commits took.
+fn time_filling<V: Store>(
+    clock: &impl Clock,
+    alloc: Global,
+    store: &mut V,
+    records: u32,
+    transactions: u32,
+    inserts: u32,
+) -> Result<Duration>
+    ensures { OnOk result (Filled V.told V.may_leave V.moment V.left_since V.faults (sizes_of records) abc inserts transactions store.old store.new) }
+{
+    let geometry = sizes_for(records)?;
+    let mut engine = format(alloc, &geometry, store)?;
+    let start = Instant::now(clock)?;
+    fill(alloc, &mut engine, store, transactions, inserts)?;
+    Ok(start.elapsed(clock)?)
 }
 
 /// Commits so many transactions of one insert each.
@@ -82,57 +164,89 @@ pub fn commit<V: Store>(
     alloc: Global,
     store: &mut V,
     count: u32,
-) -> Result<Timing> {
-    let geometry = sizes_for(count)?;
-    let mut engine = format(alloc, &geometry, store)?;
-    let start = Instant::now(clock)?;
-    fill(alloc, &mut engine, store, count, 1)?;
-    let timing = Timing::since(clock, start, count as u64, "commits")?;
+) -> Result<Timing>
+    ensures counts { IfOk result (Counts count (codes "commits")) }
+    ensures filled { OnOk result (Filled V.told V.may_leave V.moment V.left_since V.faults (sizes_of count) abc 1 count store.old store.new) }
+    ensures length { IfOk result (λ timing. IfSome (V.told store.new) (λ files. timing.check ≡ length files.log)) }
+{
+    let elapsed = time_filling(clock, alloc, store, count, count, 1)?;
+    let timing = Timing::new(count as u64, "commits", elapsed);
     Ok(timing.checked(store.length(FileName::Log)?))
 }
 
-// How long it takes to insert so many records into a new database in memory.
-fn time_growth(clock: &impl Clock, alloc: Global, transactions: u32) -> Result<Duration> {
-    let geometry = sizes_for(transactions.saturating_mul(INSERTS))?;
+// Commits so many transactions of ten inserts to a new store in memory. It answers the store, and how long the commits
+// took.
+fn fill_memory(
+    clock: &impl Clock,
+    alloc: Global,
+    transactions: u32,
+) -> Result<(MemoryStore, Duration)>
+    ensures { IfOk result (λ filled. FilledInMemory transactions filled.0) }
+{
     let mut store = MemoryStore::new(alloc, Vec::new(alloc));
-    let mut engine = format(alloc, &geometry, &mut store)?;
-    let start = Instant::now(clock)?;
-    fill(alloc, &mut engine, &mut store, transactions, INSERTS)?;
-    Ok(start.elapsed(clock)?)
+    let records = transactions.saturating_mul(INSERTS);
+    let elapsed = time_filling(clock, alloc, &mut store, records, transactions, INSERTS)?;
+    Ok((store, elapsed))
 }
 
 /// Inserts so many records in transactions of ten into a new database in memory, as often as that makes at
-/// most 100,000 in all, and at least once. Making the databases isn't timed.
-pub fn grow(clock: &impl Clock, alloc: Global, count: u32) -> Result<Timing> {
+/// most 100,000 in all, and at least once. Making the databases isn't timed. The check number is the sum of the
+/// lengths of their logs.
+pub fn grow(clock: &impl Clock, alloc: Global, count: u32) -> Result<Timing>
+    ensures counts { IfOk result (Counts (records_grown count) (codes "inserts")) }
+    ensures grown { IfOk result (λ timing. Grown (count / 10) (rounds_grown (count / 10)) timing.check) }
+{
     let transactions = count / INSERTS;
     ensure!(transactions > 0, "fewer than ten records");
     let rounds = (RECORDS / INSERTS / transactions).max(1);
     let mut elapsed = Duration::ZERO;
+    let mut bytes: u64 = 0;
     for _ in 0..rounds {
-        elapsed = elapsed.saturating_add(time_growth(clock, alloc, transactions)?);
+        let (store, round) = fill_memory(clock, alloc, transactions)?;
+        elapsed = elapsed.saturating_add(round);
+        bytes = bytes.wrapping_add(store.file(FileName::Log).len() as u64);
     }
     let records = (rounds as u64 * transactions as u64).saturating_mul(INSERTS as u64);
-    Ok(Timing::new(records, "inserts", elapsed).checked(records))
+    Ok(Timing::new(records, "inserts", elapsed).checked(bytes))
 }
 
 /// Writes the log of so many transactions of ten inserts to a new file, and syncs it.
-pub fn make_log<R: Files>(rt: &R, alloc: Global, count: u32, path: &str) -> Result<()> {
-    let geometry = sizes_for(count.saturating_mul(INSERTS))?;
-    let mut store = MemoryStore::new(alloc, Vec::new(alloc));
-    let mut engine = format(alloc, &geometry, &mut store)?;
-    fill(alloc, &mut engine, &mut store, count, INSERTS)?;
+pub fn make_log<R: Clock + Files>(rt: &R, alloc: Global, count: u32, path: &str) -> Result<()> {
+    let (store, _) = fill_memory(rt, alloc, count)?;
     let mut log = File::create_new(rt, path)?;
     log.write_all(store.file(FileName::Log))?;
     log.sync_all()?;
     Ok(())
 }
 
-/// Finds the records of the store's log again.
-pub fn restart<V: Store>(clock: &impl Clock, alloc: Global, store: &mut V) -> Result<Timing> {
+// Refuses unfinished transactions.
+#[tactic(auto, using(crate::proofs::Restoring::no_elements))]
+fn refuse_unfinished(unfinished: &[u64]) -> Result<()>
+    ensures { OnOk result (unfinished.now ≡ []) }
+{
+    ensure!(unfinished.is_empty(), "a transaction is unfinished");
+    Ok(())
+}
+
+// Finds the records of the store's log again, where it leaves no transaction unfinished.
+fn restart_finished<V: Store>(alloc: Global, store: &mut V) -> Result<Engine>
+    ensures { IfOk result (λ engine. IfSome (V.told store.old) (λ files. IsRestored files.log engine [])) }
+{
+    let (engine, unfinished) = dali_engine::restart(alloc, store)?;
+    refuse_unfinished(unfinished.as_slice())?;
+    Ok(engine)
+}
+
+/// Finds the records of the store's log again, which leaves no transaction unfinished.
+#[tactic(auto, using(crate::proofs::Restoring::found))]
+pub fn restart<V: Store>(clock: &impl Clock, alloc: Global, store: &mut V) -> Result<Timing>
+    ensures counts { IfOk result (λ timing. Tells timing.check (codes "bytes") timing.check timing) }
+    ensures restored { OnOk result (IfSome (V.told store.old) (λ files. (engine : EngineOf) × IsRestored files.log engine [])) }
+    ensures length { IfOk result (λ timing. IfSome (V.told store.old) (λ files. timing.check ≡ length files.log)) }
+{
     let length = store.length(FileName::Log)?;
     let start = Instant::now(clock)?;
-    let (_engine, unfinished) = dali_engine::restart(alloc, store)?;
+    let _engine = restart_finished(alloc, store)?;
     let timing = Timing::since(clock, start, length, "bytes")?;
-    ensure!(unfinished.is_empty(), "a transaction is unfinished");
     Ok(timing.checked(length))
 }

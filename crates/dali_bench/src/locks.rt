@@ -1,9 +1,14 @@
 //! Requests for locks, and their release.
+ghost use Rattle.std.specs.Prelude.{◌≡◌, ◌<◌, ◌^◌, codes, IfOk};
+ghost use Rattle.dali_locks.specs.Locks.{Locks};
+ghost use Rattle.dali_bench.specs.Amounts.{Counts};
+ghost use Rattle.dali_bench.specs.Requests.{step_at, txn_at, mode_at, gives_back, one_more, Asks, Asked};
+
 use crate::keys::below;
 use crate::timing::Timing;
 use anyhow::{Result, ensure};
 use dali_locks::{LockAnswer, LockTable, Mode};
-use std::alloc::Global;
+use std::alloc::{AllocError, Global};
 use std::rt::Clock;
 use std::time::Instant;
 
@@ -14,26 +19,70 @@ const KEYS: u64 = 100_000;
 /// How many requests a transaction makes before it gives its locks back.
 const REQUESTS: u64 = 100;
 
+// How often the client of this request has asked, counted on from the client's own number.
+fn step_of(place: u64) -> u64
+    ensures { result ≡ step_at place }
+{
+    place / CLIENTS + place % CLIENTS
+}
+
+// The transaction of this request.
+fn txn_of(place: u64) -> u64
+    ensures { result ≡ txn_at place }
+{
+    step_of(place) / REQUESTS * CLIENTS + place % CLIENTS + 1
+}
+
+fn mode_of(place: u64) -> Mode
+    ensures { result ≡ mode_at place }
+{
+    if place % 4 == 0 {
+        Mode::Exclusive
+    } else {
+        Mode::Shared
+    }
+}
+
+// The transaction of this request gives its locks back where it was its last.
+fn give_back(locks: &mut LockTable, place: u64)
+    ensures { locks.new ≡ gives_back place locks.old }
+{
+    if step_of(place) % REQUESTS == REQUESTS - 1 {
+        locks.release_all(txn_of(place));
+    }
+}
+
+// The request with this number.
+fn ask(locks: &mut LockTable, place: u64) -> Result<LockAnswer, AllocError>
+    ensures { IfOk result (λ answer. Asks place locks.old answer locks.new) }
+{
+    let answer = locks.request(txn_of(place), below(KEYS, place), mode_of(place))?;
+    give_back(locks, place);
+    Ok(answer)
+}
+
+// One more where a lock was granted.
+fn counted(answer: LockAnswer, granted: u64) -> u64
+    requires { granted < 2 ^ 32 }
+    ensures { result ≡ one_more answer granted }
+{
+    match answer {
+        LockAnswer::Granted => granted + 1,
+        LockAnswer::Wait { .. } | LockAnswer::Busy { .. } => granted,
+    }
+}
+
 /// So many requests by 64 transactions in turn, each of which gives its locks back after a hundred.
-pub fn run(clock: &impl Clock, alloc: Global, count: u32) -> Result<Timing> {
+pub fn run(clock: &impl Clock, alloc: Global, count: u32) -> Result<Timing>
+    ensures counts { IfOk result (Counts count (codes "requests")) }
+    ensures asked { IfOk result (λ timing. (locks : Locks) × Asked count locks timing.check) }
+{
     let mut locks = LockTable::new(alloc);
     let mut granted: u64 = 0;
     let start = Instant::now(clock)?;
     for place in 0..count as u64 {
-        let client = place % CLIENTS;
-        let step = place / CLIENTS + client;
-        let txn = step / REQUESTS * CLIENTS + client + 1;
-        let mode = if place % 4 == 0 {
-            Mode::Exclusive
-        } else {
-            Mode::Shared
-        };
-        if locks.request(txn, below(KEYS, place), mode)? == LockAnswer::Granted {
-            granted = granted.wrapping_add(1);
-        }
-        if step % REQUESTS == REQUESTS - 1 {
-            locks.release_all(txn);
-        }
+        let answer = ask(&mut locks, place)?;
+        granted = counted(answer, granted);
     }
     let timing = Timing::since(clock, start, count as u64, "requests")?;
     ensure!(granted > 0, "no lock was granted");

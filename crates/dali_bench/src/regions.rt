@@ -1,5 +1,9 @@
 //! Regions that are updated and checked.
-ghost use Rattle.std.specs.Prelude.{◌<◌};
+ghost use Rattle.std.specs.Prelude.{◌≡◌, ◌^◌, ◌*◌, ◌-◌, ◌<◌, ◌≤◌, fold, length, map, min, codes, OnOk, IfOk};
+ghost use Rattle.dali_region.specs.State.{checked};
+ghost use Rattle.dali_bench.specs.Amounts.{Tells};
+ghost use Rattle.dali_bench.specs.Keys.{mixed};
+ghost use Rattle.dali_bench.specs.Regions.{made_words, made_regions, check_of, worked, updated_once, updated_times, strays_in};
 
 use crate::keys::{below, mix};
 use crate::timing::Timing;
@@ -15,15 +19,20 @@ pub const REGIONS: u32 = 131_072;
 
 const WORDS: u64 = 64;
 
-fn words_of(region: u64) -> [u64; 64] {
+fn words_of(region: u32) -> [u64; 64]
+    ensures { result ≡ made_words region }
+{
+    let first = region as u64 * WORDS;
     let mut words = [0; 64];
-    for word in 0..WORDS {
-        words[word as usize] = region.wrapping_mul(WORDS).wrapping_add(word);
+    for word in 0..64u8 {
+        words[word as usize] = first + word as u64;
     }
     words
 }
 
-fn load(alloc: Global, count: u64) -> Result<Vec<Region>, AllocError> {
+fn load(alloc: Global, count: u32) -> Result<Vec<Region>, AllocError>
+    ensures { IfOk result (λ regions. regions.items ≡ made_regions count) }
+{
     let mut regions = Vec::new(alloc);
     for region in 0..count {
         regions.push(Region::load(words_of(region)))?;
@@ -31,13 +40,24 @@ fn load(alloc: Global, count: u64) -> Result<Vec<Region>, AllocError> {
     Ok(regions)
 }
 
+// A check number with these words in it.
+fn mix_words(check: u64, words: &[u64]) -> u64
+    ensures { result ≡ fold mixed check words.now }
+{
+    let mut mixed = check;
+    for word in words {
+        mixed = mix(mixed, *word);
+    }
+    mixed
+}
+
 // The check number of the words of all regions.
-fn words_check(regions: &[Region]) -> u64 {
+fn words_check(regions: &[Region]) -> u64
+    ensures { result ≡ check_of regions.now }
+{
     let mut check = 0;
     for region in regions {
-        for word in region.words().iter() {
-            check = mix(check, *word);
-        }
+        check = mix_words(check, region.words());
     }
     check
 }
@@ -45,6 +65,7 @@ fn words_check(regions: &[Region]) -> u64 {
 // An operation of a transaction that writes one word.
 fn update_word(region: &mut Region, txn: u64, word: u8) -> Result<(), LatchError>
     requires { word < 64 }
+    ensures { OnOk result (region.new ≡ worked txn word region.old) }
 {
     region.latch(txn, false)?;
     region.note_reads(bit(word));
@@ -53,37 +74,58 @@ fn update_word(region: &mut Region, txn: u64, word: u8) -> Result<(), LatchError
     Ok(())
 }
 
+// The update with this number, of a word of one of the regions.
+fn update_at(regions: &mut [Region], place: u64) -> Result<(), LatchError>
+    requires { 0 < length regions.old }
+    ensures { OnOk result (regions.new ≡ updated_once place regions.old) }
+{
+    let region = below(regions.len() as u64, place) as usize;
+    update_word(&mut regions[region], place, (place % WORDS) as u8)?;
+    Ok(())
+}
+
 /// One word of some region is updated, so many times.
-pub fn update(clock: &impl Clock, alloc: Global, count: u32, regions: u32) -> Result<Timing> {
-    let mut regions = load(alloc, regions as u64)?;
+pub fn update(clock: &impl Clock, alloc: Global, count: u32, regions: u32) -> Result<Timing>
+    ensures { IfOk result (Tells count (codes "updates") (check_of (updated_times count (made_regions regions)))) }
+{
+    let mut regions = load(alloc, regions)?;
     ensure!(!regions.is_empty(), "no regions");
     let start = Instant::now(clock)?;
     for place in 0..count as u64 {
-        let region = below(regions.len() as u64, place) as usize;
-        update_word(&mut regions[region], place, (place % WORDS) as u8)?;
+        update_at(&mut regions, place)?;
     }
     let timing = Timing::since(clock, start, count as u64, "updates")?;
     Ok(timing.checked(words_check(&regions)))
 }
 
-// Checks all regions. It answers the masks by which they are damaged, or-ed.
-fn check_all(regions: &mut [Region]) -> u64 {
+// Checks all regions. It answers the masks by which they are damaged, or-ed, and how many were checked.
+fn check_all(regions: &mut [Region]) -> (u64, u64)
+    ensures strays { result.0 ≡ strays_in regions.old }
+    ensures many { result.1 ≡ length regions.old }
+    ensures checked { regions.new ≡ map checked regions.old }
+{
+    let many = regions.len() as u64;
     let mut strays = 0;
     for region in regions.iter_mut() {
         strays |= region.check();
     }
-    strays
+    (strays, many)
 }
 
 /// The codewords of all regions are compared with their words, so many times.
-pub fn check(clock: &impl Clock, alloc: Global, passes: u32, regions: u32) -> Result<Timing> {
-    let mut all = load(alloc, regions as u64)?;
+pub fn check(clock: &impl Clock, alloc: Global, passes: u32, regions: u32) -> Result<Timing>
+    ensures { IfOk result (Tells (min (passes * regions * 512) (2 ^ 64 - 1)) (codes "bytes") (check_of (made_regions regions))) }
+{
+    let mut all = load(alloc, regions)?;
     let start = Instant::now(clock)?;
     let mut strays = 0;
+    let mut checked: u64 = 0;
     for _ in 0..passes {
-        strays |= check_all(&mut all);
+        let (found, many) = check_all(&mut all);
+        strays |= found;
+        checked = checked.saturating_add(many);
     }
-    let bytes = (passes as u64 * regions as u64).saturating_mul(8 * WORDS);
+    let bytes = checked.saturating_mul(8 * WORDS);
     let timing = Timing::since(clock, start, bytes, "bytes")?;
     ensure!(strays == 0, "a region is damaged");
     Ok(timing.checked(words_check(&all)))

@@ -1,5 +1,6 @@
 //! How much was done in how long.
-ghost use Rattle.std.specs.Prelude.{◌≡◌, ◌*◌, ◌/◌, max};
+ghost use Rattle.std.specs.Prelude.{◌≡◌, IfOk};
+ghost use Rattle.dali_bench.specs.Amounts.{Tells, rate_of, text_of};
 
 use std::rt::Clock;
 use std::time::{Duration, Instant};
@@ -8,10 +9,14 @@ use std::{fmt, io};
 /// So many things, in so long, with a number that tells whether both sides of the benches did the same.
 #[derive(Clone, Copy, Debug)]
 pub struct Timing {
-    count: u64,
-    unit: &'static str,
-    elapsed: Duration,
-    check: u64,
+    /// How many things were done.
+    pub count: u64,
+    /// What the things are.
+    pub unit: &'static str,
+    /// How long it took.
+    pub elapsed: Duration,
+    /// The check number.
+    pub check: u64,
 }
 
 impl Timing {
@@ -21,12 +26,17 @@ impl Timing {
         start: Instant,
         count: u64,
         unit: &'static str,
-    ) -> io::Result<Timing> {
+    ) -> io::Result<Timing>
+        ensures { IfOk result (λ timing. Tells count unit.now 0 timing) }
+    {
         Ok(Timing::new(count, unit, start.elapsed(clock)?))
     }
 
     /// So many things, in so long. The check number is 0.
-    pub fn new(count: u64, unit: &'static str, elapsed: Duration) -> Timing {
+    pub fn new(count: u64, unit: &'static str, elapsed: Duration) -> Timing
+        ensures tells { Tells count unit.now 0 result }
+        ensures time { result.elapsed ≡ elapsed }
+    {
         Timing {
             count,
             unit,
@@ -36,19 +46,25 @@ impl Timing {
     }
 
     /// The same with this check number.
-    pub fn checked(self, check: u64) -> Timing {
+    pub fn checked(self, check: u64) -> Timing
+        ensures { result ≡ record self { check = check } }
+    {
         Timing { check, ..self }
     }
 }
 
 /// How many a second, rounded down. What took no time counts as a nanosecond.
 pub fn rate(count: u64, nanoseconds: u128) -> u128
-    ensures { result ≡ count * 1_000_000_000 / max nanoseconds 1 }
+    ensures { result ≡ rate_of count nanoseconds }
 {
     count as u128 * 1_000_000_000 / nanoseconds.max(1)
 }
 
 impl fmt::Display for Timing {
+    ghost use Rattle.std.specs.Prelude.{Some};
+
+    ghost output = { λ timing. Some (text_of timing) };
+
     fn fmt<W: fmt::Write>(&self, f: &mut fmt::Formatter<W>) -> fmt::Result {
         let rate = rate(self.count, self.elapsed.as_nanos());
         let unit = self.unit;

@@ -1,0 +1,31 @@
+-- The subcommands.
+--     name_of task         its name
+--     has_count task       whether it is told how often
+--     has_folder task      whether it has files
+use Rattle.std.specs.Prelude.{ℕ, Bool, true, false, List, codes}
+use Rattle.dali_bench.specs.declared.arguments.Task.{Task}
+use Rattle.dali_bench.specs.declared.arguments.Task.TheVariants.{Codec, Locks, Update, Check, Parse, Commit, Log, Restart, Growth, Small}
+
+abbrev pub name_of : Task → List ℕ
+name_of Codec = codes "codec"
+name_of Locks = codes "locks"
+name_of Update = codes "update"
+name_of Check = codes "check"
+name_of Parse = codes "parse"
+name_of Commit = codes "commit"
+name_of Log = codes "log"
+name_of Restart = codes "restart"
+name_of Growth = codes "growth"
+name_of Small = codes "small"
+
+abbrev pub has_count : Task → Bool
+has_count Restart = false
+has_count Small = false
+has_count _ = true
+
+abbrev pub has_folder : Task → Bool
+has_folder Commit = true
+has_folder Log = true
+has_folder Restart = true
+has_folder Small = true
+has_folder _ = false
