@@ -5,6 +5,7 @@ mod keys;
 mod locks;
 mod regions;
 mod script;
+mod shared;
 mod table;
 mod timing;
 
@@ -20,14 +21,16 @@ fn time(words: &[&str]) -> Option<Timing> {
         ["update", count] => regions::update(count.parse().ok()?, regions::REGIONS),
         ["check", count] => regions::copy(count.parse().ok()?, regions::REGIONS),
         ["parse", count] => script::run(count.parse().ok()?),
+        ["claims", count] => shared::draw(count.parse().ok()?),
+        ["notes", count] => shared::note(count.parse().ok()?),
         ["commit", count, folder] => files::commit(count.parse().ok()?, Path::new(folder)),
         ["restart", folder] => files::read(Path::new(folder)),
         _ => None,
     }
 }
 
-const USAGE: &str = "usage: bench codec|locks|update|check|parse COUNT, bench commit COUNT FOLDER, \
-    bench restart FOLDER, or bench table PROGRAM FOLDER";
+const USAGE: &str = "usage: bench codec|locks|update|check|parse|claims|notes COUNT, \
+    bench commit COUNT FOLDER, bench restart FOLDER, or bench table PROGRAM FOLDER";
 
 fn main() -> ExitCode {
     let words: Vec<String> = std::env::args().skip(1).collect();

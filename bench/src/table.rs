@@ -54,7 +54,7 @@ struct Row {
     goal: Goal,
 }
 
-const ROWS: [Row; 7] = [
+const ROWS: [Row; 9] = [
     Row {
         name: "codec",
         count: Some(1_000_000),
@@ -103,6 +103,26 @@ const ROWS: [Row; 7] = [
         dali: "parse a script of 1 MiB, twenty times",
         beside: "a Rust parser",
         unit: "bytes",
+        goal: Goal::Times(3.0),
+    },
+    Row {
+        name: "claims",
+        count: Some(10_000_000),
+        files: Files::Absent,
+        turns: TURNS,
+        dali: "draw ten million numbers, each once",
+        beside: "one `fetch_add` each",
+        unit: "draws",
+        goal: Goal::Times(3.0),
+    },
+    Row {
+        name: "notes",
+        count: Some(10_000_000),
+        files: Files::Absent,
+        turns: TURNS,
+        dali: "add ten million entries to a history, and let another note meet each",
+        beside: "one `fetch_add` and one load each",
+        unit: "notes",
         goal: Goal::Times(3.0),
     },
     Row {

@@ -7,11 +7,11 @@
 --     with_row m t f            the table with the change f of the row of t, where it has one
 --     undos_at m t, state_at m t      the undos of t, none where it is absent;  its state
 --     IsFirst m t               t is the least number of a transaction
-use Rattle.std.specs.Prelude.{◌≡◌, ℕ, zero, suc, ◌-◌, ◌≤◌, IsSome, List, [], ◌∷◌, ◌++◌, Option, length, take, slice_get, refl}
+use Rattle.std.specs.Prelude.{◌≡◌, ℕ, zero, suc, ◌-◌, ◌≤◌, IsSome, List, [], ◌∷◌, ◌++◌, Option, None, length, take, slice_get, refl}
 use Rattle.std.specs.Option.{option_map, option_map_or}
 use Rattle.std.specs.Ordering.{nat_cmp}
 use Rattle.std.specs.FinMap as map
-use Rattle.std.specs.Coded.{Coded, code_by, coded×, coded_ℕ, coded_list}
+use Rattle.std.specs.Coded.{Coded, code_by, coded×, coded_ℕ, coded_option, coded_list}
 use Rattle.dali_att.specs.declared.state.State.{State}
 use Rattle.dali_att.specs.declared.state.State.TheVariants.{Live, Dead, Cleaning, Committed}
 
@@ -53,26 +53,29 @@ abbrev pub IsFirst : {U : Type 0} → Table U → ℕ → Type 0
 IsFirst m t = IsSome (map.get m t) × ((u : ℕ) → IsSome (map.get m u) → t ≤ u)
 
 -- ---- a code for rows
-abbrev number_of : State → ℕ
-number_of Live = 0
-number_of Dead = 1
-number_of Cleaning = 2
-number_of Committed = 3
+abbrev split : State → ℕ × Option ℕ
+split Live = (0, None)
+split (Dead latched) = (1, latched)
+split (Cleaning latched) = (2, latched)
+split Committed = (3, None)
 
-abbrev state_of : ℕ → State
-state_of zero = Live
-state_of (suc zero) = Dead
-state_of (suc (suc zero)) = Cleaning
-state_of (suc (suc (suc n))) = Committed
+abbrev joined : ℕ → Option ℕ → State
+joined zero o = Live
+joined (suc zero) o = Dead o
+joined (suc (suc zero)) o = Cleaning o
+joined (suc (suc (suc n))) o = Committed
 
-pub there_and_back : (s : State) → state_of (number_of s) ≡ s
+abbrev join : ℕ × Option ℕ → State
+join p = joined p.0 p.1
+
+pub there_and_back : (s : State) → join (split s) ≡ s
 there_and_back Live = refl
-there_and_back Dead = refl
-there_and_back Cleaning = refl
+there_and_back (Dead latched) = refl
+there_and_back (Cleaning latched) = refl
 there_and_back Committed = refl
 
 abbrev pub coded_state : Coded State
-coded_state = code_by ℕ coded_ℕ number_of state_of there_and_back
+coded_state = code_by (ℕ × Option ℕ) (coded× coded_ℕ (coded_option coded_ℕ)) split join there_and_back
 
 abbrev pub coded_row : {U : Type 0} → Coded U → Coded (Row U)
 coded_row {U = U} u = code_by (State × List U) (coded× coded_state (coded_list u)) (λ row. (row.state, row.undos)) (λ p. record { state = p.0; undos = p.1 }) (λ _. refl)

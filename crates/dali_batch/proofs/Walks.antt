@@ -8,7 +8,7 @@ use Rattle.dali_bytes.specs.Cursor.{IsBytes}
 use Rattle.dali_bytes.specs.Fields.{number32}
 use Rattle.dali_bytes.proofs.Numbers.{IsBytes-take, IsBytes-drop, number32-big}
 use Rattle.dali_record.specs.declared.records.Record.{Record}
-use Rattle.dali_record.specs.declared.records.Record.TheVariants.{Format, Begin, Op as Forward, Done, Commit, Ended, Solo, AuditBegin, AuditClean, AuditFail, Restarted, Back}
+use Rattle.dali_record.specs.declared.records.Record.TheVariants.{Format, Begin, Forward, Done, Commit, Ended, Solo, AuditBegin, AuditClean, AuditFail, Restarted, Back}
 use Rattle.dali_record.specs.Spelling.{spelling, CanBeSpelled, Begins}
 use Rattle.dali_record.specs.Reading.{record_at}
 use Rattle.dali_record.proofs.Spelled.{record_taken, none_begins}

@@ -1,5 +1,5 @@
 //! What stands at a place of the log.
-ghost use Rattle.std.specs.Prelude.{◌≡◌, ◌≤◌, ◌<◌, ◌+◌, ℕ, true, false, length, take, drop, IfOk, OnErr, IfErr, IsErrOf, IfSome, IsNone};
+ghost use Rattle.std.specs.Prelude.{◌≡◌, ◌≤◌, ◌<◌, ◌+◌, ℕ, true, false, length, take, drop, IfOk, OnOk, OnErr, IfErr, IsErrOf, IfSome, IsNone};
 ghost use Rattle.dali_store.specs.Faults.{Rose};
 ghost use Rattle.dali_bytes.specs.Fields.{number32};
 ghost use Rattle.dali_batch.specs.Finding.{IsBad, IsFound, IsFurther};
@@ -52,6 +52,7 @@ pub fn fill<V: Store>(store: &mut V, at: u64, into: &mut [u8]) -> Result<bool, S
     ensures reads { OnlyReads V.told V.moment V.left_since V.may_leave store.old store.new }
     ensures later { V.faults store.old ≤ V.faults store.new }
     ensures fault { OnErr result (Rose (V.faults store.old) (V.faults store.new)) }
+    ensures kept { OnOk result (V.faults store.new ≡ V.faults store.old) }
 {
     let count = store.read_at(FileName::Log, at, into)?;
     Ok(count == into.len())
@@ -80,6 +81,7 @@ fn read_bytes<V: Store>(
     ensures reads { OnlyReads V.told V.moment V.left_since V.may_leave store.old store.new }
     ensures later { V.faults store.old ≤ V.faults store.new }
     ensures fault { IsErrOf result BatchError.Fault → Rose (V.faults store.old) (V.faults store.new) }
+    ensures kept { (IsErrOf result BatchError.Fault → ⊥) → V.faults store.new ≡ V.faults store.old }
 {
     let mut bytes = vec![in alloc; 0; size as usize]?;
     if !fill(store, at, &mut bytes)? {
@@ -90,7 +92,7 @@ fn read_bytes<V: Store>(
 
 /// What stands at a place of the log: a batch, or a closed gate, where it ends. `BadLog` at the place itself where the
 /// file has no gate there, and at the length behind an open gate where that isn't 1 to 2^30 with so many bytes behind
-/// it. `Fault` only where the store's count of faults rose. It takes memory for the records.
+/// it. `Fault` exactly where the store's count of faults rose. It takes memory for the records.
 pub fn find<V: Store>(alloc: Global, store: &mut V, at: u64) -> Result<Found, BatchError>
     ensures found { IfOk result (λ found. IfSome (V.told store.old) (λ fs. IsFound fs.log at found)) }
     ensures further { IfOk result (λ found. IsFurther at found) }
@@ -98,6 +100,7 @@ pub fn find<V: Store>(alloc: Global, store: &mut V, at: u64) -> Result<Found, Ba
     ensures reads { OnlyReads V.told V.moment V.left_since V.may_leave store.old store.new }
     ensures later { V.faults store.old ≤ V.faults store.new }
     ensures fault { IsErrOf result BatchError.Fault → Rose (V.faults store.old) (V.faults store.new) }
+    ensures kept { (IsErrOf result BatchError.Fault → ⊥) → V.faults store.new ≡ V.faults store.old }
 {
     let length = store.length(FileName::Log)?;
     if length <= at {

@@ -93,6 +93,7 @@ impl LogReader {
         ensures reads { OnlyReads V.told V.moment V.left_since V.may_leave store.old store.new }
         ensures later { V.faults store.old ≤ V.faults store.new }
         ensures fault { IsErrOf result BatchError.Fault → Rose (V.faults store.old) (V.faults store.new) }
+        ensures kept { (IsErrOf result BatchError.Fault → ⊥) → V.faults store.new ≡ V.faults store.old }
     {
         let count = (self.length - at).min(AHEAD.max(size as u64));
         let mut bytes = vec![in self.alloc; 0; count as usize]?;
@@ -116,6 +117,7 @@ impl LogReader {
         ensures reads { OnlyReads V.told V.moment V.left_since V.may_leave store.old store.new }
         ensures later { V.faults store.old ≤ V.faults store.new }
         ensures fault { IsErrOf result BatchError.Fault → Rose (V.faults store.old) (V.faults store.new) }
+        ensures kept { (IsErrOf result BatchError.Fault → ⊥) → V.faults store.new ≡ V.faults store.old }
     {
         if self.length < at || self.length - at < size as u64 {
             return Ok(false);
@@ -150,6 +152,7 @@ impl LogReader {
         ensures reads { OnlyReads V.told V.moment V.left_since V.may_leave store.old store.new }
         ensures later { V.faults store.old ≤ V.faults store.new }
         ensures fault { IsErrOf result BatchError.Fault → Rose (V.faults store.old) (V.faults store.new) }
+        ensures kept { (IsErrOf result BatchError.Fault → ⊥) → V.faults store.new ≡ V.faults store.old }
     {
         if !self.need(store, at, 1)? {
             return Err(BatchError::BadLog { at });
@@ -183,6 +186,7 @@ impl LogReader {
         ensures reads { OnlyReads V.told V.moment V.left_since V.may_leave store.old store.new }
         ensures later { V.faults store.old ≤ V.faults store.new }
         ensures fault { IsErrOf result LogError.Fault → Rose (V.faults store.old) (V.faults store.new) }
+        ensures kept { (IsErrOf result LogError.Fault → ⊥) → V.faults store.new ≡ V.faults store.old }
     {
         let length = store.length(FileName::Log)?;
         if length < 2 {
@@ -221,6 +225,7 @@ impl LogReader {
         ensures reads { OnlyReads V.told V.moment V.left_since V.may_leave store.old store.new }
         ensures later { V.faults store.old ≤ V.faults store.new }
         ensures fault { IsErrOf result LogError.Fault → Rose (V.faults store.old) (V.faults store.new) }
+        ensures kept { (IsErrOf result LogError.Fault → ⊥) → V.faults store.new ≡ V.faults store.old }
     {
         let place = self.end;
         let Some(size) = self.batch_at(store, place)? else {
@@ -255,7 +260,7 @@ impl LogReader {
 
     /// The next record, or none where the log ends. `BadLog` exactly where the bytes are no log, with the first bad
     /// place: a place without a gate, a length that isn't 1 to 2^30 with so many bytes behind it, a place in a batch
-    /// where no record begins. `Fault` only where the store's count of faults rose. It takes memory for a record's lists,
+    /// where no record begins. `Fault` exactly where the store's count of faults rose. It takes memory for a record's lists,
     /// and for the next part of the file where the one that is held ends. Nothing is said of the reader after an error,
     /// nor after the end of the log, but that its places are in order.
     pub fn next<V: Store>(&mut self, store: &mut V) -> Result<Option<Record>, LogError>
@@ -270,6 +275,7 @@ impl LogReader {
         ensures reads { OnlyReads V.told V.moment V.left_since V.may_leave store.old store.new }
         ensures later { V.faults store.old ≤ V.faults store.new }
         ensures fault { IsErrOf result LogError.Fault → Rose (V.faults store.old) (V.faults store.new) }
+        ensures kept { (IsErrOf result LogError.Fault → ⊥) → V.faults store.new ≡ V.faults store.old }
     {
         if self.at < self.end {
             return Ok(Some(self.next_record()?));

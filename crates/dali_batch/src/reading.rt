@@ -23,7 +23,7 @@ pub struct Log {
 /// The records of the whole log, and the place where it ends. `Unformatted` exactly where the log has fewer than two
 /// bytes or its first gate is closed; `BadLog` exactly where the bytes are no log, with the first bad place: a place
 /// without a gate, a length that isn't 1 to 2^30 with so many bytes behind it, a place in a batch where no record
-/// begins, or the first batch's first byte of records where it holds anything but one Format. `Fault` only where the
+/// begins, or the first batch's first byte of records where it holds anything but one Format. `Fault` exactly where the
 /// store's count of faults rose. It takes memory for all records; a `LogReader` hands them out one by one.
 pub fn read_log<V: Store>(alloc: Global, store: &mut V) -> Result<Log, LogError>
     ensures log { IfOk result (λ log. IfSome (V.told store.old) (λ fs.
@@ -34,6 +34,7 @@ pub fn read_log<V: Store>(alloc: Global, store: &mut V) -> Result<Log, LogError>
     ensures reads { OnlyReads V.told V.moment V.left_since V.may_leave store.old store.new }
     ensures later { V.faults store.old ≤ V.faults store.new }
     ensures fault { IsErrOf result LogError.Fault → Rose (V.faults store.old) (V.faults store.new) }
+    ensures kept { (IsErrOf result LogError.Fault → ⊥) → V.faults store.new ≡ V.faults store.old }
 {
     let (mut reader, (index, heap)) = LogReader::open(alloc, store)?;
     let mut records = Vec::new(alloc);

@@ -3,7 +3,7 @@ use Rattle.std.proofs.Common.{◌≡◌, ◌≢◌, ℕ, suc, ◌+◌, ◌%◌, 
 use Rattle.std.proofs.lemmas.Bool.Decides.{nat_tests}
 use Rattle.dali_record.specs.declared.operations.Op.TheVariants.{Put, Read, Change}
 use Rattle.dali_record.specs.declared.records.Record.{Record}
-use Rattle.dali_record.specs.declared.records.Record.TheVariants.{Op as Forward}
+use Rattle.dali_record.specs.declared.records.Record.TheVariants.{Forward}
 use Rattle.dali_record.specs.Blocks.{made}
 use Rattle.dali_record.specs.Operations.{effect}
 use Rattle.dali_bench.specs.Samples.{filled, sample_block, sample, first_samples}

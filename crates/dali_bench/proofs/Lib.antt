@@ -1,4 +1,5 @@
 pub mod Checks
+pub mod Drawing
 pub mod Filled
 pub mod Filling
 pub mod Holding

@@ -5,4 +5,5 @@ pub mod Regions
 pub mod Requests
 pub mod Samples
 pub mod Scripts
+pub mod Shared
 pub mod Tasks

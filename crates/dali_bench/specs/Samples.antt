@@ -12,7 +12,7 @@ use Rattle.std.specs.List.{AllByRecursion}
 use Rattle.dali_record.specs.declared.operations.Op.TheVariants.{Put, Read, Change}
 use Rattle.dali_record.specs.declared.operations.Block.{Block}
 use Rattle.dali_record.specs.declared.records.Record.{Record}
-use Rattle.dali_record.specs.declared.records.Record.TheVariants.{Op as Forward}
+use Rattle.dali_record.specs.declared.records.Record.TheVariants.{Forward}
 use Rattle.dali_record.specs.Blocks.{made}
 use Rattle.dali_record.specs.Operations.{effect}
 use Rattle.dali_record.specs.Spelling.{CanBeSpelled, spelling}

@@ -4,7 +4,7 @@
 --     has_folder task      whether it has files
 use Rattle.std.specs.Prelude.{ℕ, Bool, true, false, List, codes}
 use Rattle.dali_bench.specs.declared.arguments.Task.{Task}
-use Rattle.dali_bench.specs.declared.arguments.Task.TheVariants.{Codec, Locks, Update, Check, Parse, Commit, Log, Restart, Growth, Small}
+use Rattle.dali_bench.specs.declared.arguments.Task.TheVariants.{Codec, Locks, Update, Check, Parse, Claims, Notes, Commit, Log, Restart, Growth, Small}
 
 abbrev pub name_of : Task → List ℕ
 name_of Codec = codes "codec"
@@ -12,6 +12,8 @@ name_of Locks = codes "locks"
 name_of Update = codes "update"
 name_of Check = codes "check"
 name_of Parse = codes "parse"
+name_of Claims = codes "claims"
+name_of Notes = codes "notes"
 name_of Commit = codes "commit"
 name_of Log = codes "log"
 name_of Restart = codes "restart"

@@ -19,6 +19,10 @@ pub enum Task {
     Check,
     /// Parses a script.
     Parse,
+    /// Draws numbers, each once.
+    Claims,
+    /// Adds entries to a history, and lets notes meet.
+    Notes,
     /// Commits transactions to files in a new folder within a folder.
     Commit,
     /// Writes a log into a folder.
@@ -31,12 +35,14 @@ pub enum Task {
     Small,
 }
 
-const TASKS: [Task; 10] = [
+const TASKS: [Task; 12] = [
     Task::Codec,
     Task::Locks,
     Task::Update,
     Task::Check,
     Task::Parse,
+    Task::Claims,
+    Task::Notes,
     Task::Commit,
     Task::Log,
     Task::Restart,
@@ -54,6 +60,8 @@ impl Task {
             Task::Update => "update",
             Task::Check => "check",
             Task::Parse => "parse",
+            Task::Claims => "claims",
+            Task::Notes => "notes",
             Task::Commit => "commit",
             Task::Log => "log",
             Task::Restart => "restart",
@@ -69,6 +77,8 @@ impl Task {
             Task::Update => "Updates a word of some region of 64 MiB, COUNT times",
             Task::Check => "Checks every region of 64 MiB, COUNT times",
             Task::Parse => "Parses a script of 1 MiB, COUNT times",
+            Task::Claims => "Draws COUNT numbers, each once",
+            Task::Notes => "Adds COUNT entries to a history, and lets another note meet each",
             Task::Commit =>
                 "Commits COUNT transactions of one insert to files in a folder within FOLDER",
             Task::Log =>

@@ -3,7 +3,7 @@ ghost use Rattle.std.specs.Prelude.{◌≡◌, ◌≤◌, ◌+◌, ◌*◌, ◌/
 ghost use Rattle.std.specs.List.{AllByRecursion};
 ghost use Rattle.dali_words.specs.Values.{IsValue};
 ghost use Rattle.dali_record.specs.declared.records.Record.{Record as RecordOf};
-ghost use Rattle.dali_record.specs.declared.records.Record.TheVariants.{Op as Forward};
+ghost use Rattle.dali_record.specs.declared.records.Record.TheVariants.{Forward};
 ghost use Rattle.dali_record.specs.Blocks.{made};
 ghost use Rattle.dali_record.specs.Spelling.{IsOperation, CanBeSpelled, is_forward};
 ghost use Rattle.dali_bench.specs.Amounts.{Tells};
@@ -50,7 +50,7 @@ fn make_sample(txn: u64, op: Op, key: u64, words: &[u64; 64]) -> Sample
     ensures { result ≡ Forward txn (made words.now key 7 op) }
 {
     Sample {
-        entry: Record::Op {
+        entry: Record::Forward {
             txn,
             block: Block::new(op, key, REGION, words),
         },
@@ -123,7 +123,7 @@ fn count_words(entry: &Record) -> usize
     ensures { result ≡ words_of entry.now }
 {
     match entry {
-        Record::Op { block, .. } => block.after.as_slice().len(),
+        Record::Forward { block, .. } => block.after.as_slice().len(),
         _ => 0,
     }
 }

@@ -8,6 +8,7 @@ mod keys;
 mod locks;
 mod regions;
 mod scripts;
+mod shared;
 mod timing;
 
 use anyhow::{Context, Result, bail};
@@ -29,6 +30,8 @@ fn run_small(rt: &HostRuntime, folder: &str) -> Result<()> {
     regions::update(rt, alloc, 1000, 16)?;
     regions::check(rt, alloc, 2, 16)?;
     scripts::run(rt, alloc, 1, 4096)?;
+    shared::draw(rt, alloc, 1000)?;
+    shared::note(rt, alloc, 1000)?;
     databases::grow(rt, alloc, 100)?;
     let commits = make_folder(rt, folder)?;
     time_commits(rt, 3, commits.as_str())?;
@@ -51,7 +54,7 @@ fn make_folder(rt: &HostRuntime, folder: &str) -> Result<String> {
 }
 
 fn time_commits(rt: &HostRuntime, count: u32, folder: &str) -> Result<Timing> {
-    let mut store = FileStore::in_folder(rt, folder)?;
+    let mut store = FileStore::in_folder(rt, folder);
     databases::commit(rt, rt.alloc(), &mut store, count)
 }
 
@@ -61,7 +64,7 @@ fn make_log(rt: &HostRuntime, count: u32, folder: &str) -> Result<()> {
 }
 
 fn time_restart(rt: &HostRuntime, folder: &str) -> Result<Timing> {
-    let mut store = FileStore::in_folder(rt, folder)?;
+    let mut store = FileStore::in_folder(rt, folder);
     databases::restart(rt, rt.alloc(), &mut store)
 }
 
@@ -74,6 +77,8 @@ fn run_job(rt: &HostRuntime, job: &Job) -> Result<()> {
         Task::Update => regions::update(rt, alloc, count, regions::REGIONS)?,
         Task::Check => regions::check(rt, alloc, count, regions::REGIONS)?,
         Task::Parse => scripts::run(rt, alloc, count, scripts::LIMIT)?,
+        Task::Claims => shared::draw(rt, alloc, count)?,
+        Task::Notes => shared::note(rt, alloc, count)?,
         Task::Growth => databases::grow(rt, alloc, count)?,
         Task::Commit => {
             let folder = make_folder(rt, job.folder)?;

@@ -389,6 +389,92 @@ fn a_store_that_fails_in_a_commit_stops_the_engine(rt: HostRuntime) -> Result<()
     Ok(())
 }
 
+// A restart makes two calls of the store or more, so one of these has the fortieth. A fuse that was set anew hides it as
+// little as none does.
+#[test]
+fn a_store_that_fails_behind_a_fuse_set_anew_ends_the_run(rt: HostRuntime) -> Result<(), Fail> {
+    let alloc = rt.alloc();
+    let script =
+        b"size 1 1\ncrash 0\nfuse 0\nrestart\nfuse 1000\nrestart\nrestart\nrestart\nrestart\nrestart\nrestart\nrestart\nrestart\nrestart\nrestart\nrestart\nrestart\nrestart\nrestart\nrestart\nrestart\nrestart\nrestart\nrestart\nrestart\n";
+    let failing = vec![in alloc; 40]?;
+    let (status, sink) = written(&rt, script.to_vec(alloc)?, failing)?;
+    assert!(rt; status == Status::StoreFault);
+    assert!(rt;
+        sink.taken().starts_with(
+            b"crash 0\nfuse 0\nrestart store stopped\nfuse 1000\nrolled back none\n"
+        )
+    );
+    assert!(rt; sink.taken().ends_with(b"deleted none\nstore fault\n"));
+    Ok(())
+}
+
+// The forty calls are used up by the restart and by less than ten audits, of four calls each.
+#[test]
+fn a_restart_leaves_the_fuse_in_its_place(rt: HostRuntime) -> Result<(), Fail> {
+    let alloc = rt.alloc();
+    let script =
+        b"size 1 1\nfuse 40\nrestart\naudit\naudit\naudit\naudit\naudit\naudit\naudit\naudit\naudit\naudit\naudit\n";
+    let (status, sink) = written(&rt, script.to_vec(alloc)?, Vec::new(alloc))?;
+    assert!(rt; status == Status::Done);
+    assert!(rt;
+        sink.taken()
+            .starts_with(b"fuse 40\nrolled back none\ndeleted none\naudit clean\n")
+    );
+    assert!(rt; sink.taken().ends_with(b"audit stopped store\n"));
+    Ok(())
+}
+
+const FORTY: &str = "aaaaaaaaaaaaaaaaaaaaaaaaaaaaaaaaaaaaaaaa";
+
+// Adds one line with the value of forty bytes for each of so many keys.
+fn add_lines(
+    rt: &impl AllocGlobal,
+    before: &str,
+    keys: u64,
+    text: &mut Vec<u8>,
+) -> Result<(), Fail> {
+    for key in 0..keys {
+        let line = format!(in rt.alloc(); "{before}{key} {FORTY}\n")?;
+        text.extend_from_slice(line.as_bytes())?;
+    }
+    Ok(())
+}
+
+// Adds one line as often.
+fn add_often(line: &[u8], times: u64, text: &mut Vec<u8>) -> Result<(), Fail> {
+    for _ in 0..times {
+        text.extend_from_slice(line)?;
+    }
+    Ok(())
+}
+
+// The record of an insert has 60 bytes, and so has that of a get: the first transaction has more than 64 KiB, the second
+// more than a MiB.
+#[test]
+fn long_transactions_survive_a_restart(rt: HostRuntime) -> Result<(), Fail> {
+    let alloc = rt.alloc();
+    let mut script = b"size 200 400\nclient 1\nbegin\n".to_vec(alloc)?;
+    let mut wanted = b"1 begin 1\n".to_vec(alloc)?;
+    add_lines(&rt, "insert ", 1200, &mut script)?;
+    add_often(b"1 insert ok\n", 1200, &mut wanted)?;
+    script.extend_from_slice(b"commit\nbegin\n")?;
+    wanted.extend_from_slice(b"1 commit ok\n1 begin 2\n")?;
+    add_often(b"get 7\n", 20_000, &mut script)?;
+    add_often(
+        b"1 got aaaaaaaaaaaaaaaaaaaaaaaaaaaaaaaaaaaaaaaa\n",
+        20_000,
+        &mut wanted,
+    )?;
+    script.extend_from_slice(b"commit\nend\ncrash 0\nrestart\nshow\n")?;
+    wanted.extend_from_slice(b"1 commit ok\ncrash 0\nrolled back none\ndeleted none\n")?;
+    add_lines(&rt, "", 1200, &mut wanted)?;
+    wanted.extend_from_slice(b"records 1200\n")?;
+    let (status, sink) = written(&rt, script, Vec::new(alloc))?;
+    assert!(rt; status == Status::Done);
+    assert!(rt; sink.taken() == wanted.as_slice());
+    Ok(())
+}
+
 // What a run over this store writes.
 fn goes_on(
     rt: &(impl Abort + AllocGlobal + Threads + Wait + Sync),

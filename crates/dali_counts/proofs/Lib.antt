@@ -3,3 +3,4 @@ pub mod Tallies
 pub mod NewNumbers
 pub mod SmallLogs
 pub mod Fronts
+pub mod ShortLogs

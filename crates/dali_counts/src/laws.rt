@@ -1,6 +1,6 @@
 //! Laws over the definitions, each the contract of a function that does nothing.
 
-ghost use Rattle.dali_counts.specs.Counts.{UnbegunAbove, PrefixLegal, IsSmall};
+ghost use Rattle.dali_counts.specs.Counts.{UnbegunAbove, PrefixLegal, IsSmall, IsShort, FileIsShort};
 
 /// A number that wasn't given yet has no record.
 pub fn a_new_number_has_no_record()
@@ -15,4 +15,14 @@ pub fn a_beginning_is_legal()
 /// A legal log has fewer than 2^40 records, since those that use no room come after ones that do.
 pub fn a_legal_log_is_small()
     ensures { IsSmall }
+{}
+
+/// The bytes of a legal log, with a frame for each record, stay below 2^62.
+pub fn a_legal_log_is_short()
+    ensures { IsShort }
+{}
+
+/// So do those of its file: no caller of an append owes it.
+pub fn the_file_of_a_legal_log_is_short()
+    ensures { FileIsShort }
 {}

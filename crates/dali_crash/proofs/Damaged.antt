@@ -20,7 +20,7 @@ use Rattle.dali_crash.proofs.Courses.{format_is_history, every_run_is_right}
 restarts : RestartsRight first_log finish.core crash
 unfolding damaged_look entries
 restarts =
-    every_run_is_right first_log (passes rules_start (Format 1 1)) 1000000 first_vault (λ F. one_batch F.batches) (format_is_history small (refl, refl)) refl refl (omega arith) first_store
+    every_run_is_right first_log (passes rules_start (Format 1 1)) 1000000 first_vault (λ F. one_batch F.batches) (format_is_history small (refl, refl)) refl refl (omega arith) first_store refl
     damage finish damage_course crash refl none_escapes
 
 -- on the formatted words the look would have answered otherwise

@@ -1,6 +1,6 @@
 -- What the flag of a checkpoint tells, what a step leaves where none is under way, and what stays of a synced file.
 use Rattle.std.proofs.Common.{◌≡◌, ℕ, Bool, true, false, cond, List, [], ◌∷◌, Option, Some, None, refl, ap, sym, subst, ◌∙◌, inl, inr, ⊎_elim}
-use Rattle.std.specs.Prelude.{◌⊎◌, ◌&&◌, ◌==◌, is_some}
+use Rattle.std.specs.Prelude.{◌&&◌, ◌==◌, is_some}
 use Rattle.dali_record.specs.declared.records.Record.{Record}
 use Rattle.dali_record.specs.Files.{Files}
 use Rattle.dali_region.specs.declared.Side.{Side}
@@ -8,9 +8,9 @@ use Rattle.dali_counts.proofs.Lists.{some_same}
 use Rattle.dali_system.specs.State.{CoreState}
 use Rattle.dali_system.specs.ImageSteps.{same_side, told_with}
 use Rattle.dali_system.specs.Flushes.{frame_of, with_batch}
-use Rattle.dali_system.specs.Courses.{Step, Begins, Operates, TakesBack, Frees, Answers, Commits, Ends, AuditBegins, AuditEnds, Locks, Refuses, OnRegion, ChangesState, Stops, Checkpoints, Flushes, Faults, Moment, IsStepAt}
-use Rattle.dali_crash.specs.Checkpoints.{Head, Copy, Stored, pass_copy, passes_region, target, head_with, synced_with, StoreStep, Does, Starts, Copies, Skips, WritesHead, Syncs, Turns, CopyFails, HeadFails, SyncFails, TurnFails, Finishes, is_of_checkpoint, IsStoreCourse}
-use Rattle.dali_crash.specs.StoreRuns.{stored_start, FlagTells, FlagStays, CourseFlagTells, FlagChanges, LeavesImages, IdleLeavesImages, KeptStays, IsLeft, is_sync, SyncedStays}
+use Rattle.dali_system.specs.Courses.{Step, Begins, Operates, TakesBack, Frees, Answers, Commits, Ends, AuditBegins, AuditEnds, Locks, Refuses, OnRegion, Passes, Dies, Claims, GivesBack, Recovers, Stops, Checkpoints, Takes, Flushes, Faults, Moment, IsStepAt}
+use Rattle.dali_crash.specs.Checkpoints.{Head, Copy, Stored, pass_copy, passes_region, target, head_with, synced_with, StoreStep, Does, Starts, Keeps, Copies, Skips, WritesHead, Syncs, Turns, CopyFails, HeadFails, SyncFails, TurnFails, Finishes, is_of_checkpoint, IsStoreCourse}
+use Rattle.dali_crash.specs.StoreRuns.{stored_start, FlagTells, FlagStays, CourseFlagTells, FlagChanges, LeavesImages, IdleLeavesImages, KeptStays, IsLeft, SyncedStays}
 use Rattle.dali_crash.proofs.StepLeaves.{vault_goes}
 
 abbrev flag : CoreState → Bool
@@ -30,9 +30,14 @@ same_flag m n (AuditEnds b found) quiet s = ap flag s.0.1.1
 same_flag m n (Locks t k mode) quiet s = ap flag s.0.2.1
 same_flag m n (Refuses t k mode h) quiet s = ap flag s.0.2.1
 same_flag m n (OnRegion r x) quiet s = ap flag s.0.3.1
-same_flag m n (ChangesState t state) quiet s = ap flag s.0.1.1
+same_flag m n (Passes b r) quiet s = ap flag s.0.2.1
+same_flag m n (Dies t o) quiet s = ap flag s.0.1.1
+same_flag m n (Claims t) quiet s = ap flag s.0.2.1
+same_flag m n (GivesBack t o) quiet s = ap flag s.0.1.1
+same_flag m n (Recovers r) quiet s = ap flag s.0.3.1
 same_flag m n Stops quiet s = ap flag s.0.1.1
 same_flag m n (Checkpoints b) quiet s = absurd (cc)
+same_flag m n Takes quiet s = ap flag s.0.1
 same_flag m n Flushes quiet s = ap flag s.0.1.1
 same_flag m n (Faults k) quiet s = ap flag s.0.2.1
 
@@ -42,9 +47,10 @@ as_before st new f b tells e = f ∙ tells (ap is_some (sym b) ∙ e)
 
 pub flag_stays : FlagStays
 flag_stays st new (Does x) tells s = as_before st new (same_flag st.moment new.moment x s.0 s.1) (ap (λ (z : Stored). z.begun) s.2) tells
-flag_stays st new Starts tells s = subst FlagTells (sym s.3) (λ e. refl)
-flag_stays st new (Copies r) tells s = subst FlagTells (sym s.5) tells
-flag_stays st new (Skips r) tells s = subst FlagTells (sym s.4) tells
+flag_stays st new Starts tells s = subst FlagTells (sym s.1) (λ e. refl)
+flag_stays st new Keeps tells s = subst FlagTells (sym s.4) (λ e. s.1)
+flag_stays st new (Copies r n) tells s = subst FlagTells (sym s.6) tells
+flag_stays st new (Skips r n) tells s = subst FlagTells (sym s.5) tells
 flag_stays st new (WritesHead h) tells s = subst FlagTells (sym s.2) tells
 flag_stays st new Syncs tells s = subst FlagTells (sym s.2) tells
 flag_stays st new Turns tells s = subst FlagTells (sym s.6) (λ e. absurd (cc))
@@ -59,9 +65,10 @@ flag_of z = z.moment.core.system.checking
 
 pub flag_changes : FlagChanges
 flag_changes st new (Does x) s = same_flag st.moment new.moment x s.0 s.1
-flag_changes st new Starts s = (s.1, ap flag_of s.3)
-flag_changes st new (Copies r) s = ap flag_of s.5
-flag_changes st new (Skips r) s = ap flag_of s.4
+flag_changes st new Starts s = (s.0, ap flag_of s.1)
+flag_changes st new Keeps s = ap flag_of s.4
+flag_changes st new (Copies r n) s = ap flag_of s.6
+flag_changes st new (Skips r n) s = ap flag_of s.5
 flag_changes st new (WritesHead h) s = ap flag_of s.2
 flag_changes st new Syncs s = ap flag_of s.2
 flag_changes st new Turns s = ap flag_of s.6
@@ -101,11 +108,12 @@ idle_leaves_images st new (Does x) idle s = record {
   current = (vault_goes st.moment new.moment x s.1).current;
   copies = λ side r k e. passed (passes_region st.moment.core x r) (st.copies side r) k (ap (λ (z : Stored). z.copies side r) (sym s.2) ∙ e);
   crashes = λ F l. let w = (vault_goes st.moment new.moment x s.1).files F l in
-      (w.0, w.1, ⊎_elim (λ e. batched w.0 F w.0.batches e) (λ e. batched w.0 F (with_batch w.0.batches (frame_of st.moment.log st.moment.core.system)) e) w.2);
+      (w.0, w.1, ⊎_elim (λ e. batched w.0 F w.0.batches e) (λ e. batched w.0 F (with_batch w.0.batches (frame_of st.moment.log st.moment.core)) e) w.2);
 }
-idle_leaves_images st new Starts idle s = by_equal st new _ s.3 (record { told = refl; heads = refl; synced = refl; current = refl; copies = λ side r k e. (k, e, refl); crashes = λ F l. (F, l, refl) })
-idle_leaves_images st new (Copies r) idle s = absurd (none_under_way _ s.2.under_way idle)
-idle_leaves_images st new (Skips r) idle s = absurd (none_under_way _ s.2 idle)
+idle_leaves_images st new Keeps idle s = by_equal st new _ s.4 (record { told = refl; heads = refl; synced = refl; current = refl; copies = λ side r k e. (k, e, refl); crashes = λ F l. (F, l, refl) })
+idle_leaves_images st new Starts idle s = by_equal st new _ s.1 (record { told = refl; heads = refl; synced = refl; current = refl; copies = λ side r k e. (k, e, refl); crashes = λ F l. (F, l, refl) })
+idle_leaves_images st new (Copies r n) idle s = absurd (none_under_way _ s.2.under_way idle)
+idle_leaves_images st new (Skips r n) idle s = absurd (none_under_way _ s.2 idle)
 idle_leaves_images st new (WritesHead h) idle s = absurd (none_under_way _ s.0.under_way idle)
 idle_leaves_images st new Syncs idle s = absurd (none_under_way _ s.0.under_way idle)
 idle_leaves_images st new Turns idle s = absurd (none_under_way _ s.3.under_way idle)
@@ -117,21 +125,19 @@ idle_leaves_images st new Finishes idle s = by_equal st new _ s.1 (record { told
 
 -- ---- what a checkpoint kept
 pub kept_stays : KeptStays
-kept_stays st new (Does x) h tells e s = inl (ap (λ (z : Stored). z.begun) s.2 ∙ e)
-kept_stays st new Starts h tells e s = absurd (both (st.moment.core.system.checking) (tells (ap is_some e)) s.1)
-  where
-    both : (b : Bool) → b ≡ true → b ≡ false → ⊥
-    both b f g = cc
-kept_stays st new (Copies r) h tells e s = inl (ap (λ (z : Stored). z.begun) s.5 ∙ e)
-kept_stays st new (Skips r) h tells e s = inl (ap (λ (z : Stored). z.begun) s.4 ∙ e)
-kept_stays st new (WritesHead k) h tells e s = inl (ap (λ (z : Stored). z.begun) s.2 ∙ e)
-kept_stays st new Syncs h tells e s = inl (ap (λ (z : Stored). z.begun) s.2 ∙ e)
-kept_stays st new Turns h tells e s = inr (ap (λ (z : Stored). z.begun) s.6)
-kept_stays st new (CopyFails r ws n) h tells e s = inl (ap (λ (z : Stored). z.begun) s.5 ∙ e)
-kept_stays st new (HeadFails k n) h tells e s = inl (ap (λ (z : Stored). z.begun) s.2 ∙ e)
-kept_stays st new (SyncFails n) h tells e s = inl (ap (λ (z : Stored). z.begun) s.2 ∙ e)
-kept_stays st new (TurnFails n) h tells e s = inr (ap (λ (z : Stored). z.begun) s.6)
-kept_stays st new Finishes h tells e s = inr (ap (λ (z : Stored). z.begun) s.1)
+kept_stays st new (Does x) h e s = inl (ap (λ (z : Stored). z.begun) s.2 ∙ e)
+kept_stays st new Starts h e s = inl (ap (λ (z : Stored). z.begun) s.1 ∙ e)
+kept_stays st new Keeps h e s = absurd (none_under_way st.begun (ap is_some e) s.2)
+kept_stays st new (Copies r n) h e s = inl (ap (λ (z : Stored). z.begun) s.6 ∙ e)
+kept_stays st new (Skips r n) h e s = inl (ap (λ (z : Stored). z.begun) s.5 ∙ e)
+kept_stays st new (WritesHead k) h e s = inl (ap (λ (z : Stored). z.begun) s.2 ∙ e)
+kept_stays st new Syncs h e s = inl (ap (λ (z : Stored). z.begun) s.2 ∙ e)
+kept_stays st new Turns h e s = inr (ap (λ (z : Stored). z.begun) s.6)
+kept_stays st new (CopyFails r ws n) h e s = inl (ap (λ (z : Stored). z.begun) s.5 ∙ e)
+kept_stays st new (HeadFails k n) h e s = inl (ap (λ (z : Stored). z.begun) s.2 ∙ e)
+kept_stays st new (SyncFails n) h e s = inl (ap (λ (z : Stored). z.begun) s.2 ∙ e)
+kept_stays st new (TurnFails n) h e s = inr (ap (λ (z : Stored). z.begun) s.6)
+kept_stays st new Finishes h e s = inr (ap (λ (z : Stored). z.begun) s.1)
 
 -- ---- what is synced
 -- the place of one region, or the head, of the target is written
@@ -172,9 +178,10 @@ same_left st old side told heads synced e = record {
 
 pub synced_stays : SyncedStays
 synced_stays st new (Does x) side quiet s = same_left st new side (ap (λ (z : Stored). z.told) s.2) (ap (λ (z : Stored). z.heads) s.2) (ap (λ (z : Stored). z.synced) s.2)
-synced_stays st new Starts side quiet s = same_left st new side (ap (λ (z : Stored). z.told) s.3) (ap (λ (z : Stored). z.heads) s.3) (ap (λ (z : Stored). z.synced) s.3)
-synced_stays st new (Copies r) side quiet s = place_left st new side r s.0.back (ap (λ (z : Stored). z.told) s.5) (ap (λ (z : Stored). z.heads) s.5) (ap (λ (z : Stored). z.synced) s.5)
-synced_stays st new (Skips r) side quiet s = same_left st new side (ap (λ (z : Stored). z.told) s.4) (ap (λ (z : Stored). z.heads) s.4) (ap (λ (z : Stored). z.synced) s.4)
+synced_stays st new Starts side quiet s = same_left st new side (ap (λ (z : Stored). z.told) s.1) (ap (λ (z : Stored). z.heads) s.1) (ap (λ (z : Stored). z.synced) s.1)
+synced_stays st new Keeps side quiet s = same_left st new side (ap (λ (z : Stored). z.told) s.4) (ap (λ (z : Stored). z.heads) s.4) (ap (λ (z : Stored). z.synced) s.4)
+synced_stays st new (Copies r n) side quiet s = place_left st new side r s.0.back (ap (λ (z : Stored). z.told) s.6) (ap (λ (z : Stored). z.heads) s.6) (ap (λ (z : Stored). z.synced) s.6)
+synced_stays st new (Skips r n) side quiet s = same_left st new side (ap (λ (z : Stored). z.told) s.5) (ap (λ (z : Stored). z.heads) s.5) (ap (λ (z : Stored). z.synced) s.5)
 synced_stays st new (WritesHead h) side quiet s = head_left st new side h (ap (λ (z : Stored). z.told) s.2) (ap (λ (z : Stored). z.heads) s.2) (ap (λ (z : Stored). z.synced) s.2)
 synced_stays st new Syncs side quiet s = absurd (cc)
 synced_stays st new Turns side quiet s = same_left st new side (ap (λ (z : Stored). z.told) s.6) (ap (λ (z : Stored). z.heads) s.6) (ap (λ (z : Stored). z.synced) s.6)

@@ -6,9 +6,11 @@ use Rattle.std.proofs.lemmas.List.{append-nil, take-append-drop, take-append-le,
 use Rattle.std.proofs.lemmas.List.Sums.{fold-append}
 use Rattle.std.proofs.lemmas.List.Folds.{list_any-append}
 use Rattle.std.proofs.lemmas.Bool.{leb-true}
+use Rattle.dali_geometry.specs.Sizes.{Sizes}
 use Rattle.dali_record.specs.declared.records.Record.{Record}
 use Rattle.dali_record.specs.Log.{Touch, touch_of, txn_of}
-use Rattle.dali_record.specs.Epochs.{epochs, clean_place}
+use Rattle.dali_record.specs.Epochs.{Epoch, epochs, clean_place}
+use Rattle.dali_record.specs.Files.{Files}
 use Rattle.dali_record.specs.Damage.{Damage, damage_of, has, is_first, any_touch, is_linked, mark_of, mark_step, marks, has_corrupt, any_txn, is_dropped, kept_from, kept}
 use Rattle.dali_record.specs.Settled.{redo, redo_all}
 use Rattle.dali_record.proofs.Ends.{by_push}
@@ -19,7 +21,7 @@ use Rattle.dali_counts.proofs.Lists.{or_false, length-push, length_take}
 use Rattle.dali_system.proofs.OneMoreTouch.{length-redo_all}
 use Rattle.dali_system.proofs.Redone.{long_enough}
 use Rattle.dali_system.proofs.FlushedImages.{clean_rises}
-use Rattle.dali_crash.specs.Fitting.{RecoversFromImage}
+use Rattle.dali_crash.specs.Fitting.{FitsWhole, RecoversFromImage}
 use Rattle.dali_crash.proofs.Fitting.{found_is, within_epoch}
 
 abbrev Marks : Type 0
@@ -29,7 +31,7 @@ Marks = List (Record × Bool)
 abbrev none_marked : Marks → Bool
 none_marked ms = list_any (λ m. m.1) ms
 
-not_linked : (before : List Record) (ms : Marks) (b : Touch) → none_marked ms ≡ false → is_linked before ms b ≡ false
+pub not_linked : (before : List Record) (ms : Marks) (b : Touch) → none_marked ms ≡ false → is_linked before ms b ≡ false
 not_linked before [] b h = refl
 not_linked before (m ∷ ms) b h = let parts = or_false m.1 (none_marked ms) h in rw (parts.0, not_linked (before ++ m.0 ∷ []) ms b parts.1) refl
 
@@ -50,7 +52,7 @@ not_marked d ms r none early = by_touch (touch_of r)
 length-marks : (d : Damage) (E : List Record) → length (marks d E) ≡ length E
 length-marks d E = sym (length-map (marks d E) (λ m. m.0)) ∙ ap length (marks-records d E)
 
-none_early : (d : Damage) (E : List Record) → d.first + length E ≤ d.clean → none_marked (marks d E) ≡ false
+pub none_early : (d : Damage) (E : List Record) → d.first + length E ≤ d.clean → none_marked (marks d E) ≡ false
 none_early d = by_push (λ E. d.first + length E ≤ d.clean → none_marked (marks d E) ≡ false) (λ h. refl) (λ E r here h.
     let old : none_marked (marks d E) ≡ false = here (omega (arith, h, length-push E r)) in
     ap none_marked (marks_push d E r) ∙ (list_any-append (λ m. m.1) (marks d E) _ ∙ rw (old, not_marked d (marks d E) r old (omega (arith, h, length-push E r, length-marks d E))) refl))
@@ -67,14 +69,14 @@ none_dropped ms r h = by_txn (txn_of r)
     by_txn None = refl
     by_txn (Some t) = none_corrupt ms t h
 
-all_kept : (before ms : Marks) → none_marked before ≡ false → none_marked ms ≡ false → kept_from before ms ≡ map (λ m. m.0) ms
+pub all_kept : (before ms : Marks) → none_marked before ≡ false → none_marked ms ≡ false → kept_from before ms ≡ map (λ m. m.0) ms
 all_kept before [] h g = refl
 all_kept before (m ∷ ms) h g =
     let parts = or_false m.1 (none_marked ms) g in
     let more : none_marked (before ++ m ∷ []) ≡ false = list_any-append (λ n. n.1) before (m ∷ []) ∙ rw (h, parts.0) refl in
     rw (none_dropped (before ++ m ∷ []) m.0 more) (ap (λ l. m.0 ∷ l) (all_kept (before ++ m ∷ []) ms more parts.1))
 
-kept_append : (before xs ys : Marks) → kept_from before (xs ++ ys) ≡ kept_from before xs ++ kept_from (before ++ xs) ys
+pub kept_append : (before xs ys : Marks) → kept_from before (xs ++ ys) ≡ kept_from before xs ++ kept_from (before ++ xs) ys
 kept_append before [] ys = ap (λ b. kept_from b ys) (sym (append-nil before))
 kept_append before (m ∷ xs) ys = by_test (is_dropped (before ++ m ∷ []) m.0) (kept_append (before ++ m ∷ []) xs ys ∙ ap (λ b. kept_from (before ++ m ∷ []) xs ++ kept_from b ys) (append_assoc before (m ∷ []) xs))
   where
@@ -85,14 +87,14 @@ kept_append before (m ∷ xs) ys = by_test (is_dropped (before ++ m ∷ []) m.0)
     by_test false e = ap (λ l. m.0 ∷ l) e
 
 -- ---- the marks of a longer list
-step_more : (d : Damage) (ms : Marks) (E : List Record) → (Z : Marks) × (fold (mark_step d) ms E ≡ ms ++ Z)
+pub step_more : (d : Damage) (ms : Marks) (E : List Record) → (Z : Marks) × (fold (mark_step d) ms E ≡ ms ++ Z)
 step_more d ms [] = ([], sym (append-nil ms))
 step_more d ms (x ∷ E) = let w = step_more d (mark_step d ms x) E in ((x, mark_of d ms x) ∷ w.0, w.1 ∙ append_assoc ms _ w.0)
 
-marks_more : (d : Damage) (n : ℕ) (E : List Record) → (Z : Marks) × (marks d E ≡ marks d (take n E) ++ Z)
+pub marks_more : (d : Damage) (n : ℕ) (E : List Record) → (Z : Marks) × (marks d E ≡ marks d (take n E) ++ Z)
 marks_more d n E = let w = step_more d (marks d (take n E)) (drop n E) in (w.0, ap (marks d) (sym (take-append-drop n E)) ∙ (fold-append (mark_step d) [] (take n E) (drop n E) ∙ w.1))
 
-none_of : (n : ℕ) (ms : Marks) → none_marked ms ≡ false → (none_marked (take n ms) ≡ false) × (none_marked (drop n ms) ≡ false)
+pub none_of : (n : ℕ) (ms : Marks) → none_marked ms ≡ false → (none_marked (take n ms) ≡ false) × (none_marked (drop n ms) ≡ false)
 none_of zero ms h = (refl, h)
 none_of (suc n) [] h = (refl, refl)
 none_of (suc n) (m ∷ ms) h = let parts = or_false m.1 (none_marked ms) h in let w = none_of n ms parts.1 in (rw (parts.0, w.0) refl, w.1)
@@ -102,8 +104,11 @@ map_drop zero ms = refl
 map_drop (suc n) [] = refl
 map_drop (suc n) (m ∷ ms) = map_drop n ms
 
-pub recovers_from_image : RecoversFromImage
-recovers_from_image s base K F e fit = ap (λ image. freed s (fold (λ im t. roll_back im (undos_left ms t)) image (losers e ms))) redone
+-- the kept records from the image's number on, written over the image, come to what all of them come to over the base
+pub redone_from_image :
+    (s : Sizes) (base : List (List ℕ)) (K : List Record) (F : Files) (e : Epoch) → FitsWhole s base K F e
+    → redo_all F.image (kept_from (take (F.first - e.first) (marks (damage_of e) e.records)) (drop (F.first - e.first) (marks (damage_of e) e.records))) ≡ redo_all base (kept (marks (damage_of e) e.records))
+redone_from_image s base K F e fit = redone
   where
     d : Damage
     d = damage_of e
@@ -169,3 +174,6 @@ recovers_from_image s base K F e fit = ap (λ image. freed s (fold (λ im t. rol
         ∙ (fold-append redo F.image (drop k front) later
         ∙ (ap (λ im. redo_all im later) same
         ∙ (sym (fold-append redo base front later) ∙ ap (redo_all base) (sym all))))
+
+pub recovers_from_image : RecoversFromImage
+recovers_from_image s base K F e fit = ap (λ image. freed s (fold (λ im t. roll_back im (undos_left (marks (damage_of e) e.records) t)) image (losers e (marks (damage_of e) e.records)))) (redone_from_image s base K F e fit)

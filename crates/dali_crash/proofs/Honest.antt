@@ -10,7 +10,7 @@ use Rattle.dali_record.specs.declared.operations.Op.{Op}
 use Rattle.dali_record.specs.declared.operations.Op.TheVariants.{Look, Add, KillEntry, Put, Read, Change, KillCell, FreeCell, ReviveCell, Restore, FreeEntry, ReviveEntry}
 use Rattle.dali_record.specs.declared.operations.Block.{Block}
 use Rattle.dali_record.specs.declared.records.Record.{Record}
-use Rattle.dali_record.specs.declared.records.Record.TheVariants.{Format, Begin, Op as Forward, Done, Commit, Ended, Solo, AuditBegin, AuditClean, AuditFail, Restarted, Back}
+use Rattle.dali_record.specs.declared.records.Record.TheVariants.{Format, Begin, Forward, Done, Commit, Ended, Solo, AuditBegin, AuditClean, AuditFail, Restarted, Back}
 use Rattle.dali_record.specs.Log.{Touch, touch_of, touch_in, touch_at}
 use Rattle.dali_record.specs.Epochs.{Epoch, Cut, cut, cut_step, last_epoch, clean_place, clean_step}
 use Rattle.dali_record.specs.Settled.{IsSoundAt}

@@ -1,11 +1,11 @@
--- What a checkpoint kept at its start, and what is known of places in image files, goes on to hold.
+-- What a checkpoint kept, and what is known of places in image files, goes on to hold.
 use Rattle.std.proofs.Common.{◌≡◌, ℕ, zero, suc, ◌+◌, ◌-◌, ◌<◌, ◌≤◌, Bool, true, false, List, [], ◌∷◌, ◌++◌, length, take, Some, refl, ap, sym, subst, ◌∙◌, ◌⊎◌, inl, inr, ⊎_elim, arith}
 use Rattle.std.specs.Prelude.{◌||◌, map, filter, not, slice_get, flat_map, sum_by}
 use Rattle.std.specs.List.{list_any}
 use Rattle.std.proofs.lemmas.List.{length-append, take_all, take-append-le}
 use Rattle.std.proofs.lemmas.Bool.{cases_lt}
 use Rattle.dali_record.specs.declared.records.Record.{Record}
-use Rattle.dali_record.specs.declared.records.Record.TheVariants.{Format, Begin, Op as Forward, Done, Commit, Ended, Solo, AuditBegin, AuditClean, AuditFail, Restarted, Back}
+use Rattle.dali_record.specs.declared.records.Record.TheVariants.{Format, Begin, Forward, Done, Commit, Ended, Solo, AuditBegin, AuditClean, AuditFail, Restarted, Back}
 use Rattle.dali_record.specs.Log.{begun, ended}
 use Rattle.dali_record.specs.Epochs.{separates, Epoch, last_epoch}
 use Rattle.dali_record.specs.Damage.{has}
@@ -129,9 +129,8 @@ kept_goes m n h v w old new frame kept goes current inside store = ⊎_elim same
 -- ---- what is known of a place
 pub settled_more : (base : List (List ℕ)) (e : Epoch) (x : Record) (r n : ℕ) (ws : List ℕ) → IsSettledAt base e r n ws → IsSettledAt base (one_more e x) r n ws
 settled_more base e x r n ws is = record {
-  from = is.from;
   to = omega (arith, is.to, length-push e.records x);
-  words = is.words ∙ ap (λ E. words_in (redo_all base E) r) (sym (take-append-le (n - e.first) e.records (x ∷ []) (omega (arith, is.from, is.to))));
+  words = is.words ∙ ap (λ E. words_in (redo_all base E) r) (sym (take-append-le (n - e.first) e.records (x ∷ []) (omega (arith, is.to))));
 }
 
 copied_more : (base : List (List ℕ)) (e : Epoch) (x : Record) (r : ℕ) (g : RegionState) (k : Copy) (ws : List ℕ) → IsCopied base e r g k ws → IsCopied base (one_more e x) r g k ws
@@ -149,4 +148,4 @@ or_cases false b e = inr e
 
 -- the region goes on, and an audit may pass it
 pub copied_onward : (base : List (List ℕ)) (e : Epoch) (r : ℕ) (passes : Bool) (g h : RegionState) (k : Copy) (ws : List ℕ) → Onward passes g h → IsCopied base e r g k ws → IsCopied base e r h (record k { passed = k.passed || passes }) ws
-copied_onward base e r passes g h k ws on is = ⊎_elim (λ a. inl (record { from = a.from; to = a.to; words = a.words })) (λ a. inr (record { poked = on.poked a.poked; missed = λ f. ⊎_elim (λ was. on.missed (a.missed was)) (λ now. on.checked now a.poked) (or_cases k.passed passes f) })) is
+copied_onward base e r passes g h k ws on is = ⊎_elim (λ a. inl (record { to = a.to; words = a.words })) (λ a. inr (record { poked = on.poked a.poked; missed = λ f. ⊎_elim (λ was. on.missed (a.missed was)) (λ now. on.checked now a.poked) (or_cases k.passed passes f) })) is

@@ -10,6 +10,7 @@ pub mod Starts
 pub mod StepLeaves
 pub mod Kept
 pub mod Turned
+pub mod Untouched
 pub mod StoreRuns
 pub mod StoreStarts
 pub mod Checkpointed
@@ -18,3 +19,4 @@ pub mod Unpoked
 pub mod CheckpointFaults
 pub mod Flags
 pub mod Restarted
+pub mod Growth

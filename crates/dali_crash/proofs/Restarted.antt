@@ -15,7 +15,7 @@ use Rattle.dali_record.specs.declared.operations.Undo.TheVariants.{FreeCell as U
 use Rattle.dali_record.specs.declared.records.Call.TheVariants.{Insert}
 use Rattle.dali_record.specs.declared.records.Answer.TheVariants.{Ok as AnswerOk}
 use Rattle.dali_record.specs.declared.records.Record.{Record}
-use Rattle.dali_record.specs.declared.records.Record.TheVariants.{Format, Begin, Op as Forward, Done, Commit, Ended, Restarted}
+use Rattle.dali_record.specs.declared.records.Record.TheVariants.{Format, Begin, Forward, Done, Commit, Ended, Restarted}
 use Rattle.dali_record.specs.Blocks.{AreWords}
 use Rattle.dali_record.specs.Spelling.{IsBlock}
 use Rattle.dali_record.specs.Legal.{sizes_of}
@@ -33,17 +33,19 @@ use Rattle.dali_att.specs.Table.{fresh_row}
 use Rattle.dali_counts.proofs.Lists.{equal, same_number, and_left, and_right}
 use Rattle.dali_history.specs.Recovered.{recovered}
 use Rattle.dali_history.specs.History.{IsHistory}
-use Rattle.dali_system.specs.State.{TxnRow}
+use Rattle.dali_system.specs.State.{TxnRow, state_of}
 use Rattle.dali_system.specs.Run.{covers}
-use Rattle.dali_system.specs.Steps.{begun, granted, op_logged, done_logged, commit_logged, flushed}
+use Rattle.dali_system.specs.Steps.{begun, granted, op_logged, done_logged, commit_logged, taken}
 use Rattle.dali_system.specs.Keeps.{with_system}
 use Rattle.dali_system.specs.Flushes.{with_vault, longer, frame_of}
-use Rattle.dali_system.specs.Courses.{Step, Begins, Operates, Answers, Commits, Locks as Asks, Flushes, Moment, MayLeave, IsStepAt, IsCourse}
+use Rattle.dali_system.specs.Courses.{Step, Begins, Operates, Answers, Commits, Locks as Asks, Takes, Flushes, Moment, MayLeave, IsStepAt, IsCourse}
 use Rattle.dali_system.specs.Worked.{small, is_format, opening, touching}
 use Rattle.dali_system.proofs.Loads.{no_lock}
 use Rattle.dali_system.proofs.Tables.{added}
+use Rattle.dali_system.proofs.RowStates.{begun_state, op_state}
+use Rattle.dali_att.specs.declared.state.State.TheVariants.{Live}
 use Rattle.dali_system.proofs.Touching.{join, with_one, after_all, touches}
-use Rattle.dali_system.proofs.Worked.{format_is, logging}
+use Rattle.dali_system.proofs.Worked.{format_is, logging, logs_by, alive_by}
 use Rattle.dali_crash.specs.Starts.{IsRestarted, IsFreshStore}
 use Rattle.dali_crash.specs.Checkpoints.{Stored, Does, is_of_checkpoint, copies_after, IsStoreCourse}
 use Rattle.dali_crash.specs.StoreRuns.{CrashIsRightWith}
@@ -52,7 +54,7 @@ use Rattle.dali_crash.specs.Checkpointed.{same_words, is_whole_txn, is_moved, no
 use Rattle.dali_crash.specs.Restarted.{closed_log, restarted_log, restarted_rules, restarted_vault, is_restart, with_restart, put, add, put_writes, add_writes, insert_batch, is_look, is_put, is_add, is_absent, is_in_cell, is_added, has_no_undo, frees_cell, frees_entry, is_block, is_insert, with_insert, restarted_start, inserts, WorkedRestart}
 use Rattle.dali_crash.proofs.Starts.{restart_starts}
 use Rattle.dali_crash.proofs.Unpoked.{unpoked_store_run_is_right}
-use Rattle.dali_crash.proofs.Checkpointed.{words_are, txn_is, batches_2, moved, and_true, old_files, m1, m2, m3, m4, step_1, step_2, step_3, step_4}
+use Rattle.dali_crash.proofs.Checkpointed.{words_are, txn_is, batches_2, moved, and_true, old_files, m1, m2, m3, m4, m5, m6, step_1, step_2, step_3, step_4, step_5, step_6}
 use Rattle.dali_crash.proofs.CheckpointFaults.{right}
 
 -- ---- what the tests tell
@@ -167,7 +169,7 @@ four_are bs e = absurd (cc)
 -- ---- the log that the restart left
 closed_history : IsHistory closed_log
 unfolding old_files
-closed_history = (right (take 4 checkpoint_steps) m4 refl (m1, step_1, (m2, step_2, (m3, step_3, (m4, step_4, refl)))) (old_files batches_2) refl).restarts.history
+closed_history = (right (take 6 checkpoint_steps) m6 refl (m1, step_1, (m2, step_2, (m3, step_3, (m4, step_4, (m5, step_5, (m6, step_6, refl)))))) (old_files batches_2) refl).restarts.history
 
 history : IsHistory restarted_log
 history = (restart_starts closed_log (Begin 1) (Commit 1 ∷ Ended 1 ∷ []) closed_history refl).history
@@ -199,6 +201,7 @@ files F h g = record {
 fresh : IsFreshStore restarted_log restarted_vault (MayLeave restarted_start.moment.leave)
 fresh = record {
   runs = refl;
+  flushed = refl;
   faults = omega arith;
   faults_fit = omega arith;
   files = λ F h. record { log = ap (λ bs. flat_map (λ b. b) bs) (three_are F.batches (and_left (with_restart F.batches) (is_moved F) h)); kind = inr (files F (and_left (with_restart F.batches) (is_moved F) h) (and_right (with_restart F.batches) (is_moved F) h)) };
@@ -211,10 +214,10 @@ abbrev first : Moment
 first = restarted_start.moment
 
 abbrev begun_2 : Moment
-begun_2 = record { log = first.log ++ Begin 2 ∷ []; core = with_system first.core (begun first.core.system); leave = first.leave }
+begun_2 = record { log = first.log ++ Begin 2 ∷ []; core = with_system first.core (begun first.core.system); audits = first.audits; leave = first.leave }
 
 abbrev locked : Moment
-locked = record { log = begun_2.log; core = with_system begun_2.core (granted begun_2.core.system 2 5 Exclusive); leave = begun_2.leave }
+locked = record { log = begun_2.log; core = with_system begun_2.core (granted begun_2.core.system 2 5 Exclusive); audits = begun_2.audits; leave = begun_2.leave }
 
 abbrev at_look : RegionState
 at_look = after_all (opening 2 look []) (loaded (replicate 64 0))
@@ -235,20 +238,23 @@ abbrev entry_added : Moment
 entry_added = logging cell_put (Forward 2 add) (op_logged cell_put.core.system 2 add) 0 at_add
 
 abbrev answered : Moment
-answered = record { log = entry_added.log ++ Done 2 (Insert 5 (0 ∷ [])) AnswerOk ∷ []; core = with_system entry_added.core (done_logged entry_added.core.system 2 (Insert 5 (0 ∷ [])) AnswerOk); leave = entry_added.leave }
+answered = record { log = entry_added.log ++ Done 2 (Insert 5 (0 ∷ [])) AnswerOk ∷ []; core = with_system entry_added.core (done_logged entry_added.core.system 2 (Insert 5 (0 ∷ [])) AnswerOk); audits = entry_added.audits; leave = entry_added.leave }
 
 abbrev committed : Moment
-committed = record { log = answered.log ++ Commit 2 ∷ []; core = with_system answered.core (commit_logged answered.core.system 2); leave = answered.leave }
+committed = record { log = answered.log ++ Commit 2 ∷ []; core = with_system answered.core (commit_logged answered.core.system 2); audits = answered.audits; leave = answered.leave }
+
+abbrev in_hand : Moment
+in_hand = record { log = committed.log; core = with_system committed.core (taken committed.core.system); audits = committed.audits; leave = committed.leave }
 
 abbrev last : Moment
-last = record { log = committed.log; core = with_vault committed.core (flushed committed.core.system) (longer committed.core.vault (frame_of committed.log committed.core.system)); leave = λ F. with_insert F.batches && is_moved F }
+last = record { log = in_hand.log; core = with_vault in_hand.core (longer in_hand.core.vault (frame_of in_hand.log in_hand.core)); audits = in_hand.audits; leave = λ F. with_insert F.batches && is_moved F }
 
 -- ---- the steps
 begins : IsStepAt first Begins begun_2
-begins = ((record { runs = refl; room = omega arith }, (refl, refl)), λ F h. h)
+begins = ((record { runs = refl; room = omega arith }, (refl, refl)), (λ F h. h), refl)
 
 asks : IsStepAt begun_2 (Asks 2 5 Exclusive) locked
-asks = ((ap (λ (row : Option TxnRow). is_some row) (added first.core.system.table 2 fresh_row 2), (λ u n d e. absurd (no_lock u 5 n e)), (refl, refl)), λ F h. h)
+asks = ((ap (λ (row : Option TxnRow). is_some row) (added first.core.system.table 2 fresh_row 2), (λ u n d e. absurd (no_lock u 5 n e)), (refl, refl)), (λ F h. h), refl)
 
 strongest : (o : Option Mode) (d : Bool) → covers (Some (stronger_mode o Exclusive)) d ≡ true
 strongest None d = refl
@@ -283,46 +289,61 @@ is_add_block : IsBlock add
 unfolding add
 is_add_block = made_is_block (Add 9) 5 0 (replicate 64 0) (omega arith) (omega arith) (omega arith) are_zero
 
+live_locked : state_of locked.core.system 2 ≡ Some Live
+live_locked = begun_state first.core.system 2
+
+live_looked : state_of looked.core.system 2 ≡ Some Live
+live_looked = op_state locked.core.system 2 look 2 ∙ live_locked
+
+live_put : state_of cell_put.core.system 2 ≡ Some Live
+live_put = op_state looked.core.system 2 put 2 ∙ live_looked
+
+live_added : state_of entry_added.core.system 2 ≡ Some Live
+live_added = op_state cell_put.core.system 2 add 2 ∙ live_put
+
 looks : IsStepAt (with_one locked 0 at_look) (Operates 2 look) looked
 unfolding look entries cells
-looks = ((at_look, record { runs = refl; room = omega arith }, record { runs = refl; spelled = (omega arith, is_look_block, refl); next = refl; kind = refl; locked = covered false; at = refl; is_open = record { hold = refl; reads = refl; sound = λ h. refl; stands = λ h. refl } }, (refl, refl)), λ F h. h)
+looks = ((at_look, record { runs = refl; room = omega arith }, record { runs = refl; spelled = (omega arith, is_look_block, refl); next = refl; by = logs_by _ Live (Forward 2 look) live_locked refl; kind = refl; locked = covered false; at = refl; is_open = record { hold = refl; reads = refl; sound = λ h. refl; stands = λ h. refl } }, (refl, refl)), (λ F h. h), refl)
 
 puts : IsStepAt (with_one looked 1 at_put) (Operates 2 put) cell_put
 unfolding look put entries cells
-puts = ((at_put, record { runs = refl; room = omega arith }, record { runs = refl; spelled = (omega arith, is_put_block, refl); next = refl; kind = refl; locked = covered true; at = refl; is_open = record { hold = refl; reads = refl; sound = λ h. refl; stands = λ h. refl } }, (refl, refl)), λ F h. h)
+puts = ((at_put, record { runs = refl; room = omega arith }, record { runs = refl; spelled = (omega arith, is_put_block, refl); next = refl; by = logs_by _ Live (Forward 2 put) live_looked refl; kind = refl; locked = covered true; at = refl; is_open = record { hold = refl; reads = refl; sound = λ h. refl; stands = λ h. refl } }, (refl, refl)), (λ F h. h), refl)
 
 adds : IsStepAt (with_one cell_put 0 at_add) (Operates 2 add) entry_added
 unfolding look put add entries cells
-adds = ((at_add, record { runs = refl; room = omega arith }, record { runs = refl; spelled = (omega arith, is_add_block, refl); next = refl; kind = refl; locked = covered true; at = refl; is_open = record { hold = refl; reads = refl; sound = λ h. refl; stands = λ h. refl } }, (refl, refl)), λ F h. h)
+adds = ((at_add, record { runs = refl; room = omega arith }, record { runs = refl; spelled = (omega arith, is_add_block, refl); next = refl; by = logs_by _ Live (Forward 2 add) live_put refl; kind = refl; locked = covered true; at = refl; is_open = record { hold = refl; reads = refl; sound = λ h. refl; stands = λ h. refl } }, (refl, refl)), (λ F h. h), refl)
 
 look_course : IsCourse locked (touching 2 look [] (Operates 2 look)) looked
 unfolding look entries cells
-look_course = touches locked looked 2 look [] (Operates 2 look) (loaded (replicate 64 0)) refl (refl, (((refl, refl), omega arith), tt)) looks
+look_course = touches locked looked 2 look [] (Operates 2 look) (loaded (replicate 64 0)) refl (alive_by _ Live live_locked refl) (refl, (((refl, refl), omega arith), tt)) looks
 
 put_course : IsCourse looked (touching 2 put put_writes (Operates 2 put)) cell_put
 unfolding look put entries cells
-put_course = touches looked cell_put 2 put put_writes (Operates 2 put) (loaded (1 ∷ replicate 63 0)) refl (refl, (((refl, refl), omega arith), (((refl, omega arith), omega arith), (((refl, omega arith), omega arith), (((refl, omega arith), omega arith), (((refl, omega arith), omega arith), (((refl, omega arith), omega arith), (((refl, omega arith), omega arith), (((refl, omega arith), omega arith), (((refl, omega arith), omega arith), tt)))))))))) puts
+put_course = touches looked cell_put 2 put put_writes (Operates 2 put) (loaded (1 ∷ replicate 63 0)) refl (alive_by _ Live live_looked refl) (refl, (((refl, refl), omega arith), (((refl, omega arith), omega arith), (((refl, omega arith), omega arith), (((refl, omega arith), omega arith), (((refl, omega arith), omega arith), (((refl, omega arith), omega arith), (((refl, omega arith), omega arith), (((refl, omega arith), omega arith), (((refl, omega arith), omega arith), tt)))))))))) puts
 
 add_course : IsCourse cell_put (touching 2 add add_writes (Operates 2 add)) entry_added
 unfolding look put add entries cells
-add_course = touches cell_put entry_added 2 add add_writes (Operates 2 add) (touched at_look) refl (refl, (((refl, refl), omega arith), (((refl, omega arith), omega arith), (((refl, omega arith), omega arith), (((refl, omega arith), omega arith), tt))))) adds
+add_course = touches cell_put entry_added 2 add add_writes (Operates 2 add) (touched at_look) refl (alive_by _ Live live_put refl) (refl, (((refl, refl), omega arith), (((refl, omega arith), omega arith), (((refl, omega arith), omega arith), (((refl, omega arith), omega arith), tt))))) adds
 
 answers : IsStepAt entry_added (Answers 2 (Insert 5 (0 ∷ [])) AnswerOk) answered
 unfolding look put add entries cells
-answers = ((record { runs = refl; room = omega arith }, (omega arith, (omega arith, is_value), tt, refl), refl, (refl, refl)), λ F h. h)
+answers = ((record { runs = refl; room = omega arith }, (omega arith, (omega arith, is_value), tt, refl), record { next = refl; by = logs_by _ Live (Done 2 (Insert 5 (0 ∷ [])) AnswerOk) live_added refl }, (refl, refl)), (λ F h. h), refl)
 
 commits : IsStepAt answered (Commits 2) committed
 unfolding look put add entries cells
-commits = ((refl, refl, (refl, refl)), λ F h. h)
+commits = ((refl, record { next = refl; by = logs_by _ Live (Commit 2) live_added refl }, (refl, refl)), (λ F h. h), refl)
 
-flushes : IsStepAt committed Flushes last
-flushes = ((refl, (refl, refl)), record { each = λ F h. (record F { batches = three }, and_right (with_insert F.batches) (is_moved F) h, ap (λ bs. record F { batches = bs }) (four_are F.batches (and_left (with_insert F.batches) (is_moved F) h))) })
+takes : IsStepAt committed Takes in_hand
+takes = ((refl, refl), (λ F h. h), refl)
+
+flushes : IsStepAt in_hand Flushes last
+flushes = ((refl, (refl, refl)), record { each = λ F h. (record F { batches = three }, and_right (with_insert F.batches) (is_moved F) h, ap (λ bs. record F { batches = bs }) (four_are F.batches (and_left (with_insert F.batches) (is_moved F) h))) }, refl)
 
 abbrev ending : List Step
-ending = Answers 2 (Insert 5 (0 ∷ [])) AnswerOk ∷ Commits 2 ∷ Flushes ∷ []
+ending = Answers 2 (Insert 5 (0 ∷ [])) AnswerOk ∷ Commits 2 ∷ Takes ∷ Flushes ∷ []
 
 end_course : IsCourse entry_added ending last
-end_course = (answered, answers, (committed, commits, (last, flushes, refl)))
+end_course = (answered, answers, (committed, commits, (in_hand, takes, (last, flushes, refl))))
 
 add_on : IsCourse cell_put (touching 2 add add_writes (Operates 2 add) ++ ending) last
 add_on = join cell_put entry_added last (touching 2 add add_writes (Operates 2 add)) ending add_course end_course

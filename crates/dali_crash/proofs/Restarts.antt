@@ -88,10 +88,10 @@ pub run_is_right_for :
     → RestartsRight before c F
 run_is_right_for bases before leave c run right F l safe =
     let L : List Record = log_after before c.system in
-    let is : IsPrefix L (stable c.system) F = run.vault.prefix F l in
+    let is : IsPrefix L (stable c) F = run.vault.prefix F l in
     let history : IsHistory (log_in F) = subst (λ K. IsHistory K) (sym is.log) (crash_is_history bases L c is.count run.runs right (omega (arith, run.began, run.first, is.flushed)) is.within (subst (λ K. NoneEscapes (last_epoch K) c) is.log safe)) in
     let all : RestartIsRight (log_in F) = restart_is_right (log_in F) history in
-    let keeps : KeepsCommitted (take (stable c.system) L) (log_in F) = keeps_in L (log_in F) (stable c.system) is.count is.flushed is.log all in
+    let keeps : KeepsCommitted (take (stable c) L) (log_in F) = keeps_in L (log_in F) (stable c) is.count is.flushed is.log all in
     record {
       history = history;
       right = all;
@@ -103,13 +103,13 @@ run_is_right bases before leave c run right F l safe = run_is_right_for bases be
 
 -- ---- with damage or without
 pub flushed_stays_in : FlushedStays
-flushed_stays_in bases before leave c k x run h e F l = flushed_stays (λ D. leave D ≡ true) (log_after before c.system) (stable c.system) c.vault run.vault k x h e F l
+flushed_stays_in bases before leave c k x run h e F l = flushed_stays (λ D. leave D ≡ true) (log_after before c.system) (stable c) c.vault run.vault k x h e F l
 
 pub acknowledged_stays : AcknowledgedStays
 acknowledged_stays bases before leave c t run acknowledged F l =
     let L : List Record = log_after before c.system in
-    let is : IsPrefix L (stable c.system) F = run.vault.prefix F l in
-    let keeps : KeepsCommitted (take (stable c.system) L) (log_in F) = subst (KeepsCommitted (take (stable c.system) L)) (goes_on_to L (log_in F) (stable c.system) is.count is.flushed is.log) (keeps_committed (take (stable c.system) L) (drop (stable c.system) (take is.count L))) in
+    let is : IsPrefix L (stable c) F = run.vault.prefix F l in
+    let keeps : KeepsCommitted (take (stable c) L) (log_in F) = subst (KeepsCommitted (take (stable c) L)) (goes_on_to L (log_in F) (stable c) is.count is.flushed is.log) (keeps_committed (take (stable c) L) (drop (stable c) (take is.count L))) in
     keeps.stays t acknowledged
 
 -- ---- where a core is made

@@ -1,5 +1,5 @@
 -- What each step leaves of the vault, of the crash images and of each region.
-use Rattle.std.proofs.Common.{◌≡◌, ◌≢◌, ℕ, Bool, true, false, List, [], ◌∷◌, Some, refl, ap, sym, subst, ◌∙◌, ◌⊎◌, inl, inr, ⊎_elim}
+use Rattle.std.proofs.Common.{◌≡◌, ◌≢◌, ℕ, ◌≤◌, arith, Bool, true, false, List, [], ◌∷◌, Some, None, refl, ap, sym, subst, ◌∙◌, ◌⊎◌, inl, inr, ⊎_elim}
 use Rattle.std.specs.Prelude.{◌==◌, ◌&&◌, ◌||◌, slice_get, slice_set}
 use Rattle.dali_record.specs.declared.records.Record.{Record}
 use Rattle.dali_record.specs.Files.{Files}
@@ -9,20 +9,24 @@ use Rattle.dali_counts.proofs.Lists.{equal, and_right, set_cases}
 use Rattle.dali_system.specs.State.{VaultState, CoreState}
 use Rattle.dali_system.specs.Regions.{RegionStep, Latch, NoteReads, Update, TakeBack, Poke, Check, Die, Clean, region_after}
 use Rattle.dali_system.specs.Flushes.{frame_of, with_frame, longer}
-use Rattle.dali_system.specs.Courses.{Step, Begins, Operates, TakesBack, Frees, Answers, Commits, Ends, AuditBegins, AuditEnds, Locks, Refuses, OnRegion, ChangesState, Stops, Checkpoints, Flushes, Faults, Moment, MayLeave, IsStepAt}
+use Rattle.dali_system.proofs.Deaths.{region_with, dead_at}
+use Rattle.dali_system.specs.Courses.{Step, Begins, Operates, TakesBack, Frees, Answers, Commits, Ends, AuditBegins, AuditEnds, Locks, Refuses, OnRegion, Passes, Dies, Claims, GivesBack, Recovers, Stops, Checkpoints, Takes, Flushes, Faults, Moment, MayLeave, IsStepAt}
+use Rattle.dali_system.proofs.Flushes.{longer_flushed}
 use Rattle.dali_crash.specs.Checkpoints.{answers_none, passes_region}
 
 -- ---- the vault, and what a crash leaves
 pub record VaultGoes (m n : Moment) : Type 0 where
   pub current : n.core.vault.current ≡ m.core.vault.current
+  pub flushed : m.core.vault.flushed ≤ n.core.vault.flushed
   pub runs : n.core.vault.stopped ≡ false → m.core.vault.stopped ≡ false
-  pub files : (F : Files) → MayLeave n.leave F → (D : Files) × MayLeave m.leave D × ((F ≡ D) ⊎ (F ≡ with_frame D (frame_of m.log m.core.system)))
+  pub files : (F : Files) → MayLeave n.leave F → (D : Files) × MayLeave m.leave D × ((F ≡ D) ⊎ (F ≡ with_frame D (frame_of m.log m.core)))
 
 same_vault : (m n : Moment) (e : CoreState) → n.core ≡ e → e.vault ≡ m.core.vault → ((F : Files) → MayLeave n.leave F → MayLeave m.leave F) → VaultGoes m n
 same_vault m n e is same less =
     let vault : n.core.vault ≡ m.core.vault = ap (λ (c : CoreState). c.vault) is ∙ same in
     record {
       current = ap (λ (v : VaultState). v.current) vault;
+      flushed = omega (arith, ap (λ (v : VaultState). v.flushed) vault);
       runs = λ h. ap (λ (v : VaultState). v.stopped) (sym vault) ∙ h;
       files = λ F h. (F, less F h, inl refl);
     }
@@ -44,16 +48,23 @@ vault_goes m n (AuditEnds b found) s = same_vault m n _ s.0.1.1 refl s.1
 vault_goes m n (Locks t k mode) s = same_vault m n _ s.0.2.1 refl s.1
 vault_goes m n (Refuses t k mode h) s = same_vault m n _ s.0.2.1 refl s.1
 vault_goes m n (OnRegion r x) s = same_vault m n _ s.0.3.1 refl s.1
-vault_goes m n (ChangesState t state) s = same_vault m n _ s.0.1.1 refl s.1
+vault_goes m n (Passes b r) s = same_vault m n _ s.0.2.1 refl s.1
+vault_goes m n (Dies t o) s = same_vault m n _ s.0.1.1 refl s.1
+vault_goes m n (Claims t) s = same_vault m n _ s.0.2.1 refl s.1
+vault_goes m n (GivesBack t o) s = same_vault m n _ s.0.1.1 refl s.1
+vault_goes m n (Recovers r) s = same_vault m n _ s.0.3.1 refl s.1
 vault_goes m n Stops s = same_vault m n _ s.0.1.1 refl s.1
 vault_goes m n (Checkpoints b) s = same_vault m n _ s.0.1.1 refl s.1
+vault_goes m n Takes s = same_vault m n _ s.0.1 refl s.1
 vault_goes m n Flushes s = record {
-  current = ap (λ (c : CoreState). c.vault.current) s.0.1.1 ∙ longer_parts m.core.vault (frame_of m.log m.core.system);
+  current = ap (λ (c : CoreState). c.vault.current) s.0.1.1 ∙ longer_parts m.core.vault (frame_of m.log m.core);
+  flushed = omega (arith, ap (λ (c : CoreState). c.vault.flushed) s.0.1.1, longer_flushed m.core.vault (frame_of m.log m.core));
   runs = λ h. s.0.0;
   files = λ F h. let w = s.1.each F h in (w.0, w.1, inr w.2);
 }
 vault_goes m n (Faults k) s = record {
   current = ap (λ (c : CoreState). c.vault.current) s.0.2.1;
+  flushed = omega (arith, ap (λ (c : CoreState). c.vault.flushed) s.0.2.1);
   runs = λ h. s.0.0;
   files = λ F h. s.1.each F h;
 }
@@ -123,9 +134,13 @@ region_goes (Poke i m) c new r q g h is at e = quiet_one (Poke i m) c new r q g 
 region_goes Die c new r q g h is at e = quiet_one Die c new r q g h is at (stays g _ refl refl) (λ p. refl) e
 region_goes (Clean A) c new r q g h is at e = quiet_one (Clean A) c new r q g h is at (stays g _ refl refl) (λ p. refl) e
 region_goes (Clean B) c new r q g h is at e = quiet_one (Clean B) c new r q g h is at (stays g _ refl refl) (λ p. refl) e
-region_goes Check c new r q g h is at e =
-    one_changed c.regions new r q g (checked g) h (passes_region c (OnRegion r Check)) is at
-    (after_check (passes_region c (OnRegion r Check) r) g (λ passes. ap answers_none (sym at) ∙ and_right (r == r) (answers_none (slice_get c.regions r)) passes))
+region_goes Check c new r q g h is at e = quiet_one Check c new r q g h is at (after_check false g (λ f. absurd (cc))) (λ p. refl) e
+
+-- an audit passes a region
+pass_goes : (c : CoreState) (new : List RegionState) (b r q : ℕ) (g h : RegionState) → new ≡ slice_set c.regions r (checked g) → slice_get c.regions r ≡ Some g → slice_get new q ≡ Some h → RegionGoes (passes_region c (Passes b r) q) c.regions q h
+pass_goes c new b r q g h is at e =
+    one_changed c.regions new r q g (checked g) h (passes_region c (Passes b r)) is at
+    (after_check (passes_region c (Passes b r) r) g (λ passes. ap answers_none (sym at) ∙ and_right (r == r) (answers_none (slice_get c.regions r)) passes))
     (λ p apart. other p apart (p == r) refl)
     e
   where
@@ -146,8 +161,17 @@ regions_go m n (AuditEnds b found) q h s e = unchanged m.core.regions n.core.reg
 regions_go m n (Locks t k mode) q h s e = unchanged m.core.regions n.core.regions q h (ap (λ (c : CoreState). c.regions) s.0.2.1) e
 regions_go m n (Refuses t k mode o) q h s e = unchanged m.core.regions n.core.regions q h (ap (λ (c : CoreState). c.regions) s.0.2.1) e
 regions_go m n (OnRegion r x) q h s e = region_goes x m.core n.core.regions r q s.0.0 h (ap (λ (c : CoreState). c.regions) s.0.3.1) s.0.1 e
-regions_go m n (ChangesState t state) q h s e = unchanged m.core.regions n.core.regions q h (ap (λ (c : CoreState). c.regions) s.0.1.1) e
+regions_go m n (Passes b r) q h s e = pass_goes m.core n.core.regions b r q s.0.0 h (ap (λ (c : CoreState). c.regions) s.0.2.1) s.0.1 e
+regions_go m n (Dies t None) q h s e = unchanged m.core.regions n.core.regions q h (ap (λ (c : CoreState). c.regions) s.0.1.1) e
+regions_go m n (Dies t (Some r)) q h s e =
+    let held = s.0.0.latched.held r refl in
+    let region = region_with (slice_get m.core.regions r) held.0 held.1 in
+    region_goes Die m.core n.core.regions r q region.0 h (ap (λ (c : CoreState). c.regions) s.0.1.1 ∙ dead_at m.core.regions r region.0 region.1) region.1 e
+regions_go m n (Claims t) q h s e = unchanged m.core.regions n.core.regions q h (ap (λ (c : CoreState). c.regions) s.0.2.1) e
+regions_go m n (GivesBack t o) q h s e = unchanged m.core.regions n.core.regions q h (ap (λ (c : CoreState). c.regions) s.0.1.1) e
+regions_go m n (Recovers r) q h s e = region_goes TakeBack m.core n.core.regions r q s.0.0 h (ap (λ (c : CoreState). c.regions) s.0.3.1) s.0.1 e
 regions_go m n Stops q h s e = unchanged m.core.regions n.core.regions q h (ap (λ (c : CoreState). c.regions) s.0.1.1) e
 regions_go m n (Checkpoints b) q h s e = unchanged m.core.regions n.core.regions q h (ap (λ (c : CoreState). c.regions) s.0.1.1) e
+regions_go m n Takes q h s e = unchanged m.core.regions n.core.regions q h (ap (λ (c : CoreState). c.regions) s.0.1) e
 regions_go m n Flushes q h s e = unchanged m.core.regions n.core.regions q h (ap (λ (c : CoreState). c.regions) s.0.1.1) e
 regions_go m n (Faults k) q h s e = unchanged m.core.regions n.core.regions q h (ap (λ (c : CoreState). c.regions) s.0.2.1) e

@@ -1,5 +1,5 @@
 -- Each step keeps a run with its store, and each list of steps.
-use Rattle.std.proofs.Common.{◌≡◌, ℕ, zero, suc, ◌+◌, ◌-◌, ◌%◌, ◌<◌, ◌≤◌, Bool, true, false, cond, List, [], ◌∷◌, length, take, Option, Some, None, refl, ap, sym, subst, ◌∙◌, inl, inr, ⊎_elim, arith}
+use Rattle.std.proofs.Common.{◌≡◌, ℕ, zero, suc, ◌+◌, ◌%◌, ◌<◌, ◌≤◌, Bool, true, false, cond, List, [], ◌∷◌, length, take, Option, Some, None, refl, ap, sym, subst, ◌∙◌, inl, inr, ⊎_elim, arith}
 use Rattle.std.specs.Prelude.{◌==◌, ◌&&◌, ◌||◌, not, slice_get, slice_set, flat_map, sum_by}
 use Rattle.std.specs.List.{range_with_len}
 use Rattle.std.proofs.lemmas.List.{length-map, take_all}
@@ -7,7 +7,7 @@ use Rattle.std.proofs.lemmas.List.FromFn.{length-range_with_len, get_or-map-rang
 use Rattle.dali_geometry.specs.Places.{regions}
 use Rattle.dali_record.specs.declared.records.Record.{Record}
 use Rattle.dali_record.specs.Epochs.{Epoch, last_epoch}
-use Rattle.dali_record.specs.Settled.{words_in, redo_all}
+use Rattle.dali_record.specs.Settled.{words_in}
 use Rattle.dali_record.specs.Spelling.{record_length}
 use Rattle.dali_record.specs.Files.{Files, batch_length, next_after, table_before}
 use Rattle.dali_region.specs.declared.Side.{Side}
@@ -30,11 +30,12 @@ use Rattle.dali_record.specs.declared.records.Record.TheVariants.{Format}
 use Rattle.dali_record.specs.Spelling.{is_size_of_index}
 use Rattle.dali_system.proofs.ImageSteps.{images_keep, copy_keeps}
 use Rattle.dali_system.proofs.FlushedImages.{flush_keeps_images, fault_keeps_images, frame_inside}
-use Rattle.dali_crash.specs.Checkpoints.{Head, Copy, Stored, Does, Starts, Copies, Skips, WritesHead, Syncs, Turns, CopyFails, HeadFails, SyncFails, TurnFails, Finishes, side_of, image_side, target, copies_with, head_now, pass_copy, passes_region, copies_after, is_of_checkpoint, image_in, MayHold, turned, IsWritten, IsTurned, IsTurning, MayTurn, IsFault, with_fault, with_current, with_flag, moment_with}
+use Rattle.dali_crash.specs.Checkpoints.{Head, Copy, Stored, Does, Starts, Keeps, IsUntouched, copy_at, Copies, Skips, WritesHead, Syncs, Turns, CopyFails, HeadFails, SyncFails, TurnFails, Finishes, side_of, image_side, target, copies_with, head_now, pass_copy, passes_region, copies_after, is_of_checkpoint, image_in, MayHold, turned, IsWritten, IsTurned, IsTurning, MayTurn, IsFault, with_fault, with_current, with_flag, moment_with}
 use Rattle.dali_crash.specs.StoreRuns.{IsCopied, IsKept, StoreRun, StoreStepKeeps, StoreCourseKeeps, TurnEnds}
 use Rattle.dali_crash.proofs.StepLeaves.{VaultGoes, vault_goes, RegionGoes, regions_go}
 use Rattle.dali_crash.proofs.Kept.{got_none, kept_goes, copied_goes, copied_onward}
 use Rattle.dali_crash.proofs.Turned.{IsRightPlace, turned_fits}
+use Rattle.dali_crash.proofs.Untouched.{untouched_words}
 
 -- ---- sides
 -- the next checkpoint isn't written where the current image stands
@@ -94,19 +95,22 @@ abbrev Batches : (old new : Files → Bool) → Type 0
 Batches old new = (F : Files) → MayLeave new F → (D : Files) × MayLeave old D × (F.batches ≡ D.batches)
 
 -- the same core, and crash images with the same logs
-run_less : (bases : Bases) (before : List Record) (m : Moment) (leave : Files → Bool) → ((F : Files) → MayLeave leave F → MayLeave m.leave F) → RunsAt bases before m → RunsAt bases before (record { log = m.log; core = m.core; leave = leave })
+run_less : (bases : Bases) (before : List Record) (m : Moment) (leave : Files → Bool) → ((F : Files) → MayLeave leave F → MayLeave m.leave F) → RunsAt bases before m → RunsAt bases before (record { log = m.log; core = m.core; audits = m.audits; leave = leave })
 run_less bases before m leave less at = record {
   log = at.log;
   run = record {
     first = at.run.first;
     began = at.run.began;
     runs = at.run.runs;
-    vault = vault_less (MayLeave m.leave) (MayLeave leave) (log_after before m.core.system) (stable m.core.system) m.core.vault m.core.vault refl refl refl refl (λ F h. (F, less F h, refl)) at.run.vault;
+    frame = at.run.frame;
+    taken = at.run.taken;
+    vault = vault_less (MayLeave m.leave) (MayLeave leave) (log_after before m.core.system) (stable m.core) m.core.vault m.core.vault refl refl refl refl (λ F h. (F, less F h, refl)) at.run.vault;
   };
+  audits = record { within = at.audits.within; tells = at.audits.tells; once = at.audits.once };
 }
 
 -- the anchor moved
-run_turned : (bases : Bases) (before : List Record) (m : Moment) (leave : Files → Bool) → Batches m.leave leave → RunsAt bases before m → RunsAt bases before (record { log = m.log; core = with_current m.core; leave = leave })
+run_turned : (bases : Bases) (before : List Record) (m : Moment) (leave : Files → Bool) → Batches m.leave leave → RunsAt bases before m → RunsAt bases before (record { log = m.log; core = with_current m.core; audits = m.audits; leave = leave })
 run_turned bases before m leave less at = record {
   log = at.log;
   run = record {
@@ -122,20 +126,26 @@ run_turned bases before m leave less at = record {
       base = q.base;
       regions = q.regions;
     };
-    vault = vault_less (MayLeave m.leave) (MayLeave leave) (log_after before m.core.system) (stable m.core.system) m.core.vault _ refl refl refl refl less at.run.vault;
+    frame = at.run.frame;
+    taken = at.run.taken;
+    vault = vault_less (MayLeave m.leave) (MayLeave leave) (log_after before m.core.system) (stable m.core) m.core.vault _ refl refl refl refl less at.run.vault;
   };
+  audits = record { within = at.audits.within; tells = at.audits.tells; once = at.audits.once };
 }
 
 -- a fault
-run_faults : (bases : Bases) (before : List Record) (m : Moment) (leave : Files → Bool) (k : ℕ) → HasRisen m.core.vault.faults k → Batches m.leave leave → RunsAt bases before m → RunsAt bases before (record { log = m.log; core = with_fault m.core k; leave = leave })
+run_faults : (bases : Bases) (before : List Record) (m : Moment) (leave : Files → Bool) (k : ℕ) → HasRisen m.core.vault.faults k → Batches m.leave leave → RunsAt bases before m → RunsAt bases before (record { log = m.log; core = with_fault m.core k; audits = m.audits; leave = leave })
 run_faults bases before m leave k rose less at = record {
   log = at.log;
   run = record {
     first = at.run.first;
     began = at.run.began;
     runs = fault_keeps bases (log_after before m.core.system) m.core k at.run.runs;
-    vault = vault_faults (MayLeave m.leave) (MayLeave leave) (log_after before m.core.system) (stable m.core.system) k m.core.vault rose less at.run.vault;
+    frame = at.run.frame;
+    taken = at.run.taken;
+    vault = vault_faults (MayLeave m.leave) (MayLeave leave) (log_after before m.core.system) (stable m.core) k m.core.vault rose less at.run.vault;
   };
+  audits = record { within = at.audits.within; tells = at.audits.tells; once = at.audits.once };
 }
 
 -- ---- a step that writes no image
@@ -191,17 +201,17 @@ flag_set bases before st b run was = record {
     n = moment_with st (with_flag st.moment.core b) st.moment.leave
 
     s : IsStepAt st.moment (Checkpoints b) n
-    s = ((was, (refl, refl)), λ F h. h)
+    s = ((was, (refl, refl)), (λ F h. h), refl)
 
--- one starts or ends, and keeps something or nothing from then on
-flag_turns :
-    (bases : Bases) (before : List Record) (st : Stored) (b : Bool) (o : Option Head) → StoreRun bases before st → st.moment.core.system.checking ≡ not b
+-- what is kept is another, or nothing
+keeps_other :
+    (bases : Bases) (before : List Record) (st : Stored) (o : Option Head) → StoreRun bases before st
     → ((h : Head) → o ≡ Some h → IsKept st.moment.log st.moment.core.vault (MayLeave st.moment.leave) h)
-    → StoreRun bases before (record st { moment = moment_with st (with_flag st.moment.core b) st.moment.leave; begun = o })
-flag_turns bases before st b o run was kept = flag_set bases before (record st { begun = o }) b (record { run = run.run; images = run.images; anchor = run.anchor; kept = kept; copied = run.copied }) was
+    → StoreRun bases before (record st { begun = o })
+keeps_other bases before st o run kept = record { run = run.run; images = run.images; anchor = run.anchor; kept = kept; copied = run.copied }
 
--- ---- a checkpoint starts
-keeps_now : (bases : Bases) (before : List Record) (m : Moment) → RunsAt bases before m → m.core.vault.stopped ≡ false → stable m.core.system ≡ m.core.system.records → IsKept m.log m.core.vault (MayLeave m.leave) (head_now m.log m.core)
+-- ---- what a checkpoint keeps
+keeps_now : (bases : Bases) (before : List Record) (m : Moment) → RunsAt bases before m → m.core.vault.stopped ≡ false → stable m.core ≡ m.core.system.records → IsKept m.log m.core.vault (MayLeave m.leave) (head_now m.log m.core)
 keeps_now bases before m at runs all = record {
   number = refl;
   from = omega (arith, number_is m.log, count);
@@ -221,8 +231,8 @@ keeps_now bases before m at runs all = record {
     run : RunsOn bases m.log m.core
     run = subst (λ L. RunsOn bases L m.core) (sym at.log) at.run.runs
 
-    vault : VaultRun (MayLeave m.leave) m.log (stable m.core.system) m.core.vault
-    vault = subst (λ L. VaultRun (MayLeave m.leave) L (stable m.core.system) m.core.vault) (sym at.log) at.run.vault
+    vault : VaultRun (MayLeave m.leave) m.log (stable m.core) m.core.vault
+    vault = subst (λ L. VaultRun (MayLeave m.leave) L (stable m.core) m.core.vault) (sym at.log) at.run.vault
 
     tell : (run.counts.now.count ≡ length m.log) × (run.counts.now.weight ≡ sum_by record_length m.log) × (run.counts.now.next ≡ numbers m.log)
     tell = tallies m.core.system.sizes m.log run.counts.now run.counts.rules
@@ -241,18 +251,14 @@ keeps_now bases before m at runs all = record {
 
 -- ---- a copy
 -- what is known of a place right after it was brought up to date
-up_to_date : (bases : Bases) (L : List Record) (c : CoreState) (r : ℕ) (g : RegionState) (ws : List ℕ) → RunsOn bases L c → slice_get c.regions r ≡ Some g → (g.poked ≡ false → ws ≡ g.back) → IsCopied (bases (last_epoch L).first) (last_epoch L) r g (record { at = c.system.records; passed = false }) ws
-up_to_date bases L c r g ws run at same = by_test g.poked refl
+up_to_date : (bases : Bases) (L : List Record) (c : CoreState) (r n : ℕ) (g : RegionState) (ws : List ℕ) → RunsOn bases L c → slice_get c.regions r ≡ Some g → IsUntouched L r n → (g.poked ≡ false → ws ≡ g.back) → IsCopied (bases (last_epoch L).first) (last_epoch L) r g (copy_at n) ws
+up_to_date bases L c r n g ws run at still same = by_test g.poked refl
   where
-    count : c.system.records ≡ length L
-    count = run.counts.records ∙ (tallies c.system.sizes L run.counts.now run.counts.rules).0
-
-    by_test : (b : Bool) → g.poked ≡ b → IsCopied (bases (last_epoch L).first) (last_epoch L) r g (record { at = c.system.records; passed = false }) ws
+    by_test : (b : Bool) → g.poked ≡ b → IsCopied (bases (last_epoch L).first) (last_epoch L) r g (copy_at n) ws
     by_test true e = inr (record { poked = e; missed = λ f. absurd (cc) })
     by_test false e = inl (record {
-      from = omega (arith, number_is L, count);
-      to = omega (arith, number_is L, count);
-      words = same e ∙ ((run.regions r g at).settled e ∙ ap (λ E. words_in (redo_all (bases (last_epoch L).first) E) r) (sym (take_all (c.system.records - (last_epoch L).first) (last_epoch L).records (omega (arith, number_is L, count)))));
+      to = omega (arith, number_is L, still.within);
+      words = same e ∙ ((run.regions r g at).settled e ∙ untouched_words (bases (last_epoch L).first) L r n still.none);
     })
 
 runs_at : (bases : Bases) (before : List Record) (m : Moment) → RunsAt bases before m → RunsOn bases m.log m.core
@@ -276,7 +282,7 @@ known_with bases L old new copies told t r o ws known same here side q k h e at 
         → IsCopied (bases (last_epoch L).first) (last_epoch L) q h k (cond b ws (told side q))
     by_test true f d = subst (λ p. IsCopied (bases (last_epoch L).first) (last_epoch L) p h k ws) (sym (equal q r (and_right (same_side side t) (q == r) f))) (here k h d (subst (λ p. slice_get new p ≡ Some h) (equal q r (and_right (same_side side t) (q == r) f)) at))
     by_test false f d = let w = same q h at in ⊎_elim
-        (λ a. inl (record { from = a.from; to = a.to; words = a.words }))
+        (λ a. inl (record { to = a.to; words = a.words }))
         (λ a. inr (record { poked = w.2 ∙ a.poked; missed = λ p. w.3 ∙ a.missed p }))
         (known side q k w.0 d w.1)
 
@@ -298,17 +304,17 @@ copied_same : (base : List (List ℕ)) (e : Epoch) (r : ℕ) (g h : RegionState)
 copied_same base e r g h k ws p m is = ⊎_elim (λ a. inl a) (λ a. inr (record { poked = p ∙ a.poked; missed = λ f. m ∙ a.missed f })) is
 
 copies_keep :
-    (bases : Bases) (before : List Record) (st : Stored) (r : ℕ) (g : RegionState) (leave : Files → Bool) (synced : Side → Bool) → StoreRun bases before st
-    → slice_get st.moment.core.regions r ≡ Some g → st.moment.core.vault.stopped ≡ false
+    (bases : Bases) (before : List Record) (st : Stored) (r n : ℕ) (g : RegionState) (leave : Files → Bool) (synced : Side → Bool) → StoreRun bases before st
+    → slice_get st.moment.core.regions r ≡ Some g → st.moment.core.vault.stopped ≡ false → IsUntouched st.moment.log r n
     → IsWritten (MayLeave st.moment.leave) (MayLeave leave) (target st)
     → StoreRun bases before (record st {
       moment = moment_with st (with_region st.moment.core r (cleaned (target st) g)) leave;
       told = told_with st.told (target st) r g.back;
       synced = synced;
-      copies = copies_with st.copies (target st) r (Some (record { at = st.moment.core.system.records; passed = false }));
+      copies = copies_with st.copies (target st) r (Some (copy_at n));
     })
-copies_keep bases before st r g leave synced run at runs written = record {
-  run = step_keeps bases before st.moment (moment_with st (with_region st.moment.core r (cleaned (target st) g)) leave) (OnRegion r (Clean (target st))) run.run ((g, at, tt, (refl, refl)), less);
+copies_keep bases before st r n g leave synced run at runs still written = record {
+  run = step_keeps bases before st.moment (moment_with st (with_region st.moment.core r (cleaned (target st) g)) leave) (OnRegion r (Clean (target st))) run.run ((g, at, (tt, tt), (refl, refl)), less, refl);
   images = images_less bases (told_with st.told (target st) r g.back) (MayLeave st.moment.leave) (MayLeave leave) (with_region st.moment.core r (cleaned (target st) g)) less (copy_keeps bases st.told st.moment.leave st.moment.core (target st) r g run.images at);
   anchor = λ e F h. run.anchor e F (less F h);
   kept = λ h e. kept_less st.moment.log st.moment.core.vault st.moment.core.vault (MayLeave st.moment.leave) (MayLeave leave) h refl less (run.kept h e);
@@ -318,13 +324,13 @@ copies_keep bases before st r g leave synced run at runs written = record {
     less : (F : Files) → MayLeave leave F → MayLeave st.moment.leave F
     less = fewer bases before st (MayLeave leave) run runs written
 
-    known : IsKnown bases st.moment.log (slice_set st.moment.core.regions r (cleaned (target st) g)) (copies_with st.copies (target st) r (Some (record { at = st.moment.core.system.records; passed = false }))) (told_with st.told (target st) r g.back)
+    known : IsKnown bases st.moment.log (slice_set st.moment.core.regions r (cleaned (target st) g)) (copies_with st.copies (target st) r (Some (copy_at n))) (told_with st.told (target st) r g.back)
     known = known_with bases st.moment.log st.moment.core.regions (slice_set st.moment.core.regions r (cleaned (target st) g)) st.copies st.told (target st) r _ g.back run.copied (one_cleaned st.moment.core.regions (target st) r g at)
         (λ k h e new. let w = one_cleaned st.moment.core.regions (target st) r g at r h new in
         let same : w.0 ≡ g = some_same (sym w.1 ∙ at) in
         subst (λ z. IsCopied (bases (last_epoch st.moment.log).first) (last_epoch st.moment.log) r h z g.back) (some_same e)
         (copied_same (bases (last_epoch st.moment.log).first) (last_epoch st.moment.log) r g h _ g.back (w.2 ∙ ap (λ (z : RegionState). z.poked) same) (w.3 ∙ ap (λ (z : RegionState). z.missed) same)
-        (up_to_date bases st.moment.log st.moment.core r g g.back (runs_at bases before st.moment run.run) at (λ p. refl))))
+        (up_to_date bases st.moment.log st.moment.core r n g g.back (runs_at bases before st.moment run.run) at still (λ p. refl))))
 
 -- ---- steps that leave the core, but for a fault
 still :
@@ -415,8 +421,8 @@ turn_fits bases before st h b k D head image run runs may l hold =
     words : image ≡ image_in c.system.sizes st.told (target st)
     words = hold.image_is (ap st.synced side ∙ may.synced) ∙ ap (image_in c.system.sizes st.told) side
 
-    is : IsPrefix L (stable c.system) D
-    is = subst (λ M. IsPrefix M (stable c.system) D) (sym run.run.log) (run.run.run.vault.prefix D l)
+    is : IsPrefix L (stable c) D
+    is = subst (λ M. IsPrefix M (stable c) D) (sym run.run.log) (run.run.run.vault.prefix D l)
 
     places : (r : ℕ) → r < regions c.system.sizes → is_missed (slice_get c.regions r) ≡ false → IsRightPlace (bases (last_epoch L).first) (last_epoch L) h b r (words_in image r)
     places r hr seen =
@@ -424,7 +430,7 @@ turn_fits bases before st h b k D head image run runs may l hold =
         let region : (g : RegionState) × (slice_get c.regions r ≡ Some g) = found c.regions r (omega (arith, hr, (runs_at bases before st.moment run.run).whole)) in
         let read : words_in image r ≡ st.told (target st) r = ap (λ im. words_in im r) words ∙ get_or-map-range_with_len (st.told (target st)) 0 (regions c.system.sizes) r r [] hr (omega arith) in
         ⊎_elim
-        (λ a. record { at = w.0.at; from = w.2.since; to = omega (arith, w.2.until); settled = record { from = a.from; to = a.to; words = read ∙ a.words } })
+        (λ a. record { at = w.0.at; from = w.2.since; to = omega (arith, w.2.until); settled = record { to = a.to; words = read ∙ a.words } })
         (λ a. let missed : region.0.missed ≡ true = a.missed w.2.passed in let not_missed : region.0.missed ≡ false = ap is_missed (sym region.1) ∙ seen in absurd (cc))
         (run.copied (target st) r w.0 region.0 w.1 region.1)
 
@@ -465,18 +471,20 @@ turn_fails bases before st leave h b k n run fault may store = record {
 pub store_step_keeps : StoreStepKeeps
 store_step_keeps bases before st new (Does x) run s = subst (StoreRun bases before) (sym s.2) (does bases before st x new.moment run s.0 s.1)
 store_step_keeps bases before st new Starts run s =
-    subst (StoreRun bases before) (sym s.3)
-    (flag_turns bases before st true (Some (head_now st.moment.log st.moment.core)) run s.1 (λ h e. subst (IsKept st.moment.log st.moment.core.vault (MayLeave st.moment.leave)) (some_same e) (keeps_now bases before st.moment run.run s.0 s.2)))
-store_step_keeps bases before st new (Copies r) run s = subst (StoreRun bases before) (sym s.5) (copies_keep bases before st r s.0 new.moment.leave _ run s.1 s.2.runs s.4)
-store_step_keeps bases before st new (Skips r) run s =
+    subst (StoreRun bases before) (sym s.1) (flag_set bases before st true run s.0)
+store_step_keeps bases before st new Keeps run s =
     subst (StoreRun bases before) (sym s.4)
+    (keeps_other bases before st (Some (head_now st.moment.log st.moment.core)) run (λ h e. subst (IsKept st.moment.log st.moment.core.vault (MayLeave st.moment.leave)) (some_same e) (keeps_now bases before st.moment run.run s.0 s.3)))
+store_step_keeps bases before st new (Copies r n) run s = subst (StoreRun bases before) (sym s.6) (copies_keep bases before st r n s.0 new.moment.leave _ run s.1 s.2.runs s.4 s.5)
+store_step_keeps bases before st new (Skips r n) run s =
+    subst (StoreRun bases before) (sym s.5)
     (record { run = run.run; images = run.images; anchor = run.anchor; kept = run.kept; copied = skipped })
   where
-    skipped : IsKnown bases st.moment.log st.moment.core.regions (copies_with st.copies (target st) r (Some (record { at = st.moment.core.system.records; passed = false }))) st.told
+    skipped : IsKnown bases st.moment.log st.moment.core.regions (copies_with st.copies (target st) r (Some (copy_at n))) st.told
     skipped side q k h e at = by_test (same_side side (target st) && (q == r)) refl e
       where
         by_test :
-            (b : Bool) → (same_side side (target st) && (q == r)) ≡ b → cond b (Some (record { at = st.moment.core.system.records; passed = false })) (st.copies side q) ≡ Some k
+            (b : Bool) → (same_side side (target st) && (q == r)) ≡ b → cond b (Some (copy_at n)) (st.copies side q) ≡ Some k
             → IsCopied (bases (last_epoch st.moment.log).first) (last_epoch st.moment.log) q h k (st.told side q)
         by_test false f d = run.copied side q k h d at
         by_test true f d =
@@ -485,7 +493,7 @@ store_step_keeps bases before st new (Skips r) run s =
             let same : h ≡ s.0 = some_same (sym at ∙ (ap (slice_get st.moment.core.regions) here ∙ s.1)) in
             let clear : is_dirty h side ≡ false = ap (λ (z : RegionState). is_dirty z side) same ∙ (ap (is_dirty s.0) there ∙ s.3) in
             subst (λ z. IsCopied (bases (last_epoch st.moment.log).first) (last_epoch st.moment.log) q h z (st.told side q)) (some_same d)
-            (up_to_date bases st.moment.log st.moment.core q h (st.told side q) (runs_at bases before st.moment run.run) at (λ p. run.images.files side q h at p clear))
+            (up_to_date bases st.moment.log st.moment.core q n h (st.told side q) (runs_at bases before st.moment run.run) at (subst (λ p. IsUntouched st.moment.log p n) (sym here) s.4) (λ p. run.images.files side q h at p clear))
 store_step_keeps bases before st new (WritesHead h) run s = subst (StoreRun bases before) (sym s.2) (still bases before st new.moment.leave st.told _ _ st.copies run (fewer bases before st (MayLeave new.moment.leave) run s.0.runs s.1) run.images.files run.copied)
 store_step_keeps bases before st new Syncs run s = subst (StoreRun bases before) (sym s.2) (still bases before st new.moment.leave st.told st.heads _ st.copies run s.1 run.images.files run.copied)
 store_step_keeps bases before st new Turns run s = subst (StoreRun bases before) (sym s.6) (turns bases before st new.moment.leave s.0 s.1 s.2 run s.3.runs s.4 s.5)
@@ -496,7 +504,7 @@ store_step_keeps bases before st new (CopyFails r ws n) run s =
 store_step_keeps bases before st new (HeadFails h n) run s = subst (StoreRun bases before) (sym s.2) (failed bases before st new.moment.leave st.told _ _ st.copies n run s.0 (fewer bases before st (MayLeave new.moment.leave) run s.0.may.runs s.1) run.images.files run.copied)
 store_step_keeps bases before st new (SyncFails n) run s = subst (StoreRun bases before) (sym s.2) (failed bases before st new.moment.leave st.told st.heads st.synced st.copies n run s.0 s.1 run.images.files run.copied)
 store_step_keeps bases before st new (TurnFails n) run s = subst (StoreRun bases before) (sym s.6) (turn_fails bases before st new.moment.leave s.0 s.1 s.2 n run s.3 s.4 s.5)
-store_step_keeps bases before st new Finishes run s = subst (StoreRun bases before) (sym s.1) (flag_turns bases before st false None run s.0 (λ h e. absurd (cc)))
+store_step_keeps bases before st new Finishes run s = subst (StoreRun bases before) (sym s.1) (flag_set bases before (record st { begun = None }) false (keeps_other bases before st None run (λ h e. absurd (cc))) s.0)
 
 pub store_course_keeps : StoreCourseKeeps
 store_course_keeps bases before st new [] run course = subst (StoreRun bases before) course run

@@ -28,7 +28,7 @@ use Rattle.dali_system.proofs.Courses.{Goes, step_goes, load_runs_at}
 use Rattle.dali_crash.specs.Restarts.{HasRightBase, RestartsRight}
 use Rattle.dali_crash.specs.Fitting.{FitsWhole, recover_from}
 use Rattle.dali_crash.specs.Starts.{IsFreshStore}
-use Rattle.dali_crash.specs.Checkpoints.{Stored, StoreStep, Does, Starts, Copies, Skips, WritesHead, Syncs, Turns, CopyFails, HeadFails, SyncFails, TurnFails, Finishes, IsStoreStep, IsStoreCourse}
+use Rattle.dali_crash.specs.Checkpoints.{Stored, StoreStep, Does, Starts, Keeps, Copies, Skips, WritesHead, Syncs, Turns, CopyFails, HeadFails, SyncFails, TurnFails, Finishes, IsStoreStep, IsStoreCourse}
 use Rattle.dali_crash.specs.StoreRuns.{StoreRun, stored_start, FreshStarts, EveryStoreRunIsRight}
 use Rattle.dali_crash.proofs.CrashLogs.{cut_parts}
 use Rattle.dali_crash.proofs.RecoveredWords.{recovered_words}
@@ -41,7 +41,7 @@ use Rattle.dali_crash.proofs.StoreRuns.{store_course_keeps}
 
 -- ---- where a core is made
 -- its regions stand in no image file yet
-all_dirty : (image : List (List ℕ)) (r : ℕ) (g : RegionState) (side : Side) → slice_get (map loaded image) r ≡ Some g → is_dirty g side ≡ true
+pub all_dirty : (image : List (List ℕ)) (r : ℕ) (g : RegionState) (side : Side) → slice_get (map loaded image) r ≡ Some g → is_dirty g side ≡ true
 all_dirty [] r g side e = absurd (cc)
 all_dirty (ws ∷ image) zero g A e = let same : loaded ws ≡ g = cc in ap (λ (z : RegionState). z.dirty_a) (sym same)
 all_dirty (ws ∷ image) zero g B e = let same : loaded ws ≡ g = cc in ap (λ (z : RegionState). z.dirty_b) (sym same)
@@ -62,7 +62,7 @@ fresh_vault L v leave fresh = record {
 
 pub fresh_starts : FreshStarts
 fresh_starts L g limit v leave told heads synced history rules none fits fresh = record {
-  run = load_runs_at bases s L g limit v leave (empty_rests s L g log rules none) fits (recovered_holds L history).2.image_is.count (recovered_words L history) (fresh_vault L v (MayLeave leave) fresh);
+  run = load_runs_at bases s L g limit v leave (empty_rests s L g log rules none) fits (recovered_holds L history).2.image_is.count (recovered_words L history) (fresh_vault L v (MayLeave leave) fresh) fresh.flushed;
   images = record {
     files = λ side r k e clean cleared. let dirty : is_dirty k side ≡ true = all_dirty image r k side e in absurd (cc);
     fits = λ F h. fresh_fits bases L F _ history refl (fresh.files F h);
@@ -88,11 +88,12 @@ fresh_starts L g limit v leave told heads synced history rules none fits fresh =
 same_log : (m n : Moment) → n.core.system.sizes ≡ m.core.system.sizes → n.log ≡ m.log → Goes m n
 same_log m n sizes log = record { sizes = sizes; log = inl log }
 
-store_goes : (st new : Stored) (x : StoreStep) → IsStoreStep st x new → Goes st.moment new.moment
+pub store_goes : (st new : Stored) (x : StoreStep) → IsStoreStep st x new → Goes st.moment new.moment
 store_goes st new (Does x) s = step_goes st.moment new.moment x s.1
-store_goes st new Starts s = same_log st.moment new.moment (ap (λ (z : Stored). z.moment.core.system.sizes) s.3) (ap (λ (z : Stored). z.moment.log) s.3)
-store_goes st new (Copies r) s = same_log st.moment new.moment (ap (λ (z : Stored). z.moment.core.system.sizes) s.5) (ap (λ (z : Stored). z.moment.log) s.5)
-store_goes st new (Skips r) s = same_log st.moment new.moment (ap (λ (z : Stored). z.moment.core.system.sizes) s.4) (ap (λ (z : Stored). z.moment.log) s.4)
+store_goes st new Starts s = same_log st.moment new.moment (ap (λ (z : Stored). z.moment.core.system.sizes) s.1) (ap (λ (z : Stored). z.moment.log) s.1)
+store_goes st new Keeps s = same_log st.moment new.moment (ap (λ (z : Stored). z.moment.core.system.sizes) s.4) (ap (λ (z : Stored). z.moment.log) s.4)
+store_goes st new (Copies r n) s = same_log st.moment new.moment (ap (λ (z : Stored). z.moment.core.system.sizes) s.6) (ap (λ (z : Stored). z.moment.log) s.6)
+store_goes st new (Skips r n) s = same_log st.moment new.moment (ap (λ (z : Stored). z.moment.core.system.sizes) s.5) (ap (λ (z : Stored). z.moment.log) s.5)
 store_goes st new (WritesHead h) s = same_log st.moment new.moment (ap (λ (z : Stored). z.moment.core.system.sizes) s.2) (ap (λ (z : Stored). z.moment.log) s.2)
 store_goes st new Syncs s = same_log st.moment new.moment (ap (λ (z : Stored). z.moment.core.system.sizes) s.2) (ap (λ (z : Stored). z.moment.log) s.2)
 store_goes st new Turns s = same_log st.moment new.moment (ap (λ (z : Stored). z.moment.core.system.sizes) s.6) (ap (λ (z : Stored). z.moment.log) s.6)
@@ -102,13 +103,13 @@ store_goes st new (SyncFails n) s = same_log st.moment new.moment (ap (λ (z : S
 store_goes st new (TurnFails n) s = same_log st.moment new.moment (ap (λ (z : Stored). z.moment.core.system.sizes) s.6) (ap (λ (z : Stored). z.moment.log) s.6)
 store_goes st new Finishes s = same_log st.moment new.moment (ap (λ (z : Stored). z.moment.core.system.sizes) s.1) (ap (λ (z : Stored). z.moment.log) s.1)
 
-store_base : (bases : Bases) (st new : Stored) (xs : List StoreStep) → HasRightBase bases st.moment.core.system.sizes st.moment.log → IsStoreCourse st xs new → HasRightBase bases new.moment.core.system.sizes new.moment.log
+pub store_base : (bases : Bases) (st new : Stored) (xs : List StoreStep) → HasRightBase bases st.moment.core.system.sizes st.moment.log → IsStoreCourse st xs new → HasRightBase bases new.moment.core.system.sizes new.moment.log
 store_base bases st new [] right course = subst (λ (k : Stored). HasRightBase bases k.moment.core.system.sizes k.moment.log) course right
 store_base bases st new (x ∷ xs) right course = store_base bases course.0 new xs (base_goes bases st.moment course.0.moment (store_goes st course.0 x course.1) right) course.2
 
 -- ---- what a crash leaves
 -- an epoch without records is recovered already
-recovers : (K : List Record) → IsHistory K → recover (sizes_of K) (base_of (sizes_of K) K) (last_epoch K) ≡ recovered (sizes_of K) K
+pub recovers : (K : List Record) → IsHistory K → recover (sizes_of K) (base_of (sizes_of K) K) (last_epoch K) ≡ recovered (sizes_of K) K
 recovers K history = by_records (last_epoch K).records refl
   where
     by_records : (E : List Record) → (last_epoch K).records ≡ E → recover (sizes_of K) (base_of (sizes_of K) K) (last_epoch K) ≡ recovered_now (sizes_of K) (base_of (sizes_of K) K) (last_epoch K) E
@@ -150,8 +151,8 @@ every_store_run_is_right L g limit v leave told heads synced history rules none 
     right : HasRightBase bases c.system.sizes n.moment.log
     right = store_base bases start n xs (record { base = recovered-base s L none; honest = honest_before s (formatted_image s) (cut L).closed (cut L).now history.honest }) course
 
-    is : IsPrefix n.moment.log (stable c.system) F
-    is = subst (λ M. IsPrefix M (stable c.system) F) (sym there.run.log) (there.run.run.vault.prefix F l)
+    is : IsPrefix n.moment.log (stable c) F
+    is = subst (λ M. IsPrefix M (stable c) F) (sym there.run.log) (there.run.run.vault.prefix F l)
 
     began : (last_epoch n.moment.log).first ≤ length L
     began = subst (λ M. (last_epoch M).first ≤ length L) (sym there.run.log) there.run.run.began

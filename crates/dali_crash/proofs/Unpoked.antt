@@ -1,18 +1,18 @@
 -- Without stray writes no region is poked, no damage escapes a stop, no audit names a region, and nobody is deleted.
-use Rattle.std.proofs.Common.{◌≡◌, ℕ, zero, suc, ◌-◌, ◌<◌, ◌≤◌, Bool, true, false, List, [], ◌∷◌, ◌++◌, length, take, Some, refl, ap, sym, subst, ◌∙◌, ⊎_elim, arith}
+use Rattle.std.proofs.Common.{◌≡◌, ℕ, zero, suc, ◌-◌, ◌<◌, ◌≤◌, Bool, true, false, List, [], ◌∷◌, ◌++◌, length, take, Some, None, refl, ap, sym, subst, ◌∙◌, ⊎_elim, arith}
 use Rattle.std.specs.Prelude.{map, fold, slice_get, slice_set, ⊤, nat_lt}
 use Rattle.std.specs.List.{list_any, list_all}
 use Rattle.dali_geometry.specs.Places.{regions}
 use Rattle.std.proofs.lemmas.Bool.{or_parts, ltb-true}
 use Rattle.dali_record.specs.declared.records.Record.{Record}
-use Rattle.dali_record.specs.declared.records.Record.TheVariants.{Format, Begin, Op as Forward, Done, Commit, Ended, Solo, AuditBegin, AuditClean, AuditFail, Restarted, Back}
+use Rattle.dali_record.specs.declared.records.Record.TheVariants.{Format, Begin, Forward, Done, Commit, Ended, Solo, AuditBegin, AuditClean, AuditFail, Restarted, Back}
 use Rattle.dali_record.specs.Epochs.{Epoch, Cut, last_epoch, failing_step}
 use Rattle.dali_record.specs.Damage.{deleted_list, has}
 use Rattle.dali_record.specs.Legal.{sizes_of}
 use Rattle.dali_record.specs.Files.{Files}
 use Rattle.dali_region.specs.declared.Side.{Side}
 use Rattle.dali_region.specs.declared.Side.TheVariants.{A, B}
-use Rattle.dali_region.specs.State.{RegionState, loaded, touched}
+use Rattle.dali_region.specs.State.{RegionState, loaded, touched, taken_back, checked, dead}
 use Rattle.dali_region.specs.Answers.{cleaned}
 use Rattle.dali_history.specs.Recovered.{recovered}
 use Rattle.dali_headline.proofs.Undamaged.{undamaged_deleted}
@@ -23,11 +23,14 @@ use Rattle.dali_system.specs.Crashes.{NoneEscapes}
 use Rattle.dali_system.specs.Regions.{RegionStep, Latch, NoteReads, Update, TakeBack, Poke, Check, Die, Clean, region_after}
 use Rattle.dali_system.specs.Loads.{new_core}
 use Rattle.dali_system.specs.Audits.{MayEndAudit}
-use Rattle.dali_system.specs.Courses.{Step, Begins, Operates, TakesBack, Frees, Answers, Commits, Ends, AuditBegins, AuditEnds, Locks, Refuses, OnRegion, ChangesState, Stops, Checkpoints, Flushes, Faults, Adds, Moment, MayLeave, IsStepAt, IsCourse, RunsAt}
+use Rattle.dali_system.specs.Passes.{no_audits}
+use Rattle.dali_system.specs.Courses.{Step, Begins, Operates, TakesBack, Frees, Answers, Commits, Ends, AuditBegins, AuditEnds, Locks, Refuses, OnRegion, Passes, Dies, Claims, GivesBack, Recovers, Stops, Checkpoints, Takes, Flushes, Faults, Adds, Moment, MayLeave, IsStepAt, IsCourse, RunsAt}
+use Rattle.dali_system.proofs.Deaths.{region_with, dead_at}
+use Rattle.dali_system.proofs.AuditEnds.{may_end_audit}
 use Rattle.dali_system.proofs.OneMore.{is_inside, last_epoch-push}
 use Rattle.dali_system.proofs.Courses.{step_keeps, course_keeps}
 use Rattle.dali_crash.specs.CrashLogs.{cut_to, IsUnpoked}
-use Rattle.dali_crash.specs.Checkpoints.{Stored, StoreStep, Does, Starts, Copies, Skips, WritesHead, Syncs, Turns, CopyFails, HeadFails, SyncFails, TurnFails, Finishes, target, IsStoreStep, IsStoreCourse}
+use Rattle.dali_crash.specs.Checkpoints.{Stored, StoreStep, Does, Starts, Keeps, Copies, Skips, WritesHead, Syncs, Turns, CopyFails, HeadFails, SyncFails, TurnFails, Finishes, target, IsStoreStep, IsStoreCourse}
 use Rattle.dali_crash.specs.StoreRuns.{StoreRun, stored_start}
 use Rattle.dali_crash.specs.Unpoked.{is_poke, pokes, store_pokes, DeletesNobody, UnpokedRunIsRight, UnpokedStoreRunIsRight}
 use Rattle.dali_crash.proofs.CrashLogs.{cut_parts}
@@ -37,7 +40,7 @@ use Rattle.dali_crash.proofs.StoreRuns.{store_step_keeps, store_course_keeps}
 use Rattle.dali_crash.proofs.StoreStarts.{fresh_starts, every_store_run_is_right}
 
 -- ---- no region is poked
-abbrev NonePoked : List RegionState → Type 0
+abbrev pub NonePoked : List RegionState → Type 0
 NonePoked rs = (r : ℕ) (g : RegionState) → slice_get rs r ≡ Some g → g.poked ≡ false
 
 as_was : (old new : List RegionState) → new ≡ old → NonePoked old → NonePoked new
@@ -49,7 +52,7 @@ one_set old new r g k is at same none q h e = ⊎_elim
     (λ w. none q h w.1)
     (set_cases old r k q h (ap (λ rs. slice_get rs q) (sym is) ∙ e))
 
-none_loaded : (image : List (List ℕ)) → NonePoked (map loaded image)
+pub none_loaded : (image : List (List ℕ)) → NonePoked (map loaded image)
 none_loaded [] r g e = absurd (cc)
 none_loaded (ws ∷ image) zero g e = let same : loaded ws ≡ g = cc in ap (λ (z : RegionState). z.poked) (sym same)
 none_loaded (ws ∷ image) (suc r) g e = none_loaded image r g e
@@ -78,13 +81,22 @@ step_unpoked m n (AuditEnds b found) quiet s = as_was m.core.regions n.core.regi
 step_unpoked m n (Locks t k mode) quiet s = as_was m.core.regions n.core.regions (ap (λ (c : CoreState). c.regions) s.0.2.1)
 step_unpoked m n (Refuses t k mode o) quiet s = as_was m.core.regions n.core.regions (ap (λ (c : CoreState). c.regions) s.0.2.1)
 step_unpoked m n (OnRegion r x) quiet s = one_set m.core.regions n.core.regions r s.0.0 (region_after x s.0.0) (ap (λ (c : CoreState). c.regions) s.0.3.1) s.0.1 (same_poked x s.0.0 quiet)
-step_unpoked m n (ChangesState t state) quiet s = as_was m.core.regions n.core.regions (ap (λ (c : CoreState). c.regions) s.0.1.1)
+step_unpoked m n (Passes b r) quiet s = one_set m.core.regions n.core.regions r s.0.0 (checked s.0.0) (ap (λ (c : CoreState). c.regions) s.0.2.1) s.0.1 refl
+step_unpoked m n (Dies t None) quiet s = as_was m.core.regions n.core.regions (ap (λ (c : CoreState). c.regions) s.0.1.1)
+step_unpoked m n (Dies t (Some r)) quiet s =
+    let held = s.0.0.latched.held r refl in
+    let region = region_with (slice_get m.core.regions r) held.0 held.1 in
+    one_set m.core.regions n.core.regions r region.0 (dead region.0) (ap (λ (c : CoreState). c.regions) s.0.1.1 ∙ dead_at m.core.regions r region.0 region.1) region.1 refl
+step_unpoked m n (Claims t) quiet s = as_was m.core.regions n.core.regions (ap (λ (c : CoreState). c.regions) s.0.2.1)
+step_unpoked m n (GivesBack t o) quiet s = as_was m.core.regions n.core.regions (ap (λ (c : CoreState). c.regions) s.0.1.1)
+step_unpoked m n (Recovers r) quiet s = one_set m.core.regions n.core.regions r s.0.0 (taken_back s.0.0) (ap (λ (c : CoreState). c.regions) s.0.3.1) s.0.1 refl
 step_unpoked m n Stops quiet s = as_was m.core.regions n.core.regions (ap (λ (c : CoreState). c.regions) s.0.1.1)
 step_unpoked m n (Checkpoints b) quiet s = as_was m.core.regions n.core.regions (ap (λ (c : CoreState). c.regions) s.0.1.1)
+step_unpoked m n Takes quiet s = as_was m.core.regions n.core.regions (ap (λ (c : CoreState). c.regions) s.0.1)
 step_unpoked m n Flushes quiet s = as_was m.core.regions n.core.regions (ap (λ (c : CoreState). c.regions) s.0.1.1)
 step_unpoked m n (Faults k) quiet s = as_was m.core.regions n.core.regions (ap (λ (c : CoreState). c.regions) s.0.2.1)
 
-course_unpoked : (m n : Moment) (xs : List Step) → list_any pokes xs ≡ false → IsCourse m xs n → NonePoked m.core.regions → NonePoked n.core.regions
+pub course_unpoked : (m n : Moment) (xs : List Step) → list_any pokes xs ≡ false → IsCourse m xs n → NonePoked m.core.regions → NonePoked n.core.regions
 course_unpoked m n [] quiet s none = subst (λ (k : Moment). NonePoked k.core.regions) s none
 course_unpoked m n (x ∷ xs) quiet s none = let p = or_parts (pokes x) (list_any pokes xs) quiet in course_unpoked s.0 n xs p.1 s.2 (step_unpoked m s.0 x p.0 s.1 none)
 
@@ -93,7 +105,7 @@ abbrev is_fail : Record → Bool
 is_fail (AuditFail b rs) = true
 is_fail _ = false
 
-abbrev NoneFails : List Record → Type 0
+abbrev pub NoneFails : List Record → Type 0
 NoneFails [] = ⊤
 NoneFails (x ∷ E) = (is_fail x ≡ false) × NoneFails E
 
@@ -101,7 +113,7 @@ none_fails_push : (E : List Record) (x : Record) → NoneFails E → is_fail x �
 none_fails_push [] x h e = (e, tt)
 none_fails_push (y ∷ E) x h e = (h.0, none_fails_push E x h.1 e)
 
-none_fails_take : (n : ℕ) (E : List Record) → NoneFails E → NoneFails (take n E)
+pub none_fails_take : (n : ℕ) (E : List Record) → NoneFails E → NoneFails (take n E)
 none_fails_take zero E h = tt
 none_fails_take (suc n) [] h = tt
 none_fails_take (suc n) (x ∷ E) h = (h.0, none_fails_take n E h.1)
@@ -120,11 +132,11 @@ step_none (AuditFail b rs) e = absurd (cc)
 step_none (Restarted rs ds) e = refl
 step_none (Back t b) e = refl
 
-none_failing : (E : List Record) → NoneFails E → fold failing_step [] E ≡ []
+pub none_failing : (E : List Record) → NoneFails E → fold failing_step [] E ≡ []
 none_failing [] h = refl
 none_failing (x ∷ E) h = ap (λ rs. fold failing_step rs E) (step_none x h.0) ∙ none_failing E h.1
 
-abbrev IsClean : Moment → Type 0
+abbrev pub IsClean : Moment → Type 0
 IsClean m = NoneFails (last_epoch m.log).records
 
 clean_adds : (m n : Moment) (e : CoreState) (x : Record) → is_inside x ≡ true → is_fail x ≡ false → Adds m.log x e n.log n.core → IsClean m → IsClean n
@@ -141,7 +153,7 @@ names_none : (bases : Bases) (before : List Record) (m : Moment) (b r : ℕ) (rs
 names_none bases before m b r rs at none may = not_both (none r region.0 region.1) (may.stray r region.0 region.1 named)
   where
     within : r < length m.core.regions
-    within = omega (arith, ltb-true r (regions m.core.system.sizes) (and_left (nat_lt r (regions m.core.system.sizes)) (list_all (λ q. nat_lt q (regions m.core.system.sizes)) rs) may.numbers), (runs_at bases before m at).whole)
+    within = omega (arith, ltb-true r (regions m.core.system.sizes) (and_left (nat_lt r (regions m.core.system.sizes)) (list_all (λ q. nat_lt q (regions m.core.system.sizes)) rs) may.may.numbers), (runs_at bases before m at).whole)
 
     region : (g : RegionState) × (slice_get m.core.regions r ≡ Some g)
     region = found m.core.regions r within
@@ -162,17 +174,22 @@ step_clean bases before m n (Commits t) at none s = clean_adds m n _ (Commit t) 
 step_clean bases before m n (Ends t) at none s = clean_adds m n _ (Ended t) refl refl s.0.2
 step_clean bases before m n AuditBegins at none s = clean_adds m n _ AuditBegin refl refl s.0.2
 step_clean bases before m n (AuditEnds b []) at none s = clean_adds m n _ (AuditClean b) refl refl s.0.1
-step_clean bases before m n (AuditEnds b (r ∷ rs)) at none s = absurd (names_none bases before m b r rs at none s.0.0)
+step_clean bases before m n (AuditEnds b (r ∷ rs)) at none s = absurd (names_none bases before m b r rs at none (may_end_audit m.log m.core m.audits b (r ∷ rs) (runs_at bases before m at).whole at.audits s.0.0 s.2.0))
 step_clean bases before m n (Locks t k mode) at none s = clean_on m n s.0.2.0
 step_clean bases before m n (Refuses t k mode o) at none s = clean_on m n s.0.2.0
 step_clean bases before m n (OnRegion r x) at none s = clean_on m n s.0.3.0
-step_clean bases before m n (ChangesState t state) at none s = clean_on m n s.0.1.0
+step_clean bases before m n (Passes b r) at none s = clean_on m n s.0.2.0
+step_clean bases before m n (Dies t o) at none s = clean_on m n s.0.1.0
+step_clean bases before m n (Claims t) at none s = clean_on m n s.0.2.0
+step_clean bases before m n (GivesBack t o) at none s = clean_on m n s.0.1.0
+step_clean bases before m n (Recovers r) at none s = clean_on m n s.0.3.0
 step_clean bases before m n Stops at none s = clean_on m n s.0.1.0
 step_clean bases before m n (Checkpoints b) at none s = clean_on m n s.0.1.0
+step_clean bases before m n Takes at none s = clean_on m n s.0.0
 step_clean bases before m n Flushes at none s = clean_on m n s.0.1.0
 step_clean bases before m n (Faults k) at none s = clean_on m n s.0.2.0
 
-course_clean : (bases : Bases) (before : List Record) (m n : Moment) (xs : List Step) → RunsAt bases before m → list_any pokes xs ≡ false → IsCourse m xs n → NonePoked m.core.regions → IsClean m → IsClean n
+pub course_clean : (bases : Bases) (before : List Record) (m n : Moment) (xs : List Step) → RunsAt bases before m → list_any pokes xs ≡ false → IsCourse m xs n → NonePoked m.core.regions → IsClean m → IsClean n
 course_clean bases before m n [] at quiet s none clean = subst IsClean s clean
 course_clean bases before m n (x ∷ xs) at quiet s none clean = let p = or_parts (pokes x) (list_any pokes xs) quiet in course_clean bases before s.0 n xs (step_keeps bases before m s.0 x at s.1) p.1 s.2 (step_unpoked m s.0 x p.0 s.1 none) (step_clean bases before m s.0 x at none s.1 clean)
 
@@ -181,13 +198,13 @@ course_clean bases before m n (x ∷ xs) at quiet s none clean = let p = or_part
 left_epoch : (bases : Bases) (before : List Record) (m : Moment) (F : Files) → RunsAt bases before m → MayLeave m.leave F → (k : ℕ) × (last_epoch (log_in F) ≡ cut_to k (last_epoch m.log))
 left_epoch bases before m F at l = (is.count - (last_epoch m.log).first, ap last_epoch is.log ∙ ap (λ (q : Cut). q.now) (cut_parts m.log is.count (omega (arith, is.flushed, began, at.run.first)) is.within))
   where
-    is : IsPrefix m.log (stable m.core.system) F
-    is = subst (λ M. IsPrefix M (stable m.core.system) F) (sym at.log) (at.run.vault.prefix F l)
+    is : IsPrefix m.log (stable m.core) F
+    is = subst (λ M. IsPrefix M (stable m.core) F) (sym at.log) (at.run.vault.prefix F l)
 
     began : (last_epoch m.log).first ≤ length before
     began = subst (λ M. (last_epoch M).first ≤ length before) (sym at.log) at.run.began
 
-none_escapes : (bases : Bases) (before : List Record) (m : Moment) (F : Files) → RunsAt bases before m → MayLeave m.leave F → NonePoked m.core.regions → NoneEscapes (last_epoch (log_in F)) m.core
+pub none_escapes : (bases : Bases) (before : List Record) (m : Moment) (F : Files) → RunsAt bases before m → MayLeave m.leave F → NonePoked m.core.regions → NoneEscapes (last_epoch (log_in F)) m.core
 none_escapes bases before m F at l none = let w = left_epoch bases before m F at l in subst (λ (e : Epoch). NoneEscapes e m.core) (sym w.1) (unpoked_escapes_none bases m.log m.core w.0 runs unpoked)
   where
     runs : RunsOn bases m.log m.core
@@ -196,12 +213,12 @@ none_escapes bases before m F at l none = let w = left_epoch bases before m F at
     unpoked : IsUnpoked m.core
     unpoked r g e = (none r g e, (runs.regions r g e).protected.none_missed (none r g e))
 
-deletes_nobody : (bases : Bases) (before : List Record) (m : Moment) (F : Files) → RunsAt bases before m → MayLeave m.leave F → IsClean m → DeletesNobody F
+pub deletes_nobody : (bases : Bases) (before : List Record) (m : Moment) (F : Files) → RunsAt bases before m → MayLeave m.leave F → IsClean m → DeletesNobody F
 deletes_nobody bases before m F at l clean = let w = left_epoch bases before m F at l in subst (λ (e : Epoch). deleted_list e ≡ []) (sym w.1) (undamaged_deleted (cut_to w.0 (last_epoch m.log)) (none_failing (take w.0 (last_epoch m.log).records) (none_fails_take w.0 (last_epoch m.log).records clean)))
 
 pub unpoked_run_is_right : UnpokedRunIsRight
-unpoked_run_is_right L g limit v leave history rules none fits vault xs n quiet course F l = (
-  every_run_is_right L g limit v leave history rules none fits vault xs n course F l (none_escapes bases L n F there l (course_unpoked start n xs quiet course (none_loaded (recovered (sizes_of L) L)))),
+unpoked_run_is_right L g limit v leave history rules none fits vault flushed xs n quiet course F l = (
+  every_run_is_right L g limit v leave history rules none fits vault flushed xs n course F l (none_escapes bases L n F there l (course_unpoked start n xs quiet course (none_loaded (recovered (sizes_of L) L)))),
   deletes_nobody bases L n F there l (course_clean bases L start n xs begins quiet course (none_loaded (recovered (sizes_of L) L)) (subst NoneFails (sym none) tt)),
 )
   where
@@ -209,10 +226,10 @@ unpoked_run_is_right L g limit v leave history rules none fits vault xs n quiet 
     bases = λ k. recovered (sizes_of L) L
 
     start : Moment
-    start = record { log = L; core = new_core (sizes_of L) (recovered (sizes_of L) L) g limit v; leave = leave }
+    start = record { log = L; core = new_core (sizes_of L) (recovered (sizes_of L) L) g limit v; audits = no_audits; leave = leave }
 
     begins : RunsAt bases L start
-    begins = starts_run L g limit v leave history rules none fits vault
+    begins = starts_run L g limit v leave history rules none fits vault flushed
 
     there : RunsAt bases L n
     there = course_keeps bases L start n xs begins course
@@ -224,9 +241,10 @@ cleaned_poked B g = refl
 
 store_unpoked : (st new : Stored) (x : StoreStep) → store_pokes x ≡ false → IsStoreStep st x new → NonePoked st.moment.core.regions → NonePoked new.moment.core.regions
 store_unpoked st new (Does x) quiet s = step_unpoked st.moment new.moment x quiet s.1
-store_unpoked st new Starts quiet s = as_was st.moment.core.regions new.moment.core.regions (ap (λ (z : Stored). z.moment.core.regions) s.3)
-store_unpoked st new (Copies r) quiet s = one_set st.moment.core.regions new.moment.core.regions r s.0 (cleaned (target st) s.0) (ap (λ (z : Stored). z.moment.core.regions) s.5) s.1 (cleaned_poked (target st) s.0)
-store_unpoked st new (Skips r) quiet s = as_was st.moment.core.regions new.moment.core.regions (ap (λ (z : Stored). z.moment.core.regions) s.4)
+store_unpoked st new Starts quiet s = as_was st.moment.core.regions new.moment.core.regions (ap (λ (z : Stored). z.moment.core.regions) s.1)
+store_unpoked st new Keeps quiet s = as_was st.moment.core.regions new.moment.core.regions (ap (λ (z : Stored). z.moment.core.regions) s.4)
+store_unpoked st new (Copies r n) quiet s = one_set st.moment.core.regions new.moment.core.regions r s.0 (cleaned (target st) s.0) (ap (λ (z : Stored). z.moment.core.regions) s.6) s.1 (cleaned_poked (target st) s.0)
+store_unpoked st new (Skips r n) quiet s = as_was st.moment.core.regions new.moment.core.regions (ap (λ (z : Stored). z.moment.core.regions) s.5)
 store_unpoked st new (WritesHead h) quiet s = as_was st.moment.core.regions new.moment.core.regions (ap (λ (z : Stored). z.moment.core.regions) s.2)
 store_unpoked st new Syncs quiet s = as_was st.moment.core.regions new.moment.core.regions (ap (λ (z : Stored). z.moment.core.regions) s.2)
 store_unpoked st new Turns quiet s = as_was st.moment.core.regions new.moment.core.regions (ap (λ (z : Stored). z.moment.core.regions) s.6)
@@ -236,15 +254,16 @@ store_unpoked st new (SyncFails n) quiet s = as_was st.moment.core.regions new.m
 store_unpoked st new (TurnFails n) quiet s = as_was st.moment.core.regions new.moment.core.regions (ap (λ (z : Stored). z.moment.core.regions) s.6)
 store_unpoked st new Finishes quiet s = as_was st.moment.core.regions new.moment.core.regions (ap (λ (z : Stored). z.moment.core.regions) s.1)
 
-store_course_unpoked : (st new : Stored) (xs : List StoreStep) → list_any store_pokes xs ≡ false → IsStoreCourse st xs new → NonePoked st.moment.core.regions → NonePoked new.moment.core.regions
+pub store_course_unpoked : (st new : Stored) (xs : List StoreStep) → list_any store_pokes xs ≡ false → IsStoreCourse st xs new → NonePoked st.moment.core.regions → NonePoked new.moment.core.regions
 store_course_unpoked st new [] quiet s none = subst (λ (k : Stored). NonePoked k.moment.core.regions) s none
 store_course_unpoked st new (x ∷ xs) quiet s none = let p = or_parts (store_pokes x) (list_any store_pokes xs) quiet in store_course_unpoked s.0 new xs p.1 s.2 (store_unpoked st s.0 x p.0 s.1 none)
 
 store_clean : (bases : Bases) (before : List Record) (st new : Stored) (x : StoreStep) → StoreRun bases before st → NonePoked st.moment.core.regions → IsStoreStep st x new → IsClean st.moment → IsClean new.moment
 store_clean bases before st new (Does x) run none s = step_clean bases before st.moment new.moment x run.run none s.1
-store_clean bases before st new Starts run none s = clean_on st.moment new.moment (ap (λ (z : Stored). z.moment.log) s.3)
-store_clean bases before st new (Copies r) run none s = clean_on st.moment new.moment (ap (λ (z : Stored). z.moment.log) s.5)
-store_clean bases before st new (Skips r) run none s = clean_on st.moment new.moment (ap (λ (z : Stored). z.moment.log) s.4)
+store_clean bases before st new Starts run none s = clean_on st.moment new.moment (ap (λ (z : Stored). z.moment.log) s.1)
+store_clean bases before st new Keeps run none s = clean_on st.moment new.moment (ap (λ (z : Stored). z.moment.log) s.4)
+store_clean bases before st new (Copies r n) run none s = clean_on st.moment new.moment (ap (λ (z : Stored). z.moment.log) s.6)
+store_clean bases before st new (Skips r n) run none s = clean_on st.moment new.moment (ap (λ (z : Stored). z.moment.log) s.5)
 store_clean bases before st new (WritesHead h) run none s = clean_on st.moment new.moment (ap (λ (z : Stored). z.moment.log) s.2)
 store_clean bases before st new Syncs run none s = clean_on st.moment new.moment (ap (λ (z : Stored). z.moment.log) s.2)
 store_clean bases before st new Turns run none s = clean_on st.moment new.moment (ap (λ (z : Stored). z.moment.log) s.6)
@@ -254,7 +273,7 @@ store_clean bases before st new (SyncFails n) run none s = clean_on st.moment ne
 store_clean bases before st new (TurnFails n) run none s = clean_on st.moment new.moment (ap (λ (z : Stored). z.moment.log) s.6)
 store_clean bases before st new Finishes run none s = clean_on st.moment new.moment (ap (λ (z : Stored). z.moment.log) s.1)
 
-store_course_clean : (bases : Bases) (before : List Record) (st new : Stored) (xs : List StoreStep) → StoreRun bases before st → list_any store_pokes xs ≡ false → IsStoreCourse st xs new → NonePoked st.moment.core.regions → IsClean st.moment → IsClean new.moment
+pub store_course_clean : (bases : Bases) (before : List Record) (st new : Stored) (xs : List StoreStep) → StoreRun bases before st → list_any store_pokes xs ≡ false → IsStoreCourse st xs new → NonePoked st.moment.core.regions → IsClean st.moment → IsClean new.moment
 store_course_clean bases before st new [] run quiet s none clean = subst (λ (k : Stored). IsClean k.moment) s clean
 store_course_clean bases before st new (x ∷ xs) run quiet s none clean = let p = or_parts (store_pokes x) (list_any store_pokes xs) quiet in store_course_clean bases before s.0 new xs (store_step_keeps bases before st s.0 x run s.1) p.1 s.2 (store_unpoked st s.0 x p.0 s.1 none) (store_clean bases before st s.0 x run none s.1 clean)
 

@@ -2,10 +2,10 @@
 use Rattle.std.proofs.Common.{◌≡◌, true, List, [], ◌∷◌, refl, ap, ℕ, ◌++◌, sym, arith, zero, suc, ◌<◌, Some, false, Option, None, ◌∙◌}
 use Rattle.std.specs.Prelude.{◌==◌, replicate, slice_get, is_some}
 use Rattle.dali_record.specs.declared.records.Record.{Record}
-use Rattle.dali_record.specs.declared.records.Record.TheVariants.{Format, Begin, Commit, Done, Op as Forward}
+use Rattle.dali_record.specs.declared.records.Record.TheVariants.{Format, Begin, Commit, Done, Forward}
 use Rattle.dali_counts.proofs.Lists.{equal, and_left, and_right, some_same}
 use Rattle.dali_system.specs.Worked.{small, first_log, first_vault, is_format, start}
-use Rattle.dali_system.proofs.Worked.{format_is, first_store}
+use Rattle.dali_system.proofs.Worked.{format_is, first_store, logs_by, alive_by}
 use Rattle.dali_crash.specs.Worked.{is_first_commit, two_batches, look, steps, WorkedRun}
 use Rattle.dali_record.specs.declared.records.Call.TheVariants.{Get}
 use Rattle.dali_record.specs.declared.records.Answer.TheVariants.{Missing}
@@ -13,11 +13,11 @@ use Rattle.dali_record.specs.Files.{Files}
 use Rattle.dali_region.specs.State.{RegionState, loaded, latched, with_reads, touched}
 use Rattle.dali_locks.specs.declared.mode.Mode.TheVariants.{Shared, Exclusive}
 use Rattle.dali_system.specs.Run.{log_in, blocks_on, covers}
-use Rattle.dali_system.specs.Steps.{begun, commit_logged, op_logged, done_logged, granted, flushed}
+use Rattle.dali_system.specs.Steps.{begun, commit_logged, op_logged, done_logged, granted, taken}
 use Rattle.dali_system.specs.Keeps.{with_system, with_region, with_touched}
 use Rattle.dali_system.specs.Regions.{Latch, NoteReads}
 use Rattle.dali_system.specs.Flushes.{with_vault, longer, frame_of}
-use Rattle.dali_system.specs.Courses.{Begins, Operates, Answers, Commits, Locks, OnRegion, Flushes, Moment, IsStepAt, IsCourse}
+use Rattle.dali_system.specs.Courses.{Begins, Operates, Answers, Commits, Locks, OnRegion, Takes, Flushes, Moment, IsStepAt, IsCourse}
 use Rattle.dali_system.proofs.Loads.{no_lock}
 use Rattle.dali_record.specs.Blocks.{AreWords}
 use Rattle.dali_record.specs.Spelling.{IsBlock}
@@ -32,7 +32,9 @@ use Rattle.dali_crash.specs.Restarts.{RestartsRight}
 use Rattle.std.specs.FinMap.{get}
 use Rattle.dali_att.specs.Table.{fresh_row}
 use Rattle.dali_system.proofs.Tables.{added}
-use Rattle.dali_system.specs.State.{TxnRow, lock_of}
+use Rattle.dali_system.proofs.RowStates.{begun_state, op_state}
+use Rattle.dali_att.specs.declared.state.State.TheVariants.{Live}
+use Rattle.dali_system.specs.State.{TxnRow, state_of, lock_of}
 use Rattle.dali_locks.specs.declared.mode.Mode.{Mode}
 use Rattle.dali_locks.specs.Locks.{stronger_mode}
 use Rattle.dali_locks.proofs.Changes.{get-locks_with}
@@ -51,23 +53,28 @@ abbrev first : Moment
 first = start (formatted_image small)
 
 abbrev begun_1 : Moment
-begun_1 = record { log = first_log ++ Begin 1 ∷ []; core = with_system first.core (begun first.core.system); leave = first.leave }
+begun_1 = record { log = first_log ++ Begin 1 ∷ []; core = with_system first.core (begun first.core.system); audits = first.audits; leave = first.leave }
 
 abbrev committed_1 : Moment
-committed_1 = record { log = begun_1.log ++ Commit 1 ∷ []; core = with_system begun_1.core (commit_logged begun_1.core.system 1); leave = first.leave }
+committed_1 = record { log = begun_1.log ++ Commit 1 ∷ []; core = with_system begun_1.core (commit_logged begun_1.core.system 1); audits = first.audits; leave = first.leave }
 
+abbrev taken_1 : Moment
+taken_1 = record { log = committed_1.log; core = with_system committed_1.core (taken committed_1.core.system); audits = committed_1.audits; leave = first.leave }
+
+abbrev begun_2 : Moment
+begun_2 = record { log = taken_1.log ++ Begin 2 ∷ []; core = with_system taken_1.core (begun taken_1.core.system); audits = taken_1.audits; leave = first.leave }
+
+-- the begin of transaction 2 isn't in the frame
 abbrev flushed_1 : Moment
 flushed_1 = record {
-  log = committed_1.log;
-  core = with_vault committed_1.core (flushed committed_1.core.system) (longer committed_1.core.vault (frame_of committed_1.log committed_1.core.system));
+  log = begun_2.log;
+  core = with_vault begun_2.core (longer begun_2.core.vault (frame_of begun_2.log begun_2.core));
+  audits = begun_2.audits;
   leave = λ F. two_batches F.batches;
 }
 
-abbrev begun_2 : Moment
-begun_2 = record { log = flushed_1.log ++ Begin 2 ∷ []; core = with_system flushed_1.core (begun flushed_1.core.system); leave = flushed_1.leave }
-
 abbrev locked : Moment
-locked = record { log = begun_2.log; core = with_system begun_2.core (granted begun_2.core.system 2 5 Shared); leave = flushed_1.leave }
+locked = record { log = begun_2.log; core = with_system flushed_1.core (granted flushed_1.core.system 2 5 Shared); audits = flushed_1.audits; leave = flushed_1.leave }
 
 abbrev words : List ℕ
 words = replicate 64 0
@@ -76,42 +83,51 @@ abbrev held : RegionState
 held = latched 2 (loaded words)
 
 abbrev latch : Moment
-latch = record { log = begun_2.log; core = with_region locked.core 0 held; leave = flushed_1.leave }
+latch = record { log = begun_2.log; core = with_region locked.core 0 held; audits = flushed_1.audits; leave = flushed_1.leave }
 
 abbrev opened : RegionState
 opened = with_reads look.read held
 
 abbrev read : Moment
-read = record { log = begun_2.log; core = with_region latch.core 0 opened; leave = flushed_1.leave }
+read = record { log = begun_2.log; core = with_region latch.core 0 opened; audits = flushed_1.audits; leave = flushed_1.leave }
 
 abbrev operated : Moment
-operated = record { log = begun_2.log ++ Forward 2 look ∷ []; core = with_touched read.core (op_logged read.core.system 2 look) 0 opened; leave = flushed_1.leave }
+operated = record { log = begun_2.log ++ Forward 2 look ∷ []; core = with_touched read.core (op_logged read.core.system 2 look) 0 opened; audits = flushed_1.audits; leave = flushed_1.leave }
 
 abbrev answered : Moment
-answered = record { log = operated.log ++ Done 2 (Get 5) Missing ∷ []; core = with_system operated.core (done_logged operated.core.system 2 (Get 5) Missing); leave = flushed_1.leave }
+answered = record { log = operated.log ++ Done 2 (Get 5) Missing ∷ []; core = with_system operated.core (done_logged operated.core.system 2 (Get 5) Missing); audits = flushed_1.audits; leave = flushed_1.leave }
 
 -- ---- each step
 step_1 : IsStepAt first Begins begun_1
-step_1 = ((record { runs = refl; room = omega arith }, (refl, refl)), λ F h. h)
+step_1 = ((record { runs = refl; room = omega arith }, (refl, refl)), (λ F h. h), refl)
 
 step_2 : IsStepAt begun_1 (Commits 1) committed_1
-step_2 = ((refl, refl, (refl, refl)), λ F h. h)
+step_2 = ((refl, record { next = refl; by = logs_by _ Live (Commit 1) (begun_state first.core.system 1) refl }, (refl, refl)), (λ F h. h), refl)
 
-step_3 : IsStepAt committed_1 Flushes flushed_1
-step_3 = ((refl, (refl, refl)), record { each = λ F h. (record F { batches = first_log ∷ [] }, refl, ap (λ bs. record F { batches = bs }) (two_are F.batches h)) })
+takes : IsStepAt committed_1 Takes taken_1
+takes = ((refl, refl), (λ F h. h), refl)
 
-step_4 : IsStepAt flushed_1 Begins begun_2
-step_4 = ((record { runs = refl; room = omega arith }, (refl, refl)), λ F h. h)
+step_3 : IsStepAt begun_2 Flushes flushed_1
+step_3 = ((refl, (refl, refl)), record { each = λ F h. (record F { batches = first_log ∷ [] }, refl, ap (λ bs. record F { batches = bs }) (two_are F.batches h)) }, refl)
 
-step_5 : IsStepAt begun_2 (Locks 2 5 Shared) locked
-step_5 = ((ap (λ (row : Option TxnRow). is_some row) (added flushed_1.core.system.table 2 fresh_row 2), (λ u n d e. absurd (no_lock u 5 n e)), (refl, refl)), λ F h. h)
+step_4 : IsStepAt taken_1 Begins begun_2
+step_4 = ((record { runs = refl; room = omega arith }, (refl, refl)), (λ F h. h), refl)
+
+step_5 : IsStepAt flushed_1 (Locks 2 5 Shared) locked
+step_5 = ((ap (λ (row : Option TxnRow). is_some row) (added taken_1.core.system.table 2 fresh_row 2), (λ u n d e. absurd (no_lock u 5 n e)), (refl, refl)), (λ F h. h), refl)
+
+live_locked : state_of locked.core.system 2 ≡ Some Live
+live_locked = begun_state taken_1.core.system 2
+
+live_operated : state_of operated.core.system 2 ≡ Some Live
+live_operated = op_state read.core.system 2 look 2 ∙ live_locked
 
 step_6 : IsStepAt locked (OnRegion 0 (Latch 2)) latch
-step_6 = ((loaded words, refl, refl, (refl, refl)), λ F h. h)
+step_6 = ((loaded words, refl, (refl, alive_by _ Live live_locked refl), (refl, refl)), (λ F h. h), refl)
 
 step_7 : IsStepAt latch (OnRegion 0 (NoteReads look.read)) read
 unfolding look entries
-step_7 = ((held, refl, ((refl, refl), omega arith), (refl, refl)), λ F h. h)
+step_7 = ((held, refl, (((refl, refl), omega arith), tt), (refl, refl)), (λ F h. h), refl)
 
 are_words : AreWords words
 are_words = (refl, omega arith)
@@ -138,6 +154,7 @@ step_8 = (
       runs = refl;
       spelled = (omega arith, is_look, refl);
       next = refl;
+      by = logs_by _ Live (Forward 2 look) live_locked refl;
       kind = refl;
       locked = has_lock;
       at = refl;
@@ -145,15 +162,16 @@ step_8 = (
     },
     (refl, refl),
   ),
-  λ F h. h,
+  (λ F h. h),
+  refl,
 )
 
 step_9 : IsStepAt operated (Answers 2 (Get 5) Missing) answered
 unfolding look entries
-step_9 = ((record { runs = refl; room = omega arith }, (omega arith, omega arith, tt, refl), refl, (refl, refl)), λ F h. h)
+step_9 = ((record { runs = refl; room = omega arith }, (omega arith, omega arith, tt, refl), record { next = refl; by = logs_by _ Live (Done 2 (Get 5) Missing) live_operated refl }, (refl, refl)), (λ F h. h), refl)
 
 course : IsCourse first steps answered
-course = (begun_1, step_1, (committed_1, step_2, (flushed_1, step_3, (begun_2, step_4, (locked, step_5, (latch, step_6, (read, step_7, (operated, step_8, (answered, step_9, refl)))))))))
+course = (begun_1, step_1, (committed_1, step_2, (taken_1, takes, (begun_2, step_4, (flushed_1, step_3, (locked, step_5, (latch, step_6, (read, step_7, (operated, step_8, (answered, step_9, refl))))))))))
 
 -- ---- what is left
 crash : Files
@@ -162,7 +180,7 @@ crash = record { batches = first_log ∷ (Begin 1 ∷ Commit 1 ∷ []) ∷ []; g
 right : RestartsRight first_log answered.core crash
 unfolding crash look entries
 right =
-    every_run_is_right first_log (passes rules_start (Format 1 1)) 1000000 first_vault first.leave (format_is_history small (refl, refl)) refl refl (omega arith) first_store
+    every_run_is_right first_log (passes rules_start (Format 1 1)) 1000000 first_vault first.leave (format_is_history small (refl, refl)) refl refl (omega arith) first_store refl
     steps answered course crash refl
     (record { seen = λ r g e. not_missed r g e; named = λ r g e h. absurd (none_lost r g e h) })
   where

@@ -14,26 +14,27 @@ use Rattle.std.specs.Prelude.{◌≡◌, ℕ, true, false, List, [], ◌∷◌, 
 use Rattle.dali_record.specs.Files.{Files}
 use Rattle.dali_system.specs.Courses.{MayLeave}
 use Rattle.dali_system.specs.Worked.{first_log}
-use Rattle.dali_crash.specs.Checkpoints.{Stored, StoreStep, Starts, Copies, Skips, CopyFails, HeadFails, SyncFails, TurnFails, Finishes, IsStoreCourse}
+use Rattle.dali_crash.specs.Checkpoints.{Stored, StoreStep, Starts, Keeps, Copies, Skips, CopyFails, HeadFails, SyncFails, TurnFails, Finishes, IsStoreCourse}
 use Rattle.dali_crash.specs.StoreRuns.{CrashIsRightWith}
 use Rattle.dali_crash.specs.Checkpointed.{no_head, checkpoint_start, checkpoint_steps}
 
--- the copy of region 0 stands, and what is read of region 1 is torn; so the checkpoint is given up
+-- the copy of region 0 stands, and stays up to date at the start's count, for the audit's begin is no block; what is read of region 1 is torn;
+-- so the checkpoint is given up
 abbrev pub copy_fails : List StoreStep
-copy_fails = take 6 checkpoint_steps ++ Skips 0 ∷ CopyFails 1 (7 ∷ []) 1 ∷ Finishes ∷ []
+copy_fails = take 9 checkpoint_steps ++ Skips 0 4 ∷ CopyFails 1 (7 ∷ []) 1 ∷ Finishes ∷ []
 
 abbrev pub head_fails : List StoreStep
-head_fails = take 7 checkpoint_steps ++ HeadFails no_head 1 ∷ []
+head_fails = take 10 checkpoint_steps ++ HeadFails no_head 1 ∷ []
 
 abbrev pub sync_fails : List StoreStep
-sync_fails = take 13 checkpoint_steps ++ SyncFails 1 ∷ []
+sync_fails = take 16 checkpoint_steps ++ SyncFails 1 ∷ []
 
 abbrev pub turn_fails : List StoreStep
-turn_fails = take 14 checkpoint_steps ++ TurnFails 1 ∷ []
+turn_fails = take 17 checkpoint_steps ++ TurnFails 1 ∷ []
 
 -- it is given up behind the copy of region 0, and another one starts, which skips that region
 abbrev pub starts_again : List StoreStep
-starts_again = take 6 checkpoint_steps ++ Finishes ∷ Starts ∷ Skips 0 ∷ Copies 1 ∷ []
+starts_again = take 8 checkpoint_steps ++ Finishes ∷ Starts ∷ Keeps ∷ Skips 0 4 ∷ Copies 1 4 ∷ []
 
 pub record FailsRight (xs : List StoreStep) (gates : ℕ) : Type 0 where
   pub finish : Stored

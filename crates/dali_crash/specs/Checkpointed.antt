@@ -1,6 +1,6 @@
 -- A worked checkpoint: a store of one index region and one heap region is formatted; transaction 1 begins, commits
--- and ends, and is flushed; a checkpoint starts, copies both regions, writes its head; an audit passes both regions
--- and ends clean; its end is flushed, the image synced, and the anchor moves.
+-- and ends; a checkpoint starts, flushes the log and copies region 0; an audit begins; the checkpoint copies region 1,
+-- which no block has changed since the start, and writes its head; the audit passes both regions and ends clean; its end is flushed, the image synced, and the anchor moves.
 --     same_words, same_image   tests of equality
 --     is_unmoved F, is_moved F      the files but for their batches, before the anchor moved and after it
 --     checkpoint_start, checkpoint_steps   the store right after the format, and the steps
@@ -12,10 +12,9 @@ use Rattle.dali_record.specs.declared.records.Record.{Record}
 use Rattle.dali_record.specs.declared.records.Record.TheVariants.{Format, Begin, Commit, Ended, AuditBegin, AuditClean}
 use Rattle.dali_record.specs.Legal.{passes, rules_start}
 use Rattle.dali_record.specs.Files.{Files, Row}
-use Rattle.dali_system.specs.Regions.{Check}
-use Rattle.dali_system.specs.Courses.{Begins, Commits, Ends, AuditBegins, AuditEnds, OnRegion, Flushes, MayLeave}
+use Rattle.dali_system.specs.Courses.{Begins, Commits, Ends, AuditBegins, AuditEnds, Passes, Takes, Flushes, MayLeave}
 use Rattle.dali_system.specs.Worked.{small, first_log, first_vault, is_format, one_batch}
-use Rattle.dali_crash.specs.Checkpoints.{Head, Stored, StoreStep, Does, Starts, Copies, WritesHead, Syncs, Turns, Finishes, IsStoreCourse}
+use Rattle.dali_crash.specs.Checkpoints.{Head, Stored, StoreStep, Does, Starts, Keeps, Copies, WritesHead, Syncs, Turns, Finishes, IsStoreCourse}
 use Rattle.dali_crash.specs.StoreRuns.{stored_start, CrashIsRightWith}
 
 abbrev pub same_words : List ℕ → List ℕ → Bool
@@ -72,9 +71,9 @@ checkpoint_start = stored_start first_log (passes rules_start (Format 1 1)) 1000
 
 abbrev pub checkpoint_steps : List StoreStep
 checkpoint_steps =
-    Does Begins ∷ Does (Commits 1) ∷ Does (Ends 1) ∷ Does Flushes
-    ∷ Starts ∷ Copies 0 ∷ Copies 1 ∷ WritesHead new_head
-    ∷ Does AuditBegins ∷ Does (OnRegion 0 Check) ∷ Does (OnRegion 1 Check) ∷ Does (AuditEnds 4 []) ∷ Does Flushes
+    Does Begins ∷ Does (Commits 1) ∷ Does (Ends 1)
+    ∷ Starts ∷ Does Takes ∷ Does Flushes ∷ Keeps ∷ Copies 0 4 ∷ Does AuditBegins ∷ Copies 1 4 ∷ WritesHead new_head
+    ∷ Does (Passes 4 0) ∷ Does (Passes 4 1) ∷ Does (AuditEnds 4 []) ∷ Does Takes ∷ Does Flushes
     ∷ Syncs ∷ Turns ∷ Finishes ∷ []
 
 pub record WorkedCheckpoint : Type 0 where

@@ -7,10 +7,11 @@
 --     side_of n                the side of the checkpoint with the number n: A where it is odd
 --     image_side c             the side of the current image after c checkpoints, if there is one
 --     target st                the side of the next checkpoint
---     head_now L c             what a checkpoint keeps that starts here
+--     head_now L c             what a checkpoint keeps, once all records are flushed
 --     turned D h image         the files D once the anchor names this image
 --     IsTurnedFrom, IsOverwritten          what becomes of files then, and by a write to their image
 --     MayHold st side h image  what a crash may leave of an image file
+--     IsUntouched L r n        no block on region r stands among the records from n on
 --     IsWritten, IsTurned, IsTurning       what a crash may leave after a write to an image file, and after and inside
 --                              the anchor's move
 --     IsCertified h b c        an audit passed the place, which was brought up to date since the start
@@ -19,7 +20,7 @@
 --     MayWrite st              the vault runs, and a checkpoint has begun whose anchor hasn't moved
 --     StoreStep, IsStoreStep st x new      the kinds of step, and when one leads from st to new
 --     IsStoreCourse st xs new  these steps, one after another
-use Rattle.std.specs.Prelude.{◌≡◌, ℕ, ◌+◌, ◌%◌, ◌<◌, ◌≤◌, Bool, true, false, ◌&&◌, ◌||◌, ◌==◌, ◌⊎◌, if◌then◌else◌, List, [], ◌∷◌, Option, Some, None, is_some, map, length, slice_get}
+use Rattle.std.specs.Prelude.{◌≡◌, ℕ, ◌+◌, ◌%◌, ◌<◌, ◌≤◌, Bool, true, false, ◌&&◌, ◌||◌, ◌==◌, ◌⊎◌, if◌then◌else◌, List, [], ◌∷◌, Option, Some, None, is_some, map, length, drop, slice_get}
 use Rattle.std.specs.List.{range_with_len}
 use Rattle.dali_geometry.specs.Sizes.{Sizes}
 use Rattle.dali_geometry.specs.Places.{regions}
@@ -32,12 +33,11 @@ use Rattle.dali_region.specs.declared.Side.TheVariants.{A, B}
 use Rattle.dali_region.specs.State.{RegionState}
 use Rattle.dali_region.specs.Answers.{is_dirty, cleaned}
 use Rattle.dali_system.specs.State.{CoreState, stable}
-use Rattle.dali_system.specs.Run.{HasRisen}
-use Rattle.dali_system.specs.Regions.{Check}
+use Rattle.dali_system.specs.Run.{HasRisen, blocks_on}
 use Rattle.dali_system.specs.Keeps.{with_system, with_region}
 use Rattle.dali_system.specs.Steps.{in_checkpoint}
 use Rattle.dali_system.specs.Flushes.{with_vault, faulted}
-use Rattle.dali_system.specs.Courses.{Step, OnRegion, Checkpoints, Moment, MayLeave, IsStepAt}
+use Rattle.dali_system.specs.Courses.{Step, OnRegion, Passes, Checkpoints, Moment, MayLeave, IsStepAt}
 use Rattle.dali_system.specs.Images.{Told}
 use Rattle.dali_system.specs.ImageSteps.{clears, same_side, told_with}
 
@@ -59,7 +59,7 @@ pub record Stored : Type 0 where
   pub heads : Side → Head
   -- whether a sync that succeeded came after the last write
   pub synced : Side → Bool
-  -- what the checkpoint under way kept at its start, until its anchor moves
+  -- what the checkpoint under way kept, until its anchor moves
   pub begun : Option Head
   pub copies : Side → ℕ → Option Copy
 
@@ -82,7 +82,7 @@ synced_with synced side b s = if same_side s side then b else synced s
 abbrev pub copies_with : (Side → ℕ → Option Copy) → Side → ℕ → Option Copy → Side → ℕ → Option Copy
 copies_with copies side r k s q = if same_side s side && (q == r) then k else copies s q
 
--- ---- what a checkpoint keeps at its start, all records being flushed
+-- ---- what a checkpoint keeps, all records being flushed
 abbrev pub head_now : List Record → CoreState → Head
 head_now L c = record {
   number = c.vault.current + 1;
@@ -98,9 +98,9 @@ abbrev pub answers_none : Option RegionState → Bool
 answers_none (Some g) = g.stray == 0
 answers_none _ = false
 
--- whether the step is a check of region q that answers 0
+-- whether the step is an audit's pass of region q that answers 0
 abbrev pub passes_region : CoreState → Step → ℕ → Bool
-passes_region c (OnRegion r Check) q = (q == r) && answers_none (slice_get c.regions r)
+passes_region c (Passes b r) q = (q == r) && answers_none (slice_get c.regions r)
 passes_region c _ q = false
 
 abbrev pub pass_copy : Bool → Option Copy → Option Copy
@@ -171,7 +171,7 @@ pub record MayTurn (st : Stored) (h : Head) (b k : ℕ) : Type 0 where
   pub synced : st.synced (target st) ≡ true
   pub clean : slice_get st.moment.log k ≡ Some (AuditClean b)
   pub ends : b ≤ k
-  pub flushed : k < stable st.moment.core.system
+  pub flushed : k < stable st.moment.core
   pub copies : (r : ℕ) → r < regions st.moment.core.system.sizes
       → (c : Copy) × (st.copies (target st) r ≡ Some c) × IsCertified h b c
 
@@ -179,12 +179,15 @@ pub record MayTurn (st : Stored) (h : Head) (b k : ℕ) : Type 0 where
 pub data StoreStep : Type 0 where
   -- one that writes no image
   Does : (step : Step) → StoreStep
-  -- a checkpoint keeps the log's end, and which transactions run, where none is under way
+  -- a checkpoint starts, where none is under way
   Starts : StoreStep
-  -- a region that changed is written, without the updates of an open operation, and its flag cleared
-  Copies : (region : ℕ) → StoreStep
+  -- it keeps the log's end, and which transactions run, under the locks of system and vault, behind a flush of all records
+  Keeps : StoreStep
+  -- a region that changed is written, without the updates of an open operation, and its flag cleared; no block on it stands from the record
+  -- n on, so its place is up to date after n records
+  Copies : (region n : ℕ) → StoreStep
   -- a region that didn't change since it was written there
-  Skips : (region : ℕ) → StoreStep
+  Skips : (region n : ℕ) → StoreStep
   WritesHead : (head : Head) → StoreStep
   Syncs : StoreStep
   -- the anchor moves to the image, and nothing is kept any more
@@ -202,14 +205,19 @@ core_of st = st.moment.core
 
 -- the moment with another core, and with what a crash leaves now
 abbrev pub moment_with : Stored → CoreState → (Files → Bool) → Moment
-moment_with st c leave = record { log = st.moment.log; core = c; leave = leave }
+moment_with st c leave = record { log = st.moment.log; core = c; audits = st.moment.audits; leave = leave }
 
 abbrev pub with_current : CoreState → CoreState
-with_current c = with_vault c c.system (record c.vault { current = c.vault.current + 1 })
+with_current c = with_vault c (record c.vault { current = c.vault.current + 1 })
 
--- up to date after all records so far
-abbrev pub copy_now : Stored → Copy
-copy_now st = record { at = (core_of st).system.records; passed = false }
+-- no block on region r stands among the records from n on
+pub record IsUntouched (L : List Record) (r n : ℕ) : Type 0 where
+  pub within : n ≤ length L
+  pub none : blocks_on r (drop n L) ≡ 0
+
+-- up to date after n records
+abbrev pub copy_at : ℕ → Copy
+copy_at n = record { at = n; passed = false }
 
 abbrev pub with_flag : CoreState → Bool → CoreState
 with_flag c under_way = with_system c (in_checkpoint c.system under_way)
@@ -225,7 +233,7 @@ pub record IsFault (st : Stored) (faults : ℕ) : Type 0 where
   pub rose : HasRisen (core_of st).vault.faults faults
 
 abbrev pub with_fault : CoreState → ℕ → CoreState
-with_fault c faults = with_vault c c.system (faulted c.vault faults)
+with_fault c faults = with_vault c (faulted c.vault faults)
 
 abbrev pub Fewer : Stored → Stored → Type 0
 Fewer st new = (F : Files) → MayLeave new.moment.leave F → MayLeave st.moment.leave F
@@ -238,24 +246,25 @@ IsStoreStep st (Does x) new =
     (is_of_checkpoint x ≡ false) × IsStepAt st.moment x new.moment
     × (new ≡ record st { moment = new.moment; copies = copies_after (core_of st) x st.copies })
 IsStoreStep st Starts new =
-    ((core_of st).vault.stopped ≡ false) × ((core_of st).system.checking ≡ false)
-    × (stable (core_of st).system ≡ (core_of st).system.records)
-    × (new ≡ record st {
-      moment = moment_with st (with_flag (core_of st) true) st.moment.leave;
-      begun = Some (head_now st.moment.log (core_of st));
-    })
-IsStoreStep st (Copies r) new =
+    ((core_of st).system.checking ≡ false)
+    × (new ≡ record st { moment = moment_with st (with_flag (core_of st) true) st.moment.leave })
+IsStoreStep st Keeps new =
+    ((core_of st).vault.stopped ≡ false) × ((core_of st).system.checking ≡ true) × (st.begun ≡ None)
+    × (stable (core_of st) ≡ (core_of st).system.records)
+    × (new ≡ record st { begun = Some (head_now st.moment.log (core_of st)) })
+IsStoreStep st (Copies r n) new =
     (g : RegionState) × (slice_get (core_of st).regions r ≡ Some g)
-    × MayWrite st × (is_dirty g (target st) ≡ true) × Writes st new
+    × MayWrite st × (is_dirty g (target st) ≡ true) × IsUntouched st.moment.log r n × Writes st new
     × (new ≡ record st {
       moment = moment_with st (with_region (core_of st) r (cleaned (target st) g)) new.moment.leave;
       told = told_with st.told (target st) r g.back;
       synced = synced_with st.synced (target st) false;
-      copies = copies_with st.copies (target st) r (Some (copy_now st));
+      copies = copies_with st.copies (target st) r (Some (copy_at n));
     })
-IsStoreStep st (Skips r) new =
-    (g : RegionState) × (slice_get (core_of st).regions r ≡ Some g) × (is_some st.begun ≡ true) × (is_dirty g (target st) ≡ false)
-    × (new ≡ record st { copies = copies_with st.copies (target st) r (Some (copy_now st)) })
+IsStoreStep st (Skips r n) new =
+    (g : RegionState) × (slice_get (core_of st).regions r ≡ Some g)
+    × (is_some st.begun ≡ true) × (is_dirty g (target st) ≡ false) × IsUntouched st.moment.log r n
+    × (new ≡ record st { copies = copies_with st.copies (target st) r (Some (copy_at n)) })
 IsStoreStep st (WritesHead h) new =
     MayWrite st × Writes st new
     × (new ≡ record st {

@@ -22,6 +22,6 @@ pub record DamagedRun : Type 0 where
   pub unsound : IsSoundAt (formatted_image small) (last_epoch (log_in crash)).records 3 → ⊥
   pub escapes : NoneEscapes (last_epoch (log_in crash)) finish.core
   pub right : RestartsRight first_log finish.core crash
-  pub acknowledged : IsAcknowledged first_log finish.core.system 2
+  pub acknowledged : IsAcknowledged first_log finish.core 2
   pub survive : survivors (log_in crash) ≡ 1 ∷ []
   pub deleted : IsDeletedByChain (log_in crash) 2

@@ -10,3 +10,4 @@ pub mod Damaged
 pub mod Unpoked
 pub mod CheckpointFaults
 pub mod Restarted
+pub mod Growth

@@ -19,7 +19,7 @@ use Rattle.dali_record.specs.declared.operations.Undo.TheVariants.{FreeCell as U
 use Rattle.dali_record.specs.declared.records.Call.TheVariants.{Insert}
 use Rattle.dali_record.specs.declared.records.Answer.TheVariants.{Ok as AnswerOk}
 use Rattle.dali_record.specs.declared.records.Record.{Record}
-use Rattle.dali_record.specs.declared.records.Record.TheVariants.{Format, Begin, Op as Forward, Done, Commit, Ended, Restarted}
+use Rattle.dali_record.specs.declared.records.Record.TheVariants.{Format, Begin, Forward, Done, Commit, Ended, Restarted}
 use Rattle.dali_record.specs.Blocks.{made}
 use Rattle.dali_record.specs.Epochs.{last_epoch}
 use Rattle.dali_record.specs.Legal.{Rules, sizes_of, rules_state}
@@ -29,7 +29,7 @@ use Rattle.dali_history.specs.Serial.{survivors}
 use Rattle.dali_history.specs.History.{IsHistory}
 use Rattle.dali_system.specs.State.{VaultState}
 use Rattle.dali_system.specs.Run.{log_in}
-use Rattle.dali_system.specs.Courses.{Step, Begins, Operates, Answers, Commits, Locks, Flushes, MayLeave}
+use Rattle.dali_system.specs.Courses.{Step, Begins, Operates, Answers, Commits, Locks, Takes, Flushes, MayLeave}
 use Rattle.dali_system.specs.Worked.{small, is_format, touching, stored}
 use Rattle.dali_crash.specs.Fitting.{recover_from}
 use Rattle.dali_crash.specs.Starts.{IsFreshStore}
@@ -50,7 +50,7 @@ restarted_rules = record { count = 5; weight = 46; next = 2; audits = []; closed
 
 -- three batches, of 15, 32 and 14 bytes
 abbrev pub restarted_vault : VaultState
-restarted_vault = record { stopped = false; end = 61; current = 1; faults_then = 0; faults = 0 }
+restarted_vault = record { stopped = false; end = 61; flushed = 0; current = 1; faults_then = 0; faults = 0 }
 
 abbrev pub is_restart : List Record → Bool
 is_restart (Restarted [] [] ∷ []) = true
@@ -140,7 +140,7 @@ inserts =
     ++ touching 2 look [] (Operates 2 look)
     ++ touching 2 put put_writes (Operates 2 put)
     ++ touching 2 add add_writes (Operates 2 add)
-    ++ Answers 2 (Insert 5 (0 ∷ [])) AnswerOk ∷ Commits 2 ∷ Flushes ∷ []
+    ++ Answers 2 (Insert 5 (0 ∷ [])) AnswerOk ∷ Commits 2 ∷ Takes ∷ Flushes ∷ []
 
 pub record WorkedRestart : Type 0 where
   pub history : IsHistory restarted_log

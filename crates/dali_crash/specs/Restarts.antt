@@ -28,6 +28,7 @@ use Rattle.dali_system.specs.Run.{Bases, base_at, log_in, RunsOn, IsRun, VaultRu
 use Rattle.dali_system.specs.Crashes.{NoneEscapes, IsAcknowledged}
 use Rattle.dali_record.specs.Spelling.{CanBeSpelled}
 use Rattle.dali_system.specs.Loads.{new_core}
+use Rattle.dali_system.specs.Passes.{no_audits}
 use Rattle.dali_system.specs.Courses.{Step, Moment, MayLeave, IsCourse}
 
 pub record HasRightBase (bases : Bases) (s : Sizes) (L : List Record) : Type 0 where
@@ -61,7 +62,7 @@ CrashIsRight =
 pub record RestartsRight (before : List Record) (c : CoreState) (F : Files) : Type 0 where
   pub history : IsHistory (log_in F)
   pub right : RestartIsRight (log_in F)
-  pub keeps : (t : ℕ) → IsAcknowledged before c.system t
+  pub keeps : (t : ℕ) → IsAcknowledged before c t
       → Contains (committed (log_in F)) t × (Contains (survivors (log_in F)) t ⊎ IsDeletedByChain (log_in F) t)
 
 -- what a crash may leave is given by a test, since a clause can't range over all relations
@@ -76,13 +77,13 @@ RunIsRight =
 abbrev pub FlushedStays : Type 0
 FlushedStays =
     (bases : Bases) (before : List Record) (leave : Files → Bool) (c : CoreState) (k : ℕ) (x : Record) → IsRun bases before (λ F. leave F ≡ true) c
-    → k < stable c.system → slice_get (log_after before c.system) k ≡ Some x
+    → k < stable c → slice_get (log_after before c.system) k ≡ Some x
     → (F : Files) → leave F ≡ true → slice_get (log_in F) k ≡ Some x
 
 abbrev pub AcknowledgedStays : Type 0
 AcknowledgedStays =
     (bases : Bases) (before : List Record) (leave : Files → Bool) (c : CoreState) (t : ℕ) → IsRun bases before (λ F. leave F ≡ true) c
-    → IsAcknowledged before c.system t
+    → IsAcknowledged before c t
     → (F : Files) → leave F ≡ true → Contains (committed (log_in F)) t
 
 -- ---- along steps
@@ -101,7 +102,7 @@ abbrev pub EveryRunIsRight : Type 0
 EveryRunIsRight =
     (L : List Record) (g : Rules) (limit : ℕ) (v : VaultState) (leave : Files → Bool)
     → IsHistory L → rules_state (sizes_of L) L ≡ Some g → (last_epoch L).records ≡ []
-    → limit ≤ 268435456 → VaultRun (MayLeave leave) L (length L) v
-    → (xs : List Step) (n : Moment) → IsCourse (record { log = L; core = new_core (sizes_of L) (recovered (sizes_of L) L) g limit v; leave = leave }) xs n
+    → limit ≤ 268435456 → VaultRun (MayLeave leave) L (length L) v → v.flushed ≡ 0
+    → (xs : List Step) (n : Moment) → IsCourse (record { log = L; core = new_core (sizes_of L) (recovered (sizes_of L) L) g limit v; audits = no_audits; leave = leave }) xs n
     → (F : Files) → MayLeave n.leave F → NoneEscapes (last_epoch (log_in F)) n.core
     → RestartsRight L n.core F

@@ -60,6 +60,7 @@ pub record IsFresh (L : List Record) (F : Files) : Type 0 where
 
 pub record IsFreshStore (L : List Record) (v : VaultState) (leave : Files → Type 0) : Type 0 where
   pub runs : v.stopped ≡ false
+  pub flushed : v.flushed ≡ 0
   pub faults : v.faults_then ≤ v.faults
   pub faults_fit : v.faults_then < 2 ^ 64
   pub files : (F : Files) → leave F → IsFresh L F

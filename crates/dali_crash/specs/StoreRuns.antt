@@ -1,6 +1,6 @@
 -- Runs with their store, from a format or a restart on.
 --     IsCopied base e r g k ws what is known of a region's place in an image file, which reads the words ws
---     IsKept L v leave h       what a checkpoint kept at its start belongs to the records before
+--     IsKept L v leave h       what a checkpoint kept belongs to the records before
 --     StoreRun bases before st the core is a run, each crash image fits the log that it has, and these hold
 --     StoreStepKeeps, StoreCourseKeeps     each step, and each list of steps, keeps it
 --     TurnEnds                 what is true once the anchor moved
@@ -16,7 +16,7 @@
 --     FlagChanges              so it is at each step
 --     LeavesImages st new      the image files are left, and all of a crash image but its batches
 --     IdleLeavesImages         where none keeps anything, a step leaves the image files and the current number
---     KeptStays                what a checkpoint kept at its start stays until it is given up or its anchor moves
+--     KeptStays                what a checkpoint kept stays until it is given up or its anchor moves
 --     IsLeft st new side       the file of this side was synced, and reads as it did
 --     SyncedStays              so it is after each step but a sync that leaves the file synced
 --     EveryStoreRunIsRight     from a format or a restart on, after any list of steps, each crash image fits and
@@ -36,6 +36,7 @@ use Rattle.dali_system.specs.State.{VaultState, CoreState}
 use Rattle.dali_system.specs.Run.{Bases, log_in}
 use Rattle.dali_system.specs.Loads.{new_core}
 use Rattle.dali_system.specs.Crashes.{NoneEscapes}
+use Rattle.dali_system.specs.Passes.{no_audits}
 use Rattle.dali_system.specs.Courses.{MayLeave, RunsAt}
 use Rattle.dali_system.specs.Images.{Told, FitsBut, is_missed, ImageRun}
 use Rattle.dali_crash.specs.Restarts.{RestartsRight}
@@ -46,7 +47,6 @@ use Rattle.dali_crash.specs.Checkpoints.{Head, Copy, Stored, StoreStep, Starts, 
 -- ---- what is known of a place in an image file
 -- it reads the words that the blocks below number n leave
 pub record IsSettledAt (base : List (List ℕ)) (e : Epoch) (r n : ℕ) (ws : List ℕ) : Type 0 where
-  pub from : e.first ≤ n
   pub to : n ≤ next_number e
   pub words : ws ≡ settled_before base e r n
 
@@ -58,7 +58,7 @@ pub record IsStray (g : RegionState) (passed : Bool) : Type 0 where
 abbrev pub IsCopied : List (List ℕ) → Epoch → ℕ → RegionState → Copy → List ℕ → Type 0
 IsCopied base e r g k ws = IsSettledAt base e r k.at ws ⊎ IsStray g k.passed
 
--- ---- what a checkpoint kept at its start
+-- ---- what a checkpoint kept
 -- the place is between two batches of the files, behind just n records
 abbrev pub IsPlace : Files → ℕ → ℕ → Type 0
 IsPlace F n place =
@@ -121,7 +121,7 @@ TurnEnds =
 -- nothing is known of the image files, and no checkpoint is under way
 abbrev pub stored_start : List Record → Rules → ℕ → VaultState → (Files → Bool) → Told → (Side → Head) → (Side → Bool) → Stored
 stored_start L g limit v leave told heads synced = record {
-  moment = record { log = L; core = new_core (sizes_of L) (recovered (sizes_of L) L) g limit v; leave = leave };
+  moment = record { log = L; core = new_core (sizes_of L) (recovered (sizes_of L) L) g limit v; audits = no_audits; leave = leave };
   told = told;
   heads = heads;
   synced = synced;
@@ -189,7 +189,7 @@ IdleLeavesImages = (st new : Stored) (x : StoreStep) → st.begun ≡ None → I
 
 -- what a checkpoint kept stays, until nothing is kept any more
 abbrev pub KeptStays : Type 0
-KeptStays = (st new : Stored) (x : StoreStep) (h : Head) → FlagTells st → st.begun ≡ Some h → IsStoreStep st x new → (new.begun ≡ Some h) ⊎ (new.begun ≡ None)
+KeptStays = (st new : Stored) (x : StoreStep) (h : Head) → st.begun ≡ Some h → IsStoreStep st x new → (new.begun ≡ Some h) ⊎ (new.begun ≡ None)
 
 -- the file was synced, and reads as it did
 pub record IsLeft (st new : Stored) (side : Side) : Type 0 where

@@ -17,6 +17,7 @@ use Rattle.dali_system.specs.State.{VaultState}
 use Rattle.dali_system.specs.Run.{log_in, VaultRun}
 use Rattle.dali_system.specs.Regions.{RegionStep, Poke}
 use Rattle.dali_system.specs.Loads.{new_core}
+use Rattle.dali_system.specs.Passes.{no_audits}
 use Rattle.dali_system.specs.Courses.{Step, OnRegion, Moment, MayLeave, IsCourse}
 use Rattle.dali_system.specs.Images.{Told}
 use Rattle.dali_crash.specs.Restarts.{RestartsRight}
@@ -44,9 +45,9 @@ abbrev pub UnpokedRunIsRight : Type 0
 UnpokedRunIsRight =
     (L : List Record) (g : Rules) (limit : ℕ) (v : VaultState) (leave : Files → Bool)
     → IsHistory L → rules_state (sizes_of L) L ≡ Some g → (last_epoch L).records ≡ []
-    → limit ≤ 268435456 → VaultRun (MayLeave leave) L (length L) v
+    → limit ≤ 268435456 → VaultRun (MayLeave leave) L (length L) v → v.flushed ≡ 0
     → (xs : List Step) (n : Moment) → list_any pokes xs ≡ false
-    → IsCourse (record { log = L; core = new_core (sizes_of L) (recovered (sizes_of L) L) g limit v; leave = leave }) xs n
+    → IsCourse (record { log = L; core = new_core (sizes_of L) (recovered (sizes_of L) L) g limit v; audits = no_audits; leave = leave }) xs n
     → (F : Files) → MayLeave n.leave F
     → RestartsRight L n.core F × DeletesNobody F
 

@@ -10,6 +10,7 @@ ghost use Rattle.dali_crash.specs.Restarts.{FormatHasRightBase, RestartHasRightB
 ghost use Rattle.dali_crash.specs.Fitting.{ButIsWhole, RedoesTheEpoch, RecoversFromImage};
 ghost use Rattle.dali_crash.specs.Starts.{FreshFits, RestartStarts};
 ghost use Rattle.dali_crash.specs.StoreRuns.{StoreStepKeeps, StoreCourseKeeps, TurnEnds, FlagStays, CourseFlagTells, FlagChanges, IdleLeavesImages, KeptStays, SyncedStays, FreshStarts, EveryStoreRunIsRight};
+ghost use Rattle.dali_crash.specs.Growth.{CourseGrows};
 ghost use Rattle.dali_crash.specs.Unpoked.{UnpokedRunIsRight, UnpokedStoreRunIsRight};
 
 /// Where no damage escapes a stop, the last epoch of what it leaves is honest.
@@ -144,7 +145,7 @@ pub fn a_checkpoint_ends()
     ensures { TurnEnds }
 {}
 
-/// Each step leaves the flag set where a checkpoint keeps what it took down at its start.
+/// Each step leaves the flag set where a checkpoint keeps what it took down.
 pub fn each_step_keeps_what_the_flag_tells()
     ensures { FlagStays }
 {}
@@ -161,7 +162,7 @@ pub fn without_a_checkpoint_no_image_is_written()
     ensures { IdleLeavesImages }
 {}
 
-/// What a checkpoint kept at its start stays until it is given up or its anchor moves: so none starts under another.
+/// What a checkpoint kept stays until it is given up or its anchor moves: so none starts under another.
 pub fn what_a_checkpoint_kept_stays()
     ensures { KeptStays }
 {}
@@ -174,6 +175,12 @@ pub fn what_is_synced_stays()
 /// A start finds the flag clear and sets it, an end finds it set and clears it, and no other step changes it.
 pub fn the_flag_changes_at_starts_and_ends()
     ensures { FlagChanges }
+{}
+
+/// Along any steps the current number and the flushed records only grow, what was acknowledged stays so, and a vault
+/// that has stopped stays stopped.
+pub fn steps_only_add()
+    ensures { CourseGrows }
 {}
 
 /// A core that a format or a restart hands out is a run with its store.

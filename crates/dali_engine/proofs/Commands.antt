@@ -64,7 +64,7 @@ some_spelling front r = omega (arith, length-append front (spelling r), some r)
     some : (r : Record) → 0 < length (spelling r)
     some (Rattle.dali_record.specs.declared.records.Record.TheVariants.Format i h) = omega arith
     some (Begin t) = omega arith
-    some (Rattle.dali_record.specs.declared.records.Record.TheVariants.Op t b) = omega arith
+    some (Rattle.dali_record.specs.declared.records.Record.TheVariants.Forward t b) = omega arith
     some (Done t c a) = omega arith
     some (Commit t) = omega arith
     some (Ended t) = omega arith

@@ -18,7 +18,7 @@ use Rattle.dali_record.specs.declared.records.Answer.TheVariants.{Ok as AnswerOk
 use Rattle.dali_record.specs.declared.records.Call.{Call}
 use Rattle.dali_record.specs.declared.records.Call.TheVariants.{Insert, Update, Delete, Get}
 use Rattle.dali_record.specs.declared.records.Record.{Record}
-use Rattle.dali_record.specs.declared.records.Record.TheVariants.{Format, Begin, Op as Forward, Done, Commit, Ended, Solo, AuditBegin, AuditClean, AuditFail, Restarted, Back}
+use Rattle.dali_record.specs.declared.records.Record.TheVariants.{Format, Begin, Forward, Done, Commit, Ended, Solo, AuditBegin, AuditClean, AuditFail, Restarted, Back}
 use Rattle.dali_record.specs.Log.{txn_of, calls_of, begun, committed, ended}
 use Rattle.dali_record.specs.Damage.{has}
 use Rattle.dali_record.proofs.Ends.{by_push}

@@ -17,7 +17,7 @@ use Rattle.std.specs.Cmp.{nat_cmp_total, eq_by_cmp_equiv, unsigned_tied, ranked}
 use Rattle.dali_att.specs.Table.{Table, Row}
 use Rattle.dali_record.specs.declared.records.Call.{Call}
 use Rattle.dali_record.specs.declared.records.Record.{Record}
-use Rattle.dali_record.specs.declared.records.Record.TheVariants.{Format, Begin, Op as Forward, Done, Commit, Ended, Solo, AuditBegin, AuditClean, AuditFail, Restarted, Back}
+use Rattle.dali_record.specs.declared.records.Record.TheVariants.{Format, Begin, Forward, Done, Commit, Ended, Solo, AuditBegin, AuditClean, AuditFail, Restarted, Back}
 use Rattle.dali_record.specs.Log.{begin_by, begun, committed, ended}
 use Rattle.dali_record.specs.Epochs.{recovered_epoch}
 use Rattle.dali_record.specs.Damage.{has, rolled_list}

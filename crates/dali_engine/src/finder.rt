@@ -85,7 +85,7 @@ impl Finder {
                 self.unfinished.end(*txn);
                 self.number(*txn);
             }
-            Record::Op { txn, .. } | Record::Back { txn, .. } | Record::Solo { txn, .. } => {
+            Record::Forward { txn, .. } | Record::Back { txn, .. } | Record::Solo { txn, .. } => {
                 self.number(*txn);
             }
             Record::Format { .. }

@@ -14,7 +14,7 @@ use Rattle.dali_bytes.specs.Cursor.{IsBytes}
 use Rattle.dali_geometry.specs.Sizes.{Sizes}
 use Rattle.dali_record.specs.declared.operations.Block.{Block}
 use Rattle.dali_record.specs.declared.records.Record.{Record}
-use Rattle.dali_record.specs.declared.records.Record.TheVariants.{Format, Begin, Op as Forward, Done, Commit, Ended, Solo, AuditBegin, AuditClean, AuditFail, Restarted, Back}
+use Rattle.dali_record.specs.declared.records.Record.TheVariants.{Format, Begin, Forward, Done, Commit, Ended, Solo, AuditBegin, AuditClean, AuditFail, Restarted, Back}
 use Rattle.dali_record.specs.Log.{Touch, touch_of, touch_at}
 use Rattle.dali_record.specs.Epochs.{Epoch, clean_place, failing}
 use Rattle.dali_record.specs.Locks.{conflicts, IsLockLegalIn}

@@ -5,7 +5,7 @@ use Rattle.dali_geometry.specs.Sizes.{Sizes}
 use Rattle.dali_record.specs.declared.operations.Block.{Block}
 use Rattle.dali_record.specs.declared.operations.Pending.{Pending}
 use Rattle.dali_record.specs.declared.records.Record.{Record}
-use Rattle.dali_record.specs.declared.records.Record.TheVariants.{Format, Begin, Op as Forward, Done, Commit, Ended, Solo, AuditBegin, AuditClean, AuditFail, Restarted, Back}
+use Rattle.dali_record.specs.declared.records.Record.TheVariants.{Format, Begin, Forward, Done, Commit, Ended, Solo, AuditBegin, AuditClean, AuditFail, Restarted, Back}
 use Rattle.dali_record.specs.Log.{committed, last_of}
 use Rattle.dali_record.specs.Damage.{has}
 use Rattle.dali_record.specs.Calls.{Progress, Fresh, follow}
@@ -19,7 +19,7 @@ use Rattle.dali_facts.specs.Facts.{CommittedIsLogged}
 use Rattle.std.proofs.lemmas.List.{append-nil}
 use Rattle.dali_counts.proofs.Lists.{equal, self}
 
-abbrev Com : Option TxnState → Bool → Type 0
+abbrev pub Com : Option TxnState → Bool → Type 0
 Com None c = ⊤
 Com (Some Unbegun) c = c ≡ false
 Com (Some (Active w)) c = c ≡ false
@@ -184,7 +184,7 @@ is_its_commit t (AuditFail b rs) e = absurd (cc)
 is_its_commit t (Restarted rs ds) e = absurd (cc)
 is_its_commit t (Back u b) e = absurd (cc)
 
-com_all : (s : Sizes) (t : ℕ) (L : List Record) → Com (txn_state s t L) (has (committed L) t)
+pub com_all : (s : Sizes) (t : ℕ) (L : List Record) → Com (txn_state s t L) (has (committed L) t)
 com_all s t = by_push (λ L. Com (txn_state s t L) (has (committed L) t)) refl (λ L x here. subst (λ o. Com o (has (committed (L ++ x ∷ [])) t)) (sym (txn_state_push s t L x)) (subst (λ c. Com (txn_next s t (txn_state s t L) x) c) (sym (commits_push L x t)) (by_commit L x here (is_commit t x) refl)))
   where
     or_none : (c : Bool) → c ≡ (c || false)

@@ -4,3 +4,4 @@ pub mod Plans
 pub mod Begun
 pub mod Told
 pub mod States
+pub mod OlderRows

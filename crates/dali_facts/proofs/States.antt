@@ -10,22 +10,22 @@ use Rattle.dali_att.specs.declared.state.State.{State}
 use Rattle.dali_att.specs.declared.state.State.TheVariants.{Live, Dead, Cleaning, Committed}
 use Rattle.dali_att.specs.Table.{Table, fresh_row, with_state}
 use Rattle.dali_counts.proofs.Lists.{equal, some_same}
-use Rattle.dali_system.specs.State.{TxnRow, CoreState, row_of}
+use Rattle.dali_system.specs.State.{TxnRow, CoreState, row_of, state_in, state_of}
 use Rattle.dali_system.specs.Run.{Bases, IsRow, RunsOn}
 use Rattle.dali_system.specs.Steps.{committed_row}
-use Rattle.dali_system.specs.Keeps.{moves_to}
-use Rattle.dali_system.specs.Courses.{Begins, Operates, TakesBack, Frees, Answers, Commits, Ends, AuditBegins, AuditEnds, Locks, Refuses, OnRegion, ChangesState, Stops, Checkpoints, Flushes, Faults}
+use Rattle.dali_system.specs.Courses.{Begins, Operates, TakesBack, Frees, Answers, Commits, Ends, AuditBegins, AuditEnds, Locks, Refuses, OnRegion, Passes, Dies, Claims, GivesBack, Recovers, Stops, Checkpoints, Takes, Flushes, Faults}
 use Rattle.dali_system.proofs.Tables.{Puts, with_undos, changed, added, ended, kept, dropped}
-use Rattle.dali_facts.specs.States.{state_in, CameFrom, StatesComeFrom}
+use Rattle.dali_system.proofs.WholeSteps.{commits_live}
+use Rattle.dali_facts.specs.States.{CameFrom, StatesComeFrom}
 
 abbrev Comes : Option TxnRow → Option TxnRow → Type 0
 Comes old new = (st : State) → state_in new ≡ Some st → CameFrom (state_in old) st
 
 stays : (st : State) → CameFrom (Some st) st
 stays Live = inl refl
-stays Dead = inl refl
-stays Cleaning = inl refl
-stays Committed = refl
+stays (Dead o) = inl refl
+stays (Cleaning o) = inl refl
+stays Committed = inl refl
 
 comes_same : (old new : Option TxnRow) → state_in new ≡ state_in old → Comes old new
 comes_same old new same st e = subst (λ (o : Option State). CameFrom o st) (sym (sym same ∙ e)) (stays st)
@@ -44,40 +44,24 @@ undos_only f (Some row) = comes_same (Some row) (with_undos f (Some row)) refl
 
 begins : (old : Option TxnRow) → old ≡ None → Comes old (Some fresh_row)
 begins old none Live e = inr (ap state_in none)
-begins old none Dead e = absurd (cc)
-begins old none Cleaning e = absurd (cc)
+begins old none (Dead o) e = absurd (cc)
+begins old none (Cleaning o) e = absurd (cc)
 begins old none Committed e = absurd (cc)
 
-commits : (o : Option TxnRow) → Comes o (option_map committed_row o)
-commits None st e = absurd (cc)
-commits (Some row) Live e = absurd (cc)
-commits (Some row) Dead e = absurd (cc)
-commits (Some row) Cleaning e = absurd (cc)
-commits (Some row) Committed e = refl
+commits : (o : Option TxnRow) → state_in o ≡ Some Live → Comes o (option_map committed_row o)
+commits None live st e = absurd (cc)
+commits (Some row) live Live e = absurd (cc)
+commits (Some row) live (Dead o) e = absurd (cc)
+commits (Some row) live (Cleaning o) e = absurd (cc)
+commits (Some row) live Committed e = inr live
 
 ends : (o : Option TxnRow) → Comes o None
 ends o st e = absurd (cc)
 
-by_move : (old new : State) → moves_to old new ≡ true → CameFrom (Some old) new
-by_move Live Live e = absurd (cc)
-by_move Live Dead e = inr (inl refl)
-by_move Live Cleaning e = absurd (cc)
-by_move Live Committed e = absurd (cc)
-by_move Dead Live e = absurd (cc)
-by_move Dead Dead e = absurd (cc)
-by_move Dead Cleaning e = inr refl
-by_move Dead Committed e = absurd (cc)
-by_move Cleaning Live e = absurd (cc)
-by_move Cleaning Dead e = inr (inr refl)
-by_move Cleaning Cleaning e = absurd (cc)
-by_move Cleaning Committed e = absurd (cc)
-by_move Committed Live e = absurd (cc)
-by_move Committed Dead e = absurd (cc)
-by_move Committed Cleaning e = absurd (cc)
-by_move Committed Committed e = absurd (cc)
-
-moves : (o : Option TxnRow) (row : TxnRow) (new : State) → o ≡ Some row → moves_to row.state new ≡ true → Comes o (option_map (with_state new) o)
-moves o row new at may = subst (λ (p : Option TxnRow). Comes p (option_map (with_state new) p)) (sym at) (λ st e. subst (λ z. CameFrom (Some row.state) z) (some_same e) (by_move row.state new may))
+-- the state of a row becomes another one
+turns : (o : Option TxnRow) (old new : State) → state_in o ≡ Some old → CameFrom (Some old) new → Comes o (option_map (with_state new) o)
+turns None old new was may st e = absurd (cc)
+turns (Some row) old new was may st e = subst (λ (p : Option State). CameFrom p st) (sym was) (subst (CameFrom (Some old)) (some_same e) may)
 
 -- the next number has no row
 none_yet : (bases : Bases) (L : List Record) (c : CoreState) → RunsOn bases L c → row_of c.system c.system.next ≡ None
@@ -98,15 +82,20 @@ states_come_from bases L M c d (Operates u b) run s t = one_changed c d _ u _ t 
 states_come_from bases L M c d (TakesBack u b) run s t = one_changed c d _ u _ t (ap table_of s.2.1) (dropped c.system.table u) (undos_only _ (row_of c.system u))
 states_come_from bases L M c d (Frees p b) run s t = same_table c d t (ap table_of s.2.1)
 states_come_from bases L M c d (Answers u k a) run s t = same_table c d t (ap table_of s.3.1)
-states_come_from bases L M c d (Commits u) run s t = one_changed c d _ u _ t (ap table_of s.2.1) (changed c.system.table u committed_row) (commits (row_of c.system u))
+states_come_from bases L M c d (Commits u) run s t = one_changed c d _ u _ t (ap table_of s.2.1) (changed c.system.table u committed_row) (commits (row_of c.system u) (commits_live (state_of c.system u) u s.1.by))
 states_come_from bases L M c d (Ends u) run s t = one_changed c d _ u _ t (ap table_of s.2.1) (ended c.system.table u) (ends (row_of c.system u))
 states_come_from bases L M c d AuditBegins run s t = same_table c d t (ap table_of s.2.1)
 states_come_from bases L M c d (AuditEnds b found) run s t = same_table c d t (ap table_of s.1.1)
 states_come_from bases L M c d (Locks u k m) run s t = same_table c d t (ap table_of s.2.1)
 states_come_from bases L M c d (Refuses u k m h) run s t = same_table c d t (ap table_of s.2.1)
 states_come_from bases L M c d (OnRegion r x) run s t = same_table c d t (ap table_of s.3.1)
-states_come_from bases L M c d (ChangesState u new) run s t = one_changed c d _ u _ t (ap table_of s.1.1) (changed c.system.table u (with_state new)) (moves (row_of c.system u) s.0.row new s.0.at s.0.moves)
+states_come_from bases L M c d (Passes b r) run s t = same_table c d t (ap table_of s.2.1)
+states_come_from bases L M c d (Dies u o) run s t = one_changed c d _ u _ t (ap table_of s.1.1) (changed c.system.table u (with_state (Dead o))) (turns (row_of c.system u) Live (Dead o) s.0.lives (inr (inl refl)))
+states_come_from bases L M c d (Claims u) run s t = one_changed c d _ u _ t (ap table_of s.2.1) (changed c.system.table u (with_state (Cleaning s.0))) (turns (row_of c.system u) (Dead s.0) (Cleaning s.0) s.1 (inr refl))
+states_come_from bases L M c d (GivesBack u o) run s t = one_changed c d _ u _ t (ap table_of s.1.1) (changed c.system.table u (with_state (Dead o))) (turns (row_of c.system u) (Cleaning s.0.was) (Dead o) s.0.claimed (inr (inr (s.0.was, refl))))
+states_come_from bases L M c d (Recovers r) run s t = same_table c d t (ap table_of s.3.1)
 states_come_from bases L M c d Stops run s t = same_table c d t (ap table_of s.1.1)
 states_come_from bases L M c d (Checkpoints b) run s t = same_table c d t (ap table_of s.1.1)
+states_come_from bases L M c d Takes run s t = same_table c d t (ap table_of s.1)
 states_come_from bases L M c d Flushes run s t = same_table c d t (ap table_of s.1.1)
 states_come_from bases L M c d (Faults n) run s t = same_table c d t (ap table_of s.2.1)

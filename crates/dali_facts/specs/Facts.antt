@@ -2,6 +2,7 @@
 --     HoldsItsKeys             a transaction of the table holds the lock on the key of each of its blocks
 --     HasItsUndos              one that isn't committed has the undos that the log leaves
 --     HasCounts                the system's counts are those of the list
+--     RowsAreOlder             the number of each row is below the next transaction's
 --     CommittedIsLogged        a row says Committed exactly where the log has the Commit
 --     HoldsTheBegun            the table has just the transactions of the last epoch with a Begin and no Ended
 --     RefusalsTell             a transaction that ran was refused; an older one ran then, and is in the request's way until it ends
@@ -43,6 +44,11 @@ pub record Counts (L : List Record) (c : CoreState) : Type 0 where
 
 abbrev pub HasCounts : Type 0
 HasCounts = (bases : Bases) (L : List Record) (c : CoreState) → RunsOn bases L c → Counts L c
+
+abbrev pub RowsAreOlder : Type 0
+RowsAreOlder =
+    (bases : Bases) (L : List Record) (c : CoreState) → RunsOn bases L c
+    → (t : ℕ) → IsSome (row_of c.system t) → t < c.system.next
 
 abbrev pub CommittedIsLogged : Type 0
 CommittedIsLogged =

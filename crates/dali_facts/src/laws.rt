@@ -1,6 +1,6 @@
 //! Laws over the definitions, each the contract of a function that does nothing.
 
-ghost use Rattle.dali_facts.specs.Facts.{HoldsItsKeys, HasItsUndos, HasCounts, CommittedIsLogged, HoldsTheBegun, RefusalsTell, StopTells, RegionsTell};
+ghost use Rattle.dali_facts.specs.Facts.{HoldsItsKeys, HasItsUndos, HasCounts, RowsAreOlder, CommittedIsLogged, HoldsTheBegun, RefusalsTell, StopTells, RegionsTell};
 ghost use Rattle.dali_facts.specs.States.{StatesComeFrom};
 ghost use Rattle.dali_facts.specs.Plans.{PlanGoesOn, PlanStarts, PlanAnswers, TakeBackGoesOn};
 
@@ -17,6 +17,11 @@ pub fn a_run_has_its_undos()
 /// The counts are those of the log.
 pub fn a_run_has_its_counts()
     ensures { HasCounts }
+{}
+
+/// Each row's number is below the next one: no row stands where a transaction begins.
+pub fn a_run_has_older_rows()
+    ensures { RowsAreOlder }
 {}
 
 /// A row says Committed exactly where the log has the Commit.
@@ -66,8 +71,8 @@ pub fn a_run_tells_its_words()
     ensures { RegionsTell }
 {}
 
-/// A row is Live only where it was or is new, Dead only where it was or was Live or Cleaning, Cleaning only where it was
-/// or was Dead, and Committed only where there was one.
+/// A row is Live only where it was or is new, Dead only where it was or was Live or claimed, claimed only where it was or was Dead, with the
+/// region that is still latched, and Committed only where it was or was Live.
 pub fn states_come_from_states()
     ensures { StatesComeFrom }
 {}

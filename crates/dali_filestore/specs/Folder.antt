@@ -6,7 +6,7 @@ use Rattle.dali_store.specs.declared.store.FileName.{FileName}
 use Rattle.dali_filestore.specs.declared.store.FileStore.{FileStore}
 
 -- how many of its calls failed
-abbrev pub faults_of : {F : Type 0} → FileStore F → ℕ
+abbrev pub faults_of : {F P : Type 0} → FileStore F P → ℕ
 faults_of s = s.faults
 
 -- where one of the files is

@@ -14,7 +14,7 @@ const FILES: [(FileName, &str, [u8; 3]); 4] = [
 #[test]
 fn files_keep_what_was_written(rt: HostRuntime) -> Result<(), Fail> {
     fs::create_dir(&rt, "dali_files")?;
-    let mut store = FileStore::in_folder(&rt, "dali_files")?;
+    let mut store = FileStore::in_folder(&rt, "dali_files");
     for (file, _, bytes) in FILES {
         assert_eq!(rt; store.length(file), Ok(0));
         store.write_at(file, 0, &bytes)?;
@@ -24,7 +24,7 @@ fn files_keep_what_was_written(rt: HostRuntime) -> Result<(), Fail> {
     store.cut(1)?;
     drop(store);
 
-    let mut store = FileStore::in_folder(&rt, "dali_files")?;
+    let mut store = FileStore::in_folder(&rt, "dali_files");
     for (file, path, [one, two, three]) in FILES {
         let mut read = [0; 4];
         assert_eq!(rt; store.length(file), Ok(5));
@@ -41,14 +41,31 @@ fn files_keep_what_was_written(rt: HostRuntime) -> Result<(), Fail> {
 }
 
 #[test]
-fn a_folder_that_cannot_be_written_is_a_fault(rt: HostRuntime) -> Result<(), Fail> {
-    for folder in ["/proc", "dali_nowhere"] {
-        assert!(rt; FileStore::in_folder(&rt, folder).is_err(), "{folder}");
-    }
-
+fn files_that_cannot_be_opened_fail_each_call(rt: HostRuntime) -> Result<(), Fail> {
     // A folder stands where a file should.
     fs::create_dir_all(&rt, "dali_other/dali.anchor")?;
-    assert!(rt; FileStore::in_folder(&rt, "dali_other").is_err());
+    for folder in ["/proc", "dali_nowhere", "dali_other"] {
+        let mut store = FileStore::in_folder(&rt, folder);
+        for (file, _, bytes) in FILES {
+            let mut read = [0; 3];
+            assert_eq!(rt; store.length(file), Err(StoreFault));
+            assert_eq!(rt; store.read_at(file, 0, &mut read), Err(StoreFault));
+            assert_eq!(rt; store.write_at(file, 0, &bytes), Err(StoreFault));
+            assert_eq!(rt; store.sync(file), Err(StoreFault));
+            assert_eq!(rt; store.cut(0), Err(StoreFault));
+        }
+    }
     fs::remove_dir_all(&rt, "dali_other")?;
+    Ok(())
+}
+
+#[test]
+fn nothing_is_made_before_the_first_call(rt: HostRuntime) -> Result<(), Fail> {
+    fs::create_dir(&rt, "dali_empty")?;
+    let mut store = FileStore::in_folder(&rt, "dali_empty");
+    assert!(rt; fs::metadata(&rt, "dali_empty/dali.log").is_err());
+    store.length(FileName::Log)?;
+    assert!(rt; fs::metadata(&rt, "dali_empty/dali.log").is_ok());
+    fs::remove_dir_all(&rt, "dali_empty")?;
     Ok(())
 }

@@ -6,7 +6,7 @@ use Rattle.dali_geometry.specs.Sizes.{Sizes}
 use Rattle.dali_record.specs.declared.operations.Block.{Block}
 use Rattle.dali_record.specs.declared.operations.Pending.{Pending}
 use Rattle.dali_record.specs.declared.records.Record.{Record}
-use Rattle.dali_record.specs.declared.records.Record.TheVariants.{Format, Begin, Op as Forward, Done, Commit, Ended, Solo, AuditBegin, AuditClean, AuditFail, Restarted, Back}
+use Rattle.dali_record.specs.declared.records.Record.TheVariants.{Format, Begin, Forward, Done, Commit, Ended, Solo, AuditBegin, AuditClean, AuditFail, Restarted, Back}
 use Rattle.dali_record.specs.Log.{touch_of, undos_of}
 use Rattle.dali_record.specs.Damage.{Damage, any_touch, marks, has_corrupt}
 use Rattle.dali_record.specs.Legal.{Working, TxnState, Unbegun, Active, Committed, Over, txn_step, concerns, is_of, freeing_op}
@@ -51,7 +51,7 @@ kept_step-other s t (Committed ps) (Back u b) e = rw e refl
 
 -- ---- the two states of a transaction
 -- without a corrupt block they are the same, but that some removals may not be freed yet, and that one which was over before the epoch never began in it
-abbrev Twin : Bool → TxnState → TxnState → Type 0
+abbrev pub Twin : Bool → TxnState → TxnState → Type 0
 Twin true x y = ⊤
 Twin false Unbegun y = y ≡ Unbegun
 Twin false (Active w) y = y ≡ Active w
@@ -72,7 +72,7 @@ freed_later_finds b (z ∷ zs) ps p e = by_test (freed_later_finds b zs ps p e) 
     by_test w true f = (zs ++ p ∷ [], rw f (ap (λ qs. Some (Committed qs)) (sym (append_assoc zs (p ∷ []) ps))))
     by_test w false f = (w.0, rw f w.1)
 
-abbrev After : Sizes → Damage → ℕ → List Record → TxnState → Type 0
+abbrev pub After : Sizes → Damage → ℕ → List Record → TxnState → Type 0
 After s d t E x = (y : TxnState) × (kept_state s t (kept_in d E) ≡ Some y) × Twin (has_corrupt (marks d E) t) x y
 
 twin_step :
@@ -178,7 +178,7 @@ twin_step s d t E r x z gives within S e before = by_concern (concerns t r) refl
         at true g = stays g
         at false g = goes y g (kept_step-other s t y r f)
 
-after : (s : Sizes) (d : Damage) (t : ℕ) (x0 : TxnState) (E : List Record) (x : TxnState) → IsStart x0 → IsWithin E → Gives E → state_from s t x0 E ≡ Some x → After s d t E x
+pub after : (s : Sizes) (d : Damage) (t : ℕ) (x0 : TxnState) (E : List Record) (x : TxnState) → IsStart x0 → IsWithin E → Gives E → state_from s t x0 E ≡ Some x → After s d t E x
 after s d t x0 E x start within gives e = by_push (λ L. IsWithin L → Gives L → (z : TxnState) → state_from s t x0 L ≡ Some z → After s d t L z) first step E within gives x e
   where
     first : IsWithin [] → Gives [] → (z : TxnState) → Some x0 ≡ Some z → After s d t [] z

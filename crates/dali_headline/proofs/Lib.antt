@@ -1,4 +1,4 @@
-mod KeptTxns
+pub mod KeptTxns
 mod KeptLocks
 pub mod KeptEpochs
 pub mod EpochByEpoch

@@ -3,7 +3,7 @@ use Rattle.std.proofs.Common.{◌≡◌, ℕ, List, [], ◌∷◌, ◌++◌, Som
 use Rattle.dali_record.specs.declared.operations.Op.{Op}
 use Rattle.dali_record.specs.declared.operations.Op.TheVariants.{Look, Add, KillEntry, Put, Read, Change, KillCell, FreeCell, ReviveCell, Restore, FreeEntry, ReviveEntry}
 use Rattle.dali_record.specs.declared.records.Record.{Record}
-use Rattle.dali_record.specs.declared.records.Record.TheVariants.{Format, Begin, Op as Forward, Done, Commit, Ended, Solo, AuditBegin, AuditClean, AuditFail, Restarted, Back}
+use Rattle.dali_record.specs.declared.records.Record.TheVariants.{Format, Begin, Forward, Done, Commit, Ended, Solo, AuditBegin, AuditClean, AuditFail, Restarted, Back}
 use Rattle.dali_record.specs.Spelling.{IsOperation, IsBlock, CanBeSpelled}
 use Rattle.dali_record.specs.Log.{Touch, touch_of, touch_at}
 use Rattle.dali_record.specs.Legal.{ReadsWords}
@@ -45,7 +45,7 @@ block_is_spelled (Back t b) a e k = subst (λ (z : Touch). IsBlock z.block) (sam
     same : (u v : Touch) → Some u ≡ Some v → u ≡ v
     same u v q = cc
 
-block_at : (L : List Record) → AreSpelled L → (i : ℕ) (a : Touch) → touch_at L i ≡ Some a → IsBlock a.block
+pub block_at : (L : List Record) → AreSpelled L → (i : ℕ) (a : Touch) → touch_at L i ≡ Some a → IsBlock a.block
 block_at L h i a e = let g = touch_get L i a e in block_is_spelled g.0 a g.2 (h i g.0 g.1)
 
 value_of_operation : (op : Op) → IsOperation op → HasValue op

@@ -14,7 +14,7 @@ use Rattle.dali_record.specs.declared.records.Call.{Call}
 use Rattle.dali_record.specs.declared.records.Answer.{Answer}
 use Rattle.dali_record.specs.Calls.{Fresh}
 use Rattle.dali_record.specs.declared.records.Record.{Record}
-use Rattle.dali_record.specs.declared.records.Record.TheVariants.{Format, Begin, Op as Forward, Done, Commit, Ended, Solo, AuditBegin, AuditClean, AuditFail, Restarted, Back}
+use Rattle.dali_record.specs.declared.records.Record.TheVariants.{Format, Begin, Forward, Done, Commit, Ended, Solo, AuditBegin, AuditClean, AuditFail, Restarted, Back}
 use Rattle.dali_record.specs.Log.{last_of}
 use Rattle.dali_record.specs.Legal.{Onward, Working, TxnState, Unbegun, Active, Over, concerns, on_kind, forward, back, is_of, same_op, is_answer, is_level, dead_of, allowed, Committed as IsOver}
 use Rattle.dali_record.proofs.Pushes.{txn_step-other}

@@ -15,7 +15,7 @@ use Rattle.dali_record.specs.declared.operations.Block.{Block}
 use Rattle.dali_record.specs.declared.records.Call.{Call}
 use Rattle.dali_record.specs.declared.records.Answer.{Answer}
 use Rattle.dali_record.specs.declared.records.Record.{Record}
-use Rattle.dali_record.specs.declared.records.Record.TheVariants.{Format, Begin, Op as Forward, Done, Commit, Ended, Solo, AuditBegin, AuditClean, AuditFail, Restarted, Back}
+use Rattle.dali_record.specs.declared.records.Record.TheVariants.{Format, Begin, Forward, Done, Commit, Ended, Solo, AuditBegin, AuditClean, AuditFail, Restarted, Back}
 use Rattle.dali_record.specs.Operations.{undo_op, changes, effect}
 use Rattle.dali_record.specs.Blocks.{IsSoundOn}
 use Rattle.dali_record.specs.Calls.{Fresh}
@@ -80,7 +80,7 @@ fine_before s base cuts J r h = record {
 }
 
 -- the step of one transaction
-state_step : (s : Sizes) (t : ℕ) (J : List Record) (r : Record) (x y : TxnState) → kept_state s t J ≡ Some x → kept_state s t (J ++ r ∷ []) ≡ Some y → kept_step s t x r ≡ Some y
+pub state_step : (s : Sizes) (t : ℕ) (J : List Record) (r : Record) (x y : TxnState) → kept_state s t J ≡ Some x → kept_state s t (J ++ r ∷ []) ≡ Some y → kept_step s t x r ≡ Some y
 state_step s t J r x y e f = sym (kept_state_push s t J r ∙ ap (λ o. kept_next s t o r) e) ∙ f
 
 -- what is known goes on
@@ -190,21 +190,21 @@ along_done s base cuts J t c a h along k = subst (λ image. Keyed s cuts (J ++ D
         }) k (map_of s base k) (along.keyed k)
 
 -- the outcome of a block that takes back or frees
-undone_changes : (d : Undo) (key : ℕ) (ws : List ℕ) → changes (effect (undo_op d) key ws).1 ≡ true
+pub undone_changes : (d : Undo) (key : ℕ) (ws : List ℕ) → changes (effect (undo_op d) key ws).1 ≡ true
 undone_changes (UndoFreeCell c) key ws = refl
 undone_changes (UndoReviveCell c) key ws = refl
 undone_changes (UndoRestore c n vs) key ws = refl
 undone_changes (UndoFreeEntry e) key ws = refl
 undone_changes (UndoReviveEntry e) key ws = refl
 
-freeing_changes : (d : Undo) (key : ℕ) (ws : List ℕ) → changes (effect (freeing_op d) key ws).1 ≡ true
+pub freeing_changes : (d : Undo) (key : ℕ) (ws : List ℕ) → changes (effect (freeing_op d) key ws).1 ≡ true
 freeing_changes (UndoFreeCell c) key ws = refl
 freeing_changes (UndoReviveCell c) key ws = refl
 freeing_changes (UndoRestore c n vs) key ws = refl
 freeing_changes (UndoFreeEntry e) key ws = refl
 freeing_changes (UndoReviveEntry e) key ws = refl
 
-sound_changes : (ws : List ℕ) (b : Block) (op : Op) → IsSoundOn ws b → b.op ≡ op → changes (effect op b.key ws).1 ≡ true → changes b.outcome ≡ true
+pub sound_changes : (ws : List ℕ) (b : Block) (op : Op) → IsSoundOn ws b → b.op ≡ op → changes (effect op b.key ws).1 ≡ true → changes b.outcome ≡ true
 sound_changes ws b op sound e h = ap (λ (x : Block). changes x.outcome) (sym sound) ∙ ap (λ o. changes (effect o b.key ws).1) e ∙ h
 
 along_back : (s : Sizes) (base : List (List ℕ)) (cuts : List ℕ) (J : List Record) (t : ℕ) (b : Block) → Fine s base cuts (J ++ Back t b ∷ []) → Along s base cuts J → (k : ℕ) → Keyed s cuts (J ++ Back t b ∷ []) (part s (redo_all base (J ++ Back t b ∷ []))) (flags (redo_all base (J ++ Back t b ∷ []))) (map_of s base k) k
@@ -280,7 +280,7 @@ restarted_state s t (IsOver ps) y rs ds e = let z : Over ≡ y = cc (e) in inr (
 restarted_state s t Over y rs ds e = inl (cc (e))
 
 -- ---- solos
-frees_is : (b : Block) (ps : List Pending) (y : TxnState) → freed_later b ps ≡ Some y → (d : Pending) × (qs : List Pending) × (y ≡ IsOver qs) × Frees ps d qs × (is_of (freeing_op d.undo) d b ≡ true)
+pub frees_is : (b : Block) (ps : List Pending) (y : TxnState) → freed_later b ps ≡ Some y → (d : Pending) × (qs : List Pending) × (y ≡ IsOver qs) × Frees ps d qs × (is_of (freeing_op d.undo) d b ≡ true)
 frees_is b [] y e = absurd (cc (e))
 frees_is b (p ∷ ps) y e = go (is_of (freeing_op p.undo) p b) refl e (frees_is b ps y)
   where
@@ -292,7 +292,7 @@ frees_is b (p ∷ ps) y e = go (is_of (freeing_op p.undo) p b) refl e (frees_is 
     go false f g ih = let z = ih g in (z.0, z.1, z.2, inr z.3, z.4)
 
 -- the transaction that a solo frees for is committed, and the solo's own is new
-solo_state : (s : Sizes) (t u : ℕ) (b : Block) (x y : TxnState) → kept_step s u x (Solo t u b) ≡ Some y → (ps : List Pending) × (x ≡ IsOver ps) × (freed_later b ps ≡ Some y)
+pub solo_state : (s : Sizes) (t u : ℕ) (b : Block) (x y : TxnState) → kept_step s u x (Solo t u b) ≡ Some y → (ps : List Pending) × (x ≡ IsOver ps) × (freed_later b ps ≡ Some y)
 solo_state s t u b Unbegun y e = absurd (go (t == u) (u == u) (eq-eqb u u refl) e)
   where
     go : (c d : Bool) → d ≡ true → (if c then allowed (not d) (Some Over) else allowed (not d) (Some Unbegun)) ≡ Some y → ⊥
@@ -342,7 +342,7 @@ solo_own s t u b Over y e = absurd (go (t == t) (not (u == t)) (eq-eqb t t refl)
     go false d f g = cc (f)
 
 -- a dead slot is freed
-frees_slot : (W V : World) (F G : Flags) (k r : ℕ) (d : Undo) (o : Outcome) (u : Option Undo) (ys : List ℕ) → is_removal d ≡ true → Does W F V G k r (freeing_op d) o u → W k r (slot_of d) ≡ 2 ∷ ys → (V ≡ put_at W k r (slot_of d) []) × (G ≡ F)
+pub frees_slot : (W V : World) (F G : Flags) (k r : ℕ) (d : Undo) (o : Outcome) (u : Option Undo) (ys : List ℕ) → is_removal d ≡ true → Does W F V G k r (freeing_op d) o u → W k r (slot_of d) ≡ 2 ∷ ys → (V ≡ put_at W k r (slot_of d) []) × (G ≡ F)
 frees_slot W V F G k r (UndoFreeCell c) o u ys m h e = absurd (cc (m))
 frees_slot W V F G k r (UndoReviveCell c) o u ys m h e = let a = h 2 ys e in (a.0, a.1)
 frees_slot W V F G k r (UndoRestore c n vs) o u ys m h e = absurd (cc (m))

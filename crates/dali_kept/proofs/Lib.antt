@@ -1,14 +1,14 @@
-mod WithoutLast
-mod Invariant
-mod OperationsKeep
+pub mod WithoutLast
+pub mod Invariant
+pub mod OperationsKeep
 mod Removals
 mod CommitsKeep
-mod AnswersKeep
-mod BacksKeep
-mod SolosKeep
-mod KnownTxns
-mod InvariantAlong
-mod InvariantSteps
+pub mod AnswersKeep
+pub mod BacksKeep
+pub mod SolosKeep
+pub mod KnownTxns
+pub mod InvariantAlong
+pub mod InvariantSteps
 mod UndoOnImage
 mod AtBase
 mod Counts

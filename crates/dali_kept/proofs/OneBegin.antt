@@ -11,7 +11,7 @@ use Rattle.dali_record.specs.declared.operations.Block.{Block}
 use Rattle.dali_record.specs.declared.records.Call.{Call}
 use Rattle.dali_record.specs.declared.records.Answer.{Answer}
 use Rattle.dali_record.specs.declared.records.Record.{Record}
-use Rattle.dali_record.specs.declared.records.Record.TheVariants.{Format, Begin, Op as Forward, Done, Commit, Ended, Solo, AuditBegin, AuditClean, AuditFail, Restarted, Back}
+use Rattle.dali_record.specs.declared.records.Record.TheVariants.{Format, Begin, Forward, Done, Commit, Ended, Solo, AuditBegin, AuditClean, AuditFail, Restarted, Back}
 use Rattle.dali_record.specs.Log.{undos_of, undo_step, begun, begin_by, last_of}
 use Rattle.dali_record.specs.Calls.{Fresh}
 use Rattle.dali_record.specs.Legal.{Working, Onward, TxnState, Unbegun, Active, Over, concerns, allowed, is_level, is_answer, is_none_left, dead_of, forward, Committed as IsOver}

@@ -11,7 +11,7 @@ use Rattle.dali_record.specs.declared.operations.Undo.{Undo}
 use Rattle.dali_record.specs.declared.records.Call.{Call}
 use Rattle.dali_record.specs.declared.records.Answer.{Answer}
 use Rattle.dali_record.specs.declared.records.Record.{Record}
-use Rattle.dali_record.specs.declared.records.Record.TheVariants.{Op as Forward}
+use Rattle.dali_record.specs.declared.records.Record.TheVariants.{Forward}
 use Rattle.dali_record.specs.Blocks.{changes_item}
 use Rattle.dali_record.specs.Log.{undos_of, undo_added, committed, calls_of}
 use Rattle.dali_record.specs.Damage.{has}

@@ -1,5 +1,5 @@
 -- A fuse over a store.
--- Words: inner, passes_of, failed_of; one_less, PassesOn, Burns.
+-- Words: inner, passes_of, failed_of, forgetful; one_less, PassesOn, Burns.
 use Rattle.std.specs.Prelude.{◌≡◌, ◌≢◌, ℕ, ◌-◌, Option, Some, None, Result, IsErr}
 use Rattle.dali_store.specs.Faults.{HasCause}
 use Rattle.dali_store.specs.declared.store.StoreFault.{StoreFault}
@@ -20,9 +20,13 @@ module _ {V : Type 0} where
   abbrev pub passes_of : Fuse V → Option ℕ
   passes_of f = f.passes
 
-  -- how many calls it failed
+  -- how many calls it failed since it last forgot them
   abbrev pub failed_of : Fuse V → ℕ
   failed_of f = f.failed
+
+  -- it has forgotten the calls that it failed
+  abbrev pub forgetful : Fuse V → Fuse V
+  forgetful f = record f { failed = 0 }
 
   -- the call was the store's, and failed only where the store's count rose
   pub record PassesOn {T : Type 0} (faults : V → ℕ) (old new : Fuse V) (result : Result T StoreFault) : Type 0 where

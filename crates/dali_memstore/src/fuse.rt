@@ -2,7 +2,7 @@
 ghost use Rattle.std.specs.Prelude.{◌≡◌, ◌≢◌, ◌≤◌, ◌<◌, ◌+◌, ◌^◌, ◌↔◌, Option, Some, None, List, ℕ, length, IfOk, OnOk, IfSome, is_some, IsTrue, if◌then◌else◌};
 ghost use Rattle.dali_store.specs.Faults.{Rose, HasCause};
 ghost use Rattle.dali_store.specs.Store.{Files, file_of, Only, Follows, TornIn, TornTold, HoldsIn, ReadsAt, Elapses};
-ghost use Rattle.dali_memstore.specs.Fuse.{Burns, PassesOn, inner, passes_of, failed_of, one_less};
+ghost use Rattle.dali_memstore.specs.Fuse.{Burns, PassesOn, inner, passes_of, failed_of, one_less, forgetful};
 ghost use Rattle.dali_memstore.specs.Counts.{one_more};
 
 use dali_store::{FileName, Store, StoreFault};
@@ -10,7 +10,7 @@ use dali_store::{FileName, Store, StoreFault};
 /// Passes so many calls on to its store. Once none of these is left it fails each call but `cut`, without making it.
 /// With no number it passes all calls on. A cut is always passed on, and uses up one of the calls where some are left.
 ///
-/// Its count of faults is the store's plus the calls that it failed.
+/// Its count of faults is the store's plus the calls that it failed since it last forgot them.
 #[derive(Drop)]
 pub struct Fuse<V: Store> {
     store: V,
@@ -32,7 +32,7 @@ impl<V: Store> Fuse<V> {
         }
     }
 
-    /// Whether a call was failed by the fuse. Where none was, its count is the store's.
+    /// Whether a call was failed by the fuse since it last forgot them. Where none was, its count is the store's.
     pub fn spent(&self) -> bool
         ensures { IsTrue result ↔ (0 < failed_of self.now) }
     {
@@ -46,6 +46,13 @@ impl<V: Store> Fuse<V> {
         ensures failed { failed_of self.new ≡ failed_of self.old }
     {
         self.passes = passes;
+    }
+
+    /// Forgets the calls that it failed: they are counted from 0 on again. It goes on to pass on as many.
+    pub fn forget(&mut self)
+        ensures { self.new ≡ forgetful self.old }
+    {
+        self.failed = 0;
     }
 
     /// The store.

@@ -16,7 +16,7 @@ use Rattle.dali_record.specs.declared.records.Call.TheVariants.{Insert, Update, 
 use Rattle.dali_record.specs.declared.records.Answer.{Answer}
 use Rattle.dali_record.specs.declared.records.Answer.TheVariants.{Ok as AnswerOk, Exists, Missing, Got, FullHeap, FullIndex, Odd}
 use Rattle.dali_record.specs.declared.records.Record.{Record}
-use Rattle.dali_record.specs.declared.records.Record.TheVariants.{Format, Begin, Op as Forward, Done, Commit, Ended, Solo, AuditBegin, AuditClean, AuditFail, Restarted, Back}
+use Rattle.dali_record.specs.declared.records.Record.TheVariants.{Format, Begin, Forward, Done, Commit, Ended, Solo, AuditBegin, AuditClean, AuditFail, Restarted, Back}
 use Rattle.dali_record.specs.Spelling.{spelling, CanBeSpelled, IsOperation, MayBeUndo, IsBlock, op_bytes, outcome_bytes, undo_bytes, block_bytes, call_bytes, answer_bytes, words_bytes, op_length, outcome_length, undo_length, block_length, call_length, answer_length, record_length}
 
 pub number32_is_4 : (n : ℕ) → length (number32 n) ≡ 4

@@ -13,7 +13,7 @@ use Rattle.dali_record.specs.declared.operations.Block.{Block}
 use Rattle.dali_record.specs.declared.records.Call.{Call}
 use Rattle.dali_record.specs.declared.records.Answer.{Answer}
 use Rattle.dali_record.specs.declared.records.Record.{Record}
-use Rattle.dali_record.specs.declared.records.Record.TheVariants.{Format, Begin, Op as Forward, Done, Commit, Ended, Solo, AuditBegin, AuditClean, AuditFail, Restarted, Back}
+use Rattle.dali_record.specs.declared.records.Record.TheVariants.{Format, Begin, Forward, Done, Commit, Ended, Solo, AuditBegin, AuditClean, AuditFail, Restarted, Back}
 use Rattle.dali_record.specs.Spelling.{byte, op_bytes, outcome_bytes, undo_bytes, block_bytes, call_bytes, answer_bytes, words_bytes, counted32, spelling, Is32, Is64, IsOperation, IsOutcome, MayBeUndo, IsBlock, IsCall, IsAnswer, AreRegions, CanBeSpelled, fits, is_forward, is_back, is_solo, is_answer_of, is_size_of_index, is_size_of_heap, has_list, Begins}
 use Rattle.dali_record.specs.Reading.{At, ◌>>=◌, only, two, tested, HasList, triple, asked_at, masks_at, given_at, block_from, block_at, block_of_at, call_at, answer_at, done_at, version_at, format_at, audit_fail_at, restarted_at, counted32_at, counted64_at, record_rows, record_at}
 use Rattle.dali_record.proofs.Readers.{Takes, Takes-then, IsBytes-rest, bind_some, only_some, found, some_is, AreRows, IsReader, takes_3, again_1, again_2, again_3, tested_reader, row_nothing, row_one, row_two, row_three, numbered_takes}

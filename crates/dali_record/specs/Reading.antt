@@ -19,7 +19,7 @@ use Rattle.dali_record.specs.declared.records.Call.TheVariants.{Insert, Update, 
 use Rattle.dali_record.specs.declared.records.Answer.{Answer}
 use Rattle.dali_record.specs.declared.records.Answer.TheVariants.{Ok as AnswerOk, Exists, Missing, Got, FullHeap, FullIndex, Odd}
 use Rattle.dali_record.specs.declared.records.Record.{Record}
-use Rattle.dali_record.specs.declared.records.Record.TheVariants.{Format, Begin, Op as Forward, Done, Commit, Ended, Solo, AuditBegin, AuditClean, AuditFail, Restarted, Back}
+use Rattle.dali_record.specs.declared.records.Record.TheVariants.{Format, Begin, Forward, Done, Commit, Ended, Solo, AuditBegin, AuditClean, AuditFail, Restarted, Back}
 use Rattle.dali_record.specs.declared.codec.failure.Failure.{Failure}
 use Rattle.dali_record.specs.declared.codec.failure.Failure.TheVariants.{NoSpelling, OutOfMemory}
 use Rattle.dali_record.specs.Spelling.{is_cell, is_entry, is_forward, is_back, is_solo, is_answer_of, is_size_of_index, is_size_of_heap, fits, ascends, has_list}

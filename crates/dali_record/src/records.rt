@@ -48,7 +48,7 @@ pub enum Record {
         txn: u64,
     },
     /// An operation of the transaction's present call.
-    Op {
+    Forward {
         txn: u64,
         block: Block,
     },

@@ -46,6 +46,19 @@ fn read_back(
     let mut into = Vec::new(alloc);
     encode(&found, &mut into)?;
     assert!(rt; bytes.starts_with(&into), "{hexadecimal}");
+    let mut borrowed = Vec::new(alloc);
+    match &found {
+        Record::Forward { txn, block } => {
+            encode_op(*txn, block, &mut borrowed)?;
+            assert_eq!(rt; op_record_length(*txn, block), size as u64, "{hexadecimal}");
+            assert_eq!(rt; borrowed.as_slice(), into.as_slice(), "{hexadecimal}");
+        }
+        Record::Back { txn, block } => {
+            encode_back(*txn, block, &mut borrowed)?;
+            assert_eq!(rt; borrowed.as_slice(), into.as_slice(), "{hexadecimal}");
+        }
+        _ => {}
+    }
     Ok(format!(in alloc; "{found:?}")?)
 }
 

@@ -14,7 +14,7 @@ use Rattle.std.specs.List.{list_any}
 use Rattle.dali_record.specs.declared.operations.Block.{Block}
 use Rattle.dali_record.specs.declared.operations.Undo.{Undo}
 use Rattle.dali_record.specs.declared.records.Record.{Record}
-use Rattle.dali_record.specs.declared.records.Record.TheVariants.{Op as Forward, Back}
+use Rattle.dali_record.specs.declared.records.Record.TheVariants.{Forward, Back}
 use Rattle.dali_record.specs.Blocks.{changes_item}
 use Rattle.dali_record.specs.Log.{Touch, touch_of, undos_of, drop_last, committed}
 use Rattle.dali_record.specs.Epochs.{Epoch}

@@ -98,7 +98,7 @@ impl<'a> Damage<'a> {
         ensures { IfOk result (λ corrupt. corrupt ≡ mark_by (damage_in self.now) records.now marks.now logged.now) }
     {
         match logged {
-            Record::Op { txn, block } => self.is_corrupt(alloc, records, marks, *txn, block),
+            Record::Forward { txn, block } => self.is_corrupt(alloc, records, marks, *txn, block),
             Record::Back { txn, block } => self.is_corrupt(alloc, records, marks, *txn, block),
             Record::Solo { txn, block, .. } => self.is_corrupt(alloc, records, marks, *txn, block),
             _ => Ok(false),

@@ -37,7 +37,7 @@ fn reaches(logged: &Record, txn: u64, block: &Block) -> bool
     ensures { result ≡ reaches txn block.now logged.now }
 {
     match logged {
-        Record::Op {
+        Record::Forward {
             txn: writer,
             block: earlier,
         } => *writer == txn && touches(earlier, block),
@@ -59,7 +59,7 @@ pub fn toucher(logged: &Record) -> Option<u64>
     ensures { result ≡ toucher logged.now }
 {
     match logged {
-        Record::Op { txn, .. } => Some(*txn),
+        Record::Forward { txn, .. } => Some(*txn),
         Record::Back { txn, .. } => Some(*txn),
         Record::Solo { txn, .. } => Some(*txn),
         _ => None,
@@ -71,7 +71,7 @@ fn keep_undo(keys: &mut Vec<u64>, logged: &Record, txn: u64) -> Result<(), Alloc
     ensures { OnOk result (keys.new.items ≡ key_step txn keys.old.items logged.now) }
 {
     match logged {
-        Record::Op { txn: writer, block } => {
+        Record::Forward { txn: writer, block } => {
             if *writer == txn {
                 if let Some(_) = block.undo {
                     keys.push(block.key)?;

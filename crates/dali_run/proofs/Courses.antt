@@ -1,20 +1,19 @@
 -- The commands of a script one after another.
-use Rattle.std.proofs.Common.{◌≡◌, ℕ, ◌+◌, ◌<◌, ◌≤◌, List, [], ◌∷◌, ◌++◌, length, take, drop, get_or, Option, Some, None, Result, Ok, Err, zero, suc, inl, inr, arith, refl, sym, ◌∙◌, ap, subst, append_assoc}
+use Rattle.std.proofs.Common.{◌≡◌, ℕ, ◌+◌, ◌<◌, ◌≤◌, List, [], ◌∷◌, ◌++◌, length, take, get_or, Option, Some, None, Result, Ok, Err, zero, suc, inl, inr, arith, refl, sym, ◌∙◌, ap, subst, append_assoc}
 use Rattle.std.proofs.lemmas.List.{append-nil, take_more}
 use Rattle.std.specs.List.{AllByRecursion}
 use Rattle.dali_store.specs.Faults.{Rose}
 use Rattle.dali_store.specs.Store.{Files}
-use Rattle.dali_streams.specs.Streams.{Appends, AppendsSome}
+use Rattle.dali_streams.specs.Streams.{Appends}
 use Rattle.dali_memstore.specs.Fuse.{inner}
 use Rattle.dali_script.specs.declared.commands.Command.{Command}
 use Rattle.dali_run.specs.declared.halt.Halt.{Halt}
 use Rattle.dali_run.specs.declared.halt.Halt.TheVariants.{BadWords, BadScript, TooLong, ReadFault, WriteFault, StoreFault, BadLog, Unformatted, Formatted, OutOfMemory}
 use Rattle.dali_run.specs.declared.program.Program.{Program}
 use Rattle.dali_engine.specs.declared.engine.Engine.{Engine}
-use Rattle.dali_run.specs.Program.{IsDown, IsUp, IsGatedIn}
-use Rattle.dali_run.specs.Ends.{IsNext, RanWhole, StoppedIn, CutIn}
+use Rattle.dali_run.specs.Program.{IsDown, IsUp, IsGatedIn, settled}
+use Rattle.dali_run.specs.Ends.{RanWhole, StoppedIn}
 use Rattle.dali_run.specs.Run.{RunsAll, HasRun}
-use Rattle.dali_run.specs.Sizes.{HasSizes}
 use Rattle.dali_run.specs.Steps.{Steps}
 use Rattle.dali_run.specs.Stops.{CommandStops, ScriptStops}
 use Rattle.dali_run.proofs.Pieces.{appends_then}
@@ -44,11 +43,11 @@ is_up_down told may_leave p e = subst (λ (o : Option Engine). IsGatedIn told ma
 
 module _ {V : Type 0} (told : V → Option Files) (may_leave : V → Files → Type 0) (moment : V → ℕ) (left_since : V → ℕ → Files → Type 0) (faults : V → ℕ) (cuts : V → ℕ → Option Files) where
   one_more : (done : List Command) (command : Command) (start now next : Program V) (text more : List ℕ) → RunsAll told may_leave moment left_since faults cuts start done text now
-      → Steps told may_leave moment left_since faults cuts now command more next → RunsAll told may_leave moment left_since faults cuts start (done ++ command ∷ []) (text ++ more) next
+      → Steps told may_leave moment left_since faults cuts now command more next → RunsAll told may_leave moment left_since faults cuts start (done ++ command ∷ []) (text ++ more) (settled next)
   one_more [] command start now next text more run step =
       (more, next, [], subst (λ (p : Program V). Steps told may_leave moment left_since faults cuts p command more next) run.1 step, (refl, refl), ap (λ (l : List ℕ). l ++ more) run.0 ∙ sym (append-nil more))
   one_more (c ∷ done) command start now next text more run step =
-      (run.0, run.1, run.2 ++ more, run.3, one_more done command run.1 now next run.2 more run.4 step, ap (λ (l : List ℕ). l ++ more) run.5 ∙ append_assoc run.0 run.2 more)
+      (run.0, run.1, run.2 ++ more, run.3, one_more done command (settled run.1) now next run.2 more run.4 step, ap (λ (l : List ℕ). l ++ more) run.5 ∙ append_assoc run.0 run.2 more)
 
   -- so many commands were run, and their lines written
   pub record Reached (start : V) (script : List Command) (count : ℕ) (before : Option (List ℕ)) (now : Program V) (after : Option (List ℕ)) : Type 0 where
@@ -65,16 +64,16 @@ module _ {V : Type 0} (told : V → Option Files) (may_leave : V → Files → T
 
   more_run : (start : V) (script : List Command) (count : ℕ) (command : Command) (text more : List ℕ) (now next : Program V) → count < length script → command ≡ get_or script count command
       → HasRun told may_leave moment left_since faults cuts start script count text now → Steps told may_leave moment left_since faults cuts now command more next
-      → HasRun told may_leave moment left_since faults cuts start script (count + 1) (text ++ more) next
+      → HasRun told may_leave moment left_since faults cuts start script (count + 1) (text ++ more) (settled next)
   more_run start script count command text more now next within is run step = record {
     first = run.first;
     down = run.down;
-    runs = subst (λ (cs : List Command). RunsAll told may_leave moment left_since faults cuts run.first cs (text ++ more) next) (sym (front_more script count command within is))
+    runs = subst (λ (cs : List Command). RunsAll told may_leave moment left_since faults cuts run.first cs (text ++ more) (settled next)) (sym (front_more script count command within is))
         (one_more (take count script) command run.first now next text more run.runs step);
   }
 
   pub goes_on : (start : V) (script : List Command) (count : ℕ) (command : Command) (before mid after : Option (List ℕ)) (now next : Program V) → count < length script → command ≡ get_or script count command
-      → Reached start script count before now mid → (text : List ℕ) × Steps told may_leave moment left_since faults cuts now command text next × Appends mid text after → Reached start script (count + 1) before next after
+      → Reached start script count before now mid → (text : List ℕ) × Steps told may_leave moment left_since faults cuts now command text next × Appends mid text after → Reached start script (count + 1) before (settled next) after
   goes_on start script count command before mid after now next within is r done = record {
     text = r.text ++ done.0;
     run = more_run start script count command r.text done.0 now next within is r.run done.1;

@@ -1,5 +1,5 @@
 -- What a crash leaves at any moment of a run, and what the lines told until then.
-use Rattle.std.proofs.Common.{◌≡◌, ◌⊎◌, inl, inr, ⊎_elim, ℕ, ◌+◌, ◌≤◌, Bool, true, false, List, [], ◌∷◌, ◌++◌, length, take, slice_index, Option, Some, None, refl, sym, ◌∙◌, ap, subst, append_assoc, arith}
+use Rattle.std.proofs.Common.{◌≡◌, ◌⊎◌, inl, inr, ⊎_elim, ℕ, ◌≤◌, Bool, true, false, List, [], ◌∷◌, ◌++◌, length, slice_index, Option, Some, None, refl, sym, ◌∙◌, ap, subst, arith}
 use Rattle.std.specs.Prelude.{IfSome, is_some}
 use Rattle.std.specs.List.{AllByRecursion}
 use Rattle.std.proofs.lemmas.List.{append-nil}
@@ -35,14 +35,14 @@ use Rattle.dali_engine.specs.declared.engine.Engine.{Engine}
 use Rattle.dali_engine.specs.declared.engine.Cause.{Cause}
 use Rattle.dali_engine.specs.declared.engine.Stage.{Stage}
 use Rattle.dali_engine.specs.declared.engine.Stage.TheVariants.{Outside}
-use Rattle.dali_engine.specs.Acts.{act, logs, flushes, flushed_by, audited, audit_line, verdict_line}
-use Rattle.dali_engine.specs.Flushes.{Turn, Acts, ActsAll, Lost, LostIn, Shows, ShowsUnless}
-use Rattle.dali_engine.specs.Held.{IsListing, listing, value_in, ShowsAll}
-use Rattle.dali_engine.specs.Memory.{failing, formatted_regions, strays}
-use Rattle.dali_engine.specs.Opening.{IsRestored, IsNew, MakesAtAnyMoment, first_body}
+use Rattle.dali_engine.specs.Acts.{act, logs, flushes, flushed_by, audited, verdict_line}
+use Rattle.dali_engine.specs.Flushes.{Turn, Lost, ShowsUnless}
+use Rattle.dali_engine.specs.Held.{IsListing, value_in, ShowsAll}
+use Rattle.dali_engine.specs.Memory.{failing, strays}
+use Rattle.dali_engine.specs.Opening.{IsRestored, MakesAtAnyMoment, first_body}
 use Rattle.dali_engine.specs.Replay.{unfinished}
-use Rattle.dali_engine.specs.Standing.{Rests, Serves}
-use Rattle.dali_engine.specs.State.{Log, LogIs, Leaves, RunsOn, RunsUnless, IsOwn, IsAt, Grows, GoesOn, open_in, log_by, all_records, new_log, found_log}
+use Rattle.dali_engine.specs.Standing.{Rests}
+use Rattle.dali_engine.specs.State.{Log, LogIs, RunsUnless, IsOwn, IsAt, GoesOn, open_in, log_by, new_log, found_log}
 use Rattle.dali_engine.specs.Told.{Told, told_by, AreNamed, AllCommitted, Knows}
 use Rattle.dali_engine.proofs.Blocks.{wrote_tells, block_goes}
 use Rattle.dali_engine.proofs.Commands.{command_goes}
@@ -54,14 +54,14 @@ use Rattle.dali_engine.proofs.Wanting.{lost_acts}
 use Rattle.dali_run.specs.declared.halt.Halt.{Halt}
 use Rattle.dali_run.specs.declared.halt.Halt.TheVariants as halts
 use Rattle.dali_run.specs.declared.program.Program.{Program}
-use Rattle.dali_run.specs.Fails.{LeavesLess, BlockUntold, LostInBlock, LostInRound, ActsUntold, LostAlone, BreaksRound, BreaksAct, Breaks, Fails}
-use Rattle.dali_run.specs.Program.{Running, running, turn, told_in as told_by_store, leaves_in, moment_in, since_in, faults_in}
+use Rattle.dali_run.specs.Fails.{LostInBlock, BreaksRound, BreaksAct, Breaks, Fails}
+use Rattle.dali_run.specs.Program.{Running, running, settled, turn, told_in as told_by_store, leaves_in, moment_in, since_in, faults_in}
 use Rattle.dali_run.specs.Run.{RunsAll}
 use Rattle.dali_run.specs.Served.{EndsOutside, ClosesBlocks, IsServing, ServesBehind, ServesOn}
 use Rattle.dali_run.specs.Sizes.{HasSizes}
-use Rattle.dali_run.specs.Steps.{Steps, StepsSize, StepsRestart, Restarts, RestartStops, RoundIn, RunsBlock, RunsBlocks, ActsIn, ActsAlone, StepsCrash, ShowsIn, StepsFuse, Reads, sizes_of}
-use Rattle.dali_run.specs.Survives.{HasLog, HasNone, Holds, IsOwn as IsOwnStore, loaded, nothing_told, told_block, told_blocks, told_round, told_alone, told_step, told_run, AuditAnswers, ShowsReplay, ShowAnswers, RestartAnswers, Answers, StepSurvives, AllSurvive}
-use Rattle.dali_run.proofs.Served.{grown_serves, left_serves, behind_more, kept_told, closed_after, from_goes, same_store, acts_tell, behind, then_serves, block_serves, blocks_serve, size_serves, audit_stays, same_program}
+use Rattle.dali_run.specs.Steps.{Steps, StepsSize, StepsRestart, Restarts, RoundIn, RunsBlock, RunsBlocks, ActsIn, ShowsIn, sizes_of}
+use Rattle.dali_run.specs.Survives.{HasLog, Holds, IsOwn as IsOwnStore, loaded, nothing_told, told_block, told_blocks, told_round, told_alone, told_step, told_run, AuditAnswers, ShowAnswers, RestartAnswers, Answers, StepSurvives, AllSurvive}
+use Rattle.dali_run.proofs.Served.{grown_serves, left_serves, behind_more, kept_told, closed_after, from_goes, same_store, acts_tell, behind, then_serves, block_serves, blocks_serve, size_serves, audit_stays, same_program, serving_settled}
 
 -- ---- files
 holds_behind : (l : Log) (base : List (List Record)) (c : Files) → l.batches ≡ base → ServesBehind l c → Holds base c
@@ -81,7 +81,7 @@ pub never_bad : (base : List (List Record)) (c : Files) (at : ℕ) → BadAt c.l
 never_bad base c at bad (inl bare) = bad.formatted bare.0
 never_bad base c at bad (inr has) = log_is_good c.log has.L has.log.0 at has.log.1 bad
 
-never_told : (o : Option Files) → o ≡ None → is_some o ≡ true → ⊥
+pub never_told : (o : Option Files) → o ≡ None → is_some o ≡ true → ⊥
 never_told None e t = absurd cc
 never_told (Some x) e t = absurd cc
 
@@ -467,13 +467,20 @@ module _ {V : Type 0} (told : V → Option Files) (may_leave : V → Files → T
   pub survives : (command : Command) (base : List (List Record)) (t : Told) (old new : Program V) (text : List ℕ) (t' : Told) → (k : Keeps command base t old text new t') → StepSurvives told may_leave moment left_since faults cuts command base t old text new k.base' t'
   survives command base t old new text t' k = record { during = k.during; grows = k.grows; behind = k.stays.safe; acknowledged = k.stays.acknowledged; answers = k.answers }
 
+  stays_settled : (base : List (List Record)) (t : Told) (p : Program V) → Stays base t p → Stays base t (settled p)
+  stays_settled base t p s = record { tells = s.tells; safe = s.safe; acknowledged = s.acknowledged; up = up_settled p.engine s.up }
+    where
+      up_settled : (o : Option Engine) → IfSome o (UpAt p base t) → IfSome o (UpAt (settled p) base t)
+      up_settled None up = tt
+      up_settled (Some e) up = (up.0, serving_settled told may_leave moment left_since faults cuts reads_now counts_now only_now (record p { engine = p.engine }) up.0 up.1, up.2, up.3)
+
   pub all_keep : (commands : List Command) (base : List (List Record)) (t : Told) (old new : Program V) (text : List ℕ) → AllByRecursion HasSizes commands → AllByRecursion ClosesBlocks commands → Stays base t old
       → (runs : RunsAll told may_leave moment left_since faults cuts old commands text new) → AllKeep commands base t old text new runs
   all_keep [] base t old new text sizes closes s runs = record { base' = base; survive = refl; stays = subst (Stays base t) (sym runs.1) s }
   all_keep (command ∷ later) base t old new text sizes closes s runs =
       let first = step_keeps command base t old runs.1 runs.0 sizes.0 closes.0 s runs.3 in
       let t' = told_step told may_leave moment left_since faults cuts command old runs.0 runs.1 runs.3 t in
-      let rest = all_keep later first.base' t' runs.1 new runs.2 sizes.1 closes.1 first.stays runs.4 in
+      let rest = all_keep later first.base' t' (settled runs.1) new runs.2 sizes.1 closes.1 (stays_settled first.base' t' runs.1 first.stays) runs.4 in
       record { base' = rest.base'; survive = (first.base', survives command base t old runs.1 runs.0 t' first, rest.survive); stays = rest.stays }
 
   -- ---- a command that ends the run

@@ -26,10 +26,10 @@ use Rattle.dali_run.proofs.Sized.{all_sized}
 use Rattle.dali_run.proofs.Wholes.{all_close}
 
 -- of the first commands
-front : {X : Type 0} (P : X → Type 0) (n : ℕ) (xs : List X) → AllByRecursion P xs → AllByRecursion P (take n xs)
+pub front : {X : Type 0} (P : X → Type 0) (n : ℕ) (xs : List X) → AllByRecursion P xs → AllByRecursion P (take n xs)
 front P n xs all = (all_parts P (take n xs) (drop n xs) (subst (AllByRecursion P) (sym (take-append-drop n xs)) all)).0
 
-next : {X : Type 0} (P : X → Type 0) (n : ℕ) (x : X) (xs : List X) → take (n + 1) xs ≡ take n xs ++ x ∷ [] → AllByRecursion P xs → P x
+pub next : {X : Type 0} (P : X → Type 0) (n : ℕ) (x : X) (xs : List X) → take (n + 1) xs ≡ take n xs ++ x ∷ [] → AllByRecursion P xs → P x
 next P n x xs is all = (all_parts P (take n xs) (x ∷ []) (subst (AllByRecursion P) is (front P (n + 1) xs all))).1.0
 
 module _ {V : Type 0} (told : V → Option Files) (may_leave : V → Files → Type 0) (moment : V → ℕ) (left_since : V → ℕ → Files → Type 0) (faults : V → ℕ) (cuts : V → ℕ → Option Files)
@@ -82,7 +82,7 @@ module _ {V : Type 0} (told : V → Option Files) (may_leave : V → Files → T
         acknowledged = all.stays.acknowledged;
       }
 
-  module _ (words : List (List ℕ)) (base : List (List Record)) (c : Course V) (mid : Option (List ℕ)) (own : IsOwn told may_leave base c.store) where
+  module _ (words : List (List ℕ)) (base : List (List Record)) (c : Course V) (mid : Option (List ℕ)) (count : ℕ) (own : IsOwn told may_leave base c.store) where
     abbrev Sizes : List Command → Type 0
     Sizes script = AllByRecursion HasSizes script × AllByRecursion ClosesBlocks script
 
@@ -92,17 +92,17 @@ module _ {V : Type 0} (told : V → Option Files) (may_leave : V → Files → T
       all_close script start (command_lines spells.bytes) spells.spelled.end spells.spelled.reads,
     )
 
-    untouched : c.store' ≡ c.store → NoneRan told may_leave moment left_since faults cuts words base c mid
+    untouched : c.store' ≡ c.store → NoneRan told may_leave moment left_since faults cuts words base c mid count
     untouched same = subst (IsOwn told may_leave base) (sym same) own
 
     until : (halt : Halt) (stopped : HasStopped told may_leave moment left_since faults cuts words halt c mid)
         → AllKeep told may_leave moment left_since faults cuts reads_now counts_now only_now tells_cuts (take stopped.2.count stopped.0) base nothing_told stopped.2.run.first stopped.2.text stopped.2.state stopped.2.run.runs
     until halt stopped = let two = both stopped.0 stopped.1 in reached base c.store stopped.0 stopped.2.count stopped.2.text stopped.2.state stopped.2.run two.0 two.1 own
 
-    abbrev halted : (halt : Halt) (stopped : HasStopped told may_leave moment left_since faults cuts words halt c mid) → HaltSurvives told may_leave moment left_since faults cuts words base c mid halt stopped
+    abbrev halted : (halt : Halt) (stopped : HasStopped told may_leave moment left_since faults cuts words halt c mid) → HaltSurvives told may_leave moment left_since faults cuts words base c mid count halt stopped
     halted halt stopped = let two = both stopped.0 stopped.1 in stop_kept base halt c.store stopped.0 c.taken mid c.store' stopped.2 two.0 two.1 (until halt stopped)
 
-    wanting : (either : Untouched told may_leave moment left_since faults cuts words c mid ⊎ HasStopped told may_leave moment left_since faults cuts words halts.OutOfMemory c mid) → MemorySurvives told may_leave moment left_since faults cuts words base c mid either
+    wanting : (either : Untouched told may_leave moment left_since faults cuts words c mid ⊎ HasStopped told may_leave moment left_since faults cuts words halts.OutOfMemory c mid) → MemorySurvives told may_leave moment left_since faults cuts words base c mid count either
     wanting (inl same) = untouched same.0
     wanting (inr stopped) = halted halts.OutOfMemory stopped
 
@@ -127,7 +127,7 @@ module _ {V : Type 0} (told : V → Option Files) (may_leave : V → Files → T
         by_told None b tells none now safe = absurd cc
         by_told (Some fs) b tells none now safe = none_kept b fs none (safe fs now)
 
-    pub ended_kept : (status : Status) (ended : Ended told may_leave moment left_since faults cuts words c mid status) → HasKept told may_leave moment left_since faults cuts words base c mid status ended
+    pub ended_kept : (status : Status) (ended : Ended told may_leave moment left_since faults cuts words c mid count status) → HasKept told may_leave moment left_since faults cuts words base c mid count status ended
     ended_kept statuses.Done ended = let two = both ended.1.0 ended.1.1 in whole_kept base c.store ended.1.0 c.taken mid c.store' ended.1.2 two.0 two.1 own
     ended_kept statuses.BadWords ended = untouched ended.2.0
     ended_kept (statuses.BadScript line kind) ended = untouched ended.2.0

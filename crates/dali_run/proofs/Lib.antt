@@ -1,5 +1,6 @@
 mod Alone
 mod Blocks
+mod Complete
 mod Courses
 mod Endings
 mod Fronts

@@ -1,5 +1,5 @@
 -- A database was made.
-use Rattle.std.proofs.Common.{◌≡◌, ℕ, List, [], Option, Some, None, refl, sym, subst}
+use Rattle.std.proofs.Common.{◌≡◌, ℕ, List, [], Option, Some, refl, sym, subst}
 use Rattle.std.specs.Prelude.{IfSome, is_some}
 use Rattle.dali_batch.specs.Batch.{IsUnformatted}
 use Rattle.dali_engine.specs.declared.engine.Engine.{Engine}

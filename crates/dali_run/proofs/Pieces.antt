@@ -1,6 +1,5 @@
 -- Texts that are written one behind another.
-use Rattle.std.proofs.Common.{◌≡◌, ℕ, zero, suc, ◌+◌, ◌≤◌, List, [], ◌∷◌, ◌++◌, length, length-append, take, Option, Some, None, Result, Ok, Err, refl, sym, ◌∙◌, ap, subst, arith, append_assoc}
-use Rattle.std.specs.Prelude.{OnOk}
+use Rattle.std.proofs.Common.{◌≡◌, ℕ, zero, suc, ◌+◌, ◌≤◌, List, [], ◌∷◌, ◌++◌, length, length-append, take, Option, Some, None, refl, ◌∙◌, ap, arith, append_assoc}
 use Rattle.dali_streams.specs.Streams.{Appends, AppendsSome}
 
 pub appends_then : (t0 t1 t2 : Option (List ℕ)) (a b : List ℕ) → Appends t0 a t1 → Appends t1 b t2 → Appends t0 (a ++ b) t2

@@ -20,19 +20,18 @@ use Rattle.dali_engine.specs.declared.engine.Engine.{Engine}
 use Rattle.dali_engine.specs.declared.engine.Cause.{Cause}
 use Rattle.dali_engine.specs.declared.engine.Stage.{Stage}
 use Rattle.dali_engine.specs.declared.engine.Stage.TheVariants.{Outside, Within, LeftOut}
-use Rattle.dali_engine.specs.Acts.{act, begin_in, insert_in, get_in, commit_in, audit_in, committed_by}
-use Rattle.dali_engine.specs.Flushes.{Turn, Acts, ActsAll}
-use Rattle.dali_engine.specs.Opening.{IsRestored, IsNew, Makes}
-use Rattle.dali_engine.specs.Standing.{Rests, Serves}
-use Rattle.dali_engine.specs.State.{Log, LogIs, Leaves, RunsUnless, RunsOn, IsOwn, IsAt, Grows, GoesOn, open_in, log_by, new_log, found_log}
-use Rattle.dali_engine.proofs.Standing.{serves}
+use Rattle.dali_engine.specs.Acts.{act, insert_in, get_in, commit_in, audit_in}
+use Rattle.dali_engine.specs.Flushes.{Turn, ActsAll}
+use Rattle.dali_engine.specs.Opening.{IsRestored}
+use Rattle.dali_engine.specs.Standing.{Rests}
+use Rattle.dali_engine.specs.State.{Log, LogIs, RunsUnless, IsOwn, IsAt, Grows, GoesOn, open_in, log_by, new_log, found_log}
 use Rattle.dali_engine.proofs.Goes.{served}
 use Rattle.dali_engine.proofs.Opened.{made_at, made_own, found_own}
 use Rattle.dali_engine.proofs.Commands.{command_goes}
 use Rattle.dali_engine.proofs.Blocks.{block_goes, wrote_tells}
 use Rattle.dali_run.specs.declared.program.Program.{Program}
-use Rattle.dali_run.specs.Program.{Running, running, turn, told_in, leaves_in, moment_in, since_in, faults_in}
-use Rattle.dali_run.specs.Steps.{Steps, StepsSize, StepsRestart, Restarts, RestartStops, StepsRound, RoundIn, RunsBlock, RunsBlocks, StepsAct, ActsIn, ActsAlone, StepsCrash, StepsShow, ShowsIn, StepsFuse, sizes_of}
+use Rattle.dali_run.specs.Program.{Running, running, settled, turn, told_in, leaves_in, moment_in, since_in, faults_in}
+use Rattle.dali_run.specs.Steps.{Steps, StepsSize, Restarts, RestartStops, RoundIn, RunsBlock, RunsBlocks, ActsIn, StepsCrash, ShowsIn, sizes_of}
 use Rattle.dali_run.specs.Served.{is_open_after, EndsOutside, IsWhole, ServesBehind, IsServing, ServesOn, RunServes}
 use Rattle.dali_run.specs.Run.{RunsAll}
 
@@ -336,6 +335,17 @@ module _ {V : Type 0} (told : V → Option Files) (may_leave : V → Files → T
         engine = subst (λ (o : Option Engine). IfSome o (λ e. RunsUnless e (new_log (sizes_of index heap)) × IsOwn e (new_log (sizes_of index heap)) None)) (sym step.up) (at.runs, own);
       }
 
+  -- ---- between two commands
+  pub serving_settled : (p : Program V) (l : Log) → IsServing told may_leave p l → IsServing told may_leave (settled p) l
+  serving_settled p l s = record { tells = s.tells; leaves = s.leaves; rests = s.rests; rests_more = s.rests_more; engine = s.engine }
+
+  from_settled : (p new : Program V) (l l' : Log) → ServesOn told may_leave moment left_since (settled p) l new l' → ServesOn told may_leave moment left_since p l new l'
+  from_settled p new l l' s = record {
+    serving = s.serving;
+    kept = s.kept;
+    any_moment = record { later = s.any_moment.later; each = s.any_moment.each; before = s.any_moment.before };
+  }
+
   -- ---- the commands one after another
   pub all_serve : ((s : V) (n : ℕ) → is_some (cuts s n) ≡ is_some (told s)) → (commands : List Command) (old new : Program V) (text : List ℕ) (l : Log) → AllByRecursion IsWhole commands → IsServing told may_leave old l
       → RunsAll told may_leave moment left_since faults cuts old commands text new → RunServes told may_leave moment left_since old l new
@@ -346,5 +356,5 @@ module _ {V : Type 0} (told : V → Option Files) (may_leave : V → Files → T
   all_serve tells_cuts (command ∷ later) old new text l whole s run =
       let mid = run.1 in
       let first = step_serves tells_cuts command old mid run.0 l whole.0 s run.3 in
-      let rest = all_serve tells_cuts later mid new run.2 first.0 whole.1 first.1.serving run.4 in
-      record { log = rest.log; serves = then_serves old mid new l first.0 rest.log first.1 rest.serves }
+      let rest = all_serve tells_cuts later (settled mid) new run.2 first.0 whole.1 (serving_settled mid first.0 first.1.serving) run.4 in
+      record { log = rest.log; serves = then_serves old mid new l first.0 rest.log first.1 (from_settled mid new first.0 rest.log rest.serves) }

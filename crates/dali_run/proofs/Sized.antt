@@ -1,27 +1,25 @@
 -- In a script that is spelled, the sizes of a database are in range.
-use Rattle.std.proofs.Common.{◌≡◌, ◌≤◌, ℕ, Bool, true, false, not, ◌||◌, List, [], ◌∷◌, ◌++◌, Option, Some, None, refl, sym, ◌∙◌, ap, subst, arith}
+use Rattle.std.proofs.Common.{◌≡◌, ◌≤◌, ℕ, Bool, true, false, not, ◌||◌, List, [], ◌∷◌, Option, Some, None, refl, ◌∙◌, ap, subst, arith}
 use Rattle.std.specs.Prelude.{Result, Ok, Err, ok_or, nat_lt}
 use Rattle.std.specs.List.{AllByRecursion}
 use Rattle.std.proofs.lemmas.Bool.Decides.{nat_tests}
 use Rattle.dali_geometry.specs.Sizes.{AreInRange}
-use Rattle.dali_script.specs.Faults.{◌>>=◌, test}
+use Rattle.dali_script.specs.Faults.{◌>>=◌}
 use Rattle.dali_script.specs.Names.{name_of}
 use Rattle.dali_script.specs.Items.{Text, item_of, number_in, range_of}
 use Rattle.dali_script.specs.Texts.{number_of, within}
 use Rattle.dali_script.specs.Places.{is_start, may_stand}
-use Rattle.dali_script.specs.Grammar.{Context, begins_a_script, is_built, is_new_here, verdict, next, Reads, lines_of_command, lines_of_script}
-use Rattle.dali_script.proofs.Verdicts.{bind_ok, test_ok, name_of_line, item_name}
-use Rattle.dali_script.specs.declared.faults.Kind.{Kind}
+use Rattle.dali_script.specs.Grammar.{Context, begins_a_script, is_built, is_new_here, verdict, Reads, lines_of_command, lines_of_script}
+use Rattle.dali_script.proofs.Verdicts.{bind_ok, test_ok, item_name}
 use Rattle.dali_script.specs.declared.faults.Kind.TheVariants as kind
 use Rattle.dali_script.specs.declared.names.Name.{Name}
 use Rattle.dali_script.specs.declared.names.Name.TheVariants as name
-use Rattle.dali_script.specs.declared.items.Item.{Item}
 use Rattle.dali_script.specs.declared.items.Item.TheVariants as item
 use Rattle.dali_script.specs.declared.commands.Command.{Command}
 use Rattle.dali_script.specs.declared.commands.Command.TheVariants as single
 use Rattle.dali_run.specs.Sizes.{HasSizes, HaveSizes}
 use Rattle.dali_run.specs.Steps.{sizes_of}
-use Rattle.dali_run.proofs.Wholes.{Numbered, Parted, parts}
+use Rattle.dali_run.proofs.Wholes.{Numbered, parts}
 
 record Between (low high n : ℕ) : Type 0 where
   above : low ≤ n

@@ -1,21 +1,17 @@
 -- In a script that is spelled, each block ends outside of a transaction, and only the first command makes a database.
-use Rattle.std.proofs.Common.{◌≡◌, ℕ, Bool, true, false, not, ◌||◌, List, [], ◌∷◌, ◌++◌, map, flat_map, refl, sym, ◌∙◌, ap, subst, append_assoc}
-use Rattle.std.specs.Prelude.{Result, Ok, Err, ok_or}
+use Rattle.std.proofs.Common.{◌≡◌, ℕ, Bool, true, false, not, ◌||◌, List, [], ◌∷◌, ◌++◌, map, flat_map, refl, sym, ◌∙◌, ap, subst}
+use Rattle.std.specs.Prelude.{Ok, ok_or}
 use Rattle.std.specs.List.{AllByRecursion}
-use Rattle.dali_script.specs.Faults.{◌>>=◌, test}
 use Rattle.dali_script.specs.Names.{name_of}
 use Rattle.dali_script.specs.Items.{Text, item_of}
-use Rattle.dali_script.specs.Places.{is_start, is_outside, is_in_block, is_in_transaction, may_stand, after}
+use Rattle.dali_script.specs.Places.{is_start, is_in_transaction, may_stand, after}
 use Rattle.dali_script.specs.Grammar.{Context, begins_a_script, is_built, is_new_here, verdict, next, Reads, line_of_step, lines_of_block, lines_of_command, lines_of_script}
-use Rattle.dali_script.proofs.Verdicts.{bind_ok, test_ok, name_of_line, item_name, right_stands, stands}
-use Rattle.dali_script.specs.declared.faults.Kind.{Kind}
+use Rattle.dali_script.proofs.Verdicts.{bind_ok, test_ok, name_of_line, item_name, right_stands}
 use Rattle.dali_script.specs.declared.faults.Kind.TheVariants as kind
 use Rattle.dali_script.specs.declared.names.Name.{Name}
-use Rattle.dali_script.specs.declared.names.Name.TheVariants as name
 use Rattle.dali_script.specs.declared.items.Item.{Item}
 use Rattle.dali_script.specs.declared.items.Item.TheVariants as item
 use Rattle.dali_script.specs.declared.places.Place.{Place}
-use Rattle.dali_script.specs.declared.places.Place.TheVariants as place
 use Rattle.dali_script.specs.declared.commands.Block.{Block}
 use Rattle.dali_script.specs.declared.commands.ClientCommand.{ClientCommand}
 use Rattle.dali_script.specs.declared.commands.ClientCommand.TheVariants as clients
@@ -153,6 +149,10 @@ all_whole (command ∷ later) c ls d e r =
 pub whole_behind : (index heap : ℕ) (later : List Command) (c : Context) (ls : Numbered) (d : Context) → Reads c ls (lines_of_script (single.Size index heap ∷ later)) d → AllByRecursion IsWhole later
 whole_behind index heap later c [] d r = absurd r
 whole_behind index heap later c (l ∷ ls) d r = all_whole later (next l.0 (item.Size index heap) c) ls d refl r.1
+
+pub whole_behind_open : (later : List Command) (c : Context) (ls : Numbered) (d : Context) → Reads c ls (lines_of_script (single.Open ∷ later)) d → AllByRecursion IsWhole later
+whole_behind_open later c [] d r = absurd r
+whole_behind_open later c (l ∷ ls) d r = all_whole later (next l.0 item.Open c) ls d refl r.1
 
 -- the blocks of any script
 one_closes : (command : Command) (c : Context) (ls : Numbered) (d : Context) → Reads c ls (lines_of_command command) d → ClosesBlocks command

@@ -5,8 +5,8 @@
 --     StoppedIn halt            a command ended the run with this: those before it were run and their lines written
 --     CutIn                     the sink failed in writing the lines of a command: the lines of those before it were written, and some of the first bytes of its own
 --     Course, course            what a run was handed, and what it left
---     Ended                     what holds of each status
---     LastLine                  the last line was written behind what was, cut only where the sink's count of faults rose
+--     Ended                     what holds of each status, where this was written before the last line, and the sink's count of faults was this one then
+--     LastLine                  the last line was written behind what was, cut only where the sink's count of faults rose in it
 --     HasEnded                  a run from its start to its end
 use Rattle.std.specs.Prelude.{◌≡◌, ◌⊎◌, ℕ, ◌+◌, ◌<◌, ◌≤◌, List, [], ◌∷◌, ◌++◌, length, take, Option, codes}
 use Rattle.dali_memstore.specs.Fuse.{inner}
@@ -129,22 +129,24 @@ module _ {V : Type 0} (told : V → Option Files) (may_leave : V → Files → T
   abbrev pub HasStopped : Halt → Course V → Option (List ℕ) → Type 0
   HasStopped halt c mid = WithScript c (λ script. StoppedIn told may_leave moment left_since faults cuts halt c.store script c.taken mid c.store')
 
-  -- what holds of each status, where mid was written before the last line
-  abbrev pub Ended : Course V → Option (List ℕ) → Status → Type 0
-  Ended c mid Done = IsRun words × WithScript c (λ script. RanWhole told may_leave moment left_since faults cuts c.store script c.taken mid c.store')
-  Ended c mid BadWords = (IsRun words → ⊥) × Unread c × Untouched c mid
-  Ended c mid (BadScript line kind) = IsRun words × SpellsNone c.left line kind c.left' × Untouched c mid
-  Ended c mid TooLong = IsRun words × ReadTooMany c.left 1048576 c.left' × Untouched c mid
-  Ended c mid ReadFault = IsRun words × Rose c.read_faults c.read_faults' × Untouched c mid
-  Ended c mid WriteFault = IsRun words × Rose c.write_faults c.write_faults' × WithScript c (λ script. CutIn told may_leave moment left_since faults cuts c.store script c.taken mid c.store')
-  Ended c mid StoreFault = IsRun words × HasStopped halts.StoreFault c mid
-  Ended c mid (BadStore file at) = IsRun words × (file ≡ Log) × HasStopped (halts.BadLog at) c mid
-  Ended c mid Unformatted = IsRun words × HasStopped halts.Unformatted c mid
-  Ended c mid Formatted = IsRun words × HasStopped halts.Formatted c mid
-  Ended c mid OutOfMemory = IsRun words × (Untouched c mid ⊎ HasStopped halts.OutOfMemory c mid)
-  Ended c mid (LogFull end limit) = ⊥
+  -- what holds of each status, where mid was written before the last line, and the sink had counted so many faults then
+  abbrev pub Ended : Course V → Option (List ℕ) → ℕ → Status → Type 0
+  Ended c mid count Done = IsRun words × WithScript c (λ script. RanWhole told may_leave moment left_since faults cuts c.store script c.taken mid c.store')
+  Ended c mid count BadWords = (IsRun words → ⊥) × Unread c × Untouched c mid
+  Ended c mid count (BadScript line kind) = IsRun words × SpellsNone c.left line kind c.left' × Untouched c mid
+  Ended c mid count TooLong = IsRun words × ReadTooMany c.left 1048576 c.left' × Untouched c mid
+  Ended c mid count ReadFault = IsRun words × Rose c.read_faults c.read_faults' × Untouched c mid
+  Ended c mid count WriteFault = IsRun words × Rose c.write_faults count × WithScript c (λ script. CutIn told may_leave moment left_since faults cuts c.store script c.taken mid c.store')
+  Ended c mid count StoreFault = IsRun words × HasStopped halts.StoreFault c mid
+  Ended c mid count (BadStore file at) = IsRun words × (file ≡ Log) × HasStopped (halts.BadLog at) c mid
+  Ended c mid count Unformatted = IsRun words × HasStopped halts.Unformatted c mid
+  Ended c mid count Formatted = IsRun words × HasStopped halts.Formatted c mid
+  Ended c mid count OutOfMemory = IsRun words × (Untouched c mid ⊎ HasStopped halts.OutOfMemory c mid)
+  Ended c mid count (LogFull end limit) = ⊥
 
   pub record HasEnded (c : Course V) (status : Status) : Type 0 where
     pub mid : Option (List ℕ)
-    pub ended : Ended c mid status
-    pub last : LastLine mid status c.taken' c.write_faults c.write_faults'
+    pub count : ℕ
+    pub ended : Ended c mid count status
+    pub later : count ≤ c.write_faults'
+    pub last : LastLine mid status c.taken' count c.write_faults'

@@ -1,3 +1,4 @@
+pub mod Complete
 pub mod Ends
 pub mod Fails
 pub mod Halts

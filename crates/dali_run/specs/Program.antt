@@ -1,15 +1,16 @@
 -- What a run holds between two commands, and the store behind its fuse as contracts see it.
 --     IsUnfused f             no fuse is set, and none has failed a call
 --     IsDown p store          the program is down over this store, and no fuse is set
+--     settled p               between two commands: the fuse has forgotten the calls that it failed
 --     told_in, leaves_in, moment_in, since_in, faults_in f      what is said of the store, said of the fuse over it
 --     Running                 an engine that is up or stopped, and its store
 --     turn r stage lines      what a client's command goes on from
 --     IsUp p                  where there is an engine that isn't stopped, a closed gate stands where its log ends
-use Rattle.std.specs.Prelude.{◌≡◌, ℕ, ◌+◌, List, Option, Some, None, IfSome}
+use Rattle.std.specs.Prelude.{◌≡◌, ℕ, ◌+◌, List, Option, None, IfSome}
 use Rattle.dali_engine.specs.declared.engine.Engine.{Engine}
 use Rattle.dali_engine.specs.declared.engine.Stage.{Stage}
 use Rattle.dali_engine.specs.Flushes.{Turn, IsGated}
-use Rattle.dali_memstore.specs.Fuse.{inner, passes_of, failed_of}
+use Rattle.dali_memstore.specs.Fuse.{inner, passes_of, failed_of, forgetful}
 use Rattle.dali_memstore.specs.declared.fuse.Fuse.{Fuse}
 use Rattle.dali_run.specs.declared.program.Program.{Program}
 use Rattle.dali_script.specs.declared.outputs.Line.{Line}
@@ -23,6 +24,9 @@ pub record IsDown {V : Type 0} (p : Program V) (store : V) : Type 0 where
   pub store_is : inner p.store ≡ store
   pub unfused : IsUnfused p.store
   pub engine_is : p.engine ≡ None
+
+abbrev pub settled : {V : Type 0} → Program V → Program V
+settled p = record p { store = forgetful p.store }
 
 pub record Running (V : Type 0) : Type 0 where
   pub engine : Engine

@@ -5,7 +5,7 @@
 --     IsServing p l            the store tells its files, and they hold the log l, in all that a crash may leave, as the engine wrote it; an engine that runs stands at it
 --     ServesBehind l c         files that a crash leaves: a log with all batches of l at its front, from which a restart gives just the serial replay of its committed transactions
 --     ServesOn old l new l'    a command led from one to the other: no batch is lost, and a crash at any moment of it leaves such files
-use Rattle.std.specs.Prelude.{◌≡◌, ◌⊎◌, ℕ, Bool, true, false, List, [], ◌∷◌, ◌++◌, Option, Some, None, IfSome, is_some}
+use Rattle.std.specs.Prelude.{◌≡◌, ℕ, Bool, true, false, List, [], ◌∷◌, ◌++◌, Option, None, IfSome, is_some}
 use Rattle.std.specs.List.{AllByRecursion}
 use Rattle.dali_store.specs.Store.{Files, LeavesOnly}
 use Rattle.dali_record.specs.declared.records.Record.{Record}

@@ -8,7 +8,7 @@
 --     WholeSurvives, CutSurvives, StopSurvives       a run of all commands of a script; one whose last lines couldn't be written; one that a command ended
 --     HasKept ..               any run that ended
 use Rattle.std.proofs.Common.{inl, inr}
-use Rattle.std.specs.Prelude.{◌≡◌, ◌⊎◌, ℕ, ◌+◌, List, [], ◌∷◌, ◌++◌, length, take, Option, Some, None, IfSome, is_some, true}
+use Rattle.std.specs.Prelude.{◌≡◌, ◌⊎◌, ℕ, List, [], ◌∷◌, ◌++◌, length, take, Option, Some, None, is_some, true}
 use Rattle.dali_batch.specs.Batch.{IsUnformatted}
 use Rattle.dali_batch.specs.Log.{AreSpelled, body_bytes, records_in}
 use Rattle.dali_engine.specs.declared.engine.Engine.{Engine}
@@ -19,7 +19,6 @@ use Rattle.dali_engine.specs.Standing.{Rests, Serves}
 use Rattle.dali_engine.specs.State.{LogIs}
 use Rattle.dali_engine.specs.Told.{Told, told_by, told_in, AreNamed, AllCommitted}
 use Rattle.dali_history.specs.Serial.{Map, empty_map, serial}
-use Rattle.dali_memstore.specs.declared.fuse.Fuse.{Fuse}
 use Rattle.dali_record.specs.declared.records.Record.{Record}
 use Rattle.dali_record.specs.Log.{committed}
 use Rattle.dali_report.specs.Texts.{texts}
@@ -38,7 +37,7 @@ use Rattle.dali_run.specs.declared.program.Program.{Program}
 use Rattle.dali_run.specs.declared.status.Status.{Status}
 use Rattle.dali_run.specs.declared.status.Status.TheVariants.{Done, WriteFault, StoreFault, BadStore, Unformatted, Formatted, OutOfMemory}
 use Rattle.dali_run.specs.Ends.{RanWhole, StoppedIn, CutIn, Course, Ended, Untouched, HasStopped}
-use Rattle.dali_run.specs.Program.{Running, running, turn, told_in as told_by_store, leaves_in, moment_in, since_in, faults_in}
+use Rattle.dali_run.specs.Program.{Running, running, settled, turn, told_in as told_by_store, leaves_in, moment_in, since_in, faults_in}
 use Rattle.dali_run.specs.Run.{RunsAll, HasRun}
 use Rattle.dali_run.specs.Steps.{Steps, RunsBlock, RunsBlocks, RoundIn, ActsIn}
 
@@ -98,7 +97,7 @@ module _ {V : Type 0} (told : V → Option Files) (may_leave : V → Files → T
 
     abbrev pub told_run : (commands : List Command) (old : Program V) (text : List ℕ) (new : Program V) → RunsAll told may_leave moment left_since faults cuts old commands text new → Told → Told
     told_run [] old text new runs t = t
-    told_run (command ∷ later) old text new runs t = told_run later runs.1 runs.2 new runs.4 (told_step command old runs.0 runs.1 runs.3 t)
+    told_run (command ∷ later) old text new runs t = told_run later (settled runs.1) runs.2 new runs.4 (told_step command old runs.0 runs.1 runs.3 t)
 
 -- ---- what is printed
 -- an audit names the regions whose masks have another exclusive-or than 0, of all pokes that were answered ok since the load
@@ -148,7 +147,7 @@ module _ {V : Type 0} (told : V → Option Files) (may_leave : V → Files → T
   AllSurvive [] base t old text new runs base' = base' ≡ base
   AllSurvive (command ∷ later) base t old text new runs base' =
       let t' = told_step told may_leave moment left_since faults cuts command old runs.0 runs.1 runs.3 t in
-      (mid : List (List Record)) × StepSurvives command base t old runs.0 runs.1 mid t' × AllSurvive later mid t' runs.1 runs.2 new runs.4 base'
+      (mid : List (List Record)) × StepSurvives command base t old runs.0 runs.1 mid t' × AllSurvive later mid t' (settled runs.1) runs.2 new runs.4 base'
 
   -- what was told by a run whose lines were written
   abbrev pub told_after : (start : V) (script : List Command) (count : ℕ) (text : List ℕ) (new : Program V) → HasRun told may_leave moment left_since faults cuts start script count text new → Told
@@ -180,7 +179,7 @@ module _ {V : Type 0} (told : V → Option Files) (may_leave : V → Files → T
     pub behind : IsOwn told may_leave base' end
     pub acknowledged : AllCommitted (told_after start script stops.count stops.text stops.state stops.run).acknowledged base'
 
-  module _ (words : List (List ℕ)) (base : List (List Record)) (c : Course V) (mid : Option (List ℕ)) where
+  module _ (words : List (List ℕ)) (base : List (List Record)) (c : Course V) (mid : Option (List ℕ)) (count : ℕ) where
     -- no command was run
     abbrev pub NoneRan : Type 0
     NoneRan = IsOwn told may_leave base c.store'
@@ -193,7 +192,7 @@ module _ {V : Type 0} (told : V → Option Files) (may_leave : V → Files → T
     MemorySurvives (inr stopped) = HaltSurvives halts.OutOfMemory stopped
 
     -- a log of this program is never bad, and where there is none nothing was acknowledged
-    abbrev pub HasKept : (status : Status) → Ended told may_leave moment left_since faults cuts words c mid status → Type 0
+    abbrev pub HasKept : (status : Status) → Ended told may_leave moment left_since faults cuts words c mid count status → Type 0
     HasKept Done ended = WholeSurvives base c.store ended.1.0 c.taken mid c.store' ended.1.2
     HasKept WriteFault ended = CutSurvives base c.store ended.2.0 c.taken mid c.store' ended.2.2
     HasKept StoreFault ended = HaltSurvives halts.StoreFault ended.1

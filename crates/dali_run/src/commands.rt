@@ -123,6 +123,7 @@ fn act<V: Store>(
     store: &mut Fuse<V>,
 ) -> Result<Vec<u8>, Halt>
     requires gated { IsGated (told_in V.told) (leaves_in V.told V.may_leave) engine.old store.old }
+    requires unspent { failed_of store.old ≡ 0 }
     ensures acts { IfOk result (λ text. ActsAlone V.told V.may_leave V.moment V.left_since V.faults command.now (running engine.old store.old) text.items (running engine.new store.new)) }
     ensures gated { OnOk result (IsGated (told_in V.told) (leaves_in V.told V.may_leave) engine.new store.new) }
     ensures lost { OnErr result (LostAlone V.told V.may_leave V.moment V.left_since V.faults command.now (running engine.old store.old) store.new) }
@@ -149,6 +150,7 @@ fn show_lines(alloc: Global, engine: &Engine) -> Result<Vec<u8>, OutOfMemory>
 impl<V: Store> Program<V> {
     // Gives the memory up, and finds the database in the store's files.
     fn restart(&mut self, alloc: Global) -> Result<Vec<u8>, Halt>
+        requires unspent { failed_of self.old.store ≡ 0 }
         ensures steps { IfOk result (λ text. StepsRestart V.told V.may_leave V.moment V.left_since V.faults self.old text.items self.new) }
         ensures gated { OnOk result (IsUp V.told V.may_leave self.new) }
         ensures fails { IfErr result (λ halt. Fails V.told V.may_leave V.moment V.left_since V.faults halt commands.Restart self.old self.new.store) }
@@ -181,6 +183,7 @@ impl<V: Store> Program<V> {
 
     fn poke(&mut self, alloc: Global, region: u32, word: u8, mask: u64) -> Result<Vec<u8>, Halt>
         requires gated { IsUp V.told V.may_leave self.old }
+        requires unspent { failed_of self.old.store ≡ 0 }
         ensures steps { IfOk result (λ text. StepsAct V.told V.may_leave V.moment V.left_since V.faults names.Poke (clients.Poke region word mask) self.old text.items self.new) }
         ensures gated { OnOk result (IsUp V.told V.may_leave self.new) }
         ensures fails { IfErr result (λ halt. Fails V.told V.may_leave V.moment V.left_since V.faults halt (commands.Poke region word mask) self.old self.new.store) }
@@ -196,6 +199,7 @@ impl<V: Store> Program<V> {
 
     fn audit(&mut self, alloc: Global) -> Result<Vec<u8>, Halt>
         requires gated { IsUp V.told V.may_leave self.old }
+        requires unspent { failed_of self.old.store ≡ 0 }
         ensures steps { IfOk result (λ text. StepsAct V.told V.may_leave V.moment V.left_since V.faults names.Audit clients.Audit self.old text.items self.new) }
         ensures gated { OnOk result (IsUp V.told V.may_leave self.new) }
         ensures fails { IfErr result (λ halt. Fails V.told V.may_leave V.moment V.left_since V.faults halt commands.Audit self.old self.new.store) }
@@ -256,7 +260,7 @@ fn crash<V: Store>(
     (down, printed)
 }
 
-/// Runs one command, and answers the text of its lines.
+/// Runs one command, and answers the text of its lines. The fuse has failed no call yet: it counts those of this command.
 pub fn step<V: Store>(
     alloc: Global,
     command: &Command,
@@ -264,6 +268,7 @@ pub fn step<V: Store>(
 ) -> (Program<V>, Result<Vec<u8>, Halt>)
     requires gated { IsUp V.told V.may_leave program }
     requires sizes { HasSizes command.now }
+    requires unspent { failed_of program.store ≡ 0 }
     ensures steps { IfOk result.1 (λ text. Steps V.told V.may_leave V.moment V.left_since V.faults V.cuts program command.now text.items result.0) }
     ensures gated { OnOk result.1 (IsUp V.told V.may_leave result.0) }
     ensures fails { IfErr result.1 (λ halt. Fails V.told V.may_leave V.moment V.left_since V.faults halt command.now program result.0.store) }

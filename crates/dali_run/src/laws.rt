@@ -11,6 +11,9 @@ ghost use Rattle.dali_store.specs.Store.{Files, Only};
 ghost use Rattle.std.specs.List.{AllByRecursion};
 ghost use Rattle.dali_script.specs.Grammar.{IsSpelled};
 ghost use Rattle.dali_script.specs.declared.commands.Command.TheVariants.{Size};
+ghost use Rattle.dali_run.specs.Complete.{IsRight, EndsWell};
+ghost use Rattle.dali_run.specs.Ends.{Course, HasEnded};
+ghost use Rattle.dali_run.specs.declared.status.Status.{Status as StatusOf};
 ghost use Rattle.dali_run.specs.Steps.{Steps, StepsSize, sizes_of};
 ghost use Rattle.dali_script.specs.declared.commands.Command.{Command};
 
@@ -38,4 +41,11 @@ pub fn what_a_crash_leaves_is_own<V: Store>()
 /// In each script that begins with `size` and is spelled, all later commands are of that kind.
 pub fn scripts_are_whole()
     ensures { (bytes : List ℕ) (index heap : ℕ) (later : List Command) → IsSpelled bytes (Size index heap ∷ later) → AllByRecursion IsWhole later }
+{}
+
+/// A run ends well, or memory was refused, where the words are `run`, the source gave the bytes of a script, the store is
+/// as its first command wants it, and no call of the source, the sink or the store has failed. `run` ensures the premise `HasEnded`.
+pub fn right_runs_end_well<V: Store>()
+    ensures { (words : List (List ℕ)) (c : Course V) (status : StatusOf) → IsRight V.told V.may_leave V.faults words c →
+        HasEnded V.told V.may_leave V.moment V.left_since V.faults V.cuts words c status → EndsWell status }
 {}

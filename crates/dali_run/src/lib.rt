@@ -12,4 +12,4 @@ mod top;
 
 pub use gate::{Gate, OpenGate};
 pub use status::Status;
-pub use top::{SCRIPT_LIMIT, run};
+pub use top::{SCRIPT_LIMIT, refuse, run};

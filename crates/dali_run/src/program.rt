@@ -1,5 +1,6 @@
 //! What a run holds between two commands.
-ghost use Rattle.dali_run.specs.Program.{IsDown};
+ghost use Rattle.std.specs.Prelude.{◌≡◌};
+ghost use Rattle.dali_run.specs.Program.{IsDown, settled};
 
 use dali_engine::Engine;
 use dali_memstore::Fuse;
@@ -21,5 +22,14 @@ impl<V: Store> Program<V> {
             store: Fuse::new(store, None),
             engine: None,
         }
+    }
+
+    /// Between two commands: the fuse forgets the calls that it failed.
+    pub fn settled(self) -> Self
+        ensures { result ≡ settled self }
+    {
+        let mut program = self;
+        program.store.forget();
+        program
     }
 }

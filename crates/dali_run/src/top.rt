@@ -4,7 +4,8 @@ ghost use Rattle.dali_record.specs.declared.records.Record.{Record};
 ghost use Rattle.dali_streams.specs.Streams.{Appends};
 ghost use Rattle.dali_run.specs.Ends.{IsRun, Spells, RanWhole, Ended, HasEnded, LastLine, course};
 ghost use Rattle.dali_run.specs.Halts.{status_in};
-ghost use Rattle.dali_run.specs.Program.{IsUp};
+ghost use Rattle.dali_memstore.specs.Fuse.{failed_of};
+ghost use Rattle.dali_run.specs.Program.{IsUp, settled};
 ghost use Rattle.dali_run.specs.Sizes.{HasSizes, HaveSizes};
 ghost use Rattle.dali_run.specs.Steps.{Steps};
 ghost use Rattle.dali_run.specs.Stops.{NotRead, CommandStops, ScriptStops};
@@ -61,6 +62,7 @@ fn run_command<K: Sink, V: Store>(
 ) -> (Program<V>, Result<(), Halt>)
     requires gated { IsUp V.told V.may_leave program }
     requires sizes { HasSizes command.now }
+    requires unspent { failed_of program.store ≡ 0 }
     ensures done { OnOk result.1 ((text : List ℕ) × Steps V.told V.may_leave V.moment V.left_since V.faults V.cuts program command.now text result.0 × Appends (K.taken sink.old) text (K.taken sink.new)) }
     ensures gated { OnOk result.1 (IsUp V.told V.may_leave result.0) }
     ensures stops { IfErr result.1 (λ halt. CommandStops V.told V.may_leave V.moment V.left_since V.faults V.cuts halt command.now program result.0
@@ -93,10 +95,10 @@ fn run_script<K: Sink, V: Store>(
     let mut program = Program::down(store);
     for command in script.commands() {
         let (next, outcome) = run_command(alloc, command, sink, program);
-        program = next;
         if let Err(halt) = outcome {
-            return (program.store.into_inner(), Err(halt));
+            return (next.store.into_inner(), Err(halt));
         }
+        program = next.settled();
     }
     (program.store.into_inner(), Ok(()))
 }
@@ -109,7 +111,7 @@ fn run_words<S: Source, K: Sink, V: Store>(
     sink: &mut K,
     store: V,
 ) -> (V, Result<(), Halt>)
-    ensures ended { Ended V.told V.may_leave V.moment V.left_since V.faults V.cuts (map string_bytes words.now) (course S.left S.faults K.taken K.faults source.old source.new sink.old sink.new store result.0) (K.taken sink.new) (status_in result.1) }
+    ensures ended { Ended V.told V.may_leave V.moment V.left_since V.faults V.cuts (map string_bytes words.now) (course S.left S.faults K.taken K.faults source.old source.new sink.old sink.new store result.0) (K.taken sink.new) (K.faults sink.new) (status_in result.1) }
     ensures later { K.faults sink.old ≤ K.faults sink.new }
 {
     match read_script(alloc, words, source) {
@@ -131,6 +133,14 @@ fn finish<K: Sink>(sink: &mut K, outcome: Result<(), Halt>) -> Status
             halt.status()
         }
     }
+}
+
+/// Ends a run for which there was no memory before it began: only the last line is written.
+pub fn refuse<K: Sink>(sink: &mut K) -> Status
+    ensures status { result ≡ Status.OutOfMemory }
+    ensures last { LastLine (K.taken sink.old) result (K.taken sink.new) (K.faults sink.old) (K.faults sink.new) }
+{
+    finish(sink, Err(Halt::OutOfMemory))
 }
 
 /// Runs the command that the words name, which leave out the program's name: `run` reads a script from the source to
@@ -156,7 +166,7 @@ pub fn run<R: Threads + Wait + Sync, S: Source, K: Sink, V: Store + Send, G: Gat
     // a restart gives exactly the serial replay of the committed transactions, with the answers that they got.
     ensures survives { (base : List (List Record)) → IsOwn V.told V.may_leave base store →
         (e : HasEnded V.told V.may_leave V.moment V.left_since V.faults V.cuts (map string_bytes words.now) (course S.left S.faults K.taken K.faults source.old source.new sink.old sink.new store result.1) result.0) →
-        HasKept V.told V.may_leave V.moment V.left_since V.faults V.cuts (map string_bytes words.now) base (course S.left S.faults K.taken K.faults source.old source.new sink.old sink.new store result.1) e.mid result.0 e.ended }
+        HasKept V.told V.may_leave V.moment V.left_since V.faults V.cuts (map string_bytes words.now) base (course S.left S.faults K.taken K.faults source.old source.new sink.old sink.new store result.1) e.mid e.count result.0 e.ended }
 {
     let (store, outcome) = run_words(alloc, words, source, sink, store);
     let status = finish(sink, outcome);

@@ -35,7 +35,7 @@ impl fmt::Display for FileName {
     }
 }
 
-/// A call of a store failed. It is answered only where the store's count of faults rose in that call.
+/// A call of a store failed. It is answered exactly where the store's count of faults rose in that call.
 #[derive(Clone, Copy, Debug, PartialEq, Eq, Error)]
 #[error("store fault")]
 pub struct StoreFault;
@@ -47,7 +47,12 @@ pub struct StoreFault;
 /// fails counts as written in any part. After a sync that succeeds, a crash leaves what reads give.
 ///
 /// A store tells what its reads give, as one in memory does, or it doesn't, as one over real files. Every call,
-/// one that fails among them, leaves this as it is.
+/// one that fails among them, leaves this as it is. What is said of a crash is of use only where a store tells what
+/// its reads give: a store that doesn't tell names all files as what a crash may leave, so that a caller learns nothing
+/// of it. That real files behave like a store that tells them is trusted.
+///
+/// A call answers Ok exactly where the count of faults stayed, and an error where it rose (or stands at its type's
+/// end). So a fault that a second try hides isn't Ok: a second sync may answer Ok for pages that were lost.
 pub trait Store {
     /// What reads of the four files give, where the store tells it.
     ghost told: { Self → Option Files };

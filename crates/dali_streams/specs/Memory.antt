@@ -2,8 +2,8 @@
 --     SourceHeld      the bytes that are left, how many one read gives at most, the numbers of the calls that fail, and the counts of calls and faults
 --     SinkHeld        the bytes that were taken, how many one write takes at most, the numbers of the calls that fail, and the counts of calls, faults and refusals of memory
 --     HasFailed old new      a write failed and took nothing: its number is among the failing ones, or it found no memory
---     one_more n      a count after one more, which stands still at its type's end
-use Rattle.std.specs.Prelude.{ℕ, ◌≡◌, ◌⊎◌, ◌+◌, ◌-◌, ◌^◌, List, min, Contains}
+use Rattle.std.specs.Prelude.{ℕ, ◌≡◌, ◌⊎◌, List, Contains}
+use Rattle.dali_store.specs.Faults.{one_more}
 
 pub record SourceHeld : Type 0 where
   pub left : List ℕ
@@ -19,9 +19,6 @@ pub record SinkHeld : Type 0 where
   pub calls : ℕ
   pub faults : ℕ
   pub refused : ℕ
-
-abbrev pub one_more : ℕ → ℕ
-one_more n = min (n + 1) (2 ^ 64 - 1)
 
 abbrev pub HasFailed : SinkHeld → SinkHeld → Type 0
 HasFailed old new =

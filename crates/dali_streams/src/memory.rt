@@ -1,8 +1,8 @@
 //! A source and a sink in memory.
 ghost use Rattle.std.specs.Prelude.{◌≡◌, ◌≤◌, ◌<◌, ◌↔◌, ◌++◌, [], length, min, take, drop, IfOk, OnOk, OnErr, IsErr, Contains, Some};
-ghost use Rattle.dali_store.specs.Faults.{HasCause};
+ghost use Rattle.dali_store.specs.Faults.{HasCause, one_more};
 ghost use Rattle.dali_streams.specs.Streams.{ReadsFrom, WritesTo};
-ghost use Rattle.dali_streams.specs.Memory.{HasFailed, one_more};
+ghost use Rattle.dali_streams.specs.Memory.{HasFailed};
 
 use crate::{Failed, Sink, Source};
 use std::alloc::Global;

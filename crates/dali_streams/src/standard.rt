@@ -1,14 +1,29 @@
 //! The standard streams, or any reader and writer of the system: the trusted edge.
-ghost use Rattle.std.specs.Prelude.{◌≡◌, None};
+ghost use Rattle.std.specs.Prelude.{◌≡◌, ◌≤◌, ◌<◌, Ok, length, IfOk, OnOk, OnErr};
+ghost use Rattle.dali_store.specs.Faults.{HasCause, one_more};
 
 use crate::{Failed, Sink, Source};
-use std::io::{Read, Write};
+use std::io::{self, ErrorKind, Read, Write};
 
 /// Reads from a reader, such as standard input, and counts its failures. It tells nothing of what it reads.
 #[derive(Drop)]
 pub struct StdSource<R: Read + Drop> {
     reader: R,
     faults: u64,
+}
+
+// One read, which asks again where it is interrupted.
+fn read_some<R: Read>(reader: &mut R, into: &mut [u8]) -> io::Result<usize>
+    ensures { IfOk result (λ n. n ≤ length into.old) }
+{
+    for _ in 0..u64::MAX {
+        match reader.read(into) {
+            Ok(count) => return Ok(count),
+            Err(error) if error.kind() == ErrorKind::Interrupted => {}
+            Err(error) => return Err(error),
+        }
+    }
+    Err(io::Error::from(ErrorKind::TimedOut))
 }
 
 impl<R: Read + Drop> StdSource<R> {
@@ -18,6 +33,22 @@ impl<R: Read + Drop> StdSource<R> {
     {
         StdSource { reader, faults: 0 }
     }
+
+    // Counts a read that failed.
+    fn counted(&mut self, outcome: io::Result<usize>) -> Result<usize, Failed>
+        ensures value { IfOk result (λ n. outcome ≡ Ok n) }
+        ensures passed { OnOk result (self.new ≡ self.old) }
+        ensures failed { OnErr result (self.new ≡ record self.old { faults = one_more self.old.faults }) }
+        ensures cause { HasCause self.old.faults self.new.faults result }
+    {
+        match outcome {
+            Ok(count) => Ok(count),
+            Err(_) => {
+                self.faults = self.faults.saturating_add(1);
+                Err(Failed)
+            }
+        }
+    }
 }
 
 impl<R: Read + Drop> Source for StdSource<R> {
@@ -25,15 +56,12 @@ impl<R: Read + Drop> Source for StdSource<R> {
 
     ghost faults = { λ s. s.faults };
 
-    /// One read of the reader. Each of its errors is a fault.
+    ghost use Rattle.std.specs.Prelude.{None};
+
+    /// One read of the reader, which is made again where it is interrupted. Each other error is a fault.
     fn read(&mut self, into: &mut [u8]) -> Result<usize, Failed> {
-        match self.reader.read(into) {
-            Ok(count) => Ok(count),
-            Err(_) => {
-                self.faults = self.faults.saturating_add(1);
-                Err(Failed)
-            }
-        }
+        let outcome = read_some(&mut self.reader, into);
+        self.counted(outcome)
     }
 }
 
@@ -44,12 +72,44 @@ pub struct StdSink<W: Write + Drop> {
     faults: u64,
 }
 
+// One write, which asks again where it is interrupted. It fails where it takes nothing of bytes that aren't empty.
+fn write_some<W: Write>(writer: &mut W, bytes: &[u8]) -> io::Result<usize>
+    ensures count { IfOk result (λ n. n ≤ length bytes.now) }
+    ensures some { IfOk result (λ n. 0 < length bytes.now → 0 < n) }
+{
+    for _ in 0..u64::MAX {
+        match writer.write(bytes) {
+            Ok(count) if count > 0 || bytes.is_empty() => return Ok(count),
+            Ok(_) => return Err(io::Error::from(ErrorKind::WriteZero)),
+            Err(error) if error.kind() == ErrorKind::Interrupted => {}
+            Err(error) => return Err(error),
+        }
+    }
+    Err(io::Error::from(ErrorKind::TimedOut))
+}
+
 impl<W: Write + Drop> StdSink<W> {
     /// A sink that writes to this writer. It takes no memory.
     pub fn new(writer: W) -> Self
         ensures { result ≡ record { writer = writer; faults = 0 } }
     {
         StdSink { writer, faults: 0 }
+    }
+
+    // Counts a write that failed.
+    fn counted(&mut self, outcome: io::Result<usize>) -> Result<usize, Failed>
+        ensures value { IfOk result (λ n. outcome ≡ Ok n) }
+        ensures passed { OnOk result (self.new ≡ self.old) }
+        ensures failed { OnErr result (self.new ≡ record self.old { faults = one_more self.old.faults }) }
+        ensures cause { HasCause self.old.faults self.new.faults result }
+    {
+        match outcome {
+            Ok(count) => Ok(count),
+            Err(_) => {
+                self.faults = self.faults.saturating_add(1);
+                Err(Failed)
+            }
+        }
     }
 }
 
@@ -58,14 +118,12 @@ impl<W: Write + Drop> Sink for StdSink<W> {
 
     ghost faults = { λ s. s.faults };
 
-    /// One write of the writer. Each of its errors is a fault, and so is a write that takes nothing of bytes that aren't empty.
+    ghost use Rattle.std.specs.Prelude.{None};
+
+    /// One write of the writer, which is made again where it is interrupted. Each other error is a fault, and so is a
+    /// write that takes nothing of bytes that aren't empty.
     fn write(&mut self, bytes: &[u8]) -> Result<usize, Failed> {
-        match self.writer.write(bytes) {
-            Ok(count) if count > 0 || bytes.is_empty() => Ok(count),
-            _ => {
-                self.faults = self.faults.saturating_add(1);
-                Err(Failed)
-            }
-        }
+        let outcome = write_some(&mut self.writer, bytes);
+        self.counted(outcome)
     }
 }

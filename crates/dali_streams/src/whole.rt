@@ -42,6 +42,7 @@ pub fn read_all<S: Source>(
     ensures short { IfOk result (λ v. length v.items ≤ limit) }
     ensures too_long { IsErrOf result ReadError.TooLong → ReadTooMany (S.left source.old) limit (S.left source.new) }
     ensures fault { IsErrOf result ReadError.Fault → Rose (S.faults source.old) (S.faults source.new) }
+    ensures kept { (IsErrOf result ReadError.Fault → ⊥) → S.faults source.new ≡ S.faults source.old }
     ensures later { S.faults source.old ≤ S.faults source.new }
 {
     let mut bytes = Vec::new(alloc);

@@ -1,45 +1,47 @@
 -- The worked run of a client that dies: transaction 2 is refused, 1 dies in its next operation, is claimed, given back, claimed again and taken
 -- back, and ends; the store fails.
-use Rattle.std.proofs.Common.{◌≡◌, ℕ, zero, suc, ◌≤◌, true, List, [], ◌∷◌, ◌++◌, Option, Some, None, refl, ap, sym, ◌∙◌, arith, inl}
+use Rattle.std.proofs.Common.{◌≡◌, ℕ, zero, suc, ◌≤◌, true, false, List, [], ◌∷◌, ◌++◌, Option, Some, None, refl, ap, sym, subst, ◌∙◌, arith, inl}
 use Rattle.std.specs.FinMap.{get, empty, get-empty}
-use Rattle.std.specs.Option.{option_map}
 use Rattle.std.specs.Prelude.{is_some}
 use Rattle.dali_record.specs.declared.operations.Op.TheVariants.{ReviveCell}
-use Rattle.dali_record.specs.declared.operations.Undo.TheVariants.{ReviveCell as UndoReviveCell}
-use Rattle.dali_record.specs.declared.records.Record.TheVariants.{Begin, Back, Ended}
-use Rattle.dali_record.specs.Blocks.{pending}
+use Rattle.dali_record.specs.declared.records.Record.TheVariants.{Format, Begin, Back, Ended}
+use Rattle.dali_record.specs.Legal.{passes, rules_start}
+use Rattle.dali_counts.proofs.Lists.{some_same}
 use Rattle.dali_record.specs.Spelling.{IsBlock}
 use Rattle.dali_record.proofs.Made.{made_is_block}
 use Rattle.dali_index.specs.Entries.{entries}
-use Rattle.dali_region.specs.State.{RegionState, touched, taken_back, dead}
+use Rattle.dali_region.specs.declared.Hold.{Hold}
+use Rattle.dali_region.specs.State.{RegionState, touched, taken_back, dead, reading, writing}
 use Rattle.dali_locks.specs.declared.mode.Mode.{Mode}
 use Rattle.dali_locks.specs.declared.mode.Mode.TheVariants.{Shared, Exclusive}
 use Rattle.dali_locks.specs.Locks.{lock_cmp, stronger_mode, IsConflict, IsOldestConflict}
 use Rattle.dali_locks.proofs.Changes.{get-locks_with}
-use Rattle.dali_att.specs.declared.state.State.TheVariants.{Dead, Cleaning}
-use Rattle.dali_att.specs.Table.{fresh_row, with_undo, with_state}
-use Rattle.dali_system.specs.State.{TxnRow, row_of}
-use Rattle.dali_system.specs.Steps.{begun, refused, in_state, back_logged, ended_logged, store_stopped}
-use Rattle.dali_system.specs.Keeps.{with_system}
-use Rattle.dali_system.specs.Regions.{Die, TakeBack}
+use Rattle.dali_att.specs.declared.state.State.TheVariants.{Live, Dead, Cleaning}
+use Rattle.dali_att.specs.Table.{fresh_row}
+use Rattle.dali_system.specs.State.{TxnRow, state_of, hold_of}
+use Rattle.dali_system.specs.Steps.{begun, refused, in_state, back_logged, ended_logged, store_stopped, taken}
+use Rattle.dali_system.specs.Keeps.{with_system, Latches, IsFree, died}
 use Rattle.dali_system.specs.Flushes.{with_vault, faulted}
-use Rattle.dali_system.specs.Courses.{Step, Begins, Refuses, ChangesState, OnRegion, TakesBack, Ends, Faults, Stops, Moment, IsStepAt, IsCourse}
-use Rattle.dali_system.specs.Worked.{first_log, start, opening, touching, heap_words, stored, look, kill_cell, kill_entry, revive_cell, kills, abandoned, Abandoned}
+use Rattle.dali_system.specs.Courses.{Step, Begins, Refuses, Dies, Claims, GivesBack, Recovers, TakesBack, Ends, Takes, Faults, Stops, Moment, IsStepAt, IsCourse}
+use Rattle.dali_system.specs.Worked.{small, first_log, first_vault, start, opening, touching, index_words, heap_words, stored, look, kill_cell, kill_entry, revive_cell, kills, abandoned, Abandoned}
 use Rattle.dali_system.proofs.Courses.{course_keeps}
-use Rattle.dali_system.proofs.Tables.{added, changed}
+use Rattle.dali_system.proofs.Tables.{added}
+use Rattle.dali_system.proofs.Wholes.{slain}
+use Rattle.dali_system.proofs.RowStates.{begun_state, back_state, turned_state}
+use Rattle.dali_system.proofs.WholeSteps.{whole_course_keeps, load_is_whole}
 use Rattle.dali_system.proofs.Touching.{join, with_one, after_all, touches}
-use Rattle.dali_system.proofs.Worked.{are_heap, stored_regions, start_runs, exclusive_covers, looked, logging, at_look, at_kill_cell, cell_killed, kills_course}
+use Rattle.dali_system.proofs.Worked.{are_heap, stored_regions, start_runs, exclusive_covers, logging, at_look, at_kill_cell, cell_killed, live_killed, logs_by, alive_by, kills_course}
 
 -- ---- another transaction asks for the key
 abbrev begun_2 : Moment
-begun_2 = record { log = cell_killed.log ++ Begin 2 ∷ []; core = with_system cell_killed.core (begun cell_killed.core.system); leave = cell_killed.leave }
+begun_2 = record { log = cell_killed.log ++ Begin 2 ∷ []; core = with_system cell_killed.core (begun cell_killed.core.system); audits = cell_killed.audits; leave = cell_killed.leave }
 
 abbrev refused_2 : Moment
-refused_2 = record { log = begun_2.log; core = with_system begun_2.core (refused begun_2.core.system 2 5 Shared 1); leave = begun_2.leave }
+refused_2 = record { log = begun_2.log; core = with_system begun_2.core (refused begun_2.core.system 2 5 Shared 1); audits = begun_2.audits; leave = begun_2.leave }
 
 begins : IsStepAt cell_killed Begins begun_2
 unfolding look kill_cell entries
-begins = ((record { runs = refl; room = omega arith }, (refl, refl)), λ F h. h)
+begins = ((record { runs = refl; room = omega arith }, (refl, refl)), (λ F h. h), refl)
 
 -- transaction 1 holds the key, and nobody else does
 holds_key : get begun_2.core.system.locks (1, 5) ≡ Some Exclusive
@@ -56,86 +58,114 @@ in_the_way : IsOldestConflict begun_2.core.system.locks 2 5 Shared 1
 in_the_way = record { conflict = record { other = refl; mode = Exclusive; holds = holds_key; clash = refl }; oldest = oldest }
 
 refuses : IsStepAt begun_2 (Refuses 2 5 Shared 1) refused_2
-refuses = ((ap (λ (row : Option TxnRow). is_some row) (added cell_killed.core.system.table 2 fresh_row 2), (in_the_way, omega arith), (refl, refl)), λ F h. h)
+refuses = ((ap (λ (row : Option TxnRow). is_some row) (added cell_killed.core.system.table 2 fresh_row 2), (in_the_way, omega arith), (refl, refl)), (λ F h. h), refl)
 
 -- ---- the client of transaction 1 dies in an operation, and another client claims it, gives it back, and claims it again
 abbrev at_death : RegionState
 at_death = after_all (opening 1 kill_entry ((1, 2) ∷ [])) (touched at_look)
 
-abbrev died : Moment
-died = with_one (with_one refused_2 0 at_death) 0 (dead at_death)
-
 abbrev left_dead : Moment
-left_dead = record { log = died.log; core = with_system died.core (in_state died.core.system 1 Dead); leave = died.leave }
+left_dead = record { log = refused_2.log; core = died (with_one refused_2 0 at_death).core 1 (Some 0); audits = refused_2.audits; leave = refused_2.leave }
 
 abbrev claimed_first : Moment
-claimed_first = record { log = left_dead.log; core = with_system left_dead.core (in_state left_dead.core.system 1 Cleaning); leave = left_dead.leave }
+claimed_first = record { log = left_dead.log; core = with_system left_dead.core (in_state left_dead.core.system 1 (Cleaning (Some 0))); audits = left_dead.audits; leave = left_dead.leave }
 
 abbrev given_back : Moment
-given_back = record { log = claimed_first.log; core = with_system claimed_first.core (in_state claimed_first.core.system 1 Dead); leave = claimed_first.leave }
+given_back = record { log = claimed_first.log; core = with_system claimed_first.core (in_state claimed_first.core.system 1 (Dead (Some 0))); audits = claimed_first.audits; leave = claimed_first.leave }
 
 abbrev claimed : Moment
-claimed = record { log = given_back.log; core = with_system given_back.core (in_state given_back.core.system 1 Cleaning); leave = given_back.leave }
+claimed = record { log = given_back.log; core = with_system given_back.core (in_state given_back.core.system 1 (Cleaning (Some 0))); audits = given_back.audits; leave = given_back.leave }
 
-dies : IsStepAt (with_one refused_2 0 at_death) (OnRegion 0 Die) died
-unfolding look kill_entry entries
-dies = ((at_death, refl, refl, (refl, refl)), λ F h. h)
+live_refused : state_of refused_2.core.system 1 ≡ Some Live
+live_refused = begun_state cell_killed.core.system 1 ∙ live_killed
 
-death_course : IsCourse refused_2 (touching 1 kill_entry ((1, 2) ∷ []) (OnRegion 0 Die)) died
+-- the hold of the operation in which the client dies
+abbrev death_hold : Hold
+death_hold = writing 1 (reading kill_entry.read (index_words 1) (record { txn = 1; dead = false; read = 0; xor = 0; write = 0 }))
+
+latches : Latches (with_one refused_2 0 at_death).core 1 false (Some 0)
 unfolding look kill_cell kill_entry entries
-death_course = touches refused_2 died 1 kill_entry ((1, 2) ∷ []) (OnRegion 0 Die) (touched at_look) refl (refl, (((refl, refl), omega arith), (((refl, omega arith), omega arith), tt))) dies
+latches = record { held = held; only = only }
+  where
+    held : (r : ℕ) → Some 0 ≡ Some r → (h : Hold) × (hold_of (with_one refused_2 0 at_death).core r ≡ Some h) × (h.txn ≡ 1) × (h.dead ≡ false)
+    held r e = subst (λ q. (h : Hold) × (hold_of (with_one refused_2 0 at_death).core q ≡ Some h) × (h.txn ≡ 1) × (h.dead ≡ false)) (some_same e) (death_hold, refl, refl, refl)
 
--- the row of transaction 1, as it has killed the cell
-abbrev killed_row : TxnRow
-killed_row = with_undo (pending kill_cell (UndoReviveCell 1)) fresh_row
+    only : (r : ℕ) (h : Hold) → hold_of (with_one refused_2 0 at_death).core r ≡ Some h → h.txn ≡ 1 → h.dead ≡ false → Some 0 ≡ Some r
+    only zero h e is d = refl
+    only (suc zero) h e is d = absurd (cc)
+    only (suc (suc r)) h e is d = absurd (cc)
 
-row_killed : row_of died.core.system 1 ≡ Some killed_row
-unfolding look kill_cell entries
-row_killed =
-    added cell_killed.core.system.table 2 fresh_row 1
-    ∙ changed looked.core.system.table 1 (with_undo (pending kill_cell (UndoReviveCell 1))) 1
-    ∙ ap (option_map (with_undo (pending kill_cell (UndoReviveCell 1)))) (added (start stored).core.system.table 1 fresh_row 1)
+dies : IsStepAt (with_one refused_2 0 at_death) (Dies 1 (Some 0)) left_dead
+dies = ((record { lives = live_refused; latched = latches }, (refl, refl)), (λ F h. h), refl)
 
-row_dead : row_of left_dead.core.system 1 ≡ Some (with_state Dead killed_row)
-row_dead = changed died.core.system.table 1 (with_state Dead) 1 ∙ ap (option_map (with_state Dead)) row_killed
+death_course : IsCourse refused_2 (touching 1 kill_entry ((1, 2) ∷ []) (Dies 1 (Some 0))) left_dead
+unfolding look kill_cell kill_entry entries
+death_course = touches refused_2 left_dead 1 kill_entry ((1, 2) ∷ []) (Dies 1 (Some 0)) (touched at_look) refl (alive_by _ Live live_refused refl) (refl, (((refl, refl), omega arith), (((refl, omega arith), omega arith), tt))) dies
 
-turns_dead : IsStepAt died (ChangesState 1 Dead) left_dead
-turns_dead = ((record { row = killed_row; at = row_killed; moves = refl }, (refl, refl)), λ F h. h)
+state_dead : state_of left_dead.core.system 1 ≡ Some (Dead (Some 0))
+state_dead = turned_state refused_2.core.system 1 Live (Dead (Some 0)) live_refused
 
-row_claimed : row_of claimed_first.core.system 1 ≡ Some (with_state Cleaning killed_row)
-row_claimed = changed left_dead.core.system.table 1 (with_state Cleaning) 1 ∙ ap (option_map (with_state Cleaning)) row_dead
+state_claimed : state_of claimed_first.core.system 1 ≡ Some (Cleaning (Some 0))
+state_claimed = turned_state left_dead.core.system 1 (Dead (Some 0)) (Cleaning (Some 0)) state_dead
 
-row_given_back : row_of given_back.core.system 1 ≡ Some (with_state Dead killed_row)
-row_given_back = changed claimed_first.core.system.table 1 (with_state Dead) 1 ∙ ap (option_map (with_state Dead)) row_claimed
+state_given_back : state_of given_back.core.system 1 ≡ Some (Dead (Some 0))
+state_given_back = turned_state claimed_first.core.system 1 (Cleaning (Some 0)) (Dead (Some 0)) state_claimed
 
-claims_first : IsStepAt left_dead (ChangesState 1 Cleaning) claimed_first
-claims_first = ((record { row = with_state Dead killed_row; at = row_dead; moves = refl }, (refl, refl)), λ F h. h)
+state_claimed_again : state_of claimed.core.system 1 ≡ Some (Cleaning (Some 0))
+state_claimed_again = turned_state given_back.core.system 1 (Dead (Some 0)) (Cleaning (Some 0)) state_given_back
 
-gives_back : IsStepAt claimed_first (ChangesState 1 Dead) given_back
-gives_back = ((record { row = with_state Cleaning killed_row; at = row_claimed; moves = refl }, (refl, refl)), λ F h. h)
+claims_first : IsStepAt left_dead (Claims 1) claimed_first
+claims_first = ((Some 0, state_dead, (refl, refl)), (λ F h. h), refl)
 
-claims : IsStepAt given_back (ChangesState 1 Cleaning) claimed
-claims = ((record { row = with_state Dead killed_row; at = row_given_back; moves = refl }, (refl, refl)), λ F h. h)
+still : Latches claimed_first.core 1 true (Some 0)
+unfolding look kill_cell kill_entry entries
+still = record { held = held; only = only }
+  where
+    held : (r : ℕ) → Some 0 ≡ Some r → (h : Hold) × (hold_of claimed_first.core r ≡ Some h) × (h.txn ≡ 1) × (h.dead ≡ true)
+    held r e = subst (λ q. (h : Hold) × (hold_of claimed_first.core q ≡ Some h) × (h.txn ≡ 1) × (h.dead ≡ true)) (some_same e) (slain death_hold, refl, refl, refl)
+
+    only : (r : ℕ) (h : Hold) → hold_of claimed_first.core r ≡ Some h → h.txn ≡ 1 → h.dead ≡ true → Some 0 ≡ Some r
+    only zero h e is d = refl
+    only (suc zero) h e is d = absurd (cc)
+    only (suc (suc r)) h e is d = absurd (cc)
+
+idle : Latches claimed_first.core 1 false None
+unfolding look kill_cell kill_entry entries
+idle = record { held = λ r e. absurd (cc); only = only }
+  where
+    none_live : (h : Hold) → hold_of claimed_first.core 0 ≡ Some h → h.dead ≡ false → ⊥
+    none_live h e d = let is : true ≡ h.dead = ap (λ (z : Hold). z.dead) (some_same e) in cc
+
+    only : (r : ℕ) (h : Hold) → hold_of claimed_first.core r ≡ Some h → h.txn ≡ 1 → h.dead ≡ false → None ≡ Some r
+    only zero h e is d = absurd (none_live h e d)
+    only (suc zero) h e is d = absurd (cc)
+    only (suc (suc r)) h e is d = absurd (cc)
+
+gives_back : IsStepAt claimed_first (GivesBack 1 (Some 0)) given_back
+gives_back = ((record { was = Some 0; claimed = state_claimed; left = still; idle = idle }, (refl, refl)), (λ F h. h), refl)
+
+claims : IsStepAt given_back (Claims 1) claimed
+claims = ((Some 0, state_given_back, (refl, refl)), (λ F h. h), refl)
 
 -- ---- it is taken back
-abbrev taken : Moment
-taken = with_one claimed 0 (taken_back (dead at_death))
+abbrev put_back : Moment
+put_back = with_one claimed 0 (taken_back (dead at_death))
 
 abbrev at_revive : RegionState
 at_revive = after_all (opening 1 revive_cell ((8, 1) ∷ [])) (touched at_kill_cell)
 
 abbrev revived : Moment
-revived = logging taken (Back 1 revive_cell) (back_logged taken.core.system 1 revive_cell) 1 at_revive
+revived = logging put_back (Back 1 revive_cell) (back_logged put_back.core.system 1 revive_cell) 1 at_revive
 
-takes : IsStepAt claimed (OnRegion 0 TakeBack) taken
-unfolding look kill_entry entries
-takes = ((dead at_death, refl, refl, (refl, refl)), λ F h. h)
+takes : IsStepAt claimed (Recovers 0) put_back
+unfolding look kill_cell kill_entry entries
+takes = ((dead at_death, refl, record { hold = slain death_hold; at = refl; dead = refl; latched = Some 0; claimed = state_claimed_again }, (refl, refl)), (λ F h. h), refl)
 
 is_revive : IsBlock revive_cell
 unfolding revive_cell
 is_revive = made_is_block (ReviveCell 1) 5 1 (heap_words 2) refl (omega arith) (omega arith) (are_heap 2 (omega arith))
 
-revives : IsStepAt (with_one taken 1 at_revive) (TakesBack 1 revive_cell) revived
+revives : IsStepAt (with_one put_back 1 at_revive) (TakesBack 1 revive_cell) revived
 unfolding look kill_cell kill_entry revive_cell entries
 revives = (
   (
@@ -144,6 +174,7 @@ revives = (
       runs = refl;
       spelled = (omega arith, is_revive, refl);
       next = refl;
+      by = logs_by _ (Cleaning (Some 0)) (Back 1 revive_cell) state_claimed_again refl;
       kind = refl;
       locked = exclusive_covers true;
       at = refl;
@@ -151,55 +182,71 @@ revives = (
     },
     (refl, refl),
   ),
-  λ F h. h,
+  (λ F h. h),
+  refl,
 )
 
-revive_course : IsCourse taken (touching 1 revive_cell ((8, 1) ∷ []) (TakesBack 1 revive_cell)) revived
+revive_course : IsCourse put_back (touching 1 revive_cell ((8, 1) ∷ []) (TakesBack 1 revive_cell)) revived
 unfolding look kill_cell kill_entry revive_cell entries
-revive_course = touches taken revived 1 revive_cell ((8, 1) ∷ []) (TakesBack 1 revive_cell) (touched at_kill_cell) refl (refl, (((refl, refl), omega arith), (((refl, omega arith), omega arith), tt))) revives
+revive_course = touches put_back revived 1 revive_cell ((8, 1) ∷ []) (TakesBack 1 revive_cell) (touched at_kill_cell) refl (alive_by _ (Cleaning (Some 0)) state_claimed_again refl) (refl, (((refl, refl), omega arith), (((refl, omega arith), omega arith), tt))) revives
 
 -- ---- it ends, and the store fails
 abbrev ended : Moment
-ended = record { log = revived.log ++ Ended 1 ∷ []; core = with_system revived.core (ended_logged revived.core.system 1); leave = revived.leave }
+ended = record { log = revived.log ++ Ended 1 ∷ []; core = with_system revived.core (ended_logged revived.core.system 1); audits = revived.audits; leave = revived.leave }
+
+abbrev in_hand : Moment
+in_hand = record { log = ended.log; core = with_system ended.core (taken ended.core.system); audits = ended.audits; leave = ended.leave }
 
 abbrev failed : Moment
-failed = record { log = ended.log; core = with_vault ended.core ended.core.system (faulted ended.core.vault 1); leave = ended.leave }
+failed = record { log = in_hand.log; core = with_vault in_hand.core (faulted in_hand.core.vault 1); audits = in_hand.audits; leave = in_hand.leave }
 
 abbrev finish : Moment
-finish = record { log = failed.log; core = with_system failed.core (store_stopped failed.core.system); leave = failed.leave }
+finish = record { log = failed.log; core = with_system failed.core (store_stopped failed.core.system); audits = failed.audits; leave = failed.leave }
+
+state_revived : state_of revived.core.system 1 ≡ Some (Cleaning (Some 0))
+state_revived = back_state put_back.core.system 1 revive_cell 1 ∙ state_claimed_again
+
+free : IsFree revived.core 1
+unfolding look kill_cell kill_entry revive_cell entries
+free zero h e = absurd (cc)
+free (suc zero) h e = absurd (cc)
+free (suc (suc r)) h e = absurd (cc)
 
 ends : IsStepAt revived (Ends 1) ended
 unfolding look kill_cell kill_entry revive_cell entries
-ends = ((refl, refl, (refl, refl)), λ F h. h)
+ends = ((refl, (record { next = refl; by = logs_by _ (Cleaning (Some 0)) (Ended 1) state_revived refl }, free), (refl, refl)), (λ F h. h), refl)
+
+takes_frame : IsStepAt ended Takes in_hand
+takes_frame = ((refl, refl), (λ F h. h), refl)
 
 -- nothing of the batch is left
-fails : IsStepAt ended (Faults 1) failed
-fails = ((refl, inl (omega arith), (refl, refl)), record { each = λ F h. (F, h, inl refl) })
+fails : IsStepAt in_hand (Faults 1) failed
+fails = ((refl, inl (omega arith), (refl, refl)), record { each = λ F h. (F, h, inl refl) }, refl)
 
 stops : IsStepAt failed Stops finish
-stops = ((refl, (refl, refl)), λ F h. h)
+stops = ((refl, (refl, refl)), (λ F h. h), refl)
 
 -- ---- all of it
 abbrev ending : List Step
-ending = Ends 1 ∷ Faults 1 ∷ Stops ∷ []
+ending = Ends 1 ∷ Takes ∷ Faults 1 ∷ Stops ∷ []
 
 abbrev reviving : List Step
 reviving = touching 1 revive_cell ((8, 1) ∷ []) (TakesBack 1 revive_cell) ++ ending
 
 abbrev claiming : List Step
-claiming = ChangesState 1 Dead ∷ ChangesState 1 Cleaning ∷ ChangesState 1 Dead ∷ ChangesState 1 Cleaning ∷ OnRegion 0 TakeBack ∷ reviving
+claiming = Claims 1 ∷ GivesBack 1 (Some 0) ∷ Claims 1 ∷ Recovers 0 ∷ reviving
 
 abbrev dying : List Step
-dying = touching 1 kill_entry ((1, 2) ∷ []) (OnRegion 0 Die) ++ claiming
+dying = touching 1 kill_entry ((1, 2) ∷ []) (Dies 1 (Some 0)) ++ claiming
 
-revive_to_end : IsCourse taken reviving finish
-revive_to_end = join taken revived finish (touching 1 revive_cell ((8, 1) ∷ []) (TakesBack 1 revive_cell)) ending revive_course (ended, ends, (failed, fails, (finish, stops, refl)))
+revive_to_end : IsCourse put_back reviving finish
+revive_to_end = join put_back revived finish (touching 1 revive_cell ((8, 1) ∷ []) (TakesBack 1 revive_cell)) ending revive_course (ended, ends, (in_hand, takes_frame, (failed, fails, (finish, stops, refl))))
 
-claim_course : IsCourse died claiming finish
-claim_course = (left_dead, turns_dead, (claimed_first, claims_first, (given_back, gives_back, (claimed, claims, (taken, takes, revive_to_end)))))
+claim_course : IsCourse left_dead claiming finish
+claim_course = (claimed_first, claims_first, (given_back, gives_back, (claimed, claims, (put_back, takes, revive_to_end))))
 
 refuse_course : IsCourse cell_killed (Begins ∷ Refuses 2 5 Shared 1 ∷ dying) finish
-refuse_course = (begun_2, begins, (refused_2, refuses, join refused_2 died finish (touching 1 kill_entry ((1, 2) ∷ []) (OnRegion 0 Die)) claiming death_course claim_course))
+refuse_course = (begun_2, begins, (refused_2, refuses, join refused_2 left_dead finish (touching 1 kill_entry ((1, 2) ∷ []) (Dies 1 (Some 0))) claiming death_course claim_course))
 
 abandoned_course : IsCourse (start stored) abandoned finish
 abandoned_course = join (start stored) cell_killed finish kills (Begins ∷ Refuses 2 5 Shared 1 ∷ dying) kills_course refuse_course
@@ -210,6 +257,7 @@ was_abandoned = record {
   finish = finish;
   course = abandoned_course;
   run = course_keeps (λ n. stored) first_log (start stored) finish abandoned (start_runs stored refl stored_regions) abandoned_course;
+  whole = whole_course_keeps (λ n. stored) first_log (start stored) finish abandoned (start_runs stored refl stored_regions) (load_is_whole small stored (passes rules_start (Format 1 1)) 1000000 first_vault refl) abandoned_course;
   log = refl;
   words = refl;
   refused = refl;

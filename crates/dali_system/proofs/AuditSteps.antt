@@ -120,8 +120,8 @@ fail_rule s o now b rs e f g h k = rw (e, f, g, h, k) refl
 
 pub audit_end_keeps : AuditEndKeeps
 audit_end_keeps bases L c b [] run may = record {
-  log = LogRun-push s L x c.system.table run.log table (rw rule refl) refl may.spelled (λ a e. absurd (cc)) (no_conflict s L x c.system run.locks (λ a e. absurd (cc)));
-  counts = CountRun-push s L x c.system run.counts then refl rule refl refl refl (λ t h. refl) (omega arith) (clean_within L x (max (clean_place (last_epoch L)) b) refl (max_cases (λ m. m ≤ next_number (last_epoch L)) (clean_place (last_epoch L)) b run.counts.clean may.auditing.within) refl) _ refl refl refl refl;
+  log = LogRun-push s L x c.system.table run.log table (rw rule refl) refl may.may.spelled (λ a e. absurd (cc)) (no_conflict s L x c.system run.locks (λ a e. absurd (cc)));
+  counts = CountRun-push s L x c.system run.counts then refl rule refl refl refl (λ t h. refl) (omega arith) (clean_within L x (max (clean_place (last_epoch L)) b) refl (max_cases (λ m. m ≤ next_number (last_epoch L)) (clean_place (last_epoch L)) b run.counts.clean may.may.auditing.within) refl) _ refl refl refl refl;
   table = table;
   locks = LockRun-push s L x c.system _ run.locks refl refl (λ t k. inr refl) (λ t k m e. (e, run.locks.owned t k m e)) (λ a e. absurd (cc));
   stop = record {
@@ -131,7 +131,7 @@ audit_end_keeps bases L c b [] run may = record {
   };
   whole = run.whole;
   base = ap (λ e. length (bases e.first)) (last_epoch-push L x refl) ∙ run.base;
-  regions = λ r g e. subst (λ z. RegionRun (bases z.first) z r g) (sym (last_epoch-push L x refl)) (RegionRun-off (base_at bases L) (last_epoch L) x r g (run.regions r g e) refl (certified-clean (last_epoch L) b r g run.counts.clean may.auditing.within (run.regions r g e).certified (each r g e)));
+  regions = λ r g e. subst (λ z. RegionRun (bases z.first) z r g) (sym (last_epoch-push L x refl)) (RegionRun-off (base_at bases L) (last_epoch L) x r g (run.regions r g e) refl (certified-clean (last_epoch L) b r g run.counts.clean may.may.auditing.within (run.regions r g e).certified (each r g e)));
 }
   where
     s : Sizes
@@ -147,7 +147,7 @@ audit_end_keeps bases L c b [] run may = record {
     then = record (passes now x) { closed = b ∷ now.closed }
 
     rule : rules_next s (rules_state s L) x ≡ Some then
-    rule = clean_rule s (rules_state s L) now b run.counts.rules run.counts.some (not_failed bases L c run may.runs) (may.auditing.named now run.counts.rules)
+    rule = clean_rule s (rules_state s L) now b run.counts.rules run.counts.some (not_failed bases L c run may.may.runs) (may.may.auditing.named now run.counts.rules)
 
     table : TableRun s (L ++ x ∷ []) c.system.table
     table = TableRun-none s L x c.system.table run.table (λ u. refl)
@@ -155,7 +155,7 @@ audit_end_keeps bases L c b [] run may = record {
     each : (r : ℕ) (g : RegionState) → slice_get c.regions r ≡ Some g → Certifies (last_epoch L) b r g
     each r g e = may.certified r g e refl
 audit_end_keeps bases L c b (f ∷ fs) run may = record {
-  log = LogRun-push s L x c.system.table run.log table (rw rule refl) refl may.spelled (λ a e. absurd (cc)) (no_conflict s L x c.system run.locks (λ a e. absurd (cc)));
+  log = LogRun-push s L x c.system.table run.log table (rw rule refl) refl may.may.spelled (λ a e. absurd (cc)) (no_conflict s L x c.system run.locks (λ a e. absurd (cc)));
   counts = CountRun-push s L x c.system run.counts then refl rule refl refl refl (λ t h. refl) (omega arith) (clean_within L x (clean_place (last_epoch L)) refl run.counts.clean refl) _ refl refl refl refl;
   table = table;
   locks = LockRun-push s L x c.system _ run.locks refl refl (λ t k. inr refl) (λ t k m e. (e, run.locks.owned t k m e)) (λ a e. absurd (cc));
@@ -182,7 +182,7 @@ audit_end_keeps bases L c b (f ∷ fs) run may = record {
     then = record (passes now x) { closed = b ∷ now.closed; failed = true }
 
     rule : rules_next s (rules_state s L) x ≡ Some then
-    rule = fail_rule s (rules_state s L) now b (f ∷ fs) run.counts.rules run.counts.some (not_failed bases L c run may.runs) (may.auditing.named now run.counts.rules) may.numbers
+    rule = fail_rule s (rules_state s L) now b (f ∷ fs) run.counts.rules run.counts.some (not_failed bases L c run may.may.runs) (may.may.auditing.named now run.counts.rules) may.may.numbers
 
     table : TableRun s (L ++ x ∷ []) c.system.table
     table = TableRun-none s L x c.system.table run.table (λ u. refl)

@@ -10,7 +10,7 @@ use Rattle.dali_record.specs.declared.operations.Undo.{Undo}
 use Rattle.dali_record.specs.declared.records.Call.TheVariants.{Get}
 use Rattle.dali_record.specs.declared.records.Answer.TheVariants.{Missing}
 use Rattle.dali_record.specs.declared.records.Record.{Record}
-use Rattle.dali_record.specs.declared.records.Record.TheVariants.{Begin, Op as Forward, Done, Commit, AuditBegin, AuditFail}
+use Rattle.dali_record.specs.declared.records.Record.TheVariants.{Begin, Forward, Done, Commit, AuditBegin, AuditFail}
 use Rattle.dali_index.specs.Entries.{entries}
 use Rattle.dali_counts.proofs.Lists.{equal, and_left, and_right}
 use Rattle.dali_system.specs.Worked.{first_log, is_format, damaged_look, committed_batch, audit_batch}

@@ -6,7 +6,7 @@ use Rattle.dali_geometry.specs.Places.{formatted_image}
 use Rattle.dali_record.specs.declared.operations.Op.TheVariants.{Look}
 use Rattle.dali_record.specs.declared.records.Call.TheVariants.{Get}
 use Rattle.dali_record.specs.declared.records.Answer.TheVariants.{Missing}
-use Rattle.dali_record.specs.declared.records.Record.TheVariants.{Begin, Op as Forward, Done, Commit, AuditBegin, AuditFail}
+use Rattle.dali_record.specs.declared.records.Record.TheVariants.{Begin, Forward, Done, Commit, AuditBegin, AuditFail}
 use Rattle.dali_record.specs.Blocks.{AreWords}
 use Rattle.dali_record.specs.Spelling.{IsBlock}
 use Rattle.dali_record.specs.Epochs.{last_epoch}
@@ -20,23 +20,26 @@ use Rattle.dali_locks.specs.declared.mode.Mode.{Mode}
 use Rattle.dali_locks.specs.declared.mode.Mode.TheVariants.{Shared, Exclusive}
 use Rattle.dali_locks.specs.Locks.{stronger_mode}
 use Rattle.dali_locks.proofs.Changes.{get-locks_with}
+use Rattle.dali_att.specs.declared.state.State.TheVariants.{Live}
 use Rattle.dali_att.specs.Table.{fresh_row}
 use Rattle.dali_counts.proofs.Lists.{some_same}
-use Rattle.dali_system.specs.State.{TxnRow, lock_of}
+use Rattle.dali_system.specs.State.{TxnRow, state_of, lock_of}
 use Rattle.dali_system.specs.Run.{log_in, covers, blocks_on, AllAreWords}
-use Rattle.dali_system.specs.Steps.{begun, commit_logged, granted, op_logged, done_logged, flushed, audit_begun, audit_ended}
+use Rattle.dali_system.specs.Steps.{begun, commit_logged, granted, op_logged, done_logged, taken, audit_begun, audit_ended}
 use Rattle.dali_system.specs.Keeps.{with_system}
-use Rattle.dali_system.specs.Regions.{Poke, Check}
+use Rattle.dali_system.specs.Regions.{Poke}
 use Rattle.dali_system.specs.Flushes.{with_vault, longer, frame_of}
-use Rattle.dali_system.specs.Audits.{IsAuditing, Certifies}
+use Rattle.dali_system.specs.Audits.{IsAuditing}
+use Rattle.dali_system.specs.Passes.{audits_with, has_passed, has_found, IsVerdict}
 use Rattle.dali_system.specs.Crashes.{NoneEscapes}
-use Rattle.dali_system.specs.Courses.{Step, Begins, Commits, OnRegion, Locks as Asks, Operates, Answers, Flushes, AuditBegins, AuditEnds, Moment, IsStepAt, IsCourse}
+use Rattle.dali_system.specs.Courses.{Step, Begins, Commits, OnRegion, Passes, Locks as Asks, Operates, Answers, Takes, Flushes, AuditBegins, AuditEnds, Moment, IsStepAt, IsCourse}
 use Rattle.dali_system.specs.Worked.{small, first_log, start, opening, touching, damaged_words, damaged_look, damage, committed_batch, audit_batch, Damaged}
 use Rattle.dali_system.proofs.Loads.{no_lock}
 use Rattle.dali_system.proofs.Tables.{added}
 use Rattle.dali_system.proofs.Courses.{course_keeps}
-use Rattle.dali_system.proofs.Touching.{join, with_one, after_all, touches}
-use Rattle.dali_system.proofs.Worked.{start_runs, logging}
+use Rattle.dali_system.proofs.Touching.{join, with_one, passing, after_all, touches}
+use Rattle.dali_system.proofs.Worked.{start_runs, logging, logs_by, alive_by}
+use Rattle.dali_system.proofs.RowStates.{begun_state, op_state}
 use Rattle.dali_system.proofs.Batches.{two_batches, three_batches, two_are, three_are}
 use Rattle.dali_system.proofs.Removal.{named_by}
 
@@ -45,10 +48,10 @@ abbrev formatted : List (List ℕ)
 formatted = formatted_image small
 
 abbrev begun_1 : Moment
-begun_1 = record { log = first_log ++ Begin 1 ∷ []; core = with_system (start formatted).core (begun (start formatted).core.system); leave = (start formatted).leave }
+begun_1 = record { log = first_log ++ Begin 1 ∷ []; core = with_system (start formatted).core (begun (start formatted).core.system); audits = (start formatted).audits; leave = (start formatted).leave }
 
 abbrev committed_1 : Moment
-committed_1 = record { log = begun_1.log ++ Commit 1 ∷ []; core = with_system begun_1.core (commit_logged begun_1.core.system 1); leave = begun_1.leave }
+committed_1 = record { log = begun_1.log ++ Commit 1 ∷ []; core = with_system begun_1.core (commit_logged begun_1.core.system 1); audits = begun_1.audits; leave = begun_1.leave }
 
 abbrev hit : RegionState
 hit = poked 0 1 (loaded (replicate 64 0))
@@ -57,10 +60,10 @@ abbrev poked_0 : Moment
 poked_0 = with_one committed_1 0 hit
 
 abbrev begun_2 : Moment
-begun_2 = record { log = poked_0.log ++ Begin 2 ∷ []; core = with_system poked_0.core (begun poked_0.core.system); leave = poked_0.leave }
+begun_2 = record { log = poked_0.log ++ Begin 2 ∷ []; core = with_system poked_0.core (begun poked_0.core.system); audits = poked_0.audits; leave = poked_0.leave }
 
 abbrev locked : Moment
-locked = record { log = begun_2.log; core = with_system begun_2.core (granted begun_2.core.system 2 5 Shared); leave = begun_2.leave }
+locked = record { log = begun_2.log; core = with_system begun_2.core (granted begun_2.core.system 2 5 Shared); audits = begun_2.audits; leave = begun_2.leave }
 
 abbrev at_look : RegionState
 at_look = after_all (opening 2 damaged_look []) hit
@@ -69,52 +72,61 @@ abbrev looked : Moment
 looked = logging locked (Forward 2 damaged_look) (op_logged locked.core.system 2 damaged_look) 0 at_look
 
 abbrev answered : Moment
-answered = record { log = looked.log ++ Done 2 (Get 5) Missing ∷ []; core = with_system looked.core (done_logged looked.core.system 2 (Get 5) Missing); leave = looked.leave }
+answered = record { log = looked.log ++ Done 2 (Get 5) Missing ∷ []; core = with_system looked.core (done_logged looked.core.system 2 (Get 5) Missing); audits = looked.audits; leave = looked.leave }
 
 abbrev committed_2 : Moment
-committed_2 = record { log = answered.log ++ Commit 2 ∷ []; core = with_system answered.core (commit_logged answered.core.system 2); leave = answered.leave }
+committed_2 = record { log = answered.log ++ Commit 2 ∷ []; core = with_system answered.core (commit_logged answered.core.system 2); audits = answered.audits; leave = answered.leave }
 
-abbrev flushed_2 : Moment
-flushed_2 = record {
-  log = committed_2.log;
-  core = with_vault committed_2.core (flushed committed_2.core.system) (longer committed_2.core.vault (frame_of committed_2.log committed_2.core.system));
+abbrev taken_2 : Moment
+taken_2 = record { log = committed_2.log; core = with_system committed_2.core (taken committed_2.core.system); audits = committed_2.audits; leave = committed_2.leave }
+
+abbrev begun_audit : Moment
+begun_audit = record { log = taken_2.log ++ AuditBegin ∷ []; core = with_system taken_2.core (audit_begun taken_2.core.system); audits = audits_with taken_2.audits 7 []; leave = taken_2.leave }
+
+-- the audit's begin isn't in the frame
+abbrev auditing : Moment
+auditing = record {
+  log = begun_audit.log;
+  core = with_vault begun_audit.core (longer begun_audit.core.vault (frame_of begun_audit.log begun_audit.core));
+  audits = begun_audit.audits;
   leave = λ F. two_batches F.batches;
 }
 
-abbrev auditing : Moment
-auditing = record { log = flushed_2.log ++ AuditBegin ∷ []; core = with_system flushed_2.core (audit_begun flushed_2.core.system); leave = flushed_2.leave }
-
 abbrev passed_0 : Moment
-passed_0 = with_one auditing 0 (checked (touched at_look))
+passed_0 = passing auditing 7 0 (checked (touched at_look))
 
 abbrev passed : Moment
-passed = with_one passed_0 1 (checked (loaded (1 ∷ replicate 63 0)))
+passed = passing passed_0 7 1 (checked (loaded (1 ∷ replicate 63 0)))
 
 abbrev audited : Moment
-audited = record { log = passed.log ++ AuditFail 7 (0 ∷ []) ∷ []; core = with_system passed.core (audit_ended passed.core.system 7 (0 ∷ [])); leave = passed.leave }
+audited = record { log = passed.log ++ AuditFail 7 (0 ∷ []) ∷ []; core = with_system passed.core (audit_ended passed.core.system 7 (0 ∷ [])); audits = passed.audits; leave = passed.leave }
+
+abbrev taken_audit : Moment
+taken_audit = record { log = audited.log; core = with_system audited.core (taken audited.core.system); audits = audited.audits; leave = audited.leave }
 
 abbrev pub finish : Moment
 finish = record {
   log = audited.log;
-  core = with_vault audited.core (flushed audited.core.system) (longer audited.core.vault (frame_of audited.log audited.core.system));
+  core = with_vault taken_audit.core (longer taken_audit.core.vault (frame_of taken_audit.log taken_audit.core));
+  audits = audited.audits;
   leave = λ F. three_batches F.batches;
 }
 
 -- ---- the steps
 begins_1 : IsStepAt (start formatted) Begins begun_1
-begins_1 = ((record { runs = refl; room = omega arith }, (refl, refl)), λ F h. h)
+begins_1 = ((record { runs = refl; room = omega arith }, (refl, refl)), (λ F h. h), refl)
 
 commits_1 : IsStepAt begun_1 (Commits 1) committed_1
-commits_1 = ((refl, refl, (refl, refl)), λ F h. h)
+commits_1 = ((refl, record { next = refl; by = logs_by _ Live (Commit 1) (begun_state (start formatted).core.system 1) refl }, (refl, refl)), (λ F h. h), refl)
 
 pokes : IsStepAt committed_1 (OnRegion 0 (Poke 0 1)) poked_0
-pokes = ((loaded (replicate 64 0), refl, (omega arith, omega arith, omega arith), (refl, refl)), λ F h. h)
+pokes = ((loaded (replicate 64 0), refl, ((omega arith, omega arith, omega arith), tt), (refl, refl)), (λ F h. h), refl)
 
 begins_2 : IsStepAt poked_0 Begins begun_2
-begins_2 = ((record { runs = refl; room = omega arith }, (refl, refl)), λ F h. h)
+begins_2 = ((record { runs = refl; room = omega arith }, (refl, refl)), (λ F h. h), refl)
 
 asks : IsStepAt begun_2 (Asks 2 5 Shared) locked
-asks = ((ap (λ (row : Option TxnRow). is_some row) (added poked_0.core.system.table 2 fresh_row 2), (λ u n d e. absurd (no_lock u 5 n e)), (refl, refl)), λ F h. h)
+asks = ((ap (λ (row : Option TxnRow). is_some row) (added poked_0.core.system.table 2 fresh_row 2), (λ u n d e. absurd (no_lock u 5 n e)), (refl, refl)), (λ F h. h), refl)
 
 are_damaged : AreWords damaged_words
 are_damaged = (refl, omega arith)
@@ -131,6 +143,12 @@ shared (Some Exclusive) = refl
 has_lock : covers (lock_of locked.core.system 2 5) false ≡ true
 has_lock = ap (λ (o : Option Mode). covers o false) (get-locks_with begun_2.core.system.locks 2 5 Shared 2 5) ∙ shared (get begun_2.core.system.locks (2, 5))
 
+live_locked : state_of locked.core.system 2 ≡ Some Live
+live_locked = begun_state poked_0.core.system 2
+
+live_looked : state_of looked.core.system 2 ≡ Some Live
+live_looked = op_state locked.core.system 2 damaged_look 2 ∙ live_locked
+
 looks : IsStepAt (with_one locked 0 at_look) (Operates 2 damaged_look) looked
 unfolding damaged_look entries
 looks = (
@@ -141,6 +159,7 @@ looks = (
       runs = refl;
       spelled = (omega arith, is_damaged_look, refl);
       next = refl;
+      by = logs_by _ Live (Forward 2 damaged_look) live_locked refl;
       kind = refl;
       locked = has_lock;
       at = refl;
@@ -148,75 +167,80 @@ looks = (
     },
     (refl, refl),
   ),
-  λ F h. h,
+  (λ F h. h),
+  refl,
 )
 
 look_course : IsCourse locked (touching 2 damaged_look [] (Operates 2 damaged_look)) looked
 unfolding damaged_look entries
-look_course = touches locked looked 2 damaged_look [] (Operates 2 damaged_look) hit refl (refl, (((refl, refl), omega arith), tt)) looks
+look_course = touches locked looked 2 damaged_look [] (Operates 2 damaged_look) hit refl (alive_by _ Live live_locked refl) (refl, (((refl, refl), omega arith), tt)) looks
 
 answers : IsStepAt looked (Answers 2 (Get 5) Missing) answered
 unfolding damaged_look entries
-answers = ((record { runs = refl; room = omega arith }, (omega arith, omega arith, tt, refl), refl, (refl, refl)), λ F h. h)
+answers = ((record { runs = refl; room = omega arith }, (omega arith, omega arith, tt, refl), record { next = refl; by = logs_by _ Live (Done 2 (Get 5) Missing) live_looked refl }, (refl, refl)), (λ F h. h), refl)
 
 commits_2 : IsStepAt answered (Commits 2) committed_2
 unfolding damaged_look entries
-commits_2 = ((refl, refl, (refl, refl)), λ F h. h)
+commits_2 = ((refl, record { next = refl; by = logs_by _ Live (Commit 2) live_looked refl }, (refl, refl)), (λ F h. h), refl)
 
-flushes : IsStepAt committed_2 Flushes flushed_2
-flushes = ((refl, (refl, refl)), record { each = λ F h. (record F { batches = first_log ∷ [] }, refl, ap (λ bs. record F { batches = bs }) (two_are F.batches h)) })
+takes : IsStepAt committed_2 Takes taken_2
+takes = ((refl, refl), (λ F h. h), refl)
 
-begins_audit : IsStepAt flushed_2 AuditBegins auditing
+flushes : IsStepAt begun_audit Flushes auditing
 unfolding damaged_look entries
-begins_audit = ((refl, omega arith, (refl, refl)), λ F h. h)
+flushes = ((refl, (refl, refl)), record { each = λ F h. (record F { batches = first_log ∷ [] }, refl, ap (λ bs. record F { batches = bs }) (two_are F.batches h)) }, refl)
 
-passes_0 : IsStepAt auditing (OnRegion 0 Check) passed_0
-passes_0 = ((touched at_look, refl, tt, (refl, refl)), λ F h. h)
-
-passes_1 : IsStepAt passed_0 (OnRegion 1 Check) passed
-passes_1 = ((loaded (1 ∷ replicate 63 0), refl, tt, (refl, refl)), λ F h. h)
-
-is_auditing : IsAuditing small passed.log 7
+begins_audit : IsStepAt taken_2 AuditBegins begun_audit
 unfolding damaged_look entries
-is_auditing = record { named = named_by 7 (rules_state small passed.log) refl; within = omega arith }
+begins_audit = ((refl, omega arith, (refl, refl)), (λ F h. h), refl)
 
-not_second : has (0 ∷ []) 1 ≡ true → ⊥
-not_second h = cc
-
-not_first : has (0 ∷ []) 0 ≡ false → ⊥
-not_first h = cc
-
--- region 0 is named, to which the poke came
-named_is_poked : (r : ℕ) (g : RegionState) → slice_get passed.core.regions r ≡ Some g → has (0 ∷ []) r ≡ true → g.poked ≡ true
+is_auditing : IsAuditing small auditing.log 7
 unfolding damaged_look entries
-named_is_poked zero g e h = ap (λ (z : RegionState). z.poked) (sym (some_same e))
-named_is_poked (suc zero) g e h = absurd (not_second h)
-named_is_poked (suc (suc r)) g e h = absurd (cc)
+is_auditing = record { named = named_by 7 (rules_state small auditing.log) refl; within = omega arith }
 
--- no block is on region 1
-others_certified : (r : ℕ) (g : RegionState) → slice_get passed.core.regions r ≡ Some g → has (0 ∷ []) r ≡ false → Certifies (last_epoch passed.log) 7 r g
+passes_0 : IsStepAt auditing (Passes 7 0) passed_0
 unfolding damaged_look entries
-others_certified zero g e n = absurd (not_first n)
-others_certified (suc zero) g e n = λ h. omega arith
-others_certified (suc (suc r)) g e n = absurd (cc)
+passes_0 = ((touched at_look, refl, (refl, refl)), (λ F h. h), (record { auditing = is_auditing; unpassed = refl }, refl))
+
+passes_1 : IsStepAt passed_0 (Passes 7 1) passed
+unfolding damaged_look entries
+passes_1 = ((loaded (1 ∷ replicate 63 0), refl, (refl, refl)), (λ F h. h), (record { auditing = is_auditing; unpassed = refl }, refl))
+
+-- region 0, to which the poke came, answered other than 0
+verdict : IsVerdict small (passed.audits 7) (0 ∷ [])
+unfolding damaged_look entries
+verdict = record { passed = passed_all; named = named_first }
+  where
+    passed_all : (r : ℕ) → r < 2 → has_passed (passed.audits 7) r ≡ true
+    passed_all zero h = refl
+    passed_all (suc zero) h = refl
+    passed_all (suc (suc r)) h = absurd (omega (arith, h))
+
+    named_first : (r : ℕ) → r < 2 → has (0 ∷ []) r ≡ has_found (passed.audits 7) r
+    named_first zero h = refl
+    named_first (suc zero) h = refl
+    named_first (suc (suc r)) h = absurd (omega (arith, h))
 
 ends_audit : IsStepAt passed (AuditEnds 7 (0 ∷ [])) audited
 unfolding damaged_look entries
-ends_audit = ((record { runs = refl; auditing = is_auditing; spelled = (omega arith, (omega arith, (omega arith, tt), refl), omega arith); numbers = refl; stray = named_is_poked; certified = others_certified }, (refl, refl)), λ F h. h)
+ends_audit = ((record { runs = refl; auditing = is_auditing; spelled = (omega arith, (omega arith, (omega arith, tt), refl), omega arith); numbers = refl }, (refl, refl)), (λ F h. h), (verdict, refl))
 
 accepted : two_batches (first_log ∷ committed_batch ∷ []) ≡ true
 unfolding damaged_look entries
 accepted = refl
 
-flushes_audit : IsStepAt audited Flushes finish
-flushes_audit = ((refl, (refl, refl)), record { each = λ F h. (record F { batches = first_log ∷ committed_batch ∷ [] }, accepted, ap (λ bs. record F { batches = bs }) (three_are F.batches h)) })
+takes_audit : IsStepAt audited Takes taken_audit
+takes_audit = ((refl, refl), (λ F h. h), refl)
+
+flushes_audit : IsStepAt taken_audit Flushes finish
+flushes_audit = ((refl, (refl, refl)), record { each = λ F h. (record F { batches = first_log ∷ committed_batch ∷ [] }, accepted, ap (λ bs. record F { batches = bs }) (three_are F.batches h)) }, refl)
 
 -- ---- all of it
 abbrev auditing_steps : List Step
-auditing_steps = Answers 2 (Get 5) Missing ∷ Commits 2 ∷ Flushes ∷ AuditBegins ∷ OnRegion 0 Check ∷ OnRegion 1 Check ∷ AuditEnds 7 (0 ∷ []) ∷ Flushes ∷ []
+auditing_steps = Answers 2 (Get 5) Missing ∷ Commits 2 ∷ Takes ∷ AuditBegins ∷ Flushes ∷ Passes 7 0 ∷ Passes 7 1 ∷ AuditEnds 7 (0 ∷ []) ∷ Takes ∷ Flushes ∷ []
 
 audit_course : IsCourse looked auditing_steps finish
-audit_course = (answered, answers, (committed_2, commits_2, (flushed_2, flushes, (auditing, begins_audit, (passed_0, passes_0, (passed, passes_1, (audited, ends_audit, (finish, flushes_audit, refl))))))))
+audit_course = (answered, answers, (committed_2, commits_2, (taken_2, takes, (begun_audit, begins_audit, (auditing, flushes, (passed_0, passes_0, (passed, passes_1, (audited, ends_audit, (taken_audit, takes_audit, (finish, flushes_audit, refl))))))))))
 
 pub damage_course : IsCourse (start formatted) damage finish
 damage_course = (

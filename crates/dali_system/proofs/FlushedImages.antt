@@ -2,17 +2,20 @@
 use Rattle.std.proofs.Common.{◌≡◌, ℕ, ◌-◌, ◌≤◌, Bool, false, List, [], ◌∷◌, ◌++◌, take, drop, refl, ap, sym, subst, ◌∙◌, ◌⊎◌, inr, ⊎_elim, arith}
 use Rattle.std.specs.Prelude.{slice_get, fold}
 use Rattle.std.specs.List.{list_any}
+use Rattle.std.proofs.lemmas.List.{drop-append-le, length-take-le, take-append-drop}
+use Rattle.std.proofs.lemmas.List.Folds.{list_any-append}
 use Rattle.std.proofs.lemmas.List.Sums.{fold-append}
 use Rattle.dali_geometry.specs.Sizes.{Sizes}
 use Rattle.dali_geometry.specs.Places.{formatted_image}
 use Rattle.dali_record.specs.declared.records.Record.{Record}
-use Rattle.dali_record.specs.declared.records.Record.TheVariants.{Format, Begin, Op as Forward, Done, Commit, Ended, Solo, AuditBegin, AuditClean, AuditFail, Restarted, Back}
+use Rattle.dali_record.specs.declared.records.Record.TheVariants.{Format, Begin, Forward, Done, Commit, Ended, Solo, AuditBegin, AuditClean, AuditFail, Restarted, Back}
 use Rattle.dali_record.specs.Epochs.{separates, Epoch, last_epoch, clean_step, clean_place}
 use Rattle.dali_record.specs.Settled.{words_in, redo_all, settled_before}
 use Rattle.dali_record.specs.Files.{Files, Fits, with_batch}
 use Rattle.dali_record.proofs.Batches.{fits_more}
+use Rattle.dali_counts.proofs.Lists.{or_false}
 use Rattle.dali_counts.proofs.Tallies.{number_is}
-use Rattle.dali_system.specs.State.{CoreState, stable, log_after}
+use Rattle.dali_system.specs.State.{CoreState, taken_to, stable, log_after}
 use Rattle.dali_system.specs.Run.{Bases, log_in}
 use Rattle.dali_system.specs.Flushes.{frame_of, with_frame}
 use Rattle.dali_system.specs.Courses.{Moment, MayLeave, RunsAt}
@@ -116,21 +119,26 @@ framed_images bases told old new c d frame inside regions sizes store run = reco
 }
 
 -- what a flush writes belongs to the last epoch
-pub frame_inside : (bases : Bases) (before : List Record) (m : Moment) → RunsAt bases before m → list_any separates (frame_of m.log m.core.system) ≡ false
+pub frame_inside : (bases : Bases) (before : List Record) (m : Moment) → RunsAt bases before m → list_any separates (frame_of m.log m.core) ≡ false
 frame_inside bases before m at =
-    subst (λ L. list_any separates (frame_of L m.core.system) ≡ false) (sym at.log)
-    (none_separates (log_after before m.core.system) (stable m.core.system) (omega (arith, at.run.began, at.run.first)))
+    let L : List Record = log_after before m.core.system in
+    let n : ℕ = stable m.core in
+    let k : ℕ = taken_to m.core.system in
+    let both : frame_of L m.core ++ drop k L ≡ drop n L = sym (drop-append-le n (take k L) (drop k L) (omega (arith, at.run.frame, length-take-le k L at.run.taken))) ∙ ap (drop n) (take-append-drop k L) in
+    subst (λ M. list_any separates (frame_of M m.core) ≡ false) (sym at.log)
+    (or_false (list_any separates (frame_of L m.core)) (list_any separates (drop k L))
+    (sym (list_any-append separates (frame_of L m.core) (drop k L)) ∙ (ap (list_any separates) both ∙ none_separates L n (omega (arith, at.run.began, at.run.first))))).0
 
 pub flush_keeps_images : FlushKeepsImages
 flush_keeps_images bases before told m n at run s =
-    framed_images bases told (MayLeave m.leave) (MayLeave n.leave) m.core n.core (frame_of m.log m.core.system) (frame_inside bases before m at)
+    framed_images bases told (MayLeave m.leave) (MayLeave n.leave) m.core n.core (frame_of m.log m.core) (frame_inside bases before m at)
     (ap (λ (c : CoreState). c.regions) s.0.1.1) (ap (λ (c : CoreState). c.system.sizes) s.0.1.1)
     (λ F h. let w = s.1.each F h in (w.0, w.1, inr w.2))
     run
 
 pub fault_keeps_images : FaultKeepsImages
 fault_keeps_images bases before told m n faults at run s =
-    framed_images bases told (MayLeave m.leave) (MayLeave n.leave) m.core n.core (frame_of m.log m.core.system) (frame_inside bases before m at)
+    framed_images bases told (MayLeave m.leave) (MayLeave n.leave) m.core n.core (frame_of m.log m.core) (frame_inside bases before m at)
     (ap (λ (c : CoreState). c.regions) s.0.2.1) (ap (λ (c : CoreState). c.system.sizes) s.0.2.1)
     (λ F h. s.1.each F h)
     run

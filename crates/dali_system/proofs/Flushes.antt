@@ -1,14 +1,15 @@
--- A flush, and a fault in one, keep a run.
+-- A frame that is taken, its flush, and a fault in one, keep a run.
 use Rattle.std.proofs.Common.{◌≡◌, ℕ, ◌+◌, ◌<◌, ◌≤◌, false, List, [], ◌∷◌, ◌++◌, length, take, drop, refl, ap, sym, ◌∙◌, inl, inr, ⊎_elim, arith}
 use Rattle.std.specs.Prelude.{◌^◌, flat_map, sum_by}
-use Rattle.std.proofs.lemmas.List.{take-append-drop, take_all, append-nil}
+use Rattle.std.proofs.lemmas.List.{take-append-drop, append-nil, length-drop, length-take-le}
 use Rattle.std.proofs.lemmas.List.Sums.{sum_by_push}
 use Rattle.std.proofs.lemmas.Grind.{flat_map-append}
 use Rattle.dali_record.specs.declared.records.Record.{Record}
 use Rattle.dali_record.specs.Files.{Files, batch_length}
+use Rattle.dali_counts.proofs.Lists.{take_take}
 use Rattle.dali_system.specs.State.{VaultState}
 use Rattle.dali_system.specs.Run.{CountRun, log_in, IsPrefix, HasRisen}
-use Rattle.dali_system.specs.Flushes.{frame_of, with_batch, longer, FlushKeeps, FaultKeeps, FlushLeaves, FaultLeaves}
+use Rattle.dali_system.specs.Flushes.{with_batch, longer, TakeKeeps, FlushKeeps, FaultKeeps, FlushLeaves, FaultLeaves}
 
 batch_added : (batches : List (List Record)) (frame : List Record) → flat_map (λ b. b) (with_batch batches frame) ≡ flat_map (λ b. b) batches ++ frame
 batch_added batches [] = sym (append-nil (flat_map (λ b. b) batches))
@@ -17,11 +18,11 @@ batch_added batches (r ∷ rs) = flat_map-append (λ b. b) batches ((r ∷ rs) �
 pub log_with : (F D : Files) (frame : List Record) → F.batches ≡ with_batch D.batches frame → log_in F ≡ log_in D ++ frame
 log_with F D frame e = ap (flat_map (λ b. b)) e ∙ batch_added D.batches frame
 
-whole_log : (L : List Record) (n : ℕ) (F D : Files) → log_in D ≡ take n L → F.batches ≡ with_batch D.batches (drop n L) → log_in F ≡ L
-whole_log L n F D was is = log_with F D (drop n L) is ∙ (ap (λ l. l ++ drop n L) was ∙ take-append-drop n L)
-
-as_whole : (L : List Record) (n : ℕ) (l : List Record) → n ≡ length L → l ≡ L → l ≡ take n L
-as_whole L n l e f = f ∙ sym (take_all n L (omega (arith, e)))
+-- the first n records, and a frame from there to the first m
+taken_log : (L : List Record) (n m : ℕ) (F D : Files) → n ≤ m → log_in D ≡ take n L → F.batches ≡ with_batch D.batches (drop n (take m L)) → log_in F ≡ take m L
+taken_log L n m F D h was is =
+    log_with F D (drop n (take m L)) is
+    ∙ (ap (λ l. l ++ drop n (take m L)) (was ∙ sym (take_take n m L h)) ∙ take-append-drop n (take m L))
 
 length-with : (batches : List (List Record)) (frame : List Record) (v : VaultState) → v.end ≡ sum_by batch_length batches → (longer v frame).end ≡ sum_by batch_length (with_batch batches frame)
 length-with batches [] v e = e
@@ -42,17 +43,37 @@ risen_since then before now h rose = ⊎_elim (λ more. inl (omega (arith, h, mo
 pub no_less : (then before now : ℕ) → then < 2 ^ 64 → then ≤ before → HasRisen before now → then ≤ now
 no_less then before now fits h rose = ⊎_elim (λ more. omega (arith, h, more)) (λ full. omega (arith, fits, full)) rose
 
+pub longer_flushed : (v : VaultState) (frame : List Record) → (longer v frame).flushed ≡ v.flushed + length frame
+longer_flushed v [] = omega arith
+longer_flushed v (r ∷ rs) = refl
+
+-- a frame from the first n records to the first m
+pub length-frame : (L : List Record) (n m : ℕ) → n ≤ m → m ≤ length L → n + length (drop n (take m L)) ≡ m
+length-frame L n m h g = omega (arith, h, length-drop n (take m L), length-take-le m L g)
+
 longer_stopped : (v : VaultState) (frame : List Record) → (longer v frame).stopped ≡ v.stopped
 longer_stopped v [] = refl
 longer_stopped v (r ∷ rs) = refl
 
-pub flush_keeps : FlushKeeps
-flush_keeps bases L c run = record {
+pub take_keeps : TakeKeeps
+take_keeps bases L c run = record {
   log = run.log;
   counts = let q : CountRun c.system.sizes L c.system = run.counts in record { now = q.now; rules = q.rules; some = q.some; records = q.records; end = q.end; next = q.next; limit = q.limit; fresh = q.fresh; number = q.number; clean = q.clean };
   table = run.table;
   locks = record { held = run.locks.held; apart = run.locks.apart; owned = run.locks.owned; refused = run.locks.refused };
-  stop = record { damage = run.stop.damage; failed = run.stop.failed; store = λ e. longer_stopped c.vault (frame_of L c.system) ∙ run.stop.store e };
+  stop = record { damage = run.stop.damage; failed = run.stop.failed; store = run.stop.store };
+  whole = run.whole;
+  base = run.base;
+  regions = run.regions;
+}
+
+pub flush_keeps : FlushKeeps
+flush_keeps bases L frame c run = record {
+  log = run.log;
+  counts = run.counts;
+  table = run.table;
+  locks = run.locks;
+  stop = record { damage = run.stop.damage; failed = run.stop.failed; store = λ e. longer_stopped c.vault frame ∙ run.stop.store e };
   whole = run.whole;
   base = run.base;
   regions = run.regions;
@@ -71,25 +92,28 @@ fault_keeps bases L c faults run = record {
 }
 
 pub flush_leaves : (old new : Files → Type 0) → FlushLeaves old new
-flush_leaves old new L n v run runs store = record {
-  within = omega arith;
-  prefix = λ F h. record { count = length L; flushed = omega arith; within = omega arith; log = as_whole L (length L) (log_in F) refl (has_all F h) };
-  exact = λ running F h. record { log = as_whole L (length L) (log_in F) refl (has_all F h); end = ends F h };
-  then_fits = longer_then v (drop n L) run.then_fits;
-  counts = longer_counts v (drop n L) run.counts;
-  rose = λ h. let isnt : (longer v (drop n L)).stopped ≡ false = longer_stopped v (drop n L) ∙ runs in absurd (cc);
+flush_leaves old new L n m v run from to runs store = record {
+  within = to;
+  prefix = λ F h. record { count = m; flushed = omega arith; within = to; log = has_taken F h };
+  exact = λ running F h. record { log = has_taken F h; end = ends F h };
+  then_fits = longer_then v frame run.then_fits;
+  counts = longer_counts v frame run.counts;
+  rose = λ h. let isnt : (longer v frame).stopped ≡ false = longer_stopped v frame ∙ runs in absurd (cc);
 }
   where
-    has_all : (F : Files) → new F → log_in F ≡ L
-    has_all F h = let w = store.each F h in whole_log L n F w.0 (run.exact runs w.0 w.1).log (ap (λ (f : Files). f.batches) w.2)
+    frame : List Record
+    frame = drop n (take m L)
 
-    ends : (F : Files) → new F → (longer v (drop n L)).end ≡ sum_by batch_length F.batches
-    ends F h = let w = store.each F h in length-with w.0.batches (drop n L) v (run.exact runs w.0 w.1).end ∙ sym (ap (λ (f : Files). sum_by batch_length f.batches) w.2)
+    has_taken : (F : Files) → new F → log_in F ≡ take m L
+    has_taken F h = let w = store.each F h in taken_log L n m F w.0 from (run.exact runs w.0 w.1).log (ap (λ (f : Files). f.batches) w.2)
+
+    ends : (F : Files) → new F → (longer v frame).end ≡ sum_by batch_length F.batches
+    ends F h = let w = store.each F h in length-with w.0.batches frame v (run.exact runs w.0 w.1).end ∙ sym (ap (λ (f : Files). sum_by batch_length f.batches) w.2)
 
 pub fault_leaves : (old new : Files → Type 0) → FaultLeaves old new
-fault_leaves old new L n faults v run runs rose store = record {
+fault_leaves old new L n m faults v run from to runs rose store = record {
   within = run.within;
-  prefix = λ F h. let w = store.each F h in ⊎_elim (λ same. without F w.0 (run.prefix w.0 w.1) (ap (λ (f : Files). f.batches) same)) (λ more. record { count = length L; flushed = run.within; within = omega arith; log = as_whole L (length L) (log_in F) refl (whole_log L n F w.0 (run.exact runs w.0 w.1).log (ap (λ (f : Files). f.batches) more)) }) w.2;
+  prefix = λ F h. let w = store.each F h in ⊎_elim (λ same. without F w.0 (run.prefix w.0 w.1) (ap (λ (f : Files). f.batches) same)) (λ more. record { count = m; flushed = from; within = to; log = taken_log L n m F w.0 from (run.exact runs w.0 w.1).log (ap (λ (f : Files). f.batches) more) }) w.2;
   exact = λ running. absurd (cc);
   then_fits = run.then_fits;
   counts = no_less v.faults_then v.faults faults run.then_fits run.counts rose;

@@ -1,5 +1,5 @@
 -- Steps that write no image leave images and log as they fit.
-use Rattle.std.proofs.Common.{◌≡◌, ◌≢◌, ℕ, zero, suc, Bool, true, false, cond, List, [], ◌∷◌, Option, Some, refl, ap, sym, subst, ◌∙◌, ⊎_elim}
+use Rattle.std.proofs.Common.{◌≡◌, ◌≢◌, ℕ, zero, suc, Bool, true, false, cond, List, [], ◌∷◌, Option, Some, None, refl, ap, sym, subst, ◌∙◌, ⊎_elim}
 use Rattle.std.specs.Prelude.{◌==◌, ◌&&◌, ◌||◌, not, slice_get, slice_set}
 use Rattle.std.proofs.lemmas.Bool.{ne_eqb}
 use Rattle.dali_words.specs.Words.{write_under}
@@ -12,13 +12,16 @@ use Rattle.dali_record.specs.Files.{Files}
 use Rattle.dali_region.specs.declared.Hold.{Hold}
 use Rattle.dali_region.specs.declared.Side.{Side}
 use Rattle.dali_region.specs.declared.Side.TheVariants.{A, B}
-use Rattle.dali_region.specs.State.{RegionState, touched, wrote}
+use Rattle.dali_region.specs.State.{RegionState, touched, wrote, dead}
 use Rattle.dali_region.specs.Answers.{is_dirty, cleaned}
 use Rattle.dali_counts.proofs.Lists.{equal, same_number, or_false, set_cases}
 use Rattle.dali_system.specs.State.{SystemState, CoreState}
+use Rattle.dali_att.specs.declared.state.State.TheVariants.{Dead}
 use Rattle.dali_system.specs.Run.{Bases, log_in}
+use Rattle.dali_system.specs.Steps.{in_state}
+use Rattle.dali_system.proofs.Deaths.{region_with, dead_at}
 use Rattle.dali_system.specs.Regions.{IsOpen, RegionStep, Latch, NoteReads, Update, TakeBack, Poke, Check, Die, Clean, region_after}
-use Rattle.dali_system.specs.Courses.{Begins, Operates, TakesBack, Frees, Answers, Commits, Ends, AuditBegins, AuditEnds, Locks, Refuses, OnRegion, ChangesState, Stops, Checkpoints, Flushes, Faults, MayLeave}
+use Rattle.dali_system.specs.Courses.{Begins, Operates, TakesBack, Frees, Answers, Commits, Ends, AuditBegins, AuditEnds, Locks, Refuses, OnRegion, Passes, Dies, Claims, GivesBack, Recovers, Stops, Checkpoints, Takes, Flushes, Faults, MayLeave}
 use Rattle.dali_system.specs.Images.{Told, FitsBut, is_missed, ImageRun}
 use Rattle.dali_system.specs.ImageSteps.{clears, ImagesKeep, same_side, CopyKeeps}
 
@@ -149,9 +152,19 @@ images_keep bases told m n (AuditEnds b found) run s w = images_same bases told 
 images_keep bases told m n (Locks t k mode) run s w = images_same bases told (MayLeave m.leave) (MayLeave n.leave) m.core n.core _ s.0.2.1 refl refl s.1 run
 images_keep bases told m n (Refuses t k mode h) run s w = images_same bases told (MayLeave m.leave) (MayLeave n.leave) m.core n.core _ s.0.2.1 refl refl s.1 run
 images_keep bases told m n (OnRegion r x) run s w = images_region bases told (MayLeave m.leave) (MayLeave n.leave) m.core n.core m.core.system r s.0.0 (region_after x s.0.0) s.0.3.1 refl s.0.1 (clears_after x s.0.0 w) (misses_after x s.0.0) s.1 run
-images_keep bases told m n (ChangesState t state) run s w = images_same bases told (MayLeave m.leave) (MayLeave n.leave) m.core n.core _ s.0.1.1 refl refl s.1 run
+images_keep bases told m n (Passes b r) run s w = images_region bases told (MayLeave m.leave) (MayLeave n.leave) m.core n.core m.core.system r s.0.0 (region_after Check s.0.0) s.0.2.1 refl s.0.1 (clears_after Check s.0.0 refl) (misses_after Check s.0.0) s.1 run
+images_keep bases told m n (Dies t None) run s w = images_same bases told (MayLeave m.leave) (MayLeave n.leave) m.core n.core _ s.0.1.1 refl refl s.1 run
+images_keep bases told m n (Dies t (Some r)) run s w =
+    let held = s.0.0.latched.held r refl in
+    let region = region_with (slice_get m.core.regions r) held.0 held.1 in
+    images_region bases told (MayLeave m.leave) (MayLeave n.leave) m.core n.core (in_state m.core.system t (Dead (Some r))) r region.0 (dead region.0)
+    (s.0.1.1 ∙ ap (λ gs. record { regions = gs; system = in_state m.core.system t (Dead (Some r)); vault = m.core.vault }) (dead_at m.core.regions r region.0 region.1)) refl region.1 (clears_after Die region.0 refl) (misses_after Die region.0) s.1 run
+images_keep bases told m n (Claims t) run s w = images_same bases told (MayLeave m.leave) (MayLeave n.leave) m.core n.core _ s.0.2.1 refl refl s.1 run
+images_keep bases told m n (GivesBack t o) run s w = images_same bases told (MayLeave m.leave) (MayLeave n.leave) m.core n.core _ s.0.1.1 refl refl s.1 run
+images_keep bases told m n (Recovers r) run s w = images_region bases told (MayLeave m.leave) (MayLeave n.leave) m.core n.core m.core.system r s.0.0 (region_after TakeBack s.0.0) s.0.3.1 refl s.0.1 (clears_after TakeBack s.0.0 refl) (misses_after TakeBack s.0.0) s.1 run
 images_keep bases told m n Stops run s w = images_same bases told (MayLeave m.leave) (MayLeave n.leave) m.core n.core _ s.0.1.1 refl refl s.1 run
 images_keep bases told m n (Checkpoints b) run s w = images_same bases told (MayLeave m.leave) (MayLeave n.leave) m.core n.core _ s.0.1.1 refl refl s.1 run
+images_keep bases told m n Takes run s w = images_same bases told (MayLeave m.leave) (MayLeave n.leave) m.core n.core _ s.0.1 refl refl s.1 run
 images_keep bases told m n Flushes run s w = absurd (cc)
 images_keep bases told m n (Faults k) run s w = absurd (cc)
 

@@ -6,6 +6,14 @@ pub mod RecordSteps
 pub mod Protected
 pub mod AuditSteps
 pub mod QuietSteps
+pub mod Deaths
+pub mod Passes
+pub mod AuditEnds
+pub mod UndoKinds
+pub mod Wholes
+pub mod RowStates
+pub mod WholeSteps
+pub mod WhoLogs
 pub mod Flushes
 pub mod Loads
 pub mod OpenAudits

@@ -2,7 +2,7 @@
 use Rattle.std.proofs.Common.{◌≡◌, ℕ, zero, suc, ◌+◌, ◌-◌, ◌≤◌, false, List, [], ◌∷◌, length, take, Option, Some, None, refl, ap, sym, subst, ◌∙◌, arith, Bool, true, ◌++◌, cond, get_or, ◌<◌, ◌^◌}
 use Rattle.std.specs.Prelude.{IsSome, slice_get, map, ◌==◌, not, ◌&&◌}
 use Rattle.std.proofs.lemmas.List.{length-map}
-use Rattle.dali_record.specs.declared.records.Record.TheVariants.{Format, Restarted, Begin, Done, Commit, Ended, Solo, AuditBegin, AuditClean, AuditFail, Back, Op as Forward}
+use Rattle.dali_record.specs.declared.records.Record.TheVariants.{Format, Restarted, Begin, Done, Commit, Ended, Solo, AuditBegin, AuditClean, AuditFail, Back, Forward}
 use Rattle.dali_record.specs.Log.{Touch, touch_at}
 use Rattle.dali_record.specs.Epochs.{Epoch, last_epoch, clean_place, Cut, cut, cut_step}
 use Rattle.dali_record.specs.Settled.{words_in}

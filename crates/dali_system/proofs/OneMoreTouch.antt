@@ -128,7 +128,7 @@ blocks_on-take r n E = from r 0 n E
     from r a (suc n) (x ∷ E) = from r (on_step r a x) n E
 
 -- the counts have room: an epoch has fewer than 2^40 records
-blocks_few : (r n : ℕ) (E : List Record) → fold (on_step r) n E ≤ n + length E
+pub blocks_few : (r n : ℕ) (E : List Record) → fold (on_step r) n E ≤ n + length E
 blocks_few r n [] = omega arith
 blocks_few r n (x ∷ E) = omega (arith, blocks_few r (on_step r n x) E, step_few (on_region r x))
   where

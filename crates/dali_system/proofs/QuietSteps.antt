@@ -13,7 +13,7 @@ use Rattle.dali_locks.specs.declared.mode.Mode.{Mode}
 use Rattle.dali_locks.specs.declared.mode.Mode.TheVariants.{Shared, Exclusive}
 use Rattle.dali_att.specs.declared.state.State.{State}
 use Rattle.dali_att.specs.declared.state.State.TheVariants.{Live, Dead, Cleaning, Committed}
-use Rattle.dali_system.specs.State.{TxnRow, SystemState, CoreState, lock_of, row_of}
+use Rattle.dali_system.specs.State.{TxnRow, SystemState, CoreState, lock_of, row_of, state_in}
 use Rattle.dali_system.specs.declared.refusals.Refusal.{Refusal}
 use Rattle.dali_system.specs.declared.causes.Cause.{Cause}
 use Rattle.dali_system.specs.declared.causes.Cause.TheVariants.{Damage, Store}
@@ -268,29 +268,40 @@ state_row (Some Over) row r st i e f g = absurd (cc)
 -- the state is none of a committed transaction, before and after
 none_committed : (old new : State) → moves_to old new ≡ true → (is_committed old ≡ false) × (is_committed new ≡ false)
 none_committed Live Live e = absurd (cc)
-none_committed Live Dead e = (refl, refl)
-none_committed Live Cleaning e = absurd (cc)
+none_committed Live (Dead q) e = (refl, refl)
+none_committed Live (Cleaning q) e = absurd (cc)
 none_committed Live Committed e = absurd (cc)
-none_committed Dead Live e = absurd (cc)
-none_committed Dead Dead e = absurd (cc)
-none_committed Dead Cleaning e = (refl, refl)
-none_committed Dead Committed e = absurd (cc)
-none_committed Cleaning Live e = absurd (cc)
-none_committed Cleaning Dead e = (refl, refl)
-none_committed Cleaning Cleaning e = absurd (cc)
-none_committed Cleaning Committed e = absurd (cc)
+none_committed (Dead o) Live e = absurd (cc)
+none_committed (Dead o) (Dead q) e = absurd (cc)
+none_committed (Dead o) (Cleaning q) e = (refl, refl)
+none_committed (Dead o) Committed e = absurd (cc)
+none_committed (Cleaning o) Live e = absurd (cc)
+none_committed (Cleaning o) (Dead q) e = (refl, refl)
+none_committed (Cleaning o) (Cleaning q) e = absurd (cc)
+none_committed (Cleaning o) Committed e = absurd (cc)
 none_committed Committed Live e = absurd (cc)
-none_committed Committed Dead e = absurd (cc)
-none_committed Committed Cleaning e = absurd (cc)
+none_committed Committed (Dead q) e = absurd (cc)
+none_committed Committed (Cleaning q) e = absurd (cc)
 none_committed Committed Committed e = absurd (cc)
 
+-- a transaction with a state has a row
+pub row_with : (o : Option TxnRow) (st : State) → state_in o ≡ Some st → (row : TxnRow) × (o ≡ Some row) × (row.state ≡ st)
+row_with None st e = absurd (cc)
+row_with (Some row) st e = (row, refl, some_same e)
+
 pub state_keeps : StateKeeps
-state_keeps bases L c t st run may = RunsOn-held bases L c run T y.locks y.refusals y.checking
+state_keeps bases L c t old st run was moves = RunsOn-held bases L c run T y.locks y.refusals y.checking
     (λ u. rw (puts u) (table u (t == u) refl))
     (record { held = run.locks.held; apart = run.locks.apart; owned = λ u k m e. still_there y.table t _ T puts (some_changed (with_state st) (row_of y t)) u (run.locks.owned u k m e); refused = run.locks.refused })
   where
     y : SystemState
     y = c.system
+
+    row : (row : TxnRow) × (row_of y t ≡ Some row) × (row.state ≡ old)
+    row = row_with (row_of y t) old was
+
+    none : (is_committed old ≡ false) × (is_committed st ≡ false)
+    none = none_committed old st moves
 
     T : Table Pending
     T = with_row y.table t (with_state st)
@@ -299,7 +310,7 @@ state_keeps bases L c t st run may = RunsOn-held bases L c run T y.locks y.refus
     puts = changed y.table t (with_state st)
 
     table : (u : ℕ) (b : Bool) → (t == u) ≡ b → IsRow (txn_state y.sizes u L) (cond b (option_map (with_state st) (row_of y t)) (row_of y u))
-    table u true e = subst (λ v. IsRow (txn_state y.sizes v L) (option_map (with_state st) (row_of y t))) (equal t u e) (let none : (is_committed may.row.state ≡ false) × (is_committed st ≡ false) = none_committed may.row.state st may.moves in state_row (txn_state y.sizes t L) (row_of y t) may.row st (run.table t) may.at none.0 none.1)
+    table u true e = subst (λ v. IsRow (txn_state y.sizes v L) (option_map (with_state st) (row_of y t))) (equal t u e) (state_row (txn_state y.sizes t L) (row_of y t) row.0 st (run.table t) row.1 (ap is_committed row.2 ∙ none.0) none.1)
     table u false e = run.table u
 
 -- ---- the flag of a checkpoint

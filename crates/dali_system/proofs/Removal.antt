@@ -1,13 +1,11 @@
 -- The worked run of a removal: the entry is killed too, the transaction commits, what it removed is freed, an audit is clean.
-use Rattle.std.proofs.Common.{◌≡◌, ℕ, zero, suc, ◌-◌, ◌≤◌, Bool, true, false, List, [], ◌∷◌, ◌++◌, Option, Some, None, refl, subst, arith, take}
-use Rattle.std.specs.Prelude.{slice_get, not, ◌&&◌}
-use Rattle.std.proofs.lemmas.Bool.{leb-true}
+use Rattle.std.proofs.Common.{◌≡◌, ℕ, zero, suc, ◌<◌, Bool, true, false, List, [], ◌∷◌, ◌++◌, Option, Some, None, refl, subst, ◌∙◌, arith}
+use Rattle.std.specs.Prelude.{not, ◌&&◌}
 use Rattle.dali_record.specs.declared.operations.Op.TheVariants.{KillEntry, FreeCell, FreeEntry}
 use Rattle.dali_record.specs.declared.records.Call.TheVariants.{Delete}
 use Rattle.dali_record.specs.declared.records.Answer.TheVariants.{Ok as AnswerOk}
-use Rattle.dali_record.specs.declared.records.Record.TheVariants.{Op as Forward, Done, Commit, Ended, Solo, AuditBegin, AuditClean}
+use Rattle.dali_record.specs.declared.records.Record.TheVariants.{Forward, Done, Commit, Ended, Solo, AuditBegin, AuditClean}
 use Rattle.dali_record.specs.Spelling.{IsBlock}
-use Rattle.dali_record.specs.Epochs.{last_epoch}
 use Rattle.dali_record.specs.Damage.{has}
 use Rattle.dali_record.specs.Legal.{Rules, rules_state}
 use Rattle.dali_record.proofs.Made.{made_is_block}
@@ -16,16 +14,19 @@ use Rattle.dali_region.specs.declared.Side.TheVariants.{A}
 use Rattle.dali_region.specs.State.{RegionState, touched, checked}
 use Rattle.dali_region.specs.Answers.{cleaned}
 use Rattle.dali_counts.proofs.Lists.{some_same}
-use Rattle.dali_system.specs.Run.{blocks_on}
+use Rattle.dali_att.specs.declared.state.State.TheVariants.{Live, Committed}
+use Rattle.dali_system.specs.State.{state_of}
 use Rattle.dali_system.specs.Steps.{op_logged, done_logged, commit_logged, solo_logged, ended_logged, audit_begun, audit_ended, in_checkpoint}
-use Rattle.dali_system.specs.Keeps.{with_system}
-use Rattle.dali_system.specs.Regions.{Clean, Check}
-use Rattle.dali_system.specs.Audits.{IsAuditing, Certifies}
-use Rattle.dali_system.specs.Courses.{Step, Operates, Frees, Answers, Commits, Ends, AuditBegins, AuditEnds, OnRegion, Checkpoints, Moment, IsStepAt, IsCourse}
+use Rattle.dali_system.specs.Keeps.{with_system, IsFree}
+use Rattle.dali_system.specs.Regions.{Clean}
+use Rattle.dali_system.specs.Audits.{IsAuditing}
+use Rattle.dali_system.specs.Passes.{audits_with, has_passed, has_found, IsVerdict}
+use Rattle.dali_system.specs.Courses.{Step, Operates, Frees, Answers, Commits, Ends, AuditBegins, AuditEnds, OnRegion, Passes, Checkpoints, Moment, IsStepAt, IsCourse}
 use Rattle.dali_system.specs.Worked.{small, first_log, start, opening, touching, index_words, heap_words, stored, look, kill_cell, kill_entry, free_cell, free_entry, kills, removal, Removal}
 use Rattle.dali_system.proofs.Courses.{course_keeps}
-use Rattle.dali_system.proofs.Touching.{join, with_one, after_all, touches}
-use Rattle.dali_system.proofs.Worked.{are_index, are_heap, stored_regions, start_runs, exclusive_covers, logging, at_look, at_kill_cell, cell_killed, kills_course}
+use Rattle.dali_system.proofs.Touching.{join, with_one, passing, after_all, touches}
+use Rattle.dali_system.proofs.Worked.{are_index, are_heap, stored_regions, start_runs, exclusive_covers, logging, at_look, at_kill_cell, cell_killed, live_killed, logs_by, alive_by, kills_course}
+use Rattle.dali_system.proofs.RowStates.{op_state, commit_state}
 
 -- ---- the entry is killed
 abbrev at_kill_entry : RegionState
@@ -48,6 +49,7 @@ kills_entry = (
       runs = refl;
       spelled = (omega arith, is_kill_entry, refl);
       next = refl;
+      by = logs_by _ Live (Forward 1 kill_entry) live_killed refl;
       kind = refl;
       locked = exclusive_covers true;
       at = refl;
@@ -55,27 +57,34 @@ kills_entry = (
     },
     (refl, refl),
   ),
-  λ F h. h,
+  (λ F h. h),
+  refl,
 )
 
 kill_course : IsCourse cell_killed (touching 1 kill_entry ((1, 2) ∷ []) (Operates 1 kill_entry)) entry_killed
 unfolding look kill_cell kill_entry entries
-kill_course = touches cell_killed entry_killed 1 kill_entry ((1, 2) ∷ []) (Operates 1 kill_entry) (touched at_look) refl (refl, (((refl, refl), omega arith), (((refl, omega arith), omega arith), tt))) kills_entry
+kill_course = touches cell_killed entry_killed 1 kill_entry ((1, 2) ∷ []) (Operates 1 kill_entry) (touched at_look) refl (alive_by _ Live live_killed refl) (refl, (((refl, refl), omega arith), (((refl, omega arith), omega arith), tt))) kills_entry
 
 -- ---- the call is answered, the transaction commits
 abbrev answered : Moment
-answered = record { log = entry_killed.log ++ Done 1 (Delete 5) AnswerOk ∷ []; core = with_system entry_killed.core (done_logged entry_killed.core.system 1 (Delete 5) AnswerOk); leave = entry_killed.leave }
+answered = record { log = entry_killed.log ++ Done 1 (Delete 5) AnswerOk ∷ []; core = with_system entry_killed.core (done_logged entry_killed.core.system 1 (Delete 5) AnswerOk); audits = entry_killed.audits; leave = entry_killed.leave }
 
 abbrev committed : Moment
-committed = record { log = answered.log ++ Commit 1 ∷ []; core = with_system answered.core (commit_logged answered.core.system 1); leave = answered.leave }
+committed = record { log = answered.log ++ Commit 1 ∷ []; core = with_system answered.core (commit_logged answered.core.system 1); audits = answered.audits; leave = answered.leave }
+
+live_now : state_of entry_killed.core.system 1 ≡ Some Live
+live_now = op_state cell_killed.core.system 1 kill_entry 1 ∙ live_killed
+
+row_committed : state_of committed.core.system 1 ≡ Some Committed
+row_committed = commit_state answered.core.system 1 Live live_now
 
 answers : IsStepAt entry_killed (Answers 1 (Delete 5) AnswerOk) answered
 unfolding look kill_cell kill_entry entries
-answers = ((record { runs = refl; room = omega arith }, (omega arith, omega arith, tt, refl), refl, (refl, refl)), λ F h. h)
+answers = ((record { runs = refl; room = omega arith }, (omega arith, omega arith, tt, refl), record { next = refl; by = logs_by _ Live (Done 1 (Delete 5) AnswerOk) live_now refl }, (refl, refl)), (λ F h. h), refl)
 
 commits : IsStepAt answered (Commits 1) committed
 unfolding look kill_cell kill_entry entries
-commits = ((refl, refl, (refl, refl)), λ F h. h)
+commits = ((refl, record { next = refl; by = logs_by _ Live (Commit 1) live_now refl }, (refl, refl)), (λ F h. h), refl)
 
 -- ---- what was removed is freed
 abbrev at_free_cell : RegionState
@@ -107,6 +116,7 @@ frees_cell = (
       runs = refl;
       spelled = (omega arith, omega arith, is_free_cell, refl);
       next = refl;
+      by = logs_by _ Committed (Solo 2 1 free_cell) row_committed refl;
       kind = refl;
       locked = exclusive_covers true;
       at = refl;
@@ -114,7 +124,8 @@ frees_cell = (
     },
     (refl, refl),
   ),
-  λ F h. h,
+  (λ F h. h),
+  refl,
 )
 
 frees_entry : IsStepAt (with_one cell_freed 0 at_free_entry) (Frees 1 free_entry) entry_freed
@@ -126,6 +137,7 @@ frees_entry = (
       runs = refl;
       spelled = (omega arith, omega arith, is_free_entry, refl);
       next = refl;
+      by = logs_by _ Committed (Solo 3 1 free_entry) row_committed refl;
       kind = refl;
       locked = exclusive_covers true;
       at = refl;
@@ -133,61 +145,63 @@ frees_entry = (
     },
     (refl, refl),
   ),
-  λ F h. h,
+  (λ F h. h),
+  refl,
 )
 
 cell_course : IsCourse committed (touching 1 free_cell ((8, 0) ∷ []) (Frees 1 free_cell)) cell_freed
 unfolding look kill_cell kill_entry free_cell entries
-cell_course = touches committed cell_freed 1 free_cell ((8, 0) ∷ []) (Frees 1 free_cell) (touched at_kill_cell) refl (refl, (((refl, refl), omega arith), (((refl, omega arith), omega arith), tt))) frees_cell
+cell_course = touches committed cell_freed 1 free_cell ((8, 0) ∷ []) (Frees 1 free_cell) (touched at_kill_cell) refl (alive_by _ Committed row_committed refl) (refl, (((refl, refl), omega arith), (((refl, omega arith), omega arith), tt))) frees_cell
 
 entry_course : IsCourse cell_freed (touching 1 free_entry ((1, 0) ∷ []) (Frees 1 free_entry)) entry_freed
 unfolding look kill_cell kill_entry free_cell free_entry entries
-entry_course = touches cell_freed entry_freed 1 free_entry ((1, 0) ∷ []) (Frees 1 free_entry) (touched at_kill_entry) refl (refl, (((refl, refl), omega arith), (((refl, omega arith), omega arith), tt))) frees_entry
+entry_course = touches cell_freed entry_freed 1 free_entry ((1, 0) ∷ []) (Frees 1 free_entry) (touched at_kill_entry) refl (alive_by _ Committed row_committed refl) (refl, (((refl, refl), omega arith), (((refl, omega arith), omega arith), tt))) frees_entry
 
 -- ---- the end, and an audit in a checkpoint
 abbrev ended : Moment
-ended = record { log = entry_freed.log ++ Ended 1 ∷ []; core = with_system entry_freed.core (ended_logged entry_freed.core.system 1); leave = entry_freed.leave }
+ended = record { log = entry_freed.log ++ Ended 1 ∷ []; core = with_system entry_freed.core (ended_logged entry_freed.core.system 1); audits = entry_freed.audits; leave = entry_freed.leave }
 
 abbrev checking : Moment
-checking = record { log = ended.log; core = with_system ended.core (in_checkpoint ended.core.system true); leave = ended.leave }
+checking = record { log = ended.log; core = with_system ended.core (in_checkpoint ended.core.system true); audits = ended.audits; leave = ended.leave }
 
 abbrev copied : Moment
 copied = with_one checking 0 (cleaned A (touched at_free_entry))
 
 abbrev auditing : Moment
-auditing = record { log = copied.log ++ AuditBegin ∷ []; core = with_system copied.core (audit_begun copied.core.system); leave = copied.leave }
+auditing = record { log = copied.log ++ AuditBegin ∷ []; core = with_system copied.core (audit_begun copied.core.system); audits = audits_with copied.audits 10 []; leave = copied.leave }
 
 abbrev passed_0 : Moment
-passed_0 = with_one auditing 0 (checked (cleaned A (touched at_free_entry)))
+passed_0 = passing auditing 10 0 (checked (cleaned A (touched at_free_entry)))
 
 abbrev passed : Moment
-passed = with_one passed_0 1 (checked (touched at_free_cell))
+passed = passing passed_0 10 1 (checked (touched at_free_cell))
 
 abbrev audited : Moment
-audited = record { log = passed.log ++ AuditClean 10 ∷ []; core = with_system passed.core (audit_ended passed.core.system 10 []); leave = passed.leave }
+audited = record { log = passed.log ++ AuditClean 10 ∷ []; core = with_system passed.core (audit_ended passed.core.system 10 []); audits = passed.audits; leave = passed.leave }
 
 abbrev finish : Moment
-finish = record { log = audited.log; core = with_system audited.core (in_checkpoint audited.core.system false); leave = audited.leave }
+finish = record { log = audited.log; core = with_system audited.core (in_checkpoint audited.core.system false); audits = audited.audits; leave = audited.leave }
+
+-- no region is latched then
+free : IsFree entry_freed.core 1
+unfolding look kill_cell kill_entry free_cell free_entry entries
+free zero h e = absurd (cc)
+free (suc zero) h e = absurd (cc)
+free (suc (suc r)) h e = absurd (cc)
 
 ends : IsStepAt entry_freed (Ends 1) ended
 unfolding look kill_cell kill_entry free_cell free_entry entries
-ends = ((refl, refl, (refl, refl)), λ F h. h)
+ends = ((refl, (record { next = refl; by = logs_by _ Committed (Ended 1) row_committed refl }, free), (refl, refl)), (λ F h. h), refl)
 
 starts_checkpoint : IsStepAt ended (Checkpoints true) checking
-starts_checkpoint = ((refl, (refl, refl)), λ F h. h)
+starts_checkpoint = ((refl, (refl, refl)), (λ F h. h), refl)
 
 copies : IsStepAt checking (OnRegion 0 (Clean A)) copied
-copies = ((touched at_free_entry, refl, tt, (refl, refl)), λ F h. h)
+copies = ((touched at_free_entry, refl, (tt, tt), (refl, refl)), (λ F h. h), refl)
 
 begins_audit : IsStepAt copied AuditBegins auditing
 unfolding look kill_cell kill_entry free_cell free_entry entries
-begins_audit = ((refl, omega arith, (refl, refl)), λ F h. h)
-
-passes_0 : IsStepAt auditing (OnRegion 0 Check) passed_0
-passes_0 = ((cleaned A (touched at_free_entry), refl, tt, (refl, refl)), λ F h. h)
-
-passes_1 : IsStepAt passed_0 (OnRegion 1 Check) passed
-passes_1 = ((touched at_free_cell, refl, tt, (refl, refl)), λ F h. h)
+begins_audit = ((refl, omega arith, (refl, refl)), (λ F h. h), refl)
 
 -- the rules name the audit that began at b
 abbrev pub is_named : ℕ → Option Rules → Bool
@@ -198,26 +212,42 @@ pub named_by : (b : ℕ) (o : Option Rules) → is_named b o ≡ true → (g : R
 named_by b None t g e = absurd (cc)
 named_by b (Some h) t g e = subst (λ (q : Rules). (has q.audits b && not (has q.closed b)) ≡ true) (some_same e) t
 
-is_auditing : IsAuditing small passed.log 10
+is_auditing : IsAuditing small auditing.log 10
 unfolding look kill_cell kill_entry free_cell free_entry entries
-is_auditing = record { named = named_by 10 (rules_state small passed.log) refl; within = omega arith }
+is_auditing = record { named = named_by 10 (rules_state small auditing.log) refl; within = omega arith }
 
-certified : (r : ℕ) (g : RegionState) → slice_get passed.core.regions r ≡ Some g → Certifies (last_epoch passed.log) 10 r g
+passes_0 : IsStepAt auditing (Passes 10 0) passed_0
 unfolding look kill_cell kill_entry free_cell free_entry entries
-certified zero g e = λ h. subst (λ (z : RegionState). blocks_on 0 (take (10 - 1) (last_epoch passed.log).records) ≤ z.sound) (some_same e) (leb-true _ _ refl)
-certified (suc zero) g e = λ h. subst (λ (z : RegionState). blocks_on 1 (take (10 - 1) (last_epoch passed.log).records) ≤ z.sound) (some_same e) (leb-true _ _ refl)
-certified (suc (suc r)) g e = absurd (cc)
+passes_0 = ((cleaned A (touched at_free_entry), refl, (refl, refl)), (λ F h. h), (record { auditing = is_auditing; unpassed = refl }, refl))
+
+passes_1 : IsStepAt passed_0 (Passes 10 1) passed
+unfolding look kill_cell kill_entry free_cell free_entry entries
+passes_1 = ((touched at_free_cell, refl, (refl, refl)), (λ F h. h), (record { auditing = is_auditing; unpassed = refl }, refl))
+
+verdict : IsVerdict small (passed.audits 10) []
+unfolding look kill_cell kill_entry free_cell free_entry entries
+verdict = record { passed = passed_all; named = named_none }
+  where
+    passed_all : (r : ℕ) → r < 2 → has_passed (passed.audits 10) r ≡ true
+    passed_all zero h = refl
+    passed_all (suc zero) h = refl
+    passed_all (suc (suc r)) h = absurd (omega (arith, h))
+
+    named_none : (r : ℕ) → r < 2 → false ≡ has_found (passed.audits 10) r
+    named_none zero h = refl
+    named_none (suc zero) h = refl
+    named_none (suc (suc r)) h = absurd (omega (arith, h))
 
 ends_audit : IsStepAt passed (AuditEnds 10 []) audited
 unfolding look kill_cell kill_entry free_cell free_entry entries
-ends_audit = ((record { runs = refl; auditing = is_auditing; spelled = omega arith; numbers = refl; stray = λ r g e h. absurd (cc); certified = λ r g e h. certified r g e }, (refl, refl)), λ F h. h)
+ends_audit = ((record { runs = refl; auditing = is_auditing; spelled = omega arith; numbers = refl }, (refl, refl)), (λ F h. h), (verdict, refl))
 
 ends_checkpoint : IsStepAt audited (Checkpoints false) finish
-ends_checkpoint = ((refl, (refl, refl)), λ F h. h)
+ends_checkpoint = ((refl, (refl, refl)), (λ F h. h), refl)
 
 -- ---- all of it
 abbrev last_steps : List Step
-last_steps = Ends 1 ∷ Checkpoints true ∷ OnRegion 0 (Clean A) ∷ AuditBegins ∷ OnRegion 0 Check ∷ OnRegion 1 Check ∷ AuditEnds 10 [] ∷ Checkpoints false ∷ []
+last_steps = Ends 1 ∷ Checkpoints true ∷ OnRegion 0 (Clean A) ∷ AuditBegins ∷ Passes 10 0 ∷ Passes 10 1 ∷ AuditEnds 10 [] ∷ Checkpoints false ∷ []
 
 last_course : IsCourse entry_freed last_steps finish
 last_course = (ended, ends, (checking, starts_checkpoint, (copied, copies, (auditing, begins_audit, (passed_0, passes_0, (passed, passes_1, (audited, ends_audit, (finish, ends_checkpoint, refl))))))))

@@ -1,11 +1,13 @@
 -- Courses one behind another, and the steps of one operation on its region.
-use Rattle.std.proofs.Common.{◌≡◌, ℕ, zero, suc, List, [], ◌∷◌, ◌++◌, map, Some, refl, ap, sym, subst}
+use Rattle.std.proofs.Common.{◌≡◌, ℕ, zero, suc, List, [], ◌∷◌, ◌++◌, map, Some, true, refl, ap, sym, subst}
 use Rattle.std.specs.Prelude.{⊤, slice_get, slice_set}
 use Rattle.dali_record.specs.declared.operations.Block.{Block}
 use Rattle.dali_region.specs.State.{RegionState}
-use Rattle.dali_system.specs.Regions.{RegionStep, region_after, MayChange}
+use Rattle.dali_system.specs.State.{SystemState, state_of}
+use Rattle.dali_system.specs.Regions.{RegionStep, Update, region_after, MayChange, is_alive, IsAlone}
 use Rattle.dali_system.specs.Keeps.{with_region}
 use Rattle.dali_system.specs.Courses.{Step, OnRegion, Moment, IsStepAt, IsCourse}
+use Rattle.dali_system.specs.Passes.{audits_with}
 use Rattle.dali_system.specs.Worked.{opening, touching}
 
 pub join : (m k n : Moment) (xs ys : List Step) → IsCourse m xs k → IsCourse k ys n → IsCourse m (xs ++ ys) n
@@ -30,7 +32,11 @@ get_set (z ∷ xs) (suc r) x y e = get_set xs r x y e
 
 -- ---- steps on one region
 abbrev pub with_one : Moment → ℕ → RegionState → Moment
-with_one m r g = record { log = m.log; core = with_region m.core r g; leave = m.leave }
+with_one m r g = record { log = m.log; core = with_region m.core r g; audits = m.audits; leave = m.leave }
+
+-- the audit that began at b passes the region, which is g afterwards
+abbrev pub passing : Moment → ℕ → ℕ → RegionState → Moment
+passing m b r g = record { log = m.log; core = with_region m.core r g; audits = audits_with m.audits b (m.audits b ++ record { region = r; answer = g.stray } ∷ []); leave = m.leave }
 
 abbrev pub after_all : List RegionStep → RegionState → RegionState
 after_all [] g = g
@@ -40,21 +46,29 @@ abbrev pub MayAll : List RegionStep → RegionState → Type 0
 MayAll [] g = ⊤
 MayAll (x ∷ xs) g = MayChange x g × MayAll xs (region_after x g)
 
-pub on_region : (m : Moment) (r : ℕ) (xs : List RegionStep) (g : RegionState) → slice_get m.core.regions r ≡ Some g → MayAll xs g → IsCourse m (map (λ x. OnRegion r x) xs) (with_one m r (after_all xs g))
-on_region m r [] g at may = ap (λ (rs : List RegionState). record { log = m.log; core = record m.core { regions = rs }; leave = m.leave }) (sym (set_here m.core.regions r g at))
-on_region m r (x ∷ xs) g at may = (with_one m r h, ((g, at, may.0, (refl, refl)), λ F l. l), subst (λ (n : Moment). IsCourse (with_one m r h) (map (λ x. OnRegion r x) xs) n) again (on_region (with_one m r h) r xs h (get_set m.core.regions r g h at) may.1))
+abbrev pub AllAlone : SystemState → List RegionStep → RegionState → Type 0
+AllAlone y [] g = ⊤
+AllAlone y (x ∷ xs) g = IsAlone y x g × AllAlone y xs (region_after x g)
+
+updates_alone : (y : SystemState) (writes : List (ℕ × ℕ)) (g : RegionState) → AllAlone y (map (λ w. Update w.0 w.1) writes) g
+updates_alone y [] g = tt
+updates_alone y (w ∷ writes) g = (tt, updates_alone y writes (region_after (Update w.0 w.1) g))
+
+pub on_region : (m : Moment) (r : ℕ) (xs : List RegionStep) (g : RegionState) → slice_get m.core.regions r ≡ Some g → MayAll xs g → AllAlone m.core.system xs g → IsCourse m (map (λ x. OnRegion r x) xs) (with_one m r (after_all xs g))
+on_region m r [] g at may alone = ap (λ (rs : List RegionState). record { log = m.log; core = record m.core { regions = rs }; audits = m.audits; leave = m.leave }) (sym (set_here m.core.regions r g at))
+on_region m r (x ∷ xs) g at may alone = (with_one m r h, ((g, at, (may.0, alone.0), (refl, refl)), (λ F l. l), refl), subst (λ (n : Moment). IsCourse (with_one m r h) (map (λ x. OnRegion r x) xs) n) again (on_region (with_one m r h) r xs h (get_set m.core.regions r g h at) may.1 alone.1))
   where
     h : RegionState
     h = region_after x g
 
     again : with_one (with_one m r h) r (after_all xs h) ≡ with_one m r (after_all xs h)
-    again = ap (λ (rs : List RegionState). record { log = m.log; core = record m.core { regions = rs }; leave = m.leave }) (set_twice m.core.regions r h (after_all xs h))
+    again = ap (λ (rs : List RegionState). record { log = m.log; core = record m.core { regions = rs }; audits = m.audits; leave = m.leave }) (set_twice m.core.regions r h (after_all xs h))
 
 -- an operation, and the step that logs it
 pub touches :
     (m n : Moment) (owner : ℕ) (b : Block) (writes : List (ℕ × ℕ)) (last : Step) (g : RegionState) → slice_get m.core.regions b.region ≡ Some g
-    → MayAll (opening owner b writes) g → IsStepAt (with_one m b.region (after_all (opening owner b writes) g)) last n
+    → is_alive (state_of m.core.system owner) ≡ true → MayAll (opening owner b writes) g → IsStepAt (with_one m b.region (after_all (opening owner b writes) g)) last n
     → IsCourse m (touching owner b writes last) n
-touches m n owner b writes last g at may step =
+touches m n owner b writes last g at alive may step =
     join m (with_one m b.region (after_all (opening owner b writes) g)) n (map (λ x. OnRegion b.region x) (opening owner b writes)) (last ∷ [])
-    (on_region m b.region (opening owner b writes) g at may) (n, step, refl)
+    (on_region m b.region (opening owner b writes) g at may (alive, (tt, updates_alone m.core.system writes _))) (n, step, refl)

@@ -4,7 +4,7 @@ use Rattle.std.specs.Prelude.{◌==◌, flat_map, sum_by, is_some}
 use Rattle.std.specs.FinMap.{get, empty}
 use Rattle.dali_record.specs.declared.operations.Op.TheVariants.{Look, KillCell}
 use Rattle.dali_record.specs.declared.records.Record.{Record}
-use Rattle.dali_record.specs.declared.records.Record.TheVariants.{Format, Begin, Op as Forward}
+use Rattle.dali_record.specs.declared.records.Record.TheVariants.{Format, Begin, Forward}
 use Rattle.dali_record.specs.Blocks.{AreWords}
 use Rattle.dali_record.specs.Spelling.{IsBlock}
 use Rattle.dali_record.specs.Files.{Files, batch_length}
@@ -18,14 +18,18 @@ use Rattle.dali_locks.specs.Locks.{stronger_mode, locks_with}
 use Rattle.dali_locks.proofs.Changes.{get-locks_with}
 use Rattle.dali_att.specs.Table.{fresh_row}
 use Rattle.dali_counts.proofs.Lists.{equal, and_left, and_right, some_same}
-use Rattle.dali_system.specs.State.{TxnRow, SystemState}
+use Rattle.dali_att.specs.declared.state.State.{State}
+use Rattle.dali_att.specs.declared.state.State.TheVariants.{Live}
+use Rattle.dali_system.specs.State.{TxnRow, SystemState, state_of}
+use Rattle.dali_system.specs.Regions.{is_alive}
 use Rattle.dali_system.specs.Run.{log_in, VaultRun, covers, AllAreWords}
 use Rattle.dali_system.specs.Steps.{begun, op_logged, granted}
-use Rattle.dali_system.specs.Keeps.{with_system, with_touched}
+use Rattle.dali_system.specs.Keeps.{with_system, with_touched, may_log, may_log_in}
 use Rattle.dali_system.specs.Courses.{Begins, Operates, Locks as Asks, Moment, IsStepAt, IsCourse, RunsAt}
 use Rattle.dali_system.specs.Worked.{small, first_log, first_vault, is_format, one_batch, start, opening, touching, index_words, heap_words, stored, look, kill_cell, kills}
 use Rattle.dali_system.proofs.Loads.{no_lock, format_rests}
 use Rattle.dali_system.proofs.Tables.{added}
+use Rattle.dali_system.proofs.RowStates.{begun_state, op_state}
 use Rattle.dali_system.proofs.Courses.{load_runs_at}
 use Rattle.dali_system.proofs.Touching.{join, with_one, after_all, touches}
 
@@ -55,7 +59,7 @@ first_store = record {
 }
 
 pub start_runs : (base : List (List ℕ)) → length base ≡ 2 → AllAreWords base → RunsAt (λ n. base) first_log (start base)
-start_runs base whole words = load_runs_at (λ n. base) small first_log (passes rules_start (Format 1 1)) 1000000 first_vault (λ F. one_batch F.batches) (format_rests small (refl, refl)) (omega arith) whole words first_store
+start_runs base whole words = load_runs_at (λ n. base) small first_log (passes rules_start (Format 1 1)) 1000000 first_vault (λ F. one_batch F.batches) (format_rests small (refl, refl)) (omega arith) whole words first_store refl
 
 -- ---- the words
 pub are_index : (state : ℕ) → state < 2 ^ 64 → AreWords (index_words state)
@@ -80,14 +84,14 @@ exclusive_covers d = ap (λ (o : Option Mode). covers o d) (get-locks_with empty
 
 -- ---- the moments
 abbrev pub begun_1 : Moment
-begun_1 = record { log = first_log ++ Begin 1 ∷ []; core = with_system (start stored).core (begun (start stored).core.system); leave = (start stored).leave }
+begun_1 = record { log = first_log ++ Begin 1 ∷ []; core = with_system (start stored).core (begun (start stored).core.system); audits = (start stored).audits; leave = (start stored).leave }
 
 abbrev pub locked : Moment
-locked = record { log = begun_1.log; core = with_system begun_1.core (granted begun_1.core.system 1 5 Exclusive); leave = begun_1.leave }
+locked = record { log = begun_1.log; core = with_system begun_1.core (granted begun_1.core.system 1 5 Exclusive); audits = begun_1.audits; leave = begun_1.leave }
 
 -- one more record, with its region touched
 abbrev pub logging : Moment → Record → SystemState → ℕ → RegionState → Moment
-logging m x y r g = record { log = m.log ++ x ∷ []; core = with_touched (with_one m r g).core y r g; leave = m.leave }
+logging m x y r g = record { log = m.log ++ x ∷ []; core = with_touched (with_one m r g).core y r g; audits = m.audits; leave = m.leave }
 
 abbrev pub at_look : RegionState
 at_look = after_all (opening 1 look []) (loaded (index_words 1))
@@ -101,12 +105,28 @@ at_kill_cell = after_all (opening 1 kill_cell ((8, 2) ∷ [])) (loaded (heap_wor
 abbrev pub cell_killed : Moment
 cell_killed = logging looked (Forward 1 kill_cell) (op_logged looked.core.system 1 kill_cell) 1 at_kill_cell
 
+-- ---- transaction 1 is live
+pub live_locked : state_of locked.core.system 1 ≡ Some Live
+live_locked = begun_state (start stored).core.system 1
+
+pub live_looked : state_of looked.core.system 1 ≡ Some Live
+live_looked = op_state locked.core.system 1 look 1 ∙ live_locked
+
+pub live_killed : state_of cell_killed.core.system 1 ≡ Some Live
+live_killed = op_state looked.core.system 1 kill_cell 1 ∙ live_looked
+
+pub logs_by : (o : Option State) (st : State) (x : Record) → o ≡ Some st → may_log st x ≡ true → may_log_in o x ≡ true
+logs_by o st x e may = rw e may
+
+pub alive_by : (o : Option State) (st : State) → o ≡ Some st → is_alive (Some st) ≡ true → is_alive o ≡ true
+alive_by o st e may = rw e may
+
 -- ---- the steps
 begins : IsStepAt (start stored) Begins begun_1
-begins = ((record { runs = refl; room = omega arith }, (refl, refl)), λ F h. h)
+begins = ((record { runs = refl; room = omega arith }, (refl, refl)), (λ F h. h), refl)
 
 asks : IsStepAt begun_1 (Asks 1 5 Exclusive) locked
-asks = ((ap (λ (row : Option TxnRow). is_some row) (added (start stored).core.system.table 1 fresh_row 1), (λ u n d e. absurd (no_lock u 5 n e)), (refl, refl)), λ F h. h)
+asks = ((ap (λ (row : Option TxnRow). is_some row) (added (start stored).core.system.table 1 fresh_row 1), (λ u n d e. absurd (no_lock u 5 n e)), (refl, refl)), (λ F h. h), refl)
 
 is_look : IsBlock look
 unfolding look
@@ -126,6 +146,7 @@ looks = (
       runs = refl;
       spelled = (omega arith, is_look, refl);
       next = refl;
+      by = logs_by _ Live (Forward 1 look) live_locked refl;
       kind = refl;
       locked = exclusive_covers false;
       at = refl;
@@ -133,7 +154,8 @@ looks = (
     },
     (refl, refl),
   ),
-  λ F h. h,
+  (λ F h. h),
+  refl,
 )
 
 kills_cell : IsStepAt (with_one looked 1 at_kill_cell) (Operates 1 kill_cell) cell_killed
@@ -146,6 +168,7 @@ kills_cell = (
       runs = refl;
       spelled = (omega arith, is_kill_cell, refl);
       next = refl;
+      by = logs_by _ Live (Forward 1 kill_cell) live_looked refl;
       kind = refl;
       locked = exclusive_covers true;
       at = refl;
@@ -153,16 +176,17 @@ kills_cell = (
     },
     (refl, refl),
   ),
-  λ F h. h,
+  (λ F h. h),
+  refl,
 )
 
 look_course : IsCourse locked (touching 1 look [] (Operates 1 look)) looked
 unfolding look entries
-look_course = touches locked looked 1 look [] (Operates 1 look) (loaded (index_words 1)) refl (refl, (((refl, refl), omega arith), tt)) looks
+look_course = touches locked looked 1 look [] (Operates 1 look) (loaded (index_words 1)) refl (alive_by _ Live live_locked refl) (refl, (((refl, refl), omega arith), tt)) looks
 
 kill_course : IsCourse looked (touching 1 kill_cell ((8, 2) ∷ []) (Operates 1 kill_cell)) cell_killed
 unfolding kill_cell
-kill_course = touches looked cell_killed 1 kill_cell ((8, 2) ∷ []) (Operates 1 kill_cell) (loaded (heap_words 1)) refl (refl, (((refl, refl), omega arith), (((refl, omega arith), omega arith), tt))) kills_cell
+kill_course = touches looked cell_killed 1 kill_cell ((8, 2) ∷ []) (Operates 1 kill_cell) (loaded (heap_words 1)) refl (alive_by _ Live live_looked refl) (refl, (((refl, refl), omega arith), (((refl, omega arith), omega arith), tt))) kills_cell
 
 pub kills_course : IsCourse (start stored) kills cell_killed
 kills_course = (begun_1, begins, (locked, asks, join locked looked cell_killed (touching 1 look [] (Operates 1 look)) (touching 1 kill_cell ((8, 2) ∷ []) (Operates 1 kill_cell)) look_course kill_course))

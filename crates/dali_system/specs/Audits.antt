@@ -1,8 +1,8 @@
 -- What an audit that began at record b knows while it goes on, and the steps that keep it.
 --     IsAuditing s L b         the epoch has an AuditBegin at b that no record ended
 --     Certifies e b r g        the blocks on region r before b are sound, or a stray write was missed
---     MayEndAudit L c b found  the audit from record b may end and name these: a stray write came to each of them, and each other region is
---                              certified
+--     MayLogEnd L c b found    the record that ends the audit from record b, and names these, may follow
+--     MayEndAudit L c b found  besides, a stray write came to each of these, and each other region is certified
 --     AuditBeginKeeps, AuditEndKeeps       the audit's records keep a run
 --     PassCertifies, PassFinds a pass that answers 0 certifies, and one that doesn't tells of a stray write
 --     AuditStarts, AuditGoesOn, CertifiesStays   what an audit knows stays
@@ -31,13 +31,16 @@ pub record IsAuditing (s : Sizes) (L : List Record) (b : ℕ) : Type 0 where
 abbrev pub Certifies : Epoch → ℕ → ℕ → RegionState → Type 0
 Certifies e b r g = g.missed ≡ false → blocks_on r (take (b - e.first) e.records) ≤ g.sound
 
--- the audit that began at b may end, and name these regions in ascending order (so they are spelled): to each of them a stray write came
--- since the load, and each other one is certified
-pub record MayEndAudit (L : List Record) (c : CoreState) (b : ℕ) (found : List ℕ) : Type 0 where
+-- the record that ends the audit that began at b may follow, with these regions in ascending order (so they are spelled)
+pub record MayLogEnd (L : List Record) (c : CoreState) (b : ℕ) (found : List ℕ) : Type 0 where
   pub runs : c.system.stop ≡ None
   pub auditing : IsAuditing c.system.sizes L b
   pub spelled : CanBeSpelled (audit_record b found)
   pub numbers : list_all (λ r. nat_lt r (regions c.system.sizes)) found ≡ true
+
+-- to each region that it names a stray write came since the load, and each other one is certified: this follows from its passes
+pub record MayEndAudit (L : List Record) (c : CoreState) (b : ℕ) (found : List ℕ) : Type 0 where
+  pub may : MayLogEnd L c b found
   pub stray : (r : ℕ) (g : RegionState) → slice_get c.regions r ≡ Some g → has found r ≡ true → g.poked ≡ true
   pub certified : (r : ℕ) (g : RegionState) → slice_get c.regions r ≡ Some g → has found r ≡ false → Certifies (last_epoch L) b r g
 

@@ -1,35 +1,43 @@
 -- Every kind of step, and lists of them.
 --     Step                     the kinds of step
 --     IsStep L c x M d         the step x leads from the log L and the core c to the log M and the core d
---     Moment                   the log and the core, with what a crash may leave of the store: a test on files
+--     Moment                   the log and the core, with what each audit has passed, and what a crash may leave of the store: a test on files
 --     LeavesBy old new L c x   what a crash may leave after the step x
+--     AuditsBy old new L c x   what each audit has passed after it; an audit ends by what it passed
 --     IsCourse m steps n       these steps, one after another, lead from the moment m to the moment n
 --     CheckpointsTurn          a checkpoint's start sets the flag where it is clear, its end clears it where it is set
 --     RunsAt bases before m    the core is a run at this moment
 --     StepKeeps, CourseKeeps   each step keeps a run, and so does each list of steps
+--     TakenAllIsFlushed        a frame that is flushed as soon as it is taken has all records
+--     AuditTells m b found     an audit that ends has passed each region just once, and names those whose answer wasn't 0; it is clean where
+--                              there is none; a stray write came to each of these, and each other one is certified
+--     AuditEndTells            so it is of each audit that ends
 --     LoadRunsAt               a core that was just made is a run
-use Rattle.std.specs.Prelude.{◌≡◌, ℕ, ◌+◌, ◌≤◌, Bool, true, false, not, List, [], ◌∷◌, ◌++◌, Some, None, IsSome, length, slice_get}
+use Rattle.std.specs.Prelude.{◌≡◌, ◌==◌, ◌↔◌, ℕ, ◌+◌, ◌<◌, ◌≤◌, Bool, true, false, not, List, [], ◌∷◌, ◌++◌, Option, Some, None, IsSome, length, slice_get}
+use Rattle.std.specs.Option.{option_map_or}
 use Rattle.dali_geometry.specs.Sizes.{Sizes}
 use Rattle.dali_geometry.specs.Places.{regions}
 use Rattle.dali_record.specs.declared.operations.Block.{Block}
 use Rattle.dali_record.specs.declared.records.Call.{Call}
 use Rattle.dali_record.specs.declared.records.Answer.{Answer}
 use Rattle.dali_record.specs.declared.records.Record.{Record}
-use Rattle.dali_record.specs.declared.records.Record.TheVariants.{Begin, Op as Forward, Done, Commit, Ended, Solo, AuditBegin, Back}
+use Rattle.dali_record.specs.declared.records.Record.TheVariants.{Begin, Forward, Done, Commit, Ended, Solo, AuditBegin, Back}
+use Rattle.dali_record.specs.Damage.{has}
 use Rattle.dali_record.specs.Spelling.{CanBeSpelled}
 use Rattle.dali_record.specs.Legal.{Rules}
 use Rattle.dali_record.specs.Files.{Files}
-use Rattle.dali_region.specs.State.{RegionState}
+use Rattle.dali_region.specs.State.{RegionState, checked, taken_back}
 use Rattle.dali_locks.specs.declared.mode.Mode.{Mode}
 use Rattle.dali_locks.specs.declared.mode.LockAnswer.TheVariants.{Granted, Busy}
 use Rattle.dali_locks.specs.Locks.{IsAnswer}
-use Rattle.dali_att.specs.declared.state.State.{State}
-use Rattle.dali_system.specs.State.{CoreState, row_of, log_after, VaultState}
+use Rattle.dali_att.specs.declared.state.State.TheVariants.{Dead, Cleaning}
+use Rattle.dali_system.specs.State.{CoreState, row_of, stable, log_after, VaultState}
 use Rattle.dali_system.specs.Run.{AllAreWords, Bases, HasRisen, IsRun, base_at, VaultRun}
-use Rattle.dali_system.specs.Steps.{begun, op_logged, back_logged, solo_logged, done_logged, commit_logged, ended_logged, audit_begun, audit_ended, audit_record, granted, refused, in_state, store_stopped, in_checkpoint, flushed}
-use Rattle.dali_system.specs.Regions.{RegionStep, region_after, MayChange}
-use Rattle.dali_system.specs.Keeps.{with_system, with_region, with_touched, HasRoom, IsNext, MayLogBlock, MayChangeState}
-use Rattle.dali_system.specs.Audits.{MayEndAudit}
+use Rattle.dali_system.specs.Steps.{begun, op_logged, back_logged, solo_logged, done_logged, commit_logged, ended_logged, audit_begun, audit_ended, audit_record, granted, refused, in_state, store_stopped, in_checkpoint, taken}
+use Rattle.dali_system.specs.Regions.{RegionStep, region_after, MayChange, IsAlone}
+use Rattle.dali_system.specs.Keeps.{with_system, with_region, with_touched, HasRoom, MayAdd, MayLogBlock, IsFree, MayDie, died, MayClaim, MayGiveBack, MayRecover}
+use Rattle.dali_system.specs.Audits.{MayLogEnd, MayEndAudit}
+use Rattle.dali_system.specs.Passes.{Pass, Audits, no_audits, audits_with, has_found, MayPass, IsVerdict, AuditsRun}
 use Rattle.dali_system.specs.Loads.{IsAtRest, new_core}
 use Rattle.dali_system.specs.Flushes.{frame_of, Appended, Appending, with_vault, longer, faulted}
 
@@ -46,11 +54,22 @@ pub data Step : Type 0 where
   Locks : (txn key : ℕ) → (mode : Mode) → Step
   Refuses : (txn key : ℕ) → (mode : Mode) → (holder : ℕ) → Step
   OnRegion : (region : ℕ) → (step : RegionStep) → Step
-  ChangesState : (txn : ℕ) → (state : State) → Step
+  -- the audit that began at this record passes the region
+  Passes : (begin region : ℕ) → Step
+  -- a client dies, in an operation on this region or in none; its transaction is claimed; the claim is given back; and who has claimed
+  -- it takes back the operation that the client left on the region
+  Dies : (txn : ℕ) → (latched : Option ℕ) → Step
+  Claims : (txn : ℕ) → Step
+  GivesBack : (txn : ℕ) → (latched : Option ℕ) → Step
+  Recovers : (region : ℕ) → Step
   Stops : Step
   -- a checkpoint starts where none is under way, and ends where one is
   Checkpoints : (under_way : Bool) → Step
+  -- a frame is taken, under the locks of system and vault, and then flushed, under the vault's alone; where no memory is left to take it,
+  -- both steps are made under both locks
+  Takes : Step
   Flushes : Step
+  -- a flush meets a fault
   Faults : (faults : ℕ) → Step
 
 abbrev pub Adds : List Record → Record → CoreState → List Record → CoreState → Type 0
@@ -64,27 +83,33 @@ IsStep L c Begins M d = HasRoom c.system (Begin c.system.next) × Adds L (Begin 
 IsStep L c (Operates t b) M d = (g : RegionState) × HasRoom c.system (Forward t b) × MayLogBlock L c (Forward t b) t b g × Adds L (Forward t b) (with_touched c (op_logged c.system t b) b.region g) M d
 IsStep L c (TakesBack t b) M d = (g : RegionState) × MayLogBlock L c (Back t b) t b g × Adds L (Back t b) (with_touched c (back_logged c.system t b) b.region g) M d
 IsStep L c (Frees p b) M d = (g : RegionState) × MayLogBlock L c (Solo c.system.next p b) p b g × Adds L (Solo c.system.next p b) (with_touched c (solo_logged c.system p b) b.region g) M d
-IsStep L c (Answers t k a) M d = HasRoom c.system (Done t k a) × CanBeSpelled (Done t k a) × IsNext c.system.sizes L t (Done t k a) × Adds L (Done t k a) (with_system c (done_logged c.system t k a)) M d
-IsStep L c (Commits t) M d = (c.system.stop ≡ None) × IsNext c.system.sizes L t (Commit t) × Adds L (Commit t) (with_system c (commit_logged c.system t)) M d
-IsStep L c (Ends t) M d = (c.system.stop ≡ None) × IsNext c.system.sizes L t (Ended t) × Adds L (Ended t) (with_system c (ended_logged c.system t)) M d
+IsStep L c (Answers t k a) M d = HasRoom c.system (Done t k a) × CanBeSpelled (Done t k a) × MayAdd L c.system t (Done t k a) × Adds L (Done t k a) (with_system c (done_logged c.system t k a)) M d
+IsStep L c (Commits t) M d = (c.system.stop ≡ None) × MayAdd L c.system t (Commit t) × Adds L (Commit t) (with_system c (commit_logged c.system t)) M d
+IsStep L c (Ends t) M d = (c.system.stop ≡ None) × (MayAdd L c.system t (Ended t) × IsFree c t) × Adds L (Ended t) (with_system c (ended_logged c.system t)) M d
 IsStep L c AuditBegins M d = (c.system.stop ≡ None) × (c.system.end + 1 ≤ c.system.limit + 1048576) × Adds L AuditBegin (with_system c (audit_begun c.system)) M d
-IsStep L c (AuditEnds b found) M d = MayEndAudit L c b found × Adds L (audit_record b found) (with_system c (audit_ended c.system b found)) M d
+IsStep L c (AuditEnds b found) M d = MayLogEnd L c b found × Adds L (audit_record b found) (with_system c (audit_ended c.system b found)) M d
 IsStep L c (Locks t k m) M d = IsSome (row_of c.system t) × IsAnswer c.system.locks t k m Granted × AddsNone L (with_system c (granted c.system t k m)) M d
 IsStep L c (Refuses t k m h) M d = IsSome (row_of c.system t) × IsAnswer c.system.locks t k m (Busy h) × AddsNone L (with_system c (refused c.system t k m h)) M d
-IsStep L c (OnRegion r x) M d = (g : RegionState) × (slice_get c.regions r ≡ Some g) × MayChange x g × AddsNone L (with_region c r (region_after x g)) M d
-IsStep L c (ChangesState t state) M d = MayChangeState c t state × AddsNone L (with_system c (in_state c.system t state)) M d
+IsStep L c (OnRegion r x) M d = (g : RegionState) × (slice_get c.regions r ≡ Some g) × (MayChange x g × IsAlone c.system x g) × AddsNone L (with_region c r (region_after x g)) M d
+IsStep L c (Passes b r) M d = (g : RegionState) × (slice_get c.regions r ≡ Some g) × AddsNone L (with_region c r (checked g)) M d
+IsStep L c (Dies t o) M d = MayDie c t o × AddsNone L (died c t o) M d
+IsStep L c (Claims t) M d = (o : Option ℕ) × MayClaim c t o × AddsNone L (with_system c (in_state c.system t (Cleaning o))) M d
+IsStep L c (GivesBack t o) M d = MayGiveBack c t o × AddsNone L (with_system c (in_state c.system t (Dead o))) M d
+IsStep L c (Recovers r) M d = (g : RegionState) × (slice_get c.regions r ≡ Some g) × MayRecover c g × AddsNone L (with_region c r (taken_back g)) M d
 IsStep L c Stops M d = (c.vault.stopped ≡ true) × AddsNone L (with_system c (store_stopped c.system)) M d
 IsStep L c (Checkpoints b) M d = (c.system.checking ≡ not b) × AddsNone L (with_system c (in_checkpoint c.system b)) M d
-IsStep L c Flushes M d = (c.vault.stopped ≡ false) × AddsNone L (with_vault c (flushed c.system) (longer c.vault (frame_of L c.system))) M d
-IsStep L c (Faults n) M d = (c.vault.stopped ≡ false) × HasRisen c.vault.faults n × AddsNone L (with_vault c c.system (faulted c.vault n)) M d
+IsStep L c Takes M d = AddsNone L (with_system c (taken c.system)) M d
+IsStep L c Flushes M d = (c.vault.stopped ≡ false) × AddsNone L (with_vault c (longer c.vault (frame_of L c))) M d
+IsStep L c (Faults n) M d = (c.vault.stopped ≡ false) × HasRisen c.vault.faults n × AddsNone L (with_vault c (faulted c.vault n)) M d
 
 abbrev pub CheckpointsTurn : Type 0
 CheckpointsTurn = (L M : List Record) (c d : CoreState) (b : Bool) → IsStep L c (Checkpoints b) M d → (c.system.checking ≡ not b) × (d.system.checking ≡ b)
 
--- ---- with what a crash may leave
+-- ---- with what a crash may leave, and what audits have passed
 pub record Moment : Type 0 where
   pub log : List Record
   pub core : CoreState
+  pub audits : Audits
   pub leave : Files → Bool
 
 abbrev pub MayLeave : (Files → Bool) → Files → Type 0
@@ -92,12 +117,23 @@ MayLeave leave F = leave F ≡ true
 
 -- only a flush makes it more
 abbrev pub LeavesBy : (Files → Bool) → (Files → Bool) → List Record → CoreState → Step → Type 0
-LeavesBy old new L c Flushes = Appended (MayLeave old) (MayLeave new) (frame_of L c.system)
-LeavesBy old new L c (Faults n) = Appending (MayLeave old) (MayLeave new) (frame_of L c.system)
+LeavesBy old new L c Flushes = Appended (MayLeave old) (MayLeave new) (frame_of L c)
+LeavesBy old new L c (Faults n) = Appending (MayLeave old) (MayLeave new) (frame_of L c)
 LeavesBy old new L c x = (F : Files) → MayLeave new F → MayLeave old F
 
+-- the pass that this region now gives
+abbrev pub pass_now : CoreState → ℕ → List Pass
+pass_now c r = option_map_or (λ (g : RegionState). record { region = r; answer = g.stray } ∷ []) (slice_get c.regions r) []
+
+-- an audit begins without a pass; it passes a region that it hasn't passed; it ends by its passes
+abbrev pub AuditsBy : Audits → Audits → List Record → CoreState → Step → Type 0
+AuditsBy old new L c AuditBegins = new ≡ audits_with old c.system.records []
+AuditsBy old new L c (Passes b r) = MayPass L c old b r × (new ≡ audits_with old b (old b ++ pass_now c r))
+AuditsBy old new L c (AuditEnds b found) = IsVerdict c.system.sizes (old b) found × (new ≡ old)
+AuditsBy old new L c x = new ≡ old
+
 abbrev pub IsStepAt : Moment → Step → Moment → Type 0
-IsStepAt m x n = IsStep m.log m.core x n.log n.core × LeavesBy m.leave n.leave m.log m.core x
+IsStepAt m x n = IsStep m.log m.core x n.log n.core × LeavesBy m.leave n.leave m.log m.core x × AuditsBy m.audits n.audits m.log m.core x
 
 abbrev pub IsCourse : Moment → List Step → Moment → Type 0
 IsCourse m [] n = m ≡ n
@@ -106,6 +142,7 @@ IsCourse m (x ∷ xs) n = (k : Moment) × IsStepAt m x k × IsCourse k xs n
 pub record RunsAt (bases : Bases) (before : List Record) (m : Moment) : Type 0 where
   pub log : m.log ≡ log_after before m.core.system
   pub run : IsRun bases before (MayLeave m.leave) m.core
+  pub audits : AuditsRun m.log m.core m.audits
 
 abbrev pub StepKeeps : Type 0
 StepKeeps = (bases : Bases) (before : List Record) (m n : Moment) (x : Step) → RunsAt bases before m → IsStepAt m x n → RunsAt bases before n
@@ -113,9 +150,26 @@ StepKeeps = (bases : Bases) (before : List Record) (m n : Moment) (x : Step) →
 abbrev pub CourseKeeps : Type 0
 CourseKeeps = (bases : Bases) (before : List Record) (m n : Moment) (xs : List Step) → RunsAt bases before m → IsCourse m xs n → RunsAt bases before n
 
--- a core that was just made over a log at rest, whose records are all flushed
+-- where nothing is logged between the taking and the flush, all records are flushed
+abbrev pub TakenAllIsFlushed : Type 0
+TakenAllIsFlushed = (bases : Bases) (before : List Record) (m n : Moment) → RunsAt bases before m → IsCourse m (Takes ∷ Flushes ∷ []) n → stable n.core ≡ length n.log
+
+-- ---- an audit that ends
+pub record AuditTells (m : Moment) (b : ℕ) (found : List ℕ) : Type 0 where
+  pub each : (r : ℕ) → r < regions m.core.system.sizes → (p : Pass) × (i : ℕ) × (slice_get (m.audits b) i ≡ Some p) × (p.region ≡ r) × (has found r ≡ not (p.answer == 0))
+  pub once : (i j : ℕ) (p q : Pass) → slice_get (m.audits b) i ≡ Some p → slice_get (m.audits b) j ≡ Some q → p.region ≡ q.region → i ≡ j
+  pub clean : (found ≡ []) ↔ ((r : ℕ) → r < regions m.core.system.sizes → has_found (m.audits b) r ≡ false)
+  pub may : MayEndAudit m.log m.core b found
+
+abbrev pub AuditEndTells : Type 0
+AuditEndTells =
+    (bases : Bases) (before : List Record) (m n : Moment) (b : ℕ) (found : List ℕ) → RunsAt bases before m → IsStepAt m (AuditEnds b found) n
+    → AuditTells m b found
+
+-- a core that was just made over a log at rest, whose records are all flushed, and its vault
 abbrev pub LoadRunsAt : Type 0
 LoadRunsAt =
     (bases : Bases) (s : Sizes) (L : List Record) (g : Rules) (limit : ℕ) (v : VaultState) (leave : Files → Bool) → IsAtRest s L g
-    → limit ≤ 268435456 → length (base_at bases L) ≡ regions s → AllAreWords (base_at bases L) → VaultRun (MayLeave leave) L (length L) v
-    → RunsAt bases L (record { log = L; core = new_core s (base_at bases L) g limit v; leave = leave })
+    → limit ≤ 268435456 → length (base_at bases L) ≡ regions s → AllAreWords (base_at bases L)
+    → VaultRun (MayLeave leave) L (length L) v → v.flushed ≡ 0
+    → RunsAt bases L (record { log = L; core = new_core s (base_at bases L) g limit v; audits = no_audits; leave = leave })

@@ -5,8 +5,10 @@ pub mod Regions
 pub mod Keeps
 pub mod Flushes
 pub mod Audits
+pub mod Passes
 pub mod Loads
 pub mod Courses
+pub mod Wholes
 pub mod Crashes
 pub mod Images
 pub mod ImageSteps

@@ -18,7 +18,7 @@ use Rattle.dali_system.specs.State.{SystemState, VaultState, CoreState}
 use Rattle.dali_system.specs.Run.{LogRun, AllAreWords, Bases, base_at, RunsOn, is_running}
 
 abbrev pub new_system : Sizes → ℕ → ℕ → ℕ → ℕ → SystemState
-new_system s first next end limit = record { sizes = s; first = first; since = []; flushed = 0; table = empty; locks = empty; refusals = []; records = first; end = end; next = next; limit = limit; stop = None; checking = false }
+new_system s first next end limit = record { sizes = s; first = first; since = []; taken = 0; table = empty; locks = empty; refusals = []; records = first; end = end; next = next; limit = limit; stop = None; checking = false }
 
 -- the last epoch is empty, and no transaction runs
 pub record IsAtRest (s : Sizes) (L : List Record) (g : Rules) : Type 0 where

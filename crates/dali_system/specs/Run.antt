@@ -35,7 +35,7 @@ use Rattle.dali_att.specs.Table.{Table}
 use Rattle.dali_system.specs.declared.refusals.Refusal.{Refusal}
 use Rattle.dali_system.specs.declared.causes.Cause.{Cause}
 use Rattle.dali_system.specs.declared.causes.Cause.TheVariants.{Damage, Store}
-use Rattle.dali_system.specs.State.{TxnRow, SystemState, VaultState, CoreState, row_of, lock_of, stable, log_after}
+use Rattle.dali_system.specs.State.{TxnRow, SystemState, VaultState, CoreState, row_of, lock_of, taken_to, stable, log_after}
 
 -- ---- the log
 pub record LogRun (s : Sizes) (L : List Record) : Type 0 where
@@ -210,4 +210,7 @@ pub record IsRun (bases : Bases) (before : List Record) (leave : Files → Type 
   -- the last epoch began before the system was made
   pub began : (last_epoch (log_after before c.system)).first ≤ length before
   pub runs : RunsOn bases (log_after before c.system) c
-  pub vault : VaultRun leave (log_after before c.system) (stable c.system) c.vault
+  -- what is flushed was taken before, and what was taken is logged
+  pub frame : stable c ≤ taken_to c.system
+  pub taken : taken_to c.system ≤ length (log_after before c.system)
+  pub vault : VaultRun leave (log_after before c.system) (stable c) c.vault

@@ -3,7 +3,7 @@
 --     begun y, op_logged y t b ..      after the calls that log a record, where they answer Ok
 --     granted y t k m, refused y t k m h       after a request for a lock
 --     in_state y t st                  after the death of a client, or the claim of a dead transaction
---     store_stopped y, in_checkpoint y b, flushed y       after a stop, at the start and end of a checkpoint, after a flush
+--     store_stopped y, in_checkpoint y b, taken y      after a stop, at the start and end of a checkpoint, where a frame is taken
 use Rattle.std.specs.Prelude.{ℕ, ◌+◌, ◌-◌, Bool, List, [], ◌∷◌, ◌++◌, Option, Some, None}
 use Rattle.std.specs.FinMap as map
 use Rattle.dali_record.specs.declared.operations.Block.{Block}
@@ -12,7 +12,7 @@ use Rattle.dali_record.specs.declared.operations.Undo.{Undo}
 use Rattle.dali_record.specs.declared.records.Call.{Call}
 use Rattle.dali_record.specs.declared.records.Answer.{Answer}
 use Rattle.dali_record.specs.declared.records.Record.{Record}
-use Rattle.dali_record.specs.declared.records.Record.TheVariants.{Begin, Op as Forward, Done, Commit, Ended, Solo, AuditBegin, AuditClean, AuditFail, Back}
+use Rattle.dali_record.specs.declared.records.Record.TheVariants.{Begin, Forward, Done, Commit, Ended, Solo, AuditBegin, AuditClean, AuditFail, Back}
 use Rattle.dali_record.specs.Blocks.{pending}
 use Rattle.dali_record.specs.Spelling.{record_length}
 use Rattle.dali_counts.specs.Counts.{next_with}
@@ -98,6 +98,6 @@ store_stopped y = record y { stop = stopped_by y.stop }
 abbrev pub in_checkpoint : SystemState → Bool → SystemState
 in_checkpoint y b = record y { checking = b }
 
--- all records are flushed
-abbrev pub flushed : SystemState → SystemState
-flushed y = record y { flushed = y.records - y.first }
+-- all records so far are taken, to be flushed
+abbrev pub taken : SystemState → SystemState
+taken y = record y { taken = y.records - y.first }

@@ -5,9 +5,10 @@
 --     kills                    transaction 1 gets an exclusive lock on key 5, finds it, and kills its cell
 --     removal, Removal         it kills the entry too, is answered and commits; both are freed; it ends. In a checkpoint an audit is clean
 --     abandoned, Abandoned     transaction 2 asks for the key and is refused. The client of 1 dies in its next operation; 1 is claimed,
---                              given back, claimed again, taken back, and ends. The store fails, and the engine stops
+--                              given back, claimed again, taken back, and ends. The store fails in a flush, and the engine stops
 --     damage, Damaged          transaction 1 commits without a call. A poke hits region 0; transaction 2 looks for key 5 there, finds
---                              nothing, and commits; this is flushed. An audit finds the region and stops the engine; its record is flushed
+--                              nothing, and commits; this is taken to be flushed. An audit begins, then the frame is flushed; the audit
+--                              finds the region and stops the engine; its records are flushed
 use Rattle.std.specs.Prelude.{◌≡◌, ◌==◌, ◌&&◌, ℕ, Bool, true, false, List, [], ◌∷◌, ◌++◌, Some, map, replicate}
 use Rattle.dali_geometry.specs.Sizes.{Sizes}
 use Rattle.dali_geometry.specs.Places.{formatted_image}
@@ -16,7 +17,7 @@ use Rattle.dali_record.specs.declared.operations.Op.TheVariants.{Look, KillCell,
 use Rattle.dali_record.specs.declared.records.Call.TheVariants.{Delete, Get}
 use Rattle.dali_record.specs.declared.records.Answer.TheVariants.{Ok as AnswerOk, Missing}
 use Rattle.dali_record.specs.declared.records.Record.{Record}
-use Rattle.dali_record.specs.declared.records.Record.TheVariants.{Format, Begin, Op as Forward, Done, Commit, Ended, Solo, AuditBegin, AuditClean, AuditFail, Back}
+use Rattle.dali_record.specs.declared.records.Record.TheVariants.{Format, Begin, Forward, Done, Commit, Ended, Solo, AuditBegin, AuditClean, AuditFail, Back}
 use Rattle.dali_record.specs.Blocks.{made}
 use Rattle.dali_record.specs.Epochs.{last_epoch}
 use Rattle.dali_record.specs.Legal.{passes, rules_start}
@@ -24,14 +25,15 @@ use Rattle.dali_record.specs.Files.{Files}
 use Rattle.dali_region.specs.declared.Side.TheVariants.{A}
 use Rattle.dali_region.specs.State.{RegionState}
 use Rattle.dali_locks.specs.declared.mode.Mode.TheVariants.{Shared, Exclusive}
-use Rattle.dali_att.specs.declared.state.State.TheVariants.{Dead, Cleaning}
 use Rattle.dali_system.specs.declared.causes.Cause.TheVariants.{Damage as StoppedByDamage, Store}
 use Rattle.dali_system.specs.State.{VaultState}
 use Rattle.dali_system.specs.Run.{log_in}
-use Rattle.dali_system.specs.Regions.{RegionStep, Latch, NoteReads, Update, TakeBack, Poke, Check, Die, Clean}
+use Rattle.dali_system.specs.Regions.{RegionStep, Latch, NoteReads, Update, Poke, Clean}
 use Rattle.dali_system.specs.Loads.{new_core}
+use Rattle.dali_system.specs.Passes.{no_audits}
+use Rattle.dali_system.specs.Wholes.{IsWhole}
 use Rattle.dali_system.specs.Crashes.{NoneEscapes}
-use Rattle.dali_system.specs.Courses.{Step, Begins, Operates, TakesBack, Frees, Answers, Commits, Ends, AuditBegins, AuditEnds, Locks, Refuses, OnRegion, ChangesState, Stops, Checkpoints, Flushes, Faults, Moment, IsCourse, RunsAt}
+use Rattle.dali_system.specs.Courses.{Step, Begins, Operates, TakesBack, Frees, Answers, Commits, Ends, AuditBegins, AuditEnds, Locks, Refuses, OnRegion, Passes, Dies, Claims, GivesBack, Recovers, Stops, Checkpoints, Takes, Flushes, Faults, Moment, IsCourse, RunsAt}
 
 -- ---- the first moment
 abbrev pub small : Sizes
@@ -41,7 +43,7 @@ abbrev pub first_log : List Record
 first_log = Format 1 1 ∷ []
 
 abbrev pub first_vault : VaultState
-first_vault = record { stopped = false; end = 15; current = 0; faults_then = 0; faults = 0 }
+first_vault = record { stopped = false; end = 15; flushed = 0; current = 0; faults_then = 0; faults = 0 }
 
 abbrev pub is_format : List Record → Bool
 is_format (Format i h ∷ []) = (i == 1) && (h == 1)
@@ -56,6 +58,7 @@ abbrev pub start : List (List ℕ) → Moment
 start base = record {
   log = first_log;
   core = new_core small base (passes rules_start (Format 1 1)) 1000000 first_vault;
+  audits = no_audits;
   leave = λ F. one_batch F.batches;
 }
 
@@ -113,7 +116,7 @@ removal =
     ++ Answers 1 (Delete 5) AnswerOk ∷ Commits 1 ∷ []
     ++ touching 1 free_cell ((8, 0) ∷ []) (Frees 1 free_cell)
     ++ touching 1 free_entry ((1, 0) ∷ []) (Frees 1 free_entry)
-    ++ Ends 1 ∷ Checkpoints true ∷ OnRegion 0 (Clean A) ∷ AuditBegins ∷ OnRegion 0 Check ∷ OnRegion 1 Check ∷ AuditEnds 10 [] ∷ Checkpoints false ∷ []
+    ++ Ends 1 ∷ Checkpoints true ∷ OnRegion 0 (Clean A) ∷ AuditBegins ∷ Passes 10 0 ∷ Passes 10 1 ∷ AuditEnds 10 [] ∷ Checkpoints false ∷ []
 
 pub record Removal : Type 0 where
   pub finish : Moment
@@ -130,15 +133,16 @@ abbrev pub abandoned : List Step
 abandoned =
     kills
     ++ Begins ∷ Refuses 2 5 Shared 1 ∷ []
-    ++ touching 1 kill_entry ((1, 2) ∷ []) (OnRegion 0 Die)
-    ++ ChangesState 1 Dead ∷ ChangesState 1 Cleaning ∷ ChangesState 1 Dead ∷ ChangesState 1 Cleaning ∷ OnRegion 0 TakeBack ∷ []
+    ++ touching 1 kill_entry ((1, 2) ∷ []) (Dies 1 (Some 0))
+    ++ Claims 1 ∷ GivesBack 1 (Some 0) ∷ Claims 1 ∷ Recovers 0 ∷ []
     ++ touching 1 revive_cell ((8, 1) ∷ []) (TakesBack 1 revive_cell)
-    ++ Ends 1 ∷ Faults 1 ∷ Stops ∷ []
+    ++ Ends 1 ∷ Takes ∷ Faults 1 ∷ Stops ∷ []
 
 pub record Abandoned : Type 0 where
   pub finish : Moment
   pub course : IsCourse (start stored) abandoned finish
   pub run : RunsAt (λ n. stored) first_log finish
+  pub whole : IsWhole finish.core
   pub log : finish.log ≡ Format 1 1 ∷ Begin 1 ∷ Forward 1 look ∷ Forward 1 kill_cell ∷ Begin 2 ∷ Back 1 revive_cell ∷ Ended 1 ∷ []
   pub words : words_at finish ≡ stored
   pub refused : finish.core.system.refusals ≡ record { txn = 2; key = 5; mode = Shared; holder = 1; at = 5 } ∷ []
@@ -156,7 +160,8 @@ abbrev pub damage : List Step
 damage =
     Begins ∷ Commits 1 ∷ OnRegion 0 (Poke 0 1) ∷ Begins ∷ Locks 2 5 Shared ∷ []
     ++ touching 2 damaged_look [] (Operates 2 damaged_look)
-    ++ Answers 2 (Get 5) Missing ∷ Commits 2 ∷ Flushes ∷ AuditBegins ∷ OnRegion 0 Check ∷ OnRegion 1 Check ∷ AuditEnds 7 (0 ∷ []) ∷ Flushes ∷ []
+    ++ Answers 2 (Get 5) Missing ∷ Commits 2 ∷ Takes ∷ AuditBegins ∷ Flushes
+    ∷ Passes 7 0 ∷ Passes 7 1 ∷ AuditEnds 7 (0 ∷ []) ∷ Takes ∷ Flushes ∷ []
 
 abbrev pub committed_batch : List Record
 committed_batch = Begin 1 ∷ Commit 1 ∷ Begin 2 ∷ Forward 2 damaged_look ∷ Done 2 (Get 5) Missing ∷ Commit 2 ∷ []

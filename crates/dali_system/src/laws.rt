@@ -1,11 +1,12 @@
 //! Laws over the definitions, each the contract of a function that does nothing: a step takes a run to a run.
 
-ghost use Rattle.dali_system.specs.Keeps.{BeginKeeps, OpKeeps, BackKeeps, SoloKeeps, DoneKeeps, CommitKeeps, EndedKeeps, GrantKeeps, RefuseKeeps, RegionKeeps, StopKeeps, StateKeeps, CheckpointFlagKeeps};
-ghost use Rattle.dali_system.specs.Flushes.{FlushKeeps, FaultKeeps};
+ghost use Rattle.dali_system.specs.Keeps.{BeginKeeps, OpKeeps, BackKeeps, SoloKeeps, DoneKeeps, CommitKeeps, EndedKeeps, GrantKeeps, RefuseKeeps, RegionKeeps, StopKeeps, StateKeeps, DeathKeeps, RecoverKeeps, CheckpointFlagKeeps};
+ghost use Rattle.dali_system.specs.Flushes.{TakeKeeps, FlushKeeps, FaultKeeps};
 ghost use Rattle.dali_system.specs.Audits.{AuditBeginKeeps, AuditEndKeeps, AuditStarts, AuditGoesOn, PassCertifies, PassFinds, CertifiesStays};
-ghost use Rattle.dali_system.specs.Courses.{StepKeeps, CourseKeeps, LoadRunsAt, CheckpointsTurn};
+ghost use Rattle.dali_system.specs.Courses.{StepKeeps, CourseKeeps, TakenAllIsFlushed, LoadRunsAt, CheckpointsTurn, AuditEndTells};
 ghost use Rattle.dali_system.specs.ImageSteps.{ImagesKeep, CopyKeeps, FlushKeepsImages, FaultKeepsImages};
 ghost use Rattle.dali_system.specs.Loads.{LoadRuns, FormatRests, EmptyRests};
+ghost use Rattle.dali_system.specs.Wholes.{WholeKeeps, WholeCourseKeeps, LoadIsWhole, WhoLogs};
 ghost use Rattle.dali_system.specs.Worked.{Removal, Abandoned, Damaged};
 
 /// A transaction begins.
@@ -73,9 +74,19 @@ pub fn stop_keeps_a_run()
     ensures { StopKeeps }
 {}
 
-/// A client dies, and its transaction is claimed.
+/// The state of a transaction's row changes as a death, a claim, or a claim that is given back changes it.
 pub fn state_keeps_a_run()
     ensures { StateKeeps }
+{}
+
+/// A client dies, in an operation or in none: its hold is dead, and its transaction's row keeps the region.
+pub fn death_keeps_a_run()
+    ensures { DeathKeeps }
+{}
+
+/// Who claimed a transaction takes back the operation in which its client died.
+pub fn recovery_keeps_a_run()
+    ensures { RecoverKeeps }
 {}
 
 /// A checkpoint starts and ends.
@@ -88,7 +99,12 @@ pub fn a_checkpoint_turns_the_flag()
     ensures { CheckpointsTurn }
 {}
 
-/// The log is flushed.
+/// A frame of the log is taken, to be flushed.
+pub fn take_keeps_a_run()
+    ensures { TakeKeeps }
+{}
+
+/// A frame is flushed.
 pub fn flush_keeps_a_run()
     ensures { FlushKeeps }
 {}
@@ -128,6 +144,11 @@ pub fn each_list_of_steps_keeps_a_run()
     ensures { CourseKeeps }
 {}
 
+/// A frame that is flushed as soon as it is taken has all records: behind it all are flushed.
+pub fn a_frame_has_all_records()
+    ensures { TakenAllIsFlushed }
+{}
+
 /// A core that was just made, over a log whose records are all flushed, is a run.
 pub fn a_load_is_a_run_with_its_store()
     ensures { LoadRunsAt }
@@ -151,6 +172,32 @@ pub fn a_pass_finds_a_stray_write()
 /// What a pass found out stays.
 pub fn what_a_pass_found_stays()
     ensures { CertifiesStays }
+{}
+
+/// An audit that ends has passed each region just once since it began, and names just those whose answer wasn't 0; so it is clean
+/// exactly where there is none. To each of these a stray write came, and each other one is certified.
+pub fn an_audit_tells_what_it_passed()
+    ensures { AuditEndTells }
+{}
+
+/// Each step keeps a core whole: dead holds, the rows that name their regions, and holds of who is alive go together.
+pub fn each_step_keeps_a_core_whole()
+    ensures { WholeKeeps }
+{}
+
+/// So does each list of steps, in whatever order.
+pub fn each_list_of_steps_keeps_a_core_whole()
+    ensures { WholeCourseKeeps }
+{}
+
+/// A core that was just made is whole.
+pub fn a_load_is_whole()
+    ensures { LoadIsWhole }
+{}
+
+/// A dead transaction logs nothing, one that is claimed takings back and its end, a committed one solos and its end.
+pub fn the_state_tells_who_logs()
+    ensures { WhoLogs }
 {}
 
 /// Images and log stay as they fit with every step that writes nothing to the store.
@@ -179,12 +226,13 @@ pub fn a_removal()
 {}
 
 /// A request is refused, a client dies, its transaction is claimed, given back, claimed again and taken back,
-/// the store fails: these steps can be taken.
+/// the store fails in a flush: these steps can be taken.
 pub fn an_abandoned_transaction()
     ensures { Abandoned }
 {}
 
-/// A poke, a transaction that reads it and commits, an audit that fails: no damage escapes.
+/// A poke, a transaction that reads it and commits, an audit that begins before the commit's frame is flushed, and
+/// fails: no damage escapes.
 pub fn a_damaged_region()
     ensures { Damaged }
 {}

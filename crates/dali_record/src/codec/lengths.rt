@@ -1,5 +1,6 @@
 ghost use Rattle.std.specs.Prelude.{◌≡◌, ◌≤◌, length};
 ghost use Rattle.dali_words.specs.Values.{IsValue};
+ghost use Rattle.dali_record.specs.declared.records.Record.TheVariants.{Forward, Back};
 ghost use Rattle.dali_record.specs.Spelling.{CanBeSpelled, IsOperation, IsOutcome, MayBeUndo, IsBlock, IsCall, IsAnswer, op_length, outcome_length, undo_length, block_length, call_length, answer_length, record_length, spelling};
 
 use crate::operations::{Block, Op, Outcome, Undo};
@@ -99,7 +100,7 @@ fn record_length(rec: &Record) -> u64
         | Record::Commit { .. }
         | Record::Ended { .. }
         | Record::AuditClean { .. } => 9,
-        Record::Op { block, .. } | Record::Back { block, .. } => 9 + block_length(block),
+        Record::Forward { block, .. } | Record::Back { block, .. } => 9 + block_length(block),
         Record::Solo { block, .. } => 17 + block_length(block),
         Record::Done { call, answer, .. } => 9 + call_length(call) + answer_length(answer),
         Record::AuditBegin => 1,
@@ -118,4 +119,16 @@ pub fn length(rec: &Record) -> u64
     ensures by_fields { result ≡ record_length rec.now }
 {
     record_length(rec)
+}
+
+/// How many bytes the record of an operation has, be it forward or back.
+pub fn op_record_length(txn: u64, block: &Block) -> u64
+    ensures forward { result ≡ record_length (Forward txn block.now) }
+    ensures back { result ≡ record_length (Back txn block.now) }
+    ensures spelled { CanBeSpelled (Forward txn block.now) → result ≡ length (spelling (Forward txn block.now)) }
+    ensures spelled_back { CanBeSpelled (Back txn block.now) → result ≡ length (spelling (Back txn block.now)) }
+    ensures few { result ≤ 1009 }
+{
+    let _ = txn;
+    9 + block_length(block)
 }

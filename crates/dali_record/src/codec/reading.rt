@@ -356,13 +356,13 @@ fn solo(reader: &mut Reader, into: &mut Block) -> Result<(), NoSpelling>
 fn operation(reader: &mut Reader) -> Result<Record, Failure>
     ensures same { reader.new.all ≡ reader.old.all }
     ensures later { reader.old.at ≤ reader.new.at }
-    ensures read { Gives result (left reader.new) (two Record.Op number64_at (block_of_at Spelling.is_forward) (left reader.old)) }
+    ensures read { Gives result (left reader.new) (two Record.Forward number64_at (block_of_at Spelling.is_forward) (left reader.old)) }
     ensures known { IsErrOf result Failure.OutOfMemory → ⊥ }
 {
     let txn = reader.number64()?;
     let mut block = blank();
     forward(reader, &mut block)?;
-    Ok(Record::Op { txn, block })
+    Ok(Record::Forward { txn, block })
 }
 
 /// A block that is a transaction of its own.

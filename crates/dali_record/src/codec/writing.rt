@@ -1,9 +1,10 @@
 ghost use Rattle.std.specs.Prelude.{◌≡◌, ◌≤◌, ◌<◌, ◌^◌, ◌+◌, ◌++◌, [], ◌∷◌, length, vec_len, vec_capacity, OnOk, OnErr, IsOk};
 ghost use Rattle.dali_bytes.specs.Fields.{number32, number64};
+ghost use Rattle.dali_record.specs.declared.records.Record.TheVariants.{Forward, Back};
 ghost use Rattle.dali_record.specs.Spelling.{CanBeSpelled, spelling, value_bytes, flag_bytes, words_bytes, counted32, counted64, op_bytes, outcome_bytes, undo_bytes, block_bytes, call_bytes, answer_bytes};
 
 use crate::codec::VERSION;
-use crate::codec::lengths::length;
+use crate::codec::lengths::{length, op_record_length};
 use crate::lists::{Numbers, Regions};
 use crate::operations::{Block, Op, Outcome, Undo};
 use crate::records::{Answer, Call, Record};
@@ -323,7 +324,7 @@ fn add_record(into: &mut Vec<u8>, rec: &Record)
             add_byte(into, 2);
             add64(into, *txn);
         }
-        Record::Op { txn, block } => {
+        Record::Forward { txn, block } => {
             add_byte(into, 3);
             add64(into, *txn);
             add_block(into, block);
@@ -385,5 +386,40 @@ pub fn encode(rec: &Record, into: &mut Vec<u8>) -> Result<(), OutOfMemory>
 {
     into.reserve(length(rec) as usize)?;
     add_record(into, rec);
+    Ok(())
+}
+
+fn add_op_record(into: &mut Vec<u8>, kind: u8, txn: u64, block: &Block)
+    requires { vec_len into.old + length (kind ∷ (number64 txn ++ block_bytes block.now)) ≤ vec_capacity into.old }
+    ensures added { into.new.items ≡ into.old.items ++ kind ∷ (number64 txn ++ block_bytes block.now) }
+    ensures capacity { vec_capacity into.old ≤ vec_capacity into.new }
+{
+    add_byte(into, kind);
+    add64(into, txn);
+    add_block(into, block);
+}
+
+/// Appends the spelling of the record of an operation. The block is borrowed, so that it isn't copied into a record first.
+/// Unchanged where memory is refused.
+pub fn encode_op(txn: u64, block: &Block, into: &mut Vec<u8>) -> Result<(), OutOfMemory>
+    requires { CanBeSpelled (Forward txn block.now) }
+    ensures ok { OnOk result (into.new.items ≡ into.old.items ++ spelling (Forward txn block.now)) }
+    ensures err { OnErr result (into.new.items ≡ into.old.items) }
+    ensures capacity { vec_capacity into.old ≤ vec_capacity into.new }
+{
+    into.reserve(op_record_length(txn, block) as usize)?;
+    add_op_record(into, 3, txn, block);
+    Ok(())
+}
+
+/// The same for an operation that takes back.
+pub fn encode_back(txn: u64, block: &Block, into: &mut Vec<u8>) -> Result<(), OutOfMemory>
+    requires { CanBeSpelled (Back txn block.now) }
+    ensures ok { OnOk result (into.new.items ≡ into.old.items ++ spelling (Back txn block.now)) }
+    ensures err { OnErr result (into.new.items ≡ into.old.items) }
+    ensures capacity { vec_capacity into.old ≤ vec_capacity into.new }
+{
+    into.reserve(op_record_length(txn, block) as usize)?;
+    add_op_record(into, 12, txn, block);
     Ok(())
 }

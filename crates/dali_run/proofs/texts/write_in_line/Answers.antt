@@ -1,8 +1,8 @@
-use Rattle.std.proofs.Common.{◌≡◌, ◌++◌, ◌∷◌, [], ℕ, List, Option, sym, ◌∙◌, ap, subst, append_assoc}
+use Rattle.std.proofs.Common.{◌≡◌, ◌++◌, ℕ, List, ◌∙◌, ap, subst, append_assoc}
 use Rattle.std.specs.Prelude.{codes}
 use Rattle.std.specs.Fmt.{decimal}
-use Rattle.dali_streams.specs.Streams.{Appends, AppendsSome}
-use Rattle.dali_run.proofs.Pieces.{appends_then, some_first, then_some}
+use Rattle.dali_streams.specs.Streams.{AppendsSome}
+use Rattle.dali_run.proofs.Pieces.{some_first, then_some}
 use Rattle.dali_run.proofs.texts.write_in_line.Goals as goal
 
 -- the number in its line, and what is behind it

@@ -1,7 +1,7 @@
-use Rattle.std.proofs.Common.{◌≡◌, ◌++◌, ℕ, List, Option, sym, ◌∙◌, subst}
+use Rattle.std.proofs.Common.{◌≡◌, ◌++◌, ℕ, List, ◌∙◌, subst}
 use Rattle.std.specs.Fmt.{decimal}
 use Rattle.dali_streams.specs.Streams.{Appends, AppendsSome}
-use Rattle.dali_run.proofs.Pieces.{appends_then, some_first, then_some}
+use Rattle.dali_run.proofs.Pieces.{some_first, then_some}
 use Rattle.dali_run.proofs.texts.write_numbered.Goals as goal
 
 pub returns-in_err-write_all-2-clause-some : goal.returns-in_err-write_all-2-clause-some

@@ -1,8 +1,8 @@
 use Rattle.std.proofs.Common.{sym, subst, map}
 use Rattle.std.specs.Prelude.{string_bytes}
 use Rattle.dali_run.specs.declared.status.Status.{Status}
-use Rattle.dali_run.specs.Ends.{Course, course, Ended}
-use Rattle.dali_run.proofs.Endings.{moved, last_earlier}
+use Rattle.dali_run.specs.Ends.{course, Ended}
+use Rattle.dali_run.proofs.Endings.{moved}
 use Rattle.dali_run.proofs.Kept.{ended_kept}
 use Rattle.dali_run.proofs.top.run.Goals as goal
 
@@ -12,10 +12,12 @@ returns-clause-ended g c =
     let before = course g.S.Source.left g.S.Source.faults g.K.Sink.taken g.K.Sink.faults c.args.source.now c.run_words-store.new.source c.args.sink.now c.run_words-store.new.sink c.args.store c.run_words-store.result.0 in
     record {
       mid = g.K.Sink.taken c.run_words-store.new.sink;
+      count = g.K.Sink.faults c.run_words-store.new.sink;
       ended = moved g.V.Store.told g.V.Store.may_leave g.V.Store.moment g.V.Store.left_since g.V.Store.faults g.V.Store.cuts words before (g.K.Sink.taken c.finish-status.new.sink) (g.K.Sink.faults c.finish-status.new.sink)
-          (g.K.Sink.taken c.run_words-store.new.sink) c.finish-status.result c.finish-status.ensures.later
-          (subst (λ (s : Status). Ended g.V.Store.told g.V.Store.may_leave g.V.Store.moment g.V.Store.left_since g.V.Store.faults g.V.Store.cuts words before (g.K.Sink.taken c.run_words-store.new.sink) s) (sym c.finish-status.ensures.status) c.run_words-store.ensures.ended);
-      last = last_earlier _ _ c.finish-status.result (g.K.Sink.faults c.args.sink.now) (g.K.Sink.faults c.run_words-store.new.sink) (g.K.Sink.faults c.finish-status.new.sink) c.run_words-store.ensures.later c.finish-status.ensures.last;
+          (g.K.Sink.taken c.run_words-store.new.sink) (g.K.Sink.faults c.run_words-store.new.sink) c.finish-status.result
+          (subst (λ (s : Status). Ended g.V.Store.told g.V.Store.may_leave g.V.Store.moment g.V.Store.left_since g.V.Store.faults g.V.Store.cuts words before (g.K.Sink.taken c.run_words-store.new.sink) (g.K.Sink.faults c.run_words-store.new.sink) s) (sym c.finish-status.ensures.status) c.run_words-store.ensures.ended);
+      later = c.finish-status.ensures.later;
+      last = c.finish-status.ensures.last;
     }
 
 pub returns-clause-survives : goal.returns-clause-survives
@@ -24,4 +26,4 @@ returns-clause-survives g c = λ base own e.
     ended_kept g.V.Store.told g.V.Store.may_leave g.V.Store.moment g.V.Store.left_since g.V.Store.faults g.V.Store.cuts met.reads_now met.counts_now met.only_now met.tells_cuts
     (map string_bytes c.args.words.now) base
     (course g.S.Source.left g.S.Source.faults g.K.Sink.taken g.K.Sink.faults c.args.source.now c.run_words-store.new.source c.args.sink.now c.finish-status.new.sink c.args.store c.run_words-store.result.0)
-    e.mid own c.finish-status.result e.ended
+    e.mid e.count own c.finish-status.result e.ended

@@ -1,14 +1,16 @@
-use Rattle.std.proofs.Common.{◌≡◌, ◌≤◌, ◌<◌, ◌+◌, ℕ, List, Option, None, length, get_or, sym, ◌∙◌, ap, subst, arith, IfSome}
+use Rattle.std.proofs.Common.{◌≡◌, ◌<◌, ◌+◌, List, length, get_or, refl, sym, subst, arith}
 use Rattle.dali_script.specs.declared.commands.Command.{Command}
-use Rattle.dali_engine.specs.declared.engine.Engine.{Engine}
-use Rattle.dali_run.specs.Program.{IsUp, IsGatedIn}
-use Rattle.dali_run.proofs.Courses.{begins, goes_on, stops_in, is_whole, ok_of, err_of, is_up_down}
+use Rattle.dali_run.specs.Program.{IsUp}
+use Rattle.dali_memstore.specs.Fuse.{failed_of}
+use Rattle.dali_run.specs.declared.program.Program.{Program}
+use Rattle.dali_run.proofs.Courses.{Reached, begins, goes_on, stops_in, is_whole, ok_of, err_of, is_up_down}
 use Rattle.dali_run.proofs.top.run_script.Goals as goal
 
 pub loop-command-init : goal.loop-command-init
 loop-command-init g c = record {
   reached = begins g.V.Store.told g.V.Store.may_leave g.V.Store.moment g.V.Store.left_since g.V.Store.faults g.V.Store.cuts c.args.store c.args.script.now (g.K.Sink.taken c.args.sink.now) c.down-program.result c.down-program.ensures;
   gated = is_up_down g.V.Store.told g.V.Store.may_leave c.down-program.result c.down-program.ensures.engine_is;
+  unspent = c.down-program.ensures.unfused.failed;
   later = omega arith;
 }
 
@@ -34,10 +36,13 @@ loop-command-preserved g c =
     let within : c.loop-command.command-index < length c.args.script.now = subst (λ (l : List Command). c.loop-command.command-index < length l) items c.loop-command-test.true in
     let is : c.command-item.result ≡ get_or c.args.script.now c.loop-command.command-index c.command-item.result = subst (λ (l : List Command). c.command-item.result ≡ get_or l c.loop-command.command-index c.command-item.result) items c.command-item.is in
     record {
-      reached = goes_on g.V.Store.told g.V.Store.may_leave g.V.Store.moment g.V.Store.left_since g.V.Store.faults g.V.Store.cuts c.args.store c.args.script.now c.loop-command.command-index c.command-item.result
+      reached = subst (λ (p : Program g.row.V.Denot). Reached g.V.Store.told g.V.Store.may_leave g.V.Store.moment g.V.Store.left_since g.V.Store.faults g.V.Store.cuts c.args.store c.args.script.now (c.loop-command.command-index + 1)
+          (g.K.Sink.taken c.args.sink.now) p (g.K.Sink.taken c.run_command-next.new.sink)) (sym c.settled-program.ensures)
+          (goes_on g.V.Store.told g.V.Store.may_leave g.V.Store.moment g.V.Store.left_since g.V.Store.faults g.V.Store.cuts c.args.store c.args.script.now c.loop-command.command-index c.command-item.result
           (g.K.Sink.taken c.args.sink.now) (g.K.Sink.taken c.loop-command.sink) (g.K.Sink.taken c.run_command-next.new.sink) c.loop-command.program c.run_command-next.result.0 within is c.loop-command.invariant.reached
-          (ok_of c.run_command-next.result.1 c.in_default.field-0 c.in_default.is c.run_command-next.ensures.done);
-      gated = ok_of c.run_command-next.result.1 c.in_default.field-0 c.in_default.is c.run_command-next.ensures.gated;
+          (ok_of c.run_command-next.result.1 c.in_default.field-0 c.in_default.is c.run_command-next.ensures.done));
+      gated = subst (λ (p : Program g.row.V.Denot). IsUp g.V.Store.told g.V.Store.may_leave p) (sym c.settled-program.ensures) (ok_of c.run_command-next.result.1 c.in_default.field-0 c.in_default.is c.run_command-next.ensures.gated);
+      unspent = subst (λ (p : Program g.row.V.Denot). failed_of p.store ≡ 0) (sym c.settled-program.ensures) refl;
       later = omega (arith, c.loop-command.invariant.later, c.run_command-next.ensures.later);
     }
 

@@ -1,9 +1,5 @@
-use Rattle.std.proofs.Common.{◌≡◌, refl, map}
-use Rattle.std.specs.Prelude.{string_bytes}
 use Rattle.dali_script.specs.Grammar.{start}
 use Rattle.dali_script.specs.Lines.{command_lines}
-use Rattle.dali_run.specs.Ends.{course}
-use Rattle.dali_run.proofs.Endings.{ended_of, not_read}
 use Rattle.dali_run.proofs.Sized.{all_sized}
 use Rattle.dali_run.proofs.top.run_words.Goals as goal
 

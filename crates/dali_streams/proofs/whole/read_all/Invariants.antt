@@ -1,4 +1,4 @@
-use Rattle.std.proofs.Common.{◌≤◌, ◌+◌, ◌-◌, length}
+use Rattle.std.proofs.Common.{◌≡◌, ◌≤◌, ◌+◌, ◌-◌, length}
 use Rattle.dali_streams.proofs.Steps.{SoFar}
 use Rattle.dali_streams.proofs.whole.read_all.Given as goal
 
@@ -6,7 +6,7 @@ abbrev pub invariant-loop-buffer : goal.invariant-loop-buffer
 invariant-loop-buffer g l = record {
   so_far : SoFar (g.S.Source.left l.fn.source) l.bytes.items (g.S.Source.left l.source);
   short : length l.bytes.items ≤ l.limit + 1;
-  later : g.S.Source.faults l.fn.source ≤ g.S.Source.faults l.source;
+  kept : g.S.Source.faults l.source ≡ g.S.Source.faults l.fn.source;
 }
 
 abbrev pub decreases-loop-buffer : goal.decreases-loop-buffer

@@ -1,4 +1,4 @@
-use Rattle.std.proofs.Common.{◌≡◌, ◌-◌, List, ℕ, length, take, drop, sym, subst}
+use Rattle.std.proofs.Common.{◌≡◌, ◌∙◌, ◌-◌, List, ℕ, length, take, drop, sym, subst}
 use Rattle.std.proofs.lemmas.List.{take_rest}
 use Rattle.dali_streams.proofs.Steps.{Writes, writes_on, rest_goes_on, some_written}
 use Rattle.dali_streams.proofs.whole.write_all.Goals as goal
@@ -17,5 +17,5 @@ loop-rest-preserved g c =
           subst (λ (l : List ℕ). Writes (g.K.Sink.taken c.args.sink.now) c.args.bytes.now l (g.K.Sink.taken c.write.new.self)) (sym same)
           (writes_on _ (g.K.Sink.taken c.loop-rest.sink) _ c.args.bytes.now rest n c.loop-rest.invariant.so_far c.in_ok-count.ensures.bytes);
       rest = rest_goes_on c.args.bytes.now rest _ n same c.loop-rest.invariant.rest;
-      later = Prim.omega (Rattle.std.proofs.Common.arith, c.loop-rest.invariant.later, c.write.ensures.cause.later);
+      kept = c.in_ok-count.ensures.cause.kept ∙ c.loop-rest.invariant.kept;
     }

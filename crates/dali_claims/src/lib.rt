@@ -1,0 +1,9 @@
+//! Numbers below a count, which threads draw, each once.
+#![tactic(auto)]
+
+mod claim;
+
+pub use claim::{ClaimSeat, Claims};
+
+#[cfg(test)]
+mod tests;

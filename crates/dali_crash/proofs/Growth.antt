@@ -1,0 +1,103 @@
+-- What only grows along steps.
+use Rattle.std.proofs.Common.{◌≡◌, ℕ, ◌≤◌, Bool, true, false, List, [], ◌∷◌, ◌++◌, length, take, drop, refl, ap, sym, subst, ◌∙◌, append_assoc, ⊎_elim, arith}
+use Rattle.std.specs.Prelude.{Contains}
+use Rattle.std.proofs.lemmas.List.{append-nil, take-append-le, take-append-drop}
+use Rattle.dali_record.specs.declared.records.Record.{Record}
+use Rattle.dali_record.specs.Log.{committed}
+use Rattle.dali_counts.proofs.Lists.{take_take}
+use Rattle.dali_history.proofs.Chained.{keeps_committed}
+use Rattle.dali_history.specs.Acknowledged.{KeepsCommitted}
+use Rattle.dali_system.specs.State.{VaultState, stable}
+use Rattle.dali_system.specs.Run.{Bases}
+use Rattle.dali_system.specs.Crashes.{IsAcknowledged}
+use Rattle.dali_crash.specs.Checkpoints.{Stored, StoreStep, Does, Starts, Keeps, Copies, Skips, WritesHead, Syncs, Turns, CopyFails, HeadFails, SyncFails, TurnFails, Finishes, IsStoreStep, IsStoreCourse}
+use Rattle.dali_crash.specs.StoreRuns.{StoreRun}
+use Rattle.dali_crash.specs.Growth.{CourseGrows}
+use Rattle.dali_crash.proofs.StepLeaves.{vault_goes}
+use Rattle.dali_crash.proofs.StoreRuns.{store_step_keeps}
+use Rattle.dali_crash.proofs.StoreStarts.{store_goes}
+
+-- ---- the vault
+record Grows (v w : VaultState) : Type 0 where
+  current : v.current ≤ w.current
+  flushed : v.flushed ≤ w.flushed
+  stopped : v.stopped ≡ true → w.stopped ≡ true
+
+same : (v w : VaultState) → w ≡ v → Grows v w
+same v w e = subst (Grows v) (sym e) (record { current = omega arith; flushed = omega arith; stopped = λ h. h })
+
+then_grows : (u v w : VaultState) → Grows u v → Grows v w → Grows u w
+then_grows u v w a b = record { current = omega (arith, a.current, b.current); flushed = omega (arith, a.flushed, b.flushed); stopped = λ h. b.stopped (a.stopped h) }
+
+abbrev vault_of : Stored → VaultState
+vault_of st = st.moment.core.vault
+
+store_step_grows : (st new : Stored) (x : StoreStep) → IsStoreStep st x new → Grows (vault_of st) (vault_of new)
+store_step_grows st new (Does x) s = let w = vault_goes st.moment new.moment x s.1 in record { current = omega (arith, w.current); flushed = w.flushed; stopped = stays new.moment.core.vault.stopped w.runs }
+  where
+    stays : (b : Bool) → (b ≡ false → st.moment.core.vault.stopped ≡ false) → st.moment.core.vault.stopped ≡ true → b ≡ true
+    stays true runs h = refl
+    stays false runs h = let f : st.moment.core.vault.stopped ≡ false = runs refl in absurd (cc)
+store_step_grows st new Starts s = same (vault_of st) (vault_of new) (ap vault_of s.1)
+store_step_grows st new Keeps s = same (vault_of st) (vault_of new) (ap vault_of s.4)
+store_step_grows st new (Copies r n) s = same (vault_of st) (vault_of new) (ap vault_of s.6)
+store_step_grows st new (Skips r n) s = same (vault_of st) (vault_of new) (ap vault_of s.5)
+store_step_grows st new (WritesHead h) s = same (vault_of st) (vault_of new) (ap vault_of s.2)
+store_step_grows st new Syncs s = same (vault_of st) (vault_of new) (ap vault_of s.2)
+store_step_grows st new Turns s = subst (Grows (vault_of st)) (sym (ap vault_of s.6)) (record { current = omega arith; flushed = omega arith; stopped = λ h. h })
+store_step_grows st new (CopyFails r ws n) s = subst (Grows (vault_of st)) (sym (ap vault_of s.5)) (record { current = omega arith; flushed = omega arith; stopped = λ h. refl })
+store_step_grows st new (HeadFails h n) s = subst (Grows (vault_of st)) (sym (ap vault_of s.2)) (record { current = omega arith; flushed = omega arith; stopped = λ h. refl })
+store_step_grows st new (SyncFails n) s = subst (Grows (vault_of st)) (sym (ap vault_of s.2)) (record { current = omega arith; flushed = omega arith; stopped = λ h. refl })
+store_step_grows st new (TurnFails n) s = subst (Grows (vault_of st)) (sym (ap vault_of s.6)) (record { current = omega arith; flushed = omega arith; stopped = λ h. refl })
+store_step_grows st new Finishes s = same (vault_of st) (vault_of new) (ap vault_of s.1)
+
+-- ---- the log
+record Leads (bases : Bases) (before : List Record) (st new : Stored) : Type 0 where
+  run : StoreRun bases before new
+  vault : Grows (vault_of st) (vault_of new)
+  more : List Record
+  log : new.moment.log ≡ st.moment.log ++ more
+
+leads : (bases : Bases) (before : List Record) (st new : Stored) (xs : List StoreStep) → StoreRun bases before st → IsStoreCourse st xs new → Leads bases before st new
+leads bases before st new [] run course = subst (Leads bases before st) course (record { run = run; vault = same (vault_of st) (vault_of st) refl; more = []; log = sym (append-nil st.moment.log) })
+leads bases before st new (x ∷ xs) run course =
+    let on : Leads bases before course.0 new = leads bases before course.0 new xs (store_step_keeps bases before st course.0 x run course.1) course.2 in
+    let grown : Grows (vault_of st) (vault_of new) = then_grows (vault_of st) (vault_of course.0) (vault_of new) (store_step_grows st course.0 x course.1) on.vault in
+    ⊎_elim
+    (λ e. record { run = on.run; vault = grown; more = on.more; log = on.log ∙ ap (λ l. l ++ on.more) e })
+    (λ s. record { run = on.run; vault = grown; more = (s.0 ∷ []) ++ on.more; log = on.log ∙ (ap (λ l. l ++ on.more) s.2 ∙ append_assoc st.moment.log (s.0 ∷ []) on.more) })
+    (store_goes st course.0 x course.1).log
+
+pub course_grows : CourseGrows
+course_grows bases before st new xs run course = record {
+  current = w.vault.current;
+  flushed = flushed;
+  acknowledged = λ t h. subst (λ M. Contains (committed (take n M)) t) w.run.run.log (stays t h);
+  stopped = w.vault.stopped;
+}
+  where
+    w : Leads bases before st new
+    w = leads bases before st new xs run course
+
+    m : ℕ
+    m = stable st.moment.core
+
+    n : ℕ
+    n = stable new.moment.core
+
+    flushed : m ≤ n
+    flushed = omega (arith, w.vault.flushed, run.run.run.first, w.run.run.run.first)
+
+    within : m ≤ length st.moment.log
+    within = omega (arith, run.run.run.frame, run.run.run.taken, ap length run.run.log)
+
+    front : take m st.moment.log ++ drop m (take n new.moment.log) ≡ take n new.moment.log
+    front =
+        ap (λ l. l ++ drop m (take n new.moment.log)) (sym (take_take m n new.moment.log flushed ∙ (ap (take m) w.log ∙ take-append-le m st.moment.log w.more within)))
+        ∙ take-append-drop m (take n new.moment.log)
+
+    keeps : KeepsCommitted (take m st.moment.log) (take n new.moment.log)
+    keeps = subst (KeepsCommitted (take m st.moment.log)) front (keeps_committed (take m st.moment.log) (drop m (take n new.moment.log)))
+
+    stays : (t : ℕ) → IsAcknowledged before st.moment.core t → Contains (committed (take n new.moment.log)) t
+    stays t h = keeps.stays t (subst (λ M. Contains (committed (take m M)) t) (sym run.run.log) h)

@@ -1,0 +1,5 @@
+use Rattle.dali_during.proofs.OpenGaps.{cut_in_insert}
+use Rattle.dali_during.proofs.laws.a_run_cut_in_an_insert.Goals as goal
+
+pub returns : goal.returns
+returns c = cut_in_insert

@@ -1,0 +1,171 @@
+-- What holds in a run without stray writes, between a format or a restart and the next one.
+--     IsRightBase s base       the base keeps the index's invariant, nothing in it is dead, and each live cell has the length of a value
+--     image_of c               the words of all regions, with the updates of open operations taken back
+--     HasGap L c k             a running transaction has an undo on the key k, and its present call or its taking back isn't done
+--     IndexedInRuns            at each moment the index's invariant holds, but for gaps of such keys
+--     IsQuiet E                no answer is Odd, and no block finds a slot that isn't live, of another key or with an odd length
+--     QuietInRuns              so it is of all records of the epoch, whatever becomes of their transactions
+--     TakenBackInRuns          a transaction that has taken all back leaves each key of its blocks the records from before its first block on it
+--     TakenBackSince, TakenBackAtItsEnd      those that the regions had then, and once its Ended is logged
+--     ShowsWhatIsExpected      where no transaction runs, the regions have the records that the log is expected to leave
+--     UnpokedCourses           from a core that a format or a restart hands out, after any steps without a stray write, all of this holds;
+--                              and where no audit failed before, nobody is deleted in any epoch, now and in what a crash leaves
+--     UnpokedStoreCourses      so it is of a core with its store, with the steps of checkpoints among the others
+--     RightBases               the base of a run behind epochs from which no damage escaped is such a base
+use Rattle.std.specs.Prelude.{◌≡◌, ℕ, ◌<◌, ◌≤◌, length, ◌↔◌, Bool, true, false, ◌⊎◌, List, [], ◌∷◌, ◌++◌, map, take, drop, Some, None, slice_get, Contains}
+use Rattle.std.specs.List.{list_any, AllByRecursion}
+use Rattle.dali_geometry.specs.Sizes.{Sizes}
+use Rattle.dali_record.specs.declared.operations.Outcome.{Outcome}
+use Rattle.dali_record.specs.declared.operations.Outcome.TheVariants.{NotLive, OtherKey, OddLength}
+use Rattle.dali_record.specs.declared.records.Call.{Call}
+use Rattle.dali_record.specs.declared.records.Answer.TheVariants.{Odd}
+use Rattle.dali_record.specs.declared.records.Record.{Record}
+use Rattle.dali_record.specs.declared.records.Record.TheVariants.{Done, Ended}
+use Rattle.dali_record.specs.Log.{Touch, touch_at, committed}
+use Rattle.dali_record.specs.Epochs.{epochs, last_epoch, failing}
+use Rattle.dali_record.specs.Damage.{has}
+use Rattle.dali_record.specs.Settled.{redo_all}
+use Rattle.dali_index.specs.Invariant.{IsImage, IsIndexed, IsTidy, IsIndexedBut, Gap, Matched}
+use Rattle.dali_index.specs.Records.{records}
+use Rattle.dali_region.specs.declared.Side.{Side}
+use Rattle.dali_region.specs.State.{RegionState}
+use Rattle.dali_record.specs.Legal.{Working, Unwinding, Active, txn_state, sizes_of, Rules, rules_state}
+use Rattle.dali_record.specs.Files.{Files}
+use Rattle.dali_history.specs.Serial.{Map, expected, survivors}
+use Rattle.dali_history.specs.Recovered.{recovered}
+use Rattle.dali_history.specs.History.{IsHistory}
+use Rattle.dali_history.specs.Images.{HasRecords}
+use Rattle.dali_system.specs.State.{TxnRow, CoreState, VaultState, row_of}
+use Rattle.dali_system.specs.Run.{Bases, base_at, log_in, VaultRun, RunsOn, is_committed}
+use Rattle.dali_system.specs.Loads.{new_core}
+use Rattle.dali_system.specs.Passes.{no_audits}
+use Rattle.dali_system.specs.Courses.{Step, Moment, MayLeave, IsCourse}
+use Rattle.dali_system.specs.Images.{Told}
+use Rattle.dali_crash.specs.Unpoked.{pokes, store_pokes}
+use Rattle.dali_crash.specs.CrashLogs.{IsUnpoked}
+use Rattle.dali_crash.specs.Restarts.{HasRightBase}
+use Rattle.dali_crash.specs.Starts.{IsFreshStore}
+use Rattle.dali_crash.specs.Checkpoints.{Head, Stored, StoreStep, IsStoreCourse}
+use Rattle.dali_crash.specs.StoreRuns.{stored_start}
+
+pub record IsRightBase (s : Sizes) (base : List (List ℕ)) : Type 0 where
+  pub image : IsImage s base
+  pub indexed : IsIndexed s base
+  pub tidy : IsTidy s base
+
+abbrev pub RightBases : Type 0
+RightBases = (bases : Bases) (L : List Record) (c : CoreState) → RunsOn bases L c → HasRightBase bases c.system.sizes L → IsRightBase c.system.sizes (base_at bases L)
+
+abbrev pub image_of : CoreState → List (List ℕ)
+image_of c = map (λ g. g.back) c.regions
+
+-- ---- the index's invariant
+-- its taking back of answered calls has begun, or its present call, which has no answer yet, has an undo there
+abbrev pub IsMidway : Working → ℕ → Type 0
+IsMidway w k = (w.way ≡ Unwinding) ⊎ (has (map (λ u. u.key) (drop w.mark w.undos)) k ≡ true)
+
+pub record HasGap (L : List Record) (c : CoreState) (k : ℕ) : Type 0 where
+  pub txn : ℕ
+  pub working : Working
+  pub row : TxnRow
+  pub state_is : txn_state c.system.sizes txn L ≡ Some (Active working)
+  pub row_is : row_of c.system txn ≡ Some row
+  pub runs : is_committed row.state ≡ false
+  pub undos_are : row.undos ≡ working.undos
+  pub on_key : has (map (λ u. u.key) working.undos) k ≡ true
+  pub midway : IsMidway working k
+
+pub record IsIndexedNow (L : List Record) (c : CoreState) : Type 0 where
+  pub gaps : ℕ → Gap
+  pub indexed : IsIndexedBut c.system.sizes (image_of c) gaps
+  pub whose : (k : ℕ) → (gaps k ≡ Matched) ⊎ HasGap L c k
+
+abbrev pub IndexedInRuns : Type 0
+IndexedInRuns = (bases : Bases) (L : List Record) (c : CoreState) → RunsOn bases L c → IsUnpoked c → IsRightBase c.system.sizes (base_at bases L) → IsIndexedNow L c
+
+-- ---- outcomes and answers
+abbrev pub is_amiss : Outcome → Bool
+is_amiss (NotLive n) = true
+is_amiss (OtherKey n) = true
+is_amiss (OddLength n) = true
+is_amiss _ = false
+
+pub record IsQuiet (E : List Record) : Type 0 where
+  pub answers : (i t : ℕ) (c : Call) (p : ℕ) → slice_get E i ≡ Some (Done t c (Odd p)) → ⊥
+  pub blocks : (i : ℕ) (a : Touch) → touch_at E i ≡ Some a → is_amiss a.block.outcome ≡ false
+
+abbrev pub QuietInRuns : Type 0
+QuietInRuns = (bases : Bases) (L : List Record) (c : CoreState) → RunsOn bases L c → IsUnpoked c → IsRightBase c.system.sizes (base_at bases L) → IsQuiet (last_epoch L).records
+
+-- ---- what was taken back
+-- the block at place i is the first one of the transaction t on its key
+abbrev pub IsFirstOn : List Record → ℕ → ℕ → Touch → Type 0
+IsFirstOn E t i a = (touch_at E i ≡ Some a) × (a.owner ≡ t) × ((j : ℕ) (b : Touch) → j < i → touch_at E j ≡ Some b → b.owner ≡ t → b.block.key ≡ a.block.key → ⊥)
+
+abbrev pub TakenBackInRuns : Type 0
+TakenBackInRuns =
+    (bases : Bases) (L : List Record) (c : CoreState) → RunsOn bases L c → IsUnpoked c → IsRightBase c.system.sizes (base_at bases L)
+    → (t : ℕ) (row : TxnRow) → row_of c.system t ≡ Some row → is_committed row.state ≡ false → row.undos ≡ []
+    → (i : ℕ) (a : Touch) → IsFirstOn (last_epoch L).records t i a
+    → (v : List ℕ) → Contains (records c.system.sizes (image_of c)) (a.block.key, v) ↔ Contains (records c.system.sizes (redo_all (base_at bases L) (take i (last_epoch L).records))) (a.block.key, v)
+
+-- so the regions have there what they had when that block was not yet logged
+abbrev pub TakenBackSince : Type 0
+TakenBackSince =
+    (bases : Bases) (L M : List Record) (c old : CoreState) → RunsOn bases L c → IsUnpoked c → IsRightBase c.system.sizes (base_at bases L)
+    → RunsOn bases M old → IsUnpoked old → old.system.sizes ≡ c.system.sizes → (last_epoch M).first ≡ (last_epoch L).first
+    → (t : ℕ) (row : TxnRow) → row_of c.system t ≡ Some row → is_committed row.state ≡ false → row.undos ≡ []
+    → (i : ℕ) (a : Touch) → IsFirstOn (last_epoch L).records t i a → (last_epoch M).records ≡ take i (last_epoch L).records
+    → (v : List ℕ) → Contains (records c.system.sizes (image_of c)) (a.block.key, v) ↔ Contains (records c.system.sizes (image_of old)) (a.block.key, v)
+
+-- and so it is once its Ended is logged
+abbrev pub TakenBackAtItsEnd : Type 0
+TakenBackAtItsEnd =
+    (bases : Bases) (M : List Record) (t : ℕ) (c : CoreState) → RunsOn bases (M ++ Ended t ∷ []) c → IsUnpoked c → IsRightBase c.system.sizes (base_at bases (M ++ Ended t ∷ []))
+    → has (committed (last_epoch M).records) t ≡ false
+    → (i : ℕ) (a : Touch) → IsFirstOn (last_epoch M).records t i a
+    → (v : List ℕ) → Contains (records c.system.sizes (image_of c)) (a.block.key, v) ↔ Contains (records c.system.sizes (redo_all (base_at bases M) (take i (last_epoch M).records))) (a.block.key, v)
+
+-- ---- what stands where nothing runs
+abbrev pub IsIdle : CoreState → Type 0
+IsIdle c = ((t : ℕ) → row_of c.system t ≡ None) × ((r : ℕ) (g : RegionState) → slice_get c.regions r ≡ Some g → g.hold ≡ None)
+
+abbrev pub ShowsWhatIsExpected : Type 0
+ShowsWhatIsExpected =
+    (bases : Bases) (L : List Record) (c : CoreState) → RunsOn bases L c → IsUnpoked c → HasRightBase bases c.system.sizes L
+    → failing (last_epoch L) ≡ [] → IsIdle c
+    → (m : Map) × (expected L ≡ Some m) × HasRecords c.system.sizes (map (λ g. g.words) c.regions) m
+
+-- ---- from a format or a restart on
+-- no audit of any epoch failed
+abbrev pub NoneFailed : List Record → Type 0
+NoneFailed L = AllByRecursion (λ e. failing e ≡ []) (epochs L)
+
+pub record CourseIsQuiet (L : List Record) (n : Moment) : Type 0 where
+  pub indexed : IsIndexedNow n.log n.core
+  pub quiet : IsQuiet (last_epoch n.log).records
+  pub shows : IsIdle n.core → (m : Map) × (expected n.log ≡ Some m) × HasRecords n.core.system.sizes (map (λ g. g.words) n.core.regions) m
+  pub none_failed : NoneFailed L → NoneFailed n.log
+  pub none_failed_after : NoneFailed L → (F : Files) → MayLeave n.leave F → NoneFailed (log_in F)
+  pub none_deleted : NoneFailed L → survivors n.log ≡ committed n.log
+  pub none_deleted_after : NoneFailed L → (F : Files) → MayLeave n.leave F → survivors (log_in F) ≡ committed (log_in F)
+
+abbrev pub UnpokedCourses : Type 0
+UnpokedCourses =
+    (L : List Record) (g : Rules) (limit : ℕ) (v : VaultState) (leave : Files → Bool)
+    → IsHistory L → rules_state (sizes_of L) L ≡ Some g → (last_epoch L).records ≡ []
+    → limit ≤ 268435456 → VaultRun (MayLeave leave) L (length L) v → v.flushed ≡ 0
+    → (xs : List Step) (n : Moment) → list_any pokes xs ≡ false
+    → IsCourse (record { log = L; core = new_core (sizes_of L) (recovered (sizes_of L) L) g limit v; audits = no_audits; leave = leave }) xs n
+    → CourseIsQuiet L n
+
+-- so it is with the store's image files and anchor, whatever steps of checkpoints are among the others
+abbrev pub UnpokedStoreCourses : Type 0
+UnpokedStoreCourses =
+    (L : List Record) (g : Rules) (limit : ℕ) (v : VaultState) (leave : Files → Bool)
+    (told : Told) (heads : Side → Head) (synced : Side → Bool)
+    → IsHistory L → rules_state (sizes_of L) L ≡ Some g → (last_epoch L).records ≡ []
+    → limit ≤ 268435456 → IsFreshStore L v (MayLeave leave)
+    → (xs : List StoreStep) (n : Stored) → list_any store_pokes xs ≡ false
+    → IsStoreCourse (stored_start L g limit v leave told heads synced) xs n
+    → CourseIsQuiet L n.moment

@@ -1,0 +1,4 @@
+pub mod During
+pub mod Reported
+pub mod Gaps
+pub mod Whole

@@ -1,0 +1,75 @@
+//! Laws over the definitions, each the contract of a function that does nothing.
+
+ghost use Rattle.dali_during.specs.During.{RightBases, IndexedInRuns, QuietInRuns, TakenBackInRuns, TakenBackSince, TakenBackAtItsEnd, ShowsWhatIsExpected, UnpokedCourses, UnpokedStoreCourses};
+ghost use Rattle.dali_during.specs.Gaps.{CutInInsert, CutInDelete};
+ghost use Rattle.dali_during.specs.Whole.{WorkedLife};
+ghost use Rattle.dali_during.specs.Reported.{ReportsAllDeleted, TableIsKept, NobodyIsDeleted};
+
+/// The base of a run behind epochs from which no damage escaped keeps the index's invariant, and nothing in it is dead.
+pub fn a_run_stands_on_a_right_base()
+    ensures { RightBases }
+{}
+
+/// At each moment the index's invariant holds, but for gaps of keys on which a running transaction has an undo.
+pub fn a_run_keeps_the_index()
+    ensures { IndexedInRuns }
+{}
+
+/// No answer is Odd, and each block finds the slot that it looks for.
+pub fn a_run_finds_nothing_amiss()
+    ensures { QuietInRuns }
+{}
+
+/// A transaction that has taken all back leaves each of its keys the records from before it.
+pub fn a_transaction_is_taken_back_whole()
+    ensures now { TakenBackInRuns }
+    ensures since { TakenBackSince }
+    ensures ended { TakenBackAtItsEnd }
+{}
+
+/// Where no transaction runs, the regions have the records that the log is expected to leave.
+pub fn a_run_shows_what_is_expected()
+    ensures { ShowsWhatIsExpected }
+{}
+
+/// From a format or a restart on, whatever steps are taken without a stray write, all of this holds, and nobody is deleted in any epoch.
+pub fn without_stray_writes_a_run_is_as_expected()
+    ensures { UnpokedCourses }
+{}
+
+/// So it is of a core with its store, with the steps of checkpoints among the others.
+pub fn without_stray_writes_a_run_with_its_store_is_as_expected()
+    ensures { UnpokedStoreCourses }
+{}
+
+/// The deleted that the restarts of a log named, with those of its open epoch, are just those that a chain deletes.
+pub fn restarts_report_all_that_are_deleted()
+    ensures { ReportsAllDeleted }
+{}
+
+/// The rows of the table are just those that a checkpoint keeps that starts now.
+pub fn the_table_is_what_a_checkpoint_keeps()
+    ensures { TableIsKept }
+{}
+
+/// From a format on, however often the store is stopped, crashes and is restarted: without stray writes no audit failed
+/// in any epoch, and nobody is deleted in any.
+pub fn nobody_is_deleted_in_any_life()
+    ensures { NobodyIsDeleted }
+{}
+
+/// A run that is cut off inside an insert, between its cell and its entry, has the gap that its transaction left.
+pub fn a_run_cut_in_an_insert()
+    ensures { CutInInsert }
+{}
+
+/// So has one that is cut off inside a delete, between the two kills.
+pub fn a_run_cut_in_a_delete()
+    ensures { CutInDelete }
+{}
+
+/// From a format on an insert, a delete with its removals, an abort, a death, a checkpoint and a stop: the premises of
+/// each step are met, and a crash then leaves a checkpoint's image with records behind it, and restarts right.
+pub fn a_worked_life()
+    ensures { WorkedLife }
+{}

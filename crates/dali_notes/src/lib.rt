@@ -1,0 +1,9 @@
+//! One history of entries for all threads, which exists in proofs alone: what threads share is one word, its length.
+#![tactic(auto)]
+
+mod history;
+
+pub use history::{Note, Notes, Tells};
+
+#[cfg(test)]
+mod tests;

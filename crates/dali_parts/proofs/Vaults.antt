@@ -1,0 +1,68 @@
+-- Each step on the vault keeps its part.
+use Rattle.std.proofs.Common.{ℕ, List, refl, ap, sym, subst, ◌∙◌, inl, inr, ⊎_elim, arith}
+use Rattle.std.specs.Prelude.{drop, take}
+use Rattle.std.proofs.lemmas.List.{length-append, take-append-le}
+use Rattle.dali_record.specs.declared.records.Record.{Record}
+use Rattle.dali_record.specs.Files.{Files}
+use Rattle.dali_system.specs.Run.{VaultRun, IsPrefix, IsFlushed}
+use Rattle.dali_system.specs.Courses.{Begins, Operates, TakesBack, Frees, Answers, Commits, Ends, AuditBegins, AuditEnds, Locks, Refuses, OnRegion, Passes, Dies, Claims, GivesBack, Recovers, Stops, Checkpoints, Takes, Flushes, Faults}
+use Rattle.dali_system.specs.State.{VaultState, CoreState}
+use Rattle.dali_system.specs.Flushes.{with_frame}
+use Rattle.dali_system.proofs.Flushes.{flush_leaves, fault_leaves}
+use Rattle.dali_parts.specs.Vaults.{only, VaultFlushes, VaultFaults, VaultMisses, StepHasVault}
+
+pub vault_flushes : VaultFlushes
+vault_flushes L n m v D run from within runs = flush_leaves (only D) (only (with_frame D (drop n (take m L)))) L n m v run from within runs (record { each = λ F is. (D, refl, is) })
+
+pub vault_faults : VaultFaults
+vault_faults L n m faults v D F run from within runs rose left =
+    fault_leaves (only D) (only F) L n m faults v run from within runs rose
+    (record { each = λ G is. (D, refl, ⊎_elim (λ same. inl (is ∙ same)) (λ more. inr (is ∙ more)) left) })
+
+pub vault_misses : VaultMisses
+vault_misses L more n v D run = record {
+  within = omega (arith, run.within, length-append L more);
+  prefix = λ F h. let was : IsPrefix L n F = run.prefix F h in record { count = was.count; flushed = was.flushed; within = omega (arith, was.within, length-append L more); log = was.log ∙ sym (take-append-le was.count L more was.within) };
+  exact = λ running F h. let was : IsFlushed L n v F = run.exact running F h in record { log = was.log ∙ sym (take-append-le n L more run.within); end = was.end };
+  then_fits = run.then_fits;
+  counts = run.counts;
+  rose = run.rose;
+}
+
+-- whatever a crash may leave, the vault's part is that of each of its images
+pub of_each : (leave : Files → Type 0) (L : List Record) (n : ℕ) (v : VaultState) (F : Files) → VaultRun leave L n v → leave F → VaultRun (only F) L n v
+of_each leave L n v F run may = record {
+  within = run.within;
+  prefix = λ G is. run.prefix G (subst leave (sym is) may);
+  exact = λ running G is. run.exact running G (subst leave (sym is) may);
+  then_fits = run.then_fits;
+  counts = run.counts;
+  rose = run.rose;
+}
+
+abbrev vault_of : CoreState → VaultState
+vault_of c = c.vault
+
+pub step_has_vault : StepHasVault
+step_has_vault L M c d Begins s = ap vault_of s.1.1
+step_has_vault L M c d (Operates t b) s = ap vault_of s.3.1
+step_has_vault L M c d (TakesBack t b) s = ap vault_of s.2.1
+step_has_vault L M c d (Frees p b) s = ap vault_of s.2.1
+step_has_vault L M c d (Answers t k a) s = ap vault_of s.3.1
+step_has_vault L M c d (Commits t) s = ap vault_of s.2.1
+step_has_vault L M c d (Ends t) s = ap vault_of s.2.1
+step_has_vault L M c d AuditBegins s = ap vault_of s.2.1
+step_has_vault L M c d (AuditEnds b found) s = ap vault_of s.1.1
+step_has_vault L M c d (Locks t k m) s = ap vault_of s.2.1
+step_has_vault L M c d (Refuses t k m h) s = ap vault_of s.2.1
+step_has_vault L M c d (OnRegion r x) s = ap vault_of s.3.1
+step_has_vault L M c d (Passes b r) s = ap vault_of s.2.1
+step_has_vault L M c d (Dies t o) s = ap vault_of s.1.1
+step_has_vault L M c d (Claims t) s = ap vault_of s.2.1
+step_has_vault L M c d (GivesBack t o) s = ap vault_of s.1.1
+step_has_vault L M c d (Recovers r) s = ap vault_of s.3.1
+step_has_vault L M c d Stops s = ap vault_of s.1.1
+step_has_vault L M c d (Checkpoints b) s = ap vault_of s.1.1
+step_has_vault L M c d Takes s = ap vault_of s.1
+step_has_vault L M c d Flushes s = (s.0, ap vault_of s.1.1)
+step_has_vault L M c d (Faults n) s = (s.0, s.1, ap vault_of s.2.1)

@@ -1,0 +1,42 @@
+-- The vault's part of a run and of each step, in words of the vault alone.
+--     only F                   a crash leaves these files: the vault's part speaks of each crash image by itself
+--     VaultFlushes, VaultFaults     the vault's part once a frame is flushed, and where the flush meets a fault
+--     VaultMisses              it stays while others log
+--     IsVaultStep frame v x w  what the step x does to the vault, with this frame in hand: it leads from v to w
+--     StepHasVault             each step of a core is one of its vault, with the frame that was taken
+use Rattle.std.specs.Prelude.{◌≡◌, ℕ, ◌≤◌, ◌⊎◌, false, List, ◌++◌, length, drop, take}
+use Rattle.dali_record.specs.declared.records.Record.{Record}
+use Rattle.dali_record.specs.Files.{Files}
+use Rattle.dali_system.specs.State.{VaultState, CoreState}
+use Rattle.dali_system.specs.Run.{VaultRun, HasRisen}
+use Rattle.dali_system.specs.Flushes.{frame_of, with_frame, longer, faulted}
+use Rattle.dali_system.specs.Courses.{Step, IsStep, Flushes, Faults}
+
+-- this one alone
+abbrev pub only : Files → Files → Type 0
+only F G = G ≡ F
+
+-- n records are flushed, m were taken
+abbrev pub VaultFlushes : Type 0
+VaultFlushes =
+    (L : List Record) (n m : ℕ) (v : VaultState) (D : Files) → VaultRun (only D) L n v
+    → n ≤ m → m ≤ length L → v.stopped ≡ false
+    → VaultRun (only (with_frame D (drop n (take m L)))) L m (longer v (drop n (take m L)))
+
+abbrev pub VaultFaults : Type 0
+VaultFaults =
+    (L : List Record) (n m faults : ℕ) (v : VaultState) (D F : Files) → VaultRun (only D) L n v
+    → n ≤ m → m ≤ length L → v.stopped ≡ false → HasRisen v.faults faults
+    → (F ≡ D) ⊎ (F ≡ with_frame D (drop n (take m L)))
+    → VaultRun (only F) L n (faulted v faults)
+
+abbrev pub VaultMisses : Type 0
+VaultMisses = (L more : List Record) (n : ℕ) (v : VaultState) (D : Files) → VaultRun (only D) L n v → VaultRun (only D) (L ++ more) n v
+
+abbrev pub IsVaultStep : List Record → VaultState → Step → VaultState → Type 0
+IsVaultStep frame v Flushes w = (v.stopped ≡ false) × (w ≡ longer v frame)
+IsVaultStep frame v (Faults n) w = (v.stopped ≡ false) × HasRisen v.faults n × (w ≡ faulted v n)
+IsVaultStep frame v x w = w ≡ v
+
+abbrev pub StepHasVault : Type 0
+StepHasVault = (L M : List Record) (c d : CoreState) (x : Step) → IsStep L c x M d → IsVaultStep (frame_of L c) c.vault x d.vault

@@ -1,0 +1,114 @@
+//! Laws over the definitions, each the contract of a function that does nothing: each part of a core keeps what a run says of it.
+
+ghost use Rattle.dali_parts.specs.Systems.{SystemKeeps, StepHasSystem, SystemLeaves};
+ghost use Rattle.dali_parts.specs.Tables.{TableLogs, TableMoves, TableLeaves};
+ghost use Rattle.dali_parts.specs.Locks.{LocksGrant, LocksRefuse, LocksLog};
+ghost use Rattle.dali_parts.specs.Counts.{CountsLog};
+ghost use Rattle.dali_parts.specs.Regions.{RegionMoves, RegionTouches, RegionMisses, RegionKeeps, StepHasRegion, RegionsLeave};
+ghost use Rattle.dali_parts.specs.Vaults.{VaultFlushes, VaultFaults, VaultMisses, StepHasVault};
+ghost use Rattle.dali_parts.specs.Joined.{PartsAreARun};
+
+/// Each step keeps what a run says of the system, with no region known but the one of the block that is logged.
+pub fn the_system_keeps_its_part()
+    ensures { SystemKeeps }
+{}
+
+/// Each step of a core is one of its system.
+pub fn a_step_has_its_system()
+    ensures { StepHasSystem }
+{}
+
+/// A step leaves the rows and locks of other transactions, the counts where it logs nothing, and the stop where it is no stop.
+pub fn a_step_leaves_the_systems_rest()
+    ensures { SystemLeaves }
+{}
+
+/// A step on one region keeps what a run says of it.
+pub fn a_region_keeps_its_part()
+    ensures { RegionMoves }
+{}
+
+/// So does the logging of the operation that is open there.
+pub fn a_region_that_is_touched_keeps_its_part()
+    ensures { RegionTouches }
+{}
+
+/// So does the logging of anything else.
+pub fn a_region_that_is_left_keeps_its_part()
+    ensures { RegionMisses }
+{}
+
+/// Each step keeps what a run says of each region.
+pub fn each_region_keeps_its_part()
+    ensures { RegionKeeps }
+{}
+
+/// Each step of a core is one of each of its regions.
+pub fn a_step_has_its_region()
+    ensures { StepHasRegion }
+{}
+
+/// A step leaves each region but its own.
+pub fn a_step_leaves_other_regions()
+    ensures { RegionsLeave }
+{}
+
+/// A flush keeps what a run says of the vault.
+pub fn a_vault_that_flushes_keeps_its_part()
+    ensures { VaultFlushes }
+{}
+
+/// So does a fault in a flush.
+pub fn a_vault_that_fails_keeps_its_part()
+    ensures { VaultFaults }
+{}
+
+/// So does the logging of more records.
+pub fn a_vault_that_is_left_keeps_its_part()
+    ensures { VaultMisses }
+{}
+
+/// Each step of a core is one of its vault.
+pub fn a_step_has_its_vault()
+    ensures { StepHasVault }
+{}
+
+/// The parts together are what a run says of the core.
+pub fn the_parts_are_a_run()
+    ensures { PartsAreARun }
+{}
+
+/// A record that the rules allow keeps what a run says of the table.
+pub fn a_table_that_logs_keeps_its_part()
+    ensures { TableLogs }
+{}
+
+/// So does a death, a claim, and a claim that is given back.
+pub fn a_table_that_moves_keeps_its_part()
+    ensures { TableMoves }
+{}
+
+/// A record leaves the rows of those that it doesn't concern.
+pub fn a_record_leaves_other_rows()
+    ensures { TableLeaves }
+{}
+
+/// A lock that is granted keeps what a run says of the locks.
+pub fn locks_that_are_granted_keep_their_part()
+    ensures { LocksGrant }
+{}
+
+/// So does a request that is refused.
+pub fn locks_that_are_refused_keep_their_part()
+    ensures { LocksRefuse }
+{}
+
+/// So does a record more: an end frees its transaction's locks, and any other one leaves them.
+pub fn locks_behind_a_record_keep_their_part()
+    ensures { LocksLog }
+{}
+
+/// A record that the rules allow keeps what a run says of the counts.
+pub fn counts_behind_a_record_keep_their_part()
+    ensures { CountsLog }
+{}

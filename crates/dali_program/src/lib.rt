@@ -1,0 +1,11 @@
+//! The program `dali`, for the small programs that are made of it.
+#![tactic(auto)]
+
+mod body;
+mod edge;
+
+pub use body::run_with;
+pub use edge::program;
+
+#[cfg(test)]
+mod tests;

@@ -1,0 +1,17 @@
+pub mod Scanned
+pub mod Standing
+pub mod Resumes
+pub mod Audits
+pub mod OnePass
+pub mod Blocks
+pub mod Joined
+pub mod Reading
+pub mod FromFiles
+pub mod Tested
+pub mod Walks
+pub mod Passes
+pub mod Again
+pub mod Tables
+pub mod Refused
+pub mod Crashes
+pub mod Finding

@@ -1,0 +1,121 @@
+//! Laws over the definitions, each the contract of a function that does nothing.
+ghost use Rattle.dali_resume.specs.Laws.{FindsDamage, JudgesAlike, MarksAlike, DropsAlike, ReportsAlike, UndoesAlike, RecoversAlike, UndamagedIsPlain, UnfailedIsPlain, FailEndsEpoch, FollowsStatuses, OneTableServes, ReadsEpoch, ResumesFromFiles, PassesTests, FindsFirstBad};
+ghost use Rattle.dali_resume.specs.Refused.{TellsApart};
+ghost use Rattle.dali_resume.specs.Crashes.{EveryHistoryResumes, CrashResumes};
+ghost use Rattle.dali_resume.specs.Again.{HandsOut, RestartsAgain, ResumeGives};
+ghost use Rattle.dali_resume.specs.Finding.{WritesAlike, FindsFromImage};
+
+/// The clean place and the failing regions of an epoch are found in the records behind an image.
+pub fn damage_is_found_behind_an_image()
+    ensures { FindsDamage }
+{}
+
+/// A scan that begins with an image's table and nothing marked leaves out each record that the marks
+/// of the whole epoch leave out, and knows which transactions are corrupt.
+pub fn a_scan_behind_an_image_judges_alike()
+    ensures { JudgesAlike }
+{}
+
+/// It marks the same blocks, as long as their transactions weren't corrupt before.
+pub fn a_scan_behind_an_image_marks_alike()
+    ensures { MarksAlike }
+{}
+
+/// It leaves out exactly the blocks that a chain anywhere in the epoch drops.
+pub fn a_scan_behind_an_image_drops_by_chains()
+    ensures { DropsAlike }
+{}
+
+/// The two lists that are reported are those of the whole epoch.
+pub fn a_scan_behind_an_image_reports_alike()
+    ensures { ReportsAlike }
+{}
+
+/// So are the undos that are performed.
+pub fn a_scan_behind_an_image_undoes_alike()
+    ensures { UndoesAlike }
+{}
+
+/// So is the image that a restart comes to.
+pub fn a_scan_behind_an_image_recovers_alike()
+    ensures { RecoversAlike }
+{}
+
+/// Where no audit failed, a restart writes every block in one pass and deletes nobody. A failed audit
+/// is the last record of its epoch, so this is known when all were read.
+pub fn without_a_failed_audit_one_pass_recovers()
+    ensures undamaged { UndamagedIsPlain }
+    ensures unfailed { UnfailedIsPlain }
+    ensures last { FailEndsEpoch }
+{}
+
+/// The records that a restart reads behind an image, and their first number, are those of the epoch.
+pub fn a_restart_reads_its_epoch()
+    ensures { ReadsEpoch }
+{}
+
+/// From files that fit their log, a restart that reads the image, its table and the records from its
+/// number on comes to what the whole epoch comes to over its base, and reports the same lists.
+pub fn a_restart_resumes_from_its_files()
+    ensures { ResumesFromFiles }
+{}
+
+/// The records from the image's number on, of files that fit, pass the tests of a restart, one after
+/// another.
+pub fn records_behind_an_image_pass()
+    ensures { PassesTests }
+{}
+
+/// Where some record may not follow, the place of the first such is found.
+pub fn the_first_bad_record_is_found()
+    ensures { FindsFirstBad }
+{}
+
+/// A restart may be stopped at any of its store calls and made again: the files as they are, those with
+/// the batch of its record, however much of the other image is written, and those behind the turn of
+/// the anchor each fit their log, and hand out the same image and the same lists.
+pub fn a_restart_may_be_made_again()
+    ensures { RestartsAgain }
+{}
+
+/// From the files of a history a restart hands out exactly the records of the survivors, and reports
+/// who was rolled back and who was deleted.
+pub fn a_restart_from_an_image_is_right()
+    ensures { ResumeGives }
+{}
+
+/// The undo lists that a restart's tests keep are those that it performs where no audit failed.
+pub fn one_table_serves_tests_and_undos()
+    ensures statuses { FollowsStatuses }
+    ensures undos { OneTableServes }
+{}
+
+/// A case or more for each kind of record: what may follow, and what may not.
+pub fn the_tests_tell_apart()
+    ensures { TellsApart }
+{}
+
+/// What a restart hands out of any files that fit their log.
+pub fn what_a_restart_hands_out()
+    ensures { HandsOut }
+{}
+
+/// Whatever a crash of a run with its store leaves, where no damage escaped: its files pass the tests,
+/// and a restart from them is right.
+pub fn a_crash_image_resumes()
+    ensures { CrashResumes }
+{}
+
+/// Files of a history that fit pass the tests, and a restart hands out what is recovered: where the last
+/// epoch is empty, as behind a format or a restart, that is the image's words themselves.
+pub fn every_history_resumes()
+    ensures { EveryHistoryResumes }
+{}
+
+/// The records that the scan keeps, written over the image, come to what the kept records of the whole
+/// epoch come to over its base; and there each undo finds its slot as its transaction left it, in any
+/// order of the transactions.
+pub fn undos_find_their_slots_in_an_image()
+    ensures written { WritesAlike }
+    ensures found { FindsFromImage }
+{}

@@ -1,0 +1,43 @@
+-- Runs in which nothing is wrong.
+--     IsReady script s      the store is as the script's first command wants it: whatever a crash leaves, it has no database for `size`, and a log of this program for `open`
+--     IsRight words c       words, script and store are as they should be, and no call of the source, the sink or the store has failed
+--     EndsWell status       all was done, or memory was refused
+use Rattle.std.specs.Prelude.{◌≡◌, ◌≢◌, ◌⊎◌, ◌≤◌, ℕ, List, [], ◌∷◌, length, Option, Some, is_some, true}
+use Rattle.dali_batch.specs.Batch.{IsUnformatted}
+use Rattle.dali_record.specs.declared.records.Record.{Record}
+use Rattle.dali_script.specs.declared.commands.Command.{Command}
+use Rattle.dali_script.specs.declared.commands.Command.TheVariants.{Size, Open}
+use Rattle.dali_script.specs.Grammar.{IsSpelled}
+use Rattle.dali_store.specs.Faults.{Rose}
+use Rattle.dali_store.specs.Store.{Files}
+use Rattle.dali_run.specs.declared.status.Status.{Status}
+use Rattle.dali_run.specs.declared.status.Status.TheVariants.{Done, OutOfMemory}
+use Rattle.dali_run.specs.Ends.{IsRun, Course}
+use Rattle.dali_run.specs.Survives.{IsOwn}
+
+abbrev pub EndsWell : Status → Type 0
+EndsWell status = (status ≡ Done) ⊎ (status ≡ OutOfMemory)
+
+module _ {V : Type 0} (told : V → Option Files) (may_leave : V → Files → Type 0) where
+  abbrev pub HasNoLog : V → Type 0
+  HasNoLog s = (is_some (told s) ≡ true) × ((c : Files) → may_leave s c → IsUnformatted c.log)
+
+  abbrev pub HasOwnLog : V → Type 0
+  HasOwnLog s = (base : List (List Record)) × IsOwn told may_leave base s × (base ≢ [])
+
+  abbrev pub IsReady : List Command → V → Type 0
+  IsReady (Size index heap ∷ later) s = HasNoLog s
+  IsReady (Open ∷ later) s = HasOwnLog s
+  IsReady _ s = ⊥
+
+  pub record IsRight (faults : V → ℕ) (words : List (List ℕ)) (c : Course V) : Type 0 where
+    pub words_are : IsRun words
+    pub bytes : List ℕ
+    pub given : c.left ≡ Some bytes
+    pub short : length bytes ≤ 1048576
+    pub script : List Command
+    pub spelled : IsSpelled bytes script
+    pub ready : IsReady script c.store
+    pub all_read : Rose c.read_faults c.read_faults' → ⊥
+    pub all_written : Rose c.write_faults c.write_faults' → ⊥
+    pub none_failed : faults c.store' ≡ 0

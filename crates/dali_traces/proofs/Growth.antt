@@ -1,0 +1,253 @@
+-- What only grows along steps, what the anchor tells, and what a fault leaves.
+use Rattle.std.proofs.Common.{◌≡◌, ℕ, ◌+◌, true, false, List, [], ◌∷◌, ◌++◌, length, take, Some, None, refl, ap, sym, subst, ◌∙◌, inl, inr, ⊎_elim, arith, append_assoc}
+use Rattle.std.specs.Prelude.{◌⊎◌}
+use Rattle.std.proofs.lemmas.List.{append-nil, take-append-le}
+use Rattle.dali_record.specs.declared.records.Record.{Record}
+use Rattle.dali_record.specs.Files.{Files}
+use Rattle.dali_counts.proofs.Lists.{some_same}
+use Rattle.dali_system.specs.State.{CoreState, stable}
+use Rattle.dali_system.specs.Courses.{Step, Flushes, Faults}
+use Rattle.dali_system.specs.ImageSteps.{told_with}
+use Rattle.dali_crash.specs.Checkpoints.{Stored, StoreStep, Does, Starts, Keeps, Copies, Skips, WritesHead, Syncs, Turns, CopyFails, HeadFails, SyncFails, TurnFails, Finishes, target, head_with, synced_with, copies_with, copies_after, IsTurnedFrom, IsOverwritten, with_fault}
+use Rattle.dali_crash.specs.StoreRuns.{StoreRun}
+use Rattle.dali_crash.proofs.StepLeaves.{vault_goes}
+use Rattle.dali_crash.proofs.StoreStarts.{store_goes}
+use Rattle.dali_crash.proofs.Growth.{course_grows}
+use Rattle.dali_traces.specs.Traces.{Point, alone, IsPointStep, CameBy, Came, Inside, Traced, Start, StartsAt, start_point, bases_of}
+use Rattle.dali_traces.specs.Growth.{IsNextOrNow, IsAnchored, AnchorTells, AnchorTellsInside, TraceGrows, fault_of, IsLeftByFault, InsideIsFault, FaultIsInside, QuietInside}
+use Rattle.dali_traces.proofs.Traces.{at, traced_course, trace_runs, risen}
+
+-- ---- the vault
+
+-- who runs behind a step ran before it
+pub point_runs : (p q : Point) (x : StoreStep) → IsPointStep p x q → q.core.vault.stopped ≡ false → p.core.vault.stopped ≡ false
+point_runs p q (Does x) s h = (vault_goes (alone p).moment (alone q).moment x s.1).runs h
+point_runs p q Starts s h = sym (ap (λ (z : Stored). z.moment.core.vault.stopped) s.1) ∙ h
+point_runs p q Keeps s h = s.0
+point_runs p q (Copies r n) s h = s.2.runs
+point_runs p q (Skips r n) s h = sym (ap (λ (z : Stored). z.moment.core.vault.stopped) s.5) ∙ h
+point_runs p q (WritesHead k) s h = s.0.runs
+point_runs p q Syncs s h = s.0.runs
+point_runs p q Turns s h = s.3.runs
+point_runs p q (CopyFails r ws n) s h = s.3.may.runs
+point_runs p q (HeadFails k n) s h = s.0.may.runs
+point_runs p q (SyncFails n) s h = s.0.may.runs
+point_runs p q (TurnFails n) s h = s.3.may.runs
+point_runs p q Finishes s h = sym (ap (λ (z : Stored). z.moment.core.vault.stopped) s.1) ∙ h
+
+abbrev current_of : Stored → ℕ
+current_of z = z.moment.core.vault.current
+
+-- ---- the anchor
+core_gates : (L : List Record) (c : CoreState) (x : Step) (D F : Files) → CameBy L c x D F → F.gates ≡ D.gates
+core_gates L c Flushes D F came = ap (λ (f : Files). f.gates) came
+core_gates L c (Faults n) D F came = ⊎_elim (λ e. ap (λ (f : Files). f.gates) e) (λ e. ap (λ (f : Files). f.gates) e) came
+core_gates L c x D F came = ap (λ (f : Files). f.gates) came
+
+overwritten_gates : (p : Point) (D F : Files) → (F ≡ D) ⊎ IsOverwritten (target (alone p)) D F → F.gates ≡ D.gates
+overwritten_gates p D F came = ⊎_elim (λ e. ap (λ (f : Files). f.gates) e) (λ o. o.2) came
+
+turned_gates : (p : Point) (D F : Files) → IsTurnedFrom (alone p) D F → F.gates ≡ D.gates + 1
+turned_gates p D F t = ap (λ (f : Files). f.gates) t.3
+
+-- the gates and the current number are as before
+still : (p q : Point) (D F : Files) → (q.core.vault.stopped ≡ false → p.core.vault.stopped ≡ false) → q.core.vault.current ≡ p.core.vault.current → F.gates ≡ D.gates → IsAnchored p D → IsAnchored q F
+still p q D F runs current gates was = record {
+  running = λ h. gates ∙ (was.running (runs h) ∙ sym current);
+  always = ⊎_elim (λ e. inl (omega (arith, e, gates, current))) (λ e. inr (omega (arith, e, gates, current))) was.always;
+}
+
+anchored_step : (p q : Point) (x : StoreStep) (D F : Files) → IsPointStep p x q → Came p x D F → IsAnchored p D → IsAnchored q F
+anchored_step p q (Does x) D F s came was = still p q D F (point_runs p q (Does x) s) (vault_goes (alone p).moment (alone q).moment x s.1).current (core_gates p.log p.core x D F came) was
+anchored_step p q Starts D F s came was = still p q D F (point_runs p q Starts s) (ap current_of s.1) (ap (λ (f : Files). f.gates) came) was
+anchored_step p q Keeps D F s came was = still p q D F (point_runs p q Keeps s) (ap current_of s.4) (ap (λ (f : Files). f.gates) came) was
+anchored_step p q (Copies r n) D F s came was = still p q D F (point_runs p q (Copies r n) s) (ap current_of s.6) (overwritten_gates p D F came) was
+anchored_step p q (Skips r n) D F s came was = still p q D F (point_runs p q (Skips r n) s) (ap current_of s.5) (ap (λ (f : Files). f.gates) came) was
+anchored_step p q (WritesHead h) D F s came was = still p q D F (point_runs p q (WritesHead h) s) (ap current_of s.2) (overwritten_gates p D F came) was
+anchored_step p q Syncs D F s came was = still p q D F (point_runs p q Syncs s) (ap current_of s.2) (ap (λ (f : Files). f.gates) came) was
+anchored_step p q (CopyFails r ws n) D F s came was = still p q D F (point_runs p q (CopyFails r ws n) s) (ap current_of s.5) (overwritten_gates p D F came) was
+anchored_step p q (HeadFails h n) D F s came was = still p q D F (point_runs p q (HeadFails h n) s) (ap current_of s.2) (overwritten_gates p D F came) was
+anchored_step p q (SyncFails n) D F s came was = still p q D F (point_runs p q (SyncFails n) s) (ap current_of s.2) (ap (λ (f : Files). f.gates) came) was
+anchored_step p q Finishes D F s came was = still p q D F (point_runs p q Finishes s) (ap current_of s.1) (ap (λ (f : Files). f.gates) came) was
+anchored_step p q Turns D F s came was =
+    let now : q.core.vault.current ≡ p.core.vault.current + 1 = ap current_of s.6 in
+    let next : F.gates ≡ q.core.vault.current = omega (arith, turned_gates p D F came, was.running s.3.runs, now) in
+    record { running = λ h. next; always = inl next }
+anchored_step p q (TurnFails n) D F s came was =
+    let same : q.core.vault.current ≡ p.core.vault.current = ap current_of s.6 in
+    let here : D.gates ≡ p.core.vault.current = was.running s.3.may.runs in
+    let halted : q.core.vault.stopped ≡ true = ap (λ (z : Stored). z.moment.core.vault.stopped) s.6 in
+    record {
+      running = λ h. absurd (cc);
+      always = ⊎_elim (λ e. inl (ap (λ (f : Files). f.gates) e ∙ (here ∙ sym same))) (λ t. inr (omega (arith, turned_gates p D F t, here, same))) came;
+    }
+
+anchored_along : (p q : Point) (D F : Files) (xs : List StoreStep) → IsAnchored p D → Traced p D xs q F → IsAnchored q F
+anchored_along p q D F [] was t = subst (λ (r : Point). IsAnchored r F) t.0 (subst (IsAnchored p) t.1 was)
+anchored_along p q D F (x ∷ xs) was t = anchored_along t.0 q t.1 F xs (anchored_step p t.0 x D t.1 t.2 t.3 was) t.4
+
+anchored_start : (s : Start) (D : Files) → StartsAt s D → IsAnchored (start_point s) D
+anchored_start s D from = record { running = λ h. from.rests.current; always = inl from.rests.current }
+
+pub anchor_tells : AnchorTells
+anchor_tells s D from xs p F t = anchored_along (start_point s) p D F xs (anchored_start s D from) t
+
+pub anchor_tells_inside : AnchorTellsInside
+anchor_tells_inside s D from xs p E t x q F step inside = ⊎_elim (λ e. before F e) (by_step x step) inside
+  where
+    was : IsAnchored p E
+    was = anchor_tells s D from xs p E t
+
+    as_was : (G : Files) → G.gates ≡ E.gates → IsNextOrNow G.gates p.core.vault.current
+    as_was G e = ⊎_elim (λ w. inl (e ∙ w)) (λ w. inr (e ∙ w)) was.always
+
+    before : (G : Files) → G ≡ E → IsNextOrNow G.gates p.core.vault.current
+    before G e = as_was G (ap (λ (f : Files). f.gates) e)
+
+    moved : p.core.vault.stopped ≡ false → IsTurnedFrom (alone p) E F → IsNextOrNow F.gates p.core.vault.current
+    moved runs turned = inr (omega (arith, turned_gates p E F turned, was.running runs))
+
+    by_step : (y : StoreStep) → IsPointStep p y q → Came p y E F → IsNextOrNow F.gates p.core.vault.current
+    by_step (Does y) s came = as_was F (core_gates p.log p.core y E F came)
+    by_step (Copies r n) s came = as_was F (overwritten_gates p E F came)
+    by_step (WritesHead h) s came = as_was F (overwritten_gates p E F came)
+    by_step (CopyFails r ws k) s came = as_was F (overwritten_gates p E F came)
+    by_step (HeadFails h k) s came = as_was F (overwritten_gates p E F came)
+    by_step Turns s came = moved s.3.runs came
+    by_step (TurnFails k) s came = ⊎_elim (λ e. before F e) (λ w. moved s.3.may.runs w) came
+    by_step y s came = before F came
+
+-- ---- what only grows
+-- the log behind a step begins with the one before it
+log_step : (p q : Point) (x : StoreStep) → IsPointStep p x q → (more : List Record) × (q.log ≡ p.log ++ more)
+log_step p q x s = ⊎_elim (λ same. ([], same ∙ sym (append-nil p.log))) (λ one. (one.0 ∷ [], one.2)) (store_goes (alone p) (alone q) x s).log
+
+log_along : (p q : Point) (E F : Files) (ys : List StoreStep) → Traced p E ys q F → (more : List Record) × (q.log ≡ p.log ++ more)
+log_along p q E F [] t = ([], ap (λ (r : Point). r.log) (sym t.0) ∙ sym (append-nil p.log))
+log_along p q E F (y ∷ ys) t =
+    let one = log_step p t.0 y t.2 in
+    let rest = log_along t.0 q t.1 F ys t.4 in
+    (one.0 ++ rest.0, rest.1 ∙ (ap (λ l. l ++ rest.0) one.1 ∙ append_assoc p.log one.0 rest.0))
+
+pub trace_grows : TraceGrows
+trace_grows s D from xs ys p q E F t u = record {
+  grown = course_grows (bases_of s) s.log (at p E) (at q F) ys here (traced_course p q E F ys u);
+  records = ap (take (stable p.core)) more.1 ∙ take-append-le (stable p.core) p.log more.0 (omega (arith, here.run.run.vault.within, ap length here.run.log));
+}
+  where
+    here : StoreRun (bases_of s) s.log (at p E)
+    here = trace_runs s D from xs p E t
+
+    more : (more : List Record) × (q.log ≡ p.log ++ more)
+    more = log_along p q E F ys u
+
+-- ---- inside a step
+pub inside_is_fault : InsideIsFault
+inside_is_fault p q x D F s inside = ⊎_elim (λ e. inl e) (by_step x s) inside
+  where
+    c : CoreState
+    c = p.core
+
+    n : ℕ
+    n = c.vault.faults + 1
+
+    in_core : (y : Step) → IsPointStep p (Does y) q → CameBy p.log c y D F → (F ≡ D) ⊎ IsLeftByFault p (Does y) D F
+    in_core Flushes st came = inr (record {
+      words = [];
+      faults = n;
+      step = Does (Faults n);
+      is_fault = refl;
+      behind = record { log = p.log; core = with_fault c n; audits = p.audits; told = p.told; heads = p.heads; synced = p.synced; begun = p.begun; copies = copies_after c (Faults n) p.copies };
+      leads = (refl, ((st.1.0.0, risen c.vault.faults, (refl, refl)), record { each = λ G h. absurd (cc) }, refl), refl);
+      came = inr came;
+    })
+    in_core (Faults k) st came = inr (record { words = []; faults = k; step = Does (Faults k); is_fault = refl; behind = q; leads = st; came = came })
+    in_core y st came = inl came
+
+    by_step : (y : StoreStep) → IsPointStep p y q → Came p y D F → (F ≡ D) ⊎ IsLeftByFault p y D F
+    by_step (Does y) st came = in_core y st came
+    by_step (Copies r m) st came = inr (record {
+      words = [];
+      faults = n;
+      step = CopyFails r [] n;
+      is_fault = refl;
+      behind = record {
+        log = p.log;
+        core = with_fault c n;
+        audits = p.audits;
+        told = told_with p.told (target (alone p)) r [];
+        heads = p.heads;
+        synced = synced_with p.synced (target (alone p)) false;
+        begun = p.begun;
+        copies = copies_with p.copies (target (alone p)) r None;
+      };
+      leads = (st.0, st.1, st.3, record { may = st.2; rose = risen c.vault.faults }, record { each = λ G h. absurd (cc) }, refl);
+      came = came;
+    })
+    by_step (WritesHead h) st came = inr (record {
+      words = [];
+      faults = n;
+      step = HeadFails h n;
+      is_fault = refl;
+      behind = record {
+        log = p.log;
+        core = with_fault c n;
+        audits = p.audits;
+        told = p.told;
+        heads = head_with p.heads (target (alone p)) h;
+        synced = synced_with p.synced (target (alone p)) false;
+        begun = p.begun;
+        copies = p.copies;
+      };
+      leads = (record { may = st.0; rose = risen c.vault.faults }, record { each = λ G k. absurd (cc) }, refl);
+      came = came;
+    })
+    by_step Turns st came = inr (record {
+      words = [];
+      faults = n;
+      step = TurnFails n;
+      is_fault = refl;
+      behind = record { log = p.log; core = with_fault c n; audits = p.audits; told = p.told; heads = p.heads; synced = p.synced; begun = None; copies = p.copies };
+      leads = (st.0, st.1, st.2, record { may = st.3; rose = risen c.vault.faults }, st.4, record { each = λ G k. absurd (cc) }, refl);
+      came = inr came;
+    })
+    by_step (CopyFails r ws k) st came = inr (record { words = ws; faults = k; step = CopyFails r ws k; is_fault = refl; behind = q; leads = st; came = came })
+    by_step (HeadFails h k) st came = inr (record { words = []; faults = k; step = HeadFails h k; is_fault = refl; behind = q; leads = st; came = came })
+    by_step (TurnFails k) st came = inr (record { words = []; faults = k; step = TurnFails k; is_fault = refl; behind = q; leads = st; came = came })
+    by_step y st came = inl came
+
+pub fault_is_inside : FaultIsInside
+fault_is_inside p x y ws n D F e came = by_step x e
+  where
+    fault_in_core : (z : Step) → fault_of (Does z) ws n ≡ Some y → Inside p (Does z) D F
+    fault_in_core Flushes f = subst (λ (w : StoreStep). Came p w D F) (sym (some_same f)) came
+    fault_in_core (Faults k) f = inr (subst (λ (w : StoreStep). Came p w D F) (sym (some_same f)) came)
+    fault_in_core z f = absurd (cc)
+
+    by_step : (z : StoreStep) → fault_of z ws n ≡ Some y → Inside p z D F
+    by_step (Does z) f = fault_in_core z f
+    by_step (Copies r m) f = inr (subst (λ (w : StoreStep). Came p w D F) (sym (some_same f)) came)
+    by_step (CopyFails r us k) f = inr (subst (λ (w : StoreStep). Came p w D F) (sym (some_same f)) came)
+    by_step (WritesHead h) f = inr (subst (λ (w : StoreStep). Came p w D F) (sym (some_same f)) came)
+    by_step (HeadFails h k) f = inr (subst (λ (w : StoreStep). Came p w D F) (sym (some_same f)) came)
+    by_step Syncs f = inr (subst (λ (w : StoreStep). Came p w D F) (sym (some_same f)) came)
+    by_step (SyncFails k) f = inr (subst (λ (w : StoreStep). Came p w D F) (sym (some_same f)) came)
+    by_step Turns f = subst (λ (w : StoreStep). Came p w D F) (sym (some_same f)) came
+    by_step (TurnFails k) f = inr (subst (λ (w : StoreStep). Came p w D F) (sym (some_same f)) came)
+    by_step z f = absurd (cc)
+
+pub quiet_inside : QuietInside
+quiet_inside p x D F e inside = ⊎_elim (λ same. same) (by_step x e) inside
+  where
+    in_core : (z : Step) → fault_of (Does z) [] 0 ≡ None → CameBy p.log p.core z D F → F ≡ D
+    in_core Flushes f came = absurd (cc)
+    in_core (Faults k) f came = absurd (cc)
+    in_core z f came = came
+
+    by_step : (z : StoreStep) → fault_of z [] 0 ≡ None → Came p z D F → F ≡ D
+    by_step (Does z) f came = in_core z f came
+    by_step Starts f came = came
+    by_step Keeps f came = came
+    by_step (Skips r m) f came = came
+    by_step Finishes f came = came
+    by_step z f came = absurd (cc)

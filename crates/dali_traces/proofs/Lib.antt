@@ -1,0 +1,10 @@
+pub mod Sameness
+pub mod Traces
+pub mod Growth
+pub mod Bridges
+pub mod Once
+pub mod Worked
+pub mod Places
+pub mod Anchors
+pub mod Images
+pub mod Rests

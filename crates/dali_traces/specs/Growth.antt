@@ -1,0 +1,88 @@
+-- What only grows along steps, and what the anchor tells, also once the vault has stopped.
+--     IsNextOrNow n c          the number n is c or one more
+--     AnchorTells              the open gates of each crash image are as many as the current number, or one more; just as many while the vault runs
+--     AnchorTellsInside        so it is inside a step
+--     GoesOn before p q        from p to q the current number and the flushed records have only grown, and what was acknowledged still is
+--     TraceGrows               so it is along any steps
+--     fault_of x ws n          the step that is a fault in the step x, where x calls the store
+--     InsideIsFault            inside a step a crash leaves what it left before, or what a fault in this step leaves
+--     FaultIsInside            and what a fault leaves may be left inside the step
+--     QuietInside              inside a step that doesn't call the store a crash leaves what it left before
+use Rattle.std.specs.Prelude.{◌≡◌, ℕ, ◌+◌, false, ◌⊎◌, List, [], Option, Some, None, take}
+use Rattle.dali_record.specs.declared.records.Record.{Record}
+use Rattle.dali_record.specs.Files.{Files}
+use Rattle.dali_system.specs.State.{stable}
+use Rattle.dali_system.specs.Courses.{Flushes, Faults}
+use Rattle.dali_crash.specs.Checkpoints.{StoreStep, Does, Copies, WritesHead, Syncs, Turns, CopyFails, HeadFails, SyncFails, TurnFails}
+use Rattle.dali_crash.specs.Growth.{HasGrown}
+use Rattle.dali_traces.specs.Traces.{Point, IsPointStep, Came, Inside, Traced, Start, StartsAt, start_point}
+
+-- ---- the anchor
+abbrev pub IsNextOrNow : ℕ → ℕ → Type 0
+IsNextOrNow n c = (n ≡ c) ⊎ (n ≡ c + 1)
+
+pub record IsAnchored (p : Point) (F : Files) : Type 0 where
+  pub running : p.core.vault.stopped ≡ false → F.gates ≡ p.core.vault.current
+  pub always : IsNextOrNow F.gates p.core.vault.current
+
+abbrev pub AnchorTells : Type 0
+AnchorTells =
+    (s : Start) (D : Files) → StartsAt s D
+    → (xs : List StoreStep) (p : Point) (F : Files) → Traced (start_point s) D xs p F
+    → IsAnchored p F
+
+abbrev pub AnchorTellsInside : Type 0
+AnchorTellsInside =
+    (s : Start) (D : Files) → StartsAt s D
+    → (xs : List StoreStep) (p : Point) (E : Files) → Traced (start_point s) D xs p E
+    → (x : StoreStep) (q : Point) (F : Files) → IsPointStep p x q → Inside p x E F
+    → IsNextOrNow F.gates p.core.vault.current
+
+-- ---- what only grows
+-- besides, the records that were flushed stand as they did
+pub record GoesOn (before : List Record) (p q : Point) : Type 0 where
+  pub grown : HasGrown before p.core q.core
+  pub records : take (stable p.core) q.log ≡ take (stable p.core) p.log
+
+abbrev pub TraceGrows : Type 0
+TraceGrows =
+    (s : Start) (D : Files) → StartsAt s D
+    → (xs ys : List StoreStep) (p q : Point) (E F : Files) → Traced (start_point s) D xs p E → Traced p E ys q F
+    → GoesOn s.log p q
+
+-- ---- inside a step
+-- the fault in a step, where the step calls the store
+abbrev pub fault_of : StoreStep → List ℕ → ℕ → Option StoreStep
+fault_of (Does Flushes) ws n = Some (Does (Faults n))
+fault_of (Does (Faults k)) ws n = Some (Does (Faults n))
+fault_of (Copies r m) ws n = Some (CopyFails r ws n)
+fault_of (CopyFails r us k) ws n = Some (CopyFails r ws n)
+fault_of (WritesHead h) ws n = Some (HeadFails h n)
+fault_of (HeadFails h k) ws n = Some (HeadFails h n)
+fault_of Syncs ws n = Some (SyncFails n)
+fault_of (SyncFails k) ws n = Some (SyncFails n)
+fault_of Turns ws n = Some (TurnFails n)
+fault_of (TurnFails k) ws n = Some (TurnFails n)
+fault_of _ ws n = None
+
+-- what a fault in the step x at p makes of the crash image D
+pub record IsLeftByFault (p : Point) (x : StoreStep) (D F : Files) : Type 0 where
+  pub words : List ℕ
+  pub faults : ℕ
+  pub step : StoreStep
+  pub is_fault : fault_of x words faults ≡ Some step
+  pub behind : Point
+  pub leads : IsPointStep p step behind
+  pub came : Came p step D F
+
+abbrev pub InsideIsFault : Type 0
+InsideIsFault = (p q : Point) (x : StoreStep) (D F : Files) → IsPointStep p x q → Inside p x D F → (F ≡ D) ⊎ IsLeftByFault p x D F
+
+abbrev pub FaultIsInside : Type 0
+FaultIsInside =
+    (p : Point) (x y : StoreStep) (ws : List ℕ) (n : ℕ) (D F : Files) → fault_of x ws n ≡ Some y
+    → Came p y D F
+    → Inside p x D F
+
+abbrev pub QuietInside : Type 0
+QuietInside = (p : Point) (x : StoreStep) (D F : Files) → fault_of x [] 0 ≡ None → Inside p x D F → F ≡ D

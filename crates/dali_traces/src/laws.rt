@@ -1,0 +1,182 @@
+//! Laws over the definitions, each the contract of a function that does nothing.
+
+ghost use Rattle.std.specs.Prelude.{ℕ};
+ghost use Rattle.dali_traces.specs.Traces.{TraceGoesOn, FreshRests, CrashRests, FitsAtLast, EveryTraceIsRight, EveryMomentIsRight, FlushedTraces, AcknowledgedTraces, UnpokedTraceIsRight, CourseIsTraced, EveryCoreTraceIsRight};
+ghost use Rattle.dali_traces.specs.Growth.{AnchorTells, AnchorTellsInside, TraceGrows, InsideIsFault, FaultIsInside, QuietInside};
+ghost use Rattle.dali_traces.specs.Worked.{WorkedTrace};
+ghost use Rattle.dali_traces.specs.Places.{ImageIsRead, WriteIsRead};
+ghost use Rattle.dali_traces.specs.Images.{HeadIsRead, CopyIsRead, HeadGoesOn, QuietIsRead, SyncHolds, HeldGoesOn};
+ghost use Rattle.dali_traces.specs.Disks.{SpellsOne};
+ghost use Rattle.dali_traces.specs.Bridges.{AreRight, HaveOneLog, HaveOneAnchor, StoreStarts, MomentsAreRight, IsRightNow, FlushGoesOn, FaultGoesOn, QuietGoesOn, FlushIsRight, WriteGoesOn, TurnGoesOn, TurnFaultGoesOn, FormatStarts, RestartStarts};
+
+use dali_store::Store;
+
+/// A crash image that came along steps, and one step more.
+pub fn a_trace_goes_on()
+    ensures { TraceGoesOn }
+{}
+
+/// Whatever a course of steps leaves at its end came along its steps from what it left at its start.
+pub fn a_course_is_traced()
+    ensures { CourseIsTraced }
+{}
+
+/// The crash image of a store that was just formatted or restarted fits its log, whose last epoch is empty.
+pub fn a_fresh_store_is_at_rest()
+    ensures { FreshRests }
+{}
+
+/// So does a crash image of a run that restarts right, where its log has no record in its last epoch: a core may be made
+/// over it as it is.
+pub fn a_crash_image_may_be_at_rest()
+    ensures { CrashRests }
+{}
+
+/// Files that fit a history at rest, and behind whose image no record stands or Restarted alone, as a restart leaves them,
+/// fit at its last epoch, but where that Restarted closed an epoch without a record.
+pub fn files_that_a_restart_leaves_fit_at_the_last_epoch()
+    ensures { FitsAtLast }
+{}
+
+/// From any crash image on that fits a history whose last epoch is empty, each crash image that came along any steps
+/// fits its log but for missed regions; and where no damage escapes, a restart from it is right.
+pub fn every_trace_is_right()
+    ensures { EveryTraceIsRight }
+{}
+
+/// So is a restart from what a crash inside a step leaves, with what was acknowledged before the step.
+pub fn every_moment_is_right()
+    ensures { EveryMomentIsRight }
+{}
+
+/// So is one from each that came along the steps of a core alone, whose image files nobody looks at.
+pub fn every_trace_of_a_core_is_right()
+    ensures { EveryCoreTraceIsRight }
+{}
+
+/// What was flushed stands in each crash image that came along the steps, damage or not.
+pub fn what_was_flushed_stands_in_each_trace()
+    ensures { FlushedTraces }
+{}
+
+/// What was acknowledged is committed in it, damage or not.
+pub fn what_was_acknowledged_is_in_each_trace()
+    ensures { AcknowledgedTraces }
+{}
+
+/// Without a stray write a restart from it is right, and deletes nobody of the epoch of these steps.
+pub fn every_trace_without_stray_writes_is_right()
+    ensures { UnpokedTraceIsRight }
+{}
+
+/// The open gates of each crash image are as many as the number of the current image, and one more at most once the
+/// vault has stopped, or inside a step.
+pub fn the_anchor_tells_the_current_image()
+    ensures behind { AnchorTells }
+    ensures inside { AnchorTellsInside }
+{}
+
+/// Along any steps the current number and the flushed records only grow, what was acknowledged stays so, and a vault that
+/// has stopped stays stopped.
+pub fn steps_only_add()
+    ensures { TraceGrows }
+{}
+
+/// Inside a step a crash leaves what it left before, or what a fault in this step leaves; all that a fault leaves may be
+/// left there; and nothing else is left inside a step that calls no store.
+pub fn inside_a_step_stands_what_a_fault_leaves()
+    ensures is_fault { InsideIsFault }
+    ensures faults { FaultIsInside }
+    ensures quiet { QuietInside }
+{}
+
+/// The bytes of the four files spell one crash image at most.
+pub fn a_disk_has_one_reading()
+    ensures { SpellsOne }
+{}
+
+/// Where each disk that a crash may leave of a store spells files that came along steps, each spells files that have the
+/// flushed records, fit their log and restart right; and where the store tells what reads give, this spells such files.
+pub fn what_a_store_leaves_is_right<V: Store>()
+    ensures each { (v : V) → AreRight (V.may_leave v) }
+    ensures some { (v : V) → IsRightNow (V.told v) (V.may_leave v) }
+{}
+
+/// While the vault runs the logs of all these disks are one row of batches, which ends where the vault says, and their
+/// anchors have as many open gates as its current number.
+pub fn what_a_store_leaves_has_one_log<V: Store>()
+    ensures log { (v : V) → HaveOneLog (V.may_leave v) }
+    ensures anchor { (v : V) → HaveOneAnchor (V.may_leave v) }
+{}
+
+/// Where each disk spells files at the start of a run, each spells files that came along no step.
+pub fn a_store_at_rest_starts<V: Store>()
+    ensures { (v : V) → StoreStarts (V.may_leave v) }
+{}
+
+/// They go on to come so behind a flush, behind a fault in one, and behind a step that leaves what may be left as it was.
+pub fn what_a_store_leaves_goes_on<V: Store>()
+    ensures flush { (v w : V) → FlushGoesOn (V.may_leave v) (V.may_leave w) }
+    ensures fault { (v w : V) → FaultGoesOn (V.may_leave v) (V.may_leave w) }
+    ensures quiet { (v w : V) → QuietGoesOn (V.may_leave v) (V.may_leave w) }
+{}
+
+/// Where each disk that a crash at some moment of a call might have left spells files that came along steps and inside one
+/// more, each spells such files.
+pub fn what_a_store_leaves_in_a_call_is_right<V: Store>()
+    ensures { (v : V) (t : ℕ) → MomentsAreRight (V.left_since v t) }
+{}
+
+/// At each moment inside a flush a crash leaves such files.
+pub fn what_a_store_leaves_in_a_flush_is_right<V: Store>()
+    ensures { (v : V) → FlushIsRight (V.may_leave v) }
+{}
+
+/// Each disk that a crash leaves of a store that was just formatted spells files at the start of a run.
+pub fn a_formatted_store_starts<V: Store>()
+    ensures { (v w : V) → FormatStarts (V.may_leave v) (V.may_leave w) }
+{}
+
+/// So it is of a store that was just restarted: the log has the batch of the Restarted, and the anchor names the image
+/// that the restart wrote.
+pub fn a_restarted_store_starts<V: Store>()
+    ensures { (v : V) → RestartStarts (V.may_leave v) }
+{}
+
+/// They go on to come along steps behind a checkpoint's writes to its image file and behind the anchor's move, and behind
+/// faults in these.
+pub fn what_a_store_leaves_goes_on_in_a_checkpoint<V: Store>()
+    ensures write { (v w : V) → WriteGoesOn (V.may_leave v) (V.may_leave w) }
+    ensures turn { (v w : V) → TurnGoesOn (V.may_leave v) (V.may_leave w) }
+    ensures turn_fault { (v w : V) → TurnFaultGoesOn (V.may_leave v) (V.may_leave w) }
+{}
+
+/// The worked checkpoint leaves a crash image that came along its steps: the premises of these laws are met.
+pub fn a_worked_trace()
+    ensures { WorkedTrace }
+{}
+
+/// A file whose header, places and table read so spells an image; a region's words written in its place are read there,
+/// and all else as before; and a header and a table written in their places are read there, and each region as before.
+pub fn images_are_read_by_places()
+    ensures image { ImageIsRead }
+    ensures write { WriteIsRead }
+    ensures head { HeadIsRead }
+{}
+
+/// What reads give of the file of the next image, over a whole checkpoint: behind a copy and behind the head's write it
+/// has the words and the head of the point behind the step; and so it has behind every other step that leaves the file,
+/// up to the anchor's move.
+pub fn the_next_image_is_read_as_the_point_says()
+    ensures copy { CopyIsRead }
+    ensures head { HeadGoesOn }
+    ensures quiet { QuietIsRead }
+{}
+
+/// Behind a sync of that file each disk that a crash may leave holds the head and the words that reads give of it, where
+/// they fit their fields; and it goes on to hold them behind every other step that leaves the file in each disk, up to
+/// the anchor's move.
+pub fn a_synced_image_is_held<V: Store>()
+    ensures sync { (v : V) → SyncHolds (V.may_leave v) }
+    ensures goes_on { (v w : V) → HeldGoesOn (V.may_leave v) (V.may_leave w) }
+{}
