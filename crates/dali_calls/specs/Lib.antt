@@ -1,0 +1,5 @@
+pub mod Steps
+pub mod Changed
+pub mod Plans
+pub mod Fields
+pub mod Followed

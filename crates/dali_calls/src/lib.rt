@@ -1,0 +1,14 @@
+//! The calls of a transaction as plans: the operations of a call, one after another, and its answer.
+#![tactic(auto)]
+
+mod changes;
+pub mod laws;
+mod plan;
+mod stage;
+
+pub use changes::Changes;
+pub use plan::{Phase, Plan};
+pub use stage::Stage;
+
+#[cfg(test)]
+mod tests;

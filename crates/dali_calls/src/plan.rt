@@ -1,0 +1,315 @@
+//! The plan of one call.
+ghost use Rattle.std.specs.Prelude.{◌≡◌, ◌≤◌, ◌+◌, [], ◌++◌, not, ◌==◌, Some, None, Ok, Err, OnOk, OnErr, IfOk, IfErr, IfSome, IsSome, IsSomeAnd, true, false, length};
+ghost use Rattle.dali_record.specs.declared.records.Record.TheVariants.{Forward, Done};
+ghost use Rattle.dali_record.specs.Calls.{follow};
+ghost use Rattle.dali_record.specs.Calls;
+ghost use Rattle.dali_record.specs.Log.{drop_last, undo_added};
+ghost use Rattle.dali_record.specs.Spelling.{IsCall, record_length};
+ghost use Rattle.dali_region.specs.State.{latched, with_reads, touched, taken_back};
+ghost use Rattle.dali_region.specs.Answers.{latch_answer};
+ghost use Rattle.dali_system.specs.State.{row_of};
+ghost use Rattle.dali_system.specs.Steps.{op_logged, back_logged, done_logged};
+ghost use Rattle.dali_system.specs.Keeps.{HasRoom};
+ghost use Rattle.dali_system.specs.Regions.{IsOpen};
+ghost use Rattle.dali_core.specs.Refused.{refusal, stop_refusal};
+ghost use Rattle.dali_core.specs.UnderWay.{IsUnderWay};
+ghost use Rattle.dali_core.specs.declared.error.SystemError.TheVariants.{OutOfMemory as Memory};
+ghost use Rattle.dali_core.specs.declared.want.Want.TheVariants.{Done as AnswerIsNext};
+ghost use Rattle.dali_calls.specs.declared.stage.Stage.TheVariants.{Fresh};
+ghost use Rattle.dali_calls.specs.declared.plan.Phase.TheVariants.{Calling, Refused, Answered};
+ghost use Rattle.dali_calls.specs.Steps.{call_key, progress_of, answer_of, IsBlockOf};
+ghost use Rattle.dali_calls.specs.Plans.{Planned, plan_next, want_of, with_operation, refused, answered, went_back, commit_refusal, GoesOn, IsWhole};
+ghost use Rattle.dali_calls.specs.Plans;
+
+use crate::changes::Changes;
+use crate::stage::{Stage, key_of};
+use dali_core::{Operation, System, SystemError, Want};
+use dali_geometry::Geometry;
+use dali_record::{Answer, Block, Call, Op, Pending, undo_op};
+use dali_region::{LatchError, Receipt, Region};
+use std::marker::Model;
+
+/// Where a plan stands.
+#[derive(Clone, Copy, Debug, PartialEq, Eq)]
+pub enum Phase {
+    /// It makes the operations of its call.
+    Calling,
+    /// It was refused, and takes back what it changed.
+    Refused,
+    /// Its answer is logged.
+    Answered,
+}
+
+/// The operations of one call of a transaction, made one after another, and its answer.
+///
+/// A step is `wants`, then on the region that it names `latch`, `update` until it answers false, and `commit`. An answer that says that
+/// nothing fits, or that something odd was found, comes after the call's own changes were taken back; so does the end of a plan that was
+/// refused. A plan takes no memory; the system does at `commit` and `done`.
+#[derive(Drop)]
+pub struct Plan {
+    geometry: Geometry,
+    txn: u64,
+    call: Call,
+    stage: Stage,
+    phase: Phase,
+    changes: Changes,
+    operation: Option<Operation>,
+}
+
+impl Model for Plan {
+    ghost use Rattle.dali_calls.specs.Plans.{Planned};
+    ghost use Rattle.dali_calls.specs.Fields.{planned_of, IsWholeInside};
+
+    ghost Value = { Planned };
+
+    ghost view = { planned_of };
+
+    ghost invariant = { IsWholeInside };
+}
+
+// Whether the changes of a call are taken back before this answer.
+fn takes_back(answer: &Answer) -> bool
+    ensures { result ≡ Calls.takes_back answer.now }
+{
+    matches!(
+        answer,
+        Answer::FullHeap | Answer::FullIndex | Answer::Odd { .. }
+    )
+}
+
+// Notes what takes the block back, where it changed something.
+fn note_change(changes: &mut Changes, block: &Block)
+    requires room { length changes.old + length (undo_added block.now block.now.undo) ≤ 2 }
+    ensures { changes.new ≡ changes.old ++ undo_added block.now block.now.undo }
+{
+    if let Some(undo) = block.undo {
+        changes.push(Pending {
+            key: block.key,
+            region: block.region,
+            undo,
+        });
+    }
+}
+
+impl Plan {
+    /// The plan of a call that has made no operation.
+    pub fn new(geometry: Geometry, txn: u64, call: Call) -> Self
+        requires { IsCall call }
+        ensures { result ≡ record { geometry = geometry; txn = txn; call = call; stage = Fresh; phase = Calling; changes = []; operation = None } }
+    {
+        let _in_range = geometry.index();
+        Plan {
+            geometry,
+            txn,
+            call,
+            stage: Stage::Fresh,
+            phase: Phase::Calling,
+            changes: Changes::new(),
+            operation: None,
+        }
+    }
+
+    // Whether it takes back.
+    fn is_back(&self) -> bool
+        ensures { result ≡ Plans.is_back self.now }
+    {
+        match self.phase {
+            Phase::Calling => match self.stage.answer(&self.geometry, &self.call) {
+                Some(answer) => takes_back(&answer) && !self.changes.is_empty(),
+                None => false,
+            },
+            Phase::Refused => true,
+            Phase::Answered => false,
+        }
+    }
+
+    // The next operation and its region.
+    fn next(&self) -> Option<(u32, Op)>
+        ensures { result ≡ plan_next self.now }
+    {
+        if self.is_back() {
+            let last = self.changes.last()?;
+            return Some((last.region, undo_op(&last.undo)));
+        }
+        match self.phase {
+            Phase::Answered => None,
+            _ => self.stage.next(&self.geometry, self.txn, &self.call),
+        }
+    }
+
+    /// What the plan needs next.
+    pub fn wants(&self) -> Want
+        ensures wants { result ≡ want_of self.now }
+        ensures whole { IsWhole self.now }
+    {
+        match self.next() {
+            Some((region, _)) => Want::Region { region },
+            None => match self.phase {
+                Phase::Calling => Want::Done,
+                _ => Want::Nothing,
+            },
+        }
+    }
+
+    /// Latches the region that is wanted, and makes the block of the next operation. Refused exactly as the latch; plan and region are
+    /// then as before.
+    pub fn latch(&mut self, region: &mut Region, precheck: bool) -> Result<(), LatchError>
+        requires wants { IsSome (plan_next self.old) }
+        requires closed { self.old.operation ≡ None }
+        ensures answer { result ≡ latch_answer precheck region.old }
+        ensures refused { OnErr result ((self.new ≡ self.old) × (region.new ≡ region.old)) }
+        ensures made { OnOk result (IsSomeAnd self.new.operation (λ o. IsBlockOf (plan_next self.old) (call_key self.old.call) o.block
+            × IsUnderWay self.old.txn o.block o.left o.taken region.new × (region.new ≡ with_reads o.block.read (latched self.old.txn region.old)))) }
+        ensures same { self.new ≡ with_operation self.old self.new.operation }
+    {
+        let Some((number, op)) = self.next() else {
+            unreachable!()
+        };
+        let operation = Operation::start(
+            region,
+            number,
+            self.txn,
+            key_of(&self.call),
+            op,
+            precheck,
+        )?;
+        self.operation = Some(operation);
+        Ok(())
+    }
+
+    /// Writes the next word of the open operation; false exactly where none is left.
+    pub fn update(&mut self, region: &mut Region) -> bool
+        requires under_way { IsSomeAnd self.old.operation (λ o. IsUnderWay o.txn o.block o.left o.taken region.old) }
+        ensures under_way { IsSomeAnd self.new.operation (λ o. IsUnderWay o.txn o.block o.left o.taken region.new) }
+        ensures same { IfSome self.old.operation (λ o. IsSomeAnd self.new.operation (λ p. (p.txn ≡ o.txn) × (p.block ≡ o.block))) }
+        ensures some { IfSome self.old.operation (λ o. result ≡ not (o.left == 0)) }
+        ensures none { result ≡ false → (region.new ≡ region.old) × (self.new ≡ self.old) × IsSomeAnd self.new.operation (λ o. IsOpen region.new o.txn o.block) }
+        ensures rest { self.new ≡ with_operation self.old self.new.operation }
+    {
+        let Some(operation) = &mut self.operation else {
+            unreachable!()
+        };
+        operation.update(region)
+    }
+
+    // The open operation goes on with the call.
+    fn commit_onward(
+        &mut self,
+        region: &mut Region,
+        system: &mut System,
+    ) -> Result<Receipt, SystemError>
+        requires way { Plans.is_back self.old ≡ false }
+        requires written { IsSomeAnd self.old.operation (λ o. IsOpen region.old o.txn o.block) }
+        requires running { IsSome (row_of system.old self.old.txn) }
+        ensures ok { OnOk result (IfSome self.old.operation (λ o. (system.new ≡ op_logged system.old self.old.txn o.block) × (region.new ≡ touched region.old) × GoesOn self.old o.block self.new)) }
+        ensures number { IfOk result (λ receipt. receipt.number ≡ system.old.records) }
+        ensures room { OnOk result (IfSome self.old.operation (λ o. HasRoom system.old (Forward self.old.txn o.block))) }
+        ensures err { OnErr result ((system.new ≡ system.old) × (region.new ≡ taken_back region.old) × (self.new ≡ with_operation self.old None)) }
+        ensures refused { IfSome self.old.operation (λ o. IfSome (refusal system.old (record_length (Forward self.old.txn o.block))) (λ e. result ≡ Err e)) }
+        ensures memory { IfSome self.old.operation (λ o. refusal system.old (record_length (Forward self.old.txn o.block)) ≡ None → IfErr result (λ e. e ≡ Memory)) }
+    {
+        let Some(operation) = &self.operation else {
+            unreachable!()
+        };
+        let block = operation.block();
+        match system.commit_op(region, self.txn, block) {
+            Ok(receipt) => {
+                note_change(&mut self.changes, block);
+                self.stage = self
+                    .stage
+                    .after(&self.geometry, self.txn, &self.call, block);
+                self.operation = None;
+                Ok(receipt)
+            }
+            Err(error) => {
+                self.operation = None;
+                region.take_back();
+                Err(error)
+            }
+        }
+    }
+
+    // The open operation takes back the last change.
+    fn commit_back(
+        &mut self,
+        region: &mut Region,
+        system: &mut System,
+    ) -> Result<Receipt, SystemError>
+        requires way { Plans.is_back self.old ≡ true }
+        requires written { IsSomeAnd self.old.operation (λ o. IsOpen region.old o.txn o.block) }
+        ensures ok { OnOk result (IfSome self.old.operation (λ o. (system.new ≡ back_logged system.old self.old.txn o.block) × (region.new ≡ touched region.old) × (self.new ≡ went_back self.old))) }
+        ensures number { IfOk result (λ receipt. receipt.number ≡ system.old.records) }
+        ensures runs { OnOk result (system.old.stop ≡ None) }
+        ensures err { OnErr result ((system.new ≡ system.old) × (region.new ≡ taken_back region.old) × (self.new ≡ with_operation self.old None)) }
+        ensures refused { IfSome (stop_refusal system.old) (λ e. result ≡ Err e) }
+        ensures memory { stop_refusal system.old ≡ None → IfErr result (λ e. e ≡ Memory) }
+    {
+        let Some(operation) = &self.operation else {
+            unreachable!()
+        };
+        match system.back_op(region, self.txn, operation.block()) {
+            Ok(receipt) => {
+                self.changes.pop();
+                self.operation = None;
+                Ok(receipt)
+            }
+            Err(error) => {
+                self.operation = None;
+                region.take_back();
+                Err(error)
+            }
+        }
+    }
+
+    /// Logs the block of the open operation, all of whose words are written. Where that is refused the operation is taken back, and the
+    /// plan wants the region again; it may be refused.
+    pub fn commit(
+        &mut self,
+        region: &mut Region,
+        system: &mut System,
+    ) -> Result<Receipt, SystemError>
+        requires written { IsSomeAnd self.old.operation (λ o. IsOpen region.old o.txn o.block) }
+        requires running { IsSome (row_of system.old self.old.txn) }
+        ensures onward { Plans.is_back self.old ≡ false → OnOk result (IfSome self.old.operation (λ o. (system.new ≡ op_logged system.old self.old.txn o.block) × HasRoom system.old (Forward self.old.txn o.block) × GoesOn self.old o.block self.new)) }
+        ensures back { Plans.is_back self.old ≡ true → OnOk result (IfSome self.old.operation (λ o. (system.new ≡ back_logged system.old self.old.txn o.block) × (system.old.stop ≡ None) × (self.new ≡ went_back self.old))) }
+        ensures ok { OnOk result (region.new ≡ touched region.old) }
+        ensures number { IfOk result (λ receipt. receipt.number ≡ system.old.records) }
+        ensures err { OnErr result ((system.new ≡ system.old) × (region.new ≡ taken_back region.old) × (self.new ≡ with_operation self.old None)) }
+        ensures refused { IfSome self.old.operation (λ o. IfSome (commit_refusal (Plans.is_back self.old) system.old (record_length (Forward self.old.txn o.block))) (λ e. result ≡ Err e)) }
+        ensures memory { IfSome self.old.operation (λ o. commit_refusal (Plans.is_back self.old) system.old (record_length (Forward self.old.txn o.block)) ≡ None → IfErr result (λ e. e ≡ Memory)) }
+    {
+        if self.is_back() {
+            return self.commit_back(region, system);
+        }
+        self.commit_onward(region, system)
+    }
+
+    /// Turns to taking back what the call has changed. No operation is open then.
+    pub fn refuse(&mut self)
+        requires closed { self.old.operation ≡ None }
+        requires before { Plans.is_answered self.old.phase ≡ false }
+        ensures { self.new ≡ refused self.old }
+    {
+        self.phase = Phase::Refused;
+    }
+
+    /// Logs the call's answer.
+    pub fn done(&mut self, system: &mut System) -> Result<(Answer, Receipt), SystemError>
+        requires wants { want_of self.old ≡ AnswerIsNext }
+        ensures ok { IfOk result (λ given. (answer_of self.old.geometry self.old.call self.old.stage ≡ Some given.0)
+            × (system.new ≡ done_logged system.old self.old.txn self.old.call given.0)) }
+        ensures answered { OnOk result (self.new ≡ answered self.old) }
+        ensures number { IfOk result (λ given. given.1.number ≡ system.old.records) }
+        ensures room { IfOk result (λ given. HasRoom system.old (Done self.old.txn self.old.call given.0)) }
+        ensures err { OnErr result ((system.new ≡ system.old) × (self.new ≡ self.old)) }
+        ensures refused { IfSome (answer_of self.old.geometry self.old.call self.old.stage) (λ a. IfSome (refusal system.old (record_length (Done self.old.txn self.old.call a))) (λ e. result ≡ Err e)) }
+        ensures memory { IfSome (answer_of self.old.geometry self.old.call self.old.stage) (λ a. refusal system.old (record_length (Done self.old.txn self.old.call a)) ≡ None → IfErr result (λ e. e ≡ Memory)) }
+    {
+        let Some(answer) = self.stage.answer(&self.geometry, &self.call) else {
+            unreachable!()
+        };
+        let receipt = system.done(self.txn, &self.call, &answer)?;
+        self.phase = Phase::Answered;
+        Ok((answer, receipt))
+    }
+}

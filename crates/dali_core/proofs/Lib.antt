@@ -1,0 +1,6 @@
+pub mod UnderWays
+pub mod Lowest
+pub mod Journals
+pub mod Rows
+pub mod Systems
+pub mod Guards

@@ -1,0 +1,30 @@
+use Rattle.std.proofs.Common.{arith, ◌+◌}
+use Rattle.dali_core.proofs.Journals.{push_spelled, small_of, kept_same, kept_push, view_same, view_push, few, on_err}
+use Rattle.dali_core.proofs.journal.Journal.push.Goals as goal
+
+pub invariant_of-self : goal.invariant_of-self
+invariant_of-self c =
+    kept_same c.self.inside.bytes.items c.write.new.bytes.items c.self.inside.spelled c.in_err-write.self-1-own.given.0 c.self.inside.frame c.write.new.frame c.self.inside.count c.self.inside.taken c.in_err-write.ensures.err.0 c.in_err-write.ensures.err.1 c.self.invariant
+
+pub returns-in_err-write-clause-err : goal.returns-in_err-write-clause-err
+returns-in_err-write-clause-err c = on_err c.from_residual.result _ (view_same c.self.inside.bytes.items c.write.new.bytes.items c.self.inside.spelled c.in_err-write.self-1-own.given.0 c.self.inside.taken c.args.self.now c.in_err-write.ensures.err.0 c.self.view_is)
+
+pub returns-in_err-write-clause-small : goal.returns-in_err-write-clause-small
+returns-in_err-write-clause-small c = small_of _ c.write.new.frame c.self.inside.count c.self.inside.taken (invariant_of-self c)
+
+pub overflow_add-self : goal.overflow_add-self
+overflow_add-self c = omega (arith, c.self.invariant.counts, c.self.invariant.small, few c.self.inside.spelled.0)
+
+pub invariant_of-self-inside-2 : goal.invariant_of-self-inside-2
+invariant_of-self-inside-2 c = (push_spelled c.self.inside.bytes.items c.write.new.bytes.items (c.args.rec.now) c.self.inside.spelled c.requires c.in_ok-write.ensures.ok.0, tt)
+
+pub invariant_of-self-2 : goal.invariant_of-self-2
+invariant_of-self-2 c =
+    kept_push c.self.inside.bytes.items c.write.new.bytes.items (c.args.rec.now) c.self.inside.spelled c.self-2-1.given.0 c.self.inside.frame c.write.new.frame c.self.inside.count c.self.inside.taken
+    c.requires c.in_ok-write.ensures.ok.0 c.in_ok-write.ensures.ok.1 c.in_ok-write.ensures.ok.2 c.self.invariant
+
+pub returns-clause-ok : goal.returns-clause-ok
+returns-clause-ok c = view_push c.self.inside.bytes.items c.write.new.bytes.items (c.args.rec.now) c.self.inside.spelled c.self-2-1.given.0 c.self.inside.taken c.args.self.now c.requires c.in_ok-write.ensures.ok.0 c.self.view_is
+
+pub returns-clause-small : goal.returns-clause-small
+returns-clause-small c = small_of _ c.write.new.frame (c.self.inside.count + 1) c.self.inside.taken (invariant_of-self-2 c)

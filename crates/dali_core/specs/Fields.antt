@@ -1,0 +1,28 @@
+-- The system's fields, and what is true of them.
+use Rattle.std.specs.Prelude.{◌+◌, ◌<◌, ◌^◌, length}
+use Rattle.dali_batch.specs.Log.{body_bytes}
+use Rattle.dali_system.specs.State.{SystemState}
+use Rattle.dali_core.specs.declared.system.System.TheInside.{Inside}
+
+abbrev pub state_of : Inside → SystemState
+state_of s = record {
+  sizes = s.geometry;
+  first = s.first;
+  since = s.journal.since;
+  taken = s.journal.taken;
+  table = s.table;
+  locks = s.locks;
+  refusals = s.refusals.items;
+  records = s.first + length s.journal.since;
+  end = s.end;
+  next = s.next;
+  limit = s.limit;
+  stop = s.stop;
+  checking = s.checking;
+}
+
+-- no count comes near its type's end: each record has a byte, and the bytes are at most 2^62
+pub record IsBounded (s : Inside) : Type 0 where
+  pub first : s.first < 2 ^ 63
+  pub end : s.end < 2 ^ 63 + length (body_bytes s.journal.since) + 1
+  pub next : s.next < 2 ^ 63 + length s.journal.since + 1

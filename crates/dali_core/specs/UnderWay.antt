@@ -1,0 +1,24 @@
+-- An operation between its latch and its record.
+--     IsUnderWay txn b left taken g    the hold of g is the operation of this transaction with the block b, of which the words in the set
+--                              `left` are still to be written, and the first `taken` new words are written
+-- What is left, written over the words as they stand, gives the words behind the operation: so the last update leaves an open operation.
+use Rattle.std.specs.Prelude.{◌≡◌, ℕ, ◌+◌, ◌<◌, ◌^◌, true, false, not, ◌==◌, Some, length, drop, bit_and, bit_or, count_ones}
+use Rattle.dali_words.specs.Words.{write_under}
+use Rattle.dali_record.specs.declared.operations.Block.{Block}
+use Rattle.dali_record.specs.Blocks.{IsSoundOn, rewritten}
+use Rattle.dali_region.specs.State.{RegionState}
+
+pub record IsUnderWay (txn : ℕ) (b : Block) (left taken : ℕ) (g : RegionState) : Type 0 where
+  -- the words that are written
+  pub written : ℕ
+  pub hold : g.hold ≡ Some (record { txn = txn; dead = false; read = b.read; xor = b.xor; write = written })
+  pub parts : bit_or written left ≡ b.write
+  pub within : bit_and left b.read ≡ left
+  pub fits : left < 2 ^ 64
+  pub size : length g.words ≡ 64
+  pub count : taken + count_ones left ≡ length b.after
+  -- every operation reads some word
+  pub reads : not (b.read == 0) ≡ true
+  -- where no stray write came
+  pub sound : g.poked ≡ false → IsSoundOn g.back b
+  pub stands : g.poked ≡ false → write_under left (drop taken b.after) g.words ≡ rewritten b g.back

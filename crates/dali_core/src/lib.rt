@@ -1,0 +1,18 @@
+//! The system: the log, the transaction table and the locks, and the calls that log a record.
+#![tactic(auto)]
+
+mod error;
+mod journal;
+mod operation;
+mod system;
+mod undos;
+mod want;
+
+pub use error::{NotDead, SystemError};
+pub use journal::Journal;
+pub use operation::Operation;
+pub use system::System;
+pub use want::Want;
+
+#[cfg(test)]
+mod tests;
