@@ -8,8 +8,10 @@
 --     Ends bytes p bodies e    read from place p, the file has these batches and then ends at e: a closed gate stands there
 --     frame_of body        what is written behind the gate of a new batch: the batch and the next closed gate
 --     body_of frame, IsFrame frame      and back
-use Rattle.std.specs.Prelude.{◌<◌, ◌≡◌, ◌≢◌, ◌⊎◌, ℕ, ◌+◌, ◌-◌, ◌≤◌, ◌^◌, List, [], ◌∷◌, ◌++◌, length, take, drop, slice_index, flat_map}
+--     Framed               what contracts see of a frame: its bytes, of how many records they are, and for how many bytes more it has memory
+use Rattle.std.specs.Prelude.{◌<◌, ◌≡◌, ◌≢◌, ◌⊎◌, ℕ, ◌+◌, ◌-◌, ◌≤◌, ◌^◌, List, [], ◌∷◌, ◌++◌, length, take, drop, slice_index, flat_map, refl}
 use Rattle.std.specs.List.{AllByRecursion}
+use Rattle.std.specs.Coded.{Coded, code_by, coded×, coded_ℕ, coded_list}
 use Rattle.dali_bytes.specs.Fields.{number32}
 
 abbrev pub open_gate : ℕ
@@ -55,3 +57,13 @@ body_of frame = take (length frame - 5) (drop 4 frame)
 pub record IsFrame (frame : List ℕ) : Type 0 where
   pub whole : frame ≡ frame_of (body_of frame)
   pub room : length (body_of frame) ≤ 2 ^ 30
+
+pub record Framed : Type 0 where
+  pub body : List ℕ
+  pub records : ℕ
+  pub room : ℕ
+
+abbrev pub framed_code : Coded Framed
+framed_code =
+    code_by (List ℕ × (ℕ × ℕ)) (coded× (coded_list coded_ℕ) (coded× coded_ℕ coded_ℕ)) (λ f. (f.body, (f.records, f.room))) (λ p. record { body = p.0; records = p.1.0; room = p.1.1 })
+    (λ _. refl)

@@ -1,5 +1,6 @@
 //! The first batch of a log.
 ghost use Rattle.std.specs.Prelude.{◌≡◌, ◌<◌, ◌≤◌, true, false, [], ◌∷◌, length, IfOk, OnOk, IfSome, is_some};
+ghost use Rattle.dali_store.specs.Calls.{fewer, PassesFewer};
 ghost use Rattle.dali_store.specs.Faults.{HasCause};
 ghost use Rattle.dali_store.specs.Store.{Files, LeavesOnly};
 ghost use Rattle.dali_batch.specs.Batch.{IsClosedAt, IsUnformatted};
@@ -20,6 +21,8 @@ pub fn is_formatted<V: Store>(store: &mut V) -> Result<bool, StoreFault>
     ensures synced { OnOk result (IfSome (V.told store.old) (λ fs. (c : Files) → V.may_leave store.new c → c.log ≡ fs.log)) }
     ensures reads { OnlyReads V.told V.moment V.left_since V.may_leave store.old store.new }
     ensures cause { HasCause (V.faults store.old) (V.faults store.new) result }
+    ensures calls { OnOk result (V.lets_pass store.new ≡ fewer 3 (V.lets_pass store.old)) }
+    ensures passes { PassesFewer (V.lets_pass store.old) (V.lets_pass store.new) }
 {
     store.sync(FileName::Log)?;
     let length = store.length(FileName::Log)?;
@@ -35,6 +38,7 @@ fn close_log<V: Store>(store: &mut V) -> Result<(), StoreFault>
     ensures any_moment { IfSome (V.told store.old) (λ _. LeavesOnly V.moment V.left_since store.old store.new (CloseLeaves (V.may_leave store.old))) }
     ensures closed { OnOk result (IfSome (V.told store.old) (λ _. (c : Files) → V.may_leave store.new c → IsClosedAt 0 c.log)) }
     ensures cause { HasCause (V.faults store.old) (V.faults store.new) result }
+    ensures passes { PassesFewer (V.lets_pass store.old) (V.lets_pass store.new) }
 {
     if store.length(FileName::Log)? >= 2 {
         return store.sync(FileName::Log);
@@ -50,6 +54,7 @@ fn close_gates<V: Store>(store: &mut V) -> Result<(), StoreFault>
     ensures any_moment { IfSome (V.told store.old) (λ _. LeavesOnly V.moment V.left_since store.old store.new (CloseLeaves (V.may_leave store.old))) }
     ensures closed { OnOk result (IfSome (V.told store.old) (λ _. (c : Files) → V.may_leave store.new c → AreClosed c)) }
     ensures cause { HasCause (V.faults store.old) (V.faults store.new) result }
+    ensures passes { PassesFewer (V.lets_pass store.old) (V.lets_pass store.new) }
 {
     close_log(store)?;
     store.write_at(FileName::Anchor, 0, &[CLOSED])?;
@@ -62,18 +67,19 @@ fn close_gates<V: Store>(store: &mut V) -> Result<(), StoreFault>
 /// any moment leaves a log without batches, or the first batch; after Ok it leaves the batch. After a fault either may be
 /// so. It takes no memory beyond the store's own.
 pub fn format<V: Store>(store: &mut V, frame: &Frame) -> Result<u64, StoreFault>
-    requires filled { 0 < length frame.now }
+    requires filled { 0 < length frame.now.body }
     requires unformatted { IfSome (V.told store.old) (λ _. (c : Files) → V.may_leave store.old c → IsUnformatted c.log) }
 
-    ensures next { IfOk result (λ next. next ≡ next_place 0 (frame.now ∷ [])) }
+    ensures next { IfOk result (λ next. next ≡ next_place 0 (frame.now.body ∷ [])) }
     ensures tells { is_some (V.told store.new) ≡ is_some (V.told store.old) }
     // A crash at any moment of the call leaves no batch, or the first one.
     ensures any_moment { IfSome (V.told store.old) (λ _. LeavesOnly V.moment V.left_since store.old store.new
-        (FormatLeaves (V.may_leave store.old) frame.now)) }
+        (FormatLeaves (V.may_leave store.old) frame.now.body)) }
     // After Ok each crash leaves it.
     ensures acknowledged { OnOk result (IfSome (V.told store.old) (λ _. (c : Files) → V.may_leave store.new c →
-        IsFormattedBy (V.may_leave store.old) frame.now c)) }
+        IsFormattedBy (V.may_leave store.old) frame.now.body c)) }
     ensures cause { HasCause (V.faults store.old) (V.faults store.new) result }
+    ensures passes { PassesFewer (V.lets_pass store.old) (V.lets_pass store.new) }
 {
     close_gates(store)?;
     append(store, 0, frame)

@@ -1,5 +1,6 @@
 //! A batch that is being put together.
-ghost use Rattle.std.specs.Prelude.{◌≡◌, ◌≤◌, ◌<◌, ◌+◌, ◌^◌, ℕ, List, [], ◌∷◌, ◌++◌, length, IfOk, OnOk, OnErr, IsTrue, ◌↔◌};
+ghost use Rattle.std.specs.Prelude.{◌≡◌, ◌≤◌, ◌<◌, ◌+◌, ◌^◌, ℕ, List, [], ◌∷◌, ◌++◌, length, IfOk, IsOk, OnOk, OnErr, IsTrue, ◌↔◌};
+ghost use Rattle.dali_store.specs.Faults.{one_more};
 ghost use Rattle.dali_batch.specs.Batch.{closed_gate, frame_of};
 
 use crate::CLOSED;
@@ -12,19 +13,23 @@ use std::marker::Model;
 const BESIDE: usize = 5;
 
 /// The records of a batch, ready to be written with their length and the next closed gate. Contracts see the bytes
-/// of the records. A frame without records is empty.
+/// of the records, how many records they are, and for how many bytes more there is memory. A frame without records is
+/// empty.
 #[derive(Drop)]
 pub struct Frame {
     bytes: Vec<u8>,
+    records: u64,
 }
 
 impl Model for Frame {
-    ghost use Rattle.std.specs.Prelude.{List, ℕ};
-    ghost use Rattle.dali_batch.specs.Batch.{body_of, IsFrame};
+    ghost use Rattle.std.specs.Prelude.{◌-◌, vec_len, vec_capacity};
+    ghost use Rattle.dali_batch.specs.Batch.{Framed, framed_code, body_of, IsFrame};
 
-    ghost Value = { List ℕ };
+    ghost Value = { Framed };
 
-    ghost view = { λ f. body_of f.bytes.items };
+    ghost coded = { framed_code };
+
+    ghost view = { λ f. record { body = body_of f.bytes.items; records = f.records; room = vec_capacity f.bytes - vec_len f.bytes } };
 
     ghost invariant = { λ f. IsFrame f.bytes.items };
 }
@@ -52,51 +57,73 @@ fn settle(bytes: &mut [u8], gate: usize)
 impl Frame {
     /// An empty frame. It takes memory for its length and gate.
     pub fn new(alloc: Global) -> Result<Self, OutOfMemory>
-        ensures { IfOk result (λ frame. frame ≡ []) }
+        ensures { IfOk result (λ frame. (frame.body ≡ []) × (frame.records ≡ 0)) }
     {
         let bytes = vec![in alloc; CLOSED; BESIDE]?;
-        Ok(Frame { bytes })
+        Ok(Frame { bytes, records: 0 })
     }
 
-    /// Adds bytes behind those that are there. It takes memory for them; unchanged where that is refused.
+    /// Takes memory for so many bytes more. Where there is room for them it takes none.
+    pub fn reserve(&mut self, more: usize) -> Result<(), OutOfMemory>
+        ensures ok { OnOk result (more ≤ self.new.room) }
+        ensures room { more ≤ self.old.room → IsOk result }
+        ensures same { (self.new.body ≡ self.old.body) × (self.new.records ≡ self.old.records) × (self.old.room ≤ self.new.room) }
+    {
+        self.bytes.reserve(more)?;
+        Ok(())
+    }
+
+    /// Adds the bytes of a record behind those that are there. Where there is no room for them it takes memory;
+    /// unchanged where that is refused.
     pub fn add(&mut self, bytes: &[u8]) -> Result<(), OutOfMemory>
-        requires { length self.old + length bytes.now ≤ 2 ^ 30 }
-        ensures ok { OnOk result (self.new ≡ self.old ++ bytes.now) }
-        ensures err { OnErr result (self.new ≡ self.old) }
+        requires { length self.old.body + length bytes.now ≤ 2 ^ 30 }
+        ensures ok { OnOk result ((self.new.body ≡ self.old.body ++ bytes.now) × (self.old.room ≤ self.new.room + length bytes.now)) }
+        ensures records { OnOk result (self.new.records ≡ one_more self.old.records) }
+        ensures room { length bytes.now ≤ self.old.room → IsOk result }
+        ensures err { OnErr result ((self.new.body ≡ self.old.body) × (self.new.records ≡ self.old.records) × (self.old.room ≤ self.new.room)) }
     {
         let gate = self.bytes.len() - 1;
         self.bytes.extend_from_slice(bytes)?;
         settle(&mut self.bytes, gate);
+        self.records = self.records.saturating_add(1);
         Ok(())
     }
 
     /// How many bytes the records have, at most 2^30.
     pub fn len(&self) -> usize
-        ensures len { result ≡ length self.now }
+        ensures len { result ≡ length self.now.body }
         ensures most { result ≤ 2 ^ 30 }
     {
         self.bytes.len() - BESIDE
     }
 
+    /// How many records were added. The count stands still at its type's end.
+    pub fn records(&self) -> u64
+        ensures { result ≡ self.now.records }
+    {
+        self.records
+    }
+
     /// Whether there are no records.
     pub fn is_empty(&self) -> bool
-        ensures { IsTrue result ↔ (length self.now ≡ 0) }
+        ensures { IsTrue result ↔ (length self.now.body ≡ 0) }
     {
         self.len() == 0
     }
 
     /// Takes the records out, and keeps the memory for others.
     pub fn clear(&mut self)
-        ensures { self.new ≡ [] }
+        ensures { self.new ≡ record { body = []; records = 0; room = self.old.room + length self.old.body } }
     {
         self.bytes.truncate(BESIDE);
         self.bytes.fill(CLOSED);
+        self.records = 0;
     }
 
     /// The length of the records, the records, and the next closed gate.
     pub(crate) fn whole(&self) -> &[u8]
-        ensures whole { result.now ≡ frame_of self.now }
-        ensures most { length self.now ≤ 2 ^ 30 }
+        ensures whole { result.now ≡ frame_of self.now.body }
+        ensures most { length self.now.body ≤ 2 ^ 30 }
     {
         &self.bytes
     }

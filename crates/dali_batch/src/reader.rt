@@ -1,5 +1,6 @@
 //! The log, record by record.
 ghost use Rattle.std.specs.Prelude.{◌≡◌, ◌≤◌, ◌<◌, ◌+◌, ◌-◌, ◌^◌, ◌++◌, ◌⊎◌, [], ◌∷◌, ℕ, true, false, Bool, List, length, take, drop, IfOk, OnOk, IfErr, IsErrOf, IfSome, IsNone, IsSome};
+ghost use Rattle.dali_store.specs.Calls.{PassesFewer};
 ghost use Rattle.dali_store.specs.Faults.{Rose};
 ghost use Rattle.dali_record.specs.declared.records.Record.{Record};
 ghost use Rattle.dali_record.specs.Spelling.{CanBeSpelled, Begins, spelling};
@@ -94,6 +95,7 @@ impl LogReader {
         ensures later { V.faults store.old ≤ V.faults store.new }
         ensures fault { IsErrOf result BatchError.Fault → Rose (V.faults store.old) (V.faults store.new) }
         ensures kept { (IsErrOf result BatchError.Fault → ⊥) → V.faults store.new ≡ V.faults store.old }
+        ensures passes { PassesFewer (V.lets_pass store.old) (V.lets_pass store.new) }
     {
         let count = (self.length - at).min(AHEAD.max(size as u64));
         let mut bytes = vec![in self.alloc; 0; count as usize]?;
@@ -118,6 +120,7 @@ impl LogReader {
         ensures later { V.faults store.old ≤ V.faults store.new }
         ensures fault { IsErrOf result BatchError.Fault → Rose (V.faults store.old) (V.faults store.new) }
         ensures kept { (IsErrOf result BatchError.Fault → ⊥) → V.faults store.new ≡ V.faults store.old }
+        ensures passes { PassesFewer (V.lets_pass store.old) (V.lets_pass store.new) }
     {
         if self.length < at || self.length - at < size as u64 {
             return Ok(false);
@@ -153,6 +156,7 @@ impl LogReader {
         ensures later { V.faults store.old ≤ V.faults store.new }
         ensures fault { IsErrOf result BatchError.Fault → Rose (V.faults store.old) (V.faults store.new) }
         ensures kept { (IsErrOf result BatchError.Fault → ⊥) → V.faults store.new ≡ V.faults store.old }
+        ensures passes { PassesFewer (V.lets_pass store.old) (V.lets_pass store.new) }
     {
         if !self.need(store, at, 1)? {
             return Err(BatchError::BadLog { at });
@@ -187,6 +191,7 @@ impl LogReader {
         ensures later { V.faults store.old ≤ V.faults store.new }
         ensures fault { IsErrOf result LogError.Fault → Rose (V.faults store.old) (V.faults store.new) }
         ensures kept { (IsErrOf result LogError.Fault → ⊥) → V.faults store.new ≡ V.faults store.old }
+        ensures passes { PassesFewer (V.lets_pass store.old) (V.lets_pass store.new) }
     {
         let length = store.length(FileName::Log)?;
         if length < 2 {
@@ -226,6 +231,7 @@ impl LogReader {
         ensures later { V.faults store.old ≤ V.faults store.new }
         ensures fault { IsErrOf result LogError.Fault → Rose (V.faults store.old) (V.faults store.new) }
         ensures kept { (IsErrOf result LogError.Fault → ⊥) → V.faults store.new ≡ V.faults store.old }
+        ensures passes { PassesFewer (V.lets_pass store.old) (V.lets_pass store.new) }
     {
         let place = self.end;
         let Some(size) = self.batch_at(store, place)? else {
@@ -276,6 +282,7 @@ impl LogReader {
         ensures later { V.faults store.old ≤ V.faults store.new }
         ensures fault { IsErrOf result LogError.Fault → Rose (V.faults store.old) (V.faults store.new) }
         ensures kept { (IsErrOf result LogError.Fault → ⊥) → V.faults store.new ≡ V.faults store.old }
+        ensures passes { PassesFewer (V.lets_pass store.old) (V.lets_pass store.new) }
     {
         if self.at < self.end {
             return Ok(Some(self.next_record()?));

@@ -1,5 +1,6 @@
 //! The whole log, read from its first gate to its end.
 ghost use Rattle.std.specs.Prelude.{◌≡◌, ◌≤◌, ◌<◌, ◌^◌, ℕ, List, IfOk, IfErr, IsErrOf, IfSome};
+ghost use Rattle.dali_store.specs.Calls.{PassesFewer};
 ghost use Rattle.dali_store.specs.Faults.{Rose};
 ghost use Rattle.dali_record.specs.declared.records.Record.{Record};
 ghost use Rattle.dali_batch.specs.Batch.{IsUnformatted};
@@ -35,6 +36,7 @@ pub fn read_log<V: Store>(alloc: Global, store: &mut V) -> Result<Log, LogError>
     ensures later { V.faults store.old ≤ V.faults store.new }
     ensures fault { IsErrOf result LogError.Fault → Rose (V.faults store.old) (V.faults store.new) }
     ensures kept { (IsErrOf result LogError.Fault → ⊥) → V.faults store.new ≡ V.faults store.old }
+    ensures passes { PassesFewer (V.lets_pass store.old) (V.lets_pass store.new) }
 {
     let (mut reader, (index, heap)) = LogReader::open(alloc, store)?;
     let mut records = Vec::new(alloc);

@@ -1,7 +1,10 @@
-//! What no clause says: how many store calls a batch takes, that each call succeeds with ample memory, and worked bytes.
+//! What no clause says: what each failing call of a batch leaves, that each call succeeds with ample memory, and worked
+//! bytes.
 ghost use Rattle.std.specs.Prelude.{◌<◌, length};
 
-use dali_batch::{Frame, LogError, flush, format, is_formatted, read_log};
+use dali_batch::{
+    BatchError, Body, Found, Frame, LogError, find, flush, format, is_formatted, read_log,
+};
 use dali_bytes::{OutOfMemory, put, put_byte, put32};
 use dali_memstore::{Fuse, MemoryStore};
 use dali_store::{Store, StoreFault};
@@ -70,7 +73,7 @@ fn logs_are_read_or_refused_at_their_place(rt: HostRuntime) -> Result<(), Fail> 
 
 // Formats a log with a first batch, and adds another one.
 fn add_to_first<V: Store>(store: &mut V, first: &Frame, second: &Frame) -> Result<u64, StoreFault>
-    requires { 0 < length first.now }
+    requires { 0 < length first.now.body }
 {
     if is_formatted(store)? {
         return Err(StoreFault);
@@ -140,6 +143,102 @@ fn a_batch_takes_four_calls(rt: HostRuntime) -> Result<(), Fail> {
     Ok(())
 }
 
+// The same where one call of the second batch fails, and each later one would pass: whether the flush failed, and how many
+// records are there after a cut.
+fn fail_one(alloc: Global, call: u64, choice: u32) -> Result<(bool, usize), LogError>
+    requires few { call < 100 }
+{
+    let files = [
+        Vec::new(alloc),
+        Vec::new(alloc),
+        Vec::new(alloc),
+        Vec::new(alloc),
+    ];
+    let mut store = MemoryStore::with(files, vec![in alloc; BEFORE + call]?);
+    let (Ok(mut first), Ok(mut second)) = (Frame::new(alloc), Frame::new(alloc)) else {
+        return Err(LogError::OutOfMemory);
+    };
+    if first.add(&FIRST[5..]).is_err() || second.add(&COMMIT).is_err() {
+        return Err(LogError::OutOfMemory);
+    }
+    let failed = !first.is_empty() && add_to_first(&mut store, &first, &second).is_err();
+    store.cut(choice)?;
+    let log = read_log(alloc, &mut store)?;
+    Ok((failed, log.records.len()))
+}
+
+// A failed call isn't made again: what it was for is missing, and the answer is an error.
+#[test]
+fn each_call_of_a_batch_may_fail(rt: HostRuntime) -> Result<(), Fail> {
+    let alloc = rt.alloc();
+    for (call, kept, dropped) in [(0, 1, 1), (1, 1, 1), (2, 1, 1), (3, 2, 1)] {
+        assert_eq!(rt; fail_one(alloc, call, 0), Ok((true, kept)));
+        assert_eq!(rt; fail_one(alloc, call, 1), Ok((true, dropped)));
+    }
+    Ok(())
+}
+
+// What stands at a place of a log of the first batch and these bytes: a batch's body and the place behind it, or the end.
+fn found_at(alloc: Global, bytes: &[u8], at: u64) -> Result<Option<(Body, u64)>, BatchError> {
+    let Ok(mut store) = store_of(alloc, &FIRST, bytes) else {
+        return Err(BatchError::OutOfMemory);
+    };
+    match find(alloc, &mut store, at)? {
+        Found::Batch { body, next } => Ok(Some((body, next))),
+        Found::End => Ok(None),
+    }
+}
+
+#[test]
+fn a_batch_is_found_at_its_place(rt: HostRuntime) -> Result<(), Fail> {
+    let alloc = rt.alloc();
+    let log = [0xa5, 0, 0, 0, 2, 8, 9, 0];
+    for (at, bytes, end) in [(0, &FIRST[5..], 15), (15, &[8, 9], 22)] {
+        match found_at(alloc, &log, at) {
+            Ok(Some((body, next))) => {
+                assert_eq!(rt; body.bytes(), bytes);
+                assert_eq!(rt; next, end);
+            }
+            _ => assert!(rt; false),
+        }
+    }
+    assert!(rt; matches!(&found_at(alloc, &log, 22), Ok(None)));
+    // No gate stands there; the length is 0; it is one more than there are bytes; it is 2^30 + 1; it is cut short.
+    for (bytes, at, bad) in [
+        (log.as_slice(), 23, 23),
+        (&[0xa5, 0, 0, 0, 0, 8], 15, 16),
+        (&[0xa5, 0, 0, 0, 2, 8], 15, 16),
+        (&[0xa5, 0x40, 0, 0, 1, 8], 15, 16),
+        (&[0xa5, 0, 0], 15, 16),
+    ] {
+        match found_at(alloc, bytes, at) {
+            Err(BatchError::BadLog { at }) => assert_eq!(rt; at, bad),
+            _ => assert!(rt; false),
+        }
+    }
+    Ok(())
+}
+
+// 120,000 Commits of 9 bytes, behind the first batch of 15
+#[test]
+fn a_batch_past_a_mebibyte_is_found(rt: HostRuntime) -> Result<(), Fail> {
+    let alloc = rt.alloc();
+    let Ok(log) = long_log(alloc, 120_000, 0, 1) else {
+        return Ok(());
+    };
+    let Ok(mut store) = store_of(alloc, &log, &[]) else {
+        return Ok(());
+    };
+    match find(alloc, &mut store, 15) {
+        Ok(Found::Batch { body, next }) => {
+            assert_eq!(rt; body.bytes().len(), 1_080_000);
+            assert_eq!(rt; next, 1_080_020);
+        }
+        _ => assert!(rt; false),
+    }
+    Ok(())
+}
+
 #[test]
 fn an_empty_frame_takes_no_call(rt: HostRuntime) -> Result<(), Fail> {
     let alloc = rt.alloc();
@@ -149,7 +248,7 @@ fn an_empty_frame_takes_no_call(rt: HostRuntime) -> Result<(), Fail> {
 
 // Adds a batch of so many Commits and then so many AuditBegins.
 fn add_batch(log: &mut Vec<u8>, commits: u32, audits: u32) -> Result<(), OutOfMemory>
-    requires few_commits { commits < 100_000 }
+    requires few_commits { commits < 200_000 }
     requires few_audits { audits < 100 }
 {
     put_byte(log, 0xa5)?;
@@ -165,7 +264,7 @@ fn add_batch(log: &mut Vec<u8>, commits: u32, audits: u32) -> Result<(), OutOfMe
 
 // A log of the first batch, one of so many Commits and AuditBegins, and one of so many Commits more.
 fn long_log(alloc: Global, commits: u32, audits: u32, more: u32) -> Result<Vec<u8>, OutOfMemory>
-    requires few_commits { commits < 100_000 }
+    requires few_commits { commits < 200_000 }
     requires few_audits { audits < 100 }
     requires few_more { more < 100_000 }
 {
@@ -185,7 +284,7 @@ fn read_long(
     more: u32,
     cut: usize,
 ) -> Result<(usize, u64), LogError>
-    requires few_commits { commits < 100_000 }
+    requires few_commits { commits < 200_000 }
     requires few_audits { audits < 100 }
     requires few_more { more < 100_000 }
 {

@@ -1,7 +1,8 @@
 -- Numbers that are drawn, and a history, one step after another.
 use Rattle.std.proofs.Common.{◌≡◌, ℕ, suc, ◌+◌, List, [], ◌∷◌, ◌++◌, fold, sym, ap, ◌∙◌, subst, arith}
 use Rattle.std.proofs.lemmas.List.Sums.{fold-append}
-use Rattle.dali_notes.specs.History.{Added}
+use Rattle.std.specs.Prelude.{◌==◌, false, Some, None}
+use Rattle.dali_notes.specs.History.{Added, IsSeen, In}
 use Rattle.dali_bench.specs.Keys.{mixed}
 use Rattle.dali_bench.specs.Shared.{Noted}
 
@@ -14,6 +15,13 @@ next_number i = omega arith
 pub noted_none : (number : ℕ) (seen : List (ℕ × ℕ)) → seen ≡ [] → Noted 0 number seen
 unfolding Noted
 noted_none number seen e = e
+
+nothing_in : (n : ℕ) (x : ℕ × ℕ) → In [] x → (x.0 == n) ≡ false
+nothing_in n x there = let no : None ≡ Some x = there.1 in absurd cc
+
+-- who has seen nothing has met one that has seen nothing
+pub met_none : (number : ℕ) (seen other : List (ℕ × ℕ)) → seen ≡ [] → other ≡ [] → IsSeen seen number other
+met_none number seen other mine theirs = record { rest = []; all = mine ∙ sym (ap (λ (l : List (ℕ × ℕ)). l ++ []) theirs); none = nothing_in number }
 
 pub noted_more : (n number : ℕ) (before after : List (ℕ × ℕ)) → Noted n number before → Added number n before after → Noted (n + 1) number after
 unfolding Noted

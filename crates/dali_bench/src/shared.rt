@@ -1,5 +1,6 @@
 //! What threads share: numbers that are drawn, and a history.
 ghost use Rattle.std.specs.Prelude.{◌≡◌, [], codes, fold, IfOk};
+ghost use Rattle.dali_notes.specs.History.{IsSeen};
 ghost use Rattle.dali_bench.specs.Amounts.{Counts};
 ghost use Rattle.dali_bench.specs.Keys.{mixed};
 ghost use Rattle.dali_bench.specs.Shared.{DrawnAll, Noted, NotedAll};
@@ -52,11 +53,12 @@ impl Tells<u32, u64> for Shown {
 }
 
 // A note that has seen nothing adds the numbers below the count, and another one meets it after each.
-#[tactic(auto, using(crate::proofs::Drawing::noted_none, crate::proofs::Drawing::noted_more))]
+#[tactic(auto, using(crate::proofs::Drawing::noted_none, crate::proofs::Drawing::noted_more, crate::proofs::Drawing::met_none))]
 fn note_all(notes: &Notes<u64>, writer: &mut Note<u64>, reader: &mut Note<u64>, count: u32)
-    requires { (writer.old.table ≡ notes.now.table) × (reader.old.table ≡ notes.now.table) × (writer.old.seen ≡ []) }
+    requires { (writer.old.table ≡ notes.now.table) × (reader.old.table ≡ notes.now.table) × (writer.old.seen ≡ []) × (reader.old.seen ≡ []) }
     ensures table { (writer.new.table ≡ writer.old.table) × (reader.new.table ≡ reader.old.table) }
     ensures noted { Noted count writer.new.number writer.new.seen }
+    ensures met { IsSeen reader.new.seen writer.new.number writer.new.seen }
 {
     for number in 0..count {
         notes.add::<u32, Shown>(writer, &number);

@@ -6,3 +6,4 @@ pub mod Away
 pub mod Following
 pub mod Answering
 pub mod Stepping
+pub mod TakingBack

@@ -33,11 +33,11 @@ use Rattle.dali_calls.proofs.Wholes.{open_of, onward_kind, onward_spelled, onwar
 use Rattle.dali_calls.proofs.Following.{onward_follows, back_follows, last_all, first_of, second_of}
 use Rattle.dali_calls.proofs.Answering.{done_follows}
 
-state_there : (o : Option TxnState) (x : TxnState) → o ≡ Some x → IsSome o
+pub state_there : (o : Option TxnState) (x : TxnState) → o ≡ Some x → IsSome o
 state_there o x e = ap is_some e
 
 -- ---- the lock
-covers_all : (m : Option Mode) (c : Bool) → covers m true ≡ true → covers m c ≡ true
+pub covers_all : (m : Option Mode) (c : Bool) → covers m true ≡ true → covers m c ≡ true
 covers_all None c e = absurd cc
 covers_all (Some Shared) c e = absurd cc
 covers_all (Some Exclusive) c e = refl

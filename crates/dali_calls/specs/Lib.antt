@@ -3,3 +3,4 @@ pub mod Changed
 pub mod Plans
 pub mod Fields
 pub mod Followed
+pub mod TakingBack

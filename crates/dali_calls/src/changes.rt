@@ -6,8 +6,8 @@ ghost use Rattle.dali_record.specs.Legal.{is_none_left};
 use dali_record::Pending;
 use std::marker::Model;
 
-/// What takes back the operations of a call that changed something, in their order. A call has two of them at most. Contracts see the
-/// list itself. No call takes memory.
+/// What takes back the operations of a call that changed something, in their order. A call has two of them at most.
+/// Contracts see the list itself. No call takes memory.
 #[derive(Drop)]
 pub struct Changes {
     first: Option<Pending>,

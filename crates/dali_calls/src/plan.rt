@@ -42,9 +42,9 @@ pub enum Phase {
 
 /// The operations of one call of a transaction, made one after another, and its answer.
 ///
-/// A step is `wants`, then on the region that it names `latch`, `update` until it answers false, and `commit`. An answer that says that
-/// nothing fits, or that something odd was found, comes after the call's own changes were taken back; so does the end of a plan that was
-/// refused. A plan takes no memory; the system does at `commit` and `done`.
+/// A step is `wants`, then on the region that it names `latch`, `update` until it answers false, and `commit`. An
+/// answer that says that nothing fits, or that something odd was found, comes after the call's own changes were taken
+/// back; so does the end of a plan that was refused. A plan takes no memory; the system does at `commit` and `done`.
 #[derive(Drop)]
 pub struct Plan {
     geometry: Geometry,
@@ -151,8 +151,8 @@ impl Plan {
         }
     }
 
-    /// Latches the region that is wanted, and makes the block of the next operation. Refused exactly as the latch; plan and region are
-    /// then as before.
+    /// Latches the region that is wanted, and makes the block of the next operation. Refused exactly as the latch; plan
+    /// and region are then as before.
     pub fn latch(&mut self, region: &mut Region, precheck: bool) -> Result<(), LatchError>
         requires wants { IsSome (plan_next self.old) }
         requires closed { self.old.operation ≡ None }
@@ -200,13 +200,13 @@ impl Plan {
     ) -> Result<Receipt, SystemError>
         requires way { Plans.is_back self.old ≡ false }
         requires written { IsSomeAnd self.old.operation (λ o. IsOpen region.old o.txn o.block) }
-        requires running { IsSome (row_of system.old self.old.txn) }
-        ensures ok { OnOk result (IfSome self.old.operation (λ o. (system.new ≡ op_logged system.old self.old.txn o.block) × (region.new ≡ touched region.old) × GoesOn self.old o.block self.new)) }
-        ensures number { IfOk result (λ receipt. receipt.number ≡ system.old.records) }
-        ensures room { OnOk result (IfSome self.old.operation (λ o. HasRoom system.old (Forward self.old.txn o.block))) }
+        requires running { IsSome (row_of system.old.state self.old.txn) }
+        ensures ok { OnOk result (IfSome self.old.operation (λ o. (system.new ≡ record system.old { state = op_logged system.old.state self.old.txn o.block }) × (region.new ≡ touched region.old) × GoesOn self.old o.block self.new)) }
+        ensures number { IfOk result (λ receipt. receipt.number ≡ system.old.state.records) }
+        ensures room { OnOk result (IfSome self.old.operation (λ o. HasRoom system.old.state (Forward self.old.txn o.block))) }
         ensures err { OnErr result ((system.new ≡ system.old) × (region.new ≡ taken_back region.old) × (self.new ≡ with_operation self.old None)) }
-        ensures refused { IfSome self.old.operation (λ o. IfSome (refusal system.old (record_length (Forward self.old.txn o.block))) (λ e. result ≡ Err e)) }
-        ensures memory { IfSome self.old.operation (λ o. refusal system.old (record_length (Forward self.old.txn o.block)) ≡ None → IfErr result (λ e. e ≡ Memory)) }
+        ensures refused { IfSome self.old.operation (λ o. IfSome (refusal system.old.state (record_length (Forward self.old.txn o.block))) (λ e. result ≡ Err e)) }
+        ensures memory { IfSome self.old.operation (λ o. refusal system.old.state (record_length (Forward self.old.txn o.block)) ≡ None → IfErr result (λ e. e ≡ Memory)) }
     {
         let Some(operation) = &self.operation else {
             unreachable!()
@@ -237,12 +237,12 @@ impl Plan {
     ) -> Result<Receipt, SystemError>
         requires way { Plans.is_back self.old ≡ true }
         requires written { IsSomeAnd self.old.operation (λ o. IsOpen region.old o.txn o.block) }
-        ensures ok { OnOk result (IfSome self.old.operation (λ o. (system.new ≡ back_logged system.old self.old.txn o.block) × (region.new ≡ touched region.old) × (self.new ≡ went_back self.old))) }
-        ensures number { IfOk result (λ receipt. receipt.number ≡ system.old.records) }
-        ensures runs { OnOk result (system.old.stop ≡ None) }
+        ensures ok { OnOk result (IfSome self.old.operation (λ o. (system.new ≡ record system.old { state = back_logged system.old.state self.old.txn o.block }) × (region.new ≡ touched region.old) × (self.new ≡ went_back self.old))) }
+        ensures number { IfOk result (λ receipt. receipt.number ≡ system.old.state.records) }
+        ensures runs { OnOk result (system.old.state.stop ≡ None) }
         ensures err { OnErr result ((system.new ≡ system.old) × (region.new ≡ taken_back region.old) × (self.new ≡ with_operation self.old None)) }
-        ensures refused { IfSome (stop_refusal system.old) (λ e. result ≡ Err e) }
-        ensures memory { stop_refusal system.old ≡ None → IfErr result (λ e. e ≡ Memory) }
+        ensures refused { IfSome (stop_refusal system.old.state) (λ e. result ≡ Err e) }
+        ensures memory { stop_refusal system.old.state ≡ None → IfErr result (λ e. e ≡ Memory) }
     {
         let Some(operation) = &self.operation else {
             unreachable!()
@@ -261,22 +261,22 @@ impl Plan {
         }
     }
 
-    /// Logs the block of the open operation, all of whose words are written. Where that is refused the operation is taken back, and the
-    /// plan wants the region again; it may be refused.
+    /// Logs the block of the open operation, all of whose words are written. Where that is refused the operation is
+    /// taken back, and the plan wants the region again; it may be refused.
     pub fn commit(
         &mut self,
         region: &mut Region,
         system: &mut System,
     ) -> Result<Receipt, SystemError>
         requires written { IsSomeAnd self.old.operation (λ o. IsOpen region.old o.txn o.block) }
-        requires running { IsSome (row_of system.old self.old.txn) }
-        ensures onward { Plans.is_back self.old ≡ false → OnOk result (IfSome self.old.operation (λ o. (system.new ≡ op_logged system.old self.old.txn o.block) × HasRoom system.old (Forward self.old.txn o.block) × GoesOn self.old o.block self.new)) }
-        ensures back { Plans.is_back self.old ≡ true → OnOk result (IfSome self.old.operation (λ o. (system.new ≡ back_logged system.old self.old.txn o.block) × (system.old.stop ≡ None) × (self.new ≡ went_back self.old))) }
+        requires running { IsSome (row_of system.old.state self.old.txn) }
+        ensures onward { Plans.is_back self.old ≡ false → OnOk result (IfSome self.old.operation (λ o. (system.new ≡ record system.old { state = op_logged system.old.state self.old.txn o.block }) × HasRoom system.old.state (Forward self.old.txn o.block) × GoesOn self.old o.block self.new)) }
+        ensures back { Plans.is_back self.old ≡ true → OnOk result (IfSome self.old.operation (λ o. (system.new ≡ record system.old { state = back_logged system.old.state self.old.txn o.block }) × (system.old.state.stop ≡ None) × (self.new ≡ went_back self.old))) }
         ensures ok { OnOk result (region.new ≡ touched region.old) }
-        ensures number { IfOk result (λ receipt. receipt.number ≡ system.old.records) }
+        ensures number { IfOk result (λ receipt. receipt.number ≡ system.old.state.records) }
         ensures err { OnErr result ((system.new ≡ system.old) × (region.new ≡ taken_back region.old) × (self.new ≡ with_operation self.old None)) }
-        ensures refused { IfSome self.old.operation (λ o. IfSome (commit_refusal (Plans.is_back self.old) system.old (record_length (Forward self.old.txn o.block))) (λ e. result ≡ Err e)) }
-        ensures memory { IfSome self.old.operation (λ o. commit_refusal (Plans.is_back self.old) system.old (record_length (Forward self.old.txn o.block)) ≡ None → IfErr result (λ e. e ≡ Memory)) }
+        ensures refused { IfSome self.old.operation (λ o. IfSome (commit_refusal (Plans.is_back self.old) system.old.state (record_length (Forward self.old.txn o.block))) (λ e. result ≡ Err e)) }
+        ensures memory { IfSome self.old.operation (λ o. commit_refusal (Plans.is_back self.old) system.old.state (record_length (Forward self.old.txn o.block)) ≡ None → IfErr result (λ e. e ≡ Memory)) }
     {
         if self.is_back() {
             return self.commit_back(region, system);
@@ -297,13 +297,13 @@ impl Plan {
     pub fn done(&mut self, system: &mut System) -> Result<(Answer, Receipt), SystemError>
         requires wants { want_of self.old ≡ AnswerIsNext }
         ensures ok { IfOk result (λ given. (answer_of self.old.geometry self.old.call self.old.stage ≡ Some given.0)
-            × (system.new ≡ done_logged system.old self.old.txn self.old.call given.0)) }
+            × (system.new ≡ record system.old { state = done_logged system.old.state self.old.txn self.old.call given.0 })) }
         ensures answered { OnOk result (self.new ≡ answered self.old) }
-        ensures number { IfOk result (λ given. given.1.number ≡ system.old.records) }
-        ensures room { IfOk result (λ given. HasRoom system.old (Done self.old.txn self.old.call given.0)) }
+        ensures number { IfOk result (λ given. given.1.number ≡ system.old.state.records) }
+        ensures room { IfOk result (λ given. HasRoom system.old.state (Done self.old.txn self.old.call given.0)) }
         ensures err { OnErr result ((system.new ≡ system.old) × (self.new ≡ self.old)) }
-        ensures refused { IfSome (answer_of self.old.geometry self.old.call self.old.stage) (λ a. IfSome (refusal system.old (record_length (Done self.old.txn self.old.call a))) (λ e. result ≡ Err e)) }
-        ensures memory { IfSome (answer_of self.old.geometry self.old.call self.old.stage) (λ a. refusal system.old (record_length (Done self.old.txn self.old.call a)) ≡ None → IfErr result (λ e. e ≡ Memory)) }
+        ensures refused { IfSome (answer_of self.old.geometry self.old.call self.old.stage) (λ a. IfSome (refusal system.old.state (record_length (Done self.old.txn self.old.call a))) (λ e. result ≡ Err e)) }
+        ensures memory { IfSome (answer_of self.old.geometry self.old.call self.old.stage) (λ a. refusal system.old.state (record_length (Done self.old.txn self.old.call a)) ≡ None → IfErr result (λ e. e ≡ Memory)) }
     {
         let Some(answer) = self.stage.answer(&self.geometry, &self.call) else {
             unreachable!()

@@ -5,11 +5,13 @@ use Rattle.std.proofs.lemmas.List.{append-nil}
 use mathlib.Core.Logic.{∥∥₁_map}
 use Rattle.dali_record.specs.declared.records.Record.{Record}
 use Rattle.dali_record.specs.Spelling.{spelling, CanBeSpelled}
+use Rattle.dali_store.specs.Faults.{one_more}
+use Rattle.dali_batch.specs.Batch.{Framed}
 use Rattle.dali_batch.specs.Log.{body_bytes}
 use Rattle.dali_batch.proofs.Unique.{some_bytes}
 use Rattle.dali_batch.proofs.Bodies.{spelled_push, bytes_push}
 use Rattle.dali_core.specs.Spelled.{Spelled, Spelled-prop}
-use Rattle.dali_core.specs.Journaled.{Journaled, IsKept, IsSmall, noted}
+use Rattle.dali_core.specs.Journaled.{Journaled, IsKept, IsSmall}
 
 -- ---- the records that bytes spell
 abbrev pub none_spelled : Spelled []
@@ -54,55 +56,65 @@ few (y ∷ L) = omega (arith, few L, one_byte y (body_bytes L), length-append (s
         some_length [] empty = absurd (empty refl)
         some_length (b ∷ l) empty = omega arith
 
+fewer_left : (n : ℕ) (L : List Record) → length (drop n L) ≤ length L
+fewer_left zero L = omega arith
+fewer_left (suc n) [] = omega arith
+fewer_left (suc n) (y ∷ L) = omega (arith, fewer_left n L)
+
 -- ---- what is true of every journal
-pub small_of : (L : List Record) (body : List ℕ) (count flushed : ℕ) → IsKept L body count flushed → IsSmall (record { since = L; taken = flushed })
-small_of L body count flushed k = record { bytes = k.small; records = omega (arith, few L, k.small) }
+pub small_of : (L : List Record) (f : Framed) (count flushed promised : ℕ) → IsKept L f count flushed → IsSmall (record { since = L; taken = flushed; promised = promised })
+small_of L f count flushed promised k = record { bytes = k.small; records = omega (arith, few L, k.small) }
 
 pub no_records : (bytes : List ℕ) → bytes ≡ [] → (s : Spelled bytes) → s.0 ≡ []
 no_records bytes e s = same_spelled [] bytes none_spelled s e
 
-pub kept_none : (bytes : List ℕ) → bytes ≡ [] → (s : Spelled bytes) (body : List ℕ) → body ≡ [] → IsKept s.0 body 0 0
-kept_none bytes b s body e =
-    subst (λ (l : List Record). IsKept l body 0 0) (sym (no_records bytes b s)) (record { counts = refl; within = omega arith; frame = e; small = omega arith })
+pub kept_none : (bytes : List ℕ) → bytes ≡ [] → (s : Spelled bytes) (f : Framed) → f.body ≡ [] → f.records ≡ 0 → IsKept s.0 f 0 0
+kept_none bytes b s f e n =
+    subst (λ (l : List Record). IsKept l f 0 0) (sym (no_records bytes b s)) (record { counts = refl; within = omega arith; frame = e; records = n; small = omega arith })
 
-pub kept_same : (old new : List ℕ) (s : Spelled old) (t : Spelled new) (body frame : List ℕ) (count flushed : ℕ) → new ≡ old → frame ≡ body → IsKept s.0 body count flushed → IsKept t.0 frame count flushed
-kept_same old new s t body frame count flushed e f k =
-    subst (λ (l : List Record). IsKept l frame count flushed) (sym (same_spelled old new s t e)) (subst (λ (b : List ℕ). IsKept s.0 b count flushed) (sym f) k)
+pub kept_same : (old new : List ℕ) (s : Spelled old) (t : Spelled new) (f g : Framed) (count flushed : ℕ) → new ≡ old → g.body ≡ f.body → g.records ≡ f.records → IsKept s.0 f count flushed → IsKept t.0 g count flushed
+kept_same old new s t f g count flushed e body n k =
+    subst (λ (l : List Record). IsKept l g count flushed) (sym (same_spelled old new s t e)) (record { counts = k.counts; within = k.within; frame = body ∙ k.frame; records = n ∙ k.records; small = k.small })
 
-pub kept_flushed : (bytes : List ℕ) (s t : Spelled bytes) (body frame : List ℕ) (count flushed : ℕ) → frame ≡ [] → IsKept s.0 body count flushed → IsKept t.0 frame count count
-kept_flushed bytes s t body frame count flushed e k =
-    subst (λ (l : List Record). IsKept l frame count count) (sym (one_spelled bytes s t)) (record {
+pub kept_flushed : (bytes : List ℕ) (s t : Spelled bytes) (f g : Framed) (count flushed : ℕ) → g.body ≡ [] → g.records ≡ 0 → IsKept s.0 f count flushed → IsKept t.0 g count count
+kept_flushed bytes s t f g count flushed e n k =
+    let none : drop count s.0 ≡ [] = ap (λ (m : ℕ). drop m s.0) k.counts ∙ drop_all s.0 in
+    subst (λ (l : List Record). IsKept l g count count) (sym (one_spelled bytes s t)) (record {
       counts = k.counts;
       within = omega (arith, k.counts);
-      frame = e ∙ sym (ap body_bytes (ap (λ (n : ℕ). drop n s.0) k.counts ∙ drop_all s.0));
+      frame = e ∙ sym (ap body_bytes none);
+      records = n ∙ sym (ap length none);
       small = k.small;
     })
 
-pub kept_push : (old new : List ℕ) (x : Record) (s : Spelled old) (t : Spelled new) (body frame : List ℕ) (count flushed : ℕ) → CanBeSpelled x → new ≡ old ++ spelling x → frame ≡ body ++ spelling x → length new ≤ 2 ^ 62
-    → IsKept s.0 body count flushed → IsKept t.0 frame (count + 1) flushed
-kept_push old new x s t body frame count flushed can e f short k =
-    subst (λ (l : List Record). IsKept l frame (count + 1) flushed) (sym (pushed old new x s t can e)) (record {
+pub kept_push : (old new : List ℕ) (x : Record) (s : Spelled old) (t : Spelled new) (f g : Framed) (count flushed : ℕ) → CanBeSpelled x → new ≡ old ++ spelling x → g.body ≡ f.body ++ spelling x → g.records ≡ one_more f.records → length new ≤ 2 ^ 62
+    → IsKept s.0 f count flushed → IsKept t.0 g (count + 1) flushed
+kept_push old new x s t f g count flushed can e body n short k =
+    subst (λ (l : List Record). IsKept l g (count + 1) flushed) (sym (pushed old new x s t can e)) (record {
       counts = omega (arith, k.counts, length-append s.0 (x ∷ []));
       within = omega (arith, k.within, length-append s.0 (x ∷ []));
-      frame = f ∙ ap (λ (l : List ℕ). l ++ spelling x) k.frame ∙ bytes_push (drop flushed s.0) x ∙ ap body_bytes (sym (drop_more flushed s.0 x k.within));
+      frame = body ∙ ap (λ (l : List ℕ). l ++ spelling x) k.frame ∙ bytes_push (drop flushed s.0) x ∙ ap body_bytes (sym (drop_more flushed s.0 x k.within));
+      records = omega (arith, n, k.records, ap length (drop_more flushed s.0 x k.within), length-append (drop flushed s.0) (x ∷ []), fewer_left flushed s.0, few s.0, k.small);
       small = subst (λ (b : List ℕ). length b ≤ 2 ^ 62) (sym ((push_spelled old new x s can e).1.bytes_are)) short;
     })
 
 -- ---- views
-pub view_push : (old new : List ℕ) (x : Record) (s : Spelled old) (t : Spelled new) (flushed : ℕ) (j : Journaled) → CanBeSpelled x → new ≡ old ++ spelling x → record { since = s.0; taken = flushed } ≡ j
-    → record { since = t.0; taken = flushed } ≡ noted j x
-view_push old new x s t flushed j can e is =
-    ap (λ (l : List Record). let m : Journaled = record { since = l; taken = flushed } in m) (pushed old new x s t can e) ∙ ap (λ (i : Journaled). noted i x) is
+pub view_push : (old new : List ℕ) (x : Record) (s : Spelled old) (t : Spelled new) (flushed promised left : ℕ) (j : Journaled) → CanBeSpelled x → new ≡ old ++ spelling x → record { since = s.0; taken = flushed; promised = promised } ≡ j
+    → let m : Journaled = record { since = t.0; taken = flushed; promised = left } in m ≡ record { since = j.since ++ x ∷ []; taken = j.taken; promised = left }
+view_push old new x s t flushed promised left j can e is =
+    ap (λ (l : List Record). let m : Journaled = record { since = l; taken = flushed; promised = left } in m) (pushed old new x s t can e)
+    ∙ ap (λ (i : Journaled). let m : Journaled = record { since = i.since ++ x ∷ []; taken = i.taken; promised = left } in m) is
 
-pub view_same : (old new : List ℕ) (s : Spelled old) (t : Spelled new) (flushed : ℕ) (j : Journaled) → new ≡ old → record { since = s.0; taken = flushed } ≡ j → record { since = t.0; taken = flushed } ≡ j
-view_same old new s t flushed j e is = ap (λ (l : List Record). let m : Journaled = record { since = l; taken = flushed } in m) (same_spelled old new s t e) ∙ is
+pub view_same : (old new : List ℕ) (s : Spelled old) (t : Spelled new) (flushed promised : ℕ) (j : Journaled) → new ≡ old → record { since = s.0; taken = flushed; promised = promised } ≡ j
+    → record { since = t.0; taken = flushed; promised = promised } ≡ j
+view_same old new s t flushed promised j e is = ap (λ (l : List Record). let m : Journaled = record { since = l; taken = flushed; promised = promised } in m) (same_spelled old new s t e) ∙ is
 
-pub view_flushed : (bytes : List ℕ) (s t : Spelled bytes) (body : List ℕ) (count flushed : ℕ) (j : Journaled) → IsKept s.0 body count flushed → record { since = s.0; taken = flushed } ≡ j
-    → let m : Journaled = record { since = t.0; taken = count } in m ≡ record { since = j.since; taken = length j.since }
-view_flushed bytes s t body count flushed j k is =
-    ap (λ (l : List Record). let m : Journaled = record { since = l; taken = count } in m) (one_spelled bytes s t)
-    ∙ ap (λ (n : ℕ). let m : Journaled = record { since = s.0; taken = n } in m) k.counts
-    ∙ ap (λ (i : Journaled). let m : Journaled = record { since = i.since; taken = length i.since } in m) is
+pub view_flushed : (bytes : List ℕ) (s t : Spelled bytes) (f : Framed) (count flushed promised : ℕ) (j : Journaled) → IsKept s.0 f count flushed → record { since = s.0; taken = flushed; promised = promised } ≡ j
+    → let m : Journaled = record { since = t.0; taken = count; promised = promised } in m ≡ record { since = j.since; taken = length j.since; promised = j.promised }
+view_flushed bytes s t f count flushed promised j k is =
+    ap (λ (l : List Record). let m : Journaled = record { since = l; taken = count; promised = promised } in m) (one_spelled bytes s t)
+    ∙ ap (λ (n : ℕ). let m : Journaled = record { since = s.0; taken = n; promised = promised } in m) k.counts
+    ∙ ap (λ (i : Journaled). let m : Journaled = record { since = i.since; taken = length i.since; promised = i.promised } in m) is
 
 pub on_err : {A E : Type 0} (r : Result A E) (P : Type 0) → P → OnErr r P
 on_err (Ok x) P p = tt

@@ -4,3 +4,4 @@ pub mod Journals
 pub mod Rows
 pub mod Systems
 pub mod Guards
+pub mod RowsAre

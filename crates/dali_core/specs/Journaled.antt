@@ -1,26 +1,41 @@
 -- What the system keeps of the log.
---     Journaled                the records since the load, and how many of them were taken to be flushed
---     waiting j                those that aren't
---     noted j x                with one record more
---     IsKept L body count taken        what is true of every journal
-use Rattle.std.specs.Prelude.{◌≡◌, ℕ, ◌≤◌, ◌^◌, List, [], ◌∷◌, ◌++◌, length, drop}
+--     Journaled                the records since the load, how many of them were taken to be flushed, and for how many bytes of records memory
+--                              is promised
+--     waiting j                those that aren't taken
+--     noted j x                with one record more; noted_from j x n      and n bytes fewer promised
+--     HasMemory n len capacity f       there is memory for n bytes more behind so many bytes, and in the frame
+--     IsKept L f count taken           what is true of every journal
+use Rattle.std.specs.Prelude.{◌≡◌, ℕ, ◌+◌, ◌-◌, ◌≤◌, ◌^◌, List, [], ◌∷◌, ◌++◌, length, drop}
 use Rattle.dali_record.specs.declared.records.Record.{Record}
 use Rattle.dali_batch.specs.Log.{body_bytes}
+use Rattle.dali_batch.specs.Batch.{Framed}
 
 pub record Journaled : Type 0 where
   pub since : List Record
   pub taken : ℕ
+  pub promised : ℕ
 
 abbrev pub waiting : Journaled → List Record
 waiting j = drop j.taken j.since
 
-abbrev pub noted : Journaled → Record → Journaled
-noted j x = record { since = j.since ++ x ∷ []; taken = j.taken }
+abbrev pub noted_from : Journaled → Record → ℕ → Journaled
+noted_from j x n = record { since = j.since ++ x ∷ []; taken = j.taken; promised = j.promised - n }
 
-pub record IsKept (L : List Record) (body : List ℕ) (count taken : ℕ) : Type 0 where
+abbrev pub noted : Journaled → Record → Journaled
+noted j x = record { since = j.since ++ x ∷ []; taken = j.taken; promised = j.promised }
+
+-- within the limits of a frame and of all bytes
+pub record HasMemory (n len capacity : ℕ) (f : Framed) : Type 0 where
+  pub bytes : len + n ≤ capacity
+  pub frame : n ≤ f.room
+  pub few : length f.body + n ≤ 2 ^ 30
+  pub small : len + n ≤ 2 ^ 62
+
+pub record IsKept (L : List Record) (f : Framed) (count taken : ℕ) : Type 0 where
   pub counts : count ≡ length L
   pub within : taken ≤ length L
-  pub frame : body ≡ body_bytes (drop taken L)
+  pub frame : f.body ≡ body_bytes (drop taken L)
+  pub records : f.records ≡ length (drop taken L)
   pub small : length (body_bytes L) ≤ 2 ^ 62
 
 -- what follows of a journal: its records are as many as its bytes at most

@@ -2,6 +2,10 @@ pub mod Spelled
 pub mod Journaled
 pub mod Refused
 pub mod Coded
+pub mod Rows
 pub mod Fields
+pub mod Served
 pub mod Asked
 pub mod UnderWay
+pub mod Audits
+pub mod TakenBack

@@ -1,14 +1,18 @@
 //! The records since the load, as their spellings.
-ghost use Rattle.std.specs.Prelude.{◌≡◌, ◌≤◌, ◌^◌, ◌++◌, [], ◌∷◌, length, take, drop, OnOk, OnErr, IfOk};
-ghost use Rattle.dali_record.specs.declared.records.Record.TheVariants.{Forward, Back};
+ghost use Rattle.std.specs.Prelude.{◌≡◌, ◌≤◌, ◌+◌, ◌-◌, ◌^◌, ◌++◌, [], ◌∷◌, length, take, drop, vec_len, vec_capacity, OnOk, OnErr, IsOk, IfOk};
+ghost use Rattle.dali_record.specs.declared.records.Record.TheVariants.{Forward, Back, Solo};
 ghost use Rattle.dali_record.specs.Spelling.{CanBeSpelled, spelling};
+ghost use Rattle.dali_store.specs.Faults.{one_more};
 ghost use Rattle.dali_batch.specs.Log.{body_bytes};
 ghost use Rattle.dali_core.specs.Spelled.{Spelled, Spelled-prop};
-ghost use Rattle.dali_core.specs.Journaled.{waiting, noted, IsSmall};
+ghost use Rattle.dali_core.specs.Journaled.{waiting, noted, noted_from, HasMemory, IsSmall};
 
 use dali_batch::{Frame, MOST_BYTES};
 use dali_bytes::OutOfMemory;
-use dali_record::{Block, Record, encode, encode_back, encode_op};
+use dali_record::{
+    Block, Record, encode, encode_back, encode_op, encode_solo, length, op_record_length,
+    solo_record_length,
+};
 use std::alloc::Global;
 use std::marker::Model;
 use std::mem;
@@ -18,57 +22,71 @@ const MOST_KEPT: usize = 1 << 62;
 
 /// The records that were logged since the load. It keeps their spellings, one behind the other, and a frame with the
 /// spellings of those that aren't flushed. Contracts see the records themselves: the bytes tell them.
+///
+/// Memory can be promised to records that come later: whatever is logged in between, they take none then.
 #[derive(Drop)]
 pub struct Journal {
     bytes: Vec<u8>,
     frame: Frame,
     count: u64,
     taken: u64,
+    promised: usize,
     ghost spelled: { Spelled bytes.items } by { Spelled-prop bytes.items },
 }
 
 impl Model for Journal {
-    ghost use Rattle.dali_core.specs.Journaled.{Journaled, IsKept};
+    ghost use Rattle.std.specs.Prelude.{vec_len, vec_capacity};
+    ghost use Rattle.dali_core.specs.Journaled.{Journaled, IsKept, HasMemory};
     ghost use Rattle.dali_core.specs.Coded.{journaled_code};
 
     ghost Value = { Journaled };
 
     ghost coded = { journaled_code };
 
-    ghost view = { λ j. record { since = j.spelled.0; taken = j.taken } };
+    ghost view = { λ j. record { since = j.spelled.0; taken = j.taken; promised = j.promised } };
 
-    ghost invariant = { λ j. IsKept j.spelled.0 j.frame j.count j.taken };
+    ghost invariant = { λ j. IsKept j.spelled.0 j.frame j.count j.taken × HasMemory j.promised (vec_len j.bytes) (vec_capacity j.bytes) j.frame };
 }
 
-// Adds the bytes from this place on to the frame; where that is refused they are taken away again.
-fn frame_rest(bytes: &mut Vec<u8>, frame: &mut Frame, from: usize) -> Result<(), OutOfMemory>
-    requires { from ≤ length bytes.old.items }
-    ensures ok { OnOk result ((bytes.new.items ≡ bytes.old.items) × (frame.new ≡ frame.old ++ drop from bytes.old.items) × (length bytes.new.items ≤ 2 ^ 62)) }
-    ensures err { OnErr result ((bytes.new.items ≡ take from bytes.old.items) × (frame.new ≡ frame.old)) }
+// Takes memory for so many bytes more, where there isn't; refused too where a batch or all records would have too many.
+fn make_room(bytes: &mut Vec<u8>, frame: &mut Frame, more: usize) -> Result<(), OutOfMemory>
+    ensures ok { OnOk result (HasMemory more (vec_len bytes.new) (vec_capacity bytes.new) frame.new) }
+    ensures room { HasMemory more (vec_len bytes.old) (vec_capacity bytes.old) frame.old → IsOk result }
+    ensures same { (bytes.new.items ≡ bytes.old.items) × (vec_len bytes.new ≡ vec_len bytes.old) × (frame.new.body ≡ frame.old.body) × (frame.new.records ≡ frame.old.records) }
+    ensures kept { (vec_capacity bytes.old ≤ vec_capacity bytes.new) × (frame.old.room ≤ frame.new.room) }
 {
-    let more = bytes.len() - from;
-    if bytes.len() > MOST_KEPT || more > MOST_BYTES as usize - frame.len() {
-        bytes.truncate(from);
+    if more > MOST_BYTES as usize - frame.len() {
         return Err(OutOfMemory);
     }
-    match frame.add(&bytes[from..]) {
-        Ok(()) => Ok(()),
-        Err(error) => {
-            bytes.truncate(from);
-            Err(error)
-        }
+    match bytes.len().checked_add(more) {
+        Some(all) if all <= MOST_KEPT => {}
+        _ => return Err(OutOfMemory),
     }
+    bytes.reserve(more)?;
+    frame.reserve(more)?;
+    Ok(())
 }
 
-// Writes a record's spelling behind the bytes, and into the frame.
-fn write(bytes: &mut Vec<u8>, frame: &mut Frame, rec: &Record) -> Result<(), OutOfMemory>
+// Writes a record's spelling behind the bytes, and into the frame, and leaves memory for so many bytes more.
+fn write(
+    bytes: &mut Vec<u8>,
+    frame: &mut Frame,
+    rec: &Record,
+    more: usize,
+) -> Result<(), OutOfMemory>
     requires { CanBeSpelled rec.now }
-    ensures ok { OnOk result ((bytes.new.items ≡ bytes.old.items ++ spelling rec.now) × (frame.new ≡ frame.old ++ spelling rec.now) × (length bytes.new.items ≤ 2 ^ 62)) }
-    ensures err { OnErr result ((bytes.new.items ≡ bytes.old.items) × (frame.new ≡ frame.old)) }
+    ensures ok { OnOk result ((bytes.new.items ≡ bytes.old.items ++ spelling rec.now) × (frame.new.body ≡ frame.old.body ++ spelling rec.now) × HasMemory more (vec_len bytes.new) (vec_capacity bytes.new) frame.new) }
+    ensures room { HasMemory (length (spelling rec.now) + more) (vec_len bytes.old) (vec_capacity bytes.old) frame.old → IsOk result }
+    ensures err { OnErr result ((bytes.new.items ≡ bytes.old.items) × (vec_len bytes.new ≡ vec_len bytes.old) × (frame.new.body ≡ frame.old.body) × (frame.new.records ≡ frame.old.records)) }
+    ensures records { OnOk result (frame.new.records ≡ one_more frame.old.records) }
+    ensures kept { OnErr result ((vec_capacity bytes.old ≤ vec_capacity bytes.new) × (frame.old.room ≤ frame.new.room)) }
 {
     let from = bytes.len();
-    encode(rec, bytes)?;
-    frame_rest(bytes, frame, from)
+    let all = (length(rec) as usize).checked_add(more).ok_or(OutOfMemory)?;
+    make_room(bytes, frame, all)?;
+    encode(rec, bytes).unwrap();
+    frame.add(&bytes[from..]).unwrap();
+    Ok(())
 }
 
 // The same for an operation, whose block is borrowed.
@@ -77,14 +95,22 @@ fn write_op(
     frame: &mut Frame,
     txn: u64,
     block: &Block,
+    more: usize,
 ) -> Result<(), OutOfMemory>
     requires { CanBeSpelled (Forward txn block.now) }
-    ensures ok { OnOk result ((bytes.new.items ≡ bytes.old.items ++ spelling (Forward txn block.now)) × (frame.new ≡ frame.old ++ spelling (Forward txn block.now)) × (length bytes.new.items ≤ 2 ^ 62)) }
-    ensures err { OnErr result ((bytes.new.items ≡ bytes.old.items) × (frame.new ≡ frame.old)) }
+    ensures ok { OnOk result ((bytes.new.items ≡ bytes.old.items ++ spelling (Forward txn block.now)) × (frame.new.body ≡ frame.old.body ++ spelling (Forward txn block.now)) × HasMemory more (vec_len bytes.new) (vec_capacity bytes.new) frame.new) }
+    ensures err { OnErr result ((bytes.new.items ≡ bytes.old.items) × (vec_len bytes.new ≡ vec_len bytes.old) × (frame.new.body ≡ frame.old.body) × (frame.new.records ≡ frame.old.records)) }
+    ensures records { OnOk result (frame.new.records ≡ one_more frame.old.records) }
+    ensures kept { OnErr result ((vec_capacity bytes.old ≤ vec_capacity bytes.new) × (frame.old.room ≤ frame.new.room)) }
 {
     let from = bytes.len();
-    encode_op(txn, block, bytes)?;
-    frame_rest(bytes, frame, from)
+    let all = (op_record_length(txn, block) as usize)
+        .checked_add(more)
+        .ok_or(OutOfMemory)?;
+    make_room(bytes, frame, all)?;
+    encode_op(txn, block, bytes).unwrap();
+    frame.add(&bytes[from..]).unwrap();
+    Ok(())
 }
 
 fn write_back(
@@ -92,26 +118,60 @@ fn write_back(
     frame: &mut Frame,
     txn: u64,
     block: &Block,
+    more: usize,
 ) -> Result<(), OutOfMemory>
     requires { CanBeSpelled (Back txn block.now) }
-    ensures ok { OnOk result ((bytes.new.items ≡ bytes.old.items ++ spelling (Back txn block.now)) × (frame.new ≡ frame.old ++ spelling (Back txn block.now)) × (length bytes.new.items ≤ 2 ^ 62)) }
-    ensures err { OnErr result ((bytes.new.items ≡ bytes.old.items) × (frame.new ≡ frame.old)) }
+    ensures ok { OnOk result ((bytes.new.items ≡ bytes.old.items ++ spelling (Back txn block.now)) × (frame.new.body ≡ frame.old.body ++ spelling (Back txn block.now)) × HasMemory more (vec_len bytes.new) (vec_capacity bytes.new) frame.new) }
+    ensures err { OnErr result ((bytes.new.items ≡ bytes.old.items) × (vec_len bytes.new ≡ vec_len bytes.old) × (frame.new.body ≡ frame.old.body) × (frame.new.records ≡ frame.old.records)) }
+    ensures records { OnOk result (frame.new.records ≡ one_more frame.old.records) }
+    ensures kept { OnErr result ((vec_capacity bytes.old ≤ vec_capacity bytes.new) × (frame.old.room ≤ frame.new.room)) }
 {
     let from = bytes.len();
-    encode_back(txn, block, bytes)?;
-    frame_rest(bytes, frame, from)
+    let all = (op_record_length(txn, block) as usize)
+        .checked_add(more)
+        .ok_or(OutOfMemory)?;
+    make_room(bytes, frame, all)?;
+    encode_back(txn, block, bytes).unwrap();
+    frame.add(&bytes[from..]).unwrap();
+    Ok(())
+}
+
+fn write_solo(
+    bytes: &mut Vec<u8>,
+    frame: &mut Frame,
+    txn: u64,
+    parent: u64,
+    block: &Block,
+    more: usize,
+) -> Result<(), OutOfMemory>
+    requires { CanBeSpelled (Solo txn parent block.now) }
+    ensures ok { OnOk result ((bytes.new.items ≡ bytes.old.items ++ spelling (Solo txn parent block.now)) × (frame.new.body ≡ frame.old.body ++ spelling (Solo txn parent block.now)) × HasMemory more (vec_len bytes.new) (vec_capacity bytes.new) frame.new) }
+    ensures room { HasMemory (length (spelling (Solo txn parent block.now)) + more) (vec_len bytes.old) (vec_capacity bytes.old) frame.old → IsOk result }
+    ensures err { OnErr result ((bytes.new.items ≡ bytes.old.items) × (vec_len bytes.new ≡ vec_len bytes.old) × (frame.new.body ≡ frame.old.body) × (frame.new.records ≡ frame.old.records)) }
+    ensures records { OnOk result (frame.new.records ≡ one_more frame.old.records) }
+    ensures kept { OnErr result ((vec_capacity bytes.old ≤ vec_capacity bytes.new) × (frame.old.room ≤ frame.new.room)) }
+{
+    let from = bytes.len();
+    let all = (solo_record_length(block) as usize)
+        .checked_add(more)
+        .ok_or(OutOfMemory)?;
+    make_room(bytes, frame, all)?;
+    encode_solo(txn, parent, block, bytes).unwrap();
+    frame.add(&bytes[from..]).unwrap();
+    Ok(())
 }
 
 impl Journal {
     /// No records. It takes memory for an empty frame.
     pub fn new(alloc: Global) -> Result<Self, OutOfMemory>
-        ensures { IfOk result (λ j. j ≡ record { since = []; taken = 0 }) }
+        ensures { IfOk result (λ j. j ≡ record { since = []; taken = 0; promised = 0 }) }
     {
         Ok(Journal {
             bytes: Vec::new(alloc),
             frame: Frame::new(alloc)?,
             count: 0,
             taken: 0,
+            promised: 0,
         })
     }
 
@@ -133,50 +193,68 @@ impl Journal {
 
     /// The records that aren't flushed, as a batch.
     pub fn frame(&self) -> &Frame
-        ensures { result.now ≡ body_bytes (waiting self.now) }
+        ensures body { result.now.body ≡ body_bytes (waiting self.now) }
+        ensures records { result.now.records ≡ length (waiting self.now) }
     {
         &self.frame
     }
 
     /// All records are flushed. The frame keeps its room.
     pub fn flushed(&mut self)
-        ensures { self.new ≡ record { since = self.old.since; taken = length self.old.since } }
+        ensures { self.new ≡ record self.old { taken = length self.old.since } }
     {
         self.taken = self.count;
         self.frame.clear();
     }
 
-    /// The records that aren't taken yet, as a batch; they are taken then. Unchanged where memory for the next one is refused.
+    /// The records that aren't taken yet, as a batch; they are taken then. It takes memory for the next batch, with
+    /// what is promised; unchanged where that is refused.
     pub fn take_frame(&mut self, alloc: Global) -> Result<Frame, OutOfMemory>
-        ensures frame { IfOk result (λ frame. frame ≡ body_bytes (waiting self.old)) }
-        ensures ok { OnOk result (self.new ≡ record { since = self.old.since; taken = length self.old.since }) }
+        ensures frame { IfOk result (λ frame. (frame.body ≡ body_bytes (waiting self.old)) × (frame.records ≡ length (waiting self.old))) }
+        ensures ok { OnOk result (self.new ≡ record self.old { taken = length self.old.since }) }
         ensures err { OnErr result (self.new ≡ self.old) }
     {
-        let next = Frame::new(alloc)?;
+        let mut next = Frame::new(alloc)?;
+        next.reserve(self.promised)?;
         self.taken = self.count;
         Ok(mem::replace(&mut self.frame, next))
     }
 
-    /// One record more. Unchanged where memory is refused.
-    pub fn push(&mut self, rec: &Record) -> Result<(), OutOfMemory>
-        requires { CanBeSpelled rec.now }
-        ensures ok { OnOk result (self.new ≡ noted self.old rec.now) }
+    /// Promises memory for so many bytes of records more. Unchanged where that is refused.
+    pub fn promise(&mut self, more: usize) -> Result<(), OutOfMemory>
+        ensures ok { OnOk result (self.new ≡ record self.old { promised = self.old.promised + more }) }
         ensures err { OnErr result (self.new ≡ self.old) }
-        ensures small { IsSmall self.new }
     {
-        write(&mut self.bytes, &mut self.frame, rec)?;
-        self.count += 1;
+        let promised = self.promised.checked_add(more).ok_or(OutOfMemory)?;
+        make_room(&mut self.bytes, &mut self.frame, promised)?;
+        self.promised = promised;
         Ok(())
     }
 
-    /// The record of an operation, whose block is borrowed and encoded once.
+    /// One record more, which uses up so many of the promised bytes. Where these are enough it takes no memory;
+    /// unchanged where memory is refused.
+    pub fn push(&mut self, rec: &Record, from: usize) -> Result<(), OutOfMemory>
+        requires { CanBeSpelled rec.now }
+        ensures ok { OnOk result (self.new ≡ noted_from self.old rec.now from) }
+        ensures promised { length (spelling rec.now) ≤ from → from ≤ self.old.promised → IsOk result }
+        ensures err { OnErr result (self.new ≡ self.old) }
+        ensures small { IsSmall self.new }
+    {
+        let promised = self.promised.saturating_sub(from);
+        write(&mut self.bytes, &mut self.frame, rec, promised)?;
+        self.count += 1;
+        self.promised = promised;
+        Ok(())
+    }
+
+    /// The record of an operation, whose block is borrowed and encoded once. What is promised stays so.
     pub fn push_op(&mut self, txn: u64, block: &Block) -> Result<(), OutOfMemory>
         requires { CanBeSpelled (Forward txn block.now) }
         ensures ok { OnOk result (self.new ≡ noted self.old (Forward txn block.now)) }
         ensures err { OnErr result (self.new ≡ self.old) }
         ensures small { IsSmall self.new }
     {
-        write_op(&mut self.bytes, &mut self.frame, txn, block)?;
+        write_op(&mut self.bytes, &mut self.frame, txn, block, self.promised)?;
         self.count += 1;
         Ok(())
     }
@@ -188,8 +266,36 @@ impl Journal {
         ensures err { OnErr result (self.new ≡ self.old) }
         ensures small { IsSmall self.new }
     {
-        write_back(&mut self.bytes, &mut self.frame, txn, block)?;
+        write_back(&mut self.bytes, &mut self.frame, txn, block, self.promised)?;
         self.count += 1;
+        Ok(())
+    }
+
+    /// The same for the operation of a solo, which uses up so many of the promised bytes.
+    pub fn push_solo(
+        &mut self,
+        txn: u64,
+        parent: u64,
+        block: &Block,
+        from: usize,
+    ) -> Result<(), OutOfMemory>
+        requires { CanBeSpelled (Solo txn parent block.now) }
+        ensures ok { OnOk result (self.new ≡ noted_from self.old (Solo txn parent block.now) from) }
+        ensures promised { length (spelling (Solo txn parent block.now)) ≤ from → from ≤ self.old.promised → IsOk result }
+        ensures err { OnErr result (self.new ≡ self.old) }
+        ensures small { IsSmall self.new }
+    {
+        let promised = self.promised.saturating_sub(from);
+        write_solo(
+            &mut self.bytes,
+            &mut self.frame,
+            txn,
+            parent,
+            block,
+            promised,
+        )?;
+        self.count += 1;
+        self.promised = promised;
         Ok(())
     }
 }

@@ -5,6 +5,7 @@ mod error;
 mod journal;
 mod operation;
 mod system;
+mod take_back;
 mod undos;
 mod want;
 
@@ -12,6 +13,7 @@ pub use error::{NotDead, SystemError};
 pub use journal::Journal;
 pub use operation::Operation;
 pub use system::System;
+pub use take_back::TakeBack;
 pub use want::Want;
 
 #[cfg(test)]

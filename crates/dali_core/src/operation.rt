@@ -10,8 +10,8 @@ ghost use Rattle.dali_core.specs.UnderWay.{IsUnderWay};
 use dali_record::{Block, Op};
 use dali_region::{LatchError, Region};
 
-/// The operation that a transaction has open on a region: its block, the set of the words that are still to be written, and how many
-/// new words were. It has some 750 bytes; no call takes memory.
+/// The operation that a transaction has open on a region: its block, the set of the words that are still to be written,
+/// and how many new words were. It has some 750 bytes; no call takes memory.
 #[derive(Drop)]
 pub struct Operation {
     txn: u64,
@@ -21,8 +21,8 @@ pub struct Operation {
 }
 
 impl Operation {
-    /// Latches the region with this number for the transaction, notes what the operation on this key reads, and makes its block. Refused
-    /// exactly as the latch; the region is then as before.
+    /// Latches the region with this number for the transaction, notes what the operation on this key reads, and makes
+    /// its block. Refused exactly as the latch; the region is then as before.
     pub fn start(
         region: &mut Region,
         number: u32,

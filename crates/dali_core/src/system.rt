@@ -1,8 +1,7 @@
 //! The system.
 ghost use Rattle.std.specs.Prelude.{not, true, false, IsSomeAnd, Option as OptionOf, ◌≡◌, ◌≢◌, ◌≤◌, ◌<◌, ◌+◌, ◌^◌, ◌++◌, ◌-◌, [], ◌∷◌, Some, None, Err, length, drop, filter, map, OnOk, OnErr, IfOk, IfErr, IfSome, IsSome, IsOk, ℕ};
-ghost use Rattle.std.specs.FinMap as finite;
-ghost use Rattle.dali_record.specs.declared.records.Record.TheVariants.{Begin, Forward, Back, Done, Commit as CommitRecord, Ended};
-ghost use Rattle.dali_record.specs.Spelling.{CanBeSpelled, record_length};
+ghost use Rattle.dali_record.specs.declared.records.Record.TheVariants.{Begin, Forward, Back, Done, Solo};
+ghost use Rattle.dali_record.specs.Spelling.{CanBeSpelled, IsBlock, IsUndo, is_solo, record_length};
 ghost use Rattle.dali_record.specs.Legal.{dead_of};
 ghost use Rattle.dali_batch.specs.Log.{body_bytes};
 ghost use Rattle.dali_region.specs.State.{touched};
@@ -10,12 +9,16 @@ ghost use Rattle.dali_att.specs.Table.{undos_at, last_of};
 ghost use Rattle.dali_locks.specs.Locks.{IsAnswer};
 ghost use Rattle.dali_locks.specs.declared.mode.LockAnswer.{LockAnswer as AnswerOf};
 ghost use Rattle.dali_system.specs.State.{row_of, state_of};
-ghost use Rattle.dali_att.specs.declared.state.State.TheVariants.{Dead, Cleaning};
+ghost use Rattle.dali_att.specs.declared.state.State.TheVariants.{Dead, Cleaning, Committed};
 ghost use Rattle.dali_system.specs.Loads.{new_system};
-ghost use Rattle.dali_system.specs.Steps.{begun, op_logged, back_logged, done_logged, commit_logged, ended_logged, taken, store_stopped, in_checkpoint, in_state};
+ghost use Rattle.dali_system.specs.Steps.{begun, op_logged, back_logged, solo_logged, done_logged, commit_logged, ended_logged, taken, store_stopped, in_checkpoint, in_state};
 ghost use Rattle.dali_system.specs.Keeps.{HasRoom, moves_to};
 ghost use Rattle.dali_system.specs.Regions.{IsOpen};
 ghost use Rattle.dali_core.specs.Refused.{refusal, stop_refusal, room_of, stop_of};
+ghost use Rattle.dali_core.specs.Rows.{AreRows};
+ghost use Rattle.dali_core.specs.Served.{solo_room};
+ghost use Rattle.dali_core.specs.Served;
+ghost use Rattle.dali_core.specs.Audits.{is_audit, audit_noted, audit_refusal};
 ghost use Rattle.dali_core.specs.Asked.{after_request};
 ghost use Rattle.dali_core.specs.declared.error.SystemError.TheVariants.{OutOfMemory as Memory};
 
@@ -27,15 +30,25 @@ use dali_batch::Frame;
 use dali_bytes::OutOfMemory;
 use dali_geometry::Geometry;
 use dali_locks::{LockAnswer, LockTable, Mode};
-use dali_record::{Answer, Block, Call, Pending, Record, length, op_record_length};
+use dali_record::{
+    Answer, Block, Call, Pending, Record, length, op_record_length, solo_record_length,
+};
 use dali_region::{Receipt, Region};
 use dali_system::{Cause, Refusal};
 use std::alloc::Global;
 use std::marker::Model;
 
-/// The log's end with the records since the load, the table of running transactions, the locks, and why the engine stopped, if it did:
-/// what a main-memory storage manager keeps beside its regions (Bohannon et al., TKDE 2003). Each call that logs leaves the system as
-/// the step of a run does that its clause names.
+// The bytes of a commit's and of an end's record, of the longest record of a solo, and what the begin of an audit may
+// use beyond the limit.
+const END_ROOM: usize = 9;
+
+const SOLO_ROOM: usize = 1017;
+
+const AUDIT_ROOM: u64 = 1 << 20;
+
+/// The log's end with the records since the load, the table of running transactions, the locks, and why the engine
+/// stopped, if it did: what a main-memory storage manager keeps beside its regions (Bohannon et al., TKDE 2003). Each
+/// call that logs leaves the system as the step of a run does that its clause names.
 #[derive(Drop)]
 pub struct System {
     geometry: Geometry,
@@ -52,16 +65,14 @@ pub struct System {
 }
 
 impl Model for System {
-    ghost use Rattle.dali_system.specs.State.{SystemState};
-    ghost use Rattle.dali_core.specs.Coded.{system_code};
+    ghost use Rattle.dali_core.specs.Served.{Served, served_code};
+    ghost use Rattle.dali_core.specs.Fields.{served_of, IsBounded};
 
-    ghost Value = { SystemState };
+    ghost Value = { Served };
 
-    ghost coded = { system_code };
+    ghost coded = { served_code };
 
-    ghost use Rattle.dali_core.specs.Fields.{state_of, IsBounded};
-
-    ghost view = { state_of };
+    ghost view = { served_of };
 
     ghost invariant = { IsBounded };
 }
@@ -79,6 +90,26 @@ fn room(stop: Option<Cause>, end: u64, limit: u64, length: u64) -> Result<(), Sy
         return Err(SystemError::LogFull { end, limit });
     }
     Ok(())
+}
+
+// What is promised for a commit, the solos of so many removals, and the end.
+fn promised_for(removals: usize) -> Result<usize, OutOfMemory>
+    ensures { IfOk result (λ bytes. bytes ≡ Served.promised_for removals) }
+{
+    removals
+        .checked_mul(SOLO_ROOM)
+        .and_then(|solos| solos.checked_add(2 * END_ROOM))
+        .ok_or(OutOfMemory)
+}
+
+// What the end of a transaction in this state uses of it.
+fn end_room(state: Option<State>) -> usize
+    ensures { result ≡ Served.end_room state }
+{
+    match state {
+        Some(State::Committed) => END_ROOM,
+        _ => 0,
+    }
 }
 
 // Why no record may follow.
@@ -107,7 +138,8 @@ impl System {
         requires first { first < 2 ^ 63 }
         requires next { next < 2 ^ 63 }
         requires end { end < 2 ^ 63 }
-        ensures { IfOk result (λ system. system ≡ new_system geometry first next end limit) }
+        requires limit { limit < 2 ^ 63 }
+        ensures { IfOk result (λ system. system ≡ record { state = new_system geometry first next end limit; promised = 0 }) }
     {
         Ok(System {
             geometry,
@@ -126,68 +158,76 @@ impl System {
 
     /// The sizes of the database.
     pub fn geometry(&self) -> Geometry
-        ensures { result ≡ self.now.sizes }
+        ensures { result ≡ self.now.state.sizes }
     {
         self.geometry
     }
 
     /// How many records the log has, those before the load among them.
     pub fn records(&self) -> u64
-        ensures { result ≡ self.now.records }
+        ensures { result ≡ self.now.state.records }
     {
         self.first + self.journal.len()
     }
 
+    /// How many records the log had when the system was made.
+    pub fn first(&self) -> u64
+        ensures { result ≡ self.now.state.first }
+    {
+        self.first
+    }
+
     /// The number of the next transaction.
     pub fn next(&self) -> u64
-        ensures { result ≡ self.now.next }
+        ensures { result ≡ self.now.state.next }
     {
         self.next
     }
 
     /// The bytes of all records of the log, those before the load among them.
     pub fn end(&self) -> u64
-        ensures { result ≡ self.now.end }
+        ensures { result ≡ self.now.state.end }
     {
         self.end
     }
 
     /// Why the engine stopped, if it did.
     pub fn stopped(&self) -> Option<Cause>
-        ensures { result ≡ self.now.stop }
+        ensures { result ≡ self.now.state.stop }
     {
         self.stop
     }
 
     /// The spellings of the records since the load, one behind the other.
     pub fn logged(&self) -> &[u8]
-        ensures { result.now ≡ body_bytes self.now.since }
+        ensures { result.now ≡ body_bytes self.now.state.since }
     {
         self.journal.bytes()
     }
 
     /// The running transactions with what takes each of them back.
     pub fn table(&self) -> &Att<Pending>
-        ensures { result.now ≡ self.now.table }
+        ensures table { result.now ≡ self.now.state.table }
+        ensures rows { AreRows self.now.state.next self.now.state.table }
     {
         &self.table
     }
 
-    /// Begins a transaction, and answers its number. Refused as any record that uses room; it takes memory for its row and its record.
+    /// Begins a transaction, and answers its number. Refused as any record that uses room; it takes memory for its row
+    /// and its record.
     pub fn begin(&mut self) -> Result<(u64, Receipt), SystemError>
-        requires fresh { finite.get self.old.table self.old.next ≡ None }
-        ensures ok { OnOk result (self.new ≡ begun self.old) }
-        ensures number { IfOk result (λ given. (given.0 ≡ self.old.next) × (given.1.number ≡ self.old.records)) }
-        ensures room { OnOk result (HasRoom self.old (Begin self.old.next)) }
+        ensures ok { OnOk result (self.new ≡ record self.old { state = begun self.old.state }) }
+        ensures number { IfOk result (λ given. (given.0 ≡ self.old.state.next) × (given.1.number ≡ self.old.state.records)) }
+        ensures room { OnOk result (HasRoom self.old.state (Begin self.old.state.next)) }
         ensures err { OnErr result (self.new ≡ self.old) }
-        ensures refused { IfSome (refusal self.old 9) (λ e. result ≡ Err e) }
-        ensures memory { refusal self.old 9 ≡ None → IfErr result (λ e. e ≡ Memory) }
+        ensures refused { IfSome (refusal self.old.state 9) (λ e. result ≡ Err e) }
+        ensures memory { refusal self.old.state 9 ≡ None → IfErr result (λ e. e ≡ Memory) }
     {
         room(self.stop, self.end, self.limit, 9)?;
         let number = self.records();
         let txn = self.next;
         self.table.begin(txn)?;
-        if self.journal.push(&Record::Begin { txn }).is_err() {
+        if self.journal.push(&Record::Begin { txn }, 0).is_err() {
             self.table.end(txn);
             return Err(SystemError::OutOfMemory);
         }
@@ -198,11 +238,11 @@ impl System {
 
     /// Asks for a key in a mode. A Busy answer is kept. Refused where the engine is stopped; it takes memory.
     pub fn request(&mut self, txn: u64, key: u64, mode: Mode) -> Result<LockAnswer, SystemError>
-        ensures answer { IfOk result (IsAnswer self.old.locks txn key mode) }
-        ensures ok { IfOk result (λ answer. self.new ≡ after_request self.old txn key mode answer) }
+        ensures answer { IfOk result (IsAnswer self.old.state.locks txn key mode) }
+        ensures ok { IfOk result (λ answer. self.new ≡ record self.old { state = after_request self.old.state txn key mode answer }) }
         ensures err { OnErr result (self.new ≡ self.old) }
-        ensures refused { IfSome (stop_refusal self.old) (λ e. result ≡ Err e) }
-        ensures memory { stop_refusal self.old ≡ None → IfErr result (λ e. e ≡ Memory) }
+        ensures refused { IfSome (stop_refusal self.old.state) (λ e. result ≡ Err e) }
+        ensures memory { stop_refusal self.old.state ≡ None → IfErr result (λ e. e ≡ Memory) }
     {
         running(self.stop)?;
         let at = self.records();
@@ -229,14 +269,14 @@ impl System {
         block: &Block,
     ) -> Result<Receipt, SystemError>
         requires spelled { CanBeSpelled (Forward txn block.now) }
-        requires running { IsSome (row_of self.old txn) }
+        requires running { IsSome (row_of self.old.state txn) }
         requires open { IsOpen region.old txn block.now }
-        ensures ok { OnOk result ((self.new ≡ op_logged self.old txn block.now) × (region.new ≡ touched region.old)) }
-        ensures number { IfOk result (λ receipt. receipt.number ≡ self.old.records) }
-        ensures room { OnOk result (HasRoom self.old (Forward txn block.now)) }
+        ensures ok { OnOk result ((self.new ≡ record self.old { state = op_logged self.old.state txn block.now }) × (region.new ≡ touched region.old)) }
+        ensures number { IfOk result (λ receipt. receipt.number ≡ self.old.state.records) }
+        ensures room { OnOk result (HasRoom self.old.state (Forward txn block.now)) }
         ensures err { OnErr result ((self.new ≡ self.old) × (region.new ≡ region.old)) }
-        ensures refused { IfSome (refusal self.old (record_length (Forward txn block.now))) (λ e. result ≡ Err e) }
-        ensures memory { refusal self.old (record_length (Forward txn block.now)) ≡ None → IfErr result (λ e. e ≡ Memory) }
+        ensures refused { IfSome (refusal self.old.state (record_length (Forward txn block.now))) (λ e. result ≡ Err e) }
+        ensures memory { refusal self.old.state (record_length (Forward txn block.now)) ≡ None → IfErr result (λ e. e ≡ Memory) }
     {
         let length = op_record_length(txn, block);
         room(self.stop, self.end, self.limit, length)?;
@@ -260,12 +300,12 @@ impl System {
     ) -> Result<Receipt, SystemError>
         requires spelled { CanBeSpelled (Back txn block.now) }
         requires open { IsOpen region.old txn block.now }
-        ensures ok { OnOk result ((self.new ≡ back_logged self.old txn block.now) × (region.new ≡ touched region.old)) }
-        ensures number { IfOk result (λ receipt. receipt.number ≡ self.old.records) }
-        ensures runs { OnOk result (self.old.stop ≡ None) }
+        ensures ok { OnOk result ((self.new ≡ record self.old { state = back_logged self.old.state txn block.now }) × (region.new ≡ touched region.old)) }
+        ensures number { IfOk result (λ receipt. receipt.number ≡ self.old.state.records) }
+        ensures runs { OnOk result (self.old.state.stop ≡ None) }
         ensures err { OnErr result ((self.new ≡ self.old) × (region.new ≡ region.old)) }
-        ensures refused { IfSome (stop_refusal self.old) (λ e. result ≡ Err e) }
-        ensures memory { stop_refusal self.old ≡ None → IfErr result (λ e. e ≡ Memory) }
+        ensures refused { IfSome (stop_refusal self.old.state) (λ e. result ≡ Err e) }
+        ensures memory { stop_refusal self.old.state ≡ None → IfErr result (λ e. e ≡ Memory) }
     {
         running(self.stop)?;
         let number = self.records();
@@ -276,15 +316,70 @@ impl System {
         Ok(Receipt { number })
     }
 
+    /// Logs the operation that frees what a committed transaction removed, under a number of its own. It uses no room;
+    /// it takes memory only where fewer bytes are promised than the longest such record has.
+    pub fn solo_op(
+        &mut self,
+        region: &mut Region,
+        parent: u64,
+        block: &Block,
+    ) -> Result<Receipt, SystemError>
+        requires spelled { IsBlock block.now × (is_solo block.now.op ≡ true) }
+        requires open { IsOpen region.old parent block.now }
+        ensures ok { OnOk result ((self.new ≡ record { state = solo_logged self.old.state parent block.now; promised = self.old.promised - solo_room }) × (region.new ≡ touched region.old)) }
+        ensures promised { stop_refusal self.old.state ≡ None → solo_room ≤ self.old.promised → IsOk result }
+        ensures number { IfOk result (λ receipt. receipt.number ≡ self.old.state.records) }
+        ensures runs { OnOk result (self.old.state.stop ≡ None) }
+        ensures err { OnErr result ((self.new ≡ self.old) × (region.new ≡ region.old)) }
+        ensures refused { IfSome (stop_refusal self.old.state) (λ e. result ≡ Err e) }
+        ensures memory { stop_refusal self.old.state ≡ None → IfErr result (λ e. e ≡ Memory) }
+    {
+        running(self.stop)?;
+        let number = self.records();
+        let length = solo_record_length(block);
+        self.journal.push_solo(self.next, parent, block, SOLO_ROOM)?;
+        self.end += length;
+        self.next += 1;
+        region.touch();
+        Ok(Receipt { number })
+    }
+
+    /// Logs a record of an audit; one that failed stops the engine. The begin of an audit is refused as a record that
+    /// uses room, but its limit is 1 MiB larger; the end of one uses no room. It takes memory for its record.
+    pub fn note(&mut self, rec: &Record) -> Result<Receipt, SystemError>
+        requires spelled { CanBeSpelled rec.now }
+        requires audit { is_audit rec.now ≡ true }
+        ensures ok { OnOk result (self.new ≡ record self.old { state = audit_noted self.old.state rec.now }) }
+        ensures number { IfOk result (λ receipt. receipt.number ≡ self.old.state.records) }
+        ensures err { OnErr result (self.new ≡ self.old) }
+        ensures refused { IfSome (audit_refusal self.old.state rec.now) (λ e. result ≡ Err e) }
+        ensures memory { audit_refusal self.old.state rec.now ≡ None → IfErr result (λ e. e ≡ Memory) }
+    {
+        match rec {
+            Record::AuditBegin => room(self.stop, self.end, self.limit + AUDIT_ROOM, 1)?,
+            _ => running(self.stop)?,
+        }
+        let number = self.records();
+        let length = length(rec);
+        self.journal.push(rec, 0)?;
+        self.end += length;
+        if let Record::AuditFail { regions, .. } = rec {
+            if let Some(region) = regions.as_slice().first() {
+                self.stop = Some(Cause::Damage { region: *region });
+            }
+        }
+        Ok(Receipt { number })
+    }
+
     /// Logs the answer of a call. Refused as any record that uses room; it takes memory for its record.
     pub fn done(&mut self, txn: u64, call: &Call, answer: &Answer) -> Result<Receipt, SystemError>
         requires spelled { CanBeSpelled (Done txn call.now answer.now) }
-        ensures ok { OnOk result (self.new ≡ done_logged self.old txn call.now answer.now) }
-        ensures number { IfOk result (λ receipt. receipt.number ≡ self.old.records) }
-        ensures room { OnOk result (HasRoom self.old (Done txn call.now answer.now)) }
+        ensures ok { OnOk result (self.new ≡ record self.old { state = done_logged self.old.state txn call.now answer.now }) }
+        ensures number { IfOk result (λ receipt. receipt.number ≡ self.old.state.records) }
+        ensures room { OnOk result (HasRoom self.old.state (Done txn call.now answer.now)) }
         ensures err { OnErr result (self.new ≡ self.old) }
-        ensures refused { IfSome (refusal self.old (record_length (Done txn call.now answer.now))) (λ e. result ≡ Err e) }
-        ensures memory { refusal self.old (record_length (Done txn call.now answer.now)) ≡ None → IfErr result (λ e. e ≡ Memory) }
+        ensures refused { IfSome (refusal self.old.state (record_length (Done txn call.now answer.now))) (λ e. result ≡ Err e) }
+        ensures memory { refusal self.old.state (record_length (Done txn call.now answer.now)) ≡ None → IfErr result (λ e. e ≡ Memory) }
     {
         let rec = Record::Done {
             txn,
@@ -294,54 +389,64 @@ impl System {
         let length = length(&rec);
         room(self.stop, self.end, self.limit, length)?;
         let number = self.records();
-        self.journal.push(&rec)?;
+        self.journal.push(&rec, 0)?;
         self.end += length;
         Ok(Receipt { number })
     }
 
-    /// The removals of a transaction, in the order of its list: what its solos free once it is committed.
+    /// The removals of a transaction, in the order of its list: what its solos free once it is committed. Memory is
+    /// promised for its commit, these solos and its end: they take none then, whatever others log in between, where
+    /// each transaction that commits was made ready and frees just what it was told. What a transaction doesn't use
+    /// stays promised. It takes memory for both.
     pub fn ready(&mut self, alloc: Global, txn: u64) -> Result<Vec<Pending>, SystemError>
-        ensures removals { IfOk result (λ removed. removed.items ≡ dead_of (undos_at self.old.table txn)) }
-        ensures same { self.new ≡ self.old }
-        ensures refused { IfSome (stop_refusal self.old) (λ e. result ≡ Err e) }
-        ensures memory { stop_refusal self.old ≡ None → IfErr result (λ e. e ≡ Memory) }
+        ensures removals { IfOk result (λ removed. removed.items ≡ dead_of (undos_at self.old.state.table txn)) }
+        ensures ok { OnOk result (self.new ≡ record self.old { promised = self.old.promised + Served.promised_for (length (dead_of (undos_at self.old.state.table txn))) }) }
+        ensures err { OnErr result (self.new ≡ self.old) }
+        ensures refused { IfSome (stop_refusal self.old.state) (λ e. result ≡ Err e) }
+        ensures memory { stop_refusal self.old.state ≡ None → IfErr result (λ e. e ≡ Memory) }
     {
         running(self.stop)?;
         let removed = undos::removals(alloc, self.table.undos(txn))?;
+        self.journal.promise(promised_for(removed.len())?)?;
         Ok(removed)
     }
 
-    /// Logs the commit of a transaction, whose undos are gone from then on. It uses no room; it takes memory for its record.
+    /// Logs the commit of a transaction, whose undos are gone from then on. It uses no room. Its record has 9 bytes: it
+    /// takes memory only where fewer are promised.
     pub fn commit(&mut self, txn: u64) -> Result<Receipt, SystemError>
-        requires running { IsSome (row_of self.old txn) }
-        ensures ok { OnOk result (self.new ≡ commit_logged self.old txn) }
-        ensures number { IfOk result (λ receipt. receipt.number ≡ self.old.records) }
-        ensures runs { OnOk result (self.old.stop ≡ None) }
+        requires running { IsSome (row_of self.old.state txn) }
+        ensures ok { OnOk result (self.new ≡ record { state = commit_logged self.old.state txn; promised = self.old.promised - 9 }) }
+        ensures promised { stop_refusal self.old.state ≡ None → 9 ≤ self.old.promised → IsOk result }
+        ensures number { IfOk result (λ receipt. receipt.number ≡ self.old.state.records) }
+        ensures runs { OnOk result (self.old.state.stop ≡ None) }
         ensures err { OnErr result (self.new ≡ self.old) }
-        ensures refused { IfSome (stop_refusal self.old) (λ e. result ≡ Err e) }
-        ensures memory { stop_refusal self.old ≡ None → IfErr result (λ e. e ≡ Memory) }
+        ensures refused { IfSome (stop_refusal self.old.state) (λ e. result ≡ Err e) }
+        ensures memory { stop_refusal self.old.state ≡ None → IfErr result (λ e. e ≡ Memory) }
     {
         running(self.stop)?;
         let number = self.records();
-        self.journal.push(&Record::Commit { txn })?;
+        self.journal.push(&Record::Commit { txn }, END_ROOM)?;
         self.table.clear(txn);
         self.table.set_state(txn, State::Committed);
         self.end += 9;
         Ok(Receipt { number })
     }
 
-    /// Logs that a transaction has ended: its row and its locks go. It uses no room; it takes memory for its record.
+    /// Logs that a transaction has ended: its row and its locks go. It uses no room. Where the transaction is committed
+    /// it takes memory only where fewer than its 9 bytes are promised.
     pub fn ended(&mut self, txn: u64) -> Result<Receipt, SystemError>
-        ensures ok { OnOk result (self.new ≡ ended_logged self.old txn) }
-        ensures number { IfOk result (λ receipt. receipt.number ≡ self.old.records) }
-        ensures runs { OnOk result (self.old.stop ≡ None) }
+        ensures ok { OnOk result (self.new ≡ record { state = ended_logged self.old.state txn; promised = self.old.promised - Served.end_room (state_of self.old.state txn) }) }
+        ensures promised { stop_refusal self.old.state ≡ None → state_of self.old.state txn ≡ Some Committed → 9 ≤ self.old.promised → IsOk result }
+        ensures number { IfOk result (λ receipt. receipt.number ≡ self.old.state.records) }
+        ensures runs { OnOk result (self.old.state.stop ≡ None) }
         ensures err { OnErr result (self.new ≡ self.old) }
-        ensures refused { IfSome (stop_refusal self.old) (λ e. result ≡ Err e) }
-        ensures memory { stop_refusal self.old ≡ None → IfErr result (λ e. e ≡ Memory) }
+        ensures refused { IfSome (stop_refusal self.old.state) (λ e. result ≡ Err e) }
+        ensures memory { stop_refusal self.old.state ≡ None → IfErr result (λ e. e ≡ Memory) }
     {
         running(self.stop)?;
         let number = self.records();
-        self.journal.push(&Record::Ended { txn })?;
+        let from = end_room(self.table.state(txn));
+        self.journal.push(&Record::Ended { txn }, from)?;
         self.table.end(txn);
         self.locks.release_all(txn);
         self.end += 9;
@@ -350,21 +455,22 @@ impl System {
 
     /// The records that aren't flushed, as a batch.
     pub fn frame(&self) -> &Frame
-        ensures { result.now ≡ body_bytes (drop self.now.taken self.now.since) }
+        ensures body { result.now.body ≡ body_bytes (drop self.now.state.taken self.now.state.since) }
+        ensures records { result.now.records ≡ length (drop self.now.state.taken self.now.state.since) }
     {
         self.journal.frame()
     }
 
     /// All records are flushed.
     pub fn flushed(&mut self)
-        ensures { self.new ≡ taken self.old }
+        ensures { self.new ≡ record self.old { state = taken self.old.state } }
     {
         self.journal.flushed();
     }
 
     /// The store failed. A cause that stands already stays.
     pub fn stop(&mut self)
-        ensures { self.new ≡ store_stopped self.old }
+        ensures { self.new ≡ record self.old { state = store_stopped self.old.state } }
     {
         if self.stop.is_none() {
             self.stop = Some(Cause::Store);
@@ -373,29 +479,30 @@ impl System {
 
     /// The last undo of a transaction, if it has one.
     pub fn last_undo(&self, txn: u64) -> Option<Pending>
-        ensures { result ≡ last_of (undos_at self.now.table txn) }
+        ensures last { result ≡ last_of (undos_at self.now.state.table txn) }
+        ensures undoes { IfSome result (λ u. IsUndo u.undo) }
     {
         self.table.last(txn).copied()
     }
 
     /// The state of a transaction of the table.
     pub fn state(&self, txn: u64) -> Option<State>
-        ensures { result ≡ state_of self.now txn }
+        ensures { result ≡ state_of self.now.state txn }
     {
         self.table.state(txn)
     }
 
     /// The requests that were refused since the load.
     pub fn refusals(&self) -> &[Refusal]
-        ensures { result.now ≡ self.now.refusals }
+        ensures { result.now ≡ self.now.state.refusals }
     {
         &self.refusals
     }
 
     /// Sets the checkpoint's flag; false exactly where it was set.
     pub fn start_copy(&mut self) -> bool
-        ensures was { result ≡ not self.old.checking }
-        ensures set { self.new ≡ in_checkpoint self.old true }
+        ensures was { result ≡ not self.old.state.checking }
+        ensures set { self.new ≡ record self.old { state = in_checkpoint self.old.state true } }
     {
         let was = self.checking;
         self.checking = true;
@@ -404,24 +511,25 @@ impl System {
 
     /// Clears the checkpoint's flag.
     pub fn end_copy(&mut self)
-        ensures { self.new ≡ in_checkpoint self.old false }
+        ensures { self.new ≡ record self.old { state = in_checkpoint self.old.state false } }
     {
         self.checking = false;
     }
 
-    /// The client of a transaction died, in an operation on this region or in none; or who had claimed it gives the claim back.
+    /// The client of a transaction died, in an operation on this region or in none; or who had claimed it gives the
+    /// claim back.
     pub fn mark_dead(&mut self, txn: u64, latched: Option<u32>)
-        requires moves { IsSomeAnd (state_of self.old txn) (λ state. moves_to state (Dead latched) ≡ true) }
-        ensures { self.new ≡ in_state self.old txn (Dead latched) }
+        requires moves { IsSomeAnd (state_of self.old.state txn) (λ s. moves_to s (Dead latched) ≡ true) }
+        ensures { self.new ≡ record self.old { state = in_state self.old.state txn (Dead latched) } }
     {
         self.table.set_state(txn, State::Dead { latched });
     }
 
     /// Claims a dead transaction, and answers the region that is still latched for it.
     pub fn claim(&mut self, txn: u64) -> Result<Option<u32>, NotDead>
-        ensures ok { IfOk result (λ latched. (state_of self.old txn ≡ Some (Dead latched)) × (self.new ≡ in_state self.old txn (Cleaning latched))) }
+        ensures ok { IfOk result (λ latched. (state_of self.old.state txn ≡ Some (Dead latched)) × (self.new ≡ record self.old { state = in_state self.old.state txn (Cleaning latched) })) }
         ensures err { OnErr result (self.new ≡ self.old) }
-        ensures not_dead { OnErr result ((latched : OptionOf ℕ) → state_of self.old txn ≡ Some (Dead latched) → ⊥) }
+        ensures not_dead { OnErr result ((latched : OptionOf ℕ) → state_of self.old.state txn ≡ Some (Dead latched) → ⊥) }
     {
         match self.table.state(txn) {
             Some(State::Dead { latched }) => {
@@ -432,10 +540,11 @@ impl System {
         }
     }
 
-    /// Takes the records that aren't taken yet as a batch, to be flushed. Unchanged where memory for the next one is refused.
+    /// Takes the records that aren't taken yet as a batch, to be flushed. Unchanged where memory for the next one is
+    /// refused.
     pub fn take_frame(&mut self, alloc: Global) -> Result<Frame, OutOfMemory>
-        ensures frame { IfOk result (λ frame. frame ≡ body_bytes (drop self.old.taken self.old.since)) }
-        ensures ok { OnOk result (self.new ≡ taken self.old) }
+        ensures frame { IfOk result (λ frame. (frame.body ≡ body_bytes (drop self.old.state.taken self.old.state.since)) × (frame.records ≡ length (drop self.old.state.taken self.old.state.since))) }
+        ensures ok { OnOk result (self.new ≡ record self.old { state = taken self.old.state }) }
         ensures err { OnErr result (self.new ≡ self.old) }
     {
         self.journal.take_frame(alloc)

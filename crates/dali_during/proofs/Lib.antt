@@ -11,11 +11,14 @@ pub mod Rows
 pub mod Runs
 pub mod Shows
 pub mod Ends
+pub mod UndosFind
 pub mod UnpokedCourses
+pub mod Ascends
 pub mod Reported
 pub mod Lives
 pub mod Gaps
 pub mod OpenGaps
+pub mod CutsFind
 pub mod Same
 pub mod Whole
 pub mod Life

@@ -33,6 +33,7 @@ use Rattle.dali_system.specs.Run.{Bases, RunsOn, is_committed, IsRow}
 use Rattle.dali_facts.proofs.Begun.{holds_the_begun}
 use Rattle.dali_facts.proofs.Commits.{Com, com_all}
 use Rattle.dali_during.specs.Reported.{named_deleted, reported, ReportsAllDeleted, kept_row, TableIsKept}
+use Rattle.dali_during.proofs.Ascends.{Up, increasing, same_increasing, deleted_up}
 use Rattle.dali_during.proofs.EpochNow.{starts_at}
 
 -- ---- the lists, epoch by epoch
@@ -103,9 +104,16 @@ reports_all_deleted L legal = record {
     (λ c. (is_deleted_is_chain L t).0 (sym (same t) ∙ has_from_Contains (reported L) t c)),
     (λ d. Contains-from_has (reported L) t (same t ∙ (is_deleted_is_chain L t).1 d)),
   );
-  ascend = λ e c. deleted_list_ascends (sizes_of L) L e legal.rules c;
+  each_ascends = λ e c. deleted_list_ascends (sizes_of L) L e legal.rules c;
+  ascends = increasing (reported L) up;
+  replayed = λ r is. sym (same_increasing (reported L) r.deleted up is.ascends (λ t. both_ways (has (reported L) t) (has r.deleted t)
+      (λ h. has_from_Contains r.deleted t ((is.deleted t).1 ((is_deleted_is_chain L t).0 (sym (same t) ∙ h))))
+      (λ h. same t ∙ (is_deleted_is_chain L t).1 ((is.deleted t).0 (Contains-from_has r.deleted t h)))));
 }
   where
+    up : Up (reported L)
+    up = subst Up (sym (epoch_by_epoch (sizes_of L) L legal)) (deleted_up (sizes_of L) L legal.rules)
+
     same : (t : ℕ) → has (reported L) t ≡ is_deleted L t
     same t = ap (λ ds. has ds t) (epoch_by_epoch (sizes_of L) L legal) ∙ has_each t (epochs L) (has_own (sizes_of L) L t legal)
 

@@ -26,7 +26,9 @@ use Rattle.dali_crash.specs.CrashLogs.{cut_to, IsUnpoked}
 use Rattle.dali_crash.specs.Restarts.{HasRightBase}
 use Rattle.dali_crash.proofs.CrashLogs.{cut_parts}
 use Rattle.dali_crash.proofs.Courses.{starts_run, course_keeps_the_base, honest_before}
-use Rattle.dali_during.specs.During.{IsRightBase, NoneFailed, CourseIsQuiet, UnpokedCourses, UnpokedStoreCourses}
+use Rattle.dali_undos.specs.AsLeft.{FindAsLeft}
+use Rattle.dali_during.proofs.UndosFind.{undos_find_in_runs}
+use Rattle.dali_during.specs.During.{IsRightBase, image_of, NoneFailed, CourseIsQuiet, UnpokedCourses, UnpokedStoreCourses}
 use Rattle.dali_crash.proofs.Unpoked.{NonePoked, NoneFails, IsClean, none_loaded, course_unpoked, none_failing, none_fails_take, course_clean, store_course_unpoked, store_course_clean}
 use Rattle.dali_during.proofs.Runs.{right_bases, indexed_in_runs, quiet_in_runs}
 use Rattle.dali_during.proofs.Shows.{shows_what_is_expected}
@@ -65,6 +67,7 @@ course_is_quiet : (bases : Bases) (L : List Record) (n : Moment) → Quiet bases
 course_is_quiet bases L n q = record {
   indexed = indexed_in_runs bases n.log n.core runs unpoked base;
   quiet = quiet_in_runs bases n.log n.core runs unpoked base;
+  undos = λ order permutes. subst (λ b. FindAsLeft b (last_epoch n.log).records (image_of n.core) order) q.right.base (undos_find_in_runs bases n.log n.core runs unpoked base order permutes);
   shows = λ idle. shows_what_is_expected bases n.log n.core runs unpoked q.right whole idle;
   none_failed = none_failed;
   none_failed_after = none_failed_after;

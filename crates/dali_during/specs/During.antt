@@ -8,11 +8,12 @@
 --     TakenBackInRuns          a transaction that has taken all back leaves each key of its blocks the records from before its first block on it
 --     TakenBackSince, TakenBackAtItsEnd      those that the regions had then, and once its Ended is logged
 --     ShowsWhatIsExpected      where no transaction runs, the regions have the records that the log is expected to leave
---     UnpokedCourses           from a core that a format or a restart hands out, after any steps without a stray write, all of this holds;
+--     UnpokedCourses           from a core that a format or a restart hands out, after any steps without a stray write, all of this holds,
+--                              each undo finds its slot as its transaction left it;
 --                              and where no audit failed before, nobody is deleted in any epoch, now and in what a crash leaves
 --     UnpokedStoreCourses      so it is of a core with its store, with the steps of checkpoints among the others
 --     RightBases               the base of a run behind epochs from which no damage escaped is such a base
-use Rattle.std.specs.Prelude.{◌≡◌, ℕ, ◌<◌, ◌≤◌, length, ◌↔◌, Bool, true, false, ◌⊎◌, List, [], ◌∷◌, ◌++◌, map, take, drop, Some, None, slice_get, Contains}
+use Rattle.std.specs.Prelude.{◌≡◌, ℕ, ◌<◌, ◌≤◌, length, ◌↔◌, Bool, true, false, ◌⊎◌, List, [], ◌∷◌, ◌++◌, map, take, drop, Some, None, slice_get, Contains, IsPermutation}
 use Rattle.std.specs.List.{list_any, AllByRecursion}
 use Rattle.dali_geometry.specs.Sizes.{Sizes}
 use Rattle.dali_record.specs.declared.operations.Outcome.{Outcome}
@@ -32,9 +33,11 @@ use Rattle.dali_region.specs.State.{RegionState}
 use Rattle.dali_record.specs.Legal.{Working, Unwinding, Active, txn_state, sizes_of, Rules, rules_state}
 use Rattle.dali_record.specs.Files.{Files}
 use Rattle.dali_history.specs.Serial.{Map, expected, survivors}
-use Rattle.dali_history.specs.Recovered.{recovered}
+use Rattle.dali_history.specs.Recovered.{recovered, base_of}
 use Rattle.dali_history.specs.History.{IsHistory}
 use Rattle.dali_history.specs.Images.{HasRecords}
+use Rattle.dali_kept.specs.Kept.{uncommitted}
+use Rattle.dali_undos.specs.AsLeft.{FindAsLeft}
 use Rattle.dali_system.specs.State.{TxnRow, CoreState, VaultState, row_of}
 use Rattle.dali_system.specs.Run.{Bases, base_at, log_in, VaultRun, RunsOn, is_committed}
 use Rattle.dali_system.specs.Loads.{new_core}
@@ -144,6 +147,7 @@ NoneFailed L = AllByRecursion (λ e. failing e ≡ []) (epochs L)
 pub record CourseIsQuiet (L : List Record) (n : Moment) : Type 0 where
   pub indexed : IsIndexedNow n.log n.core
   pub quiet : IsQuiet (last_epoch n.log).records
+  pub undos : (order : List ℕ) → IsPermutation order (uncommitted (last_epoch n.log).records) → FindAsLeft (base_of n.core.system.sizes n.log) (last_epoch n.log).records (image_of n.core) order
   pub shows : IsIdle n.core → (m : Map) × (expected n.log ≡ Some m) × HasRecords n.core.system.sizes (map (λ g. g.words) n.core.regions) m
   pub none_failed : NoneFailed L → NoneFailed n.log
   pub none_failed_after : NoneFailed L → (F : Files) → MayLeave n.leave F → NoneFailed (log_in F)

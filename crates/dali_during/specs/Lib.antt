@@ -2,3 +2,4 @@ pub mod During
 pub mod Reported
 pub mod Gaps
 pub mod Whole
+pub mod UndosFind

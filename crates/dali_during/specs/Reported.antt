@@ -1,7 +1,7 @@
 -- What the lists of restarts and the table say, and several lives of a store without stray writes.
 --     named_deleted r          the deleted transactions that a Restarted names
 --     reported L               those of all Restarted records of the log, and those of its open epoch
---     ReportsAllDeleted        these are just the transactions that are deleted by a chain somewhere, ascending within each epoch
+--     ReportsAllDeleted        these are just the transactions that are deleted by a chain somewhere, ascending, and so just a replay's list of them
 --     kept_row t row           a row of the table, as a checkpoint keeps it
 --     TableIsKept              the rows of the table are just those that a checkpoint keeps that starts now
 --     Life, IsLife L x M       a core with its store over the log L, some steps without a stray write, a crash, and its restart, which
@@ -24,6 +24,7 @@ use Rattle.dali_region.specs.declared.Side.{Side}
 use Rattle.dali_history.specs.Serial.{survivors}
 use Rattle.dali_history.specs.History.{IsHistory}
 use Rattle.dali_history.specs.Acknowledged.{IsDeletedByChain}
+use Rattle.dali_replay.specs.Replayed.{Replayed, IsReplay}
 use Rattle.dali_system.specs.State.{TxnRow, VaultState, CoreState, row_of}
 use Rattle.dali_system.specs.Run.{Bases, RunsOn, is_committed, log_in}
 use Rattle.dali_system.specs.Courses.{MayLeave}
@@ -42,11 +43,13 @@ named_deleted _ = []
 abbrev pub reported : List Record → List ℕ
 reported L = flat_map named_deleted L ++ deleted_list (last_epoch L)
 
--- the list of a replay has the same members, and ascends
+-- across all epochs the list ascends, and is the one that a replay finds
 pub record Reports (L : List Record) : Type 0 where
   pub epoch_by_epoch : reported L ≡ flat_map deleted_list (epochs L)
   pub members : (t : ℕ) → Contains (reported L) t ↔ IsDeletedByChain L t
-  pub ascend : (e : Epoch) → Contains (epochs L) e → IsStrictlyIncreasing (deleted_list e)
+  pub each_ascends : (e : Epoch) → Contains (epochs L) e → IsStrictlyIncreasing (deleted_list e)
+  pub ascends : IsStrictlyIncreasing (reported L)
+  pub replayed : (r : Replayed) → IsReplay L r → r.deleted ≡ reported L
 
 abbrev pub ReportsAllDeleted : Type 0
 ReportsAllDeleted = (L : List Record) → IsLegal L → Reports L

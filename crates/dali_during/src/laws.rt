@@ -3,6 +3,7 @@
 ghost use Rattle.dali_during.specs.During.{RightBases, IndexedInRuns, QuietInRuns, TakenBackInRuns, TakenBackSince, TakenBackAtItsEnd, ShowsWhatIsExpected, UnpokedCourses, UnpokedStoreCourses};
 ghost use Rattle.dali_during.specs.Gaps.{CutInInsert, CutInDelete};
 ghost use Rattle.dali_during.specs.Whole.{WorkedLife};
+ghost use Rattle.dali_during.specs.UndosFind.{UndosFindInRuns, RowUndosFind, LastUndoFinds, BacksFindInRuns, FindsInInsert, FindsInDelete, FindsBelow};
 ghost use Rattle.dali_during.specs.Reported.{ReportsAllDeleted, TableIsKept, NobodyIsDeleted};
 
 /// The base of a run behind epochs from which no damage escaped keeps the index's invariant, and nothing in it is dead.
@@ -27,12 +28,22 @@ pub fn a_transaction_is_taken_back_whole()
     ensures ended { TakenBackAtItsEnd }
 {}
 
+/// At each moment each undo finds its slot as its transaction left it, in whatever order the transactions are
+/// taken back, and so did each block that took one back.
+pub fn a_run_finds_each_slot_as_it_was_left()
+    ensures any_order { UndosFindInRuns }
+    ensures rows { RowUndosFind }
+    ensures last { LastUndoFinds }
+    ensures backs { BacksFindInRuns }
+{}
+
 /// Where no transaction runs, the regions have the records that the log is expected to leave.
 pub fn a_run_shows_what_is_expected()
     ensures { ShowsWhatIsExpected }
 {}
 
-/// From a format or a restart on, whatever steps are taken without a stray write, all of this holds, and nobody is deleted in any epoch.
+/// From a format or a restart on, whatever steps are taken without a stray write, all of this holds, and nobody is
+/// deleted in any epoch.
 pub fn without_stray_writes_a_run_is_as_expected()
     ensures { UnpokedCourses }
 {}
@@ -42,7 +53,8 @@ pub fn without_stray_writes_a_run_with_its_store_is_as_expected()
     ensures { UnpokedStoreCourses }
 {}
 
-/// The deleted that the restarts of a log named, with those of its open epoch, are just those that a chain deletes.
+/// The deleted that the restarts of a log named, with those of its open epoch, are just those that a chain deletes,
+/// and one after another the very list that a replay finds.
 pub fn restarts_report_all_that_are_deleted()
     ensures { ReportsAllDeleted }
 {}
@@ -66,6 +78,14 @@ pub fn a_run_cut_in_an_insert()
 /// So has one that is cut off inside a delete, between the two kills.
 pub fn a_run_cut_in_a_delete()
     ensures { CutInDelete }
+{}
+
+/// Inside the insert the cell, and inside the delete the killed cell, stands as it was left, and so does the cell
+/// of the put, once the undos above it are taken back.
+pub fn a_cut_off_run_finds_its_slots()
+    ensures insert { FindsInInsert }
+    ensures delete { FindsInDelete }
+    ensures below { FindsBelow }
 {}
 
 /// From a format on an insert, a delete with its removals, an abort, a death, a checkpoint and a stop: the premises of

@@ -3,7 +3,7 @@ mod Maps
 pub mod Listings
 mod Tables
 mod Named
-mod Runs
+pub mod Runs
 mod First
 pub mod Ordered
 pub mod Rolled

@@ -1,11 +1,16 @@
 -- Commands one after another.
 use Rattle.std.proofs.Common.{◌≡◌, ℕ, ◌+◌, ◌<◌, List, [], ◌∷◌, ◌++◌, length, take, drop, slice_index_or, refl, sym, ◌∙◌, ap, subst, append_assoc}
 use Rattle.std.proofs.lemmas.List.{take_more, take-append-drop}
-use Rattle.std.specs.Prelude.{Option}
+use Rattle.std.specs.Prelude.{Option, Err, IsErrOf}
 use Rattle.dali_store.specs.Store.{Files}
 use Rattle.dali_script.specs.declared.commands.ClientCommand.{ClientCommand}
+use Rattle.dali_engine.specs.declared.engine.Engine.{Engine}
 use Rattle.dali_engine.specs.Acts.{logs, flushes, flushed_by}
-use Rattle.dali_engine.specs.Flushes.{Turn, Acts, ActsAll, Lost, LostIn}
+use Rattle.dali_engine.specs.declared.error.EngineError.{EngineError}
+use Rattle.dali_engine.specs.declared.error.EngineError.TheVariants.{LogFull, OutOfNumbers, OutOfMemory}
+use Rattle.dali_engine.specs.declared.engine.Stage.{Stage}
+use Rattle.dali_engine.specs.Limits.{IsFull, NoNumber, Undone}
+use Rattle.dali_engine.specs.Flushes.{Turn, Acts, ActsAll, Lost, UndoneIn}
 
 -- one item more of the front
 pub front_more : {X : Type 0} (xs : List X) (i : ℕ) (x : X) → i < length xs → x ≡ slice_index_or xs i x → take (i + 1) xs ≡ take i xs ++ x ∷ []
@@ -29,13 +34,23 @@ module _ {V : Type 0} (told : V → Option Files) (may_leave : V → Files → T
 
   pub is_lost : (commands : List ClientCommand) (i : ℕ) (command : ClientCommand) (start now : Turn V) (store : V) → i < length commands → command ≡ slice_index_or commands i command
       → ActsAll told may_leave moment left_since faults (take i commands) start now
-      → Lost told may_leave moment left_since faults (flushes now.engine now.stage command) (logs now.engine now.stage command) now.engine.end (flushed_by now.engine now.stage command) now.store store → LostIn told may_leave moment left_since faults commands start store
-  is_lost commands i command start now store within is all lost = record {
-    done = take i commands;
-    command = command;
-    later = drop (i + 1) commands;
-    all = split_at commands i command within is;
-    before = now;
-    acts = all;
-    lost = lost;
-  }
+      → Lost told may_leave moment left_since faults (flushes now.engine now.stage command) (logs now.engine now.stage command) now.engine.end (flushed_by now.engine now.stage command) now.store store → (error : EngineError) → Undone error now.engine now.stage command → UndoneIn told may_leave moment left_since faults error commands start store
+  is_lost commands i command start now store within is all lost error undone = (
+    record {
+      done = take i commands;
+      command = command;
+      later = drop (i + 1) commands;
+      all = split_at commands i command within is;
+      before = now;
+      acts = all;
+      lost = lost;
+    },
+    undone,
+  )
+
+-- what the clauses say of each error, said of any
+pub undone : (error : EngineError) (e : Engine) (stage : Stage) (command : ClientCommand) → ((end limit : ℕ) → IsErrOf {T = Unit {0}} (Err error) (LogFull end limit) → IsFull e stage command end limit) → (IsErrOf {T = Unit {0}} (Err error) OutOfNumbers → NoNumber e stage command)
+    → Undone error e stage command
+undone (LogFull end limit) e stage command full numbers = full end limit refl
+undone OutOfNumbers e stage command full numbers = numbers refl
+undone OutOfMemory e stage command full numbers = tt

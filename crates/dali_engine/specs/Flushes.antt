@@ -6,7 +6,7 @@
 --     Does F bytes old new    a command, by what it does in memory and the batch that it adds
 --     Acts c old new          a client's command
 --     ActsAll cs old new      some commands in order
---     Lost flushing rs at bytes old new     a command for which memory was wanting;  LostIn: the last of some commands
+--     Lost flushing rs at bytes old new     a command that wasn't done;  LostIn: the last of some commands;  UndoneIn error: and why
 use Rattle.std.specs.Prelude.{◌≡◌, ◌⊎◌, ℕ, Bool, true, false, List, [], ◌∷◌, ◌++◌, Option, Some, None, IfSome, is_some}
 use Rattle.dali_store.specs.Faults.{Rose}
 use Rattle.dali_store.specs.Store.{Files, LeavesOnly, SameBut}
@@ -21,6 +21,8 @@ use Rattle.dali_engine.specs.declared.engine.Engine.{Engine}
 use Rattle.dali_engine.specs.declared.engine.Stage.{Stage}
 use Rattle.dali_script.specs.declared.names.Name.TheVariants as names
 use Rattle.dali_engine.specs.declared.engine.Cause.{Cause}
+use Rattle.dali_engine.specs.declared.error.EngineError.{EngineError}
+use Rattle.dali_engine.specs.Limits.{Undone}
 use Rattle.dali_engine.specs.Acts.{Acted, act, logs, flushes, flushed_by, stopped_line}
 use Rattle.dali_engine.specs.Held.{Held, value_in, ShowsAll}
 
@@ -68,7 +70,7 @@ module _ {V : Type 0} (told : V → Option Files) (may_leave : V → Files → T
   ActsAll [] old new = new ≡ old
   ActsAll (command ∷ later) old new = (mid : Turn V) × Acts command old mid × ActsAll later mid new
 
-  -- a command for which memory was wanting: nothing was written; or, where it flushes, its batch was added, with these records last, or the store failed in that
+  -- a command that wasn't done: nothing was written; or, where it flushes, its batch was added, with these records last, or the store failed in that
   abbrev pub Lost : Bool → List Record → ℕ → List ℕ → V → V → Type 0
   Lost flushing logged at bytes old new = (new ≡ old) ⊎ ((flushing ≡ true) × AreSpelled logged × ((ok : Bool) × Flushes ok at bytes old new))
 
@@ -81,6 +83,9 @@ module _ {V : Type 0} (told : V → Option Files) (may_leave : V → Files → T
     pub before : Turn V
     pub acts : ActsAll done old before
     pub lost : Lost (flushes before.engine before.stage command) (logs before.engine before.stage command) before.engine.end (flushed_by before.engine before.stage command) before.store new
+
+  abbrev pub UndoneIn : EngineError → List ClientCommand → Turn V → V → Type 0
+  UndoneIn error commands old new = (lost : LostIn commands old new) × Undone error lost.before.engine lost.before.stage lost.command
 
 -- all records are shown, unless the engine is stopped
 abbrev pub ShowsUnless : Option Cause → Held → List Line → List Line → Type 0

@@ -4,6 +4,7 @@ pub mod Finding
 pub mod Order
 pub mod Memory
 pub mod Acts
+pub mod Limits
 pub mod Flushes
 pub mod Opening
 pub mod Standing

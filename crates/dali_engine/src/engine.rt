@@ -1,16 +1,18 @@
 //! What is held in memory while the program is up, and what a client's commands do to it.
-ghost use Rattle.std.specs.Prelude.{◌≡◌, ◌≢◌, ◌≤◌, ◌<◌, ◌+◌, ◌^◌, ◌⊎◌, ◌++◌, ◌∷◌, [], ℕ, Bool, true, false, Option, Some, None, length, map, OnOk, OnErr, IfOk, IfSome, IsTrue, ◌↔◌, is_some, if◌then◌else◌};
+ghost use Rattle.std.specs.Prelude.{◌≡◌, ◌≢◌, ◌≤◌, ◌<◌, ◌+◌, ◌^◌, ◌⊎◌, ◌++◌, ◌∷◌, [], ℕ, Bool, true, false, Option, Some, None, length, map, OnOk, OnErr, IfOk, IfErr, IsErrOf, IfSome, IsTrue, ◌↔◌, is_some, if◌then◌else◌};
 ghost use Rattle.dali_geometry.specs.Sizes.{Sizes};
 ghost use Rattle.dali_record.specs.declared.records.Record.{Record};
-ghost use Rattle.dali_record.specs.Spelling.{spelling, CanBeSpelled};
+ghost use Rattle.dali_record.specs.Spelling.{spelling, record_length, CanBeSpelled};
 ghost use Rattle.dali_region.specs.State.{checked};
+ghost use Rattle.dali_store.specs.Calls.{PassesFewer};
 ghost use Rattle.dali_store.specs.Faults.{Rose};
 ghost use Rattle.dali_record.specs.declared.records.Answer.TheVariants.{Ok as AnswerOk, Exists as AnswerExists};
 ghost use Rattle.dali_engine.specs.Held.{value_in, is_free, answer_of_value, answer_to_get, answer_to_insert as insert_answer, ShowsAll};
 ghost use Rattle.dali_engine.specs.Memory.{failing, poked_at};
 ghost use Rattle.dali_engine.specs.Acts;
 ghost use Rattle.dali_engine.specs.Acts.{log_one, flushed, begun, inserted, got, committed_by, noted, audited, flushed_by};
-ghost use Rattle.dali_engine.specs.Flushes.{Flushes, IsGated, Does, Lost, Acts as ActsBy, ActsAll, LostIn, Shows};
+ghost use Rattle.dali_engine.specs.Limits.{Overruns, NoRoom, NoEnd, IsFull, NoNumber};
+ghost use Rattle.dali_engine.specs.Flushes.{Flushes, IsGated, Does, Lost, Acts as ActsBy, ActsAll, UndoneIn, Shows};
 ghost use Rattle.dali_engine.specs.declared.engine.Stage.{Stage as StageOf};
 ghost use Rattle.dali_engine.specs.declared.engine.Stage.TheVariants.{Outside, Within, LeftOut};
 ghost use Rattle.dali_record.specs.declared.records.Record.TheVariants.{Commit as CommitRecord, Done as DoneRecord};
@@ -20,18 +22,21 @@ ghost use Rattle.dali_script.specs.declared.outputs.Line.TheVariants.{AuditStore
 ghost use Rattle.dali_store.specs.Store.{Files};
 ghost use Rattle.dali_batch.specs.Batch.{IsClosedAt};
 
+use crate::error::EngineError;
 use crate::lines::Lines;
 use crate::memory::Memory;
+use crate::place::Place;
 use crate::records::Records;
-use dali_batch::{Frame, MOST_BYTES, append};
+use crate::waiting::Waiting;
+use dali_batch::{MOST_BYTES, append};
 use dali_bytes::OutOfMemory;
-use dali_record::{Answer, Call, Record, Regions, encode};
+use dali_record::{Answer, Call, Record, Regions, encode, length};
 use dali_script::{ClientCommand, Line, Name};
 use dali_store::Store;
 use dali_words::Value;
 use std::alloc::Global;
 
-// No file is as long as 2^62 bytes; a log that has come near it takes no more.
+// No log ends here or behind: no file is as long as 2^62 bytes.
 const MOST_END: u64 = 1 << 61;
 
 /// Why the engine is stopped.
@@ -119,8 +124,8 @@ pub struct Engine {
     memory: Memory,
     last: u64,
     count: u64,
-    frame: Frame,
-    end: u64,
+    frame: Waiting,
+    end: Place,
     stopped: Option<Cause>,
 }
 
@@ -132,9 +137,10 @@ impl Engine {
         memory: Memory,
         last: u64,
         count: u64,
-        frame: Frame,
+        frame: Waiting,
         end: u64,
     ) -> Self
+        requires { end < 2 ^ 62 }
         ensures fields { (result.records ≡ records) × (result.memory ≡ memory) × (result.last ≡ last) × (result.count ≡ count) × (result.frame ≡ frame) × (result.end ≡ end) × (result.stopped ≡ None) }
     {
         Engine {
@@ -144,49 +150,65 @@ impl Engine {
             last,
             count,
             frame,
-            end,
+            end: Place::new(end),
             stopped: None,
         }
     }
 
-    // One record more in the log; it waits for the next flush. Nothing changes where memory is refused, nor where
-    // more than 2^30 bytes would wait.
-    fn log(&mut self, entry: &Record) -> Result<(), OutOfMemory>
+    // One record more in the log; it waits for the next flush. Nothing changes where it isn't logged: it has no number,
+    // more than 2^30 bytes would wait, or memory is refused.
+    fn log(&mut self, entry: &Record) -> Result<(), EngineError>
         requires { CanBeSpelled entry.now }
         ensures ok { OnOk result (self.new ≡ log_one self.old entry.now) }
         ensures room { OnOk result (self.old.count + 1 < 2 ^ 64) }
         ensures spelled { CanBeSpelled entry.now }
         ensures err { OnErr result (self.new ≡ self.old) }
+        ensures full { (end limit : ℕ) → IsErrOf result (EngineError.LogFull end limit) → Overruns self.old.end self.old.frame entry.now end limit }
+        ensures numbers { IsErrOf result EngineError.OutOfNumbers → 2 ^ 64 ≤ self.old.count + 1 }
+        ensures wanting { IsErrOf result EngineError.OutOfMemory → (self.old.count + 1 < 2 ^ 64) × (length self.old.frame + record_length entry.now ≤ 2 ^ 30) }
     {
-        let count = self.count.checked_add(1).ok_or(OutOfMemory)?;
+        let Some(count) = self.count.checked_add(1) else {
+            return Err(EngineError::OutOfNumbers);
+        };
+        let end = self.end.at() + self.frame.len() as u64;
+        let limit = self.end.at() + MOST_BYTES as u64;
+        if length(entry) > limit - end {
+            return Err(EngineError::LogFull { end, limit });
+        }
         let mut bytes = Vec::new(self.alloc);
         encode(entry, &mut bytes)?;
-        if self.frame.len() + bytes.len() > MOST_BYTES as usize {
-            return Err(OutOfMemory);
-        }
         self.frame.add(&bytes)?;
         self.count = count;
         Ok(())
     }
 
-    // Adds what waits to the log's file, as one batch. It answers whether the store took it.
-    fn flush<V: Store>(&mut self, store: &mut V) -> Result<bool, OutOfMemory>
+    // Adds what waits to the log's file, as one batch. It answers whether the store took it; it isn't asked where the
+    // log would end too far on.
+    fn flush<V: Store>(&mut self, store: &mut V) -> Result<bool, EngineError>
         requires filled { 0 < length self.old.frame }
         requires running { IfSome (V.told store.old) (λ _. (c : Files) → V.may_leave store.old c → IsClosedAt self.old.end c.log) }
         ensures engine { IfOk result (λ ok. self.new ≡ flushed ok self.old) }
         ensures store { IfOk result (λ ok. Flushes V.told V.may_leave V.moment V.left_since V.faults ok self.old.end self.old.frame store.old store.new) }
         ensures gated { IfOk result (λ ok. ok ≡ true → IfSome (V.told store.new) (λ _. (c : Files) → V.may_leave store.new c → IsClosedAt self.new.end c.log)) }
         ensures later { V.faults store.old ≤ V.faults store.new }
-        ensures memory { OnErr result (store.new ≡ store.old) }
+        ensures passes { PassesFewer (V.lets_pass store.old) (V.lets_pass store.new) }
+        ensures unasked { OnErr result (store.new ≡ store.old) }
+        ensures full { (end limit : ℕ) → IsErrOf result (EngineError.LogFull end limit) → NoEnd self.old.end self.old.frame end limit }
+        ensures numbers { IsErrOf result EngineError.OutOfNumbers → ⊥ }
+        ensures wanting { IsErrOf result EngineError.OutOfMemory → ⊥ }
     {
-        let most = MOST_END - self.frame.len() as u64;
-        if self.end >= most {
-            return Err(OutOfMemory);
+        let at = self.end.at();
+        let end = at + self.frame.len() as u64;
+        if end >= MOST_END {
+            return Err(EngineError::LogFull {
+                end,
+                limit: MOST_END,
+            });
         }
-        match append(store, self.end, &self.frame) {
+        match append(store, at, self.frame.frame()) {
             Ok(next) => {
                 self.frame.clear();
-                self.end = next;
+                self.end = Place::new(next);
                 Ok(true)
             }
             Err(_) => {
@@ -206,19 +228,23 @@ impl Engine {
     }
 
     // Begins a transaction with the next number, unless the engine is stopped.
-    fn begin(&mut self, stage: &mut Stage, lines: &mut Lines) -> Result<(), OutOfMemory>
+    fn begin(&mut self, stage: &mut Stage, lines: &mut Lines) -> Result<(), EngineError>
         ensures engine { OnOk result (self.new ≡ (begun self.old.stopped self.old).engine) }
         ensures stage { OnOk result (stage.new ≡ (begun self.old.stopped self.old).stage) }
         ensures lines { OnOk result (lines.new ≡ lines.old ++ (begun self.old.stopped self.old).lines) }
         ensures spelled { OnOk result (AreSpelled (Acts.begin_logs self.old.stopped self.old)) }
         ensures end { (self.new.end ≡ self.old.end) × (self.new.stopped ≡ self.old.stopped) }
+        ensures full { (end limit : ℕ) → IsErrOf result (EngineError.LogFull end limit) → NoRoom self.old.end self.old.frame (Acts.begin_logs self.old.stopped self.old) end limit }
+        ensures wanting { IsErrOf result EngineError.OutOfMemory → self.old.stopped ≡ None → self.old.last + 1 < 2 ^ 64 }
+        ensures numbers { IsErrOf result EngineError.OutOfNumbers → (2 ^ 64 ≤ (begun self.old.stopped self.old).engine.count) ⊎ (2 ^ 64 ≤ (begun self.old.stopped self.old).engine.last) }
     {
         if let Some(cause) = self.stopped {
             *stage = Stage::LeftOut;
-            return refuse(cause, Name::Begin, lines);
+            return Ok(refuse(cause, Name::Begin, lines)?);
         }
-        // There are no more numbers than this, and no memory for as many transactions.
-        let txn = self.last.checked_add(1).ok_or(OutOfMemory)?;
+        let Some(txn) = self.last.checked_add(1) else {
+            return Err(EngineError::OutOfNumbers);
+        };
         self.log(&Record::Begin { txn })?;
         lines.push(Line::Begin { txn })?;
         self.last = txn;
@@ -232,11 +258,13 @@ impl Engine {
         key: u64,
         value: Value,
         lines: &mut Lines,
-    ) -> Result<(), OutOfMemory>
+    ) -> Result<(), EngineError>
         ensures engine { OnOk result (self.new ≡ inserted txn self.old key value) }
         ensures lines { OnOk result (lines.new ≡ lines.old ++ Acts.insert_line (is_free self.old.records key) ∷ []) }
         ensures spelled { OnOk result (CanBeSpelled (DoneRecord txn (calls.Insert key value) (insert_answer self.old.records key))) }
         ensures end { (self.new.end ≡ self.old.end) × (self.new.stopped ≡ self.old.stopped) }
+        ensures full { (end limit : ℕ) → IsErrOf result (EngineError.LogFull end limit) → NoRoom self.old.end self.old.frame (DoneRecord txn (calls.Insert key value) (insert_answer self.old.records key) ∷ []) end limit }
+        ensures numbers { IsErrOf result EngineError.OutOfNumbers → 2 ^ 64 ≤ self.old.count + 1 }
     {
         let stored = self.records.insert(key, value)?;
         self.log(&Record::Done {
@@ -248,11 +276,13 @@ impl Engine {
         Ok(())
     }
 
-    fn get(&mut self, txn: u64, key: u64, lines: &mut Lines) -> Result<(), OutOfMemory>
+    fn get(&mut self, txn: u64, key: u64, lines: &mut Lines) -> Result<(), EngineError>
         ensures engine { OnOk result (self.new ≡ got txn self.old key) }
         ensures lines { OnOk result (lines.new ≡ lines.old ++ Acts.get_line (answer_to_get self.old.records key) ∷ []) }
         ensures spelled { OnOk result (CanBeSpelled (DoneRecord txn (calls.Get key) (answer_to_get self.old.records key))) }
         ensures end { (self.new.end ≡ self.old.end) × (self.new.stopped ≡ self.old.stopped) }
+        ensures full { (end limit : ℕ) → IsErrOf result (EngineError.LogFull end limit) → NoRoom self.old.end self.old.frame (DoneRecord txn (calls.Get key) (answer_to_get self.old.records key) ∷ []) end limit }
+        ensures numbers { IsErrOf result EngineError.OutOfNumbers → 2 ^ 64 ≤ self.old.count + 1 }
     {
         let found = self.records.get(key);
         self.log(&Record::Done {
@@ -270,7 +300,7 @@ impl Engine {
         txn: u64,
         store: &mut V,
         lines: &mut Lines,
-    ) -> Result<(), OutOfMemory>
+    ) -> Result<(), EngineError>
         requires running { IfSome (V.told store.old) (λ _. (c : Files) → V.may_leave store.old c → IsClosedAt self.old.end c.log) }
         ensures commits { OnOk result (Does V.told V.may_leave V.moment V.left_since V.faults
             (λ ok. committed_by ok txn self.old) (CommitRecord txn ∷ []) (log_one self.old (CommitRecord txn)).frame
@@ -278,7 +308,10 @@ impl Engine {
             (record { engine = self.new; stage = Outside; lines = lines.new; store = store.new })) }
         ensures gated { OnOk result (IsGated V.told V.may_leave self.new store.new) }
         ensures later { V.faults store.old ≤ V.faults store.new }
-        ensures memory { OnErr result (Lost V.told V.may_leave V.moment V.left_since V.faults true (CommitRecord txn ∷ []) self.old.end (log_one self.old (CommitRecord txn)).frame store.old store.new) }
+        ensures passes { PassesFewer (V.lets_pass store.old) (V.lets_pass store.new) }
+        ensures lost { OnErr result (Lost V.told V.may_leave V.moment V.left_since V.faults true (CommitRecord txn ∷ []) self.old.end (log_one self.old (CommitRecord txn)).frame store.old store.new) }
+        ensures full { (end limit : ℕ) → IsErrOf result (EngineError.LogFull end limit) → NoRoom self.old.end self.old.frame (CommitRecord txn ∷ []) end limit ⊎ NoEnd self.old.end (log_one self.old (CommitRecord txn)).frame end limit }
+        ensures numbers { IsErrOf result EngineError.OutOfNumbers → 2 ^ 64 ≤ self.old.count + 2 }
     {
         self.log(&Record::Commit { txn })?;
         if self.flush(store)? {
@@ -312,11 +345,13 @@ impl Engine {
     }
 
     // Compares each region with its codeword and notes both records of the audit. It answers the line of the verdict.
-    fn note(&mut self) -> Result<Line, OutOfMemory>
+    fn note(&mut self) -> Result<Line, EngineError>
         requires { self.old.stopped ≡ None }
         ensures engine { OnOk result (self.new ≡ noted self.old) }
         ensures line { IfOk result (λ line. line ≡ Acts.verdict_line (failing self.old.memory)) }
         ensures spelled { OnOk result (AreSpelled (Acts.audit_logs None self.old)) }
+        ensures full { (end limit : ℕ) → IsErrOf result (EngineError.LogFull end limit) → NoRoom self.old.end self.old.frame (Acts.audit_logs None self.old) end limit }
+        ensures numbers { IsErrOf result EngineError.OutOfNumbers → 2 ^ 64 ≤ self.old.count + 2 }
     {
         let begin = self.count;
         let failing = self.memory.audit(self.alloc)?;
@@ -342,7 +377,7 @@ impl Engine {
     }
 
     // An audit: both records are flushed. A failed one stops the engine.
-    fn audit<V: Store>(&mut self, store: &mut V, lines: &mut Lines) -> Result<(), OutOfMemory>
+    fn audit<V: Store>(&mut self, store: &mut V, lines: &mut Lines) -> Result<(), EngineError>
         requires running { self.old.stopped ≡ None }
         requires gated { IsGated V.told V.may_leave self.old store.old }
         ensures audits { OnOk result (Does V.told V.may_leave V.moment V.left_since V.faults
@@ -351,7 +386,10 @@ impl Engine {
             (record { engine = self.new; stage = Outside; lines = lines.new; store = store.new })) }
         ensures gated { OnOk result (IsGated V.told V.may_leave self.new store.new) }
         ensures later { V.faults store.old ≤ V.faults store.new }
-        ensures memory { OnErr result (Lost V.told V.may_leave V.moment V.left_since V.faults true (Acts.audit_logs None self.old) self.old.end (noted self.old).frame store.old store.new) }
+        ensures passes { PassesFewer (V.lets_pass store.old) (V.lets_pass store.new) }
+        ensures lost { OnErr result (Lost V.told V.may_leave V.moment V.left_since V.faults true (Acts.audit_logs None self.old) self.old.end (noted self.old).frame store.old store.new) }
+        ensures full { (end limit : ℕ) → IsErrOf result (EngineError.LogFull end limit) → NoRoom self.old.end self.old.frame (Acts.audit_logs None self.old) end limit ⊎ NoEnd self.old.end (noted self.old).frame end limit }
+        ensures numbers { IsErrOf result EngineError.OutOfNumbers → 2 ^ 64 ≤ self.old.count + 2 }
     {
         let verdict = self.note()?;
         let taken = self.flush(store)?;
@@ -360,21 +398,25 @@ impl Engine {
     }
 
     /// One command of a client. Out of a transaction an insert, a get and a commit are left out, and in one a begin and
-    /// an audit. It may take memory.
+    /// an audit. `LogFull` and `OutOfNumbers` come only where its records have no room in the log, or no number; of the
+    /// engine nothing is said then, nor where memory is wanting. It may take memory.
     pub fn act<V: Store>(
         &mut self,
         command: &ClientCommand,
         stage: &mut Stage,
         store: &mut V,
         lines: &mut Lines,
-    ) -> Result<(), OutOfMemory>
+    ) -> Result<(), EngineError>
         requires gated { IsGated V.told V.may_leave self.old store.old }
         ensures acts { OnOk result (ActsBy V.told V.may_leave V.moment V.left_since V.faults command.now
             (record { engine = self.old; stage = stage.old; lines = lines.old; store = store.old })
             (record { engine = self.new; stage = stage.new; lines = lines.new; store = store.new })) }
         ensures gated { OnOk result (IsGated V.told V.may_leave self.new store.new) }
         ensures later { V.faults store.old ≤ V.faults store.new }
-        ensures memory { OnErr result (Lost V.told V.may_leave V.moment V.left_since V.faults (Acts.flushes self.old stage.old command.now) (Acts.logs self.old stage.old command.now) self.old.end (flushed_by self.old stage.old command.now) store.old store.new) }
+        ensures passes { PassesFewer (V.lets_pass store.old) (V.lets_pass store.new) }
+        ensures lost { OnErr result (Lost V.told V.may_leave V.moment V.left_since V.faults (Acts.flushes self.old stage.old command.now) (Acts.logs self.old stage.old command.now) self.old.end (flushed_by self.old stage.old command.now) store.old store.new) }
+        ensures full { (end limit : ℕ) → IsErrOf result (EngineError.LogFull end limit) → IsFull self.old stage.old command.now end limit }
+        ensures numbers { IsErrOf result EngineError.OutOfNumbers → NoNumber self.old stage.old command.now }
     {
         match (command, *stage, self.stopped) {
             (ClientCommand::Begin | ClientCommand::Audit, Stage::Within { .. }, _) => Ok(()),
@@ -383,11 +425,11 @@ impl Engine {
                 self.insert(txn, *key, *value, lines)
             }
             (ClientCommand::Insert { .. }, Stage::Within { .. }, Some(cause)) => {
-                refuse(cause, Name::Insert, lines)
+                Ok(refuse(cause, Name::Insert, lines)?)
             }
             (ClientCommand::Get { key }, Stage::Within { txn }, None) => self.get(txn, *key, lines),
             (ClientCommand::Get { .. }, Stage::Within { .. }, Some(cause)) => {
-                refuse(cause, Name::Get, lines)
+                Ok(refuse(cause, Name::Get, lines)?)
             }
             (ClientCommand::Insert { .. } | ClientCommand::Get { .. }, _, _) => Ok(()),
             (ClientCommand::Commit, Stage::Within { txn }, None) => {
@@ -396,34 +438,35 @@ impl Engine {
             }
             (ClientCommand::Commit, Stage::Within { .. }, Some(cause)) => {
                 *stage = Stage::Outside;
-                refuse(cause, Name::Commit, lines)
+                Ok(refuse(cause, Name::Commit, lines)?)
             }
             (ClientCommand::Commit, _, _) => {
                 *stage = Stage::Outside;
                 Ok(())
             }
             (ClientCommand::Poke { region, word, mask }, _, _) => {
-                self.poke(*region, *word, *mask, lines)
+                Ok(self.poke(*region, *word, *mask, lines)?)
             }
             (ClientCommand::Audit, _, None) => self.audit(store, lines),
-            (ClientCommand::Audit, _, Some(cause)) => refuse(cause, Name::Audit, lines),
+            (ClientCommand::Audit, _, Some(cause)) => Ok(refuse(cause, Name::Audit, lines)?),
         }
     }
 
-    /// Runs a client's commands in order. Where memory is wanting, the commands before the one that wanted it are done.
+    /// Runs a client's commands in order. Where one isn't done, those before it are.
     pub fn run_block<V: Store>(
         &mut self,
         commands: &[ClientCommand],
         store: &mut V,
         lines: &mut Lines,
-    ) -> Result<(), OutOfMemory>
+    ) -> Result<(), EngineError>
         requires gated { IsGated V.told V.may_leave self.old store.old }
         ensures acts { OnOk result ((stage : StageOf) × ActsAll V.told V.may_leave V.moment V.left_since V.faults commands.now
             (record { engine = self.old; stage = Outside; lines = lines.old; store = store.old })
             (record { engine = self.new; stage = stage; lines = lines.new; store = store.new })) }
         ensures gated { OnOk result (IsGated V.told V.may_leave self.new store.new) }
         ensures later { V.faults store.old ≤ V.faults store.new }
-        ensures memory { OnErr result (LostIn V.told V.may_leave V.moment V.left_since V.faults commands.now
+        ensures passes { PassesFewer (V.lets_pass store.old) (V.lets_pass store.new) }
+        ensures lost { IfErr result (λ error. UndoneIn V.told V.may_leave V.moment V.left_since V.faults error commands.now
             (record { engine = self.old; stage = Outside; lines = lines.old; store = store.old }) store.new) }
     {
         let mut stage = Stage::Outside;

@@ -3,13 +3,17 @@
 #![tactic(auto)]
 
 mod engine;
+mod error;
 mod finder;
 pub mod laws;
 mod lines;
 mod memory;
 mod opening;
+mod place;
 mod records;
+mod waiting;
 
 pub use engine::{Cause, Engine, Stage};
+pub use error::EngineError;
 pub use lines::Lines;
 pub use opening::{OpenError, format, restart};

@@ -1,5 +1,6 @@
 //! A database is made in a log without batches, or found again in one that has some.
 ghost use Rattle.std.specs.Prelude.{◌≡◌, ◌≤◌, ◌<◌, ◌^◌, ◌∷◌, [], ℕ, List, Option, Some, None, length, IfOk, OnOk, OnErr, ◌⊎◌, IfErr, IfSome, IsNone, IsErrOf, is_some};
+ghost use Rattle.dali_store.specs.Calls.{PassesFewer};
 ghost use Rattle.dali_store.specs.Faults.{Rose, HasCause};
 ghost use Rattle.dali_store.specs.Store.{Files, LeavesOnly, Only};
 ghost use Rattle.dali_record.specs.declared.records.Record.{Record};
@@ -21,7 +22,8 @@ use crate::engine::Engine;
 use crate::finder::Finder;
 use crate::memory::Memory;
 use crate::records::Records;
-use dali_batch::{Frame, LogError, LogReader, is_formatted};
+use crate::waiting::Waiting;
+use dali_batch::{LogError, LogReader, is_formatted};
 use dali_bytes::OutOfMemory;
 use dali_geometry::Geometry;
 use dali_record::{Record, encode};
@@ -90,6 +92,7 @@ fn sync_all<V: Store>(store: &mut V) -> Result<(), StoreFault>
     ensures reads { OnlyReads V.told V.moment V.left_since V.may_leave store.old store.new }
     ensures durable { OnOk result (IfSome (V.told store.old) (λ fs. Only fs (V.may_leave store.new))) }
     ensures cause { HasCause (V.faults store.old) (V.faults store.new) result }
+    ensures passes { PassesFewer (V.lets_pass store.old) (V.lets_pass store.new) }
 {
     store.sync(FileName::Log)?;
     store.sync(FileName::ImageA)?;
@@ -134,6 +137,7 @@ fn find_all<V: Store>(
     ensures reads { OnlyReads V.told V.moment V.left_since V.may_leave store.old store.new }
     ensures fault { IsErrOf result OpenError.Fault → Rose (V.faults store.old) (V.faults store.new) }
     ensures later { V.faults store.old ≤ V.faults store.new }
+    ensures passes { PassesFewer (V.lets_pass store.old) (V.lets_pass store.new) }
 {
     let mut finder = Finder::new(alloc);
     take(&mut finder, Record::Format { index, heap })?;
@@ -146,7 +150,7 @@ fn find_all<V: Store>(
 }
 
 // The first batch of a log.
-fn first_frame(alloc: Global, geometry: &Geometry) -> Result<Frame, OutOfMemory>
+fn first_frame(alloc: Global, geometry: &Geometry) -> Result<Waiting, OutOfMemory>
     ensures body { IfOk result (λ frame. frame ≡ first_body geometry.now) }
     ensures spelled { CanBeSpelled (Format geometry.now.index geometry.now.heap) }
 {
@@ -156,7 +160,7 @@ fn first_frame(alloc: Global, geometry: &Geometry) -> Result<Frame, OutOfMemory>
         heap: geometry.heap(),
     };
     encode(&first, &mut bytes)?;
-    let mut frame = Frame::new(alloc)?;
+    let mut frame = Waiting::new(alloc)?;
     frame.add(&bytes)?;
     Ok(frame)
 }
@@ -166,7 +170,7 @@ fn make<V: Store>(
     alloc: Global,
     geometry: &Geometry,
     memory: Memory,
-    frame: Frame,
+    frame: Waiting,
     store: &mut V,
 ) -> Result<Engine, StoreFault>
     requires unformatted { IfSome (V.told store.old) (λ _. (c : Files) → V.may_leave store.old c → IsUnformatted c.log) }
@@ -179,9 +183,10 @@ fn make<V: Store>(
     ensures any_moment { IfSome (V.told store.old) (λ _. LeavesOnly V.moment V.left_since store.old store.new (FormatLeaves (V.may_leave store.old) (first_body geometry.now))) }
     ensures tells { is_some (V.told store.new) ≡ is_some (V.told store.old) }
     ensures cause { HasCause (V.faults store.old) (V.faults store.new) result }
+    ensures passes { PassesFewer (V.lets_pass store.old) (V.lets_pass store.new) }
 {
     let mut frame = frame;
-    let end = dali_batch::format(store, &frame)?;
+    let end = dali_batch::format(store, frame.frame())?;
     frame.clear();
     Ok(Engine::new(alloc, Records::new(alloc), memory, 0, 1, frame, end))
 }
@@ -204,6 +209,7 @@ pub fn format<V: Store>(
     ensures errors { OnErr result ((IsErrOf result OpenError.Fault) ⊎ (IsErrOf result OpenError.Formatted) ⊎ (IsErrOf result OpenError.OutOfMemory)) }
     ensures fault { IsErrOf result OpenError.Fault → Rose (V.faults store.old) (V.faults store.new) }
     ensures later { V.faults store.old ≤ V.faults store.new }
+    ensures passes { PassesFewer (V.lets_pass store.old) (V.lets_pass store.new) }
 {
     let frame = first_frame(alloc, geometry)?;
     let memory = Memory::formatted(alloc, geometry)?;
@@ -227,13 +233,14 @@ pub fn restart<V: Store>(alloc: Global, store: &mut V) -> Result<(Engine, Vec<u6
     ensures reads { OnlyReads V.told V.moment V.left_since V.may_leave store.old store.new }
     ensures fault { IsErrOf result OpenError.Fault → Rose (V.faults store.old) (V.faults store.new) }
     ensures later { V.faults store.old ≤ V.faults store.new }
+    ensures passes { PassesFewer (V.lets_pass store.old) (V.lets_pass store.new) }
 {
     sync_all(store)?;
     let (mut reader, (index, heap)) = LogReader::open(alloc, store)?;
     let (finder, count) = find_all(alloc, index, heap, &mut reader, store)?;
     let unfinished = finder.unfinished()?;
     let memory = Memory::formatted(alloc, &geometry_of(index, heap))?;
-    let frame = Frame::new(alloc)?;
+    let frame = Waiting::new(alloc)?;
     let last = finder.last();
     let records = finder.into_records();
     let engine = Engine::new(alloc, records, memory, last, count, frame, reader.at());

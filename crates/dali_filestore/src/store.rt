@@ -130,6 +130,8 @@ impl<F: OpenFile + FileExt + Drop, P: Place<F> + Drop> Store for FileStore<F, P>
 
     ghost faults = { λ s. s.faults };
 
+    ghost lets_pass = { λ s. None };
+
     ghost cuts = { λ s choice. None };
 
     ghost reads_now = { λ s. tt };

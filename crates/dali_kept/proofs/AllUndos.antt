@@ -58,7 +58,7 @@ pub left_open : (K : List Record) (t : ℕ) → has (committed K) t ≡ false �
 left_open K t e = rw e refl
 
 -- ---- lists
-none_undos : (k h : ℕ) (K : List Record) (ts : List ℕ) → AreOpen K ts → ((u : ℕ) → u ≢ h → NoneOn k (left u K)) → count h ts ≡ 0 → NoneOn k (undos_in ts K)
+pub none_undos : (k h : ℕ) (K : List Record) (ts : List ℕ) → AreOpen K ts → ((u : ℕ) → u ≢ h → NoneOn k (left u K)) → count h ts ≡ 0 → NoneOn k (undos_in ts K)
 none_undos k h K [] o n c = tt
 none_undos k h K (t ∷ ts) o n c = go (eqb_tells t h) (λ m. none_undos k h K ts o.1 n m)
   where

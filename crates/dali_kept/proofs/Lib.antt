@@ -9,11 +9,11 @@ pub mod SolosKeep
 pub mod KnownTxns
 pub mod InvariantAlong
 pub mod InvariantSteps
-mod UndoOnImage
+pub mod UndoOnImage
 mod AtBase
-mod Counts
+pub mod Counts
 mod OneBegin
-mod AllUndos
+pub mod AllUndos
 mod AnyOrderWords
 mod UndoOrder
 mod FreedImage

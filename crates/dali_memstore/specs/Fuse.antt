@@ -1,15 +1,11 @@
 -- A fuse over a store.
--- Words: inner, passes_of, failed_of, forgetful; one_less, PassesOn, Burns.
-use Rattle.std.specs.Prelude.{◌≡◌, ◌≢◌, ℕ, ◌-◌, Option, Some, None, Result, IsErr}
+-- Words: inner, passes_of, failed_of, forgetful; PassesOn, Burns.
+use Rattle.std.specs.Prelude.{◌≡◌, ◌≢◌, ℕ, Option, Some, Result, IsErr}
+use Rattle.dali_store.specs.Calls.{one_less}
 use Rattle.dali_store.specs.Faults.{HasCause}
 use Rattle.dali_store.specs.declared.store.StoreFault.{StoreFault}
 use Rattle.dali_memstore.specs.Counts.{one_more}
 use Rattle.dali_memstore.specs.declared.fuse.Fuse.{Fuse}
-
--- one call fewer to pass on, where these are counted
-abbrev pub one_less : Option ℕ → Option ℕ
-one_less None = None
-one_less (Some n) = Some (n - 1)
 
 module _ {V : Type 0} where
   -- the store

@@ -1,8 +1,9 @@
 //! A store that passes so many calls on, and fails those that follow.
 ghost use Rattle.std.specs.Prelude.{◌≡◌, ◌≢◌, ◌≤◌, ◌<◌, ◌+◌, ◌^◌, ◌↔◌, Option, Some, None, List, ℕ, length, IfOk, OnOk, IfSome, is_some, IsTrue, if◌then◌else◌};
+ghost use Rattle.dali_store.specs.Calls.{one_less};
 ghost use Rattle.dali_store.specs.Faults.{Rose, HasCause};
 ghost use Rattle.dali_store.specs.Store.{Files, file_of, Only, Follows, TornIn, TornTold, HoldsIn, ReadsAt, Elapses};
-ghost use Rattle.dali_memstore.specs.Fuse.{Burns, PassesOn, inner, passes_of, failed_of, one_less, forgetful};
+ghost use Rattle.dali_memstore.specs.Fuse.{Burns, PassesOn, inner, passes_of, failed_of, forgetful};
 ghost use Rattle.dali_memstore.specs.Counts.{one_more};
 
 use dali_store::{FileName, Store, StoreFault};
@@ -10,6 +11,7 @@ use dali_store::{FileName, Store, StoreFault};
 /// Passes so many calls on to its store. Once none of these is left it fails each call but `cut`, without making it.
 /// With no number it passes all calls on. A cut is always passed on, and uses up one of the calls where some are left.
 ///
+/// The calls that it still makes are those that it passes on; what its store counts isn't told.
 /// Its count of faults is the store's plus the calls that it failed since it last forgot them.
 #[derive(Drop)]
 pub struct Fuse<V: Store> {
@@ -102,6 +104,8 @@ impl<V: Store> Store for Fuse<V> {
 
     ghost faults = { λ f. V.faults f.store + f.failed };
 
+    ghost lets_pass = { passes_of };
+
     ghost cuts = { λ f. V.cuts f.store };
 
     ghost reads_now = { λ f. V.reads_now f.store };
@@ -124,6 +128,7 @@ impl<V: Store> Store for Fuse<V> {
         ensures crash { (c : Files) → V.may_leave (inner self.new) c → V.may_leave (inner self.old) c }
         ensures time { Elapses (V.moment (inner self.old)) (V.moment (inner self.new)) (V.left_since (inner self.old)) (V.left_since (inner self.new)) (V.may_leave (inner self.new)) }
         ensures cause { HasCause (V.faults (inner self.old) + failed_of self.old) (V.faults (inner self.new) + failed_of self.new) result }
+        ensures calls { passes_of self.new ≡ one_less (passes_of self.old) }
     {
         if self.blows() {
             return Err(StoreFault);
@@ -139,6 +144,7 @@ impl<V: Store> Store for Fuse<V> {
         ensures crash { (c : Files) → V.may_leave (inner self.new) c → V.may_leave (inner self.old) c }
         ensures time { Elapses (V.moment (inner self.old)) (V.moment (inner self.new)) (V.left_since (inner self.old)) (V.left_since (inner self.new)) (V.may_leave (inner self.new)) }
         ensures cause { HasCause (V.faults (inner self.old) + failed_of self.old) (V.faults (inner self.new) + failed_of self.new) result }
+        ensures calls { passes_of self.new ≡ one_less (passes_of self.old) }
     {
         if self.blows() {
             return Err(StoreFault);
@@ -155,6 +161,7 @@ impl<V: Store> Store for Fuse<V> {
         ensures crash { Follows (TornIn file at (length bytes.now)) (V.may_leave (inner self.old)) (V.may_leave (inner self.new)) }
         ensures time { Elapses (V.moment (inner self.old)) (V.moment (inner self.new)) (V.left_since (inner self.old)) (V.left_since (inner self.new)) (V.may_leave (inner self.new)) }
         ensures cause { HasCause (V.faults (inner self.old) + failed_of self.old) (V.faults (inner self.new) + failed_of self.new) result }
+        ensures calls { passes_of self.new ≡ one_less (passes_of self.old) }
     {
         if self.blows() {
             return Err(StoreFault);
@@ -169,6 +176,7 @@ impl<V: Store> Store for Fuse<V> {
         ensures crash { (c : Files) → V.may_leave (inner self.new) c → V.may_leave (inner self.old) c }
         ensures time { Elapses (V.moment (inner self.old)) (V.moment (inner self.new)) (V.left_since (inner self.old)) (V.left_since (inner self.new)) (V.may_leave (inner self.new)) }
         ensures cause { HasCause (V.faults (inner self.old) + failed_of self.old) (V.faults (inner self.new) + failed_of self.new) result }
+        ensures calls { passes_of self.new ≡ one_less (passes_of self.old) }
     {
         if self.blows() {
             return Err(StoreFault);
@@ -185,6 +193,7 @@ impl<V: Store> Store for Fuse<V> {
         ensures crash { (c : Files) → V.may_leave (inner self.new) c → V.may_leave (inner self.old) c }
         ensures time { Elapses (V.moment (inner self.old)) (V.moment (inner self.new)) (V.left_since (inner self.old)) (V.left_since (inner self.new)) (V.may_leave (inner self.new)) }
         ensures cause { HasCause (V.faults (inner self.old) + failed_of self.old) (V.faults (inner self.new) + failed_of self.new) result }
+        ensures calls { passes_of self.new ≡ one_less (passes_of self.old) }
     {
         self.use_up();
         self.store.cut(choice)

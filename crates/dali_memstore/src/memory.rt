@@ -301,7 +301,7 @@ impl MemoryStore {
 }
 
 impl Store for MemoryStore {
-    ghost use Rattle.std.specs.Prelude.{Some, length, refl};
+    ghost use Rattle.std.specs.Prelude.{None, Some, length, refl};
     ghost use Rattle.dali_memstore.specs.Memory.{disks, files_of, cut_files, IsCrash, LeftSince};
     ghost use Rattle.dali_memstore.specs.Sound.{sound};
     ghost use Rattle.dali_memstore.specs.Laws.{seen_crash, no_longer_law, cuts_leave_law, counts_now_law, only_now_law};
@@ -315,6 +315,8 @@ impl Store for MemoryStore {
     ghost left_since = { λ m. LeftSince m.history };
 
     ghost faults = { λ m. m.counts.faults };
+
+    ghost lets_pass = { λ m. None };
 
     ghost cuts = { λ m choice. Some (cut_files choice m) };
 

@@ -50,6 +50,8 @@ impl<V: Store, H: Hook> Store for Watch<V, H> {
 
     ghost faults = { λ w. V.faults w.store };
 
+    ghost lets_pass = { λ w. V.lets_pass w.store };
+
     ghost cuts = { λ w. V.cuts w.store };
 
     ghost reads_now = { λ w. V.reads_now w.store };

@@ -5,7 +5,7 @@
 use Rattle.std.specs.Prelude.{◌≡◌, ℕ, List, Option}
 use Rattle.dali_record.specs.declared.records.Record.{Record}
 use Rattle.dali_run.specs.declared.status.Status.{Status}
-use Rattle.dali_run.specs.declared.status.Status.TheVariants.{Done, BadWords, BadScript, TooLong, ReadFault, WriteFault, StoreFault, BadStore, Unformatted, Formatted, OutOfMemory, LogFull}
+use Rattle.dali_run.specs.declared.status.Status.TheVariants.{Done, BadWords, BadScript, TooLong, ReadFault, WriteFault, StoreFault, BadStore, Unformatted, Formatted, OutOfMemory, LogFull, OutOfNumbers}
 use Rattle.dali_run.specs.Ends.{Course, HasEnded, LastLine}
 use Rattle.dali_run.specs.Survives.{IsOwn, HasKept}
 use Rattle.dali_store.specs.Store.{Files}
@@ -23,6 +23,7 @@ number_of Unformatted = 8
 number_of Formatted = 9
 number_of OutOfMemory = 10
 number_of (LogFull end limit) = 11
+number_of OutOfNumbers = 12
 
 module _ {V : Type 0} (told : V → Option Files) (may_leave : V → Files → Type 0) (moment : V → ℕ) (left_since : V → ℕ → Files → Type 0) (faults : V → ℕ) (cuts : V → ℕ → Option Files) where
   pub record ExitsWith (words : List (List ℕ)) (c : Course V) (number : ℕ) : Type 0 where

@@ -28,6 +28,7 @@ fn code_of(status: Status) -> u8
         Status::Formatted => 9,
         Status::OutOfMemory => 10,
         Status::LogFull { .. } => 11,
+        Status::OutOfNumbers => 12,
     }
 }
 

@@ -5,9 +5,9 @@ mod lengths;
 mod reading;
 mod writing;
 
-pub use lengths::{length, op_record_length};
+pub use lengths::{length, op_record_length, solo_record_length};
 pub use reading::decode;
-pub use writing::{encode, encode_back, encode_op};
+pub use writing::{encode, encode_back, encode_op, encode_solo};
 
 /// The one version of the format.
 const VERSION: u8 = 1;

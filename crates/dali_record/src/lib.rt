@@ -9,7 +9,10 @@ pub mod lists;
 pub mod operations;
 pub mod records;
 
-pub use codec::{decode, encode, encode_back, encode_op, length, op_record_length};
+pub use codec::{
+    decode, encode, encode_back, encode_op, encode_solo, length, op_record_length,
+    solo_record_length,
+};
 pub use effects::{effect, undo_op};
 pub use error::DecodeError;
 pub use lists::{Numbers, Regions, Words};

@@ -15,3 +15,12 @@ pub mod Tables
 pub mod Refused
 pub mod Crashes
 pub mod Finding
+pub mod Onward
+pub mod Reached
+pub mod Through
+pub mod Stopped
+pub mod Ruled
+pub mod Followed
+pub mod Misfits
+pub mod Served
+pub mod Ends

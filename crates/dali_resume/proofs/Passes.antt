@@ -67,7 +67,7 @@ same_refl xs ys e = subst (λ zs. same_numbers xs zs ≡ true) e (self xs)
     self (z ∷ zs) = rw (same_test z z refl) (self zs)
 
 -- ---- the table's statuses
-status_in_is : (P : List Record) (ts : List ℕ) (t : ℕ) → status_in (map (row_of P) ts) t ≡ cond (has ts t) (cond (has (committed P) t) Waiting (Running (cond (has (committed P) t) [] (undos_of t P)))) Idle
+pub status_in_is : (P : List Record) (ts : List ℕ) (t : ℕ) → status_in (map (row_of P) ts) t ≡ cond (has ts t) (cond (has (committed P) t) Waiting (Running (cond (has (committed P) t) [] (undos_of t P)))) Idle
 status_in_is P [] t = refl
 status_in_is P (u ∷ ts) t = by_test (status_in_is P ts t) (u == t) refl
   where

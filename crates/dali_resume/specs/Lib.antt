@@ -6,3 +6,6 @@ pub mod Again
 pub mod Refused
 pub mod Crashes
 pub mod Finding
+pub mod Onward
+pub mod Rules
+pub mod Ends

@@ -3,7 +3,10 @@ ghost use Rattle.dali_resume.specs.Laws.{FindsDamage, JudgesAlike, MarksAlike, D
 ghost use Rattle.dali_resume.specs.Refused.{TellsApart};
 ghost use Rattle.dali_resume.specs.Crashes.{EveryHistoryResumes, CrashResumes};
 ghost use Rattle.dali_resume.specs.Again.{HandsOut, RestartsAgain, ResumeGives};
-ghost use Rattle.dali_resume.specs.Finding.{WritesAlike, FindsFromImage};
+ghost use Rattle.dali_resume.specs.Finding.{WritesAlike, FindsFromImage, FindsInLast, FindsAfterCrash, KeepsUndos};
+ghost use Rattle.dali_resume.specs.Ends.{EndsEpochs};
+ghost use Rattle.dali_resume.specs.Rules.{FrontsStand, TestsAreRules, FindsMisfit, LegalStands};
+ghost use Rattle.dali_resume.specs.Onward.{ResumesThrough, ListsAreTested, KnowsAlike, ResumesHistories, FormatFits, FormatHandsOut, CrashIsAnswered, RestartsOnward, ServesAnyLog, OnePassOnward};
 
 /// The clean place and the failing regions of an epoch are found in the records behind an image.
 pub fn damage_is_found_behind_an_image()
@@ -113,9 +116,70 @@ pub fn every_history_resumes()
 {}
 
 /// The records that the scan keeps, written over the image, come to what the kept records of the whole
-/// epoch come to over its base; and there each undo finds its slot as its transaction left it, in any
-/// order of the transactions.
+/// epoch come to over its base; and there each undo that the scan keeps finds its slot as its transaction
+/// left it, word by word, in any order of the transactions.
 pub fn undos_find_their_slots_in_an_image()
     ensures written { WritesAlike }
     ensures found { FindsFromImage }
+    ensures last { FindsInLast }
+    ensures crash { FindsAfterCrash }
+    ensures undos { KeepsUndos }
+{}
+
+/// Whatever stands behind the image in a legal log, further records of restarts too: at each of them an
+/// epoch ends and the next one begins, and at the end what the whole log says is handed out.
+pub fn a_restart_goes_on_behind_restarts()
+    ensures knows { KnowsAlike }
+    ensures resumes { ResumesThrough }
+    ensures lists { ListsAreTested }
+{}
+
+/// From a history, with an image anywhere in it, the records of the survivors are handed out, and the
+/// lists of the recovered epoch.
+pub fn every_history_resumes_behind_restarts()
+    ensures { ResumesHistories }
+{}
+
+/// A format's files are read so too, however many restarts the log has: where no checkpoint was made,
+/// the formatted regions are the image at the first epoch.
+pub fn a_format_is_an_image()
+    ensures fits { FormatFits }
+    ensures gives { FormatHandsOut }
+{}
+
+/// Whatever a crash of a run with its store leaves, where a restart of its log is right: that is answered.
+pub fn a_crash_image_is_answered()
+    ensures { CrashIsAnswered }
+{}
+
+/// Such a restart may be stopped and made again.
+pub fn a_restart_behind_restarts_may_be_made_again()
+    ensures { RestartsOnward }
+{}
+
+/// What is tested of each record behind an image, beginning with its table and numbers, are rules of
+/// the log, said of all records before it.
+pub fn the_tests_are_the_rules_of_the_log()
+    ensures stands { FrontsStand }
+    ensures rules { TestsAreRules }
+{}
+
+/// What is answered of files tells whether each record behind the image may stand where it does, and
+/// else the number of the first that may not; those of a legal log all may.
+pub fn the_first_misfit_is_named()
+    ensures finds { FindsMisfit }
+    ensures legal { LegalStands }
+{}
+
+/// Of any records that pass the tests: the table that the tests keep is the one whose undos are
+/// performed, and an epoch in which no audit failed is recovered in one pass with it.
+pub fn one_pass_serves_any_log()
+    ensures serves { ServesAnyLog }
+    ensures once { OnePassOnward }
+{}
+
+/// A log of three epochs without a checkpoint: what is handed out, and which record is named where one is
+/// wrong.
+pub fn a_worked_log_ends_its_epochs()
+    ensures { EndsEpochs }
 {}

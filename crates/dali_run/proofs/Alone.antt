@@ -1,14 +1,17 @@
 -- A poke or an audit outside a round, and whose failure it is.
-use Rattle.std.proofs.Common.{◌≡◌, ℕ, zero, suc, ◌+◌, ◌<◌, Bool, true, false, List, [], ◌∷◌, ◌++◌, length, Option, Some, None, Result, Ok, Err, refl, sym, ◌∙◌, subst, inl, inr, arith, length-append}
-use Rattle.std.specs.Prelude.{IfOk, Vec}
+use Rattle.std.proofs.Common.{◌≡◌, ℕ, zero, suc, ◌+◌, ◌<◌, Bool, true, false, List, [], ◌∷◌, ◌++◌, length, Option, Some, None, Result, Ok, Err, refl, sym, ◌∙◌, ap, subst, inl, inr, arith, length-append}
+use Rattle.std.specs.Prelude.{IfOk, IfErr, Vec}
 use Rattle.std.proofs.Common.{Global}
 use Rattle.dali_engine.specs.declared.engine.Cause.{Cause}
 use Rattle.dali_engine.specs.declared.engine.Cause.TheVariants.{Damage, Store}
 use Rattle.dali_engine.specs.declared.engine.Engine.{Engine}
+use Rattle.dali_engine.specs.declared.error.EngineError.{EngineError}
+use Rattle.dali_engine.specs.declared.error.EngineError.TheVariants as engines
 use Rattle.dali_engine.specs.declared.engine.Stage.{Stage}
 use Rattle.dali_engine.specs.declared.engine.Stage.TheVariants.{Outside}
-use Rattle.dali_engine.specs.Acts.{act, begun, insert_in, get_in, commit_in, poke_line, audited, audit_line, verdict_line, flushed_by, noted, is_in_range, verdict}
-use Rattle.dali_engine.specs.Flushes.{Turn, Acts, Wrote, Flushes}
+use Rattle.dali_engine.specs.Acts.{act, begun, insert_in, get_in, commit_in, poke_line, audited, audit_line, verdict_line, logs, flushes, flushed_by, noted, is_in_range, verdict}
+use Rattle.dali_engine.specs.Flushes.{Turn, Acts, Wrote, Flushes, Lost}
+use Rattle.dali_engine.specs.Limits.{Undone}
 use Rattle.dali_engine.specs.Memory.{failing}
 use Rattle.dali_memstore.specs.Fuse.{inner, failed_of}
 use Rattle.dali_memstore.specs.declared.fuse.Fuse.{Fuse}
@@ -16,12 +19,16 @@ use Rattle.dali_record.specs.declared.records.Record.TheVariants.{AuditBegin}
 use Rattle.dali_record.specs.Spelling.{spelling}
 use Rattle.dali_report.specs.Texts.{texts}
 use Rattle.dali_run.specs.declared.program.Program.{Program}
-use Rattle.dali_run.specs.Fails.{LostAlone}
-use Rattle.dali_run.specs.Program.{Running, running, turn, told_in, leaves_in, moment_in, since_in, faults_in}
+use Rattle.dali_run.specs.declared.halt.Halt.{Halt}
+use Rattle.dali_run.specs.declared.halt.Halt.TheVariants as halts
+use Rattle.dali_run.specs.Fails.{LostAlone, AloneFails, RoundFails, Fails}
+use Rattle.dali_run.specs.Halts.{halt_of_engine}
+use Rattle.dali_run.specs.Program.{KeepsFuse, Running, running, turn, told_in, leaves_in, moment_in, since_in, faults_in}
 use Rattle.dali_run.specs.Steps.{ActsAlone, ActsIn, StepsAct, RoundIn, StepsRound, RunsBlocks}
 use Rattle.dali_script.specs.declared.commands.Block.{Block}
 use Rattle.dali_script.specs.declared.commands.ClientCommand.{ClientCommand}
 use Rattle.dali_script.specs.declared.commands.ClientCommand.TheVariants as clients
+use Rattle.dali_script.specs.declared.commands.Command.TheVariants.{Poke, Audit, Round}
 use Rattle.dali_script.specs.declared.names.Name.{Name}
 use Rattle.dali_script.specs.declared.outputs.Line.{Line}
 use Rattle.dali_script.specs.declared.outputs.Line.TheVariants as lines
@@ -134,10 +141,18 @@ module _ {V : Type 0} (told : V → Option Files) (may_leave : V → Files → T
   untold command old new before stage listed none acts =
       inl (record { new = new; stage = stage; listed = listed; acts = subst (λ (l : List Line). ActsFrom command old l (turn new stage listed)) none acts; store = refl })
 
+  -- the store wasn't asked, or failed in the flush, and why
+  pub alone_undone : (error : EngineError) (command : ClientCommand) (old : Running V) (f : Fuse V)
+      → Lost (told_in told) (leaves_in told may_leave) (moment_in moment left_since) (since_in moment left_since) (faults_in faults) (flushes old.engine Outside command) (logs old.engine Outside command) old.engine.end (flushed_by old.engine Outside command) old.store f
+      → Undone error old.engine Outside command → AloneFails told may_leave moment left_since faults (halt_of_engine error) command old f
+  alone_undone engines.OutOfMemory command old f lost undone = inr lost
+  alone_undone engines.OutOfNumbers command old f lost undone = (inr lost, undone)
+  alone_undone (engines.LogFull end limit) command old f lost undone = (inr lost, undone)
+
   pub acts_alone : (command : ClientCommand) (old new : Running V) (before : List Line) (stage : Stage) (listed : List Line) (text : List ℕ) → before ≡ [] → ActsFrom command old before (turn new stage listed)
-      → text ≡ texts listed → (Stopped listed → 0 < failed_of new.store) → ActsAlone told may_leave moment left_since faults command old text new
-  acts_alone command old new before stage listed text none acts printed by_fuse =
-      record { stage = stage; listed = listed; acts = subst (λ (l : List Line). ActsFrom command old l (turn new stage listed)) none acts; printed = printed; by_fuse = by_fuse }
+      → text ≡ texts listed → (Stopped listed → 0 < failed_of new.store) → KeepsFuse old.store new.store → ActsAlone told may_leave moment left_since faults command old text new
+  acts_alone command old new before stage listed text none acts printed by_fuse fuse =
+      record { stage = stage; listed = listed; acts = subst (λ (l : List Line). ActsFrom command old l (turn new stage listed)) none acts; fuse = fuse; printed = printed; by_fuse = by_fuse }
 
   -- ---- the program is up
   pub act_ran : {E : Type 0} (r : Result (Vec ℕ Global) E) (name : Name) (command : ClientCommand) (old new : Program V) (e e' : Engine) → old.engine ≡ Some e → new.engine ≡ Some e'
@@ -146,6 +161,68 @@ module _ {V : Type 0} (told : V → Option Files) (may_leave : V → Files → T
   act_ran (Err x) name command old new e e' is up acts = tt
   act_ran (Ok text) name command old new e e' is up acts =
       subst (λ (o : Option Engine). ActsIn told may_leave moment left_since faults o name command old text.items new) (sym is) (e', up, acts)
+
+  up_over : (old : Program V) (e : Engine) → old.engine ≡ Some e → record old { engine = Some e } ≡ old
+  up_over old e is = ap (λ (o : Option Engine). record old { engine = o }) (sym is)
+
+  poke_fails : (halt : Halt) (r w m : ℕ) (old : Program V) (f : Fuse V) (e : Engine) → AloneFails told may_leave moment left_since faults halt (clients.Poke r w m) (running e old.store) f
+      → Fails told may_leave moment left_since faults halt (Poke r w m) (record old { engine = Some e }) f
+  poke_fails halts.StoreFault r w m old f e fails = absurd (no_audit fails.0)
+    where
+      no_audit : clients.Poke r w m ≡ clients.Audit → ⊥
+      no_audit same = absurd cc
+  poke_fails (halts.LogFull end limit) r w m old f e fails = fails
+  poke_fails halts.OutOfNumbers r w m old f e fails = fails
+  poke_fails halts.OutOfMemory r w m old f e fails = fails
+  poke_fails halts.BadWords r w m old f e fails = absurd fails
+  poke_fails (halts.BadScript line kind) r w m old f e fails = absurd fails
+  poke_fails halts.TooLong r w m old f e fails = absurd fails
+  poke_fails halts.ReadFault r w m old f e fails = absurd fails
+  poke_fails halts.WriteFault r w m old f e fails = absurd fails
+  poke_fails (halts.BadLog at) r w m old f e fails = absurd fails
+  poke_fails halts.Unformatted r w m old f e fails = absurd fails
+  poke_fails halts.Formatted r w m old f e fails = absurd fails
+
+  audit_fails : (halt : Halt) (old : Program V) (f : Fuse V) (e : Engine) → AloneFails told may_leave moment left_since faults halt clients.Audit (running e old.store) f
+      → Fails told may_leave moment left_since faults halt Audit (record old { engine = Some e }) f
+  audit_fails halts.StoreFault old f e fails = (tt, fails.1, fails.2, fails.3)
+  audit_fails (halts.LogFull end limit) old f e fails = fails
+  audit_fails halts.OutOfNumbers old f e fails = fails
+  audit_fails halts.OutOfMemory old f e fails = fails
+  audit_fails halts.BadWords old f e fails = absurd fails
+  audit_fails (halts.BadScript line kind) old f e fails = absurd fails
+  audit_fails halts.TooLong old f e fails = absurd fails
+  audit_fails halts.ReadFault old f e fails = absurd fails
+  audit_fails halts.WriteFault old f e fails = absurd fails
+  audit_fails (halts.BadLog at) old f e fails = absurd fails
+  audit_fails halts.Unformatted old f e fails = absurd fails
+  audit_fails halts.Formatted old f e fails = absurd fails
+
+  pub poke_stops : {T : Type 0} (r : Result T Halt) (region word mask : ℕ) (old : Program V) (f : Fuse V) (e : Engine) → old.engine ≡ Some e
+      → IfErr r (λ halt. AloneFails told may_leave moment left_since faults halt (clients.Poke region word mask) (running e old.store) f)
+      → IfErr r (λ halt. Fails told may_leave moment left_since faults halt (Poke region word mask) old f)
+  poke_stops (Ok x) region word mask old f e is fails = tt
+  poke_stops (Err halt) region word mask old f e is fails =
+      subst (λ (p : Program V). Fails told may_leave moment left_since faults halt (Poke region word mask) p f) (up_over old e is) (poke_fails halt region word mask old f e fails)
+
+  pub audit_stops : {T : Type 0} (r : Result T Halt) (old : Program V) (f : Fuse V) (e : Engine) → old.engine ≡ Some e
+      → IfErr r (λ halt. AloneFails told may_leave moment left_since faults halt clients.Audit (running e old.store) f)
+      → IfErr r (λ halt. Fails told may_leave moment left_since faults halt Audit old f)
+  audit_stops (Ok x) old f e is fails = tt
+  audit_stops (Err halt) old f e is fails =
+      subst (λ (p : Program V). Fails told may_leave moment left_since faults halt Audit p f) (up_over old e is) (audit_fails halt old f e fails)
+
+  -- ---- a round over a program that is up
+  round_fails : (error : EngineError) (blocks : List Block) (old : Program V) (f : Fuse V) (e : Engine) → RoundFails told may_leave moment left_since faults error blocks (running e old.store) f
+      → Fails told may_leave moment left_since faults (halt_of_engine error) (Round blocks) (record old { engine = Some e }) f
+  round_fails engines.OutOfMemory blocks old f e fails = fails
+  round_fails engines.OutOfNumbers blocks old f e fails = fails
+  round_fails (engines.LogFull end limit) blocks old f e fails = fails
+
+  pub round_stops : (error : EngineError) (blocks : List Block) (old : Program V) (f : Fuse V) (e : Engine) → old.engine ≡ Some e → RoundFails told may_leave moment left_since faults error blocks (running e old.store) f
+      → Fails told may_leave moment left_since faults (halt_of_engine error) (Round blocks) old f
+  round_stops error blocks old f e is fails =
+      subst (λ (p : Program V). Fails told may_leave moment left_since faults (halt_of_engine error) (Round blocks) p f) (up_over old e is) (round_fails error blocks old f e fails)
 
   pub round_ran : (blocks : List Block) (old new : Program V) (text : List ℕ) (e e' : Engine) → old.engine ≡ Some e → new.engine ≡ Some e'
       → RunsBlocks told may_leave moment left_since faults blocks (running e old.store) text (running e' new.store) → StepsRound told may_leave moment left_since faults blocks old text new

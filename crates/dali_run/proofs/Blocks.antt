@@ -3,11 +3,13 @@ use Rattle.std.proofs.Common.{◌≡◌, ℕ, ◌+◌, ◌<◌, List, [], ◌∷
 use Rattle.std.proofs.lemmas.List.{append-nil}
 use Rattle.dali_engine.specs.declared.engine.Stage.{Stage}
 use Rattle.dali_engine.specs.declared.engine.Stage.TheVariants.{Outside}
-use Rattle.dali_engine.specs.Flushes.{ActsAll, LostIn}
+use Rattle.dali_engine.specs.declared.error.EngineError.{EngineError}
+use Rattle.dali_engine.specs.declared.error.EngineError.TheVariants as engines
+use Rattle.dali_engine.specs.Flushes.{ActsAll, UndoneIn}
 use Rattle.dali_memstore.specs.declared.fuse.Fuse.{Fuse}
 use Rattle.dali_report.specs.Texts.{client_texts}
-use Rattle.dali_run.specs.Fails.{LostInBlock, LostInRound}
-use Rattle.dali_run.specs.Program.{Running, turn, told_in, leaves_in, moment_in, since_in, faults_in}
+use Rattle.dali_run.specs.Fails.{LostInBlock, LostInRound, BlockFails, RoundFails}
+use Rattle.dali_run.specs.Program.{KeepsFuse, Running, turn, told_in, leaves_in, moment_in, since_in, faults_in}
 use Rattle.dali_run.specs.Steps.{RunsBlock, RunsBlocks}
 use Rattle.dali_script.specs.declared.commands.Block.{Block}
 use Rattle.dali_script.specs.declared.commands.ClientCommand.{ClientCommand}
@@ -20,23 +22,30 @@ module _ {V : Type 0} (told : V → Option Files) (may_leave : V → Files → T
   AllDone commands old before stage listed new = ActsAll (told_in told) (leaves_in told may_leave) (moment_in moment left_since) (since_in moment left_since) (faults_in faults)
       commands (turn old Outside before) (turn new stage listed)
 
-  abbrev pub OneLost : List ClientCommand → Running V → List Line → Fuse V → Type 0
-  OneLost commands old before f = LostIn (told_in told) (leaves_in told may_leave) (moment_in moment left_since) (since_in moment left_since) (faults_in faults) commands (turn old Outside before) f
+  abbrev pub OneUndone : EngineError → List ClientCommand → Running V → List Line → Fuse V → Type 0
+  OneUndone error commands old before f = UndoneIn (told_in told) (leaves_in told may_leave) (moment_in moment left_since) (since_in moment left_since) (faults_in faults) error commands (turn old Outside before) f
 
   -- the commands are those of the block, and no line was there before
   pub block_ran : (block : Block) (old new : Running V) (commands : List ClientCommand) (before : List Line) (stage : Stage) (listed : List Line) → commands ≡ block.commands → before ≡ []
-      → AllDone commands old before stage listed new → RunsBlock told may_leave moment left_since faults block old (client_texts block.client listed) new
-  block_ran block old new commands before stage listed same none done = record {
+      → AllDone commands old before stage listed new → KeepsFuse old.store new.store → RunsBlock told may_leave moment left_since faults block old (client_texts block.client listed) new
+  block_ran block old new commands before stage listed same none done fuse = record {
     stage = stage;
     listed = listed;
     acts = subst (λ (l : List Line). AllDone block.commands old l stage listed new) none (subst (λ (cs : List ClientCommand). AllDone cs old before stage listed new) same done);
+    fuse = fuse;
     printed = refl;
   }
 
-  pub block_lost : (block : Block) (old : Running V) (f : Fuse V) (commands : List ClientCommand) (before : List Line) → commands ≡ block.commands → before ≡ [] → OneLost commands old before f
-      → LostInBlock told may_leave moment left_since faults block old f
-  block_lost block old f commands before same none lost =
-      inr (subst (λ (l : List Line). OneLost block.commands old l f) none (subst (λ (cs : List ClientCommand). OneLost cs old before f) same lost))
+  -- the same, and why
+  pub block_fails : (error : EngineError) (block : Block) (old : Running V) (f : Fuse V) (commands : List ClientCommand) (before : List Line) → commands ≡ block.commands → before ≡ []
+      → OneUndone error commands old before f → BlockFails told may_leave moment left_since faults error block old f
+  block_fails error block old f commands before same none undone =
+      fails error (subst (λ (l : List Line). OneUndone error block.commands old l f) none (subst (λ (cs : List ClientCommand). OneUndone error cs old before f) same undone))
+    where
+      fails : (error : EngineError) → OneUndone error block.commands old [] f → BlockFails told may_leave moment left_since faults error block old f
+      fails engines.OutOfMemory undone = inr undone.0
+      fails engines.OutOfNumbers undone = (inr undone.0, undone.1)
+      fails (engines.LogFull end limit) undone = (inr undone.0, undone.1)
 
   pub block_untold : (block : Block) (old new : Running V) (text : List ℕ) → RunsBlock told may_leave moment left_since faults block old text new → LostInBlock told may_leave moment left_since faults block old new.store
   block_untold block old new text runs = inl (record { text = text; new = new; runs = runs; store = refl })
@@ -55,7 +64,14 @@ module _ {V : Type 0} (told : V → Option Files) (may_leave : V → Files → T
       subst (λ (l : List Block). RunsBlocks told may_leave moment left_since faults l start all next) (sym (front_more blocks i block within is))
       (subst (λ (t : List ℕ). RunsBlocks told may_leave moment left_since faults (take i blocks ++ block ∷ []) start t next) (sym added) (blocks_more (take i blocks) block start now next text more runs one))
 
-  pub round_lost : (blocks : List Block) (i : ℕ) (block : Block) (start now : Running V) (text : List ℕ) (f : Fuse V) → i < length blocks → block ≡ slice_index_or blocks i block
+  abbrev round_lost : (blocks : List Block) (i : ℕ) (block : Block) (start now : Running V) (text : List ℕ) (f : Fuse V) → i < length blocks → block ≡ slice_index_or blocks i block
       → RunsBlocks told may_leave moment left_since faults (take i blocks) start text now → LostInBlock told may_leave moment left_since faults block now f → LostInRound told may_leave moment left_since faults blocks start f
   round_lost blocks i block start now text f within is runs lost =
       record { done = take i blocks; block = block; later = drop (i + 1) blocks; all = split_at blocks i block within is; text = text; mid = now; runs = runs; lost = lost }
+
+  -- the same, and why
+  pub round_fails : (error : EngineError) (blocks : List Block) (i : ℕ) (block : Block) (start now : Running V) (text : List ℕ) (f : Fuse V) → i < length blocks → block ≡ slice_index_or blocks i block
+      → RunsBlocks told may_leave moment left_since faults (take i blocks) start text now → BlockFails told may_leave moment left_since faults error block now f → RoundFails told may_leave moment left_since faults error blocks start f
+  round_fails engines.OutOfMemory blocks i block start now text f within is runs lost = round_lost blocks i block start now text f within is runs lost
+  round_fails engines.OutOfNumbers blocks i block start now text f within is runs lost = (round_lost blocks i block start now text f within is runs lost.0, lost.1)
+  round_fails (engines.LogFull end limit) blocks i block start now text f within is runs lost = (round_lost blocks i block start now text f within is runs lost.0, lost.1)

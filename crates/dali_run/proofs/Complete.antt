@@ -203,8 +203,10 @@ module _ {V : Type 0} (told : V → Option Files) (may_leave : V → Files → T
     not_bad (Fuse n ∷ later) ready file at ended = ready
 
     well : (status : Status) → IsRight told may_leave faults words c → count ≤ c.write_faults' → Ends status → EndsWell status
-    well statuses.Done right le ended = inl refl
-    well statuses.OutOfMemory right le ended = inr refl
+    well statuses.Done right le ended = tt
+    well statuses.OutOfMemory right le ended = tt
+    well (statuses.LogFull end limit) right le ended = tt
+    well statuses.OutOfNumbers right le ended = tt
     well statuses.BadWords right le ended = absurd (ended.0 right.words_are)
     well (statuses.BadScript line kind) right le ended =
         let read = ended.1 in
@@ -222,7 +224,6 @@ module _ {V : Type 0} (told : V → Option Files) (may_leave : V → Files → T
     well statuses.Formatted right le ended =
         let same = the_script right.bytes right.script ended.1.0 right.given right.spelled ended.1.1 in
         absurd (not_formatted right.script right.bytes right.spelled right.ready (subst (λ (s : List Command). Stopped halts.Formatted s) same ended.1.2))
-    well (statuses.LogFull end limit) right le ended = absurd ended
 
   pub ends_well : (words : List (List ℕ)) (c : Course V) (status : Status) → IsRight told may_leave faults words c → HasEnded told may_leave moment left_since faults cuts words c status → EndsWell status
   ends_well words c status right ended = well words c ended.mid ended.count status right ended.later ended.ended

@@ -8,7 +8,7 @@ use Rattle.dali_streams.specs.Streams.{Appends}
 use Rattle.dali_memstore.specs.Fuse.{inner}
 use Rattle.dali_script.specs.declared.commands.Command.{Command}
 use Rattle.dali_run.specs.declared.halt.Halt.{Halt}
-use Rattle.dali_run.specs.declared.halt.Halt.TheVariants.{BadWords, BadScript, TooLong, ReadFault, WriteFault, StoreFault, BadLog, Unformatted, Formatted, OutOfMemory}
+use Rattle.dali_run.specs.declared.halt.Halt.TheVariants.{BadWords, BadScript, TooLong, ReadFault, WriteFault, StoreFault, BadLog, Unformatted, Formatted, LogFull, OutOfNumbers, OutOfMemory}
 use Rattle.dali_run.specs.declared.program.Program.{Program}
 use Rattle.dali_engine.specs.declared.engine.Engine.{Engine}
 use Rattle.dali_run.specs.Program.{IsDown, IsUp, IsGatedIn, settled}
@@ -139,4 +139,6 @@ module _ {V : Type 0} (told : V → Option Files) (may_leave : V → Files → T
   stops_in (BadLog at) start script count command before mid after now next end first f0 f1 within is store le r stops = stopped (BadLog at) start script count command before mid after now next end within is store r stops
   stops_in Unformatted start script count command before mid after now next end first f0 f1 within is store le r stops = stopped Unformatted start script count command before mid after now next end within is store r stops
   stops_in Formatted start script count command before mid after now next end first f0 f1 within is store le r stops = stopped Formatted start script count command before mid after now next end within is store r stops
+  stops_in (LogFull limit place) start script count command before mid after now next end first f0 f1 within is store le r stops = stopped (LogFull limit place) start script count command before mid after now next end within is store r stops
+  stops_in OutOfNumbers start script count command before mid after now next end first f0 f1 within is store le r stops = stopped OutOfNumbers start script count command before mid after now next end within is store r stops
   stops_in OutOfMemory start script count command before mid after now next end first f0 f1 within is store le r stops = stopped OutOfMemory start script count command before mid after now next end within is store r stops

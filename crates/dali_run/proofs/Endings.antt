@@ -9,7 +9,7 @@ use Rattle.dali_streams.specs.declared.streams.Failed.{Failed}
 use Rattle.dali_streams.specs.Streams.{Appends, AppendsSome}
 use Rattle.dali_script.specs.declared.commands.Command.{Command}
 use Rattle.dali_run.specs.declared.halt.Halt.{Halt}
-use Rattle.dali_run.specs.declared.halt.Halt.TheVariants.{BadWords, BadScript, TooLong, ReadFault, WriteFault, StoreFault, BadLog, Unformatted, Formatted, OutOfMemory}
+use Rattle.dali_run.specs.declared.halt.Halt.TheVariants.{BadWords, BadScript, TooLong, ReadFault, WriteFault, StoreFault, BadLog, Unformatted, Formatted, LogFull, OutOfNumbers, OutOfMemory}
 use Rattle.dali_run.specs.declared.status.Status.{Status}
 use Rattle.dali_run.specs.declared.status.Status.TheVariants as statuses
 use Rattle.dali_run.specs.Halts.{status_of, status_in, last_line}
@@ -27,6 +27,8 @@ module _ {V : Type 0} (told : V → Option Files) (may_leave : V → Files → T
   ended_of (Err (BadLog at)) c script mid count is spells whole stops = (is, refl, (script, spells, stops))
   ended_of (Err Unformatted) c script mid count is spells whole stops = (is, (script, spells, stops))
   ended_of (Err Formatted) c script mid count is spells whole stops = (is, (script, spells, stops))
+  ended_of (Err (LogFull end limit)) c script mid count is spells whole stops = (is, (script, spells, stops))
+  ended_of (Err OutOfNumbers) c script mid count is spells whole stops = (is, (script, spells, stops))
   ended_of (Err OutOfMemory) c script mid count is spells whole stops = (is, inr (script, spells, stops))
   ended_of (Err BadWords) c script mid count is spells whole stops = absurd stops.fails
   ended_of (Err (BadScript line kind)) c script mid count is spells whole stops = absurd stops.fails
@@ -46,6 +48,8 @@ module _ {V : Type 0} (told : V → Option Files) (may_leave : V → Files → T
   not_read (BadLog at) c mid count n store taken = absurd n
   not_read Unformatted c mid count n store taken = absurd n
   not_read Formatted c mid count n store taken = absurd n
+  not_read (LogFull end limit) c mid count n store taken = absurd n
+  not_read OutOfNumbers c mid count n store taken = absurd n
 
   -- the last line changes what the sink took, and its count
   pub moved : (c : Course V) (taken : Option (List ℕ)) (now : ℕ) (mid : Option (List ℕ)) (count : ℕ) (status : Status)
@@ -62,6 +66,7 @@ module _ {V : Type 0} (told : V → Option Files) (may_leave : V → Files → T
   moved c taken now mid count statuses.Formatted e = e
   moved c taken now mid count statuses.OutOfMemory e = e
   moved c taken now mid count (statuses.LogFull end limit) e = e
+  moved c taken now mid count statuses.OutOfNumbers e = e
 
   pub words_only : (c : Course V) (mid : Option (List ℕ)) (count : ℕ) (status : Status) → Ended told may_leave moment left_since faults cuts words c mid count status → status ≡ statuses.BadWords → IsRun words → ⊥
   words_only c mid count status ended is = (subst (λ (s : Status). Ended told may_leave moment left_since faults cuts words c mid count s) is ended).0

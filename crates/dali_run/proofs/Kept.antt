@@ -139,4 +139,5 @@ module _ {V : Type 0} (told : V → Option Files) (may_leave : V → Files → T
     ended_kept statuses.Unformatted ended = (halted halts.Unformatted ended.1, none_there ended.1)
     ended_kept statuses.Formatted ended = halted halts.Formatted ended.1
     ended_kept statuses.OutOfMemory ended = wanting ended.1
-    ended_kept (statuses.LogFull end limit) ended = absurd ended
+    ended_kept (statuses.LogFull end limit) ended = halted (halts.LogFull end limit) ended.1
+    ended_kept statuses.OutOfNumbers ended = halted halts.OutOfNumbers ended.1

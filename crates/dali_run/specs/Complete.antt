@@ -1,8 +1,8 @@
 -- Runs in which nothing is wrong.
 --     IsReady script s      the store is as the script's first command wants it: whatever a crash leaves, it has no database for `size`, and a log of this program for `open`
 --     IsRight words c       words, script and store are as they should be, and no call of the source, the sink or the store has failed
---     EndsWell status       all was done, or memory was refused
-use Rattle.std.specs.Prelude.{◌≡◌, ◌≢◌, ◌⊎◌, ◌≤◌, ℕ, List, [], ◌∷◌, length, Option, Some, is_some, true}
+--     EndsWell status       all was done, or memory was refused, or the log or its numbers have reached their limits
+use Rattle.std.specs.Prelude.{◌≡◌, ◌≢◌, ◌≤◌, ℕ, List, [], ◌∷◌, length, Option, Some, is_some, true}
 use Rattle.dali_batch.specs.Batch.{IsUnformatted}
 use Rattle.dali_record.specs.declared.records.Record.{Record}
 use Rattle.dali_script.specs.declared.commands.Command.{Command}
@@ -11,12 +11,16 @@ use Rattle.dali_script.specs.Grammar.{IsSpelled}
 use Rattle.dali_store.specs.Faults.{Rose}
 use Rattle.dali_store.specs.Store.{Files}
 use Rattle.dali_run.specs.declared.status.Status.{Status}
-use Rattle.dali_run.specs.declared.status.Status.TheVariants.{Done, OutOfMemory}
+use Rattle.dali_run.specs.declared.status.Status.TheVariants.{Done, OutOfMemory, LogFull, OutOfNumbers}
 use Rattle.dali_run.specs.Ends.{IsRun, Course}
 use Rattle.dali_run.specs.Survives.{IsOwn}
 
 abbrev pub EndsWell : Status → Type 0
-EndsWell status = (status ≡ Done) ⊎ (status ≡ OutOfMemory)
+EndsWell Done = Unit {0}
+EndsWell OutOfMemory = Unit {0}
+EndsWell (LogFull end limit) = Unit {0}
+EndsWell OutOfNumbers = Unit {0}
+EndsWell _ = ⊥
 
 module _ {V : Type 0} (told : V → Option Files) (may_leave : V → Files → Type 0) where
   abbrev pub HasNoLog : V → Type 0

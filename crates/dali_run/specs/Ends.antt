@@ -14,7 +14,7 @@ use Rattle.dali_run.specs.declared.halt.Halt.{Halt}
 use Rattle.dali_run.specs.declared.halt.Halt.TheVariants as halts
 use Rattle.dali_run.specs.declared.program.Program.{Program}
 use Rattle.dali_run.specs.declared.status.Status.{Status}
-use Rattle.dali_run.specs.declared.status.Status.TheVariants.{Done, BadWords, BadScript, TooLong, ReadFault, WriteFault, StoreFault, BadStore, Unformatted, Formatted, OutOfMemory, LogFull}
+use Rattle.dali_run.specs.declared.status.Status.TheVariants.{Done, BadWords, BadScript, TooLong, ReadFault, WriteFault, StoreFault, BadStore, Unformatted, Formatted, OutOfMemory, LogFull, OutOfNumbers}
 use Rattle.dali_run.specs.Fails.{Fails}
 use Rattle.dali_run.specs.Halts.{last_line}
 use Rattle.dali_run.specs.Run.{HasRun}
@@ -142,7 +142,8 @@ module _ {V : Type 0} (told : V → Option Files) (may_leave : V → Files → T
   Ended c mid count Unformatted = IsRun words × HasStopped halts.Unformatted c mid
   Ended c mid count Formatted = IsRun words × HasStopped halts.Formatted c mid
   Ended c mid count OutOfMemory = IsRun words × (Untouched c mid ⊎ HasStopped halts.OutOfMemory c mid)
-  Ended c mid count (LogFull end limit) = ⊥
+  Ended c mid count (LogFull end limit) = IsRun words × HasStopped (halts.LogFull end limit) c mid
+  Ended c mid count OutOfNumbers = IsRun words × HasStopped halts.OutOfNumbers c mid
 
   pub record HasEnded (c : Course V) (status : Status) : Type 0 where
     pub mid : Option (List ℕ)

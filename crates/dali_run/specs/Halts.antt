@@ -4,6 +4,8 @@
 --     last_line status      the last line that such a run writes, with its end
 use Rattle.std.specs.Prelude.{ℕ, List, [], ◌++◌, codes, Result, Ok, Err}
 use Rattle.std.specs.Fmt.{decimal}
+use Rattle.dali_engine.specs.declared.error.EngineError.{EngineError}
+use Rattle.dali_engine.specs.declared.error.EngineError.TheVariants as engines
 use Rattle.dali_engine.specs.declared.opening.OpenError.{OpenError}
 use Rattle.dali_engine.specs.declared.opening.OpenError.TheVariants as opens
 use Rattle.dali_script.specs.declared.faults.ScriptError.{ScriptError}
@@ -25,6 +27,11 @@ halt_of_open opens.Unformatted = halts.Unformatted
 halt_of_open (opens.BadLog at) = halts.BadLog at
 halt_of_open opens.OutOfMemory = halts.OutOfMemory
 
+abbrev pub halt_of_engine : EngineError → Halt
+halt_of_engine (engines.LogFull end limit) = halts.LogFull end limit
+halt_of_engine engines.OutOfNumbers = halts.OutOfNumbers
+halt_of_engine engines.OutOfMemory = halts.OutOfMemory
+
 abbrev pub halt_of_script : ScriptError → Halt
 halt_of_script (scripts.BadLine line kind) = halts.BadScript line kind
 halt_of_script scripts.OutOfMemory = halts.OutOfMemory
@@ -44,6 +51,8 @@ status_of halts.StoreFault = statuses.StoreFault
 status_of (halts.BadLog at) = statuses.BadStore Log at
 status_of halts.Unformatted = statuses.Unformatted
 status_of halts.Formatted = statuses.Formatted
+status_of (halts.LogFull end limit) = statuses.LogFull end limit
+status_of halts.OutOfNumbers = statuses.OutOfNumbers
 status_of halts.OutOfMemory = statuses.OutOfMemory
 
 abbrev pub last_line : Status → List ℕ
@@ -59,6 +68,7 @@ last_line statuses.Unformatted = codes "unformatted\n"
 last_line statuses.Formatted = codes "formatted\n"
 last_line statuses.OutOfMemory = codes "out of memory\n"
 last_line (statuses.LogFull end limit) = codes "log full " ++ (decimal end ++ (codes " " ++ (decimal limit ++ codes "\n")))
+last_line statuses.OutOfNumbers = codes "out of numbers\n"
 
 -- the status of a run with this result
 abbrev pub status_in : Result (Unit {0}) Halt → Status

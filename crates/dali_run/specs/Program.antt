@@ -1,6 +1,7 @@
 -- What a run holds between two commands, and the store behind its fuse as contracts see it.
 --     IsUnfused f             no fuse is set, and none has failed a call
 --     IsDown p store          the program is down over this store, and no fuse is set
+--     KeepsFuse old new       the fuse passes on no more calls than before, and is set exactly where it was
 --     settled p               between two commands: the fuse has forgotten the calls that it failed
 --     told_in, leaves_in, moment_in, since_in, faults_in f      what is said of the store, said of the fuse over it
 --     Running                 an engine that is up or stopped, and its store
@@ -14,6 +15,7 @@ use Rattle.dali_memstore.specs.Fuse.{inner, passes_of, failed_of, forgetful}
 use Rattle.dali_memstore.specs.declared.fuse.Fuse.{Fuse}
 use Rattle.dali_run.specs.declared.program.Program.{Program}
 use Rattle.dali_script.specs.declared.outputs.Line.{Line}
+use Rattle.dali_store.specs.Calls.{PassesFewer}
 use Rattle.dali_store.specs.Store.{Files}
 
 pub record IsUnfused {V : Type 0} (f : Fuse V) : Type 0 where
@@ -24,6 +26,9 @@ pub record IsDown {V : Type 0} (p : Program V) (store : V) : Type 0 where
   pub store_is : inner p.store ≡ store
   pub unfused : IsUnfused p.store
   pub engine_is : p.engine ≡ None
+
+abbrev pub KeepsFuse : {V : Type 0} → Fuse V → Fuse V → Type 0
+KeepsFuse old new = PassesFewer (passes_of old) (passes_of new)
 
 abbrev pub settled : {V : Type 0} → Program V → Program V
 settled p = record p { store = forgetful p.store }

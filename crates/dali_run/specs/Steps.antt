@@ -17,7 +17,7 @@ use Rattle.dali_memstore.specs.Fuse.{inner, passes_of, failed_of}
 use Rattle.dali_memstore.specs.declared.fuse.Fuse.{Fuse}
 use Rattle.dali_report.specs.Texts.{texts, client_texts}
 use Rattle.dali_run.specs.declared.program.Program.{Program}
-use Rattle.dali_run.specs.Program.{IsUnfused, Running, running, turn, told_in, leaves_in, moment_in, since_in, faults_in}
+use Rattle.dali_run.specs.Program.{IsUnfused, KeepsFuse, Running, running, turn, told_in, leaves_in, moment_in, since_in, faults_in}
 use Rattle.dali_script.specs.declared.commands.Block.{Block}
 use Rattle.dali_script.specs.declared.commands.ClientCommand.{ClientCommand}
 use Rattle.dali_script.specs.declared.commands.ClientCommand.TheVariants as clients
@@ -76,6 +76,7 @@ module _ {V : Type 0} (told : V → Option Files) (may_leave : V → Files → T
     pub restored : IfSome (told_in told old.store) (λ fs. IsRestored fs.log engine rolled_back)
     pub durable : IfSome (told_in told old.store) (λ fs. Only fs (leaves_in told may_leave new.store))
     pub reads : Reads old.store new.store
+    pub fuse : KeepsFuse old.store new.store
     pub printed : text ≡ texts (lines.RolledBack rolled_back ∷ lines.Deleted [] ∷ [])
 
   module _ (faults : V → ℕ) where
@@ -85,6 +86,7 @@ module _ {V : Type 0} (told : V → Option Files) (may_leave : V → Files → T
       pub by_fuse : 0 < failed_of new.store
       pub rose : Rose (faults_in faults old.store) (faults_in faults new.store)
       pub reads : Reads old.store new.store
+      pub fuse : KeepsFuse old.store new.store
       pub printed : text ≡ texts (lines.RestartStoreStopped ∷ [])
 
     abbrev pub StepsRestart : Program V → List ℕ → Program V → Type 0
@@ -96,6 +98,7 @@ module _ {V : Type 0} (told : V → Option Files) (may_leave : V → Files → T
       pub listed : List Line
       pub acts : ActsAll (told_in told) (leaves_in told may_leave) (moment_in moment left_since) (since_in moment left_since) (faults_in faults)
           block.commands (turn old Outside []) (turn new stage listed)
+      pub fuse : KeepsFuse old.store new.store
       pub printed : text ≡ client_texts block.client listed
 
     abbrev pub RunsBlocks : List Block → Running V → List ℕ → Running V → Type 0
@@ -116,6 +119,7 @@ module _ {V : Type 0} (told : V → Option Files) (may_leave : V → Files → T
       pub listed : List Line
       pub acts : Acts (told_in told) (leaves_in told may_leave) (moment_in moment left_since) (since_in moment left_since) (faults_in faults)
           command (turn old Outside []) (turn new stage listed)
+      pub fuse : KeepsFuse old.store new.store
       pub printed : text ≡ texts listed
       pub by_fuse : listed ≡ lines.AuditStoreStopped ∷ [] → 0 < failed_of new.store
 

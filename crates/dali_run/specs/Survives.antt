@@ -35,7 +35,7 @@ use Rattle.dali_run.specs.declared.halt.Halt.{Halt}
 use Rattle.dali_run.specs.declared.halt.Halt.TheVariants as halts
 use Rattle.dali_run.specs.declared.program.Program.{Program}
 use Rattle.dali_run.specs.declared.status.Status.{Status}
-use Rattle.dali_run.specs.declared.status.Status.TheVariants.{Done, WriteFault, StoreFault, BadStore, Unformatted, Formatted, OutOfMemory}
+use Rattle.dali_run.specs.declared.status.Status.TheVariants.{Done, WriteFault, StoreFault, BadStore, Unformatted, Formatted, OutOfMemory, LogFull, OutOfNumbers}
 use Rattle.dali_run.specs.Ends.{RanWhole, StoppedIn, CutIn, Course, Ended, Untouched, HasStopped}
 use Rattle.dali_run.specs.Program.{Running, running, settled, turn, told_in as told_by_store, leaves_in, moment_in, since_in, faults_in}
 use Rattle.dali_run.specs.Run.{RunsAll, HasRun}
@@ -200,4 +200,6 @@ module _ {V : Type 0} (told : V → Option Files) (may_leave : V → Files → T
     HasKept Unformatted ended = (survives : HaltSurvives halts.Unformatted ended.1) × (survives.base' ≡ [])
     HasKept Formatted ended = HaltSurvives halts.Formatted ended.1
     HasKept OutOfMemory ended = MemorySurvives ended.1
+    HasKept (LogFull end limit) ended = HaltSurvives (halts.LogFull end limit) ended.1
+    HasKept OutOfNumbers ended = HaltSurvives halts.OutOfNumbers ended.1
     HasKept _ ended = NoneRan

@@ -11,7 +11,7 @@ ghost use Rattle.dali_script.specs.declared.outputs.Line.{Line as LineOf};
 ghost use Rattle.dali_script.specs.declared.outputs.Line.TheVariants as lines;
 ghost use Rattle.dali_store.specs.Faults.{Rose};
 ghost use Rattle.dali_store.specs.Store.{Only};
-ghost use Rattle.dali_run.specs.Fails.{Fails, LostInBlock, LostInRound, LostAlone, LeavesLess};
+ghost use Rattle.dali_run.specs.Fails.{Fails, BlockFails, RoundFails, AloneFails, LeavesLess};
 ghost use Rattle.dali_run.specs.Program.{IsUnfused, IsUp, running, told_in, leaves_in};
 ghost use Rattle.dali_run.specs.Sizes.{HasSizes};
 ghost use Rattle.dali_run.specs.Steps.{Steps, StepsSize, StepsRestart, StepsRound, StepsAct, StepsCrash, StepsShow, StepsFuse, RunsBlock, RunsBlocks, ActsAlone, sizes_of};
@@ -20,7 +20,7 @@ use crate::halt::Halt;
 use crate::program::Program;
 use crate::texts::{put_client_lines, text_of_line, text_of_lines};
 use dali_bytes::OutOfMemory;
-use dali_engine::{Engine, Lines, OpenError, Stage, format, restart};
+use dali_engine::{Engine, EngineError, Lines, OpenError, Stage, format, restart};
 use dali_geometry::Geometry;
 use dali_memstore::Fuse;
 use dali_record::Numbers;
@@ -77,12 +77,12 @@ fn run_block<V: Store>(
     engine: &mut Engine,
     store: &mut Fuse<V>,
     text: &mut Vec<u8>,
-) -> Result<(), OutOfMemory>
+) -> Result<(), EngineError>
     requires gated { IsGated (told_in V.told) (leaves_in V.told V.may_leave) engine.old store.old }
     ensures ran { OnOk result ((more : List ℕ) × (text.new.items ≡ text.old.items ++ more)
         × RunsBlock V.told V.may_leave V.moment V.left_since V.faults block.now (running engine.old store.old) more (running engine.new store.new)) }
     ensures gated { OnOk result (IsGated (told_in V.told) (leaves_in V.told V.may_leave) engine.new store.new) }
-    ensures lost { OnErr result (LostInBlock V.told V.may_leave V.moment V.left_since V.faults block.now (running engine.old store.old) store.new) }
+    ensures lost { IfErr result (λ error. BlockFails V.told V.may_leave V.moment V.left_since V.faults error block.now (running engine.old store.old) store.new) }
 {
     let mut lines = Lines::new(alloc);
     engine.run_block(block.commands.as_slice(), store, &mut lines)?;
@@ -95,11 +95,11 @@ fn run_blocks<V: Store>(
     blocks: &[Block],
     engine: &mut Engine,
     store: &mut Fuse<V>,
-) -> Result<Vec<u8>, OutOfMemory>
+) -> Result<Vec<u8>, EngineError>
     requires gated { IsGated (told_in V.told) (leaves_in V.told V.may_leave) engine.old store.old }
     ensures ran { IfOk result (λ text. RunsBlocks V.told V.may_leave V.moment V.left_since V.faults blocks.now (running engine.old store.old) text.items (running engine.new store.new)) }
     ensures gated { OnOk result (IsGated (told_in V.told) (leaves_in V.told V.may_leave) engine.new store.new) }
-    ensures lost { OnErr result (LostInRound V.told V.may_leave V.moment V.left_since V.faults blocks.now (running engine.old store.old) store.new) }
+    ensures lost { IfErr result (λ error. RoundFails V.told V.may_leave V.moment V.left_since V.faults error blocks.now (running engine.old store.old) store.new) }
 {
     let mut text = Vec::new(alloc);
     for block in blocks {
@@ -126,9 +126,7 @@ fn act<V: Store>(
     requires unspent { failed_of store.old ≡ 0 }
     ensures acts { IfOk result (λ text. ActsAlone V.told V.may_leave V.moment V.left_since V.faults command.now (running engine.old store.old) text.items (running engine.new store.new)) }
     ensures gated { OnOk result (IsGated (told_in V.told) (leaves_in V.told V.may_leave) engine.new store.new) }
-    ensures lost { OnErr result (LostAlone V.told V.may_leave V.moment V.left_since V.faults command.now (running engine.old store.old) store.new) }
-    ensures fault { IsErrOf result Halt.StoreFault → (command.now ≡ clients.Audit) × Rose (V.faults (inner store.old)) (V.faults (inner store.new)) × (0 < failed_of store.new → ⊥) }
-    ensures errors { OnErr result (IsErrOf result Halt.StoreFault ⊎ IsErrOf result Halt.OutOfMemory) }
+    ensures fails { IfErr result (λ halt. AloneFails V.told V.may_leave V.moment V.left_since V.faults halt command.now (running engine.old store.old) store.new) }
 {
     let mut lines = Lines::new(alloc);
     let mut stage = Stage::Outside;

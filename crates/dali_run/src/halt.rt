@@ -3,7 +3,7 @@ ghost use Rattle.std.specs.Prelude.{◌≡◌};
 ghost use Rattle.dali_run.specs.declared.halt.Halt.TheVariants.{OutOfMemory, StoreFault};
 
 use crate::status::Status;
-use dali_engine::OpenError;
+use dali_engine::{EngineError, OpenError};
 use dali_script::{Kind, ScriptError};
 use dali_store::{FileName, StoreFault};
 use dali_streams::ReadError;
@@ -30,6 +30,10 @@ pub enum Halt {
     Unformatted,
     /// A database was to be made, and the log has one.
     Formatted,
+    /// The log has no room for a command: `end` is where it ends with the records that wait, `limit` how far it may go.
+    LogFull { end: u64, limit: u64 },
+    /// No number is left for another transaction, or for another record of the log.
+    OutOfNumbers,
     OutOfMemory,
 }
 
@@ -69,6 +73,20 @@ impl From<OpenError> for Halt {
             OpenError::Unformatted => Halt::Unformatted,
             OpenError::BadLog { at } => Halt::BadLog { at },
             OpenError::OutOfMemory => Halt::OutOfMemory,
+        }
+    }
+}
+
+impl From<EngineError> for Halt {
+    ghost use Rattle.dali_run.specs.Halts.{halt_of_engine};
+
+    ghost from_gives = { λ error e. e ≡ halt_of_engine error };
+
+    fn from(error: EngineError) -> Self {
+        match error {
+            EngineError::LogFull { end, limit } => Halt::LogFull { end, limit },
+            EngineError::OutOfNumbers => Halt::OutOfNumbers,
+            EngineError::OutOfMemory => Halt::OutOfMemory,
         }
     }
 }
@@ -120,6 +138,8 @@ impl Halt {
             },
             Halt::Unformatted => Status::Unformatted,
             Halt::Formatted => Status::Formatted,
+            Halt::LogFull { end, limit } => Status::LogFull { end, limit },
+            Halt::OutOfNumbers => Status::OutOfNumbers,
             Halt::OutOfMemory => Status::OutOfMemory,
         }
     }

@@ -43,8 +43,9 @@ pub fn scripts_are_whole()
     ensures { (bytes : List ℕ) (index heap : ℕ) (later : List Command) → IsSpelled bytes (Size index heap ∷ later) → AllByRecursion IsWhole later }
 {}
 
-/// A run ends well, or memory was refused, where the words are `run`, the source gave the bytes of a script, the store is
-/// as its first command wants it, and no call of the source, the sink or the store has failed. `run` ensures the premise `HasEnded`.
+/// A run is done, or memory was refused, or the log had no room or no number for a command, where the words are `run`,
+/// the source gave the bytes of a script, the store is as its first command wants it, and no call of the source, the sink
+/// or the store has failed. `run` ensures the premise `HasEnded`.
 pub fn right_runs_end_well<V: Store>()
     ensures { (words : List (List ℕ)) (c : Course V) (status : StatusOf) → IsRight V.told V.may_leave V.faults words c →
         HasEnded V.told V.may_leave V.moment V.left_since V.faults V.cuts words c status → EndsWell status }

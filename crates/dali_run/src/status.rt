@@ -27,6 +27,8 @@ pub enum Status {
     Formatted,
     /// Memory was wanted and refused.
     OutOfMemory,
-    /// The log has reached its limit. It doesn't come yet.
+    /// The log has no room for a command: `end` is where it ends with the records that wait, `limit` how far it may go.
     LogFull { end: u64, limit: u64 },
+    /// No number is left for another transaction, or for another record of the log.
+    OutOfNumbers,
 }

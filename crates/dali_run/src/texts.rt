@@ -71,6 +71,16 @@ fn write_in_line<K: Sink>(sink: &mut K, number: u64, text: &[u8]) -> Result<(), 
     write_all(sink, b"\n")
 }
 
+// The line of a log without room.
+fn write_log_full<K: Sink>(sink: &mut K, end: u64, limit: u64) -> Result<(), Failed>
+    ensures all { OnOk result (Appends (K.taken sink.old) (codes "log full " ++ (decimal end ++ (codes " " ++ (decimal limit ++ codes "\n")))) (K.taken sink.new)) }
+    ensures some { AppendsSome (K.taken sink.old) (codes "log full " ++ (decimal end ++ (codes " " ++ (decimal limit ++ codes "\n")))) (K.taken sink.new) }
+    ensures cause { HasCause (K.faults sink.old) (K.faults sink.new) result }
+{
+    write_numbered(sink, b"log full ", end, b" ")?;
+    write_numbered(sink, b"", limit, b"\n")
+}
+
 /// Writes the last line of a run that ends so, with its end; nothing where the sink has failed already. It takes no
 /// memory but the sink's own. Where it fails, some of the first of its bytes were taken.
 pub fn write_last_line<K: Sink>(sink: &mut K, halt: Halt) -> Result<(), Failed>
@@ -88,6 +98,8 @@ pub fn write_last_line<K: Sink>(sink: &mut K, halt: Halt) -> Result<(), Failed>
         Halt::BadLog { at } => write_numbered(sink, b"bad store log ", at, b"\n"),
         Halt::Unformatted => write_all(sink, b"unformatted\n"),
         Halt::Formatted => write_all(sink, b"formatted\n"),
+        Halt::LogFull { end, limit } => write_log_full(sink, end, limit),
+        Halt::OutOfNumbers => write_all(sink, b"out of numbers\n"),
         Halt::OutOfMemory => write_all(sink, b"out of memory\n"),
     }
 }

@@ -1,5 +1,6 @@
 //! The trait of a store of four files.
 ghost use Rattle.std.specs.Prelude.{◌≡◌, ◌≤◌, ◌<◌, ◌^◌, Option, List, ℕ, length, IfOk, OnOk, IfSome, is_some};
+ghost use Rattle.dali_store.specs.Calls.{one_less};
 ghost use Rattle.dali_store.specs.Faults.{HasCause};
 ghost use Rattle.dali_store.specs.Store.{Files, file_of, NoLonger, Only, Follows, TornIn, TornTold, HoldsIn, ReadsAt, Elapses};
 
@@ -53,6 +54,9 @@ pub struct StoreFault;
 ///
 /// A call answers Ok exactly where the count of faults stayed, and an error where it rose (or stands at its type's
 /// end). So a fault that a second try hides isn't Ok: a second sync may answer Ok for pages that were lost.
+///
+/// A store that counts the calls that it still makes tells how many calls a caller made: over any store, a function
+/// whose clause says that four are fewer then makes four.
 pub trait Store {
     /// What reads of the four files give, where the store tells it.
     ghost told: { Self → Option Files };
@@ -69,6 +73,10 @@ pub trait Store {
     /// How often a call has failed. The count never falls, and stands still at its type's end.
     ghost faults: { Self → ℕ };
 
+    /// How many calls it still makes before it fails each, where it counts them, as a fuse does. Each call, one that
+    /// fails among them, is one fewer.
+    ghost lets_pass: { Self → Option ℕ };
+
     /// What a cut with this choice makes of the four files, where the store tells what its reads give.
     ghost cuts: { Self → ℕ → Option Files };
 
@@ -79,7 +87,8 @@ pub trait Store {
         ensures told { told self.new ≡ told self.old }
         ensures crash { (c : Files) → may_leave self.new c → may_leave self.old c }
         ensures time { Elapses (moment self.old) (moment self.new) (left_since self.old) (left_since self.new) (may_leave self.new) }
-        ensures cause { HasCause (faults self.old) (faults self.new) result };
+        ensures cause { HasCause (faults self.old) (faults self.new) result }
+        ensures calls { lets_pass self.new ≡ one_less (lets_pass self.old) };
 
     /// Reads from a place on into the front of a buffer, and answers how many bytes. Fewer than asked come only at the end.
     /// After a fault the buffer may hold anything. Takes no memory.
@@ -89,7 +98,8 @@ pub trait Store {
         ensures told { told self.new ≡ told self.old }
         ensures crash { (c : Files) → may_leave self.new c → may_leave self.old c }
         ensures time { Elapses (moment self.old) (moment self.new) (left_since self.old) (left_since self.new) (may_leave self.new) }
-        ensures cause { HasCause (faults self.old) (faults self.new) result };
+        ensures cause { HasCause (faults self.old) (faults self.new) result }
+        ensures calls { lets_pass self.new ≡ one_less (lets_pass self.old) };
 
     /// Writes over what is there, and past the end. Until a sync, a crash may leave any bytes in the range.
     /// After a fault any part of it may be written. It may take memory.
@@ -100,7 +110,8 @@ pub trait Store {
         ensures torn { TornTold file at (length bytes.now) (told self.old) (told self.new) }
         ensures crash { Follows (TornIn file at (length bytes.now)) (may_leave self.old) (may_leave self.new) }
         ensures time { Elapses (moment self.old) (moment self.new) (left_since self.old) (left_since self.new) (may_leave self.new) }
-        ensures cause { HasCause (faults self.old) (faults self.new) result };
+        ensures cause { HasCause (faults self.old) (faults self.new) result }
+        ensures calls { lets_pass self.new ≡ one_less (lets_pass self.old) };
 
     /// Keeps what was written to a file: after Ok a crash leaves of it what reads give. Takes no memory.
     fn sync(&mut self, file: FileName) -> Result<(), StoreFault>
@@ -108,7 +119,8 @@ pub trait Store {
         ensures told { told self.new ≡ told self.old }
         ensures crash { (c : Files) → may_leave self.new c → may_leave self.old c }
         ensures time { Elapses (moment self.old) (moment self.new) (left_since self.old) (left_since self.new) (may_leave self.new) }
-        ensures cause { HasCause (faults self.old) (faults self.new) result };
+        ensures cause { HasCause (faults self.old) (faults self.new) result }
+        ensures calls { lets_pass self.new ≡ one_less (lets_pass self.old) };
 
     /// A crash: afterwards reads give one of the things that a crash might have left, and a crash leaves just this.
     /// Which one, the store and `choice` determine. Takes no memory.
@@ -119,7 +131,8 @@ pub trait Store {
         ensures durable { OnOk result (IfSome (told self.new) (λ fs. Only fs (may_leave self.new))) }
         ensures crash { (c : Files) → may_leave self.new c → may_leave self.old c }
         ensures time { Elapses (moment self.old) (moment self.new) (left_since self.old) (left_since self.new) (may_leave self.new) }
-        ensures cause { HasCause (faults self.old) (faults self.new) result };
+        ensures cause { HasCause (faults self.old) (faults self.new) result }
+        ensures calls { lets_pass self.new ≡ one_less (lets_pass self.old) };
 
     /// The files as they read are one of the things that a crash may leave.
     ghost reads_now: { (s : Self) → IfSome (told s) (λ fs. may_leave s fs) };

@@ -28,7 +28,7 @@ use Rattle.dali_traces.proofs.Bridges.{runs_at, file_named}
 eight_fields : (a b : List ℕ) (m n : ℕ) → length a ≡ m → length b ≡ n → length (a ++ b) ≡ m + n
 eight_fields a b m n e f = length-append a b ∙ (ap (λ k. k + length b) e ∙ ap (λ k. m + k) f)
 
-header_is_64 : (s : Sizes) (h : Head) → length (header_bytes s h) ≡ 64
+pub header_is_64 : (s : Sizes) (h : Head) → length (header_bytes s h) ≡ 64
 header_is_64 s h =
     eight_fields (codes "DALIIMG1") _ 8 56 refl
     (eight_fields (number32 s.index) _ 4 52 (number32_is_4 s.index)

@@ -8,3 +8,5 @@ pub mod Places
 pub mod Anchors
 pub mod Images
 pub mod Rests
+pub mod Ordered
+pub mod Heads

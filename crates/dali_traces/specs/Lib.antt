@@ -6,3 +6,5 @@ pub mod Anchors
 pub mod Places
 pub mod Bridges
 pub mod Images
+pub mod Ordered
+pub mod Heads

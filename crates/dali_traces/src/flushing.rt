@@ -17,11 +17,11 @@ pub fn flush<V: Store>(store: &mut V, at: u64, frame: &Frame) -> Result<u64, Sto
     requires small { at < 2 ^ 62 }
     requires closed { IfSome (V.told store.old) (λ _. (c : Files) → V.may_leave store.old c → IsClosedAt at c.log) }
 
-    ensures next { IfOk result (λ next. next ≡ next_place at (bodies_of frame.now)) }
-    ensures goes_on { OnOk result (IfSome (V.told store.old) (λ _. GoesOnBy (V.may_leave store.old) (V.may_leave store.new) at frame.now)) }
-    ensures stops { IfSome (V.told store.old) (λ _. StopsBy (V.may_leave store.old) (V.may_leave store.new) at frame.now) }
+    ensures next { IfOk result (λ next. next ≡ next_place at (bodies_of frame.now.body)) }
+    ensures goes_on { OnOk result (IfSome (V.told store.old) (λ _. GoesOnBy (V.may_leave store.old) (V.may_leave store.new) at frame.now.body)) }
+    ensures stops { IfSome (V.told store.old) (λ _. StopsBy (V.may_leave store.old) (V.may_leave store.new) at frame.now.body) }
     ensures cause { HasCause (V.faults store.old) (V.faults store.new) result }
-    ensures any_moment { IfSome (V.told store.old) (λ _. IsRightIn (V.may_leave store.old) (V.left_since store.new (V.moment store.old)) at frame.now) }
+    ensures any_moment { IfSome (V.told store.old) (λ _. IsRightIn (V.may_leave store.old) (V.left_since store.new (V.moment store.old)) at frame.now.body) }
 {
     dali_batch::flush(store, at, frame)
 }

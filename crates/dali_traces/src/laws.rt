@@ -6,6 +6,8 @@ ghost use Rattle.dali_traces.specs.Growth.{AnchorTells, AnchorTellsInside, Trace
 ghost use Rattle.dali_traces.specs.Worked.{WorkedTrace};
 ghost use Rattle.dali_traces.specs.Places.{ImageIsRead, WriteIsRead};
 ghost use Rattle.dali_traces.specs.Images.{HeadIsRead, CopyIsRead, HeadGoesOn, QuietIsRead, SyncHolds, HeldGoesOn};
+ghost use Rattle.dali_traces.specs.Heads.{HeadsFit, KeptFits, StaysFitting};
+ghost use Rattle.dali_traces.specs.Ordered.{OrderedIsRead};
 ghost use Rattle.dali_traces.specs.Disks.{SpellsOne};
 ghost use Rattle.dali_traces.specs.Bridges.{AreRight, HaveOneLog, HaveOneAnchor, StoreStarts, MomentsAreRight, IsRightNow, FlushGoesOn, FaultGoesOn, QuietGoesOn, FlushIsRight, WriteGoesOn, TurnGoesOn, TurnFaultGoesOn, FormatStarts, RestartStarts};
 
@@ -162,6 +164,21 @@ pub fn images_are_read_by_places()
     ensures image { ImageIsRead }
     ensures write { WriteIsRead }
     ensures head { HeadIsRead }
+{}
+
+/// The head that a checkpoint or a restart keeps of a legal log fits the fields of an image: its numbers, its rows in
+/// order and in range, and their undos; and so it does as long as a checkpoint keeps it. Only the bounds of its own
+/// number, place and weight, and of the words, are asked for.
+pub fn a_kept_head_fits_its_fields()
+    ensures fits { HeadsFit }
+    ensures kept { KeptFits }
+    ensures later { StaysFitting }
+{}
+
+/// An image file of any length, an empty one too, is written in order, its header first, then its regions, and its table
+/// last: no write begins behind the file's end, and all of it is read as it was written.
+pub fn a_new_image_is_written_in_order()
+    ensures { OrderedIsRead }
 {}
 
 /// What reads give of the file of the next image, over a whole checkpoint: behind a copy and behind the head's write it

@@ -13,7 +13,7 @@ const FIRST: [u8; 10] = [1, 1, 0, 0, 0, 1, 0, 0, 0, 1];
 
 // Formats a store with this first batch, and moves its anchor to the first image.
 fn format_and_move<V: Store>(store: &mut V, first: &Frame) -> Result<(), StoreFault>
-    requires { 0 < length first.now }
+    requires { 0 < length first.now.body }
 {
     if is_formatted(store)? {
         return Err(StoreFault);

@@ -1,6 +1,6 @@
-ghost use Rattle.std.specs.Prelude.{◌≡◌, ◌≤◌, length};
+ghost use Rattle.std.specs.Prelude.{◌≡◌, ◌≤◌, ℕ, length};
 ghost use Rattle.dali_words.specs.Values.{IsValue};
-ghost use Rattle.dali_record.specs.declared.records.Record.TheVariants.{Forward, Back};
+ghost use Rattle.dali_record.specs.declared.records.Record.TheVariants.{Forward, Back, Solo};
 ghost use Rattle.dali_record.specs.Spelling.{CanBeSpelled, IsOperation, IsOutcome, MayBeUndo, IsBlock, IsCall, IsAnswer, op_length, outcome_length, undo_length, block_length, call_length, answer_length, record_length, spelling};
 
 use crate::operations::{Block, Op, Outcome, Undo};
@@ -131,4 +131,13 @@ pub fn op_record_length(txn: u64, block: &Block) -> u64
 {
     let _ = txn;
     9 + block_length(block)
+}
+
+/// How many bytes the record of a solo has.
+pub fn solo_record_length(block: &Block) -> u64
+    ensures solo { (txn parent : ℕ) → result ≡ record_length (Solo txn parent block.now) }
+    ensures spelled { (txn parent : ℕ) → CanBeSpelled (Solo txn parent block.now) → result ≡ length (spelling (Solo txn parent block.now)) }
+    ensures few { result ≤ 1017 }
+{
+    17 + block_length(block)
 }

@@ -1,10 +1,10 @@
 ghost use Rattle.std.specs.Prelude.{◌≡◌, ◌≤◌, ◌<◌, ◌^◌, ◌+◌, ◌++◌, [], ◌∷◌, length, vec_len, vec_capacity, OnOk, OnErr, IsOk};
 ghost use Rattle.dali_bytes.specs.Fields.{number32, number64};
-ghost use Rattle.dali_record.specs.declared.records.Record.TheVariants.{Forward, Back};
+ghost use Rattle.dali_record.specs.declared.records.Record.TheVariants.{Forward, Back, Solo};
 ghost use Rattle.dali_record.specs.Spelling.{CanBeSpelled, spelling, value_bytes, flag_bytes, words_bytes, counted32, counted64, op_bytes, outcome_bytes, undo_bytes, block_bytes, call_bytes, answer_bytes};
 
 use crate::codec::VERSION;
-use crate::codec::lengths::{length, op_record_length};
+use crate::codec::lengths::{length, op_record_length, solo_record_length};
 use crate::lists::{Numbers, Regions};
 use crate::operations::{Block, Op, Outcome, Undo};
 use crate::records::{Answer, Call, Record};
@@ -400,11 +400,12 @@ fn add_op_record(into: &mut Vec<u8>, kind: u8, txn: u64, block: &Block)
 }
 
 /// Appends the spelling of the record of an operation. The block is borrowed, so that it isn't copied into a record first.
-/// Unchanged where memory is refused.
+/// Unchanged where memory is refused; none is wanted where there is room.
 pub fn encode_op(txn: u64, block: &Block, into: &mut Vec<u8>) -> Result<(), OutOfMemory>
     requires { CanBeSpelled (Forward txn block.now) }
     ensures ok { OnOk result (into.new.items ≡ into.old.items ++ spelling (Forward txn block.now)) }
     ensures err { OnErr result (into.new.items ≡ into.old.items) }
+    ensures room { vec_len into.old + length (spelling (Forward txn block.now)) ≤ vec_capacity into.old → IsOk result }
     ensures capacity { vec_capacity into.old ≤ vec_capacity into.new }
 {
     into.reserve(op_record_length(txn, block) as usize)?;
@@ -417,9 +418,40 @@ pub fn encode_back(txn: u64, block: &Block, into: &mut Vec<u8>) -> Result<(), Ou
     requires { CanBeSpelled (Back txn block.now) }
     ensures ok { OnOk result (into.new.items ≡ into.old.items ++ spelling (Back txn block.now)) }
     ensures err { OnErr result (into.new.items ≡ into.old.items) }
+    ensures room { vec_len into.old + length (spelling (Back txn block.now)) ≤ vec_capacity into.old → IsOk result }
     ensures capacity { vec_capacity into.old ≤ vec_capacity into.new }
 {
     into.reserve(op_record_length(txn, block) as usize)?;
     add_op_record(into, 12, txn, block);
+    Ok(())
+}
+
+fn add_solo_record(into: &mut Vec<u8>, txn: u64, parent: u64, block: &Block)
+    requires room { vec_len into.old + length (spelling (Solo txn parent block.now)) ≤ vec_capacity into.old }
+    requires spelled { CanBeSpelled (Solo txn parent block.now) }
+    ensures added { into.new.items ≡ into.old.items ++ spelling (Solo txn parent block.now) }
+    ensures capacity { vec_capacity into.old ≤ vec_capacity into.new }
+{
+    add_byte(into, 7);
+    add64(into, txn);
+    add64(into, parent);
+    add_block(into, block);
+}
+
+/// The same for the one operation of a solo.
+pub fn encode_solo(
+    txn: u64,
+    parent: u64,
+    block: &Block,
+    into: &mut Vec<u8>,
+) -> Result<(), OutOfMemory>
+    requires { CanBeSpelled (Solo txn parent block.now) }
+    ensures ok { OnOk result (into.new.items ≡ into.old.items ++ spelling (Solo txn parent block.now)) }
+    ensures err { OnErr result (into.new.items ≡ into.old.items) }
+    ensures room { vec_len into.old + length (spelling (Solo txn parent block.now)) ≤ vec_capacity into.old → IsOk result }
+    ensures capacity { vec_capacity into.old ≤ vec_capacity into.new }
+{
+    into.reserve(solo_record_length(block) as usize)?;
+    add_solo_record(into, txn, parent, block);
     Ok(())
 }

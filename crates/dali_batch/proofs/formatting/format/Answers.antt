@@ -12,7 +12,7 @@ returns-clause-any_moment g c =
     let s0 = c.args.store.now in
     let s1 = c.close_gates.new.store in
     let may = g.V.Store.may_leave in
-    let body = c.args.frame.now in
+    let body = c.args.frame.now.body in
     if_some_both _ _ c.close_gates.ensures.any_moment (λ run.
     if_some_both _ _ c.in_ok-close_gates.ensures.closed (λ closed.
     moved _ (g.V.Store.told s1) (g.V.Store.told s0) (sym c.close_gates.ensures.tells) c.append.ensures.any_moment (λ second.
@@ -25,7 +25,7 @@ returns-clause-acknowledged g c =
     let s1 = c.close_gates.new.store in
     let s2 = c.append.new.store in
     let may = g.V.Store.may_leave in
-    let body = c.args.frame.now in
+    let body = c.args.frame.now.body in
     let Adds : Type 0 = IfSome (g.V.Store.told s1) (λ _. (f : Files) → may s2 f → AllAdded (may s1) 0 (body ∷ []) f) in
     let Gives : Type 0 = IfSome (g.V.Store.told s0) (λ _. (f : Files) → may s2 f → IsFormattedBy (may s0) body f) in
     let step : Adds → Gives = λ added.

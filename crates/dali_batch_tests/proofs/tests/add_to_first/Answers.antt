@@ -10,5 +10,5 @@ flush-requires-clause-closed g c =
     let may = g.V.Store.may_leave in
     let s1 = c.is_formatted.new.store in
     let s2 = c.format.new.store in
-    moved {P = (f : Files) → may s2 f → IsFormattedBy (may s1) c.args.first.now f} ((f : Files) → may s2 f → IsClosedAt c.in_ok-end.end f.log) (g.V.Store.told s1) (g.V.Store.told s2) c.format.ensures.tells c.in_ok-end.ensures.acknowledged
+    moved {P = (f : Files) → may s2 f → IsFormattedBy (may s1) c.args.first.now.body f} ((f : Files) → may s2 f → IsClosedAt c.in_ok-end.end f.log) (g.V.Store.told s1) (g.V.Store.told s2) c.format.ensures.tells c.in_ok-end.ensures.acknowledged
     (λ all f left. subst (λ (e : ℕ). IsClosedAt e f.log) (sym c.in_ok-end.ensures.next) (all f left).log.closed)

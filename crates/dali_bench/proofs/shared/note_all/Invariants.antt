@@ -1,4 +1,5 @@
 use Rattle.std.proofs.Common.{◌≡◌}
+use Rattle.dali_notes.specs.History.{IsSeen}
 use Rattle.dali_bench.specs.Shared.{Noted}
 use Rattle.dali_bench.proofs.shared.note_all.Given as goal
 
@@ -7,4 +8,5 @@ invariant-loop-number l = record {
   writer : l.writer.table ≡ l.notes.table;
   reader : l.reader.table ≡ l.notes.table;
   noted : Noted l.number-counter l.writer.number l.writer.seen;
+  met : IsSeen l.reader.seen l.writer.number l.writer.seen;
 }

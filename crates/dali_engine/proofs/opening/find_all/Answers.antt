@@ -2,6 +2,7 @@ use Rattle.std.proofs.Common.{◌∷◌, arith, rules}
 use Rattle.std.specs.Prelude.{IsNone, IsSome}
 use Rattle.std.proofs.lemmas.Result.{err_from_is_err_and}
 use Rattle.dali_record.specs.declared.records.Record.TheVariants.{Format}
+use Rattle.dali_store.proofs.Calls.{passes_on}
 use Rattle.dali_batch.proofs.Finds.{if_some_two, if_some_same}
 use Rattle.dali_batch.proofs.Readings.{reads_then}
 use Rattle.dali_engine.proofs.Streams.{found_next, found_all, open_bad}
@@ -24,6 +25,7 @@ records-preserved g c =
       read = if_some_two _ _ _ (g.V.Store.told c.args.store.now) c.records.invariant.read (if_some_same _ _ _ c.records.invariant.reads.same read)
           (λ fs so goes first. found_next fs.log c.records.reader c.next.new.self c.args.index c.args.heap _ _ c.records.count c.in-Some.entry (so first) goes c.in_ok-take-2.ensures.ok);
       reads = reads_then g.V.Store.told g.V.Store.moment g.V.Store.left_since g.V.Store.may_leave c.args.store.now c.records.store c.next.new.store c.records.invariant.reads c.next.ensures.reads;
+      passes = passes_on _ _ _ c.records.invariant.passes c.next.ensures.passes;
       later = omega (arith, c.records.invariant.later, c.next.ensures.later);
     }
 

@@ -1,23 +1,34 @@
 use Rattle.dali_run.specs.Program.{running}
-use Rattle.dali_run.proofs.Fronts.{on_err}
-use Rattle.dali_run.proofs.Alone.{untold, faulted, acts_alone, not_both}
+use Rattle.std.proofs.lemmas.Result.{err_from_is_err_and}
+use Rattle.dali_engine.proofs.Runs.{undone}
+use Rattle.dali_run.proofs.Alone.{untold, faulted, alone_undone, acts_alone, not_both}
 use Rattle.dali_run.proofs.commands.act.Goals as goal
 use Rattle.dali_run.proofs.commands.act.Goals.{else-is_stopped_audit-via-then-is_stopped_audit+else-not-spent, else-is_stopped_audit-via-else-is_stopped_audit}
 
-pub returns-then-not-spent-clause-lost : goal.returns-then-not-spent-clause-lost
-returns-then-not-spent-clause-lost g c =
-    untold g.V.Store.told g.V.Store.may_leave g.V.Store.moment g.V.Store.left_since g.V.Store.faults c.args.command.now (running c.args.engine.now c.args.store.now) (running c.act.new.self c.act.new.store) c.new-lines.result
-    c.act.new.stage c.act.new.lines c.new-lines.ensures c.in_ok-act.ensures.acts
+pub returns-in_err-act-clause-fails : goal.returns-in_err-act-clause-fails
+returns-in_err-act-clause-fails g c =
+    let p = err_from_is_err_and c.from_residual.result c.from_residual.ensures.1 in
+    rw (p.1, p.2) (
+    alone_undone g.V.Store.told g.V.Store.may_leave g.V.Store.moment g.V.Store.left_since g.V.Store.faults c.in_err-act.field-0.0 c.args.command.now (running c.args.engine.now c.args.store.now) c.act.new.store c.in_err-act.ensures.lost
+    (undone _ _ _ _ c.in_err-act.ensures.full c.in_err-act.ensures.numbers)
+    )
 
-pub returns-then-not-spent-clause-fault : goal.returns-then-not-spent-clause-fault
-returns-then-not-spent-clause-fault g c = λ err.
-    faulted g.V.Store.told g.V.Store.may_leave g.V.Store.moment g.V.Store.left_since g.V.Store.faults c.args.command.now (running c.args.engine.now c.args.store.now) c.new-lines.result
+pub returns-then-not-spent-clause-fails : goal.returns-then-not-spent-clause-fails
+returns-then-not-spent-clause-fails g c =
+    let own = faulted g.V.Store.told g.V.Store.may_leave g.V.Store.moment g.V.Store.left_since g.V.Store.faults c.args.command.now (running c.args.engine.now c.args.store.now) c.new-lines.result
     (record { engine = c.act.new.self; stage = c.act.new.stage; lines = c.act.new.lines; store = c.act.new.store }) c.new-lines.ensures c.in_ok-act.ensures.acts
-    (c.is_stopped_audit.ensures.0 c.if-is_stopped_audit.true) (λ spent. not_both c.spent.result (c.spent.ensures.1 spent) c.if-not-spent.true)
+    (c.is_stopped_audit.ensures.0 c.if-is_stopped_audit.true) (λ spent. not_both c.spent.result (c.spent.ensures.1 spent) c.if-not-spent.true) in (
+      own.0,
+      own.1,
+      own.2,
+      untold g.V.Store.told g.V.Store.may_leave g.V.Store.moment g.V.Store.left_since g.V.Store.faults c.args.command.now (running c.args.engine.now c.args.store.now) (running c.act.new.self c.act.new.store) c.new-lines.result
+          c.act.new.stage c.act.new.lines c.new-lines.ensures c.in_ok-act.ensures.acts,
+    )
 
-pub returns-in_err-text_of_lines-clause-lost : goal.returns-in_err-text_of_lines-clause-lost
-returns-in_err-text_of_lines-clause-lost g c =
-    on_err c.from_residual-in_err-text_of_lines.result (
+pub returns-in_err-text_of_lines-clause-fails : goal.returns-in_err-text_of_lines-clause-fails
+returns-in_err-text_of_lines-clause-fails g c =
+    let p = err_from_is_err_and c.from_residual-in_err-text_of_lines.result c.from_residual-in_err-text_of_lines.ensures.1 in
+    rw (p.1, p.2) (
     untold g.V.Store.told g.V.Store.may_leave g.V.Store.moment g.V.Store.left_since g.V.Store.faults c.args.command.now (running c.args.engine.now c.args.store.now) (running c.act.new.self c.act.new.store) c.new-lines.result
     c.act.new.stage c.act.new.lines c.new-lines.ensures c.in_ok-act.ensures.acts
     )
@@ -29,4 +40,4 @@ returns-clause-acts g c =
     elim c.else-is_stopped_audit.branch [
       | else-is_stopped_audit-via-then-is_stopped_audit+else-not-spent w ↦ w.spent.ensures.0 w.if-not-spent.false
       | else-is_stopped_audit-via-else-is_stopped_audit w ↦ absurd (not_both c.is_stopped_audit.result (c.is_stopped_audit.ensures.1 same) w.if-is_stopped_audit.false)
-    ])
+    ]) c.act.ensures.passes

@@ -1,12 +1,13 @@
 use Rattle.dali_run.specs.Program.{running}
-use Rattle.dali_run.proofs.Fronts.{on_err}
-use Rattle.dali_run.proofs.Blocks.{blocks_go_on, round_lost}
+use Rattle.std.proofs.lemmas.Result.{err_from_is_err_and}
+use Rattle.dali_run.proofs.Blocks.{blocks_go_on, round_fails}
 use Rattle.dali_run.proofs.commands.run_blocks.Goals as goal
 
 pub returns-in_err-run_block-clause-lost : goal.returns-in_err-run_block-clause-lost
 returns-in_err-run_block-clause-lost g c =
-    on_err c.from_residual.result (
-    round_lost g.V.Store.told g.V.Store.may_leave g.V.Store.moment g.V.Store.left_since g.V.Store.faults c.args.blocks.now c.loop-block.block-index c.block-item.result
+    let p = err_from_is_err_and c.from_residual.result c.from_residual.ensures.1 in
+    rw (p.1, p.2) (
+    round_fails g.V.Store.told g.V.Store.may_leave g.V.Store.moment g.V.Store.left_since g.V.Store.faults c.in_err-run_block.field-0.0 c.args.blocks.now c.loop-block.block-index c.block-item.result
     (running c.args.engine.now c.args.store.now) (running c.loop-block.engine c.loop-block.store) c.loop-block.text.items c.run_block.new.store c.loop-block-test.true c.block-item.is
     c.loop-block.invariant.ran c.in_err-run_block.ensures.lost
     )

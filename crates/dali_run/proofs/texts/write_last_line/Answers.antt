@@ -20,3 +20,9 @@ returns-in-Unformatted-clause-all g c = rw (c.in-Unformatted.is) (c.write_all-in
 
 pub returns-in-Unformatted-clause-some : goal.returns-in-Unformatted-clause-some
 returns-in-Unformatted-clause-some g c = rw (c.in-Unformatted.is) (c.write_all-in-Unformatted.ensures.some)
+
+pub returns-in-OutOfNumbers-clause-all : goal.returns-in-OutOfNumbers-clause-all
+returns-in-OutOfNumbers-clause-all g c = rw (c.in-OutOfNumbers.is) (c.write_all-in-OutOfNumbers.ensures.all)
+
+pub returns-in-OutOfNumbers-clause-some : goal.returns-in-OutOfNumbers-clause-some
+returns-in-OutOfNumbers-clause-some g c = rw (c.in-OutOfNumbers.is) (c.write_all-in-OutOfNumbers.ensures.some)

@@ -10,5 +10,5 @@ move_anchor-requires-clause-anchored g c =
     let may = g.V.Store.may_leave in
     let s1 = c.is_formatted.new.store in
     let s2 = c.format.new.store in
-    moved {P = (f : Files) → may s2 f → IsFormattedBy (may s1) c.args.first.now f} (AreAnchored (may s2) 0) (g.V.Store.told s1) (g.V.Store.told s2) c.format.ensures.tells c.in_ok-format.ensures.acknowledged
+    moved {P = (f : Files) → may s2 f → IsFormattedBy (may s1) c.args.first.now.body f} (AreAnchored (may s2) 0) (g.V.Store.told s1) (g.V.Store.told s2) c.format.ensures.tells c.in_ok-format.ensures.acknowledged
     (λ all f left. record { gates = λ i lt. absurd (omega (arith, lt)); closed = (all f left).anchor })

@@ -1,5 +1,5 @@
 use Rattle.std.proofs.Common.{◌≡◌, ◌∙◌, ◌++◌, ℕ, ap, length, arith, length-append, List, vec_len}
-use Rattle.dali_batch.specs.Batch.{body_of}
+use Rattle.dali_batch.specs.Batch.{body_of, Framed}
 use Rattle.dali_batch.proofs.Bytes.{length-frame_of}
 use Rattle.dali_batch.proofs.Frames.{is_frame, written_whole, body_of-frame}
 use Rattle.dali_batch.proofs.frame.Frame.add.Goals as goal
@@ -20,7 +20,7 @@ invariant_of-self-2 c =
     let size = ap length stands ∙ length-frame_of (body ++ added) in
     let count : vec_len c.extend_from_slice.new.self ≡ length c.settle.new.bytes = omega (arith, size, long, c.in_ok-extend_from_slice.ensures.len, length-append body added) in
     is_frame _ (body ++ added) (written_whole _ c.settle.new.bytes c.extend_from_slice.new.self.items count ∙ stands)
-    (omega (arith, length-append body added, c.requires, ap length c.self.view_is))
+    (omega (arith, length-append body added, c.requires, ap (λ (f : Framed). length f.body) c.self.view_is))
 
 pub returns-clause-ok : goal.returns-clause-ok
 returns-clause-ok c =
@@ -30,5 +30,7 @@ returns-clause-ok c =
     let stood = c.deref_mut.ensures.value ∙ c.in_ok-extend_from_slice.ensures.items ∙ ap (λ (l : List ℕ). l ++ added) c.self.invariant.whole in
     let stands = c.settle.ensures body added stood (omega (arith, c.len-gate.ensures, long)) in
     let size = ap length stands ∙ length-frame_of (body ++ added) in
-    let count : vec_len c.extend_from_slice.new.self ≡ length c.settle.new.bytes = omega (arith, size, long, c.in_ok-extend_from_slice.ensures.len, length-append body added) in
-    ap body_of (written_whole _ c.settle.new.bytes c.extend_from_slice.new.self.items count ∙ stands) ∙ body_of-frame (body ++ added) ∙ ap (λ (l : List ℕ). l ++ added) c.self.view_is
+    let count : vec_len c.extend_from_slice.new.self ≡ length c.settle.new.bytes = omega (arith, size, long, c.in_ok-extend_from_slice.ensures.len, length-append body added) in (
+      ap body_of (written_whole _ c.settle.new.bytes c.extend_from_slice.new.self.items count ∙ stands) ∙ body_of-frame (body ++ added) ∙ ap (λ (f : Framed). f.body ++ added) c.self.view_is,
+      omega (arith, ap (λ (f : Framed). f.room) c.self.view_is, c.in_ok-extend_from_slice.ensures.len, c.extend_from_slice.ensures.capacity),
+    )

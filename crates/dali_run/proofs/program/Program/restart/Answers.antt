@@ -10,5 +10,6 @@ returns-in_ok-text-in-Ok-clause-steps g c =
       restored = c.in-Ok.ensures.restored;
       durable = c.in-Ok.ensures.durable;
       reads = c.in-Ok.ensures.reads;
+      fuse = c.restart.ensures.passes;
       printed = c.in_ok-text-in-Ok.ensures;
     })

@@ -1,0 +1,50 @@
+-- A commit of a taking back is a step of a core.
+use Rattle.std.proofs.Common.{◌≡◌, ℕ, Bool, true, Option, Some, None, sym, ap, subst, refl, ◌∙◌, is_some}
+use Rattle.std.specs.Prelude.{slice_get, IsSome}
+use Rattle.dali_record.specs.declared.operations.Block.{Block}
+use Rattle.dali_record.specs.declared.operations.Op.{Op}
+use Rattle.dali_record.specs.declared.operations.Undo.{Undo}
+use Rattle.dali_record.specs.declared.operations.Undo.TheVariants.{FreeCell, ReviveCell, Restore, FreeEntry, ReviveEntry}
+use Rattle.dali_record.specs.Operations.{undo_op}
+use Rattle.dali_record.specs.Blocks.{changes_item}
+use Rattle.dali_record.specs.Legal.{on_kind}
+use Rattle.dali_record.specs.Spelling.{is_back}
+use Rattle.dali_region.specs.State.{RegionState}
+use Rattle.dali_system.specs.State.{lock_of}
+use Rattle.dali_system.specs.Run.{covers}
+use Rattle.dali_facts.proofs.Plans.{take_back_goes_on}
+use Rattle.dali_calls.specs.TakingBack.{TakeBackIsStep}
+use Rattle.dali_calls.proofs.Stepping.{covers_all, state_there}
+
+takes_back : (u : Undo) → is_back (undo_op u) ≡ true
+takes_back (FreeCell c) = refl
+takes_back (ReviveCell c) = refl
+takes_back (Restore c n vs) = refl
+takes_back (FreeEntry e) = refl
+takes_back (ReviveEntry e) = refl
+
+pub taking_back_is_step : TakeBackIsStep
+taking_back_is_step L c t w u b g at_work last may =
+    let key : b.key ≡ u.key = ap (λ (x : Block). x.key) may.made.made_on in
+    let region : b.region ≡ u.region = ap (λ (x : Block). x.region) may.made.made_on in
+    let op : b.op ≡ undo_op u.undo = ap (λ (x : Block). x.op) may.made.made_on in
+    let now = take_back_goes_on c.system.sizes L t w u b at_work last key region op in
+    record {
+      step = (
+        g,
+        record {
+          runs = may.runs;
+          spelled = (may.txn, may.made.spelled, ap is_back op ∙ takes_back u.undo);
+          next = state_there _ _ now.1;
+          by = may.by;
+          kind = ap (λ (r : ℕ). on_kind c.system.sizes r b.op) region ∙ ap (on_kind c.system.sizes u.region) op ∙ may.kind;
+          locked = ap (λ (k : ℕ). covers (lock_of c.system t k) (changes_item b)) key ∙ covers_all (lock_of c.system t u.key) (changes_item b) may.holds;
+          at = ap (slice_get c.regions) region ∙ may.at;
+          is_open = may.written;
+        },
+        (refl, refl),
+      );
+      left = now.0;
+      at_work = now.1;
+      undos = now.2;
+    }

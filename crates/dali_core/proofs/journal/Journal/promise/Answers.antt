@@ -1,0 +1,31 @@
+use Rattle.std.proofs.Common.{◌≡◌, ℕ, rules, arith, ap, ◌∙◌, ◌+◌}
+use Rattle.dali_core.specs.Journaled.{Journaled}
+use Rattle.dali_core.proofs.Journals.{kept_same, view_same, on_err}
+use Rattle.dali_core.proofs.journal.Journal.promise.Goals as goal
+
+pub invariant_of-self : goal.invariant_of-self
+invariant_of-self c = (
+  kept_same c.self.inside.bytes.items c.make_room.new.bytes.items c.self.inside.spelled c.in_err-make_room.self-1-own.given.0 c.self.inside.frame c.make_room.new.frame c.self.inside.count c.self.inside.taken c.in_err-make_room.ensures.same.0 c.in_err-make_room.ensures.same.2 c.in_err-make_room.ensures.same.3 c.self.invariant.0,
+  record {
+    bytes = omega (arith, c.self.invariant.1.bytes, c.in_err-make_room.ensures.same.1, c.in_err-make_room.ensures.kept.0);
+    frame = omega (arith, c.self.invariant.1.frame, c.in_err-make_room.ensures.kept.1);
+    few = rw c.in_err-make_room.ensures.same.2 c.self.invariant.1.few;
+    small = omega (arith, c.self.invariant.1.small, c.in_err-make_room.ensures.same.1);
+  },
+)
+
+pub returns-in_err-make_room-clause-err : goal.returns-in_err-make_room-clause-err
+returns-in_err-make_room-clause-err c = on_err c.from_residual-in_err-make_room.result _ (view_same c.self.inside.bytes.items c.make_room.new.bytes.items c.self.inside.spelled c.in_err-make_room.self-1-own.given.0 c.self.inside.taken c.self.inside.promised c.args.self.now c.in_err-make_room.ensures.same.0 c.self.view_is)
+
+pub invariant_of-self-2 : goal.invariant_of-self-2
+invariant_of-self-2 c = (
+  kept_same c.self.inside.bytes.items c.make_room.new.bytes.items c.self.inside.spelled c.self-2-1.given.0 c.self.inside.frame c.make_room.new.frame c.self.inside.count c.self.inside.taken c.in_ok-make_room.ensures.same.0 c.in_ok-make_room.ensures.same.2 c.in_ok-make_room.ensures.same.3 c.self.invariant.0,
+  c.in_ok-make_room.ensures.ok,
+)
+
+pub returns-clause-ok : goal.returns-clause-ok
+returns-clause-ok c =
+    let sum : c.in_ok-promised.promised ≡ c.self.inside.promised + c.args.more = search rules in
+    view_same c.self.inside.bytes.items c.make_room.new.bytes.items c.self.inside.spelled c.self-2-1.given.0 c.self.inside.taken c.in_ok-promised.promised (record c.args.self.now { promised = c.in_ok-promised.promised }) c.in_ok-make_room.ensures.same.0
+    (ap (λ (j : Journaled). let m : Journaled = record { since = j.since; taken = j.taken; promised = c.in_ok-promised.promised } in m) c.self.view_is)
+    ∙ ap (λ (p : ℕ). let m : Journaled = record { since = c.args.self.now.since; taken = c.args.self.now.taken; promised = p } in m) (sum ∙ ap (λ (j : Journaled). j.promised + c.args.more) c.self.view_is)

@@ -1,0 +1,7 @@
+mod After
+mod Listed
+mod Words
+mod Stepped
+mod Left
+pub mod Found
+pub mod Restarts

@@ -1,0 +1,24 @@
+//! Laws over the definitions, each the contract of a function that does nothing.
+ghost use Rattle.dali_undos.specs.AsLeft.{OneBlockLeaves, KeptUndosFind, OwnUndosFind, BacksFind, EpochUndosFind, EpochMomentsFind, EpochBacksFind, RestartUndosFind};
+
+/// At each moment, in whatever order the transactions without a Commit are taken back, each undo finds its slot
+/// as the block that left it made it: state, key, length and value of a cell, state, key and place of an entry.
+pub fn an_undo_finds_its_slot_as_it_was_left()
+    ensures any_order { KeptUndosFind }
+    ensures by_itself { OwnUndosFind }
+    ensures one_block { OneBlockLeaves }
+{}
+
+/// Each logged block that took an undo back found the slot so.
+pub fn a_taking_back_found_its_slot_as_it_was_left()
+    ensures { BacksFind }
+{}
+
+/// In each epoch of a history, at its end and at each moment, and in the epoch that a restart recovers, whichever
+/// of the transactions comes first.
+pub fn a_restart_finds_each_slot_as_it_was_left()
+    ensures epoch { EpochUndosFind }
+    ensures moments { EpochMomentsFind }
+    ensures backs { EpochBacksFind }
+    ensures recovered { RestartUndosFind }
+{}
