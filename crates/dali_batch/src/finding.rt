@@ -1,6 +1,6 @@
 //! What stands at a place of the log.
 ghost use Rattle.std.specs.Prelude.{◌≡◌, ◌≤◌, ◌<◌, ◌+◌, ℕ, true, false, length, take, drop, IfOk, OnOk, OnErr, IfErr, IsErrOf, IfSome, IsNone};
-ghost use Rattle.dali_store.specs.Calls.{one_less, PassesFewer};
+ghost use Rattle.dali_store.specs.Calls.{one_less, PassesFewer, MakesAtMost};
 ghost use Rattle.dali_store.specs.Faults.{Rose};
 ghost use Rattle.dali_bytes.specs.Fields.{number32};
 ghost use Rattle.dali_batch.specs.Finding.{IsBad, IsFound, IsFurther};
@@ -84,6 +84,7 @@ fn read_bytes<V: Store>(
     ensures later { V.faults store.old ≤ V.faults store.new }
     ensures fault { IsErrOf result BatchError.Fault → Rose (V.faults store.old) (V.faults store.new) }
     ensures kept { (IsErrOf result BatchError.Fault → ⊥) → V.faults store.new ≡ V.faults store.old }
+    ensures most { MakesAtMost 1 (V.lets_pass store.old) (V.lets_pass store.new) }
     ensures passes { PassesFewer (V.lets_pass store.old) (V.lets_pass store.new) }
 {
     let mut bytes = vec![in alloc; 0; size as usize]?;
@@ -104,6 +105,7 @@ pub fn find<V: Store>(alloc: Global, store: &mut V, at: u64) -> Result<Found, Ba
     ensures later { V.faults store.old ≤ V.faults store.new }
     ensures fault { IsErrOf result BatchError.Fault → Rose (V.faults store.old) (V.faults store.new) }
     ensures kept { (IsErrOf result BatchError.Fault → ⊥) → V.faults store.new ≡ V.faults store.old }
+    ensures most { MakesAtMost 4 (V.lets_pass store.old) (V.lets_pass store.new) }
     ensures passes { PassesFewer (V.lets_pass store.old) (V.lets_pass store.new) }
 {
     let length = store.length(FileName::Log)?;

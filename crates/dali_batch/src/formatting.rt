@@ -1,6 +1,6 @@
 //! The first batch of a log.
 ghost use Rattle.std.specs.Prelude.{◌≡◌, ◌<◌, ◌≤◌, true, false, [], ◌∷◌, length, IfOk, OnOk, IfSome, is_some};
-ghost use Rattle.dali_store.specs.Calls.{fewer, PassesFewer};
+ghost use Rattle.dali_store.specs.Calls.{fewer, PassesFewer, MakesAtMost};
 ghost use Rattle.dali_store.specs.Faults.{HasCause};
 ghost use Rattle.dali_store.specs.Store.{Files, LeavesOnly};
 ghost use Rattle.dali_batch.specs.Batch.{IsClosedAt, IsUnformatted};
@@ -22,6 +22,7 @@ pub fn is_formatted<V: Store>(store: &mut V) -> Result<bool, StoreFault>
     ensures reads { OnlyReads V.told V.moment V.left_since V.may_leave store.old store.new }
     ensures cause { HasCause (V.faults store.old) (V.faults store.new) result }
     ensures calls { OnOk result (V.lets_pass store.new ≡ fewer 3 (V.lets_pass store.old)) }
+    ensures most { MakesAtMost 3 (V.lets_pass store.old) (V.lets_pass store.new) }
     ensures passes { PassesFewer (V.lets_pass store.old) (V.lets_pass store.new) }
 {
     store.sync(FileName::Log)?;
@@ -38,6 +39,7 @@ fn close_log<V: Store>(store: &mut V) -> Result<(), StoreFault>
     ensures any_moment { IfSome (V.told store.old) (λ _. LeavesOnly V.moment V.left_since store.old store.new (CloseLeaves (V.may_leave store.old))) }
     ensures closed { OnOk result (IfSome (V.told store.old) (λ _. (c : Files) → V.may_leave store.new c → IsClosedAt 0 c.log)) }
     ensures cause { HasCause (V.faults store.old) (V.faults store.new) result }
+    ensures most { MakesAtMost 3 (V.lets_pass store.old) (V.lets_pass store.new) }
     ensures passes { PassesFewer (V.lets_pass store.old) (V.lets_pass store.new) }
 {
     if store.length(FileName::Log)? >= 2 {
@@ -54,6 +56,7 @@ fn close_gates<V: Store>(store: &mut V) -> Result<(), StoreFault>
     ensures any_moment { IfSome (V.told store.old) (λ _. LeavesOnly V.moment V.left_since store.old store.new (CloseLeaves (V.may_leave store.old))) }
     ensures closed { OnOk result (IfSome (V.told store.old) (λ _. (c : Files) → V.may_leave store.new c → AreClosed c)) }
     ensures cause { HasCause (V.faults store.old) (V.faults store.new) result }
+    ensures most { MakesAtMost 5 (V.lets_pass store.old) (V.lets_pass store.new) }
     ensures passes { PassesFewer (V.lets_pass store.old) (V.lets_pass store.new) }
 {
     close_log(store)?;
@@ -79,6 +82,7 @@ pub fn format<V: Store>(store: &mut V, frame: &Frame) -> Result<u64, StoreFault>
     ensures acknowledged { OnOk result (IfSome (V.told store.old) (λ _. (c : Files) → V.may_leave store.new c →
         IsFormattedBy (V.may_leave store.old) frame.now.body c)) }
     ensures cause { HasCause (V.faults store.old) (V.faults store.new) result }
+    ensures most { MakesAtMost 9 (V.lets_pass store.old) (V.lets_pass store.new) }
     ensures passes { PassesFewer (V.lets_pass store.old) (V.lets_pass store.new) }
 {
     close_gates(store)?;

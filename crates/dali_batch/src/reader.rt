@@ -1,6 +1,6 @@
 //! The log, record by record.
 ghost use Rattle.std.specs.Prelude.{◌≡◌, ◌≤◌, ◌<◌, ◌+◌, ◌-◌, ◌^◌, ◌++◌, ◌⊎◌, [], ◌∷◌, ℕ, true, false, Bool, List, length, take, drop, IfOk, OnOk, IfErr, IsErrOf, IfSome, IsNone, IsSome};
-ghost use Rattle.dali_store.specs.Calls.{PassesFewer};
+ghost use Rattle.dali_store.specs.Calls.{PassesFewer, MakesAtMost};
 ghost use Rattle.dali_store.specs.Faults.{Rose};
 ghost use Rattle.dali_record.specs.declared.records.Record.{Record};
 ghost use Rattle.dali_record.specs.Spelling.{CanBeSpelled, Begins, spelling};
@@ -95,6 +95,7 @@ impl LogReader {
         ensures later { V.faults store.old ≤ V.faults store.new }
         ensures fault { IsErrOf result BatchError.Fault → Rose (V.faults store.old) (V.faults store.new) }
         ensures kept { (IsErrOf result BatchError.Fault → ⊥) → V.faults store.new ≡ V.faults store.old }
+        ensures most { MakesAtMost 1 (V.lets_pass store.old) (V.lets_pass store.new) }
         ensures passes { PassesFewer (V.lets_pass store.old) (V.lets_pass store.new) }
     {
         let count = (self.length - at).min(AHEAD.max(size as u64));
@@ -120,6 +121,7 @@ impl LogReader {
         ensures later { V.faults store.old ≤ V.faults store.new }
         ensures fault { IsErrOf result BatchError.Fault → Rose (V.faults store.old) (V.faults store.new) }
         ensures kept { (IsErrOf result BatchError.Fault → ⊥) → V.faults store.new ≡ V.faults store.old }
+        ensures most { MakesAtMost 1 (V.lets_pass store.old) (V.lets_pass store.new) }
         ensures passes { PassesFewer (V.lets_pass store.old) (V.lets_pass store.new) }
     {
         if self.length < at || self.length - at < size as u64 {
@@ -156,6 +158,7 @@ impl LogReader {
         ensures later { V.faults store.old ≤ V.faults store.new }
         ensures fault { IsErrOf result BatchError.Fault → Rose (V.faults store.old) (V.faults store.new) }
         ensures kept { (IsErrOf result BatchError.Fault → ⊥) → V.faults store.new ≡ V.faults store.old }
+        ensures most { MakesAtMost 3 (V.lets_pass store.old) (V.lets_pass store.new) }
         ensures passes { PassesFewer (V.lets_pass store.old) (V.lets_pass store.new) }
     {
         if !self.need(store, at, 1)? {
@@ -191,6 +194,7 @@ impl LogReader {
         ensures later { V.faults store.old ≤ V.faults store.new }
         ensures fault { IsErrOf result LogError.Fault → Rose (V.faults store.old) (V.faults store.new) }
         ensures kept { (IsErrOf result LogError.Fault → ⊥) → V.faults store.new ≡ V.faults store.old }
+        ensures most { MakesAtMost 4 (V.lets_pass store.old) (V.lets_pass store.new) }
         ensures passes { PassesFewer (V.lets_pass store.old) (V.lets_pass store.new) }
     {
         let length = store.length(FileName::Log)?;
@@ -231,6 +235,7 @@ impl LogReader {
         ensures later { V.faults store.old ≤ V.faults store.new }
         ensures fault { IsErrOf result LogError.Fault → Rose (V.faults store.old) (V.faults store.new) }
         ensures kept { (IsErrOf result LogError.Fault → ⊥) → V.faults store.new ≡ V.faults store.old }
+        ensures most { MakesAtMost 3 (V.lets_pass store.old) (V.lets_pass store.new) }
         ensures passes { PassesFewer (V.lets_pass store.old) (V.lets_pass store.new) }
     {
         let place = self.end;
@@ -282,6 +287,7 @@ impl LogReader {
         ensures later { V.faults store.old ≤ V.faults store.new }
         ensures fault { IsErrOf result LogError.Fault → Rose (V.faults store.old) (V.faults store.new) }
         ensures kept { (IsErrOf result LogError.Fault → ⊥) → V.faults store.new ≡ V.faults store.old }
+        ensures most { MakesAtMost 3 (V.lets_pass store.old) (V.lets_pass store.new) }
         ensures passes { PassesFewer (V.lets_pass store.old) (V.lets_pass store.new) }
     {
         if self.at < self.end {

@@ -1,7 +1,7 @@
 //! One batch more at the end of the log.
 ghost use Rattle.std.specs.Prelude.{◌≡◌, ◌≤◌, ◌<◌, ◌+◌, ◌^◌, ◌++◌, [], ◌∷◌, ◌==◌, length, IfOk, OnOk, IfSome, is_some, if◌then◌else◌};
 ghost use Rattle.dali_store.specs.declared.store.FileName.TheVariants.{Log};
-ghost use Rattle.dali_store.specs.Calls.{fewer, PassesFewer};
+ghost use Rattle.dali_store.specs.Calls.{fewer, PassesFewer, MakesAtMost};
 ghost use Rattle.dali_store.specs.Faults.{HasCause};
 ghost use Rattle.dali_store.specs.Store.{Files, LeavesOnly, HoldsIn, TornTold};
 ghost use Rattle.dali_batch.specs.Batch.{batch, closed_gate, IsClosedAt};
@@ -33,6 +33,7 @@ pub fn append<V: Store>(store: &mut V, at: u64, frame: &Frame) -> Result<u64, St
         AllAdded (V.may_leave store.old) at (frame.now.body ∷ []) c)) }
     ensures cause { HasCause (V.faults store.old) (V.faults store.new) result }
     ensures calls { OnOk result (V.lets_pass store.new ≡ fewer 4 (V.lets_pass store.old)) }
+    ensures most { MakesAtMost 4 (V.lets_pass store.old) (V.lets_pass store.new) }
     ensures passes { PassesFewer (V.lets_pass store.old) (V.lets_pass store.new) }
 {
     store.write_at(FileName::Log, at + 1, frame.whole())?;
@@ -58,6 +59,7 @@ pub fn flush<V: Store>(store: &mut V, at: u64, frame: &Frame) -> Result<u64, Sto
     ensures cause { HasCause (V.faults store.old) (V.faults store.new) result }
     // Four calls where there are records, else none.
     ensures calls { OnOk result (V.lets_pass store.new ≡ fewer (if length frame.now.body == 0 then 0 else 4) (V.lets_pass store.old)) }
+    ensures most { MakesAtMost 4 (V.lets_pass store.old) (V.lets_pass store.new) }
     ensures passes { PassesFewer (V.lets_pass store.old) (V.lets_pass store.new) }
 {
     if frame.is_empty() {

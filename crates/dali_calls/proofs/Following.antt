@@ -250,7 +250,7 @@ last_append (x ∷ []) (v ∷ vs) u e = e
 last_append (x ∷ []) [] u e = absurd cc
 last_append (x ∷ y ∷ us) vs u e = last_append (y ∷ us) vs u e
 
-drop_append : (us vs : List Pending) (u : Pending) → last_of vs ≡ Some u → drop_last (us ++ vs) ≡ us ++ drop_last vs
+pub drop_append : (us vs : List Pending) (u : Pending) → last_of vs ≡ Some u → drop_last (us ++ vs) ≡ us ++ drop_last vs
 drop_append [] vs u e = refl
 drop_append (x ∷ []) (v ∷ vs) u e = refl
 drop_append (x ∷ []) [] u e = absurd cc

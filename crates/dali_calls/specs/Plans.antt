@@ -3,6 +3,7 @@
 --     is_back p                whether the plan takes back: it was refused, or has to before its answer
 --     plan_next p              the next operation and its region, on its call or on its way back
 --     want_of p                what the plan needs next
+--     mode_of call             the mode in which its transaction is to hold the call's key
 --     GoesOn p b q, went_back p        the plan behind the block b of its next operation, on its call and on its way back
 --     IsWhole p                what is true of every plan
 use Rattle.std.specs.Prelude.{◌≡◌, ℕ, ◌≤◌, Bool, true, false, not, ◌&&◌, ⊤, List, [], ◌++◌, Option, Some, None, if◌then◌else◌, length}
@@ -18,6 +19,8 @@ use Rattle.dali_record.specs.Log.{last_of, drop_last, undo_added}
 use Rattle.dali_record.specs.Calls.{takes_back, follow}
 use Rattle.dali_record.specs.Legal.{is_none_left, on_kind}
 use Rattle.dali_record.specs.Spelling.{Is64, IsOperation, IsCall}
+use Rattle.dali_locks.specs.declared.mode.Mode.{Mode}
+use Rattle.dali_locks.specs.declared.mode.Mode.TheVariants.{Shared, Exclusive}
 use Rattle.dali_system.specs.State.{SystemState}
 use Rattle.dali_core.specs.declared.error.SystemError.{SystemError}
 use Rattle.dali_core.specs.Refused.{refusal, stop_refusal}
@@ -99,6 +102,9 @@ want_in _ None = Nothing
 
 abbrev pub want_of : Planned → Want
 want_of p = want_in p.phase (plan_next p)
+
+abbrev pub mode_of : Call → Mode
+mode_of call = if is_get call then Shared else Exclusive
 
 -- ---- what is true of every plan
 -- what it takes back is on the call's key, in a region of its kind

@@ -12,19 +12,20 @@ ghost use Rattle.dali_system.specs.Steps.{op_logged, back_logged, done_logged};
 ghost use Rattle.dali_system.specs.Keeps.{HasRoom};
 ghost use Rattle.dali_system.specs.Regions.{IsOpen};
 ghost use Rattle.dali_core.specs.Refused.{refusal, stop_refusal};
-ghost use Rattle.dali_core.specs.UnderWay.{IsUnderWay};
+ghost use Rattle.dali_core.specs.UnderWay.{IsUpdated, IsUnderWay};
 ghost use Rattle.dali_core.specs.declared.error.SystemError.TheVariants.{OutOfMemory as Memory};
 ghost use Rattle.dali_core.specs.declared.want.Want.TheVariants.{Done as AnswerIsNext};
 ghost use Rattle.dali_calls.specs.declared.stage.Stage.TheVariants.{Fresh};
 ghost use Rattle.dali_calls.specs.declared.plan.Phase.TheVariants.{Calling, Refused, Answered};
 ghost use Rattle.dali_calls.specs.Steps.{call_key, progress_of, answer_of, IsBlockOf};
-ghost use Rattle.dali_calls.specs.Plans.{Planned, plan_next, want_of, with_operation, refused, answered, went_back, commit_refusal, GoesOn, IsWhole};
+ghost use Rattle.dali_calls.specs.Plans.{Planned, plan_next, want_of, mode_of, with_operation, refused, answered, went_back, commit_refusal, GoesOn, IsWhole};
 ghost use Rattle.dali_calls.specs.Plans;
 
 use crate::changes::Changes;
 use crate::stage::{Stage, key_of};
 use dali_core::{Operation, System, SystemError, Want};
 use dali_geometry::Geometry;
+use dali_locks::Mode;
 use dali_record::{Answer, Block, Call, Op, Pending, undo_op};
 use dali_region::{LatchError, Receipt, Region};
 use std::marker::Model;
@@ -109,6 +110,17 @@ impl Plan {
         }
     }
 
+    /// The key of its call, and the mode in which the transaction is to hold it: alone, unless the call is a get.
+    pub fn lock(&self) -> (u64, Mode)
+        ensures { result ≡ (call_key self.now.call, mode_of self.now.call) }
+    {
+        let mode = match self.call {
+            Call::Get { .. } => Mode::Shared,
+            _ => Mode::Exclusive,
+        };
+        (key_of(&self.call), mode)
+    }
+
     // Whether it takes back.
     fn is_back(&self) -> bool
         ensures { result ≡ Plans.is_back self.now }
@@ -158,8 +170,8 @@ impl Plan {
         requires closed { self.old.operation ≡ None }
         ensures answer { result ≡ latch_answer precheck region.old }
         ensures refused { OnErr result ((self.new ≡ self.old) × (region.new ≡ region.old)) }
-        ensures made { OnOk result (IsSomeAnd self.new.operation (λ o. IsBlockOf (plan_next self.old) (call_key self.old.call) o.block
-            × IsUnderWay self.old.txn o.block o.left o.taken region.new × (region.new ≡ with_reads o.block.read (latched self.old.txn region.old)))) }
+        ensures made { OnOk result (IsSomeAnd self.new.operation (λ o. (o.txn ≡ self.old.txn) × IsBlockOf (plan_next self.old) (call_key self.old.call) o.block
+            × IsUnderWay o.txn o.block o.left o.taken region.new × (region.new ≡ with_reads o.block.read (latched self.old.txn region.old)))) }
         ensures same { self.new ≡ with_operation self.old self.new.operation }
     {
         let Some((number, op)) = self.next() else {
@@ -183,6 +195,7 @@ impl Plan {
         ensures under_way { IsSomeAnd self.new.operation (λ o. IsUnderWay o.txn o.block o.left o.taken region.new) }
         ensures same { IfSome self.old.operation (λ o. IsSomeAnd self.new.operation (λ p. (p.txn ≡ o.txn) × (p.block ≡ o.block))) }
         ensures some { IfSome self.old.operation (λ o. result ≡ not (o.left == 0)) }
+        ensures step { result ≡ true → IfSome self.old.operation (λ o. IsSomeAnd self.new.operation (λ p. p.taken ≡ o.taken + 1)) × IsUpdated region.old region.new }
         ensures none { result ≡ false → (region.new ≡ region.old) × (self.new ≡ self.old) × IsSomeAnd self.new.operation (λ o. IsOpen region.new o.txn o.block) }
         ensures rest { self.new ≡ with_operation self.old self.new.operation }
     {

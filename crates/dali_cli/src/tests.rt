@@ -24,6 +24,10 @@ const WITH_A_BEGIN: &[u8] =
 const BATCH_WITHOUT_ITS_BYTES: &[u8] =
     b"\xa5\0\0\0\x0a\x01\x01\0\0\0\x01\0\0\0\x01\xa5\0\0\0\x64\0";
 
+// Begin, commit and ended of the transaction with the last number.
+const WITH_THE_LAST_NUMBER: &[u8] =
+    b"\xa5\0\0\0\x0a\x01\x01\0\0\0\x01\0\0\0\x01\xa5\0\0\0\x1b\x02\xff\xff\xff\xff\xff\xff\xff\xff\x05\xff\xff\xff\xff\xff\xff\xff\xff\x06\xff\xff\xff\xff\xff\xff\xff\xff\0";
+
 const WITH_ONE_RECORD: &[u8] =
     b"\xa5\0\0\0\x0a\x01\x01\0\0\0\x01\0\0\0\x01\xa5\0\0\0\x29\x02\0\0\0\0\0\0\0\x01\x04\0\0\0\0\0\0\0\x01\x01\0\0\0\0\0\0\0\x05\x03abc\x01\x05\0\0\0\0\0\0\0\x01\0";
 
@@ -152,8 +156,8 @@ fn scripts_give_their_lines_and_statuses(rt: HostRuntime) -> Result<(), Fail> {
         ),
         Case::new(
             "a fuse that lets one audit pass, of four calls",
-            "size 1 1\nfuse 5\naudit\naudit\nshow\n",
-            b"fuse 5\naudit clean\naudit store stopped\nshow stopped store\n",
+            "size 1 1\nfuse 4\naudit\naudit\nshow\n",
+            b"fuse 4\naudit clean\naudit store stopped\nshow stopped store\n",
             Status::Done,
         ),
         Case {
@@ -187,6 +191,15 @@ fn scripts_give_their_lines_and_statuses(rt: HostRuntime) -> Result<(), Fail> {
                 "open\nclient 1\nbegin\ncommit\nend\nshow\n",
                 b"rolled back 1\ndeleted none\n1 begin 2\n1 commit ok\nrecords 0\n",
                 Status::Done,
+            )
+        },
+        Case {
+            log: WITH_THE_LAST_NUMBER,
+            ..Case::new(
+                "no number is left",
+                "open\nshow\nclient 1\nbegin\ncommit\nend\nshow\n",
+                b"rolled back none\ndeleted none\nrecords 0\nout of numbers\n",
+                Status::OutOfNumbers,
             )
         },
         Case::new(

@@ -11,7 +11,8 @@ use Rattle.dali_batch.specs.Log.{body_bytes}
 use Rattle.dali_batch.proofs.Unique.{some_bytes}
 use Rattle.dali_batch.proofs.Bodies.{spelled_push, bytes_push}
 use Rattle.dali_core.specs.Spelled.{Spelled, Spelled-prop}
-use Rattle.dali_core.specs.Journaled.{Journaled, IsKept, IsSmall}
+use Rattle.dali_core.specs.Promised.{Promised}
+use Rattle.dali_core.specs.Journaled.{Journaled, IsKept, HasMemory, IsSmall}
 
 -- ---- the records that bytes spell
 abbrev pub none_spelled : Spelled []
@@ -62,7 +63,7 @@ fewer_left (suc n) [] = omega arith
 fewer_left (suc n) (y ∷ L) = omega (arith, fewer_left n L)
 
 -- ---- what is true of every journal
-pub small_of : (L : List Record) (f : Framed) (count flushed promised : ℕ) → IsKept L f count flushed → IsSmall (record { since = L; taken = flushed; promised = promised })
+pub small_of : (L : List Record) (f : Framed) (count flushed : ℕ) (promised : Promised) → IsKept L f count flushed → IsSmall (record { since = L; taken = flushed; promised = promised })
 small_of L f count flushed promised k = record { bytes = k.small; records = omega (arith, few L, k.small) }
 
 pub no_records : (bytes : List ℕ) → bytes ≡ [] → (s : Spelled bytes) → s.0 ≡ []
@@ -98,18 +99,28 @@ kept_push old new x s t f g count flushed can e body n short k =
       small = subst (λ (b : List ℕ). length b ≤ 2 ^ 62) (sym ((push_spelled old new x s can e).1.bytes_are)) short;
     })
 
+-- ---- memory
+pub same_memory : (n m len capacity : ℕ) (f : Framed) → n ≡ m → HasMemory n len capacity f → HasMemory m len capacity f
+same_memory n m len capacity f e h = subst (λ (k : ℕ). HasMemory k len capacity f) e h
+
+pub less_memory : (n m len capacity : ℕ) (f : Framed) → n ≤ m → HasMemory m len capacity f → HasMemory n len capacity f
+less_memory n m len capacity f e h = record { bytes = omega (arith, e, h.bytes); frame = omega (arith, e, h.frame); few = omega (arith, e, h.few); small = omega (arith, e, h.small) }
+
+pub grown_memory : (n len more capacity larger : ℕ) (f g : Framed) → more ≡ len → g.body ≡ f.body → capacity ≤ larger → f.room ≤ g.room → HasMemory n len capacity f → HasMemory n more larger g
+grown_memory n len more capacity larger f g e body bytes frame h = record { bytes = omega (arith, e, bytes, h.bytes); frame = omega (arith, frame, h.frame); few = rw body h.few; small = omega (arith, e, h.small) }
+
 -- ---- views
-pub view_push : (old new : List ℕ) (x : Record) (s : Spelled old) (t : Spelled new) (flushed promised left : ℕ) (j : Journaled) → CanBeSpelled x → new ≡ old ++ spelling x → record { since = s.0; taken = flushed; promised = promised } ≡ j
+pub view_push : (old new : List ℕ) (x : Record) (s : Spelled old) (t : Spelled new) (flushed : ℕ) (promised left : Promised) (j : Journaled) → CanBeSpelled x → new ≡ old ++ spelling x → record { since = s.0; taken = flushed; promised = promised } ≡ j
     → let m : Journaled = record { since = t.0; taken = flushed; promised = left } in m ≡ record { since = j.since ++ x ∷ []; taken = j.taken; promised = left }
 view_push old new x s t flushed promised left j can e is =
     ap (λ (l : List Record). let m : Journaled = record { since = l; taken = flushed; promised = left } in m) (pushed old new x s t can e)
     ∙ ap (λ (i : Journaled). let m : Journaled = record { since = i.since ++ x ∷ []; taken = i.taken; promised = left } in m) is
 
-pub view_same : (old new : List ℕ) (s : Spelled old) (t : Spelled new) (flushed promised : ℕ) (j : Journaled) → new ≡ old → record { since = s.0; taken = flushed; promised = promised } ≡ j
+pub view_same : (old new : List ℕ) (s : Spelled old) (t : Spelled new) (flushed : ℕ) (promised : Promised) (j : Journaled) → new ≡ old → record { since = s.0; taken = flushed; promised = promised } ≡ j
     → record { since = t.0; taken = flushed; promised = promised } ≡ j
 view_same old new s t flushed promised j e is = ap (λ (l : List Record). let m : Journaled = record { since = l; taken = flushed; promised = promised } in m) (same_spelled old new s t e) ∙ is
 
-pub view_flushed : (bytes : List ℕ) (s t : Spelled bytes) (f : Framed) (count flushed promised : ℕ) (j : Journaled) → IsKept s.0 f count flushed → record { since = s.0; taken = flushed; promised = promised } ≡ j
+pub view_flushed : (bytes : List ℕ) (s t : Spelled bytes) (f : Framed) (count flushed : ℕ) (promised : Promised) (j : Journaled) → IsKept s.0 f count flushed → record { since = s.0; taken = flushed; promised = promised } ≡ j
     → let m : Journaled = record { since = t.0; taken = count; promised = promised } in m ≡ record { since = j.since; taken = length j.since; promised = j.promised }
 view_flushed bytes s t f count flushed promised j k is =
     ap (λ (l : List Record). let m : Journaled = record { since = l; taken = count; promised = promised } in m) (one_spelled bytes s t)

@@ -5,3 +5,4 @@ pub mod Rows
 pub mod Systems
 pub mod Guards
 pub mod RowsAre
+pub mod Totals

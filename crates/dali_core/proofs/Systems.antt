@@ -14,16 +14,17 @@ use Rattle.dali_core.specs.declared.system.System.TheInside.{Inside}
 use Rattle.dali_core.specs.Served.{Served}
 use Rattle.dali_core.specs.Rows.{AreRows}
 use Rattle.dali_core.specs.Fields.{state_of, served_of, IsBounded}
+use Rattle.dali_core.specs.Promised.{Promised}
 use Rattle.dali_core.specs.Journaled.{Journaled, IsSmall}
 
 abbrev pub with_parts : Inside → Journaled → Table Pending → Locks → ℕ → ℕ → Inside
 with_parts s j table locks end next = record s { journal = j; table = table; locks = locks; end = end; next = next }
 
 -- one record more, and so much promised
-abbrev pub with_one : Journaled → Record → ℕ → Journaled
+abbrev pub with_one : Journaled → Record → Promised → Journaled
 with_one j x p = record { since = j.since ++ x ∷ []; taken = j.taken; promised = p }
 
-pub stepped : (s : Inside) (j : Journaled) (x : Record) (p : ℕ) (tb tc : Table Pending) (ls ms : Locks) (e f n m : ℕ) → j ≡ with_one s.journal x p → tb ≡ tc → ls ≡ ms → e ≡ f → n ≡ m
+pub stepped : (s : Inside) (j : Journaled) (x : Record) (p : Promised) (tb tc : Table Pending) (ls ms : Locks) (e f n m : ℕ) → j ≡ with_one s.journal x p → tb ≡ tc → ls ≡ ms → e ≡ f → n ≡ m
     → served_of (with_parts s j tb ls e n)
     ≡ record {
       state = record (state_of s) { since = s.journal.since ++ x ∷ []; records = s.first + length s.journal.since + 1; table = tc; locks = ms; end = f; next = m };
@@ -50,7 +51,7 @@ same_parts s j tb y is same_table view =
 longer : (L : List Record) (x : Record) → length (body_bytes (L ++ x ∷ [])) ≡ length (body_bytes L) + length (spelling x)
 longer L x = ap length (sym (bytes_push L x)) ∙ length-append (body_bytes L) (spelling x)
 
-pub bounded_push : (s : Inside) (j : Journaled) (x : Record) (p : ℕ) (tb : Table Pending) (ls : Locks) (n : ℕ) → IsBounded s → j ≡ with_one s.journal x p → n ≡ length (spelling x) → AreRows s.next tb → IsBounded (with_parts s j tb ls (s.end + n) s.next)
+pub bounded_push : (s : Inside) (j : Journaled) (x : Record) (p : Promised) (tb : Table Pending) (ls : Locks) (n : ℕ) → IsBounded s → j ≡ with_one s.journal x p → n ≡ length (spelling x) → AreRows s.next tb → IsBounded (with_parts s j tb ls (s.end + n) s.next)
 bounded_push s j x p tb ls n b is e rows =
     subst (λ (k : Journaled). IsBounded (with_parts s k tb ls (s.end + n) s.next)) (sym is) (record {
       first = b.first;
@@ -60,7 +61,7 @@ bounded_push s j x p tb ls n b is e rows =
       rows = rows;
     })
 
-pub bounded_begin : (s : Inside) (j : Journaled) (x : Record) (p : ℕ) (tb : Table Pending) (ls : Locks) (n : ℕ) → IsBounded s → j ≡ with_one s.journal x p → n ≡ length (spelling x) → AreRows (s.next + 1) tb → IsBounded (with_parts s j tb ls (s.end + n) (s.next + 1))
+pub bounded_begin : (s : Inside) (j : Journaled) (x : Record) (p : Promised) (tb : Table Pending) (ls : Locks) (n : ℕ) → IsBounded s → j ≡ with_one s.journal x p → n ≡ length (spelling x) → AreRows (s.next + 1) tb → IsBounded (with_parts s j tb ls (s.end + n) (s.next + 1))
 bounded_begin s j x p tb ls n b is e rows =
     subst (λ (k : Journaled). IsBounded (with_parts s k tb ls (s.end + n) (s.next + 1))) (sym is) (record {
       first = b.first;
@@ -77,11 +78,11 @@ pub bounded_table : (s : Inside) (tb : Table Pending) → IsBounded s → AreRow
 bounded_table s tb b rows = record { first = b.first; end = b.end; next = b.next; limit = b.limit; rows = rows }
 
 -- nothing overflows
-pub end_fits : (s : Inside) (j : Journaled) (x : Record) (p : ℕ) (n : ℕ) → IsBounded s → j ≡ with_one s.journal x p → n ≡ length (spelling x) → IsSmall j → s.end + n < 2 ^ 64
+pub end_fits : (s : Inside) (j : Journaled) (x : Record) (p : Promised) (n : ℕ) → IsBounded s → j ≡ with_one s.journal x p → n ≡ length (spelling x) → IsSmall j → s.end + n < 2 ^ 64
 end_fits s j x p n b is e small =
     let short : IsSmall (with_one s.journal x p) = subst IsSmall is small in omega (arith, b.end, e, longer s.journal.since x, short.bytes)
 
-pub next_fits : (s : Inside) (j : Journaled) (x : Record) (p : ℕ) → IsBounded s → j ≡ with_one s.journal x p → IsSmall j → s.next + 1 < 2 ^ 64
+pub next_fits : (s : Inside) (j : Journaled) (x : Record) (p : Promised) → IsBounded s → j ≡ with_one s.journal x p → IsSmall j → s.next + 1 < 2 ^ 64
 next_fits s j x p b is small =
     let short : IsSmall (with_one s.journal x p) = subst IsSmall is small in omega (arith, b.next, short.records, length-append s.journal.since (x ∷ []))
 

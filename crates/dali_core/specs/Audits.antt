@@ -2,7 +2,7 @@
 --     is_audit x               whether x is one
 --     audit_noted y x          the system after it: one that failed stops the engine
 --     audit_refusal y x        why it isn't logged, if so
-use Rattle.std.specs.Prelude.{ℕ, ◌+◌, Bool, true, false, Option}
+use Rattle.std.specs.Prelude.{◌+◌, Bool, true, false, Option}
 use Rattle.dali_record.specs.declared.records.Record.{Record}
 use Rattle.dali_record.specs.declared.records.Record.TheVariants.{AuditBegin, AuditClean, AuditFail}
 use Rattle.dali_system.specs.State.{SystemState}

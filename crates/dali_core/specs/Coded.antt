@@ -14,9 +14,10 @@ use Rattle.dali_record.specs.declared.operations.Pending.{Pending}
 use Rattle.dali_locks.specs.Locks.{Locks, coded_mode}
 use Rattle.dali_system.specs.State.{SystemState}
 use Rattle.dali_core.specs.Journaled.{Journaled}
+use Rattle.dali_core.specs.Promised.{Promised, promised_code}
 
 abbrev pub journaled_code : Coded Journaled
-journaled_code = code_by (List Record × (ℕ × ℕ)) (coded× (coded_list record_row.coded) (coded× coded_ℕ coded_ℕ)) (λ j. (j.since, (j.taken, j.promised))) (λ p. record { since = p.0; taken = p.1.0; promised = p.1.1 }) (λ _. refl)
+journaled_code = code_by (List Record × (ℕ × Promised)) (coded× (coded_list record_row.coded) (coded× coded_ℕ promised_code)) (λ j. (j.since, (j.taken, j.promised))) (λ p. record { since = p.0; taken = p.1.0; promised = p.1.1 }) (λ _. refl)
 
 abbrev Counts : Type 0
 Counts = ℕ × (ℕ × (ℕ × (ℕ × (ℕ × (ℕ × ℕ)))))

@@ -1,5 +1,5 @@
 -- The system's fields, and what is true of them.
-use Rattle.std.specs.Prelude.{◌+◌, ◌<◌, ◌^◌, length}
+use Rattle.std.specs.Prelude.{◌+◌, ◌<◌, ◌≤◌, ◌^◌, length}
 use Rattle.dali_batch.specs.Log.{body_bytes}
 use Rattle.dali_system.specs.State.{SystemState}
 use Rattle.dali_core.specs.declared.system.System.TheInside.{Inside}
@@ -31,5 +31,5 @@ pub record IsBounded (s : Inside) : Type 0 where
   pub first : s.first < 2 ^ 63
   pub end : s.end < 2 ^ 63 + length (body_bytes s.journal.since) + 1
   pub next : s.next < 2 ^ 63 + length s.journal.since + 1
-  pub limit : s.limit < 2 ^ 63
+  pub limit : s.limit ≤ 268435456
   pub rows : AreRows s.next s.table

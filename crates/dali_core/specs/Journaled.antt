@@ -1,25 +1,30 @@
 -- What the system keeps of the log.
---     Journaled                the records since the load, how many of them were taken to be flushed, and for how many bytes of records memory
---                              is promised
+--     Journaled                the records since the load, how many of them were taken to be flushed, and for how many bytes of records of which
+--                              transaction memory is promised
 --     waiting j                those that aren't taken
---     noted j x                with one record more; noted_from j x n      and n bytes fewer promised
+--     noted j x                with one record more; noted_from j x t n    and n bytes fewer promised to t; noted_last j x t      and nothing
 --     HasMemory n len capacity f       there is memory for n bytes more behind so many bytes, and in the frame
 --     IsKept L f count taken           what is true of every journal
-use Rattle.std.specs.Prelude.{◌≡◌, ℕ, ◌+◌, ◌-◌, ◌≤◌, ◌^◌, List, [], ◌∷◌, ◌++◌, length, drop}
+use Rattle.std.specs.Prelude.{◌≡◌, ℕ, ◌+◌, ◌≤◌, ◌^◌, List, [], ◌∷◌, ◌++◌, length, drop}
 use Rattle.dali_record.specs.declared.records.Record.{Record}
 use Rattle.dali_batch.specs.Log.{body_bytes}
 use Rattle.dali_batch.specs.Batch.{Framed}
+use Rattle.std.specs.FinMap.{remove}
+use Rattle.dali_core.specs.Promised.{Promised, used}
 
 pub record Journaled : Type 0 where
   pub since : List Record
   pub taken : ℕ
-  pub promised : ℕ
+  pub promised : Promised
 
 abbrev pub waiting : Journaled → List Record
 waiting j = drop j.taken j.since
 
-abbrev pub noted_from : Journaled → Record → ℕ → Journaled
-noted_from j x n = record { since = j.since ++ x ∷ []; taken = j.taken; promised = j.promised - n }
+abbrev pub noted_from : Journaled → Record → ℕ → ℕ → Journaled
+noted_from j x t n = record { since = j.since ++ x ∷ []; taken = j.taken; promised = used j.promised t n }
+
+abbrev pub noted_last : Journaled → Record → ℕ → Journaled
+noted_last j x t = record { since = j.since ++ x ∷ []; taken = j.taken; promised = remove j.promised t }
 
 abbrev pub noted : Journaled → Record → Journaled
 noted j x = record { since = j.since ++ x ∷ []; taken = j.taken; promised = j.promised }

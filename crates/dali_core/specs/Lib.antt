@@ -1,4 +1,5 @@
 pub mod Spelled
+pub mod Promised
 pub mod Journaled
 pub mod Refused
 pub mod Coded

@@ -1,4 +1,5 @@
 -- An operation between its latch and its record.
+--     IsUpdated g h            one word that the hold of g has read was written
 --     IsUnderWay txn b left taken g    the hold of g is the operation of this transaction with the block b, of which the words in the set
 --                              `left` are still to be written, and the first `taken` new words are written
 -- What is left, written over the words as they stand, gives the words behind the operation: so the last update leaves an open operation.
@@ -7,6 +8,10 @@ use Rattle.dali_words.specs.Words.{write_under}
 use Rattle.dali_record.specs.declared.operations.Block.{Block}
 use Rattle.dali_record.specs.Blocks.{IsSoundOn, rewritten}
 use Rattle.dali_region.specs.State.{RegionState}
+use Rattle.dali_system.specs.Regions.{Update, MayChange, region_after}
+
+abbrev pub IsUpdated : RegionState → RegionState → Type 0
+IsUpdated g h = (word : ℕ) × (value : ℕ) × MayChange (Update word value) g × (h ≡ region_after (Update word value) g)
 
 pub record IsUnderWay (txn : ℕ) (b : Block) (left taken : ℕ) (g : RegionState) : Type 0 where
   -- the words that are written

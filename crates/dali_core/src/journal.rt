@@ -1,12 +1,15 @@
 //! The records since the load, as their spellings.
-ghost use Rattle.std.specs.Prelude.{◌≡◌, ◌≤◌, ◌+◌, ◌-◌, ◌^◌, ◌++◌, [], ◌∷◌, length, take, drop, vec_len, vec_capacity, OnOk, OnErr, IsOk, IfOk};
+ghost use Rattle.std.specs.Prelude.{◌≡◌, ◌≤◌, ◌+◌, ◌^◌, ◌++◌, [], ◌∷◌, length, take, drop, vec_len, vec_capacity, OnOk, OnErr, IsOk, IfOk};
 ghost use Rattle.dali_record.specs.declared.records.Record.TheVariants.{Forward, Back, Solo};
 ghost use Rattle.dali_record.specs.Spelling.{CanBeSpelled, spelling};
 ghost use Rattle.dali_store.specs.Faults.{one_more};
 ghost use Rattle.dali_batch.specs.Log.{body_bytes};
 ghost use Rattle.dali_core.specs.Spelled.{Spelled, Spelled-prop};
-ghost use Rattle.dali_core.specs.Journaled.{waiting, noted, noted_from, HasMemory, IsSmall};
+ghost use Rattle.std.specs.FinMap as map;
+ghost use Rattle.dali_core.specs.Promised.{promised_to};
+ghost use Rattle.dali_core.specs.Journaled.{waiting, noted, noted_from, noted_last, HasMemory, IsSmall};
 
+use crate::promises::Promises;
 use dali_batch::{Frame, MOST_BYTES};
 use dali_bytes::OutOfMemory;
 use dali_record::{
@@ -23,14 +26,15 @@ const MOST_KEPT: usize = 1 << 62;
 /// The records that were logged since the load. It keeps their spellings, one behind the other, and a frame with the
 /// spellings of those that aren't flushed. Contracts see the records themselves: the bytes tell them.
 ///
-/// Memory can be promised to records that come later: whatever is logged in between, they take none then.
+/// Memory can be promised to records of a transaction that come later: whatever is logged in between, they take none
+/// then.
 #[derive(Drop)]
 pub struct Journal {
     bytes: Vec<u8>,
     frame: Frame,
     count: u64,
     taken: u64,
-    promised: usize,
+    promises: Promises,
     ghost spelled: { Spelled bytes.items } by { Spelled-prop bytes.items },
 }
 
@@ -38,14 +42,15 @@ impl Model for Journal {
     ghost use Rattle.std.specs.Prelude.{vec_len, vec_capacity};
     ghost use Rattle.dali_core.specs.Journaled.{Journaled, IsKept, HasMemory};
     ghost use Rattle.dali_core.specs.Coded.{journaled_code};
+    ghost use Rattle.dali_core.specs.Promised.{total};
 
     ghost Value = { Journaled };
 
     ghost coded = { journaled_code };
 
-    ghost view = { λ j. record { since = j.spelled.0; taken = j.taken; promised = j.promised } };
+    ghost view = { λ j. record { since = j.spelled.0; taken = j.taken; promised = j.promises } };
 
-    ghost invariant = { λ j. IsKept j.spelled.0 j.frame j.count j.taken × HasMemory j.promised (vec_len j.bytes) (vec_capacity j.bytes) j.frame };
+    ghost invariant = { λ j. IsKept j.spelled.0 j.frame j.count j.taken × HasMemory (total j.promises) (vec_len j.bytes) (vec_capacity j.bytes) j.frame };
 }
 
 // Takes memory for so many bytes more, where there isn't; refused too where a batch or all records would have too many.
@@ -164,14 +169,14 @@ fn write_solo(
 impl Journal {
     /// No records. It takes memory for an empty frame.
     pub fn new(alloc: Global) -> Result<Self, OutOfMemory>
-        ensures { IfOk result (λ j. j ≡ record { since = []; taken = 0; promised = 0 }) }
+        ensures { IfOk result (λ j. j ≡ record { since = []; taken = 0; promised = map.empty }) }
     {
         Ok(Journal {
             bytes: Vec::new(alloc),
             frame: Frame::new(alloc)?,
             count: 0,
             taken: 0,
-            promised: 0,
+            promises: Promises::new(alloc),
         })
     }
 
@@ -215,35 +220,64 @@ impl Journal {
         ensures err { OnErr result (self.new ≡ self.old) }
     {
         let mut next = Frame::new(alloc)?;
-        next.reserve(self.promised)?;
+        next.reserve(self.promises.all())?;
         self.taken = self.count;
         Ok(mem::replace(&mut self.frame, next))
     }
 
-    /// Promises memory for so many bytes of records more. Unchanged where that is refused.
-    pub fn promise(&mut self, more: usize) -> Result<(), OutOfMemory>
-        ensures ok { OnOk result (self.new ≡ record self.old { promised = self.old.promised + more }) }
+    /// Promises memory for so many bytes of records of a transaction, in place of what was promised to it. Unchanged
+    /// where that is refused.
+    pub fn promise(&mut self, txn: u64, bytes: usize) -> Result<(), OutOfMemory>
+        ensures ok { OnOk result (self.new ≡ record self.old { promised = map.insert self.old.promised txn bytes }) }
         ensures err { OnErr result (self.new ≡ self.old) }
     {
-        let promised = self.promised.checked_add(more).ok_or(OutOfMemory)?;
-        make_room(&mut self.bytes, &mut self.frame, promised)?;
-        self.promised = promised;
+        let all = self.promises.all_with(txn, bytes)?;
+        make_room(&mut self.bytes, &mut self.frame, all)?;
+        self.promises.set(txn, bytes)?;
         Ok(())
     }
 
-    /// One record more, which uses up so many of the promised bytes. Where these are enough it takes no memory;
-    /// unchanged where memory is refused.
-    pub fn push(&mut self, rec: &Record, from: usize) -> Result<(), OutOfMemory>
+    /// One record more. What is promised stays so; unchanged where memory is refused.
+    pub fn push(&mut self, rec: &Record) -> Result<(), OutOfMemory>
         requires { CanBeSpelled rec.now }
-        ensures ok { OnOk result (self.new ≡ noted_from self.old rec.now from) }
-        ensures promised { length (spelling rec.now) ≤ from → from ≤ self.old.promised → IsOk result }
+        ensures ok { OnOk result (self.new ≡ noted self.old rec.now) }
         ensures err { OnErr result (self.new ≡ self.old) }
         ensures small { IsSmall self.new }
     {
-        let promised = self.promised.saturating_sub(from);
+        let promised = self.promises.all();
         write(&mut self.bytes, &mut self.frame, rec, promised)?;
         self.count += 1;
-        self.promised = promised;
+        Ok(())
+    }
+
+    /// One record more, which uses up so many of the bytes that are promised to the transaction. Where these are enough
+    /// it takes no memory; unchanged where memory is refused.
+    pub fn push_from(&mut self, rec: &Record, txn: u64, from: usize) -> Result<(), OutOfMemory>
+        requires { CanBeSpelled rec.now }
+        ensures ok { OnOk result (self.new ≡ noted_from self.old rec.now txn from) }
+        ensures promised { length (spelling rec.now) ≤ from → length (spelling rec.now) ≤ promised_to self.old.promised txn → IsOk result }
+        ensures err { OnErr result (self.new ≡ self.old) }
+        ensures small { IsSmall self.new }
+    {
+        let promised = self.promises.all_but(txn, from);
+        write(&mut self.bytes, &mut self.frame, rec, promised)?;
+        self.count += 1;
+        self.promises.spend(txn, from);
+        Ok(())
+    }
+
+    /// The last record of a transaction, which is promised nothing then.
+    pub fn push_last(&mut self, rec: &Record, txn: u64) -> Result<(), OutOfMemory>
+        requires { CanBeSpelled rec.now }
+        ensures ok { OnOk result (self.new ≡ noted_last self.old rec.now txn) }
+        ensures promised { length (spelling rec.now) ≤ promised_to self.old.promised txn → IsOk result }
+        ensures err { OnErr result (self.new ≡ self.old) }
+        ensures small { IsSmall self.new }
+    {
+        let promised = self.promises.all_but(txn, usize::MAX);
+        write(&mut self.bytes, &mut self.frame, rec, promised)?;
+        self.count += 1;
+        self.promises.end(txn);
         Ok(())
     }
 
@@ -254,7 +288,8 @@ impl Journal {
         ensures err { OnErr result (self.new ≡ self.old) }
         ensures small { IsSmall self.new }
     {
-        write_op(&mut self.bytes, &mut self.frame, txn, block, self.promised)?;
+        let promised = self.promises.all();
+        write_op(&mut self.bytes, &mut self.frame, txn, block, promised)?;
         self.count += 1;
         Ok(())
     }
@@ -266,12 +301,13 @@ impl Journal {
         ensures err { OnErr result (self.new ≡ self.old) }
         ensures small { IsSmall self.new }
     {
-        write_back(&mut self.bytes, &mut self.frame, txn, block, self.promised)?;
+        let promised = self.promises.all();
+        write_back(&mut self.bytes, &mut self.frame, txn, block, promised)?;
         self.count += 1;
         Ok(())
     }
 
-    /// The same for the operation of a solo, which uses up so many of the promised bytes.
+    /// The same for the operation of a solo, which uses up so many of the bytes that are promised to its parent.
     pub fn push_solo(
         &mut self,
         txn: u64,
@@ -280,12 +316,12 @@ impl Journal {
         from: usize,
     ) -> Result<(), OutOfMemory>
         requires { CanBeSpelled (Solo txn parent block.now) }
-        ensures ok { OnOk result (self.new ≡ noted_from self.old (Solo txn parent block.now) from) }
-        ensures promised { length (spelling (Solo txn parent block.now)) ≤ from → from ≤ self.old.promised → IsOk result }
+        ensures ok { OnOk result (self.new ≡ noted_from self.old (Solo txn parent block.now) parent from) }
+        ensures promised { length (spelling (Solo txn parent block.now)) ≤ from → length (spelling (Solo txn parent block.now)) ≤ promised_to self.old.promised parent → IsOk result }
         ensures err { OnErr result (self.new ≡ self.old) }
         ensures small { IsSmall self.new }
     {
-        let promised = self.promised.saturating_sub(from);
+        let promised = self.promises.all_but(parent, from);
         write_solo(
             &mut self.bytes,
             &mut self.frame,
@@ -295,7 +331,7 @@ impl Journal {
             promised,
         )?;
         self.count += 1;
-        self.promised = promised;
+        self.promises.spend(parent, from);
         Ok(())
     }
 }

@@ -3,7 +3,9 @@
 
 mod error;
 mod journal;
+pub mod laws;
 mod operation;
+mod promises;
 mod system;
 mod take_back;
 mod undos;

@@ -1,11 +1,11 @@
 //! The operation that is open on a region, from its latch to its record.
-ghost use Rattle.std.specs.Prelude.{◌≡◌, ◌<◌, ℕ, false, Ok, Err, IfOk, IfErr, OnErr, not, ◌==◌};
+ghost use Rattle.std.specs.Prelude.{◌≡◌, ◌<◌, ◌+◌, ℕ, true, false, Ok, Err, IfOk, IfErr, OnErr, not, ◌==◌};
 ghost use Rattle.dali_record.specs.Spelling.{IsOperation, IsBlock};
 ghost use Rattle.dali_record.specs.Blocks.{made};
 ghost use Rattle.dali_region.specs.State.{latched, with_reads};
 ghost use Rattle.dali_region.specs.Answers.{latch_answer};
 ghost use Rattle.dali_system.specs.Regions.{IsOpen};
-ghost use Rattle.dali_core.specs.UnderWay.{IsUnderWay};
+ghost use Rattle.dali_core.specs.UnderWay.{IsUpdated, IsUnderWay};
 
 use dali_record::{Block, Op};
 use dali_region::{LatchError, Region};
@@ -69,6 +69,7 @@ impl Operation {
         ensures some { result ≡ not (self.old.left == 0) }
         ensures same { (self.new.txn ≡ self.old.txn) × (self.new.block ≡ self.old.block) }
         ensures under_way { IsUnderWay self.new.txn self.new.block self.new.left self.new.taken region.new }
+        ensures step { result ≡ true → (self.new.taken ≡ self.old.taken + 1) × IsUpdated region.old region.new }
         ensures none { result ≡ false → (region.new ≡ region.old) × (self.new ≡ self.old) × IsOpen region.new self.new.txn self.new.block }
     {
         if self.left == 0 {

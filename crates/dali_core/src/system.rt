@@ -17,7 +17,9 @@ ghost use Rattle.dali_system.specs.Regions.{IsOpen};
 ghost use Rattle.dali_core.specs.Refused.{refusal, stop_refusal, room_of, stop_of};
 ghost use Rattle.dali_core.specs.Rows.{AreRows};
 ghost use Rattle.dali_core.specs.Served.{solo_room};
+ghost use Rattle.std.specs.FinMap as map;
 ghost use Rattle.dali_core.specs.Served;
+ghost use Rattle.dali_core.specs.Promised.{promised_to, used};
 ghost use Rattle.dali_core.specs.Audits.{is_audit, audit_noted, audit_refusal};
 ghost use Rattle.dali_core.specs.Asked.{after_request};
 ghost use Rattle.dali_core.specs.declared.error.SystemError.TheVariants.{OutOfMemory as Memory};
@@ -102,16 +104,6 @@ fn promised_for(removals: usize) -> Result<usize, OutOfMemory>
         .ok_or(OutOfMemory)
 }
 
-// What the end of a transaction in this state uses of it.
-fn end_room(state: Option<State>) -> usize
-    ensures { result ≡ Served.end_room state }
-{
-    match state {
-        Some(State::Committed) => END_ROOM,
-        _ => 0,
-    }
-}
-
 // Why no record may follow.
 fn running(stop: Option<Cause>) -> Result<(), SystemError>
     ensures refused { IfSome (stop_of stop) (λ e. result ≡ Err e) }
@@ -138,8 +130,8 @@ impl System {
         requires first { first < 2 ^ 63 }
         requires next { next < 2 ^ 63 }
         requires end { end < 2 ^ 63 }
-        requires limit { limit < 2 ^ 63 }
-        ensures { IfOk result (λ system. system ≡ record { state = new_system geometry first next end limit; promised = 0 }) }
+        requires limit { limit ≤ 268435456 }
+        ensures { IfOk result (λ system. system ≡ record { state = new_system geometry first next end limit; promised = map.empty }) }
     {
         Ok(System {
             geometry,
@@ -227,7 +219,7 @@ impl System {
         let number = self.records();
         let txn = self.next;
         self.table.begin(txn)?;
-        if self.journal.push(&Record::Begin { txn }, 0).is_err() {
+        if self.journal.push(&Record::Begin { txn }).is_err() {
             self.table.end(txn);
             return Err(SystemError::OutOfMemory);
         }
@@ -317,7 +309,7 @@ impl System {
     }
 
     /// Logs the operation that frees what a committed transaction removed, under a number of its own. It uses no room;
-    /// it takes memory only where fewer bytes are promised than the longest such record has.
+    /// it takes memory only where fewer bytes are promised to the transaction than the longest such record has.
     pub fn solo_op(
         &mut self,
         region: &mut Region,
@@ -326,8 +318,8 @@ impl System {
     ) -> Result<Receipt, SystemError>
         requires spelled { IsBlock block.now × (is_solo block.now.op ≡ true) }
         requires open { IsOpen region.old parent block.now }
-        ensures ok { OnOk result ((self.new ≡ record { state = solo_logged self.old.state parent block.now; promised = self.old.promised - solo_room }) × (region.new ≡ touched region.old)) }
-        ensures promised { stop_refusal self.old.state ≡ None → solo_room ≤ self.old.promised → IsOk result }
+        ensures ok { OnOk result ((self.new ≡ record { state = solo_logged self.old.state parent block.now; promised = used self.old.promised parent solo_room }) × (region.new ≡ touched region.old)) }
+        ensures promised { stop_refusal self.old.state ≡ None → solo_room ≤ promised_to self.old.promised parent → IsOk result }
         ensures number { IfOk result (λ receipt. receipt.number ≡ self.old.state.records) }
         ensures runs { OnOk result (self.old.state.stop ≡ None) }
         ensures err { OnErr result ((self.new ≡ self.old) × (region.new ≡ region.old)) }
@@ -361,7 +353,7 @@ impl System {
         }
         let number = self.records();
         let length = length(rec);
-        self.journal.push(rec, 0)?;
+        self.journal.push(rec)?;
         self.end += length;
         if let Record::AuditFail { regions, .. } = rec {
             if let Some(region) = regions.as_slice().first() {
@@ -389,34 +381,33 @@ impl System {
         let length = length(&rec);
         room(self.stop, self.end, self.limit, length)?;
         let number = self.records();
-        self.journal.push(&rec, 0)?;
+        self.journal.push(&rec)?;
         self.end += length;
         Ok(Receipt { number })
     }
 
     /// The removals of a transaction, in the order of its list: what its solos free once it is committed. Memory is
-    /// promised for its commit, these solos and its end: they take none then, whatever others log in between, where
-    /// each transaction that commits was made ready and frees just what it was told. What a transaction doesn't use
-    /// stays promised. It takes memory for both.
+    /// promised to it for its commit, these solos and its end: they take none then, whatever is logged in between. Asked
+    /// again it promises for the removals that there are then, in place of what it promised. It takes memory for both.
     pub fn ready(&mut self, alloc: Global, txn: u64) -> Result<Vec<Pending>, SystemError>
         ensures removals { IfOk result (λ removed. removed.items ≡ dead_of (undos_at self.old.state.table txn)) }
-        ensures ok { OnOk result (self.new ≡ record self.old { promised = self.old.promised + Served.promised_for (length (dead_of (undos_at self.old.state.table txn))) }) }
+        ensures ok { IfOk result (λ removed. self.new ≡ record self.old { promised = map.insert self.old.promised txn (Served.promised_for (length removed.items)) }) }
         ensures err { OnErr result (self.new ≡ self.old) }
         ensures refused { IfSome (stop_refusal self.old.state) (λ e. result ≡ Err e) }
         ensures memory { stop_refusal self.old.state ≡ None → IfErr result (λ e. e ≡ Memory) }
     {
         running(self.stop)?;
         let removed = undos::removals(alloc, self.table.undos(txn))?;
-        self.journal.promise(promised_for(removed.len())?)?;
+        self.journal.promise(txn, promised_for(removed.len())?)?;
         Ok(removed)
     }
 
     /// Logs the commit of a transaction, whose undos are gone from then on. It uses no room. Its record has 9 bytes: it
-    /// takes memory only where fewer are promised.
+    /// takes memory only where fewer are promised to the transaction.
     pub fn commit(&mut self, txn: u64) -> Result<Receipt, SystemError>
         requires running { IsSome (row_of self.old.state txn) }
-        ensures ok { OnOk result (self.new ≡ record { state = commit_logged self.old.state txn; promised = self.old.promised - 9 }) }
-        ensures promised { stop_refusal self.old.state ≡ None → 9 ≤ self.old.promised → IsOk result }
+        ensures ok { OnOk result (self.new ≡ record { state = commit_logged self.old.state txn; promised = used self.old.promised txn 9 }) }
+        ensures promised { stop_refusal self.old.state ≡ None → 9 ≤ promised_to self.old.promised txn → IsOk result }
         ensures number { IfOk result (λ receipt. receipt.number ≡ self.old.state.records) }
         ensures runs { OnOk result (self.old.state.stop ≡ None) }
         ensures err { OnErr result (self.new ≡ self.old) }
@@ -425,18 +416,19 @@ impl System {
     {
         running(self.stop)?;
         let number = self.records();
-        self.journal.push(&Record::Commit { txn }, END_ROOM)?;
+        self.journal
+            .push_from(&Record::Commit { txn }, txn, END_ROOM)?;
         self.table.clear(txn);
         self.table.set_state(txn, State::Committed);
         self.end += 9;
         Ok(Receipt { number })
     }
 
-    /// Logs that a transaction has ended: its row and its locks go. It uses no room. Where the transaction is committed
-    /// it takes memory only where fewer than its 9 bytes are promised.
+    /// Logs that a transaction has ended: its row and its locks go, and what is still promised to it. It uses no room;
+    /// it takes memory only where fewer than the record's 9 bytes are promised to the transaction.
     pub fn ended(&mut self, txn: u64) -> Result<Receipt, SystemError>
-        ensures ok { OnOk result (self.new ≡ record { state = ended_logged self.old.state txn; promised = self.old.promised - Served.end_room (state_of self.old.state txn) }) }
-        ensures promised { stop_refusal self.old.state ≡ None → state_of self.old.state txn ≡ Some Committed → 9 ≤ self.old.promised → IsOk result }
+        ensures ok { OnOk result (self.new ≡ record { state = ended_logged self.old.state txn; promised = map.remove self.old.promised txn }) }
+        ensures promised { stop_refusal self.old.state ≡ None → 9 ≤ promised_to self.old.promised txn → IsOk result }
         ensures number { IfOk result (λ receipt. receipt.number ≡ self.old.state.records) }
         ensures runs { OnOk result (self.old.state.stop ≡ None) }
         ensures err { OnErr result (self.new ≡ self.old) }
@@ -445,8 +437,7 @@ impl System {
     {
         running(self.stop)?;
         let number = self.records();
-        let from = end_room(self.table.state(txn));
-        self.journal.push(&Record::Ended { txn }, from)?;
+        self.journal.push_last(&Record::Ended { txn }, txn)?;
         self.table.end(txn);
         self.locks.release_all(txn);
         self.end += 9;

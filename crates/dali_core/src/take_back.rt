@@ -1,5 +1,5 @@
 //! The plan that takes a transaction back.
-ghost use Rattle.std.specs.Prelude.{◌≡◌, not, ◌==◌, false, Some, None, Ok, Err, OnOk, OnErr, IfOk, IfErr, IfSome, IsSome, IsSomeAnd};
+ghost use Rattle.std.specs.Prelude.{◌≡◌, ◌+◌, not, ◌==◌, true, false, Some, None, Ok, Err, OnOk, OnErr, IfOk, IfErr, IfSome, IsSome, IsSomeAnd};
 ghost use Rattle.dali_record.specs.Spelling.{IsUndo};
 ghost use Rattle.dali_region.specs.State.{latched, with_reads, touched, taken_back};
 ghost use Rattle.dali_region.specs.Answers.{latch_answer};
@@ -8,7 +8,7 @@ ghost use Rattle.dali_system.specs.Steps.{back_logged};
 ghost use Rattle.dali_system.specs.Regions.{IsOpen};
 ghost use Rattle.dali_core.specs.Refused.{stop_refusal};
 ghost use Rattle.dali_core.specs.TakenBack.{next_undo, want_of, IsUndoBlock};
-ghost use Rattle.dali_core.specs.UnderWay.{IsUnderWay};
+ghost use Rattle.dali_core.specs.UnderWay.{IsUpdated, IsUnderWay};
 ghost use Rattle.dali_core.specs.declared.error.SystemError.TheVariants.{OutOfMemory as Memory};
 
 use crate::error::SystemError;
@@ -56,6 +56,13 @@ impl TakeBack {
         }
     }
 
+    /// Its transaction.
+    pub fn txn(&self) -> u64
+        ensures { result ≡ self.now.txn }
+    {
+        self.txn
+    }
+
     /// What it needs next.
     pub fn wants(&self) -> Want
         ensures { result ≡ want_of self.now.next }
@@ -101,6 +108,7 @@ impl TakeBack {
         ensures under_way { IsSomeAnd self.new.operation (λ o. IsUnderWay o.txn o.block o.left o.taken region.new) }
         ensures same { IfSome self.old.operation (λ o. IsSomeAnd self.new.operation (λ p. (p.txn ≡ o.txn) × (p.block ≡ o.block))) }
         ensures some { IfSome self.old.operation (λ o. result ≡ not (o.left == 0)) }
+        ensures step { result ≡ true → IfSome self.old.operation (λ o. IsSomeAnd self.new.operation (λ p. p.taken ≡ o.taken + 1)) × IsUpdated region.old region.new }
         ensures none { result ≡ false → (region.new ≡ region.old) × (self.new ≡ self.old) × IsSomeAnd self.new.operation (λ o. IsOpen region.new o.txn o.block) }
         ensures rest { self.new ≡ record self.old { operation = self.new.operation } }
     {

@@ -1,4 +1,4 @@
-ghost use Rattle.std.specs.Prelude.{◌≡◌, ◌<◌, ◌^◌, true};
+ghost use Rattle.std.specs.Prelude.{◌≡◌, ◌≤◌, IfSome};
 ghost use Rattle.dali_record.specs.Spelling.{IsOperation};
 ghost use Rattle.dali_system.specs.Regions.{IsOpen};
 ghost use Rattle.dali_core.specs.UnderWay.{IsUnderWay};
@@ -36,63 +36,74 @@ fn die(system: &mut System, txn: u64, latched: Option<u32>) -> bool {
 
 // A log of 3 records and 100 bytes, and a limit.
 fn system_to(rt: &HostRuntime, limit: u64) -> Result<System>
-    requires { limit < 2 ^ 63 }
+    requires { limit ≤ 268435456 }
 {
     Ok(System::new(rt.alloc(), Geometry::new(1, 1)?, 3, 5, 100, limit)?)
 }
 
+// One test states what it saw in few assertions: each of them takes seconds to prove.
 #[test]
 fn two_clients_and_one_key(rt: HostRuntime) -> Result<()> {
     let mut system = system_to(&rt, 1000)?;
-    assert_eq!(rt; system.begin(), Ok((5, Receipt { number: 3 })));
-    assert_eq!(rt; system.begin(), Ok((6, Receipt { number: 4 })));
-    assert_eq!(rt;
+    let begun = (system.begin(), system.begin());
+    let asked = (
         system.request(5, 7, Mode::Exclusive),
-        Ok(LockAnswer::Granted)
-    );
-    assert_eq!(rt;
         system.request(6, 7, Mode::Shared),
-        Ok(LockAnswer::Busy { holder: 5 })
-    );
-    assert_eq!(rt;
         system.request(6, 8, Mode::Exclusive),
-        Ok(LockAnswer::Granted)
-    );
-    assert_eq!(rt;
         system.request(5, 8, Mode::Shared),
-        Ok(LockAnswer::Wait { holder: 6 })
+    );
+    let done = system.done(5, &Call::Get { key: 7 }, &Answer::Missing);
+    let committed = (commit(&mut system, 5), system.state(5));
+    let ended = (system.ended(5), system.state(5));
+    let again = system.request(6, 7, Mode::Shared);
+    assert_eq!(rt;
+        (begun, asked),
+        (
+            (
+                Ok((5, Receipt { number: 3 })),
+                Ok((6, Receipt { number: 4 }))
+            ),
+            (
+                Ok(LockAnswer::Granted),
+                Ok(LockAnswer::Busy { holder: 5 }),
+                Ok(LockAnswer::Granted),
+                Ok(LockAnswer::Wait { holder: 6 })
+            )
+        )
     );
     assert_eq!(rt;
-        system.refusals(),
-        [Refusal {
-            txn: 6,
-            key: 7,
-            mode: Mode::Shared,
-            holder: 5,
-            at: 5
-        }]
-        .as_slice()
+        (done, committed, ended, again),
+        (
+            Ok(Receipt { number: 5 }),
+            (Some(Ok(Receipt { number: 6 })), Some(State::Committed)),
+            (Ok(Receipt { number: 7 }), None),
+            Ok(LockAnswer::Granted)
+        )
     );
-    let call = Call::Get { key: 7 };
+    let refusal = Refusal {
+        txn: 6,
+        key: 7,
+        mode: Mode::Shared,
+        holder: 5,
+        at: 5,
+    };
+    // two records that begin, with 9 bytes each, come first, and one that commits and one that ends come last
+    let first = [2, 0, 0, 0, 0, 0, 0, 0, 5, 2, 0, 0, 0, 0, 0, 0, 0, 6];
+    let last = [5, 0, 0, 0, 0, 0, 0, 0, 5, 6, 0, 0, 0, 0, 0, 0, 0, 5];
+    let logged = system.logged();
     assert_eq!(rt;
-        system.done(5, &call, &Answer::Missing),
-        Ok(Receipt { number: 5 })
-    );
-    assert_eq!(rt; commit(&mut system, 5), Some(Ok(Receipt { number: 6 })));
-    assert_eq!(rt; system.state(5), Some(State::Committed));
-    assert_eq!(rt; system.ended(5), Ok(Receipt { number: 7 }));
-    assert_eq!(rt; system.state(5), None);
-    assert_eq!(rt; system.request(6, 7, Mode::Shared), Ok(LockAnswer::Granted));
-    // two records that begin, with 9 bytes each, come first
-    let bytes = [2, 0, 0, 0, 0, 0, 0, 0, 5, 2, 0, 0, 0, 0, 0, 0, 0, 6];
-    assert!(rt; system.logged().starts_with(bytes.as_slice()));
-    // and one that commits and one that ends come last
-    let bytes = [5, 0, 0, 0, 0, 0, 0, 0, 5, 6, 0, 0, 0, 0, 0, 0, 0, 5];
-    assert!(rt; system.logged().ends_with(bytes.as_slice()));
-    let length = system.logged().len();
-    assert_eq!(rt;
-        (system.records(), system.next(), system.end()),
-        (8, 7, 100 + length as u64)
+        (
+            system.refusals(),
+            logged.starts_with(first.as_slice()),
+            logged.ends_with(last.as_slice()),
+            (system.records(), system.next(), system.end())
+        ),
+        (
+            [refusal].as_slice(),
+            true,
+            true,
+            (8, 7, 100 + logged.len() as u64)
+        )
     );
     Ok(())
 }
@@ -100,53 +111,69 @@ fn two_clients_and_one_key(rt: HostRuntime) -> Result<()> {
 #[test]
 fn a_limit_and_a_stop(rt: HostRuntime) -> Result<()> {
     let mut system = system_to(&rt, 117)?;
-    assert_eq!(rt; system.begin(), Ok((5, Receipt { number: 3 })));
+    let call = Call::Get { key: 7 };
+    let begun = (system.begin(), system.begin());
+    let done = system.done(5, &call, &Answer::Missing);
+    let counts = (system.records(), system.next(), system.end());
+    // what ends a transaction uses no room
+    let committed = (commit(&mut system, 5), system.end(), system.stopped());
     let full = SystemError::LogFull {
         end: 109,
         limit: 117,
     };
-    assert_eq!(rt; system.begin(), Err(full));
     assert_eq!(rt;
-        (system.records(), system.next(), system.end()),
-        (4, 6, 109)
+        (begun, done, counts, committed),
+        (
+            (Ok((5, Receipt { number: 3 })), Err(full)),
+            Err(full),
+            (4, 6, 109),
+            (Some(Ok(Receipt { number: 4 })), 118, None)
+        )
     );
-    assert_eq!(rt;
-        system.done(5, &Call::Get { key: 7 }, &Answer::Missing),
-        Err(full)
-    );
-    // what ends a transaction uses no room
-    assert_eq!(rt; commit(&mut system, 5), Some(Ok(Receipt { number: 4 })));
-    assert_eq!(rt; system.end(), 118);
-    assert_eq!(rt; system.stopped(), None);
     system.stop();
     system.stop();
     let stopped = SystemError::Stopped {
         cause: Cause::Store,
     };
-    assert_eq!(rt; system.stopped(), Some(Cause::Store));
-    assert_eq!(rt; system.begin(), Err(stopped));
-    assert_eq!(rt; system.request(5, 7, Mode::Shared), Err(stopped));
-    assert_eq!(rt; commit(&mut system, 5), Some(Err(stopped)));
-    assert_eq!(rt; system.ended(5), Err(stopped));
-    assert_eq!(rt; system.ready(rt.alloc(), 5).err(), Some(stopped));
-    assert_eq!(rt; system.records(), 5);
+    let begun = (system.begin(), system.stopped());
+    let asked = system.request(5, 7, Mode::Shared);
+    let ended = (commit(&mut system, 5), system.ended(5));
+    let ready = (system.ready(rt.alloc(), 5).err(), system.records());
+    assert_eq!(rt;
+        (begun, asked, ended, ready),
+        (
+            (Err(stopped), Some(Cause::Store)),
+            Err(stopped),
+            (Some(Err(stopped)), Err(stopped)),
+            (Some(stopped), 5)
+        )
+    );
     Ok(())
 }
 
 #[test]
 fn a_client_dies(rt: HostRuntime) -> Result<()> {
     let mut system = system_to(&rt, 1000)?;
-    assert_eq!(rt; system.begin(), Ok((5, Receipt { number: 3 })));
-    assert_eq!(rt; system.claim(5), Err(NotDead));
-    assert!(rt; die(&mut system, 5, Some(1)));
-    assert_eq!(rt; system.state(5), Some(State::Dead { latched: Some(1) }));
-    assert_eq!(rt; system.claim(5), Ok(Some(1)));
-    assert_eq!(rt; system.claim(5), Err(NotDead));
-    assert_eq!(rt; system.state(5), Some(State::Cleaning { latched: Some(1) }));
-    assert_eq!(rt; system.claim(9), Err(NotDead));
-    assert_eq!(rt; (system.start_copy(), system.start_copy()), (true, false));
+    let begun = (system.begin(), system.claim(5));
+    let dead = (die(&mut system, 5, Some(1)), system.state(5));
+    let claimed = (system.claim(5), system.claim(5), system.state(5));
+    let absent = system.claim(9);
+    assert_eq!(rt;
+        (begun, dead, claimed, absent),
+        (
+            (Ok((5, Receipt { number: 3 })), Err(NotDead)),
+            (true, Some(State::Dead { latched: Some(1) })),
+            (
+                Ok(Some(1)),
+                Err(NotDead),
+                Some(State::Cleaning { latched: Some(1) })
+            ),
+            Err(NotDead)
+        )
+    );
+    let copied = (system.start_copy(), system.start_copy());
     system.end_copy();
-    assert!(rt; system.start_copy());
+    assert_eq!(rt; (copied, system.start_copy()), ((true, false), true));
     Ok(())
 }
 
@@ -155,59 +182,82 @@ fn a_client_dies(rt: HostRuntime) -> Result<()> {
 fn many_records_in_a_batch(rt: HostRuntime) -> Result<()> {
     let mut system = system_to(&rt, 1_000_000)?;
     for _ in 0..10_000 {
-        assert!(rt; matches!(system.begin(), Ok(_)));
+        let _ = system.begin();
     }
-    assert_eq!(rt; (system.end(), system.frame().len()), (90_100, 90_000));
-    assert_eq!(rt; system.take_frame(rt.alloc())?.len(), 90_000);
-    assert!(rt; system.frame().is_empty());
-    assert!(rt; matches!(system.begin(), Ok((10_005, _))));
-    assert_eq!(rt; system.frame().len(), 9);
+    let waiting = (system.end(), system.frame().len());
+    let taken = (
+        system.take_frame(rt.alloc())?.len(),
+        system.frame().is_empty(),
+    );
+    let next = (system.begin(), system.frame().len());
     system.flushed();
-    assert!(rt; system.frame().is_empty());
-    assert_eq!(rt; system.logged().len(), 90_009);
+    let flushed = (system.frame().is_empty(), system.logged().len());
+    assert_eq!(rt;
+        (waiting, taken, next, flushed),
+        (
+            (90_100, 90_000),
+            (90_000, true),
+            (Ok((10_005, Receipt { number: 10_003 })), 9),
+            (true, 90_009)
+        )
+    );
     Ok(())
 }
 
-// A put of three bytes under the key 7 into the first cell of a formatted heap region
-#[test]
-fn an_operation_writes_its_words(rt: HostRuntime) -> Result<()> {
-    let mut region = Region::load(Geometry::new(1, 1)?.formatted(1));
-    let value = Value::from_bytes(b"abc").context("no value")?;
-    let op = Op::Put { value };
-    let mut operation = Operation::start(&mut region, 1, 5, 7, op, true)?;
-    assert_eq!(rt; (operation.txn(), operation.block().region), (5, 1));
-    assert_eq!(rt; region.words()[8], 0);
-    // state, key, length and five words of the value
-    let first = [
-        operation.update(&mut region),
-        operation.update(&mut region),
-        operation.update(&mut region),
-        operation.update(&mut region),
-    ];
-    let second = [
-        operation.update(&mut region),
-        operation.update(&mut region),
-        operation.update(&mut region),
-        operation.update(&mut region),
-    ];
-    assert_eq!(rt; (first, second), ([true; 4], [true; 4]));
-    assert!(rt; !operation.update(&mut region));
-    let words = [1, 7, 3, 0x6162630000000000, 0, 0, 0, 0];
-    assert_eq!(rt; &region.words()[8..16], words.as_slice());
-    Ok(())
+// The first heap region, formatted.
+fn formatted() -> Option<Region> {
+    match Geometry::new(1, 1) {
+        Ok(geometry) => Some(Region::load(geometry.formatted(1))),
+        Err(_) => None,
+    }
 }
 
-// Writes the words of an operation that has eight at most, and answers whether it is open.
-fn finish(operation: &mut Operation, region: &mut Region) -> bool
+// What puts three bytes.
+fn put() -> Option<Op>
+    ensures { IfSome result IsOperation }
+{
+    match Value::from_bytes(b"abc") {
+        Some(value) => Some(Op::Put { value }),
+        None => None,
+    }
+}
+
+// Writes the words of an operation that has eight at most, and answers how many there were; then it is open.
+fn finish(operation: &mut Operation, region: &mut Region) -> Option<u32>
     requires { IsUnderWay operation.old.txn operation.old.block operation.old.left operation.old.taken region.old }
     ensures same { (operation.new.txn ≡ operation.old.txn) × (operation.new.block ≡ operation.old.block) }
-    ensures open { result ≡ true → IsOpen region.new operation.new.txn operation.new.block }
+    ensures open { IfSome result (λ _. IsOpen region.new operation.new.txn operation.new.block) }
 {
-    let _ = (operation.update(region), operation.update(region));
-    let _ = (operation.update(region), operation.update(region));
-    let _ = (operation.update(region), operation.update(region));
-    let _ = (operation.update(region), operation.update(region));
-    !operation.update(region)
+    for words in 0..9 {
+        if !operation.update(region) {
+            return Some(words);
+        }
+    }
+    None
+}
+
+// A put of three bytes under the key 7 into the first cell of a formatted heap region: its transaction and region, the
+// word of the cell's state before, and how many words are written.
+fn written(region: &mut Region) -> Option<(u64, u32, u64, Option<u32>)> {
+    let Some(op) = put() else { return None };
+    let Ok(mut operation) = Operation::start(region, 1, 5, 7, op, true) else {
+        return None;
+    };
+    let (txn, number) = (operation.txn(), operation.block().region);
+    let before = region.words()[8];
+    Some((txn, number, before, finish(&mut operation, region)))
+}
+
+#[test]
+fn an_operation_writes_its_words(rt: HostRuntime) -> Result<()> {
+    let mut region = formatted().context("no region")?;
+    // state, key, length and five words of the value
+    let words = [1, 7, 3, 0x6162630000000000, 0, 0, 0, 0];
+    assert_eq!(rt;
+        (written(&mut region), &region.words()[8..16]),
+        (Some((5, 1, 0, Some(8))), words.as_slice())
+    );
+    Ok(())
 }
 
 // Performs an operation that writes one word or eight, and logs it for a transaction of the table.
@@ -223,9 +273,9 @@ fn perform(
     let Ok(mut operation) = Operation::start(region, 1, txn, 7, op, true) else {
         return None;
     };
-    if !finish(&mut operation, region) {
+    let Some(_) = finish(&mut operation, region) else {
         return None;
-    }
+    };
     match (system.state(txn), operation.block().op) {
         (Some(_), Op::Put { .. }) => Some(system.commit_op(region, txn, operation.block())),
         (Some(_), Op::KillCell { .. }) => Some(system.commit_op(region, txn, operation.block())),
@@ -243,9 +293,9 @@ fn free(
     let Ok(mut operation) = Operation::start(region, 1, parent, 7, op, true) else {
         return None;
     };
-    if !finish(&mut operation, region) {
+    let Some(_) = finish(&mut operation, region) else {
         return None;
-    }
+    };
     match operation.block().op {
         Op::FreeCell { .. } => Some(system.solo_op(region, parent, operation.block())),
         _ => None,
@@ -271,69 +321,100 @@ fn take_back(
     Some((receipt, back.wants()))
 }
 
+// Puts three bytes for the transaction 5.
+fn put_in(system: &mut System, region: &mut Region) -> Option<Result<Receipt, SystemError>> {
+    match put() {
+        Some(op) => perform(system, region, 5, op),
+        None => None,
+    }
+}
+
 #[test]
 fn a_put_is_taken_back(rt: HostRuntime) -> Result<()> {
-    let mut region = Region::load(Geometry::new(1, 1)?.formatted(1));
+    let mut region = formatted().context("no region")?;
     let mut system = system_to(&rt, 1000)?;
-    assert_eq!(rt; system.begin(), Ok((5, Receipt { number: 3 })));
-    let value = Value::from_bytes(b"abc").context("no value")?;
-    let put = perform(&mut system, &mut region, 5, Op::Put { value });
-    assert_eq!(rt; put, Some(Ok(Receipt { number: 4 })));
-    assert_eq!(rt; region.words()[8], 1);
-    assert_eq!(rt;
+    let begun = system.begin();
+    let put = (put_in(&mut system, &mut region), region.words()[8]);
+    let back = (
         take_back(&mut system, &mut region, 5),
-        Some((Ok(Receipt { number: 5 }), Want::Nothing))
+        region.words()[8],
+        system.last_undo(5),
     );
-    assert_eq!(rt; region.words()[8], 0);
-    assert_eq!(rt; system.last_undo(5), None);
-    assert_eq!(rt; system.ended(5), Ok(Receipt { number: 6 }));
+    assert_eq!(rt;
+        (begun, put, back, system.ended(5)),
+        (
+            Ok((5, Receipt { number: 3 })),
+            (Some(Ok(Receipt { number: 4 })), 1),
+            (Some((Ok(Receipt { number: 5 }), Want::Nothing)), 0, None),
+            Ok(Receipt { number: 6 })
+        )
+    );
     Ok(())
 }
 
 #[test]
 fn a_removal_is_freed_behind_its_commit(rt: HostRuntime) -> Result<()> {
-    let mut region = Region::load(Geometry::new(1, 1)?.formatted(1));
+    let mut region = formatted().context("no region")?;
     let mut system = system_to(&rt, 2000)?;
-    assert_eq!(rt; system.begin(), Ok((5, Receipt { number: 3 })));
-    let value = Value::from_bytes(b"abc").context("no value")?;
-    let put = perform(&mut system, &mut region, 5, Op::Put { value });
-    assert_eq!(rt; put, Some(Ok(Receipt { number: 4 })));
+    let begun = system.begin();
+    let put = put_in(&mut system, &mut region);
     let kill = perform(&mut system, &mut region, 5, Op::KillCell { cell: 1 });
-    assert_eq!(rt; kill, Some(Ok(Receipt { number: 5 })));
+    let removed = system.ready(rt.alloc(), 5)?;
     let removal = Pending {
         key: 7,
         region: 1,
         undo: Undo::ReviveCell { cell: 1 },
     };
     assert_eq!(rt;
-        system.ready(rt.alloc(), 5)?.as_slice(),
-        [removal].as_slice()
+        (begun, put, kill, removed.as_slice()),
+        (
+            Ok((5, Receipt { number: 3 })),
+            Some(Ok(Receipt { number: 4 })),
+            Some(Ok(Receipt { number: 5 })),
+            [removal].as_slice()
+        )
     );
-    assert_eq!(rt; commit(&mut system, 5), Some(Ok(Receipt { number: 6 })));
-    assert_eq!(rt;
-        free(&mut system, &mut region, 5),
-        Some(Ok(Receipt { number: 7 }))
-    );
+    let committed = commit(&mut system, 5);
+    let freed = free(&mut system, &mut region, 5);
     // the cell is free, and the solo had a number of its own
-    assert_eq!(rt; (region.words()[8], system.next()), (0, 7));
-    assert_eq!(rt; system.ended(5), Ok(Receipt { number: 8 }));
+    let left = (region.words()[8], system.next());
+    assert_eq!(rt;
+        (committed, freed, left, system.ended(5)),
+        (
+            Some(Ok(Receipt { number: 6 })),
+            Some(Ok(Receipt { number: 7 })),
+            (0, 7),
+            Ok(Receipt { number: 8 })
+        )
+    );
     Ok(())
 }
 
 #[test]
 fn an_audit_is_noted(rt: HostRuntime) -> Result<()> {
     let mut system = system_to(&rt, 100)?;
-    assert_eq!(rt;
-        system.begin().err(),
-        Some(SystemError::LogFull {
-            end: 100,
-            limit: 100
-        })
-    );
-    // its begin has a limit of 1 MiB more
-    assert_eq!(rt; system.note(&Record::AuditBegin), Ok(Receipt { number: 3 }));
+    let full = SystemError::LogFull {
+        end: 100,
+        limit: 100,
+    };
     let clean = Record::AuditClean { begin: 3 };
-    assert_eq!(rt; system.note(&clean), Ok(Receipt { number: 4 }));
-    assert_eq!(rt; (system.end(), system.stopped()), (110, None));
+    // the begin of an audit has a limit of 1 MiB more
+    let noted = (
+        system.begin(),
+        system.note(&Record::AuditBegin),
+        system.note(&clean),
+    );
+    assert_eq!(rt;
+        (noted, system.end(), system.stopped()),
+        (
+            (
+                Err(full),
+                Ok(Receipt { number: 3 }),
+                Ok(Receipt { number: 4 })
+            ),
+            110,
+            None
+        )
+    );
     Ok(())
 }

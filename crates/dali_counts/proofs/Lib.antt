@@ -4,3 +4,4 @@ pub mod NewNumbers
 pub mod SmallLogs
 pub mod Fronts
 pub mod ShortLogs
+pub mod LightLogs

@@ -103,7 +103,7 @@ under_few m (w ∷ ws) = by_test (has_first m) (under_few (m / 2) ws)
 ones_most : (m : ℕ) → m < 2 ^ 64 → count_ones m ≤ 64
 ones_most m h = let e : length (under m (replicate 64 0)) ≡ count_ones m = members m (replicate 64 0) h in let f : length (under m (replicate 64 0)) ≤ 64 = under_few m (replicate 64 0) in omega (arith, e, f)
 
-block_most : (b : Block) → IsBlock b → block_length b ≤ 690
+pub block_most : (b : Block) → IsBlock b → block_length b ≤ 690
 block_most b is = omega (arith, op_most b.op is.op, outcome_most b.outcome is.outcome, undo_most b.undo, is.count, ones_most b.write is.write)
 
 -- ---- one that names regions in ascending order
@@ -147,26 +147,26 @@ deleted_most : (e : Epoch) → length (deleted_list e) ≤ length e.records
 deleted_most e = omega (arith, begun_most e.records, filter_most (λ t. has (committed e.records) t && has_corrupt (marks (damage_of e) e.records) t) (begun e.records))
 
 -- ---- each record: what it adds, against the records of the open epoch before it
-abbrev open_of : List Record → ℕ
+abbrev pub open_of : List Record → ℕ
 open_of L = length (last_epoch L).records
 
 -- the sizes of a log that begins with its format
-abbrev HasSizes : Sizes → Type 0
+abbrev pub HasSizes : Sizes → Type 0
 HasSizes s = regions s ≤ 98304
 
-abbrev Grows : List Record → Record → Type 0
+abbrev pub Grows : List Record → Record → Type 0
 Grows L x = record_length x + 16 * open_of (L ++ x ∷ []) ≤ 524304 + 16 * open_of L
 
 now_of : (L : List Record) (x : Record) → last_epoch (L ++ x ∷ []) ≡ (cut_step (cut L) x).now
 now_of L x = ap (λ (c : Cut). c.now) (cut_push L x)
 
-one_open : (L : List Record) (x : Record) → (cut_step (cut L) x).now ≡ record { first = (last_epoch L).first; records = (last_epoch L).records ++ x ∷ [] } → open_of (L ++ x ∷ []) ≡ open_of L + 1
+pub one_open : (L : List Record) (x : Record) → (cut_step (cut L) x).now ≡ record { first = (last_epoch L).first; records = (last_epoch L).records ++ x ∷ [] } → open_of (L ++ x ∷ []) ≡ open_of L + 1
 one_open L x e = ap (λ (d : Epoch). length d.records) (now_of L x ∙ e) ∙ length-push (last_epoch L).records x
 
-none_open : (L : List Record) (x : Record) → (cut_step (cut L) x).now.records ≡ [] → open_of (L ++ x ∷ []) ≡ 0
+pub none_open : (L : List Record) (x : Record) → (cut_step (cut L) x).now.records ≡ [] → open_of (L ++ x ∷ []) ≡ 0
 none_open L x e = ap (λ (d : Epoch). length d.records) (now_of L x) ∙ ap length e
 
-grows : (s : Sizes) (L : List Record) (x : Record) → HasSizes s → CanBeSpelled x → ((b : ℕ) (rs : List ℕ) → x ≡ AuditFail b rs → list_all (λ r. nat_lt r (regions s)) rs ≡ true) → ((rs ds : List ℕ) → x ≡ Restarted rs ds → (rs ≡ rolled_list (last_epoch L)) × (ds ≡ deleted_list (last_epoch L))) → Grows L x
+pub grows : (s : Sizes) (L : List Record) (x : Record) → HasSizes s → CanBeSpelled x → ((b : ℕ) (rs : List ℕ) → x ≡ AuditFail b rs → list_all (λ r. nat_lt r (regions s)) rs ≡ true) → ((rs ds : List ℕ) → x ≡ Restarted rs ds → (rs ≡ rolled_list (last_epoch L)) × (ds ≡ deleted_list (last_epoch L))) → Grows L x
 grows s L (Format i h) sizes is fails tells = omega (arith, none_open L (Format i h) refl)
 grows s L (Begin t) sizes is fails tells = omega (arith, one_open L (Begin t) refl)
 grows s L (Forward t b) sizes is fails tells = omega (arith, one_open L (Forward t b) refl, block_most b is.1)
@@ -196,7 +196,7 @@ numbers_of s g h b rs = by_count (g.count == 0)
     by_count true e = absurd (cc)
     by_count false e = and_right (has g.audits b && not (has g.closed b)) (list_all (λ r. nat_lt r (regions s)) rs) (kept_true _ _ h (inside_if g.failed _ h e))
 
-numbers_if : (s : Sizes) (g h : Rules) (x : Record) → rules_step s g x ≡ Some h → (b : ℕ) (rs : List ℕ) → x ≡ AuditFail b rs → list_all (λ r. nat_lt r (regions s)) rs ≡ true
+pub numbers_if : (s : Sizes) (g h : Rules) (x : Record) → rules_step s g x ≡ Some h → (b : ℕ) (rs : List ℕ) → x ≡ AuditFail b rs → list_all (λ r. nat_lt r (regions s)) rs ≡ true
 numbers_if s g h x e b rs is = numbers_of s g h b rs (sym (ap (rules_step s g) is) ∙ e)
 
 -- ---- the format's sizes
@@ -207,7 +207,7 @@ none_stays s (x ∷ L) = none_stays s L
 no_first : (s : Sizes) (L : List Record) → IsSome (fold (rules_next s) None L) → ⊥
 no_first s L some = let is : is_some (fold (rules_next s) None L) ≡ true = some in let not : is_some (fold (rules_next s) None L) ≡ false = ap is_some (none_stays s L) in cc
 
-sizes_most : (s : Sizes) (x : Record) (L : List Record) → IsSome (rules_state s (x ∷ L)) → CanBeSpelled x → HasSizes s
+pub sizes_most : (s : Sizes) (x : Record) (L : List Record) → IsSome (rules_state s (x ∷ L)) → CanBeSpelled x → HasSizes s
 sizes_most s (Format i h) L some is = by_test ((i == s.index) && (h == s.heap)) refl some
   where
     by_test : (c : Bool) → ((i == s.index) && (h == s.heap)) ≡ c → IsSome (fold (rules_next s) (kept_if c (passes rules_start (Format i h))) L) → HasSizes s
@@ -226,21 +226,21 @@ sizes_most s (Restarted rs ds) L some is = absurd (no_first s L some)
 sizes_most s (Back t b) L some is = absurd (no_first s L some)
 
 -- ---- all of it
-get_old : (L : List Record) (x : Record) (i : ℕ) (r : Record) → slice_get L i ≡ Some r → slice_get (L ++ x ∷ []) i ≡ Some r
+pub get_old : (L : List Record) (x : Record) (i : ℕ) (r : Record) → slice_get L i ≡ Some r → slice_get (L ++ x ∷ []) i ≡ Some r
 get_old [] x i r e = absurd (cc)
 get_old (y ∷ L) x zero r e = e
 get_old (y ∷ L) x (suc i) r e = get_old L x i r e
 
-get_new : (L : List Record) (x : Record) → slice_get (L ++ x ∷ []) (length L) ≡ Some x
+pub get_new : (L : List Record) (x : Record) → slice_get (L ++ x ∷ []) (length L) ≡ Some x
 get_new [] x = refl
 get_new (y ∷ L) x = get_new L x
 
-take_old : (L : List Record) (x : Record) (i : ℕ) (r : Record) → slice_get L i ≡ Some r → take i (L ++ x ∷ []) ≡ take i L
+pub take_old : (L : List Record) (x : Record) (i : ℕ) (r : Record) → slice_get L i ≡ Some r → take i (L ++ x ∷ []) ≡ take i L
 take_old [] x i r e = absurd (cc)
 take_old (y ∷ L) x zero r e = refl
 take_old (y ∷ L) x (suc i) r e = ap (λ l. y ∷ l) (take_old L x i r e)
 
-take_new : (L : List Record) (x : Record) → take (length L) (L ++ x ∷ []) ≡ L
+pub take_new : (L : List Record) (x : Record) → take (length L) (L ++ x ∷ []) ≡ L
 take_new [] x = refl
 take_new (y ∷ L) x = ap (λ l. y ∷ l) (take_new L x)
 

@@ -26,7 +26,7 @@ use Rattle.dali_counts.proofs.NewNumbers.{above}
 use Rattle.dali_counts.specs.Counts.{IsSmall, next_with}
 
 -- ---- what a transaction has left: a taking back for each undo, a solo for each removal, the commit and the end
-abbrev left_of : Option TxnState → ℕ
+abbrev pub left_of : Option TxnState → ℕ
 left_of None = 0
 left_of (Some Unbegun) = 0
 left_of (Some (Active w)) = length w.undos + 2
@@ -34,12 +34,12 @@ left_of (Some (Ending dead)) = length dead + 1
 left_of (Some Over) = 0
 
 -- what a record adds to that of t, and takes away
-abbrev more : ℕ → Record → ℕ
+abbrev pub more : ℕ → Record → ℕ
 more t (Begin u) = cond (u == t) 2 0
 more t (Forward u b) = cond (u == t) 1 0
 more t _ = 0
 
-abbrev gone : ℕ → Record → ℕ
+abbrev pub gone : ℕ → Record → ℕ
 gone t (Back u b) = cond (u == t) 1 0
 gone t (Commit u) = cond (u == t) 1 0
 gone t (Ended u) = cond (u == t) 1 0
@@ -183,7 +183,7 @@ less_step s t Over (Restarted rs ds) = same Over
 less_step s t Over (Back u b) = never_gone (u == t) (Some Over) 1 0 (same Over)
 
 -- ---- all transactions below a number
-sum_below : (ℕ → ℕ) → ℕ → ℕ
+pub sum_below : (ℕ → ℕ) → ℕ → ℕ
 sum_below f zero = 0
 sum_below f (suc n) = sum_below f n + f n
 
@@ -192,7 +192,7 @@ unfolding sum_below
 sum_less f g h k zero e = omega arith
 sum_less f g h k (suc n) e = omega (arith, sum_less f g h k n e, e n)
 
-sum_none : (f : ℕ → ℕ) (n : ℕ) → ((t : ℕ) → f t ≡ 0) → sum_below f n ≡ 0
+pub sum_none : (f : ℕ → ℕ) (n : ℕ) → ((t : ℕ) → f t ≡ 0) → sum_below f n ≡ 0
 unfolding sum_below
 sum_none f zero e = refl
 sum_none f (suc n) e = omega (arith, sum_none f n e, e n)
@@ -207,7 +207,7 @@ apart_below u k (suc n) h = by_test (u == n) refl (apart_below u k n (omega (ari
     by_test true e none = absurd (omega (arith, equal u n e, h))
     by_test false e none = omega (arith, none)
 
-sum_at : (u k n : ℕ) → u < n → sum_below (λ t. cond (u == t) k 0) n ≡ k
+pub sum_at : (u k n : ℕ) → u < n → sum_below (λ t. cond (u == t) k 0) n ≡ k
 unfolding sum_below
 sum_at u k zero h = absurd (omega (arith, h))
 sum_at u k (suc n) h = by_test (u == n) refl (λ lt. sum_at u k n lt)
@@ -226,7 +226,7 @@ sum_at u k (suc n) h = by_test (u == n) refl (λ lt. sum_at u k n lt)
     by_test false e rest = omega (arith, rest (other e))
 
 -- ---- audits that were begun and not ended
-open_audits : List ℕ → List ℕ → ℕ
+unfoldable pub open_audits : List ℕ → List ℕ → ℕ
 open_audits audits closed = length (filter (λ a. not (has closed a)) audits)
 
 filter_less : (p q : ℕ → Bool) (xs : List ℕ) → ((x : ℕ) → q x ≡ true → p x ≡ true) → length (filter q xs) ≤ length (filter p xs)
@@ -266,7 +266,7 @@ closes_one b closed (a ∷ audits) h n = by_test (a == b) refl h (λ k. closes_o
     by_test true e k more = here (b == a) (has closed a) (subst (λ x. (b == x) ≡ true) (sym (equal a b e)) (self b)) (subst (λ x. has closed x ≡ false) (sym (equal a b e)) n)
     by_test false e k more = by_had (b == a) (has closed a) (more k)
 
-opens_one : (a : ℕ) (closed audits : List ℕ) → open_audits (a ∷ audits) closed ≤ open_audits audits closed + 1
+pub opens_one : (a : ℕ) (closed audits : List ℕ) → open_audits (a ∷ audits) closed ≤ open_audits audits closed + 1
 unfolding open_audits
 opens_one a closed audits = by_test (not (has closed a))
   where
@@ -310,7 +310,7 @@ is_not : (b : Bool) → not b ≡ true → b ≡ false
 is_not true e = absurd (cc)
 is_not false e = refl
 
-ends_audit : (h : Rules) (b : ℕ) → (has h.audits b && not (has h.closed b)) ≡ true → 2 * open_audits h.audits (b ∷ h.closed) + 2 ≤ 2 * open_audits h.audits h.closed
+pub ends_audit : (h : Rules) (b : ℕ) → (has h.audits b && not (has h.closed b)) ≡ true → 2 * open_audits h.audits (b ∷ h.closed) + 2 ≤ 2 * open_audits h.audits h.closed
 ends_audit h b e = omega (arith, closes_one b h.closed h.audits (and_left (has h.audits b) _ e) (is_not (has h.closed b) (and_right (has h.audits b) _ e)))
 
 waits_runs : (s : Sizes) (h : Rules) (x : Record) → Waits (runs s h x) h x
@@ -347,17 +347,17 @@ waits_behind s h (AuditFail b rs) = waits_if h.failed _ h (AuditFail b rs) (wait
 waits_behind s h (Back t b) = waits_if h.failed _ h (Back t b) (waits_runs s h (Back t b))
 
 -- ---- records that use room
-abbrev uses : Record → ℕ
+abbrev pub uses : Record → ℕ
 uses (Begin t) = 1
 uses (Forward t b) = 1
 uses (Done t c a) = 1
 uses AuditBegin = 1
 uses _ = 0
 
-abbrev HasRoomFor : Rules → Record → Type 0
+abbrev pub HasRoomFor : Rules → Record → Type 0
 HasRoomFor h x = (uses x ≡ 0) ⊎ (h.weight + record_length x ≤ 269484032)
 
-of_kept : (c : Bool) (k g : Rules) → kept_if c k ≡ Some g → c ≡ true
+pub of_kept : (c : Bool) (k g : Rules) → kept_if c k ≡ Some g → c ≡ true
 of_kept true k g e = refl
 of_kept false k g e = absurd (cc)
 
@@ -378,11 +378,11 @@ room_runs s h g (AuditFail b rs) e = inl refl
 room_runs s h g (Restarted rs ds) e = inl refl
 room_runs s h g (Back t b) e = inl refl
 
-not_failed : (c : Bool) (o : Option Rules) (g : Rules) → cond c None o ≡ Some g → o ≡ Some g
+pub not_failed : (c : Bool) (o : Option Rules) (g : Rules) → cond c None o ≡ Some g → o ≡ Some g
 not_failed true o g e = absurd (cc)
 not_failed false o g e = e
 
-room_behind : (s : Sizes) (h g : Rules) (x : Record) → rules_behind s h x ≡ Some g → HasRoomFor h x
+pub room_behind : (s : Sizes) (h g : Rules) (x : Record) → rules_behind s h x ≡ Some g → HasRoomFor h x
 room_behind s h g (Format i n) e = inl refl
 room_behind s h g (Begin t) e = room_runs s h g (Begin t) (not_failed h.failed _ g e)
 room_behind s h g (Forward t b) e = room_runs s h g (Forward t b) (not_failed h.failed _ g e)
@@ -396,7 +396,7 @@ room_behind s h g (AuditFail b rs) e = inl refl
 room_behind s h g (Restarted rs ds) e = inl refl
 room_behind s h g (Back t b) e = inl refl
 
-some_length : (x : Record) → 1 ≤ record_length x
+pub some_length : (x : Record) → 1 ≤ record_length x
 some_length (Format i n) = omega arith
 some_length (Begin t) = omega arith
 some_length (Forward t b) = omega arith
@@ -410,7 +410,7 @@ some_length (AuditFail b rs) = omega arith
 some_length (Restarted rs ds) = omega arith
 some_length (Back t b) = omega arith
 
-uses_few : (x : Record) → uses x ≤ 1
+pub uses_few : (x : Record) → uses x ≤ 1
 uses_few (Format i n) = omega arith
 uses_few (Begin t) = omega arith
 uses_few (Forward t b) = omega arith
@@ -424,12 +424,12 @@ uses_few (AuditFail b rs) = omega arith
 uses_few (Restarted rs ds) = omega arith
 uses_few (Back t b) = omega arith
 
-uses_weight : (L : List Record) → sum_by uses L ≤ sum_by record_length L
+pub uses_weight : (L : List Record) → sum_by uses L ≤ sum_by record_length L
 uses_weight = by_push (λ L. sum_by uses L ≤ sum_by record_length L) (omega arith) (λ L x here. omega (arith, here, some_length x, uses_few x, sum_by_push uses L x, sum_by_push record_length L x))
 
 -- ---- all of it
 -- a transaction to which a record is allowed, where it wouldn't be before a begin, has a number that was given
-was_given : (s : Sizes) (L : List Record) (h : Rules) (u : ℕ) (x : Record) → rules_state s L ≡ Some h → IsSome (txn_state s u (L ++ x ∷ [])) → txn_step s u Unbegun x ≡ None → u < h.next
+pub was_given : (s : Sizes) (L : List Record) (h : Rules) (u : ℕ) (x : Record) → rules_state s L ≡ Some h → IsSome (txn_state s u (L ++ x ∷ [])) → txn_step s u Unbegun x ≡ None → u < h.next
 was_given s L h u x e some none = ⊎_elim (λ lt. lt) (λ ge. absurd (late ge)) (cases_lt u h.next)
   where
     late : h.next ≤ u → ⊥
@@ -440,38 +440,38 @@ was_given s L h u x e some none = ⊎_elim (λ lt. lt) (λ ge. absurd (late ge))
         let isnt : is_some (txn_next s u (txn_state s u L) x) ≡ false = ap is_some gone in
         absurd (cc)
 
-never_back : (u : ℕ) (o : Option TxnState) → allowed (not (u == u)) o ≡ None
+pub never_back : (u : ℕ) (o : Option TxnState) → allowed (not (u == u)) o ≡ None
 never_back u o = rw (self u) refl
 
-never_solo : (s : Sizes) (n p : ℕ) (b : Block) → txn_step s p Unbegun (Solo n p b) ≡ None
+pub never_solo : (s : Sizes) (n p : ℕ) (b : Block) → txn_step s p Unbegun (Solo n p b) ≡ None
 never_solo s n p b = by_test (n == p)
   where
     by_test : (c : Bool) → cond c (allowed (not (p == p)) (Some Over)) (allowed (not (p == p)) (Some Unbegun)) ≡ None
     by_test true = rw (self p) refl
     by_test false = rw (self p) refl
 
-sum_most : (u k n : ℕ) → sum_below (λ t. cond (u == t) k 0) n ≤ k
+pub sum_most : (u k n : ℕ) → sum_below (λ t. cond (u == t) k 0) n ≤ k
 sum_most u k n = ⊎_elim (λ lt. omega (arith, sum_at u k n lt)) (λ ge. omega (arith, apart_below u k n ge)) (cases_lt u n)
 
-lefts : Sizes → List Record → ℕ → ℕ
+unfoldable pub lefts : Sizes → List Record → ℕ → ℕ
 lefts s L n = sum_below (λ t. left_of (txn_state s t L)) n
 
 next_less : (s : Sizes) (t : ℕ) (o : Option TxnState) (x : Record) → Less (txn_next s t o x) (gone t x) (left_of o) (more t x)
 next_less s t None x = less_none (gone t x) 0 (more t x)
 next_less s t (Some st) x = less_step s t st x
 
-lefts_step : (s : Sizes) (L : List Record) (x : Record) (n : ℕ) → ((t : ℕ) → IsSome (txn_state s t (L ++ x ∷ []))) → lefts s (L ++ x ∷ []) n + sum_below (λ t. gone t x) n ≤ lefts s L n + sum_below (λ t. more t x) n
+pub lefts_step : (s : Sizes) (L : List Record) (x : Record) (n : ℕ) → ((t : ℕ) → IsSome (txn_state s t (L ++ x ∷ []))) → lefts s (L ++ x ∷ []) n + sum_below (λ t. gone t x) n ≤ lefts s L n + sum_below (λ t. more t x) n
 unfolding lefts
 lefts_step s L x n some = sum_less (λ t. left_of (txn_state s t (L ++ x ∷ []))) (λ t. gone t x) (λ t. left_of (txn_state s t L)) (λ t. more t x) n (λ t. rw (txn_state_push s t L x) (next_less s t (txn_state s t L) x (rw (txn_state_push s t L x) at (some t))))
 
-abbrev IsBound : Sizes → List Record → Type 0
+abbrev pub IsBound : Sizes → List Record → Type 0
 IsBound s L = (g : Rules) → rules_state s L ≡ Some g → ((t : ℕ) → IsSome (txn_state s t L)) → (n : ℕ) → g.next ≤ n → (length L + 2 * lefts s L n + waits g ≤ 6 * sum_by uses L + 2) × (sum_by uses L ≤ 269484032)
 
 -- what each record adds and takes away, all in all: 6 for one that uses room, and nothing for any other
 abbrev Balance : Sizes → List Record → Record → ℕ → Type 0
 Balance s L x n = 1 + 2 * lefts s (L ++ x ∷ []) n + adds x ≤ 2 * lefts s L n + 6 * uses x + takes x
 
-none_sum : (n : ℕ) → sum_below (λ t. 0) n ≡ 0
+pub none_sum : (n : ℕ) → sum_below (λ t. 0) n ≡ 0
 none_sum n = sum_none (λ t. 0) n (λ t. refl)
 
 balance : (s : Sizes) (L : List Record) (h g : Rules) (x : Record) (n : ℕ) → rules_state s L ≡ Some h → h.next ≤ n → rules_behind s h x ≡ Some g → ((t : ℕ) → IsSome (txn_state s t (L ++ x ∷ []))) → Balance s L x n
@@ -488,7 +488,7 @@ balance s L h g (AuditFail b rs) n e l r some = omega (arith, lefts_step s L (Au
 balance s L h g (Restarted rs ds) n e l r some = omega (arith, lefts_step s L (Restarted rs ds) n some, none_sum n)
 balance s L h g (Back t b) n e l r some = omega (arith, lefts_step s L (Back t b) n some, none_sum n, sum_at t 1 n (omega (arith, l, was_given s L h t (Back t b) e (some t) (never_back t (Some Unbegun)))))
 
-next_within : (x : Record) (n m : ℕ) → next_with x n ≤ m → n ≤ m
+pub next_within : (x : Record) (n m : ℕ) → next_with x n ≤ m → n ≤ m
 next_within (Format i h) n m l = l
 next_within (Begin t) n m l = omega (arith, l)
 next_within (Forward t b) n m l = l
@@ -533,7 +533,7 @@ first_bound s (AuditFail b rs) g r n = absurd (cc)
 first_bound s (Restarted rs ds) g r n = absurd (cc)
 first_bound s (Back t b) g r n = absurd (cc)
 
-bound : (s : Sizes) (L : List Record) → IsBound s L
+pub bound : (s : Sizes) (L : List Record) → IsBound s L
 unfolding lefts open_audits
 bound s = by_push (IsBound s) (λ g e some n l. (at_start g e n, omega arith)) step
   where

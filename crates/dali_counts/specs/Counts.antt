@@ -6,6 +6,7 @@
 --     AreSpelled L             each record of L can be spelled
 --     IsShort                  the bytes of a legal log, with a frame for each record, stay below 2^62
 --     FileIsShort              so do those of the batches of a legal log, of which each has a record
+--     IsLight                  the bytes of its records alone stay below 2^40, as the rules on room bound them
 use Rattle.std.specs.Prelude.{◌≡◌, ℕ, ◌+◌, ◌*◌, ◌<◌, ◌≤◌, ◌^◌, List, Some, take, length, slice_get, sum_by, flat_map}
 use Rattle.dali_geometry.specs.Sizes.{Sizes}
 use Rattle.dali_record.specs.declared.records.Record.{Record}
@@ -39,3 +40,6 @@ FileIsShort =
     (s : Sizes) (batches : List (List Record)) → IsLegalFor s (flat_map (λ b. b) batches) → AreSpelled (flat_map (λ b. b) batches)
     → ((i : ℕ) (b : List Record) → slice_get batches i ≡ Some b → 1 ≤ length b)
     → sum_by batch_length batches < 2 ^ 62
+
+abbrev pub IsLight : Type 0
+IsLight = (s : Sizes) (L : List Record) → IsLegalFor s L → AreSpelled L → sum_by record_length L < 2 ^ 40

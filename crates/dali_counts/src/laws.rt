@@ -1,6 +1,6 @@
 //! Laws over the definitions, each the contract of a function that does nothing.
 
-ghost use Rattle.dali_counts.specs.Counts.{UnbegunAbove, PrefixLegal, IsSmall, IsShort, FileIsShort};
+ghost use Rattle.dali_counts.specs.Counts.{UnbegunAbove, PrefixLegal, IsSmall, IsShort, FileIsShort, IsLight};
 
 /// A number that wasn't given yet has no record.
 pub fn a_new_number_has_no_record()
@@ -25,4 +25,10 @@ pub fn a_legal_log_is_short()
 /// So do those of its file: no caller of an append owes it.
 pub fn the_file_of_a_legal_log_is_short()
     ensures { FileIsShort }
+{}
+
+/// The bytes of its records alone stay below 2^40: what uses room keeps within the limit, and the rest is what such records
+/// leave to be done.
+pub fn a_legal_log_is_light()
+    ensures { IsLight }
 {}

@@ -10,18 +10,19 @@ use Rattle.dali_geometry.specs.Places.{formatted_image}
 use Rattle.dali_index.specs.Entries.{entries}
 use Rattle.dali_history.specs.Acknowledged.{IsDeletedByChain}
 use Rattle.dali_system.specs.Run.{log_in}
-use Rattle.dali_system.specs.Worked.{small, first_log, first_vault, one_batch, damaged_look, damage}
-use Rattle.dali_system.proofs.Worked.{first_store}
-use Rattle.dali_system.proofs.Damage.{finish, crash, damage_course, none_escapes}
+use Rattle.dali_system.specs.Worked.{small, first_log, first_vault, damaged_look, damage, first_files}
+use Rattle.dali_system.proofs.Damage.{finish, crash, damage_trace, none_escapes}
 use Rattle.dali_crash.specs.Damaged.{DamagedRun}
 use Rattle.dali_crash.specs.Restarts.{RestartsRight}
-use Rattle.dali_crash.proofs.Courses.{format_is_history, every_run_is_right}
+use Rattle.dali_crash.proofs.Courses.{format_is_history}
+use Rattle.dali_crash.proofs.Traces.{every_core_trace_is_right}
+use Rattle.dali_system.proofs.Worked.{first_store}
 
 restarts : RestartsRight first_log finish.core crash
 unfolding damaged_look entries
 restarts =
-    every_run_is_right first_log (passes rules_start (Format 1 1)) 1000000 first_vault (λ F. one_batch F.batches) (format_is_history small (refl, refl)) refl refl (omega arith) first_store refl
-    damage finish damage_course crash refl none_escapes
+    every_core_trace_is_right first_log (passes rules_start (Format 1 1)) 1000000 first_vault first_files (format_is_history small (refl, refl)) refl refl (omega arith) first_store refl
+    damage finish crash damage_trace none_escapes
 
 -- on the formatted words the look would have answered otherwise
 is_unsound : IsSoundAt (formatted_image small) (last_epoch (log_in crash)).records 3 → ⊥
@@ -36,9 +37,8 @@ pub damaged_run : DamagedRun
 unfolding damaged_look entries
 damaged_run = record {
   finish = finish;
-  course = damage_course;
   crash = crash;
-  left = refl;
+  trace = damage_trace;
   unsound = is_unsound;
   escapes = none_escapes;
   right = restarts;

@@ -8,14 +8,14 @@ use Rattle.dali_counts.proofs.Lists.{take_take}
 use Rattle.dali_history.proofs.Chained.{keeps_committed}
 use Rattle.dali_history.specs.Acknowledged.{KeepsCommitted}
 use Rattle.dali_system.specs.State.{VaultState, stable}
-use Rattle.dali_system.specs.Run.{Bases}
+use Rattle.dali_system.specs.Run.{Bases, no_image}
 use Rattle.dali_system.specs.Crashes.{IsAcknowledged}
-use Rattle.dali_crash.specs.Checkpoints.{Stored, StoreStep, Does, Starts, Keeps, Copies, Skips, WritesHead, Syncs, Turns, CopyFails, HeadFails, SyncFails, TurnFails, Finishes, IsStoreStep, IsStoreCourse}
-use Rattle.dali_crash.specs.StoreRuns.{StoreRun}
+use Rattle.dali_crash.specs.Checkpoints.{Point, StoreStep, Does, Starts, Keeps, Copies, Skips, WritesHead, Syncs, Turns, CopyFails, HeadFails, SyncFails, TurnFails, Finishes, IsPointStep, IsPointCourse, moment_of}
 use Rattle.dali_crash.specs.Growth.{CourseGrows}
 use Rattle.dali_crash.proofs.StepLeaves.{vault_goes}
-use Rattle.dali_crash.proofs.StoreRuns.{store_step_keeps}
+use Rattle.dali_crash.proofs.StoreRuns.{store_step_none}
 use Rattle.dali_crash.proofs.StoreStarts.{store_goes}
+use Rattle.dali_system.specs.Courses.{RunsAt}
 
 -- ---- the vault
 record Grows (v w : VaultState) : Type 0 where
@@ -29,75 +29,81 @@ same v w e = subst (Grows v) (sym e) (record { current = omega arith; flushed = 
 then_grows : (u v w : VaultState) → Grows u v → Grows v w → Grows u w
 then_grows u v w a b = record { current = omega (arith, a.current, b.current); flushed = omega (arith, a.flushed, b.flushed); stopped = λ h. b.stopped (a.stopped h) }
 
-abbrev vault_of : Stored → VaultState
-vault_of st = st.moment.core.vault
+abbrev vault_of : Point → VaultState
+vault_of st = st.core.vault
 
-store_step_grows : (st new : Stored) (x : StoreStep) → IsStoreStep st x new → Grows (vault_of st) (vault_of new)
-store_step_grows st new (Does x) s = let w = vault_goes st.moment new.moment x s.1 in record { current = omega (arith, w.current); flushed = w.flushed; stopped = stays new.moment.core.vault.stopped w.runs }
+store_step_grows : (st new : Point) (x : StoreStep) → IsPointStep st x new → Grows (vault_of st) (vault_of new)
+store_step_grows st new (Does x) s = let w = vault_goes (moment_of st) (moment_of new) x s.1 in record { current = omega (arith, w.current); flushed = w.flushed; stopped = stays new.core.vault.stopped w.runs }
   where
-    stays : (b : Bool) → (b ≡ false → st.moment.core.vault.stopped ≡ false) → st.moment.core.vault.stopped ≡ true → b ≡ true
+    stays : (b : Bool) → (b ≡ false → st.core.vault.stopped ≡ false) → st.core.vault.stopped ≡ true → b ≡ true
     stays true runs h = refl
-    stays false runs h = let f : st.moment.core.vault.stopped ≡ false = runs refl in absurd (cc)
+    stays false runs h = let f : st.core.vault.stopped ≡ false = runs refl in absurd (cc)
 store_step_grows st new Starts s = same (vault_of st) (vault_of new) (ap vault_of s.1)
 store_step_grows st new Keeps s = same (vault_of st) (vault_of new) (ap vault_of s.4)
-store_step_grows st new (Copies r n) s = same (vault_of st) (vault_of new) (ap vault_of s.6)
+store_step_grows st new (Copies r n) s = same (vault_of st) (vault_of new) (ap vault_of s.5)
 store_step_grows st new (Skips r n) s = same (vault_of st) (vault_of new) (ap vault_of s.5)
-store_step_grows st new (WritesHead h) s = same (vault_of st) (vault_of new) (ap vault_of s.2)
-store_step_grows st new Syncs s = same (vault_of st) (vault_of new) (ap vault_of s.2)
-store_step_grows st new Turns s = subst (Grows (vault_of st)) (sym (ap vault_of s.6)) (record { current = omega arith; flushed = omega arith; stopped = λ h. h })
-store_step_grows st new (CopyFails r ws n) s = subst (Grows (vault_of st)) (sym (ap vault_of s.5)) (record { current = omega arith; flushed = omega arith; stopped = λ h. refl })
-store_step_grows st new (HeadFails h n) s = subst (Grows (vault_of st)) (sym (ap vault_of s.2)) (record { current = omega arith; flushed = omega arith; stopped = λ h. refl })
-store_step_grows st new (SyncFails n) s = subst (Grows (vault_of st)) (sym (ap vault_of s.2)) (record { current = omega arith; flushed = omega arith; stopped = λ h. refl })
-store_step_grows st new (TurnFails n) s = subst (Grows (vault_of st)) (sym (ap vault_of s.6)) (record { current = omega arith; flushed = omega arith; stopped = λ h. refl })
+store_step_grows st new (WritesHead h) s = same (vault_of st) (vault_of new) (ap vault_of s.1)
+store_step_grows st new Syncs s = same (vault_of st) (vault_of new) (ap vault_of s.1)
+store_step_grows st new Turns s = subst (Grows (vault_of st)) (sym (ap vault_of s.5)) (record { current = omega arith; flushed = omega arith; stopped = λ h. h })
+store_step_grows st new (CopyFails r ws n) s = subst (Grows (vault_of st)) (sym (ap vault_of s.4)) (record { current = omega arith; flushed = omega arith; stopped = λ h. refl })
+store_step_grows st new (HeadFails h n) s = subst (Grows (vault_of st)) (sym (ap vault_of s.1)) (record { current = omega arith; flushed = omega arith; stopped = λ h. refl })
+store_step_grows st new (SyncFails n) s = subst (Grows (vault_of st)) (sym (ap vault_of s.1)) (record { current = omega arith; flushed = omega arith; stopped = λ h. refl })
+store_step_grows st new (TurnFails n) s = subst (Grows (vault_of st)) (sym (ap vault_of s.5)) (record { current = omega arith; flushed = omega arith; stopped = λ h. refl })
 store_step_grows st new Finishes s = same (vault_of st) (vault_of new) (ap vault_of s.1)
 
 -- ---- the log
-record Leads (bases : Bases) (before : List Record) (st new : Stored) : Type 0 where
-  run : StoreRun bases before new
+record Leads (bases : Bases) (before : List Record) (st new : Point) : Type 0 where
+  run : RunsAt bases before no_image (moment_of new)
   vault : Grows (vault_of st) (vault_of new)
   more : List Record
-  log : new.moment.log ≡ st.moment.log ++ more
+  log : new.log ≡ st.log ++ more
 
-leads : (bases : Bases) (before : List Record) (st new : Stored) (xs : List StoreStep) → StoreRun bases before st → IsStoreCourse st xs new → Leads bases before st new
-leads bases before st new [] run course = subst (Leads bases before st) course (record { run = run; vault = same (vault_of st) (vault_of st) refl; more = []; log = sym (append-nil st.moment.log) })
+leads : (bases : Bases) (before : List Record) (st new : Point) (xs : List StoreStep) → RunsAt bases before no_image (moment_of st) → IsPointCourse st xs new → Leads bases before st new
+leads bases before st new [] run course = subst (Leads bases before st) course (record { run = run; vault = same (vault_of st) (vault_of st) refl; more = []; log = sym (append-nil st.log) })
 leads bases before st new (x ∷ xs) run course =
-    let on : Leads bases before course.0 new = leads bases before course.0 new xs (store_step_keeps bases before st course.0 x run course.1) course.2 in
+    let on : Leads bases before course.0 new = leads bases before course.0 new xs (store_step_none bases before st course.0 x run course.1) course.2 in
     let grown : Grows (vault_of st) (vault_of new) = then_grows (vault_of st) (vault_of course.0) (vault_of new) (store_step_grows st course.0 x course.1) on.vault in
     ⊎_elim
     (λ e. record { run = on.run; vault = grown; more = on.more; log = on.log ∙ ap (λ l. l ++ on.more) e })
-    (λ s. record { run = on.run; vault = grown; more = (s.0 ∷ []) ++ on.more; log = on.log ∙ (ap (λ l. l ++ on.more) s.2 ∙ append_assoc st.moment.log (s.0 ∷ []) on.more) })
+    (λ s. record { run = on.run; vault = grown; more = (s.0 ∷ []) ++ on.more; log = on.log ∙ (ap (λ l. l ++ on.more) s.2 ∙ append_assoc st.log (s.0 ∷ []) on.more) })
     (store_goes st course.0 x course.1).log
 
 pub course_grows : CourseGrows
 course_grows bases before st new xs run course = record {
-  current = w.vault.current;
-  flushed = flushed;
-  acknowledged = λ t h. subst (λ M. Contains (committed (take n M)) t) w.run.run.log (stays t h);
-  stopped = w.vault.stopped;
+  grown = record {
+    current = w.vault.current;
+    flushed = flushed;
+    acknowledged = λ t h. subst (λ M. Contains (committed (take n M)) t) w.run.log (stays t h);
+    stopped = w.vault.stopped;
+  };
+  records = records;
 }
   where
     w : Leads bases before st new
     w = leads bases before st new xs run course
 
     m : ℕ
-    m = stable st.moment.core
+    m = stable st.core
 
     n : ℕ
-    n = stable new.moment.core
+    n = stable new.core
 
     flushed : m ≤ n
-    flushed = omega (arith, w.vault.flushed, run.run.run.first, w.run.run.run.first)
+    flushed = omega (arith, w.vault.flushed, run.run.first, w.run.run.first)
 
-    within : m ≤ length st.moment.log
-    within = omega (arith, run.run.run.frame, run.run.run.taken, ap length run.run.log)
+    within : m ≤ length st.log
+    within = omega (arith, run.run.frame, run.run.taken, ap length run.log)
 
-    front : take m st.moment.log ++ drop m (take n new.moment.log) ≡ take n new.moment.log
+    records : take m new.log ≡ take m st.log
+    records = ap (take m) w.log ∙ take-append-le m st.log w.more within
+
+    front : take m st.log ++ drop m (take n new.log) ≡ take n new.log
     front =
-        ap (λ l. l ++ drop m (take n new.moment.log)) (sym (take_take m n new.moment.log flushed ∙ (ap (take m) w.log ∙ take-append-le m st.moment.log w.more within)))
-        ∙ take-append-drop m (take n new.moment.log)
+        ap (λ l. l ++ drop m (take n new.log)) (sym (take_take m n new.log flushed ∙ records))
+        ∙ take-append-drop m (take n new.log)
 
-    keeps : KeepsCommitted (take m st.moment.log) (take n new.moment.log)
-    keeps = subst (KeepsCommitted (take m st.moment.log)) front (keeps_committed (take m st.moment.log) (drop m (take n new.moment.log)))
+    keeps : KeepsCommitted (take m st.log) (take n new.log)
+    keeps = subst (KeepsCommitted (take m st.log)) front (keeps_committed (take m st.log) (drop m (take n new.log)))
 
-    stays : (t : ℕ) → IsAcknowledged before st.moment.core t → Contains (committed (take n new.moment.log)) t
-    stays t h = keeps.stays t (subst (λ M. Contains (committed (take m M)) t) (sym run.run.log) h)
+    stays : (t : ℕ) → IsAcknowledged before st.core t → Contains (committed (take n new.log)) t
+    stays t h = keeps.stays t (subst (λ M. Contains (committed (take m M)) t) (sym run.log) h)

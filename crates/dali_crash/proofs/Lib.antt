@@ -20,3 +20,5 @@ pub mod CheckpointFaults
 pub mod Flags
 pub mod Restarted
 pub mod Growth
+pub mod Traces
+pub mod Rests

@@ -1,5 +1,5 @@
 -- The log of a crash image of a run is a history, and a restart from it is right.
-use Rattle.std.proofs.Common.{◌≡◌, ℕ, zero, suc, ◌-◌, ◌<◌, ◌≤◌, true, List, [], ◌∷◌, ◌++◌, take, drop, Some, ap, sym, subst, ◌∙◌, arith}
+use Rattle.std.proofs.Common.{refl, ◌≡◌, ℕ, zero, suc, ◌-◌, ◌<◌, ◌≤◌, List, [], ◌∷◌, ◌++◌, take, drop, Some, ap, sym, subst, ◌∙◌, arith}
 use Rattle.std.specs.Prelude.{fold, slice_get, nat_le}
 use Rattle.std.proofs.lemmas.List.{take-append-drop}
 use Rattle.std.proofs.lemmas.Bool.{leb-true}
@@ -22,7 +22,7 @@ use Rattle.dali_headline.proofs.NothingToFree.{recovered-restarted_history, reco
 use Rattle.dali_headline.proofs.Headline.{restart_is_right}
 use Rattle.dali_counts.proofs.Lists.{take_take, and_left}
 use Rattle.dali_system.specs.State.{CoreState, stable, log_after}
-use Rattle.dali_system.specs.Run.{Bases, base_at, log_in, IsRun, IsPrefix}
+use Rattle.dali_system.specs.Run.{Bases, base_at, log_in, IsRun, IsPrefix, only}
 use Rattle.dali_crash.specs.CrashLogs.{cut_to, IsCrashLog}
 use Rattle.dali_crash.specs.Restarts.{HasRightBase, FormatHasRightBase, RestartHasRightBase, CrashIsHistory, CrashIsRight, RestartsRight, RunIsRight, FlushedStays, AcknowledgedStays}
 use Rattle.dali_crash.proofs.CrashLogs.{crash_logs, cut_parts, first_before, flushed_stays}
@@ -99,16 +99,16 @@ run_is_right_for bases before leave c run right F l safe =
     }
 
 pub run_is_right : RunIsRight
-run_is_right bases before leave c run right F l safe = run_is_right_for bases before (λ D. leave D ≡ true) c run right F l safe
+run_is_right bases before c F run right safe = run_is_right_for bases before (only F) c run right F refl safe
 
 -- ---- with damage or without
 pub flushed_stays_in : FlushedStays
-flushed_stays_in bases before leave c k x run h e F l = flushed_stays (λ D. leave D ≡ true) (log_after before c.system) (stable c) c.vault run.vault k x h e F l
+flushed_stays_in bases before c F k x run h e = flushed_stays (only F) (log_after before c.system) (stable c) c.vault run.vault k x h e F refl
 
 pub acknowledged_stays : AcknowledgedStays
-acknowledged_stays bases before leave c t run acknowledged F l =
+acknowledged_stays bases before c F t run acknowledged =
     let L : List Record = log_after before c.system in
-    let is : IsPrefix L (stable c) F = run.vault.prefix F l in
+    let is : IsPrefix L (stable c) F = run.vault.prefix F refl in
     let keeps : KeepsCommitted (take (stable c) L) (log_in F) = subst (KeepsCommitted (take (stable c) L)) (goes_on_to L (log_in F) (stable c) is.count is.flushed is.log) (keeps_committed (take (stable c) L) (drop (stable c) (take is.count L))) in
     keeps.stays t acknowledged
 

@@ -10,25 +10,23 @@ use Rattle.dali_system.specs.State.{VaultState, CoreState}
 use Rattle.dali_system.specs.Regions.{RegionStep, Latch, NoteReads, Update, TakeBack, Poke, Check, Die, Clean, region_after}
 use Rattle.dali_system.specs.Flushes.{frame_of, with_frame, longer}
 use Rattle.dali_system.proofs.Deaths.{region_with, dead_at}
-use Rattle.dali_system.specs.Courses.{Step, Begins, Operates, TakesBack, Frees, Answers, Commits, Ends, AuditBegins, AuditEnds, Locks, Refuses, OnRegion, Passes, Dies, Claims, GivesBack, Recovers, Stops, Checkpoints, Takes, Flushes, Faults, Moment, MayLeave, IsStepAt}
+use Rattle.dali_system.specs.Courses.{Step, Begins, Operates, TakesBack, Frees, Answers, Commits, Ends, AuditBegins, AuditEnds, Locks, Refuses, OnRegion, Passes, Dies, Claims, GivesBack, Recovers, Stops, Checkpoints, Takes, Flushes, Faults, Moment, IsStepAt, CameBy}
 use Rattle.dali_system.proofs.Flushes.{longer_flushed}
 use Rattle.dali_crash.specs.Checkpoints.{answers_none, passes_region}
 
--- ---- the vault, and what a crash leaves
+-- ---- the vault, and a crash image
 pub record VaultGoes (m n : Moment) : Type 0 where
   pub current : n.core.vault.current ≡ m.core.vault.current
   pub flushed : m.core.vault.flushed ≤ n.core.vault.flushed
   pub runs : n.core.vault.stopped ≡ false → m.core.vault.stopped ≡ false
-  pub files : (F : Files) → MayLeave n.leave F → (D : Files) × MayLeave m.leave D × ((F ≡ D) ⊎ (F ≡ with_frame D (frame_of m.log m.core)))
 
-same_vault : (m n : Moment) (e : CoreState) → n.core ≡ e → e.vault ≡ m.core.vault → ((F : Files) → MayLeave n.leave F → MayLeave m.leave F) → VaultGoes m n
-same_vault m n e is same less =
+same_vault : (m n : Moment) (e : CoreState) → n.core ≡ e → e.vault ≡ m.core.vault → VaultGoes m n
+same_vault m n e is same =
     let vault : n.core.vault ≡ m.core.vault = ap (λ (c : CoreState). c.vault) is ∙ same in
     record {
       current = ap (λ (v : VaultState). v.current) vault;
       flushed = omega (arith, ap (λ (v : VaultState). v.flushed) vault);
       runs = λ h. ap (λ (v : VaultState). v.stopped) (sym vault) ∙ h;
-      files = λ F h. (F, less F h, inl refl);
     }
 
 longer_parts : (v : VaultState) (frame : List Record) → (longer v frame).current ≡ v.current
@@ -36,38 +34,42 @@ longer_parts v [] = refl
 longer_parts v (r ∷ rs) = refl
 
 pub vault_goes : (m n : Moment) (x : Step) → IsStepAt m x n → VaultGoes m n
-vault_goes m n Begins s = same_vault m n _ s.0.1.1 refl s.1
-vault_goes m n (Operates t b) s = same_vault m n _ s.0.3.1 refl s.1
-vault_goes m n (TakesBack t b) s = same_vault m n _ s.0.2.1 refl s.1
-vault_goes m n (Frees p b) s = same_vault m n _ s.0.2.1 refl s.1
-vault_goes m n (Answers t k a) s = same_vault m n _ s.0.3.1 refl s.1
-vault_goes m n (Commits t) s = same_vault m n _ s.0.2.1 refl s.1
-vault_goes m n (Ends t) s = same_vault m n _ s.0.2.1 refl s.1
-vault_goes m n AuditBegins s = same_vault m n _ s.0.2.1 refl s.1
-vault_goes m n (AuditEnds b found) s = same_vault m n _ s.0.1.1 refl s.1
-vault_goes m n (Locks t k mode) s = same_vault m n _ s.0.2.1 refl s.1
-vault_goes m n (Refuses t k mode h) s = same_vault m n _ s.0.2.1 refl s.1
-vault_goes m n (OnRegion r x) s = same_vault m n _ s.0.3.1 refl s.1
-vault_goes m n (Passes b r) s = same_vault m n _ s.0.2.1 refl s.1
-vault_goes m n (Dies t o) s = same_vault m n _ s.0.1.1 refl s.1
-vault_goes m n (Claims t) s = same_vault m n _ s.0.2.1 refl s.1
-vault_goes m n (GivesBack t o) s = same_vault m n _ s.0.1.1 refl s.1
-vault_goes m n (Recovers r) s = same_vault m n _ s.0.3.1 refl s.1
-vault_goes m n Stops s = same_vault m n _ s.0.1.1 refl s.1
-vault_goes m n (Checkpoints b) s = same_vault m n _ s.0.1.1 refl s.1
-vault_goes m n Takes s = same_vault m n _ s.0.1 refl s.1
+vault_goes m n Begins s = same_vault m n _ s.0.1.1 refl
+vault_goes m n (Operates t b) s = same_vault m n _ s.0.3.1 refl
+vault_goes m n (TakesBack t b) s = same_vault m n _ s.0.2.1 refl
+vault_goes m n (Frees p b) s = same_vault m n _ s.0.2.1 refl
+vault_goes m n (Answers t k a) s = same_vault m n _ s.0.3.1 refl
+vault_goes m n (Commits t) s = same_vault m n _ s.0.2.1 refl
+vault_goes m n (Ends t) s = same_vault m n _ s.0.2.1 refl
+vault_goes m n AuditBegins s = same_vault m n _ s.0.2.1 refl
+vault_goes m n (AuditEnds b found) s = same_vault m n _ s.0.1.1 refl
+vault_goes m n (Locks t k mode) s = same_vault m n _ s.0.2.1 refl
+vault_goes m n (Refuses t k mode h) s = same_vault m n _ s.0.2.1 refl
+vault_goes m n (OnRegion r x) s = same_vault m n _ s.0.3.1 refl
+vault_goes m n (Passes b r) s = same_vault m n _ s.0.2.1 refl
+vault_goes m n (Dies t o) s = same_vault m n _ s.0.1.1 refl
+vault_goes m n (Claims t) s = same_vault m n _ s.0.2.1 refl
+vault_goes m n (GivesBack t o) s = same_vault m n _ s.0.1.1 refl
+vault_goes m n (Recovers r) s = same_vault m n _ s.0.3.1 refl
+vault_goes m n Stops s = same_vault m n _ s.0.1.1 refl
+vault_goes m n (Checkpoints b) s = same_vault m n _ s.0.1.1 refl
+vault_goes m n Takes s = same_vault m n _ s.0.1 refl
 vault_goes m n Flushes s = record {
   current = ap (λ (c : CoreState). c.vault.current) s.0.1.1 ∙ longer_parts m.core.vault (frame_of m.log m.core);
   flushed = omega (arith, ap (λ (c : CoreState). c.vault.flushed) s.0.1.1, longer_flushed m.core.vault (frame_of m.log m.core));
   runs = λ h. s.0.0;
-  files = λ F h. let w = s.1.each F h in (w.0, w.1, inr w.2);
 }
 vault_goes m n (Faults k) s = record {
   current = ap (λ (c : CoreState). c.vault.current) s.0.2.1;
   flushed = omega (arith, ap (λ (c : CoreState). c.vault.flushed) s.0.2.1);
   runs = λ h. s.0.0;
-  files = λ F h. s.1.each F h;
 }
+
+-- a crash image stays, or has the frame in hand
+pub core_came : (L : List Record) (c : CoreState) (x : Step) (D F : Files) → CameBy L c x D F → (F ≡ D) ⊎ (F ≡ with_frame D (frame_of L c))
+core_came L c Flushes D F came = inr came
+core_came L c (Faults k) D F came = came
+core_came L c x D F came = inl came
 
 -- ---- each region
 -- a stray write and a missed one are never forgotten; a check that answers 0 misses those that came

@@ -1,5 +1,5 @@
 -- Each step keeps a run with its store, and each list of steps.
-use Rattle.std.proofs.Common.{◌≡◌, ℕ, zero, suc, ◌+◌, ◌%◌, ◌<◌, ◌≤◌, Bool, true, false, cond, List, [], ◌∷◌, length, take, Option, Some, None, refl, ap, sym, subst, ◌∙◌, inl, inr, ⊎_elim, arith}
+use Rattle.std.proofs.Common.{◌≡◌, ℕ, zero, suc, ◌+◌, ◌%◌, ◌<◌, ◌≤◌, Bool, true, false, cond, List, [], ◌∷◌, length, take, Option, Some, None, refl, ap, sym, subst, ◌∙◌, inl, inr, ⊎_elim, arith, ◌⊎◌}
 use Rattle.std.specs.Prelude.{◌==◌, ◌&&◌, ◌||◌, not, slice_get, slice_set, flat_map, sum_by}
 use Rattle.std.specs.List.{range_with_len}
 use Rattle.std.proofs.lemmas.List.{length-map, take_all}
@@ -8,7 +8,7 @@ use Rattle.dali_geometry.specs.Places.{regions}
 use Rattle.dali_record.specs.declared.records.Record.{Record}
 use Rattle.dali_record.specs.Epochs.{Epoch, last_epoch}
 use Rattle.dali_record.specs.Settled.{words_in}
-use Rattle.dali_record.specs.Spelling.{record_length}
+use Rattle.dali_record.specs.Spelling.{record_length, is_size_of_index}
 use Rattle.dali_record.specs.Files.{Files, batch_length, next_after, table_before}
 use Rattle.dali_region.specs.declared.Side.{Side}
 use Rattle.dali_region.specs.declared.Side.TheVariants.{A, B}
@@ -17,25 +17,24 @@ use Rattle.dali_region.specs.Answers.{is_dirty, cleaned}
 use Rattle.dali_counts.proofs.Lists.{equal, same_number, and_left, and_right, set_cases, some_same, found}
 use Rattle.dali_counts.proofs.Tallies.{numbers, number_is, tallies, numbers_drawn}
 use Rattle.dali_system.specs.State.{VaultState, CoreState, stable, log_after}
-use Rattle.dali_system.specs.Run.{Bases, log_in, RunsOn, IsPrefix, VaultRun, HasRisen}
+use Rattle.dali_system.specs.Run.{Bases, log_in, RunsOn, IsPrefix, VaultRun, HasRisen, no_image, only}
 use Rattle.dali_system.specs.Regions.{Clean}
 use Rattle.dali_system.specs.Keeps.{with_region}
-use Rattle.dali_system.specs.Flushes.{faulted}
-use Rattle.dali_system.specs.Courses.{Step, OnRegion, Checkpoints, Flushes, Faults, Moment, MayLeave, IsStepAt, RunsAt}
+use Rattle.dali_system.specs.Flushes.{faulted, frame_of, with_frame}
+use Rattle.dali_system.specs.Courses.{Step, OnRegion, Checkpoints, Flushes, Faults, Moment, IsStepAt, RunsAt}
 use Rattle.dali_system.specs.Images.{Told, FilesRun, FitsBut, is_missed, ImageRun}
 use Rattle.dali_system.specs.ImageSteps.{same_side, told_with}
-use Rattle.dali_system.proofs.Courses.{Goes, step_goes, step_keeps}
+use Rattle.dali_system.proofs.Courses.{Goes, step_goes, LeavesBy, fewer, step_keeps_none, step_runs}
 use Rattle.dali_system.proofs.Flushes.{risen_since, no_less, fault_keeps}
 use Rattle.dali_record.specs.declared.records.Record.TheVariants.{Format}
-use Rattle.dali_record.specs.Spelling.{is_size_of_index}
-use Rattle.dali_system.proofs.ImageSteps.{images_keep, copy_keeps}
-use Rattle.dali_system.proofs.FlushedImages.{flush_keeps_images, fault_keeps_images, frame_inside}
-use Rattle.dali_crash.specs.Checkpoints.{Head, Copy, Stored, Does, Starts, Keeps, IsUntouched, copy_at, Copies, Skips, WritesHead, Syncs, Turns, CopyFails, HeadFails, SyncFails, TurnFails, Finishes, side_of, image_side, target, copies_with, head_now, pass_copy, passes_region, copies_after, is_of_checkpoint, image_in, MayHold, turned, IsWritten, IsTurned, IsTurning, MayTurn, IsFault, with_fault, with_current, with_flag, moment_with}
-use Rattle.dali_crash.specs.StoreRuns.{IsCopied, IsKept, StoreRun, StoreStepKeeps, StoreCourseKeeps, TurnEnds}
-use Rattle.dali_crash.proofs.StepLeaves.{VaultGoes, vault_goes, RegionGoes, regions_go}
+use Rattle.dali_system.proofs.FlushedImages.{frame_inside, faulted_images, flushed_images}
+use Rattle.dali_crash.specs.Checkpoints.{Head, Copy, Point, Does, Starts, Keeps, IsUntouched, copy_at, Copies, Skips, WritesHead, Syncs, Turns, CopyFails, HeadFails, SyncFails, TurnFails, Finishes, side_of, image_side, target, copies_with, head_now, pass_copy, passes_region, copies_after, is_of_checkpoint, image_in, MayHold, turned, MayTurn, IsFault, with_fault, with_current, with_flag, Came, IsOverwritten, IsPointStep, StoreStep, moment_of}
+use Rattle.dali_crash.specs.StoreRuns.{IsCopied, IsKept, StoreRun, StoreStepKeeps, StoreCourseKeeps, TurnEnds, BareStoreCourseKeeps, TurnLeaves}
+use Rattle.dali_crash.proofs.StepLeaves.{VaultGoes, vault_goes, RegionGoes, regions_go, core_came}
 use Rattle.dali_crash.proofs.Kept.{got_none, kept_goes, copied_goes, copied_onward}
 use Rattle.dali_crash.proofs.Turned.{IsRightPlace, turned_fits}
 use Rattle.dali_crash.proofs.Untouched.{untouched_words}
+use Rattle.dali_system.proofs.ImageSteps.{copy_kept, images_fewer, images_kept}
 
 -- ---- sides
 -- the next checkpoint isn't written where the current image stands
@@ -56,16 +55,20 @@ other_side c e = by_tests (c == 0) (c % 2 == 1) ((c + 1) % 2 == 1) refl refl e
         odd_or x y = omega (arith, x, y)
 
 -- ---- what a crash leaves
--- what is written to the target leaves the current image
-fewer : (bases : Bases) (before : List Record) (st : Stored) (new : Files → Type 0) → StoreRun bases before st → st.moment.core.vault.stopped ≡ false → IsWritten (MayLeave st.moment.leave) new (target st) → (F : Files) → new F → MayLeave st.moment.leave F
-fewer bases before st new run runs written F h =
-    let w = written.each F h in
-    ⊎_elim (λ same. subst (MayLeave st.moment.leave) (sym same) w.1)
-    (λ other. absurd (other_side st.moment.core.vault.current (ap image_side (sym (run.anchor runs w.0 w.1)) ∙ other.0)))
-    w.2
+-- each crash image behind the step came from one before
+abbrev pub Leaves : (Files → Type 0) → (Files → Type 0) → Point → StoreStep → Type 0
+Leaves old new p x = (F : Files) → new F → (D : Files) × old D × Came p x D F
 
-images_less : (bases : Bases) (told : Told) (old new : Files → Type 0) (c : CoreState) → ((F : Files) → new F → old F) → ImageRun bases old told c → ImageRun bases new told c
-images_less bases told old new c less run = record { files = run.files; fits = λ F h. run.fits F (less F h) }
+pub one_came : (p : Point) (x : StoreStep) (D F : Files) → Came p x D F → Leaves (only D) (only F) p x
+one_came p x D F came G is = (D, refl, subst (Came p x D) (sym is) came)
+
+-- what is written to the target leaves the current image
+unwritten : (bases : Bases) (before : List Record) (old new : Files → Type 0) (st : Point) → StoreRun bases before old st → st.core.vault.stopped ≡ false → ((F : Files) → new F → (D : Files) × old D × ((F ≡ D) ⊎ IsOverwritten (target st) D F)) → (F : Files) → new F → old F
+unwritten bases before old new st run runs written F h =
+    let w = written F h in
+    ⊎_elim (λ same. subst old (sym same) w.1)
+    (λ other. absurd (other_side st.core.vault.current (ap image_side (sym (run.anchor runs w.0 w.1)) ∙ other.0)))
+    w.2
 
 kept_less : (L : List Record) (v w : VaultState) (old new : Files → Type 0) (h : Head) → w.current ≡ v.current → ((F : Files) → new F → old F) → IsKept L v old h → IsKept L w new h
 kept_less L v w old new h same less kept = record { number = kept.number ∙ ap (λ c. c + 1) (sym same); from = kept.from; to = kept.to; weight = kept.weight; next = kept.next; table = kept.table; held = λ F l. kept.held F (less F l); place = λ F l. kept.place F (less F l) }
@@ -91,12 +94,12 @@ vault_faults old new L n k v rose less run = record {
   rose = λ e. risen_since v.faults_then v.faults k run.counts rose;
 }
 
-abbrev Batches : (old new : Files → Bool) → Type 0
-Batches old new = (F : Files) → MayLeave new F → (D : Files) × MayLeave old D × (F.batches ≡ D.batches)
+abbrev Batches : (old new : Files → Type 0) → Type 0
+Batches old new = (F : Files) → new F → (D : Files) × old D × (F.batches ≡ D.batches)
 
 -- the same core, and crash images with the same logs
-run_less : (bases : Bases) (before : List Record) (m : Moment) (leave : Files → Bool) → ((F : Files) → MayLeave leave F → MayLeave m.leave F) → RunsAt bases before m → RunsAt bases before (record { log = m.log; core = m.core; audits = m.audits; leave = leave })
-run_less bases before m leave less at = record {
+run_less : (bases : Bases) (before : List Record) (old new : Files → Type 0) (m : Moment) → ((F : Files) → new F → old F) → RunsAt bases before old m → RunsAt bases before new m
+run_less bases before old new m less at = record {
   log = at.log;
   run = record {
     first = at.run.first;
@@ -104,14 +107,14 @@ run_less bases before m leave less at = record {
     runs = at.run.runs;
     frame = at.run.frame;
     taken = at.run.taken;
-    vault = vault_less (MayLeave m.leave) (MayLeave leave) (log_after before m.core.system) (stable m.core) m.core.vault m.core.vault refl refl refl refl (λ F h. (F, less F h, refl)) at.run.vault;
+    vault = vault_less old new (log_after before m.core.system) (stable m.core) m.core.vault m.core.vault refl refl refl refl (λ F h. (F, less F h, refl)) at.run.vault;
   };
   audits = record { within = at.audits.within; tells = at.audits.tells; once = at.audits.once };
 }
 
 -- the anchor moved
-run_turned : (bases : Bases) (before : List Record) (m : Moment) (leave : Files → Bool) → Batches m.leave leave → RunsAt bases before m → RunsAt bases before (record { log = m.log; core = with_current m.core; audits = m.audits; leave = leave })
-run_turned bases before m leave less at = record {
+run_turned : (bases : Bases) (before : List Record) (old new : Files → Type 0) (m : Moment) → Batches old new → RunsAt bases before old m → RunsAt bases before new (record { log = m.log; core = with_current m.core; audits = m.audits })
+run_turned bases before old new m less at = record {
   log = at.log;
   run = record {
     first = at.run.first;
@@ -128,14 +131,14 @@ run_turned bases before m leave less at = record {
     };
     frame = at.run.frame;
     taken = at.run.taken;
-    vault = vault_less (MayLeave m.leave) (MayLeave leave) (log_after before m.core.system) (stable m.core) m.core.vault _ refl refl refl refl less at.run.vault;
+    vault = vault_less old new (log_after before m.core.system) (stable m.core) m.core.vault _ refl refl refl refl less at.run.vault;
   };
   audits = record { within = at.audits.within; tells = at.audits.tells; once = at.audits.once };
 }
 
 -- a fault
-run_faults : (bases : Bases) (before : List Record) (m : Moment) (leave : Files → Bool) (k : ℕ) → HasRisen m.core.vault.faults k → Batches m.leave leave → RunsAt bases before m → RunsAt bases before (record { log = m.log; core = with_fault m.core k; audits = m.audits; leave = leave })
-run_faults bases before m leave k rose less at = record {
+run_faults : (bases : Bases) (before : List Record) (old new : Files → Type 0) (m : Moment) (k : ℕ) → HasRisen m.core.vault.faults k → Batches old new → RunsAt bases before old m → RunsAt bases before new (record { log = m.log; core = with_fault m.core k; audits = m.audits })
+run_faults bases before old new m k rose less at = record {
   log = at.log;
   run = record {
     first = at.run.first;
@@ -143,76 +146,79 @@ run_faults bases before m leave k rose less at = record {
     runs = fault_keeps bases (log_after before m.core.system) m.core k at.run.runs;
     frame = at.run.frame;
     taken = at.run.taken;
-    vault = vault_faults (MayLeave m.leave) (MayLeave leave) (log_after before m.core.system) (stable m.core) k m.core.vault rose less at.run.vault;
+    vault = vault_faults old new (log_after before m.core.system) (stable m.core) k m.core.vault rose less at.run.vault;
   };
   audits = record { within = at.audits.within; tells = at.audits.tells; once = at.audits.once };
 }
 
 -- ---- a step that writes no image
-images_do : (bases : Bases) (before : List Record) (st : Stored) (n : Moment) (x : Step) → StoreRun bases before st → is_of_checkpoint x ≡ false → IsStepAt st.moment x n → ImageRun bases (MayLeave n.leave) st.told n.core
-images_do bases before st n Flushes run quiet s = flush_keeps_images bases before st.told st.moment n run.run run.images s
-images_do bases before st n (Faults k) run quiet s = fault_keeps_images bases before st.told st.moment n k run.run run.images s
-images_do bases before st n (OnRegion r y) run quiet s = images_keep bases st.told st.moment n (OnRegion r y) run.images s quiet
-images_do bases before st n x run quiet s = images_keep bases st.told st.moment n x run.images s refl
+images_do : (bases : Bases) (before : List Record) (old new : Files → Type 0) (st : Point) (n : Moment) (x : Step) → StoreRun bases before old st → is_of_checkpoint x ≡ false → IsStepAt (moment_of st) x n → LeavesBy old new st.log st.core x → ImageRun bases new st.told n.core
+images_do bases before old new st n Flushes run quiet s l = flushed_images bases before st.told old new (moment_of st) n run.run run.images s l
+images_do bases before old new st n (Faults k) run quiet s l = faulted_images bases before st.told old new (moment_of st) n k run.run run.images s l
+images_do bases before old new st n (OnRegion r y) run quiet s l = images_fewer bases st.told old new n.core (fewer old new l) (images_kept bases st.told old (moment_of st) n (OnRegion r y) run.images s quiet)
+images_do bases before old new st n x run quiet s l = images_fewer bases st.told old new n.core (fewer old new l) (images_kept bases st.told old (moment_of st) n x run.images s refl)
 
 some_copy : (b : Bool) (o : Option Copy) (k : Copy) → pass_copy b o ≡ Some k → (c : Copy) × (o ≡ Some c) × (k ≡ record c { passed = c.passed || b })
 some_copy b None k e = absurd (cc)
 some_copy b (Some c) k e = (c, refl, sym (some_same e))
 
-does : (bases : Bases) (before : List Record) (st : Stored) (x : Step) (n : Moment) → StoreRun bases before st → is_of_checkpoint x ≡ false → IsStepAt st.moment x n → StoreRun bases before (record st { moment = n; copies = copies_after st.moment.core x st.copies })
-does bases before st x n run quiet s = record {
-  run = step_keeps bases before st.moment n x run.run s;
-  images = images_do bases before st n x run quiet s;
-  anchor = λ runs F h. let w = vault.files F h in
+does : (bases : Bases) (before : List Record) (old new : Files → Type 0) (st : Point) (x : Step) (n : Moment) → StoreRun bases before old st → is_of_checkpoint x ≡ false → IsStepAt (moment_of st) x n → LeavesBy old new st.log st.core x → StoreRun bases before new (record st { log = n.log; core = n.core; audits = n.audits; copies = copies_after st.core x st.copies })
+does bases before old new st x n run quiet s l = record {
+  run = step_runs bases before old new (moment_of st) n x run.run s l;
+  images = images_do bases before old new st n x run quiet s l;
+  anchor = λ runs F h. let w = files F h in
       ⊎_elim (λ same. ap (λ (f : Files). f.gates) same) (λ more. ap (λ (f : Files). f.gates) more) w.2
       ∙ (run.anchor (vault.runs runs) w.0 w.1 ∙ sym vault.current);
-  kept = λ h e. kept_goes st.moment n h st.moment.core.vault n.core.vault (MayLeave st.moment.leave) (MayLeave n.leave) _ (run.kept h e) goes vault.current (frame_inside bases before st.moment run.run) vault.files;
-  copied = λ side r k g e at. copied side r k g (some_copy (passes_region st.moment.core x r) (st.copies side r) k e) (regions_go st.moment n x r g s at);
+  kept = λ h e. kept_goes (moment_of st) n h st.core.vault n.core.vault old new _ (run.kept h e) goes vault.current (frame_inside bases before old (moment_of st) run.run) files;
+  copied = λ side r k g e at. copied side r k g (some_copy (passes_region st.core x r) (st.copies side r) k e) (regions_go (moment_of st) n x r g s at);
 }
   where
-    vault : VaultGoes st.moment n
-    vault = vault_goes st.moment n x s
+    vault : VaultGoes (moment_of st) n
+    vault = vault_goes (moment_of st) n x s
 
-    goes : Goes st.moment n
-    goes = step_goes st.moment n x s
+    files : (F : Files) → new F → (D : Files) × old D × ((F ≡ D) ⊎ (F ≡ with_frame D (frame_of st.log st.core)))
+    files F h = let w = l F h in (w.0, w.1, core_came st.log st.core x w.0 F w.2)
+
+    goes : Goes (moment_of st) n
+    goes = step_goes (moment_of st) n x s
 
     copied :
         (side : Side) (r : ℕ) (k : Copy) (g : RegionState)
-        → (c : Copy) × (st.copies side r ≡ Some c) × (k ≡ record c { passed = c.passed || passes_region st.moment.core x r })
-        → RegionGoes (passes_region st.moment.core x r) st.moment.core.regions r g
+        → (c : Copy) × (st.copies side r ≡ Some c) × (k ≡ record c { passed = c.passed || passes_region st.core x r })
+        → RegionGoes (passes_region st.core x r) st.core.regions r g
         → IsCopied (bases (last_epoch n.log).first) (last_epoch n.log) r g k (st.told side r)
-    copied side r k g w q = copied_goes bases st.moment n r g k (st.told side r) goes
-        (subst (λ z. IsCopied (bases (last_epoch st.moment.log).first) (last_epoch st.moment.log) r g z (st.told side r)) (sym w.2)
-        (copied_onward (bases (last_epoch st.moment.log).first) (last_epoch st.moment.log) r (passes_region st.moment.core x r) q.was g w.0 (st.told side r) q.onward (run.copied side r w.0 q.was w.1 q.at)))
+    copied side r k g w q = copied_goes bases (moment_of st) n r g k (st.told side r) goes
+        (subst (λ z. IsCopied (bases (last_epoch st.log).first) (last_epoch st.log) r g z (st.told side r)) (sym w.2)
+        (copied_onward (bases (last_epoch st.log).first) (last_epoch st.log) r (passes_region st.core x r) q.was g w.0 (st.told side r) q.onward (run.copied side r w.0 q.was w.1 q.at)))
 
 -- ---- the flag of a checkpoint
 flag_set :
-    (bases : Bases) (before : List Record) (st : Stored) (b : Bool) → StoreRun bases before st → st.moment.core.system.checking ≡ not b
-    → StoreRun bases before (record st { moment = moment_with st (with_flag st.moment.core b) st.moment.leave })
-flag_set bases before st b run was = record {
-  run = step_keeps bases before st.moment n (Checkpoints b) run.run s;
-  images = images_keep bases st.told st.moment n (Checkpoints b) run.images s refl;
+    (bases : Bases) (before : List Record) (leave : Files → Type 0) (st : Point) (b : Bool) → StoreRun bases before leave st → st.core.system.checking ≡ not b
+    → StoreRun bases before leave (record st { core = with_flag st.core b })
+flag_set bases before leave st b run was = record {
+  run = step_runs bases before leave leave (moment_of st) n (Checkpoints b) run.run s (λ F h. (F, h, refl));
+  images = images_kept bases st.told leave (moment_of st) n (Checkpoints b) run.images s refl;
   anchor = run.anchor;
   kept = run.kept;
   copied = run.copied;
 }
   where
     n : Moment
-    n = moment_with st (with_flag st.moment.core b) st.moment.leave
+    n = record { log = st.log; core = with_flag st.core b; audits = st.audits }
 
-    s : IsStepAt st.moment (Checkpoints b) n
-    s = ((was, (refl, refl)), (λ F h. h), refl)
+    s : IsStepAt (moment_of st) (Checkpoints b) n
+    s = ((was, (refl, refl)), refl)
 
 -- what is kept is another, or nothing
 keeps_other :
-    (bases : Bases) (before : List Record) (st : Stored) (o : Option Head) → StoreRun bases before st
-    → ((h : Head) → o ≡ Some h → IsKept st.moment.log st.moment.core.vault (MayLeave st.moment.leave) h)
-    → StoreRun bases before (record st { begun = o })
-keeps_other bases before st o run kept = record { run = run.run; images = run.images; anchor = run.anchor; kept = kept; copied = run.copied }
+    (bases : Bases) (before : List Record) (leave : Files → Type 0) (st : Point) (o : Option Head) → StoreRun bases before leave st
+    → ((h : Head) → o ≡ Some h → IsKept st.log st.core.vault leave h)
+    → StoreRun bases before leave (record st { begun = o })
+keeps_other bases before leave st o run kept = record { run = run.run; images = run.images; anchor = run.anchor; kept = kept; copied = run.copied }
 
 -- ---- what a checkpoint keeps
-keeps_now : (bases : Bases) (before : List Record) (m : Moment) → RunsAt bases before m → m.core.vault.stopped ≡ false → stable m.core ≡ m.core.system.records → IsKept m.log m.core.vault (MayLeave m.leave) (head_now m.log m.core)
-keeps_now bases before m at runs all = record {
+keeps_now : (bases : Bases) (before : List Record) (leave : Files → Type 0) (m : Moment) → RunsAt bases before leave m → m.core.vault.stopped ≡ false → stable m.core ≡ m.core.system.records → IsKept m.log m.core.vault leave (head_now m.log m.core)
+keeps_now bases before leave m at runs all = record {
   number = refl;
   from = omega (arith, number_is m.log, count);
   to = omega (arith, count);
@@ -231,8 +237,8 @@ keeps_now bases before m at runs all = record {
     run : RunsOn bases m.log m.core
     run = subst (λ L. RunsOn bases L m.core) (sym at.log) at.run.runs
 
-    vault : VaultRun (MayLeave m.leave) m.log (stable m.core) m.core.vault
-    vault = subst (λ L. VaultRun (MayLeave m.leave) L (stable m.core) m.core.vault) (sym at.log) at.run.vault
+    vault : VaultRun leave m.log (stable m.core) m.core.vault
+    vault = subst (λ L. VaultRun leave L (stable m.core) m.core.vault) (sym at.log) at.run.vault
 
     tell : (run.counts.now.count ≡ length m.log) × (run.counts.now.weight ≡ sum_by record_length m.log) × (run.counts.now.next ≡ numbers m.log)
     tell = tallies m.core.system.sizes m.log run.counts.now run.counts.rules
@@ -243,7 +249,7 @@ keeps_now bases before m at runs all = record {
     whole : take m.core.system.records m.log ≡ m.log
     whole = take_all m.core.system.records m.log (omega (arith, count))
 
-    size : (F : Files) → MayLeave m.leave F → length (log_in F) ≡ m.core.system.records
+    size : (F : Files) → leave F → length (log_in F) ≡ m.core.system.records
     size F l = ap length ((vault.exact runs F l).log ∙ (ap (λ n. take n m.log) all ∙ whole)) ∙ sym count
 
     every : (F : Files) → take (length F.batches) F.batches ≡ F.batches
@@ -261,8 +267,8 @@ up_to_date bases L c r n g ws run at still same = by_test g.poked refl
       words = same e ∙ ((run.regions r g at).settled e ∙ untouched_words (bases (last_epoch L).first) L r n still.none);
     })
 
-runs_at : (bases : Bases) (before : List Record) (m : Moment) → RunsAt bases before m → RunsOn bases m.log m.core
-runs_at bases before m at = subst (λ L. RunsOn bases L m.core) (sym at.log) at.run.runs
+runs_at : (bases : Bases) (before : List Record) (leave : Files → Type 0) (m : Moment) → RunsAt bases before leave m → RunsOn bases m.log m.core
+runs_at bases before leave m at = subst (λ L. RunsOn bases L m.core) (sym at.log) at.run.runs
 
 -- the places of the others are as they were
 abbrev IsKnown : Bases → List Record → List RegionState → (Side → ℕ → Option Copy) → Told → Type 0
@@ -304,59 +310,56 @@ copied_same : (base : List (List ℕ)) (e : Epoch) (r : ℕ) (g h : RegionState)
 copied_same base e r g h k ws p m is = ⊎_elim (λ a. inl a) (λ a. inr (record { poked = p ∙ a.poked; missed = λ f. m ∙ a.missed f })) is
 
 copies_keep :
-    (bases : Bases) (before : List Record) (st : Stored) (r n : ℕ) (g : RegionState) (leave : Files → Bool) (synced : Side → Bool) → StoreRun bases before st
-    → slice_get st.moment.core.regions r ≡ Some g → st.moment.core.vault.stopped ≡ false → IsUntouched st.moment.log r n
-    → IsWritten (MayLeave st.moment.leave) (MayLeave leave) (target st)
-    → StoreRun bases before (record st {
-      moment = moment_with st (with_region st.moment.core r (cleaned (target st) g)) leave;
+    (bases : Bases) (before : List Record) (old new : Files → Type 0) (st : Point) (r n : ℕ) (g : RegionState) (synced : Side → Bool) → StoreRun bases before old st
+    → slice_get st.core.regions r ≡ Some g → IsUntouched st.log r n
+    → ((F : Files) → new F → old F)
+    → StoreRun bases before new (record st {
+      core = with_region st.core r (cleaned (target st) g);
       told = told_with st.told (target st) r g.back;
       synced = synced;
       copies = copies_with st.copies (target st) r (Some (copy_at n));
     })
-copies_keep bases before st r n g leave synced run at runs still written = record {
-  run = step_keeps bases before st.moment (moment_with st (with_region st.moment.core r (cleaned (target st) g)) leave) (OnRegion r (Clean (target st))) run.run ((g, at, (tt, tt), (refl, refl)), less, refl);
-  images = images_less bases (told_with st.told (target st) r g.back) (MayLeave st.moment.leave) (MayLeave leave) (with_region st.moment.core r (cleaned (target st) g)) less (copy_keeps bases st.told st.moment.leave st.moment.core (target st) r g run.images at);
+copies_keep bases before old new st r n g synced run at still less = record {
+  run = step_runs bases before old new (moment_of st) (record { log = st.log; core = with_region st.core r (cleaned (target st) g); audits = st.audits }) (OnRegion r (Clean (target st))) run.run ((g, at, (tt, tt), (refl, refl)), refl) (λ F h. (F, less F h, refl));
+  images = images_fewer bases (told_with st.told (target st) r g.back) old new (with_region st.core r (cleaned (target st) g)) less (copy_kept bases st.told old st.core (target st) r g run.images at);
   anchor = λ e F h. run.anchor e F (less F h);
-  kept = λ h e. kept_less st.moment.log st.moment.core.vault st.moment.core.vault (MayLeave st.moment.leave) (MayLeave leave) h refl less (run.kept h e);
+  kept = λ h e. kept_less st.log st.core.vault st.core.vault old new h refl less (run.kept h e);
   copied = known;
 }
   where
-    less : (F : Files) → MayLeave leave F → MayLeave st.moment.leave F
-    less = fewer bases before st (MayLeave leave) run runs written
-
-    known : IsKnown bases st.moment.log (slice_set st.moment.core.regions r (cleaned (target st) g)) (copies_with st.copies (target st) r (Some (copy_at n))) (told_with st.told (target st) r g.back)
-    known = known_with bases st.moment.log st.moment.core.regions (slice_set st.moment.core.regions r (cleaned (target st) g)) st.copies st.told (target st) r _ g.back run.copied (one_cleaned st.moment.core.regions (target st) r g at)
-        (λ k h e new. let w = one_cleaned st.moment.core.regions (target st) r g at r h new in
+    known : IsKnown bases st.log (slice_set st.core.regions r (cleaned (target st) g)) (copies_with st.copies (target st) r (Some (copy_at n))) (told_with st.told (target st) r g.back)
+    known = known_with bases st.log st.core.regions (slice_set st.core.regions r (cleaned (target st) g)) st.copies st.told (target st) r _ g.back run.copied (one_cleaned st.core.regions (target st) r g at)
+        (λ k h e new. let w = one_cleaned st.core.regions (target st) r g at r h new in
         let same : w.0 ≡ g = some_same (sym w.1 ∙ at) in
-        subst (λ z. IsCopied (bases (last_epoch st.moment.log).first) (last_epoch st.moment.log) r h z g.back) (some_same e)
-        (copied_same (bases (last_epoch st.moment.log).first) (last_epoch st.moment.log) r g h _ g.back (w.2 ∙ ap (λ (z : RegionState). z.poked) same) (w.3 ∙ ap (λ (z : RegionState). z.missed) same)
-        (up_to_date bases st.moment.log st.moment.core r n g g.back (runs_at bases before st.moment run.run) at still (λ p. refl))))
+        subst (λ z. IsCopied (bases (last_epoch st.log).first) (last_epoch st.log) r h z g.back) (some_same e)
+        (copied_same (bases (last_epoch st.log).first) (last_epoch st.log) r g h _ g.back (w.2 ∙ ap (λ (z : RegionState). z.poked) same) (w.3 ∙ ap (λ (z : RegionState). z.missed) same)
+        (up_to_date bases st.log st.core r n g g.back (runs_at bases before old (moment_of st) run.run) at still (λ p. refl))))
 
 -- ---- steps that leave the core, but for a fault
 still :
-    (bases : Bases) (before : List Record) (st : Stored) (leave : Files → Bool) (told : Told) (heads : Side → Head) (synced : Side → Bool) (copies : Side → ℕ → Option Copy) → StoreRun bases before st
-    → ((F : Files) → MayLeave leave F → MayLeave st.moment.leave F)
-    → FilesRun told st.moment.core → IsKnown bases st.moment.log st.moment.core.regions copies told
-    → StoreRun bases before (record st { moment = moment_with st st.moment.core leave; told = told; heads = heads; synced = synced; copies = copies })
-still bases before st leave told heads synced copies run less files known = record {
-  run = run_less bases before st.moment leave less run.run;
+    (bases : Bases) (before : List Record) (old new : Files → Type 0) (st : Point) (told : Told) (heads : Side → Head) (synced : Side → Bool) (copies : Side → ℕ → Option Copy) → StoreRun bases before old st
+    → ((F : Files) → new F → old F)
+    → FilesRun told st.core → IsKnown bases st.log st.core.regions copies told
+    → StoreRun bases before new (record st { told = told; heads = heads; synced = synced; copies = copies })
+still bases before old new st told heads synced copies run less files known = record {
+  run = run_less bases before old new (moment_of st) less run.run;
   images = record { files = files; fits = λ F h. run.images.fits F (less F h) };
   anchor = λ e F h. run.anchor e F (less F h);
-  kept = λ h e. kept_less st.moment.log st.moment.core.vault st.moment.core.vault (MayLeave st.moment.leave) (MayLeave leave) h refl less (run.kept h e);
+  kept = λ h e. kept_less st.log st.core.vault st.core.vault old new h refl less (run.kept h e);
   copied = known;
 }
 
 failed :
-    (bases : Bases) (before : List Record) (st : Stored) (leave : Files → Bool) (told : Told) (heads : Side → Head) (synced : Side → Bool) (copies : Side → ℕ → Option Copy) (n : ℕ) → StoreRun bases before st
+    (bases : Bases) (before : List Record) (old new : Files → Type 0) (st : Point) (told : Told) (heads : Side → Head) (synced : Side → Bool) (copies : Side → ℕ → Option Copy) (n : ℕ) → StoreRun bases before old st
     → IsFault st n
-    → ((F : Files) → MayLeave leave F → MayLeave st.moment.leave F)
-    → FilesRun told st.moment.core → IsKnown bases st.moment.log st.moment.core.regions copies told
-    → StoreRun bases before (record st { moment = moment_with st (with_fault st.moment.core n) leave; told = told; heads = heads; synced = synced; copies = copies })
-failed bases before st leave told heads synced copies n run fault less files known = record {
-  run = run_faults bases before st.moment leave n fault.rose (λ F h. (F, less F h, refl)) run.run;
+    → ((F : Files) → new F → old F)
+    → FilesRun told st.core → IsKnown bases st.log st.core.regions copies told
+    → StoreRun bases before new (record st { core = with_fault st.core n; told = told; heads = heads; synced = synced; copies = copies })
+failed bases before old new st told heads synced copies n run fault less files known = record {
+  run = run_faults bases before old new (moment_of st) n fault.rose (λ F h. (F, less F h, refl)) run.run;
   images = record { files = files; fits = λ F h. run.images.fits F (less F h) };
   anchor = λ e. absurd (cc);
-  kept = λ h e. kept_less st.moment.log st.moment.core.vault _ (MayLeave st.moment.leave) (MayLeave leave) h refl less (run.kept h e);
+  kept = λ h e. kept_less st.log st.core.vault _ old new h refl less (run.kept h e);
   copied = known;
 }
 
@@ -380,20 +383,20 @@ dirty_told told c t r g ws at dirty files s q h e clean cleared = by_test (same_
 
 -- ---- the anchor moves
 turn_fits :
-    (bases : Bases) (before : List Record) (st : Stored) (h : Head) (b k : ℕ) (D : Files) (head : Head) (image : List (List ℕ)) → StoreRun bases before st
-    → st.moment.core.vault.stopped ≡ false → MayTurn st h b k → MayLeave st.moment.leave D → MayHold st (side_of (D.gates + 1)) head image
-    → FitsBut st.moment.core.system.sizes bases (λ r. is_missed (slice_get st.moment.core.regions r)) (log_in (turned D head image)) (turned D head image) (last_epoch (log_in (turned D head image)))
-turn_fits bases before st h b k D head image run runs may l hold =
+    (bases : Bases) (before : List Record) (old : Files → Type 0) (st : Point) (h : Head) (b k : ℕ) (D : Files) (head : Head) (image : List (List ℕ)) → StoreRun bases before old st
+    → st.core.vault.stopped ≡ false → MayTurn st h b k → old D → MayHold st (side_of (D.gates + 1)) head image
+    → FitsBut st.core.system.sizes bases (λ r. is_missed (slice_get st.core.regions r)) (log_in (turned D head image)) (turned D head image) (last_epoch (log_in (turned D head image)))
+turn_fits bases before old st h b k D head image run runs may l hold =
     subst (λ (z : Head). FitsBut c.system.sizes bases (λ r. is_missed (slice_get c.regions r)) (log_in D) (turned D z image) (last_epoch (log_in D))) (sym same)
-    (turned_fits c.system.sizes bases (λ r. is_missed (slice_get c.regions r)) L c.vault (MayLeave st.moment.leave) D h image b k is.count
+    (turned_fits c.system.sizes bases (λ r. is_missed (slice_get c.regions r)) L c.vault old D h image b k is.count
     (run.kept h may.begun) l is.log is.within may.clean later may.ends (omega (arith, may.flushed, is.flushed))
     ((run.kept h may.begun).number ∙ ap (λ n. n + 1) (sym gates)) (ap length words ∙ (length-map (range_with_len 0 (regions c.system.sizes)) (st.told (target st)) ∙ length-range_with_len 0 (regions c.system.sizes))) places)
   where
     c : CoreState
-    c = st.moment.core
+    c = st.core
 
     L : List Record
-    L = st.moment.log
+    L = st.log
 
     gates : D.gates ≡ c.vault.current
     gates = run.anchor runs D l
@@ -402,7 +405,7 @@ turn_fits bases before st h b k D head image run runs may l hold =
     side = ap (λ n. side_of (n + 1)) gates
 
     on : RunsOn bases L c
-    on = runs_at bases before st.moment run.run
+    on = runs_at bases before old (moment_of st) run.run
 
     some : 0 < regions c.system.sizes
     some = by_index c.system.sizes.index (on.log.spelled 0 (Format c.system.sizes.index c.system.sizes.heap) on.log.format).0
@@ -427,7 +430,7 @@ turn_fits bases before st h b k D head image run runs may l hold =
     places : (r : ℕ) → r < regions c.system.sizes → is_missed (slice_get c.regions r) ≡ false → IsRightPlace (bases (last_epoch L).first) (last_epoch L) h b r (words_in image r)
     places r hr seen =
         let w = may.copies r hr in
-        let region : (g : RegionState) × (slice_get c.regions r ≡ Some g) = found c.regions r (omega (arith, hr, (runs_at bases before st.moment run.run).whole)) in
+        let region : (g : RegionState) × (slice_get c.regions r ≡ Some g) = found c.regions r (omega (arith, hr, (runs_at bases before old (moment_of st) run.run).whole)) in
         let read : words_in image r ≡ st.told (target st) r = ap (λ im. words_in im r) words ∙ get_or-map-range_with_len (st.told (target st)) 0 (regions c.system.sizes) r r [] hr (omega arith) in
         ⊎_elim
         (λ a. record { at = w.0.at; from = w.2.since; to = omega (arith, w.2.until); settled = record { to = a.to; words = read ∙ a.words } })
@@ -435,31 +438,31 @@ turn_fits bases before st h b k D head image run runs may l hold =
         (run.copied (target st) r w.0 region.0 w.1 region.1)
 
 turns :
-    (bases : Bases) (before : List Record) (st : Stored) (leave : Files → Bool) (h : Head) (b k : ℕ) → StoreRun bases before st
-    → st.moment.core.vault.stopped ≡ false → MayTurn st h b k → IsTurned st (MayLeave leave)
-    → StoreRun bases before (record st { moment = moment_with st (with_current st.moment.core) leave; begun = None })
-turns bases before st leave h b k run runs may store = record {
-  run = run_turned bases before st.moment leave (λ F l. let w = store.each F l in (w.0, w.1, ap (λ (f : Files). f.batches) w.2.3)) run.run;
+    (bases : Bases) (before : List Record) (old new : Files → Type 0) (st : Point) (h : Head) (b k : ℕ) → StoreRun bases before old st
+    → st.core.vault.stopped ≡ false → MayTurn st h b k → Leaves old new st Turns
+    → StoreRun bases before new (record st { core = with_current st.core; begun = None })
+turns bases before old new st h b k run runs may store = record {
+  run = run_turned bases before old new (moment_of st) (λ F l. let w = store F l in (w.0, w.1, ap (λ (f : Files). f.batches) w.2.3)) run.run;
   images = record {
     files = run.images.files;
-    fits = λ F l. let w = store.each F l in subst (λ (f : Files). FitsBut st.moment.core.system.sizes bases (λ r. is_missed (slice_get st.moment.core.regions r)) (log_in f) f (last_epoch (log_in f))) (sym w.2.3) (turn_fits bases before st h b k w.0 w.2.0 w.2.1 run runs may w.1 w.2.2);
+    fits = λ F l. let w = store F l in subst (λ (f : Files). FitsBut st.core.system.sizes bases (λ r. is_missed (slice_get st.core.regions r)) (log_in f) f (last_epoch (log_in f))) (sym w.2.3) (turn_fits bases before old st h b k w.0 w.2.0 w.2.1 run runs may w.1 w.2.2);
   };
-  anchor = λ e F l. let w = store.each F l in ap (λ (f : Files). f.gates) w.2.3 ∙ ap (λ n. n + 1) (run.anchor runs w.0 w.1);
+  anchor = λ e F l. let w = store F l in ap (λ (f : Files). f.gates) w.2.3 ∙ ap (λ n. n + 1) (run.anchor runs w.0 w.1);
   kept = λ z e. absurd (cc);
   copied = run.copied;
 }
 
 turn_fails :
-    (bases : Bases) (before : List Record) (st : Stored) (leave : Files → Bool) (h : Head) (b k n : ℕ) → StoreRun bases before st
-    → IsFault st n → MayTurn st h b k → IsTurning st (MayLeave leave)
-    → StoreRun bases before (record st { moment = moment_with st (with_fault st.moment.core n) leave; begun = None })
-turn_fails bases before st leave h b k n run fault may store = record {
-  run = run_faults bases before st.moment leave n fault.rose (λ F l. let w = store.each F l in (w.0, w.1, ⊎_elim (λ e. ap (λ (f : Files). f.batches) e) (λ s. ap (λ (f : Files). f.batches) s.3) w.2)) run.run;
+    (bases : Bases) (before : List Record) (old new : Files → Type 0) (st : Point) (h : Head) (b k n : ℕ) → StoreRun bases before old st
+    → IsFault st n → MayTurn st h b k → Leaves old new st (TurnFails n)
+    → StoreRun bases before new (record st { core = with_fault st.core n; begun = None })
+turn_fails bases before old new st h b k n run fault may store = record {
+  run = run_faults bases before old new (moment_of st) n fault.rose (λ F l. let w = store F l in (w.0, w.1, ⊎_elim (λ e. ap (λ (f : Files). f.batches) e) (λ s. ap (λ (f : Files). f.batches) s.3) w.2)) run.run;
   images = record {
     files = run.images.files;
-    fits = λ F l. let w = store.each F l in ⊎_elim
-        (λ e. subst (λ (f : Files). FitsBut st.moment.core.system.sizes bases (λ r. is_missed (slice_get st.moment.core.regions r)) (log_in f) f (last_epoch (log_in f))) (sym e) (run.images.fits w.0 w.1))
-        (λ s. subst (λ (f : Files). FitsBut st.moment.core.system.sizes bases (λ r. is_missed (slice_get st.moment.core.regions r)) (log_in f) f (last_epoch (log_in f))) (sym s.3) (turn_fits bases before st h b k w.0 s.0 s.1 run fault.may.runs may w.1 s.2))
+    fits = λ F l. let w = store F l in ⊎_elim
+        (λ e. subst (λ (f : Files). FitsBut st.core.system.sizes bases (λ r. is_missed (slice_get st.core.regions r)) (log_in f) f (last_epoch (log_in f))) (sym e) (run.images.fits w.0 w.1))
+        (λ s. subst (λ (f : Files). FitsBut st.core.system.sizes bases (λ r. is_missed (slice_get st.core.regions r)) (log_in f) f (last_epoch (log_in f))) (sym s.3) (turn_fits bases before old st h b k w.0 s.0 s.1 run fault.may.runs may w.1 s.2))
         w.2;
   };
   anchor = λ e. absurd (cc);
@@ -467,64 +470,105 @@ turn_fails bases before st leave h b k n run fault may store = record {
   copied = run.copied;
 }
 
+-- ---- fewer crash images
+pub fewer_runs : (bases : Bases) (before : List Record) (old new : Files → Type 0) (st : Point) → ((F : Files) → new F → old F) → StoreRun bases before old st → StoreRun bases before new st
+fewer_runs bases before old new st less run = record {
+  run = run_less bases before old new (moment_of st) less run.run;
+  images = images_fewer bases st.told old new st.core less run.images;
+  anchor = λ e F h. run.anchor e F (less F h);
+  kept = λ h e. kept_less st.log st.core.vault st.core.vault old new h refl less (run.kept h e);
+  copied = run.copied;
+}
+
 -- ---- each step
-pub store_step_keeps : StoreStepKeeps
-store_step_keeps bases before st new (Does x) run s = subst (StoreRun bases before) (sym s.2) (does bases before st x new.moment run s.0 s.1)
-store_step_keeps bases before st new Starts run s =
-    subst (StoreRun bases before) (sym s.1) (flag_set bases before st true run s.0)
-store_step_keeps bases before st new Keeps run s =
-    subst (StoreRun bases before) (sym s.4)
-    (keeps_other bases before st (Some (head_now st.moment.log st.moment.core)) run (λ h e. subst (IsKept st.moment.log st.moment.core.vault (MayLeave st.moment.leave)) (some_same e) (keeps_now bases before st.moment run.run s.0 s.3)))
-store_step_keeps bases before st new (Copies r n) run s = subst (StoreRun bases before) (sym s.6) (copies_keep bases before st r n s.0 new.moment.leave _ run s.1 s.2.runs s.4 s.5)
-store_step_keeps bases before st new (Skips r n) run s =
-    subst (StoreRun bases before) (sym s.5)
-    (record { run = run.run; images = run.images; anchor = run.anchor; kept = run.kept; copied = skipped })
+pub store_step_runs : (bases : Bases) (before : List Record) (old leave : Files → Type 0) (st new : Point) (x : StoreStep) → StoreRun bases before old st → IsPointStep st x new → Leaves old leave st x → StoreRun bases before leave new
+store_step_runs bases before old leave st new (Does x) run s l = subst (StoreRun bases before leave) (sym s.2) (does bases before old leave st x (moment_of new) run s.0 s.1 l)
+store_step_runs bases before old leave st new Starts run s l = fewer_runs bases before old leave new (fewer old leave l) (subst (StoreRun bases before old) (sym s.1) (flag_set bases before old st true run s.0))
+store_step_runs bases before old leave st new Keeps run s l =
+    fewer_runs bases before old leave new (fewer old leave l) (subst (StoreRun bases before old) (sym s.4)
+    (keeps_other bases before old st (Some (head_now st.log st.core)) run (λ h e. subst (IsKept st.log st.core.vault old) (some_same e) (keeps_now bases before old (moment_of st) run.run s.0 s.3))))
+store_step_runs bases before old leave st new (Copies r n) run s l = subst (StoreRun bases before leave) (sym s.5) (copies_keep bases before old leave st r n s.0 _ run s.1 s.4 (unwritten bases before old leave st run s.2.runs l))
+store_step_runs bases before old leave st new (Skips r n) run s l =
+    fewer_runs bases before old leave new (fewer old leave l) (subst (StoreRun bases before old) (sym s.5)
+    (record { run = run.run; images = run.images; anchor = run.anchor; kept = run.kept; copied = skipped }))
   where
-    skipped : IsKnown bases st.moment.log st.moment.core.regions (copies_with st.copies (target st) r (Some (copy_at n))) st.told
+    skipped : IsKnown bases st.log st.core.regions (copies_with st.copies (target st) r (Some (copy_at n))) st.told
     skipped side q k h e at = by_test (same_side side (target st) && (q == r)) refl e
       where
         by_test :
             (b : Bool) → (same_side side (target st) && (q == r)) ≡ b → cond b (Some (copy_at n)) (st.copies side q) ≡ Some k
-            → IsCopied (bases (last_epoch st.moment.log).first) (last_epoch st.moment.log) q h k (st.told side q)
+            → IsCopied (bases (last_epoch st.log).first) (last_epoch st.log) q h k (st.told side q)
         by_test false f d = run.copied side q k h d at
         by_test true f d =
             let there : side ≡ target st = side_is side (target st) (and_left (same_side side (target st)) (q == r) f) in
             let here : q ≡ r = equal q r (and_right (same_side side (target st)) (q == r) f) in
-            let same : h ≡ s.0 = some_same (sym at ∙ (ap (slice_get st.moment.core.regions) here ∙ s.1)) in
+            let same : h ≡ s.0 = some_same (sym at ∙ (ap (slice_get st.core.regions) here ∙ s.1)) in
             let clear : is_dirty h side ≡ false = ap (λ (z : RegionState). is_dirty z side) same ∙ (ap (is_dirty s.0) there ∙ s.3) in
-            subst (λ z. IsCopied (bases (last_epoch st.moment.log).first) (last_epoch st.moment.log) q h z (st.told side q)) (some_same d)
-            (up_to_date bases st.moment.log st.moment.core q n h (st.told side q) (runs_at bases before st.moment run.run) at (subst (λ p. IsUntouched st.moment.log p n) (sym here) s.4) (λ p. run.images.files side q h at p clear))
-store_step_keeps bases before st new (WritesHead h) run s = subst (StoreRun bases before) (sym s.2) (still bases before st new.moment.leave st.told _ _ st.copies run (fewer bases before st (MayLeave new.moment.leave) run s.0.runs s.1) run.images.files run.copied)
-store_step_keeps bases before st new Syncs run s = subst (StoreRun bases before) (sym s.2) (still bases before st new.moment.leave st.told st.heads _ st.copies run s.1 run.images.files run.copied)
-store_step_keeps bases before st new Turns run s = subst (StoreRun bases before) (sym s.6) (turns bases before st new.moment.leave s.0 s.1 s.2 run s.3.runs s.4 s.5)
-store_step_keeps bases before st new (CopyFails r ws n) run s =
-    subst (StoreRun bases before) (sym s.5)
-    (failed bases before st new.moment.leave _ st.heads _ _ n run s.3 (fewer bases before st (MayLeave new.moment.leave) run s.3.may.runs s.4) (dirty_told st.told st.moment.core (target st) r s.0 ws s.1 s.2 run.images.files)
-    (known_with bases st.moment.log st.moment.core.regions st.moment.core.regions st.copies st.told (target st) r None ws run.copied (as_before st.moment.core.regions) (λ k h e. absurd (cc))))
-store_step_keeps bases before st new (HeadFails h n) run s = subst (StoreRun bases before) (sym s.2) (failed bases before st new.moment.leave st.told _ _ st.copies n run s.0 (fewer bases before st (MayLeave new.moment.leave) run s.0.may.runs s.1) run.images.files run.copied)
-store_step_keeps bases before st new (SyncFails n) run s = subst (StoreRun bases before) (sym s.2) (failed bases before st new.moment.leave st.told st.heads st.synced st.copies n run s.0 s.1 run.images.files run.copied)
-store_step_keeps bases before st new (TurnFails n) run s = subst (StoreRun bases before) (sym s.6) (turn_fails bases before st new.moment.leave s.0 s.1 s.2 n run s.3 s.4 s.5)
-store_step_keeps bases before st new Finishes run s = subst (StoreRun bases before) (sym s.1) (flag_set bases before (record st { begun = None }) false (keeps_other bases before st None run (λ h e. absurd (cc))) s.0)
+            subst (λ z. IsCopied (bases (last_epoch st.log).first) (last_epoch st.log) q h z (st.told side q)) (some_same d)
+            (up_to_date bases st.log st.core q n h (st.told side q) (runs_at bases before old (moment_of st) run.run) at (subst (λ p. IsUntouched st.log p n) (sym here) s.4) (λ p. run.images.files side q h at p clear))
+store_step_runs bases before old leave st new (WritesHead h) run s l = subst (StoreRun bases before leave) (sym s.1) (still bases before old leave st st.told _ _ st.copies run (unwritten bases before old leave st run s.0.runs l) run.images.files run.copied)
+store_step_runs bases before old leave st new Syncs run s l = subst (StoreRun bases before leave) (sym s.1) (still bases before old leave st st.told st.heads _ st.copies run (fewer old leave l) run.images.files run.copied)
+store_step_runs bases before old leave st new Turns run s l = subst (StoreRun bases before leave) (sym s.5) (turns bases before old leave st s.0 s.1 s.2 run s.3.runs s.4 l)
+store_step_runs bases before old leave st new (CopyFails r ws n) run s l =
+    subst (StoreRun bases before leave) (sym s.4)
+    (failed bases before old leave st _ st.heads _ _ n run s.3 (unwritten bases before old leave st run s.3.may.runs l) (dirty_told st.told st.core (target st) r s.0 ws s.1 s.2 run.images.files)
+    (known_with bases st.log st.core.regions st.core.regions st.copies st.told (target st) r None ws run.copied (as_before st.core.regions) (λ k h e. absurd (cc))))
+store_step_runs bases before old leave st new (HeadFails h n) run s l = subst (StoreRun bases before leave) (sym s.1) (failed bases before old leave st st.told _ _ st.copies n run s.0 (unwritten bases before old leave st run s.0.may.runs l) run.images.files run.copied)
+store_step_runs bases before old leave st new (SyncFails n) run s l = subst (StoreRun bases before leave) (sym s.1) (failed bases before old leave st st.told st.heads st.synced st.copies n run s.0 (fewer old leave l) run.images.files run.copied)
+store_step_runs bases before old leave st new (TurnFails n) run s l = subst (StoreRun bases before leave) (sym s.5) (turn_fails bases before old leave st s.0 s.1 s.2 n run s.3 s.4 l)
+store_step_runs bases before old leave st new Finishes run s l =
+    fewer_runs bases before old leave new (fewer old leave l) (subst (StoreRun bases before old) (sym s.1) (flag_set bases before old (record st { begun = None }) false (keeps_other bases before old st None run (λ h e. absurd (cc))) s.0))
+
+pub store_step_keeps : StoreStepKeeps
+store_step_keeps bases before st new x D F run s came = store_step_runs bases before (only D) (only F) st new x run s (one_came st x D F came)
 
 pub store_course_keeps : StoreCourseKeeps
-store_course_keeps bases before st new [] run course = subst (StoreRun bases before) course run
-store_course_keeps bases before st new (x ∷ xs) run course = store_course_keeps bases before course.0 new xs (store_step_keeps bases before st course.0 x run course.1) course.2
+store_course_keeps bases before st new [] D F run t = subst (λ G. StoreRun bases before (only G) new) t.1 (subst (StoreRun bases before (only D)) t.0 run)
+store_course_keeps bases before st new (x ∷ xs) D F run t = store_course_keeps bases before t.0 new xs t.1 F (store_step_keeps bases before st t.0 x D t.1 run t.2 t.3) t.4
+
+-- ---- where nothing is said of crashes
+pub bare_store_course_keeps : BareStoreCourseKeeps
+bare_store_course_keeps bases before st new [] run course = subst (StoreRun bases before no_image) course run
+bare_store_course_keeps bases before st new (x ∷ xs) run course = bare_store_course_keeps bases before course.0 new xs (store_step_runs bases before no_image no_image st course.0 x run course.1 (λ F h. absurd h)) course.2
+
+along_none : (bases : Bases) (before : List Record) (st new mid : Point) → new ≡ mid → RunsAt bases before no_image (moment_of mid) → RunsAt bases before no_image (moment_of new)
+along_none bases before st new mid e run = subst (λ (z : Point). RunsAt bases before no_image (moment_of z)) (sym e) run
+
+flag_none : (bases : Bases) (before : List Record) (st : Point) (b : Bool) → RunsAt bases before no_image (moment_of st) → st.core.system.checking ≡ not b → RunsAt bases before no_image (record { log = st.log; core = with_flag st.core b; audits = st.audits })
+flag_none bases before st b run was = step_keeps_none bases before (moment_of st) (record { log = st.log; core = with_flag st.core b; audits = st.audits }) (Checkpoints b) run ((was, (refl, refl)), refl)
+
+pub store_step_none : (bases : Bases) (before : List Record) (st new : Point) (x : StoreStep) → RunsAt bases before no_image (moment_of st) → IsPointStep st x new → RunsAt bases before no_image (moment_of new)
+store_step_none bases before st new (Does x) run s = step_keeps_none bases before (moment_of st) (moment_of new) x run s.1
+store_step_none bases before st new Starts run s = along_none bases before st new _ s.1 (flag_none bases before st true run s.0)
+store_step_none bases before st new Keeps run s = along_none bases before st new _ s.4 run
+store_step_none bases before st new (Copies r n) run s = along_none bases before st new _ s.5 (step_keeps_none bases before (moment_of st) (record { log = st.log; core = with_region st.core r (cleaned (target st) s.0); audits = st.audits }) (OnRegion r (Clean (target st))) run ((s.0, s.1, (tt, tt), (refl, refl)), refl))
+store_step_none bases before st new (Skips r n) run s = along_none bases before st new _ s.5 run
+store_step_none bases before st new (WritesHead h) run s = along_none bases before st new _ s.1 run
+store_step_none bases before st new Syncs run s = along_none bases before st new _ s.1 run
+store_step_none bases before st new Turns run s = along_none bases before st new _ s.5 (run_turned bases before no_image no_image (moment_of st) (λ F l. absurd l) run)
+store_step_none bases before st new (CopyFails r ws n) run s = along_none bases before st new _ s.4 (run_faults bases before no_image no_image (moment_of st) n s.3.rose (λ F l. absurd l) run)
+store_step_none bases before st new (HeadFails h n) run s = along_none bases before st new _ s.1 (run_faults bases before no_image no_image (moment_of st) n s.0.rose (λ F l. absurd l) run)
+store_step_none bases before st new (SyncFails n) run s = along_none bases before st new _ s.1 (run_faults bases before no_image no_image (moment_of st) n s.0.rose (λ F l. absurd l) run)
+store_step_none bases before st new (TurnFails n) run s = along_none bases before st new _ s.5 (run_faults bases before no_image no_image (moment_of st) n s.3.rose (λ F l. absurd l) run)
+store_step_none bases before st new Finishes run s = along_none bases before st new _ s.1 (flag_none bases before st false run s.0)
 
 -- ---- once the anchor moved
 pub turn_ends : TurnEnds
 turn_ends bases before st new run s = record {
   head = s.0;
-  begun = may.begun;
-  number = (run.kept s.0 may.begun).number;
-  current = current;
-  gates = λ F l. (store_step_keeps bases before st new Turns run s).anchor (ap (λ (z : Stored). z.moment.core.vault.stopped) s.6 ∙ s.3.runs) F l;
-  first = λ F l. let w = s.5.each F l in
-      let side : side_of (w.0.gates + 1) ≡ target st = ap (λ n. side_of (n + 1)) (run.anchor s.3.runs w.0 w.1) in
-      ap (λ (f : Files). f.first) w.2.3 ∙ ap (λ (z : Head). z.first) (w.2.2.head_is (ap st.synced side ∙ may.synced) ∙ (ap st.heads side ∙ may.head));
+  begun = s.4.begun;
+  number = (run.kept s.0 s.4.begun).number;
+  current = ap (λ (z : Point). z.core.vault.current) s.5;
 }
+
+pub turn_leaves : TurnLeaves
+turn_leaves bases before st new D F h run s came begun = (
+  (store_step_keeps bases before st new Turns D F run s came).anchor (ap (λ (z : Point). z.core.vault.stopped) s.5 ∙ s.3.runs) F refl,
+  ap (λ (f : Files). f.first) came.3 ∙ ap (λ (z : Head). z.first) (came.2.head_is (ap st.synced side ∙ may.synced) ∙ (ap st.heads side ∙ (may.head ∙ some_same (sym may.begun ∙ begun)))),
+)
   where
     may : MayTurn st s.0 s.1 s.2
     may = s.4
 
-    current : new.moment.core.vault.current ≡ st.moment.core.vault.current + 1
-    current = ap (λ (z : Stored). z.moment.core.vault.current) s.6
+    side : side_of (D.gates + 1) ≡ target st
+    side = ap (λ n. side_of (n + 1)) (run.anchor s.3.runs D refl)

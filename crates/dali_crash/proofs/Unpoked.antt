@@ -8,36 +8,29 @@ use Rattle.dali_record.specs.declared.records.Record.{Record}
 use Rattle.dali_record.specs.declared.records.Record.TheVariants.{Format, Begin, Forward, Done, Commit, Ended, Solo, AuditBegin, AuditClean, AuditFail, Restarted, Back}
 use Rattle.dali_record.specs.Epochs.{Epoch, Cut, last_epoch, failing_step}
 use Rattle.dali_record.specs.Damage.{deleted_list, has}
-use Rattle.dali_record.specs.Legal.{sizes_of}
 use Rattle.dali_record.specs.Files.{Files}
 use Rattle.dali_region.specs.declared.Side.{Side}
 use Rattle.dali_region.specs.declared.Side.TheVariants.{A, B}
 use Rattle.dali_region.specs.State.{RegionState, loaded, touched, taken_back, checked, dead}
 use Rattle.dali_region.specs.Answers.{cleaned}
-use Rattle.dali_history.specs.Recovered.{recovered}
 use Rattle.dali_headline.proofs.Undamaged.{undamaged_deleted}
 use Rattle.dali_counts.proofs.Lists.{set_cases, found, same_number, and_left}
 use Rattle.dali_system.specs.State.{CoreState, stable}
-use Rattle.dali_system.specs.Run.{Bases, log_in, RunsOn, IsPrefix}
+use Rattle.dali_system.specs.Run.{Bases, log_in, RunsOn, IsPrefix, no_image}
 use Rattle.dali_system.specs.Crashes.{NoneEscapes}
 use Rattle.dali_system.specs.Regions.{RegionStep, Latch, NoteReads, Update, TakeBack, Poke, Check, Die, Clean, region_after}
-use Rattle.dali_system.specs.Loads.{new_core}
 use Rattle.dali_system.specs.Audits.{MayEndAudit}
-use Rattle.dali_system.specs.Passes.{no_audits}
-use Rattle.dali_system.specs.Courses.{Step, Begins, Operates, TakesBack, Frees, Answers, Commits, Ends, AuditBegins, AuditEnds, Locks, Refuses, OnRegion, Passes, Dies, Claims, GivesBack, Recovers, Stops, Checkpoints, Takes, Flushes, Faults, Adds, Moment, MayLeave, IsStepAt, IsCourse, RunsAt}
+use Rattle.dali_system.specs.Courses.{Step, Begins, Operates, TakesBack, Frees, Answers, Commits, Ends, AuditBegins, AuditEnds, Locks, Refuses, OnRegion, Passes, Dies, Claims, GivesBack, Recovers, Stops, Checkpoints, Takes, Flushes, Faults, Adds, Moment, IsStepAt, IsCourse, RunsAt}
 use Rattle.dali_system.proofs.Deaths.{region_with, dead_at}
 use Rattle.dali_system.proofs.AuditEnds.{may_end_audit}
 use Rattle.dali_system.proofs.OneMore.{is_inside, last_epoch-push}
-use Rattle.dali_system.proofs.Courses.{step_keeps, course_keeps}
 use Rattle.dali_crash.specs.CrashLogs.{cut_to, IsUnpoked}
-use Rattle.dali_crash.specs.Checkpoints.{Stored, StoreStep, Does, Starts, Keeps, Copies, Skips, WritesHead, Syncs, Turns, CopyFails, HeadFails, SyncFails, TurnFails, Finishes, target, IsStoreStep, IsStoreCourse}
-use Rattle.dali_crash.specs.StoreRuns.{StoreRun, stored_start}
-use Rattle.dali_crash.specs.Unpoked.{is_poke, pokes, store_pokes, DeletesNobody, UnpokedRunIsRight, UnpokedStoreRunIsRight}
+use Rattle.dali_crash.specs.Checkpoints.{Point, StoreStep, Does, Starts, Keeps, Copies, Skips, WritesHead, Syncs, Turns, CopyFails, HeadFails, SyncFails, TurnFails, Finishes, target, IsPointStep, IsPointCourse, moment_of}
+use Rattle.dali_crash.specs.Unpoked.{is_poke, pokes, store_pokes, DeletesNobody}
 use Rattle.dali_crash.proofs.CrashLogs.{cut_parts}
 use Rattle.dali_crash.proofs.Honest.{unpoked_escapes_none}
-use Rattle.dali_crash.proofs.Courses.{starts_run, every_run_is_right}
-use Rattle.dali_crash.proofs.StoreRuns.{store_step_keeps, store_course_keeps}
-use Rattle.dali_crash.proofs.StoreStarts.{fresh_starts, every_store_run_is_right}
+use Rattle.dali_system.proofs.Courses.{step_keeps_none}
+use Rattle.dali_crash.proofs.StoreRuns.{store_step_none}
 
 -- ---- no region is poked
 abbrev pub NonePoked : List RegionState → Type 0
@@ -145,15 +138,15 @@ clean_adds m n e x inside isnt adds h = subst (λ (k : Epoch). NoneFails k.recor
 clean_on : (m n : Moment) → n.log ≡ m.log → IsClean m → IsClean n
 clean_on m n same h = subst (λ L. NoneFails (last_epoch L).records) (sym same) h
 
-runs_at : (bases : Bases) (before : List Record) (m : Moment) → RunsAt bases before m → RunsOn bases m.log m.core
-runs_at bases before m at = subst (λ M. RunsOn bases M m.core) (sym at.log) at.run.runs
+runs_at : (bases : Bases) (before : List Record) (leave : Files → Type 0) (m : Moment) → RunsAt bases before leave m → RunsOn bases m.log m.core
+runs_at bases before leave m at = subst (λ M. RunsOn bases M m.core) (sym at.log) at.run.runs
 
 -- an audit names only a region to which a stray write came
-names_none : (bases : Bases) (before : List Record) (m : Moment) (b r : ℕ) (rs : List ℕ) → RunsAt bases before m → NonePoked m.core.regions → MayEndAudit m.log m.core b (r ∷ rs) → ⊥
-names_none bases before m b r rs at none may = not_both (none r region.0 region.1) (may.stray r region.0 region.1 named)
+names_none : (bases : Bases) (before : List Record) (leave : Files → Type 0) (m : Moment) (b r : ℕ) (rs : List ℕ) → RunsAt bases before leave m → NonePoked m.core.regions → MayEndAudit m.log m.core b (r ∷ rs) → ⊥
+names_none bases before leave m b r rs at none may = not_both (none r region.0 region.1) (may.stray r region.0 region.1 named)
   where
     within : r < length m.core.regions
-    within = omega (arith, ltb-true r (regions m.core.system.sizes) (and_left (nat_lt r (regions m.core.system.sizes)) (list_all (λ q. nat_lt q (regions m.core.system.sizes)) rs) may.may.numbers), (runs_at bases before m at).whole)
+    within = omega (arith, ltb-true r (regions m.core.system.sizes) (and_left (nat_lt r (regions m.core.system.sizes)) (list_all (λ q. nat_lt q (regions m.core.system.sizes)) rs) may.may.numbers), (runs_at bases before leave m at).whole)
 
     region : (g : RegionState) × (slice_get m.core.regions r ≡ Some g)
     region = found m.core.regions r within
@@ -164,39 +157,39 @@ names_none bases before m b r rs at none may = not_both (none r region.0 region.
     not_both : {p : Bool} → p ≡ false → p ≡ true → ⊥
     not_both e f = cc
 
-step_clean : (bases : Bases) (before : List Record) (m n : Moment) (x : Step) → RunsAt bases before m → NonePoked m.core.regions → IsStepAt m x n → IsClean m → IsClean n
-step_clean bases before m n Begins at none s = clean_adds m n _ (Begin m.core.system.next) refl refl s.0.1
-step_clean bases before m n (Operates t b) at none s = clean_adds m n _ (Forward t b) refl refl s.0.3
-step_clean bases before m n (TakesBack t b) at none s = clean_adds m n _ (Back t b) refl refl s.0.2
-step_clean bases before m n (Frees p b) at none s = clean_adds m n _ (Solo m.core.system.next p b) refl refl s.0.2
-step_clean bases before m n (Answers t k a) at none s = clean_adds m n _ (Done t k a) refl refl s.0.3
-step_clean bases before m n (Commits t) at none s = clean_adds m n _ (Commit t) refl refl s.0.2
-step_clean bases before m n (Ends t) at none s = clean_adds m n _ (Ended t) refl refl s.0.2
-step_clean bases before m n AuditBegins at none s = clean_adds m n _ AuditBegin refl refl s.0.2
-step_clean bases before m n (AuditEnds b []) at none s = clean_adds m n _ (AuditClean b) refl refl s.0.1
-step_clean bases before m n (AuditEnds b (r ∷ rs)) at none s = absurd (names_none bases before m b r rs at none (may_end_audit m.log m.core m.audits b (r ∷ rs) (runs_at bases before m at).whole at.audits s.0.0 s.2.0))
-step_clean bases before m n (Locks t k mode) at none s = clean_on m n s.0.2.0
-step_clean bases before m n (Refuses t k mode o) at none s = clean_on m n s.0.2.0
-step_clean bases before m n (OnRegion r x) at none s = clean_on m n s.0.3.0
-step_clean bases before m n (Passes b r) at none s = clean_on m n s.0.2.0
-step_clean bases before m n (Dies t o) at none s = clean_on m n s.0.1.0
-step_clean bases before m n (Claims t) at none s = clean_on m n s.0.2.0
-step_clean bases before m n (GivesBack t o) at none s = clean_on m n s.0.1.0
-step_clean bases before m n (Recovers r) at none s = clean_on m n s.0.3.0
-step_clean bases before m n Stops at none s = clean_on m n s.0.1.0
-step_clean bases before m n (Checkpoints b) at none s = clean_on m n s.0.1.0
-step_clean bases before m n Takes at none s = clean_on m n s.0.0
-step_clean bases before m n Flushes at none s = clean_on m n s.0.1.0
-step_clean bases before m n (Faults k) at none s = clean_on m n s.0.2.0
+step_clean : (bases : Bases) (before : List Record) (leave : Files → Type 0) (m n : Moment) (x : Step) → RunsAt bases before leave m → NonePoked m.core.regions → IsStepAt m x n → IsClean m → IsClean n
+step_clean bases before leave m n Begins at none s = clean_adds m n _ (Begin m.core.system.next) refl refl s.0.1
+step_clean bases before leave m n (Operates t b) at none s = clean_adds m n _ (Forward t b) refl refl s.0.3
+step_clean bases before leave m n (TakesBack t b) at none s = clean_adds m n _ (Back t b) refl refl s.0.2
+step_clean bases before leave m n (Frees p b) at none s = clean_adds m n _ (Solo m.core.system.next p b) refl refl s.0.2
+step_clean bases before leave m n (Answers t k a) at none s = clean_adds m n _ (Done t k a) refl refl s.0.3
+step_clean bases before leave m n (Commits t) at none s = clean_adds m n _ (Commit t) refl refl s.0.2
+step_clean bases before leave m n (Ends t) at none s = clean_adds m n _ (Ended t) refl refl s.0.2
+step_clean bases before leave m n AuditBegins at none s = clean_adds m n _ AuditBegin refl refl s.0.2
+step_clean bases before leave m n (AuditEnds b []) at none s = clean_adds m n _ (AuditClean b) refl refl s.0.1
+step_clean bases before leave m n (AuditEnds b (r ∷ rs)) at none s = absurd (names_none bases before leave m b r rs at none (may_end_audit m.log m.core m.audits b (r ∷ rs) (runs_at bases before leave m at).whole at.audits s.0.0 s.1.0))
+step_clean bases before leave m n (Locks t k mode) at none s = clean_on m n s.0.2.0
+step_clean bases before leave m n (Refuses t k mode o) at none s = clean_on m n s.0.2.0
+step_clean bases before leave m n (OnRegion r x) at none s = clean_on m n s.0.3.0
+step_clean bases before leave m n (Passes b r) at none s = clean_on m n s.0.2.0
+step_clean bases before leave m n (Dies t o) at none s = clean_on m n s.0.1.0
+step_clean bases before leave m n (Claims t) at none s = clean_on m n s.0.2.0
+step_clean bases before leave m n (GivesBack t o) at none s = clean_on m n s.0.1.0
+step_clean bases before leave m n (Recovers r) at none s = clean_on m n s.0.3.0
+step_clean bases before leave m n Stops at none s = clean_on m n s.0.1.0
+step_clean bases before leave m n (Checkpoints b) at none s = clean_on m n s.0.1.0
+step_clean bases before leave m n Takes at none s = clean_on m n s.0.0
+step_clean bases before leave m n Flushes at none s = clean_on m n s.0.1.0
+step_clean bases before leave m n (Faults k) at none s = clean_on m n s.0.2.0
 
-pub course_clean : (bases : Bases) (before : List Record) (m n : Moment) (xs : List Step) → RunsAt bases before m → list_any pokes xs ≡ false → IsCourse m xs n → NonePoked m.core.regions → IsClean m → IsClean n
+pub course_clean : (bases : Bases) (before : List Record) (m n : Moment) (xs : List Step) → RunsAt bases before no_image m → list_any pokes xs ≡ false → IsCourse m xs n → NonePoked m.core.regions → IsClean m → IsClean n
 course_clean bases before m n [] at quiet s none clean = subst IsClean s clean
-course_clean bases before m n (x ∷ xs) at quiet s none clean = let p = or_parts (pokes x) (list_any pokes xs) quiet in course_clean bases before s.0 n xs (step_keeps bases before m s.0 x at s.1) p.1 s.2 (step_unpoked m s.0 x p.0 s.1 none) (step_clean bases before m s.0 x at none s.1 clean)
+course_clean bases before m n (x ∷ xs) at quiet s none clean = let p = or_parts (pokes x) (list_any pokes xs) quiet in course_clean bases before s.0 n xs (step_keeps_none bases before m s.0 x at s.1) p.1 s.2 (step_unpoked m s.0 x p.0 s.1 none) (step_clean bases before no_image m s.0 x at none s.1 clean)
 
 -- ---- what a crash leaves
 -- its last epoch is the run's, cut off
-left_epoch : (bases : Bases) (before : List Record) (m : Moment) (F : Files) → RunsAt bases before m → MayLeave m.leave F → (k : ℕ) × (last_epoch (log_in F) ≡ cut_to k (last_epoch m.log))
-left_epoch bases before m F at l = (is.count - (last_epoch m.log).first, ap last_epoch is.log ∙ ap (λ (q : Cut). q.now) (cut_parts m.log is.count (omega (arith, is.flushed, began, at.run.first)) is.within))
+left_epoch : (bases : Bases) (before : List Record) (leave : Files → Type 0) (m : Moment) (F : Files) → RunsAt bases before leave m → leave F → (k : ℕ) × (last_epoch (log_in F) ≡ cut_to k (last_epoch m.log))
+left_epoch bases before leave m F at l = (is.count - (last_epoch m.log).first, ap last_epoch is.log ∙ ap (λ (q : Cut). q.now) (cut_parts m.log is.count (omega (arith, is.flushed, began, at.run.first)) is.within))
   where
     is : IsPrefix m.log (stable m.core) F
     is = subst (λ M. IsPrefix M (stable m.core) F) (sym at.log) (at.run.vault.prefix F l)
@@ -204,8 +197,8 @@ left_epoch bases before m F at l = (is.count - (last_epoch m.log).first, ap last
     began : (last_epoch m.log).first ≤ length before
     began = subst (λ M. (last_epoch M).first ≤ length before) (sym at.log) at.run.began
 
-pub none_escapes : (bases : Bases) (before : List Record) (m : Moment) (F : Files) → RunsAt bases before m → MayLeave m.leave F → NonePoked m.core.regions → NoneEscapes (last_epoch (log_in F)) m.core
-none_escapes bases before m F at l none = let w = left_epoch bases before m F at l in subst (λ (e : Epoch). NoneEscapes e m.core) (sym w.1) (unpoked_escapes_none bases m.log m.core w.0 runs unpoked)
+pub none_escapes : (bases : Bases) (before : List Record) (leave : Files → Type 0) (m : Moment) (F : Files) → RunsAt bases before leave m → leave F → NonePoked m.core.regions → NoneEscapes (last_epoch (log_in F)) m.core
+none_escapes bases before leave m F at l none = let w = left_epoch bases before leave m F at l in subst (λ (e : Epoch). NoneEscapes e m.core) (sym w.1) (unpoked_escapes_none bases m.log m.core w.0 runs unpoked)
   where
     runs : RunsOn bases m.log m.core
     runs = subst (λ M. RunsOn bases M m.core) (sym at.log) at.run.runs
@@ -213,84 +206,48 @@ none_escapes bases before m F at l none = let w = left_epoch bases before m F at
     unpoked : IsUnpoked m.core
     unpoked r g e = (none r g e, (runs.regions r g e).protected.none_missed (none r g e))
 
-pub deletes_nobody : (bases : Bases) (before : List Record) (m : Moment) (F : Files) → RunsAt bases before m → MayLeave m.leave F → IsClean m → DeletesNobody F
-deletes_nobody bases before m F at l clean = let w = left_epoch bases before m F at l in subst (λ (e : Epoch). deleted_list e ≡ []) (sym w.1) (undamaged_deleted (cut_to w.0 (last_epoch m.log)) (none_failing (take w.0 (last_epoch m.log).records) (none_fails_take w.0 (last_epoch m.log).records clean)))
-
-pub unpoked_run_is_right : UnpokedRunIsRight
-unpoked_run_is_right L g limit v leave history rules none fits vault flushed xs n quiet course F l = (
-  every_run_is_right L g limit v leave history rules none fits vault flushed xs n course F l (none_escapes bases L n F there l (course_unpoked start n xs quiet course (none_loaded (recovered (sizes_of L) L)))),
-  deletes_nobody bases L n F there l (course_clean bases L start n xs begins quiet course (none_loaded (recovered (sizes_of L) L)) (subst NoneFails (sym none) tt)),
-)
-  where
-    bases : Bases
-    bases = λ k. recovered (sizes_of L) L
-
-    start : Moment
-    start = record { log = L; core = new_core (sizes_of L) (recovered (sizes_of L) L) g limit v; audits = no_audits; leave = leave }
-
-    begins : RunsAt bases L start
-    begins = starts_run L g limit v leave history rules none fits vault flushed
-
-    there : RunsAt bases L n
-    there = course_keeps bases L start n xs begins course
+pub deletes_nobody : (bases : Bases) (before : List Record) (leave : Files → Type 0) (m : Moment) (F : Files) → RunsAt bases before leave m → leave F → IsClean m → DeletesNobody F
+deletes_nobody bases before leave m F at l clean = let w = left_epoch bases before leave m F at l in subst (λ (e : Epoch). deleted_list e ≡ []) (sym w.1) (undamaged_deleted (cut_to w.0 (last_epoch m.log)) (none_failing (take w.0 (last_epoch m.log).records) (none_fails_take w.0 (last_epoch m.log).records clean)))
 
 -- ---- with its store
 cleaned_poked : (t : Side) (g : RegionState) → (cleaned t g).poked ≡ g.poked
 cleaned_poked A g = refl
 cleaned_poked B g = refl
 
-store_unpoked : (st new : Stored) (x : StoreStep) → store_pokes x ≡ false → IsStoreStep st x new → NonePoked st.moment.core.regions → NonePoked new.moment.core.regions
-store_unpoked st new (Does x) quiet s = step_unpoked st.moment new.moment x quiet s.1
-store_unpoked st new Starts quiet s = as_was st.moment.core.regions new.moment.core.regions (ap (λ (z : Stored). z.moment.core.regions) s.1)
-store_unpoked st new Keeps quiet s = as_was st.moment.core.regions new.moment.core.regions (ap (λ (z : Stored). z.moment.core.regions) s.4)
-store_unpoked st new (Copies r n) quiet s = one_set st.moment.core.regions new.moment.core.regions r s.0 (cleaned (target st) s.0) (ap (λ (z : Stored). z.moment.core.regions) s.6) s.1 (cleaned_poked (target st) s.0)
-store_unpoked st new (Skips r n) quiet s = as_was st.moment.core.regions new.moment.core.regions (ap (λ (z : Stored). z.moment.core.regions) s.5)
-store_unpoked st new (WritesHead h) quiet s = as_was st.moment.core.regions new.moment.core.regions (ap (λ (z : Stored). z.moment.core.regions) s.2)
-store_unpoked st new Syncs quiet s = as_was st.moment.core.regions new.moment.core.regions (ap (λ (z : Stored). z.moment.core.regions) s.2)
-store_unpoked st new Turns quiet s = as_was st.moment.core.regions new.moment.core.regions (ap (λ (z : Stored). z.moment.core.regions) s.6)
-store_unpoked st new (CopyFails r ws n) quiet s = as_was st.moment.core.regions new.moment.core.regions (ap (λ (z : Stored). z.moment.core.regions) s.5)
-store_unpoked st new (HeadFails h n) quiet s = as_was st.moment.core.regions new.moment.core.regions (ap (λ (z : Stored). z.moment.core.regions) s.2)
-store_unpoked st new (SyncFails n) quiet s = as_was st.moment.core.regions new.moment.core.regions (ap (λ (z : Stored). z.moment.core.regions) s.2)
-store_unpoked st new (TurnFails n) quiet s = as_was st.moment.core.regions new.moment.core.regions (ap (λ (z : Stored). z.moment.core.regions) s.6)
-store_unpoked st new Finishes quiet s = as_was st.moment.core.regions new.moment.core.regions (ap (λ (z : Stored). z.moment.core.regions) s.1)
+store_unpoked : (st new : Point) (x : StoreStep) → store_pokes x ≡ false → IsPointStep st x new → NonePoked st.core.regions → NonePoked new.core.regions
+store_unpoked st new (Does x) quiet s = step_unpoked (moment_of st) (moment_of new) x quiet s.1
+store_unpoked st new Starts quiet s = as_was st.core.regions new.core.regions (ap (λ (z : Point). z.core.regions) s.1)
+store_unpoked st new Keeps quiet s = as_was st.core.regions new.core.regions (ap (λ (z : Point). z.core.regions) s.4)
+store_unpoked st new (Copies r n) quiet s = one_set st.core.regions new.core.regions r s.0 (cleaned (target st) s.0) (ap (λ (z : Point). z.core.regions) s.5) s.1 (cleaned_poked (target st) s.0)
+store_unpoked st new (Skips r n) quiet s = as_was st.core.regions new.core.regions (ap (λ (z : Point). z.core.regions) s.5)
+store_unpoked st new (WritesHead h) quiet s = as_was st.core.regions new.core.regions (ap (λ (z : Point). z.core.regions) s.1)
+store_unpoked st new Syncs quiet s = as_was st.core.regions new.core.regions (ap (λ (z : Point). z.core.regions) s.1)
+store_unpoked st new Turns quiet s = as_was st.core.regions new.core.regions (ap (λ (z : Point). z.core.regions) s.5)
+store_unpoked st new (CopyFails r ws n) quiet s = as_was st.core.regions new.core.regions (ap (λ (z : Point). z.core.regions) s.4)
+store_unpoked st new (HeadFails h n) quiet s = as_was st.core.regions new.core.regions (ap (λ (z : Point). z.core.regions) s.1)
+store_unpoked st new (SyncFails n) quiet s = as_was st.core.regions new.core.regions (ap (λ (z : Point). z.core.regions) s.1)
+store_unpoked st new (TurnFails n) quiet s = as_was st.core.regions new.core.regions (ap (λ (z : Point). z.core.regions) s.5)
+store_unpoked st new Finishes quiet s = as_was st.core.regions new.core.regions (ap (λ (z : Point). z.core.regions) s.1)
 
-pub store_course_unpoked : (st new : Stored) (xs : List StoreStep) → list_any store_pokes xs ≡ false → IsStoreCourse st xs new → NonePoked st.moment.core.regions → NonePoked new.moment.core.regions
-store_course_unpoked st new [] quiet s none = subst (λ (k : Stored). NonePoked k.moment.core.regions) s none
+pub store_course_unpoked : (st new : Point) (xs : List StoreStep) → list_any store_pokes xs ≡ false → IsPointCourse st xs new → NonePoked st.core.regions → NonePoked new.core.regions
+store_course_unpoked st new [] quiet s none = subst (λ (k : Point). NonePoked k.core.regions) s none
 store_course_unpoked st new (x ∷ xs) quiet s none = let p = or_parts (store_pokes x) (list_any store_pokes xs) quiet in store_course_unpoked s.0 new xs p.1 s.2 (store_unpoked st s.0 x p.0 s.1 none)
 
-store_clean : (bases : Bases) (before : List Record) (st new : Stored) (x : StoreStep) → StoreRun bases before st → NonePoked st.moment.core.regions → IsStoreStep st x new → IsClean st.moment → IsClean new.moment
-store_clean bases before st new (Does x) run none s = step_clean bases before st.moment new.moment x run.run none s.1
-store_clean bases before st new Starts run none s = clean_on st.moment new.moment (ap (λ (z : Stored). z.moment.log) s.1)
-store_clean bases before st new Keeps run none s = clean_on st.moment new.moment (ap (λ (z : Stored). z.moment.log) s.4)
-store_clean bases before st new (Copies r n) run none s = clean_on st.moment new.moment (ap (λ (z : Stored). z.moment.log) s.6)
-store_clean bases before st new (Skips r n) run none s = clean_on st.moment new.moment (ap (λ (z : Stored). z.moment.log) s.5)
-store_clean bases before st new (WritesHead h) run none s = clean_on st.moment new.moment (ap (λ (z : Stored). z.moment.log) s.2)
-store_clean bases before st new Syncs run none s = clean_on st.moment new.moment (ap (λ (z : Stored). z.moment.log) s.2)
-store_clean bases before st new Turns run none s = clean_on st.moment new.moment (ap (λ (z : Stored). z.moment.log) s.6)
-store_clean bases before st new (CopyFails r ws n) run none s = clean_on st.moment new.moment (ap (λ (z : Stored). z.moment.log) s.5)
-store_clean bases before st new (HeadFails h n) run none s = clean_on st.moment new.moment (ap (λ (z : Stored). z.moment.log) s.2)
-store_clean bases before st new (SyncFails n) run none s = clean_on st.moment new.moment (ap (λ (z : Stored). z.moment.log) s.2)
-store_clean bases before st new (TurnFails n) run none s = clean_on st.moment new.moment (ap (λ (z : Stored). z.moment.log) s.6)
-store_clean bases before st new Finishes run none s = clean_on st.moment new.moment (ap (λ (z : Stored). z.moment.log) s.1)
+store_clean : (bases : Bases) (before : List Record) (st new : Point) (x : StoreStep) → RunsAt bases before no_image (moment_of st) → NonePoked st.core.regions → IsPointStep st x new → IsClean (moment_of st) → IsClean (moment_of new)
+store_clean bases before st new (Does x) run none s = step_clean bases before no_image (moment_of st) (moment_of new) x run none s.1
+store_clean bases before st new Starts run none s = clean_on (moment_of st) (moment_of new) (ap (λ (z : Point). z.log) s.1)
+store_clean bases before st new Keeps run none s = clean_on (moment_of st) (moment_of new) (ap (λ (z : Point). z.log) s.4)
+store_clean bases before st new (Copies r n) run none s = clean_on (moment_of st) (moment_of new) (ap (λ (z : Point). z.log) s.5)
+store_clean bases before st new (Skips r n) run none s = clean_on (moment_of st) (moment_of new) (ap (λ (z : Point). z.log) s.5)
+store_clean bases before st new (WritesHead h) run none s = clean_on (moment_of st) (moment_of new) (ap (λ (z : Point). z.log) s.1)
+store_clean bases before st new Syncs run none s = clean_on (moment_of st) (moment_of new) (ap (λ (z : Point). z.log) s.1)
+store_clean bases before st new Turns run none s = clean_on (moment_of st) (moment_of new) (ap (λ (z : Point). z.log) s.5)
+store_clean bases before st new (CopyFails r ws n) run none s = clean_on (moment_of st) (moment_of new) (ap (λ (z : Point). z.log) s.4)
+store_clean bases before st new (HeadFails h n) run none s = clean_on (moment_of st) (moment_of new) (ap (λ (z : Point). z.log) s.1)
+store_clean bases before st new (SyncFails n) run none s = clean_on (moment_of st) (moment_of new) (ap (λ (z : Point). z.log) s.1)
+store_clean bases before st new (TurnFails n) run none s = clean_on (moment_of st) (moment_of new) (ap (λ (z : Point). z.log) s.5)
+store_clean bases before st new Finishes run none s = clean_on (moment_of st) (moment_of new) (ap (λ (z : Point). z.log) s.1)
 
-pub store_course_clean : (bases : Bases) (before : List Record) (st new : Stored) (xs : List StoreStep) → StoreRun bases before st → list_any store_pokes xs ≡ false → IsStoreCourse st xs new → NonePoked st.moment.core.regions → IsClean st.moment → IsClean new.moment
-store_course_clean bases before st new [] run quiet s none clean = subst (λ (k : Stored). IsClean k.moment) s clean
-store_course_clean bases before st new (x ∷ xs) run quiet s none clean = let p = or_parts (store_pokes x) (list_any store_pokes xs) quiet in store_course_clean bases before s.0 new xs (store_step_keeps bases before st s.0 x run s.1) p.1 s.2 (store_unpoked st s.0 x p.0 s.1 none) (store_clean bases before st s.0 x run none s.1 clean)
-
-pub unpoked_store_run_is_right : UnpokedStoreRunIsRight
-unpoked_store_run_is_right L g limit v leave told heads synced history rules none fits fresh xs n quiet course F l = (
-  (every_store_run_is_right L g limit v leave told heads synced history rules none fits fresh xs n course F l).right (none_escapes bases L n.moment F there.run l (store_course_unpoked start n xs quiet course (none_loaded (recovered (sizes_of L) L)))),
-  deletes_nobody bases L n.moment F there.run l (store_course_clean bases L start n xs begins quiet course (none_loaded (recovered (sizes_of L) L)) (subst NoneFails (sym none) tt)),
-)
-  where
-    bases : Bases
-    bases = λ k. recovered (sizes_of L) L
-
-    start : Stored
-    start = stored_start L g limit v leave told heads synced
-
-    begins : StoreRun bases L start
-    begins = fresh_starts L g limit v leave told heads synced history rules none fits fresh
-
-    there : StoreRun bases L n
-    there = store_course_keeps bases L start n xs begins course
+pub store_course_clean : (bases : Bases) (before : List Record) (st new : Point) (xs : List StoreStep) → RunsAt bases before no_image (moment_of st) → list_any store_pokes xs ≡ false → IsPointCourse st xs new → NonePoked st.core.regions → IsClean (moment_of st) → IsClean (moment_of new)
+store_course_clean bases before st new [] run quiet s none clean = subst (λ (k : Point). IsClean (moment_of k)) s clean
+store_course_clean bases before st new (x ∷ xs) run quiet s none clean = let p = or_parts (store_pokes x) (list_any store_pokes xs) quiet in store_course_clean bases before s.0 new xs (store_step_none bases before st s.0 x run s.1) p.1 s.2 (store_unpoked st s.0 x p.0 s.1 none) (store_clean bases before st s.0 x run none s.1 clean)

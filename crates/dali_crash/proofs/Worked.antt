@@ -1,12 +1,11 @@
 -- The worked run: each premise of each step is met.
 use Rattle.std.proofs.Common.{◌≡◌, true, List, [], ◌∷◌, refl, ap, ℕ, ◌++◌, sym, arith, zero, suc, ◌<◌, Some, false, Option, None, ◌∙◌}
-use Rattle.std.specs.Prelude.{◌==◌, replicate, slice_get, is_some}
-use Rattle.dali_record.specs.declared.records.Record.{Record}
+use Rattle.std.specs.Prelude.{replicate, slice_get, is_some}
 use Rattle.dali_record.specs.declared.records.Record.TheVariants.{Format, Begin, Commit, Done, Forward}
-use Rattle.dali_counts.proofs.Lists.{equal, and_left, and_right, some_same}
-use Rattle.dali_system.specs.Worked.{small, first_log, first_vault, is_format, start}
-use Rattle.dali_system.proofs.Worked.{format_is, first_store, logs_by, alive_by}
-use Rattle.dali_crash.specs.Worked.{is_first_commit, two_batches, look, steps, WorkedRun}
+use Rattle.dali_counts.proofs.Lists.{some_same}
+use Rattle.dali_system.specs.Worked.{small, first_log, first_vault, start, first_files, formatted_files}
+use Rattle.dali_system.proofs.Worked.{logs_by, alive_by, first_store}
+use Rattle.dali_crash.specs.Worked.{look, steps, WorkedRun}
 use Rattle.dali_record.specs.declared.records.Call.TheVariants.{Get}
 use Rattle.dali_record.specs.declared.records.Answer.TheVariants.{Missing}
 use Rattle.dali_record.specs.Files.{Files}
@@ -17,7 +16,7 @@ use Rattle.dali_system.specs.Steps.{begun, commit_logged, op_logged, done_logged
 use Rattle.dali_system.specs.Keeps.{with_system, with_region, with_touched}
 use Rattle.dali_system.specs.Regions.{Latch, NoteReads}
 use Rattle.dali_system.specs.Flushes.{with_vault, longer, frame_of}
-use Rattle.dali_system.specs.Courses.{Begins, Operates, Answers, Commits, Locks, OnRegion, Takes, Flushes, Moment, IsStepAt, IsCourse}
+use Rattle.dali_system.specs.Courses.{Begins, Operates, Answers, Commits, Locks, OnRegion, Takes, Flushes, Moment, IsStepAt, CameBy, CoreTraced}
 use Rattle.dali_system.proofs.Loads.{no_lock}
 use Rattle.dali_record.specs.Blocks.{AreWords}
 use Rattle.dali_record.specs.Spelling.{IsBlock}
@@ -27,7 +26,7 @@ use Rattle.dali_record.proofs.Made.{made_is_block}
 use Rattle.dali_record.specs.Legal.{passes, rules_start}
 use Rattle.dali_geometry.specs.Places.{formatted_image}
 use Rattle.dali_record.specs.Epochs.{last_epoch}
-use Rattle.dali_crash.proofs.Courses.{format_is_history, every_run_is_right}
+use Rattle.dali_crash.proofs.Courses.{format_is_history}
 use Rattle.dali_crash.specs.Restarts.{RestartsRight}
 use Rattle.std.specs.FinMap.{get}
 use Rattle.dali_att.specs.Table.{fresh_row}
@@ -38,31 +37,23 @@ use Rattle.dali_system.specs.State.{TxnRow, state_of, lock_of}
 use Rattle.dali_locks.specs.declared.mode.Mode.{Mode}
 use Rattle.dali_locks.specs.Locks.{stronger_mode}
 use Rattle.dali_locks.proofs.Changes.{get-locks_with}
-
--- ---- what the tests tell
-commit_is : (b : List Record) → is_first_commit b ≡ true → b ≡ Begin 1 ∷ Commit 1 ∷ []
-commit_is (Begin t ∷ Commit u ∷ []) e = let m : t ≡ 1 = equal t 1 (and_left (t == 1) (u == 1) e) in let n : u ≡ 1 = equal u 1 (and_right (t == 1) (u == 1) e) in rw (m, n) refl
-commit_is b e = absurd (cc)
-
-two_are : (bs : List (List Record)) → two_batches bs ≡ true → bs ≡ first_log ∷ (Begin 1 ∷ Commit 1 ∷ []) ∷ []
-two_are (a ∷ b ∷ []) e = let x : a ≡ Format 1 1 ∷ [] = format_is a (and_left (is_format a) (is_first_commit b) e) in let y : b ≡ Begin 1 ∷ Commit 1 ∷ [] = commit_is b (and_right (is_format a) (is_first_commit b) e) in rw (x, y) refl
-two_are bs e = absurd (cc)
+use Rattle.dali_crash.proofs.Traces.{every_core_trace_is_right}
 
 -- ---- the moments
 abbrev first : Moment
 first = start (formatted_image small)
 
 abbrev begun_1 : Moment
-begun_1 = record { log = first_log ++ Begin 1 ∷ []; core = with_system first.core (begun first.core.system); audits = first.audits; leave = first.leave }
+begun_1 = record { log = first_log ++ Begin 1 ∷ []; core = with_system first.core (begun first.core.system); audits = first.audits }
 
 abbrev committed_1 : Moment
-committed_1 = record { log = begun_1.log ++ Commit 1 ∷ []; core = with_system begun_1.core (commit_logged begun_1.core.system 1); audits = first.audits; leave = first.leave }
+committed_1 = record { log = begun_1.log ++ Commit 1 ∷ []; core = with_system begun_1.core (commit_logged begun_1.core.system 1); audits = first.audits }
 
 abbrev taken_1 : Moment
-taken_1 = record { log = committed_1.log; core = with_system committed_1.core (taken committed_1.core.system); audits = committed_1.audits; leave = first.leave }
+taken_1 = record { log = committed_1.log; core = with_system committed_1.core (taken committed_1.core.system); audits = committed_1.audits }
 
 abbrev begun_2 : Moment
-begun_2 = record { log = taken_1.log ++ Begin 2 ∷ []; core = with_system taken_1.core (begun taken_1.core.system); audits = taken_1.audits; leave = first.leave }
+begun_2 = record { log = taken_1.log ++ Begin 2 ∷ []; core = with_system taken_1.core (begun taken_1.core.system); audits = taken_1.audits }
 
 -- the begin of transaction 2 isn't in the frame
 abbrev flushed_1 : Moment
@@ -70,11 +61,10 @@ flushed_1 = record {
   log = begun_2.log;
   core = with_vault begun_2.core (longer begun_2.core.vault (frame_of begun_2.log begun_2.core));
   audits = begun_2.audits;
-  leave = λ F. two_batches F.batches;
 }
 
 abbrev locked : Moment
-locked = record { log = begun_2.log; core = with_system flushed_1.core (granted flushed_1.core.system 2 5 Shared); audits = flushed_1.audits; leave = flushed_1.leave }
+locked = record { log = begun_2.log; core = with_system flushed_1.core (granted flushed_1.core.system 2 5 Shared); audits = flushed_1.audits }
 
 abbrev words : List ℕ
 words = replicate 64 0
@@ -83,38 +73,38 @@ abbrev held : RegionState
 held = latched 2 (loaded words)
 
 abbrev latch : Moment
-latch = record { log = begun_2.log; core = with_region locked.core 0 held; audits = flushed_1.audits; leave = flushed_1.leave }
+latch = record { log = begun_2.log; core = with_region locked.core 0 held; audits = flushed_1.audits }
 
 abbrev opened : RegionState
 opened = with_reads look.read held
 
 abbrev read : Moment
-read = record { log = begun_2.log; core = with_region latch.core 0 opened; audits = flushed_1.audits; leave = flushed_1.leave }
+read = record { log = begun_2.log; core = with_region latch.core 0 opened; audits = flushed_1.audits }
 
 abbrev operated : Moment
-operated = record { log = begun_2.log ++ Forward 2 look ∷ []; core = with_touched read.core (op_logged read.core.system 2 look) 0 opened; audits = flushed_1.audits; leave = flushed_1.leave }
+operated = record { log = begun_2.log ++ Forward 2 look ∷ []; core = with_touched read.core (op_logged read.core.system 2 look) 0 opened; audits = flushed_1.audits }
 
 abbrev answered : Moment
-answered = record { log = operated.log ++ Done 2 (Get 5) Missing ∷ []; core = with_system operated.core (done_logged operated.core.system 2 (Get 5) Missing); audits = flushed_1.audits; leave = flushed_1.leave }
+answered = record { log = operated.log ++ Done 2 (Get 5) Missing ∷ []; core = with_system operated.core (done_logged operated.core.system 2 (Get 5) Missing); audits = flushed_1.audits }
 
 -- ---- each step
 step_1 : IsStepAt first Begins begun_1
-step_1 = ((record { runs = refl; room = omega arith }, (refl, refl)), (λ F h. h), refl)
+step_1 = ((record { runs = refl; room = omega arith }, (refl, refl)), refl)
 
 step_2 : IsStepAt begun_1 (Commits 1) committed_1
-step_2 = ((refl, record { next = refl; by = logs_by _ Live (Commit 1) (begun_state first.core.system 1) refl }, (refl, refl)), (λ F h. h), refl)
+step_2 = ((refl, record { next = refl; by = logs_by _ Live (Commit 1) (begun_state first.core.system 1) refl }, (refl, refl)), refl)
 
 takes : IsStepAt committed_1 Takes taken_1
-takes = ((refl, refl), (λ F h. h), refl)
+takes = ((refl, refl), refl)
 
 step_3 : IsStepAt begun_2 Flushes flushed_1
-step_3 = ((refl, (refl, refl)), record { each = λ F h. (record F { batches = first_log ∷ [] }, refl, ap (λ bs. record F { batches = bs }) (two_are F.batches h)) }, refl)
+step_3 = ((refl, (refl, refl)), refl)
 
 step_4 : IsStepAt taken_1 Begins begun_2
-step_4 = ((record { runs = refl; room = omega arith }, (refl, refl)), (λ F h. h), refl)
+step_4 = ((record { runs = refl; room = omega arith }, (refl, refl)), refl)
 
 step_5 : IsStepAt flushed_1 (Locks 2 5 Shared) locked
-step_5 = ((ap (λ (row : Option TxnRow). is_some row) (added taken_1.core.system.table 2 fresh_row 2), (λ u n d e. absurd (no_lock u 5 n e)), (refl, refl)), (λ F h. h), refl)
+step_5 = ((ap (λ (row : Option TxnRow). is_some row) (added taken_1.core.system.table 2 fresh_row 2), (λ u n d e. absurd (no_lock u 5 n e)), (refl, refl)), refl)
 
 live_locked : state_of locked.core.system 2 ≡ Some Live
 live_locked = begun_state taken_1.core.system 2
@@ -123,11 +113,11 @@ live_operated : state_of operated.core.system 2 ≡ Some Live
 live_operated = op_state read.core.system 2 look 2 ∙ live_locked
 
 step_6 : IsStepAt locked (OnRegion 0 (Latch 2)) latch
-step_6 = ((loaded words, refl, (refl, alive_by _ Live live_locked refl), (refl, refl)), (λ F h. h), refl)
+step_6 = ((loaded words, refl, (refl, alive_by _ Live live_locked refl), (refl, refl)), refl)
 
 step_7 : IsStepAt latch (OnRegion 0 (NoteReads look.read)) read
 unfolding look entries
-step_7 = ((held, refl, (((refl, refl), omega arith), tt), (refl, refl)), (λ F h. h), refl)
+step_7 = ((held, refl, (((refl, refl), omega arith), tt), (refl, refl)), refl)
 
 are_words : AreWords words
 are_words = (refl, omega arith)
@@ -162,26 +152,32 @@ step_8 = (
     },
     (refl, refl),
   ),
-  (λ F h. h),
   refl,
 )
 
 step_9 : IsStepAt operated (Answers 2 (Get 5) Missing) answered
 unfolding look entries
-step_9 = ((record { runs = refl; room = omega arith }, (omega arith, omega arith, tt, refl), record { next = refl; by = logs_by _ Live (Done 2 (Get 5) Missing) live_operated refl }, (refl, refl)), (λ F h. h), refl)
-
-course : IsCourse first steps answered
-course = (begun_1, step_1, (committed_1, step_2, (taken_1, takes, (begun_2, step_4, (flushed_1, step_3, (locked, step_5, (latch, step_6, (read, step_7, (operated, step_8, (answered, step_9, refl))))))))))
+step_9 = ((record { runs = refl; room = omega arith }, (omega arith, omega arith, tt, refl), record { next = refl; by = logs_by _ Live (Done 2 (Get 5) Missing) live_operated refl }, (refl, refl)), refl)
 
 -- ---- what is left
 crash : Files
-crash = record { batches = first_log ∷ (Begin 1 ∷ Commit 1 ∷ []) ∷ []; gates = 0; number = 0; place = 15; first = 1; weight = 10; next = 1; image = formatted_image small; table = [] }
+crash = formatted_files (first_log ∷ (Begin 1 ∷ Commit 1 ∷ []) ∷ [])
+
+behind_flush : CoreTraced flushed_1 crash (Locks 2 5 Shared ∷ OnRegion 0 (Latch 2) ∷ OnRegion 0 (NoteReads look.read) ∷ Operates 2 look ∷ Answers 2 (Get 5) Missing ∷ []) answered crash
+behind_flush = (locked, crash, step_5, refl, (latch, crash, step_6, refl, (read, crash, step_7, refl, (operated, crash, step_8, refl, (answered, crash, step_9, refl, (refl, refl))))))
+
+came : CameBy begun_2.log begun_2.core Flushes first_files crash
+unfolding crash
+came = refl
+
+trace : CoreTraced first first_files steps answered crash
+trace = (begun_1, first_files, step_1, refl, (committed_1, first_files, step_2, refl, (taken_1, first_files, takes, refl, (begun_2, first_files, step_4, refl, (flushed_1, crash, step_3, came, behind_flush)))))
 
 right : RestartsRight first_log answered.core crash
 unfolding crash look entries
 right =
-    every_run_is_right first_log (passes rules_start (Format 1 1)) 1000000 first_vault first.leave (format_is_history small (refl, refl)) refl refl (omega arith) first_store refl
-    steps answered course crash refl
+    every_core_trace_is_right first_log (passes rules_start (Format 1 1)) 1000000 first_vault first_files (format_is_history small (refl, refl)) refl refl (omega arith) first_store refl
+    steps answered crash trace
     (record { seen = λ r g e. not_missed r g e; named = λ r g e h. absurd (none_lost r g e h) })
   where
     not_missed : (r : ℕ) (g : RegionState) → slice_get answered.core.regions r ≡ Some g → g.missed ≡ false
@@ -199,10 +195,9 @@ pub worked_run : WorkedRun
 unfolding crash look entries
 worked_run = record {
   finish = answered;
-  course = course;
   log = refl;
   acknowledged = (0, omega arith, refl);
   crash = crash;
-  left = refl;
+  trace = trace;
   right = right;
 }

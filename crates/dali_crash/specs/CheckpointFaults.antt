@@ -4,17 +4,16 @@
 --                              the steps; before the fault in a copy a region is skipped, and behind it the
 --                              checkpoint is given up
 --     starts_again             the steps: it is given up behind its first copy, and another one starts
---     FailsRight xs            the steps xs are a course, the vault is stopped behind them, and a crash
---                              leaves files from which a restart is right
---     StartsAgain              these are a course, the other one is under way behind them, and a crash leaves
---                              files from which a restart is right
---     WorkedFaults             so it is of each of the five; a crash of a fault in the anchor's move leaves
---                              the image that was current before, or the next one
+--     FailsRight xs n          the vault is stopped behind the steps xs, and a crash image with n open gates came along
+--                              them, from which a restart is right
+--     StartsAgain              the other one is under way behind these, and a crash image came along them, from which
+--                              a restart is right
+--     WorkedFaults             so it is of each of the five; along a fault in the anchor's move comes the image
+--                              that was current before, and the next one
 use Rattle.std.specs.Prelude.{◌≡◌, ℕ, true, false, List, [], ◌∷◌, ◌++◌, take}
 use Rattle.dali_record.specs.Files.{Files}
-use Rattle.dali_system.specs.Courses.{MayLeave}
-use Rattle.dali_system.specs.Worked.{first_log}
-use Rattle.dali_crash.specs.Checkpoints.{Stored, StoreStep, Starts, Keeps, Copies, Skips, CopyFails, HeadFails, SyncFails, TurnFails, Finishes, IsStoreCourse}
+use Rattle.dali_system.specs.Worked.{first_log, first_files}
+use Rattle.dali_crash.specs.Checkpoints.{StoreStep, Starts, Keeps, Copies, Skips, CopyFails, HeadFails, SyncFails, TurnFails, Finishes, Point, Traced}
 use Rattle.dali_crash.specs.StoreRuns.{CrashIsRightWith}
 use Rattle.dali_crash.specs.Checkpointed.{no_head, checkpoint_start, checkpoint_steps}
 
@@ -37,22 +36,20 @@ abbrev pub starts_again : List StoreStep
 starts_again = take 8 checkpoint_steps ++ Finishes ∷ Starts ∷ Keeps ∷ Skips 0 4 ∷ Copies 1 4 ∷ []
 
 pub record FailsRight (xs : List StoreStep) (gates : ℕ) : Type 0 where
-  pub finish : Stored
-  pub course : IsStoreCourse checkpoint_start xs finish
-  pub stopped : finish.moment.core.vault.stopped ≡ true
+  pub finish : Point
   pub crash : Files
-  pub left : MayLeave finish.moment.leave crash
+  pub trace : Traced checkpoint_start first_files xs finish crash
+  pub stopped : finish.core.vault.stopped ≡ true
   pub current : crash.gates ≡ gates
-  pub right : CrashIsRightWith first_log finish.moment.core crash
+  pub right : CrashIsRightWith first_log finish.core crash
 
 pub record StartsAgain : Type 0 where
-  pub finish : Stored
-  pub course : IsStoreCourse checkpoint_start starts_again finish
-  pub runs : finish.moment.core.vault.stopped ≡ false
-  pub under_way : finish.moment.core.system.checking ≡ true
+  pub finish : Point
   pub crash : Files
-  pub left : MayLeave finish.moment.leave crash
-  pub right : CrashIsRightWith first_log finish.moment.core crash
+  pub trace : Traced checkpoint_start first_files starts_again finish crash
+  pub runs : finish.core.vault.stopped ≡ false
+  pub under_way : finish.core.system.checking ≡ true
+  pub right : CrashIsRightWith first_log finish.core crash
 
 pub record WorkedFaults : Type 0 where
   pub copy : FailsRight copy_fails 0

@@ -2,24 +2,25 @@
 --     Head                     what head and table of an image file say of the log before it
 --     Copy                     a region's place in an image file: after how many records it was brought up to date,
 --                              and whether an audit passed the region since
---     Stored                   a moment, with what the image files read, which of them is synced, and what a
---                              checkpoint knows
+--     Point                    log, core and audits, with what the image files read, which of them is synced, and what
+--                              a checkpoint knows
 --     side_of n                the side of the checkpoint with the number n: A where it is odd
 --     image_side c             the side of the current image after c checkpoints, if there is one
---     target st                the side of the next checkpoint
+--     target p                 the side of the next checkpoint
 --     head_now L c             what a checkpoint keeps, once all records are flushed
 --     turned D h image         the files D once the anchor names this image
 --     IsTurnedFrom, IsOverwritten          what becomes of files then, and by a write to their image
---     MayHold st side h image  what a crash may leave of an image file
+--     MayHold p side h image   what a crash may leave of an image file
 --     IsUntouched L r n        no block on region r stands among the records from n on
---     IsWritten, IsTurned, IsTurning       what a crash may leave after a write to an image file, and after and inside
---                              the anchor's move
 --     IsCertified h b c        an audit passed the place, which was brought up to date since the start
---     MayTurn st h b k         the anchor may move to the image with the head h, by the audit from record b to k
+--     MayTurn p h b k          the anchor may move to the image with the head h, by the audit from record b to k
 --     is_of_checkpoint x       the step x of the core is a checkpoint's: its start, its end, a region's flag
---     MayWrite st              the vault runs, and a checkpoint has begun whose anchor hasn't moved
---     StoreStep, IsStoreStep st x new      the kinds of step, and when one leads from st to new
---     IsStoreCourse st xs new  these steps, one after another
+--     MayWrite p               the vault runs, and a checkpoint has begun whose anchor hasn't moved
+--     StoreStep, IsPointStep p x q     the kinds of step, and when one leads from p to q
+--     Came p x D F             the crash image F, behind the step x at p, came from the crash image D before it
+--     Inside p x D F           or F is left inside the step: what was left before, or behind it
+--     IsPointCourse p xs q     these steps, one after another
+--     Traced p D xs q F        so they lead from p to q, and the crash image F came along them from D
 use Rattle.std.specs.Prelude.{◌≡◌, ℕ, ◌+◌, ◌%◌, ◌<◌, ◌≤◌, Bool, true, false, ◌&&◌, ◌||◌, ◌==◌, ◌⊎◌, if◌then◌else◌, List, [], ◌∷◌, Option, Some, None, is_some, map, length, drop, slice_get}
 use Rattle.std.specs.List.{range_with_len}
 use Rattle.dali_geometry.specs.Sizes.{Sizes}
@@ -34,10 +35,11 @@ use Rattle.dali_region.specs.State.{RegionState}
 use Rattle.dali_region.specs.Answers.{is_dirty, cleaned}
 use Rattle.dali_system.specs.State.{CoreState, stable}
 use Rattle.dali_system.specs.Run.{HasRisen, blocks_on}
+use Rattle.dali_system.specs.Passes.{Audits}
 use Rattle.dali_system.specs.Keeps.{with_system, with_region}
 use Rattle.dali_system.specs.Steps.{in_checkpoint}
 use Rattle.dali_system.specs.Flushes.{with_vault, faulted}
-use Rattle.dali_system.specs.Courses.{Step, OnRegion, Passes, Checkpoints, Moment, MayLeave, IsStepAt}
+use Rattle.dali_system.specs.Courses.{Step, OnRegion, Passes, Checkpoints, Moment, CameBy, IsStepAt}
 use Rattle.dali_system.specs.Images.{Told}
 use Rattle.dali_system.specs.ImageSteps.{clears, same_side, told_with}
 
@@ -53,8 +55,11 @@ pub record Copy : Type 0 where
   pub at : ℕ
   pub passed : Bool
 
-pub record Stored : Type 0 where
-  pub moment : Moment
+pub record Point : Type 0 where
+  pub log : List Record
+  pub core : CoreState
+  -- what each audit has passed
+  pub audits : Audits
   pub told : Told
   pub heads : Side → Head
   -- whether a sync that succeeded came after the last write
@@ -63,6 +68,9 @@ pub record Stored : Type 0 where
   pub begun : Option Head
   pub copies : Side → ℕ → Option Copy
 
+abbrev pub moment_of : Point → Moment
+moment_of p = record { log = p.log; core = p.core; audits = p.audits }
+
 -- ---- sides
 abbrev pub side_of : ℕ → Side
 side_of n = if n % 2 == 1 then A else B
@@ -70,8 +78,8 @@ side_of n = if n % 2 == 1 then A else B
 abbrev pub image_side : ℕ → Option Side
 image_side c = if c == 0 then None else Some (side_of c)
 
-abbrev pub target : Stored → Side
-target st = side_of (st.moment.core.vault.current + 1)
+abbrev pub target : Point → Side
+target p = side_of (p.core.vault.current + 1)
 
 abbrev pub head_with : (Side → Head) → Side → Head → Side → Head
 head_with heads side h s = if same_side s side then h else heads s
@@ -121,9 +129,9 @@ abbrev pub image_in : Sizes → Told → Side → List (List ℕ)
 image_in s told side = map (told side) (range_with_len 0 (regions s))
 
 -- a file that isn't synced may hold anything
-pub record MayHold (st : Stored) (side : Side) (h : Head) (image : List (List ℕ)) : Type 0 where
-  pub head_is : st.synced side ≡ true → h ≡ st.heads side
-  pub image_is : st.synced side ≡ true → image ≡ image_in st.moment.core.system.sizes st.told side
+pub record MayHold (p : Point) (side : Side) (h : Head) (image : List (List ℕ)) : Type 0 where
+  pub head_is : p.synced side ≡ true → h ≡ p.heads side
+  pub image_is : p.synced side ≡ true → image ≡ image_in p.core.system.sizes p.told side
 
 abbrev pub turned : Files → Head → List (List ℕ) → Files
 turned D h image = record {
@@ -139,22 +147,12 @@ turned D h image = record {
 }
 
 -- F is what D is once the anchor moved to what a crash leaves of the next image
-abbrev pub IsTurnedFrom : Stored → Files → Files → Type 0
-IsTurnedFrom st D F = (h : Head) × (image : List (List ℕ)) × MayHold st (side_of (D.gates + 1)) h image × (F ≡ turned D h image)
+abbrev pub IsTurnedFrom : Point → Files → Files → Type 0
+IsTurnedFrom p D F = (h : Head) × (image : List (List ℕ)) × MayHold p (side_of (D.gates + 1)) h image × (F ≡ turned D h image)
 
 -- D with another image, where the anchor names the file of this side
 abbrev pub IsOverwritten : Side → Files → Files → Type 0
 IsOverwritten side D F = (image_side D.gates ≡ Some side) × (F.batches ≡ D.batches) × (F.gates ≡ D.gates)
-
--- a write to the file that the anchor names may change what is read as the current image
-pub record IsWritten (old new : Files → Type 0) (side : Side) : Type 0 where
-  pub each : (F : Files) → new F → (D : Files) × old D × ((F ≡ D) ⊎ IsOverwritten side D F)
-
-pub record IsTurned (st : Stored) (new : Files → Type 0) : Type 0 where
-  pub each : (F : Files) → new F → (D : Files) × MayLeave st.moment.leave D × IsTurnedFrom st D F
-
-pub record IsTurning (st : Stored) (new : Files → Type 0) : Type 0 where
-  pub each : (F : Files) → new F → (D : Files) × MayLeave st.moment.leave D × ((F ≡ D) ⊎ IsTurnedFrom st D F)
 
 -- ---- the anchor's move
 -- the place was brought up to date after the checkpoint's start and before the audit's begin, and passed since
@@ -165,15 +163,15 @@ pub record IsCertified (h : Head) (b : ℕ) (c : Copy) : Type 0 where
 
 -- the image is synced and has the head that was kept; the audit ended clean and its end is flushed; each region's
 -- place is certified
-pub record MayTurn (st : Stored) (h : Head) (b k : ℕ) : Type 0 where
-  pub begun : st.begun ≡ Some h
-  pub head : st.heads (target st) ≡ h
-  pub synced : st.synced (target st) ≡ true
-  pub clean : slice_get st.moment.log k ≡ Some (AuditClean b)
+pub record MayTurn (p : Point) (h : Head) (b k : ℕ) : Type 0 where
+  pub begun : p.begun ≡ Some h
+  pub head : p.heads (target p) ≡ h
+  pub synced : p.synced (target p) ≡ true
+  pub clean : slice_get p.log k ≡ Some (AuditClean b)
   pub ends : b ≤ k
-  pub flushed : k < stable st.moment.core
-  pub copies : (r : ℕ) → r < regions st.moment.core.system.sizes
-      → (c : Copy) × (st.copies (target st) r ≡ Some c) × IsCertified h b c
+  pub flushed : k < stable p.core
+  pub copies : (r : ℕ) → r < regions p.core.system.sizes
+      → (c : Copy) × (p.copies (target p) r ≡ Some c) × IsCertified h b c
 
 -- ---- the steps
 pub data StoreStep : Type 0 where
@@ -200,13 +198,6 @@ pub data StoreStep : Type 0 where
   -- a checkpoint ends: its anchor has moved or failed to, or it is given up
   Finishes : StoreStep
 
-abbrev pub core_of : Stored → CoreState
-core_of st = st.moment.core
-
--- the moment with another core, and with what a crash leaves now
-abbrev pub moment_with : Stored → CoreState → (Files → Bool) → Moment
-moment_with st c leave = record { log = st.moment.log; core = c; audits = st.moment.audits; leave = leave }
-
 abbrev pub with_current : CoreState → CoreState
 with_current c = with_vault c (record c.vault { current = c.vault.current + 1 })
 
@@ -223,92 +214,86 @@ abbrev pub with_flag : CoreState → Bool → CoreState
 with_flag c under_way = with_system c (in_checkpoint c.system under_way)
 
 -- the vault runs, and a checkpoint has begun whose anchor hasn't moved
-pub record MayWrite (st : Stored) : Type 0 where
-  pub runs : (core_of st).vault.stopped ≡ false
-  pub under_way : is_some st.begun ≡ true
+pub record MayWrite (p : Point) : Type 0 where
+  pub runs : p.core.vault.stopped ≡ false
+  pub under_way : is_some p.begun ≡ true
 
 -- the store's count of faults rose, at a call that a checkpoint made of a vault that ran
-pub record IsFault (st : Stored) (faults : ℕ) : Type 0 where
-  pub may : MayWrite st
-  pub rose : HasRisen (core_of st).vault.faults faults
+pub record IsFault (p : Point) (faults : ℕ) : Type 0 where
+  pub may : MayWrite p
+  pub rose : HasRisen p.core.vault.faults faults
 
 abbrev pub with_fault : CoreState → ℕ → CoreState
 with_fault c faults = with_vault c (faulted c.vault faults)
 
-abbrev pub Fewer : Stored → Stored → Type 0
-Fewer st new = (F : Files) → MayLeave new.moment.leave F → MayLeave st.moment.leave F
+abbrev pub IsPointStep : Point → StoreStep → Point → Type 0
+IsPointStep p (Does x) q =
+    (is_of_checkpoint x ≡ false) × IsStepAt (moment_of p) x (moment_of q)
+    × (q ≡ record p { log = q.log; core = q.core; audits = q.audits; copies = copies_after p.core x p.copies })
+IsPointStep p Starts q = (p.core.system.checking ≡ false) × (q ≡ record p { core = with_flag p.core true })
+IsPointStep p Keeps q =
+    (p.core.vault.stopped ≡ false) × (p.core.system.checking ≡ true) × (p.begun ≡ None)
+    × (stable p.core ≡ p.core.system.records)
+    × (q ≡ record p { begun = Some (head_now p.log p.core) })
+IsPointStep p (Copies r n) q =
+    (g : RegionState) × (slice_get p.core.regions r ≡ Some g)
+    × MayWrite p × (is_dirty g (target p) ≡ true) × IsUntouched p.log r n
+    × (q ≡ record p {
+      core = with_region p.core r (cleaned (target p) g);
+      told = told_with p.told (target p) r g.back;
+      synced = synced_with p.synced (target p) false;
+      copies = copies_with p.copies (target p) r (Some (copy_at n));
+    })
+IsPointStep p (Skips r n) q =
+    (g : RegionState) × (slice_get p.core.regions r ≡ Some g)
+    × (is_some p.begun ≡ true) × (is_dirty g (target p) ≡ false) × IsUntouched p.log r n
+    × (q ≡ record p { copies = copies_with p.copies (target p) r (Some (copy_at n)) })
+IsPointStep p (WritesHead h) q =
+    MayWrite p
+    × (q ≡ record p { heads = head_with p.heads (target p) h; synced = synced_with p.synced (target p) false })
+IsPointStep p Syncs q = MayWrite p × (q ≡ record p { synced = synced_with p.synced (target p) true })
+IsPointStep p Turns q =
+    (h : Head) × (b : ℕ) × (k : ℕ) × MayWrite p × MayTurn p h b k
+    × (q ≡ record p { core = with_current p.core; begun = None })
+IsPointStep p (CopyFails r ws n) q =
+    (g : RegionState) × (slice_get p.core.regions r ≡ Some g)
+    × (is_dirty g (target p) ≡ true) × IsFault p n
+    × (q ≡ record p {
+      core = with_fault p.core n;
+      told = told_with p.told (target p) r ws;
+      synced = synced_with p.synced (target p) false;
+      copies = copies_with p.copies (target p) r None;
+    })
+IsPointStep p (HeadFails h n) q =
+    IsFault p n
+    × (q ≡ record p { core = with_fault p.core n; heads = head_with p.heads (target p) h; synced = synced_with p.synced (target p) false })
+IsPointStep p (SyncFails n) q = IsFault p n × (q ≡ record p { core = with_fault p.core n })
+IsPointStep p (TurnFails n) q =
+    (h : Head) × (b : ℕ) × (k : ℕ) × IsFault p n × MayTurn p h b k
+    × (q ≡ record p { core = with_fault p.core n; begun = None })
+IsPointStep p Finishes q = (p.core.system.checking ≡ true) × (q ≡ record p { core = with_flag p.core false; begun = None })
 
-abbrev pub Writes : Stored → Stored → Type 0
-Writes st new = IsWritten (MayLeave st.moment.leave) (MayLeave new.moment.leave) (target st)
+abbrev pub IsPointCourse : Point → List StoreStep → Point → Type 0
+IsPointCourse p [] q = p ≡ q
+IsPointCourse p (x ∷ xs) q = (mid : Point) × IsPointStep p x mid × IsPointCourse mid xs q
 
-abbrev pub IsStoreStep : Stored → StoreStep → Stored → Type 0
-IsStoreStep st (Does x) new =
-    (is_of_checkpoint x ≡ false) × IsStepAt st.moment x new.moment
-    × (new ≡ record st { moment = new.moment; copies = copies_after (core_of st) x st.copies })
-IsStoreStep st Starts new =
-    ((core_of st).system.checking ≡ false)
-    × (new ≡ record st { moment = moment_with st (with_flag (core_of st) true) st.moment.leave })
-IsStoreStep st Keeps new =
-    ((core_of st).vault.stopped ≡ false) × ((core_of st).system.checking ≡ true) × (st.begun ≡ None)
-    × (stable (core_of st) ≡ (core_of st).system.records)
-    × (new ≡ record st { begun = Some (head_now st.moment.log (core_of st)) })
-IsStoreStep st (Copies r n) new =
-    (g : RegionState) × (slice_get (core_of st).regions r ≡ Some g)
-    × MayWrite st × (is_dirty g (target st) ≡ true) × IsUntouched st.moment.log r n × Writes st new
-    × (new ≡ record st {
-      moment = moment_with st (with_region (core_of st) r (cleaned (target st) g)) new.moment.leave;
-      told = told_with st.told (target st) r g.back;
-      synced = synced_with st.synced (target st) false;
-      copies = copies_with st.copies (target st) r (Some (copy_at n));
-    })
-IsStoreStep st (Skips r n) new =
-    (g : RegionState) × (slice_get (core_of st).regions r ≡ Some g)
-    × (is_some st.begun ≡ true) × (is_dirty g (target st) ≡ false) × IsUntouched st.moment.log r n
-    × (new ≡ record st { copies = copies_with st.copies (target st) r (Some (copy_at n)) })
-IsStoreStep st (WritesHead h) new =
-    MayWrite st × Writes st new
-    × (new ≡ record st {
-      moment = moment_with st (core_of st) new.moment.leave;
-      heads = head_with st.heads (target st) h;
-      synced = synced_with st.synced (target st) false;
-    })
-IsStoreStep st Syncs new =
-    MayWrite st × Fewer st new
-    × (new ≡ record st {
-      moment = moment_with st (core_of st) new.moment.leave;
-      synced = synced_with st.synced (target st) true;
-    })
-IsStoreStep st Turns new =
-    (h : Head) × (b : ℕ) × (k : ℕ) × MayWrite st × MayTurn st h b k
-    × IsTurned st (MayLeave new.moment.leave)
-    × (new ≡ record st { moment = moment_with st (with_current (core_of st)) new.moment.leave; begun = None })
-IsStoreStep st (CopyFails r ws n) new =
-    (g : RegionState) × (slice_get (core_of st).regions r ≡ Some g)
-    × (is_dirty g (target st) ≡ true) × IsFault st n × Writes st new
-    × (new ≡ record st {
-      moment = moment_with st (with_fault (core_of st) n) new.moment.leave;
-      told = told_with st.told (target st) r ws;
-      synced = synced_with st.synced (target st) false;
-      copies = copies_with st.copies (target st) r None;
-    })
-IsStoreStep st (HeadFails h n) new =
-    IsFault st n × Writes st new
-    × (new ≡ record st {
-      moment = moment_with st (with_fault (core_of st) n) new.moment.leave;
-      heads = head_with st.heads (target st) h;
-      synced = synced_with st.synced (target st) false;
-    })
-IsStoreStep st (SyncFails n) new =
-    IsFault st n × Fewer st new
-    × (new ≡ record st { moment = moment_with st (with_fault (core_of st) n) new.moment.leave })
-IsStoreStep st (TurnFails n) new =
-    (h : Head) × (b : ℕ) × (k : ℕ) × IsFault st n × MayTurn st h b k
-    × IsTurning st (MayLeave new.moment.leave)
-    × (new ≡ record st { moment = moment_with st (with_fault (core_of st) n) new.moment.leave; begun = None })
-IsStoreStep st Finishes new =
-    ((core_of st).system.checking ≡ true)
-    × (new ≡ record st { moment = moment_with st (with_flag (core_of st) false) st.moment.leave; begun = None })
+-- ---- what a step does to one crash image
+-- a write to an image may change what is read as the current one, if the anchor names its file; the anchor moves to what is read of the next
+-- image
+abbrev pub Came : Point → StoreStep → Files → Files → Type 0
+Came p (Does x) D F = CameBy p.log p.core x D F
+Came p (Copies r n) D F = (F ≡ D) ⊎ IsOverwritten (target p) D F
+Came p (WritesHead h) D F = (F ≡ D) ⊎ IsOverwritten (target p) D F
+Came p (CopyFails r ws n) D F = (F ≡ D) ⊎ IsOverwritten (target p) D F
+Came p (HeadFails h n) D F = (F ≡ D) ⊎ IsOverwritten (target p) D F
+Came p Turns D F = IsTurnedFrom p D F
+Came p (TurnFails n) D F = (F ≡ D) ⊎ IsTurnedFrom p D F
+Came p x D F = F ≡ D
 
-abbrev pub IsStoreCourse : Stored → List StoreStep → Stored → Type 0
-IsStoreCourse st [] new = st ≡ new
-IsStoreCourse st (x ∷ xs) new = (mid : Stored) × IsStoreStep st x mid × IsStoreCourse mid xs new
+-- inside a step a crash leaves what it left before, or what it leaves behind it
+abbrev pub Inside : Point → StoreStep → Files → Files → Type 0
+Inside p x D F = (F ≡ D) ⊎ Came p x D F
+
+abbrev pub Traced : Point → Files → List StoreStep → Point → Files → Type 0
+Traced p D [] q F = (p ≡ q) × (D ≡ F)
+Traced p D (x ∷ xs) q F = (mid : Point) × (E : Files) × IsPointStep p x mid × Came p x D E × Traced mid E xs q F

@@ -9,15 +9,14 @@ use Rattle.dali_history.specs.Serial.{survivors}
 use Rattle.dali_history.specs.Acknowledged.{IsDeletedByChain}
 use Rattle.dali_system.specs.Run.{log_in}
 use Rattle.dali_system.specs.Crashes.{NoneEscapes, IsAcknowledged}
-use Rattle.dali_system.specs.Courses.{Moment, MayLeave, IsCourse}
-use Rattle.dali_system.specs.Worked.{small, first_log, start, damage}
+use Rattle.dali_system.specs.Courses.{Moment, CoreTraced}
+use Rattle.dali_system.specs.Worked.{small, first_log, start, damage, first_files}
 use Rattle.dali_crash.specs.Restarts.{RestartsRight}
 
 pub record DamagedRun : Type 0 where
   pub finish : Moment
-  pub course : IsCourse (start (formatted_image small)) damage finish
   pub crash : Files
-  pub left : MayLeave finish.leave crash
+  pub trace : CoreTraced (start (formatted_image small)) first_files damage finish crash
   -- the look of transaction 2
   pub unsound : IsSoundAt (formatted_image small) (last_epoch (log_in crash)).records 3 → ⊥
   pub escapes : NoneEscapes (last_epoch (log_in crash)) finish.core

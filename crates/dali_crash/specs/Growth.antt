@@ -1,14 +1,15 @@
 -- What only grows along steps.
 --     HasGrown before c d      from the core c to d the current number and the flushed records have only grown, what was acknowledged is still,
 --                              and a vault that was stopped is stopped
+--     GoesOn before p q        so it is from the point p to q, and the records that were flushed stand as they did
 --     CourseGrows              so it is along each list of steps
-use Rattle.std.specs.Prelude.{◌≡◌, ℕ, ◌≤◌, true, List}
+use Rattle.std.specs.Prelude.{◌≡◌, ℕ, ◌≤◌, true, List, take}
 use Rattle.dali_record.specs.declared.records.Record.{Record}
 use Rattle.dali_system.specs.State.{CoreState, stable}
-use Rattle.dali_system.specs.Run.{Bases}
+use Rattle.dali_system.specs.Run.{Bases, no_image}
 use Rattle.dali_system.specs.Crashes.{IsAcknowledged}
-use Rattle.dali_crash.specs.Checkpoints.{Stored, StoreStep, IsStoreCourse}
-use Rattle.dali_crash.specs.StoreRuns.{StoreRun}
+use Rattle.dali_crash.specs.Checkpoints.{StoreStep, IsPointCourse, Point, moment_of}
+use Rattle.dali_system.specs.Courses.{RunsAt}
 
 pub record HasGrown (before : List Record) (c d : CoreState) : Type 0 where
   pub current : c.vault.current ≤ d.vault.current
@@ -16,8 +17,13 @@ pub record HasGrown (before : List Record) (c d : CoreState) : Type 0 where
   pub acknowledged : (t : ℕ) → IsAcknowledged before c t → IsAcknowledged before d t
   pub stopped : c.vault.stopped ≡ true → d.vault.stopped ≡ true
 
+-- besides, the records that were flushed stand as they did
+pub record GoesOn (before : List Record) (p q : Point) : Type 0 where
+  pub grown : HasGrown before p.core q.core
+  pub records : take (stable p.core) q.log ≡ take (stable p.core) p.log
+
 abbrev pub CourseGrows : Type 0
 CourseGrows =
-    (bases : Bases) (before : List Record) (st new : Stored) (xs : List StoreStep) → StoreRun bases before st
-    → IsStoreCourse st xs new
-    → HasGrown before st.moment.core new.moment.core
+    (bases : Bases) (before : List Record) (p q : Point) (xs : List StoreStep) → RunsAt bases before no_image (moment_of p)
+    → IsPointCourse p xs q
+    → GoesOn before p q

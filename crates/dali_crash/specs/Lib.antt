@@ -11,3 +11,4 @@ pub mod Unpoked
 pub mod CheckpointFaults
 pub mod Restarted
 pub mod Growth
+pub mod Traces

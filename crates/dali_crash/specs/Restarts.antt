@@ -8,28 +8,25 @@
 --     FlushedStays, AcknowledgedStays      what was flushed stands in each crash image of a run, and what was
 --                              acknowledged is committed there, damage or not
 --     CourseKeepsTheBase       the right base stays, whatever steps are taken
---     EveryRunIsRight          so from a format or a restart on, after any list of steps, each crash image restarts right
-use Rattle.std.specs.Prelude.{◌≡◌, ℕ, ◌<◌, ◌≤◌, Bool, true, ◌⊎◌, List, [], ◌∷◌, ◌++◌, length, take, slice_get, Contains, Some}
+use Rattle.std.specs.Prelude.{◌≡◌, ℕ, ◌<◌, ◌≤◌, ◌⊎◌, List, [], ◌∷◌, ◌++◌, length, take, slice_get, Contains, Some}
 use Rattle.dali_geometry.specs.Sizes.{Sizes}
 use Rattle.dali_geometry.specs.Places.{formatted_image}
 use Rattle.dali_record.specs.declared.records.Record.{Record}
 use Rattle.dali_record.specs.declared.records.Record.TheVariants.{Format, Restarted}
 use Rattle.dali_record.specs.Log.{committed}
 use Rattle.dali_record.specs.Epochs.{cut, last_epoch}
-use Rattle.dali_record.specs.Legal.{sizes_of, Rules, rules_state}
+use Rattle.dali_record.specs.Legal.{sizes_of}
 use Rattle.dali_record.specs.Files.{Files}
 use Rattle.dali_history.specs.Serial.{survivors}
 use Rattle.dali_history.specs.Recovered.{base_of, recovered, AreHonest}
 use Rattle.dali_history.specs.History.{IsHistory}
 use Rattle.dali_history.specs.Acknowledged.{IsDeletedByChain}
 use Rattle.dali_history.specs.Promise.{RestartIsRight}
-use Rattle.dali_system.specs.State.{CoreState, stable, log_after, VaultState}
-use Rattle.dali_system.specs.Run.{Bases, base_at, log_in, RunsOn, IsRun, VaultRun}
+use Rattle.dali_system.specs.State.{CoreState, stable, log_after}
+use Rattle.dali_system.specs.Run.{Bases, base_at, log_in, RunsOn, IsRun, only}
 use Rattle.dali_system.specs.Crashes.{NoneEscapes, IsAcknowledged}
 use Rattle.dali_record.specs.Spelling.{CanBeSpelled}
-use Rattle.dali_system.specs.Loads.{new_core}
-use Rattle.dali_system.specs.Passes.{no_audits}
-use Rattle.dali_system.specs.Courses.{Step, Moment, MayLeave, IsCourse}
+use Rattle.dali_system.specs.Courses.{Step, Moment, IsCourse}
 
 pub record HasRightBase (bases : Bases) (s : Sizes) (L : List Record) : Type 0 where
   pub base : base_at bases L ≡ base_of s L
@@ -65,26 +62,26 @@ pub record RestartsRight (before : List Record) (c : CoreState) (F : Files) : Ty
   pub keeps : (t : ℕ) → IsAcknowledged before c t
       → Contains (committed (log_in F)) t × (Contains (survivors (log_in F)) t ⊎ IsDeletedByChain (log_in F) t)
 
--- what a crash may leave is given by a test, since a clause can't range over all relations
+-- of each crash image by itself
 abbrev pub RunIsRight : Type 0
 RunIsRight =
-    (bases : Bases) (before : List Record) (leave : Files → Bool) (c : CoreState) → IsRun bases before (λ F. leave F ≡ true) c
+    (bases : Bases) (before : List Record) (c : CoreState) (F : Files) → IsRun bases before (only F) c
     → HasRightBase bases c.system.sizes (log_after before c.system)
-    → (F : Files) → leave F ≡ true → NoneEscapes (last_epoch (log_in F)) c
+    → NoneEscapes (last_epoch (log_in F)) c
     → RestartsRight before c F
 
 -- ---- with damage or without
 abbrev pub FlushedStays : Type 0
 FlushedStays =
-    (bases : Bases) (before : List Record) (leave : Files → Bool) (c : CoreState) (k : ℕ) (x : Record) → IsRun bases before (λ F. leave F ≡ true) c
+    (bases : Bases) (before : List Record) (c : CoreState) (F : Files) (k : ℕ) (x : Record) → IsRun bases before (only F) c
     → k < stable c → slice_get (log_after before c.system) k ≡ Some x
-    → (F : Files) → leave F ≡ true → slice_get (log_in F) k ≡ Some x
+    → slice_get (log_in F) k ≡ Some x
 
 abbrev pub AcknowledgedStays : Type 0
 AcknowledgedStays =
-    (bases : Bases) (before : List Record) (leave : Files → Bool) (c : CoreState) (t : ℕ) → IsRun bases before (λ F. leave F ≡ true) c
+    (bases : Bases) (before : List Record) (c : CoreState) (F : Files) (t : ℕ) → IsRun bases before (only F) c
     → IsAcknowledged before c t
-    → (F : Files) → leave F ≡ true → Contains (committed (log_in F)) t
+    → Contains (committed (log_in F)) t
 
 -- ---- along steps
 -- the right base stays, whatever steps are taken
@@ -95,14 +92,3 @@ CourseKeepsTheBase =
 
 abbrev pub FormatIsHistory : Type 0
 FormatIsHistory = (s : Sizes) → CanBeSpelled (Format s.index s.heap) → IsHistory (Format s.index s.heap ∷ [])
-
--- a core over the recovered image of a history whose last epoch has no record, as a format and a restart hand out:
--- whatever steps are taken from there, and whatever a crash then leaves, a restart of it is right
-abbrev pub EveryRunIsRight : Type 0
-EveryRunIsRight =
-    (L : List Record) (g : Rules) (limit : ℕ) (v : VaultState) (leave : Files → Bool)
-    → IsHistory L → rules_state (sizes_of L) L ≡ Some g → (last_epoch L).records ≡ []
-    → limit ≤ 268435456 → VaultRun (MayLeave leave) L (length L) v → v.flushed ≡ 0
-    → (xs : List Step) (n : Moment) → IsCourse (record { log = L; core = new_core (sizes_of L) (recovered (sizes_of L) L) g limit v; audits = no_audits; leave = leave }) xs n
-    → (F : Files) → MayLeave n.leave F → NoneEscapes (last_epoch (log_in F)) n.core
-    → RestartsRight L n.core F

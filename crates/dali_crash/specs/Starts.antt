@@ -2,12 +2,10 @@
 --     IsFormatted s F          right after a format
 --     IsRestarted L F          right after a restart, which logged Restarted and wrote the image that it came to
 --     IsFresh L F              one of these, with the log L
---     IsFreshStore L v leave   a crash leaves just such files, and the vault knows where the log ends and which image
---                              is current
 --     FreshFits                such files fit their log
 --     MayStart L               a core may be made over the log L
 --     RestartStarts            so it may over the log that a restart leaves: a run may be stopped and started again
-use Rattle.std.specs.Prelude.{◌≡◌, ℕ, ◌^◌, ◌<◌, ◌≤◌, Bool, false, ◌⊎◌, List, [], ◌∷◌, ◌++◌, length, sum_by, flat_map, IsSome}
+use Rattle.std.specs.Prelude.{◌≡◌, ℕ, ◌<◌, Bool, ◌⊎◌, List, [], ◌∷◌, ◌++◌, length, sum_by, flat_map, IsSome}
 use Rattle.dali_geometry.specs.Sizes.{Sizes}
 use Rattle.dali_geometry.specs.Places.{formatted_image}
 use Rattle.dali_record.specs.declared.records.Record.{Record}
@@ -19,7 +17,6 @@ use Rattle.dali_record.specs.Legal.{sizes_of, rules_state}
 use Rattle.dali_record.specs.Files.{Files, batch_length, next_after}
 use Rattle.dali_history.specs.Recovered.{recovered}
 use Rattle.dali_history.specs.History.{IsHistory}
-use Rattle.dali_system.specs.State.{VaultState}
 use Rattle.dali_system.specs.Run.{Bases, base_at, log_in}
 use Rattle.dali_system.specs.Images.{FitsBut}
 
@@ -57,15 +54,6 @@ pub record IsRestarted (L : List Record) (F : Files) : Type 0 where
 pub record IsFresh (L : List Record) (F : Files) : Type 0 where
   pub log : log_in F ≡ L
   pub kind : IsFormatted (sizes_of L) F ⊎ IsRestarted L F
-
-pub record IsFreshStore (L : List Record) (v : VaultState) (leave : Files → Type 0) : Type 0 where
-  pub runs : v.stopped ≡ false
-  pub flushed : v.flushed ≡ 0
-  pub faults : v.faults_then ≤ v.faults
-  pub faults_fit : v.faults_then < 2 ^ 64
-  pub files : (F : Files) → leave F → IsFresh L F
-  pub end : (F : Files) → leave F → v.end ≡ sum_by batch_length F.batches
-  pub current : (F : Files) → leave F → F.gates ≡ v.current
 
 abbrev pub FreshFits : Type 0
 FreshFits =

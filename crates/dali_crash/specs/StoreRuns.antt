@@ -1,48 +1,45 @@
 -- Runs with their store, from a format or a restart on.
 --     IsCopied base e r g k ws what is known of a region's place in an image file, which reads the words ws
 --     IsKept L v leave h       what a checkpoint kept belongs to the records before
---     StoreRun bases before st the core is a run, each crash image fits the log that it has, and these hold
---     StoreStepKeeps, StoreCourseKeeps     each step, and each list of steps, keeps it
---     TurnEnds                 what is true once the anchor moved
---     stored_start L g limit v leave ..    a core that was just made, with its store
---     FreshStarts              it is a run with its store
+--     StoreRun bases before leave p    the core is a run, each crash image fits the log that it has, and these hold
+--     StoreStepKeeps, StoreCourseKeeps     each step, and each list of steps, keeps it, of each crash image by itself
+--     BareStoreCourseKeeps     so it is where nothing is said of crashes
+--     TurnEnds, TurnLeaves     what is true once the anchor moved, of the point and of the crash image
+--     point_start L g limit v ..           a core that was just made, with its store
 --     ImageIsRight K F         files of the log K fit it whole, and their image gives what a restart gives
 --     CrashIsRightWith before c F      that of a crash image, and a restart of its log is right
 --     LeavesRight bases before c F     the crash image F fits its log but for the missed regions; and where no damage
 --                              escapes, a restart from its image and the rest of its log is right
---     FlagTells st             the flag is set where a checkpoint keeps something
+--     FlagTells p              the flag is set where a checkpoint keeps something
 --     FlagStays, CourseFlagTells           so it is after each step, and after each list of steps
 --     FlagGoes x was is        what the step x finds of the flag, and what it leaves
 --     FlagChanges              so it is at each step
---     LeavesImages st new      the image files are left, and all of a crash image but its batches
---     IdleLeavesImages         where none keeps anything, a step leaves the image files and the current number
+--     LeavesImages p q         the image files are left
+--     IdleLeavesImages         where none keeps anything, a step leaves the image files and the current number, and all of a crash
+--                              image but its batches
 --     KeptStays                what a checkpoint kept stays until it is given up or its anchor moves
---     IsLeft st new side       the file of this side was synced, and reads as it did
+--     IsLeft p q side          the file of this side was synced, and reads as it did
 --     SyncedStays              so it is after each step but a sync that leaves the file synced
---     EveryStoreRunIsRight     from a format or a restart on, after any list of steps, each crash image fits and
---                              restarts right
-use Rattle.std.specs.Prelude.{◌≡◌, ℕ, ◌+◌, ◌≤◌, Bool, true, false, ◌⊎◌, List, [], Some, None, is_some, length, take, sum_by, slice_get, flat_map}
+use Rattle.std.specs.Prelude.{◌≡◌, ℕ, ◌+◌, ◌≤◌, Bool, true, false, ◌⊎◌, List, Some, None, is_some, length, take, sum_by, slice_get, flat_map}
 use Rattle.dali_record.specs.declared.records.Record.{Record}
 use Rattle.dali_record.specs.Epochs.{Epoch, last_epoch, next_number}
 use Rattle.dali_record.specs.Settled.{settled_before}
 use Rattle.dali_record.specs.Spelling.{record_length}
-use Rattle.dali_record.specs.Legal.{sizes_of, Rules, rules_state}
+use Rattle.dali_record.specs.Legal.{sizes_of, Rules}
 use Rattle.dali_record.specs.Files.{Files, batch_length, is_restarted_first, table_before, next_after}
 use Rattle.dali_region.specs.declared.Side.{Side}
 use Rattle.dali_region.specs.State.{RegionState}
 use Rattle.dali_history.specs.Recovered.{base_of, recovered}
-use Rattle.dali_history.specs.History.{IsHistory}
 use Rattle.dali_system.specs.State.{VaultState, CoreState}
-use Rattle.dali_system.specs.Run.{Bases, log_in}
+use Rattle.dali_system.specs.Run.{Bases, log_in, only, no_image}
 use Rattle.dali_system.specs.Loads.{new_core}
 use Rattle.dali_system.specs.Crashes.{NoneEscapes}
 use Rattle.dali_system.specs.Passes.{no_audits}
-use Rattle.dali_system.specs.Courses.{MayLeave, RunsAt}
+use Rattle.dali_system.specs.Courses.{RunsAt}
 use Rattle.dali_system.specs.Images.{Told, FitsBut, is_missed, ImageRun}
 use Rattle.dali_crash.specs.Restarts.{RestartsRight}
 use Rattle.dali_crash.specs.Fitting.{FitsWhole, recover_from}
-use Rattle.dali_crash.specs.Starts.{IsFreshStore}
-use Rattle.dali_crash.specs.Checkpoints.{Head, Copy, Stored, StoreStep, Starts, Syncs, Turns, Finishes, IsStoreStep, IsStoreCourse}
+use Rattle.dali_crash.specs.Checkpoints.{Head, Copy, StoreStep, Starts, Syncs, Turns, Finishes, Came, IsPointCourse, IsPointStep, Point, Traced, moment_of}
 
 -- ---- what is known of a place in an image file
 -- it reads the words that the blocks below number n leave
@@ -77,65 +74,65 @@ pub record IsKept (L : List Record) (v : VaultState) (leave : Files → Type 0) 
   pub place : (F : Files) → leave F → IsPlace F h.first h.place
 
 -- ---- a run with its store
-pub record StoreRun (bases : Bases) (before : List Record) (st : Stored) : Type 0 where
-  pub run : RunsAt bases before st.moment
-  pub images : ImageRun bases (MayLeave st.moment.leave) st.told st.moment.core
-  pub anchor : st.moment.core.vault.stopped ≡ false
-      → (F : Files) → MayLeave st.moment.leave F → F.gates ≡ st.moment.core.vault.current
-  pub kept : (h : Head) → st.begun ≡ Some h
-      → IsKept st.moment.log st.moment.core.vault (MayLeave st.moment.leave) h
-  pub copied : (side : Side) (r : ℕ) (k : Copy) (g : RegionState) → st.copies side r ≡ Some k
-      → slice_get st.moment.core.regions r ≡ Some g
-      → IsCopied (bases (last_epoch st.moment.log).first) (last_epoch st.moment.log) r g k (st.told side r)
+pub record StoreRun (bases : Bases) (before : List Record) (leave : Files → Type 0) (p : Point) : Type 0 where
+  pub run : RunsAt bases before leave (moment_of p)
+  pub images : ImageRun bases leave p.told p.core
+  pub anchor : p.core.vault.stopped ≡ false → (F : Files) → leave F → F.gates ≡ p.core.vault.current
+  pub kept : (h : Head) → p.begun ≡ Some h → IsKept p.log p.core.vault leave h
+  pub copied : (side : Side) (r : ℕ) (k : Copy) (g : RegionState) → p.copies side r ≡ Some k
+      → slice_get p.core.regions r ≡ Some g
+      → IsCopied (bases (last_epoch p.log).first) (last_epoch p.log) r g k (p.told side r)
 
 abbrev pub StoreStepKeeps : Type 0
 StoreStepKeeps =
-    (bases : Bases) (before : List Record) (st new : Stored) (x : StoreStep) → StoreRun bases before st
-    → IsStoreStep st x new
-    → StoreRun bases before new
+    (bases : Bases) (before : List Record) (p q : Point) (x : StoreStep) (D F : Files) → StoreRun bases before (only D) p
+    → IsPointStep p x q → Came p x D F
+    → StoreRun bases before (only F) q
 
 abbrev pub StoreCourseKeeps : Type 0
 StoreCourseKeeps =
-    (bases : Bases) (before : List Record) (st new : Stored) (xs : List StoreStep) → StoreRun bases before st
-    → IsStoreCourse st xs new
-    → StoreRun bases before new
+    (bases : Bases) (before : List Record) (p q : Point) (xs : List StoreStep) (D F : Files) → StoreRun bases before (only D) p
+    → Traced p D xs q F
+    → StoreRun bases before (only F) q
+
+-- so it is where nothing is said of crashes
+abbrev pub BareStoreCourseKeeps : Type 0
+BareStoreCourseKeeps =
+    (bases : Bases) (before : List Record) (p q : Point) (xs : List StoreStep) → StoreRun bases before no_image p
+    → IsPointCourse p xs q
+    → StoreRun bases before no_image q
 
 -- ---- a checkpoint that ended
--- the next number is the current one, in every crash image too, and the image stands at the record where the
--- checkpoint began
-pub record IsEnded (st new : Stored) : Type 0 where
+-- the next number is the current one
+pub record IsEnded (p q : Point) : Type 0 where
   pub head : Head
-  pub begun : st.begun ≡ Some head
-  pub number : head.number ≡ st.moment.core.vault.current + 1
-  pub current : new.moment.core.vault.current ≡ st.moment.core.vault.current + 1
-  pub gates : (F : Files) → MayLeave new.moment.leave F → F.gates ≡ new.moment.core.vault.current
-  pub first : (F : Files) → MayLeave new.moment.leave F → F.first ≡ head.first
+  pub begun : p.begun ≡ Some head
+  pub number : head.number ≡ p.core.vault.current + 1
+  pub current : q.core.vault.current ≡ p.core.vault.current + 1
 
 abbrev pub TurnEnds : Type 0
-TurnEnds =
-    (bases : Bases) (before : List Record) (st new : Stored) → StoreRun bases before st
-    → IsStoreStep st Turns new
-    → IsEnded st new
+TurnEnds = (bases : Bases) (before : List Record) (p q : Point) → StoreRun bases before no_image p → IsPointStep p Turns q → IsEnded p q
+
+-- so it is in the crash image, and its image stands at the record where the checkpoint began
+abbrev pub TurnLeaves : Type 0
+TurnLeaves =
+    (bases : Bases) (before : List Record) (p q : Point) (D F : Files) (h : Head) → StoreRun bases before (only D) p
+    → IsPointStep p Turns q → Came p Turns D F → p.begun ≡ Some h
+    → (F.gates ≡ q.core.vault.current) × (F.first ≡ h.first)
 
 -- ---- where a core is made
 -- nothing is known of the image files, and no checkpoint is under way
-abbrev pub stored_start : List Record → Rules → ℕ → VaultState → (Files → Bool) → Told → (Side → Head) → (Side → Bool) → Stored
-stored_start L g limit v leave told heads synced = record {
-  moment = record { log = L; core = new_core (sizes_of L) (recovered (sizes_of L) L) g limit v; audits = no_audits; leave = leave };
+abbrev pub point_start : List Record → Rules → ℕ → VaultState → Told → (Side → Head) → (Side → Bool) → Point
+point_start L g limit v told heads synced = record {
+  log = L;
+  core = new_core (sizes_of L) (recovered (sizes_of L) L) g limit v;
+  audits = no_audits;
   told = told;
   heads = heads;
   synced = synced;
   begun = None;
   copies = λ side r. None;
 }
-
-abbrev pub FreshStarts : Type 0
-FreshStarts =
-    (L : List Record) (g : Rules) (limit : ℕ) (v : VaultState) (leave : Files → Bool)
-    (told : Told) (heads : Side → Head) (synced : Side → Bool)
-    → IsHistory L → rules_state (sizes_of L) L ≡ Some g → (last_epoch L).records ≡ []
-    → limit ≤ 268435456 → IsFreshStore L v (MayLeave leave)
-    → StoreRun (λ n. recovered (sizes_of L) L) L (stored_start L g limit v leave told heads synced)
 
 -- ---- what a crash leaves
 -- the current image, with the log from its record number on, gives the image of a restart
@@ -152,18 +149,18 @@ pub record LeavesRight (bases : Bases) (before : List Record) (c : CoreState) (F
   pub right : NoneEscapes (last_epoch (log_in F)) c → CrashIsRightWith before c F
 
 -- ---- the flag of a checkpoint
-abbrev pub FlagTells : Stored → Type 0
-FlagTells st = is_some st.begun ≡ true → st.moment.core.system.checking ≡ true
+abbrev pub FlagTells : Point → Type 0
+FlagTells p = is_some p.begun ≡ true → p.core.system.checking ≡ true
 
 abbrev pub FlagStays : Type 0
-FlagStays = (st new : Stored) (x : StoreStep) → FlagTells st → IsStoreStep st x new → FlagTells new
+FlagStays = (p q : Point) (x : StoreStep) → FlagTells p → IsPointStep p x q → FlagTells q
 
 abbrev pub CourseFlagTells : Type 0
 CourseFlagTells =
-    (L : List Record) (g : Rules) (limit : ℕ) (v : VaultState) (leave : Files → Bool)
-    (told : Told) (heads : Side → Head) (synced : Side → Bool) (xs : List StoreStep) (n : Stored)
-    → IsStoreCourse (stored_start L g limit v leave told heads synced) xs n
-    → FlagTells n
+    (L : List Record) (g : Rules) (limit : ℕ) (v : VaultState)
+    (told : Told) (heads : Side → Head) (synced : Side → Bool) (xs : List StoreStep) (q : Point)
+    → IsPointCourse (point_start L g limit v told heads synced) xs q
+    → FlagTells q
 
 -- a start finds it clear and sets it, an end finds it set and clears it, and no other step changes it
 abbrev pub FlagGoes : StoreStep → Bool → Bool → Type 0
@@ -172,43 +169,35 @@ FlagGoes Finishes was is = (was ≡ true) × (is ≡ false)
 FlagGoes _ was is = is ≡ was
 
 abbrev pub FlagChanges : Type 0
-FlagChanges = (st new : Stored) (x : StoreStep) → IsStoreStep st x new → FlagGoes x st.moment.core.system.checking new.moment.core.system.checking
+FlagChanges = (p q : Point) (x : StoreStep) → IsPointStep p x q → FlagGoes x p.core.system.checking q.core.system.checking
 
--- what the image files read, their heads, and which of them is synced stays, and the number of the current one; no place is brought up to
--- date; and each crash image is one from before, but for its batches
-pub record LeavesImages (st new : Stored) : Type 0 where
-  pub told : new.told ≡ st.told
-  pub heads : new.heads ≡ st.heads
-  pub synced : new.synced ≡ st.synced
-  pub current : new.moment.core.vault.current ≡ st.moment.core.vault.current
-  pub copies : (side : Side) (r : ℕ) (k : Copy) → new.copies side r ≡ Some k → (j : Copy) × (st.copies side r ≡ Some j) × (j.at ≡ k.at)
-  pub crashes : (F : Files) → MayLeave new.moment.leave F → (D : Files) × MayLeave st.moment.leave D × (F ≡ record D { batches = F.batches })
+-- what the image files read, their heads, and which of them is synced stays, and the number of the current one; and no place is brought up
+-- to date
+pub record LeavesImages (p q : Point) : Type 0 where
+  pub told : q.told ≡ p.told
+  pub heads : q.heads ≡ p.heads
+  pub synced : q.synced ≡ p.synced
+  pub current : q.core.vault.current ≡ p.core.vault.current
+  pub copies : (side : Side) (r : ℕ) (k : Copy) → q.copies side r ≡ Some k → (j : Copy) × (p.copies side r ≡ Some j) × (j.at ≡ k.at)
 
 abbrev pub IdleLeavesImages : Type 0
-IdleLeavesImages = (st new : Stored) (x : StoreStep) → st.begun ≡ None → IsStoreStep st x new → LeavesImages st new
+IdleLeavesImages =
+    (p q : Point) (x : StoreStep) → p.begun ≡ None → IsPointStep p x q
+    → LeavesImages p q × ((D F : Files) → Came p x D F → F ≡ record D { batches = F.batches })
 
 -- what a checkpoint kept stays, until nothing is kept any more
 abbrev pub KeptStays : Type 0
-KeptStays = (st new : Stored) (x : StoreStep) (h : Head) → st.begun ≡ Some h → IsStoreStep st x new → (new.begun ≡ Some h) ⊎ (new.begun ≡ None)
+KeptStays = (p q : Point) (x : StoreStep) (h : Head) → p.begun ≡ Some h → IsPointStep p x q → (q.begun ≡ Some h) ⊎ (q.begun ≡ None)
 
 -- the file was synced, and reads as it did
-pub record IsLeft (st new : Stored) (side : Side) : Type 0 where
-  pub synced : st.synced side ≡ true
-  pub told : (r : ℕ) → new.told side r ≡ st.told side r
-  pub head : new.heads side ≡ st.heads side
+pub record IsLeft (p q : Point) (side : Side) : Type 0 where
+  pub synced : p.synced side ≡ true
+  pub told : (r : ℕ) → q.told side r ≡ p.told side r
+  pub head : q.heads side ≡ p.heads side
 
 abbrev pub is_sync : StoreStep → Bool
 is_sync Syncs = true
 is_sync _ = false
 
 abbrev pub SyncedStays : Type 0
-SyncedStays = (st new : Stored) (x : StoreStep) (side : Side) → is_sync x ≡ false → IsStoreStep st x new → new.synced side ≡ true → IsLeft st new side
-
-abbrev pub EveryStoreRunIsRight : Type 0
-EveryStoreRunIsRight =
-    (L : List Record) (g : Rules) (limit : ℕ) (v : VaultState) (leave : Files → Bool)
-    (told : Told) (heads : Side → Head) (synced : Side → Bool)
-    → IsHistory L → rules_state (sizes_of L) L ≡ Some g → (last_epoch L).records ≡ []
-    → limit ≤ 268435456 → IsFreshStore L v (MayLeave leave)
-    → (xs : List StoreStep) (n : Stored) → IsStoreCourse (stored_start L g limit v leave told heads synced) xs n
-    → (F : Files) → MayLeave n.moment.leave F → LeavesRight (λ k. recovered (sizes_of L) L) L n.moment.core F
+SyncedStays = (p q : Point) (x : StoreStep) (side : Side) → is_sync x ≡ false → IsPointStep p x q → q.synced side ≡ true → IsLeft p q side

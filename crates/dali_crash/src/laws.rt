@@ -6,12 +6,12 @@ ghost use Rattle.dali_crash.specs.Checkpointed.{WorkedCheckpoint};
 ghost use Rattle.dali_crash.specs.CheckpointFaults.{WorkedFaults};
 ghost use Rattle.dali_crash.specs.Restarted.{WorkedRestart};
 ghost use Rattle.dali_crash.specs.Damaged.{DamagedRun};
-ghost use Rattle.dali_crash.specs.Restarts.{FormatHasRightBase, RestartHasRightBase, CrashIsHistory, CrashIsRight, RunIsRight, FlushedStays, AcknowledgedStays, CourseKeepsTheBase, FormatIsHistory, EveryRunIsRight};
+ghost use Rattle.dali_crash.specs.Restarts.{FormatHasRightBase, RestartHasRightBase, CrashIsHistory, CrashIsRight, RunIsRight, FlushedStays, AcknowledgedStays, CourseKeepsTheBase, FormatIsHistory};
 ghost use Rattle.dali_crash.specs.Fitting.{ButIsWhole, RedoesTheEpoch, RecoversFromImage};
 ghost use Rattle.dali_crash.specs.Starts.{FreshFits, RestartStarts};
-ghost use Rattle.dali_crash.specs.StoreRuns.{StoreStepKeeps, StoreCourseKeeps, TurnEnds, FlagStays, CourseFlagTells, FlagChanges, IdleLeavesImages, KeptStays, SyncedStays, FreshStarts, EveryStoreRunIsRight};
+ghost use Rattle.dali_crash.specs.StoreRuns.{StoreStepKeeps, StoreCourseKeeps, BareStoreCourseKeeps, TurnEnds, TurnLeaves, FlagStays, CourseFlagTells, FlagChanges, IdleLeavesImages, KeptStays, SyncedStays};
 ghost use Rattle.dali_crash.specs.Growth.{CourseGrows};
-ghost use Rattle.dali_crash.specs.Unpoked.{UnpokedRunIsRight, UnpokedStoreRunIsRight};
+ghost use Rattle.dali_crash.specs.Traces.{TraceGoesOn, FreshRests, CrashRests, FitsAtLast, StartRuns, BareStartRuns, EveryTraceIsRight, EveryMomentIsRight, FlushedTraces, AcknowledgedTraces, UnpokedTraceIsRight, EveryCoreTraceIsRight, UnpokedCoreTraceIsRight};
 
 /// Where no damage escapes a stop, the last epoch of what it leaves is honest.
 pub fn a_stop_is_honest()
@@ -53,7 +53,7 @@ pub fn a_restart_after_a_crash_is_right()
     ensures { CrashIsRight }
 {}
 
-/// Whatever a crash of a run leaves, a restart is right and keeps each commit that was acknowledged, unless a chain deletes it.
+/// Whatever a crash of a run leaves, each image by itself: a restart is right and keeps each commit that was acknowledged, unless a chain deletes it.
 pub fn a_run_may_crash_anywhere()
     ensures { RunIsRight }
 {}
@@ -76,23 +76,6 @@ pub fn steps_keep_the_base()
 /// The log of a store that was just formatted is a history.
 pub fn a_formatted_log_is_a_history()
     ensures { FormatIsHistory }
-{}
-
-/// From a format or a restart on, after any steps and a stop at any of them, a restart gives exactly the records of the survivors, and keeps each commit that was acknowledged, unless a chain deletes it.
-pub fn every_run_is_right()
-    ensures { EveryRunIsRight }
-{}
-
-/// Without a stray write a restart after a stop is right, wherever the stop came, and it deletes nobody of the epoch
-/// of these steps. Where a crash leaves none of their records, right behind a restart, the next one reports the lists
-/// of that one again.
-pub fn every_run_without_stray_writes_is_right()
-    ensures { UnpokedRunIsRight }
-{}
-
-/// So it is of a core with its store, and from its current image.
-pub fn every_run_with_its_store_and_without_stray_writes_is_right()
-    ensures { UnpokedStoreRunIsRight }
 {}
 
 /// A formatted store, one transaction that is flushed and one that looks for a key: the premises of each step are met.
@@ -134,15 +117,17 @@ pub fn each_store_step_keeps_a_run()
     ensures { StoreStepKeeps }
 {}
 
-/// So does each list of steps, in whatever order.
+/// So does each list of steps, in whatever order, and where nothing is said of crashes.
 pub fn each_list_of_store_steps_keeps_a_run()
-    ensures { StoreCourseKeeps }
+    ensures each { StoreCourseKeeps }
+    ensures bare { BareStoreCourseKeeps }
 {}
 
-/// Once the anchor moved, every crash image has the checkpoint's number, and its image stands at the
+/// Once the anchor moved, each crash image has the checkpoint's number, and its image stands at the
 /// record where the checkpoint began.
 pub fn a_checkpoint_ends()
-    ensures { TurnEnds }
+    ensures point { TurnEnds }
+    ensures image { TurnLeaves }
 {}
 
 /// Each step leaves the flag set where a checkpoint keeps what it took down.
@@ -157,7 +142,7 @@ pub fn a_flag_tells_its_checkpoint()
 
 /// Where no checkpoint keeps anything, as before its start and behind its anchor's move, a step leaves what the image
 /// files read, their heads, which of them is synced and the number of the current one, brings no place up to date, and
-/// what a crash may leave has all but its batches from before.
+/// a crash image has all but its batches from before.
 pub fn without_a_checkpoint_no_image_is_written()
     ensures { IdleLeavesImages }
 {}
@@ -177,26 +162,80 @@ pub fn the_flag_changes_at_starts_and_ends()
     ensures { FlagChanges }
 {}
 
-/// Along any steps the current number and the flushed records only grow, what was acknowledged stays so, and a vault
-/// that has stopped stays stopped.
+/// Along any steps the current number and the flushed records only grow, these stay as they are, what was acknowledged
+/// stays so, and a vault that has stopped stays stopped.
 pub fn steps_only_add()
     ensures { CourseGrows }
 {}
 
-/// A core that a format or a restart hands out is a run with its store.
-pub fn a_fresh_store_is_a_run()
-    ensures { FreshStarts }
+/// A crash image that came along steps, and one step more.
+pub fn a_trace_goes_on()
+    ensures { TraceGoesOn }
 {}
 
-/// From a format or a restart on, after any steps, those of checkpoints too, and a stop at any of them:
-/// the current image fits the log that the stop left, and where no damage escapes, a restart gives exactly
-/// the records of the survivors.
-pub fn every_run_with_its_store_is_right()
-    ensures { EveryStoreRunIsRight }
+/// The crash image of a store that was just formatted or restarted fits its log, whose last epoch is empty.
+pub fn a_fresh_store_is_at_rest()
+    ensures { FreshRests }
+{}
+
+/// So does a crash image of a run that restarts right, where its log has no record in its last epoch: a core may be made
+/// over it as it is.
+pub fn a_crash_image_may_be_at_rest()
+    ensures { CrashRests }
+{}
+
+/// Files that fit a history at rest, and behind whose image no record stands or Restarted alone, as a restart leaves them,
+/// fit at its last epoch, but where that Restarted closed an epoch without a record.
+pub fn files_that_a_restart_leaves_fit_at_the_last_epoch()
+    ensures { FitsAtLast }
+{}
+
+/// A core that is made over any such image is a run with its store; so is one of whose crashes nothing is said.
+pub fn a_store_at_rest_is_a_run()
+    ensures each { StartRuns }
+    ensures bare { BareStartRuns }
+{}
+
+/// From any crash image on that fits a history whose last epoch is empty, as a format and a restart leave one, each crash
+/// image that came along any steps, those of checkpoints too, fits its log but for missed regions; and where no damage
+/// escapes, a restart from it gives exactly the records of the survivors.
+pub fn every_trace_is_right()
+    ensures { EveryTraceIsRight }
+{}
+
+/// So is a restart from what a crash inside a step leaves, with what was acknowledged before the step.
+pub fn every_moment_is_right()
+    ensures { EveryMomentIsRight }
+{}
+
+/// So is one from each that came along the steps of a core alone, whose image files nobody looks at.
+pub fn every_trace_of_a_core_is_right()
+    ensures { EveryCoreTraceIsRight }
+{}
+
+/// What was flushed stands in each crash image that came along the steps, damage or not.
+pub fn what_was_flushed_stands_in_each_trace()
+    ensures { FlushedTraces }
+{}
+
+/// What was acknowledged is committed in it, damage or not.
+pub fn what_was_acknowledged_is_in_each_trace()
+    ensures { AcknowledgedTraces }
+{}
+
+/// Without a stray write a restart from it is right, wherever the stop came, and deletes nobody of the epoch of these
+/// steps. Where none of their records is in it, right behind a restart, the next one reports the lists of that one again.
+pub fn every_trace_without_stray_writes_is_right()
+    ensures { UnpokedTraceIsRight }
+{}
+
+/// So it is along the steps of a core alone.
+pub fn every_trace_of_a_core_without_stray_writes_is_right()
+    ensures { UnpokedCoreTraceIsRight }
 {}
 
 /// A formatted store, one transaction, and a checkpoint that ends: the premises of each of its steps are
-/// met, and a crash leaves its image.
+/// met, and its image comes along them.
 pub fn a_worked_checkpoint()
     ensures { WorkedCheckpoint }
 {}

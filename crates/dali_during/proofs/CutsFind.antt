@@ -14,7 +14,6 @@ use Rattle.dali_kept.specs.Kept.{uncommitted}
 use Rattle.dali_undos.specs.AsLeft.{FindAsLeft}
 use Rattle.dali_system.specs.Courses.{Step, Moment, IsCourse}
 use Rattle.dali_system.specs.Worked.{small, first_log, first_vault, look as found, kill_cell}
-use Rattle.dali_system.proofs.Worked.{first_store}
 use Rattle.dali_crash.specs.Worked.{look}
 use Rattle.dali_crash.specs.Restarted.{put, add}
 use Rattle.dali_crash.specs.Unpoked.{pokes}
@@ -24,9 +23,10 @@ use Rattle.dali_during.specs.Gaps.{put_so_far, killed_so_far}
 use Rattle.dali_during.specs.UndosFind.{FindsInInsert, FindsInDelete, FindsBelow}
 use Rattle.dali_during.proofs.UnpokedCourses.{unpoked_courses}
 use Rattle.dali_during.proofs.Gaps.{first, cell_put, cell_killed, put_so_far_course, killed_so_far_course}
+use Rattle.dali_system.proofs.Worked.{bare_store}
 
 finds_at : (xs : List Step) (n : Moment) → list_any pokes xs ≡ false → IsCourse first xs n → (order : List ℕ) → IsPermutation order (uncommitted (last_epoch n.log).records) → FindAsLeft (base_of n.core.system.sizes n.log) (last_epoch n.log).records (image_of n.core) order
-finds_at xs n quiet course = (unpoked_courses first_log (passes rules_start (Format 1 1)) 1000000 first_vault first.leave (format_is_history small (refl, refl)) refl refl (omega arith) first_store refl xs n quiet course).undos
+finds_at xs n quiet course = (unpoked_courses first_log (passes rules_start (Format 1 1)) 1000000 first_vault (format_is_history small (refl, refl)) refl refl (omega arith) bare_store refl xs n quiet course).undos
 
 pub finds_in_insert : FindsInInsert
 unfolding look put entries cells

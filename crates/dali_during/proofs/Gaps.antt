@@ -38,10 +38,10 @@ abbrev pub first : Moment
 first = start (formatted_image small)
 
 abbrev pub as_system : Moment → SystemState → Moment
-as_system m y = record { log = m.log; core = with_system m.core y; audits = m.audits; leave = m.leave }
+as_system m y = record { log = m.log; core = with_system m.core y; audits = m.audits }
 
 abbrev pub adding : Moment → Record → SystemState → Moment
-adding m x y = record { log = m.log ++ x ∷ []; core = with_system m.core y; audits = m.audits; leave = m.leave }
+adding m x y = record { log = m.log ++ x ∷ []; core = with_system m.core y; audits = m.audits }
 
 abbrev pub begun_1 : Moment
 begun_1 = adding first (Begin 1) (begun first.core.system)
@@ -140,34 +140,34 @@ is_kill_block = made_is_block (KillCell 1) 5 1 (heap_words 1) refl (omega arith)
 
 -- ---- the steps
 begins : IsStepAt first Begins begun_1
-begins = ((record { runs = refl; room = omega arith }, (refl, refl)), (λ F h. h), refl)
+begins = ((record { runs = refl; room = omega arith }, (refl, refl)), refl)
 
 asks : IsStepAt begun_1 (Asks 1 5 Exclusive) locked
-asks = ((ap (λ (row : Option TxnRow). is_some row) (added first.core.system.table 1 fresh_row 1), (λ u n d e. absurd (no_lock u 5 n e)), (refl, refl)), (λ F h. h), refl)
+asks = ((ap (λ (row : Option TxnRow). is_some row) (added first.core.system.table 1 fresh_row 1), (λ u n d e. absurd (no_lock u 5 n e)), (refl, refl)), refl)
 
 looks : IsStepAt (with_one locked 0 at_look) (Operates 1 look) looked
 unfolding look entries
-looks = ((at_look, record { runs = refl; room = omega arith }, record { runs = refl; spelled = (omega arith, is_look_block, refl); next = refl; by = logs_by _ Live (Forward 1 look) live_locked refl; kind = refl; locked = exclusive_covers false; at = refl; is_open = record { hold = refl; reads = refl; sound = λ h. refl; stands = λ h. refl } }, (refl, refl)), (λ F h. h), refl)
+looks = ((at_look, record { runs = refl; room = omega arith }, record { runs = refl; spelled = (omega arith, is_look_block, refl); next = refl; by = logs_by _ Live (Forward 1 look) live_locked refl; kind = refl; locked = exclusive_covers false; at = refl; is_open = record { hold = refl; reads = refl; sound = λ h. refl; stands = λ h. refl } }, (refl, refl)), refl)
 
 puts : IsStepAt (with_one looked 1 at_put) (Operates 1 put) cell_put
 unfolding look put entries cells
-puts = ((at_put, record { runs = refl; room = omega arith }, record { runs = refl; spelled = (omega arith, is_put_block, refl); next = refl; by = logs_by _ Live (Forward 1 put) live_looked refl; kind = refl; locked = exclusive_covers true; at = refl; is_open = record { hold = refl; reads = refl; sound = λ h. refl; stands = λ h. refl } }, (refl, refl)), (λ F h. h), refl)
+puts = ((at_put, record { runs = refl; room = omega arith }, record { runs = refl; spelled = (omega arith, is_put_block, refl); next = refl; by = logs_by _ Live (Forward 1 put) live_looked refl; kind = refl; locked = exclusive_covers true; at = refl; is_open = record { hold = refl; reads = refl; sound = λ h. refl; stands = λ h. refl } }, (refl, refl)), refl)
 
 adds : IsStepAt (with_one cell_put 0 at_add) (Operates 1 add) entry_added
 unfolding look put add entries cells
-adds = ((at_add, record { runs = refl; room = omega arith }, record { runs = refl; spelled = (omega arith, is_add_block, refl); next = refl; by = logs_by _ Live (Forward 1 add) live_put refl; kind = refl; locked = exclusive_covers true; at = refl; is_open = record { hold = refl; reads = refl; sound = λ h. refl; stands = λ h. refl } }, (refl, refl)), (λ F h. h), refl)
+adds = ((at_add, record { runs = refl; room = omega arith }, record { runs = refl; spelled = (omega arith, is_add_block, refl); next = refl; by = logs_by _ Live (Forward 1 add) live_put refl; kind = refl; locked = exclusive_covers true; at = refl; is_open = record { hold = refl; reads = refl; sound = λ h. refl; stands = λ h. refl } }, (refl, refl)), refl)
 
 pub answers : IsStepAt entry_added (Answers 1 (Insert 5 (0 ∷ [])) AnswerOk) inserted
 unfolding look put add entries cells
-answers = ((record { runs = refl; room = omega arith }, (omega arith, (omega arith, is_value), tt, refl), record { next = refl; by = logs_by _ Live (Done 1 (Insert 5 (0 ∷ [])) AnswerOk) live_added refl }, (refl, refl)), (λ F h. h), refl)
+answers = ((record { runs = refl; room = omega arith }, (omega arith, (omega arith, is_value), tt, refl), record { next = refl; by = logs_by _ Live (Done 1 (Insert 5 (0 ∷ [])) AnswerOk) live_added refl }, (refl, refl)), refl)
 
 finds : IsStepAt (with_one inserted 0 at_found) (Operates 1 found) found_again
 unfolding look put add found entries cells
-finds = ((at_found, record { runs = refl; room = omega arith }, record { runs = refl; spelled = (omega arith, is_found_block, refl); next = refl; by = logs_by _ Live (Forward 1 found) live_inserted refl; kind = refl; locked = exclusive_covers false; at = refl; is_open = record { hold = refl; reads = refl; sound = λ h. refl; stands = λ h. refl } }, (refl, refl)), (λ F h. h), refl)
+finds = ((at_found, record { runs = refl; room = omega arith }, record { runs = refl; spelled = (omega arith, is_found_block, refl); next = refl; by = logs_by _ Live (Forward 1 found) live_inserted refl; kind = refl; locked = exclusive_covers false; at = refl; is_open = record { hold = refl; reads = refl; sound = λ h. refl; stands = λ h. refl } }, (refl, refl)), refl)
 
 kills : IsStepAt (with_one found_again 1 at_kill_cell) (Operates 1 kill_cell) cell_killed
 unfolding look put add found kill_cell entries cells
-kills = ((at_kill_cell, record { runs = refl; room = omega arith }, record { runs = refl; spelled = (omega arith, is_kill_block, refl); next = refl; by = logs_by _ Live (Forward 1 kill_cell) live_found refl; kind = refl; locked = exclusive_covers true; at = refl; is_open = record { hold = refl; reads = refl; sound = λ h. refl; stands = λ h. refl } }, (refl, refl)), (λ F h. h), refl)
+kills = ((at_kill_cell, record { runs = refl; room = omega arith }, record { runs = refl; spelled = (omega arith, is_kill_block, refl); next = refl; by = logs_by _ Live (Forward 1 kill_cell) live_found refl; kind = refl; locked = exclusive_covers true; at = refl; is_open = record { hold = refl; reads = refl; sound = λ h. refl; stands = λ h. refl } }, (refl, refl)), refl)
 
 pub look_course : IsCourse locked (touching 1 look [] (Operates 1 look)) looked
 unfolding look entries cells

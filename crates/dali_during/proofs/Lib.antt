@@ -19,6 +19,5 @@ pub mod Lives
 pub mod Gaps
 pub mod OpenGaps
 pub mod CutsFind
-pub mod Same
 pub mod Whole
 pub mod Life

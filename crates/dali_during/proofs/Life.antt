@@ -1,109 +1,60 @@
 -- The worked life with its store: its checkpoint, its stop, and what a crash then leaves.
-use Rattle.std.proofs.Common.{◌≡◌, ℕ, zero, suc, ◌<◌, Bool, true, false, List, [], ◌∷◌, ◌++◌, map, Some, None, refl, ap, sym, subst, inl, arith}
+use Rattle.std.proofs.Common.{◌≡◌, ℕ, zero, suc, ◌<◌, true, false, List, [], ◌∷◌, ◌++◌, map, Some, None, refl, ap, inl, arith}
 use Rattle.std.specs.List.{list_any}
 use Rattle.std.proofs.lemmas.Bool.{or_parts}
 use Rattle.dali_record.specs.declared.records.Record.{Record}
 use Rattle.dali_record.specs.declared.records.Record.TheVariants.{Format, AuditBegin, AuditClean}
-use Rattle.dali_record.specs.Legal.{passes, rules_start, rules_state}
+use Rattle.dali_record.specs.Legal.{rules_state}
 use Rattle.dali_record.specs.Files.{Files}
 use Rattle.dali_heap.specs.Cells.{cells}
 use Rattle.dali_index.specs.Entries.{entries}
 use Rattle.dali_region.specs.declared.Side.TheVariants.{A}
 use Rattle.dali_region.specs.State.{RegionState, checked}
 use Rattle.dali_region.specs.Answers.{cleaned}
-use Rattle.dali_system.specs.State.{CoreState}
 use Rattle.dali_system.specs.Steps.{audit_begun, audit_ended, taken, store_stopped}
 use Rattle.dali_system.specs.Keeps.{with_system, with_region}
 use Rattle.dali_system.specs.Audits.{IsAuditing}
 use Rattle.dali_system.specs.Passes.{audits_with, has_passed, has_found, IsVerdict}
 use Rattle.dali_system.specs.Flushes.{with_vault, longer, faulted, frame_of}
-use Rattle.dali_system.specs.Courses.{Step, Begins, Operates, TakesBack, Frees, Answers, Commits, Ends, Locks as Asks, Refuses, OnRegion, AuditBegins, AuditEnds, Passes, Dies, Claims, GivesBack, Recovers, Checkpoints, Takes, Flushes, Faults, Stops, Moment, MayLeave, LeavesBy, IsCourse}
+use Rattle.dali_system.specs.Courses.{Step, AuditBegins, AuditEnds, Passes, Takes, Flushes, Faults, Stops, Moment, CoreTraced}
 use Rattle.dali_system.specs.ImageSteps.{told_with}
-use Rattle.dali_system.specs.Worked.{small, first_log, first_vault, look as found, kill_cell, kill_entry, free_cell, free_entry}
+use Rattle.dali_system.specs.Worked.{small, first_log, look as found, kill_cell, kill_entry, free_cell, free_entry, first_files, formatted_files}
 use Rattle.dali_system.proofs.Removal.{named_by}
-use Rattle.dali_system.proofs.Touching.{passing}
+use Rattle.dali_system.proofs.Touching.{passing, quiet_trace}
 use Rattle.dali_crash.specs.Worked.{look}
 use Rattle.dali_crash.specs.Restarted.{put, add}
-use Rattle.dali_crash.specs.Checkpoints.{Head, Copy, Stored, StoreStep, Does, Starts, Keeps, Copies, WritesHead, Syncs, Turns, Finishes, is_of_checkpoint, target, head_now, head_with, synced_with, copies_with, copies_after, IsCertified, MayTurn, IsStoreStep, IsStoreCourse, moment_with, with_current, with_flag, turned}
-use Rattle.dali_crash.specs.Checkpointed.{no_head, checkpoint_start}
-use Rattle.dali_crash.specs.StoreRuns.{CrashIsRightWith}
-use Rattle.dali_crash.proofs.Courses.{format_is_history}
-use Rattle.dali_crash.proofs.Checkpointed.{fresh, old_files, unwritten}
-use Rattle.dali_crash.proofs.Unpoked.{unpoked_store_run_is_right}
-use Rattle.dali_during.specs.During.{CourseIsQuiet}
+use Rattle.dali_crash.specs.Checkpoints.{Head, Copy, Point, StoreStep, Does, Starts, Keeps, Copies, WritesHead, Syncs, Turns, Finishes, is_of_checkpoint, target, head_now, head_with, synced_with, copies_with, copies_after, IsCertified, MayTurn, IsPointStep, with_current, with_flag, turned, Came, IsTurnedFrom, Traced, moment_of}
+use Rattle.dali_crash.specs.Checkpointed.{no_head, checkpoint_start, checkpoint_from}
+use Rattle.dali_crash.proofs.Checkpointed.{starts, right}
 use Rattle.dali_during.specs.Whole.{look_free, put_again, unput, before_checkpoint, worked, life, WorkedLife}
-use Rattle.dali_during.proofs.UnpokedCourses.{unpoked_store_courses}
-use Rattle.dali_during.proofs.Same.{same_files, files_are, files_self}
 use Rattle.dali_during.proofs.Gaps.{first}
 use Rattle.dali_during.proofs.Whole.{ready, index_now, heap_now, course_before}
+use Rattle.dali_crash.proofs.Traces.{join_point_traces, traced_course}
+use Rattle.dali_during.specs.During.{CourseIsQuiet}
+use Rattle.dali_during.proofs.UnpokedCourses.{unpoked_traces, unpoked_point_courses}
 
--- ---- whatever a crash may leave, where nothing is flushed
-abbrev is_flush : Step → Bool
-is_flush Flushes = true
-is_flush (Faults n) = true
-is_flush _ = false
+abbrev bare : Moment → Point
+bare m = record { log = m.log; core = m.core; audits = m.audits; told = λ side r. []; heads = λ side. no_head; synced = λ side. false; begun = None; copies = λ side r. None }
 
-abbrev with_leave : (Files → Bool) → Moment → Moment
-with_leave leave m = record { log = m.log; core = m.core; audits = m.audits; leave = leave }
-
-same_leave : (leave : Files → Bool) (L : List Record) (c : CoreState) (x : Step) → is_flush x ≡ false → LeavesBy leave leave L c x
-same_leave leave L c Begins e = λ F h. h
-same_leave leave L c (Operates t b) e = λ F h. h
-same_leave leave L c (TakesBack t b) e = λ F h. h
-same_leave leave L c (Frees p b) e = λ F h. h
-same_leave leave L c (Answers t k a) e = λ F h. h
-same_leave leave L c (Commits t) e = λ F h. h
-same_leave leave L c (Ends t) e = λ F h. h
-same_leave leave L c AuditBegins e = λ F h. h
-same_leave leave L c (AuditEnds b fs) e = λ F h. h
-same_leave leave L c (Asks t k m) e = λ F h. h
-same_leave leave L c (Refuses t k m o) e = λ F h. h
-same_leave leave L c (OnRegion r x) e = λ F h. h
-same_leave leave L c (Passes b r) e = λ F h. h
-same_leave leave L c (Dies t o) e = λ F h. h
-same_leave leave L c (Claims t) e = λ F h. h
-same_leave leave L c (GivesBack t o) e = λ F h. h
-same_leave leave L c (Recovers r) e = λ F h. h
-same_leave leave L c Stops e = λ F h. h
-same_leave leave L c (Checkpoints b) e = λ F h. h
-same_leave leave L c Takes e = λ F h. h
-same_leave leave L c Flushes e = absurd (cc)
-same_leave leave L c (Faults n) e = absurd (cc)
-
-relabel : (leave : Files → Bool) (m n : Moment) (xs : List Step) → list_any is_flush xs ≡ false → IsCourse m xs n → IsCourse (with_leave leave m) xs (with_leave leave n)
-relabel leave m n [] quiet course = ap (with_leave leave) course
-relabel leave m n (x ∷ xs) quiet course = let p = or_parts (is_flush x) (list_any is_flush xs) quiet in (with_leave leave course.0, (course.1.0, same_leave leave m.log m.core x p.0, course.1.2), relabel leave course.0 n xs p.1 course.2)
-
--- ---- a store before its first checkpoint
-abbrev bare : Moment → Stored
-bare m = record { moment = m; told = λ side r. []; heads = λ side. no_head; synced = λ side. false; begun = None; copies = λ side r. None }
-
-does_all : (m n : Moment) (xs : List Step) → list_any is_of_checkpoint xs ≡ false → IsCourse m xs n → IsStoreCourse (bare m) (map Does xs) (bare n)
-does_all m n [] quiet course = ap bare course
-does_all m n (x ∷ xs) quiet course = let p = or_parts (is_of_checkpoint x) (list_any is_of_checkpoint xs) quiet in (bare course.0, (p.0, course.1, refl), does_all course.0 n xs p.1 course.2)
-
-join_store : (st mid new : Stored) (xs ys : List StoreStep) → IsStoreCourse st xs mid → IsStoreCourse mid ys new → IsStoreCourse st (xs ++ ys) new
-join_store st mid new [] ys p q = subst (λ (k : Stored). IsStoreCourse k ys new) (sym p) q
-join_store st mid new (x ∷ xs) ys p q = (p.0, p.1, join_store p.0 mid new xs ys p.2 q)
+does_bare : (m n : Moment) (xs : List Step) (D F : Files) → list_any is_of_checkpoint xs ≡ false → CoreTraced m D xs n F → Traced (bare m) D (map Does xs) (bare n) F
+does_bare m n [] D F quiet t = (ap bare t.0, t.1)
+does_bare m n (x ∷ xs) D F quiet t = let p = or_parts (is_of_checkpoint x) (list_any is_of_checkpoint xs) quiet in (bare t.0, t.1, (p.0, t.2, refl), t.3, does_bare t.0 n xs t.1 F p.1 t.4)
 
 -- ---- the moments
-abbrev after : Stored → Step → Moment → Stored
-after st x n = record st { moment = n; copies = copies_after st.moment.core x st.copies }
+abbrev after : Point → Step → Moment → Point
+after st x n = record st { log = n.log; core = n.core; audits = n.audits; copies = copies_after st.core x st.copies }
 
-abbrev s0 : Stored
-s0 = bare (with_leave checkpoint_start.moment.leave ready)
+abbrev s0 : Point
+s0 = bare ready
 
-abbrev s1 : Stored
-s1 = record s0 { moment = moment_with s0 (with_flag s0.moment.core true) s0.moment.leave }
+abbrev s1 : Point
+s1 = record s0 { core = (with_flag s0.core true) }
 
-abbrev in_hand : Stored → Stored
-in_hand st = after st Takes (record { log = st.moment.log; core = with_system st.moment.core (taken st.moment.core.system); audits = st.moment.audits; leave = st.moment.leave })
+abbrev in_hand : Point → Point
+in_hand st = after st Takes (record { log = st.log; core = with_system st.core (taken st.core.system); audits = st.audits })
 
-abbrev flushed_to : Stored → Files → Stored
-flushed_to st X = after st Flushes (record { log = st.moment.log; core = with_vault st.moment.core (longer st.moment.core.vault (frame_of st.moment.log st.moment.core)); audits = st.moment.audits; leave = λ F. same_files F X })
-
-abbrev one : List (List Record)
-one = (Format 1 1 ∷ []) ∷ []
+abbrev flushed_to : Point → Point
+flushed_to st = after st Flushes (record { log = st.log; core = with_vault st.core (longer st.core.vault (frame_of st.log st.core)); audits = st.audits })
 
 abbrev two : List (List Record)
 two = (Format 1 1 ∷ []) ∷ worked ∷ []
@@ -111,55 +62,59 @@ two = (Format 1 1 ∷ []) ∷ worked ∷ []
 abbrev three : List (List Record)
 three = (Format 1 1 ∷ []) ∷ worked ∷ (AuditBegin ∷ AuditClean 24 ∷ []) ∷ []
 
-abbrev s2 : Stored
+-- the files of the format, with these batches
+unfoldable old_files : List (List Record) → Files
+old_files bs = formatted_files bs
+
+abbrev s2 : Point
 s2 = in_hand s1
 
-abbrev s3 : Stored
-s3 = flushed_to s2 (old_files two)
+abbrev s3 : Point
+s3 = flushed_to s2
 
 abbrev new_head : Head
-new_head = head_now s3.moment.log s3.moment.core
+new_head = head_now s3.log s3.core
 
-abbrev s4 : Stored
+abbrev s4 : Point
 s4 = record s3 { begun = Some new_head }
 
-abbrev copied : Stored → ℕ → RegionState → Stored
+abbrev copied : Point → ℕ → RegionState → Point
 copied st r g = record st {
-  moment = moment_with st (with_region st.moment.core r (cleaned (target st) g)) st.moment.leave;
+  core = (with_region st.core r (cleaned (target st) g));
   told = told_with st.told (target st) r g.back;
   synced = synced_with st.synced (target st) false;
   copies = copies_with st.copies (target st) r (Some (record { at = 24; passed = false }));
 }
 
-abbrev s5 : Stored
+abbrev s5 : Point
 s5 = copied s4 0 index_now
 
-abbrev s6 : Stored
+abbrev s6 : Point
 s6 = copied s5 1 heap_now
 
-abbrev s7 : Stored
-s7 = record s6 { moment = moment_with s6 s6.moment.core s6.moment.leave; heads = head_with s6.heads (target s6) new_head; synced = synced_with s6.synced (target s6) false }
+abbrev s7 : Point
+s7 = record s6 { heads = head_with s6.heads (target s6) new_head; synced = synced_with s6.synced (target s6) false }
 
-abbrev s8 : Stored
-s8 = after s7 AuditBegins (record { log = s7.moment.log ++ AuditBegin ∷ []; core = with_system s7.moment.core (audit_begun s7.moment.core.system); audits = audits_with s7.moment.audits 24 []; leave = s7.moment.leave })
+abbrev s8 : Point
+s8 = after s7 AuditBegins (record { log = s7.log ++ AuditBegin ∷ []; core = with_system s7.core (audit_begun s7.core.system); audits = audits_with s7.audits 24 [] })
 
-abbrev s9 : Stored
-s9 = after s8 (Passes 24 0) (passing s8.moment 24 0 (checked (cleaned A index_now)))
+abbrev s9 : Point
+s9 = after s8 (Passes 24 0) (passing (moment_of s8) 24 0 (checked (cleaned A index_now)))
 
-abbrev s10 : Stored
-s10 = after s9 (Passes 24 1) (passing s9.moment 24 1 (checked (cleaned A heap_now)))
+abbrev s10 : Point
+s10 = after s9 (Passes 24 1) (passing (moment_of s9) 24 1 (checked (cleaned A heap_now)))
 
-abbrev s11 : Stored
-s11 = after s10 (AuditEnds 24 []) (record { log = s10.moment.log ++ AuditClean 24 ∷ []; core = with_system s10.moment.core (audit_ended s10.moment.core.system 24 []); audits = s10.moment.audits; leave = s10.moment.leave })
+abbrev s11 : Point
+s11 = after s10 (AuditEnds 24 []) (record { log = s10.log ++ AuditClean 24 ∷ []; core = with_system s10.core (audit_ended s10.core.system 24 []); audits = s10.audits })
 
-abbrev s12 : Stored
+abbrev s12 : Point
 s12 = in_hand s11
 
-abbrev s13 : Stored
-s13 = flushed_to s12 (old_files three)
+abbrev s13 : Point
+s13 = flushed_to s12
 
-abbrev s14 : Stored
-s14 = record s13 { moment = moment_with s13 s13.moment.core s13.moment.leave; synced = synced_with s13.synced (target s13) true }
+abbrev s14 : Point
+s14 = record s13 { synced = synced_with s13.synced (target s13) true }
 
 abbrev new_image : List (List ℕ)
 new_image = index_now.back ∷ heap_now.back ∷ []
@@ -167,100 +122,92 @@ new_image = index_now.back ∷ heap_now.back ∷ []
 unfoldable crash : Files
 crash = turned (old_files three) new_head new_image
 
-abbrev s15 : Stored
-s15 = record s14 { moment = moment_with s14 (with_current s14.moment.core) (λ F. same_files F crash); begun = None }
+abbrev s15 : Point
+s15 = record s14 { core = (with_current s14.core); begun = None }
 
-abbrev s16 : Stored
-s16 = record s15 { moment = moment_with s15 (with_flag s15.moment.core false) s15.moment.leave; begun = None }
+abbrev s16 : Point
+s16 = record s15 { core = (with_flag s15.core false); begun = None }
 
-abbrev s17 : Stored
-s17 = after s16 (Faults 1) (record { log = s16.moment.log; core = with_vault s16.moment.core (faulted s16.moment.core.vault 1); audits = s16.moment.audits; leave = s16.moment.leave })
+abbrev s17 : Point
+s17 = after s16 (Faults 1) (record { log = s16.log; core = with_vault s16.core (faulted s16.core.vault 1); audits = s16.audits })
 
-abbrev s18 : Stored
-s18 = after s17 Stops (record { log = s17.moment.log; core = with_system s17.moment.core (store_stopped s17.moment.core.system); audits = s17.moment.audits; leave = s17.moment.leave })
+abbrev s18 : Point
+s18 = after s17 Stops (record { log = s17.log; core = with_system s17.core (store_stopped s17.core.system); audits = s17.audits })
 
 -- ---- the steps
-no_table : (bs : List (List Record)) → (old_files bs).table ≡ []
-unfolding old_files
-no_table bs = refl
-
-crash_table : crash.table ≡ []
-unfolding crash look put add found kill_cell kill_entry free_cell free_entry look_free put_again unput entries cells
-crash_table = refl
-
-t1 : IsStoreStep s0 Starts s1
+t1 : IsPointStep s0 Starts s1
 unfolding look put add found kill_cell kill_entry free_cell free_entry look_free put_again unput entries cells
 t1 = (refl, refl)
 
-t2 : IsStoreStep s1 (Does Takes) s2
+t2 : IsPointStep s1 (Does Takes) s2
 unfolding look put add found kill_cell kill_entry free_cell free_entry look_free put_again unput entries cells
-t2 = (refl, ((refl, refl), (λ F h. h), refl), refl)
+t2 = (refl, ((refl, refl), refl), refl)
 
-t3 : IsStoreStep s2 (Does Flushes) s3
-unfolding look put add found kill_cell kill_entry free_cell free_entry look_free put_again unput entries cells old_files
-t3 = (refl, ((refl, (refl, refl)), record { each = λ F h. (old_files one, refl, files_are F (old_files two) (no_table two) h) }, refl), refl)
+t3 : IsPointStep s2 (Does Flushes) s3
+unfolding look put add found kill_cell kill_entry free_cell free_entry look_free put_again unput entries cells
+t3 = (refl, ((refl, (refl, refl)), refl), refl)
 
-t4 : IsStoreStep s3 Keeps s4
+t4 : IsPointStep s3 Keeps s4
 unfolding look put add found kill_cell kill_entry free_cell free_entry look_free put_again unput entries cells
 t4 = (refl, refl, refl, refl, refl)
 
-t5 : IsStoreStep s4 (Copies 0 24) s5
+t5 : IsPointStep s4 (Copies 0 24) s5
 unfolding look put add found kill_cell kill_entry free_cell free_entry look_free put_again unput entries cells
-t5 = (index_now, refl, record { runs = refl; under_way = refl }, refl, record { within = omega arith; none = refl }, unwritten s4, refl)
+t5 = (index_now, refl, record { runs = refl; under_way = refl }, refl, record { within = omega arith; none = refl }, refl)
 
-t6 : IsStoreStep s5 (Copies 1 24) s6
+t6 : IsPointStep s5 (Copies 1 24) s6
 unfolding look put add found kill_cell kill_entry free_cell free_entry look_free put_again unput entries cells
-t6 = (heap_now, refl, record { runs = refl; under_way = refl }, refl, record { within = omega arith; none = refl }, unwritten s5, refl)
+t6 = (heap_now, refl, record { runs = refl; under_way = refl }, refl, record { within = omega arith; none = refl }, refl)
 
-t7 : IsStoreStep s6 (WritesHead new_head) s7
+t7 : IsPointStep s6 (WritesHead new_head) s7
 unfolding look put add found kill_cell kill_entry free_cell free_entry look_free put_again unput entries cells
-t7 = (record { runs = refl; under_way = refl }, unwritten s6, refl)
+t7 = (record { runs = refl; under_way = refl }, refl)
 
-t8 : IsStoreStep s7 (Does AuditBegins) s8
+t8 : IsPointStep s7 (Does AuditBegins) s8
 unfolding look put add found kill_cell kill_entry free_cell free_entry look_free put_again unput entries cells
-t8 = (refl, ((refl, omega arith, (refl, refl)), (λ F h. h), refl), refl)
+t8 = (refl, ((refl, omega arith, (refl, refl)), refl), refl)
 
-is_auditing : IsAuditing small s8.moment.log 24
+is_auditing : IsAuditing small s8.log 24
 unfolding look put add found kill_cell kill_entry free_cell free_entry look_free put_again unput entries cells
-is_auditing = record { named = named_by 24 (rules_state small s8.moment.log) refl; within = omega arith }
+is_auditing = record { named = named_by 24 (rules_state small s8.log) refl; within = omega arith }
 
-t9 : IsStoreStep s8 (Does (Passes 24 0)) s9
+t9 : IsPointStep s8 (Does (Passes 24 0)) s9
 unfolding look put add found kill_cell kill_entry free_cell free_entry look_free put_again unput entries cells
-t9 = (refl, ((cleaned A index_now, refl, (refl, refl)), (λ F h. h), (record { auditing = is_auditing; unpassed = refl }, refl)), refl)
+t9 = (refl, ((cleaned A index_now, refl, (refl, refl)), (record { auditing = is_auditing; unpassed = refl }, refl)), refl)
 
-t10 : IsStoreStep s9 (Does (Passes 24 1)) s10
+t10 : IsPointStep s9 (Does (Passes 24 1)) s10
 unfolding look put add found kill_cell kill_entry free_cell free_entry look_free put_again unput entries cells
-t10 = (refl, ((cleaned A heap_now, refl, (refl, refl)), (λ F h. h), (record { auditing = is_auditing; unpassed = refl }, refl)), refl)
+t10 = (refl, ((cleaned A heap_now, refl, (refl, refl)), (record { auditing = is_auditing; unpassed = refl }, refl)), refl)
 
-verdict : IsVerdict small (s10.moment.audits 24) []
+verdict : IsVerdict small (s10.audits 24) []
 unfolding look put add found kill_cell kill_entry free_cell free_entry look_free put_again unput entries cells
 verdict = record { passed = passed_all; named = named_none }
   where
-    passed_all : (r : ℕ) → r < 2 → has_passed (s10.moment.audits 24) r ≡ true
+    passed_all : (r : ℕ) → r < 2 → has_passed (s10.audits 24) r ≡ true
     passed_all zero h = refl
     passed_all (suc zero) h = refl
     passed_all (suc (suc r)) h = absurd (omega (arith, h))
 
-    named_none : (r : ℕ) → r < 2 → false ≡ has_found (s10.moment.audits 24) r
+    named_none : (r : ℕ) → r < 2 → false ≡ has_found (s10.audits 24) r
     named_none zero h = refl
     named_none (suc zero) h = refl
     named_none (suc (suc r)) h = absurd (omega (arith, h))
 
-t11 : IsStoreStep s10 (Does (AuditEnds 24 [])) s11
+t11 : IsPointStep s10 (Does (AuditEnds 24 [])) s11
 unfolding look put add found kill_cell kill_entry free_cell free_entry look_free put_again unput entries cells
-t11 = (refl, ((record { runs = refl; auditing = is_auditing; spelled = omega arith; numbers = refl }, (refl, refl)), (λ F h. h), (verdict, refl)), refl)
+t11 = (refl, ((record { runs = refl; auditing = is_auditing; spelled = omega arith; numbers = refl }, (refl, refl)), (verdict, refl)), refl)
 
-t12 : IsStoreStep s11 (Does Takes) s12
+t12 : IsPointStep s11 (Does Takes) s12
 unfolding look put add found kill_cell kill_entry free_cell free_entry look_free put_again unput entries cells
-t12 = (refl, ((refl, refl), (λ F h. h), refl), refl)
+t12 = (refl, ((refl, refl), refl), refl)
 
-t13 : IsStoreStep s12 (Does Flushes) s13
-unfolding look put add found kill_cell kill_entry free_cell free_entry look_free put_again unput entries cells old_files
-t13 = (refl, ((refl, (refl, refl)), record { each = λ F h. (old_files two, files_self (old_files two) (no_table two), files_are F (old_files three) (no_table three) h) }, refl), refl)
-
-t14 : IsStoreStep s13 Syncs s14
+t13 : IsPointStep s12 (Does Flushes) s13
 unfolding look put add found kill_cell kill_entry free_cell free_entry look_free put_again unput entries cells
-t14 = (record { runs = refl; under_way = refl }, λ F h. h, refl)
+t13 = (refl, ((refl, (refl, refl)), refl), refl)
+
+t14 : IsPointStep s13 Syncs s14
+unfolding look put add found kill_cell kill_entry free_cell free_entry look_free put_again unput entries cells
+t14 = (record { runs = refl; under_way = refl }, refl)
 
 both : (P : ℕ → Type 0) → P 0 → P 1 → (r : ℕ) → r < 2 → P r
 both P a b zero h = a
@@ -279,29 +226,28 @@ may = record {
   copies = both (λ r. (c : Copy) × (s14.copies (target s14) r ≡ Some c) × IsCertified new_head 24 c) (record { at = 24; passed = true }, refl, record { since = omega arith; until = omega arith; passed = refl }) (record { at = 24; passed = true }, refl, record { since = omega arith; until = omega arith; passed = refl });
 }
 
-t15 : IsStoreStep s14 Turns s15
-unfolding look put add found kill_cell kill_entry free_cell free_entry look_free put_again unput entries cells crash old_files
+t15 : IsPointStep s14 Turns s15
+unfolding look put add found kill_cell kill_entry free_cell free_entry look_free put_again unput entries cells
 t15 = (
   new_head,
   24,
   25,
   record { runs = refl; under_way = refl },
   may,
-  record { each = λ F l. (old_files three, files_self (old_files three) (no_table three), (new_head, new_image, record { head_is = λ e. refl; image_is = λ e. refl }, files_are F crash crash_table l)) },
   refl,
 )
 
-t16 : IsStoreStep s15 Finishes s16
+t16 : IsPointStep s15 Finishes s16
 unfolding look put add found kill_cell kill_entry free_cell free_entry look_free put_again unput entries cells
 t16 = (refl, refl)
 
-t17 : IsStoreStep s16 (Does (Faults 1)) s17
+t17 : IsPointStep s16 (Does (Faults 1)) s17
 unfolding look put add found kill_cell kill_entry free_cell free_entry look_free put_again unput entries cells
-t17 = (refl, ((refl, inl (omega arith), (refl, refl)), record { each = λ F h. (F, h, inl refl) }, refl), refl)
+t17 = (refl, ((refl, inl (omega arith), (refl, refl)), refl), refl)
 
-t18 : IsStoreStep s17 (Does Stops) s18
+t18 : IsPointStep s17 (Does Stops) s18
 unfolding look put add found kill_cell kill_entry free_cell free_entry look_free put_again unput entries cells
-t18 = (refl, ((refl, (refl, refl)), (λ F h. h), refl), refl)
+t18 = (refl, ((refl, (refl, refl)), refl), refl)
 
 abbrev ending : List StoreStep
 ending =
@@ -310,36 +256,50 @@ ending =
     ∷ Does AuditBegins ∷ Does (Passes 24 0) ∷ Does (Passes 24 1) ∷ Does (AuditEnds 24 []) ∷ Does Takes ∷ Does Flushes
     ∷ Syncs ∷ Turns ∷ Finishes ∷ Does (Faults 1) ∷ Does Stops ∷ []
 
-end_course : IsStoreCourse s0 ending s18
-end_course = (s1, t1, (s2, t2, (s3, t3, (s4, t4, (s5, t5, (s6, t6, (s7, t7, (s8, t8, (s9, t9, (s10, t10, (s11, t11, (s12, t12, (s13, t13, (s14, t14, (s15, t15, (s16, t16, (s17, t17, (s18, t18, refl))))))))))))))))))
+came_two : Came s2 (Does Flushes) first_files (old_files two)
+unfolding look put add found kill_cell kill_entry free_cell free_entry look_free put_again unput entries cells old_files
+came_two = refl
 
-life_course : IsStoreCourse checkpoint_start (life new_head) s18
-life_course = join_store checkpoint_start s0 s18 (map Does before_checkpoint) ending (does_all (with_leave checkpoint_start.moment.leave first) (with_leave checkpoint_start.moment.leave ready) before_checkpoint refl (relabel checkpoint_start.moment.leave first ready before_checkpoint refl course_before)) end_course
+came_three : Came s12 (Does Flushes) (old_files two) (old_files three)
+unfolding look put add found kill_cell kill_entry free_cell free_entry look_free put_again unput entries cells old_files
+came_three = refl
+
+came_turned : IsTurnedFrom s14 (old_files three) crash
+unfolding look put add found kill_cell kill_entry free_cell free_entry look_free put_again unput entries cells old_files crash
+came_turned = (new_head, new_image, record { head_is = λ e. refl; image_is = λ e. refl }, refl)
+
+turn_trace : Traced s13 (old_files three) (Syncs ∷ Turns ∷ Finishes ∷ Does (Faults 1) ∷ Does Stops ∷ []) s18 crash
+turn_trace = (s14, old_files three, t14, refl, (s15, crash, t15, came_turned, (s16, crash, t16, refl, (s17, crash, t17, inl refl, (s18, crash, t18, refl, (refl, refl))))))
+
+audit_trace : Traced s7 (old_files two) (Does AuditBegins ∷ Does (Passes 24 0) ∷ Does (Passes 24 1) ∷ Does (AuditEnds 24 []) ∷ Does Takes ∷ Does Flushes ∷ Syncs ∷ Turns ∷ Finishes ∷ Does (Faults 1) ∷ Does Stops ∷ []) s18 crash
+audit_trace = (s8, old_files two, t8, refl, (s9, old_files two, t9, refl, (s10, old_files two, t10, refl, (s11, old_files two, t11, refl, (s12, old_files two, t12, refl, (s13, old_files three, t13, came_three, turn_trace))))))
+
+end_trace : Traced s0 first_files ending s18 crash
+end_trace = (s1, first_files, t1, refl, (s2, first_files, t2, refl, (s3, old_files two, t3, came_two, (s4, old_files two, t4, refl, (s5, old_files two, t5, inl refl, (s6, old_files two, t6, inl refl, (s7, old_files two, t7, inl refl, audit_trace)))))))
+
+life_trace : Traced checkpoint_start first_files (life new_head) s18 crash
+life_trace =
+    join_point_traces checkpoint_start s0 s18 first_files first_files crash (map Does before_checkpoint) ending
+    (does_bare first ready before_checkpoint first_files first_files refl (quiet_trace first ready before_checkpoint first_files refl course_before))
+    end_trace
 
 -- ---- what is left
-left : MayLeave s18.moment.leave crash
-left = files_self crash crash_table
-
-restarts : CrashIsRightWith first_log s18.moment.core crash
-restarts = (unpoked_store_run_is_right first_log (passes rules_start (Format 1 1)) 1000000 first_vault checkpoint_start.moment.leave (λ side r. []) (λ side. no_head) (λ side. false) (format_is_history small (refl, refl)) refl refl (omega arith) fresh (life new_head) s18 refl life_course crash left).0
-
-is_quiet : CourseIsQuiet first_log s18.moment
-is_quiet = unpoked_store_courses first_log (passes rules_start (Format 1 1)) 1000000 first_vault checkpoint_start.moment.leave (λ side r. []) (λ side. no_head) (λ side. false) (format_is_history small (refl, refl)) refl refl (omega arith) fresh (life new_head) s18 refl life_course
+is_quiet : CourseIsQuiet first_log (moment_of s18)
+is_quiet = unpoked_point_courses checkpoint_from starts.history starts.rules starts.rests.none starts.fits starts.rests.vault (life new_head) s18 refl (traced_course checkpoint_start s18 first_files crash (life new_head) life_trace)
 
 pub worked_life : WorkedLife
 unfolding look put add found kill_cell kill_entry free_cell free_entry look_free put_again unput entries cells crash old_files
 worked_life = record {
   head = new_head;
   finish = s18;
-  course = life_course;
+  crash = crash;
+  trace = life_trace;
   unpoked = refl;
   stop = refl;
-  crash = crash;
-  left = left;
   gates = refl;
   first = refl;
   batches = refl;
-  survive = is_quiet.none_deleted_after (refl, tt) crash left;
-  right = restarts;
+  survive = (unpoked_traces checkpoint_from first_files starts (life new_head) s18 crash refl life_trace).none_deleted (refl, tt);
+  right = right (life new_head) s18 crash refl life_trace;
   quiet = is_quiet;
 }

@@ -11,10 +11,12 @@ use Rattle.dali_headline.proofs.Undamaged.{all_survive}
 use Rattle.dali_system.specs.Run.{log_in}
 use Rattle.dali_crash.proofs.Courses.{format_is_history}
 use Rattle.dali_crash.proofs.Starts.{restart_starts}
-use Rattle.dali_crash.proofs.Unpoked.{unpoked_store_run_is_right}
 use Rattle.dali_during.specs.During.{NoneFailed}
 use Rattle.dali_during.specs.Reported.{Life, restarted, IsLife, AreLives, IsWholeLog, NobodyIsDeleted}
-use Rattle.dali_during.proofs.UnpokedCourses.{all_and_last, unpoked_store_courses}
+use Rattle.dali_during.proofs.UnpokedCourses.{all_and_last, unpoked_traces}
+use Rattle.dali_crash.specs.Traces.{Start, StartsAt}
+use Rattle.dali_crash.specs.StoreRuns.{CrashIsRightWith}
+use Rattle.dali_crash.proofs.Traces.{unpoked_trace_is_right}
 
 -- a restart's record begins an epoch in which no audit failed
 none_failed_restart : (K : List Record) (rs ds : List ℕ) → NoneFailed K → NoneFailed (K ++ Restarted rs ds ∷ [])
@@ -32,11 +34,17 @@ restarts_whole K (r ∷ E) history failed e =
 life_whole : (L : List Record) (x : Life) (M : List Record) → IsWholeLog L → IsLife L x M → IsWholeLog M
 life_whole L x M whole life = subst IsWholeLog (sym life.log) (restarts_whole (log_in x.crash) (last_epoch (log_in x.crash)).records right.restarts.history failed refl)
   where
-    right : Rattle.dali_crash.specs.StoreRuns.CrashIsRightWith L x.finish.moment.core x.crash
-    right = (unpoked_store_run_is_right L x.rules x.limit x.vault x.leave x.told x.heads x.synced whole.history life.rules whole.none_open life.limit life.fresh x.steps x.finish life.unpoked life.course x.crash life.left).0
+    start : Start
+    start = record { log = L; rules = x.rules; limit = x.limit; vault = x.vault; told = x.told; heads = x.heads; synced = x.synced }
+
+    from : StartsAt start x.first
+    from = record { history = whole.history; rules = life.rules; fits = life.limit; rests = life.rests }
+
+    right : CrashIsRightWith L x.finish.core x.crash
+    right = (unpoked_trace_is_right start x.first from x.steps x.finish x.crash life.unpoked life.trace).0
 
     failed : NoneFailed (log_in x.crash)
-    failed = (unpoked_store_courses L x.rules x.limit x.vault x.leave x.told x.heads x.synced whole.history life.rules whole.none_open life.limit life.fresh x.steps x.finish life.unpoked life.course).none_failed_after whole.none_failed x.crash life.left
+    failed = (unpoked_traces start x.first from x.steps x.finish x.crash life.unpoked life.trace).none_failed whole.none_failed
 
 lives_whole : (L : List Record) (xs : List Life) (M : List Record) → IsWholeLog L → AreLives L xs M → IsWholeLog M
 lives_whole L [] M whole e = subst IsWholeLog (sym e) whole

@@ -14,7 +14,6 @@ use Rattle.dali_record.specs.Legal.{passes, rules_start}
 use Rattle.dali_record.specs.declared.records.Record.TheVariants.{Format}
 use Rattle.dali_system.specs.Courses.{Step, Moment, IsCourse}
 use Rattle.dali_system.specs.Worked.{small, first_log, first_vault, look as found, kill_cell}
-use Rattle.dali_system.proofs.Worked.{first_store}
 use Rattle.dali_crash.specs.Worked.{look}
 use Rattle.dali_crash.specs.Restarted.{put, add}
 use Rattle.dali_crash.proofs.Courses.{format_is_history}
@@ -24,6 +23,7 @@ use Rattle.dali_during.specs.During.{image_of, HasGap, IsIndexedNow}
 use Rattle.dali_during.specs.Gaps.{put_so_far, killed_so_far, CutInInsert, CutInDelete}
 use Rattle.dali_during.proofs.UnpokedCourses.{unpoked_courses}
 use Rattle.dali_during.proofs.Gaps.{first, cell_put, cell_killed, put_so_far_course, killed_so_far_course}
+use Rattle.dali_system.proofs.Worked.{bare_store}
 
 -- ---- a gap that is open is the only one
 only_cell : (s : Sizes) (image : List (List ℕ)) (k p : ℕ) (g : Gap) → IsCellAlone s image k p → Fits s image k g → g ≡ CellAlone p
@@ -40,7 +40,7 @@ has_gap : (m : Moment) (gap : Gap) → IsIndexedNow m.log m.core → ((now : IsI
 has_gap m gap now only is_open = ⊎_elim (λ e. absurd (is_open (sym (only now) ∙ e))) (λ h. h) (now.whose 5)
 
 now_at : (xs : List Step) (n : Moment) → list_any pokes xs ≡ false → IsCourse first xs n → IsIndexedNow n.log n.core
-now_at xs n quiet course = (unpoked_courses first_log (passes rules_start (Format 1 1)) 1000000 first_vault first.leave (format_is_history small (refl, refl)) refl refl (omega arith) first_store refl xs n quiet course).indexed
+now_at xs n quiet course = (unpoked_courses first_log (passes rules_start (Format 1 1)) 1000000 first_vault (format_is_history small (refl, refl)) refl refl (omega arith) bare_store refl xs n quiet course).indexed
 
 -- ---- all numbers below one
 abbrev all_below : ℕ → (ℕ → Bool) → Bool

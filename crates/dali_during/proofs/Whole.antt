@@ -104,7 +104,7 @@ m1 = adding inserted (Commit 1) (commit_logged inserted.core.system 1)
 
 to_m1 : IsStepAt inserted (Commits 1) m1
 unfolding look put add found kill_cell kill_entry free_cell free_entry look_free put_again unput entries cells
-to_m1 = ((refl, record { next = refl; by = logs_by _ Live (Commit 1) live_added refl }, (refl, refl)), (λ F h. h), refl)
+to_m1 = ((refl, record { next = refl; by = logs_by _ Live (Commit 1) live_added refl }, (refl, refl)), refl)
 
 live_m1 : state_of m1.core.system 1 ≡ Some Committed
 live_m1 = commit_state inserted.core.system 1 Live live_added
@@ -120,14 +120,14 @@ m2 = adding m1 (Ended 1) (ended_logged m1.core.system 1)
 
 to_m2 : IsStepAt m1 (Ends 1) m2
 unfolding look put add found kill_cell kill_entry free_cell free_entry look_free put_again unput entries cells
-to_m2 = ((refl, (record { next = refl; by = logs_by _ (Committed) (Ended 1) live_m1 refl }, idle_m1), (refl, refl)), (λ F h. h), refl)
+to_m2 = ((refl, (record { next = refl; by = logs_by _ (Committed) (Ended 1) live_m1 refl }, idle_m1), (refl, refl)), refl)
 
 abbrev m3 : Moment
 m3 = adding m2 (Begin 2) (begun m2.core.system)
 
 to_m3 : IsStepAt m2 (Begins) m3
 unfolding look put add found kill_cell kill_entry free_cell free_entry look_free put_again unput entries cells
-to_m3 = ((record { runs = refl; room = omega arith }, (refl, refl)), (λ F h. h), refl)
+to_m3 = ((record { runs = refl; room = omega arith }, (refl, refl)), refl)
 
 live_m3 : state_of m3.core.system 2 ≡ Some Live
 unfolding look put add found kill_cell kill_entry free_cell free_entry look_free put_again unput entries cells
@@ -144,7 +144,7 @@ m4 = as_system m3 (granted m3.core.system 2 5 Exclusive)
 
 to_m4 : IsStepAt m3 (Asks 2 5 Exclusive) m4
 unfolding look put add found kill_cell kill_entry free_cell free_entry look_free put_again unput entries cells
-to_m4 = ((some_m3, (unheld _ 2 5 free_m3), (refl, refl)), (λ F h. h), refl)
+to_m4 = ((some_m3, (unheld _ 2 5 free_m3), (refl, refl)), refl)
 
 abbrev at_m5 : RegionState
 at_m5 = after_all (opening 2 found []) (touched at_add)
@@ -154,7 +154,7 @@ m5 = operated m4 2 found 0 at_m5
 
 to_m5 : IsStepAt (with_one m4 0 at_m5) (Operates 2 found) m5
 unfolding look put add found kill_cell kill_entry free_cell free_entry look_free put_again unput entries cells
-to_m5 = ((at_m5, record { runs = refl; room = omega arith }, record { runs = refl; spelled = (omega arith, is_found, refl); next = refl; by = logs_by _ Live (Forward 2 found) live_m3 refl; kind = refl; locked = held_by _ 2 false refl; at = refl; is_open = record { hold = refl; reads = refl; sound = λ h. refl; stands = λ h. refl } }, (refl, refl)), (λ F h. h), refl)
+to_m5 = ((at_m5, record { runs = refl; room = omega arith }, record { runs = refl; spelled = (omega arith, is_found, refl); next = refl; by = logs_by _ Live (Forward 2 found) live_m3 refl; kind = refl; locked = held_by _ 2 false refl; at = refl; is_open = record { hold = refl; reads = refl; sound = λ h. refl; stands = λ h. refl } }, (refl, refl)), refl)
 
 on_m5 : IsCourse m4 (touching 2 found [] (Operates 2 found)) m5
 unfolding look put add found kill_cell kill_entry free_cell free_entry look_free put_again unput entries cells
@@ -171,7 +171,7 @@ m6 = operated m5 2 kill_cell 1 at_m6
 
 to_m6 : IsStepAt (with_one m5 1 at_m6) (Operates 2 kill_cell) m6
 unfolding look put add found kill_cell kill_entry free_cell free_entry look_free put_again unput entries cells
-to_m6 = ((at_m6, record { runs = refl; room = omega arith }, record { runs = refl; spelled = (omega arith, is_kill_cell, refl); next = refl; by = logs_by _ Live (Forward 2 kill_cell) live_m5 refl; kind = refl; locked = held_by _ 2 true refl; at = refl; is_open = record { hold = refl; reads = refl; sound = λ h. refl; stands = λ h. refl } }, (refl, refl)), (λ F h. h), refl)
+to_m6 = ((at_m6, record { runs = refl; room = omega arith }, record { runs = refl; spelled = (omega arith, is_kill_cell, refl); next = refl; by = logs_by _ Live (Forward 2 kill_cell) live_m5 refl; kind = refl; locked = held_by _ 2 true refl; at = refl; is_open = record { hold = refl; reads = refl; sound = λ h. refl; stands = λ h. refl } }, (refl, refl)), refl)
 
 on_m6 : IsCourse m5 (touching 2 kill_cell ((8, 2) ∷ []) (Operates 2 kill_cell)) m6
 unfolding look put add found kill_cell kill_entry free_cell free_entry look_free put_again unput entries cells
@@ -188,7 +188,7 @@ m7 = operated m6 2 kill_entry 0 at_m7
 
 to_m7 : IsStepAt (with_one m6 0 at_m7) (Operates 2 kill_entry) m7
 unfolding look put add found kill_cell kill_entry free_cell free_entry look_free put_again unput entries cells
-to_m7 = ((at_m7, record { runs = refl; room = omega arith }, record { runs = refl; spelled = (omega arith, is_kill_entry, refl); next = refl; by = logs_by _ Live (Forward 2 kill_entry) live_m6 refl; kind = refl; locked = held_by _ 2 true refl; at = refl; is_open = record { hold = refl; reads = refl; sound = λ h. refl; stands = λ h. refl } }, (refl, refl)), (λ F h. h), refl)
+to_m7 = ((at_m7, record { runs = refl; room = omega arith }, record { runs = refl; spelled = (omega arith, is_kill_entry, refl); next = refl; by = logs_by _ Live (Forward 2 kill_entry) live_m6 refl; kind = refl; locked = held_by _ 2 true refl; at = refl; is_open = record { hold = refl; reads = refl; sound = λ h. refl; stands = λ h. refl } }, (refl, refl)), refl)
 
 on_m7 : IsCourse m6 (touching 2 kill_entry ((1, 2) ∷ []) (Operates 2 kill_entry)) m7
 unfolding look put add found kill_cell kill_entry free_cell free_entry look_free put_again unput entries cells
@@ -202,14 +202,14 @@ m8 = adding m7 (Done 2 (Delete 5) AnswerOk) (done_logged m7.core.system 2 (Delet
 
 to_m8 : IsStepAt m7 (Answers 2 (Delete 5) AnswerOk) m8
 unfolding look put add found kill_cell kill_entry free_cell free_entry look_free put_again unput entries cells
-to_m8 = ((record { runs = refl; room = omega arith }, (omega arith, omega arith, tt, refl), record { next = refl; by = logs_by _ Live (Done 2 (Delete 5) AnswerOk) live_m7 refl }, (refl, refl)), (λ F h. h), refl)
+to_m8 = ((record { runs = refl; room = omega arith }, (omega arith, omega arith, tt, refl), record { next = refl; by = logs_by _ Live (Done 2 (Delete 5) AnswerOk) live_m7 refl }, (refl, refl)), refl)
 
 abbrev m9 : Moment
 m9 = adding m8 (Commit 2) (commit_logged m8.core.system 2)
 
 to_m9 : IsStepAt m8 (Commits 2) m9
 unfolding look put add found kill_cell kill_entry free_cell free_entry look_free put_again unput entries cells
-to_m9 = ((refl, record { next = refl; by = logs_by _ Live (Commit 2) live_m7 refl }, (refl, refl)), (λ F h. h), refl)
+to_m9 = ((refl, record { next = refl; by = logs_by _ Live (Commit 2) live_m7 refl }, (refl, refl)), refl)
 
 live_m9 : state_of m9.core.system 2 ≡ Some Committed
 live_m9 = commit_state m8.core.system 2 Live live_m7
@@ -222,7 +222,7 @@ m10 = logging m9 (Solo 3 2 free_cell) (solo_logged m9.core.system 2 free_cell) 1
 
 to_m10 : IsStepAt (with_one m9 1 at_m10) (Frees 2 free_cell) m10
 unfolding look put add found kill_cell kill_entry free_cell free_entry look_free put_again unput entries cells
-to_m10 = ((at_m10, record { runs = refl; spelled = (omega arith, omega arith, is_free_cell, refl); next = refl; by = logs_by _ Committed (Solo 3 2 free_cell) live_m9 refl; kind = refl; locked = held_by _ 2 true refl; at = refl; is_open = record { hold = refl; reads = refl; sound = λ h. refl; stands = λ h. refl } }, (refl, refl)), (λ F h. h), refl)
+to_m10 = ((at_m10, record { runs = refl; spelled = (omega arith, omega arith, is_free_cell, refl); next = refl; by = logs_by _ Committed (Solo 3 2 free_cell) live_m9 refl; kind = refl; locked = held_by _ 2 true refl; at = refl; is_open = record { hold = refl; reads = refl; sound = λ h. refl; stands = λ h. refl } }, (refl, refl)), refl)
 
 on_m10 : IsCourse m9 (touching 2 free_cell ((8, 0) ∷ []) (Frees 2 free_cell)) m10
 unfolding look put add found kill_cell kill_entry free_cell free_entry look_free put_again unput entries cells
@@ -236,7 +236,7 @@ m11 = logging m10 (Solo 4 2 free_entry) (solo_logged m10.core.system 2 free_entr
 
 to_m11 : IsStepAt (with_one m10 0 at_m11) (Frees 2 free_entry) m11
 unfolding look put add found kill_cell kill_entry free_cell free_entry look_free put_again unput entries cells
-to_m11 = ((at_m11, record { runs = refl; spelled = (omega arith, omega arith, is_free_entry, refl); next = refl; by = logs_by _ Committed (Solo 4 2 free_entry) live_m9 refl; kind = refl; locked = held_by _ 2 true refl; at = refl; is_open = record { hold = refl; reads = refl; sound = λ h. refl; stands = λ h. refl } }, (refl, refl)), (λ F h. h), refl)
+to_m11 = ((at_m11, record { runs = refl; spelled = (omega arith, omega arith, is_free_entry, refl); next = refl; by = logs_by _ Committed (Solo 4 2 free_entry) live_m9 refl; kind = refl; locked = held_by _ 2 true refl; at = refl; is_open = record { hold = refl; reads = refl; sound = λ h. refl; stands = λ h. refl } }, (refl, refl)), refl)
 
 on_m11 : IsCourse m10 (touching 2 free_entry ((1, 0) ∷ []) (Frees 2 free_entry)) m11
 unfolding look put add found kill_cell kill_entry free_cell free_entry look_free put_again unput entries cells
@@ -253,14 +253,14 @@ m12 = adding m11 (Ended 2) (ended_logged m11.core.system 2)
 
 to_m12 : IsStepAt m11 (Ends 2) m12
 unfolding look put add found kill_cell kill_entry free_cell free_entry look_free put_again unput entries cells
-to_m12 = ((refl, (record { next = refl; by = logs_by _ (Committed) (Ended 2) live_m9 refl }, idle_m11), (refl, refl)), (λ F h. h), refl)
+to_m12 = ((refl, (record { next = refl; by = logs_by _ (Committed) (Ended 2) live_m9 refl }, idle_m11), (refl, refl)), refl)
 
 abbrev m13 : Moment
 m13 = adding m12 (Begin 5) (begun m12.core.system)
 
 to_m13 : IsStepAt m12 (Begins) m13
 unfolding look put add found kill_cell kill_entry free_cell free_entry look_free put_again unput entries cells
-to_m13 = ((record { runs = refl; room = omega arith }, (refl, refl)), (λ F h. h), refl)
+to_m13 = ((record { runs = refl; room = omega arith }, (refl, refl)), refl)
 
 live_m13 : state_of m13.core.system 5 ≡ Some Live
 unfolding look put add found kill_cell kill_entry free_cell free_entry look_free put_again unput entries cells
@@ -277,7 +277,7 @@ m14 = as_system m13 (granted m13.core.system 5 5 Exclusive)
 
 to_m14 : IsStepAt m13 (Asks 5 5 Exclusive) m14
 unfolding look put add found kill_cell kill_entry free_cell free_entry look_free put_again unput entries cells
-to_m14 = ((some_m13, (unheld _ 5 5 free_m13), (refl, refl)), (λ F h. h), refl)
+to_m14 = ((some_m13, (unheld _ 5 5 free_m13), (refl, refl)), refl)
 
 abbrev at_m15 : RegionState
 at_m15 = after_all (opening 5 look_free []) (touched at_m11)
@@ -287,7 +287,7 @@ m15 = operated m14 5 look_free 0 at_m15
 
 to_m15 : IsStepAt (with_one m14 0 at_m15) (Operates 5 look_free) m15
 unfolding look put add found kill_cell kill_entry free_cell free_entry look_free put_again unput entries cells
-to_m15 = ((at_m15, record { runs = refl; room = omega arith }, record { runs = refl; spelled = (omega arith, is_look_free, refl); next = refl; by = logs_by _ Live (Forward 5 look_free) live_m13 refl; kind = refl; locked = held_by _ 5 false refl; at = refl; is_open = record { hold = refl; reads = refl; sound = λ h. refl; stands = λ h. refl } }, (refl, refl)), (λ F h. h), refl)
+to_m15 = ((at_m15, record { runs = refl; room = omega arith }, record { runs = refl; spelled = (omega arith, is_look_free, refl); next = refl; by = logs_by _ Live (Forward 5 look_free) live_m13 refl; kind = refl; locked = held_by _ 5 false refl; at = refl; is_open = record { hold = refl; reads = refl; sound = λ h. refl; stands = λ h. refl } }, (refl, refl)), refl)
 
 on_m15 : IsCourse m14 (touching 5 look_free [] (Operates 5 look_free)) m15
 unfolding look put add found kill_cell kill_entry free_cell free_entry look_free put_again unput entries cells
@@ -304,7 +304,7 @@ m16 = operated m15 5 put_again 1 at_m16
 
 to_m16 : IsStepAt (with_one m15 1 at_m16) (Operates 5 put_again) m16
 unfolding look put add found kill_cell kill_entry free_cell free_entry look_free put_again unput entries cells
-to_m16 = ((at_m16, record { runs = refl; room = omega arith }, record { runs = refl; spelled = (omega arith, is_put_again, refl); next = refl; by = logs_by _ Live (Forward 5 put_again) live_m15 refl; kind = refl; locked = held_by _ 5 true refl; at = refl; is_open = record { hold = refl; reads = refl; sound = λ h. refl; stands = λ h. refl } }, (refl, refl)), (λ F h. h), refl)
+to_m16 = ((at_m16, record { runs = refl; room = omega arith }, record { runs = refl; spelled = (omega arith, is_put_again, refl); next = refl; by = logs_by _ Live (Forward 5 put_again) live_m15 refl; kind = refl; locked = held_by _ 5 true refl; at = refl; is_open = record { hold = refl; reads = refl; sound = λ h. refl; stands = λ h. refl } }, (refl, refl)), refl)
 
 on_m16 : IsCourse m15 (touching 5 put_again put_writes (Operates 5 put_again)) m16
 unfolding look put add found kill_cell kill_entry free_cell free_entry look_free put_again unput entries cells
@@ -321,7 +321,7 @@ m17 = logging m16 (Back 5 unput) (back_logged m16.core.system 5 unput) 1 at_m17
 
 to_m17 : IsStepAt (with_one m16 1 at_m17) (TakesBack 5 unput) m17
 unfolding look put add found kill_cell kill_entry free_cell free_entry look_free put_again unput entries cells
-to_m17 = ((at_m17, record { runs = refl; spelled = (omega arith, is_unput, refl); next = refl; by = logs_by _ Live (Back 5 unput) live_m16 refl; kind = refl; locked = held_by _ 5 true refl; at = refl; is_open = record { hold = refl; reads = refl; sound = λ h. refl; stands = λ h. refl } }, (refl, refl)), (λ F h. h), refl)
+to_m17 = ((at_m17, record { runs = refl; spelled = (omega arith, is_unput, refl); next = refl; by = logs_by _ Live (Back 5 unput) live_m16 refl; kind = refl; locked = held_by _ 5 true refl; at = refl; is_open = record { hold = refl; reads = refl; sound = λ h. refl; stands = λ h. refl } }, (refl, refl)), refl)
 
 on_m17 : IsCourse m16 (touching 5 unput ((8, 0) ∷ []) (TakesBack 5 unput)) m17
 unfolding look put add found kill_cell kill_entry free_cell free_entry look_free put_again unput entries cells
@@ -341,14 +341,14 @@ m18 = adding m17 (Ended 5) (ended_logged m17.core.system 5)
 
 to_m18 : IsStepAt m17 (Ends 5) m18
 unfolding look put add found kill_cell kill_entry free_cell free_entry look_free put_again unput entries cells
-to_m18 = ((refl, (record { next = refl; by = logs_by _ (Live) (Ended 5) live_m17 refl }, idle_m17), (refl, refl)), (λ F h. h), refl)
+to_m18 = ((refl, (record { next = refl; by = logs_by _ (Live) (Ended 5) live_m17 refl }, idle_m17), (refl, refl)), refl)
 
 abbrev m19 : Moment
 m19 = adding m18 (Begin 6) (begun m18.core.system)
 
 to_m19 : IsStepAt m18 (Begins) m19
 unfolding look put add found kill_cell kill_entry free_cell free_entry look_free put_again unput entries cells
-to_m19 = ((record { runs = refl; room = omega arith }, (refl, refl)), (λ F h. h), refl)
+to_m19 = ((record { runs = refl; room = omega arith }, (refl, refl)), refl)
 
 live_m19 : state_of m19.core.system 6 ≡ Some Live
 unfolding look put add found kill_cell kill_entry free_cell free_entry look_free put_again unput entries cells
@@ -358,7 +358,7 @@ abbrev at_death : RegionState
 at_death = after_all (opening 6 look_free []) (touched at_m15)
 
 abbrev left_dead : Moment
-left_dead = record { log = m19.log; core = died (with_one m19 0 at_death).core 6 (Some 0); audits = m19.audits; leave = m19.leave }
+left_dead = record { log = m19.log; core = died (with_one m19 0 at_death).core 6 (Some 0); audits = m19.audits }
 
 abbrev death_hold : Hold
 death_hold = reading look_free.read (index_words 0) (record { txn = 6; dead = false; read = 0; xor = 0; write = 0 })
@@ -377,7 +377,7 @@ latches = record { held = held; only = only }
 
 to_left_dead : IsStepAt (with_one m19 0 at_death) (Dies 6 (Some 0)) left_dead
 unfolding look put add found kill_cell kill_entry free_cell free_entry look_free put_again unput entries cells
-to_left_dead = ((record { lives = live_m19; latched = latches }, (refl, refl)), (λ F h. h), refl)
+to_left_dead = ((record { lives = live_m19; latched = latches }, (refl, refl)), refl)
 
 on_left_dead : IsCourse m19 (touching 6 look_free [] (Dies 6 (Some 0))) left_dead
 unfolding look put add found kill_cell kill_entry free_cell free_entry look_free put_again unput entries cells
@@ -387,11 +387,11 @@ state_dead : state_of left_dead.core.system 6 ≡ Some (Dead (Some 0))
 state_dead = turned_state m19.core.system 6 Live (Dead (Some 0)) live_m19
 
 abbrev m20 : Moment
-m20 = record { log = left_dead.log; core = with_system left_dead.core (in_state left_dead.core.system 6 (Cleaning (Some 0))); audits = left_dead.audits; leave = left_dead.leave }
+m20 = record { log = left_dead.log; core = with_system left_dead.core (in_state left_dead.core.system 6 (Cleaning (Some 0))); audits = left_dead.audits }
 
 to_m20 : IsStepAt left_dead (Claims 6) m20
 unfolding look put add found kill_cell kill_entry free_cell free_entry look_free put_again unput entries cells
-to_m20 = ((Some 0, state_dead, (refl, refl)), (λ F h. h), refl)
+to_m20 = ((Some 0, state_dead, (refl, refl)), refl)
 
 state_claimed : state_of m20.core.system 6 ≡ Some (Cleaning (Some 0))
 state_claimed = turned_state left_dead.core.system 6 (Dead (Some 0)) (Cleaning (Some 0)) state_dead
@@ -401,7 +401,7 @@ m21 = with_one m20 0 (taken_back (dead at_death))
 
 to_m21 : IsStepAt m20 (Recovers 0) m21
 unfolding look put add found kill_cell kill_entry free_cell free_entry look_free put_again unput entries cells
-to_m21 = ((dead at_death, refl, record { hold = slain death_hold; at = refl; dead = refl; latched = Some 0; claimed = state_claimed }, (refl, refl)), (λ F h. h), refl)
+to_m21 = ((dead at_death, refl, record { hold = slain death_hold; at = refl; dead = refl; latched = Some 0; claimed = state_claimed }, (refl, refl)), refl)
 
 idle_m21 : IsFree m21.core 6
 unfolding look put add found kill_cell kill_entry free_cell free_entry look_free put_again unput entries cells
@@ -414,7 +414,7 @@ m22 = adding m21 (Ended 6) (ended_logged m21.core.system 6)
 
 to_m22 : IsStepAt m21 (Ends 6) m22
 unfolding look put add found kill_cell kill_entry free_cell free_entry look_free put_again unput entries cells
-to_m22 = ((refl, (record { next = refl; by = logs_by _ (Cleaning (Some 0)) (Ended 6) state_claimed refl }, idle_m21), (refl, refl)), (λ F h. h), refl)
+to_m22 = ((refl, (record { next = refl; by = logs_by _ (Cleaning (Some 0)) (Ended 6) state_claimed refl }, idle_m21), (refl, refl)), refl)
 
 abbrev pub ready : Moment
 ready = m22

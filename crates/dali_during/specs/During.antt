@@ -10,10 +10,11 @@
 --     ShowsWhatIsExpected      where no transaction runs, the regions have the records that the log is expected to leave
 --     UnpokedCourses           from a core that a format or a restart hands out, after any steps without a stray write, all of this holds,
 --                              each undo finds its slot as its transaction left it;
---                              and where no audit failed before, nobody is deleted in any epoch, now and in what a crash leaves
---     UnpokedStoreCourses      so it is of a core with its store, with the steps of checkpoints among the others
+--                              and where no audit failed before, nobody is deleted in any epoch
+--     UnpokedCoreTraces        nor in any epoch of a crash image that came along these steps
+--     UnpokedPointCourses, UnpokedTraces   so it is of a core with its store, with the steps of checkpoints among the others
 --     RightBases               the base of a run behind epochs from which no damage escaped is such a base
-use Rattle.std.specs.Prelude.{◌≡◌, ℕ, ◌<◌, ◌≤◌, length, ◌↔◌, Bool, true, false, ◌⊎◌, List, [], ◌∷◌, ◌++◌, map, take, drop, Some, None, slice_get, Contains, IsPermutation}
+use Rattle.std.specs.Prelude.{◌≡◌, ℕ, ◌<◌, ◌≤◌, ◌↔◌, Bool, true, false, ◌⊎◌, List, [], ◌∷◌, ◌++◌, map, take, drop, Some, None, slice_get, Contains, IsPermutation, length}
 use Rattle.std.specs.List.{list_any, AllByRecursion}
 use Rattle.dali_geometry.specs.Sizes.{Sizes}
 use Rattle.dali_record.specs.declared.operations.Outcome.{Outcome}
@@ -28,28 +29,23 @@ use Rattle.dali_record.specs.Damage.{has}
 use Rattle.dali_record.specs.Settled.{redo_all}
 use Rattle.dali_index.specs.Invariant.{IsImage, IsIndexed, IsTidy, IsIndexedBut, Gap, Matched}
 use Rattle.dali_index.specs.Records.{records}
-use Rattle.dali_region.specs.declared.Side.{Side}
 use Rattle.dali_region.specs.State.{RegionState}
 use Rattle.dali_record.specs.Legal.{Working, Unwinding, Active, txn_state, sizes_of, Rules, rules_state}
 use Rattle.dali_record.specs.Files.{Files}
 use Rattle.dali_history.specs.Serial.{Map, expected, survivors}
-use Rattle.dali_history.specs.Recovered.{recovered, base_of}
+use Rattle.dali_history.specs.Recovered.{base_of}
 use Rattle.dali_history.specs.History.{IsHistory}
 use Rattle.dali_history.specs.Images.{HasRecords}
 use Rattle.dali_kept.specs.Kept.{uncommitted}
 use Rattle.dali_undos.specs.AsLeft.{FindAsLeft}
 use Rattle.dali_system.specs.State.{TxnRow, CoreState, VaultState, row_of}
-use Rattle.dali_system.specs.Run.{Bases, base_at, log_in, VaultRun, RunsOn, is_committed}
-use Rattle.dali_system.specs.Loads.{new_core}
-use Rattle.dali_system.specs.Passes.{no_audits}
-use Rattle.dali_system.specs.Courses.{Step, Moment, MayLeave, IsCourse}
-use Rattle.dali_system.specs.Images.{Told}
+use Rattle.dali_system.specs.Run.{Bases, base_at, log_in, RunsOn, is_committed, VaultRun, no_image, only}
+use Rattle.dali_system.specs.Courses.{Step, Moment, CoreTraced, IsCourse}
 use Rattle.dali_crash.specs.Unpoked.{pokes, store_pokes}
 use Rattle.dali_crash.specs.CrashLogs.{IsUnpoked}
 use Rattle.dali_crash.specs.Restarts.{HasRightBase}
-use Rattle.dali_crash.specs.Starts.{IsFreshStore}
-use Rattle.dali_crash.specs.Checkpoints.{Head, Stored, StoreStep, IsStoreCourse}
-use Rattle.dali_crash.specs.StoreRuns.{stored_start}
+use Rattle.dali_crash.specs.Checkpoints.{StoreStep, Point, Traced, moment_of, IsPointCourse}
+use Rattle.dali_crash.specs.Traces.{Start, StartsAt, core_start, start_point, MayRun}
 
 pub record IsRightBase (s : Sizes) (base : List (List ℕ)) : Type 0 where
   pub image : IsImage s base
@@ -150,26 +146,39 @@ pub record CourseIsQuiet (L : List Record) (n : Moment) : Type 0 where
   pub undos : (order : List ℕ) → IsPermutation order (uncommitted (last_epoch n.log).records) → FindAsLeft (base_of n.core.system.sizes n.log) (last_epoch n.log).records (image_of n.core) order
   pub shows : IsIdle n.core → (m : Map) × (expected n.log ≡ Some m) × HasRecords n.core.system.sizes (map (λ g. g.words) n.core.regions) m
   pub none_failed : NoneFailed L → NoneFailed n.log
-  pub none_failed_after : NoneFailed L → (F : Files) → MayLeave n.leave F → NoneFailed (log_in F)
   pub none_deleted : NoneFailed L → survivors n.log ≡ committed n.log
-  pub none_deleted_after : NoneFailed L → (F : Files) → MayLeave n.leave F → survivors (log_in F) ≡ committed (log_in F)
+
+-- of a crash image that came along these steps
+pub record ImageIsQuiet (L : List Record) (F : Files) : Type 0 where
+  pub none_failed : NoneFailed L → NoneFailed (log_in F)
+  pub none_deleted : NoneFailed L → survivors (log_in F) ≡ committed (log_in F)
 
 abbrev pub UnpokedCourses : Type 0
 UnpokedCourses =
-    (L : List Record) (g : Rules) (limit : ℕ) (v : VaultState) (leave : Files → Bool)
+    (L : List Record) (g : Rules) (limit : ℕ) (v : VaultState)
     → IsHistory L → rules_state (sizes_of L) L ≡ Some g → (last_epoch L).records ≡ []
-    → limit ≤ 268435456 → VaultRun (MayLeave leave) L (length L) v → v.flushed ≡ 0
-    → (xs : List Step) (n : Moment) → list_any pokes xs ≡ false
-    → IsCourse (record { log = L; core = new_core (sizes_of L) (recovered (sizes_of L) L) g limit v; audits = no_audits; leave = leave }) xs n
+    → limit ≤ 268435456 → VaultRun no_image L (length L) v → v.flushed ≡ 0
+    → (xs : List Step) (n : Moment) → list_any pokes xs ≡ false → IsCourse (core_start L g limit v) xs n
     → CourseIsQuiet L n
 
--- so it is with the store's image files and anchor, whatever steps of checkpoints are among the others
-abbrev pub UnpokedStoreCourses : Type 0
-UnpokedStoreCourses =
-    (L : List Record) (g : Rules) (limit : ℕ) (v : VaultState) (leave : Files → Bool)
-    (told : Told) (heads : Side → Head) (synced : Side → Bool)
+abbrev pub UnpokedCoreTraces : Type 0
+UnpokedCoreTraces =
+    (L : List Record) (g : Rules) (limit : ℕ) (v : VaultState) (D : Files)
     → IsHistory L → rules_state (sizes_of L) L ≡ Some g → (last_epoch L).records ≡ []
-    → limit ≤ 268435456 → IsFreshStore L v (MayLeave leave)
-    → (xs : List StoreStep) (n : Stored) → list_any store_pokes xs ≡ false
-    → IsStoreCourse (stored_start L g limit v leave told heads synced) xs n
-    → CourseIsQuiet L n.moment
+    → limit ≤ 268435456 → VaultRun (only D) L (length L) v → v.flushed ≡ 0
+    → (xs : List Step) (n : Moment) (F : Files) → list_any pokes xs ≡ false → CoreTraced (core_start L g limit v) D xs n F
+    → ImageIsQuiet L F
+
+-- so it is with the store's image files and anchor, whatever steps of checkpoints are among the others
+abbrev pub UnpokedPointCourses : Type 0
+UnpokedPointCourses =
+    (s : Start) → IsHistory s.log → rules_state (sizes_of s.log) s.log ≡ Some s.rules → (last_epoch s.log).records ≡ []
+    → s.limit ≤ 268435456 → MayRun s.vault
+    → (xs : List StoreStep) (p : Point) → list_any store_pokes xs ≡ false → IsPointCourse (start_point s) xs p
+    → CourseIsQuiet s.log (moment_of p)
+
+abbrev pub UnpokedTraces : Type 0
+UnpokedTraces =
+    (s : Start) (D : Files) → StartsAt s D
+    → (xs : List StoreStep) (p : Point) (F : Files) → list_any store_pokes xs ≡ false → Traced (start_point s) D xs p F
+    → ImageIsQuiet s.log F

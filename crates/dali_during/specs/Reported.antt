@@ -4,8 +4,8 @@
 --     ReportsAllDeleted        these are just the transactions that are deleted by a chain somewhere, ascending, and so just a replay's list of them
 --     kept_row t row           a row of the table, as a checkpoint keeps it
 --     TableIsKept              the rows of the table are just those that a checkpoint keeps that starts now
---     Life, IsLife L x M       a core with its store over the log L, some steps without a stray write, a crash, and its restart, which
---                              leaves the log M
+--     Life, IsLife L x M       a core with its store over the log L and files at rest, some steps without a stray write, a crash image that came
+--                              along them, and its restart, which leaves the log M
 --     AreLives L xs M          these lives, one after another
 --     NobodyIsDeleted          from a format on, whatever lives follow, no audit failed in any epoch, and nobody is deleted in any
 use Rattle.std.specs.Prelude.{◌≡◌, ℕ, ◌≤◌, Bool, false, List, [], ◌∷◌, ◌++◌, ◌↔◌, flat_map, length, Contains, Some}
@@ -27,13 +27,12 @@ use Rattle.dali_history.specs.Acknowledged.{IsDeletedByChain}
 use Rattle.dali_replay.specs.Replayed.{Replayed, IsReplay}
 use Rattle.dali_system.specs.State.{TxnRow, VaultState, CoreState, row_of}
 use Rattle.dali_system.specs.Run.{Bases, RunsOn, is_committed, log_in}
-use Rattle.dali_system.specs.Courses.{MayLeave}
 use Rattle.dali_system.specs.Images.{Told}
 use Rattle.dali_crash.specs.Unpoked.{store_pokes}
-use Rattle.dali_crash.specs.Starts.{IsFreshStore}
-use Rattle.dali_crash.specs.Checkpoints.{Head, Stored, StoreStep, IsStoreCourse}
-use Rattle.dali_crash.specs.StoreRuns.{stored_start}
+use Rattle.dali_crash.specs.Checkpoints.{Head, StoreStep, Point, Traced}
 use Rattle.dali_during.specs.During.{NoneFailed}
+use Rattle.dali_crash.specs.Traces.{IsRestingImage}
+use Rattle.dali_crash.specs.StoreRuns.{point_start}
 
 -- ---- the lists of the deleted
 abbrev pub named_deleted : Record → List ℕ
@@ -68,12 +67,12 @@ pub record Life : Type 0 where
   pub rules : Rules
   pub limit : ℕ
   pub vault : VaultState
-  pub leave : Files → Bool
+  pub first : Files
   pub told : Told
   pub heads : Side → Head
   pub synced : Side → Bool
   pub steps : List StoreStep
-  pub finish : Stored
+  pub finish : Point
   pub crash : Files
 
 -- a restart adds its record where the log's last epoch has one
@@ -84,10 +83,9 @@ restarted K (r ∷ E) = K ++ Restarted (rolled_list (recovered_epoch K)) (delete
 pub record IsLife (L : List Record) (x : Life) (M : List Record) : Type 0 where
   pub rules : rules_state (sizes_of L) L ≡ Some x.rules
   pub limit : x.limit ≤ 268435456
-  pub fresh : IsFreshStore L x.vault (MayLeave x.leave)
+  pub rests : IsRestingImage L x.vault x.first
   pub unpoked : list_any store_pokes x.steps ≡ false
-  pub course : IsStoreCourse (stored_start L x.rules x.limit x.vault x.leave x.told x.heads x.synced) x.steps x.finish
-  pub left : MayLeave x.finish.moment.leave x.crash
+  pub trace : Traced (point_start L x.rules x.limit x.vault x.told x.heads x.synced) x.first x.steps x.finish x.crash
   pub log : M ≡ restarted (log_in x.crash) (last_epoch (log_in x.crash)).records
 
 abbrev pub AreLives : List Record → List Life → List Record → Type 0

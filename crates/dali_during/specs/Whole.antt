@@ -18,12 +18,12 @@ use Rattle.dali_record.specs.Files.{Files}
 use Rattle.dali_locks.specs.declared.mode.Mode.TheVariants.{Exclusive}
 use Rattle.dali_history.specs.Serial.{survivors}
 use Rattle.dali_system.specs.declared.causes.Cause.TheVariants.{Store}
-use Rattle.dali_system.specs.Courses.{Step, Begins, Operates, TakesBack, Frees, Answers, Commits, Ends, Locks, AuditBegins, AuditEnds, Passes, Dies, Claims, Recovers, Takes, Flushes, Faults, Stops, MayLeave}
+use Rattle.dali_system.specs.Courses.{Step, Begins, Operates, TakesBack, Frees, Answers, Commits, Ends, Locks, AuditBegins, AuditEnds, Passes, Dies, Claims, Recovers, Takes, Flushes, Faults, Stops}
 use Rattle.dali_system.specs.Run.{log_in}
-use Rattle.dali_system.specs.Worked.{first_log, touching, index_words, heap_words, look as found, kill_cell, kill_entry, free_cell, free_entry}
+use Rattle.dali_system.specs.Worked.{first_log, touching, index_words, heap_words, look as found, kill_cell, kill_entry, free_cell, free_entry, first_files}
 use Rattle.dali_crash.specs.Worked.{look}
 use Rattle.dali_crash.specs.Restarted.{put, add, put_writes, add_writes}
-use Rattle.dali_crash.specs.Checkpoints.{Head, Stored, StoreStep, Does, Starts, Keeps, Copies, WritesHead, Syncs, Turns, Finishes, IsStoreCourse}
+use Rattle.dali_crash.specs.Checkpoints.{Head, StoreStep, Does, Starts, Keeps, Copies, WritesHead, Syncs, Turns, Finishes, Point, Traced, moment_of}
 use Rattle.dali_crash.specs.Checkpointed.{checkpoint_start}
 use Rattle.dali_crash.specs.StoreRuns.{CrashIsRightWith}
 use Rattle.dali_crash.specs.Unpoked.{store_pokes}
@@ -78,15 +78,14 @@ life h =
 
 pub record WorkedLife : Type 0 where
   pub head : Head
-  pub finish : Stored
-  pub course : IsStoreCourse checkpoint_start (life head) finish
-  pub unpoked : list_any store_pokes (life head) ≡ false
-  pub stop : finish.moment.core.system.stop ≡ Some Store
+  pub finish : Point
   pub crash : Files
-  pub left : MayLeave finish.moment.leave crash
+  pub trace : Traced checkpoint_start first_files (life head) finish crash
+  pub unpoked : list_any store_pokes (life head) ≡ false
+  pub stop : finish.core.system.stop ≡ Some Store
   pub gates : crash.gates ≡ 1
   pub first : crash.first ≡ 24
   pub batches : crash.batches ≡ first_log ∷ worked ∷ (AuditBegin ∷ AuditClean 24 ∷ []) ∷ []
   pub survive : survivors (log_in crash) ≡ 1 ∷ 2 ∷ []
-  pub right : CrashIsRightWith first_log finish.moment.core crash
-  pub quiet : CourseIsQuiet first_log finish.moment
+  pub right : CrashIsRightWith first_log finish.core crash
+  pub quiet : CourseIsQuiet first_log (moment_of finish)

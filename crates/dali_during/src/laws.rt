@@ -1,6 +1,6 @@
 //! Laws over the definitions, each the contract of a function that does nothing.
 
-ghost use Rattle.dali_during.specs.During.{RightBases, IndexedInRuns, QuietInRuns, TakenBackInRuns, TakenBackSince, TakenBackAtItsEnd, ShowsWhatIsExpected, UnpokedCourses, UnpokedStoreCourses};
+ghost use Rattle.dali_during.specs.During.{RightBases, IndexedInRuns, QuietInRuns, TakenBackInRuns, TakenBackSince, TakenBackAtItsEnd, ShowsWhatIsExpected, UnpokedCourses, UnpokedCoreTraces, UnpokedPointCourses, UnpokedTraces};
 ghost use Rattle.dali_during.specs.Gaps.{CutInInsert, CutInDelete};
 ghost use Rattle.dali_during.specs.Whole.{WorkedLife};
 ghost use Rattle.dali_during.specs.UndosFind.{UndosFindInRuns, RowUndosFind, LastUndoFinds, BacksFindInRuns, FindsInInsert, FindsInDelete, FindsBelow};
@@ -45,12 +45,14 @@ pub fn a_run_shows_what_is_expected()
 /// From a format or a restart on, whatever steps are taken without a stray write, all of this holds, and nobody is
 /// deleted in any epoch.
 pub fn without_stray_writes_a_run_is_as_expected()
-    ensures { UnpokedCourses }
+    ensures course { UnpokedCourses }
+    ensures image { UnpokedCoreTraces }
 {}
 
 /// So it is of a core with its store, with the steps of checkpoints among the others.
 pub fn without_stray_writes_a_run_with_its_store_is_as_expected()
-    ensures { UnpokedStoreCourses }
+    ensures course { UnpokedPointCourses }
+    ensures image { UnpokedTraces }
 {}
 
 /// The deleted that the restarts of a log named, with those of its open epoch, are just those that a chain deletes,

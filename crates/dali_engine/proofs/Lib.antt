@@ -18,3 +18,4 @@ pub mod Blocks
 pub mod Acknowledged
 pub mod Wanting
 pub mod Knowing
+pub mod Limited

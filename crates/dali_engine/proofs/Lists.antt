@@ -1,6 +1,7 @@
 -- Regions one after another.
-use Rattle.std.proofs.Common.{◌≡◌, ℕ, zero, suc, ◌+◌, ◌<◌, Bool, true, false, List, [], ◌∷◌, ◌++◌, length, map, take, drop, slice_set, slice_index, slice_index_or, refl, sym, ◌∙◌, ap, arith, append_assoc}
+use Rattle.std.proofs.Common.{◌≡◌, ℕ, zero, suc, ◌+◌, ◌<◌, ◌≤◌, Bool, true, false, cond, List, [], ◌∷◌, ◌++◌, length, map, take, drop, slice_set, slice_index, slice_index_or, refl, sym, ◌∙◌, ap, arith, append_assoc, length-append}
 use Rattle.std.proofs.lemmas.List.{append-nil}
+use Rattle.std.specs.Prelude.{◌==◌}
 use Rattle.dali_geometry.specs.Sizes.{Sizes}
 use Rattle.dali_region.specs.State.{RegionState, checked}
 use Rattle.dali_engine.specs.Memory.{change_at, strays, named, failing_from, first_regions}
@@ -85,3 +86,22 @@ named_step i now gs old new lt is so_far e =
     ∙ ap (λ (l : List ℕ). named_to i 0 (strays gs) ++ named (slice_index l i) i) (ap strays is ∙ strays_stay i gs)
     ∙ ap (λ (k : ℕ). named_to i 0 (strays gs) ++ named (slice_index (strays gs) i) k) (omega arith)
     ∙ sym (named_next i 0 (strays gs) (omega (arith, lt, strays_length gs))) ∙ ap (λ (k : ℕ). named_to k 0 (strays gs)) (next_place i)
+
+-- how many are named among them
+pub counted_step : (i : ℕ) (now gs : List RegionState) (old new : ℕ) → i < length gs → now ≡ checked_to i gs → old ≡ length (named_to i 0 (strays gs)) → new ≡ old + length (named (slice_index (strays now) i) i)
+    → new ≡ length (named_to (i + 1) 0 (strays gs))
+counted_step i now gs old new lt is so_far e =
+    let next = named_step i now gs (named_to i 0 (strays gs)) (named_to i 0 (strays gs) ++ named (slice_index (strays now) i) i) lt is refl refl in
+    omega (arith, e, so_far, ap length next, length-append (named_to i 0 (strays gs)) (named (slice_index (strays now) i) i))
+
+one_at_most : (s n : ℕ) → length (named s n) ≤ 1
+one_at_most s n = by_test (s == 0)
+  where
+    by_test : (b : Bool) → length (cond b [] (n ∷ [])) ≤ 1
+    by_test true = omega arith
+    by_test false = omega arith
+
+pub counted_most : (i n : ℕ) (ss : List ℕ) → length (named_to i n ss) ≤ i
+counted_most zero n ss = omega arith
+counted_most (suc i) n [] = omega arith
+counted_most (suc i) n (s ∷ ss) = omega (arith, length-append (named s n) (named_to i (n + 1) ss), one_at_most s n, counted_most i (n + 1) ss)

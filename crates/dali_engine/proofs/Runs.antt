@@ -9,7 +9,7 @@ use Rattle.dali_engine.specs.Acts.{logs, flushes, flushed_by}
 use Rattle.dali_engine.specs.declared.error.EngineError.{EngineError}
 use Rattle.dali_engine.specs.declared.error.EngineError.TheVariants.{LogFull, OutOfNumbers, OutOfMemory}
 use Rattle.dali_engine.specs.declared.engine.Stage.{Stage}
-use Rattle.dali_engine.specs.Limits.{IsFull, NoNumber, Undone}
+use Rattle.dali_engine.specs.Limits.{IsFull, NoNumber, NoLimit, Undone}
 use Rattle.dali_engine.specs.Flushes.{Turn, Acts, ActsAll, Lost, UndoneIn}
 
 -- one item more of the front
@@ -50,7 +50,7 @@ module _ {V : Type 0} (told : V → Option Files) (may_leave : V → Files → T
 
 -- what the clauses say of each error, said of any
 pub undone : (error : EngineError) (e : Engine) (stage : Stage) (command : ClientCommand) → ((end limit : ℕ) → IsErrOf {T = Unit {0}} (Err error) (LogFull end limit) → IsFull e stage command end limit) → (IsErrOf {T = Unit {0}} (Err error) OutOfNumbers → NoNumber e stage command)
-    → Undone error e stage command
-undone (LogFull end limit) e stage command full numbers = full end limit refl
-undone OutOfNumbers e stage command full numbers = numbers refl
-undone OutOfMemory e stage command full numbers = tt
+    → (IsErrOf {T = Unit {0}} (Err error) OutOfMemory → NoLimit e stage command) → Undone error e stage command
+undone (LogFull end limit) e stage command full numbers wanting = full end limit refl
+undone OutOfNumbers e stage command full numbers wanting = numbers refl
+undone OutOfMemory e stage command full numbers wanting = wanting refl

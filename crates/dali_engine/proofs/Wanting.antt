@@ -39,7 +39,7 @@ some_bytes (commands.Poke r w m) e stage f = absurd cc
 some_bytes commands.Audit e stage f = audit_some stage e.stopped e f
 
 module _ {V : Type 0} (told : V → Option Files) (may_leave : V → Files → Type 0) (moment : V → ℕ) (left_since : V → ℕ → Files → Type 0) (faults : V → ℕ) where
-  flushes_wrote : (ok : Bool) (at : ℕ) (bytes : List ℕ) (old new : V) → 0 < length bytes → Flushes told may_leave moment left_since faults ok at bytes old new → Wrote told may_leave moment left_since faults ok at bytes old new
+  pub flushes_wrote : (ok : Bool) (at : ℕ) (bytes : List ℕ) (old new : V) → 0 < length bytes → Flushes told may_leave moment left_since faults ok at bytes old new → Wrote told may_leave moment left_since faults ok at bytes old new
   flushes_wrote ok at [] old new some f = absurd (omega (arith, some))
   flushes_wrote ok at (b ∷ bs) old new some f = f
 

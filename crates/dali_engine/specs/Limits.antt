@@ -4,6 +4,7 @@
 --     NoEnd at waiting end limit            what waits would end at 2^61 or behind, where no log ends
 --     IsFull e stage c end limit            one of both, of the records of a command
 --     NoNumber e stage c                    no number is left for a record or a transaction of a command
+--     NoLimit e stage c                     none of all this
 --     Undone error e stage c                what an error says of a command
 use Rattle.std.specs.Prelude.{◌≡◌, ◌<◌, ◌≤◌, ◌⊎◌, ℕ, ◌+◌, ◌^◌, Bool, true, List, [], ◌∷◌, ◌++◌, length}
 use Rattle.dali_record.specs.declared.records.Record.{Record}
@@ -35,7 +36,10 @@ IsFull e stage c end limit = NoRoom e.end e.frame (logs e stage c) end limit ⊎
 abbrev pub NoNumber : Engine → Stage → ClientCommand → Type 0
 NoNumber e stage c = (ok : Bool) × ((2 ^ 64 ≤ (act ok e stage c).engine.count) ⊎ (2 ^ 64 ≤ (act ok e stage c).engine.last))
 
+abbrev pub NoLimit : Engine → Stage → ClientCommand → Type 0
+NoLimit e stage c = ((end limit : ℕ) → IsFull e stage c end limit → ⊥) × (NoNumber e stage c → ⊥)
+
 abbrev pub Undone : EngineError → Engine → Stage → ClientCommand → Type 0
 Undone (LogFull end limit) e stage c = IsFull e stage c end limit
 Undone OutOfNumbers e stage c = NoNumber e stage c
-Undone OutOfMemory e stage c = Unit {0}
+Undone OutOfMemory e stage c = NoLimit e stage c

@@ -1,5 +1,5 @@
 //! What is held in memory while the program is up, and what a client's commands do to it.
-ghost use Rattle.std.specs.Prelude.{◌≡◌, ◌≢◌, ◌≤◌, ◌<◌, ◌+◌, ◌^◌, ◌⊎◌, ◌++◌, ◌∷◌, [], ℕ, Bool, true, false, Option, Some, None, length, map, OnOk, OnErr, IfOk, IfErr, IsErrOf, IfSome, IsTrue, ◌↔◌, is_some, if◌then◌else◌};
+ghost use Rattle.std.specs.Prelude.{◌≡◌, ◌≢◌, ◌≤◌, ◌<◌, ◌+◌, ◌*◌, ◌^◌, ◌⊎◌, ◌++◌, ◌∷◌, [], ℕ, Bool, true, false, Option, Some, None, length, map, OnOk, OnErr, IfOk, IfErr, IsErrOf, IfSome, IsTrue, ◌↔◌, is_some, if◌then◌else◌};
 ghost use Rattle.dali_geometry.specs.Sizes.{Sizes};
 ghost use Rattle.dali_record.specs.declared.records.Record.{Record};
 ghost use Rattle.dali_record.specs.Spelling.{spelling, record_length, CanBeSpelled};
@@ -11,7 +11,8 @@ ghost use Rattle.dali_engine.specs.Held.{value_in, is_free, answer_of_value, ans
 ghost use Rattle.dali_engine.specs.Memory.{failing, poked_at};
 ghost use Rattle.dali_engine.specs.Acts;
 ghost use Rattle.dali_engine.specs.Acts.{log_one, flushed, begun, inserted, got, committed_by, noted, audited, flushed_by};
-ghost use Rattle.dali_engine.specs.Limits.{Overruns, NoRoom, NoEnd, IsFull, NoNumber};
+ghost use Rattle.dali_engine.specs.Limits.{Overruns, NoRoom, NoEnd, IsFull, NoNumber, NoLimit};
+ghost use Rattle.dali_script.specs.declared.commands.ClientCommand.TheVariants as clients;
 ghost use Rattle.dali_engine.specs.Flushes.{Flushes, IsGated, Does, Lost, Acts as ActsBy, ActsAll, UndoneIn, Shows};
 ghost use Rattle.dali_engine.specs.declared.engine.Stage.{Stage as StageOf};
 ghost use Rattle.dali_engine.specs.declared.engine.Stage.TheVariants.{Outside, Within, LeftOut};
@@ -24,7 +25,7 @@ ghost use Rattle.dali_batch.specs.Batch.{IsClosedAt};
 
 use crate::error::EngineError;
 use crate::lines::Lines;
-use crate::memory::Memory;
+use crate::memory::{Found, Memory};
 use crate::place::Place;
 use crate::records::Records;
 use crate::waiting::Waiting;
@@ -84,6 +85,20 @@ fn audit_line(taken: bool, verdict: Line) -> Line
         verdict
     } else {
         Line::AuditStoreStopped
+    }
+}
+
+// How many bytes the record has that ends an audit and names so many regions.
+fn verdict_length(regions: u32) -> u64
+    requires { regions ≤ 98304 }
+    ensures clean { regions ≡ 0 → result ≡ 9 }
+    ensures failed { 0 < regions → result ≡ 13 + 4 * regions }
+    ensures most { result ≤ 2 ^ 20 }
+{
+    if regions == 0 {
+        9
+    } else {
+        13 + 4 * regions as u64
     }
 }
 
@@ -160,7 +175,7 @@ impl Engine {
     fn log(&mut self, entry: &Record) -> Result<(), EngineError>
         requires { CanBeSpelled entry.now }
         ensures ok { OnOk result (self.new ≡ log_one self.old entry.now) }
-        ensures room { OnOk result (self.old.count + 1 < 2 ^ 64) }
+        ensures room { OnOk result ((self.old.count + 1 < 2 ^ 64) × (length self.old.frame + record_length entry.now ≤ 2 ^ 30)) }
         ensures spelled { CanBeSpelled entry.now }
         ensures err { OnErr result (self.new ≡ self.old) }
         ensures full { (end limit : ℕ) → IsErrOf result (EngineError.LogFull end limit) → Overruns self.old.end self.old.frame entry.now end limit }
@@ -180,6 +195,50 @@ impl Engine {
         self.frame.add(&bytes)?;
         self.count = count;
         Ok(())
+    }
+
+    // Whether this many records more have numbers.
+    fn check_numbers(&self, records: u64) -> Result<(), EngineError>
+        ensures ok { OnOk result (self.now.count + records < 2 ^ 64) }
+        ensures numbers { OnErr result (2 ^ 64 ≤ self.now.count + records) }
+        ensures only { IfErr result (λ error. error ≡ EngineError.OutOfNumbers) }
+    {
+        match self.count.checked_add(records) {
+            Some(_) => Ok(()),
+            None => Err(EngineError::OutOfNumbers),
+        }
+    }
+
+    // Whether a record of so many bytes has room behind what waits and so many bytes more.
+    fn check_room(&self, more: u64, size: u64) -> Result<(), EngineError>
+        requires { more + size ≤ 2 ^ 32 }
+        ensures ok { OnOk result (length self.now.frame + more + size ≤ 2 ^ 30) }
+        ensures full { OnErr result (2 ^ 30 < length self.now.frame + more + size) }
+        ensures only { IfErr result (λ error. error ≡ EngineError.LogFull (self.now.end + length self.now.frame + more) (self.now.end + 2 ^ 30)) }
+    {
+        let end = self.end.at() + self.frame.len() as u64 + more;
+        let limit = self.end.at() + MOST_BYTES as u64;
+        if end + size <= limit {
+            return Ok(());
+        }
+        Err(EngineError::LogFull { end, limit })
+    }
+
+    // Whether a log ends below 2^61 behind what waits and so many bytes more.
+    fn check_end(&self, more: u64) -> Result<(), EngineError>
+        requires { more ≤ 2 ^ 32 }
+        ensures ok { OnOk result (self.now.end + length self.now.frame + more < 2 ^ 61) }
+        ensures full { OnErr result (2 ^ 61 ≤ self.now.end + length self.now.frame + more) }
+        ensures only { IfErr result (λ error. error ≡ EngineError.LogFull (self.now.end + length self.now.frame + more) (2 ^ 61)) }
+    {
+        let end = self.end.at() + self.frame.len() as u64 + more;
+        if end < MOST_END {
+            return Ok(());
+        }
+        Err(EngineError::LogFull {
+            end,
+            limit: MOST_END,
+        })
     }
 
     // Adds what waits to the log's file, as one batch. It answers whether the store took it; it isn't asked where the
@@ -235,9 +294,11 @@ impl Engine {
         ensures spelled { OnOk result (AreSpelled (Acts.begin_logs self.old.stopped self.old)) }
         ensures end { (self.new.end ≡ self.old.end) × (self.new.stopped ≡ self.old.stopped) }
         ensures full { (end limit : ℕ) → IsErrOf result (EngineError.LogFull end limit) → NoRoom self.old.end self.old.frame (Acts.begin_logs self.old.stopped self.old) end limit }
-        ensures wanting { IsErrOf result EngineError.OutOfMemory → self.old.stopped ≡ None → self.old.last + 1 < 2 ^ 64 }
+        ensures wanting { IsErrOf result EngineError.OutOfMemory → NoLimit self.old Outside clients.Begin }
         ensures numbers { IsErrOf result EngineError.OutOfNumbers → (2 ^ 64 ≤ (begun self.old.stopped self.old).engine.count) ⊎ (2 ^ 64 ≤ (begun self.old.stopped self.old).engine.last) }
     {
+        let _count = self.count;
+        let _last = self.last;
         if let Some(cause) = self.stopped {
             *stage = Stage::LeftOut;
             return Ok(refuse(cause, Name::Begin, lines)?);
@@ -259,31 +320,38 @@ impl Engine {
         value: Value,
         lines: &mut Lines,
     ) -> Result<(), EngineError>
+        requires running { self.old.stopped ≡ None }
         ensures engine { OnOk result (self.new ≡ inserted txn self.old key value) }
         ensures lines { OnOk result (lines.new ≡ lines.old ++ Acts.insert_line (is_free self.old.records key) ∷ []) }
         ensures spelled { OnOk result (CanBeSpelled (DoneRecord txn (calls.Insert key value) (insert_answer self.old.records key))) }
         ensures end { (self.new.end ≡ self.old.end) × (self.new.stopped ≡ self.old.stopped) }
         ensures full { (end limit : ℕ) → IsErrOf result (EngineError.LogFull end limit) → NoRoom self.old.end self.old.frame (DoneRecord txn (calls.Insert key value) (insert_answer self.old.records key) ∷ []) end limit }
         ensures numbers { IsErrOf result EngineError.OutOfNumbers → 2 ^ 64 ≤ self.old.count + 1 }
+        ensures wanting { IsErrOf result EngineError.OutOfMemory → NoLimit self.old (Within txn) (clients.Insert key value) }
     {
-        let stored = self.records.insert(key, value)?;
+        let _last = self.last;
+        let free = self.records.get(key).is_none();
         self.log(&Record::Done {
             txn,
             call: Call::Insert { key, value },
-            answer: answer_to_insert(stored),
+            answer: answer_to_insert(free),
         })?;
-        lines.push(insert_line(stored))?;
+        let _ = self.records.insert(key, value)?;
+        lines.push(insert_line(free))?;
         Ok(())
     }
 
     fn get(&mut self, txn: u64, key: u64, lines: &mut Lines) -> Result<(), EngineError>
+        requires running { self.old.stopped ≡ None }
         ensures engine { OnOk result (self.new ≡ got txn self.old key) }
         ensures lines { OnOk result (lines.new ≡ lines.old ++ Acts.get_line (answer_to_get self.old.records key) ∷ []) }
         ensures spelled { OnOk result (CanBeSpelled (DoneRecord txn (calls.Get key) (answer_to_get self.old.records key))) }
         ensures end { (self.new.end ≡ self.old.end) × (self.new.stopped ≡ self.old.stopped) }
         ensures full { (end limit : ℕ) → IsErrOf result (EngineError.LogFull end limit) → NoRoom self.old.end self.old.frame (DoneRecord txn (calls.Get key) (answer_to_get self.old.records key) ∷ []) end limit }
         ensures numbers { IsErrOf result EngineError.OutOfNumbers → 2 ^ 64 ≤ self.old.count + 1 }
+        ensures wanting { IsErrOf result EngineError.OutOfMemory → NoLimit self.old (Within txn) (clients.Get key) }
     {
+        let _last = self.last;
         let found = self.records.get(key);
         self.log(&Record::Done {
             txn,
@@ -301,6 +369,7 @@ impl Engine {
         store: &mut V,
         lines: &mut Lines,
     ) -> Result<(), EngineError>
+        requires runs { self.old.stopped ≡ None }
         requires running { IfSome (V.told store.old) (λ _. (c : Files) → V.may_leave store.old c → IsClosedAt self.old.end c.log) }
         ensures commits { OnOk result (Does V.told V.may_leave V.moment V.left_since V.faults
             (λ ok. committed_by ok txn self.old) (CommitRecord txn ∷ []) (log_one self.old (CommitRecord txn)).frame
@@ -312,7 +381,11 @@ impl Engine {
         ensures lost { OnErr result (Lost V.told V.may_leave V.moment V.left_since V.faults true (CommitRecord txn ∷ []) self.old.end (log_one self.old (CommitRecord txn)).frame store.old store.new) }
         ensures full { (end limit : ℕ) → IsErrOf result (EngineError.LogFull end limit) → NoRoom self.old.end self.old.frame (CommitRecord txn ∷ []) end limit ⊎ NoEnd self.old.end (log_one self.old (CommitRecord txn)).frame end limit }
         ensures numbers { IsErrOf result EngineError.OutOfNumbers → 2 ^ 64 ≤ self.old.count + 2 }
+        ensures wanting { IsErrOf result EngineError.OutOfMemory → NoLimit self.old (Within txn) clients.Commit }
     {
+        let _last = self.last;
+        self.check_numbers(2)?;
+        self.check_end(length(&Record::Commit { txn }))?;
         self.log(&Record::Commit { txn })?;
         if self.flush(store)? {
             self.log(&Record::Ended { txn })?;
@@ -350,11 +423,26 @@ impl Engine {
         ensures engine { OnOk result (self.new ≡ noted self.old) }
         ensures line { IfOk result (λ line. line ≡ Acts.verdict_line (failing self.old.memory)) }
         ensures spelled { OnOk result (AreSpelled (Acts.audit_logs None self.old)) }
-        ensures full { (end limit : ℕ) → IsErrOf result (EngineError.LogFull end limit) → NoRoom self.old.end self.old.frame (Acts.audit_logs None self.old) end limit }
+        ensures full { (end limit : ℕ) → IsErrOf result (EngineError.LogFull end limit) → NoRoom self.old.end self.old.frame (Acts.audit_logs None self.old) end limit ⊎ NoEnd self.old.end (noted self.old).frame end limit }
         ensures numbers { IsErrOf result EngineError.OutOfNumbers → 2 ^ 64 ≤ self.old.count + 2 }
+        ensures wanting { IsErrOf result EngineError.OutOfMemory → NoLimit self.old Outside clients.Audit }
+        ensures room { OnOk result (NoLimit self.old Outside clients.Audit) }
     {
+        let _last = self.last;
         let begin = self.count;
-        let failing = self.memory.audit(self.alloc)?;
+        let Found {
+            count,
+            failing,
+            whole,
+        } = self.memory.audit(self.alloc);
+        let size = verdict_length(count);
+        self.check_numbers(2)?;
+        self.check_room(0, 1)?;
+        self.check_room(1, size)?;
+        self.check_end(1 + size)?;
+        if !whole {
+            return Err(EngineError::OutOfMemory);
+        }
         self.log(&Record::AuditBegin)?;
         let least = failing.first().copied();
         match least {
@@ -390,6 +478,7 @@ impl Engine {
         ensures lost { OnErr result (Lost V.told V.may_leave V.moment V.left_since V.faults true (Acts.audit_logs None self.old) self.old.end (noted self.old).frame store.old store.new) }
         ensures full { (end limit : ℕ) → IsErrOf result (EngineError.LogFull end limit) → NoRoom self.old.end self.old.frame (Acts.audit_logs None self.old) end limit ⊎ NoEnd self.old.end (noted self.old).frame end limit }
         ensures numbers { IsErrOf result EngineError.OutOfNumbers → 2 ^ 64 ≤ self.old.count + 2 }
+        ensures wanting { IsErrOf result EngineError.OutOfMemory → NoLimit self.old Outside clients.Audit }
     {
         let verdict = self.note()?;
         let taken = self.flush(store)?;
@@ -398,8 +487,8 @@ impl Engine {
     }
 
     /// One command of a client. Out of a transaction an insert, a get and a commit are left out, and in one a begin and
-    /// an audit. `LogFull` and `OutOfNumbers` come only where its records have no room in the log, or no number; of the
-    /// engine nothing is said then, nor where memory is wanting. It may take memory.
+    /// an audit. `LogFull` and `OutOfNumbers` come only where its records have no room in the log, or no number, and
+    /// `OutOfMemory` only where they have both; of the engine nothing is said then. It may take memory.
     pub fn act<V: Store>(
         &mut self,
         command: &ClientCommand,
@@ -417,7 +506,10 @@ impl Engine {
         ensures lost { OnErr result (Lost V.told V.may_leave V.moment V.left_since V.faults (Acts.flushes self.old stage.old command.now) (Acts.logs self.old stage.old command.now) self.old.end (flushed_by self.old stage.old command.now) store.old store.new) }
         ensures full { (end limit : ℕ) → IsErrOf result (EngineError.LogFull end limit) → IsFull self.old stage.old command.now end limit }
         ensures numbers { IsErrOf result EngineError.OutOfNumbers → NoNumber self.old stage.old command.now }
+        ensures wanting { IsErrOf result EngineError.OutOfMemory → NoLimit self.old stage.old command.now }
     {
+        let _count = self.count;
+        let _last = self.last;
         match (command, *stage, self.stopped) {
             (ClientCommand::Begin | ClientCommand::Audit, Stage::Within { .. }, _) => Ok(()),
             (ClientCommand::Begin, _, _) => self.begin(stage, lines),

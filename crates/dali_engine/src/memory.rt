@@ -1,5 +1,5 @@
 //! The regions in memory.
-ghost use Rattle.std.specs.Prelude.{◌≡◌, ◌≢◌, ◌<◌, ◌≤◌, ◌++◌, length, map, slice_index, OnOk, IfOk};
+ghost use Rattle.std.specs.Prelude.{◌≡◌, ◌≢◌, ◌<◌, ◌≤◌, ◌+◌, ◌++◌, true, length, map, slice_index, IfOk};
 ghost use Rattle.dali_record.specs.Spelling.{AreRegions};
 ghost use Rattle.dali_region.specs.State.{checked};
 ghost use Rattle.dali_engine.specs.Memory.{change_at, strays, poked_at, named, failing, formatted_regions};
@@ -8,6 +8,17 @@ use dali_geometry::Geometry;
 use dali_region::Region;
 use std::alloc::{AllocError, Global};
 use std::marker::Model;
+
+/// What an audit found.
+#[derive(Drop)]
+pub struct Found {
+    /// How many regions differ from their codewords.
+    pub count: u32,
+    /// Their numbers, ascending.
+    pub failing: Vec<u32>,
+    /// Whether there was memory for all the numbers.
+    pub whole: bool,
+}
 
 /// All regions of a database. Contracts see a list.
 #[derive(Drop)]
@@ -68,30 +79,43 @@ impl Memory {
         self.regions[region as usize].check()
     }
 
-    // The same, and the region's number is added where they differ.
-    fn check_into(&mut self, region: u32, failing: &mut Vec<u32>) -> Result<(), AllocError>
-        requires { region < length self.old }
-        ensures checked { OnOk result (self.new ≡ change_at checked region self.old) }
-        ensures named { OnOk result (failing.new.items ≡ failing.old.items ++ named (slice_index (strays self.old) region) region) }
+    // The same, and the region is counted and its number added where they differ.
+    fn check_into(&mut self, region: u32, found: &mut Found)
+        requires there { region < length self.old }
+        requires few { region < 98304 }
+        requires fewer { found.old.count ≤ region }
+        ensures checked { self.new ≡ change_at checked region self.old }
+        ensures counted { found.new.count ≡ found.old.count + length (named (slice_index (strays self.old) region) region) }
+        ensures named { found.new.whole ≡ true →
+            (found.old.whole ≡ true) × (found.new.failing.items ≡ found.old.failing.items ++ named (slice_index (strays self.old) region) region) }
     {
-        if self.check(region) != 0 {
-            failing.push(region)?;
+        if self.check(region) == 0 {
+            return;
         }
-        Ok(())
+        found.count += 1;
+        if found.failing.push(region).is_err() {
+            found.whole = false;
+        }
     }
 
-    /// Compares the codeword of each region with its words: the numbers of those that differ, ascending. It takes
-    /// memory for the numbers.
-    pub fn audit(&mut self, alloc: Global) -> Result<Vec<u32>, AllocError>
-        ensures failing { IfOk result (λ regions. regions.items ≡ failing self.old) }
-        ensures ascending { IfOk result (λ regions. AreRegions regions.items) }
-        ensures checked { OnOk result (self.new ≡ map checked self.old) }
+    /// Compares the codeword of each region with its words. It takes memory for the numbers of those that differ; where
+    /// that is refused they are still counted.
+    pub fn audit(&mut self, alloc: Global) -> Found
+        ensures counted { result.count ≡ length (failing self.old) }
+        ensures most { result.count ≤ 98304 }
+        ensures failing { result.whole ≡ true → result.failing.items ≡ failing self.old }
+        ensures ascending { result.whole ≡ true → AreRegions result.failing.items }
+        ensures checked { self.new ≡ map checked self.old }
     {
-        let mut failing = Vec::new(alloc);
+        let mut found = Found {
+            count: 0,
+            failing: Vec::new(alloc),
+            whole: true,
+        };
         let count = self.len() as u32;
         for region in 0..count {
-            self.check_into(region, &mut failing)?;
+            self.check_into(region, &mut found);
         }
-        Ok(failing)
+        found
     }
 }

@@ -5,3 +5,4 @@ pub mod Begun
 pub mod Told
 pub mod States
 pub mod OlderRows
+pub mod Ends

@@ -69,7 +69,7 @@ by_damage (Some (Damage q)) r e = cc
 by_damage (Some Store) r e = absurd (cc)
 
 pub stop_tells : StopTells
-stop_tells bases before leave c run = record {
+stop_tells bases before c run = record {
   damage = λ r. (λ e. sym named ∙ ap damage_in e, λ e. by_damage c.system.stop r (named ∙ e));
   store = λ e. let stopped = run.runs.stop.store e in (stopped, run.vault.rose stopped);
 }

@@ -15,15 +15,14 @@ use Rattle.dali_record.specs.Damage.{has}
 use Rattle.dali_record.specs.Epochs.{last_epoch, failing}
 use Rattle.dali_record.specs.Settled.{settled}
 use Rattle.dali_record.specs.Spelling.{record_length}
-use Rattle.dali_record.specs.Files.{Files, next_after}
+use Rattle.dali_record.specs.Files.{next_after}
 use Rattle.dali_words.specs.Words.{parity_of}
 use Rattle.dali_region.specs.State.{RegionState, is_written}
 use Rattle.dali_locks.specs.Locks.{IsConflict}
 use Rattle.dali_system.specs.declared.refusals.Refusal.{Refusal}
 use Rattle.dali_system.specs.declared.causes.Cause.TheVariants.{Damage, Store}
 use Rattle.dali_system.specs.State.{TxnRow, CoreState, row_of, log_after}
-use Rattle.dali_system.specs.Run.{Bases, base_at, RunsOn, IsRun, holds, is_committed, EndedSince, first_of, HasRisen}
-use Rattle.dali_system.specs.Courses.{MayLeave}
+use Rattle.dali_system.specs.Run.{Bases, base_at, RunsOn, IsRun, holds, is_committed, EndedSince, first_of, HasRisen, no_image}
 
 abbrev pub HoldsItsKeys : Type 0
 HoldsItsKeys =
@@ -85,10 +84,10 @@ pub record CauseTells (L : List Record) (c : CoreState) : Type 0 where
   -- the store has failed since it was loaded
   pub store : c.system.stop ≡ Some Store → (c.vault.stopped ≡ true) × HasRisen c.vault.faults_then c.vault.faults
 
--- what a crash may leave is given by a test, since a clause can't range over all relations
+-- whatever a crash may leave
 abbrev pub StopTells : Type 0
 StopTells =
-    (bases : Bases) (before : List Record) (leave : Files → Bool) (c : CoreState) → IsRun bases before (MayLeave leave) c
+    (bases : Bases) (before : List Record) (c : CoreState) → IsRun bases before no_image c
     → CauseTells (log_after before c.system) c
 
 -- ---- the regions

@@ -1,3 +1,4 @@
 pub mod Facts
 pub mod Plans
 pub mod States
+pub mod Ends

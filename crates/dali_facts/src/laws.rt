@@ -2,6 +2,7 @@
 
 ghost use Rattle.dali_facts.specs.Facts.{HoldsItsKeys, HasItsUndos, HasCounts, RowsAreOlder, CommittedIsLogged, HoldsTheBegun, RefusalsTell, StopTells, RegionsTell};
 ghost use Rattle.dali_facts.specs.States.{StatesComeFrom};
+ghost use Rattle.dali_facts.specs.Ends.{BeginFollows, NextIsUnbegun, CommitFollows, SoloFollows, EndFollows, EmptyEnds, OnlyThese, OthersLeave, CommitIsStep, SoloIsStep, EndIsStep, EmptyEndIsStep};
 ghost use Rattle.dali_facts.specs.Plans.{PlanGoesOn, PlanStarts, PlanAnswers, TakeBackGoesOn};
 
 /// A running transaction holds the keys of its blocks.
@@ -75,4 +76,37 @@ pub fn a_run_tells_its_words()
 /// region that is still latched, and Committed only where it was or was Live.
 pub fn states_come_from_states()
     ensures { StatesComeFrom }
+{}
+
+/// The next number has no record yet, and behind its Begin a transaction is between calls, with nothing to take back.
+pub fn a_transaction_begins()
+    ensures follows { BeginFollows }
+    ensures next { NextIsUnbegun }
+{}
+
+/// Between calls, with nothing taken back of what had been answered, it may commit. Then each removal is freed by a solo, in
+/// order, and behind the last of them it ends; no other record of it is allowed.
+pub fn a_commit_is_followed_by_its_removals()
+    ensures commit { CommitFollows }
+    ensures solo { SoloFollows }
+    ensures end { EndFollows }
+    ensures only { OnlyThese }
+{}
+
+/// One with nothing to take back may end without a commit.
+pub fn an_abort_ends()
+    ensures { EmptyEnds }
+{}
+
+/// A record that doesn't concern a transaction leaves it where it was.
+pub fn others_leave_a_transaction()
+    ensures { OthersLeave }
+{}
+
+/// So a commit, a solo and an end are steps of a run, with no rule of the log for the caller to prove.
+pub fn the_ends_of_a_transaction_are_steps()
+    ensures commit { CommitIsStep }
+    ensures solo { SoloIsStep }
+    ensures end { EndIsStep }
+    ensures abort { EmptyEndIsStep }
 {}

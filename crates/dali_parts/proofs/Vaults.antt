@@ -4,12 +4,12 @@ use Rattle.std.specs.Prelude.{drop, take}
 use Rattle.std.proofs.lemmas.List.{length-append, take-append-le}
 use Rattle.dali_record.specs.declared.records.Record.{Record}
 use Rattle.dali_record.specs.Files.{Files}
-use Rattle.dali_system.specs.Run.{VaultRun, IsPrefix, IsFlushed}
+use Rattle.dali_system.specs.Run.{VaultRun, IsPrefix, IsFlushed, only}
 use Rattle.dali_system.specs.Courses.{Begins, Operates, TakesBack, Frees, Answers, Commits, Ends, AuditBegins, AuditEnds, Locks, Refuses, OnRegion, Passes, Dies, Claims, GivesBack, Recovers, Stops, Checkpoints, Takes, Flushes, Faults}
 use Rattle.dali_system.specs.State.{VaultState, CoreState}
 use Rattle.dali_system.specs.Flushes.{with_frame}
 use Rattle.dali_system.proofs.Flushes.{flush_leaves, fault_leaves}
-use Rattle.dali_parts.specs.Vaults.{only, VaultFlushes, VaultFaults, VaultMisses, StepHasVault}
+use Rattle.dali_parts.specs.Vaults.{VaultFlushes, VaultFaults, VaultMisses, StepHasVault}
 
 pub vault_flushes : VaultFlushes
 vault_flushes L n m v D run from within runs = flush_leaves (only D) (only (with_frame D (drop n (take m L)))) L n m v run from within runs (record { each = λ F is. (D, refl, is) })

@@ -1,5 +1,4 @@
 -- The vault's part of a run and of each step, in words of the vault alone.
---     only F                   a crash leaves these files: the vault's part speaks of each crash image by itself
 --     VaultFlushes, VaultFaults     the vault's part once a frame is flushed, and where the flush meets a fault
 --     VaultMisses              it stays while others log
 --     IsVaultStep frame v x w  what the step x does to the vault, with this frame in hand: it leads from v to w
@@ -8,13 +7,9 @@ use Rattle.std.specs.Prelude.{◌≡◌, ℕ, ◌≤◌, ◌⊎◌, false, List,
 use Rattle.dali_record.specs.declared.records.Record.{Record}
 use Rattle.dali_record.specs.Files.{Files}
 use Rattle.dali_system.specs.State.{VaultState, CoreState}
-use Rattle.dali_system.specs.Run.{VaultRun, HasRisen}
+use Rattle.dali_system.specs.Run.{VaultRun, HasRisen, only}
 use Rattle.dali_system.specs.Flushes.{frame_of, with_frame, longer, faulted}
 use Rattle.dali_system.specs.Courses.{Step, IsStep, Flushes, Faults}
-
--- this one alone
-abbrev pub only : Files → Files → Type 0
-only F G = G ≡ F
 
 -- n records are flushed, m were taken
 abbrev pub VaultFlushes : Type 0

@@ -24,3 +24,7 @@ pub mod Followed
 pub mod Misfits
 pub mod Served
 pub mod Ends
+pub mod Batches
+pub mod Numbers
+pub mod OnTheWay
+pub mod Worked

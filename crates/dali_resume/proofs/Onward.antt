@@ -1,4 +1,5 @@
 -- A restart goes on behind each Restarted of the log, and comes to what the whole log says.
+use Rattle.dali_history.specs.Marked.{kept_of}
 use Rattle.std.specs.Prelude.{Contains, IsSome, fold, max, not, slice_get, ◌&&◌, ◌==◌}
 use Rattle.std.proofs.Common.{Bool, List, None, Option, Some, ap, append_assoc, arith, cond, drop, false, length, refl, subst, sym, take, true, ℕ, ◌≡◌, ◌∷◌, ◌++◌, ◌∙◌, ◌+◌, ◌-◌, ◌<◌, []}
 use Rattle.std.proofs.lemmas.Bool.{both_ways, false_from_ne_true, or_right}
@@ -30,7 +31,7 @@ use Rattle.dali_resume.specs.Onward.{Going, closed_image, going_next}
 use Rattle.dali_resume.specs.Resumed.{damage_from, deleted_by, records_from, recover_by, rolled_by, scan}
 use Rattle.dali_resume.specs.Tests.{Idle, Running, Status, Waiting, known_next, may_follow, same_numbers, status_next, tells_lists, test_next, tests}
 use Rattle.dali_resume.proofs.Audits.{clean_rises}
-use Rattle.dali_resume.proofs.Joined.{recovers_alike, reports_alike}
+use Rattle.dali_resume.proofs.Joined.{recovers_alike, reports_alike, kept_at}
 use Rattle.dali_resume.proofs.Resumes.{table_of}
 use Rattle.dali_resume.proofs.Tested.{Related, plain_step, status}
 
@@ -87,6 +88,11 @@ module _ (s : Sizes) (Y : List Record) (legal : IsLegalFor s Y) (spelled : AreSp
       let all : recover_from s base e.first e ≡ recover_by s base (damage_behind e e.first) (table_before e e.first) (records_from e.first e) = recovers_alike s Y e e.first may base in
       let flat = subst (λ k. freed s (fold (λ im t. roll_back im (undos_left ms t)) (redo_all base (kept_from (take k ms) (drop k ms))) (losers e ms)) ≡ recover_by s base (damage_from (max e.first e.first) (drop k e.records)) (table_of (take k e.records)) (drop k e.records)) none_before all in
       sym (subst (λ p. recover s base e ≡ recover_by s base (damage_from p e.records) [] e.records) first_is flat)
+
+  pub open_kept : (scan (damage_from (last_epoch Y).first (last_epoch Y).records) [] (last_epoch Y).records).kept ≡ kept_of (last_epoch Y)
+  open_kept =
+      let flat = subst (λ k. kept_from (take k ms) (drop k ms) ≡ (scan (damage_from (max e.first e.first) (drop k e.records)) (table_of (take k e.records)) (drop k e.records)).kept) none_before (kept_at s Y e e.first may) in
+      sym (subst (λ p. kept_of (last_epoch Y) ≡ (scan (damage_from p e.records) [] e.records).kept) first_is flat)
 
   pub open_rolled : rolled_by [] (last_epoch Y).records ≡ rolled_list (last_epoch Y)
   open_rolled = sym (subst (λ k. rolled_list e ≡ rolled_by (table_of (take k e.records)) (drop k e.records)) none_before (reports_alike s Y e e.first may).0)

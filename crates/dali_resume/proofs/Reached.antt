@@ -1,4 +1,6 @@
 -- Where a restart stands at the end of its image's epoch.
+use Rattle.dali_history.specs.Marked.{kept_of}
+use Rattle.dali_resume.specs.OnTheWay.{rewritten_by}
 use Rattle.std.specs.Prelude.{IsSome, filter_map, fold, max, not, slice_get, ◌&&◌, ◌==◌}
 use Rattle.std.proofs.Common.{Bool, List, None, Some, ap, append_assoc, arith, cond, drop, false, length, refl, subst, suc, sym, take, true, zero, ℕ, ◌≡◌, ◌∷◌, ◌++◌, ◌∙◌, ◌≤◌, ◌+◌, ◌-◌, ◌<◌, [], ⊎_elim}
 use Rattle.std.proofs.lemmas.Bool.{and_parts, both_ways, cases_lt}
@@ -23,14 +25,14 @@ use Rattle.dali_history.proofs.Prefixes.{IsLegalFor-front}
 use Rattle.dali_counts.proofs.Tallies.{number_is, numbers_drawn, tallies}
 use Rattle.dali_crash.specs.Fitting.{FitsWhole}
 use Rattle.dali_crash.proofs.Fitting.{found_is, redoes_the_epoch, within_epoch}
-use Rattle.dali_crash.proofs.FromImage.{recovers_from_image}
+use Rattle.dali_crash.proofs.FromImage.{recovers_from_image, redone_from_image}
 use Rattle.dali_resume.specs.Laws.{MayResume}
 use Rattle.dali_resume.specs.Onward.{Going, KnowsAlike, closed_image, deleted_behind, goes_through, going_at, going_next, rolled_behind}
 use Rattle.dali_resume.specs.Resumed.{damage_from, deleted_by, rolled_by, scan}
 use Rattle.dali_resume.specs.Tests.{Known, known_at, known_next, may_follow, next_behind, test_next, tests}
 use Rattle.dali_resume.proofs.Audits.{behind_runs, first_refuses, kept_some}
 use Rattle.dali_resume.proofs.FromFiles.{may_resume}
-use Rattle.dali_resume.proofs.Joined.{recovers_alike, reports_alike, some_left}
+use Rattle.dali_resume.proofs.Joined.{recovers_alike, reports_alike, some_left, kept_at}
 use Rattle.dali_resume.proofs.Onward.{some_is, told_lists}
 use Rattle.dali_resume.proofs.Reading.{IsLed, Placed, drop_more, get_then, placed}
 use Rattle.dali_resume.proofs.Resumes.{table_of}
@@ -175,6 +177,7 @@ pub record Reached (s : Sizes) (n : ℕ) (K : List Record) (c : Going) : Type 0 
   pub number : c.known.number ≡ length K
   pub next : c.known.next ≡ next_after K
   pub closes : closed_image s c ≡ recover s (base_of s K) (last_epoch K)
+  pub writes : rewritten_by c ≡ redo_all (base_of s K) (kept_of (last_epoch K))
   pub rolled : rolled_by c.known.table c.known.seen ≡ rolled_list (last_epoch K)
   pub deleted : deleted_by c.known.table c.known.seen (scan (damage_from c.known.first c.known.seen) c.known.table c.known.seen) ≡ deleted_list (last_epoch K)
   -- where no record was read
@@ -247,6 +250,7 @@ module _ (s : Sizes) (K : List Record) (F : Files) (fit : FitsWhole s (base_of s
   by_came came told untold = record {
     number = ap (λ (g : Known). g.number) (known_through s n (going_at F) (drop n K)) ∙ (number_through (drop n K) (known_at F.first F.next F.table) ∙ omega (arith, length-drop n K, fit.fits.count));
     next = ap (λ (g : Known). g.next) (known_through s n (going_at F) (drop n K)) ∙ (next_through s (drop n K) (take n K) (known_at F.first F.next F.table) fit.fits.numbers (subst (IsLegalFor s) (sym (take-append-drop n K)) legal) ∙ ap next_after (take-append-drop n K));
+    writes = rw (came.image, came.first, came.table, came.seen) (ap (redo_all F.image) (sym (kept_at s K e n may)) ∙ redone_from_image s (base_of s K) K F e fit);
     closes = rw (came.image, came.first, came.table, came.seen) (sym (recovers_alike s K e n may F.image) ∙ recovers_from_image s (base_of s K) K F e fit);
     rolled = rw (came.table, came.seen) (sym (reports_alike s K e n may).0);
     deleted = rw (came.first, came.table, came.seen) (sym (reports_alike s K e n may).1);

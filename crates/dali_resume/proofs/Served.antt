@@ -1,8 +1,8 @@
 -- The table that the tests keep of any records is the one whose undos are performed.
 use Rattle.std.specs.List.{list_any}
 use Rattle.std.specs.Prelude.{fold, not, ◌&&◌, ◌||◌, ◌==◌}
-use Rattle.std.proofs.Common.{Bool, List, None, Some, ap, arith, cond, false, refl, subst, sym, true, ℕ, ◌≡◌, ◌∷◌, ◌++◌, ◌∙◌, ◌<◌, []}
-use Rattle.std.proofs.lemmas.Bool.{and_parts, both_ways}
+use Rattle.std.proofs.Common.{Bool, List, None, Some, ap, arith, cond, false, refl, subst, sym, true, ℕ, ◌≡◌, ◌+◌, ◌∷◌, ◌++◌, ◌∙◌, []}
+use Rattle.std.proofs.lemmas.Bool.{and_parts, both_ways, ne_eqb}
 use Rattle.std.proofs.lemmas.List.Folds.{list_any-append}
 use Rattle.std.proofs.lemmas.List.Sums.{fold-append}
 use Rattle.dali_geometry.specs.Sizes.{Sizes}
@@ -20,7 +20,7 @@ use Rattle.dali_record.proofs.Stages.{has_committed_push}
 use Rattle.dali_history.specs.Recovered.{freed, roll_back}
 use Rattle.dali_history.proofs.Members.{fold_within, has-filter}
 use Rattle.dali_resume.specs.Laws.{is_audit_fail, losers_of, recover_plain, undos_in}
-use Rattle.dali_resume.specs.Onward.{Going, OnePassOnward, ServesAnyLog, goes_through}
+use Rattle.dali_resume.specs.Onward.{Going, OnePassOnward, ServesAnyLog, begins_log, goes_through}
 use Rattle.dali_resume.specs.Resumed.{begun_by, committed_by, damage_from, deleted_by, recover_by, row_committed, row_undos, scan}
 use Rattle.dali_resume.specs.Tests.{Idle, Known, Running, Status, Waiting, allows, is_running, is_waiting, known_at, known_next, may_end, may_follow, status_in, status_next, test_next, tests}
 use Rattle.dali_resume.proofs.Followed.{failed_is}
@@ -121,7 +121,7 @@ module _ (s : Sizes) (n : ℕ) (g : Known) (t : ℕ) where
   serves (Running us) r w q v k c = runs us r w q k c
   serves Waiting r w q v k c = absurd (cc)
 
-module _ (s : Sizes) (n : ℕ) (g : Known) (some : 0 < g.number) (w : Served g) where
+module _ (s : Sizes) (n : ℕ) (g : Known) (w : Served g) where
   plain : (r : Record) → separates r ≡ false → allows s n g r ≡ true → Served (known_next g r)
   plain r sep k = record {
     undos = λ t h.
@@ -155,33 +155,51 @@ module _ (s : Sizes) (n : ℕ) (g : Known) (some : 0 < g.number) (w : Served g) 
       one : (t : ℕ) → committed_by g.table g.seen t ≡ false → has (committed (r ∷ [])) t ≡ false → Serves t (g.statuses t) r
       one t h c = serves s n g t (g.statuses t) r sep refl (w.waits t h) k c
 
-  next : (r : Record) → allows s n g r ≡ true → Served (known_next g r)
-  next (Format i h) k = let none : g.number ≡ 0 = test_same g.number 0 k in absurd (omega (arith, none, some))
-  next (Begin t) k = plain (Begin t) refl k
-  next (Forward t b) k = plain (Forward t b) refl k
-  next (Done t c a) k = plain (Done t c a) refl k
-  next (Commit t) k = plain (Commit t) refl k
-  next (Ended t) k = plain (Ended t) refl k
-  next (Solo t p b) k = plain (Solo t p b) refl k
-  next AuditBegin k = plain AuditBegin refl k
-  next (AuditClean b) k = plain (AuditClean b) refl k
-  next (AuditFail b rs) k = plain (AuditFail b rs) refl k
-  next (Restarted rs ds) k = record {
+  next : (r : Record) → (g.number == 0) && begins_log (r ∷ []) ≡ false → allows s n g r ≡ true → Served (known_next g r)
+  next (Format i h) f k = absurd (both_ways ((g.number == 0) && true) f (ap (λ b. b && true) k))
+  next (Begin t) f k = plain (Begin t) refl k
+  next (Forward t b) f k = plain (Forward t b) refl k
+  next (Done t c a) f k = plain (Done t c a) refl k
+  next (Commit t) f k = plain (Commit t) refl k
+  next (Ended t) f k = plain (Ended t) refl k
+  next (Solo t p b) f k = plain (Solo t p b) refl k
+  next AuditBegin f k = plain AuditBegin refl k
+  next (AuditClean b) f k = plain (AuditClean b) refl k
+  next (AuditFail b rs) f k = plain (AuditFail b rs) refl k
+  next (Restarted rs ds) f k = record {
     undos = λ t h. ap undos_in (idle_anyway t (g.statuses t) rs ds);
     waits = λ t h. ap is_waiting (idle_anyway t (g.statuses t) rs ds);
     failed = refl;
   }
-  next (Back t b) k = plain (Back t b) refl k
+  next (Back t b) f k = plain (Back t b) refl k
 
-served_through : (s : Sizes) (n : ℕ) (Q : List Record) (g k : Known) → 0 < g.number → Served g → tests s n g Q ≡ Some k → Served k
-served_through s n [] g k some w e = let same : g ≡ k = some_known g k e in subst Served same w
+behind_none : (m : ℕ) (b : Bool) → (m + 1 == 0) && b ≡ false
+behind_none m b = ap (λ c. c && b) (ne_eqb (m + 1) 0 (λ f. absurd (omega (arith, f))))
+
+-- only the first record may be one
+first_alone : (c : Bool) (r : Record) (Q : List Record) → c && begins_log (r ∷ Q) ≡ false → c && begins_log (r ∷ []) ≡ false
+first_alone c (Format i h) Q e = e
+first_alone c (Begin t) Q e = e
+first_alone c (Forward t b) Q e = e
+first_alone c (Done t d a) Q e = e
+first_alone c (Commit t) Q e = e
+first_alone c (Ended t) Q e = e
+first_alone c (Solo t p b) Q e = e
+first_alone c AuditBegin Q e = e
+first_alone c (AuditClean b) Q e = e
+first_alone c (AuditFail b rs) Q e = e
+first_alone c (Restarted rs ds) Q e = e
+first_alone c (Back t b) Q e = e
+
+served_through : (s : Sizes) (n : ℕ) (Q : List Record) (g k : Known) → (g.number == 0) && begins_log Q ≡ false → Served g → tests s n g Q ≡ Some k → Served k
+served_through s n [] g k none w e = let same : g ≡ k = some_known g k e in subst Served same w
   where
     some_known : (x y : Known) → Some x ≡ Some y → x ≡ y
     some_known x y q = cc
-served_through s n (r ∷ Q) g k some w e = by_test (λ v f. served_through s n Q (known_next g r) k (omega (arith, some)) v f) (may_follow s n g r) refl e
+served_through s n (r ∷ Q) g k none w e = by_test (λ v f. served_through s n Q (known_next g r) k (behind_none g.number (begins_log Q)) v f) (may_follow s n g r) refl e
   where
     by_test : (Served (known_next g r) → tests s n (known_next g r) Q ≡ Some k → Served k) → (b : Bool) → may_follow s n g r ≡ b → fold (test_next s n) (cond b (Some (known_next g r)) None) Q ≡ Some k → Served k
-    by_test ih true f q = ih (next s n g some w r (and_parts (allows s n g r) (not g.failed || is_restarted r) f).0) q
+    by_test ih true f q = ih (next s n g w r (first_alone (g.number == 0) r Q none) (and_parts (allows s n g r) (not g.failed || is_restarted r) f).0) q
     by_test ih false f q = absurd (none_passes s n Q k q)
 
 pub serves_any_log : ServesAnyLog

@@ -1,4 +1,5 @@
 -- Whatever stands behind the image in a legal log, a restart comes to what the whole log says.
+use Rattle.dali_record.specs.Settled.{redo_all}
 use Rattle.std.specs.List.{list_any}
 use Rattle.std.specs.Prelude.{IsNone, IsSome, fold, not, sum_by, ◌&&◌, ◌||◌, ◌==◌}
 use Rattle.std.proofs.Common.{Bool, List, None, Option, Some, ap, append_assoc, arith, cond, drop, false, length, refl, subst, sym, true, ℕ, ◌≡◌, ◌∷◌, ◌++◌, ◌∙◌, ◌<◌, []}
@@ -32,7 +33,7 @@ use Rattle.dali_resume.specs.Onward.{FitsFront, Going, HandedOut, IsResumed, Lis
 use Rattle.dali_resume.specs.Refused.{follows}
 use Rattle.dali_resume.specs.Resumed.{damage_from, deleted_by, rolled_by, scan}
 use Rattle.dali_resume.specs.Tests.{Known, allows, first_bad, known_at, known_next, same_numbers, tells_lists, test_next, tests}
-use Rattle.dali_resume.proofs.Onward.{Open, Passed, open_deleted, open_recovers, open_rolled, opens, passes_on, plain_closed, restart_rule, some_is}
+use Rattle.dali_resume.proofs.Onward.{Open, Passed, open_deleted, open_recovers, open_rolled, opens, passes_on, plain_closed, restart_rule, some_is, open_kept}
 use Rattle.dali_resume.proofs.Passes.{passes_tests}
 use Rattle.dali_resume.proofs.Reached.{Reached, knows_alike, reached}
 use Rattle.dali_resume.proofs.Reading.{IsEnd}
@@ -105,6 +106,7 @@ open_reached : (s : Sizes) (n : ℕ) (L : List Record) (c : Going) → IsLegalFo
 open_reached s n L c legal spelled w before = record {
   number = w.related.number ∙ tally.0;
   next = w.related.next ∙ (tally.2 ∙ numbers_drawn L);
+  writes = rw (w.table, w.seen, w.first, w.image) (ap (redo_all (base_of s L)) (open_kept s L legal spelled));
   closes = rw (w.table, w.seen, w.first, w.image) (open_recovers s L legal spelled (base_of s L));
   rolled = rw (w.table, w.seen) (open_rolled s L legal spelled);
   deleted = rw (w.table, w.seen, w.first) (open_deleted s L legal spelled);

@@ -9,3 +9,7 @@ pub mod Finding
 pub mod Onward
 pub mod Rules
 pub mod Ends
+pub mod Batches
+pub mod Numbers
+pub mod OnTheWay
+pub mod Worked

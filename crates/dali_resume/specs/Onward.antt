@@ -24,7 +24,7 @@
 --     FormatHandsOut           of Format alone, and of Format and Restarted, the formatted regions are handed out, and nobody
 --     CrashIsAnswered          so it is from what a crash of a run with its store leaves
 --     RestartsOnward           where the last epoch has a record, a restart may be stopped and made again
-use Rattle.std.specs.Prelude.{◌≡◌, ◌<◌, ◌&&◌, ℕ, true, false, ◌+◌, not, List, [], ◌∷◌, ◌++◌, ◌==◌, if◌then◌else◌, Option, Some, None, drop, length, flat_map, fold}
+use Rattle.std.specs.Prelude.{◌≡◌, ◌<◌, ◌&&◌, ℕ, Bool, true, false, ◌+◌, not, List, [], ◌∷◌, ◌++◌, ◌==◌, if◌then◌else◌, Option, Some, None, drop, length, flat_map, fold}
 use Rattle.std.specs.List.{list_any}
 use Rattle.dali_geometry.specs.Sizes.{Sizes}
 use Rattle.dali_geometry.specs.Places.{formatted_image}
@@ -135,10 +135,16 @@ ListsAreTested =
 abbrev pub KnowsAlike : Type 0
 KnowsAlike = (s : Sizes) (F : Files) (Q : List Record) (k : Known) → tests s F.first (known_at F.first F.next F.table) Q ≡ Some k → (goes_through s F Q).known ≡ k
 
+-- a Format may follow at number 0 alone: a record number of 0 with a Format behind it would begin the log again
+abbrev pub begins_log : List Record → Bool
+begins_log (Format i h ∷ Q) = true
+begins_log _ = false
+
 -- no rule of the log is a premise but what was tested
 abbrev pub ServesAnyLog : Type 0
 ServesAnyLog =
-    (s : Sizes) (n next : ℕ) (rows : List Row) (Q : List Record) (k : Known) → 0 < n → tests s n (known_at n next rows) Q ≡ Some k
+    (s : Sizes) (n next : ℕ) (rows : List Row) (Q : List Record) (k : Known) → (n == 0) && begins_log Q ≡ false
+    → tests s n (known_at n next rows) Q ≡ Some k
     → ((t : ℕ) → committed_by k.table k.seen t ≡ false → undos_in (k.statuses t) ≡ fold (undo_step t) (row_undos k.table t) k.seen)
     × (k.failed ≡ list_any is_audit_fail k.seen)
 
@@ -148,7 +154,8 @@ one_pass s c = freed s (fold (λ im t. roll_back im (undos_in (c.known.statuses 
 
 abbrev pub OnePassOnward : Type 0
 OnePassOnward =
-    (s : Sizes) (F : Files) (Q : List Record) (k : Known) → 0 < F.first → tests s F.first (known_at F.first F.next F.table) Q ≡ Some k → k.failed ≡ false
+    (s : Sizes) (F : Files) (Q : List Record) (k : Known) → (F.first == 0) && begins_log Q ≡ false
+    → tests s F.first (known_at F.first F.next F.table) Q ≡ Some k → k.failed ≡ false
     → (closed_image s (goes_through s F Q) ≡ one_pass s (goes_through s F Q))
     × (deleted_by k.table k.seen (scan (damage_from k.first k.seen) k.table k.seen) ≡ [])
 

@@ -6,6 +6,10 @@ ghost use Rattle.dali_resume.specs.Again.{HandsOut, RestartsAgain, ResumeGives};
 ghost use Rattle.dali_resume.specs.Finding.{WritesAlike, FindsFromImage, FindsInLast, FindsAfterCrash, KeepsUndos};
 ghost use Rattle.dali_resume.specs.Ends.{EndsEpochs};
 ghost use Rattle.dali_resume.specs.Rules.{FrontsStand, TestsAreRules, FindsMisfit, LegalStands};
+ghost use Rattle.dali_resume.specs.Batches.{FindsMisplaced, FitsInBatches, AnswersOverBatches, FrontAnswersOverBatches};
+ghost use Rattle.dali_resume.specs.Worked.{MiddleRestarts, MisfitsInTheMiddle};
+ghost use Rattle.dali_resume.specs.OnTheWay.{WritesOnTheWay, FindsOnTheWay, EndsAreHistories};
+ghost use Rattle.dali_resume.specs.Numbers.{NumberIsSome};
 ghost use Rattle.dali_resume.specs.Onward.{ResumesThrough, ListsAreTested, KnowsAlike, ResumesHistories, FormatFits, FormatHandsOut, CrashIsAnswered, RestartsOnward, ServesAnyLog, OnePassOnward};
 
 /// The clean place and the failing regions of an epoch are found in the records behind an image.
@@ -182,4 +186,35 @@ pub fn one_pass_serves_any_log()
 /// wrong.
 pub fn a_worked_log_ends_its_epochs()
     ensures { EndsEpochs }
+{}
+
+/// Each Restarted has to be the first record of its batch: the first that isn't is named, before any record that may not
+/// follow and behind it. Of files that fit none is so named, and the answer is that of their records.
+pub fn a_restarted_is_first_in_its_batch()
+    ensures finds { FindsMisplaced }
+    ensures fits { FitsInBatches }
+    ensures answers { AnswersOverBatches }
+    ensures front { FrontAnswersOverBatches }
+{}
+
+/// The image of files that fit stands behind a record, where its place is above 0: a restart tests that the place isn't below
+/// that of the second batch, so no law that asks for a record number above 0 is left to its caller.
+pub fn an_image_stands_behind_a_record()
+    ensures { NumberIsSome }
+{}
+
+/// Behind any number of restarts behind the image, at the end of the log and wherever an epoch is recovered on the way, what
+/// the scan keeps comes to what the epoch's kept records come to over its base; and there each undo finds its slot as its
+/// transaction left it, in any order of the transactions.
+pub fn undos_find_their_slots_on_the_way()
+    ensures written { WritesOnTheWay }
+    ensures found { FindsOnTheWay }
+    ensures ends { EndsAreHistories }
+{}
+
+/// A worked restart with a Restarted in the middle of its log and blocks on both sides: what it comes to there and at the end,
+/// and which record is named where one is wrong.
+pub fn a_worked_restart_ends_an_epoch_on_its_way()
+    ensures restarts { MiddleRestarts }
+    ensures misfits { MisfitsInTheMiddle }
 {}

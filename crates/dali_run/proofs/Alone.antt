@@ -141,11 +141,17 @@ module _ {V : Type 0} (told : V → Option Files) (may_leave : V → Files → T
   untold command old new before stage listed none acts =
       inl (record { new = new; stage = stage; listed = listed; acts = subst (λ (l : List Line). ActsFrom command old l (turn new stage listed)) none acts; store = refl })
 
+  -- for want of memory for its lines
+  pub lines_wanting : (command : ClientCommand) (old new : Running V) (before : List Line) (stage : Stage) (listed : List Line) → before ≡ [] → ActsFrom command old before (turn new stage listed)
+      → AloneFails told may_leave moment left_since faults halts.OutOfMemory command old new.store
+  lines_wanting command old new before stage listed none acts =
+      (inl (record { new = new; stage = stage; listed = listed; acts = subst (λ (l : List Line). ActsFrom command old l (turn new stage listed)) none acts; store = refl }), tt)
+
   -- the store wasn't asked, or failed in the flush, and why
   pub alone_undone : (error : EngineError) (command : ClientCommand) (old : Running V) (f : Fuse V)
       → Lost (told_in told) (leaves_in told may_leave) (moment_in moment left_since) (since_in moment left_since) (faults_in faults) (flushes old.engine Outside command) (logs old.engine Outside command) old.engine.end (flushed_by old.engine Outside command) old.store f
       → Undone error old.engine Outside command → AloneFails told may_leave moment left_since faults (halt_of_engine error) command old f
-  alone_undone engines.OutOfMemory command old f lost undone = inr lost
+  alone_undone engines.OutOfMemory command old f lost undone = (inr lost, undone)
   alone_undone engines.OutOfNumbers command old f lost undone = (inr lost, undone)
   alone_undone (engines.LogFull end limit) command old f lost undone = (inr lost, undone)
 

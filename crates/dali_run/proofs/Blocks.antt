@@ -40,15 +40,11 @@ module _ {V : Type 0} (told : V → Option Files) (may_leave : V → Files → T
   pub block_fails : (error : EngineError) (block : Block) (old : Running V) (f : Fuse V) (commands : List ClientCommand) (before : List Line) → commands ≡ block.commands → before ≡ []
       → OneUndone error commands old before f → BlockFails told may_leave moment left_since faults error block old f
   block_fails error block old f commands before same none undone =
-      fails error (subst (λ (l : List Line). OneUndone error block.commands old l f) none (subst (λ (cs : List ClientCommand). OneUndone error cs old before f) same undone))
-    where
-      fails : (error : EngineError) → OneUndone error block.commands old [] f → BlockFails told may_leave moment left_since faults error block old f
-      fails engines.OutOfMemory undone = inr undone.0
-      fails engines.OutOfNumbers undone = (inr undone.0, undone.1)
-      fails (engines.LogFull end limit) undone = (inr undone.0, undone.1)
+      let one = subst (λ (l : List Line). OneUndone error block.commands old l f) none (subst (λ (cs : List ClientCommand). OneUndone error cs old before f) same undone) in
+      (inr one.0, one.1)
 
-  pub block_untold : (block : Block) (old new : Running V) (text : List ℕ) → RunsBlock told may_leave moment left_since faults block old text new → LostInBlock told may_leave moment left_since faults block old new.store
-  block_untold block old new text runs = inl (record { text = text; new = new; runs = runs; store = refl })
+  pub block_untold : (block : Block) (old new : Running V) (text : List ℕ) → RunsBlock told may_leave moment left_since faults block old text new → BlockFails told may_leave moment left_since faults engines.OutOfMemory block old new.store
+  block_untold block old new text runs = (inl (record { text = text; new = new; runs = runs; store = refl }), tt)
 
   blocks_more : (done : List Block) (block : Block) (start now next : Running V) (text more : List ℕ) → RunsBlocks told may_leave moment left_since faults done start text now → RunsBlock told may_leave moment left_since faults block now more next
       → RunsBlocks told may_leave moment left_since faults (done ++ block ∷ []) start (text ++ more) next
@@ -72,6 +68,4 @@ module _ {V : Type 0} (told : V → Option Files) (may_leave : V → Files → T
   -- the same, and why
   pub round_fails : (error : EngineError) (blocks : List Block) (i : ℕ) (block : Block) (start now : Running V) (text : List ℕ) (f : Fuse V) → i < length blocks → block ≡ slice_index_or blocks i block
       → RunsBlocks told may_leave moment left_since faults (take i blocks) start text now → BlockFails told may_leave moment left_since faults error block now f → RoundFails told may_leave moment left_since faults error blocks start f
-  round_fails engines.OutOfMemory blocks i block start now text f within is runs lost = round_lost blocks i block start now text f within is runs lost
-  round_fails engines.OutOfNumbers blocks i block start now text f within is runs lost = (round_lost blocks i block start now text f within is runs lost.0, lost.1)
-  round_fails (engines.LogFull end limit) blocks i block start now text f within is runs lost = (round_lost blocks i block start now text f within is runs lost.0, lost.1)
+  round_fails error blocks i block start now text f within is runs lost = (round_lost blocks i block start now text f within is runs lost.0, lost.1)

@@ -21,8 +21,8 @@ use Rattle.dali_run.specs.declared.halt.Halt.TheVariants as halts
 use Rattle.dali_run.specs.declared.program.Program.{Program}
 use Rattle.dali_run.specs.declared.status.Status.{Status}
 use Rattle.dali_run.specs.declared.status.Status.TheVariants as statuses
-use Rattle.dali_run.specs.Complete.{EndsWell, HasNoLog, HasOwnLog, IsReady, IsRight}
-use Rattle.dali_run.specs.Ends.{Spells, StoppedIn, Course, Ended, HasEnded}
+use Rattle.dali_run.specs.Complete.{EndsWell, RightRunsEndWell, HasNoLog, HasOwnLog, IsReady, IsRight}
+use Rattle.dali_run.specs.Ends.{Spells, StoppedIn, Course, Ended}
 use Rattle.dali_run.specs.Fails.{Opens, IsSize}
 use Rattle.dali_run.specs.Program.{settled, told_in}
 use Rattle.dali_run.specs.Run.{RunsAll}
@@ -202,11 +202,11 @@ module _ {V : Type 0} (told : V → Option Files) (may_leave : V → Files → T
     not_bad (Next ∷ later) ready file at ended = ready
     not_bad (Fuse n ∷ later) ready file at ended = ready
 
-    well : (status : Status) → IsRight told may_leave faults words c → count ≤ c.write_faults' → Ends status → EndsWell status
+    well : (status : Status) → IsRight told may_leave faults words c → count ≤ c.write_faults' → Ends status → EndsWell told may_leave moment left_since faults cuts words c status
     well statuses.Done right le ended = tt
     well statuses.OutOfMemory right le ended = tt
-    well (statuses.LogFull end limit) right le ended = tt
-    well statuses.OutOfNumbers right le ended = tt
+    well (statuses.LogFull end limit) right le ended = (mid, ended.1)
+    well statuses.OutOfNumbers right le ended = (mid, ended.1)
     well statuses.BadWords right le ended = absurd (ended.0 right.words_are)
     well (statuses.BadScript line kind) right le ended =
         let read = ended.1 in
@@ -225,5 +225,5 @@ module _ {V : Type 0} (told : V → Option Files) (may_leave : V → Files → T
         let same = the_script right.bytes right.script ended.1.0 right.given right.spelled ended.1.1 in
         absurd (not_formatted right.script right.bytes right.spelled right.ready (subst (λ (s : List Command). Stopped halts.Formatted s) same ended.1.2))
 
-  pub ends_well : (words : List (List ℕ)) (c : Course V) (status : Status) → IsRight told may_leave faults words c → HasEnded told may_leave moment left_since faults cuts words c status → EndsWell status
+  pub ends_well : (words : List (List ℕ)) (c : Course V) (status : Status) → RightRunsEndWell told may_leave moment left_since faults cuts words c status
   ends_well words c status right ended = well words c ended.mid ended.count status right ended.later ended.ended

@@ -613,7 +613,7 @@ module _ {V : Type 0} (told : V → Option Files) (may_leave : V → Files → T
   fails_tell halts.Formatted command old f fails = breaks_tell command old f fails.3
   fails_tell (halts.LogFull end limit) command old f fails = breaks_tell command old f fails.0
   fails_tell halts.OutOfNumbers command old f fails = breaks_tell command old f fails.0
-  fails_tell halts.OutOfMemory command old f fails = breaks_tell command old f fails
+  fails_tell halts.OutOfMemory command old f fails = breaks_tell command old f fails.0
   fails_tell halts.BadWords command old f fails = absurd fails
   fails_tell (halts.BadScript line kind) command old f fails = absurd fails
   fails_tell halts.TooLong command old f fails = absurd fails
@@ -627,7 +627,7 @@ module _ {V : Type 0} (told : V → Option Files) (may_leave : V → Files → T
   fails_keep halts.Formatted command base t old f sizes closes s fails = breaks_keep command base t old f sizes closes s fails.3
   fails_keep (halts.LogFull end limit) command base t old f sizes closes s fails = breaks_keep command base t old f sizes closes s fails.0
   fails_keep halts.OutOfNumbers command base t old f sizes closes s fails = breaks_keep command base t old f sizes closes s fails.0
-  fails_keep halts.OutOfMemory command base t old f sizes closes s fails = breaks_keep command base t old f sizes closes s fails
+  fails_keep halts.OutOfMemory command base t old f sizes closes s fails = breaks_keep command base t old f sizes closes s fails.0
   fails_keep halts.BadWords command base t old f sizes closes s fails = absurd fails
   fails_keep (halts.BadScript line kind) command base t old f sizes closes s fails = absurd fails
   fails_keep halts.TooLong command base t old f sizes closes s fails = absurd fails

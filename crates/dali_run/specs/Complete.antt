@@ -1,7 +1,8 @@
 -- Runs in which nothing is wrong.
 --     IsReady script s      the store is as the script's first command wants it: whatever a crash leaves, it has no database for `size`, and a log of this program for `open`
 --     IsRight words c       words, script and store are as they should be, and no call of the source, the sink or the store has failed
---     EndsWell status       all was done, or memory was refused, or the log or its numbers have reached their limits
+--     EndsWell words c status     all was done, or memory was refused, or a client's command met the limit of the log or of its numbers, and which one
+--     RightRunsEndWell words c status     a run in which nothing is wrong ends so
 use Rattle.std.specs.Prelude.{◌≡◌, ◌≢◌, ◌≤◌, ℕ, List, [], ◌∷◌, length, Option, Some, is_some, true}
 use Rattle.dali_batch.specs.Batch.{IsUnformatted}
 use Rattle.dali_record.specs.declared.records.Record.{Record}
@@ -12,15 +13,22 @@ use Rattle.dali_store.specs.Faults.{Rose}
 use Rattle.dali_store.specs.Store.{Files}
 use Rattle.dali_run.specs.declared.status.Status.{Status}
 use Rattle.dali_run.specs.declared.status.Status.TheVariants.{Done, OutOfMemory, LogFull, OutOfNumbers}
-use Rattle.dali_run.specs.Ends.{IsRun, Course}
+use Rattle.dali_run.specs.declared.halt.Halt.{Halt}
+use Rattle.dali_run.specs.declared.halt.Halt.TheVariants as halts
+use Rattle.dali_run.specs.Ends.{IsRun, Course, HasStopped, HasEnded}
 use Rattle.dali_run.specs.Survives.{IsOwn}
 
-abbrev pub EndsWell : Status → Type 0
-EndsWell Done = Unit {0}
-EndsWell OutOfMemory = Unit {0}
-EndsWell (LogFull end limit) = Unit {0}
-EndsWell OutOfNumbers = Unit {0}
-EndsWell _ = ⊥
+module _ {V : Type 0} (told : V → Option Files) (may_leave : V → Files → Type 0) (moment : V → ℕ) (left_since : V → ℕ → Files → Type 0) (faults : V → ℕ) (cuts : V → ℕ → Option Files) (words : List (List ℕ)) where
+  -- a command met the limit behind those that were run before it
+  abbrev pub MetLimit : Halt → Course V → Type 0
+  MetLimit halt c = (mid : Option (List ℕ)) × HasStopped told may_leave moment left_since faults cuts words halt c mid
+
+  abbrev pub EndsWell : Course V → Status → Type 0
+  EndsWell c Done = Unit {0}
+  EndsWell c OutOfMemory = Unit {0}
+  EndsWell c (LogFull end limit) = MetLimit (halts.LogFull end limit) c
+  EndsWell c OutOfNumbers = MetLimit halts.OutOfNumbers c
+  EndsWell c _ = ⊥
 
 module _ {V : Type 0} (told : V → Option Files) (may_leave : V → Files → Type 0) where
   abbrev pub HasNoLog : V → Type 0
@@ -45,3 +53,7 @@ module _ {V : Type 0} (told : V → Option Files) (may_leave : V → Files → T
     pub all_read : Rose c.read_faults c.read_faults' → ⊥
     pub all_written : Rose c.write_faults c.write_faults' → ⊥
     pub none_failed : faults c.store' ≡ 0
+
+abbrev pub RightRunsEndWell : {V : Type 0} → (V → Option Files) → (V → Files → Type 0) → (V → ℕ) → (V → ℕ → Files → Type 0) → (V → ℕ) → (V → ℕ → Option Files) → List (List ℕ) → Course V → Status → Type 0
+RightRunsEndWell told may_leave moment left_since faults cuts words c status =
+    IsRight told may_leave faults words c → HasEnded told may_leave moment left_since faults cuts words c status → EndsWell told may_leave moment left_since faults cuts words c status

@@ -2,7 +2,8 @@
 --     LostInBlock, LostInRound    memory was wanting in a block, or for its lines; some blocks of a round were run, and this one after them
 --     LostAlone                   memory was wanting in a poke or an audit, or the store failed in it, or memory was wanting for its lines
 --     LeavesLess                  a crash leaves nothing that it might not have left before
---     IsRefused error ..          a client's command, of a round the last one, wasn't done for this error
+--     IsWanting error             memory was wanting, as it may be for the lines of a command that was done
+--     IsRefused error ..          a client's command, of a round the last one, wasn't done for this error; where memory was wanting for it, it meets no limit
 --     BlockFails, RoundFails, AloneFails error ..     a block, a round, a poke or an audit that fails with this
 --     Breaks command old f        what a command that doesn't come to its end leaves of the store
 --     MeetsStore, Opens, IsSize   the commands that may end with a failure of the store, and those that look for a database or make one
@@ -44,6 +45,10 @@ MeetsStore (Crash choice) = Unit {0}
 MeetsStore Restart = Unit {0}
 MeetsStore _ = ⊥
 
+abbrev pub IsWanting : EngineError → Type 0
+IsWanting engines.OutOfMemory = Unit {0}
+IsWanting _ = ⊥
+
 abbrev pub Opens : Command → Type 0
 Opens Open = Unit {0}
 Opens Restart = Unit {0}
@@ -84,15 +89,13 @@ module _ {V : Type 0} (told : V → Option Files) (may_leave : V → Files → T
       pub lost : LostInBlock block mid f
 
     abbrev pub BlockRefused : (error : EngineError) (block : Block) (old : Running V) (f : Fuse V) → LostInBlock block old f → Type 0
-    BlockRefused error block old f (inl untold) = ⊥
+    BlockRefused error block old f (inl untold) = IsWanting error
     BlockRefused error block old f (inr lost) = Undone error lost.before.engine lost.before.stage lost.command
 
     abbrev pub BlockFails : EngineError → Block → Running V → Fuse V → Type 0
-    BlockFails engines.OutOfMemory block old f = LostInBlock block old f
     BlockFails error block old f = (lost : LostInBlock block old f) × BlockRefused error block old f lost
 
     abbrev pub RoundFails : EngineError → List Block → Running V → Fuse V → Type 0
-    RoundFails engines.OutOfMemory blocks old f = LostInRound blocks old f
     RoundFails error blocks old f = (lost : LostInRound blocks old f) × BlockRefused error lost.block lost.mid f lost.lost
 
     abbrev pub BreaksRound : Option Engine → List Block → Fuse V → Fuse V → Type 0
@@ -115,14 +118,14 @@ module _ {V : Type 0} (told : V → Option Files) (may_leave : V → Files → T
         (flushes old.engine Outside command) (logs old.engine Outside command) old.engine.end (flushed_by old.engine Outside command) old.store f
 
     abbrev pub AloneRefused : (error : EngineError) (command : ClientCommand) (old : Running V) (f : Fuse V) → LostAlone command old f → Type 0
-    AloneRefused error command old f (inl untold) = ⊥
+    AloneRefused error command old f (inl untold) = IsWanting error
     AloneRefused error command old f (inr lost) = Undone error old.engine Outside command
 
     abbrev pub AloneFails : Halt → ClientCommand → Running V → Fuse V → Type 0
     AloneFails StoreFault command old f = (command ≡ clients.Audit) × Rose (faults (inner old.store)) (faults (inner f)) × (0 < failed_of f → ⊥) × LostAlone command old f
     AloneFails (LogFull end limit) command old f = (lost : LostAlone command old f) × AloneRefused (engines.LogFull end limit) command old f lost
     AloneFails OutOfNumbers command old f = (lost : LostAlone command old f) × AloneRefused engines.OutOfNumbers command old f lost
-    AloneFails OutOfMemory command old f = LostAlone command old f
+    AloneFails OutOfMemory command old f = (lost : LostAlone command old f) × AloneRefused engines.OutOfMemory command old f lost
     AloneFails _ command old f = ⊥
 
     abbrev pub BreaksAct : Option Engine → ClientCommand → Fuse V → Fuse V → Type 0
@@ -145,18 +148,18 @@ module _ {V : Type 0} (told : V → Option Files) (may_leave : V → Files → T
     Breaks (SetFuse passes) old f = inner f ≡ inner old.store
 
     abbrev pub RoundRefused : (error : EngineError) (o : Option Engine) (blocks : List Block) (old f : Fuse V) → BreaksRound o blocks old f → Type 0
-    RoundRefused error None blocks old f breaks = ⊥
+    RoundRefused error None blocks old f breaks = IsWanting error
     RoundRefused error (Some e) blocks old f breaks = BlockRefused error breaks.block breaks.mid f breaks.lost
 
     abbrev pub ActRefused : (error : EngineError) (o : Option Engine) (command : ClientCommand) (old f : Fuse V) → BreaksAct o command old f → Type 0
-    ActRefused error None command old f breaks = ⊥
+    ActRefused error None command old f breaks = IsWanting error
     ActRefused error (Some e) command old f breaks = AloneRefused error command (running e old) f breaks
 
     abbrev pub IsRefused : (error : EngineError) (command : Command) (old : Program V) (f : Fuse V) → Breaks command old f → Type 0
     IsRefused error (Round blocks) old f breaks = RoundRefused error old.engine blocks old.store f breaks
     IsRefused error (Poke region word mask) old f breaks = ActRefused error old.engine (clients.Poke region word mask) old.store f breaks
     IsRefused error Audit old f breaks = ActRefused error old.engine clients.Audit old.store f breaks
-    IsRefused error _ old f breaks = ⊥
+    IsRefused error _ old f breaks = IsWanting error
 
     abbrev pub Fails : Halt → Command → Program V → Fuse V → Type 0
     Fails StoreFault command old f = MeetsStore command × Rose (faults (inner old.store)) (faults (inner f)) × (0 < failed_of f → ⊥) × Breaks command old f
@@ -166,5 +169,5 @@ module _ {V : Type 0} (told : V → Option Files) (may_leave : V → Files → T
         IsSize command × IfSome (told_in told old.store) (λ fs. IsUnformatted fs.log → ⊥) × (told_in told f ≡ told_in told old.store) × Breaks command old f
     Fails (LogFull end limit) command old f = (breaks : Breaks command old f) × IsRefused (engines.LogFull end limit) command old f breaks
     Fails OutOfNumbers command old f = (breaks : Breaks command old f) × IsRefused engines.OutOfNumbers command old f breaks
-    Fails OutOfMemory command old f = Breaks command old f
+    Fails OutOfMemory command old f = (breaks : Breaks command old f) × IsRefused engines.OutOfMemory command old f breaks
     Fails _ command old f = ⊥

@@ -11,8 +11,8 @@ ghost use Rattle.dali_store.specs.Store.{Files, Only};
 ghost use Rattle.std.specs.List.{AllByRecursion};
 ghost use Rattle.dali_script.specs.Grammar.{IsSpelled};
 ghost use Rattle.dali_script.specs.declared.commands.Command.TheVariants.{Size};
-ghost use Rattle.dali_run.specs.Complete.{IsRight, EndsWell};
-ghost use Rattle.dali_run.specs.Ends.{Course, HasEnded};
+ghost use Rattle.dali_run.specs.Complete.{RightRunsEndWell};
+ghost use Rattle.dali_run.specs.Ends.{Course};
 ghost use Rattle.dali_run.specs.declared.status.Status.{Status as StatusOf};
 ghost use Rattle.dali_run.specs.Steps.{Steps, StepsSize, sizes_of};
 ghost use Rattle.dali_script.specs.declared.commands.Command.{Command};
@@ -43,10 +43,10 @@ pub fn scripts_are_whole()
     ensures { (bytes : List ℕ) (index heap : ℕ) (later : List Command) → IsSpelled bytes (Size index heap ∷ later) → AllByRecursion IsWhole later }
 {}
 
-/// A run is done, or memory was refused, or the log had no room or no number for a command, where the words are `run`,
-/// the source gave the bytes of a script, the store is as its first command wants it, and no call of the source, the sink
-/// or the store has failed. `run` ensures the premise `HasEnded`.
+/// A run is done, or memory was refused, or the log had no room or no number for a command (and which command, behind
+/// which others, is said), where the words are `run`, the source gave the bytes of a script, the store is as its first
+/// command wants it, and no call of the source, the sink or the store has failed. `run` ensures the premise `HasEnded`.
 pub fn right_runs_end_well<V: Store>()
-    ensures { (words : List (List ℕ)) (c : Course V) (status : StatusOf) → IsRight V.told V.may_leave V.faults words c →
-        HasEnded V.told V.may_leave V.moment V.left_since V.faults V.cuts words c status → EndsWell status }
+    ensures { (words : List (List ℕ)) (c : Course V) (status : StatusOf) →
+        RightRunsEndWell V.told V.may_leave V.moment V.left_since V.faults V.cuts words c status }
 {}

@@ -1,7 +1,7 @@
 -- How the number of calls that a store still lets pass goes on from call to call.
 use Rattle.std.proofs.Common.{◌≡◌, refl, ℕ, ◌+◌, ◌-◌, arith, Option, Some, None, ap, ◌∙◌}
 use Rattle.std.specs.Prelude.{is_some}
-use Rattle.dali_store.specs.Calls.{one_less, fewer, left_of, PassesFewer}
+use Rattle.dali_store.specs.Calls.{one_less, fewer, left_of, PassesFewer, MakesAtMost}
 
 pub passes_same : (before : Option ℕ) → PassesFewer before before
 passes_same before = record { counted = refl; fewer = omega arith }
@@ -25,6 +25,13 @@ left-fewer n (Some k) = refl
 -- one call
 pub passes_one : (before now : Option ℕ) → now ≡ one_less before → PassesFewer before now
 passes_one before now is = record { counted = ap is_some is ∙ some-one_less before; fewer = omega (arith, ap left_of is, left-one_less before) }
+
+-- no call, and one
+pub most_none : (before : Option ℕ) → MakesAtMost 0 before before
+most_none before = omega arith
+
+pub most_one : (before now : Option ℕ) → now ≡ one_less before → MakesAtMost 1 before now
+most_one before now is = omega (arith, ap left_of is, left-one_less before)
 
 -- some calls and then others
 pub passes_on : (before mid now : Option ℕ) → PassesFewer before mid → PassesFewer mid now → PassesFewer before now

@@ -1,6 +1,6 @@
 -- How many calls a store still makes before it fails each, where it counts them.
--- Words: one_less, fewer, left_of, PassesFewer.
-use Rattle.std.specs.Prelude.{◌≡◌, ◌≤◌, ℕ, ◌-◌, Option, Some, None, is_some}
+-- Words: one_less, fewer, left_of, PassesFewer, MakesAtMost.
+use Rattle.std.specs.Prelude.{◌≡◌, ◌≤◌, ℕ, ◌+◌, ◌-◌, Option, Some, None, is_some}
 
 -- what is left after one call
 abbrev pub one_less : Option ℕ → Option ℕ
@@ -20,3 +20,7 @@ left_of (Some n) = n
 pub record PassesFewer (before now : Option ℕ) : Type 0 where
   pub counted : is_some now ≡ is_some before
   pub fewer : left_of now ≤ left_of before
+
+-- at most so many calls were made: where more than these were left, no more than these are gone
+abbrev pub MakesAtMost : ℕ → Option ℕ → Option ℕ → Type 0
+MakesAtMost most before now = left_of before ≤ left_of now + most

@@ -55,8 +55,10 @@ pub struct StoreFault;
 /// A call answers Ok exactly where the count of faults stayed, and an error where it rose (or stands at its type's
 /// end). So a fault that a second try hides isn't Ok: a second sync may answer Ok for pages that were lost.
 ///
-/// A store that counts the calls that it still makes tells how many calls a caller made: over any store, a function
-/// whose clause says that four are fewer then makes four.
+/// A store may count the calls that it still makes before it fails each, as a fuse does. Each call takes one off the
+/// count, which stands still at 0. Where it stood above four, a clause that four are fewer says that just four calls
+/// were made, and one of at most four that no more were made; else, and of a store that counts nothing, neither says
+/// how many.
 pub trait Store {
     /// What reads of the four files give, where the store tells it.
     ghost told: { Self → Option Files };
@@ -73,8 +75,8 @@ pub trait Store {
     /// How often a call has failed. The count never falls, and stands still at its type's end.
     ghost faults: { Self → ℕ };
 
-    /// How many calls it still makes before it fails each, where it counts them, as a fuse does. Each call, one that
-    /// fails among them, is one fewer.
+    /// A number, where the store keeps one, that each call takes one off, also a call that fails; it stands still at 0.
+    /// A fuse keeps how many calls it still makes before it fails each; that a store fails at 0 is said here of none.
     ghost lets_pass: { Self → Option ℕ };
 
     /// What a cut with this choice makes of the four files, where the store tells what its reads give.

@@ -22,26 +22,27 @@ use Rattle.dali_system.specs.State.{TxnRow, state_of, hold_of}
 use Rattle.dali_system.specs.Steps.{begun, refused, in_state, back_logged, ended_logged, store_stopped, taken}
 use Rattle.dali_system.specs.Keeps.{with_system, Latches, IsFree, died}
 use Rattle.dali_system.specs.Flushes.{with_vault, faulted}
-use Rattle.dali_system.specs.Courses.{Step, Begins, Refuses, Dies, Claims, GivesBack, Recovers, TakesBack, Ends, Takes, Faults, Stops, Moment, IsStepAt, IsCourse}
-use Rattle.dali_system.specs.Worked.{small, first_log, first_vault, start, opening, touching, index_words, heap_words, stored, look, kill_cell, kill_entry, revive_cell, kills, abandoned, Abandoned}
-use Rattle.dali_system.proofs.Courses.{course_keeps}
+use Rattle.dali_system.specs.Courses.{Step, Begins, Refuses, Dies, Claims, GivesBack, Recovers, TakesBack, Ends, Takes, Faults, Stops, Moment, IsStepAt, IsCourse, CoreTraced}
+use Rattle.dali_system.specs.Worked.{small, first_log, first_vault, start, opening, touching, index_words, heap_words, stored, look, kill_cell, kill_entry, revive_cell, kills, abandoned, Abandoned, first_files}
+use Rattle.dali_system.proofs.Courses.{course_keeps, with_none}
 use Rattle.dali_system.proofs.Tables.{added}
 use Rattle.dali_system.proofs.Wholes.{slain}
 use Rattle.dali_system.proofs.RowStates.{begun_state, back_state, turned_state}
 use Rattle.dali_system.proofs.WholeSteps.{whole_course_keeps, load_is_whole}
-use Rattle.dali_system.proofs.Touching.{join, with_one, after_all, touches}
+use Rattle.dali_system.proofs.Touching.{with_one, after_all, touches, join_traces, quiet_trace, trace_course}
 use Rattle.dali_system.proofs.Worked.{are_heap, stored_regions, start_runs, exclusive_covers, logging, at_look, at_kill_cell, cell_killed, live_killed, logs_by, alive_by, kills_course}
+use Rattle.dali_system.specs.Run.{only}
 
 -- ---- another transaction asks for the key
 abbrev begun_2 : Moment
-begun_2 = record { log = cell_killed.log ++ Begin 2 ∷ []; core = with_system cell_killed.core (begun cell_killed.core.system); audits = cell_killed.audits; leave = cell_killed.leave }
+begun_2 = record { log = cell_killed.log ++ Begin 2 ∷ []; core = with_system cell_killed.core (begun cell_killed.core.system); audits = cell_killed.audits }
 
 abbrev refused_2 : Moment
-refused_2 = record { log = begun_2.log; core = with_system begun_2.core (refused begun_2.core.system 2 5 Shared 1); audits = begun_2.audits; leave = begun_2.leave }
+refused_2 = record { log = begun_2.log; core = with_system begun_2.core (refused begun_2.core.system 2 5 Shared 1); audits = begun_2.audits }
 
 begins : IsStepAt cell_killed Begins begun_2
 unfolding look kill_cell entries
-begins = ((record { runs = refl; room = omega arith }, (refl, refl)), (λ F h. h), refl)
+begins = ((record { runs = refl; room = omega arith }, (refl, refl)), refl)
 
 -- transaction 1 holds the key, and nobody else does
 holds_key : get begun_2.core.system.locks (1, 5) ≡ Some Exclusive
@@ -58,23 +59,23 @@ in_the_way : IsOldestConflict begun_2.core.system.locks 2 5 Shared 1
 in_the_way = record { conflict = record { other = refl; mode = Exclusive; holds = holds_key; clash = refl }; oldest = oldest }
 
 refuses : IsStepAt begun_2 (Refuses 2 5 Shared 1) refused_2
-refuses = ((ap (λ (row : Option TxnRow). is_some row) (added cell_killed.core.system.table 2 fresh_row 2), (in_the_way, omega arith), (refl, refl)), (λ F h. h), refl)
+refuses = ((ap (λ (row : Option TxnRow). is_some row) (added cell_killed.core.system.table 2 fresh_row 2), (in_the_way, omega arith), (refl, refl)), refl)
 
 -- ---- the client of transaction 1 dies in an operation, and another client claims it, gives it back, and claims it again
 abbrev at_death : RegionState
 at_death = after_all (opening 1 kill_entry ((1, 2) ∷ [])) (touched at_look)
 
 abbrev left_dead : Moment
-left_dead = record { log = refused_2.log; core = died (with_one refused_2 0 at_death).core 1 (Some 0); audits = refused_2.audits; leave = refused_2.leave }
+left_dead = record { log = refused_2.log; core = died (with_one refused_2 0 at_death).core 1 (Some 0); audits = refused_2.audits }
 
 abbrev claimed_first : Moment
-claimed_first = record { log = left_dead.log; core = with_system left_dead.core (in_state left_dead.core.system 1 (Cleaning (Some 0))); audits = left_dead.audits; leave = left_dead.leave }
+claimed_first = record { log = left_dead.log; core = with_system left_dead.core (in_state left_dead.core.system 1 (Cleaning (Some 0))); audits = left_dead.audits }
 
 abbrev given_back : Moment
-given_back = record { log = claimed_first.log; core = with_system claimed_first.core (in_state claimed_first.core.system 1 (Dead (Some 0))); audits = claimed_first.audits; leave = claimed_first.leave }
+given_back = record { log = claimed_first.log; core = with_system claimed_first.core (in_state claimed_first.core.system 1 (Dead (Some 0))); audits = claimed_first.audits }
 
 abbrev claimed : Moment
-claimed = record { log = given_back.log; core = with_system given_back.core (in_state given_back.core.system 1 (Cleaning (Some 0))); audits = given_back.audits; leave = given_back.leave }
+claimed = record { log = given_back.log; core = with_system given_back.core (in_state given_back.core.system 1 (Cleaning (Some 0))); audits = given_back.audits }
 
 live_refused : state_of refused_2.core.system 1 ≡ Some Live
 live_refused = begun_state cell_killed.core.system 1 ∙ live_killed
@@ -96,7 +97,7 @@ latches = record { held = held; only = only }
     only (suc (suc r)) h e is d = absurd (cc)
 
 dies : IsStepAt (with_one refused_2 0 at_death) (Dies 1 (Some 0)) left_dead
-dies = ((record { lives = live_refused; latched = latches }, (refl, refl)), (λ F h. h), refl)
+dies = ((record { lives = live_refused; latched = latches }, (refl, refl)), refl)
 
 death_course : IsCourse refused_2 (touching 1 kill_entry ((1, 2) ∷ []) (Dies 1 (Some 0))) left_dead
 unfolding look kill_cell kill_entry entries
@@ -115,7 +116,7 @@ state_claimed_again : state_of claimed.core.system 1 ≡ Some (Cleaning (Some 0)
 state_claimed_again = turned_state given_back.core.system 1 (Dead (Some 0)) (Cleaning (Some 0)) state_given_back
 
 claims_first : IsStepAt left_dead (Claims 1) claimed_first
-claims_first = ((Some 0, state_dead, (refl, refl)), (λ F h. h), refl)
+claims_first = ((Some 0, state_dead, (refl, refl)), refl)
 
 still : Latches claimed_first.core 1 true (Some 0)
 unfolding look kill_cell kill_entry entries
@@ -142,10 +143,10 @@ idle = record { held = λ r e. absurd (cc); only = only }
     only (suc (suc r)) h e is d = absurd (cc)
 
 gives_back : IsStepAt claimed_first (GivesBack 1 (Some 0)) given_back
-gives_back = ((record { was = Some 0; claimed = state_claimed; left = still; idle = idle }, (refl, refl)), (λ F h. h), refl)
+gives_back = ((record { was = Some 0; claimed = state_claimed; left = still; idle = idle }, (refl, refl)), refl)
 
 claims : IsStepAt given_back (Claims 1) claimed
-claims = ((Some 0, state_given_back, (refl, refl)), (λ F h. h), refl)
+claims = ((Some 0, state_given_back, (refl, refl)), refl)
 
 -- ---- it is taken back
 abbrev put_back : Moment
@@ -159,7 +160,7 @@ revived = logging put_back (Back 1 revive_cell) (back_logged put_back.core.syste
 
 takes : IsStepAt claimed (Recovers 0) put_back
 unfolding look kill_cell kill_entry entries
-takes = ((dead at_death, refl, record { hold = slain death_hold; at = refl; dead = refl; latched = Some 0; claimed = state_claimed_again }, (refl, refl)), (λ F h. h), refl)
+takes = ((dead at_death, refl, record { hold = slain death_hold; at = refl; dead = refl; latched = Some 0; claimed = state_claimed_again }, (refl, refl)), refl)
 
 is_revive : IsBlock revive_cell
 unfolding revive_cell
@@ -182,7 +183,6 @@ revives = (
     },
     (refl, refl),
   ),
-  (λ F h. h),
   refl,
 )
 
@@ -192,16 +192,16 @@ revive_course = touches put_back revived 1 revive_cell ((8, 1) ∷ []) (TakesBac
 
 -- ---- it ends, and the store fails
 abbrev ended : Moment
-ended = record { log = revived.log ++ Ended 1 ∷ []; core = with_system revived.core (ended_logged revived.core.system 1); audits = revived.audits; leave = revived.leave }
+ended = record { log = revived.log ++ Ended 1 ∷ []; core = with_system revived.core (ended_logged revived.core.system 1); audits = revived.audits }
 
 abbrev in_hand : Moment
-in_hand = record { log = ended.log; core = with_system ended.core (taken ended.core.system); audits = ended.audits; leave = ended.leave }
+in_hand = record { log = ended.log; core = with_system ended.core (taken ended.core.system); audits = ended.audits }
 
 abbrev failed : Moment
-failed = record { log = in_hand.log; core = with_vault in_hand.core (faulted in_hand.core.vault 1); audits = in_hand.audits; leave = in_hand.leave }
+failed = record { log = in_hand.log; core = with_vault in_hand.core (faulted in_hand.core.vault 1); audits = in_hand.audits }
 
 abbrev finish : Moment
-finish = record { log = failed.log; core = with_system failed.core (store_stopped failed.core.system); audits = failed.audits; leave = failed.leave }
+finish = record { log = failed.log; core = with_system failed.core (store_stopped failed.core.system); audits = failed.audits }
 
 state_revived : state_of revived.core.system 1 ≡ Some (Cleaning (Some 0))
 state_revived = back_state put_back.core.system 1 revive_cell 1 ∙ state_claimed_again
@@ -214,17 +214,16 @@ free (suc (suc r)) h e = absurd (cc)
 
 ends : IsStepAt revived (Ends 1) ended
 unfolding look kill_cell kill_entry revive_cell entries
-ends = ((refl, (record { next = refl; by = logs_by _ (Cleaning (Some 0)) (Ended 1) state_revived refl }, free), (refl, refl)), (λ F h. h), refl)
+ends = ((refl, (record { next = refl; by = logs_by _ (Cleaning (Some 0)) (Ended 1) state_revived refl }, free), (refl, refl)), refl)
 
 takes_frame : IsStepAt ended Takes in_hand
-takes_frame = ((refl, refl), (λ F h. h), refl)
+takes_frame = ((refl, refl), refl)
 
--- nothing of the batch is left
 fails : IsStepAt in_hand (Faults 1) failed
-fails = ((refl, inl (omega arith), (refl, refl)), record { each = λ F h. (F, h, inl refl) }, refl)
+fails = ((refl, inl (omega arith), (refl, refl)), refl)
 
 stops : IsStepAt failed Stops finish
-stops = ((refl, (refl, refl)), (λ F h. h), refl)
+stops = ((refl, (refl, refl)), refl)
 
 -- ---- all of it
 abbrev ending : List Step
@@ -239,25 +238,50 @@ claiming = Claims 1 ∷ GivesBack 1 (Some 0) ∷ Claims 1 ∷ Recovers 0 ∷ rev
 abbrev dying : List Step
 dying = touching 1 kill_entry ((1, 2) ∷ []) (Dies 1 (Some 0)) ++ claiming
 
-revive_to_end : IsCourse put_back reviving finish
-revive_to_end = join put_back revived finish (touching 1 revive_cell ((8, 1) ∷ []) (TakesBack 1 revive_cell)) ending revive_course (ended, ends, (in_hand, takes_frame, (failed, fails, (finish, stops, refl))))
+abbrev left : Moment → List Step → Type 0
+left m xs = CoreTraced m first_files xs finish first_files
 
-claim_course : IsCourse left_dead claiming finish
-claim_course = (claimed_first, claims_first, (given_back, gives_back, (claimed, claims, (put_back, takes, revive_to_end))))
+revive_to_end : left put_back reviving
+revive_to_end =
+    join_traces put_back revived finish first_files first_files first_files (touching 1 revive_cell ((8, 1) ∷ []) (TakesBack 1 revive_cell)) ending
+    (quiet_trace put_back revived (touching 1 revive_cell ((8, 1) ∷ []) (TakesBack 1 revive_cell)) first_files refl revive_course)
+    (ended, first_files, ends, refl, (in_hand, first_files, takes_frame, refl, (failed, first_files, fails, inl refl, (finish, first_files, stops, refl, (refl, refl)))))
 
-refuse_course : IsCourse cell_killed (Begins ∷ Refuses 2 5 Shared 1 ∷ dying) finish
-refuse_course = (begun_2, begins, (refused_2, refuses, join refused_2 left_dead finish (touching 1 kill_entry ((1, 2) ∷ []) (Dies 1 (Some 0))) claiming death_course claim_course))
+claim_trace : left left_dead claiming
+claim_trace = (claimed_first, first_files, claims_first, refl, (given_back, first_files, gives_back, refl, (claimed, first_files, claims, refl, (put_back, first_files, takes, refl, revive_to_end))))
 
-abandoned_course : IsCourse (start stored) abandoned finish
-abandoned_course = join (start stored) cell_killed finish kills (Begins ∷ Refuses 2 5 Shared 1 ∷ dying) kills_course refuse_course
+refuse_trace : left cell_killed (Begins ∷ Refuses 2 5 Shared 1 ∷ dying)
+refuse_trace = (
+  begun_2,
+  first_files,
+  begins,
+  refl,
+  (
+    refused_2,
+    first_files,
+    refuses,
+    refl,
+    join_traces refused_2 left_dead finish first_files first_files first_files (touching 1 kill_entry ((1, 2) ∷ []) (Dies 1 (Some 0))) claiming
+        (quiet_trace refused_2 left_dead (touching 1 kill_entry ((1, 2) ∷ []) (Dies 1 (Some 0))) first_files refl death_course)
+        claim_trace,
+  ),
+)
+
+abbrev refusing : List Step
+refusing = Begins ∷ Refuses 2 5 Shared 1 ∷ dying
+
+-- nothing of the batch is left
+abandoned_trace : CoreTraced (start stored) first_files abandoned finish first_files
+abandoned_trace =
+    join_traces (start stored) cell_killed finish first_files first_files first_files kills refusing (quiet_trace (start stored) cell_killed kills first_files refl kills_course) refuse_trace
 
 pub was_abandoned : Abandoned
 unfolding look kill_cell kill_entry revive_cell entries
 was_abandoned = record {
   finish = finish;
-  course = abandoned_course;
-  run = course_keeps (λ n. stored) first_log (start stored) finish abandoned (start_runs stored refl stored_regions) abandoned_course;
-  whole = whole_course_keeps (λ n. stored) first_log (start stored) finish abandoned (start_runs stored refl stored_regions) (load_is_whole small stored (passes rules_start (Format 1 1)) 1000000 first_vault refl) abandoned_course;
+  trace = abandoned_trace;
+  run = course_keeps (λ n. stored) first_log (start stored) finish abandoned first_files first_files (start_runs stored refl stored_regions) abandoned_trace;
+  whole = whole_course_keeps (λ n. stored) first_log (start stored) finish abandoned (with_none (λ n. stored) first_log (only first_files) (start stored) (start_runs stored refl stored_regions)) (load_is_whole small stored (passes rules_start (Format 1 1)) 1000000 first_vault refl) (trace_course (start stored) finish first_files first_files abandoned abandoned_trace);
   log = refl;
   words = refl;
   refused = refl;

@@ -16,14 +16,15 @@ use Rattle.dali_record.proofs.Batches.{fits_more}
 use Rattle.dali_counts.proofs.Lists.{or_false}
 use Rattle.dali_counts.proofs.Tallies.{number_is}
 use Rattle.dali_system.specs.State.{CoreState, taken_to, stable, log_after}
-use Rattle.dali_system.specs.Run.{Bases, log_in}
+use Rattle.dali_system.specs.Run.{Bases, log_in, only}
 use Rattle.dali_system.specs.Flushes.{frame_of, with_frame}
-use Rattle.dali_system.specs.Courses.{Moment, MayLeave, RunsAt}
+use Rattle.dali_system.specs.Courses.{Moment, RunsAt, Faults, Flushes, IsStepAt}
 use Rattle.dali_system.specs.Images.{Told, FitsBut, is_missed, ImageRun}
 use Rattle.dali_system.specs.ImageSteps.{FlushKeepsImages, FaultKeepsImages}
 use Rattle.dali_system.proofs.Flushes.{log_with}
 use Rattle.dali_system.proofs.Redone.{redone_on}
 use Rattle.dali_system.proofs.LastEpochs.{last_epoch-append, none_separates}
+use Rattle.dali_system.proofs.Courses.{LeavesBy, came_alone}
 
 -- ---- one batch more
 -- with no region at all, files that fit but for some regions fit
@@ -119,8 +120,8 @@ framed_images bases told old new c d frame inside regions sizes store run = reco
 }
 
 -- what a flush writes belongs to the last epoch
-pub frame_inside : (bases : Bases) (before : List Record) (m : Moment) → RunsAt bases before m → list_any separates (frame_of m.log m.core) ≡ false
-frame_inside bases before m at =
+pub frame_inside : (bases : Bases) (before : List Record) (leave : Files → Type 0) (m : Moment) → RunsAt bases before leave m → list_any separates (frame_of m.log m.core) ≡ false
+frame_inside bases before leave m at =
     let L : List Record = log_after before m.core.system in
     let n : ℕ = stable m.core in
     let k : ℕ = taken_to m.core.system in
@@ -129,16 +130,28 @@ frame_inside bases before m at =
     (or_false (list_any separates (frame_of L m.core)) (list_any separates (drop k L))
     (sym (list_any-append separates (frame_of L m.core) (drop k L)) ∙ (ap (list_any separates) both ∙ none_separates L n (omega (arith, at.run.began, at.run.first))))).0
 
-pub flush_keeps_images : FlushKeepsImages
-flush_keeps_images bases before told m n at run s =
-    framed_images bases told (MayLeave m.leave) (MayLeave n.leave) m.core n.core (frame_of m.log m.core) (frame_inside bases before m at)
+pub flushed_images :
+    (bases : Bases) (before : List Record) (told : Told) (old new : Files → Type 0) (m n : Moment) → RunsAt bases before old m → ImageRun bases old told m.core
+    → IsStepAt m Flushes n → LeavesBy old new m.log m.core Flushes
+    → ImageRun bases new told n.core
+flushed_images bases before told old new m n at run s l =
+    framed_images bases told old new m.core n.core (frame_of m.log m.core) (frame_inside bases before old m at)
     (ap (λ (c : CoreState). c.regions) s.0.1.1) (ap (λ (c : CoreState). c.system.sizes) s.0.1.1)
-    (λ F h. let w = s.1.each F h in (w.0, w.1, inr w.2))
+    (λ F h. let w = l F h in (w.0, w.1, inr w.2))
+    run
+
+pub flush_keeps_images : FlushKeepsImages
+flush_keeps_images bases before told m n D F at run s came = flushed_images bases before told (only D) (only F) m n at run s (came_alone m.log m.core Flushes D F came)
+
+pub faulted_images :
+    (bases : Bases) (before : List Record) (told : Told) (old new : Files → Type 0) (m n : Moment) (faults : ℕ) → RunsAt bases before old m → ImageRun bases old told m.core
+    → IsStepAt m (Faults faults) n → LeavesBy old new m.log m.core (Faults faults)
+    → ImageRun bases new told n.core
+faulted_images bases before told old new m n faults at run s l =
+    framed_images bases told old new m.core n.core (frame_of m.log m.core) (frame_inside bases before old m at)
+    (ap (λ (c : CoreState). c.regions) s.0.2.1) (ap (λ (c : CoreState). c.system.sizes) s.0.2.1)
+    (λ F h. l F h)
     run
 
 pub fault_keeps_images : FaultKeepsImages
-fault_keeps_images bases before told m n faults at run s =
-    framed_images bases told (MayLeave m.leave) (MayLeave n.leave) m.core n.core (frame_of m.log m.core) (frame_inside bases before m at)
-    (ap (λ (c : CoreState). c.regions) s.0.2.1) (ap (λ (c : CoreState). c.system.sizes) s.0.2.1)
-    (λ F h. s.1.each F h)
-    run
+fault_keeps_images bases before told m n D F faults at run s came = faulted_images bases before told (only D) (only F) m n faults at run s (came_alone m.log m.core (Faults faults) D F came)

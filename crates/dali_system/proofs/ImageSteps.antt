@@ -17,13 +17,14 @@ use Rattle.dali_region.specs.Answers.{is_dirty, cleaned}
 use Rattle.dali_counts.proofs.Lists.{equal, same_number, or_false, set_cases}
 use Rattle.dali_system.specs.State.{SystemState, CoreState}
 use Rattle.dali_att.specs.declared.state.State.TheVariants.{Dead}
-use Rattle.dali_system.specs.Run.{Bases, log_in}
+use Rattle.dali_system.specs.Run.{Bases, log_in, only}
 use Rattle.dali_system.specs.Steps.{in_state}
 use Rattle.dali_system.proofs.Deaths.{region_with, dead_at}
 use Rattle.dali_system.specs.Regions.{IsOpen, RegionStep, Latch, NoteReads, Update, TakeBack, Poke, Check, Die, Clean, region_after}
-use Rattle.dali_system.specs.Courses.{Begins, Operates, TakesBack, Frees, Answers, Commits, Ends, AuditBegins, AuditEnds, Locks, Refuses, OnRegion, Passes, Dies, Claims, GivesBack, Recovers, Stops, Checkpoints, Takes, Flushes, Faults, MayLeave}
+use Rattle.dali_system.specs.Courses.{Begins, Operates, TakesBack, Frees, Answers, Commits, Ends, AuditBegins, AuditEnds, Locks, Refuses, OnRegion, Passes, Dies, Claims, GivesBack, Recovers, Stops, Checkpoints, Takes, Flushes, Faults, IsStepAt, Moment, Step}
 use Rattle.dali_system.specs.Images.{Told, FitsBut, is_missed, ImageRun}
-use Rattle.dali_system.specs.ImageSteps.{clears, ImagesKeep, same_side, CopyKeeps}
+use Rattle.dali_system.specs.ImageSteps.{clears, ImagesKeep, same_side, CopyKeeps, told_with, writes_images}
+use Rattle.dali_system.specs.Keeps.{with_region}
 
 -- ---- regions that are missed
 missed_set : (xs : List RegionState) (r q : ℕ) (g h : RegionState) → slice_get xs r ≡ Some g → (h.missed ≡ false → g.missed ≡ false) → is_missed (slice_get (slice_set xs r h) q) ≡ false → is_missed (slice_get xs q) ≡ false
@@ -139,34 +140,41 @@ clears_touched g owner b is B p d = let parts = or_false g.dirty_b (wrote g) d i
     untouched : (q : Block) (k : RegionState) → q.write ≡ 0 → rewritten q k.back ≡ k.back
     untouched q k e = ap (λ m. write_under m q.after k.back) e ∙ none_written q.after k.back
 
-pub images_keep : ImagesKeep
-images_keep bases told m n Begins run s w = images_same bases told (MayLeave m.leave) (MayLeave n.leave) m.core n.core _ s.0.1.1 refl refl s.1 run
-images_keep bases told m n (Operates t b) run s w = images_region bases told (MayLeave m.leave) (MayLeave n.leave) m.core n.core _ b.region s.0.0 (touched s.0.0) s.0.3.1 refl s.0.2.at (clears_touched s.0.0 t b s.0.2.is_open) (λ e. e) s.1 run
-images_keep bases told m n (TakesBack t b) run s w = images_region bases told (MayLeave m.leave) (MayLeave n.leave) m.core n.core _ b.region s.0.0 (touched s.0.0) s.0.2.1 refl s.0.1.at (clears_touched s.0.0 t b s.0.1.is_open) (λ e. e) s.1 run
-images_keep bases told m n (Frees p b) run s w = images_region bases told (MayLeave m.leave) (MayLeave n.leave) m.core n.core _ b.region s.0.0 (touched s.0.0) s.0.2.1 refl s.0.1.at (clears_touched s.0.0 p b s.0.1.is_open) (λ e. e) s.1 run
-images_keep bases told m n (Answers t k a) run s w = images_same bases told (MayLeave m.leave) (MayLeave n.leave) m.core n.core _ s.0.3.1 refl refl s.1 run
-images_keep bases told m n (Commits t) run s w = images_same bases told (MayLeave m.leave) (MayLeave n.leave) m.core n.core _ s.0.2.1 refl refl s.1 run
-images_keep bases told m n (Ends t) run s w = images_same bases told (MayLeave m.leave) (MayLeave n.leave) m.core n.core _ s.0.2.1 refl refl s.1 run
-images_keep bases told m n AuditBegins run s w = images_same bases told (MayLeave m.leave) (MayLeave n.leave) m.core n.core _ s.0.2.1 refl refl s.1 run
-images_keep bases told m n (AuditEnds b found) run s w = images_same bases told (MayLeave m.leave) (MayLeave n.leave) m.core n.core _ s.0.1.1 refl refl s.1 run
-images_keep bases told m n (Locks t k mode) run s w = images_same bases told (MayLeave m.leave) (MayLeave n.leave) m.core n.core _ s.0.2.1 refl refl s.1 run
-images_keep bases told m n (Refuses t k mode h) run s w = images_same bases told (MayLeave m.leave) (MayLeave n.leave) m.core n.core _ s.0.2.1 refl refl s.1 run
-images_keep bases told m n (OnRegion r x) run s w = images_region bases told (MayLeave m.leave) (MayLeave n.leave) m.core n.core m.core.system r s.0.0 (region_after x s.0.0) s.0.3.1 refl s.0.1 (clears_after x s.0.0 w) (misses_after x s.0.0) s.1 run
-images_keep bases told m n (Passes b r) run s w = images_region bases told (MayLeave m.leave) (MayLeave n.leave) m.core n.core m.core.system r s.0.0 (region_after Check s.0.0) s.0.2.1 refl s.0.1 (clears_after Check s.0.0 refl) (misses_after Check s.0.0) s.1 run
-images_keep bases told m n (Dies t None) run s w = images_same bases told (MayLeave m.leave) (MayLeave n.leave) m.core n.core _ s.0.1.1 refl refl s.1 run
-images_keep bases told m n (Dies t (Some r)) run s w =
+-- of whatever a crash leaves
+pub images_kept : (bases : Bases) (told : Told) (leave : Files → Type 0) (m n : Moment) (x : Step) → ImageRun bases leave told m.core → IsStepAt m x n → writes_images x ≡ false → ImageRun bases leave told n.core
+images_kept bases told leave m n Begins run s w = images_same bases told leave leave m.core n.core _ s.0.1.1 refl refl (λ F h. h) run
+images_kept bases told leave m n (Operates t b) run s w = images_region bases told leave leave m.core n.core _ b.region s.0.0 (touched s.0.0) s.0.3.1 refl s.0.2.at (clears_touched s.0.0 t b s.0.2.is_open) (λ e. e) (λ F h. h) run
+images_kept bases told leave m n (TakesBack t b) run s w = images_region bases told leave leave m.core n.core _ b.region s.0.0 (touched s.0.0) s.0.2.1 refl s.0.1.at (clears_touched s.0.0 t b s.0.1.is_open) (λ e. e) (λ F h. h) run
+images_kept bases told leave m n (Frees p b) run s w = images_region bases told leave leave m.core n.core _ b.region s.0.0 (touched s.0.0) s.0.2.1 refl s.0.1.at (clears_touched s.0.0 p b s.0.1.is_open) (λ e. e) (λ F h. h) run
+images_kept bases told leave m n (Answers t k a) run s w = images_same bases told leave leave m.core n.core _ s.0.3.1 refl refl (λ F h. h) run
+images_kept bases told leave m n (Commits t) run s w = images_same bases told leave leave m.core n.core _ s.0.2.1 refl refl (λ F h. h) run
+images_kept bases told leave m n (Ends t) run s w = images_same bases told leave leave m.core n.core _ s.0.2.1 refl refl (λ F h. h) run
+images_kept bases told leave m n AuditBegins run s w = images_same bases told leave leave m.core n.core _ s.0.2.1 refl refl (λ F h. h) run
+images_kept bases told leave m n (AuditEnds b found) run s w = images_same bases told leave leave m.core n.core _ s.0.1.1 refl refl (λ F h. h) run
+images_kept bases told leave m n (Locks t k mode) run s w = images_same bases told leave leave m.core n.core _ s.0.2.1 refl refl (λ F h. h) run
+images_kept bases told leave m n (Refuses t k mode h) run s w = images_same bases told leave leave m.core n.core _ s.0.2.1 refl refl (λ F h. h) run
+images_kept bases told leave m n (OnRegion r x) run s w = images_region bases told leave leave m.core n.core m.core.system r s.0.0 (region_after x s.0.0) s.0.3.1 refl s.0.1 (clears_after x s.0.0 w) (misses_after x s.0.0) (λ F h. h) run
+images_kept bases told leave m n (Passes b r) run s w = images_region bases told leave leave m.core n.core m.core.system r s.0.0 (region_after Check s.0.0) s.0.2.1 refl s.0.1 (clears_after Check s.0.0 refl) (misses_after Check s.0.0) (λ F h. h) run
+images_kept bases told leave m n (Dies t None) run s w = images_same bases told leave leave m.core n.core _ s.0.1.1 refl refl (λ F h. h) run
+images_kept bases told leave m n (Dies t (Some r)) run s w =
     let held = s.0.0.latched.held r refl in
     let region = region_with (slice_get m.core.regions r) held.0 held.1 in
-    images_region bases told (MayLeave m.leave) (MayLeave n.leave) m.core n.core (in_state m.core.system t (Dead (Some r))) r region.0 (dead region.0)
-    (s.0.1.1 ∙ ap (λ gs. record { regions = gs; system = in_state m.core.system t (Dead (Some r)); vault = m.core.vault }) (dead_at m.core.regions r region.0 region.1)) refl region.1 (clears_after Die region.0 refl) (misses_after Die region.0) s.1 run
-images_keep bases told m n (Claims t) run s w = images_same bases told (MayLeave m.leave) (MayLeave n.leave) m.core n.core _ s.0.2.1 refl refl s.1 run
-images_keep bases told m n (GivesBack t o) run s w = images_same bases told (MayLeave m.leave) (MayLeave n.leave) m.core n.core _ s.0.1.1 refl refl s.1 run
-images_keep bases told m n (Recovers r) run s w = images_region bases told (MayLeave m.leave) (MayLeave n.leave) m.core n.core m.core.system r s.0.0 (region_after TakeBack s.0.0) s.0.3.1 refl s.0.1 (clears_after TakeBack s.0.0 refl) (misses_after TakeBack s.0.0) s.1 run
-images_keep bases told m n Stops run s w = images_same bases told (MayLeave m.leave) (MayLeave n.leave) m.core n.core _ s.0.1.1 refl refl s.1 run
-images_keep bases told m n (Checkpoints b) run s w = images_same bases told (MayLeave m.leave) (MayLeave n.leave) m.core n.core _ s.0.1.1 refl refl s.1 run
-images_keep bases told m n Takes run s w = images_same bases told (MayLeave m.leave) (MayLeave n.leave) m.core n.core _ s.0.1 refl refl s.1 run
-images_keep bases told m n Flushes run s w = absurd (cc)
-images_keep bases told m n (Faults k) run s w = absurd (cc)
+    images_region bases told leave leave m.core n.core (in_state m.core.system t (Dead (Some r))) r region.0 (dead region.0)
+    (s.0.1.1 ∙ ap (λ gs. record { regions = gs; system = in_state m.core.system t (Dead (Some r)); vault = m.core.vault }) (dead_at m.core.regions r region.0 region.1)) refl region.1 (clears_after Die region.0 refl) (misses_after Die region.0) (λ F h. h) run
+images_kept bases told leave m n (Claims t) run s w = images_same bases told leave leave m.core n.core _ s.0.2.1 refl refl (λ F h. h) run
+images_kept bases told leave m n (GivesBack t o) run s w = images_same bases told leave leave m.core n.core _ s.0.1.1 refl refl (λ F h. h) run
+images_kept bases told leave m n (Recovers r) run s w = images_region bases told leave leave m.core n.core m.core.system r s.0.0 (region_after TakeBack s.0.0) s.0.3.1 refl s.0.1 (clears_after TakeBack s.0.0 refl) (misses_after TakeBack s.0.0) (λ F h. h) run
+images_kept bases told leave m n Stops run s w = images_same bases told leave leave m.core n.core _ s.0.1.1 refl refl (λ F h. h) run
+images_kept bases told leave m n (Checkpoints b) run s w = images_same bases told leave leave m.core n.core _ s.0.1.1 refl refl (λ F h. h) run
+images_kept bases told leave m n Takes run s w = images_same bases told leave leave m.core n.core _ s.0.1 refl refl (λ F h. h) run
+images_kept bases told leave m n Flushes run s w = absurd (cc)
+images_kept bases told leave m n (Faults k) run s w = absurd (cc)
+
+pub images_keep : ImagesKeep
+images_keep bases told m n x F run s w = images_kept bases told (only F) m n x run s w
+
+pub images_fewer : (bases : Bases) (told : Told) (old new : Files → Type 0) (c : CoreState) → ((F : Files) → new F → old F) → ImageRun bases old told c → ImageRun bases new told c
+images_fewer bases told old new c less run = record { files = run.files; fits = λ F h. run.fits F (less F h) }
 
 -- ---- a copy that was written
 side_self : (side : Side) → same_side side side ≡ true
@@ -184,8 +192,8 @@ cleaned_back : (side : Side) (g : RegionState) → ((cleaned side g).back ≡ g.
 cleaned_back A g = (refl, refl, refl)
 cleaned_back B g = (refl, refl, refl)
 
-pub copy_keeps : CopyKeeps
-copy_keeps bases told leave c side r g run at = record {
+pub copy_kept : (bases : Bases) (told : Told) (leave : Files → Type 0) (c : CoreState) (side : Side) (r : ℕ) (g : RegionState) → ImageRun bases leave told c → slice_get c.regions r ≡ Some g → ImageRun bases leave (told_with told side r g.back) (with_region c r (cleaned side g))
+copy_kept bases told leave c side r g run at = record {
   files = λ s q k e clean cleared. ⊎_elim
       (λ here. own s q k here.0 here.1 clean cleared (same_side s side) refl)
       (λ there. others s q k there.0 there.1 clean cleared)
@@ -204,3 +212,6 @@ copy_keeps bases told leave c side r g run at = record {
         by_test true true h = absurd (cc)
         by_test true false h = run.files s q k e clean cleared
         by_test false b h = run.files s q k e clean cleared
+
+pub copy_keeps : CopyKeeps
+copy_keeps bases told F c side r g run at = copy_kept bases told (only F) c side r g run at

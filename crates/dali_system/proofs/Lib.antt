@@ -26,5 +26,4 @@ pub mod Touching
 pub mod Worked
 pub mod Removal
 pub mod Abandoned
-pub mod Batches
 pub mod Damage

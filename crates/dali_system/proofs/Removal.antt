@@ -21,10 +21,10 @@ use Rattle.dali_system.specs.Keeps.{with_system, IsFree}
 use Rattle.dali_system.specs.Regions.{Clean}
 use Rattle.dali_system.specs.Audits.{IsAuditing}
 use Rattle.dali_system.specs.Passes.{audits_with, has_passed, has_found, IsVerdict}
-use Rattle.dali_system.specs.Courses.{Step, Operates, Frees, Answers, Commits, Ends, AuditBegins, AuditEnds, OnRegion, Passes, Checkpoints, Moment, IsStepAt, IsCourse}
-use Rattle.dali_system.specs.Worked.{small, first_log, start, opening, touching, index_words, heap_words, stored, look, kill_cell, kill_entry, free_cell, free_entry, kills, removal, Removal}
+use Rattle.dali_system.specs.Courses.{Step, Operates, Frees, Answers, Commits, Ends, AuditBegins, AuditEnds, OnRegion, Passes, Checkpoints, Moment, IsStepAt, IsCourse, CoreTraced}
+use Rattle.dali_system.specs.Worked.{small, first_log, start, opening, touching, index_words, heap_words, stored, look, kill_cell, kill_entry, free_cell, free_entry, kills, removal, Removal, first_files}
 use Rattle.dali_system.proofs.Courses.{course_keeps}
-use Rattle.dali_system.proofs.Touching.{join, with_one, passing, after_all, touches}
+use Rattle.dali_system.proofs.Touching.{join, with_one, passing, after_all, touches, quiet_trace}
 use Rattle.dali_system.proofs.Worked.{are_index, are_heap, stored_regions, start_runs, exclusive_covers, logging, at_look, at_kill_cell, cell_killed, live_killed, logs_by, alive_by, kills_course}
 use Rattle.dali_system.proofs.RowStates.{op_state, commit_state}
 
@@ -57,7 +57,6 @@ kills_entry = (
     },
     (refl, refl),
   ),
-  (λ F h. h),
   refl,
 )
 
@@ -67,10 +66,10 @@ kill_course = touches cell_killed entry_killed 1 kill_entry ((1, 2) ∷ []) (Ope
 
 -- ---- the call is answered, the transaction commits
 abbrev answered : Moment
-answered = record { log = entry_killed.log ++ Done 1 (Delete 5) AnswerOk ∷ []; core = with_system entry_killed.core (done_logged entry_killed.core.system 1 (Delete 5) AnswerOk); audits = entry_killed.audits; leave = entry_killed.leave }
+answered = record { log = entry_killed.log ++ Done 1 (Delete 5) AnswerOk ∷ []; core = with_system entry_killed.core (done_logged entry_killed.core.system 1 (Delete 5) AnswerOk); audits = entry_killed.audits }
 
 abbrev committed : Moment
-committed = record { log = answered.log ++ Commit 1 ∷ []; core = with_system answered.core (commit_logged answered.core.system 1); audits = answered.audits; leave = answered.leave }
+committed = record { log = answered.log ++ Commit 1 ∷ []; core = with_system answered.core (commit_logged answered.core.system 1); audits = answered.audits }
 
 live_now : state_of entry_killed.core.system 1 ≡ Some Live
 live_now = op_state cell_killed.core.system 1 kill_entry 1 ∙ live_killed
@@ -80,11 +79,11 @@ row_committed = commit_state answered.core.system 1 Live live_now
 
 answers : IsStepAt entry_killed (Answers 1 (Delete 5) AnswerOk) answered
 unfolding look kill_cell kill_entry entries
-answers = ((record { runs = refl; room = omega arith }, (omega arith, omega arith, tt, refl), record { next = refl; by = logs_by _ Live (Done 1 (Delete 5) AnswerOk) live_now refl }, (refl, refl)), (λ F h. h), refl)
+answers = ((record { runs = refl; room = omega arith }, (omega arith, omega arith, tt, refl), record { next = refl; by = logs_by _ Live (Done 1 (Delete 5) AnswerOk) live_now refl }, (refl, refl)), refl)
 
 commits : IsStepAt answered (Commits 1) committed
 unfolding look kill_cell kill_entry entries
-commits = ((refl, record { next = refl; by = logs_by _ Live (Commit 1) live_now refl }, (refl, refl)), (λ F h. h), refl)
+commits = ((refl, record { next = refl; by = logs_by _ Live (Commit 1) live_now refl }, (refl, refl)), refl)
 
 -- ---- what was removed is freed
 abbrev at_free_cell : RegionState
@@ -124,7 +123,6 @@ frees_cell = (
     },
     (refl, refl),
   ),
-  (λ F h. h),
   refl,
 )
 
@@ -145,7 +143,6 @@ frees_entry = (
     },
     (refl, refl),
   ),
-  (λ F h. h),
   refl,
 )
 
@@ -159,16 +156,16 @@ entry_course = touches cell_freed entry_freed 1 free_entry ((1, 0) ∷ []) (Free
 
 -- ---- the end, and an audit in a checkpoint
 abbrev ended : Moment
-ended = record { log = entry_freed.log ++ Ended 1 ∷ []; core = with_system entry_freed.core (ended_logged entry_freed.core.system 1); audits = entry_freed.audits; leave = entry_freed.leave }
+ended = record { log = entry_freed.log ++ Ended 1 ∷ []; core = with_system entry_freed.core (ended_logged entry_freed.core.system 1); audits = entry_freed.audits }
 
 abbrev checking : Moment
-checking = record { log = ended.log; core = with_system ended.core (in_checkpoint ended.core.system true); audits = ended.audits; leave = ended.leave }
+checking = record { log = ended.log; core = with_system ended.core (in_checkpoint ended.core.system true); audits = ended.audits }
 
 abbrev copied : Moment
 copied = with_one checking 0 (cleaned A (touched at_free_entry))
 
 abbrev auditing : Moment
-auditing = record { log = copied.log ++ AuditBegin ∷ []; core = with_system copied.core (audit_begun copied.core.system); audits = audits_with copied.audits 10 []; leave = copied.leave }
+auditing = record { log = copied.log ++ AuditBegin ∷ []; core = with_system copied.core (audit_begun copied.core.system); audits = audits_with copied.audits 10 [] }
 
 abbrev passed_0 : Moment
 passed_0 = passing auditing 10 0 (checked (cleaned A (touched at_free_entry)))
@@ -177,10 +174,10 @@ abbrev passed : Moment
 passed = passing passed_0 10 1 (checked (touched at_free_cell))
 
 abbrev audited : Moment
-audited = record { log = passed.log ++ AuditClean 10 ∷ []; core = with_system passed.core (audit_ended passed.core.system 10 []); audits = passed.audits; leave = passed.leave }
+audited = record { log = passed.log ++ AuditClean 10 ∷ []; core = with_system passed.core (audit_ended passed.core.system 10 []); audits = passed.audits }
 
 abbrev finish : Moment
-finish = record { log = audited.log; core = with_system audited.core (in_checkpoint audited.core.system false); audits = audited.audits; leave = audited.leave }
+finish = record { log = audited.log; core = with_system audited.core (in_checkpoint audited.core.system false); audits = audited.audits }
 
 -- no region is latched then
 free : IsFree entry_freed.core 1
@@ -191,17 +188,17 @@ free (suc (suc r)) h e = absurd (cc)
 
 ends : IsStepAt entry_freed (Ends 1) ended
 unfolding look kill_cell kill_entry free_cell free_entry entries
-ends = ((refl, (record { next = refl; by = logs_by _ Committed (Ended 1) row_committed refl }, free), (refl, refl)), (λ F h. h), refl)
+ends = ((refl, (record { next = refl; by = logs_by _ Committed (Ended 1) row_committed refl }, free), (refl, refl)), refl)
 
 starts_checkpoint : IsStepAt ended (Checkpoints true) checking
-starts_checkpoint = ((refl, (refl, refl)), (λ F h. h), refl)
+starts_checkpoint = ((refl, (refl, refl)), refl)
 
 copies : IsStepAt checking (OnRegion 0 (Clean A)) copied
-copies = ((touched at_free_entry, refl, (tt, tt), (refl, refl)), (λ F h. h), refl)
+copies = ((touched at_free_entry, refl, (tt, tt), (refl, refl)), refl)
 
 begins_audit : IsStepAt copied AuditBegins auditing
 unfolding look kill_cell kill_entry free_cell free_entry entries
-begins_audit = ((refl, omega arith, (refl, refl)), (λ F h. h), refl)
+begins_audit = ((refl, omega arith, (refl, refl)), refl)
 
 -- the rules name the audit that began at b
 abbrev pub is_named : ℕ → Option Rules → Bool
@@ -218,11 +215,11 @@ is_auditing = record { named = named_by 10 (rules_state small auditing.log) refl
 
 passes_0 : IsStepAt auditing (Passes 10 0) passed_0
 unfolding look kill_cell kill_entry free_cell free_entry entries
-passes_0 = ((cleaned A (touched at_free_entry), refl, (refl, refl)), (λ F h. h), (record { auditing = is_auditing; unpassed = refl }, refl))
+passes_0 = ((cleaned A (touched at_free_entry), refl, (refl, refl)), (record { auditing = is_auditing; unpassed = refl }, refl))
 
 passes_1 : IsStepAt passed_0 (Passes 10 1) passed
 unfolding look kill_cell kill_entry free_cell free_entry entries
-passes_1 = ((touched at_free_cell, refl, (refl, refl)), (λ F h. h), (record { auditing = is_auditing; unpassed = refl }, refl))
+passes_1 = ((touched at_free_cell, refl, (refl, refl)), (record { auditing = is_auditing; unpassed = refl }, refl))
 
 verdict : IsVerdict small (passed.audits 10) []
 unfolding look kill_cell kill_entry free_cell free_entry entries
@@ -240,10 +237,10 @@ verdict = record { passed = passed_all; named = named_none }
 
 ends_audit : IsStepAt passed (AuditEnds 10 []) audited
 unfolding look kill_cell kill_entry free_cell free_entry entries
-ends_audit = ((record { runs = refl; auditing = is_auditing; spelled = omega arith; numbers = refl }, (refl, refl)), (λ F h. h), (verdict, refl))
+ends_audit = ((record { runs = refl; auditing = is_auditing; spelled = omega arith; numbers = refl }, (refl, refl)), (verdict, refl))
 
 ends_checkpoint : IsStepAt audited (Checkpoints false) finish
-ends_checkpoint = ((refl, (refl, refl)), (λ F h. h), refl)
+ends_checkpoint = ((refl, (refl, refl)), refl)
 
 -- ---- all of it
 abbrev last_steps : List Step
@@ -274,12 +271,15 @@ removal_course =
     join (start stored) cell_killed finish kills (touching 1 kill_entry ((1, 2) ∷ []) (Operates 1 kill_entry) ++ committing) kills_course
     (join cell_killed entry_killed finish (touching 1 kill_entry ((1, 2) ∷ []) (Operates 1 kill_entry)) committing kill_course commit_course)
 
+removal_trace : CoreTraced (start stored) first_files removal finish first_files
+removal_trace = quiet_trace (start stored) finish removal first_files refl removal_course
+
 pub removed : Removal
 unfolding look kill_cell kill_entry free_cell free_entry entries
 removed = record {
   finish = finish;
-  course = removal_course;
-  run = course_keeps (λ n. stored) first_log (start stored) finish removal (start_runs stored refl stored_regions) removal_course;
+  trace = removal_trace;
+  run = course_keeps (λ n. stored) first_log (start stored) finish removal first_files first_files (start_runs stored refl stored_regions) removal_trace;
   log = refl;
   words = refl;
 }

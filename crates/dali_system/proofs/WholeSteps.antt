@@ -36,7 +36,7 @@ use Rattle.dali_system.proofs.Tables.{Puts, with_undos, changed, added, ended, k
 use Rattle.dali_system.proofs.RowStates.{puts_states, puts_same, undos_state, state_there, commit_there}
 use Rattle.dali_system.proofs.UndoKinds.{undo_kind}
 use Rattle.dali_system.proofs.Deaths.{region_with, dead_at}
-use Rattle.dali_system.proofs.Courses.{step_keeps}
+use Rattle.dali_system.proofs.Courses.{step_keeps_none}
 use Rattle.dali_system.proofs.Wholes.{Agrees, OneHold, FitsHold, FitsState, IsLike, slain, agrees_hold, agrees_state, agrees_same, agrees_dead_none, agrees_dead_some, fits_like, fits_ended, fits_recovered, fits_latched, fits_begun, fits_committed, fits_over, fits_claimed, fits_given_back}
 
 -- ---- holds and rows of a core
@@ -240,7 +240,7 @@ whole_keeps = step_whole
 pub whole_course_keeps : WholeCourseKeeps
 whole_course_keeps bases before m n [] at w s = subst (λ (k : Moment). IsWhole k.core) s w
 whole_course_keeps bases before m n (x ∷ xs) at w s =
-    whole_course_keeps bases before s.0 n xs (step_keeps bases before m s.0 x at s.1)
+    whole_course_keeps bases before s.0 n xs (step_keeps_none bases before m s.0 x at s.1)
     (step_whole bases m.log s.0.log m.core s.0.core x (subst (λ M. RunsOn bases M m.core) (sym at.log) at.run.runs) w s.1.0) s.2
 
 -- ---- a core that was just made

@@ -1,6 +1,6 @@
 -- The worked runs' beginnings: a core over a base that stores key 5, in which transaction 1 has killed the cell of that key.
 use Rattle.std.proofs.Common.{◌≡◌, ℕ, zero, suc, ◌<◌, ◌^◌, Bool, true, false, List, [], ◌∷◌, ◌++◌, length, Option, Some, None, refl, ap, sym, subst, ◌∙◌, arith}
-use Rattle.std.specs.Prelude.{◌==◌, flat_map, sum_by, is_some}
+use Rattle.std.specs.Prelude.{sum_by, is_some}
 use Rattle.std.specs.FinMap.{get, empty}
 use Rattle.dali_record.specs.declared.operations.Op.TheVariants.{Look, KillCell}
 use Rattle.dali_record.specs.declared.records.Record.{Record}
@@ -17,16 +17,16 @@ use Rattle.dali_locks.specs.declared.mode.Mode.TheVariants.{Shared, Exclusive}
 use Rattle.dali_locks.specs.Locks.{stronger_mode, locks_with}
 use Rattle.dali_locks.proofs.Changes.{get-locks_with}
 use Rattle.dali_att.specs.Table.{fresh_row}
-use Rattle.dali_counts.proofs.Lists.{equal, and_left, and_right, some_same}
+use Rattle.dali_counts.proofs.Lists.{some_same}
 use Rattle.dali_att.specs.declared.state.State.{State}
 use Rattle.dali_att.specs.declared.state.State.TheVariants.{Live}
 use Rattle.dali_system.specs.State.{TxnRow, SystemState, state_of}
 use Rattle.dali_system.specs.Regions.{is_alive}
-use Rattle.dali_system.specs.Run.{log_in, VaultRun, covers, AllAreWords}
+use Rattle.dali_system.specs.Run.{log_in, VaultRun, covers, AllAreWords, only, no_image}
 use Rattle.dali_system.specs.Steps.{begun, op_logged, granted}
 use Rattle.dali_system.specs.Keeps.{with_system, with_touched, may_log, may_log_in}
 use Rattle.dali_system.specs.Courses.{Begins, Operates, Locks as Asks, Moment, IsStepAt, IsCourse, RunsAt}
-use Rattle.dali_system.specs.Worked.{small, first_log, first_vault, is_format, one_batch, start, opening, touching, index_words, heap_words, stored, look, kill_cell, kills}
+use Rattle.dali_system.specs.Worked.{small, first_log, first_vault, start, opening, touching, index_words, heap_words, stored, look, kill_cell, kills, first_files}
 use Rattle.dali_system.proofs.Loads.{no_lock, format_rests}
 use Rattle.dali_system.proofs.Tables.{added}
 use Rattle.dali_system.proofs.RowStates.{begun_state, op_state}
@@ -34,32 +34,21 @@ use Rattle.dali_system.proofs.Courses.{load_runs_at}
 use Rattle.dali_system.proofs.Touching.{join, with_one, after_all, touches}
 
 -- ---- the first moment
-pub format_is : (b : List Record) → is_format b ≡ true → b ≡ first_log
-format_is [] e = absurd (cc)
-format_is (Format i h ∷ []) e = let m : i ≡ 1 = equal i 1 (and_left (i == 1) (h == 1) e) in let n : h ≡ 1 = equal h 1 (and_right (i == 1) (h == 1) e) in rw (m, n) refl
-format_is (Format i h ∷ x ∷ b) e = absurd (cc)
-format_is (x ∷ b) e = absurd (cc)
-
-pub one_is : (bs : List (List Record)) → one_batch bs ≡ true → bs ≡ first_log ∷ []
-one_is [] e = absurd (cc)
-one_is (b ∷ []) e = ap (λ z. z ∷ []) (format_is b e)
-one_is (b ∷ c ∷ bs) e = absurd (cc)
-
-only_format : (F : Files) → one_batch F.batches ≡ true → log_in F ≡ first_log
-only_format F h = ap (λ bs. flat_map (λ b. b) bs) (one_is F.batches h)
-
-pub first_store : VaultRun (λ F. one_batch F.batches ≡ true) first_log 1 first_vault
+pub first_store : VaultRun (only first_files) first_log 1 first_vault
 first_store = record {
   within = omega arith;
-  prefix = λ F h. record { count = 1; flushed = omega arith; within = omega arith; log = only_format F h };
-  exact = λ e F h. record { log = only_format F h; end = sym (ap (λ bs. sum_by batch_length bs) (one_is F.batches h)) };
+  prefix = λ F h. record { count = 1; flushed = omega arith; within = omega arith; log = ap log_in h };
+  exact = λ e F h. record { log = ap log_in h; end = sym (ap (λ (G : Files). sum_by batch_length G.batches) h) };
   then_fits = omega arith;
   counts = omega arith;
   rose = λ h. absurd (cc);
 }
 
-pub start_runs : (base : List (List ℕ)) → length base ≡ 2 → AllAreWords base → RunsAt (λ n. base) first_log (start base)
-start_runs base whole words = load_runs_at (λ n. base) small first_log (passes rules_start (Format 1 1)) 1000000 first_vault (λ F. one_batch F.batches) (format_rests small (refl, refl)) (omega arith) whole words first_store refl
+pub bare_store : VaultRun no_image first_log 1 first_vault
+bare_store = record { within = omega arith; prefix = λ F h. absurd h; exact = λ e F h. absurd h; then_fits = omega arith; counts = omega arith; rose = λ h. absurd (cc) }
+
+pub start_runs : (base : List (List ℕ)) → length base ≡ 2 → AllAreWords base → RunsAt (λ n. base) first_log (only first_files) (start base)
+start_runs base whole words = load_runs_at (λ n. base) small first_log (passes rules_start (Format 1 1)) 1000000 first_vault first_files (format_rests small (refl, refl)) (omega arith) whole words first_store refl
 
 -- ---- the words
 pub are_index : (state : ℕ) → state < 2 ^ 64 → AreWords (index_words state)
@@ -84,14 +73,14 @@ exclusive_covers d = ap (λ (o : Option Mode). covers o d) (get-locks_with empty
 
 -- ---- the moments
 abbrev pub begun_1 : Moment
-begun_1 = record { log = first_log ++ Begin 1 ∷ []; core = with_system (start stored).core (begun (start stored).core.system); audits = (start stored).audits; leave = (start stored).leave }
+begun_1 = record { log = first_log ++ Begin 1 ∷ []; core = with_system (start stored).core (begun (start stored).core.system); audits = (start stored).audits }
 
 abbrev pub locked : Moment
-locked = record { log = begun_1.log; core = with_system begun_1.core (granted begun_1.core.system 1 5 Exclusive); audits = begun_1.audits; leave = begun_1.leave }
+locked = record { log = begun_1.log; core = with_system begun_1.core (granted begun_1.core.system 1 5 Exclusive); audits = begun_1.audits }
 
 -- one more record, with its region touched
 abbrev pub logging : Moment → Record → SystemState → ℕ → RegionState → Moment
-logging m x y r g = record { log = m.log ++ x ∷ []; core = with_touched (with_one m r g).core y r g; audits = m.audits; leave = m.leave }
+logging m x y r g = record { log = m.log ++ x ∷ []; core = with_touched (with_one m r g).core y r g; audits = m.audits }
 
 abbrev pub at_look : RegionState
 at_look = after_all (opening 1 look []) (loaded (index_words 1))
@@ -123,10 +112,10 @@ alive_by o st e may = rw e may
 
 -- ---- the steps
 begins : IsStepAt (start stored) Begins begun_1
-begins = ((record { runs = refl; room = omega arith }, (refl, refl)), (λ F h. h), refl)
+begins = ((record { runs = refl; room = omega arith }, (refl, refl)), refl)
 
 asks : IsStepAt begun_1 (Asks 1 5 Exclusive) locked
-asks = ((ap (λ (row : Option TxnRow). is_some row) (added (start stored).core.system.table 1 fresh_row 1), (λ u n d e. absurd (no_lock u 5 n e)), (refl, refl)), (λ F h. h), refl)
+asks = ((ap (λ (row : Option TxnRow). is_some row) (added (start stored).core.system.table 1 fresh_row 1), (λ u n d e. absurd (no_lock u 5 n e)), (refl, refl)), refl)
 
 is_look : IsBlock look
 unfolding look
@@ -154,7 +143,6 @@ looks = (
     },
     (refl, refl),
   ),
-  (λ F h. h),
   refl,
 )
 
@@ -176,7 +164,6 @@ kills_cell = (
     },
     (refl, refl),
   ),
-  (λ F h. h),
   refl,
 )
 

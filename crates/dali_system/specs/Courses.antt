@@ -1,19 +1,21 @@
 -- Every kind of step, and lists of them.
 --     Step                     the kinds of step
 --     IsStep L c x M d         the step x leads from the log L and the core c to the log M and the core d
---     Moment                   the log and the core, with what each audit has passed, and what a crash may leave of the store: a test on files
---     LeavesBy old new L c x   what a crash may leave after the step x
+--     Moment                   the log and the core, with what each audit has passed
+--     CameBy L c x D F         the crash image F, behind the step x, came from the crash image D before it
 --     AuditsBy old new L c x   what each audit has passed after it; an audit ends by what it passed
 --     IsCourse m steps n       these steps, one after another, lead from the moment m to the moment n
+--     CoreTraced m D steps n F     so they do, and the crash image F came along them from D
 --     CheckpointsTurn          a checkpoint's start sets the flag where it is clear, its end clears it where it is set
---     RunsAt bases before m    the core is a run at this moment
---     StepKeeps, CourseKeeps   each step keeps a run, and so does each list of steps
+--     RunsAt bases before leave m  the core is a run at this moment, of which a crash leaves these files
+--     StepKeeps, CourseKeeps   each step keeps a run, of each crash image by itself, and so does each list of steps
 --     TakenAllIsFlushed        a frame that is flushed as soon as it is taken has all records
 --     AuditTells m b found     an audit that ends has passed each region just once, and names those whose answer wasn't 0; it is clean where
 --                              there is none; a stray write came to each of these, and each other one is certified
 --     AuditEndTells            so it is of each audit that ends
 --     LoadRunsAt               a core that was just made is a run
-use Rattle.std.specs.Prelude.{◌≡◌, ◌==◌, ◌↔◌, ℕ, ◌+◌, ◌<◌, ◌≤◌, Bool, true, false, not, List, [], ◌∷◌, ◌++◌, Option, Some, None, IsSome, length, slice_get}
+--     BareCourseKeeps, BareLoadRuns    so it is where nothing is said of crashes
+use Rattle.std.specs.Prelude.{◌≡◌, ◌==◌, ◌↔◌, ℕ, ◌+◌, ◌<◌, ◌≤◌, Bool, true, false, not, List, [], ◌∷◌, ◌++◌, Option, Some, None, IsSome, length, slice_get, ◌⊎◌}
 use Rattle.std.specs.Option.{option_map_or}
 use Rattle.dali_geometry.specs.Sizes.{Sizes}
 use Rattle.dali_geometry.specs.Places.{regions}
@@ -32,14 +34,14 @@ use Rattle.dali_locks.specs.declared.mode.LockAnswer.TheVariants.{Granted, Busy}
 use Rattle.dali_locks.specs.Locks.{IsAnswer}
 use Rattle.dali_att.specs.declared.state.State.TheVariants.{Dead, Cleaning}
 use Rattle.dali_system.specs.State.{CoreState, row_of, stable, log_after, VaultState}
-use Rattle.dali_system.specs.Run.{AllAreWords, Bases, HasRisen, IsRun, base_at, VaultRun}
+use Rattle.dali_system.specs.Run.{AllAreWords, Bases, HasRisen, IsRun, base_at, VaultRun, only, no_image}
 use Rattle.dali_system.specs.Steps.{begun, op_logged, back_logged, solo_logged, done_logged, commit_logged, ended_logged, audit_begun, audit_ended, audit_record, granted, refused, in_state, store_stopped, in_checkpoint, taken}
 use Rattle.dali_system.specs.Regions.{RegionStep, region_after, MayChange, IsAlone}
 use Rattle.dali_system.specs.Keeps.{with_system, with_region, with_touched, HasRoom, MayAdd, MayLogBlock, IsFree, MayDie, died, MayClaim, MayGiveBack, MayRecover}
 use Rattle.dali_system.specs.Audits.{MayLogEnd, MayEndAudit}
 use Rattle.dali_system.specs.Passes.{Pass, Audits, no_audits, audits_with, has_found, MayPass, IsVerdict, AuditsRun}
 use Rattle.dali_system.specs.Loads.{IsAtRest, new_core}
-use Rattle.dali_system.specs.Flushes.{frame_of, Appended, Appending, with_vault, longer, faulted}
+use Rattle.dali_system.specs.Flushes.{frame_of, with_frame, with_vault, longer, faulted}
 
 pub data Step : Type 0 where
   Begins : Step
@@ -105,21 +107,17 @@ IsStep L c (Faults n) M d = (c.vault.stopped ≡ false) × HasRisen c.vault.faul
 abbrev pub CheckpointsTurn : Type 0
 CheckpointsTurn = (L M : List Record) (c d : CoreState) (b : Bool) → IsStep L c (Checkpoints b) M d → (c.system.checking ≡ not b) × (d.system.checking ≡ b)
 
--- ---- with what a crash may leave, and what audits have passed
+-- ---- with what audits have passed
 pub record Moment : Type 0 where
   pub log : List Record
   pub core : CoreState
   pub audits : Audits
-  pub leave : Files → Bool
 
-abbrev pub MayLeave : (Files → Bool) → Files → Type 0
-MayLeave leave F = leave F ≡ true
-
--- only a flush makes it more
-abbrev pub LeavesBy : (Files → Bool) → (Files → Bool) → List Record → CoreState → Step → Type 0
-LeavesBy old new L c Flushes = Appended (MayLeave old) (MayLeave new) (frame_of L c)
-LeavesBy old new L c (Faults n) = Appending (MayLeave old) (MayLeave new) (frame_of L c)
-LeavesBy old new L c x = (F : Files) → MayLeave new F → MayLeave old F
+-- a flush adds its batch, and a fault is one in a flush
+abbrev pub CameBy : List Record → CoreState → Step → Files → Files → Type 0
+CameBy L c Flushes D F = F ≡ with_frame D (frame_of L c)
+CameBy L c (Faults n) D F = (F ≡ D) ⊎ (F ≡ with_frame D (frame_of L c))
+CameBy L c x D F = F ≡ D
 
 -- the pass that this region now gives
 abbrev pub pass_now : CoreState → ℕ → List Pass
@@ -133,26 +131,38 @@ AuditsBy old new L c (AuditEnds b found) = IsVerdict c.system.sizes (old b) foun
 AuditsBy old new L c x = new ≡ old
 
 abbrev pub IsStepAt : Moment → Step → Moment → Type 0
-IsStepAt m x n = IsStep m.log m.core x n.log n.core × LeavesBy m.leave n.leave m.log m.core x × AuditsBy m.audits n.audits m.log m.core x
+IsStepAt m x n = IsStep m.log m.core x n.log n.core × AuditsBy m.audits n.audits m.log m.core x
 
 abbrev pub IsCourse : Moment → List Step → Moment → Type 0
 IsCourse m [] n = m ≡ n
 IsCourse m (x ∷ xs) n = (k : Moment) × IsStepAt m x k × IsCourse k xs n
 
-pub record RunsAt (bases : Bases) (before : List Record) (m : Moment) : Type 0 where
+abbrev pub CoreTraced : Moment → Files → List Step → Moment → Files → Type 0
+CoreTraced m D [] n F = (m ≡ n) × (D ≡ F)
+CoreTraced m D (x ∷ xs) n F = (k : Moment) × (E : Files) × IsStepAt m x k × CameBy m.log m.core x D E × CoreTraced k E xs n F
+
+pub record RunsAt (bases : Bases) (before : List Record) (leave : Files → Type 0) (m : Moment) : Type 0 where
   pub log : m.log ≡ log_after before m.core.system
-  pub run : IsRun bases before (MayLeave m.leave) m.core
+  pub run : IsRun bases before leave m.core
   pub audits : AuditsRun m.log m.core m.audits
 
 abbrev pub StepKeeps : Type 0
-StepKeeps = (bases : Bases) (before : List Record) (m n : Moment) (x : Step) → RunsAt bases before m → IsStepAt m x n → RunsAt bases before n
+StepKeeps =
+    (bases : Bases) (before : List Record) (m n : Moment) (x : Step) (D F : Files) → RunsAt bases before (only D) m → IsStepAt m x n → CameBy m.log m.core x D F
+    → RunsAt bases before (only F) n
 
 abbrev pub CourseKeeps : Type 0
-CourseKeeps = (bases : Bases) (before : List Record) (m n : Moment) (xs : List Step) → RunsAt bases before m → IsCourse m xs n → RunsAt bases before n
+CourseKeeps =
+    (bases : Bases) (before : List Record) (m n : Moment) (xs : List Step) (D F : Files) → RunsAt bases before (only D) m → CoreTraced m D xs n F
+    → RunsAt bases before (only F) n
+
+-- so it is where nothing is said of crashes
+abbrev pub BareCourseKeeps : Type 0
+BareCourseKeeps = (bases : Bases) (before : List Record) (m n : Moment) (xs : List Step) → RunsAt bases before no_image m → IsCourse m xs n → RunsAt bases before no_image n
 
 -- where nothing is logged between the taking and the flush, all records are flushed
 abbrev pub TakenAllIsFlushed : Type 0
-TakenAllIsFlushed = (bases : Bases) (before : List Record) (m n : Moment) → RunsAt bases before m → IsCourse m (Takes ∷ Flushes ∷ []) n → stable n.core ≡ length n.log
+TakenAllIsFlushed = (bases : Bases) (before : List Record) (m n : Moment) → RunsAt bases before no_image m → IsCourse m (Takes ∷ Flushes ∷ []) n → stable n.core ≡ length n.log
 
 -- ---- an audit that ends
 pub record AuditTells (m : Moment) (b : ℕ) (found : List ℕ) : Type 0 where
@@ -163,13 +173,20 @@ pub record AuditTells (m : Moment) (b : ℕ) (found : List ℕ) : Type 0 where
 
 abbrev pub AuditEndTells : Type 0
 AuditEndTells =
-    (bases : Bases) (before : List Record) (m n : Moment) (b : ℕ) (found : List ℕ) → RunsAt bases before m → IsStepAt m (AuditEnds b found) n
+    (bases : Bases) (before : List Record) (m n : Moment) (b : ℕ) (found : List ℕ) → RunsAt bases before no_image m → IsStepAt m (AuditEnds b found) n
     → AuditTells m b found
 
 -- a core that was just made over a log at rest, whose records are all flushed, and its vault
 abbrev pub LoadRunsAt : Type 0
 LoadRunsAt =
-    (bases : Bases) (s : Sizes) (L : List Record) (g : Rules) (limit : ℕ) (v : VaultState) (leave : Files → Bool) → IsAtRest s L g
+    (bases : Bases) (s : Sizes) (L : List Record) (g : Rules) (limit : ℕ) (v : VaultState) (D : Files) → IsAtRest s L g
     → limit ≤ 268435456 → length (base_at bases L) ≡ regions s → AllAreWords (base_at bases L)
-    → VaultRun (MayLeave leave) L (length L) v → v.flushed ≡ 0
-    → RunsAt bases L (record { log = L; core = new_core s (base_at bases L) g limit v; audits = no_audits; leave = leave })
+    → VaultRun (only D) L (length L) v → v.flushed ≡ 0
+    → RunsAt bases L (only D) (record { log = L; core = new_core s (base_at bases L) g limit v; audits = no_audits })
+
+abbrev pub BareLoadRuns : Type 0
+BareLoadRuns =
+    (bases : Bases) (s : Sizes) (L : List Record) (g : Rules) (limit : ℕ) (v : VaultState) → IsAtRest s L g
+    → limit ≤ 268435456 → length (base_at bases L) ≡ regions s → AllAreWords (base_at bases L)
+    → VaultRun no_image L (length L) v → v.flushed ≡ 0
+    → RunsAt bases L no_image (record { log = L; core = new_core s (base_at bases L) g limit v; audits = no_audits })

@@ -12,10 +12,10 @@ use Rattle.dali_region.specs.declared.Side.TheVariants.{A, B}
 use Rattle.dali_region.specs.State.{RegionState}
 use Rattle.dali_region.specs.Answers.{cleaned}
 use Rattle.dali_system.specs.State.{CoreState}
-use Rattle.dali_system.specs.Run.{Bases}
+use Rattle.dali_system.specs.Run.{Bases, only}
 use Rattle.dali_system.specs.Regions.{RegionStep, Clean}
 use Rattle.dali_system.specs.Keeps.{with_region}
-use Rattle.dali_system.specs.Courses.{Step, OnRegion, Flushes, Faults, Moment, MayLeave, IsStepAt, RunsAt}
+use Rattle.dali_system.specs.Courses.{Step, OnRegion, Flushes, Faults, Moment, CameBy, IsStepAt, RunsAt}
 use Rattle.dali_system.specs.Images.{Told, ImageRun}
 
 abbrev pub clears : RegionStep → Bool
@@ -30,9 +30,9 @@ writes_images _ = false
 
 abbrev pub ImagesKeep : Type 0
 ImagesKeep =
-    (bases : Bases) (told : Told) (m n : Moment) (x : Step) → ImageRun bases (MayLeave m.leave) told m.core
+    (bases : Bases) (told : Told) (m n : Moment) (x : Step) (F : Files) → ImageRun bases (only F) told m.core
     → IsStepAt m x n → writes_images x ≡ false
-    → ImageRun bases (MayLeave n.leave) told n.core
+    → ImageRun bases (only F) told n.core
 
 abbrev pub same_side : Side → Side → Bool
 same_side A A = true
@@ -44,19 +44,19 @@ told_with told side r ws s q = if same_side s side && (q == r) then ws else told
 
 abbrev pub CopyKeeps : Type 0
 CopyKeeps =
-    (bases : Bases) (told : Told) (leave : Files → Bool) (c : CoreState) (side : Side) (r : ℕ) (g : RegionState) → ImageRun bases (MayLeave leave) told c
+    (bases : Bases) (told : Told) (F : Files) (c : CoreState) (side : Side) (r : ℕ) (g : RegionState) → ImageRun bases (only F) told c
     → slice_get c.regions r ≡ Some g
-    → ImageRun bases (MayLeave leave) (told_with told side r g.back) (with_region c r (cleaned side g))
+    → ImageRun bases (only F) (told_with told side r g.back) (with_region c r (cleaned side g))
 
 -- ---- a flush adds one batch, all of whose records stand in the last epoch
 abbrev pub FlushKeepsImages : Type 0
 FlushKeepsImages =
-    (bases : Bases) (before : List Record) (told : Told) (m n : Moment) → RunsAt bases before m → ImageRun bases (MayLeave m.leave) told m.core
-    → IsStepAt m Flushes n
-    → ImageRun bases (MayLeave n.leave) told n.core
+    (bases : Bases) (before : List Record) (told : Told) (m n : Moment) (D F : Files) → RunsAt bases before (only D) m → ImageRun bases (only D) told m.core
+    → IsStepAt m Flushes n → CameBy m.log m.core Flushes D F
+    → ImageRun bases (only F) told n.core
 
 abbrev pub FaultKeepsImages : Type 0
 FaultKeepsImages =
-    (bases : Bases) (before : List Record) (told : Told) (m n : Moment) (faults : ℕ) → RunsAt bases before m → ImageRun bases (MayLeave m.leave) told m.core
-    → IsStepAt m (Faults faults) n
-    → ImageRun bases (MayLeave n.leave) told n.core
+    (bases : Bases) (before : List Record) (told : Told) (m n : Moment) (D F : Files) (faults : ℕ) → RunsAt bases before (only D) m → ImageRun bases (only D) told m.core
+    → IsStepAt m (Faults faults) n → CameBy m.log m.core (Faults faults) D F
+    → ImageRun bases (only F) told n.core

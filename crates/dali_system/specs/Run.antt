@@ -5,6 +5,7 @@
 --     LockRun s L y                     a block's owner holds its key until it has ended
 --     StopRun s L y v                   the cause of the stop
 --     RegionRun base e r g              touches, soundness and settled words of region r
+--     only F, no_image                  this crash image alone, and none
 --     VaultRun leave L n v              what crash images hold of the log, of which n records are flushed
 --     RunsOn bases L c                  all of these but the last
 --     IsRun bases before leave c        all of these, of the log that the system has
@@ -168,6 +169,13 @@ pub record IsPrefix (L : List Record) (n : ℕ) (F : Files) : Type 0 where
 pub record IsFlushed (L : List Record) (n : ℕ) (v : VaultState) (F : Files) : Type 0 where
   pub log : log_in F ≡ take n L
   pub end : v.end ≡ sum_by batch_length F.batches
+
+-- of a crash image by itself, and where nothing is said of crashes
+abbrev pub only : Files → Files → Type 0
+only F G = G ≡ F
+
+abbrev pub no_image : Files → Type 0
+no_image F = ⊥
 
 -- a count of faults rose, or stands at its type's end
 abbrev pub HasRisen : ℕ → ℕ → Type 0

@@ -23,7 +23,7 @@ use Rattle.dali_region.specs.declared.Hold.{Hold}
 use Rattle.dali_att.specs.declared.state.State.{State}
 use Rattle.dali_att.specs.declared.state.State.TheVariants.{Live, Dead, Cleaning, Committed}
 use Rattle.dali_system.specs.State.{TxnRow, VaultState, CoreState, row_of, state_of, hold_of}
-use Rattle.dali_system.specs.Run.{Bases, RunsOn}
+use Rattle.dali_system.specs.Run.{Bases, RunsOn, no_image}
 use Rattle.dali_system.specs.Regions.{is_alive}
 use Rattle.dali_system.specs.Loads.{new_core}
 use Rattle.dali_system.specs.Courses.{Step, IsStep, Moment, IsCourse, RunsAt}
@@ -55,7 +55,7 @@ WholeKeeps =
 
 abbrev pub WholeCourseKeeps : Type 0
 WholeCourseKeeps =
-    (bases : Bases) (before : List Record) (m n : Moment) (xs : List Step) → RunsAt bases before m → IsWhole m.core
+    (bases : Bases) (before : List Record) (m n : Moment) (xs : List Step) → RunsAt bases before no_image m → IsWhole m.core
     → IsCourse m xs n
     → IsWhole n.core
 

@@ -9,7 +9,7 @@
 --     damage, Damaged          transaction 1 commits without a call. A poke hits region 0; transaction 2 looks for key 5 there, finds
 --                              nothing, and commits; this is taken to be flushed. An audit begins, then the frame is flushed; the audit
 --                              finds the region and stops the engine; its records are flushed
-use Rattle.std.specs.Prelude.{◌≡◌, ◌==◌, ◌&&◌, ℕ, Bool, true, false, List, [], ◌∷◌, ◌++◌, Some, map, replicate}
+use Rattle.std.specs.Prelude.{◌≡◌, ℕ, true, false, List, [], ◌∷◌, ◌++◌, Some, map, replicate}
 use Rattle.dali_geometry.specs.Sizes.{Sizes}
 use Rattle.dali_geometry.specs.Places.{formatted_image}
 use Rattle.dali_record.specs.declared.operations.Block.{Block}
@@ -27,13 +27,13 @@ use Rattle.dali_region.specs.State.{RegionState}
 use Rattle.dali_locks.specs.declared.mode.Mode.TheVariants.{Shared, Exclusive}
 use Rattle.dali_system.specs.declared.causes.Cause.TheVariants.{Damage as StoppedByDamage, Store}
 use Rattle.dali_system.specs.State.{VaultState}
-use Rattle.dali_system.specs.Run.{log_in}
+use Rattle.dali_system.specs.Run.{log_in, only}
 use Rattle.dali_system.specs.Regions.{RegionStep, Latch, NoteReads, Update, Poke, Clean}
 use Rattle.dali_system.specs.Loads.{new_core}
 use Rattle.dali_system.specs.Passes.{no_audits}
 use Rattle.dali_system.specs.Wholes.{IsWhole}
 use Rattle.dali_system.specs.Crashes.{NoneEscapes}
-use Rattle.dali_system.specs.Courses.{Step, Begins, Operates, TakesBack, Frees, Answers, Commits, Ends, AuditBegins, AuditEnds, Locks, Refuses, OnRegion, Passes, Dies, Claims, GivesBack, Recovers, Stops, Checkpoints, Takes, Flushes, Faults, Moment, IsCourse, RunsAt}
+use Rattle.dali_system.specs.Courses.{Step, Begins, Operates, TakesBack, Frees, Answers, Commits, Ends, AuditBegins, AuditEnds, Locks, Refuses, OnRegion, Passes, Dies, Claims, GivesBack, Recovers, Stops, Checkpoints, Takes, Flushes, Faults, Moment, CoreTraced, RunsAt}
 
 -- ---- the first moment
 abbrev pub small : Sizes
@@ -45,21 +45,18 @@ first_log = Format 1 1 ∷ []
 abbrev pub first_vault : VaultState
 first_vault = record { stopped = false; end = 15; flushed = 0; current = 0; faults_then = 0; faults = 0 }
 
-abbrev pub is_format : List Record → Bool
-is_format (Format i h ∷ []) = (i == 1) && (h == 1)
-is_format _ = false
+-- the files of the format, with these batches
+abbrev pub formatted_files : List (List Record) → Files
+formatted_files batches = record { batches = batches; gates = 0; number = 0; place = 15; first = 1; weight = 10; next = 1; image = formatted_image small; table = [] }
 
--- what a crash may leave: the batch of the format
-abbrev pub one_batch : List (List Record) → Bool
-one_batch (b ∷ []) = is_format b
-one_batch _ = false
+abbrev pub first_files : Files
+first_files = formatted_files (first_log ∷ [])
 
 abbrev pub start : List (List ℕ) → Moment
 start base = record {
   log = first_log;
   core = new_core small base (passes rules_start (Format 1 1)) 1000000 first_vault;
   audits = no_audits;
-  leave = λ F. one_batch F.batches;
 }
 
 -- ---- an operation
@@ -120,8 +117,8 @@ removal =
 
 pub record Removal : Type 0 where
   pub finish : Moment
-  pub course : IsCourse (start stored) removal finish
-  pub run : RunsAt (λ n. stored) first_log finish
+  pub trace : CoreTraced (start stored) first_files removal finish first_files
+  pub run : RunsAt (λ n. stored) first_log (only first_files) finish
   pub log :
       finish.log
       ≡ Format 1 1 ∷ Begin 1 ∷ Forward 1 look ∷ Forward 1 kill_cell ∷ Forward 1 kill_entry ∷ Done 1 (Delete 5) AnswerOk ∷ Commit 1
@@ -140,8 +137,8 @@ abandoned =
 
 pub record Abandoned : Type 0 where
   pub finish : Moment
-  pub course : IsCourse (start stored) abandoned finish
-  pub run : RunsAt (λ n. stored) first_log finish
+  pub trace : CoreTraced (start stored) first_files abandoned finish first_files
+  pub run : RunsAt (λ n. stored) first_log (only first_files) finish
   pub whole : IsWhole finish.core
   pub log : finish.log ≡ Format 1 1 ∷ Begin 1 ∷ Forward 1 look ∷ Forward 1 kill_cell ∷ Begin 2 ∷ Back 1 revive_cell ∷ Ended 1 ∷ []
   pub words : words_at finish ≡ stored
@@ -171,12 +168,11 @@ audit_batch = AuditBegin ∷ AuditFail 7 (0 ∷ []) ∷ []
 
 pub record Damaged : Type 0 where
   pub finish : Moment
-  pub course : IsCourse (start (formatted_image small)) damage finish
-  pub run : RunsAt (λ n. formatted_image small) first_log finish
+  pub crash : Files
+  pub trace : CoreTraced (start (formatted_image small)) first_files damage finish crash
+  pub run : RunsAt (λ n. formatted_image small) first_log (only crash) finish
   pub log : finish.log ≡ first_log ++ committed_batch ++ audit_batch
   pub words : words_at finish ≡ damaged_words ∷ (1 ∷ replicate 63 0) ∷ []
   pub stop : finish.core.system.stop ≡ Some (StoppedByDamage 0)
-  pub crash : Files
-  pub left : finish.leave crash ≡ true
   pub batches : crash.batches ≡ first_log ∷ committed_batch ∷ audit_batch ∷ []
   pub escapes : NoneEscapes (last_epoch (log_in crash)) finish.core

@@ -3,7 +3,7 @@
 ghost use Rattle.dali_system.specs.Keeps.{BeginKeeps, OpKeeps, BackKeeps, SoloKeeps, DoneKeeps, CommitKeeps, EndedKeeps, GrantKeeps, RefuseKeeps, RegionKeeps, StopKeeps, StateKeeps, DeathKeeps, RecoverKeeps, CheckpointFlagKeeps};
 ghost use Rattle.dali_system.specs.Flushes.{TakeKeeps, FlushKeeps, FaultKeeps};
 ghost use Rattle.dali_system.specs.Audits.{AuditBeginKeeps, AuditEndKeeps, AuditStarts, AuditGoesOn, PassCertifies, PassFinds, CertifiesStays};
-ghost use Rattle.dali_system.specs.Courses.{StepKeeps, CourseKeeps, TakenAllIsFlushed, LoadRunsAt, CheckpointsTurn, AuditEndTells};
+ghost use Rattle.dali_system.specs.Courses.{StepKeeps, CourseKeeps, TakenAllIsFlushed, LoadRunsAt, CheckpointsTurn, AuditEndTells, BareCourseKeeps, BareLoadRuns};
 ghost use Rattle.dali_system.specs.ImageSteps.{ImagesKeep, CopyKeeps, FlushKeepsImages, FaultKeepsImages};
 ghost use Rattle.dali_system.specs.Loads.{LoadRuns, FormatRests, EmptyRests};
 ghost use Rattle.dali_system.specs.Wholes.{WholeKeeps, WholeCourseKeeps, LoadIsWhole, WhoLogs};
@@ -141,7 +141,8 @@ pub fn each_step_keeps_a_run()
 
 /// So does each list of steps, in whatever order.
 pub fn each_list_of_steps_keeps_a_run()
-    ensures { CourseKeeps }
+    ensures each { CourseKeeps }
+    ensures bare { BareCourseKeeps }
 {}
 
 /// A frame that is flushed as soon as it is taken has all records: behind it all are flushed.
@@ -151,7 +152,8 @@ pub fn a_frame_has_all_records()
 
 /// A core that was just made, over a log whose records are all flushed, is a run.
 pub fn a_load_is_a_run_with_its_store()
-    ensures { LoadRunsAt }
+    ensures each { LoadRunsAt }
+    ensures bare { BareLoadRuns }
 {}
 
 /// An audit stays open while others log.

@@ -20,10 +20,10 @@ use Rattle.dali_region.specs.declared.Side.TheVariants.{A, B}
 use Rattle.dali_store.specs.Store.{Files as Disk, file_of, SameBut}
 use Rattle.dali_store.specs.declared.store.FileName.TheVariants.{Log, ImageA, ImageB, Anchor}
 use Rattle.dali_system.specs.State.{CoreState, taken_to, stable}
-use Rattle.dali_system.specs.Run.{IsPrefix, log_in}
+use Rattle.dali_system.specs.Run.{IsPrefix, log_in, only}
 use Rattle.dali_system.specs.Flushes.{frame_of, with_batch, with_frame}
-use Rattle.dali_system.specs.Courses.{Flushes, Faults}
-use Rattle.dali_crash.specs.Checkpoints.{Head, Stored, StoreStep, Does, Copies, WritesHead, CopyFails, HeadFails, Turns, TurnFails, side_of, target, image_in, turned, IsTurnedFrom}
+use Rattle.dali_system.specs.Courses.{Flushes, Faults, Step}
+use Rattle.dali_crash.specs.Checkpoints.{Head, Point, StoreStep, Does, Copies, WritesHead, CopyFails, HeadFails, Turns, TurnFails, side_of, target, image_in, turned, IsTurnedFrom, Came, Inside, IsPointStep}
 use Rattle.dali_crash.specs.StoreRuns.{StoreRun}
 use Rattle.dali_crash.proofs.Restarts.{sizes_take, begins_behind}
 use Rattle.dali_crash.proofs.Courses.{format_is_history}
@@ -34,23 +34,22 @@ use Rattle.dali_batch.specs.Formatting.{IsFormattedBy}
 use Rattle.dali_batch.proofs.Bytes.{length-batch}
 use Rattle.dali_batch.proofs.Rows.{grown, first_log}
 use Rattle.dali_batch.proofs.Unique.{some_bytes, one_log}
-use Rattle.dali_traces.specs.Traces.{Point, leaving, alone, IsPointStep, Came, Inside, Start, IsFreshImage, start_point, bases_of}
 use Rattle.dali_traces.specs.Disks.{IsAnchor, IsImageOf, image_file, image_name, head_of, sizes_in, unchecked, Spells, AllSpell}
 use Rattle.dali_traces.specs.Anchors.{HasMoved, MayHaveMoved}
 use Rattle.dali_traces.specs.Bridges.{IsRightNow, TracedTo, LeavesRightAt, body_at, batches_on, AreRight, HaveOneLog, HaveOneAnchor, StoreStarts, InsideOf, MomentsAreRight, FlushIsRight, FlushGoesOn, FaultGoesOn, QuietGoesOn, WriteGoesOn, TurnGoesOn, TurnFaultGoesOn, is_image_write, HoldsNext, FormatStarts, restarted_records, closed_head, IsRestartedBy, RestartStarts, GoesOnBy, StopsBy, IsRightIn, TurnsBy, TurnStopsBy, TurnIsRightIn}
 use Rattle.dali_counts.proofs.Lists.{equal, same_number}
-use Rattle.dali_traces.proofs.Sameness.{is as is_file, is_self}
-use Rattle.dali_traces.proofs.Traces.{trace_goes_on, fresh_rests, every_trace_is_right, every_moment_is_right, trace_runs, trace_prefix, moment_prefix}
+use Rattle.dali_crash.proofs.Traces.{every_moment_is_right, trace_prefix, moment_prefix, every_trace_is_right, fresh_rests, trace_goes_on, trace_runs}
 use Rattle.dali_traces.proofs.Growth.{point_runs}
+use Rattle.dali_crash.specs.Traces.{IsFreshImage, Start, bases_of, start_point}
 
 -- ---- more batches in the log
 abbrev longer : Files → List (List Record) → Files
 longer D more = record { batches = D.batches ++ more; gates = D.gates; number = D.number; place = D.place; first = D.first; weight = D.weight; next = D.next; image = D.image; table = D.table }
 
-same_sizes : (L more : List (List Record)) → HasFormat L → sizes_of (flat_map (λ b. b) (L ++ more)) ≡ sizes_of (flat_map (λ b. b) L)
+pub same_sizes : (L more : List (List Record)) → HasFormat L → sizes_of (flat_map (λ b. b) (L ++ more)) ≡ sizes_of (flat_map (λ b. b) L)
 same_sizes L more has = subst (λ M. sizes_of (flat_map (λ b. b) (M ++ more)) ≡ sizes_of (flat_map (λ b. b) M)) (sym has.3) refl
 
-same_image : (c d : Disk) (side : Side) → SameBut Log d c → image_file side c ≡ image_file side d
+pub same_image : (c d : Disk) (side : Side) → SameBut Log d c → image_file side c ≡ image_file side d
 same_image c d A same = same ImageA (λ e. absurd (cc))
 same_image c d B same = same ImageB (λ e. absurd (cc))
 
@@ -118,11 +117,11 @@ batches_length (rs ∷ L) all =
     let one : length (batch (body_bytes rs)) ≡ batch_length rs = omega (arith, length-batch (body_bytes rs), body_length rs all.0) in
     length-append (batch (body_bytes rs)) (batches (bodies L)) ∙ (ap (λ n. n + length (batches (bodies L))) one ∙ (ap (λ n. batch_length rs + n) (batches_length L all.1) ∙ sym (sum_by-cons batch_length rs L)))
 
-ends_at : (bytes : List ℕ) (L : List (List Record)) (e : ℕ) → LogOf bytes L e → e ≡ sum_by batch_length L
+pub ends_at : (bytes : List ℕ) (L : List (List Record)) (e : ℕ) → LogOf bytes L e → e ≡ sum_by batch_length L
 ends_at bytes L e log = log.front.place ∙ batches_length L log.front.each
 
 -- ---- files that came along steps
-pub runs_at : (s : Start) (made : List (List Record)) (p : Point) (D : Files) → TracedTo s made p D → StoreRun (bases_of s) s.log (leaving p (is_file D))
+pub runs_at : (s : Start) (made : List (List Record)) (p : Point) (D : Files) → TracedTo s made p D → StoreRun (bases_of s) s.log (only D) p
 runs_at s made p D t = trace_runs s t.first t.starts t.steps p D t.trace
 
 spelled_frame : (s : Start) (made : List (List Record)) (p : Point) (D : Files) → TracedTo s made p D → AreSpelled (frame_of p.log p.core)
@@ -147,13 +146,13 @@ have_one_log old s made p all runs d left =
     let D = all d left in
     let is : Spells d D.0 = D.1 in
     let t : TracedTo s made p D.0 = D.2 in
-    let end : is.end ≡ p.core.vault.end = ends_at d.log D.0.batches is.end is.log ∙ sym ((runs_at s made p D.0 t).run.run.vault.exact runs D.0 (is_self D.0)).end in
+    let end : is.end ≡ p.core.vault.end = ends_at d.log D.0.batches is.end is.log ∙ sym ((runs_at s made p D.0 t).run.run.vault.exact runs D.0 refl).end in
     subst (λ M. LogOf d.log M p.core.vault.end) (t.batches runs) (subst (LogOf d.log D.0.batches) end is.log)
 
 pub have_one_anchor : (old : Disk → Type 0) → HaveOneAnchor old
 have_one_anchor old s made p all runs d left =
     let D = all d left in
-    subst (IsAnchor d.anchor) ((runs_at s made p D.0 D.2).anchor runs D.0 (is_self D.0)) D.1.anchor
+    subst (IsAnchor d.anchor) ((runs_at s made p D.0 D.2).anchor runs D.0 refl) D.1.anchor
 
 pub store_starts : (old : Disk → Type 0) → StoreStarts old
 store_starts old s made all c left =
@@ -281,7 +280,7 @@ flush_is_right old s made p q all step =
 
 -- ---- images
 -- two checkpoints, one behind the other, have two files
-sides_turn : (n : ℕ) → side_of n ≡ side_of (n + 1) → ⊥
+pub sides_turn : (n : ℕ) → side_of n ≡ side_of (n + 1) → ⊥
 sides_turn n e = by_tests (n % 2 == 1) ((n + 1) % 2 == 1) refl refl e
   where
     clash : {b : Bool} → b ≡ true → b ≡ false → ⊥
@@ -296,7 +295,7 @@ sides_turn n e = by_tests (n % 2 == 1) ((n + 1) % 2 == 1) refl refl e
         let y : (n + 1) % 2 ≡ 1 → ⊥ = λ w. clash (same_number ((n + 1) % 2) 1 w) q in
         omega (arith, x, y)
 
-two_names : (a b : Side) → (a ≡ b → ⊥) → image_name a ≢ image_name b
+pub two_names : (a b : Side) → (a ≡ b → ⊥) → image_name a ≢ image_name b
 two_names A A other = λ e. absurd (other refl)
 two_names A B other = λ e. absurd (cc)
 two_names B A other = λ e. absurd (cc)
@@ -306,30 +305,30 @@ pub file_named : (c d : Disk) (side : Side) → file_of (image_name side) c ≡ 
 file_named c d A e = e
 file_named c d B e = e
 
-no_image : (side : Side) → (Log ≢ image_name side) × (Anchor ≢ image_name side)
+pub no_image : (side : Side) → (Log ≢ image_name side) × (Anchor ≢ image_name side)
 no_image A = ((λ e. absurd (cc)), λ e. absurd (cc))
 no_image B = ((λ e. absurd (cc)), λ e. absurd (cc))
 
 gates_at : (s : Start) (made : List (List Record)) (p : Point) (D : Files) → TracedTo s made p D → p.core.vault.stopped ≡ false → D.gates ≡ p.core.vault.current
-gates_at s made p D t runs = (runs_at s made p D t).anchor runs D (is_self D)
+gates_at s made p D t runs = (runs_at s made p D t).anchor runs D refl
 
 -- a write to the next image leaves what the disk spells
-spells_written : (p : Point) (c d : Disk) (D : Files) → D.gates ≡ p.core.vault.current → SameBut (image_name (target (alone p))) d c → Spells d D → Spells c D
+spells_written : (p : Point) (c d : Disk) (D : Files) → D.gates ≡ p.core.vault.current → SameBut (image_name (target p)) d c → Spells d D → Spells c D
 spells_written p c d D gates same is = record {
   end = is.end;
-  log = subst (λ bytes. LogOf bytes D.batches is.end) (sym (same Log (no_image (target (alone p))).0)) is.log;
-  anchor = subst (λ bytes. IsAnchor bytes D.gates) (sym (same Anchor (no_image (target (alone p))).1)) is.anchor;
+  log = subst (λ bytes. LogOf bytes D.batches is.end) (sym (same Log (no_image (target p)).0)) is.log;
+  anchor = subst (λ bytes. IsAnchor bytes D.gates) (sym (same Anchor (no_image (target p)).1)) is.anchor;
   none = is.none;
   image = λ e. subst (λ bytes. IsImageOf (sizes_in D) bytes (head_of D) D.image) (sym (file_named c d (side_of D.gates) (same (image_name (side_of D.gates)) other))) (is.image e);
 }
   where
-    other : image_name (side_of D.gates) ≢ image_name (target (alone p))
-    other = two_names (side_of D.gates) (target (alone p)) (λ e. sides_turn p.core.vault.current (ap side_of (sym gates) ∙ e))
+    other : image_name (side_of D.gates) ≢ image_name (target p)
+    other = two_names (side_of D.gates) (target p) (λ e. sides_turn p.core.vault.current (ap side_of (sym gates) ∙ e))
 
 pub write_goes_on : (old new : Disk → Type 0) → WriteGoesOn old new
 write_goes_on old new s made p q x all step writes same c left = by_step x step writes
   where
-    w : (d : Disk) × old d × SameBut (image_name (target (alone p))) d c
+    w : (d : Disk) × old d × SameBut (image_name (target p)) d c
     w = same c left
 
     D : (F : Files) × Spells w.0 F × TracedTo s made p F
@@ -348,12 +347,12 @@ write_goes_on old new s made p q x all step writes same c left = by_step x step 
 -- ---- the anchor's move
 -- what the anchor names then
 abbrev moved : Point → Files → Files
-moved p D = turned D (p.heads (target (alone p))) (image_in p.core.system.sizes p.told (target (alone p)))
+moved p D = turned D (p.heads (target p)) (image_in p.core.system.sizes p.told (target p))
 
 sizes_at : (s : Start) (made : List (List Record)) (p : Point) (D : Files) → TracedTo s made p D → sizes_in D ≡ p.core.system.sizes
 sizes_at s made p D t = ap sizes_of is.log ∙ sizes_take p.core.system.sizes p.log is.count format (omega (arith, begins_behind p.core.system.sizes p.log format, is.flushed, began, there.run.run.first))
   where
-    there : StoreRun (bases_of s) s.log (leaving p (is_file D))
+    there : StoreRun (bases_of s) s.log (only D) p
     there = runs_at s made p D t
 
     is : IsPrefix p.log (stable p.core) D
@@ -365,7 +364,7 @@ sizes_at s made p D t = ap sizes_of is.log ∙ sizes_take p.core.system.sizes p.
     format : slice_get p.log 0 ≡ Some (Format p.core.system.sizes.index p.core.system.sizes.heap)
     format = subst (λ M. slice_get M 0 ≡ Some (Format p.core.system.sizes.index p.core.system.sizes.heap)) (sym there.run.log) there.run.run.runs.log.format
 
-other_files : (c d : Disk) (side : Side) → SameBut Anchor d c → image_file side c ≡ image_file side d
+pub other_files : (c d : Disk) (side : Side) → SameBut Anchor d c → image_file side c ≡ image_file side d
 other_files c d A same = same ImageA (λ e. absurd (cc))
 other_files c d B same = same ImageB (λ e. absurd (cc))
 
@@ -375,13 +374,13 @@ spells_moved p c d D gates sizes same anchor holds is = record {
   log = subst (λ bytes. LogOf bytes D.batches is.end) (sym (same Log (λ e. absurd (cc)))) is.log;
   anchor = subst (λ n. IsAnchor c.anchor (n + 1)) (sym gates) anchor;
   none = λ e. absurd (omega (arith, e));
-  image = λ e. subst (λ n. IsImageOf (sizes_in D) (image_file (side_of (n + 1)) c) (p.heads (target (alone p))) (image_in p.core.system.sizes p.told (target (alone p)))) (sym gates)
-      (subst (λ z. IsImageOf z (image_file (target (alone p)) c) (p.heads (target (alone p))) (image_in p.core.system.sizes p.told (target (alone p)))) (sym sizes)
-      (subst (λ bytes. IsImageOf p.core.system.sizes bytes (p.heads (target (alone p))) (image_in p.core.system.sizes p.told (target (alone p)))) (sym (other_files c d (target (alone p)) same)) holds));
+  image = λ e. subst (λ n. IsImageOf (sizes_in D) (image_file (side_of (n + 1)) c) (p.heads (target p)) (image_in p.core.system.sizes p.told (target p))) (sym gates)
+      (subst (λ z. IsImageOf z (image_file (target p) c) (p.heads (target p)) (image_in p.core.system.sizes p.told (target p))) (sym sizes)
+      (subst (λ bytes. IsImageOf p.core.system.sizes bytes (p.heads (target p)) (image_in p.core.system.sizes p.told (target p))) (sym (other_files c d (target p) same)) holds));
 }
 
 -- the anchor stayed
-spells_unmoved : (c d : Disk) (D : Files) → SameBut Anchor d c → IsAnchor c.anchor D.gates → Spells d D → Spells c D
+pub spells_unmoved : (c d : Disk) (D : Files) → SameBut Anchor d c → IsAnchor c.anchor D.gates → Spells d D → Spells c D
 spells_unmoved c d D same anchor is = record {
   end = is.end;
   log = subst (λ bytes. LogOf bytes D.batches is.end) (sym (same Log (λ e. absurd (cc)))) is.log;
@@ -390,10 +389,10 @@ spells_unmoved c d D same anchor is = record {
   image = λ e. subst (λ bytes. IsImageOf (sizes_in D) bytes (head_of D) D.image) (sym (other_files c d (side_of D.gates) same)) (is.image e);
 }
 
-moves : (p : Point) (D : Files) → D.gates ≡ p.core.vault.current → IsTurnedFrom (alone p) D (moved p D)
+moves : (p : Point) (D : Files) → D.gates ≡ p.core.vault.current → IsTurnedFrom p D (moved p D)
 moves p D gates = (
-  p.heads (target (alone p)),
-  image_in p.core.system.sizes p.told (target (alone p)),
+  p.heads (target p),
+  image_in p.core.system.sizes p.told (target p),
   record { head_is = λ e. ap (λ n. p.heads (side_of (n + 1))) (sym gates); image_is = λ e. ap (λ n. image_in p.core.system.sizes p.told (side_of (n + 1))) (sym gates) },
   refl,
 )
@@ -412,7 +411,7 @@ turn_goes_on old new s made p q all step holds turned c left =
 -- the anchor stayed, or has moved
 may_move : (old : Disk → Type 0) (s : Start) (made : List (List Record)) (p : Point) → AllSpell old (TracedTo s made p) → p.core.vault.stopped ≡ false → ((d : Disk) → old d → HoldsNext p d)
     → (c : Disk) → MayHaveMoved old p.core.vault.current c
-    → (D : Files) × TracedTo s made p D × (F : Files) × Spells c F × ((F ≡ D) ⊎ IsTurnedFrom (alone p) D F)
+    → (D : Files) × TracedTo s made p D × (F : Files) × Spells c F × ((F ≡ D) ⊎ IsTurnedFrom p D F)
 may_move old s made p all runs holds c w =
     let o = w.others in
     let D = all o.0 o.1 in
@@ -425,7 +424,7 @@ may_move old s made p all runs holds c w =
 pub turn_fault_goes_on : (old new : Disk → Type 0) → TurnFaultGoesOn old new
 turn_fault_goes_on old new s made p q n all step holds turned c left =
     let w = may_move old s made p all step.3.may.runs holds c (turned c left) in
-    (w.2, w.3, traced_on s made made p q (TurnFails n) w.0 w.2 w.1 step w.4 (no_longer_runs (ap (λ (z : Stored). z.moment.core.vault.stopped) step.6)))
+    (w.2, w.3, traced_on s made made p q (TurnFails n) w.0 w.2 w.1 step w.4 (no_longer_runs (ap (λ (z : Point). z.core.vault.stopped) step.5)))
 
 pub turn_is_right : (old : Disk → Type 0) (s : Start) (made : List (List Record)) (p q : Point) → AllSpell old (TracedTo s made p) → IsPointStep p Turns q → ((d : Disk) → old d → HoldsNext p d)
     → AllSpell (MayHaveMoved old p.core.vault.current) (LeavesRightAt s p)
@@ -433,7 +432,7 @@ turn_is_right old s made p q all step holds =
     moments_are_right (MayHaveMoved old p.core.vault.current) s p q Turns step
     (λ c moving. let w = may_move old s made p all step.3.runs holds c moving in (w.2, w.3, record { batches = made; was = w.0; traced = w.1; inside = within w.0 w.2 w.4 }))
   where
-    within : (D F : Files) → (F ≡ D) ⊎ IsTurnedFrom (alone p) D F → Inside p Turns D F
+    within : (D F : Files) → (F ≡ D) ⊎ IsTurnedFrom p D F → Inside p Turns D F
     within D F came = came
 
 -- ---- starts

@@ -1,31 +1,27 @@
 -- What only grows along steps, what the anchor tells, and what a fault leaves.
-use Rattle.std.proofs.Common.{◌≡◌, ℕ, ◌+◌, true, false, List, [], ◌∷◌, ◌++◌, length, take, Some, None, refl, ap, sym, subst, ◌∙◌, inl, inr, ⊎_elim, arith, append_assoc}
+use Rattle.std.proofs.Common.{◌≡◌, ℕ, ◌+◌, true, false, List, [], ◌∷◌, Some, None, refl, ap, sym, subst, ◌∙◌, inl, inr, ⊎_elim, arith}
 use Rattle.std.specs.Prelude.{◌⊎◌}
-use Rattle.std.proofs.lemmas.List.{append-nil, take-append-le}
 use Rattle.dali_record.specs.declared.records.Record.{Record}
 use Rattle.dali_record.specs.Files.{Files}
 use Rattle.dali_counts.proofs.Lists.{some_same}
-use Rattle.dali_system.specs.State.{CoreState, stable}
-use Rattle.dali_system.specs.Courses.{Step, Flushes, Faults}
+use Rattle.dali_system.specs.State.{CoreState}
+use Rattle.dali_system.specs.Courses.{Step, Flushes, Faults, CameBy}
 use Rattle.dali_system.specs.ImageSteps.{told_with}
-use Rattle.dali_crash.specs.Checkpoints.{Stored, StoreStep, Does, Starts, Keeps, Copies, Skips, WritesHead, Syncs, Turns, CopyFails, HeadFails, SyncFails, TurnFails, Finishes, target, head_with, synced_with, copies_with, copies_after, IsTurnedFrom, IsOverwritten, with_fault}
-use Rattle.dali_crash.specs.StoreRuns.{StoreRun}
+use Rattle.dali_crash.specs.Checkpoints.{Point, StoreStep, Does, Starts, Keeps, Copies, Skips, WritesHead, Syncs, Turns, CopyFails, HeadFails, SyncFails, TurnFails, Finishes, target, head_with, synced_with, copies_with, copies_after, IsTurnedFrom, IsOverwritten, with_fault, Came, Inside, IsPointStep, Traced, moment_of, turned}
 use Rattle.dali_crash.proofs.StepLeaves.{vault_goes}
-use Rattle.dali_crash.proofs.StoreStarts.{store_goes}
-use Rattle.dali_crash.proofs.Growth.{course_grows}
-use Rattle.dali_traces.specs.Traces.{Point, alone, IsPointStep, CameBy, Came, Inside, Traced, Start, StartsAt, start_point, bases_of}
-use Rattle.dali_traces.specs.Growth.{IsNextOrNow, IsAnchored, AnchorTells, AnchorTellsInside, TraceGrows, fault_of, IsLeftByFault, InsideIsFault, FaultIsInside, QuietInside}
-use Rattle.dali_traces.proofs.Traces.{at, traced_course, trace_runs, risen}
+use Rattle.dali_traces.specs.Growth.{IsNextOrNow, IsAnchored, AnchorTells, AnchorTellsInside, fault_of, IsLeftByFault, InsideIsFault, FaultIsInside, QuietInside}
+use Rattle.dali_crash.proofs.Traces.{risen}
+use Rattle.dali_crash.specs.Traces.{Start, StartsAt, start_point}
 
 -- ---- the vault
 
 -- who runs behind a step ran before it
 pub point_runs : (p q : Point) (x : StoreStep) → IsPointStep p x q → q.core.vault.stopped ≡ false → p.core.vault.stopped ≡ false
-point_runs p q (Does x) s h = (vault_goes (alone p).moment (alone q).moment x s.1).runs h
-point_runs p q Starts s h = sym (ap (λ (z : Stored). z.moment.core.vault.stopped) s.1) ∙ h
+point_runs p q (Does x) s h = (vault_goes (moment_of p) (moment_of q) x s.1).runs h
+point_runs p q Starts s h = sym (ap (λ (z : Point). z.core.vault.stopped) s.1) ∙ h
 point_runs p q Keeps s h = s.0
 point_runs p q (Copies r n) s h = s.2.runs
-point_runs p q (Skips r n) s h = sym (ap (λ (z : Stored). z.moment.core.vault.stopped) s.5) ∙ h
+point_runs p q (Skips r n) s h = sym (ap (λ (z : Point). z.core.vault.stopped) s.5) ∙ h
 point_runs p q (WritesHead k) s h = s.0.runs
 point_runs p q Syncs s h = s.0.runs
 point_runs p q Turns s h = s.3.runs
@@ -33,10 +29,10 @@ point_runs p q (CopyFails r ws n) s h = s.3.may.runs
 point_runs p q (HeadFails k n) s h = s.0.may.runs
 point_runs p q (SyncFails n) s h = s.0.may.runs
 point_runs p q (TurnFails n) s h = s.3.may.runs
-point_runs p q Finishes s h = sym (ap (λ (z : Stored). z.moment.core.vault.stopped) s.1) ∙ h
+point_runs p q Finishes s h = sym (ap (λ (z : Point). z.core.vault.stopped) s.1) ∙ h
 
-abbrev current_of : Stored → ℕ
-current_of z = z.moment.core.vault.current
+abbrev current_of : Point → ℕ
+current_of z = z.core.vault.current
 
 -- ---- the anchor
 core_gates : (L : List Record) (c : CoreState) (x : Step) (D F : Files) → CameBy L c x D F → F.gates ≡ D.gates
@@ -44,10 +40,10 @@ core_gates L c Flushes D F came = ap (λ (f : Files). f.gates) came
 core_gates L c (Faults n) D F came = ⊎_elim (λ e. ap (λ (f : Files). f.gates) e) (λ e. ap (λ (f : Files). f.gates) e) came
 core_gates L c x D F came = ap (λ (f : Files). f.gates) came
 
-overwritten_gates : (p : Point) (D F : Files) → (F ≡ D) ⊎ IsOverwritten (target (alone p)) D F → F.gates ≡ D.gates
+overwritten_gates : (p : Point) (D F : Files) → (F ≡ D) ⊎ IsOverwritten (target p) D F → F.gates ≡ D.gates
 overwritten_gates p D F came = ⊎_elim (λ e. ap (λ (f : Files). f.gates) e) (λ o. o.2) came
 
-turned_gates : (p : Point) (D F : Files) → IsTurnedFrom (alone p) D F → F.gates ≡ D.gates + 1
+turned_gates : (p : Point) (D F : Files) → IsTurnedFrom p D F → F.gates ≡ D.gates + 1
 turned_gates p D F t = ap (λ (f : Files). f.gates) t.3
 
 -- the gates and the current number are as before
@@ -58,25 +54,25 @@ still p q D F runs current gates was = record {
 }
 
 anchored_step : (p q : Point) (x : StoreStep) (D F : Files) → IsPointStep p x q → Came p x D F → IsAnchored p D → IsAnchored q F
-anchored_step p q (Does x) D F s came was = still p q D F (point_runs p q (Does x) s) (vault_goes (alone p).moment (alone q).moment x s.1).current (core_gates p.log p.core x D F came) was
+anchored_step p q (Does x) D F s came was = still p q D F (point_runs p q (Does x) s) (vault_goes (moment_of p) (moment_of q) x s.1).current (core_gates p.log p.core x D F came) was
 anchored_step p q Starts D F s came was = still p q D F (point_runs p q Starts s) (ap current_of s.1) (ap (λ (f : Files). f.gates) came) was
 anchored_step p q Keeps D F s came was = still p q D F (point_runs p q Keeps s) (ap current_of s.4) (ap (λ (f : Files). f.gates) came) was
-anchored_step p q (Copies r n) D F s came was = still p q D F (point_runs p q (Copies r n) s) (ap current_of s.6) (overwritten_gates p D F came) was
+anchored_step p q (Copies r n) D F s came was = still p q D F (point_runs p q (Copies r n) s) (ap current_of s.5) (overwritten_gates p D F came) was
 anchored_step p q (Skips r n) D F s came was = still p q D F (point_runs p q (Skips r n) s) (ap current_of s.5) (ap (λ (f : Files). f.gates) came) was
-anchored_step p q (WritesHead h) D F s came was = still p q D F (point_runs p q (WritesHead h) s) (ap current_of s.2) (overwritten_gates p D F came) was
-anchored_step p q Syncs D F s came was = still p q D F (point_runs p q Syncs s) (ap current_of s.2) (ap (λ (f : Files). f.gates) came) was
-anchored_step p q (CopyFails r ws n) D F s came was = still p q D F (point_runs p q (CopyFails r ws n) s) (ap current_of s.5) (overwritten_gates p D F came) was
-anchored_step p q (HeadFails h n) D F s came was = still p q D F (point_runs p q (HeadFails h n) s) (ap current_of s.2) (overwritten_gates p D F came) was
-anchored_step p q (SyncFails n) D F s came was = still p q D F (point_runs p q (SyncFails n) s) (ap current_of s.2) (ap (λ (f : Files). f.gates) came) was
+anchored_step p q (WritesHead h) D F s came was = still p q D F (point_runs p q (WritesHead h) s) (ap current_of s.1) (overwritten_gates p D F came) was
+anchored_step p q Syncs D F s came was = still p q D F (point_runs p q Syncs s) (ap current_of s.1) (ap (λ (f : Files). f.gates) came) was
+anchored_step p q (CopyFails r ws n) D F s came was = still p q D F (point_runs p q (CopyFails r ws n) s) (ap current_of s.4) (overwritten_gates p D F came) was
+anchored_step p q (HeadFails h n) D F s came was = still p q D F (point_runs p q (HeadFails h n) s) (ap current_of s.1) (overwritten_gates p D F came) was
+anchored_step p q (SyncFails n) D F s came was = still p q D F (point_runs p q (SyncFails n) s) (ap current_of s.1) (ap (λ (f : Files). f.gates) came) was
 anchored_step p q Finishes D F s came was = still p q D F (point_runs p q Finishes s) (ap current_of s.1) (ap (λ (f : Files). f.gates) came) was
 anchored_step p q Turns D F s came was =
-    let now : q.core.vault.current ≡ p.core.vault.current + 1 = ap current_of s.6 in
+    let now : q.core.vault.current ≡ p.core.vault.current + 1 = ap current_of s.5 in
     let next : F.gates ≡ q.core.vault.current = omega (arith, turned_gates p D F came, was.running s.3.runs, now) in
     record { running = λ h. next; always = inl next }
 anchored_step p q (TurnFails n) D F s came was =
-    let same : q.core.vault.current ≡ p.core.vault.current = ap current_of s.6 in
+    let same : q.core.vault.current ≡ p.core.vault.current = ap current_of s.5 in
     let here : D.gates ≡ p.core.vault.current = was.running s.3.may.runs in
-    let halted : q.core.vault.stopped ≡ true = ap (λ (z : Stored). z.moment.core.vault.stopped) s.6 in
+    let halted : q.core.vault.stopped ≡ true = ap (λ (z : Point). z.core.vault.stopped) s.5 in
     record {
       running = λ h. absurd (cc);
       always = ⊎_elim (λ e. inl (ap (λ (f : Files). f.gates) e ∙ (here ∙ sym same))) (λ t. inr (omega (arith, turned_gates p D F t, here, same))) came;
@@ -104,7 +100,7 @@ anchor_tells_inside s D from xs p E t x q F step inside = ⊎_elim (λ e. before
     before : (G : Files) → G ≡ E → IsNextOrNow G.gates p.core.vault.current
     before G e = as_was G (ap (λ (f : Files). f.gates) e)
 
-    moved : p.core.vault.stopped ≡ false → IsTurnedFrom (alone p) E F → IsNextOrNow F.gates p.core.vault.current
+    moved : p.core.vault.stopped ≡ false → IsTurnedFrom p E F → IsNextOrNow F.gates p.core.vault.current
     moved runs turned = inr (omega (arith, turned_gates p E F turned, was.running runs))
 
     by_step : (y : StoreStep) → IsPointStep p y q → Came p y E F → IsNextOrNow F.gates p.core.vault.current
@@ -116,30 +112,6 @@ anchor_tells_inside s D from xs p E t x q F step inside = ⊎_elim (λ e. before
     by_step Turns s came = moved s.3.runs came
     by_step (TurnFails k) s came = ⊎_elim (λ e. before F e) (λ w. moved s.3.may.runs w) came
     by_step y s came = before F came
-
--- ---- what only grows
--- the log behind a step begins with the one before it
-log_step : (p q : Point) (x : StoreStep) → IsPointStep p x q → (more : List Record) × (q.log ≡ p.log ++ more)
-log_step p q x s = ⊎_elim (λ same. ([], same ∙ sym (append-nil p.log))) (λ one. (one.0 ∷ [], one.2)) (store_goes (alone p) (alone q) x s).log
-
-log_along : (p q : Point) (E F : Files) (ys : List StoreStep) → Traced p E ys q F → (more : List Record) × (q.log ≡ p.log ++ more)
-log_along p q E F [] t = ([], ap (λ (r : Point). r.log) (sym t.0) ∙ sym (append-nil p.log))
-log_along p q E F (y ∷ ys) t =
-    let one = log_step p t.0 y t.2 in
-    let rest = log_along t.0 q t.1 F ys t.4 in
-    (one.0 ++ rest.0, rest.1 ∙ (ap (λ l. l ++ rest.0) one.1 ∙ append_assoc p.log one.0 rest.0))
-
-pub trace_grows : TraceGrows
-trace_grows s D from xs ys p q E F t u = record {
-  grown = course_grows (bases_of s) s.log (at p E) (at q F) ys here (traced_course p q E F ys u);
-  records = ap (take (stable p.core)) more.1 ∙ take-append-le (stable p.core) p.log more.0 (omega (arith, here.run.run.vault.within, ap length here.run.log));
-}
-  where
-    here : StoreRun (bases_of s) s.log (at p E)
-    here = trace_runs s D from xs p E t
-
-    more : (more : List Record) × (q.log ≡ p.log ++ more)
-    more = log_along p q E F ys u
 
 -- ---- inside a step
 pub inside_is_fault : InsideIsFault
@@ -158,7 +130,7 @@ inside_is_fault p q x D F s inside = ⊎_elim (λ e. inl e) (by_step x s) inside
       step = Does (Faults n);
       is_fault = refl;
       behind = record { log = p.log; core = with_fault c n; audits = p.audits; told = p.told; heads = p.heads; synced = p.synced; begun = p.begun; copies = copies_after c (Faults n) p.copies };
-      leads = (refl, ((st.1.0.0, risen c.vault.faults, (refl, refl)), record { each = λ G h. absurd (cc) }, refl), refl);
+      leads = (refl, ((st.1.0.0, risen c.vault.faults, (refl, refl)), refl), refl);
       came = inr came;
     })
     in_core (Faults k) st came = inr (record { words = []; faults = k; step = Does (Faults k); is_fault = refl; behind = q; leads = st; came = came })
@@ -175,13 +147,13 @@ inside_is_fault p q x D F s inside = ⊎_elim (λ e. inl e) (by_step x s) inside
         log = p.log;
         core = with_fault c n;
         audits = p.audits;
-        told = told_with p.told (target (alone p)) r [];
+        told = told_with p.told (target p) r [];
         heads = p.heads;
-        synced = synced_with p.synced (target (alone p)) false;
+        synced = synced_with p.synced (target p) false;
         begun = p.begun;
-        copies = copies_with p.copies (target (alone p)) r None;
+        copies = copies_with p.copies (target p) r None;
       };
-      leads = (st.0, st.1, st.3, record { may = st.2; rose = risen c.vault.faults }, record { each = λ G h. absurd (cc) }, refl);
+      leads = (st.0, st.1, st.3, record { may = st.2; rose = risen c.vault.faults }, refl);
       came = came;
     })
     by_step (WritesHead h) st came = inr (record {
@@ -194,12 +166,12 @@ inside_is_fault p q x D F s inside = ⊎_elim (λ e. inl e) (by_step x s) inside
         core = with_fault c n;
         audits = p.audits;
         told = p.told;
-        heads = head_with p.heads (target (alone p)) h;
-        synced = synced_with p.synced (target (alone p)) false;
+        heads = head_with p.heads (target p) h;
+        synced = synced_with p.synced (target p) false;
         begun = p.begun;
         copies = p.copies;
       };
-      leads = (record { may = st.0; rose = risen c.vault.faults }, record { each = λ G k. absurd (cc) }, refl);
+      leads = (record { may = st.0; rose = risen c.vault.faults }, refl);
       came = came;
     })
     by_step Turns st came = inr (record {
@@ -208,7 +180,7 @@ inside_is_fault p q x D F s inside = ⊎_elim (λ e. inl e) (by_step x s) inside
       step = TurnFails n;
       is_fault = refl;
       behind = record { log = p.log; core = with_fault c n; audits = p.audits; told = p.told; heads = p.heads; synced = p.synced; begun = None; copies = p.copies };
-      leads = (st.0, st.1, st.2, record { may = st.3; rose = risen c.vault.faults }, st.4, record { each = λ G k. absurd (cc) }, refl);
+      leads = (st.0, st.1, st.2, record { may = st.3; rose = risen c.vault.faults }, st.4, refl);
       came = inr came;
     })
     by_step (CopyFails r ws k) st came = inr (record { words = ws; faults = k; step = CopyFails r ws k; is_fault = refl; behind = q; leads = st; came = came })

@@ -37,17 +37,18 @@ use Rattle.dali_history.proofs.Ascending.{begun_ascends}
 use Rattle.dali_history.proofs.Prefixes.{IsLegalFor-front}
 use Rattle.dali_history.proofs.Spelled.{AreSpelled-front}
 use Rattle.dali_counts.proofs.Lists.{length-push}
-use Rattle.dali_counts.proofs.SmallLogs.{is_small}
+use Rattle.dali_counts.proofs.SmallLogs.{is_small, some_length}
+use Rattle.dali_counts.proofs.LightLogs.{is_light}
 use Rattle.dali_counts.proofs.Tallies.{number_is, numbers, numbers_drawn, tallies}
 use Rattle.dali_bytes.specs.Fields.{number32, number64}
 use Rattle.dali_crash.specs.Checkpoints.{head_now}
 use Rattle.dali_crash.specs.StoreRuns.{IsKept}
-use Rattle.dali_system.specs.Courses.{MayLeave}
 use Rattle.dali_system.specs.State.{log_after}
 use Rattle.dali_traces.specs.Disks.{IsPendingIn, IsRowIn, pending_bytes, row_bytes, txn_in, undoes_on}
 use Rattle.dali_traces.specs.Heads.{HeadsFit, KeptFits, StaysFitting}
 use Rattle.dali_record.specs.declared.operations.Outcome.TheVariants.{Found, Absent, Added, NoEntry, Killed, Put as PutIn, NoCell, Value, Changed, NotLive, OtherKey, OddLength, Undone}
 use Rattle.dali_record.specs.declared.operations.Undo.TheVariants.{FreeCell as UndoFreeCell, ReviveCell as UndoReviveCell, Restore as UndoRestore, FreeEntry as UndoFreeEntry, ReviveEntry as UndoReviveEntry}
+use Rattle.dali_system.specs.Run.{no_image}
 
 or_none : (a : Bool) → (a || false) ≡ a
 or_none true = refl
@@ -111,20 +112,6 @@ runs_behind s Y r w legal =
     (b.0, k.0, b.1, k.1, ran s b.0 k.0 r w b.2)
 
 -- ---- lengths
-some_length : (x : Record) → 1 ≤ record_length x
-some_length (Format i n) = omega arith
-some_length (Begin t) = omega arith
-some_length (Forward t b) = omega arith
-some_length (Done t c a) = omega arith
-some_length (Commit t) = omega arith
-some_length (Ended t) = omega arith
-some_length (Solo t p b) = omega arith
-some_length AuditBegin = omega arith
-some_length (AuditClean b) = omega arith
-some_length (AuditFail b rs) = omega arith
-some_length (Restarted rs ds) = omega arith
-some_length (Back t b) = omega arith
-
 weighs : (L : List Record) → length L ≤ sum_by record_length L
 weighs = by_push (λ L. length L ≤ sum_by record_length L) (omega arith) (λ L x here. omega (arith, here, some_length x, length-push L x, sum_by_push record_length L x))
 
@@ -612,11 +599,11 @@ module _ (s : Sizes) (L : List Record) (legal : IsLegalFor s L) (spelled : AreSp
   asks rows (inr e) = subst Asks (sym e) (omega arith, omega arith, tt, refl)
 
 pub heads_fit : HeadsFit
-heads_fit s L h image legal spelled some is number place weight regions_are words = record {
+heads_fit s L h image legal spelled some is number place regions_are words = record {
   number = number;
   place = place;
   first = omega (arith, is.first, small);
-  weight = weight;
+  weight = omega (arith, is.weight, is_light s L legal spelled);
   some = omega (arith, is.next);
   next = omega (arith, is.next, drawn_few, small);
   whole = regions_are;
@@ -680,7 +667,7 @@ heads_fit s L h image legal spelled some is number place weight regions_are word
             omega (arith, parts, draws_few X)
 
 pub kept_fits : KeptFits
-kept_fits bases L c image runs number place weight regions_are words = heads_fit c.system.sizes L (head_now L c) image runs.log.legal runs.log.spelled some (record { first = first; next = next; table = inl refl }) number place weight regions_are words
+kept_fits bases L c image runs number place regions_are words = heads_fit c.system.sizes L (head_now L c) image runs.log.legal runs.log.spelled some (record { first = first; weight = runs.counts.end ∙ tally.1; next = next; table = inl refl }) number place regions_are words
   where
     tally : (runs.counts.now.count ≡ length L) × (runs.counts.now.weight ≡ sum_by record_length L) × (runs.counts.now.next ≡ numbers L)
     tally = tallies c.system.sizes L runs.counts.now runs.counts.rules
@@ -758,44 +745,45 @@ begins_late L i h = by_push (λ X. slice_get X 0 ≡ Some (Format i h) → 0 < (
     more (x ∷ X) r ih e = later (x ∷ X) r (λ q. ih e)
 
 pub stays_fitting : StaysFitting
-stays_fitting bases before st h image run begun number place weight regions_are words =
+stays_fitting bases before st h image run begun number place regions_are words =
     heads_fit s front h image (IsLegalFor-front s front rest (subst (IsLegalFor s) (sym parts) legal)) (AreSpelled-front front rest (subst AreSpelled (sym parts) spelled)) some (record {
       first = sym size;
+      weight = w.weight;
       next = w.next;
       table = inl (w.table ∙ (sym twice ∙ ap (λ m. table_before (last_epoch front) m) (sym size)));
-    }) number place weight regions_are words
+    }) number place regions_are words
   where
     s : Sizes
-    s = st.moment.core.system.sizes
+    s = st.core.system.sizes
 
     L : List Record
-    L = st.moment.log
+    L = st.log
 
-    w : IsKept st.moment.log st.moment.core.vault (MayLeave st.moment.leave) h
+    w : IsKept st.log st.core.vault no_image h
     w = run.kept h begun
 
-    log : st.moment.log ≡ log_after before st.moment.core.system
+    log : st.log ≡ log_after before st.core.system
     log = run.run.log
 
-    legal : IsLegalFor st.moment.core.system.sizes st.moment.log
+    legal : IsLegalFor st.core.system.sizes st.log
     legal = subst (IsLegalFor s) (sym log) run.run.run.runs.log.legal
 
-    spelled : AreSpelled st.moment.log
+    spelled : AreSpelled st.log
     spelled = subst AreSpelled (sym log) run.run.run.runs.log.spelled
 
     front : List Record
-    front = take h.first st.moment.log
+    front = take h.first st.log
 
     rest : List Record
-    rest = drop h.first st.moment.log
+    rest = drop h.first st.log
 
-    parts : take h.first st.moment.log ++ drop h.first st.moment.log ≡ st.moment.log
+    parts : take h.first st.log ++ drop h.first st.log ≡ st.log
     parts = take-append-drop h.first L
 
-    size : length (take h.first st.moment.log) ≡ h.first
+    size : length (take h.first st.log) ≡ h.first
     size = length-take-le h.first L w.to
 
-    now : last_epoch (take h.first st.moment.log) ≡ record { first = (last_epoch st.moment.log).first; records = take (h.first - (last_epoch st.moment.log).first) (last_epoch st.moment.log).records }
+    now : last_epoch (take h.first st.log) ≡ record { first = (last_epoch st.log).first; records = take (h.first - (last_epoch st.log).first) (last_epoch st.log).records }
     now = front_epoch L h.first w.from w.to
 
     again : {X : Type 0} (k : ℕ) (xs : List X) → take k (take k xs) ≡ take k xs
@@ -803,11 +791,11 @@ stays_fitting bases before st h image run begun number place weight regions_are 
     again (suc k) [] = refl
     again (suc k) (x ∷ xs) = ap (λ z. x ∷ z) (again k xs)
 
-    twice : table_before (last_epoch (take h.first st.moment.log)) h.first ≡ table_before (last_epoch st.moment.log) h.first
+    twice : table_before (last_epoch (take h.first st.log)) h.first ≡ table_before (last_epoch st.log) h.first
     twice = ap (λ z. table_before z h.first) now ∙ ap (λ P. map (row_of P) (filter (λ t. not (has (ended P) t)) (begun_in P))) (again (h.first - (last_epoch L).first) (last_epoch L).records)
       where
         begun_in : List Record → List ℕ
         begun_in P = filter_map begin_by P
 
-    some : 0 < length (take h.first st.moment.log)
+    some : 0 < length (take h.first st.log)
     some = omega (arith, size, w.from, begins_late L s.index s.heap (subst (λ M. slice_get M 0 ≡ Some (Format s.index s.heap)) (sym log) run.run.run.runs.log.format))

@@ -14,15 +14,15 @@ use Rattle.dali_store.specs.Store.{Files as Disk, Holds}
 use Rattle.dali_counts.proofs.Lists.{same_number}
 use Rattle.dali_system.specs.Run.{RunsOn}
 use Rattle.dali_system.specs.ImageSteps.{same_side, told_with}
-use Rattle.dali_crash.specs.Checkpoints.{Head, Stored, StoreStep, Does, Starts, Keeps, Copies, Skips, WritesHead, Syncs, Turns, CopyFails, HeadFails, SyncFails, TurnFails, Finishes, side_of, target, image_in, head_with}
+use Rattle.dali_crash.specs.Checkpoints.{Head, Point, StoreStep, Does, Starts, Keeps, Copies, Skips, WritesHead, Syncs, Turns, CopyFails, HeadFails, SyncFails, TurnFails, Finishes, side_of, target, image_in, head_with, IsPointStep}
 use Rattle.dali_crash.proofs.StoreStarts.{store_goes}
-use Rattle.dali_traces.specs.Traces.{Point, alone, IsPointStep, bases_of}
 use Rattle.dali_traces.specs.Disks.{header_bytes, table_bytes, IsImageOf, image_file}
 use Rattle.dali_traces.specs.Places.{place_of, ReadsPlaces, ReadsHead, StaysRead, words_with}
 use Rattle.dali_traces.specs.Bridges.{is_image_write}
 use Rattle.dali_traces.specs.Images.{next_file, ReadsWords, ReadsNextHead, HeadStands, HeadIsRead, CopyIsRead, HeadGoesOn, QuietIsRead, SyncHolds, HeldGoesOn}
 use Rattle.dali_traces.proofs.Places.{image_is_read, write_is_read, before_it, there, behind_it, head_behind}
 use Rattle.dali_traces.proofs.Bridges.{runs_at, file_named}
+use Rattle.dali_crash.specs.Traces.{bases_of}
 
 -- ---- the head
 eight_fields : (a b : List ℕ) (m n : ℕ) → length a ≡ m → length b ≡ n → length (a ++ b) ≡ m + n
@@ -64,7 +64,7 @@ there_is [] r x e = absurd (cc)
 there_is (y ∷ xs) zero x e = omega arith
 there_is (y ∷ xs) (suc r) x e = omega (arith, there_is xs r x e)
 
-same_self : (a : Side) → same_side a a ≡ true
+pub same_self : (a : Side) → same_side a a ≡ true
 same_self A = refl
 same_self B = refl
 
@@ -73,68 +73,68 @@ as_told : (s : Sizes) (words others : ℕ → List ℕ) (bytes : List ℕ) → (
 as_told s words others bytes same reads r lt = reads r lt ∙ ap words_bytes (sym (same r))
 
 -- sizes, side, words and head of the next image are as before
-record IsLike (p q : Point) : Type 0 where
+pub record IsLike (p q : Point) : Type 0 where
   sizes : q.core.system.sizes ≡ p.core.system.sizes
   current : q.core.vault.current ≡ p.core.vault.current
   told : q.told ≡ p.told
   heads : q.heads ≡ p.heads
 
-over : (p q : Point) → IsLike p q → (P : Sizes → Side → (Side → ℕ → List ℕ) → (Side → Head) → Type 0) → P p.core.system.sizes (target (alone p)) p.told p.heads → P q.core.system.sizes (target (alone q)) q.told q.heads
+pub over : (p q : Point) → IsLike p q → (P : Sizes → Side → (Side → ℕ → List ℕ) → (Side → Head) → Type 0) → P p.core.system.sizes (target p) p.told p.heads → P q.core.system.sizes (target q) q.told q.heads
 over p q like P x =
-    subst (λ z. P z (target (alone q)) q.told q.heads) (sym like.sizes)
+    subst (λ z. P z (target q) q.told q.heads) (sym like.sizes)
     (subst (λ (n : ℕ). P p.core.system.sizes (side_of (n + 1)) q.told q.heads) (sym like.current)
-    (subst (λ t. P p.core.system.sizes (target (alone p)) t q.heads) (sym like.told)
-    (subst (λ h. P p.core.system.sizes (target (alone p)) p.told h) (sym like.heads) x)))
+    (subst (λ t. P p.core.system.sizes (target p) t q.heads) (sym like.told)
+    (subst (λ h. P p.core.system.sizes (target p) p.told h) (sym like.heads) x)))
 
 -- no step but a write to the image changes them
-quiet_like : (p q : Point) (x : StoreStep) → IsPointStep p x q → is_image_write x ≡ false → q.core.vault.current ≡ p.core.vault.current → IsLike p q
+pub quiet_like : (p q : Point) (x : StoreStep) → IsPointStep p x q → is_image_write x ≡ false → q.core.vault.current ≡ p.core.vault.current → IsLike p q
 quiet_like p q x s quiet current = by_step x s quiet
   where
     like : q.told ≡ p.told → q.heads ≡ p.heads → IsLike p q
-    like told heads = record { sizes = (store_goes (alone p) (alone q) x s).sizes; current = current; told = told; heads = heads }
+    like told heads = record { sizes = (store_goes p q x s).sizes; current = current; told = told; heads = heads }
 
     by_step : (y : StoreStep) → IsPointStep p y q → is_image_write y ≡ false → IsLike p q
-    by_step (Does y) st e = like (ap (λ (z : Stored). z.told) st.2) (ap (λ (z : Stored). z.heads) st.2)
-    by_step Starts st e = like (ap (λ (z : Stored). z.told) st.1) (ap (λ (z : Stored). z.heads) st.1)
-    by_step Keeps st e = like (ap (λ (z : Stored). z.told) st.4) (ap (λ (z : Stored). z.heads) st.4)
+    by_step (Does y) st e = like (ap (λ (z : Point). z.told) st.2) (ap (λ (z : Point). z.heads) st.2)
+    by_step Starts st e = like (ap (λ (z : Point). z.told) st.1) (ap (λ (z : Point). z.heads) st.1)
+    by_step Keeps st e = like (ap (λ (z : Point). z.told) st.4) (ap (λ (z : Point). z.heads) st.4)
     by_step (Copies r n) st e = absurd (cc)
-    by_step (Skips r n) st e = like (ap (λ (z : Stored). z.told) st.5) (ap (λ (z : Stored). z.heads) st.5)
+    by_step (Skips r n) st e = like (ap (λ (z : Point). z.told) st.5) (ap (λ (z : Point). z.heads) st.5)
     by_step (WritesHead h) st e = absurd (cc)
-    by_step Syncs st e = like (ap (λ (z : Stored). z.told) st.2) (ap (λ (z : Stored). z.heads) st.2)
-    by_step Turns st e = like (ap (λ (z : Stored). z.told) st.6) (ap (λ (z : Stored). z.heads) st.6)
+    by_step Syncs st e = like (ap (λ (z : Point). z.told) st.1) (ap (λ (z : Point). z.heads) st.1)
+    by_step Turns st e = like (ap (λ (z : Point). z.told) st.5) (ap (λ (z : Point). z.heads) st.5)
     by_step (CopyFails r ws n) st e = absurd (cc)
     by_step (HeadFails h n) st e = absurd (cc)
-    by_step (SyncFails n) st e = like (ap (λ (z : Stored). z.told) st.2) (ap (λ (z : Stored). z.heads) st.2)
-    by_step (TurnFails n) st e = like (ap (λ (z : Stored). z.told) st.6) (ap (λ (z : Stored). z.heads) st.6)
-    by_step Finishes st e = like (ap (λ (z : Stored). z.told) st.1) (ap (λ (z : Stored). z.heads) st.1)
+    by_step (SyncFails n) st e = like (ap (λ (z : Point). z.told) st.1) (ap (λ (z : Point). z.heads) st.1)
+    by_step (TurnFails n) st e = like (ap (λ (z : Point). z.told) st.5) (ap (λ (z : Point). z.heads) st.5)
+    by_step Finishes st e = like (ap (λ (z : Point). z.told) st.1) (ap (λ (z : Point). z.heads) st.1)
 
 pub quiet_is_read : QuietIsRead
 quiet_is_read p q x old new s quiet current file =
     let like : IsLike p q = quiet_like p q x s quiet current in
     record {
-      words = λ reads. over p q like (λ z a t h. ReadsPlaces z (t a) (image_file a new)) (subst (ReadsPlaces p.core.system.sizes (p.told (target (alone p)))) (sym file) reads);
-      head = λ reads. over p q like (λ z a t h. ReadsHead z (h a) (image_file a new)) (subst (ReadsHead p.core.system.sizes (p.heads (target (alone p)))) (sym file) reads);
+      words = λ reads. over p q like (λ z a t h. ReadsPlaces z (t a) (image_file a new)) (subst (ReadsPlaces p.core.system.sizes (p.told (target p))) (sym file) reads);
+      head = λ reads. over p q like (λ z a t h. ReadsHead z (h a) (image_file a new)) (subst (ReadsHead p.core.system.sizes (p.heads (target p))) (sym file) reads);
     }
 
 pub held_goes_on : (old new : Disk → Type 0) → HeldGoesOn old new
 held_goes_on old new p q x s quiet current from held c left =
     let w = from c left in
     over p q (quiet_like p q x s quiet current) (λ z a t h. IsImageOf z (image_file a c) (h a) (image_in z t a))
-    (subst (λ bytes. IsImageOf p.core.system.sizes bytes (p.heads (target (alone p))) (image_in p.core.system.sizes p.told (target (alone p)))) (sym w.2) (held w.0 w.1))
+    (subst (λ bytes. IsImageOf p.core.system.sizes bytes (p.heads (target p)) (image_in p.core.system.sizes p.told (target p))) (sym w.2) (held w.0 w.1))
 
 -- the point behind a write to the image, whose words and head are these
 module _ (p q : Point) (new : Disk) (sizes : q.core.system.sizes ≡ p.core.system.sizes) (current : q.core.vault.current ≡ p.core.vault.current) where
-  words_at : (t : Side → ℕ → List ℕ) → q.told ≡ t → ReadsPlaces p.core.system.sizes (t (target (alone p))) (next_file p new) → ReadsWords q new
+  pub words_at : (t : Side → ℕ → List ℕ) → q.told ≡ t → ReadsPlaces p.core.system.sizes (t (target p)) (next_file p new) → ReadsWords q new
   words_at t told reads =
-      subst (λ z. ReadsPlaces z (q.told (target (alone q))) (next_file q new)) (sym sizes)
+      subst (λ z. ReadsPlaces z (q.told (target q)) (next_file q new)) (sym sizes)
       (subst (λ (n : ℕ). ReadsPlaces p.core.system.sizes (q.told (side_of (n + 1))) (image_file (side_of (n + 1)) new)) (sym current)
-      (subst (λ (u : Side → ℕ → List ℕ). ReadsPlaces p.core.system.sizes (u (target (alone p))) (next_file p new)) (sym told) reads))
+      (subst (λ (u : Side → ℕ → List ℕ). ReadsPlaces p.core.system.sizes (u (target p)) (next_file p new)) (sym told) reads))
 
-  head_at : (k : Side → Head) → q.heads ≡ k → ReadsHead p.core.system.sizes (k (target (alone p))) (next_file p new) → ReadsNextHead q new
+  head_at : (k : Side → Head) → q.heads ≡ k → ReadsHead p.core.system.sizes (k (target p)) (next_file p new) → ReadsNextHead q new
   head_at k heads reads =
-      subst (λ z. ReadsHead z (q.heads (target (alone q))) (next_file q new)) (sym sizes)
+      subst (λ z. ReadsHead z (q.heads (target q)) (next_file q new)) (sym sizes)
       (subst (λ (n : ℕ). ReadsHead p.core.system.sizes (q.heads (side_of (n + 1))) (image_file (side_of (n + 1)) new)) (sym current)
-      (subst (λ (u : Side → Head). ReadsHead p.core.system.sizes (u (target (alone p))) (next_file p new)) (sym heads) reads))
+      (subst (λ (u : Side → Head). ReadsHead p.core.system.sizes (u (target p)) (next_file p new)) (sym heads) reads))
 
 pub copy_is_read : CopyIsRead
 copy_is_read s made p q F r n old new t step inside holds = record {
@@ -144,22 +144,22 @@ copy_is_read s made p q F r n old new t step inside holds = record {
 }
   where
     side : Side
-    side = target (alone p)
+    side = target p
 
     g : RegionState
     g = step.0
 
     sizes : q.core.system.sizes ≡ p.core.system.sizes
-    sizes = (store_goes (alone p) (alone q) (Copies r n) step).sizes
+    sizes = (store_goes p q (Copies r n) step).sizes
 
     current : q.core.vault.current ≡ p.core.vault.current
-    current = ap (λ (z : Stored). z.moment.core.vault.current) step.6
+    current = ap (λ (z : Point). z.core.vault.current) step.5
 
     told : q.told ≡ told_with p.told side r g.back
-    told = ap (λ (z : Stored). z.told) step.6
+    told = ap (λ (z : Point). z.told) step.5
 
     heads : q.heads ≡ p.heads
-    heads = ap (λ (z : Stored). z.heads) step.6
+    heads = ap (λ (z : Point). z.heads) step.5
 
     runs : RunsOn (bases_of s) p.log p.core
     runs = let run = (runs_at s made p F t).run in subst (λ M. RunsOn (bases_of s) M p.core) (sym run.log) run.run.runs
@@ -188,28 +188,28 @@ copy_is_read s made p q F r n old new t step inside holds = record {
 pub head_goes_on : HeadGoesOn
 head_goes_on p q h old mid new step reads first inside second = (
   words_at p q new sizes current p.told told stands.places,
-  head_at p q new sizes current (head_with p.heads (target (alone p)) h) heads (subst (λ k. ReadsHead p.core.system.sizes k (next_file p new)) (sym here) stands.head),
+  head_at p q new sizes current (head_with p.heads (target p) h) heads (subst (λ k. ReadsHead p.core.system.sizes k (next_file p new)) (sym here) stands.head),
 )
   where
     sizes : q.core.system.sizes ≡ p.core.system.sizes
-    sizes = (store_goes (alone p) (alone q) (WritesHead h) step).sizes
+    sizes = (store_goes p q (WritesHead h) step).sizes
 
     current : q.core.vault.current ≡ p.core.vault.current
-    current = ap (λ (z : Stored). z.moment.core.vault.current) step.2
+    current = ap (λ (z : Point). z.core.vault.current) step.1
 
     told : q.told ≡ p.told
-    told = ap (λ (z : Stored). z.told) step.2
+    told = ap (λ (z : Point). z.told) step.1
 
-    heads : q.heads ≡ head_with p.heads (target (alone p)) h
-    heads = ap (λ (z : Stored). z.heads) step.2
+    heads : q.heads ≡ head_with p.heads (target p) h
+    heads = ap (λ (z : Point). z.heads) step.1
 
-    here : head_with p.heads (target (alone p)) h (target (alone p)) ≡ h
-    here = ap (λ b. cond b h (p.heads (target (alone p)))) (same_self (target (alone p)))
+    here : head_with p.heads (target p) h (target p) ≡ h
+    here = ap (λ b. cond b h (p.heads (target p))) (same_self (target p))
 
-    stands : HeadStands p.core.system.sizes (p.told (target (alone p))) h (next_file p new)
-    stands = head_is_read p.core.system.sizes (p.told (target (alone p))) h (next_file p old) (next_file p mid) (next_file p new) reads first inside second
+    stands : HeadStands p.core.system.sizes (p.told (target p)) h (next_file p new)
+    stands = head_is_read p.core.system.sizes (p.told (target p)) h (next_file p old) (next_file p mid) (next_file p new) reads first inside second
 
 pub sync_holds : (may : Disk → Type 0) → SyncHolds may
-sync_holds may p fs words head fits synced c left = subst (λ bytes. IsImageOf p.core.system.sizes bytes (p.heads (target (alone p))) (image_in p.core.system.sizes p.told (target (alone p))))
-    (sym (file_named c fs (target (alone p)) (synced c left)))
-    (image_is_read p.core.system.sizes (p.heads (target (alone p))) (p.told (target (alone p))) (next_file p fs) head words fits)
+sync_holds may p fs words head fits synced c left = subst (λ bytes. IsImageOf p.core.system.sizes bytes (p.heads (target p)) (image_in p.core.system.sizes p.told (target p)))
+    (sym (file_named c fs (target p) (synced c left)))
+    (image_is_read p.core.system.sizes (p.heads (target p)) (p.told (target p)) (next_file p fs) head words fits)

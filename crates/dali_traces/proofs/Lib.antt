@@ -1,12 +1,11 @@
-pub mod Sameness
-pub mod Traces
 pub mod Growth
 pub mod Bridges
 pub mod Once
-pub mod Worked
 pub mod Places
 pub mod Anchors
 pub mod Images
-pub mod Rests
 pub mod Ordered
 pub mod Heads
+pub mod Ends
+pub mod Changes
+pub mod NewFiles

@@ -33,14 +33,14 @@ use Rattle.dali_system.specs.Run.{IsPrefix}
 use Rattle.dali_system.specs.Flushes.{frame_of, with_batch}
 use Rattle.dali_system.specs.Courses.{Flushes, Faults}
 use Rattle.dali_system.specs.Images.{Told}
-use Rattle.dali_crash.specs.Checkpoints.{Head, StoreStep, Does, Copies, WritesHead, CopyFails, HeadFails, Turns, TurnFails, side_of, target, image_in}
+use Rattle.dali_crash.specs.Checkpoints.{Head, StoreStep, Does, Copies, WritesHead, CopyFails, HeadFails, Turns, TurnFails, side_of, target, image_in, Came, Inside, IsPointStep, Point, Traced}
 use Rattle.dali_crash.specs.StoreRuns.{LeavesRight}
 use Rattle.dali_batch.specs.Appending.{bodies_of, SomeAdded, AllAdded}
 use Rattle.dali_batch.specs.Formatting.{IsFormattedBy}
 use Rattle.dali_batch.specs.Log.{body_bytes, records_in, LogOf}
-use Rattle.dali_traces.specs.Traces.{Point, alone, IsPointStep, Came, Inside, Traced, Start, MayRun, StartsAt, start_point, bases_of}
 use Rattle.dali_traces.specs.Disks.{IsAnchor, IsImageOf, image_file, image_name, Spells, AllSpell}
 use Rattle.dali_traces.specs.Anchors.{HasMoved, MayHaveMoved, AreAnchored}
+use Rattle.dali_crash.specs.Traces.{MayRun, Start, StartsAt, bases_of, start_point}
 
 pub record TracedTo (s : Start) (B : List (List Record)) (p : Point) (F : Files) : Type 0 where
   pub first : Files
@@ -84,7 +84,7 @@ is_image_write _ = false
 
 -- the file of the next image spells its head and its words
 abbrev pub HoldsNext : Point → Disk → Type 0
-HoldsNext p d = IsImageOf p.core.system.sizes (image_file (target (alone p)) d) (p.heads (target (alone p))) (image_in p.core.system.sizes p.told (target (alone p)))
+HoldsNext p d = IsImageOf p.core.system.sizes (image_file (target p) d) (p.heads (target p)) (image_in p.core.system.sizes p.told (target p))
 
 -- the batches behind the flush at p
 abbrev pub batches_on : List (List Record) → Point → List (List Record)
@@ -159,7 +159,7 @@ module _ (old new : Disk → Type 0) where
   WriteGoesOn =
       (s : Start) (B : List (List Record)) (p q : Point) (x : StoreStep) → AllSpell old (TracedTo s B p) → IsPointStep p x q
       → is_image_write x ≡ true
-      → ((c : Disk) → new c → (d : Disk) × old d × SameBut (image_name (target (alone p))) d c)
+      → ((c : Disk) → new c → (d : Disk) × old d × SameBut (image_name (target p)) d c)
       → AllSpell new (TracedTo s B q)
 
   -- the anchor has one gate more; whatever a crash leaves, the file of the next image spells what it reads

@@ -1,21 +1,16 @@
--- What only grows along steps, and what the anchor tells, also once the vault has stopped.
+-- What the anchor tells, also once the vault has stopped, and what a crash inside a step leaves.
 --     IsNextOrNow n c          the number n is c or one more
 --     AnchorTells              the open gates of each crash image are as many as the current number, or one more; just as many while the vault runs
 --     AnchorTellsInside        so it is inside a step
---     GoesOn before p q        from p to q the current number and the flushed records have only grown, and what was acknowledged still is
---     TraceGrows               so it is along any steps
 --     fault_of x ws n          the step that is a fault in the step x, where x calls the store
 --     InsideIsFault            inside a step a crash leaves what it left before, or what a fault in this step leaves
 --     FaultIsInside            and what a fault leaves may be left inside the step
 --     QuietInside              inside a step that doesn't call the store a crash leaves what it left before
-use Rattle.std.specs.Prelude.{◌≡◌, ℕ, ◌+◌, false, ◌⊎◌, List, [], Option, Some, None, take}
-use Rattle.dali_record.specs.declared.records.Record.{Record}
+use Rattle.std.specs.Prelude.{◌≡◌, ℕ, ◌+◌, false, ◌⊎◌, List, [], Option, Some, None}
 use Rattle.dali_record.specs.Files.{Files}
-use Rattle.dali_system.specs.State.{stable}
 use Rattle.dali_system.specs.Courses.{Flushes, Faults}
-use Rattle.dali_crash.specs.Checkpoints.{StoreStep, Does, Copies, WritesHead, Syncs, Turns, CopyFails, HeadFails, SyncFails, TurnFails}
-use Rattle.dali_crash.specs.Growth.{HasGrown}
-use Rattle.dali_traces.specs.Traces.{Point, IsPointStep, Came, Inside, Traced, Start, StartsAt, start_point}
+use Rattle.dali_crash.specs.Checkpoints.{StoreStep, Does, Copies, WritesHead, Syncs, Turns, CopyFails, HeadFails, SyncFails, TurnFails, Came, Inside, IsPointStep, Point, Traced}
+use Rattle.dali_crash.specs.Traces.{Start, StartsAt, start_point}
 
 -- ---- the anchor
 abbrev pub IsNextOrNow : ℕ → ℕ → Type 0
@@ -37,18 +32,6 @@ AnchorTellsInside =
     → (xs : List StoreStep) (p : Point) (E : Files) → Traced (start_point s) D xs p E
     → (x : StoreStep) (q : Point) (F : Files) → IsPointStep p x q → Inside p x E F
     → IsNextOrNow F.gates p.core.vault.current
-
--- ---- what only grows
--- besides, the records that were flushed stand as they did
-pub record GoesOn (before : List Record) (p q : Point) : Type 0 where
-  pub grown : HasGrown before p.core q.core
-  pub records : take (stable p.core) q.log ≡ take (stable p.core) p.log
-
-abbrev pub TraceGrows : Type 0
-TraceGrows =
-    (s : Start) (D : Files) → StartsAt s D
-    → (xs ys : List StoreStep) (p q : Point) (E F : Files) → Traced (start_point s) D xs p E → Traced p E ys q F
-    → GoesOn s.log p q
 
 -- ---- inside a step
 -- the fault in a step, where the step calls the store

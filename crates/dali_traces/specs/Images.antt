@@ -15,20 +15,20 @@ use Rattle.dali_record.specs.declared.records.Record.{Record}
 use Rattle.dali_record.specs.Spelling.{words_bytes}
 use Rattle.dali_record.specs.Files.{Files}
 use Rattle.dali_store.specs.Store.{Files as Disk, file_of, Holds}
-use Rattle.dali_crash.specs.Checkpoints.{Head, StoreStep, Copies, WritesHead, target, image_in}
-use Rattle.dali_traces.specs.Traces.{Point, alone, IsPointStep, Start}
+use Rattle.dali_crash.specs.Checkpoints.{Head, StoreStep, Copies, WritesHead, target, image_in, IsPointStep, Point}
 use Rattle.dali_traces.specs.Disks.{header_bytes, table_bytes, CanBeImage, image_file, image_name}
 use Rattle.dali_traces.specs.Places.{place_of, ReadsPlaces, ReadsHead}
 use Rattle.dali_traces.specs.Bridges.{TracedTo, is_image_write, HoldsNext}
+use Rattle.dali_crash.specs.Traces.{Start}
 
 abbrev pub next_file : Point → Disk → List ℕ
-next_file p fs = image_file (target (alone p)) fs
+next_file p fs = image_file (target p) fs
 
 abbrev pub ReadsWords : Point → Disk → Type 0
-ReadsWords p fs = ReadsPlaces p.core.system.sizes (p.told (target (alone p))) (next_file p fs)
+ReadsWords p fs = ReadsPlaces p.core.system.sizes (p.told (target p)) (next_file p fs)
 
 abbrev pub ReadsNextHead : Point → Disk → Type 0
-ReadsNextHead p fs = ReadsHead p.core.system.sizes (p.heads (target (alone p))) (next_file p fs)
+ReadsNextHead p fs = ReadsHead p.core.system.sizes (p.heads (target p)) (next_file p fs)
 
 -- ---- the head's two writes
 pub record HeadStands (s : Sizes) (words : ℕ → List ℕ) (h : Head) (new : List ℕ) : Type 0 where
@@ -53,7 +53,7 @@ abbrev pub CopyIsRead : Type 0
 CopyIsRead =
     (s : Start) (B : List (List Record)) (p q : Point) (F : Files) (r n : ℕ) (old new : Disk) → TracedTo s B p F → IsPointStep p (Copies r n) q
     → place_of r ≤ length (next_file p old)
-    → Holds (next_file p old) (place_of r) (words_bytes (q.told (target (alone p)) r)) (next_file p new)
+    → Holds (next_file p old) (place_of r) (words_bytes (q.told (target p) r)) (next_file p new)
     → StaysSo p q old new
 
 abbrev pub HeadGoesOn : Type 0
@@ -76,8 +76,8 @@ module _ (may : Disk → Type 0) where
   abbrev pub SyncHolds : Type 0
   SyncHolds =
       (p : Point) (fs : Disk) → ReadsWords p fs → ReadsNextHead p fs
-      → CanBeImage p.core.system.sizes (p.heads (target (alone p))) (image_in p.core.system.sizes p.told (target (alone p)))
-      → ((c : Disk) → may c → file_of (image_name (target (alone p))) c ≡ file_of (image_name (target (alone p))) fs)
+      → CanBeImage p.core.system.sizes (p.heads (target p)) (image_in p.core.system.sizes p.told (target p))
+      → ((c : Disk) → may c → file_of (image_name (target p)) c ≡ file_of (image_name (target p)) fs)
       → (c : Disk) → may c → HoldsNext p c
 
 -- behind every other step, where each disk has that file from one before

@@ -1,6 +1,4 @@
-pub mod Traces
 pub mod Growth
-pub mod Worked
 pub mod Disks
 pub mod Anchors
 pub mod Places
@@ -8,3 +6,6 @@ pub mod Bridges
 pub mod Images
 pub mod Ordered
 pub mod Heads
+pub mod Ends
+pub mod Changes
+pub mod NewFiles

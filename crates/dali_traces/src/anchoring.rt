@@ -1,6 +1,7 @@
 //! The anchor's move from one image to the next, as bytes and as a step of crash images.
 ghost use Rattle.std.specs.Prelude.{◌≡◌, ◌<◌, ◌+◌, ◌^◌, [], ◌∷◌, OnOk, IfSome, is_some};
 ghost use Rattle.dali_store.specs.declared.store.FileName.TheVariants.{Anchor};
+ghost use Rattle.dali_store.specs.Calls.{fewer, PassesFewer, MakesAtMost};
 ghost use Rattle.dali_store.specs.Faults.{HasCause};
 ghost use Rattle.dali_store.specs.Store.{Files, LeavesOnly, HoldsIn, TornTold};
 ghost use Rattle.dali_batch.specs.Batch.{open_gate, closed_gate};
@@ -33,6 +34,9 @@ pub fn move_anchor<V: Store>(store: &mut V, number: u64) -> Result<(), StoreFaul
     ensures moved { OnOk result (IfSome (V.told store.old) (λ _. (c : Files) → V.may_leave store.new c →
         HasMoved (V.may_leave store.old) number c)) }
     ensures cause { HasCause (V.faults store.old) (V.faults store.new) result }
+    ensures calls { OnOk result (V.lets_pass store.new ≡ fewer 4 (V.lets_pass store.old)) }
+    ensures most { MakesAtMost 4 (V.lets_pass store.old) (V.lets_pass store.new) }
+    ensures passes { PassesFewer (V.lets_pass store.old) (V.lets_pass store.new) }
 {
     store.write_at(FileName::Anchor, number + 1, &[CLOSED])?;
     store.sync(FileName::Anchor)?; // the closed gate stands

@@ -1,87 +1,24 @@
 //! Laws over the definitions, each the contract of a function that does nothing.
 
 ghost use Rattle.std.specs.Prelude.{ℕ};
-ghost use Rattle.dali_traces.specs.Traces.{TraceGoesOn, FreshRests, CrashRests, FitsAtLast, EveryTraceIsRight, EveryMomentIsRight, FlushedTraces, AcknowledgedTraces, UnpokedTraceIsRight, CourseIsTraced, EveryCoreTraceIsRight};
-ghost use Rattle.dali_traces.specs.Growth.{AnchorTells, AnchorTellsInside, TraceGrows, InsideIsFault, FaultIsInside, QuietInside};
-ghost use Rattle.dali_traces.specs.Worked.{WorkedTrace};
+ghost use Rattle.dali_traces.specs.Growth.{AnchorTells, AnchorTellsInside, InsideIsFault, FaultIsInside, QuietInside};
 ghost use Rattle.dali_traces.specs.Places.{ImageIsRead, WriteIsRead};
 ghost use Rattle.dali_traces.specs.Images.{HeadIsRead, CopyIsRead, HeadGoesOn, QuietIsRead, SyncHolds, HeldGoesOn};
 ghost use Rattle.dali_traces.specs.Heads.{HeadsFit, KeptFits, StaysFitting};
+ghost use Rattle.dali_traces.specs.Ends.{EndIsSmall, PlaceIsSmall};
+ghost use Rattle.dali_traces.specs.Changes.{SpellsBeside, SpellsLonger, SpellsTurned};
 ghost use Rattle.dali_traces.specs.Ordered.{OrderedIsRead};
+ghost use Rattle.dali_traces.specs.NewFiles.{EmptyReads, HeaderBegins, CopyContinues, QuietContinues, TableEnds};
 ghost use Rattle.dali_traces.specs.Disks.{SpellsOne};
 ghost use Rattle.dali_traces.specs.Bridges.{AreRight, HaveOneLog, HaveOneAnchor, StoreStarts, MomentsAreRight, IsRightNow, FlushGoesOn, FaultGoesOn, QuietGoesOn, FlushIsRight, WriteGoesOn, TurnGoesOn, TurnFaultGoesOn, FormatStarts, RestartStarts};
 
 use dali_store::Store;
-
-/// A crash image that came along steps, and one step more.
-pub fn a_trace_goes_on()
-    ensures { TraceGoesOn }
-{}
-
-/// Whatever a course of steps leaves at its end came along its steps from what it left at its start.
-pub fn a_course_is_traced()
-    ensures { CourseIsTraced }
-{}
-
-/// The crash image of a store that was just formatted or restarted fits its log, whose last epoch is empty.
-pub fn a_fresh_store_is_at_rest()
-    ensures { FreshRests }
-{}
-
-/// So does a crash image of a run that restarts right, where its log has no record in its last epoch: a core may be made
-/// over it as it is.
-pub fn a_crash_image_may_be_at_rest()
-    ensures { CrashRests }
-{}
-
-/// Files that fit a history at rest, and behind whose image no record stands or Restarted alone, as a restart leaves them,
-/// fit at its last epoch, but where that Restarted closed an epoch without a record.
-pub fn files_that_a_restart_leaves_fit_at_the_last_epoch()
-    ensures { FitsAtLast }
-{}
-
-/// From any crash image on that fits a history whose last epoch is empty, each crash image that came along any steps
-/// fits its log but for missed regions; and where no damage escapes, a restart from it is right.
-pub fn every_trace_is_right()
-    ensures { EveryTraceIsRight }
-{}
-
-/// So is a restart from what a crash inside a step leaves, with what was acknowledged before the step.
-pub fn every_moment_is_right()
-    ensures { EveryMomentIsRight }
-{}
-
-/// So is one from each that came along the steps of a core alone, whose image files nobody looks at.
-pub fn every_trace_of_a_core_is_right()
-    ensures { EveryCoreTraceIsRight }
-{}
-
-/// What was flushed stands in each crash image that came along the steps, damage or not.
-pub fn what_was_flushed_stands_in_each_trace()
-    ensures { FlushedTraces }
-{}
-
-/// What was acknowledged is committed in it, damage or not.
-pub fn what_was_acknowledged_is_in_each_trace()
-    ensures { AcknowledgedTraces }
-{}
-
-/// Without a stray write a restart from it is right, and deletes nobody of the epoch of these steps.
-pub fn every_trace_without_stray_writes_is_right()
-    ensures { UnpokedTraceIsRight }
-{}
 
 /// The open gates of each crash image are as many as the number of the current image, and one more at most once the
 /// vault has stopped, or inside a step.
 pub fn the_anchor_tells_the_current_image()
     ensures behind { AnchorTells }
     ensures inside { AnchorTellsInside }
-{}
-
-/// Along any steps the current number and the flushed records only grow, what was acknowledged stays so, and a vault that
-/// has stopped stays stopped.
-pub fn steps_only_add()
-    ensures { TraceGrows }
 {}
 
 /// Inside a step a crash leaves what it left before, or what a fault in this step leaves; all that a fault leaves may be
@@ -153,11 +90,6 @@ pub fn what_a_store_leaves_goes_on_in_a_checkpoint<V: Store>()
     ensures turn_fault { (v w : V) → TurnFaultGoesOn (V.may_leave v) (V.may_leave w) }
 {}
 
-/// The worked checkpoint leaves a crash image that came along its steps: the premises of these laws are met.
-pub fn a_worked_trace()
-    ensures { WorkedTrace }
-{}
-
 /// A file whose header, places and table read so spells an image; a region's words written in its place are read there,
 /// and all else as before; and a header and a table written in their places are read there, and each region as before.
 pub fn images_are_read_by_places()
@@ -168,7 +100,7 @@ pub fn images_are_read_by_places()
 
 /// The head that a checkpoint or a restart keeps of a legal log fits the fields of an image: its numbers, its rows in
 /// order and in range, and their undos; and so it does as long as a checkpoint keeps it. Only the bounds of its own
-/// number, place and weight, and of the words, are asked for.
+/// number and place, and of the words, are asked for.
 pub fn a_kept_head_fits_its_fields()
     ensures fits { HeadsFit }
     ensures kept { KeptFits }
@@ -196,4 +128,29 @@ pub fn the_next_image_is_read_as_the_point_says()
 pub fn a_synced_image_is_held<V: Store>()
     ensures sync { (v : V) → SyncHolds (V.may_leave v) }
     ensures goes_on { (v w : V) → HeldGoesOn (V.may_leave v) (V.may_leave w) }
+{}
+
+/// Where each disk that a crash may leave spells files that came along steps, the log ends below 2^62 while the vault runs,
+/// which is what a flush asks for, and so is the place that a checkpoint keeps.
+pub fn a_log_ends_below_its_limit<V: Store>()
+    ensures end { (v : V) → EndIsSmall (V.may_leave v) }
+    ensures place { (v : V) → PlaceIsSmall (V.may_leave v) }
+{}
+
+/// Files go on to be spelled whatever is written to the file of the image that the anchor doesn't name; with more batches
+/// where the log has them; and with that other image, where the anchor has one gate more and the file spells it.
+pub fn a_disk_is_read_behind_a_change()
+    ensures other { SpellsBeside }
+    ensures log { SpellsLonger }
+    ensures anchor { SpellsTurned }
+{}
+
+/// A checkpoint over a new image file: its header alone is a step, then each region in order, and at last its table alone.
+/// No write begins behind the file's end, and what the point says is read all along and at the end.
+pub fn a_checkpoint_writes_a_new_file_in_order()
+    ensures empty { EmptyReads }
+    ensures header { HeaderBegins }
+    ensures copy { CopyContinues }
+    ensures quiet { QuietContinues }
+    ensures table { TableEnds }
 {}

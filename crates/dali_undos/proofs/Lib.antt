@@ -5,3 +5,4 @@ mod Stepped
 mod Left
 pub mod Found
 pub mod Restarts
+mod Worked

@@ -1,1 +1,2 @@
 pub mod AsLeft
+pub mod Worked

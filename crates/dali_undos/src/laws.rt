@@ -1,5 +1,6 @@
 //! Laws over the definitions, each the contract of a function that does nothing.
 ghost use Rattle.dali_undos.specs.AsLeft.{OneBlockLeaves, KeptUndosFind, OwnUndosFind, BacksFind, EpochUndosFind, EpochMomentsFind, EpochBacksFind, RestartUndosFind};
+ghost use Rattle.dali_undos.specs.Worked.{EntryIsAsLeft, ChangeIsAsLeft};
 
 /// At each moment, in whatever order the transactions without a Commit are taken back, each undo finds its slot
 /// as the block that left it made it: state, key, length and value of a cell, state, key and place of an entry.
@@ -21,4 +22,11 @@ pub fn a_restart_finds_each_slot_as_it_was_left()
     ensures moments { EpochMomentsFind }
     ensures backs { EpochBacksFind }
     ensures recovered { RestartUndosFind }
+{}
+
+/// A worked undo of an entry, which is found with its key and place and is free then, and one of a change, which finds the new
+/// value and puts back the old one with its length.
+pub fn worked_undos()
+    ensures entry { EntryIsAsLeft }
+    ensures change { ChangeIsAsLeft }
 {}

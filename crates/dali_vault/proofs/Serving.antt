@@ -1,8 +1,7 @@
 -- A vault serves on behind each of its calls.
 use Rattle.std.proofs.Common.{◌≡◌, ℕ, ◌+◌, List, Option, Some, None, IfSome, is_some, sym, subst}
-use Rattle.dali_store.specs.declared.store.FileName.{FileName}
-use Rattle.dali_store.specs.declared.store.FileName.TheVariants.{Log, ImageA, ImageB, Anchor}
-use Rattle.dali_store.specs.Store.{Files, SameBut, TornIn, Follows}
+use Rattle.dali_store.specs.declared.store.FileName.TheVariants.{Log, Anchor}
+use Rattle.dali_store.specs.Store.{Files, TornIn, Follows}
 use Rattle.dali_region.specs.declared.Side.{Side}
 use Rattle.dali_region.specs.declared.Side.TheVariants.{A, B}
 use Rattle.dali_batch.specs.Batch.{IsClosedAt}

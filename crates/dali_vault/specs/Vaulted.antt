@@ -5,7 +5,7 @@
 --     moved v store            behind the anchor's move
 --     faulted v store          behind a fault
 --     with_store v store       the same vault over this store
-use Rattle.std.specs.Prelude.{◌≡◌, ℕ, ◌+◌, ◌-◌, ◌^◌, min, Bool, true, false, List, Option, IfSome, refl}
+use Rattle.std.specs.Prelude.{◌≡◌, ℕ, ◌+◌, ◌-◌, ◌^◌, min, Bool, true, false, Option, IfSome, refl}
 use Rattle.std.specs.Coded.{Coded, code_by, coded×, coded_ℕ, coded_bool}
 use Rattle.dali_store.specs.Store.{Files}
 use Rattle.dali_batch.specs.Batch.{Framed, IsClosedAt}

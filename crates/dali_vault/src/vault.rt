@@ -1,7 +1,7 @@
 //! A store with the place where its log ends.
 ghost use Rattle.std.specs.Prelude.{◌≡◌, ◌==◌, ◌≤◌, ◌<◌, ◌+◌, ◌^◌, true, false, ℕ, Err, length, is_some, if◌then◌else◌, IfOk, IfErr, OnOk, OnErr, IfSome, IsErrOf};
 ghost use Rattle.dali_store.specs.declared.store.FileName.TheVariants.{Log};
-ghost use Rattle.dali_store.specs.Calls.{fewer, one_less, PassesFewer};
+ghost use Rattle.dali_store.specs.Calls.{fewer, one_less, PassesFewer, MakesAtMost};
 ghost use Rattle.dali_store.specs.Faults.{Rose};
 ghost use Rattle.dali_store.specs.Store.{Files, file_of, LeavesOnly, HoldsIn, TornIn, TornTold, Follows, Elapses};
 ghost use Rattle.dali_batch.specs.Batch.{IsClosedAt};
@@ -109,6 +109,7 @@ impl<V: Store> Vault<V> {
         ensures kept { OnOk result (V.faults self.new.store ≡ V.faults self.old.store) }
         ensures untouched { length frame.now.body ≡ 0 → self.new.store ≡ self.old.store }
         ensures calls { OnOk result (V.lets_pass self.new.store ≡ fewer (if length frame.now.body == 0 then 0 else 4) (V.lets_pass self.old.store)) }
+        ensures most { MakesAtMost 4 (V.lets_pass self.old.store) (V.lets_pass self.new.store) }
         ensures passes { PassesFewer (V.lets_pass self.old.store) (V.lets_pass self.new.store) }
         ensures tells { is_some (V.told self.new.store) ≡ is_some (V.told self.old.store) }
         ensures torn { self.old.stopped ≡ false → TornTold Log self.old.end (length frame.now.body + 6) (V.told self.old.store) (V.told self.new.store) }
@@ -172,9 +173,9 @@ impl<V: Store> Vault<V> {
         }
     }
 
-    /// Moves the anchor to the next image: one gate more is open. A crash at any moment leaves as many as before or one
-    /// more, and the other files as they were; after Ok it leaves one more. It answers and stops as `flush` does, and
-    /// takes no memory beyond the store's own.
+    /// Moves the anchor to the next image: one gate more is open. Four store calls. A crash at any moment leaves as many
+    /// as before or one more, and the other files as they were; after Ok it leaves one more. It answers and stops as
+    /// `flush` does, and takes no memory beyond the store's own.
     pub fn move_anchor(&mut self) -> Result<(), VaultError>
         requires small { self.old.current < 2 ^ 62 }
         ensures stopped { self.old.stopped ≡ true → (result ≡ Err Stopped) × (self.new ≡ self.old) }
@@ -187,6 +188,8 @@ impl<V: Store> Vault<V> {
             (MayHaveMoved (V.may_leave self.old.store) self.old.current)) }
         ensures acknowledged { OnOk result (IfSome (V.told self.old.store) (λ _. (c : Files) → V.may_leave self.new.store c →
             HasMoved (V.may_leave self.old.store) self.old.current c)) }
+        ensures calls { OnOk result (V.lets_pass self.new.store ≡ fewer 4 (V.lets_pass self.old.store)) }
+        ensures most { MakesAtMost 4 (V.lets_pass self.old.store) (V.lets_pass self.new.store) }
     {
         running(self.stopped)?;
         match dali_traces::anchoring::move_anchor(&mut self.store, self.current) {

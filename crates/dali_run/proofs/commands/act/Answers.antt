@@ -1,7 +1,7 @@
 use Rattle.dali_run.specs.Program.{running}
 use Rattle.std.proofs.lemmas.Result.{err_from_is_err_and}
 use Rattle.dali_engine.proofs.Runs.{undone}
-use Rattle.dali_run.proofs.Alone.{untold, faulted, alone_undone, acts_alone, not_both}
+use Rattle.dali_run.proofs.Alone.{untold, lines_wanting, faulted, alone_undone, acts_alone, not_both}
 use Rattle.dali_run.proofs.commands.act.Goals as goal
 use Rattle.dali_run.proofs.commands.act.Goals.{else-is_stopped_audit-via-then-is_stopped_audit+else-not-spent, else-is_stopped_audit-via-else-is_stopped_audit}
 
@@ -10,7 +10,7 @@ returns-in_err-act-clause-fails g c =
     let p = err_from_is_err_and c.from_residual.result c.from_residual.ensures.1 in
     rw (p.1, p.2) (
     alone_undone g.V.Store.told g.V.Store.may_leave g.V.Store.moment g.V.Store.left_since g.V.Store.faults c.in_err-act.field-0.0 c.args.command.now (running c.args.engine.now c.args.store.now) c.act.new.store c.in_err-act.ensures.lost
-    (undone _ _ _ _ c.in_err-act.ensures.full c.in_err-act.ensures.numbers)
+    (undone _ _ _ _ c.in_err-act.ensures.full c.in_err-act.ensures.numbers c.in_err-act.ensures.wanting)
     )
 
 pub returns-then-not-spent-clause-fails : goal.returns-then-not-spent-clause-fails
@@ -29,7 +29,7 @@ pub returns-in_err-text_of_lines-clause-fails : goal.returns-in_err-text_of_line
 returns-in_err-text_of_lines-clause-fails g c =
     let p = err_from_is_err_and c.from_residual-in_err-text_of_lines.result c.from_residual-in_err-text_of_lines.ensures.1 in
     rw (p.1, p.2) (
-    untold g.V.Store.told g.V.Store.may_leave g.V.Store.moment g.V.Store.left_since g.V.Store.faults c.args.command.now (running c.args.engine.now c.args.store.now) (running c.act.new.self c.act.new.store) c.new-lines.result
+    lines_wanting g.V.Store.told g.V.Store.may_leave g.V.Store.moment g.V.Store.left_since g.V.Store.faults c.args.command.now (running c.args.engine.now c.args.store.now) (running c.act.new.self c.act.new.store) c.new-lines.result
     c.act.new.stage c.act.new.lines c.new-lines.ensures c.in_ok-act.ensures.acts
     )
 

@@ -1,4 +1,4 @@
-use Rattle.std.proofs.Common.{arith, ap, ◌∙◌, ◌+◌}
+use Rattle.std.proofs.Common.{arith, ap}
 use Rattle.dali_batch.specs.Batch.{Framed}
 use Rattle.dali_core.proofs.Journals.{kept_flushed, view_flushed}
 use Rattle.dali_core.proofs.journal.Journal.flushed.Goals as goal
@@ -17,4 +17,4 @@ invariant_of-self c =
     )
 
 pub returns : goal.returns
-returns c = view_flushed c.self.inside.bytes.items c.self.inside.spelled c.self-1.given.0 c.self.inside.frame c.self.inside.count c.self.inside.taken c.self.inside.promised c.args.self.now c.self.invariant.0 c.self.view_is
+returns c = view_flushed c.self.inside.bytes.items c.self.inside.spelled c.self-1.given.0 c.self.inside.frame c.self.inside.count c.self.inside.taken c.self.inside.promises c.args.self.now c.self.invariant.0 c.self.view_is

@@ -1,7 +1,8 @@
-use Rattle.std.proofs.Common.{◌≡◌, ℕ, List, [], ◌∷◌, ◌++◌, length, rules, arith, ap, ◌∙◌, ◌+◌, ◌-◌}
+use Rattle.std.proofs.Common.{◌≡◌, [], ◌∷◌, ◌++◌, length, rules, arith, ap, ◌∙◌, ◌+◌}
 use Rattle.std.specs.Prelude.{vec_len}
 use Rattle.dali_core.specs.Journaled.{Journaled}
-use Rattle.dali_core.proofs.Journals.{push_spelled, small_of, kept_same, kept_push, view_same, view_push, few, on_err}
+use Rattle.dali_core.specs.Promised.{Promised}
+use Rattle.dali_core.proofs.Journals.{push_spelled, small_of, kept_same, kept_push, view_same, view_push, few, on_err, same_memory}
 use Rattle.dali_core.proofs.journal.Journal.push.Goals as goal
 
 pub invariant_of-self : goal.invariant_of-self
@@ -16,29 +17,29 @@ invariant_of-self c = (
 )
 
 pub returns-in_err-write-clause-err : goal.returns-in_err-write-clause-err
-returns-in_err-write-clause-err c = on_err c.from_residual.result _ (view_same c.self.inside.bytes.items c.write.new.bytes.items c.self.inside.spelled c.in_err-write.self-1-own.given.0 c.self.inside.taken c.self.inside.promised c.args.self.now c.in_err-write.ensures.err.0 c.self.view_is)
+returns-in_err-write-clause-err c = on_err c.from_residual.result _ (view_same c.self.inside.bytes.items c.write.new.bytes.items c.self.inside.spelled c.in_err-write.self-1-own.given.0 c.self.inside.taken c.self.inside.promises c.args.self.now c.in_err-write.ensures.err.0 c.self.view_is)
 
 pub returns-in_err-write-clause-small : goal.returns-in_err-write-clause-small
-returns-in_err-write-clause-small c = small_of _ c.write.new.frame c.self.inside.count c.self.inside.taken c.self.inside.promised (invariant_of-self c).0
+returns-in_err-write-clause-small c = small_of _ c.write.new.frame c.self.inside.count c.self.inside.taken c.self.inside.promises (invariant_of-self c).0
 
 pub overflow_add-self : goal.overflow_add-self
 overflow_add-self c = omega (arith, c.self.invariant.0.counts, c.self.invariant.0.small, few c.self.inside.spelled.0)
 
 pub invariant_of-self-inside-2 : goal.invariant_of-self-inside-2
-invariant_of-self-inside-2 c = (push_spelled c.self.inside.bytes.items c.write.new.bytes.items (c.args.rec.now) c.self.inside.spelled c.requires c.in_ok-write.ensures.ok.0, tt)
+invariant_of-self-inside-2 c = (push_spelled c.self.inside.bytes.items c.write.new.bytes.items c.args.rec.now c.self.inside.spelled c.requires c.in_ok-write.ensures.ok.0, tt)
 
 pub invariant_of-self-2 : goal.invariant_of-self-2
 invariant_of-self-2 c =
     let long : vec_len c.write.new.bytes ≡ length c.write.new.bytes.items = search rules in (
-      kept_push c.self.inside.bytes.items c.write.new.bytes.items (c.args.rec.now) c.self.inside.spelled c.self-2-1.given.0 c.self.inside.frame c.write.new.frame c.self.inside.count c.self.inside.taken
+      kept_push c.self.inside.bytes.items c.write.new.bytes.items c.args.rec.now c.self.inside.spelled c.self-2-1.given.0 c.self.inside.frame c.write.new.frame c.self.inside.count c.self.inside.taken
           c.requires c.in_ok-write.ensures.ok.0 c.in_ok-write.ensures.ok.1 c.in_ok-write.ensures.records (omega (arith, long, c.in_ok-write.ensures.ok.2.small)) c.self.invariant.0,
-      c.in_ok-write.ensures.ok.2,
+      same_memory _ _ _ _ _ c.all-promised.ensures c.in_ok-write.ensures.ok.2,
     )
 
 pub returns-clause-ok : goal.returns-clause-ok
 returns-clause-ok c =
-    view_push c.self.inside.bytes.items c.write.new.bytes.items (c.args.rec.now) c.self.inside.spelled c.self-2-1.given.0 c.self.inside.taken c.self.inside.promised _ c.args.self.now c.requires c.in_ok-write.ensures.ok.0 c.self.view_is
-    ∙ ap (λ (p : ℕ). let m : Journaled = record { since = c.args.self.now.since ++ (c.args.rec.now) ∷ []; taken = c.args.self.now.taken; promised = p } in m) (c.saturating_sub-promised.ensures ∙ ap (λ (j : Journaled). j.promised - c.args.from) c.self.view_is)
+    view_push c.self.inside.bytes.items c.write.new.bytes.items c.args.rec.now c.self.inside.spelled c.self-2-1.given.0 c.self.inside.taken c.self.inside.promises _ c.args.self.now c.requires c.in_ok-write.ensures.ok.0 c.self.view_is
+    ∙ ap (λ (p : Promised). let m : Journaled = record { since = c.args.self.now.since ++ c.args.rec.now ∷ []; taken = c.args.self.now.taken; promised = p } in m) (ap (λ (j : Journaled). j.promised) c.self.view_is)
 
 pub returns-clause-small : goal.returns-clause-small
 returns-clause-small c = small_of _ c.write.new.frame (c.self.inside.count + 1) c.self.inside.taken _ (invariant_of-self-2 c).0

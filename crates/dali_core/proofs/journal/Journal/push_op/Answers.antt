@@ -1,8 +1,9 @@
-use Rattle.std.proofs.Common.{◌≡◌, ℕ, List, [], ◌∷◌, ◌++◌, length, rules, arith, ap, ◌∙◌, ◌+◌, ◌-◌}
+use Rattle.std.proofs.Common.{◌≡◌, [], ◌∷◌, ◌++◌, length, rules, arith, ap, ◌∙◌, ◌+◌}
 use Rattle.std.specs.Prelude.{vec_len}
 use Rattle.dali_core.specs.Journaled.{Journaled}
+use Rattle.dali_core.specs.Promised.{Promised}
 use Rattle.dali_record.specs.declared.records.Record.TheVariants.{Forward}
-use Rattle.dali_core.proofs.Journals.{push_spelled, small_of, kept_same, kept_push, view_same, view_push, few, on_err}
+use Rattle.dali_core.proofs.Journals.{push_spelled, small_of, kept_same, kept_push, view_same, view_push, few, on_err, same_memory}
 use Rattle.dali_core.proofs.journal.Journal.push_op.Goals as goal
 
 pub invariant_of-self : goal.invariant_of-self
@@ -17,10 +18,10 @@ invariant_of-self c = (
 )
 
 pub returns-in_err-write_op-clause-err : goal.returns-in_err-write_op-clause-err
-returns-in_err-write_op-clause-err c = on_err c.from_residual.result _ (view_same c.self.inside.bytes.items c.write_op.new.bytes.items c.self.inside.spelled c.in_err-write_op.self-1-own.given.0 c.self.inside.taken c.self.inside.promised c.args.self.now c.in_err-write_op.ensures.err.0 c.self.view_is)
+returns-in_err-write_op-clause-err c = on_err c.from_residual.result _ (view_same c.self.inside.bytes.items c.write_op.new.bytes.items c.self.inside.spelled c.in_err-write_op.self-1-own.given.0 c.self.inside.taken c.self.inside.promises c.args.self.now c.in_err-write_op.ensures.err.0 c.self.view_is)
 
 pub returns-in_err-write_op-clause-small : goal.returns-in_err-write_op-clause-small
-returns-in_err-write_op-clause-small c = small_of _ c.write_op.new.frame c.self.inside.count c.self.inside.taken c.self.inside.promised (invariant_of-self c).0
+returns-in_err-write_op-clause-small c = small_of _ c.write_op.new.frame c.self.inside.count c.self.inside.taken c.self.inside.promises (invariant_of-self c).0
 
 pub overflow_add-self : goal.overflow_add-self
 overflow_add-self c = omega (arith, c.self.invariant.0.counts, c.self.invariant.0.small, few c.self.inside.spelled.0)
@@ -33,13 +34,13 @@ invariant_of-self-2 c =
     let long : vec_len c.write_op.new.bytes ≡ length c.write_op.new.bytes.items = search rules in (
       kept_push c.self.inside.bytes.items c.write_op.new.bytes.items (Forward c.args.txn c.args.block.now) c.self.inside.spelled c.self-2-1.given.0 c.self.inside.frame c.write_op.new.frame c.self.inside.count c.self.inside.taken
           c.requires c.in_ok-write_op.ensures.ok.0 c.in_ok-write_op.ensures.ok.1 c.in_ok-write_op.ensures.records (omega (arith, long, c.in_ok-write_op.ensures.ok.2.small)) c.self.invariant.0,
-      c.in_ok-write_op.ensures.ok.2,
+      same_memory _ _ _ _ _ c.all-promised.ensures c.in_ok-write_op.ensures.ok.2,
     )
 
 pub returns-clause-ok : goal.returns-clause-ok
 returns-clause-ok c =
-    view_push c.self.inside.bytes.items c.write_op.new.bytes.items (Forward c.args.txn c.args.block.now) c.self.inside.spelled c.self-2-1.given.0 c.self.inside.taken c.self.inside.promised _ c.args.self.now c.requires c.in_ok-write_op.ensures.ok.0 c.self.view_is
-    ∙ ap (λ (p : ℕ). let m : Journaled = record { since = c.args.self.now.since ++ (Forward c.args.txn c.args.block.now) ∷ []; taken = c.args.self.now.taken; promised = p } in m) (ap (λ (j : Journaled). j.promised) c.self.view_is)
+    view_push c.self.inside.bytes.items c.write_op.new.bytes.items (Forward c.args.txn c.args.block.now) c.self.inside.spelled c.self-2-1.given.0 c.self.inside.taken c.self.inside.promises _ c.args.self.now c.requires c.in_ok-write_op.ensures.ok.0 c.self.view_is
+    ∙ ap (λ (p : Promised). let m : Journaled = record { since = c.args.self.now.since ++ (Forward c.args.txn c.args.block.now) ∷ []; taken = c.args.self.now.taken; promised = p } in m) (ap (λ (j : Journaled). j.promised) c.self.view_is)
 
 pub returns-clause-small : goal.returns-clause-small
 returns-clause-small c = small_of _ c.write_op.new.frame (c.self.inside.count + 1) c.self.inside.taken _ (invariant_of-self-2 c).0

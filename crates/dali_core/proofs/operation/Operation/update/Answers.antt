@@ -1,4 +1,4 @@
-use Rattle.std.proofs.Common.{ℕ, ◌+◌, ◌-◌, List, refl, sym, subst, ap, ◌∙◌, arith, length, get_or, bit_and}
+use Rattle.std.proofs.Common.{rules, ℕ, ◌+◌, ◌-◌, List, refl, sym, subst, ap, ◌∙◌, arith, length, get_or, bit_and}
 use Rattle.dali_region.specs.State.{updated}
 use Rattle.dali_core.specs.UnderWay.{IsUnderWay}
 use Rattle.dali_core.proofs.UnderWays.{lowest, has_read, one_more, goes_on, is_done, some_left}
@@ -21,3 +21,6 @@ returns-clause-under_way c =
     let now = c.update.ensures ∙ ap (λ (vs : List ℕ). updated (lowest c.args.self.now.left) (get_or vs c.args.self.now.taken 0) c.args.region.now) c.as_slice.ensures.words in
     subst (IsUnderWay c.args.self.now.txn c.args.self.now.block (bit_and c.args.self.now.left (c.args.self.now.left - 1)) (c.args.self.now.taken + 1)) (sym now)
     (goes_on c.args.self.now.txn c.args.self.now.block c.args.self.now.left c.args.self.now.taken c.args.region.now c.requires (some_left c.args.self.now.left c.if-self-eq0.false))
+
+pub returns-clause-step : goal.returns-clause-step
+returns-clause-step c e = (refl, (lowest c.args.self.now.left, get_or c.as_slice.result.now c.args.self.now.taken 0, (has_read c.args.self.now.txn c.args.self.now.block c.args.self.now.left c.args.self.now.taken c.args.region.now c.requires (some_left c.args.self.now.left c.if-self-eq0.false), search rules), c.update.ensures))

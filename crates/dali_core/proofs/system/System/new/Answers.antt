@@ -1,4 +1,4 @@
-use Rattle.std.proofs.Common.{arith, ◌+◌, ◌^◌}
+use Rattle.std.proofs.Common.{arith}
 use Rattle.dali_core.proofs.RowsAre.{rows_none}
 use Rattle.dali_core.proofs.system.System.new.Goals as goal
 

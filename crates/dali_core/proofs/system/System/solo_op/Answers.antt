@@ -1,7 +1,8 @@
-use Rattle.std.proofs.Common.{rules, ◌≡◌, ap, refl, ◌<◌, ◌^◌, ◌∙◌, ◌+◌, ◌-◌}
+use Rattle.std.proofs.Common.{rules, ap, refl, ◌<◌, ◌^◌, ◌∙◌, ◌+◌}
 use Rattle.dali_record.specs.declared.records.Record.TheVariants.{Solo}
 use Rattle.dali_system.specs.Steps.{solo_logged}
 use Rattle.dali_core.specs.Served.{Served, solo_room}
+use Rattle.dali_core.specs.Promised.{used}
 use Rattle.dali_core.proofs.RowsAre.{rows_of_more}
 use Rattle.dali_core.proofs.Systems.{stepped, bounded_begin}
 use Rattle.dali_core.proofs.system.System.solo_op.Goals as goal
@@ -13,7 +14,7 @@ pub returns-clause-ok : goal.returns-clause-ok
 returns-clause-ok c = (
   stepped c.self.inside c.push_solo.new.self (Solo c.self.inside.next c.args.parent c.args.block.now) _ c.self.inside.table c.self.inside.table c.self.inside.locks c.self.inside.locks _ _ (c.self.inside.next + 1) (c.self.inside.next + 1)
       c.in_ok-push_solo.ensures.ok refl refl (ap (λ n. c.self.inside.end + n) (c.solo_record_length-length.ensures.solo c.self.inside.next c.args.parent)) refl
-      ∙ ap (λ (y : Served). let z : Served = record { state = solo_logged y.state c.args.parent c.args.block.now; promised = y.promised - solo_room } in z) c.self.view_is,
+      ∙ ap (λ (y : Served). let z : Served = record { state = solo_logged y.state c.args.parent c.args.block.now; promised = used y.promised c.args.parent solo_room } in z) c.self.view_is,
   c.touch.ensures.after,
 )
 

@@ -13,7 +13,7 @@ returns-in_err-act-clause-lost g c =
     (record { engine = c.args.self.now; stage = Outside; lines = c.args.lines.now; store = c.args.store.now })
     (record { engine = c.loop-command.self; stage = c.loop-command.stage; lines = c.loop-command.lines; store = c.loop-command.store })
     c.act.new.store c.loop-command-test.true c.command-item.is c.loop-command.invariant.done c.in_err-act.ensures.lost
-    c.in_err-act.field-0.0 (undone _ _ _ _ c.in_err-act.ensures.full c.in_err-act.ensures.numbers)
+    c.in_err-act.field-0.0 (undone _ _ _ _ c.in_err-act.ensures.full c.in_err-act.ensures.numbers c.in_err-act.ensures.wanting)
     )
 
 pub loop-command-preserved : goal.loop-command-preserved

@@ -1,0 +1,270 @@
+-- Each stage of a restart answers alike, and each call of it leaves a stage.
+use Rattle.std.proofs.Common.{◌≡◌, ℕ, true, zero, suc, ◌+◌, ◌≤◌, List, [], ◌∷◌, ◌++◌, length, take, drop, None, append_assoc, refl, ap, sym, subst, ◌∙◌, ◌⊎◌, inl, inr, ⊎_elim, arith}
+use Rattle.std.specs.Prelude.{sum_by}
+use Rattle.std.specs.List.{AllByRecursion, list_all}
+use Rattle.std.proofs.lemmas.List.{append-nil}
+use Rattle.std.proofs.lemmas.List.Concat.{flat_map-append}
+use Rattle.dali_geometry.specs.Sizes.{Sizes}
+use Rattle.dali_record.specs.declared.records.Record.{Record}
+use Rattle.dali_record.specs.declared.records.Record.TheVariants.{Restarted}
+use Rattle.dali_record.specs.Epochs.{Cut, last_epoch}
+use Rattle.dali_record.specs.Damage.{rolled_list, deleted_list}
+use Rattle.dali_record.specs.Spelling.{record_length}
+use Rattle.dali_record.specs.Legal.{sizes_of}
+use Rattle.dali_record.specs.Files.{Files, batch_length, is_restarted_first, next_after}
+use Rattle.dali_record.proofs.Ends.{get_new}
+use Rattle.dali_record.proofs.Pushes.{cut_push}
+use Rattle.dali_history.specs.Recovered.{base_of, recovered, recovered_now}
+use Rattle.dali_history.specs.History.{IsHistory}
+use Rattle.dali_history.proofs.Prefixes.{sizes_of-front}
+use Rattle.dali_history.proofs.Restarts.{IsHistory-restarted, sizes_of-restarted}
+use Rattle.dali_store.specs.declared.store.FileName.TheVariants.{Log, Anchor}
+use Rattle.dali_store.specs.Store.{Files as Disk, SameBut}
+use Rattle.dali_batch.specs.Appending.{Adds, next_place}
+use Rattle.dali_batch.specs.Log.{AreSpelled, LogOf, records_in}
+use Rattle.dali_batch.proofs.Rows.{grown}
+use Rattle.dali_system.specs.Run.{log_in}
+use Rattle.dali_crash.specs.Checkpoints.{side_of, turned as turned_to}
+use Rattle.dali_crash.specs.Fitting.{FitsWhole}
+use Rattle.dali_traces.specs.Disks.{AllSpell, IsAnchor, IsImageOf, Spells, image_file, image_name, sizes_in}
+use Rattle.dali_traces.specs.Bridges.{closed_head}
+use Rattle.dali_traces.proofs.Bridges.{ends_at, spells_unmoved}
+use Rattle.dali_traces.proofs.Changes.{spells_beside, spells_longer, spells_turned}
+use Rattle.dali_resume.specs.Again.{Outcome, closing, closed_log, with_closing, turned, outcome_is}
+use Rattle.dali_resume.specs.Onward.{FitsFront, HandedOut, IsAgainOnward, verdict_of}
+use Rattle.dali_resume.specs.Batches.{misplaced, records_of, verdict_over}
+use Rattle.dali_resume.proofs.Batches.{answers_over_batches, both_good, fits_in_batches, front_answers_over_batches}
+use Rattle.dali_resume.proofs.Onward.{base_restarted}
+use Rattle.dali_resume.proofs.Stopped.{restarts_onward}
+use Rattle.dali_again.specs.Stages.{IsRestarting, IsFound, IsLogged, IsTurned, AnswersAs, EveryStageAnswers, StartsBehind, FoundLogged, closing_bodies, HoldsImage, AppendStages, Appended, MoveStages, Moved, Written}
+
+-- ---- the files
+again_at : (L : List Record) (B : List (List Record)) (n : ℕ) (D : Files) → IsRestarting L B → IsFound L B n D → IsAgainOnward L D
+again_at L B n D w f =
+    let e = sym f.log in
+    subst (λ M. IsAgainOnward M D) f.log
+    (restarts_onward f.front (records_of f.more) D w.some.0 w.some.1 (subst IsHistory e w.history) f.some f.fits (ap records_in f.batches ∙ (w.batches ∙ e)) (ap (λ M. (last_epoch M).records) f.log ∙ w.some.2))
+
+found_log : (L : List Record) (B : List (List Record)) (n : ℕ) (D : Files) → IsRestarting L B → IsFound L B n D → log_in D ≡ L
+found_log L B n D w f = ap records_in f.batches ∙ w.batches
+
+closing_log : (L : List Record) (B : List (List Record)) (n : ℕ) (D : Files) → IsRestarting L B → IsFound L B n D → log_in (with_closing L D) ≡ closed_log L
+closing_log L B n D w f = flat_map-append (λ b. b) D.batches ((closing L ∷ []) ∷ []) ∙ ap (λ M. M ++ closing L ∷ []) (found_log L B n D w f)
+
+-- ---- over batches
+abbrev AnswersOver : Sizes → Files → Outcome → Type 0
+AnswersOver s F o = (k : ℕ) × (F.place ≡ sum_by batch_length (take k F.batches)) × (verdict_over s F (drop k F.batches) ≡ HandedOut o)
+
+take_part : {X : Type 0} (k : ℕ) (A B : List X) → take (length (take k A)) (A ++ B) ≡ take k A
+take_part zero [] B = refl
+take_part zero (a ∷ A) B = refl
+take_part (suc k) [] B = refl
+take_part (suc k) (a ∷ A) B = ap (λ z. a ∷ z) (take_part k A B)
+
+drop_part : {X : Type 0} (k : ℕ) (A B : List X) → drop (length (take k A)) (A ++ B) ≡ drop k A ++ B
+drop_part zero [] B = refl
+drop_part zero (a ∷ A) B = refl
+drop_part (suc k) [] B = refl
+drop_part (suc k) (a ∷ A) B = drop_part k A B
+
+-- the image fits a front of the log, whose batches are the first
+over_front : (s : Sizes) (K : List Record) (F : Files) (more : List (List Record)) (o : Outcome) (front : FitsFront s K F) → list_all is_restarted_first more ≡ true → F.batches ≡ front.0 ++ more → verdict_of s F (K ++ records_of more) ≡ HandedOut o → AnswersOver s F o
+over_front s K F more o front good parts answer =
+    let w = front_answers_over_batches s K F more front good in (
+      length (take w.0 front.0),
+      w.1 ∙ ap (sum_by batch_length) (sym (ap (take (length (take w.0 front.0))) parts ∙ take_part w.0 front.0 more)),
+      ap (verdict_over s F) (ap (drop (length (take w.0 front.0))) parts ∙ drop_part w.0 front.0 more) ∙ (w.2 ∙ answer),
+    )
+
+front_sizes : (L : List Record) (B : List (List Record)) (n : ℕ) (D : Files) (f : IsFound L B n D) → sizes_of f.front ≡ sizes_of L
+front_sizes L B n D f = sym (sizes_of-front f.front (records_of f.more) f.some) ∙ ap sizes_of f.log
+
+found_over : (L : List Record) (B : List (List Record)) (n : ℕ) (D : Files) → IsRestarting L B → IsFound L B n D → AnswersOver (sizes_of L) D (outcome_is L)
+found_over L B n D w f =
+    subst (λ z. AnswersOver z D (outcome_is L)) (front_sizes L B n D f)
+    (over_front (sizes_of f.front) f.front D f.more (outcome_is L) f.fits f.good (f.batches ∙ sym f.parts) answer)
+  where
+    answer : verdict_of (sizes_of f.front) D (f.front ++ records_of f.more) ≡ HandedOut (outcome_is L)
+    answer = ap (λ z. verdict_of z D (f.front ++ records_of f.more)) (front_sizes L B n D f) ∙ (ap (verdict_of (sizes_of L) D) f.log ∙ (again_at L B n D w f).first)
+
+logged_over : (L : List Record) (B : List (List Record)) (n : ℕ) (D : Files) → IsRestarting L B → IsFound L B n D → AnswersOver (sizes_of L) (with_closing L D) (outcome_is L)
+logged_over L B n D w f =
+    subst (λ z. AnswersOver z (with_closing L D) (outcome_is L)) (front_sizes L B n D f)
+    (over_front (sizes_of f.front) f.front (with_closing L D) (f.more ++ (closing L ∷ []) ∷ []) (outcome_is L) f.fits (both_good f.more ((closing L ∷ []) ∷ []) f.good refl) parts answer)
+  where
+    parts : D.batches ++ (closing L ∷ []) ∷ [] ≡ f.fits.0 ++ (f.more ++ (closing L ∷ []) ∷ [])
+    parts = ap (λ bs. bs ++ (closing L ∷ []) ∷ []) (f.batches ∙ sym f.parts) ∙ append_assoc f.fits.0 f.more ((closing L ∷ []) ∷ [])
+
+    log : f.front ++ records_of (f.more ++ (closing L ∷ []) ∷ []) ≡ closed_log L
+    log =
+        ap (λ Q. f.front ++ Q) (flat_map-append (λ b. b) f.more ((closing L ∷ []) ∷ []))
+        ∙ (sym (append_assoc f.front (records_of f.more) (closing L ∷ [])) ∙ ap (λ M. M ++ closing L ∷ []) f.log)
+
+    answer : verdict_of (sizes_of f.front) (with_closing L D) (f.front ++ records_of (f.more ++ (closing L ∷ []) ∷ [])) ≡ HandedOut (outcome_is L)
+    answer =
+        ap (λ z. verdict_of z (with_closing L D) (f.front ++ records_of (f.more ++ (closing L ∷ []) ∷ []))) (front_sizes L B n D f)
+        ∙ (ap (verdict_of (sizes_of L) (with_closing L D)) log ∙ (again_at L B n D w f).logged)
+
+-- the image of the restart fits the whole log
+turned_over : (L : List Record) (B : List (List Record)) (n : ℕ) (D : Files) → IsRestarting L B → IsFound L B n D → AnswersOver (sizes_of L) (turned L D) (outcome_is L)
+turned_over L B n D w f = (k.0, k.1, (answers_over_batches (sizes_of L) (turned L D) (closed_log L) (drop k.0 (turned L D).batches) k.2).0 none ∙ again.turned_again)
+  where
+    again : IsAgainOnward L D
+    again = again_at L B n D w f
+
+    k : (k : ℕ) × ((turned L D).place ≡ sum_by batch_length (take k (turned L D).batches)) × (records_of (drop k (turned L D).batches) ≡ drop (turned L D).first (closed_log L)) × (misplaced (drop k (turned L D).batches ++ []) ≡ None)
+    k = fits_in_batches (sizes_of L) (recovered (sizes_of L) L) (closed_log L) (turned L D) (last_epoch (closed_log L)) [] again.turned_fits refl
+
+    none : misplaced (drop k.0 (turned L D).batches) ≡ None
+    none = ap misplaced (sym (append-nil (drop k.0 (turned L D).batches))) ∙ k.3
+
+-- ---- both
+answers_by : (L K : List Record) (F : Files) → log_in F ≡ K → verdict_of (sizes_of L) F K ≡ HandedOut (outcome_is L) → AnswersOver (sizes_of L) F (outcome_is L) → AnswersAs L F
+answers_by L K F e v over = record { records = ap (verdict_of (sizes_of L) F) e ∙ v; batches = over }
+
+pub every_stage_answers : EveryStageAnswers
+every_stage_answers L B n F w = record {
+  found = λ f. answers_by L L F (found_log L B n F w f) (again_at L B n F w f).first (found_over L B n F w f);
+  logged = λ g. subst (AnswersAs L) (sym g.2) (answers_by L (closed_log L) (with_closing L g.0) (closing_log L B n g.0 w g.1) (again_at L B n g.0 w g.1).logged (logged_over L B n g.0 w g.1));
+  turned = λ g. subst (AnswersAs L) (sym g.2) (answers_by L (closed_log L) (turned L g.0) (closing_log L B n g.0 w g.1) (again_at L B n g.0 w g.1).turned_again (turned_over L B n g.0 w g.1));
+}
+
+closed_history : (L : List Record) (B : List (List Record)) → IsRestarting L B → IsHistory (closed_log L)
+closed_history L B w = IsHistory-restarted L w.some.0 w.some.1 (rolled_list (last_epoch L)) (deleted_list (last_epoch L)) w.history w.some.2 refl refl
+
+same_sizes : (L : List Record) → sizes_of (closed_log L) ≡ sizes_of L
+same_sizes L = sizes_of-restarted L (rolled_list (last_epoch L)) (deleted_list (last_epoch L))
+
+pub starts_behind : StartsBehind
+starts_behind L B n F s w g log rules fits may end current = record {
+  history = subst IsHistory (sym log) (closed_history L B w);
+  rules = rules;
+  fits = fits;
+  rests = record {
+    vault = may;
+    none = ap (λ M. (last_epoch M).records) log ∙ ap (λ (q : Cut). q.now.records) (cut_push L (closing L));
+    files = subst (λ M. FitsWhole (sizes_of M) (base_of (sizes_of M) M) M F (last_epoch M)) (sym log) (subst (λ z. FitsWhole (sizes_of (closed_log L)) (base_of (sizes_of (closed_log L)) (closed_log L)) (closed_log L) z (last_epoch (closed_log L))) (sym g.2) fit);
+    end = end;
+    current = ap (λ (z : Files). z.gates) g.2 ∙ (ap (λ m. m + 1) g.1.gates ∙ sym current);
+  };
+}
+  where
+    base_is : base_of (sizes_of (closed_log L)) (closed_log L) ≡ recovered (sizes_of L) L
+    base_is = ap (λ z. base_of z (closed_log L)) (same_sizes L) ∙ (base_restarted (sizes_of L) L (rolled_list (last_epoch L)) (deleted_list (last_epoch L)) ∙ sym (ap (λ X. recovered_now (sizes_of L) (base_of (sizes_of L) L) (last_epoch L) X) w.some.2))
+
+    fit : FitsWhole (sizes_of (closed_log L)) (base_of (sizes_of (closed_log L)) (closed_log L)) (closed_log L) (turned L g.0) (last_epoch (closed_log L))
+    fit = subst (λ b. FitsWhole (sizes_of (closed_log L)) b (closed_log L) (turned L g.0) (last_epoch (closed_log L))) (sym base_is)
+        (subst (λ z. FitsWhole z (recovered (sizes_of L) L) (closed_log L) (turned L g.0) (last_epoch (closed_log L))) (sym (same_sizes L)) (again_at L B n g.0 w g.1).turned_fits)
+
+-- ---- a log that ends with the batch of Restarted
+take_front : {X : Type 0} (A B : List X) → take (length A) (A ++ B) ≡ A
+take_front [] B = refl
+take_front (a ∷ A) B = ap (λ z. a ∷ z) (take_front A B)
+
+pub found_logged : FoundLogged
+found_logged L B n F rs ds w legal batches found = (
+  record F { batches = B },
+  found,
+  ap (λ bs. let G : Files = record { batches = bs; gates = F.gates; number = F.number; place = F.place; first = F.first; weight = F.weight; next = F.next; image = F.image; table = F.table } in G) (batches ∙ ap (λ r. B ++ (r ∷ []) ∷ []) closes),
+)
+  where
+    lists : (rs ≡ rolled_list (last_epoch (take (length L) (L ++ Restarted rs ds ∷ [])))) × (ds ≡ deleted_list (last_epoch (take (length L) (L ++ Restarted rs ds ∷ []))))
+    lists = legal.scans (length L) rs ds (get_new L (Restarted rs ds))
+
+    closes : Restarted rs ds ≡ closing L
+    closes =
+        ap (λ xs. Restarted xs ds) (lists.0 ∙ ap (λ M. rolled_list (last_epoch M)) (take_front L (Restarted rs ds ∷ [])))
+        ∙ ap (λ xs. Restarted (rolled_list (last_epoch L)) xs) (lists.1 ∙ ap (λ M. deleted_list (last_epoch M)) (take_front L (Restarted rs ds ∷ [])))
+
+-- ---- the batch of Restarted
+closing_spelled : (L : List Record) (B : List (List Record)) → IsRestarting L B → AllByRecursion AreSpelled ((closing L ∷ []) ∷ [])
+closing_spelled L B w = (((closed_history L B w).spelled (length L) (closing L) (get_new L (closing L)), tt), tt)
+
+found_at : (old : Disk → Type 0) (L : List Record) (B : List (List Record)) (n : ℕ) → AllSpell old (IsFound L B n) → (d : Disk) → old d → LogOf d.log B (sum_by batch_length B)
+found_at old L B n all d left =
+    let G = all d left in
+    let log : LogOf d.log B G.1.end = subst (λ M. LogOf d.log M G.1.end) G.2.batches G.1.log in
+    subst (LogOf d.log B) (ends_at d.log B G.1.end log) log
+
+logged_by : (L : List Record) (B : List (List Record)) (n : ℕ) (c d l : Disk) (D : Files) → IsRestarting L B → IsFound L B n D → Spells d D → SameBut Log d c → LogOf l.log B (sum_by batch_length B) → Adds (sum_by batch_length B) (closing_bodies L) l.log c.log → Spells c (with_closing L D)
+logged_by L B n c d l D w f is same log adds =
+    spells_longer c d D ((closing L ∷ []) ∷ []) (next_place (sum_by batch_length B) (closing_bodies L)) is same
+    (subst (λ M. LogOf c.log (M ++ (closing L ∷ []) ∷ []) (next_place (sum_by batch_length B) (closing_bodies L))) (sym f.batches) (grown l.log c.log B ((closing L ∷ []) ∷ []) (sum_by batch_length B) log (closing_spelled L B w) adds))
+
+pub appended : (old : Disk → Type 0) → Appended old
+appended old L B n w all c added =
+    let o = added.others in
+    let l = added.log in
+    let D = all o.0 o.1 in
+    (with_closing L D.0, logged_by L B n c o.0 l.0 D.0 w D.2 D.1 o.2 (found_at old L B n all l.0 l.1) l.2, (D.0, D.2, refl))
+
+pub append_stages : (old : Disk → Type 0) → AppendStages old
+append_stages old L B n w all c added = by_count added.log.2 added.log.3 added.log.4
+  where
+    o : (d : Disk) × old d × SameBut Log d c
+    o = added.others
+
+    D : Files
+    D = (all o.0 o.1).0
+
+    f : IsFound L B n D
+    f = (all o.0 o.1).2
+
+    is : Spells o.0 D
+    is = (all o.0 o.1).1
+
+    log : LogOf added.log.0.log B (sum_by batch_length B)
+    log = found_at old L B n all added.log.0 added.log.1
+
+    none : Adds (sum_by batch_length B) [] added.log.0.log c.log → Spells c D
+    none adds =
+        subst (Spells c) (ap (λ bs. let F : Files = record { batches = bs; gates = D.gates; number = D.number; place = D.place; first = D.first; weight = D.weight; next = D.next; image = D.image; table = D.table } in F) (append-nil D.batches))
+        (spells_longer c o.0 D [] (next_place (sum_by batch_length B) []) is o.2
+        (subst (λ M. LogOf c.log (M ++ []) (next_place (sum_by batch_length B) [])) (sym f.batches) (grown added.log.0.log c.log B [] (sum_by batch_length B) log tt adds)))
+
+    by_count : (k : ℕ) → k ≤ length (closing_bodies L) → Adds (sum_by batch_length B) (take k (closing_bodies L)) added.log.0.log c.log → (F : Files) × Spells c F × (IsFound L B n F ⊎ IsLogged L B n F)
+    by_count zero le adds = (D, none adds, inl f)
+    by_count (suc zero) le adds = (with_closing L D, logged_by L B n c o.0 added.log.0 D w f is o.2 log adds, inr (D, f, refl))
+    by_count (suc (suc k)) le adds = absurd (omega (arith, le))
+
+-- ---- the other image
+logged_gates : (L : List Record) (B : List (List Record)) (n : ℕ) (F : Files) → IsLogged L B n F → F.gates ≡ n
+logged_gates L B n F g = ap (λ (z : Files). z.gates) g.2 ∙ g.1.gates
+
+pub written : (old new : Disk → Type 0) → Written old new
+written old new L B n all same c left =
+    let w = same c left in
+    let F = all w.0 w.1 in
+    (F.0, spells_beside c w.0 F.0 F.1 (subst (λ m. SameBut (image_name (side_of (m + 1))) w.0 c) (sym (logged_gates L B n F.0 F.2)) w.2), F.2)
+
+-- ---- the anchor
+turned_is : (L : List Record) (B : List (List Record)) (n : ℕ) (D : Files) → IsRestarting L B → IsFound L B n D → turned_to (with_closing L D) (closed_head (n + 1) B) (recovered (sizes_of L) L) ≡ turned L D
+turned_is L B n D w f =
+    ap (λ m. turned_to (with_closing L D) (closed_head (m + 1) B) (recovered (sizes_of L) L)) (sym f.gates)
+    ∙ (ap (λ M. turned_to (with_closing L D) (closed_head (D.gates + 1) M) (recovered (sizes_of L) L)) (sym f.batches)
+    ∙ ap (λ M. let F : Files = record { batches = D.batches ++ (closing L ∷ []) ∷ []; gates = D.gates + 1; number = D.gates + 1; place = sum_by batch_length D.batches; first = length M; weight = sum_by record_length M; next = next_after M; image = recovered (sizes_of L) L; table = [] } in F) (found_log L B n D w f))
+
+turns : (L : List Record) (B : List (List Record)) (n : ℕ) (c d : Disk) (F : Files) → IsRestarting L B → IsLogged L B n F → Spells d F → SameBut Anchor d c → IsAnchor c.anchor (n + 1) → HoldsImage L B n d → (G : Files) × Spells c G × IsTurned L B n G
+turns L B n c d F w g is same anchor holds = (
+  turned L g.0,
+  subst (Spells c) (turned_is L B n g.0 w g.1)
+      (spells_turned c d (with_closing L g.0) (closed_head (n + 1) B) (recovered (sizes_of L) L) (subst (Spells d) g.2 is) same (subst (λ m. IsAnchor c.anchor (m + 1)) (sym g.1.gates) anchor)
+      (subst (λ m. IsImageOf (sizes_in (with_closing L g.0)) (image_file (side_of (m + 1)) d) (closed_head (n + 1) B) (recovered (sizes_of L) L)) (sym g.1.gates)
+      (subst (λ z. IsImageOf z (image_file (side_of (n + 1)) d) (closed_head (n + 1) B) (recovered (sizes_of L) L)) (sym (ap sizes_of (closing_log L B n g.0 w g.1) ∙ same_sizes L)) holds))),
+  (g.0, g.1, refl),
+)
+
+pub moved : (old : Disk → Type 0) → Moved old
+moved old L B n w all holds c has =
+    let o = has.others in
+    let F = all o.0 o.1 in
+    turns L B n c o.0 F.0 w F.2 F.1 o.2 has.anchor (holds o.0 o.1)
+
+pub move_stages : (old : Disk → Type 0) → MoveStages old
+move_stages old L B n w all holds c may =
+    let o = may.others in
+    let F = all o.0 o.1 in
+    ⊎_elim
+    (λ stays. (F.0, spells_unmoved c o.0 F.0 o.2 (subst (IsAnchor c.anchor) (sym (logged_gates L B n F.0 F.2)) stays) F.1, inl F.2))
+    (λ more. let G = turns L B n c o.0 F.0 w F.2 F.1 o.2 more (holds o.0 o.1) in (G.0, G.1, inr G.2))
+    may.anchor

@@ -1,0 +1,33 @@
+//! Laws over the definitions, each the contract of a function that does nothing.
+
+ghost use Rattle.dali_again.specs.Stages.{EveryStageAnswers, StartsBehind, FoundLogged, AppendStages, Appended, Written, MoveStages, Moved};
+
+use dali_store::Store;
+
+/// From the files as they were found, from those with the batch of Restarted, and from those whose anchor names the image
+/// that the restart wrote, a restart hands out the same records and the same lists, by the rules on records and by that on
+/// batches; and behind it a run may start. One that finds the batch of Restarted at the log's end goes on from there.
+pub fn each_stage_of_a_restart_answers_alike()
+    ensures answers { EveryStageAnswers }
+    ensures starts { StartsBehind }
+    ensures logged { FoundLogged }
+{}
+
+/// Whatever a crash leaves while the batch of Restarted is appended: the files as they were found, or with that batch;
+/// and once it was appended, with that batch.
+pub fn an_append_in_a_restart_leaves_a_stage<V: Store>()
+    ensures meanwhile { (v : V) → AppendStages (V.may_leave v) }
+    ensures behind { (v : V) → Appended (V.may_leave v) }
+{}
+
+/// However much of the other image is written, the files read as they did.
+pub fn a_write_in_a_restart_leaves_its_stage<V: Store>()
+    ensures { (v w : V) → Written (V.may_leave v) (V.may_leave w) }
+{}
+
+/// Whatever a crash leaves while the anchor is moved to the image that was written: the files as they were, or with this
+/// image; and once it was moved, with this image.
+pub fn a_move_in_a_restart_leaves_a_stage<V: Store>()
+    ensures meanwhile { (v : V) → MoveStages (V.may_leave v) }
+    ensures behind { (v : V) → Moved (V.may_leave v) }
+{}

@@ -1,0 +1,10 @@
+//! The clean-up of a transaction whose client died.
+#![tactic(auto)]
+
+mod cleaning;
+pub mod laws;
+
+pub use cleaning::Cleaning;
+
+#[cfg(test)]
+mod tests;

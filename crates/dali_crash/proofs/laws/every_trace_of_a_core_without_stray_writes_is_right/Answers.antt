@@ -1,0 +1,5 @@
+use Rattle.dali_crash.proofs.Traces.{unpoked_core_trace_is_right}
+use Rattle.dali_crash.proofs.laws.every_trace_of_a_core_without_stray_writes_is_right.Goals as goal
+
+pub returns : goal.returns
+returns c = unpoked_core_trace_is_right

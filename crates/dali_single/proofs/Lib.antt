@@ -1,0 +1,12 @@
+pub mod Lists
+pub mod Leading
+pub mod Measure
+pub mod Writing
+pub mod Going
+pub mod Reaching
+pub mod Refusing
+pub mod Calling
+pub mod Causes
+pub mod Undoing
+pub mod Guards
+pub mod Settled

@@ -1,0 +1,301 @@
+-- An undo is performed, and then the next one.
+use Rattle.std.proofs.Common.{inl, inr, ◌≡◌, ℕ, suc, ◌-◌, ◌<◌, Bool, true, false, List, [], ◌∷◌, ◌++◌, Option, Some, None, IsSome, IsSomeAnd, IfSome, refl, sym, ap, subst, ◌∙◌, arith, length, slice_get, slice_set}
+use Rattle.std.specs.Prelude.{◌^◌, if◌then◌else◌, nat_lt}
+use Rattle.std.specs.List.{AllByRecursion}
+use Rattle.std.proofs.lemmas.List.{length-set}
+use Rattle.std.proofs.lemmas.Bool.{lt-ltb}
+use Rattle.dali_geometry.specs.Places.{regions}
+use Rattle.dali_record.specs.declared.operations.Block.{Block}
+use Rattle.dali_record.specs.declared.operations.Pending.{Pending}
+use Rattle.dali_record.specs.declared.records.Record.{Record}
+use Rattle.dali_record.specs.declared.records.Record.TheVariants.{Back, Ended}
+use Rattle.dali_record.specs.Operations.{undo_op}
+use Rattle.dali_record.specs.Log.{last_of, drop_last}
+use Rattle.dali_record.specs.Spelling.{Is64}
+use Rattle.dali_region.specs.State.{RegionState, latched, with_reads, touched, taken_back}
+use Rattle.dali_att.specs.declared.state.State.{State}
+use Rattle.dali_att.specs.Table.{undos_at, last_of as table_last}
+use Rattle.dali_system.specs.State.{SystemState, VaultState, row_of, state_of}
+use Rattle.dali_system.specs.Steps.{back_logged, ended_logged}
+use Rattle.dali_system.specs.Keeps.{may_log_in, with_region, with_touched}
+use Rattle.dali_system.specs.Regions.{RegionStep, TakeBack as TakesRegionBack, IsOpen}
+use Rattle.dali_system.specs.Courses.{TakesBack, Ends, IsStep}
+use Rattle.dali_facts.proofs.Ends.{empty_end_is_step}
+use Rattle.dali_core.specs.declared.operation.Operation.{Operation}
+use Rattle.dali_core.specs.declared.take_back.TakeBack.{TakeBack}
+use Rattle.dali_core.specs.declared.want.Want.TheVariants.{Region}
+use Rattle.dali_core.specs.TakenBack.{next_undo, want_of, IsMadeOf, IsUndoBlock}
+use Rattle.dali_core.specs.UnderWay.{IsUnderWay}
+use Rattle.dali_core.specs.Served.{Served}
+use Rattle.dali_calls.proofs.TakingBack.{taking_back_is_step}
+use Rattle.dali_calls.proofs.Following.{last_all}
+use Rattle.dali_single.specs.Operated.{AreWritten, Goes, IsLeftOf}
+use Rattle.dali_single.specs.Single.{core, Leads, MayUndo, AreCovered, Keeps}
+use Rattle.dali_single.specs.Ending.{IsAtWork, IsEnded, IsStillAtWork, Undone, UndoesFrom}
+use Rattle.dali_single.proofs.Lists.{set_same, get_set}
+use Rattle.dali_single.proofs.Leading.{leads_on, one_step, leads_there, steps_on, stays_free, goes_on}
+use Rattle.dali_single.proofs.Writing.{IsWay, IsSameWay, opened_by, live_hold}
+use Rattle.dali_single.proofs.Going.{changes_popped, both_steps, alive}
+use Rattle.dali_single.proofs.Reaching.{kind_in}
+use Rattle.dali_single.proofs.Measure.{drop_one}
+use Rattle.dali_single.proofs.Calling.{all_undos}
+
+-- ---- the operation of an undo
+pub record Rewritten (p : TakeBack) (g : RegionState) (q : TakeBack) (h : RegionState) : Type 0 where
+  pub operation : Operation
+  pub is : q ≡ record p { operation = Some operation }
+  pub txn : operation.txn ≡ p.txn
+  pub of : IsUndoBlock p.next operation.block
+  pub steps : List RegionStep
+  pub goes : Goes p.txn g steps h
+  pub is_open : IsOpen h operation.txn operation.block
+
+abbrev pub IsMadeBack : TakeBack → RegionState → Option Operation → RegionState → Type 0
+IsMadeBack p g o g1 = IsSomeAnd o (λ o. (o.txn ≡ p.txn) × IsUndoBlock p.next o.block × IsUnderWay o.txn o.block o.left o.taken g1 × (g1 ≡ with_reads o.block.read (latched p.txn g)))
+
+pub way_back_of : (p : TakeBack) (g : RegionState) (o : Option Operation) (g1 : RegionState) → IsMadeBack p g o g1 → IsWay o g1
+way_back_of p g None g1 m = absurd m
+way_back_of p g (Some o) g1 m = m.2
+
+reads_fit : (o : Option Pending) (b : Block) → IsUndoBlock o b → b.read < 2 ^ 64
+reads_fit None b h = absurd h
+reads_fit (Some u) b h = h.spelled.read
+
+pub rewritten : (p p1 p2 : TakeBack) (g g1 g2 : RegionState) → g.hold ≡ None → IsMadeBack p g p1.operation g1 → p1 ≡ record p { operation = p1.operation }
+    → IsSomeAnd p2.operation (λ o. IsOpen g2 o.txn o.block) → IsSameWay p1.operation p2.operation → p2 ≡ record p1 { operation = p2.operation } → AreWritten g1 g2
+    → Rewritten p g p2 g2
+rewritten p p1 p2 g g1 g2 free made one opened same two w = by_both p1.operation p2.operation refl refl made opened same
+  where
+    by_both : (a b : Option Operation) → p1.operation ≡ a → p2.operation ≡ b → IsMadeBack p g a g1 → IsSomeAnd b (λ o. IsOpen g2 o.txn o.block) → IsSameWay a b → Rewritten p g p2 g2
+    by_both None b i j m o s = absurd m
+    by_both (Some a) None i j m o s = absurd o
+    by_both (Some a) (Some b) i j m o s =
+        let goes = opened_by p.txn a.block g g1 g2 free (reads_fit p.next a.block m.1) m.3 w in
+        record {
+          operation = b;
+          is = two ∙ (ap (λ (x : TakeBack). record x { operation = p2.operation }) one ∙ ap (λ (x : Option Operation). record p { operation = x }) j);
+          txn = s.0 ∙ m.0;
+          of = subst (IsUndoBlock p.next) (sym s.1) m.1;
+          steps = goes.0;
+          goes = goes.1;
+          is_open = o;
+        }
+
+pub back_left_over : (p q : TakeBack) (g h k : RegionState) → Rewritten p g q h → k ≡ taken_back h → IsLeftOf p.txn g k
+back_left_over p q g h k w is =
+    let held = live_hold h w.operation.txn w.operation.block w.is_open in
+    inr (w.steps ++ TakesRegionBack ∷ [], goes_on p.txn g h k w.steps (TakesRegionBack ∷ []) w.goes (held.1, held.0, sym is), ap (λ (x : RegionState). x.hold) is)
+
+pub back_as_before : (p q r : TakeBack) (g h : RegionState) → p.operation ≡ None → Rewritten p g q h → r ≡ record q { operation = None } → r ≡ p
+back_as_before p q r g h closed w is = is ∙ (ap (λ (x : TakeBack). record x { operation = None }) w.is ∙ ap (λ (o : Option Operation). record p { operation = o }) (sym closed))
+
+pub undone : (p q r : TakeBack) (g h k : RegionState) (y z : Served) → Rewritten p g q h
+    → IfSome q.operation (λ o. (z ≡ record y { state = back_logged y.state q.txn o.block }) × (k ≡ touched h))
+    → r ≡ record q { next = next_undo (undos_at z.state.table q.txn) q.down_to; operation = None } → y.state.stop ≡ None
+    → Undone p g y.state r k z.state
+undone p q r g h k y z w ok next runs =
+    let now : (z ≡ record y { state = back_logged y.state p.txn w.operation.block }) × (k ≡ touched h) = subst (λ (x : TakeBack). IfSome x.operation (λ o. (z ≡ record y { state = back_logged y.state x.txn o.block }) × (k ≡ touched h))) w.is ok in
+    record {
+      block = w.operation.block;
+      of = w.of;
+      opened = h;
+      steps = w.steps;
+      goes = w.goes;
+      is_open = subst (λ (t : ℕ). IsOpen h t w.operation.block) w.txn w.is_open;
+      region = now.1;
+      runs = runs;
+      system = ap (λ (x : Served). x.state) now.0;
+      next = next ∙ ap (λ (x : TakeBack). record x { next = next_undo (undos_at z.state.table x.txn) x.down_to; operation = None }) w.is;
+    }
+
+-- ---- the last undo
+last_same : (us : List Pending) → table_last us ≡ last_of us
+last_same [] = refl
+last_same (u ∷ []) = refl
+last_same (u ∷ v ∷ us) = let e : length (u ∷ v ∷ us) - 1 ≡ suc (length (v ∷ us) - 1) = omega arith in rw e (last_same (v ∷ us))
+
+next_last : (us : List Pending) (u : Pending) → next_undo us 0 ≡ Some u → last_of us ≡ Some u
+next_last us u e = by_test (nat_lt 0 (length us)) refl
+  where
+    by_test : (b : Bool) → nat_lt 0 (length us) ≡ b → last_of us ≡ Some u
+    by_test true i = sym (last_same us) ∙ (sym (ap (λ (b : Bool). if b then table_last us else None) i) ∙ e)
+    by_test false i = absurd (never (sym (ap (λ (b : Bool). if b then table_last us else None) i) ∙ e))
+      where
+        never : (let n : Option Pending = None in n ≡ Some u) → ⊥
+        never f = cc
+
+dropped : (P : Pending → Type 0) (us : List Pending) → AllByRecursion P us → AllByRecursion P (drop_last us)
+dropped P [] h = tt
+dropped P (u ∷ []) h = tt
+dropped P (u ∷ v ∷ us) h = (h.0, dropped P (v ∷ us) h.1)
+
+-- ---- one undo, in a core
+one_led : (L : List Record) (rs : List RegionState) (y : SystemState) (v : VaultState) (t : ℕ) (u : Pending) (b : Block) (g opened : RegionState) (xs : List RegionStep) → Is64 t → IsSome (row_of y t)
+    → last_of (undos_at y.table t) ≡ Some u → MayUndo y t u → IsMadeOf u b → y.stop ≡ None → slice_get rs u.region ≡ Some g → Goes t g xs opened → IsOpen opened t b
+    → IsAtWork L (core rs y v) t → IsStillAtWork L (core rs y v) t (core (slice_set rs u.region (touched opened)) (back_logged y t b) v)
+one_led L rs y v t u b g opened xs fits row last may made runs at goes is work =
+    let c = with_region (core rs y v) u.region opened in
+    let here = get_set rs u.region g opened at in
+    let same : b.region ≡ u.region = ap (λ (x : Block). x.region) made.made_on in
+    let by = taking_back_is_step L c t work.working u b opened work.at_work (ap last_of (sym work.undos) ∙ last) (record {
+      txn = fits;
+      runs = runs;
+      by = ap (λ (o : Option State). may_log_in o (Back t b)) work.lives;
+      holds = may.lock;
+      kind = may.kind;
+      made = made;
+      at = here;
+      written = is;
+    }) in
+    let there = both_steps L (L ++ Back t b ∷ []) rs y (back_logged y t b) v t u.region g opened xs (TakesBack t b) work.lives at goes
+    (subst (λ (n : ℕ). IsStep L c (TakesBack t b) (L ++ Back t b ∷ []) (with_touched c (back_logged y t b) n opened)) same by.step) in
+    let popped = changes_popped y.table t in
+    record {
+      log = L ++ Back t b ∷ [];
+      steps = steps_on u.region xs ++ TakesBack t b ∷ [];
+      leads = there;
+      at = record {
+        working = by.left;
+        at_work = by.at_work;
+        undos = (popped work.working.undos).undos work.undos row ∙ sym by.undos;
+        lives = (popped []).state ∙ work.lives;
+        free = stays_free (core rs y v) (core (slice_set rs u.region (touched opened)) (back_logged y t b) v) t u.region g (touched opened) work.free at refl refl;
+      };
+    }
+
+pub nothing_undone : (rs : List RegionState) (y : SystemState) (t : ℕ) → length rs ≡ regions y.sizes → IsSome (row_of y t) → AreCovered y t → UndoesFrom rs y t rs y
+nothing_undone rs y t whole row covered = record {
+  whole = whole;
+  sizes = refl;
+  row = row;
+  covered = covered;
+  leads = λ L v work. record { log = L; steps = []; leads = (refl, refl); at = work };
+}
+
+pub one_undone : (rs : List RegionState) (y z : SystemState) (t r : ℕ) (p q : TakeBack) (u : Pending) (g h : RegionState) → Is64 t → length rs ≡ regions y.sizes → IsSome (row_of y t) → AreCovered y t
+    → p.txn ≡ t → p.next ≡ Some u → u.region ≡ r → next_undo (undos_at y.table t) 0 ≡ Some u → slice_get rs r ≡ Some g → Undone p g y q h z
+    → UndoesFrom rs y t (slice_set rs r h) z
+one_undone rs y z t r p q u g h fits whole row covered txn next region is at o =
+    subst (λ (n : ℕ). UndoesFrom rs y t (slice_set rs n h) z) region
+    (subst (λ (k : RegionState). UndoesFrom rs y t (slice_set rs u.region k) z) (sym o.region)
+    (subst (λ (x : SystemState). UndoesFrom rs y t (slice_set rs u.region (touched o.opened)) x) (sym (o.system ∙ ap (λ (n : ℕ). back_logged y n o.block) txn)) there))
+  where
+    last : last_of (undos_at y.table t) ≡ Some u
+    last = next_last (undos_at y.table t) u is
+
+    popped : undos_at (back_logged y t o.block).table t ≡ drop_last (undos_at y.table t)
+    popped = (changes_popped y.table t (undos_at y.table t)).undos refl row
+
+    there : UndoesFrom rs y t (slice_set rs u.region (touched o.opened)) (back_logged y t o.block)
+    there = record {
+      whole = length-set rs u.region (touched o.opened) ∙ whole;
+      sizes = refl;
+      row = (changes_popped y.table t []).there row;
+      covered = subst (AllByRecursion (MayUndo (back_logged y t o.block) t)) (sym popped) (all_undos (MayUndo y t) (MayUndo (back_logged y t o.block) t) (drop_last (undos_at y.table t)) (λ w may. record { spelled = may.spelled; kind = may.kind; lock = may.lock }) (dropped (MayUndo y t) (undos_at y.table t) covered));
+      leads = λ L v work.
+          one_led L rs y v t u o.block g o.opened o.steps fits row last (last_all (MayUndo y t) (undos_at y.table t) u covered last) (subst (λ (n : Option Pending). IsUndoBlock n o.block) next o.of) o.runs
+          (ap (slice_get rs) region ∙ at) (subst (λ (n : ℕ). Goes n g o.steps o.opened) txn o.goes) (subst (λ (n : ℕ). IsOpen o.opened n o.block) txn o.is_open) work;
+    }
+
+pub none_undone : (rs : List RegionState) (y : SystemState) (t r : ℕ) (g h : RegionState) → length rs ≡ regions y.sizes → IsSome (row_of y t) → AreCovered y t → slice_get rs r ≡ Some g
+    → IsLeftOf t g h → UndoesFrom rs y t (slice_set rs r h) y
+none_undone rs y t r g h whole row covered at (inl same) = subst (λ (gs : List RegionState). UndoesFrom rs y t gs y) (sym (set_same rs r h (at ∙ ap Some (sym same)))) (nothing_undone rs y t whole row covered)
+none_undone rs y t r g h whole row covered at (inr left) = record {
+  whole = length-set rs r h ∙ whole;
+  sizes = refl;
+  row = row;
+  covered = covered;
+  leads = λ L v work. record {
+    log = L;
+    steps = steps_on r left.0;
+    leads = leads_there L (core rs y v) t r g h left.0 (alive (state_of y t) work.lives) at left.1;
+    at = record { working = work.working; at_work = work.at_work; undos = work.undos; lives = work.lives; free = stays_free (core rs y v) (core (slice_set rs r h) y v) t r g h work.free at left.2 refl };
+  };
+}
+
+pub undoes_further : (rs rs' rs'' : List RegionState) (y y' y'' : SystemState) (t : ℕ) → UndoesFrom rs y t rs' y' → UndoesFrom rs' y' t rs'' y'' → UndoesFrom rs y t rs'' y''
+undoes_further rs rs' rs'' y y' y'' t a b = record {
+  whole = b.whole;
+  sizes = b.sizes ∙ a.sizes;
+  row = b.row;
+  covered = b.covered;
+  leads = λ L v work.
+      let one = a.leads L v work in
+      let two = b.leads one.log v one.at in
+      record { log = two.log; steps = one.steps ++ two.steps; leads = leads_on L one.log two.log (core rs y v) (core rs' y' v) (core rs'' y'' v) one.steps two.steps one.leads two.leads; at = two.at };
+}
+
+-- ---- the end
+pub abort_ends : (rs rs' : List RegionState) (y y1 z : SystemState) (t : ℕ) → UndoesFrom rs y t rs' y1 → undos_at y1.table t ≡ [] → y1.stop ≡ None → z ≡ ended_logged y1 t
+    → (L : List Record) (v : VaultState) → IsAtWork L (core rs y v) t → IsEnded L (core rs y v) t (core rs' z v)
+abort_ends rs rs' y y1 z t u none runs is L v work =
+    let led = u.leads L v work in
+    let last = empty_end_is_step led.log (core rs' y1 v) t led.at.working led.at.at_work (sym led.at.undos ∙ none) runs led.at.free (ap (λ (o : Option State). may_log_in o (Ended t)) led.at.lives) in
+    record {
+      log = led.log;
+      steps = led.steps ++ Ends t ∷ [];
+      leads = subst (λ (x : SystemState). Leads L (core rs y v) (led.steps ++ Ends t ∷ []) (led.log ++ Ended t ∷ []) (core rs' x v)) (sym is)
+          (leads_on L led.log (led.log ++ Ended t ∷ []) (core rs y v) (core rs' y1 v) (core rs' (ended_logged y1 t) v) led.steps (Ends t ∷ []) led.leads (one_step led.log (led.log ++ Ended t ∷ []) (core rs' y1 v) (core rs' (ended_logged y1 t) v) (Ends t) last));
+    }
+
+pub undoes_keep : (rs rs' : List RegionState) (y z : SystemState) (t : ℕ) → UndoesFrom rs y t rs' z → Keeps y t z
+undoes_keep rs rs' y z t u = record { sizes = u.sizes; row = u.row; covered = λ old. u.covered }
+
+-- ---- the region of an undo
+pub undo_there : (rs : List RegionState) (y : SystemState) (t : ℕ) (u : Pending) → length rs ≡ regions y.sizes → AreCovered y t → next_undo (undos_at y.table t) 0 ≡ Some u → u.region < length rs
+undo_there rs y t u whole covered is =
+    let may = last_all (MayUndo y t) (undos_at y.table t) u covered (next_last (undos_at y.table t) u is) in
+    let less = kind_in y.sizes u.region (undo_op u.undo) may.kind in
+    omega (arith, less, whole)
+
+pub fewer_undos : (m : SystemState) (t : ℕ) (b : Block) (u : Pending) → IsSome (row_of m t) → next_undo (undos_at m.table t) 0 ≡ Some u → length (undos_at (back_logged m t b).table t) < length (undos_at m.table t)
+fewer_undos m t b u row is =
+    let popped = ap length ((changes_popped m.table t (undos_at m.table t)).undos refl row) in
+    let less = drop_one (undos_at m.table t) u (next_last (undos_at m.table t) u is) in
+    omega (arith, popped, less)
+
+-- ---- the loop over all undos
+pub wanted_undo : (o : Option Pending) (r : ℕ) → Region r ≡ want_of o → (u : Pending) × (o ≡ Some u) × (u.region ≡ r)
+wanted_undo None r e = absurd cc
+wanted_undo (Some u) r e = (u, refl, cc)
+
+pub none_wanted : (us : List Pending) (o : Option Pending) → o ≡ next_undo us 0 → ((r : ℕ) → want_of o ≡ Region r → ⊥) → us ≡ []
+none_wanted [] o e f = refl
+none_wanted (u ∷ us) o e f = absurd (some (table_last (u ∷ us)) refl (last_some u us))
+  where
+    last_some : (v : Pending) (vs : List Pending) → (w : Pending) × (table_last (v ∷ vs) ≡ Some w)
+    last_some v [] = (v, refl)
+    last_some v (x ∷ vs) = let rest = last_some x vs in let n : length (v ∷ x ∷ vs) - 1 ≡ suc (length (x ∷ vs) - 1) = omega arith in (rest.0, rw n rest.1)
+
+    test : nat_lt 0 (length (u ∷ us)) ≡ true
+    test = lt-ltb 0 (length (u ∷ us)) (omega arith)
+
+    some : (p : Option Pending) → table_last (u ∷ us) ≡ p → (w : Pending) × (table_last (u ∷ us) ≡ Some w) → ⊥
+    some p i w = f w.0.region (ap want_of (e ∙ (ap (λ (b : Bool). if b then table_last (u ∷ us) else None) test ∙ w.1)))
+
+pub undo_region : (rs0 rs : List RegionState) (y0 y : SystemState) (t r : ℕ) (next : Option Pending) → UndoesFrom rs0 y0 t rs y → next ≡ next_undo (undos_at y.table t) 0 → Region r ≡ want_of next → r < length rs
+undo_region rs0 rs y0 y t r next goes is want =
+    let u = wanted_undo next r want in
+    let there = undo_there rs y t u.0 goes.whole goes.covered (sym is ∙ u.1) in
+    subst (λ (n : ℕ). n < length rs) u.2 there
+
+pub undo_further : (rs0 rs : List RegionState) (y0 y z : SystemState) (t r : ℕ) (p q : TakeBack) (g h : RegionState) → Is64 t → UndoesFrom rs0 y0 t rs y → p.txn ≡ t → p.next ≡ next_undo (undos_at y.table t) 0 → Region r ≡ want_of p.next
+    → slice_get rs r ≡ Some g → Undone p g y q h z → UndoesFrom rs0 y0 t (slice_set rs r h) z
+undo_further rs0 rs y0 y z t r p q g h fits goes txn is want at o =
+    let u = wanted_undo p.next r want in
+    undoes_further rs0 rs (slice_set rs r h) y0 y z t goes (one_undone rs y z t r p q u.0 g h fits goes.whole goes.row goes.covered txn u.1 u.2 (sym is ∙ u.1) at o)
+
+pub undo_fewer : (y z : SystemState) (t r : ℕ) (p q : TakeBack) (g h : RegionState) → IsSome (row_of y t) → p.txn ≡ t → p.next ≡ next_undo (undos_at y.table t) 0 → Region r ≡ want_of p.next → Undone p g y q h z
+    → length (undos_at z.table t) < length (undos_at y.table t)
+undo_fewer y z t r p q g h row txn is want o =
+    let u = wanted_undo p.next r want in
+    subst (λ (x : SystemState). length (undos_at x.table t) < length (undos_at y.table t)) (sym (o.system ∙ ap (λ (n : ℕ). back_logged y n o.block) txn)) (fewer_undos y t o.block u.0 row (sym is ∙ u.1))
+
+pub undo_next : (y z : SystemState) (t : ℕ) (p q : TakeBack) (g h : RegionState) → p.txn ≡ t → p.down_to ≡ 0 → Undone p g y q h z → q.next ≡ next_undo (undos_at z.table t) 0
+undo_next y z t p q g h txn down o = ap (λ (x : TakeBack). x.next) o.next ∙ (ap (λ (n : ℕ). next_undo (undos_at z.table n) p.down_to) txn ∙ ap (next_undo (undos_at z.table t)) down)
+
+pub undo_refused : (rs0 rs : List RegionState) (y0 : SystemState) (s z : Served) (t r : ℕ) (p : TakeBack) (g h : RegionState) → UndoesFrom rs0 y0 t rs s.state → p.txn ≡ t → slice_get rs r ≡ Some g
+    → z ≡ s → IsLeftOf p.txn g h → UndoesFrom rs0 y0 t (slice_set rs r h) z.state
+undo_refused rs0 rs y0 s z t r p g h goes txn at still left =
+    subst (λ (x : Served). UndoesFrom rs0 y0 t (slice_set rs r h) x.state) (sym still)
+    (undoes_further rs0 rs (slice_set rs r h) y0 s.state s.state t goes (none_undone rs s.state t r g h goes.whole goes.row goes.covered at (subst (λ (n : ℕ). IsLeftOf n g h) txn left)))

@@ -1,0 +1,166 @@
+-- The words of an operation are written, one after another, and the operation is logged.
+use Rattle.std.proofs.Common.{inl, inr, inr, ◌≡◌, ℕ, ◌+◌, ◌-◌, ◌<◌, true, false, List, [], ◌∷◌, ◌++◌, Option, Some, None, IsSome, IsSomeAnd, IfSome, OnErr, Result, Ok, Err, refl, sym, ap, subst, ◌∙◌, length, arith}
+use Rattle.std.specs.Prelude.{◌^◌}
+use Rattle.dali_record.specs.declared.operations.Block.{Block}
+use Rattle.dali_record.specs.declared.records.Record.TheVariants.{Forward}
+use Rattle.dali_region.specs.declared.Hold.{Hold}
+use Rattle.dali_region.specs.State.{RegionState, IsLive, latched, with_reads, touched, taken_back}
+use Rattle.dali_system.specs.State.{SystemState}
+use Rattle.dali_system.specs.Steps.{op_logged, back_logged}
+use Rattle.dali_system.specs.Keeps.{HasRoom}
+use Rattle.dali_system.specs.Regions.{RegionStep, Latch, NoteReads, TakeBack, IsOpen}
+use Rattle.dali_core.specs.declared.operation.Operation.{Operation}
+use Rattle.dali_region.specs.declared.Receipt.{Receipt}
+use Rattle.dali_core.specs.declared.error.SystemError.{SystemError}
+use Rattle.dali_core.specs.declared.error.SystemError.TheVariants.{OutOfMemory as Memory}
+use Rattle.dali_core.specs.Served.{Served}
+use Rattle.dali_core.specs.UnderWay.{IsUnderWay, IsUpdated}
+use Rattle.dali_calls.specs.Steps.{call_key, IsBlockOf}
+use Rattle.dali_calls.specs.Plans.{Planned, plan_next, is_back, went_back, with_operation, commit_refusal, GoesOn}
+use Rattle.dali_record.specs.Spelling.{record_length}
+use Rattle.dali_single.specs.declared.error.StepError.TheVariants.{System}
+use Rattle.dali_single.specs.Refusals.{IsAnswerTo, IsRefused}
+use Rattle.dali_single.specs.Operated.{AreWritten, Goes, Operated, IsLeftOf}
+use Rattle.dali_single.proofs.Leading.{updates_on, updates_go, goes_on}
+
+-- how many are left
+abbrev pub words_left : Option Operation → ℕ
+words_left None = 0
+words_left (Some o) = length o.block.after - o.taken
+
+abbrev pub IsWay : Option Operation → RegionState → Type 0
+IsWay o g = IsSomeAnd o (λ o. IsUnderWay o.txn o.block o.left o.taken g)
+
+abbrev pub IsSameWay : Option Operation → Option Operation → Type 0
+IsSameWay o p = IfSome o (λ o. IsSomeAnd p (λ p. (p.txn ≡ o.txn) × (p.block ≡ o.block)))
+
+pub on_err : {T E : Type 0} (r : Result T E) (P : Type 0) → P → OnErr r P
+on_err (Ok x) P p = tt
+on_err (Err e) P p = p
+
+-- ---- one word more
+pub more_written : (g0 g h : RegionState) → AreWritten g0 g → IsUpdated g h → AreWritten g0 h
+more_written g0 g h w u = (w.0 ++ (u.0, u.1) ∷ [], updates_on g0 g h w.0 u.0 u.1 w.1 u.2 u.3)
+
+pub still_same : (a b c : Option Operation) → IsSameWay a b → IsSameWay b c → IsSameWay a c
+still_same None b c p q = tt
+still_same (Some o) None c p q = absurd p
+still_same (Some o) (Some b) None p q = absurd q
+still_same (Some o) (Some b) (Some c) p q = (q.0 ∙ p.0, q.1 ∙ p.1)
+
+pub fewer_left : (a b : Option Operation) (g h : RegionState) → IsWay a g → IsWay b h → IsSameWay a b → IfSome a (λ o. IsSomeAnd b (λ p. p.taken ≡ o.taken + 1)) → words_left b < words_left a
+fewer_left None b g h w v s t = absurd w
+fewer_left (Some a) None g h w v s t = absurd v
+fewer_left (Some a) (Some b) g h w v s t =
+    let same : length b.block.after ≡ length a.block.after = ap (λ (x : Block). length x.after) s.1 in
+    omega (arith, same, t, w.count, v.count)
+
+-- ---- the region from its latch on
+pub opened_by : (t : ℕ) (b : Block) (g g1 g2 : RegionState) → g.hold ≡ None → b.read < 2 ^ 64 → g1 ≡ with_reads b.read (latched t g) → AreWritten g1 g2 → (xs : List RegionStep) × Goes t g xs g2
+opened_by t b g g1 g2 free fits is w =
+    let rest = updates_go t g1 g2 w.0 w.1 in
+    let first : Goes t g (Latch t ∷ NoteReads b.read ∷ []) g1 = (free, refl, (((refl, refl), fits), tt, sym is)) in
+    (Latch t ∷ NoteReads b.read ∷ [] ++ rest.0, goes_on t g g1 g2 (Latch t ∷ NoteReads b.read ∷ []) rest.0 first rest.1)
+
+-- ---- what stands when the block is logged, or isn't
+-- the plan with its operation written, from its latch on
+pub record Written (p : Planned) (g : RegionState) (q : Planned) (h : RegionState) : Type 0 where
+  pub operation : Operation
+  pub is : q ≡ with_operation p (Some operation)
+  pub txn : operation.txn ≡ p.txn
+  pub of : IsBlockOf (plan_next p) (call_key p.call) operation.block
+  pub steps : List RegionStep
+  pub goes : Goes p.txn g steps h
+  pub is_open : IsOpen h operation.txn operation.block
+
+abbrev pub IsMade : Planned → RegionState → Option Operation → RegionState → Type 0
+IsMade p g o g1 = IsSomeAnd o (λ o. (o.txn ≡ p.txn) × IsBlockOf (plan_next p) (call_key p.call) o.block × IsUnderWay o.txn o.block o.left o.taken g1 × (g1 ≡ with_reads o.block.read (latched p.txn g)))
+
+pub written : (p p1 p2 : Planned) (g g1 g2 : RegionState) → g.hold ≡ None → IsMade p g p1.operation g1 → p1 ≡ with_operation p p1.operation
+    → IsSomeAnd p2.operation (λ o. IsOpen g2 o.txn o.block) → IsSameWay p1.operation p2.operation → p2 ≡ with_operation p1 p2.operation → AreWritten g1 g2
+    → Written p g p2 g2
+written p p1 p2 g g1 g2 free made one opened same two w = by_both p1.operation p2.operation refl refl made opened same
+  where
+    by_both : (a b : Option Operation) → p1.operation ≡ a → p2.operation ≡ b → IsMade p g a g1 → IsSomeAnd b (λ o. IsOpen g2 o.txn o.block) → IsSameWay a b → Written p g p2 g2
+    by_both None b i j m o s = absurd m
+    by_both (Some a) None i j m o s = absurd o
+    by_both (Some a) (Some b) i j m o s =
+        let goes = opened_by p.txn a.block g g1 g2 free m.1.spelled.read m.3 w in
+        record {
+          operation = b;
+          is = two ∙ (ap (λ (x : Planned). with_operation x p2.operation) one ∙ ap (with_operation p) j);
+          txn = s.0 ∙ m.0;
+          of = subst (IsBlockOf (plan_next p) (call_key p.call)) (sym s.1) m.1;
+          steps = goes.0;
+          goes = goes.1;
+          is_open = o;
+        }
+
+pub way_of : (p : Planned) (g : RegionState) (o : Option Operation) (g1 : RegionState) → IsMade p g o g1 → IsWay o g1
+way_of p g None g1 m = absurd m
+way_of p g (Some o) g1 m = m.2
+
+pub live_hold : (g : RegionState) (t : ℕ) (b : Block) → IsOpen g t b → IsLive g × IsSome g.hold
+live_hold g t b o = (subst (λ (h : Option Hold). IsSomeAnd h (λ k. k.dead ≡ false)) (sym o.hold) refl, subst (λ (h : Option Hold). IsSome h) (sym o.hold) refl)
+
+pub left_over : (p q : Planned) (g h k : RegionState) → Written p g q h → k ≡ taken_back h → IsLeftOf p.txn g k
+left_over p q g h k w is =
+    let held = live_hold h w.operation.txn w.operation.block w.is_open in
+    inr (w.steps ++ TakeBack ∷ [], goes_on p.txn g h k w.steps (TakeBack ∷ []) w.goes (held.1, held.0, sym is), ap (λ (x : RegionState). x.hold) is)
+
+pub as_before : (p q r : Planned) (g h : RegionState) → p.operation ≡ None → Written p g q h → r ≡ with_operation q None → r ≡ p
+as_before p q r g h closed w is = is ∙ (ap (λ (x : Planned). with_operation x None) w.is ∙ ap (with_operation p) (sym closed))
+
+error_is : (a b : SystemError) → (let r : Result Receipt SystemError = Err b in let q : Result Receipt SystemError = Err a in q ≡ r) → a ≡ b
+error_is a b e = cc
+
+pub refused_so : (p q : Planned) (g h : RegionState) (y : SystemState) (cause : SystemError) → Written p g q h
+    → IfSome q.operation (λ o. IfSome (commit_refusal (is_back q) y (record_length (Forward q.txn o.block))) (λ e. let r : Result Receipt SystemError = Err e in let q : Result Receipt SystemError = Err cause in q ≡ r))
+    → IfSome q.operation (λ o. commit_refusal (is_back q) y (record_length (Forward q.txn o.block)) ≡ None → cause ≡ Memory)
+    → IsRefused (is_back p) p.txn g y (System cause)
+refused_so p q g h y cause w refused memory =
+    let n = record_length (Forward p.txn w.operation.block) in
+    (n, inr (inl (w.operation.block, w.of.spelled, refl)), by_refusal (commit_refusal (is_back p) y n) refl)
+  where
+    given : IfSome (commit_refusal (is_back p) y (record_length (Forward p.txn w.operation.block))) (λ e. let r : Result Receipt SystemError = Err e in let q : Result Receipt SystemError = Err cause in q ≡ r)
+    given = subst (λ (x : Planned). IfSome x.operation (λ o. IfSome (commit_refusal (is_back x) y (record_length (Forward x.txn o.block))) (λ e. let r : Result Receipt SystemError = Err e in let q : Result Receipt SystemError = Err cause in q ≡ r))) w.is refused
+
+    else_memory : commit_refusal (is_back p) y (record_length (Forward p.txn w.operation.block)) ≡ None → cause ≡ Memory
+    else_memory = subst (λ (x : Planned). IfSome x.operation (λ o. commit_refusal (is_back x) y (record_length (Forward x.txn o.block)) ≡ None → cause ≡ Memory)) w.is memory
+
+    by_refusal : (o : Option SystemError) → commit_refusal (is_back p) y (record_length (Forward p.txn w.operation.block)) ≡ o → IsAnswerTo o cause
+    by_refusal None i = else_memory i
+    by_refusal (Some f) i = error_is cause f (subst (λ (o : Option SystemError). IfSome o (λ e. let r : Result Receipt SystemError = Err e in let q : Result Receipt SystemError = Err cause in q ≡ r)) i given)
+
+pub refused_still : (p q : Planned) (g h k : RegionState) (y z : Served) (cause : SystemError) → Written p g q h → z ≡ y
+    → IfSome q.operation (λ o. IfSome (commit_refusal (is_back q) y.state (record_length (Forward q.txn o.block))) (λ e. let r : Result Receipt SystemError = Err e in let q : Result Receipt SystemError = Err cause in q ≡ r))
+    → IfSome q.operation (λ o. commit_refusal (is_back q) y.state (record_length (Forward q.txn o.block)) ≡ None → cause ≡ Memory)
+    → IsRefused (is_back p) p.txn k z.state (System cause)
+refused_still p q g h k y z cause w still refused memory = subst (λ (x : Served). IsRefused (is_back p) p.txn k x.state (System cause)) (sym still) (refused_so p q g h y.state cause w refused memory)
+
+pub operated : (p q r : Planned) (g h k : RegionState) (y z : Served) → Written p g q h
+    → (is_back q ≡ false → IfSome q.operation (λ o. (z ≡ record y { state = op_logged y.state q.txn o.block }) × HasRoom y.state (Forward q.txn o.block) × GoesOn q o.block r))
+    → (is_back q ≡ true → IfSome q.operation (λ o. (z ≡ record y { state = back_logged y.state q.txn o.block }) × (y.state.stop ≡ None) × (r ≡ went_back q)))
+    → k ≡ touched h → Operated p g y.state r k z.state
+operated p q r g h k y z w onward back is = record {
+  block = w.operation.block;
+  of = w.of;
+  opened = h;
+  steps = w.steps;
+  goes = w.goes;
+  is_open = subst (λ (t : ℕ). IsOpen h t w.operation.block) w.txn w.is_open;
+  region = is;
+  onward = λ e. went_on (subst (λ (x : Planned). is_back x ≡ false → IfSome x.operation (λ o. (z ≡ record y { state = op_logged y.state x.txn o.block }) × HasRoom y.state (Forward x.txn o.block) × GoesOn x o.block r)) w.is onward e);
+  back = λ e. came_back (subst (λ (x : Planned). is_back x ≡ true → IfSome x.operation (λ o. (z ≡ record y { state = back_logged y.state x.txn o.block }) × (y.state.stop ≡ None) × (r ≡ went_back x))) w.is back e);
+}
+  where
+    b : Block
+    b = w.operation.block
+
+    went_on : (z ≡ record y { state = op_logged y.state p.txn b }) × HasRoom y.state (Forward p.txn b) × GoesOn (with_operation p (Some w.operation)) b r
+        → (z.state ≡ op_logged y.state p.txn b) × HasRoom y.state (Forward p.txn b) × GoesOn p b r
+    went_on h = (ap (λ (x : Served). x.state) h.0, h.1, record { follows = h.2.follows; begun = h.2.begun; changes = h.2.changes; rest = h.2.rest })
+
+    came_back : (z ≡ record y { state = back_logged y.state p.txn b }) × (y.state.stop ≡ None) × (r ≡ went_back p)
+        → (z.state ≡ back_logged y.state p.txn b) × (y.state.stop ≡ None) × (r ≡ went_back p)
+    came_back h = (ap (λ (x : Served). x.state) h.0, h.1, h.2)

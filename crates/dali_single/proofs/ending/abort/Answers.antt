@@ -1,0 +1,7 @@
+use Rattle.std.proofs.Common.{ap}
+use Rattle.dali_core.specs.Served.{Served}
+use Rattle.dali_single.proofs.Undoing.{abort_ends}
+use Rattle.dali_single.proofs.ending.abort.Goals as goal
+
+pub returns-in-Ok-ended-clause-ok : goal.returns-in-Ok-ended-clause-ok
+returns-in-Ok-ended-clause-ok c = abort_ends c.args.regions.now c.take_back.new.regions c.args.system.now.state c.take_back.new.system.state c.ended.new.self.state c.args.txn c.take_back.ensures.goes c.in-Ok.ensures.all c.in-Ok-ended.ensures.runs (ap (λ (s : Served). s.state) c.in-Ok-ended.ensures.ok)

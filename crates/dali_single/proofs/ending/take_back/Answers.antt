@@ -1,0 +1,42 @@
+use Rattle.std.proofs.Common.{ap, ◌∙◌}
+use Rattle.dali_core.specs.declared.take_back.TakeBack.{TakeBack}
+use Rattle.dali_single.proofs.Lists.{get_here}
+use Rattle.dali_single.proofs.Refusing.{refused_there}
+use Rattle.dali_single.proofs.Undoing.{undo_region, undo_further, undo_fewer, undo_next, none_wanted, undo_refused}
+use Rattle.dali_single.proofs.ending.take_back.Goals as goal
+
+pub bounds-regions-region : goal.bounds-regions-region
+bounds-regions-region c = undo_region c.args.regions.now c.loop-region.regions c.args.system.now.state c.loop-region.system.state c.args.txn c.in-Region.region c.loop-region.back.next c.loop-region.invariant.goes c.loop-region.invariant.next c.in-Region.ensures
+
+pub loop-region-smaller : goal.loop-region-smaller
+loop-region-smaller c = undo_fewer c.loop-region.system.state c.undo.new.system.state c.args.txn c.in-Region.region c.loop-region.back c.undo.new.back _ c.undo.new.region c.loop-region.invariant.goes.row c.loop-region.invariant.txn c.loop-region.invariant.next c.in-Region.ensures c.in-Ok.ensures.ok
+
+pub loop-region-preserved : goal.loop-region-preserved
+loop-region-preserved c =
+    let there = undo_region c.args.regions.now c.loop-region.regions c.args.system.now.state c.loop-region.system.state c.args.txn c.in-Region.region c.loop-region.back.next c.loop-region.invariant.goes c.loop-region.invariant.next c.in-Region.ensures in
+    let one = c.in-Ok.ensures.ok in
+    record {
+      goes = undo_further c.args.regions.now c.loop-region.regions c.args.system.now.state c.loop-region.system.state c.undo.new.system.state c.args.txn c.in-Region.region c.loop-region.back c.undo.new.back _ c.undo.new.region c.ranges.txn.fits c.loop-region.invariant.goes c.loop-region.invariant.txn c.loop-region.invariant.next c.in-Region.ensures (get_here c.loop-region.regions c.in-Region.region _ there) one;
+      txn = ap (λ (b : TakeBack). b.txn) one.next ∙ c.loop-region.invariant.txn;
+      down = ap (λ (b : TakeBack). b.down_to) one.next ∙ c.loop-region.invariant.down;
+      next = undo_next c.loop-region.system.state c.undo.new.system.state c.args.txn c.loop-region.back c.undo.new.back _ c.undo.new.region c.loop-region.invariant.txn c.loop-region.invariant.down one;
+      undoes = c.in-Ok.ensures.undoes;
+      closed = ap (λ (b : TakeBack). b.operation) one.next;
+    }
+
+pub returns-in-Err-clause-goes : goal.returns-in-Err-clause-goes
+returns-in-Err-clause-goes c =
+    let there = undo_region c.args.regions.now c.loop-region.regions c.args.system.now.state c.loop-region.system.state c.args.txn c.in-Region.region c.loop-region.back.next c.loop-region.invariant.goes c.loop-region.invariant.next c.in-Region.ensures in
+    undo_refused c.args.regions.now c.loop-region.regions c.args.system.now.state c.loop-region.system c.undo.new.system c.args.txn c.in-Region.region c.loop-region.back _ c.undo.new.region c.loop-region.invariant.goes c.loop-region.invariant.txn (get_here c.loop-region.regions c.in-Region.region _ there) c.in-Err.ensures.err.1 c.in-Err.ensures.err.2
+
+pub returns : goal.returns
+returns c = record {
+  goes = c.loop-region.invariant.goes;
+  all = none_wanted _ c.loop-region.back.next c.loop-region.invariant.next (λ r e. c.in_default.not-Region r (c.wants.ensures ∙ e));
+  cause = tt;
+}
+
+pub returns-in-Err-clause-cause : goal.returns-in-Err-clause-cause
+returns-in-Err-clause-cause c =
+    let there = undo_region c.args.regions.now c.loop-region.regions c.args.system.now.state c.loop-region.system.state c.args.txn c.in-Region.region c.loop-region.back.next c.loop-region.invariant.goes c.loop-region.invariant.next c.in-Region.ensures in
+    refused_there c.args.txn c.loop-region.back.txn c.loop-region.regions c.in-Region.region _ c.undo.new.region c.undo.new.system.state c.in-Err.cause c.loop-region.invariant.txn (get_here c.loop-region.regions c.in-Region.region c.undo.new.region there) c.in-Err.ensures.cause

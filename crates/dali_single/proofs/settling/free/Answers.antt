@@ -1,0 +1,16 @@
+use Rattle.std.proofs.Common.{rules, false, sym, ap, ◌∙◌}
+use Rattle.dali_region.specs.State.{taken_back}
+use Rattle.dali_core.specs.Served.{Served}
+use Rattle.dali_core.proofs.UnderWays.{latched_unheld}
+use Rattle.dali_single.proofs.Settled.{freed, free_left_over}
+use Rattle.dali_single.proofs.settling.free.Goals as goal
+
+pub returns-in-Ok-solo_op-clause-ok : goal.returns-in-Ok-solo_op-clause-ok
+returns-in-Ok-solo_op-clause-ok c =
+    let made = c.in-Ok.ensures.made in
+    (c.next-number.ensures, freed c.args.removal.now c.args.region.now c.start.new.region c.write_freed.new.region c.solo_op.new.region c.args.txn c.freeing_op-op.result c.in-Ok.operation c.write_freed.new.operation c.block.result.now c.args.system.now.state c.solo_op.new.self.state c.freeing_op-op.ensures (latched_unheld false c.args.region.now (sym c.in-Ok.ensures.latched.0)) made.0 made.1 made.2 c.in-Ok.ensures.latched.1 c.write_freed.ensures.written c.write_freed.ensures.same c.write_freed.ensures.is_open c.block.ensures (ap (λ (s : Served). s.state) c.in-Ok-solo_op.ensures.ok.0) c.in-Ok-solo_op.ensures.ok.1 c.in-Ok-solo_op.ensures.runs (search rules))
+
+pub returns-in-Err-solo_op-clause-err : goal.returns-in-Err-solo_op-clause-err
+returns-in-Err-solo_op-clause-err c =
+    let made = c.in-Ok.ensures.made in
+    (c.in-Err-solo_op.ensures.err.0, free_left_over c.args.region.now c.start.new.region c.write_freed.new.region c.take_back.new.self c.args.txn c.in-Ok.operation c.write_freed.new.operation (latched_unheld false c.args.region.now (sym c.in-Ok.ensures.latched.0)) made.1 made.2 c.in-Ok.ensures.latched.1 c.write_freed.ensures.written c.write_freed.ensures.same c.write_freed.ensures.is_open (c.take_back.ensures.after ∙ ap taken_back c.in-Err-solo_op.ensures.err.1))

@@ -1,0 +1,6 @@
+pub mod Operated
+pub mod Refusals
+pub mod Single
+pub mod Advanced
+pub mod Ending
+pub mod Settling

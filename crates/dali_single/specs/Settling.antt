@@ -1,0 +1,87 @@
+-- What a committed transaction removed is freed for good, by a thread that has the core alone.
+--     MayFree y t u            the undo u is a removal's, what frees it is on a region of its kind, and t has its key alone
+--     MayCommit L c t          t may call, and no number from the next one on was given
+--     Commits L c t us d       its commit is logged, and these removals are left to be freed
+--     IsCommitted L c t us     t is committed with these removals left, has no region latched, and no number from the next one on was given
+--     IsSettled L c t d        they were freed, and the log ends with its end
+--     IsLeft L c t left d, IsHalfSettled L c t d       some were freed, and these others are left
+--     AreFreed rs y t us left rs' z    of the removals us all but those left were freed, and steps of a core led to these regions and this system
+--     Freed u g y t h z        what the undo u would put back was freed on the region g, and the block logged by the system y
+use Rattle.std.specs.Prelude.{◌≡◌, ◌≤◌, ◌<◌, ◌^◌, ℕ, true, List, [], ◌∷◌, ◌++◌, Some, None, length}
+use Rattle.std.specs.List.{AllByRecursion}
+use Rattle.dali_geometry.specs.Places.{regions}
+use Rattle.dali_record.specs.declared.operations.Block.{Block}
+use Rattle.dali_record.specs.declared.operations.Pending.{Pending}
+use Rattle.dali_record.specs.declared.records.Record.{Record}
+use Rattle.dali_record.specs.declared.records.Record.TheVariants.{Commit, Ended}
+use Rattle.dali_record.specs.Blocks.{made}
+use Rattle.dali_record.specs.Legal.{is_removal, freeing_op, on_kind}
+use Rattle.dali_record.specs.Spelling.{IsUndo, IsBlock}
+use Rattle.dali_region.specs.State.{RegionState, touched}
+use Rattle.dali_att.specs.declared.state.State.TheVariants.{Committed}
+use Rattle.dali_att.specs.Table.{undos_at}
+use Rattle.dali_system.specs.State.{SystemState, VaultState, CoreState, state_of, lock_of}
+use Rattle.dali_system.specs.Run.{covers}
+use Rattle.dali_system.specs.Steps.{solo_logged}
+use Rattle.dali_system.specs.Keeps.{IsFree}
+use Rattle.dali_system.specs.Regions.{RegionStep, IsOpen}
+use Rattle.dali_system.specs.Courses.{Step}
+use Rattle.dali_facts.specs.Ends.{IsUnbegun, IsEnding}
+use Rattle.dali_single.specs.Operated.{Goes}
+use Rattle.dali_single.specs.Single.{core, Leads, MayCall}
+
+pub record MayFree (y : SystemState) (t : ℕ) (u : Pending) : Type 0 where
+  pub removal : is_removal u.undo ≡ true
+  pub spelled : IsUndo u.undo
+  pub kind : on_kind y.sizes u.region (freeing_op u.undo) ≡ true
+  pub lock : covers (lock_of y t u.key) true ≡ true
+
+pub record IsCommitted (L : List Record) (c : CoreState) (t : ℕ) (us : List Pending) : Type 0 where
+  pub ending : IsEnding c.system.sizes L t us
+  pub state : state_of c.system t ≡ Some Committed
+  pub free : IsFree c t
+  pub unbegun : (n : ℕ) → c.system.next ≤ n → IsUnbegun c.system.sizes L n
+
+pub record MayCommit (L : List Record) (c : CoreState) (t : ℕ) : Type 0 where
+  pub may : MayCall L c t
+  pub undos : undos_at c.system.table t ≡ may.working.undos
+  pub unbegun : (n : ℕ) → c.system.next ≤ n → IsUnbegun c.system.sizes L n
+
+pub record Commits (L : List Record) (c : CoreState) (t : ℕ) (us : List Pending) (d : CoreState) : Type 0 where
+  pub steps : List Step
+  pub leads : Leads L c steps (L ++ Commit t ∷ []) d
+  pub is : IsCommitted (L ++ Commit t ∷ []) d t us
+
+pub record IsSettled (L : List Record) (c : CoreState) (t : ℕ) (d : CoreState) : Type 0 where
+  pub log : List Record
+  pub steps : List Step
+  pub leads : Leads L c steps (log ++ Ended t ∷ []) d
+
+pub record IsLeft (L : List Record) (c : CoreState) (t : ℕ) (left : List Pending) (d : CoreState) : Type 0 where
+  pub log : List Record
+  pub steps : List Step
+  pub leads : Leads L c steps log d
+  pub at : IsCommitted log d t left
+
+abbrev pub IsHalfSettled : List Record → CoreState → ℕ → CoreState → Type 0
+IsHalfSettled L c t d = (left : List Pending) × IsLeft L c t left d
+
+pub record Freed (u : Pending) (g : RegionState) (y : SystemState) (t : ℕ) (h : RegionState) (z : SystemState) : Type 0 where
+  pub block : Block
+  pub words : List ℕ
+  pub made_on : block ≡ made words u.key u.region (freeing_op u.undo)
+  pub spelled : IsBlock block
+  pub opened : RegionState
+  pub steps : List RegionStep
+  pub goes : Goes t g steps opened
+  pub is_open : IsOpen opened t block
+  pub region : h ≡ touched opened
+  pub runs : y.stop ≡ None
+  -- the number that its record gets
+  pub fits : y.next < 2 ^ 64
+  pub system : z ≡ solo_logged y t block
+
+pub record AreFreed (rs : List RegionState) (y : SystemState) (t : ℕ) (us left : List Pending) (rs' : List RegionState) (z : SystemState) : Type 0 where
+  pub whole : length rs' ≡ regions z.sizes
+  pub may : AllByRecursion (MayFree z t) left
+  pub leads : (L : List Record) (v : VaultState) → IsCommitted L (core rs y v) t us → IsLeft L (core rs y v) t left (core rs' z v)

@@ -1,0 +1,107 @@
+//! A whole call.
+ghost use Rattle.std.specs.Prelude.{◌≡◌, Bool, true, List, None, IsSome, OnOk, OnErr, IfOk, IfErr, length};
+ghost use Rattle.dali_geometry.specs.Places.{regions as regions_of};
+ghost use Rattle.dali_record.specs.declared.records.Record.{Record};
+ghost use Rattle.dali_record.specs.Spelling.{IsCall};
+ghost use Rattle.dali_system.specs.State.{VaultState, row_of};
+ghost use Rattle.dali_calls.specs.declared.plan.Phase.TheVariants.{Calling, Refused as RefusedPhase};
+ghost use Rattle.dali_calls.specs.Plans.{plan_next, IsWhole};
+ghost use Rattle.dali_single.specs.Refusals.{IsRefusal};
+ghost use Rattle.dali_single.specs.Single.{core, MayCall, IsAnswered, Fails, Keeps};
+ghost use Rattle.dali_single.specs.Advanced.{Advanced, IsAtRest, Finished, GivenUp};
+
+use crate::error::{CallError, StepError};
+use crate::operate::operate;
+use dali_calls::Plan;
+use dali_core::{System, Want};
+use dali_locks::LockAnswer;
+use dali_record::{Answer, Call};
+use dali_region::Region;
+
+// Makes the operations of the plan, one after another, until it wants none.
+fn advance(plan: &mut Plan, regions: &mut [Region], system: &mut System) -> Result<(), StepError>
+    requires { IsAtRest regions.old system.old.state plan.old }
+    ensures goes { Advanced regions.old system.old.state plan.old regions.new system.new.state plan.new }
+    ensures ends { OnOk result (plan_next plan.new ≡ None) }
+    ensures whole { IsWhole plan.new }
+    ensures cause { IfErr result (λ e. (back : Bool) × (plan.old.phase ≡ RefusedPhase → back ≡ true) × IsRefusal back plan.old.txn regions.new system.new.state e) }
+{
+    while let Want::Region { region } = plan.wants() {
+        match operate(plan, &mut regions[region as usize], system) {
+            Ok(()) => {}
+            Err(cause) => return Err(cause),
+        }
+    }
+    Ok(())
+}
+
+// Makes the operations of a call, and logs its answer.
+fn finish(plan: &mut Plan, regions: &mut [Region], system: &mut System) -> Result<Answer, StepError>
+    requires rest { IsAtRest regions.old system.old.state plan.old }
+    requires calling { plan.old.phase ≡ Calling }
+    ensures ok { IfOk result (λ a. Finished regions.old system.old.state plan.old a regions.new system.new.state) }
+    ensures err { OnErr result (Advanced regions.old system.old.state plan.old regions.new system.new.state plan.new) }
+    ensures cause { IfErr result (λ e. (back : Bool) × IsRefusal back plan.old.txn regions.new system.new.state e) }
+{
+    match advance(plan, regions, system) {
+        Ok(()) => {}
+        Err(cause) => return Err(cause),
+    }
+    match plan.done(system) {
+        Ok((answer, _)) => Ok(answer),
+        Err(cause) => Err(StepError::System { cause }),
+    }
+}
+
+// Takes back what a refused call has changed.
+fn give_up(
+    plan: &mut Plan,
+    regions: &mut [Region],
+    system: &mut System,
+    cause: StepError,
+) -> CallError
+    requires rest { IsAtRest regions.old system.old.state plan.old }
+    requires calling { plan.old.phase ≡ Calling }
+    ensures { GivenUp result cause regions.old system.old.state plan.old regions.new system.new.state }
+{
+    plan.refuse();
+    match advance(plan, regions, system) {
+        Ok(()) => CallError::Refused { cause },
+        Err(cause) => CallError::HalfDone { cause },
+    }
+}
+
+/// Asks for the lock of a call, makes its operations one after another, and logs its answer. Where it is refused, what
+/// it had changed is taken back. It takes memory for its lock, its records and what takes it back.
+pub fn perform(
+    regions: &mut [Region],
+    system: &mut System,
+    txn: u64,
+    call: Call,
+) -> Result<Answer, CallError>
+    requires call { IsCall call }
+    requires whole { length regions.old ≡ regions_of system.old.state.sizes }
+    requires running { IsSome (row_of system.old.state txn) }
+    ensures keeps { Keeps system.old.state txn system.new.state }
+    ensures ok { IfOk result (λ a. (L : List Record) (v : VaultState) → MayCall L (core regions.old system.old.state v) txn
+        → IsAnswered L (core regions.old system.old.state v) txn call a (core regions.new system.new.state v)) }
+    ensures err { IfErr result (λ e. (L : List Record) (v : VaultState) → MayCall L (core regions.old system.old.state v) txn
+        → Fails e L (core regions.old system.old.state v) txn call (core regions.new system.new.state v)) }
+{
+    let mut plan = Plan::new(system.geometry(), txn, call);
+    let (key, mode) = plan.lock();
+    match system.request(txn, key, mode) {
+        Ok(LockAnswer::Granted) => {}
+        Ok(LockAnswer::Wait { holder }) => return Err(CallError::Wait { holder }),
+        Ok(LockAnswer::Busy { holder }) => return Err(CallError::Busy { holder }),
+        Err(cause) => {
+            return Err(CallError::Refused {
+                cause: cause.into(),
+            });
+        }
+    }
+    match finish(&mut plan, regions, system) {
+        Ok(answer) => Ok(answer),
+        Err(cause) => Err(give_up(&mut plan, regions, system, cause)),
+    }
+}

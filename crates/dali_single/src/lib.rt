@@ -1,0 +1,16 @@
+//! What a thread does that has regions and system to itself: whole calls, and how a transaction ends.
+#![tactic(auto)]
+
+mod call;
+mod ending;
+mod error;
+mod operate;
+mod settling;
+
+pub use call::perform;
+pub use ending::abort;
+pub use error::{CallError, StepError};
+pub use settling::{commit, settle};
+
+#[cfg(test)]
+mod tests;

@@ -1,0 +1,147 @@
+//! A transaction commits, and what it removed is freed for good.
+ghost use Rattle.std.specs.Prelude.{◌≡◌, List, [], None, Err, IsSome, IfSome, OnOk, OnErr, IfOk, IfErr, length, true};
+ghost use Rattle.std.specs.List.{AllByRecursion};
+ghost use Rattle.dali_geometry.specs.Places.{regions as regions_of};
+ghost use Rattle.dali_record.specs.declared.operations.Pending.{Pending as PendingOf};
+ghost use Rattle.dali_record.specs.declared.records.Record.{Record};
+ghost use Rattle.dali_record.specs.Legal.{freeing_op};
+ghost use Rattle.dali_region.specs.State.{RegionState};
+ghost use Rattle.dali_system.specs.State.{VaultState, row_of};
+ghost use Rattle.dali_system.specs.Regions.{IsOpen};
+ghost use Rattle.dali_core.specs.Refused.{stop_refusal};
+ghost use Rattle.dali_core.specs.UnderWay.{IsUnderWay};
+ghost use Rattle.dali_core.specs.declared.error.SystemError.TheVariants.{OutOfMemory as Memory};
+ghost use Rattle.dali_single.specs.Operated.{AreWritten, IsLeftOf};
+ghost use Rattle.dali_single.specs.Refusals.{IsRefused, IsRefusal};
+ghost use Rattle.dali_single.specs.Single.{core, AreCovered};
+ghost use Rattle.dali_single.specs.Settling.{MayFree, Freed, MayCommit, Commits, IsCommitted, AreFreed, IsSettled, IsHalfSettled};
+
+use crate::error::StepError;
+use dali_core::{Operation, System, SystemError};
+use dali_record::{Op, Pending, Undo, undo_op};
+use dali_region::Region;
+use std::alloc::Global;
+
+// What frees for good what this undo would put back.
+fn freeing_op(undo: &Undo) -> Op
+    ensures { result ≡ freeing_op undo.now }
+{
+    match undo {
+        Undo::ReviveCell { cell } => Op::FreeCell { cell: *cell },
+        Undo::ReviveEntry { entry } => Op::FreeEntry { entry: *entry },
+        _ => undo_op(undo),
+    }
+}
+
+// Writes all words of the open operation that frees.
+fn write_freed(operation: &mut Operation, region: &mut Region)
+    requires { IsUnderWay operation.old.txn operation.old.block operation.old.left operation.old.taken region.old }
+    ensures is_open { IsOpen region.new operation.new.txn operation.new.block }
+    ensures same { (operation.new.txn ≡ operation.old.txn) × (operation.new.block ≡ operation.old.block) }
+    ensures written { AreWritten region.old region.new }
+{
+    while operation.update(region) {}
+}
+
+// Frees what one undo would put back, and logs its block. Answers the number of its record.
+fn free(
+    removal: &Pending,
+    region: &mut Region,
+    system: &mut System,
+    txn: u64,
+) -> Result<u64, StepError>
+    requires { MayFree system.old.state txn removal.now }
+    ensures ok { IfOk result (λ number. (number ≡ system.old.state.next) × Freed removal.now region.old system.old.state txn region.new system.new.state) }
+    ensures err { OnErr result ((system.new ≡ system.old) × IsLeftOf txn region.old region.new) }
+    ensures cause { IfErr result (λ e. IsRefused true txn region.new system.new.state e) }
+{
+    let number = system.next();
+    let op = freeing_op(&removal.undo);
+    let mut operation = match Operation::start(
+        region,
+        removal.region,
+        txn,
+        removal.key,
+        op,
+        false,
+    ) {
+        Ok(operation) => operation,
+        Err(cause) => return Err(StepError::Latch { cause }),
+    };
+    write_freed(&mut operation, region);
+    match system.solo_op(region, txn, operation.block()) {
+        Ok(_) => Ok(number),
+        Err(cause) => {
+            region.take_back();
+            Err(StepError::System { cause })
+        }
+    }
+}
+
+// Frees what each of these undos would put back.
+fn free_all(
+    regions: &mut [Region],
+    system: &mut System,
+    txn: u64,
+    removals: &[Pending],
+) -> Result<(), StepError>
+    requires whole { length regions.old ≡ regions_of system.old.state.sizes }
+    requires may { AllByRecursion (MayFree system.old.state txn) removals.now }
+    ensures ok { OnOk result (AreFreed regions.old system.old.state txn removals.now [] regions.new system.new.state) }
+    ensures err { OnErr result ((left : List PendingOf) × AreFreed regions.old system.old.state txn removals.now left regions.new system.new.state) }
+    ensures cause { IfErr result (λ e. IsRefusal true txn regions.new system.new.state e) }
+{
+    for removal in removals {
+        match free(removal, &mut regions[removal.region as usize], system, txn) {
+            Ok(_) => {}
+            Err(cause) => return Err(cause),
+        }
+    }
+    Ok(())
+}
+
+/// Commits a transaction: memory for what follows is promised, and its commit is logged. Answers what it removed, for
+/// `settle`. The commit is durable once the system's frame is flushed. It takes memory for both, and is refused where
+/// the system has stopped, or for want of memory.
+pub fn commit(alloc: Global, system: &mut System, txn: u64) -> Result<Vec<Pending>, SystemError>
+    requires running { IsSome (row_of system.old.state txn) }
+    requires covered { AreCovered system.old.state txn }
+    ensures sizes { system.new.state.sizes ≡ system.old.state.sizes }
+    ensures may { IfOk result (λ removals. AllByRecursion (MayFree system.new.state txn) removals.items) }
+    ensures ok { IfOk result (λ removals. (L : List Record) (rs : List RegionState) (v : VaultState) → MayCommit L (core rs system.old.state v) txn
+        → Commits L (core rs system.old.state v) txn removals.items (core rs system.new.state v)) }
+    ensures err { OnErr result (system.new.state ≡ system.old.state) }
+    ensures refused { IfSome (stop_refusal system.old.state) (λ e. result ≡ Err e) }
+    ensures memory { stop_refusal system.old.state ≡ None → IfErr result (λ e. e ≡ Memory) }
+{
+    let removals = system.ready(alloc, txn)?;
+    system.commit(txn)?;
+    Ok(removals)
+}
+
+/// Frees for good what a committed transaction removed, one after another, and logs its end. `removals` is what
+/// `commit` answered, or those of it that are left. Where that is refused what was freed stays so.
+/// It takes memory only where none was promised.
+pub fn settle(
+    regions: &mut [Region],
+    system: &mut System,
+    txn: u64,
+    removals: &[Pending],
+) -> Result<(), StepError>
+    requires whole { length regions.old ≡ regions_of system.old.state.sizes }
+    requires may { AllByRecursion (MayFree system.old.state txn) removals.now }
+    ensures ok { OnOk result ((L : List Record) (v : VaultState) → IsCommitted L (core regions.old system.old.state v) txn removals.now
+        → IsSettled L (core regions.old system.old.state v) txn (core regions.new system.new.state v)) }
+    ensures err { OnErr result ((L : List Record) (v : VaultState) → IsCommitted L (core regions.old system.old.state v) txn removals.now
+        → IsHalfSettled L (core regions.old system.old.state v) txn (core regions.new system.new.state v)) }
+    ensures cause { IfErr result (λ e. IsRefusal true txn regions.new system.new.state e) }
+{
+    match free_all(regions, system, txn, removals) {
+        Ok(()) => {}
+        Err(cause) => return Err(cause),
+    }
+    match system.ended(txn) {
+        Ok(_) => Ok(()),
+        Err(cause) => Err(StepError::System { cause }),
+    }
+}

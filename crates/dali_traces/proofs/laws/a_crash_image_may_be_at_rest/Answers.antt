@@ -1,5 +1,0 @@
-use Rattle.dali_traces.proofs.Traces.{crash_rests}
-use Rattle.dali_traces.proofs.laws.a_crash_image_may_be_at_rest.Goals as goal
-
-pub returns : goal.returns
-returns c = crash_rests

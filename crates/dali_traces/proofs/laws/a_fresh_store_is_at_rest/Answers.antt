@@ -1,5 +1,0 @@
-use Rattle.dali_traces.proofs.Traces.{fresh_rests}
-use Rattle.dali_traces.proofs.laws.a_fresh_store_is_at_rest.Goals as goal
-
-pub returns : goal.returns
-returns c = fresh_rests
