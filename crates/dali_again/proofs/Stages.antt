@@ -1,12 +1,12 @@
 -- Each stage of a restart answers alike, and each call of it leaves a stage.
-use Rattle.std.proofs.Common.{◌≡◌, ℕ, true, zero, suc, ◌+◌, ◌≤◌, List, [], ◌∷◌, ◌++◌, length, take, drop, None, append_assoc, refl, ap, sym, subst, ◌∙◌, ◌⊎◌, inl, inr, ⊎_elim, arith}
+use Rattle.std.proofs.Common.{◌≡◌, ℕ, true, zero, suc, ◌+◌, ◌<◌, ◌≤◌, List, [], ◌∷◌, ◌++◌, length, take, drop, None, append_assoc, refl, ap, sym, subst, ◌∙◌, ◌⊎◌, inl, inr, ⊎_elim, arith}
 use Rattle.std.specs.Prelude.{sum_by}
 use Rattle.std.specs.List.{AllByRecursion, list_all}
-use Rattle.std.proofs.lemmas.List.{append-nil}
+use Rattle.std.proofs.lemmas.List.{append-nil, length-append}
 use Rattle.std.proofs.lemmas.List.Concat.{flat_map-append}
 use Rattle.dali_geometry.specs.Sizes.{Sizes}
 use Rattle.dali_record.specs.declared.records.Record.{Record}
-use Rattle.dali_record.specs.declared.records.Record.TheVariants.{Restarted}
+use Rattle.dali_record.specs.declared.records.Record.TheVariants.{Format, Restarted}
 use Rattle.dali_record.specs.Epochs.{Cut, last_epoch}
 use Rattle.dali_record.specs.Damage.{rolled_list, deleted_list}
 use Rattle.dali_record.specs.Spelling.{record_length}
@@ -21,14 +21,20 @@ use Rattle.dali_history.proofs.Restarts.{IsHistory-restarted, sizes_of-restarted
 use Rattle.dali_store.specs.declared.store.FileName.TheVariants.{Log, Anchor}
 use Rattle.dali_store.specs.Store.{Files as Disk, SameBut}
 use Rattle.dali_batch.specs.Appending.{Adds, next_place}
-use Rattle.dali_batch.specs.Log.{AreSpelled, LogOf, records_in}
-use Rattle.dali_batch.proofs.Rows.{grown}
+use Rattle.dali_batch.specs.Batch.{IsBody, IsClosedAt, batches}
+use Rattle.dali_batch.specs.Log.{AreSpelled, HasFormat, IsFront, LogOf, bodies, records_in}
+use Rattle.dali_batch.proofs.Rows.{batches-append, bodies-append, grown}
+use Rattle.dali_batch.proofs.Unique.{one_log}
+use Rattle.dali_counts.proofs.Lists.{take_take}
 use Rattle.dali_system.specs.Run.{log_in}
 use Rattle.dali_crash.specs.Checkpoints.{side_of, turned as turned_to}
+use Rattle.dali_crash.proofs.Starts.{lawful}
 use Rattle.dali_crash.specs.Fitting.{FitsWhole}
 use Rattle.dali_traces.specs.Disks.{AllSpell, IsAnchor, IsImageOf, Spells, image_file, image_name, sizes_in}
 use Rattle.dali_traces.specs.Bridges.{closed_head}
-use Rattle.dali_traces.proofs.Bridges.{ends_at, spells_unmoved}
+use Rattle.dali_traces.proofs.Bridges.{batches_length, ends_at, spells_unmoved}
+use Rattle.dali_traces.proofs.Once.{anchor_once}
+use Rattle.dali_traces.specs.Anchors.{AreAnchored}
 use Rattle.dali_traces.proofs.Changes.{spells_beside, spells_longer, spells_turned}
 use Rattle.dali_resume.specs.Again.{Outcome, closing, closed_log, with_closing, turned, outcome_is}
 use Rattle.dali_resume.specs.Onward.{FitsFront, HandedOut, IsAgainOnward, verdict_of}
@@ -36,7 +42,7 @@ use Rattle.dali_resume.specs.Batches.{misplaced, records_of, verdict_over}
 use Rattle.dali_resume.proofs.Batches.{answers_over_batches, both_good, fits_in_batches, front_answers_over_batches}
 use Rattle.dali_resume.proofs.Onward.{base_restarted}
 use Rattle.dali_resume.proofs.Stopped.{restarts_onward}
-use Rattle.dali_again.specs.Stages.{IsRestarting, IsFound, IsLogged, IsTurned, AnswersAs, EveryStageAnswers, StartsBehind, FoundLogged, closing_bodies, HoldsImage, AppendStages, Appended, MoveStages, Moved, Written}
+use Rattle.dali_again.specs.Stages.{IsRestarting, IsFound, IsLogged, IsTurned, AnswersAs, EveryStageAnswers, StartsBehind, FoundLogged, closing_bodies, HoldsImage, IsAppending, IsMoving, AppendStages, Appended, LogSettles, MoveStages, Moved, AnchorSettles, Written}
 
 -- ---- the files
 again_at : (L : List Record) (B : List (List Record)) (n : ℕ) (D : Files) → IsRestarting L B → IsFound L B n D → IsAgainOnward L D
@@ -137,7 +143,7 @@ same_sizes L = sizes_of-restarted L (rolled_list (last_epoch L)) (deleted_list (
 
 pub starts_behind : StartsBehind
 starts_behind L B n F s w g log rules fits may end current = record {
-  history = subst IsHistory (sym log) (closed_history L B w);
+  lawful = lawful s.log (subst IsHistory (sym log) (closed_history L B w));
   rules = rules;
   fits = fits;
   rests = record {
@@ -191,16 +197,77 @@ logged_by L B n c d l D w f is same log adds =
     spells_longer c d D ((closing L ∷ []) ∷ []) (next_place (sum_by batch_length B) (closing_bodies L)) is same
     (subst (λ M. LogOf c.log (M ++ (closing L ∷ []) ∷ []) (next_place (sum_by batch_length B) (closing_bodies L))) (sym f.batches) (grown l.log c.log B ((closing L ∷ []) ∷ []) (sum_by batch_length B) log (closing_spelled L B w) adds))
 
+-- the first batch of a log with one batch more, where it isn't this one
+format_first : (B : List (List Record)) (x : List Record) → HasFormat (B ++ x ∷ []) → 0 < length B → HasFormat B
+format_first [] x format some = absurd (omega (arith, some))
+format_first (b ∷ B) x format some = (format.0, format.1, B, ap (λ z. z ∷ B) (let e : b ≡ Format format.0 format.1 ∷ [] = cc in e))
+
+some_batch : (L : List Record) (B : List (List Record)) → IsRestarting L B → 0 < length B
+some_batch L B w = by_batches B (w.batches)
+  where
+    by_batches : (C : List (List Record)) → records_in C ≡ L → 0 < length C
+    by_batches [] e = absurd (no_record L (sym e) w.some.2)
+      where
+        no_record : (K : List Record) → K ≡ [] → (last_epoch K).records ≡ w.some.0 ∷ w.some.1 → ⊥
+        no_record [] q h = cc
+        no_record (r ∷ K) q h = cc
+    by_batches (b ∷ C) e = omega arith
+
+-- where the log ends before the batch it hasn't the batch
+more_at_least : {X : Type 0} (B : List X) (x : X) → B ≡ B ++ x ∷ [] → ⊥
+more_at_least B x e = omega (arith, ap length e, length-append B (x ∷ []))
+
+all_first : {X : Type 0} (P : X → Type 0) (xs ys : List X) → AllByRecursion P (xs ++ ys) → AllByRecursion P xs
+all_first P [] ys all = tt
+all_first P (x ∷ xs) ys all = (all.0, all_first P xs ys all.1)
+
+closed_before : (bytes : List ℕ) (B : List (List Record)) (x : List Record) (e : ℕ) → LogOf bytes (B ++ x ∷ []) e → HasFormat B → IsClosedAt (sum_by batch_length B) bytes → ⊥
+closed_before bytes B x e log format closed = more_at_least B x (one_log bytes B (B ++ x ∷ []) (sum_by batch_length B) e shorter log).0
+  where
+    p : ℕ
+    p = length (batches (bodies B))
+
+    parts : take e bytes ≡ batches (bodies B) ++ batches (bodies (x ∷ []))
+    parts = log.front.spells ∙ (ap batches (bodies-append B (x ∷ [])) ∙ batches-append (bodies B) (bodies (x ∷ [])))
+
+    within : length (batches (bodies B)) ≤ e
+    within = omega (arith, log.front.place, ap length (ap batches (bodies-append B (x ∷ [])) ∙ batches-append (bodies B) (bodies (x ∷ []))), length-append (batches (bodies B)) (batches (bodies (x ∷ []))))
+
+    spells : take (length (batches (bodies B))) bytes ≡ batches (bodies B)
+    spells = sym (take_take (length (batches (bodies B))) e bytes within) ∙ (ap (take p) parts ∙ take_front (batches (bodies B)) (batches (bodies (x ∷ []))))
+
+    front : IsFront bytes B p
+    front = record { place = refl; spells = spells; sizes = all_first IsBody (bodies B) (bodies (x ∷ [])) (subst (AllByRecursion IsBody) (bodies-append B (x ∷ [])) log.front.sizes); each = all_first AreSpelled B (x ∷ []) log.front.each; first = inr format }
+
+    at : length (batches (bodies B)) ≡ sum_by batch_length B
+    at = batches_length B front.each
+
+    shorter : LogOf bytes B (sum_by batch_length B)
+    shorter = record { front = subst (IsFront bytes B) at front; format = format; closed = closed }
+
+found_of : (L : List Record) (B : List (List Record)) (n : ℕ) (d : Disk) (F : Files) → IsRestarting L B → Spells d F → IsAppending L B n F → IsClosedAt (sum_by batch_length B) d.log → IsFound L B n F
+found_of L B n d F w is (inl f) closed = f
+found_of L B n d F w is (inr g) closed =
+    let log : LogOf d.log (B ++ (closing L ∷ []) ∷ []) is.end = subst (λ M. LogOf d.log M is.end) (ap (λ (z : Files). z.batches) g.2 ∙ ap (λ M. M ++ (closing L ∷ []) ∷ []) g.1.batches) is.log in
+    absurd (closed_before d.log B (closing L ∷ []) is.end log (format_first B (closing L ∷ []) log.format (some_batch L B w)) closed)
+
+all_found : (old : Disk → Type 0) (L : List Record) (B : List (List Record)) (n : ℕ) → IsRestarting L B → AllSpell old (IsAppending L B n) → ((d : Disk) → old d → IsClosedAt (sum_by batch_length B) d.log) → AllSpell old (IsFound L B n)
+all_found old L B n w all closed d left = let D = all d left in (D.0, D.1, found_of L B n d D.0 w D.1 D.2 (closed d left))
+
 pub appended : (old : Disk → Type 0) → Appended old
-appended old L B n w all c added =
+appended old L B n w either closed c added =
+    let all = all_found old L B n w either closed in
     let o = added.others in
     let l = added.log in
     let D = all o.0 o.1 in
     (with_closing L D.0, logged_by L B n c o.0 l.0 D.0 w D.2 D.1 o.2 (found_at old L B n all l.0 l.1) l.2, (D.0, D.2, refl))
 
 pub append_stages : (old : Disk → Type 0) → AppendStages old
-append_stages old L B n w all c added = by_count added.log.2 added.log.3 added.log.4
+append_stages old L B n w either closed c added = by_count added.log.2 added.log.3 added.log.4
   where
+    all : AllSpell old (IsFound L B n)
+    all = all_found old L B n w either closed
+
     o : (d : Disk) × old d × SameBut Log d c
     o = added.others
 
@@ -231,11 +298,36 @@ append_stages old L B n w all c added = by_count added.log.2 added.log.3 added.l
 logged_gates : (L : List Record) (B : List (List Record)) (n : ℕ) (F : Files) → IsLogged L B n F → F.gates ≡ n
 logged_gates L B n F g = ap (λ (z : Files). z.gates) g.2 ∙ g.1.gates
 
-pub written : (old new : Disk → Type 0) → Written old new
-written old new L B n all same c left =
+appending_gates : (L : List Record) (B : List (List Record)) (n : ℕ) (F : Files) → IsAppending L B n F → F.gates ≡ n
+appending_gates L B n F (inl f) = f.gates
+appending_gates L B n F (inr g) = logged_gates L B n F g
+
+written_as : (old new : Disk → Type 0) (P : Files → Type 0) (n : ℕ) → ((c : Disk) → new c → (d : Disk) × old d × SameBut (image_name (side_of (n + 1))) d c) → ((F : Files) → P F → F.gates ≡ n) → AllSpell old P → AllSpell new P
+written_as old new P n same gates all c left =
     let w = same c left in
     let F = all w.0 w.1 in
-    (F.0, spells_beside c w.0 F.0 F.1 (subst (λ m. SameBut (image_name (side_of (m + 1))) w.0 c) (sym (logged_gates L B n F.0 F.2)) w.2), F.2)
+    (F.0, spells_beside c w.0 F.0 F.1 (subst (λ m. SameBut (image_name (side_of (m + 1))) w.0 c) (sym (gates F.0 F.2)) w.2), F.2)
+
+pub written : (old new : Disk → Type 0) → Written old new
+written old new L B n same = (written_as old new (IsAppending L B n) n same (appending_gates L B n), written_as old new (IsLogged L B n) n same (logged_gates L B n))
+
+-- ---- a sync of the log
+logged_log : (L : List Record) (B : List (List Record)) (n : ℕ) (c : Disk) (F : Files) (is : Spells c F) → IsLogged L B n F → LogOf c.log (B ++ (closing L ∷ []) ∷ []) is.end
+logged_log L B n c F is g = subst (λ M. LogOf c.log M is.end) (ap (λ (z : Files). z.batches) g.2 ∙ ap (λ M. M ++ (closing L ∷ []) ∷ []) g.1.batches) is.log
+
+pub log_settles : (old new : Disk → Type 0) → LogSettles old new
+log_settles old new L B n end fs all settled = (
+  λ log c left. let D = all c (settled c left).0 in (D.0, D.1, found D.0 c D.1 D.2 (subst (λ bytes. LogOf bytes B end) (sym (settled c left).1) log)),
+  λ log c left. let D = all c (settled c left).0 in (D.0, D.1, logged D.0 c D.1 D.2 (subst (λ bytes. LogOf bytes (B ++ (closing L ∷ []) ∷ []) end) (sym (settled c left).1) log)),
+)
+  where
+    found : (F : Files) (c : Disk) → Spells c F → IsAppending L B n F → LogOf c.log B end → IsFound L B n F
+    found F c is (inl f) log = f
+    found F c is (inr g) log = absurd (more_at_least B (closing L ∷ []) (one_log c.log B (B ++ (closing L ∷ []) ∷ []) end is.end log (logged_log L B n c F is g)).0)
+
+    logged : (F : Files) (c : Disk) → Spells c F → IsAppending L B n F → LogOf c.log (B ++ (closing L ∷ []) ∷ []) end → IsLogged L B n F
+    logged F c is (inl f) log = absurd (more_at_least B (closing L ∷ []) (one_log c.log B (B ++ (closing L ∷ []) ∷ []) is.end end (subst (λ M. LogOf c.log M is.end) f.batches is.log) log).0)
+    logged F c is (inr g) log = g
 
 -- ---- the anchor
 turned_is : (L : List Record) (B : List (List Record)) (n : ℕ) (D : Files) → IsRestarting L B → IsFound L B n D → turned_to (with_closing L D) (closed_head (n + 1) B) (recovered (sizes_of L) L) ≡ turned L D
@@ -254,17 +346,39 @@ turns L B n c d F w g is same anchor holds = (
   (g.0, g.1, refl),
 )
 
+-- an anchor without the new gate names no new image
+turned_gates : (L : List Record) (B : List (List Record)) (n : ℕ) (F : Files) → IsTurned L B n F → F.gates ≡ n + 1
+turned_gates L B n F g = ap (λ (z : Files). z.gates) g.2 ∙ ap (λ m. m + 1) g.1.gates
+
+logged_of : (L : List Record) (B : List (List Record)) (n : ℕ) (d : Disk) (F : Files) → Spells d F → IsMoving L B n F → IsAnchor d.anchor n → IsLogged L B n F
+logged_of L B n d F is (inl g) anchor = g
+logged_of L B n d F is (inr t) anchor = absurd (omega (arith, anchor_once d.anchor n F.gates anchor is.anchor, turned_gates L B n F t))
+
+turned_of : (L : List Record) (B : List (List Record)) (n : ℕ) (d : Disk) (F : Files) → Spells d F → IsMoving L B n F → IsAnchor d.anchor (n + 1) → IsTurned L B n F
+turned_of L B n d F is (inl g) anchor = absurd (omega (arith, anchor_once d.anchor (n + 1) F.gates anchor is.anchor, logged_gates L B n F g))
+turned_of L B n d F is (inr t) anchor = t
+
+all_logged : (old : Disk → Type 0) (L : List Record) (B : List (List Record)) (n : ℕ) → AllSpell old (IsMoving L B n) → AreAnchored old n → AllSpell old (IsLogged L B n)
+all_logged old L B n all anchored d left = let D = all d left in (D.0, D.1, logged_of L B n d D.0 D.1 D.2 (anchored d left))
+
 pub moved : (old : Disk → Type 0) → Moved old
-moved old L B n w all holds c has =
+moved old L B n w either anchored holds c has =
     let o = has.others in
-    let F = all o.0 o.1 in
+    let F = all_logged old L B n either anchored o.0 o.1 in
     turns L B n c o.0 F.0 w F.2 F.1 o.2 has.anchor (holds o.0 o.1)
 
 pub move_stages : (old : Disk → Type 0) → MoveStages old
-move_stages old L B n w all holds c may =
+move_stages old L B n w either anchored holds c may =
     let o = may.others in
-    let F = all o.0 o.1 in
+    let F = all_logged old L B n either anchored o.0 o.1 in
     ⊎_elim
     (λ stays. (F.0, spells_unmoved c o.0 F.0 o.2 (subst (IsAnchor c.anchor) (sym (logged_gates L B n F.0 F.2)) stays) F.1, inl F.2))
     (λ more. let G = turns L B n c o.0 F.0 w F.2 F.1 o.2 more (holds o.0 o.1) in (G.0, G.1, inr G.2))
     may.anchor
+
+-- ---- a sync of the anchor
+pub anchor_settles : (old new : Disk → Type 0) → AnchorSettles old new
+anchor_settles old new L B n fs all settled = (
+  λ anchor c left. let D = all c (settled c left).0 in (D.0, D.1, logged_of L B n c D.0 D.1 D.2 (subst (λ bytes. IsAnchor bytes n) (sym (settled c left).1) anchor)),
+  λ anchor c left. let D = all c (settled c left).0 in (D.0, D.1, turned_of L B n c D.0 D.1 D.2 (subst (λ bytes. IsAnchor bytes (n + 1)) (sym (settled c left).1) anchor)),
+)

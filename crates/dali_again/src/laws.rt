@@ -1,6 +1,6 @@
 //! Laws over the definitions, each the contract of a function that does nothing.
 
-ghost use Rattle.dali_again.specs.Stages.{EveryStageAnswers, StartsBehind, FoundLogged, AppendStages, Appended, Written, MoveStages, Moved};
+ghost use Rattle.dali_again.specs.Stages.{EveryStageAnswers, StartsBehind, FoundLogged, AppendStages, Appended, LogSettles, Written, MoveStages, Moved, AnchorSettles};
 
 use dali_store::Store;
 
@@ -14,20 +14,24 @@ pub fn each_stage_of_a_restart_answers_alike()
 {}
 
 /// Whatever a crash leaves while the batch of Restarted is appended: the files as they were found, or with that batch;
-/// and once it was appended, with that batch.
+/// and once it was appended, with that batch. So it is of an append that is made again behind a fault, without a crash.
+/// Behind a sync of the log, as after such a fault, each disk is as reads of the log tell.
 pub fn an_append_in_a_restart_leaves_a_stage<V: Store>()
     ensures meanwhile { (v : V) → AppendStages (V.may_leave v) }
     ensures behind { (v : V) → Appended (V.may_leave v) }
+    ensures settles { (v w : V) → LogSettles (V.may_leave v) (V.may_leave w) }
 {}
 
-/// However much of the other image is written, the files read as they did.
+/// However much of the other image is written, the files read as they did, with the batch or without it.
 pub fn a_write_in_a_restart_leaves_its_stage<V: Store>()
     ensures { (v w : V) → Written (V.may_leave v) (V.may_leave w) }
 {}
 
 /// Whatever a crash leaves while the anchor is moved to the image that was written: the files as they were, or with this
-/// image; and once it was moved, with this image.
+/// image; and once it was moved, with this image. So it is of a move that is made again behind a fault, without a crash.
+/// Behind a sync of the anchor each disk is as reads of it tell.
 pub fn a_move_in_a_restart_leaves_a_stage<V: Store>()
     ensures meanwhile { (v : V) → MoveStages (V.may_leave v) }
     ensures behind { (v : V) → Moved (V.may_leave v) }
+    ensures settles { (v w : V) → AnchorSettles (V.may_leave v) (V.may_leave w) }
 {}

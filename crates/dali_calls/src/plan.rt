@@ -1,5 +1,5 @@
 //! The plan of one call.
-ghost use Rattle.std.specs.Prelude.{◌≡◌, ◌≤◌, ◌+◌, [], ◌++◌, not, ◌==◌, Some, None, Ok, Err, OnOk, OnErr, IfOk, IfErr, IfSome, IsSome, IsSomeAnd, true, false, length};
+ghost use Rattle.std.specs.Prelude.{◌≡◌, ◌≤◌, ◌+◌, ◌&&◌, [], ◌++◌, not, ◌==◌, Some, None, Ok, Err, OnOk, OnErr, IfOk, IfErr, IfSome, IsSome, IsSomeAnd, true, false, length};
 ghost use Rattle.dali_record.specs.declared.records.Record.TheVariants.{Forward, Done};
 ghost use Rattle.dali_record.specs.Calls.{follow};
 ghost use Rattle.dali_record.specs.Calls;
@@ -76,6 +76,13 @@ fn takes_back(answer: &Answer) -> bool
         answer,
         Answer::FullHeap | Answer::FullIndex | Answer::Odd { .. }
     )
+}
+
+// Whether an operation latches with the precheck: one that takes back doesn't.
+fn prechecks(back: bool, precheck: bool) -> bool
+    ensures { result ≡ (not back && precheck) }
+{
+    !back && precheck
 }
 
 // Notes what takes the block back, where it changed something.
@@ -163,13 +170,14 @@ impl Plan {
         }
     }
 
-    /// Latches the region that is wanted, and makes the block of the next operation. Refused exactly as the latch; plan
-    /// and region are then as before.
+    /// Latches the region that is wanted, and makes the block of the next operation. What takes back latches without
+    /// the precheck. Refused exactly as the latch; plan and region are then as before.
     pub fn latch(&mut self, region: &mut Region, precheck: bool) -> Result<(), LatchError>
         requires wants { IsSome (plan_next self.old) }
         requires closed { self.old.operation ≡ None }
-        ensures answer { result ≡ latch_answer precheck region.old }
+        ensures answer { result ≡ latch_answer (not (Plans.is_back self.old) && precheck) region.old }
         ensures refused { OnErr result ((self.new ≡ self.old) × (region.new ≡ region.old)) }
+        ensures checked { Plans.is_back self.old ≡ false → precheck ≡ true → OnOk result (region.old.stray ≡ 0) }
         ensures made { OnOk result (IsSomeAnd self.new.operation (λ o. (o.txn ≡ self.old.txn) × IsBlockOf (plan_next self.old) (call_key self.old.call) o.block
             × IsUnderWay o.txn o.block o.left o.taken region.new × (region.new ≡ with_reads o.block.read (latched self.old.txn region.old)))) }
         ensures same { self.new ≡ with_operation self.old self.new.operation }
@@ -183,7 +191,7 @@ impl Plan {
             self.txn,
             key_of(&self.call),
             op,
-            precheck,
+            prechecks(self.is_back(), precheck),
         )?;
         self.operation = Some(operation);
         Ok(())

@@ -1,13 +1,13 @@
 -- The clean-up of a dead transaction.
---     Cleaned                  what contracts see of it: the region that the dead client's operation still latches, the undo that is performed
---                              next, and the operation that performs it, while it is open
+--     Cleaned                  what contracts see of it: whether it has its claim, the region that the dead client's operation still latches, the
+--                              undo that is performed next, and the operation that performs it, while it is open
 --     want_of c                what it needs next
 --     IsLeft t g               the region has the hold with which the client of t died
---     MayLatch c g             what a latch asks: a hold that its dead client left, or an undo to be performed
+--     MayLatch c g             what a latch asks: the claim, and a hold that its dead client left, or an undo to be performed
 --     clean_answer ..          what a latch answers
 --     is_claimed st            the transaction is claimed
 --     IsWhole c                what is true of every clean-up
-use Rattle.std.specs.Prelude.{◌≡◌, ℕ, Bool, true, ⊤, Option, Some, None, IsSome, IsSomeAnd, Result, Ok}
+use Rattle.std.specs.Prelude.{◌≡◌, ℕ, Bool, true, false, ⊤, Option, Some, None, IsSome, IsSomeAnd, Result, Ok}
 use Rattle.dali_record.specs.declared.operations.Pending.{Pending}
 use Rattle.dali_record.specs.Spelling.{IsUndo}
 use Rattle.dali_region.specs.State.{RegionState}
@@ -17,22 +17,25 @@ use Rattle.dali_att.specs.declared.state.State.{State}
 use Rattle.dali_att.specs.declared.state.State.TheVariants.{Cleaning}
 use Rattle.dali_core.specs.TakenBack.{IsUndoBlock}
 use Rattle.dali_core.specs.declared.want.Want.{Want}
-use Rattle.dali_core.specs.declared.want.Want.TheVariants.{Region, Done}
+use Rattle.dali_core.specs.declared.want.Want.TheVariants.{Region, Done, Nothing}
 use Rattle.dali_core.specs.declared.operation.Operation.{Operation}
 
 pub record Cleaned : Type 0 where
   pub txn : ℕ
+  -- a refusal gives the claim back
+  pub claimed : Bool
   pub latched : Option ℕ
   pub next : Option Pending
   pub operation : Option Operation
 
-abbrev pub want_in : Option ℕ → Option Pending → Want
-want_in (Some r) o = Region r
-want_in None (Some u) = Region u.region
-want_in None None = Done
+abbrev pub want_in : Bool → Option ℕ → Option Pending → Want
+want_in false latched o = Nothing
+want_in true (Some r) o = Region r
+want_in true None (Some u) = Region u.region
+want_in true None None = Done
 
 abbrev pub want_of : Cleaned → Want
-want_of c = want_in c.latched c.next
+want_of c = want_in c.claimed c.latched c.next
 
 abbrev pub IsLeft : ℕ → RegionState → Type 0
 IsLeft t g = IsSomeAnd g.hold (λ h. (h.dead ≡ true) × (h.txn ≡ t))
@@ -42,7 +45,7 @@ may_latch t (Some r) o g = IsLeft t g
 may_latch t None o g = IsSome o
 
 abbrev pub MayLatch : Cleaned → RegionState → Type 0
-MayLatch c g = may_latch c.txn c.latched c.next g
+MayLatch c g = (c.claimed ≡ true) × may_latch c.txn c.latched c.next g
 
 abbrev pub clean_answer : Option ℕ → Bool → RegionState → Result (Unit {0}) LatchError
 clean_answer (Some r) precheck g = Ok tt

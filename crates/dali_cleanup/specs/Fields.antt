@@ -4,7 +4,7 @@ use Rattle.dali_cleanup.specs.declared.cleaning.Cleaning.TheInside.{Inside}
 use Rattle.dali_cleanup.specs.Cleaned.{Cleaned, IsWhole}
 
 abbrev pub cleaned_of : Inside → Cleaned
-cleaned_of c = record { txn = c.back.txn; latched = c.latched; next = c.back.next; operation = c.back.operation }
+cleaned_of c = record { txn = c.back.txn; claimed = c.claimed; latched = c.latched; next = c.back.next; operation = c.back.operation }
 
 abbrev pub IsWholeInside : Inside → Type 0
 IsWholeInside c = IsWhole (cleaned_of c) × (c.back.down_to ≡ 0)

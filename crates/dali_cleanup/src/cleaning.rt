@@ -1,5 +1,5 @@
 //! The clean-up of a dead transaction, made as steps.
-ghost use Rattle.std.specs.Prelude.{◌≡◌, not, ◌==◌, false, Some, None, OnOk, OnErr, IfOk, IfErr, IfSome, IsSomeAnd, Option as OptionOf, Err, ℕ};
+ghost use Rattle.std.specs.Prelude.{◌≡◌, not, ◌==◌, true, false, Some, None, OnOk, OnErr, IfOk, IfErr, IfSome, IsSomeAnd, Option as OptionOf, Err, ℕ};
 ghost use Rattle.std.specs.FinMap as map;
 ghost use Rattle.dali_att.specs.Table.{undos_at};
 ghost use Rattle.dali_att.specs.declared.state.State.TheVariants.{Dead, Cleaning as Claimed};
@@ -27,6 +27,7 @@ use std::marker::Model;
 /// claim is given back: the transaction is dead again, and may be claimed anew.
 #[derive(Drop)]
 pub struct Cleaning {
+    claimed: bool,
     latched: Option<u32>,
     back: TakeBack,
 }
@@ -48,12 +49,13 @@ impl Cleaning {
         ensures dead { IfOk result (λ c. state_of system.old.state txn ≡ Some (Dead c.latched)) }
         ensures ok { IfOk result (λ c. system.new ≡ record system.old { state = in_state system.old.state txn (Claimed c.latched) }) }
         ensures claimed { OnOk result (IsSomeAnd (state_of system.new.state txn) is_claimed) }
-        ensures plan { IfOk result (λ c. (c.txn ≡ txn) × (c.next ≡ next_undo (undos_at system.new.state.table txn) 0) × (c.operation ≡ None)) }
+        ensures plan { IfOk result (λ c. (c.txn ≡ txn) × (c.next ≡ next_undo (undos_at system.new.state.table txn) 0) × (c.operation ≡ None) × (c.claimed ≡ true)) }
         ensures err { OnErr result (system.new ≡ system.old) }
         ensures not_dead { OnErr result ((latched : OptionOf ℕ) → state_of system.old.state txn ≡ Some (Dead latched) → ⊥) }
     {
         let latched = system.claim(txn)?;
         Ok(Cleaning {
+            claimed: true,
             latched,
             back: TakeBack::new(system, txn, 0),
         })
@@ -66,6 +68,13 @@ impl Cleaning {
         self.back.txn()
     }
 
+    /// Whether it has its claim still: a commit that is refused gives it back, and then nothing is wanted any more.
+    pub fn claimed(&self) -> bool
+        ensures { result ≡ self.now.claimed }
+    {
+        self.claimed
+    }
+
     /// The region that the dead client's operation still latches.
     pub fn latched(&self) -> Option<u32>
         ensures { result ≡ self.now.latched }
@@ -73,10 +82,13 @@ impl Cleaning {
         self.latched
     }
 
-    /// What it needs next: a region, or the end of the clean-up.
+    /// What it needs next: a region, or the end of the clean-up; nothing where the claim was given back.
     pub fn wants(&self) -> Want
         ensures { result ≡ want_of self.now }
     {
+        if !self.claimed {
+            return Want::Nothing;
+        }
         if let Some(region) = self.latched {
             return Want::Region { region };
         }
@@ -121,7 +133,8 @@ impl Cleaning {
 
     /// Logs the block of the open operation, all of whose words are written, and takes the undo that is the last one
     /// then. The undo that it has performed is to be the last one of the transaction still. Where that is refused the
-    /// operation is taken back, and the transaction is dead again: a clean-up that is claimed anew goes on.
+    /// operation is taken back, and the transaction is dead again: this clean-up wants nothing more, and one that is
+    /// claimed anew goes on.
     pub fn commit(
         &mut self,
         region: &mut Region,
@@ -135,7 +148,7 @@ impl Cleaning {
         ensures next { OnOk result (self.new ≡ record self.old { next = next_undo (undos_at system.new.state.table self.old.txn) 0; operation = None }) }
         ensures number { IfOk result (λ receipt. receipt.number ≡ system.old.state.records) }
         ensures runs { OnOk result (system.old.state.stop ≡ None) }
-        ensures err { OnErr result ((system.new ≡ record system.old { state = in_state system.old.state self.old.txn (Dead None) }) × (region.new ≡ taken_back region.old) × (self.new ≡ record self.old { operation = None })) }
+        ensures err { OnErr result ((system.new ≡ record system.old { state = in_state system.old.state self.old.txn (Dead None) }) × (region.new ≡ taken_back region.old) × (self.new ≡ record self.old { operation = None; claimed = false })) }
         ensures refused { IfSome (stop_refusal system.old.state) (λ e. result ≡ Err e) }
         ensures memory { stop_refusal system.old.state ≡ None → IfErr result (λ e. e ≡ Memory) }
     {
@@ -143,6 +156,7 @@ impl Cleaning {
             Ok(receipt) => Ok(receipt),
             Err(error) => {
                 system.mark_dead(self.back.txn(), None);
+                self.claimed = false;
                 Err(error)
             }
         }

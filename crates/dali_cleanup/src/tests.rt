@@ -40,7 +40,7 @@ fn recover(cleaning: &mut Cleaning, region: &mut Region) -> bool
     let (Some(_), Some(hold)) = (cleaning.latched(), region.hold()) else {
         return false;
     };
-    if hold.dead && hold.txn == cleaning.txn() {
+    if cleaning.claimed() && hold.dead && hold.txn == cleaning.txn() {
         return cleaning.latch(region, true).is_ok();
     }
     false
@@ -179,6 +179,9 @@ fn take_back(
     requires closed { cleaning.old.operation ≡ None }
     requires last { cleaning.old.next ≡ next_undo (undos_at system.old.state.table cleaning.old.txn) 0 }
 {
+    if !cleaning.claimed() {
+        return None;
+    }
     let (Want::Region { .. }, None) = (cleaning.wants(), cleaning.latched()) else {
         return None;
     };
@@ -214,6 +217,37 @@ fn a_put_is_cleaned_up(rt: HostRuntime) -> Result<()> {
             true,
             Some(Ok(Receipt { number: 5 })),
             (0, (Some(Ok(Receipt { number: 6 })), None))
+        )
+    );
+    Ok(())
+}
+
+#[test]
+fn a_refused_commit_gives_the_claim_back(rt: HostRuntime) -> Result<()> {
+    let mut system = system(&rt)?;
+    let mut region = formatted().context("no region")?;
+    let begun = (system.begin(), put_in(&mut system, &mut region, 5));
+    let dead = die(&mut system, 5, None);
+    let mut cleaning = Cleaning::claim(&mut system, 5)?;
+    let first = cleaning.wants();
+    system.stop();
+    let cause = Cause::Store;
+    let back = take_back(&mut cleaning, &mut region, &mut system);
+    // the put stands as it was, and the stale clean-up wants nothing of it
+    let left = (
+        region.words()[8],
+        region.hold(),
+        cleaning.wants(),
+        system.state(5),
+    );
+    assert_eq!(rt;
+        (begun.0.is_ok(), dead, first, back, left),
+        (
+            true,
+            true,
+            Want::Region { region: 1 },
+            Some(Err(SystemError::Stopped { cause })),
+            (1, None, Want::Nothing, Some(State::Dead { latched: None }))
         )
     );
     Ok(())

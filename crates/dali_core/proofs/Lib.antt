@@ -6,3 +6,4 @@ pub mod Systems
 pub mod Guards
 pub mod RowsAre
 pub mod Totals
+pub mod Lights

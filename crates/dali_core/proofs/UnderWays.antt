@@ -3,13 +3,13 @@ use Rattle.std.proofs.Common.{◌≡◌, ◌≢◌, ℕ, zero, suc, ◌+◌, ◌
 use Rattle.std.specs.Prelude.{◌==◌, if◌then◌else◌, Result, Ok, Err}
 use Rattle.std.specs.Int.{bit_at}
 use Rattle.std.specs.Int.Count.{count_trailing_zeros}
-use Rattle.std.specs.Int.Bits.{or_zero_l, or_zero_r, xor_zero_l}
+use Rattle.std.specs.Int.Bits.{or_zero_l, or_zero_r, xor_zero_l, xor_self}
 use Rattle.std.proofs.lemmas.Nat.{and_mask, and_assoc, and_comm, and_le_l, zero_from_ones, pow_pos}
 use Rattle.std.proofs.lemmas.Nat.Bits.{bit_at_and, bit_at-lt, and_pow, bit_at-trailing_zeros}
 use Rattle.std.proofs.lemmas.List.{length-set}
 use Rattle.std.proofs.lemmas.Bool.Decides.{Decides-eqb}
 use Rattle.std.specs.Int.{w64}
-use Rattle.dali_words.specs.Words.{xor_under, write_under}
+use Rattle.dali_words.specs.Words.{xor_under, write_under, parity_of}
 use Rattle.dali_record.specs.declared.operations.Op.{Op}
 use Rattle.dali_record.specs.declared.operations.Block.{Block}
 use Rattle.dali_record.specs.Spelling.{IsBlock, is_within, is_outcome_of, undoes}
@@ -18,7 +18,7 @@ use Rattle.dali_record.proofs.Whole.{made_reads}
 use Rattle.dali_region.specs.declared.Hold.{Hold}
 use Rattle.dali_region.specs.State.{RegionState, IsProtected, HasRead, latched, with_reads, updated, map_hold, writing}
 use Rattle.dali_region.specs.declared.LatchError.{LatchError}
-use Rattle.dali_region.specs.declared.LatchError.TheVariants.{Latched, DeadHolder}
+use Rattle.dali_region.specs.declared.LatchError.TheVariants.{Latched, DeadHolder, Damaged}
 use Rattle.dali_region.specs.Answers.{latch_answer}
 use Rattle.dali_region.proofs.Holds.{unheld-same}
 use Rattle.dali_system.specs.Regions.{IsOpen}
@@ -163,3 +163,22 @@ latched_unheld precheck g e = by_hold g.hold refl
     by_hold : (o : Option Hold) → g.hold ≡ o → g.hold ≡ None
     by_hold None is = is
     by_hold (Some h) is = absurd (refused h h.dead refl (e ∙ ap (λ (o : Option Hold). latch_answer precheck (record g { hold = o })) is))
+
+-- with precheck the codeword told no damage
+pub clean_latched : (g : RegionState) → IsProtected g → Ok tt ≡ latch_answer true g → g.stray ≡ 0
+clean_latched g whole e = by_parity (g.codeword == parity_of g.words) refl
+  where
+    damaged : Bool → Result (Unit {0}) LatchError
+    damaged same = if not same then Err (Damaged g.codeword (parity_of g.words)) else Ok tt
+
+    stands : Ok tt ≡ damaged (g.codeword == parity_of g.words)
+    stands = e ∙ ap (λ (o : Option Hold). latch_answer true (record g { hold = o })) (latched_unheld true g e)
+
+    by_parity : (same : Bool) → (g.codeword == parity_of g.words) ≡ same → g.stray ≡ 0
+    by_parity true i =
+        let same : g.codeword ≡ parity_of g.words = (Decides-eqb g.codeword (parity_of g.words)).0 i in
+        sym whole.codeword ∙ (ap (λ (n : ℕ). bit_xor n (parity_of g.words)) same ∙ xor_self (parity_of g.words))
+    by_parity false i = absurd (let f : Ok tt ≡ damaged false = stands ∙ ap damaged i in cc)
+
+pub checked_latch : (precheck : Bool) (g : RegionState) → IsProtected g → Ok tt ≡ latch_answer precheck g → precheck ≡ true → g.stray ≡ 0
+checked_latch precheck g whole e on = clean_latched g whole (e ∙ ap (λ (b : Bool). latch_answer b g) on)

@@ -10,3 +10,4 @@ pub mod Asked
 pub mod UnderWay
 pub mod Audits
 pub mod TakenBack
+pub mod Light

@@ -14,7 +14,8 @@ pub enum SystemError {
     /// The log has no room: `end` and the record's length are more than `limit`.
     #[error("log full: {end} of {limit} bytes")]
     LogFull { end: u64, limit: u64 },
-    /// Memory was wanted and refused; or a batch would have more than 2^30 bytes, or all records more than 2^62.
+    /// Memory was wanted and refused; or the batch of what isn't flushed would have more than 2^30 bytes. (All records
+    /// would have more than 2^62 in no run.)
     #[error("out of memory")]
     OutOfMemory,
 }

@@ -1,5 +1,5 @@
 //! The operation that is open on a region, from its latch to its record.
-ghost use Rattle.std.specs.Prelude.{◌≡◌, ◌<◌, ◌+◌, ℕ, true, false, Ok, Err, IfOk, IfErr, OnErr, not, ◌==◌};
+ghost use Rattle.std.specs.Prelude.{◌≡◌, ◌<◌, ◌+◌, ℕ, true, false, Ok, Err, IfOk, IfErr, OnOk, OnErr, not, ◌==◌};
 ghost use Rattle.dali_record.specs.Spelling.{IsOperation, IsBlock};
 ghost use Rattle.dali_record.specs.Blocks.{made};
 ghost use Rattle.dali_region.specs.State.{latched, with_reads};
@@ -22,7 +22,8 @@ pub struct Operation {
 
 impl Operation {
     /// Latches the region with this number for the transaction, notes what the operation on this key reads, and makes
-    /// its block. Refused exactly as the latch; the region is then as before.
+    /// its block. Refused exactly as the latch; the region is then as before. With precheck the region's codeword tells
+    /// no stray write.
     pub fn start(
         region: &mut Region,
         number: u32,
@@ -34,6 +35,7 @@ impl Operation {
         requires { IsOperation op }
         ensures refused { IfErr result (λ e. (latch_answer precheck region.old ≡ Err e) × (region.new ≡ region.old)) }
         ensures latched { IfOk result (λ o. (latch_answer precheck region.old ≡ Ok tt) × (region.new ≡ with_reads o.block.read (latched txn region.old))) }
+        ensures checked { precheck ≡ true → OnOk result (region.old.stray ≡ 0) }
         ensures made { IfOk result (λ o. (o.block ≡ made region.old.words key number op) × IsBlock o.block × (o.txn ≡ txn)) }
         ensures under_way { IfOk result (λ o. IsUnderWay txn o.block o.left o.taken region.new) }
     {

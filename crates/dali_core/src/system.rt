@@ -1,6 +1,6 @@
 //! The system.
 ghost use Rattle.std.specs.Prelude.{not, true, false, IsSomeAnd, Option as OptionOf, ◌≡◌, ◌≢◌, ◌≤◌, ◌<◌, ◌+◌, ◌^◌, ◌++◌, ◌-◌, [], ◌∷◌, Some, None, Err, length, drop, filter, map, OnOk, OnErr, IfOk, IfErr, IfSome, IsSome, IsOk, ℕ};
-ghost use Rattle.dali_record.specs.declared.records.Record.TheVariants.{Begin, Forward, Back, Done, Solo};
+ghost use Rattle.dali_record.specs.declared.records.Record.TheVariants.{AuditBegin, Begin, Forward, Back, Done, Solo};
 ghost use Rattle.dali_record.specs.Spelling.{CanBeSpelled, IsBlock, IsUndo, is_solo, record_length};
 ghost use Rattle.dali_record.specs.Legal.{dead_of};
 ghost use Rattle.dali_batch.specs.Log.{body_bytes};
@@ -334,6 +334,13 @@ impl System {
         self.next += 1;
         region.touch();
         Ok(Receipt { number })
+    }
+
+    /// Why an audit can't begin now, if so: the system has stopped, or the log is full.
+    pub fn audit_refusal(&self) -> Option<SystemError>
+        ensures { result ≡ audit_refusal self.now.state AuditBegin }
+    {
+        room(self.stop, self.end, self.limit + AUDIT_ROOM, 1).err()
     }
 
     /// Logs a record of an audit; one that failed stops the engine. The begin of an audit is refused as a record that

@@ -272,15 +272,15 @@ is_short s [] legal spelled = omega arith
 is_short s (x ∷ L) legal spelled = omega (arith, bounded s (sizes_most s x L legal.rules (spelled 0 x refl)) (x ∷ L) legal.rules spelled legal.scans, is_small s (x ∷ L) legal)
 
 -- ---- a file
-parts : (batches : List (List Record)) → ((i : ℕ) (b : List Record) → slice_get batches i ≡ Some b → 1 ≤ length b) → sum_by batch_length batches ≤ sum_by record_length (flat_map (λ b. b) batches) + 5 * length (flat_map (λ b. b) batches)
-parts [] some = omega arith
-parts (b ∷ bs) some =
+pub batches_framed : (batches : List (List Record)) → ((i : ℕ) (b : List Record) → slice_get batches i ≡ Some b → 1 ≤ length b) → sum_by batch_length batches ≤ sum_by record_length (flat_map (λ b. b) batches) + 5 * length (flat_map (λ b. b) batches)
+batches_framed [] some = omega arith
+batches_framed (b ∷ bs) some =
     let rest : List Record = flat_map (λ b. b) bs in
     let bytes : sum_by record_length (flat_map (λ b. b) (b ∷ bs)) ≡ sum_by record_length b + sum_by record_length rest = sum_by-append record_length b rest in
     let number : length (flat_map (λ b. b) (b ∷ bs)) ≡ length b + length rest = length-append b rest in
     let all : sum_by batch_length (b ∷ bs) ≡ (0 + (5 + sum_by record_length b)) + sum_by batch_length bs = sum_by-append batch_length (b ∷ []) bs in
     let one : 1 ≤ length b = some 0 b refl in
-    omega (arith, one, parts bs (λ i c e. some (suc i) c e), bytes, number, all)
+    omega (arith, one, batches_framed bs (λ i c e. some (suc i) c e), bytes, number, all)
 
 pub file_is_short : FileIsShort
-file_is_short s batches legal spelled some = omega (arith, is_short s (flat_map (λ b. b) batches) legal spelled, parts batches some)
+file_is_short s batches legal spelled some = omega (arith, is_short s (flat_map (λ b. b) batches) legal spelled, batches_framed batches some)

@@ -22,6 +22,7 @@ use Rattle.dali_system.specs.ImageSteps.{told_with}
 use Rattle.dali_system.specs.Worked.{small, first_log, first_vault, first_files, formatted_files}
 use Rattle.dali_crash.specs.Checkpoints.{Copy, Point, Does, Starts, Keeps, copy_at, Copies, WritesHead, Syncs, Turns, Finishes, target, head_now, head_with, synced_with, copies_with, copies_after, IsCertified, MayTurn, IsPointStep, with_current, with_flag, Came, IsTurnedFrom, StoreStep, Traced, moment_of}
 use Rattle.dali_crash.specs.Checkpointed.{new_head, checkpoint_start, checkpoint_steps, WorkedCheckpoint, batches_2, batches_3, checkpoint_from, moved_files}
+use Rattle.dali_crash.proofs.Starts.{lawful}
 use Rattle.dali_crash.proofs.Courses.{format_is_history}
 use Rattle.dali_system.proofs.Worked.{logs_by}
 use Rattle.dali_system.proofs.RowStates.{begun_state, commit_state}
@@ -263,12 +264,12 @@ trace : Traced checkpoint_start first_files checkpoint_steps m19 crash
 trace = to_end (Syncs ∷ Turns ∷ Finishes ∷ []) m19 crash (m17, files_3, step_17, refl, (m18, crash, step_18, turned_3, (m19, crash, step_19, refl, (refl, refl))))
 
 -- ---- where it starts
-history : IsHistory first_log
+pub history : IsHistory first_log
 history = format_is_history small (refl, refl)
 
 fresh : IsFreshImage first_log first_vault first_files
 fresh = record {
-  vault = record { runs = refl; flushed = refl; faults = omega arith; faults_fit = omega arith };
+  vault = record { runs = refl; flushed = refl; faults = omega arith; faults_fit = omega arith; short = omega arith; moved = omega arith };
   none = refl;
   files = record { log = refl; kind = inl (record { batches = refl; gates = refl; place = refl; first = refl; weight = refl; next = refl; image = refl; table = refl }) };
   end = refl;
@@ -276,10 +277,10 @@ fresh = record {
 }
 
 pub starts : StartsAt checkpoint_from first_files
-starts = record { history = history; rules = refl; fits = omega arith; rests = fresh_rests first_log first_vault first_files history fresh }
+starts = record { lawful = lawful first_log history; rules = refl; fits = omega arith; rests = fresh_rests first_log first_vault first_files fresh }
 
 pub right : (xs : List StoreStep) (q : Point) (F : Files) → list_any store_pokes xs ≡ false → Traced checkpoint_start first_files xs q F → CrashIsRightWith first_log q.core F
-right xs q F quiet t = (unpoked_trace_is_right checkpoint_from first_files starts xs q F quiet t).0
+right xs q F quiet t = (unpoked_trace_is_right checkpoint_from first_files history starts xs q F quiet t).0
 
 pub worked_checkpoint : WorkedCheckpoint
 unfolding crash

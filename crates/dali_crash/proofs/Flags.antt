@@ -8,7 +8,7 @@ use Rattle.dali_counts.proofs.Lists.{some_same}
 use Rattle.dali_system.specs.State.{CoreState}
 use Rattle.dali_system.specs.ImageSteps.{same_side, told_with}
 use Rattle.dali_system.specs.Flushes.{frame_of, with_batch}
-use Rattle.dali_system.specs.Courses.{Step, Begins, Operates, TakesBack, Frees, Answers, Commits, Ends, AuditBegins, AuditEnds, Locks, Refuses, OnRegion, Passes, Dies, Claims, GivesBack, Recovers, Stops, Checkpoints, Takes, Flushes, Faults, Moment, IsStepAt}
+use Rattle.dali_system.specs.Courses.{Step, Begins, Operates, TakesBack, Frees, Answers, Commits, Ends, AuditBegins, AuditEnds, Locks, Refuses, OnRegion, Passes, Dies, Claims, GivesBack, Recovers, Stops, Checkpoints, Takes, Flushes, Faults, ReadFails, Moment, IsStepAt}
 use Rattle.dali_crash.specs.Checkpoints.{Head, Copy, Point, pass_copy, passes_region, target, head_with, synced_with, StoreStep, Does, Starts, Keeps, Copies, Skips, WritesHead, Syncs, Turns, CopyFails, HeadFails, SyncFails, TurnFails, Finishes, is_of_checkpoint, IsPointCourse, Came, IsPointStep, moment_of}
 use Rattle.dali_crash.specs.StoreRuns.{point_start, FlagTells, FlagStays, CourseFlagTells, FlagChanges, LeavesImages, IdleLeavesImages, KeptStays, IsLeft, SyncedStays}
 use Rattle.dali_crash.proofs.StepLeaves.{vault_goes, core_came}
@@ -40,6 +40,7 @@ same_flag m n (Checkpoints b) quiet s = absurd (cc)
 same_flag m n Takes quiet s = ap flag s.0.1
 same_flag m n Flushes quiet s = ap flag s.0.1.1
 same_flag m n (Faults k) quiet s = ap flag s.0.2.1
+same_flag m n (ReadFails k) quiet s = ap flag s.0.1.1
 
 -- flag and what was kept are as before
 as_before : (st new : Point) → flag new.core ≡ flag st.core → new.begun ≡ st.begun → FlagTells st → FlagTells new

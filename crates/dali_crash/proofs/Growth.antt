@@ -76,6 +76,8 @@ course_grows bases before st new xs run course = record {
     acknowledged = λ t h. subst (λ M. Contains (committed (take n M)) t) w.run.log (stays t h);
     stopped = w.vault.stopped;
   };
+  more = w.more;
+  log = w.log;
   records = records;
 }
   where

@@ -79,7 +79,7 @@ placed_frame bs [] front place inside p = p
 placed_frame bs (r ∷ rs) front place inside p = placed_still bs (r ∷ rs) front place (first_of_plain (r ∷ rs) inside) p
 
 -- the files with a frame hold n records where they held them before
-held_frame : (F D : Files) (frame : List Record) (n : ℕ) → F ≡ with_frame D frame → n ≤ length (log_in D) → n ≤ length (log_in F)
+pub held_frame : (F D : Files) (frame : List Record) (n : ℕ) → F ≡ with_frame D frame → n ≤ length (log_in D) → n ≤ length (log_in F)
 held_frame F D frame n is h = omega (arith, h, ap length (log_with F D frame (ap (λ (f : Files). f.batches) is)), length-append (log_in D) frame)
 
 place_frame : (F D : Files) (frame : List Record) (n place : ℕ) → list_any separates frame ≡ false → F ≡ with_frame D frame → n ≤ length (log_in D) → IsPlace D n place → IsPlace F n place
@@ -102,8 +102,11 @@ kept_goes m n h v w old new frame kept goes current inside store = ⊎_elim same
     place : (F : Files) → new F → IsPlace F h.first h.place
     place F l = let s = store F l in ⊎_elim (λ e. subst (λ (f : Files). IsPlace f h.first h.place) (sym e) (kept.place s.0 s.1)) (λ e. place_frame F s.0 frame h.first h.place inside e (kept.held s.0 s.1) (kept.place s.0 s.1)) s.2
 
+    moved : w.current ≤ h.first
+    moved = omega (arith, current, kept.moved)
+
     same : n.log ≡ m.log → IsKept n.log w new h
-    same e = subst (λ L. IsKept L w new h) (sym e) (record { number = kept.number ∙ ap (λ c. c + 1) (sym current); from = kept.from; to = kept.to; weight = kept.weight; next = kept.next; table = kept.table; held = held; place = place })
+    same e = subst (λ L. IsKept L w new h) (sym e) (record { number = kept.number ∙ ap (λ c. c + 1) (sym current); from = kept.from; to = kept.to; weight = kept.weight; next = kept.next; table = kept.table; moved = moved; short = kept.short; held = held; place = place })
 
     more : (x : Record) × (is_inside x ≡ true) × (n.log ≡ m.log ++ x ∷ []) → IsKept n.log w new h
     more s = subst (λ L. IsKept L w new h) (sym s.2) (record {
@@ -113,6 +116,8 @@ kept_goes m n h v w old new frame kept goes current inside store = ⊎_elim same
       weight = kept.weight ∙ ap (sum_by record_length) (sym front);
       next = kept.next ∙ ap next_after (sym front);
       table = kept.table ∙ sym (ap (λ (e : Epoch). table_before e h.first) last ∙ ap (λ P. map (row_of P) (filter (λ t. not (has (ended P) t)) (begun P))) rows);
+      moved = moved;
+      short = kept.short;
       held = held;
       place = place;
     })

@@ -8,6 +8,7 @@ pub mod Fitting
 pub mod FromImage
 pub mod Starts
 pub mod StepLeaves
+pub mod StepFlags
 pub mod Kept
 pub mod Turned
 pub mod Untouched

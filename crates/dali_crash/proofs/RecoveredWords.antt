@@ -1,13 +1,12 @@
--- The image that a restart recovers from a history is made of words: each region has 64 numbers of 64 bits.
+-- The image that a restart recovers from a log that can be spelled is made of words: each region has 64 numbers of 64 bits.
 use Rattle.std.proofs.Common.{◌≡◌, ℕ, zero, suc, Bool, true, false, cond, List, [], ◌∷◌, ◌++◌, length, map, take, drop, Option, Some, None, refl, ap, sym, subst, ◌∙◌, arith, get_or}
 use Rattle.std.specs.Prelude.{◌==◌, ◌/◌, fold, reverse, replicate, slice_get, slice_set, zip}
 use Rattle.std.specs.List.{AllByRecursion}
-use Rattle.std.proofs.lemmas.List.{reverse-append}
-use Rattle.std.proofs.lemmas.Option.{slice_get_within}
+use Rattle.std.proofs.lemmas.List.{length-append, length-map, length-replicate, length-set, reverse-append}
 use Rattle.dali_words.specs.Words.{has_first, first_or, rest_of, write_under}
 use Rattle.dali_words.specs.Effects.{write_all}
 use Rattle.dali_geometry.specs.Sizes.{Sizes}
-use Rattle.dali_geometry.specs.Places.{formatted_image}
+use Rattle.dali_geometry.specs.Places.{formatted_image, regions}
 use Rattle.dali_heap.specs.Cells as cell
 use Rattle.dali_index.specs.Entries as entry
 use Rattle.dali_record.specs.declared.operations.Block.{Block}
@@ -24,8 +23,8 @@ use Rattle.dali_record.specs.Settled.{words_in, redo, redo_all}
 use Rattle.dali_record.specs.Spelling.{Is64, IsUndo, MayBeUndo, CanBeSpelled}
 use Rattle.dali_record.specs.Legal.{sizes_of}
 use Rattle.dali_history.specs.Recovered.{undo_into, roll_back, free_word, freed, losers, undos_left, recover, base_of, recovered, recovered_now}
-use Rattle.dali_history.specs.History.{IsHistory}
-use Rattle.dali_headline.proofs.EpochByEpoch.{recovered_holds}
+use Rattle.dali_history.specs.History.{AreSpelled}
+use Rattle.dali_words.proofs.Masks.{length-write_all, length-write_under}
 use Rattle.dali_system.specs.Run.{AllAreWords}
 
 -- ---- lists
@@ -276,9 +275,112 @@ get_fits [] r ws h e = absurd (cc)
 get_fits (us ∷ image) zero ws h e = let same : us ≡ ws = cc in (same, subst Fit same h.0)
 get_fits (us ∷ image) (suc r) ws h e = get_fits image r ws h.1 e
 
-pub recovered_words : (L : List Record) → IsHistory L → AllAreWords (recovered (sizes_of L) L)
-recovered_words L history r ws e =
+-- ---- lengths: each of these leaves as many regions of as many words
+abbrev shape : List (List ℕ) → List ℕ
+shape image = map length image
+
+same_set : (image : List (List ℕ)) (r : ℕ) (ws : List ℕ) → length ws ≡ length (words_in image r) → shape (slice_set image r ws) ≡ shape image
+same_set [] r ws e = refl
+same_set (us ∷ image) zero ws e = ap (λ n. n ∷ shape image) e
+same_set (us ∷ image) (suc r) ws e = ap (λ l. length us ∷ l) (same_set image r ws e)
+
+same_fold : {X Y Z : Type 0} (f : Y → X → Y) (g : Y → Z) → ((y : Y) (x : X) → g (f y x) ≡ g y) → (xs : List X) (y : Y) → g (fold f y xs) ≡ g y
+same_fold f g keeps [] y = refl
+same_fold f g keeps (x ∷ xs) y = same_fold f g keeps xs (f y x) ∙ keeps y x
+
+same_block : (image : List (List ℕ)) (b : Block) → shape (slice_set image b.region (write_under b.write b.after (words_in image b.region))) ≡ shape image
+same_block image b = same_set image b.region _ (length-write_under b.write b.after (words_in image b.region))
+
+same_redo : (image : List (List ℕ)) (r : Record) → shape (redo image r) ≡ shape image
+same_redo image (Format i n) = refl
+same_redo image (Begin t) = refl
+same_redo image (Forward t b) = same_block image b
+same_redo image (Done t c a) = refl
+same_redo image (Commit t) = refl
+same_redo image (Ended t) = refl
+same_redo image (Solo t p b) = same_block image b
+same_redo image AuditBegin = refl
+same_redo image (AuditClean b) = refl
+same_redo image (AuditFail b rs) = refl
+same_redo image (Restarted rs ds) = refl
+same_redo image (Back t b) = same_block image b
+
+undo_length : (u : Undo) (key : ℕ) (ws : List ℕ) → length (effect (undo_op u) key ws).0.after ≡ length ws
+undo_length (UndoFreeCell c) key ws = length-set ws (cell.state_word c) 0
+undo_length (UndoReviveCell c) key ws = length-set ws (cell.state_word c) 1
+undo_length (UndoRestore c n vs) key ws = length-write_all ws (zip (cell.length_word c ∷ cell.value_words c) (n ∷ vs))
+undo_length (UndoFreeEntry e) key ws = length-set ws (entry.state_word e) 0
+undo_length (UndoReviveEntry e) key ws = length-set ws (entry.state_word e) 1
+
+same_rolled : (image : List (List ℕ)) (us : List Pending) → shape (roll_back image us) ≡ shape image
+same_rolled image us = same_fold undo_into shape (λ z p. same_set z p.region _ (undo_length p.undo p.key (words_in z p.region))) (reverse us) image
+
+free_length : (ws : List ℕ) (i : ℕ) → length (free_word ws i) ≡ length ws
+free_length ws i = by_test (get_or ws i 0 == 2)
+  where
+    by_test : (c : Bool) → length (cond c (slice_set ws i 0) ws) ≡ length ws
+    by_test true = length-set ws i 0
+    by_test false = refl
+
+same_map : (f : List ℕ → List ℕ) → ((ws : List ℕ) → length (f ws) ≡ length ws) → (image : List (List ℕ)) → shape (map f image) ≡ shape image
+same_map f keeps [] = refl
+same_map f keeps (ws ∷ image) = ap (λ n. n ∷ shape (map f image)) (keeps ws) ∙ ap (λ l. length ws ∷ l) (same_map f keeps image)
+
+same_parts : (f g : List ℕ → List ℕ) → ((ws : List ℕ) → length (f ws) ≡ length ws) → ((ws : List ℕ) → length (g ws) ≡ length ws) → (n : ℕ) (image : List (List ℕ)) → shape (map f (take n image) ++ map g (drop n image)) ≡ shape image
+same_parts f g keeps holds zero image = same_map g holds image
+same_parts f g keeps holds (suc n) [] = refl
+same_parts f g keeps holds (suc n) (ws ∷ image) = ap (λ k. k ∷ shape (map f (take n image) ++ map g (drop n image))) (keeps ws) ∙ ap (λ l. length ws ∷ l) (same_parts f g keeps holds n image)
+
+same_freed : (s : Sizes) (image : List (List ℕ)) → shape (freed s image) ≡ shape image
+same_freed s image = same_parts (λ ws. fold free_word ws (map entry.state_word entry.entries)) (λ ws. fold free_word ws (map cell.state_word cell.cells))
+    (λ ws. same_fold free_word length free_length (map entry.state_word entry.entries) ws)
+    (λ ws. same_fold free_word length free_length (map cell.state_word cell.cells) ws)
+    s.index image
+
+same_recover : (s : Sizes) (base : List (List ℕ)) (e : Epoch) → shape (recover s base e) ≡ shape base
+same_recover s base e =
+    let ms : List (Record × Bool) = marks (damage_of e) e.records in
+    same_freed s _
+    ∙ (same_fold (λ image t. roll_back image (undos_left ms t)) shape (λ z t. same_rolled z (undos_left ms t)) (losers e ms) (redo_all base (kept ms))
+    ∙ same_fold redo shape same_redo (kept ms) base)
+
+same_recovered : (s : Sizes) (L : List Record) → shape (recovered s L) ≡ shape (formatted_image s)
+same_recovered s L = by_records (cut L).now.records
+  where
+    base : shape (base_of s L) ≡ shape (formatted_image s)
+    base = same_fold (recover s) shape (same_recover s) (cut L).closed (formatted_image s)
+
+    by_records : (E : List Record) → shape (recovered_now s (base_of s L) (cut L).now E) ≡ shape (formatted_image s)
+    by_records [] = base
+    by_records (r ∷ E) = same_recover s (base_of s L) (cut L).now ∙ base
+
+-- a formatted image has regions of 64 words
+abbrev Long : List ℕ → Type 0
+Long ns = AllByRecursion (λ n. n ≡ 64) ns
+
+alike_long : (n : ℕ) (ws : List ℕ) (image : List (List ℕ)) → length ws ≡ 64 → Long (shape image) → Long (shape (replicate n ws ++ image))
+alike_long zero ws image e h = h
+alike_long (suc n) ws image e h = (e, alike_long n ws image e h)
+
+only_long : (n : ℕ) (ws : List ℕ) → length ws ≡ 64 → Long (shape (replicate n ws))
+only_long zero ws e = tt
+only_long (suc n) ws e = (e, only_long n ws e)
+
+pub recovered_count : (s : Sizes) (L : List Record) → length (recovered s L) ≡ regions s
+recovered_count s L =
+    sym (length-map (recovered s L) length)
+    ∙ (ap length (same_recovered s L)
+    ∙ (length-map (formatted_image s) length
+    ∙ omega (arith, length-append (replicate s.index (replicate {A = ℕ} 64 0)) (replicate s.heap (1 ∷ replicate 63 0)), length-replicate s.index (replicate {A = ℕ} 64 0), length-replicate s.heap (1 ∷ replicate {A = ℕ} 63 0))))
+
+long_at : (image : List (List ℕ)) (r : ℕ) (ws : List ℕ) → Long (shape image) → slice_get image r ≡ Some ws → length ws ≡ 64
+long_at [] r ws h e = absurd (cc)
+long_at (us ∷ image) zero ws h e = let same : us ≡ ws = cc in ap length (sym same) ∙ h.0
+long_at (us ∷ image) (suc r) ws h e = long_at image r ws h.1 e
+
+pub recovered_words : (L : List Record) → AreSpelled L → AllAreWords (recovered (sizes_of L) L)
+recovered_words L spelled r ws e =
     let image : List (List ℕ) = recovered (sizes_of L) L in
-    let is = (recovered_holds L history).2.image_is in
-    let fits = get_fits image r ws (recovered_fits (sizes_of L) L (all_spelled L history.spelled)) e in
-    (ap length (sym fits.0) ∙ is.words r (omega (arith, slice_get_within image r ws e, is.count)), fits.1)
+    let s : Sizes = sizes_of L in
+    let long : Long (shape (formatted_image s)) = alike_long s.index (replicate 64 0) (replicate s.heap (1 ∷ replicate 63 0)) refl (only_long s.heap (1 ∷ replicate 63 0) refl) in
+    (long_at image r ws (subst Long (sym (same_recovered s L)) long) e, (get_fits image r ws (recovered_fits s L (all_spelled L spelled)) e).1)

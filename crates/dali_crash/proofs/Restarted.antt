@@ -43,6 +43,7 @@ use Rattle.dali_crash.specs.StoreRuns.{CrashIsRightWith}
 use Rattle.dali_crash.specs.Worked.{look}
 use Rattle.dali_crash.specs.Checkpointed.{checkpoint_steps, moved_files, txn_batch, batches_2}
 use Rattle.dali_crash.specs.Restarted.{closed_log, restarted_log, restarted_vault, put, add, put_writes, add_writes, insert_batch, inserts, WorkedRestart, restarted_files, restarted_from}
+use Rattle.dali_crash.proofs.Starts.{lawful}
 use Rattle.dali_crash.proofs.Starts.{restart_starts}
 use Rattle.dali_crash.proofs.Checkpointed.{m6, files_2, to_flush, right}
 use Rattle.dali_crash.specs.Traces.{IsFreshImage, StartsAt, start_point}
@@ -81,7 +82,7 @@ files = record {
 
 fresh : IsFreshImage restarted_log restarted_vault restarted_files
 fresh = record {
-  vault = record { runs = refl; flushed = refl; faults = omega arith; faults_fit = omega arith };
+  vault = record { runs = refl; flushed = refl; faults = omega arith; faults_fit = omega arith; short = omega arith; moved = omega arith };
   none = refl;
   files = record { log = refl; kind = inr files };
   end = refl;
@@ -89,7 +90,7 @@ fresh = record {
 }
 
 starts : StartsAt restarted_from restarted_files
-starts = record { history = history; rules = refl; fits = omega arith; rests = fresh_rests restarted_log restarted_vault restarted_files history fresh }
+starts = record { lawful = lawful restarted_log history; rules = refl; fits = omega arith; rests = fresh_rests restarted_log restarted_vault restarted_files fresh }
 
 -- ---- the moments
 abbrev first : Moment
@@ -265,7 +266,7 @@ whole : (q : Point) × (moment_of q ≡ last) × Traced (start_point restarted_f
 whole = does_traced (start_point restarted_from) inserts last restarted_files crash refl insert_trace
 
 restarts : CrashIsRightWith restarted_log whole.0.core crash
-restarts = (unpoked_trace_is_right restarted_from restarted_files starts (map Does inserts) whole.0 crash refl whole.2).0
+restarts = (unpoked_trace_is_right restarted_from restarted_files history starts (map Does inserts) whole.0 crash refl whole.2).0
 
 pub worked_restart : WorkedRestart
 unfolding look put add crash entries cells

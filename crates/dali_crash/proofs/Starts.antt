@@ -17,15 +17,16 @@ use Rattle.dali_record.proofs.Ends.{get_push_cases}
 use Rattle.dali_record.proofs.Pushes.{cut_push}
 use Rattle.dali_record.proofs.EpochRules.{all_push}
 use Rattle.dali_history.specs.Recovered.{recovered}
+use Rattle.dali_history.specs.History.{IsHistory}
 use Rattle.dali_history.specs.Promise.{RestartsAs}
-use Rattle.dali_headline.proofs.EpochByEpoch.{recovered_holds}
+use Rattle.dali_crash.proofs.RecoveredWords.{recovered_count}
 use Rattle.dali_headline.proofs.Headline.{restart_is_right}
 use Rattle.dali_counts.proofs.Lists.{length-push}
 use Rattle.dali_counts.proofs.Tallies.{number_is}
 use Rattle.dali_system.specs.Run.{Bases, base_at, log_in}
 use Rattle.dali_system.specs.Images.{FitsBut}
 use Rattle.dali_system.proofs.LastEpochs.{found_for, sooner, end_before}
-use Rattle.dali_crash.specs.Starts.{IsFormatted, IsRestarted, FreshFits, RestartStarts}
+use Rattle.dali_crash.specs.Starts.{IsFormatted, IsRestarted, FreshFits, RestartStarts, IsLawful, HistoryIsLawful}
 
 -- ---- an epoch without records
 abbrev no_records : List Record
@@ -137,13 +138,13 @@ restarted_fits s bases missed L F is base whole log = subst (FitsBut s bases mis
         (inl (omega (arith, is.first, number_is M)))
 
 pub fresh_fits : FreshFits
-fresh_fits bases L F missed history base is = subst (λ K. FitsBut (sizes_of L) bases missed K F (last_epoch K)) (sym is.log) (⊎_elim formatted restarted is.kind)
+fresh_fits bases L F missed base is = subst (λ K. FitsBut (sizes_of L) bases missed K F (last_epoch K)) (sym is.log) (⊎_elim formatted restarted is.kind)
   where
     s : Sizes
     s = sizes_of L
 
     whole : length (recovered s L) ≡ regions s
-    whole = (recovered_holds L history).2.image_is.count
+    whole = recovered_count s L
 
     formatted : IsFormatted s F → FitsBut s bases missed L F (last_epoch L)
     formatted kind =
@@ -159,3 +160,13 @@ pub restart_starts : RestartStarts
 restart_starts K r E history some =
     let again : RestartsAs K (K ++ Restarted (rolled_list (recovered_epoch K)) (deleted_list (recovered_epoch K)) ∷ []) = (restart_is_right K history).again r E some in
     record { history = again.history; rules = again.history.legal.rules; none = ap (λ (c : Cut). c.now.records) (cut_push K (Restarted (rolled_list (recovered_epoch K)) (deleted_list (recovered_epoch K)))) }
+
+-- ---- a log that is honest or not
+pub lawful : (L : List Record) → IsHistory L → IsLawful L
+lawful L h = record { some_index = h.some_index; some_heap = h.some_heap; spelled = h.spelled; legal = h.legal; locks = h.locks }
+
+pub history_is_lawful : HistoryIsLawful
+history_is_lawful L = (
+  λ h. (lawful L h, h.honest),
+  λ w. record { some_index = w.0.some_index; some_heap = w.0.some_heap; spelled = w.0.spelled; legal = w.0.legal; locks = w.0.locks; honest = w.1 },
+)

@@ -10,7 +10,7 @@ use Rattle.dali_system.specs.State.{VaultState, CoreState}
 use Rattle.dali_system.specs.Regions.{RegionStep, Latch, NoteReads, Update, TakeBack, Poke, Check, Die, Clean, region_after}
 use Rattle.dali_system.specs.Flushes.{frame_of, with_frame, longer}
 use Rattle.dali_system.proofs.Deaths.{region_with, dead_at}
-use Rattle.dali_system.specs.Courses.{Step, Begins, Operates, TakesBack, Frees, Answers, Commits, Ends, AuditBegins, AuditEnds, Locks, Refuses, OnRegion, Passes, Dies, Claims, GivesBack, Recovers, Stops, Checkpoints, Takes, Flushes, Faults, Moment, IsStepAt, CameBy}
+use Rattle.dali_system.specs.Courses.{Step, Begins, Operates, TakesBack, Frees, Answers, Commits, Ends, AuditBegins, AuditEnds, Locks, Refuses, OnRegion, Passes, Dies, Claims, GivesBack, Recovers, Stops, Checkpoints, Takes, Flushes, Faults, ReadFails, Moment, IsStepAt, CameBy}
 use Rattle.dali_system.proofs.Flushes.{longer_flushed}
 use Rattle.dali_crash.specs.Checkpoints.{answers_none, passes_region}
 
@@ -64,6 +64,11 @@ vault_goes m n (Faults k) s = record {
   flushed = omega (arith, ap (λ (c : CoreState). c.vault.flushed) s.0.2.1);
   runs = λ h. s.0.0;
 }
+vault_goes m n (ReadFails k) s = record {
+  current = ap (λ (c : CoreState). c.vault.current) s.0.1.1;
+  flushed = omega (arith, ap (λ (c : CoreState). c.vault.flushed) s.0.1.1);
+  runs = λ h. ap (λ (c : CoreState). c.vault.stopped) (sym s.0.1.1) ∙ h;
+}
 
 -- a crash image stays, or has the frame in hand
 pub core_came : (L : List Record) (c : CoreState) (x : Step) (D F : Files) → CameBy L c x D F → (F ≡ D) ⊎ (F ≡ with_frame D (frame_of L c))
@@ -108,7 +113,7 @@ touched_one : (old new : List RegionState) (r q : ℕ) (g h : RegionState) → n
 unfolding never
 touched_one old new r q g h is at e = one_changed old new r q g (touched g) h never is at (stays g (touched g) refl refl) (λ p apart. refl) e
 
-or_left : (a b : Bool) → a ≡ true → (a || b) ≡ true
+pub or_left : (a b : Bool) → a ≡ true → (a || b) ≡ true
 or_left true b e = refl
 or_left false b e = absurd (cc)
 
@@ -177,3 +182,4 @@ regions_go m n (Checkpoints b) q h s e = unchanged m.core.regions n.core.regions
 regions_go m n Takes q h s e = unchanged m.core.regions n.core.regions q h (ap (λ (c : CoreState). c.regions) s.0.1) e
 regions_go m n Flushes q h s e = unchanged m.core.regions n.core.regions q h (ap (λ (c : CoreState). c.regions) s.0.1.1) e
 regions_go m n (Faults k) q h s e = unchanged m.core.regions n.core.regions q h (ap (λ (c : CoreState). c.regions) s.0.2.1) e
+regions_go m n (ReadFails k) q h s e = unchanged m.core.regions n.core.regions q h (ap (λ (c : CoreState). c.regions) s.0.1.1) e

@@ -1,8 +1,9 @@
 -- Each step keeps a run with its store, and each list of steps.
-use Rattle.std.proofs.Common.{◌≡◌, ℕ, zero, suc, ◌+◌, ◌%◌, ◌<◌, ◌≤◌, Bool, true, false, cond, List, [], ◌∷◌, length, take, Option, Some, None, refl, ap, sym, subst, ◌∙◌, inl, inr, ⊎_elim, arith, ◌⊎◌}
-use Rattle.std.specs.Prelude.{◌==◌, ◌&&◌, ◌||◌, not, slice_get, slice_set, flat_map, sum_by}
+use Rattle.std.proofs.Common.{◌≡◌, ℕ, zero, suc, ◌+◌, ◌*◌, ◌%◌, ◌<◌, ◌≤◌, Bool, true, false, cond, List, [], ◌∷◌, length, take, Option, Some, None, refl, ap, sym, subst, ◌∙◌, inl, inr, ⊎_elim, arith, ◌⊎◌}
+use Rattle.std.specs.Prelude.{◌==◌, ◌^◌, ◌&&◌, ◌||◌, not, slice_get, slice_set, flat_map, sum_by}
 use Rattle.std.specs.List.{range_with_len}
-use Rattle.std.proofs.lemmas.List.{length-map, take_all}
+use Rattle.std.proofs.lemmas.List.{length-map, take_all, length-take-le}
+use Rattle.std.proofs.lemmas.List.Elements.{recursion_from_All}
 use Rattle.std.proofs.lemmas.List.FromFn.{length-range_with_len, get_or-map-range_with_len}
 use Rattle.dali_geometry.specs.Places.{regions}
 use Rattle.dali_record.specs.declared.records.Record.{Record}
@@ -29,9 +30,12 @@ use Rattle.dali_system.proofs.Flushes.{risen_since, no_less, fault_keeps}
 use Rattle.dali_record.specs.declared.records.Record.TheVariants.{Format}
 use Rattle.dali_system.proofs.FlushedImages.{frame_inside, faulted_images, flushed_images}
 use Rattle.dali_crash.specs.Checkpoints.{Head, Copy, Point, Does, Starts, Keeps, IsUntouched, copy_at, Copies, Skips, WritesHead, Syncs, Turns, CopyFails, HeadFails, SyncFails, TurnFails, Finishes, side_of, image_side, target, copies_with, head_now, pass_copy, passes_region, copies_after, is_of_checkpoint, image_in, MayHold, turned, MayTurn, IsFault, with_fault, with_current, with_flag, Came, IsOverwritten, IsPointStep, StoreStep, moment_of}
-use Rattle.dali_crash.specs.StoreRuns.{IsCopied, IsKept, StoreRun, StoreStepKeeps, StoreCourseKeeps, TurnEnds, BareStoreCourseKeeps, TurnLeaves}
+use Rattle.dali_crash.specs.StoreRuns.{IsCopied, IsKept, AreWritten, StoreRun, CurrentIsSmall, StoreStepKeeps, StoreCourseKeeps, TurnEnds, BareStoreCourseKeeps, TurnLeaves}
+use Rattle.dali_record.specs.Blocks.{AreWords}
+use Rattle.dali_counts.proofs.SmallLogs.{is_small}
+use Rattle.dali_crash.proofs.StepFlags.{flags_go}
 use Rattle.dali_crash.proofs.StepLeaves.{VaultGoes, vault_goes, RegionGoes, regions_go, core_came}
-use Rattle.dali_crash.proofs.Kept.{got_none, kept_goes, copied_goes, copied_onward}
+use Rattle.dali_crash.proofs.Kept.{got_none, held_frame, kept_goes, copied_goes, copied_onward}
 use Rattle.dali_crash.proofs.Turned.{IsRightPlace, turned_fits}
 use Rattle.dali_crash.proofs.Untouched.{untouched_words}
 use Rattle.dali_system.proofs.ImageSteps.{copy_kept, images_fewer, images_kept}
@@ -54,6 +58,12 @@ other_side c e = by_tests (c == 0) (c % 2 == 1) ((c + 1) % 2 == 1) refl refl e
         odd_or : (c % 2 ≡ 1 → ⊥) → ((c + 1) % 2 ≡ 1 → ⊥) → ⊥
         odd_or x y = omega (arith, x, y)
 
+side_is : (a b : Side) → same_side a b ≡ true → a ≡ b
+side_is A A f = refl
+side_is B B f = refl
+side_is A B f = absurd (cc)
+side_is B A f = absurd (cc)
+
 -- ---- what a crash leaves
 -- each crash image behind the step came from one before
 abbrev pub Leaves : (Files → Type 0) → (Files → Type 0) → Point → StoreStep → Type 0
@@ -71,7 +81,7 @@ unwritten bases before old new st run runs written F h =
     w.2
 
 kept_less : (L : List Record) (v w : VaultState) (old new : Files → Type 0) (h : Head) → w.current ≡ v.current → ((F : Files) → new F → old F) → IsKept L v old h → IsKept L w new h
-kept_less L v w old new h same less kept = record { number = kept.number ∙ ap (λ c. c + 1) (sym same); from = kept.from; to = kept.to; weight = kept.weight; next = kept.next; table = kept.table; held = λ F l. kept.held F (less F l); place = λ F l. kept.place F (less F l) }
+kept_less L v w old new h same less kept = record { number = kept.number ∙ ap (λ c. c + 1) (sym same); from = kept.from; to = kept.to; weight = kept.weight; next = kept.next; table = kept.table; moved = omega (arith, same, kept.moved); short = kept.short; held = λ F l. kept.held F (less F l); place = λ F l. kept.place F (less F l) }
 
 -- ---- runs
 vault_less : (old new : Files → Type 0) (L : List Record) (n : ℕ) (v w : VaultState) → w.end ≡ v.end → w.stopped ≡ v.stopped → w.faults ≡ v.faults → w.faults_then ≡ v.faults_then → ((F : Files) → new F → (D : Files) × old D × (F.batches ≡ D.batches)) → VaultRun old L n v → VaultRun new L n w
@@ -79,6 +89,7 @@ vault_less old new L n v w end stopped faults then less run = record {
   within = run.within;
   prefix = λ F h. let s = less F h in let is = run.prefix s.0 s.1 in record { count = is.count; flushed = is.flushed; within = is.within; log = ap (flat_map (λ b. b)) s.2 ∙ is.log };
   exact = λ e F h. let s = less F h in let is = run.exact (sym stopped ∙ e) s.0 s.1 in record { log = ap (flat_map (λ b. b)) s.2 ∙ is.log; end = end ∙ (is.end ∙ ap (sum_by batch_length) (sym s.2)) };
+  short = subst (λ k. k ≤ sum_by record_length (take n L) + 5 * n) (sym end) run.short;
   then_fits = rw then run.then_fits;
   counts = rw (faults, then) run.counts;
   rose = λ e. rw (faults, then) (run.rose (sym stopped ∙ e));
@@ -89,6 +100,7 @@ vault_faults old new L n k v rose less run = record {
   within = run.within;
   prefix = λ F h. let s = less F h in let is = run.prefix s.0 s.1 in record { count = is.count; flushed = is.flushed; within = is.within; log = ap (flat_map (λ b. b)) s.2 ∙ is.log };
   exact = λ e. absurd (cc);
+  short = run.short;
   then_fits = run.then_fits;
   counts = no_less v.faults_then v.faults k run.then_fits run.counts rose;
   rose = λ e. risen_since v.faults_then v.faults k run.counts rose;
@@ -164,15 +176,27 @@ some_copy b (Some c) k e = (c, refl, sym (some_same e))
 
 does : (bases : Bases) (before : List Record) (old new : Files → Type 0) (st : Point) (x : Step) (n : Moment) → StoreRun bases before old st → is_of_checkpoint x ≡ false → IsStepAt (moment_of st) x n → LeavesBy old new st.log st.core x → StoreRun bases before new (record st { log = n.log; core = n.core; audits = n.audits; copies = copies_after st.core x st.copies })
 does bases before old new st x n run quiet s l = record {
-  run = step_runs bases before old new (moment_of st) n x run.run s l;
+  run = there;
   images = images_do bases before old new st n x run quiet s l;
   anchor = λ runs F h. let w = files F h in
       ⊎_elim (λ same. ap (λ (f : Files). f.gates) same) (λ more. ap (λ (f : Files). f.gates) more) w.2
       ∙ (run.anchor (vault.runs runs) w.0 w.1 ∙ sym vault.current);
   kept = λ h e. kept_goes (moment_of st) n h st.core.vault n.core.vault old new _ (run.kept h e) goes vault.current (frame_inside bases before old (moment_of st) run.run) files;
   copied = λ side r k g e at. copied side r k g (some_copy (passes_region st.core x r) (st.copies side r) k e) (regions_go (moment_of st) n x r g s at);
+  written = record {
+    copied = λ side r k e. let w = some_copy (passes_region st.core x r) (st.copies side r) k e in run.written.copied side r w.0 w.1;
+    clean = λ side r g at clear. let w = flags_go (moment_of st) n x r g s quiet at in run.written.clean side r w.0 w.1 (w.2 side clear);
+  };
+  moved = omega (arith, run.moved, vault.current, vault.flushed, run.run.run.first, there.run.first);
+  few = λ F l. let w = files F l in ⊎_elim
+      (λ same. subst (λ (f : Files). f.gates ≤ length (log_in f)) (sym same) (run.few w.0 w.1))
+      (λ more. omega (arith, ap (λ (f : Files). f.gates) more, held_frame F w.0 _ w.0.gates more (run.few w.0 w.1)))
+      w.2;
 }
   where
+    there : RunsAt bases before new n
+    there = step_runs bases before old new (moment_of st) n x run.run s l
+
     vault : VaultGoes (moment_of st) n
     vault = vault_goes (moment_of st) n x s
 
@@ -201,6 +225,9 @@ flag_set bases before leave st b run was = record {
   anchor = run.anchor;
   kept = run.kept;
   copied = run.copied;
+  written = record { copied = run.written.copied; clean = run.written.clean };
+  moved = run.moved;
+  few = run.few;
 }
   where
     n : Moment
@@ -214,17 +241,19 @@ keeps_other :
     (bases : Bases) (before : List Record) (leave : Files → Type 0) (st : Point) (o : Option Head) → StoreRun bases before leave st
     → ((h : Head) → o ≡ Some h → IsKept st.log st.core.vault leave h)
     → StoreRun bases before leave (record st { begun = o })
-keeps_other bases before leave st o run kept = record { run = run.run; images = run.images; anchor = run.anchor; kept = kept; copied = run.copied }
+keeps_other bases before leave st o run kept = record { run = run.run; images = run.images; anchor = run.anchor; kept = kept; copied = run.copied; written = record { copied = run.written.copied; clean = run.written.clean }; moved = run.moved; few = run.few }
 
 -- ---- what a checkpoint keeps
-keeps_now : (bases : Bases) (before : List Record) (leave : Files → Type 0) (m : Moment) → RunsAt bases before leave m → m.core.vault.stopped ≡ false → stable m.core ≡ m.core.system.records → IsKept m.log m.core.vault leave (head_now m.log m.core)
-keeps_now bases before leave m at runs all = record {
+keeps_now : (bases : Bases) (before : List Record) (leave : Files → Type 0) (m : Moment) → RunsAt bases before leave m → m.core.vault.stopped ≡ false → stable m.core ≡ m.core.system.records → m.core.vault.current ≤ stable m.core → IsKept m.log m.core.vault leave (head_now m.log m.core)
+keeps_now bases before leave m at runs all few = record {
   number = refl;
   from = omega (arith, number_is m.log, count);
   to = omega (arith, count);
   weight = run.counts.end ∙ (tell.1 ∙ ap (sum_by record_length) (sym whole));
   next = run.counts.next ∙ (tell.2 ∙ (numbers_drawn m.log ∙ ap next_after (sym whole)));
   table = ap (table_before (last_epoch m.log)) (sym count);
+  moved = omega (arith, all, few);
+  short = omega (arith, all, vault.short, ap (λ n. sum_by record_length (take n m.log)) all, ap (sum_by record_length) whole, run.counts.end, tell.1);
   held = λ F l. omega (arith, size F l);
   place = λ F l. (
     length F.batches,
@@ -309,6 +338,75 @@ one_cleaned rs t r g at q h e = ⊎_elim
 copied_same : (base : List (List ℕ)) (e : Epoch) (r : ℕ) (g h : RegionState) (k : Copy) (ws : List ℕ) → h.poked ≡ g.poked → h.missed ≡ g.missed → IsCopied base e r g k ws → IsCopied base e r h k ws
 copied_same base e r g h k ws p m is = ⊎_elim (λ a. inl a) (λ a. inr (record { poked = p ∙ a.poked; missed = λ f. m ∙ a.missed f })) is
 
+-- ---- the words in a place
+are_words : (bases : Bases) (L : List Record) (c : CoreState) (r : ℕ) (g : RegionState) → RunsOn bases L c → slice_get c.regions r ≡ Some g → AreWords g.back
+are_words bases L c r g run at = let is = (run.regions r g at).protected in (is.back_size, recursion_from_All (λ w. w < 2 ^ 64) g.back is.back_fits)
+
+cleaned_other : (t s : Side) (g : RegionState) → same_side s t ≡ false → is_dirty (cleaned t g) s ≡ is_dirty g s
+cleaned_other A A g e = absurd (cc)
+cleaned_other A B g e = refl
+cleaned_other B A g e = refl
+cleaned_other B B g e = absurd (cc)
+
+-- right after a copy
+written_now :
+    (rs : List RegionState) (copies : Side → ℕ → Option Copy) (told : Told) (t : Side) (r n : ℕ) (g : RegionState) → AreWritten rs copies told
+    → slice_get rs r ≡ Some g → AreWords g.back
+    → AreWritten (slice_set rs r (cleaned t g)) (copies_with copies t r (Some (copy_at n))) (told_with told t r g.back)
+written_now rs copies told t r n g was at words = record {
+  copied = λ side q k e. copied_there side q k (same_side side t && (q == r)) refl e;
+  clean = λ side q h e clear. clean_there side q h e clear (same_side side t) (q == r) refl refl;
+}
+  where
+    copied_there : (side : Side) (q : ℕ) (k : Copy) (b : Bool) → (same_side side t && (q == r)) ≡ b → cond b (Some (copy_at n)) (copies side q) ≡ Some k → AreWords (cond b g.back (told side q))
+    copied_there side q k true f e = words
+    copied_there side q k false f e = was.copied side q k e
+
+    clean_there : (side : Side) (q : ℕ) (h : RegionState) → slice_get (slice_set rs r (cleaned t g)) q ≡ Some h → is_dirty h side ≡ false → (a b : Bool) → same_side side t ≡ a → (q == r) ≡ b → AreWords (cond (a && b) g.back (told side q))
+    clean_there side q h e clear true true f d = words
+    clean_there side q h e clear true false f d = ⊎_elim
+        (λ w. absurd (let same : (q == r) ≡ true = same_number q r w.0 in cc))
+        (λ w. was.clean side q h w.1 clear)
+        (set_cases rs r (cleaned t g) q h e)
+    clean_there side q h e clear false b f d = ⊎_elim
+        (λ w. was.clean side q g (subst (λ p. slice_get rs p ≡ Some g) (sym w.0) at) (sym (ap (λ z. is_dirty z side) w.1 ∙ cleaned_other t side g f) ∙ clear))
+        (λ w. was.clean side q h w.1 clear)
+        (set_cases rs r (cleaned t g) q h e)
+
+-- a copy that failed: its place isn't up to date, and the region's flag stands
+written_torn :
+    (rs : List RegionState) (copies : Side → ℕ → Option Copy) (told : Told) (t : Side) (r : ℕ) (g : RegionState) (ws : List ℕ) → AreWritten rs copies told
+    → slice_get rs r ≡ Some g → is_dirty g t ≡ true
+    → AreWritten rs (copies_with copies t r None) (told_with told t r ws)
+written_torn rs copies told t r g ws was at dirty = record {
+  copied = λ side q k e. copied_there side q k (same_side side t && (q == r)) refl e;
+  clean = λ side q h e clear. clean_there side q h e clear (same_side side t) (q == r) refl refl;
+}
+  where
+    copied_there : (side : Side) (q : ℕ) (k : Copy) (b : Bool) → (same_side side t && (q == r)) ≡ b → cond b None (copies side q) ≡ Some k → AreWords (cond b ws (told side q))
+    copied_there side q k true f e = absurd (cc)
+    copied_there side q k false f e = was.copied side q k e
+
+    clean_there : (side : Side) (q : ℕ) (h : RegionState) → slice_get rs q ≡ Some h → is_dirty h side ≡ false → (a b : Bool) → same_side side t ≡ a → (q == r) ≡ b → AreWords (cond (a && b) ws (told side q))
+    clean_there side q h e clear true true f d =
+        let same : h ≡ g = some_same (sym e ∙ (ap (slice_get rs) (equal q r d) ∙ at)) in
+        let stands : is_dirty h side ≡ true = ap (λ (z : RegionState). is_dirty z side) same ∙ (ap (is_dirty g) (side_is side t f) ∙ dirty) in
+        absurd (cc)
+    clean_there side q h e clear true false f d = was.clean side q h e clear
+    clean_there side q h e clear false b f d = was.clean side q h e clear
+
+-- a region that is skipped, whose flag is clear
+written_skipped :
+    (rs : List RegionState) (copies : Side → ℕ → Option Copy) (told : Told) (t : Side) (r n : ℕ) (g : RegionState) → AreWritten rs copies told
+    → slice_get rs r ≡ Some g → is_dirty g t ≡ false
+    → AreWritten rs (copies_with copies t r (Some (copy_at n))) told
+written_skipped rs copies told t r n g was at clear = record { copied = λ side q k e. copied_there side q k (same_side side t) (q == r) refl refl e; clean = was.clean }
+  where
+    copied_there : (side : Side) (q : ℕ) (k : Copy) (a b : Bool) → same_side side t ≡ a → (q == r) ≡ b → cond (a && b) (Some (copy_at n)) (copies side q) ≡ Some k → AreWords (told side q)
+    copied_there side q k true true f d e = was.clean side q g (ap (slice_get rs) (equal q r d) ∙ at) (ap (is_dirty g) (side_is side t f) ∙ clear)
+    copied_there side q k true false f d e = was.copied side q k e
+    copied_there side q k false b f d e = was.copied side q k e
+
 copies_keep :
     (bases : Bases) (before : List Record) (old new : Files → Type 0) (st : Point) (r n : ℕ) (g : RegionState) (synced : Side → Bool) → StoreRun bases before old st
     → slice_get st.core.regions r ≡ Some g → IsUntouched st.log r n
@@ -325,6 +423,9 @@ copies_keep bases before old new st r n g synced run at still less = record {
   anchor = λ e F h. run.anchor e F (less F h);
   kept = λ h e. kept_less st.log st.core.vault st.core.vault old new h refl less (run.kept h e);
   copied = known;
+  written = written_now st.core.regions st.copies st.told (target st) r n g run.written at (are_words bases st.log st.core r g (runs_at bases before old (moment_of st) run.run) at);
+  moved = run.moved;
+  few = λ F h. run.few F (less F h);
 }
   where
     known : IsKnown bases st.log (slice_set st.core.regions r (cleaned (target st) g)) (copies_with st.copies (target st) r (Some (copy_at n))) (told_with st.told (target st) r g.back)
@@ -337,37 +438,36 @@ copies_keep bases before old new st r n g synced run at still less = record {
 
 -- ---- steps that leave the core, but for a fault
 still :
-    (bases : Bases) (before : List Record) (old new : Files → Type 0) (st : Point) (told : Told) (heads : Side → Head) (synced : Side → Bool) (copies : Side → ℕ → Option Copy) → StoreRun bases before old st
+    (bases : Bases) (before : List Record) (old new : Files → Type 0) (st : Point) (heads : Side → Head) (synced : Side → Bool) → StoreRun bases before old st
     → ((F : Files) → new F → old F)
-    → FilesRun told st.core → IsKnown bases st.log st.core.regions copies told
-    → StoreRun bases before new (record st { told = told; heads = heads; synced = synced; copies = copies })
-still bases before old new st told heads synced copies run less files known = record {
+    → StoreRun bases before new (record st { heads = heads; synced = synced })
+still bases before old new st heads synced run less = record {
   run = run_less bases before old new (moment_of st) less run.run;
-  images = record { files = files; fits = λ F h. run.images.fits F (less F h) };
+  images = record { files = run.images.files; fits = λ F h. run.images.fits F (less F h) };
   anchor = λ e F h. run.anchor e F (less F h);
   kept = λ h e. kept_less st.log st.core.vault st.core.vault old new h refl less (run.kept h e);
-  copied = known;
+  copied = run.copied;
+  written = run.written;
+  moved = run.moved;
+  few = λ F h. run.few F (less F h);
 }
 
 failed :
     (bases : Bases) (before : List Record) (old new : Files → Type 0) (st : Point) (told : Told) (heads : Side → Head) (synced : Side → Bool) (copies : Side → ℕ → Option Copy) (n : ℕ) → StoreRun bases before old st
     → IsFault st n
     → ((F : Files) → new F → old F)
-    → FilesRun told st.core → IsKnown bases st.log st.core.regions copies told
+    → FilesRun told st.core → IsKnown bases st.log st.core.regions copies told → AreWritten st.core.regions copies told
     → StoreRun bases before new (record st { core = with_fault st.core n; told = told; heads = heads; synced = synced; copies = copies })
-failed bases before old new st told heads synced copies n run fault less files known = record {
+failed bases before old new st told heads synced copies n run fault less files known written = record {
   run = run_faults bases before old new (moment_of st) n fault.rose (λ F h. (F, less F h, refl)) run.run;
   images = record { files = files; fits = λ F h. run.images.fits F (less F h) };
   anchor = λ e. absurd (cc);
   kept = λ h e. kept_less st.log st.core.vault _ old new h refl less (run.kept h e);
   copied = known;
+  written = written;
+  moved = run.moved;
+  few = λ F h. run.few F (less F h);
 }
-
-side_is : (a b : Side) → same_side a b ≡ true → a ≡ b
-side_is A A f = refl
-side_is B B f = refl
-side_is A B f = absurd (cc)
-side_is B A f = absurd (cc)
 
 -- a place of a region whose flag stands may read anything
 dirty_told : (told : Told) (c : CoreState) (t : Side) (r : ℕ) (g : RegionState) (ws : List ℕ) → slice_get c.regions r ≡ Some g → is_dirty g t ≡ true → FilesRun told c → FilesRun (told_with told t r ws) c
@@ -382,6 +482,29 @@ dirty_told told c t r g ws at dirty files s q h e clean cleared = by_test (same_
     by_test false b f d = files s q h e clean cleared
 
 -- ---- the anchor moves
+-- there is a region, which was brought up to date between the checkpoint's start and the audit's begin
+later_than : (bases : Bases) (before : List Record) (old : Files → Type 0) (st : Point) (h : Head) (b k : ℕ) → StoreRun bases before old st → MayTurn st h b k → h.first ≤ b
+later_than bases before old st h b k run may = let w = may.copies 0 some in omega (arith, w.2.since, w.2.until)
+  where
+    on : RunsOn bases st.log st.core
+    on = runs_at bases before old (moment_of st) run.run
+
+    some : 0 < regions st.core.system.sizes
+    some = by_index st.core.system.sizes.index (on.log.spelled 0 (Format st.core.system.sizes.index st.core.system.sizes.heap) on.log.format).0
+      where
+        by_index : (i : ℕ) → is_size_of_index i ≡ true → 0 < i + st.core.system.sizes.heap
+        by_index zero e = absurd (cc)
+        by_index (suc i) e = omega arith
+
+-- the audit's end is a record behind the one where the checkpoint began
+moves_once : (bases : Bases) (before : List Record) (old : Files → Type 0) (st : Point) (h : Head) (b k : ℕ) → StoreRun bases before old st → MayTurn st h b k → st.core.vault.current + 1 ≤ stable st.core
+moves_once bases before old st h b k run may = omega (arith, (run.kept h may.begun).moved, later_than bases before old st h b k run may, may.ends, may.flushed)
+
+few_turned : (bases : Bases) (before : List Record) (old : Files → Type 0) (st : Point) (h : Head) (b k : ℕ) (D : Files) → StoreRun bases before old st → st.core.vault.stopped ≡ false → MayTurn st h b k → old D → D.gates + 1 ≤ length (log_in D)
+few_turned bases before old st h b k D run runs may l =
+    let is : IsPrefix (log_after before st.core.system) (stable st.core) D = run.run.run.vault.prefix D l in
+    omega (arith, run.anchor runs D l, moves_once bases before old st h b k run may, is.flushed, ap length is.log, length-take-le is.count (log_after before st.core.system) is.within)
+
 turn_fits :
     (bases : Bases) (before : List Record) (old : Files → Type 0) (st : Point) (h : Head) (b k : ℕ) (D : Files) (head : Head) (image : List (List ℕ)) → StoreRun bases before old st
     → st.core.vault.stopped ≡ false → MayTurn st h b k → old D → MayHold st (side_of (D.gates + 1)) head image
@@ -404,19 +527,8 @@ turn_fits bases before old st h b k D head image run runs may l hold =
     side : side_of (D.gates + 1) ≡ target st
     side = ap (λ n. side_of (n + 1)) gates
 
-    on : RunsOn bases L c
-    on = runs_at bases before old (moment_of st) run.run
-
-    some : 0 < regions c.system.sizes
-    some = by_index c.system.sizes.index (on.log.spelled 0 (Format c.system.sizes.index c.system.sizes.heap) on.log.format).0
-      where
-        by_index : (i : ℕ) → is_size_of_index i ≡ true → 0 < i + c.system.sizes.heap
-        by_index zero e = absurd (cc)
-        by_index (suc i) e = omega arith
-
-    -- there is a region, which was brought up to date between them
     later : h.first ≤ b
-    later = let w = may.copies 0 some in omega (arith, w.2.since, w.2.until)
+    later = later_than bases before old st h b k run may
 
     same : head ≡ h
     same = hold.head_is (ap st.synced side ∙ may.synced) ∙ (ap st.heads side ∙ may.head)
@@ -450,6 +562,9 @@ turns bases before old new st h b k run runs may store = record {
   anchor = λ e F l. let w = store F l in ap (λ (f : Files). f.gates) w.2.3 ∙ ap (λ n. n + 1) (run.anchor runs w.0 w.1);
   kept = λ z e. absurd (cc);
   copied = run.copied;
+  written = run.written;
+  moved = moves_once bases before old st h b k run may;
+  few = λ F l. let w = store F l in subst (λ (f : Files). f.gates ≤ length (log_in f)) (sym w.2.3) (few_turned bases before old st h b k w.0 run runs may w.1);
 }
 
 turn_fails :
@@ -468,6 +583,12 @@ turn_fails bases before old new st h b k n run fault may store = record {
   anchor = λ e. absurd (cc);
   kept = λ z e. absurd (cc);
   copied = run.copied;
+  written = run.written;
+  moved = run.moved;
+  few = λ F l. let w = store F l in ⊎_elim
+      (λ e. subst (λ (f : Files). f.gates ≤ length (log_in f)) (sym e) (run.few w.0 w.1))
+      (λ s. subst (λ (f : Files). f.gates ≤ length (log_in f)) (sym s.3) (few_turned bases before old st h b k w.0 run fault.may.runs may w.1))
+      w.2;
 }
 
 -- ---- fewer crash images
@@ -478,6 +599,9 @@ fewer_runs bases before old new st less run = record {
   anchor = λ e F h. run.anchor e F (less F h);
   kept = λ h e. kept_less st.log st.core.vault st.core.vault old new h refl less (run.kept h e);
   copied = run.copied;
+  written = run.written;
+  moved = run.moved;
+  few = λ F h. run.few F (less F h);
 }
 
 -- ---- each step
@@ -486,11 +610,11 @@ store_step_runs bases before old leave st new (Does x) run s l = subst (StoreRun
 store_step_runs bases before old leave st new Starts run s l = fewer_runs bases before old leave new (fewer old leave l) (subst (StoreRun bases before old) (sym s.1) (flag_set bases before old st true run s.0))
 store_step_runs bases before old leave st new Keeps run s l =
     fewer_runs bases before old leave new (fewer old leave l) (subst (StoreRun bases before old) (sym s.4)
-    (keeps_other bases before old st (Some (head_now st.log st.core)) run (λ h e. subst (IsKept st.log st.core.vault old) (some_same e) (keeps_now bases before old (moment_of st) run.run s.0 s.3))))
+    (keeps_other bases before old st (Some (head_now st.log st.core)) run (λ h e. subst (IsKept st.log st.core.vault old) (some_same e) (keeps_now bases before old (moment_of st) run.run s.0 s.3 run.moved))))
 store_step_runs bases before old leave st new (Copies r n) run s l = subst (StoreRun bases before leave) (sym s.5) (copies_keep bases before old leave st r n s.0 _ run s.1 s.4 (unwritten bases before old leave st run s.2.runs l))
 store_step_runs bases before old leave st new (Skips r n) run s l =
     fewer_runs bases before old leave new (fewer old leave l) (subst (StoreRun bases before old) (sym s.5)
-    (record { run = run.run; images = run.images; anchor = run.anchor; kept = run.kept; copied = skipped }))
+    (record { run = run.run; images = run.images; anchor = run.anchor; kept = run.kept; copied = skipped; written = written_skipped st.core.regions st.copies st.told (target st) r n s.0 run.written s.1 s.3; moved = run.moved; few = run.few }))
   where
     skipped : IsKnown bases st.log st.core.regions (copies_with st.copies (target st) r (Some (copy_at n))) st.told
     skipped side q k h e at = by_test (same_side side (target st) && (q == r)) refl e
@@ -506,15 +630,16 @@ store_step_runs bases before old leave st new (Skips r n) run s l =
             let clear : is_dirty h side ≡ false = ap (λ (z : RegionState). is_dirty z side) same ∙ (ap (is_dirty s.0) there ∙ s.3) in
             subst (λ z. IsCopied (bases (last_epoch st.log).first) (last_epoch st.log) q h z (st.told side q)) (some_same d)
             (up_to_date bases st.log st.core q n h (st.told side q) (runs_at bases before old (moment_of st) run.run) at (subst (λ p. IsUntouched st.log p n) (sym here) s.4) (λ p. run.images.files side q h at p clear))
-store_step_runs bases before old leave st new (WritesHead h) run s l = subst (StoreRun bases before leave) (sym s.1) (still bases before old leave st st.told _ _ st.copies run (unwritten bases before old leave st run s.0.runs l) run.images.files run.copied)
-store_step_runs bases before old leave st new Syncs run s l = subst (StoreRun bases before leave) (sym s.1) (still bases before old leave st st.told st.heads _ st.copies run (fewer old leave l) run.images.files run.copied)
+store_step_runs bases before old leave st new (WritesHead h) run s l = subst (StoreRun bases before leave) (sym s.1) (still bases before old leave st _ _ run (unwritten bases before old leave st run s.0.runs l))
+store_step_runs bases before old leave st new Syncs run s l = subst (StoreRun bases before leave) (sym s.1) (still bases before old leave st st.heads _ run (fewer old leave l))
 store_step_runs bases before old leave st new Turns run s l = subst (StoreRun bases before leave) (sym s.5) (turns bases before old leave st s.0 s.1 s.2 run s.3.runs s.4 l)
 store_step_runs bases before old leave st new (CopyFails r ws n) run s l =
     subst (StoreRun bases before leave) (sym s.4)
     (failed bases before old leave st _ st.heads _ _ n run s.3 (unwritten bases before old leave st run s.3.may.runs l) (dirty_told st.told st.core (target st) r s.0 ws s.1 s.2 run.images.files)
-    (known_with bases st.log st.core.regions st.core.regions st.copies st.told (target st) r None ws run.copied (as_before st.core.regions) (λ k h e. absurd (cc))))
-store_step_runs bases before old leave st new (HeadFails h n) run s l = subst (StoreRun bases before leave) (sym s.1) (failed bases before old leave st st.told _ _ st.copies n run s.0 (unwritten bases before old leave st run s.0.may.runs l) run.images.files run.copied)
-store_step_runs bases before old leave st new (SyncFails n) run s l = subst (StoreRun bases before leave) (sym s.1) (failed bases before old leave st st.told st.heads st.synced st.copies n run s.0 (fewer old leave l) run.images.files run.copied)
+    (known_with bases st.log st.core.regions st.core.regions st.copies st.told (target st) r None ws run.copied (as_before st.core.regions) (λ k h e. absurd (cc)))
+    (written_torn st.core.regions st.copies st.told (target st) r s.0 ws run.written s.1 s.2))
+store_step_runs bases before old leave st new (HeadFails h n) run s l = subst (StoreRun bases before leave) (sym s.1) (failed bases before old leave st st.told _ _ st.copies n run s.0 (unwritten bases before old leave st run s.0.may.runs l) run.images.files run.copied run.written)
+store_step_runs bases before old leave st new (SyncFails n) run s l = subst (StoreRun bases before leave) (sym s.1) (failed bases before old leave st st.told st.heads st.synced st.copies n run s.0 (fewer old leave l) run.images.files run.copied run.written)
 store_step_runs bases before old leave st new (TurnFails n) run s l = subst (StoreRun bases before leave) (sym s.5) (turn_fails bases before old leave st s.0 s.1 s.2 n run s.3 s.4 l)
 store_step_runs bases before old leave st new Finishes run s l =
     fewer_runs bases before old leave new (fewer old leave l) (subst (StoreRun bases before old) (sym s.1) (flag_set bases before old (record st { begun = None }) false (keeps_other bases before old st None run (λ h e. absurd (cc))) s.0))
@@ -572,3 +697,8 @@ turn_leaves bases before st new D F h run s came begun = (
 
     side : side_of (D.gates + 1) ≡ target st
     side = ap (λ n. side_of (n + 1)) (run.anchor s.3.runs D refl)
+
+-- ---- how often the anchor was moved
+pub current_is_small : CurrentIsSmall
+current_is_small bases before st run =
+    omega (arith, run.moved, run.run.run.frame, run.run.run.taken, is_small st.core.system.sizes (log_after before st.core.system) run.run.run.runs.log.legal)

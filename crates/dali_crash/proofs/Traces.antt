@@ -1,5 +1,5 @@
 -- Each crash image that came along steps fits and restarts right.
-use Rattle.std.proofs.Common.{◌≡◌, ℕ, length, take, drop, ◌+◌, ◌-◌, ◌≤◌, Bool, true, false, List, [], ◌∷◌, ◌++◌, Some, refl, ap, sym, subst, ◌∙◌, inl, inr, ⊎_elim, arith, map}
+use Rattle.std.proofs.Common.{◌≡◌, ℕ, length, take, drop, ◌+◌, ◌-◌, ◌*◌, ◌≤◌, Bool, true, false, List, [], ◌∷◌, ◌++◌, Some, refl, ap, sym, subst, ◌∙◌, inl, inr, ⊎_elim, arith, map}
 use Rattle.std.specs.Prelude.{◌⊎◌, None, fold, sum_by, slice_get, Contains}
 use Rattle.std.proofs.lemmas.List.{take_all}
 use Rattle.dali_geometry.specs.Sizes.{Sizes}
@@ -11,9 +11,9 @@ use Rattle.dali_record.specs.Epochs.{Epoch, Cut, cut, last_epoch, clean_place}
 use Rattle.dali_record.specs.Settled.{words_in, redo_all, settled_before}
 use Rattle.dali_record.specs.Legal.{sizes_of, Rules, rules_state}
 use Rattle.dali_record.specs.Files.{Files, batch_length}
+use Rattle.dali_record.specs.Spelling.{record_length}
 use Rattle.dali_region.specs.Answers.{is_dirty}
 use Rattle.dali_history.specs.Recovered.{recover, base_of, recovered}
-use Rattle.dali_headline.proofs.EpochByEpoch.{recovered_holds}
 use Rattle.dali_headline.proofs.NothingToFree.{recovered-base}
 use Rattle.dali_counts.proofs.Lists.{found, or_false}
 use Rattle.dali_system.specs.State.{CoreState, VaultState, stable, log_after}
@@ -29,16 +29,17 @@ use Rattle.dali_crash.specs.Fitting.{FitsWhole, recover_from}
 use Rattle.dali_crash.specs.Checkpoints.{Head, StoreStep, Does, Copies, WritesHead, Turns, CopyFails, HeadFails, TurnFails, target, head_with, synced_with, copies_after, IsTurnedFrom, IsOverwritten, MayTurn, MayWrite, with_fault, IsPointCourse, Point, is_of_checkpoint, moment_of, Came, Inside, IsPointStep, Traced}
 use Rattle.dali_crash.specs.StoreRuns.{StoreRun, LeavesRight}
 use Rattle.dali_crash.proofs.CrashLogs.{cut_parts}
-use Rattle.dali_crash.proofs.RecoveredWords.{recovered_words}
+use Rattle.dali_crash.proofs.RecoveredWords.{recovered_count, recovered_words}
 use Rattle.dali_crash.proofs.Courses.{format_of, honest_before, course_keeps_the_base}
 use Rattle.dali_crash.proofs.Restarts.{sizes_take, begins_behind, run_is_right_for, flushed_stays_in, acknowledged_stays, run_is_right}
 use Rattle.dali_crash.proofs.Fitting.{but_is_whole}
 use Rattle.dali_crash.proofs.FromImage.{recovers_from_image}
+use Rattle.dali_crash.specs.Starts.{IsLawful}
 use Rattle.dali_crash.proofs.Starts.{fresh_fits}
 use Rattle.dali_crash.proofs.StoreRuns.{store_course_keeps}
 use Rattle.dali_crash.proofs.StoreStarts.{all_dirty, store_base, recovers}
 use Rattle.dali_crash.proofs.Unpoked.{none_loaded, NoneFails, none_escapes, deletes_nobody, store_course_unpoked, store_course_clean, NonePoked, course_unpoked, course_clean}
-use Rattle.dali_crash.specs.Traces.{EveryCoreTraceIsRight, TraceGoesOn, Start, IsRestingImage, FreshRests, CrashRests, StartsAt, start_point, bases_of, EveryTraceIsRight, EveryMomentIsRight, FlushedTraces, AcknowledgedTraces, UnpokedTraceIsRight, StartRuns, UnpokedCoreTraceIsRight, core_start, BareStartRuns}
+use Rattle.dali_crash.specs.Traces.{MayRun, FewGates, EveryCoreTraceIsRight, TraceGoesOn, Start, IsRestingImage, FreshRests, CrashRests, StartsAt, start_point, bases_of, EveryTraceIsRight, EveryMomentIsRight, FlushedTraces, AcknowledgedTraces, UnpokedTraceIsRight, StartRuns, UnpokedCoreTraceIsRight, core_start, BareStartRuns}
 use Rattle.dali_system.proofs.Touching.{trace_course}
 use Rattle.std.specs.List.{list_any}
 use Rattle.dali_history.specs.History.{IsHistory}
@@ -69,13 +70,13 @@ trace_goes_on start p q D E F (y ∷ xs) x t s came = (t.0, t.1, t.2, t.3, trace
 
 -- ---- where a core is made
 pub fresh_rests : FreshRests
-fresh_rests L v D history fresh = record {
+fresh_rests L v D fresh = record {
   vault = fresh.vault;
   none = fresh.none;
   files = subst (λ base. FitsWhole (sizes_of L) base L D (last_epoch L)) (recovered-base (sizes_of L) L fresh.none)
       (but_is_whole (sizes_of L) (λ k. recovered (sizes_of L) L) (λ r. false) L D (last_epoch L)
-      (subst (λ K. FitsBut (sizes_of L) (λ k. recovered (sizes_of L) L) (λ r. false) K D (last_epoch K)) fresh.files.log (fresh_fits (λ k. recovered (sizes_of L) L) L D (λ r. false) history refl fresh.files))
-      (recovered_holds L history).2.image_is.count (λ r h. refl));
+      (subst (λ K. FitsBut (sizes_of L) (λ k. recovered (sizes_of L) L) (λ r. false) K D (last_epoch K)) fresh.files.log (fresh_fits (λ k. recovered (sizes_of L) L) L D (λ r. false) refl fresh.files))
+      (recovered_count (sizes_of L) L) (λ r h. refl));
   end = fresh.end;
   current = fresh.current;
 }
@@ -83,11 +84,15 @@ fresh_rests L v D history fresh = record {
 pub crash_rests : CrashRests
 crash_rests before c F v right none vault end current = record { vault = vault; none = none; files = right.image.fits; end = end; current = current }
 
+whole_short : (L : List Record) (v : VaultState) → MayRun L v → v.end ≤ sum_by record_length (take (length L) L) + 5 * length L
+whole_short L v may = subst (λ K. v.end ≤ sum_by record_length K + 5 * length L) (sym (take_all (length L) L (omega arith))) may.short
+
 rest_vault : (L : List Record) (v : VaultState) (D : Files) → IsRestingImage L v D → VaultRun (only D) L (length L) v
 rest_vault L v D rest = record {
   within = omega arith;
   prefix = λ F h. record { count = length L; flushed = omega arith; within = omega arith; log = all F h };
   exact = λ e F h. record { log = all F h; end = subst (λ (E : Files). v.end ≡ sum_by batch_length E.batches) (sym h) rest.end };
+  short = whole_short L v rest.vault;
   then_fits = rest.vault.faults_fit;
   counts = rest.vault.faults;
   rose = λ e. let runs : v.stopped ≡ false = rest.vault.runs in absurd (cc);
@@ -115,13 +120,20 @@ but_some s bases base missed L D e whole same = record {
 }
 
 starts_with :
-    (s : Start) (leave : Files → Type 0) → IsHistory s.log → rules_state (sizes_of s.log) s.log ≡ Some s.rules → (last_epoch s.log).records ≡ []
+    (s : Start) (leave : Files → Type 0) → IsLawful s.log → rules_state (sizes_of s.log) s.log ≡ Some s.rules → (last_epoch s.log).records ≡ []
     → s.limit ≤ 268435456 → VaultRun leave s.log (length s.log) s.vault → s.vault.flushed ≡ 0
     → ((F : Files) → leave F → FitsWhole (sizes_of s.log) (base_of (sizes_of s.log) s.log) s.log F (last_epoch s.log))
     → ((F : Files) → leave F → F.gates ≡ s.vault.current)
+    → s.vault.current ≤ length s.log
     → StoreRun (bases_of s) s.log leave (start_point s)
-starts_with s leave history rules nothing limit vault flushed fits current = record {
-  run = load_runs_with (bases_of s) z L s.rules s.limit s.vault leave (empty_rests z L s.rules log rules nothing) limit (recovered_holds L history).2.image_is.count (recovered_words L history) vault flushed;
+starts_with s leave is rules nothing limit vault flushed fits current moved = record {
+  run = there;
+  written = record {
+    copied = λ side r q e. absurd (cc);
+    clean = λ side r g at clear. let dirty : is_dirty g side ≡ true = all_dirty image r g side at in absurd (cc);
+  };
+  moved = omega (arith, moved, there.run.first);
+  few = λ F h. omega (arith, current F h, moved, ap length (fits F h).fits.log);
   images = record {
     files = λ side r k e clean cleared. let dirty : is_dirty k side ≡ true = all_dirty image r k side e in absurd (cc);
     fits = λ F h. subst (λ K. FitsBut z (bases_of s) missed K F (last_epoch K)) (sym (fits F h).fits.log)
@@ -145,21 +157,26 @@ starts_with s leave history rules nothing limit vault flushed fits current = rec
     missed = λ r. is_missed (slice_get (start_point s).core.regions r)
 
     log : LogRun z L
-    log = record { format = format_of L history.some_index; spelled = history.spelled; legal = history.legal; locks = history.locks }
+    log = record { format = format_of L is.some_index; spelled = is.spelled; legal = is.legal; locks = is.locks }
+
+    there : RunsAt (bases_of s) s.log leave (moment_of (start_point s))
+    there = load_runs_with (bases_of s) z L s.rules s.limit s.vault leave (empty_rests z L s.rules log rules nothing) limit (recovered_count z L) (recovered_words L is.spelled) vault flushed
 
 pub start_runs : StartRuns
-start_runs s D from = starts_with s (only D) from.history from.rules from.rests.none from.fits (rest_vault s.log s.vault D from.rests) from.rests.vault.flushed
+start_runs s D from = starts_with s (only D) from.lawful from.rules from.rests.none from.fits (rest_vault s.log s.vault D from.rests) from.rests.vault.flushed
     (λ F h. subst (λ (G : Files). FitsWhole (sizes_of s.log) (base_of (sizes_of s.log) s.log) s.log G (last_epoch s.log)) (sym h) from.rests.files)
     (λ F h. subst (λ (E : Files). E.gates ≡ s.vault.current) (sym h) from.rests.current)
+    from.rests.vault.moved
 
 pub bare_start_runs : BareStartRuns
-bare_start_runs s history rules nothing limit may = starts_with s no_image history rules nothing limit vault may.flushed (λ F h. absurd h) (λ F h. absurd h)
+bare_start_runs s is rules nothing limit may = starts_with s no_image is rules nothing limit vault may.flushed (λ F h. absurd h) (λ F h. absurd h) may.moved
   where
     vault : VaultRun no_image s.log (length s.log) s.vault
     vault = record {
       within = omega arith;
       prefix = λ F h. absurd h;
       exact = λ e F h. absurd h;
+      short = whole_short s.log s.vault may;
       then_fits = may.faults_fit;
       counts = may.faults;
       rose = λ e. let runs : s.vault.stopped ≡ false = may.runs in absurd (cc);
@@ -172,16 +189,19 @@ pub trace_runs :
     → StoreRun (bases_of s) s.log (only F) p
 trace_runs s D from xs p F t = store_course_keeps (bases_of s) s.log (start_point s) p xs D F (start_runs s D from) t
 
+pub few_gates : FewGates
+few_gates s D from xs p F t = (trace_runs s D from xs p F t).few F refl
+
 pub every_trace_is_right : EveryTraceIsRight
 every_trace_is_right s D from xs p F t = record {
   fits = there.images.fits F refl;
-  right = λ safe. record {
-    restarts = restarts safe;
+  right = λ h safe. record {
+    restarts = restarts h safe;
     image = record {
-      fits = subst (λ (z : Sizes). FitsWhole z (base_of z (log_in F)) (log_in F) F (last_epoch (log_in F))) (sym same) (whole safe);
+      fits = subst (λ (z : Sizes). FitsWhole z (base_of z (log_in F)) (log_in F) F (last_epoch (log_in F))) (sym same) (whole h safe);
       gives = subst (λ (z : Sizes). recover_from z F.image F.first (last_epoch (log_in F)) ≡ recovered z (log_in F)) (sym same)
-          (recovers_from_image c.system.sizes (base_of c.system.sizes (log_in F)) (log_in F) F (last_epoch (log_in F)) (whole safe)
-          ∙ subst (λ (z : Sizes). recover z (base_of z (log_in F)) (last_epoch (log_in F)) ≡ recovered z (log_in F)) same (recovers (log_in F) (restarts safe).history));
+          (recovers_from_image c.system.sizes (base_of c.system.sizes (log_in F)) (log_in F) F (last_epoch (log_in F)) (whole h safe)
+          ∙ subst (λ (z : Sizes). recover z (base_of z (log_in F)) (last_epoch (log_in F)) ≡ recovered z (log_in F)) same (recovers (log_in F) (restarts h safe).history));
     };
   };
 }
@@ -198,8 +218,8 @@ every_trace_is_right s D from xs p F t = record {
     there : StoreRun (bases_of s) L (only F) p
     there = trace_runs s D from xs p F t
 
-    right : HasRightBase (bases_of s) c.system.sizes p.log
-    right = store_base (bases_of s) (start_point s) p xs (record { base = recovered-base z L from.rests.none; honest = honest_before z (formatted_image z) (cut L).closed (cut L).now from.history.honest }) (traced_course (start_point s) p D F xs t)
+    right : IsHistory s.log → HasRightBase (bases_of s) c.system.sizes p.log
+    right h = store_base (bases_of s) (start_point s) p xs (record { base = recovered-base z L from.rests.none; honest = honest_before z (formatted_image z) (cut L).closed (cut L).now h.honest }) (traced_course (start_point s) p D F xs t)
 
     has : IsPrefix p.log (stable c) F
     has = subst (λ M. IsPrefix M (stable c) F) (sym there.run.log) (there.run.run.vault.prefix F refl)
@@ -208,14 +228,14 @@ every_trace_is_right s D from xs p F t = record {
     began = subst (λ M. (last_epoch M).first ≤ length L) (sym there.run.log) there.run.run.began
 
     -- the epochs before the last one are those of the whole log
-    base : recovered z L ≡ base_of c.system.sizes (log_in F)
-    base =
-        right.base
+    base : IsHistory s.log → recovered z L ≡ base_of c.system.sizes (log_in F)
+    base h =
+        (right h).base
         ∙ sym (ap (λ (q : Cut). fold (recover c.system.sizes) (formatted_image c.system.sizes) q.closed)
         (ap cut has.log ∙ cut_parts p.log has.count (omega (arith, has.flushed, began, there.run.run.first)) has.within))
 
-    restarts : NoneEscapes (last_epoch (log_in F)) c → RestartsRight L c F
-    restarts safe = run_is_right_for (bases_of s) L (only F) c there.run.run (subst (λ M. HasRightBase (bases_of s) c.system.sizes M) there.run.log right) F refl safe
+    restarts : IsHistory s.log → NoneEscapes (last_epoch (log_in F)) c → RestartsRight L c F
+    restarts h safe = run_is_right_for (bases_of s) L (only F) c there.run.run (subst (λ M. HasRightBase (bases_of s) c.system.sizes M) there.run.log (right h)) F refl safe
 
     same : sizes_of (log_in F) ≡ c.system.sizes
     same = ap sizes_of has.log ∙ sizes_take c.system.sizes p.log has.count format (omega (arith, begins_behind c.system.sizes p.log format, has.flushed, began, there.run.run.first))
@@ -223,10 +243,10 @@ every_trace_is_right s D from xs p F t = record {
         format : slice_get p.log 0 ≡ Some (Format c.system.sizes.index c.system.sizes.heap)
         format = subst (λ M. slice_get M 0 ≡ Some (Format c.system.sizes.index c.system.sizes.heap)) (sym there.run.log) there.run.run.runs.log.format
 
-    whole : NoneEscapes (last_epoch (log_in F)) c → FitsWhole c.system.sizes (base_of c.system.sizes (log_in F)) (log_in F) F (last_epoch (log_in F))
-    whole safe = subst (λ b. FitsWhole c.system.sizes b (log_in F) F (last_epoch (log_in F))) base
+    whole : IsHistory s.log → NoneEscapes (last_epoch (log_in F)) c → FitsWhole c.system.sizes (base_of c.system.sizes (log_in F)) (log_in F) F (last_epoch (log_in F))
+    whole h safe = subst (λ b. FitsWhole c.system.sizes b (log_in F) F (last_epoch (log_in F))) (base h)
         (but_is_whole c.system.sizes (bases_of s) _ (log_in F) F (last_epoch (log_in F)) (there.images.fits F refl) there.run.run.runs.base
-        (λ r h. let region = found c.regions r (omega (arith, h, there.run.run.runs.whole)) in ap is_missed region.1 ∙ safe.seen r region.0 region.1))
+        (λ r k. let region = found c.regions r (omega (arith, k, there.run.run.runs.whole)) in ap is_missed region.1 ∙ safe.seen r region.0 region.1))
 
 pub flushed_traces : FlushedTraces
 flushed_traces s D from xs p F t k x before there =
@@ -239,12 +259,12 @@ acknowledged_traces s D from xs p F t u acknowledged =
     acknowledged_stays (bases_of s) s.log p.core F u run.run acknowledged
 
 pub unpoked_trace_is_right : UnpokedTraceIsRight
-unpoked_trace_is_right s D from xs p F quiet t =
+unpoked_trace_is_right s D history from xs p F quiet t =
     let course : IsPointCourse (start_point s) xs p = traced_course (start_point s) p D F xs t in
     let there : RunsAt (bases_of s) s.log (only F) (moment_of p) = (trace_runs s D from xs p F t).run in
     let begins : RunsAt (bases_of s) s.log no_image (moment_of (start_point s)) = with_none (bases_of s) s.log (only D) (moment_of (start_point s)) (start_runs s D from).run in
     let none : NonePoked (start_point s).core.regions = none_loaded (recovered (sizes_of s.log) s.log) in (
-      (every_trace_is_right s D from xs p F t).right (none_escapes (bases_of s) s.log (only F) (moment_of p) F there refl (store_course_unpoked (start_point s) p xs quiet course none)),
+      (every_trace_is_right s D from xs p F t).right history (none_escapes (bases_of s) s.log (only F) (moment_of p) F there refl (store_course_unpoked (start_point s) p xs quiet course none)),
       deletes_nobody (bases_of s) s.log (only F) (moment_of p) F there refl (store_course_clean (bases_of s) s.log (start_point s) p xs begins quiet course none (subst NoneFails (sym from.rests.none) tt)),
     )
 
@@ -334,7 +354,7 @@ moment_halts start p q D E F xs x t s inside = ⊎_elim stays (by_step x s) insi
 right_for : (bases : Bases) (L : List Record) (c : CoreState) (v : VaultState) (F : Files) → v.flushed ≡ c.vault.flushed → LeavesRight bases L (with_vault c v) F → LeavesRight bases L c F
 right_for bases L c v F same right = record {
   fits = right.fits;
-  right = λ safe. let crash = right.right (record { seen = safe.seen; named = safe.named }) in record {
+  right = λ h safe. let crash = right.right h (record { seen = safe.seen; named = safe.named }) in record {
     restarts = record { history = crash.restarts.history; right = crash.restarts.right; keeps = λ t a. crash.restarts.keeps t (subst (λ n. Contains (committed (take (c.system.first + n) (log_after L c.system))) t) (sym same) a) };
     image = crash.image;
   };
@@ -374,7 +394,7 @@ pub core_starts :
     → limit ≤ 268435456 → VaultRun leave L (length L) v → v.flushed ≡ 0
     → RunsAt (λ k. recovered (sizes_of L) L) L leave (core_start L g limit v)
 core_starts L g limit v leave history rules nothing fits vault flushed =
-    load_runs_with (λ k. recovered (sizes_of L) L) (sizes_of L) L g limit v leave (empty_rests (sizes_of L) L g log rules nothing) fits (recovered_holds L history).2.image_is.count (recovered_words L history) vault flushed
+    load_runs_with (λ k. recovered (sizes_of L) L) (sizes_of L) L g limit v leave (empty_rests (sizes_of L) L g log rules nothing) fits (recovered_count (sizes_of L) L) (recovered_words L history.spelled) vault flushed
   where
     log : LogRun (sizes_of L) L
     log = record { format = format_of L history.some_index; spelled = history.spelled; legal = history.legal; locks = history.locks }

@@ -20,7 +20,7 @@ use Rattle.dali_system.specs.Run.{Bases, log_in, RunsOn, IsPrefix, no_image}
 use Rattle.dali_system.specs.Crashes.{NoneEscapes}
 use Rattle.dali_system.specs.Regions.{RegionStep, Latch, NoteReads, Update, TakeBack, Poke, Check, Die, Clean, region_after}
 use Rattle.dali_system.specs.Audits.{MayEndAudit}
-use Rattle.dali_system.specs.Courses.{Step, Begins, Operates, TakesBack, Frees, Answers, Commits, Ends, AuditBegins, AuditEnds, Locks, Refuses, OnRegion, Passes, Dies, Claims, GivesBack, Recovers, Stops, Checkpoints, Takes, Flushes, Faults, Adds, Moment, IsStepAt, IsCourse, RunsAt}
+use Rattle.dali_system.specs.Courses.{Step, Begins, Operates, TakesBack, Frees, Answers, Commits, Ends, AuditBegins, AuditEnds, Locks, Refuses, OnRegion, Passes, Dies, Claims, GivesBack, Recovers, Stops, Checkpoints, Takes, Flushes, Faults, ReadFails, Adds, Moment, IsStepAt, IsCourse, RunsAt}
 use Rattle.dali_system.proofs.Deaths.{region_with, dead_at}
 use Rattle.dali_system.proofs.AuditEnds.{may_end_audit}
 use Rattle.dali_system.proofs.OneMore.{is_inside, last_epoch-push}
@@ -88,6 +88,7 @@ step_unpoked m n (Checkpoints b) quiet s = as_was m.core.regions n.core.regions 
 step_unpoked m n Takes quiet s = as_was m.core.regions n.core.regions (ap (λ (c : CoreState). c.regions) s.0.1)
 step_unpoked m n Flushes quiet s = as_was m.core.regions n.core.regions (ap (λ (c : CoreState). c.regions) s.0.1.1)
 step_unpoked m n (Faults k) quiet s = as_was m.core.regions n.core.regions (ap (λ (c : CoreState). c.regions) s.0.2.1)
+step_unpoked m n (ReadFails k) quiet s = as_was m.core.regions n.core.regions (ap (λ (c : CoreState). c.regions) s.0.1.1)
 
 pub course_unpoked : (m n : Moment) (xs : List Step) → list_any pokes xs ≡ false → IsCourse m xs n → NonePoked m.core.regions → NonePoked n.core.regions
 course_unpoked m n [] quiet s none = subst (λ (k : Moment). NonePoked k.core.regions) s none
@@ -181,6 +182,7 @@ step_clean bases before leave m n (Checkpoints b) at none s = clean_on m n s.0.1
 step_clean bases before leave m n Takes at none s = clean_on m n s.0.0
 step_clean bases before leave m n Flushes at none s = clean_on m n s.0.1.0
 step_clean bases before leave m n (Faults k) at none s = clean_on m n s.0.2.0
+step_clean bases before leave m n (ReadFails k) at none s = clean_on m n s.0.1.0
 
 pub course_clean : (bases : Bases) (before : List Record) (m n : Moment) (xs : List Step) → RunsAt bases before no_image m → list_any pokes xs ≡ false → IsCourse m xs n → NonePoked m.core.regions → IsClean m → IsClean n
 course_clean bases before m n [] at quiet s none clean = subst IsClean s clean

@@ -1,9 +1,9 @@
 -- What only grows along steps.
 --     HasGrown before c d      from the core c to d the current number and the flushed records have only grown, what was acknowledged is still,
 --                              and a vault that was stopped is stopped
---     GoesOn before p q        so it is from the point p to q, and the records that were flushed stand as they did
+--     GoesOn before p q        so it is from the point p to q, and the log of q is that of p with more records
 --     CourseGrows              so it is along each list of steps
-use Rattle.std.specs.Prelude.{◌≡◌, ℕ, ◌≤◌, true, List, take}
+use Rattle.std.specs.Prelude.{◌≡◌, ℕ, ◌≤◌, true, List, ◌++◌, take}
 use Rattle.dali_record.specs.declared.records.Record.{Record}
 use Rattle.dali_system.specs.State.{CoreState, stable}
 use Rattle.dali_system.specs.Run.{Bases, no_image}
@@ -17,9 +17,11 @@ pub record HasGrown (before : List Record) (c d : CoreState) : Type 0 where
   pub acknowledged : (t : ℕ) → IsAcknowledged before c t → IsAcknowledged before d t
   pub stopped : c.vault.stopped ≡ true → d.vault.stopped ≡ true
 
--- besides, the records that were flushed stand as they did
+-- besides, the log has only got more records: those that were flushed stand as they did
 pub record GoesOn (before : List Record) (p q : Point) : Type 0 where
   pub grown : HasGrown before p.core q.core
+  pub more : List Record
+  pub log : q.log ≡ p.log ++ more
   pub records : take (stable p.core) q.log ≡ take (stable p.core) p.log
 
 abbrev pub CourseGrows : Type 0

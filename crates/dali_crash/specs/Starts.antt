@@ -3,9 +3,10 @@
 --     IsRestarted L F          right after a restart, which logged Restarted and wrote the image that it came to
 --     IsFresh L F              one of these, with the log L
 --     FreshFits                such files fit their log
---     MayStart L               a core may be made over the log L
+--     IsLawful L               a log that can be spelled, and is legal and lock-legal, honest or not: a core may be made over it
+--     MayStart L               a history with an empty last epoch
 --     RestartStarts            so it may over the log that a restart leaves: a run may be stopped and started again
-use Rattle.std.specs.Prelude.{◌≡◌, ℕ, ◌<◌, Bool, ◌⊎◌, List, [], ◌∷◌, ◌++◌, length, sum_by, flat_map, IsSome}
+use Rattle.std.specs.Prelude.{◌≡◌, ◌↔◌, ℕ, ◌<◌, Bool, ◌⊎◌, List, [], ◌∷◌, ◌++◌, length, sum_by, flat_map, IsSome}
 use Rattle.dali_geometry.specs.Sizes.{Sizes}
 use Rattle.dali_geometry.specs.Places.{formatted_image}
 use Rattle.dali_record.specs.declared.records.Record.{Record}
@@ -13,10 +14,11 @@ use Rattle.dali_record.specs.declared.records.Record.TheVariants.{Format, Restar
 use Rattle.dali_record.specs.Epochs.{last_epoch, recovered_epoch}
 use Rattle.dali_record.specs.Damage.{rolled_list, deleted_list}
 use Rattle.dali_record.specs.Spelling.{record_length}
-use Rattle.dali_record.specs.Legal.{sizes_of, rules_state}
+use Rattle.dali_record.specs.Legal.{IsLegal, sizes_of, rules_state}
 use Rattle.dali_record.specs.Files.{Files, batch_length, next_after}
-use Rattle.dali_history.specs.Recovered.{recovered}
-use Rattle.dali_history.specs.History.{IsHistory}
+use Rattle.dali_record.specs.Locks.{IsLockLegal}
+use Rattle.dali_history.specs.Recovered.{recovered, IsHonest}
+use Rattle.dali_history.specs.History.{AreSpelled, IsHistory}
 use Rattle.dali_system.specs.Run.{Bases, base_at, log_in}
 use Rattle.dali_system.specs.Images.{FitsBut}
 
@@ -55,9 +57,20 @@ pub record IsFresh (L : List Record) (F : Files) : Type 0 where
   pub log : log_in F ≡ L
   pub kind : IsFormatted (sizes_of L) F ⊎ IsRestarted L F
 
+pub record IsLawful (L : List Record) : Type 0 where
+  pub some_index : 0 < (sizes_of L).index
+  pub some_heap : 0 < (sizes_of L).heap
+  pub spelled : AreSpelled L
+  pub legal : IsLegal L
+  pub locks : IsLockLegal L
+
+-- a history is one that is honest besides
+abbrev pub HistoryIsLawful : Type 0
+HistoryIsLawful = (L : List Record) → IsHistory L ↔ (IsLawful L × IsHonest (sizes_of L) L)
+
 abbrev pub FreshFits : Type 0
 FreshFits =
-    (bases : Bases) (L : List Record) (F : Files) (missed : ℕ → Bool) → IsHistory L
+    (bases : Bases) (L : List Record) (F : Files) (missed : ℕ → Bool)
     → base_at bases L ≡ recovered (sizes_of L) L
     → IsFresh L F
     → FitsBut (sizes_of L) bases missed (log_in F) F (last_epoch (log_in F))

@@ -1,14 +1,16 @@
 -- Runs with their store, from a format or a restart on.
 --     IsCopied base e r g k ws what is known of a region's place in an image file, which reads the words ws
 --     IsKept L v leave h       what a checkpoint kept belongs to the records before
+--     AreWritten regions copies told   where a place was written since the load, it reads 64 words of 64 bits
 --     StoreRun bases before leave p    the core is a run, each crash image fits the log that it has, and these hold
 --     StoreStepKeeps, StoreCourseKeeps     each step, and each list of steps, keeps it, of each crash image by itself
 --     BareStoreCourseKeeps     so it is where nothing is said of crashes
+--     CurrentIsSmall           the anchor was moved fewer than 2^40 times: so it may be moved once more
 --     TurnEnds, TurnLeaves     what is true once the anchor moved, of the point and of the crash image
 --     point_start L g limit v ..           a core that was just made, with its store
 --     ImageIsRight K F         files of the log K fit it whole, and their image gives what a restart gives
 --     CrashIsRightWith before c F      that of a crash image, and a restart of its log is right
---     LeavesRight bases before c F     the crash image F fits its log but for the missed regions; and where no damage
+--     LeavesRight bases before c F     the crash image F fits its log but for the missed regions; and where the start was a history and no damage
 --                              escapes, a restart from its image and the rest of its log is right
 --     FlagTells p              the flag is set where a checkpoint keeps something
 --     FlagStays, CourseFlagTells           so it is after each step, and after each list of steps
@@ -20,8 +22,9 @@
 --     KeptStays                what a checkpoint kept stays until it is given up or its anchor moves
 --     IsLeft p q side          the file of this side was synced, and reads as it did
 --     SyncedStays              so it is after each step but a sync that leaves the file synced
-use Rattle.std.specs.Prelude.{◌≡◌, ℕ, ◌+◌, ◌≤◌, Bool, true, false, ◌⊎◌, List, Some, None, is_some, length, take, sum_by, slice_get, flat_map}
+use Rattle.std.specs.Prelude.{◌≡◌, ℕ, ◌+◌, ◌*◌, ◌^◌, ◌<◌, ◌≤◌, Bool, true, false, ◌⊎◌, List, Some, None, Option, is_some, length, take, sum_by, slice_get, flat_map}
 use Rattle.dali_record.specs.declared.records.Record.{Record}
+use Rattle.dali_record.specs.Blocks.{AreWords}
 use Rattle.dali_record.specs.Epochs.{Epoch, last_epoch, next_number}
 use Rattle.dali_record.specs.Settled.{settled_before}
 use Rattle.dali_record.specs.Spelling.{record_length}
@@ -29,8 +32,10 @@ use Rattle.dali_record.specs.Legal.{sizes_of, Rules}
 use Rattle.dali_record.specs.Files.{Files, batch_length, is_restarted_first, table_before, next_after}
 use Rattle.dali_region.specs.declared.Side.{Side}
 use Rattle.dali_region.specs.State.{RegionState}
+use Rattle.dali_region.specs.Answers.{is_dirty}
 use Rattle.dali_history.specs.Recovered.{base_of, recovered}
-use Rattle.dali_system.specs.State.{VaultState, CoreState}
+use Rattle.dali_history.specs.History.{IsHistory}
+use Rattle.dali_system.specs.State.{VaultState, CoreState, stable}
 use Rattle.dali_system.specs.Run.{Bases, log_in, only, no_image}
 use Rattle.dali_system.specs.Loads.{new_core}
 use Rattle.dali_system.specs.Crashes.{NoneEscapes}
@@ -70,8 +75,16 @@ pub record IsKept (L : List Record) (v : VaultState) (leave : Files → Type 0) 
   pub weight : h.weight ≡ sum_by record_length (take h.first L)
   pub next : h.next ≡ next_after (take h.first L)
   pub table : h.table ≡ table_before (last_epoch L) h.first
+  -- no more moves of the anchor than records, and a place no farther than the records before it, with a frame for each
+  pub moved : v.current ≤ h.first
+  pub short : h.place ≤ h.weight + 5 * h.first
   pub held : (F : Files) → leave F → h.first ≤ length (log_in F)
   pub place : (F : Files) → leave F → IsPlace F h.first h.place
+
+-- ---- what is read where a place was written since the load
+pub record AreWritten (regions : List RegionState) (copies : Side → ℕ → Option Copy) (told : Told) : Type 0 where
+  pub copied : (side : Side) (r : ℕ) (k : Copy) → copies side r ≡ Some k → AreWords (told side r)
+  pub clean : (side : Side) (r : ℕ) (g : RegionState) → slice_get regions r ≡ Some g → is_dirty g side ≡ false → AreWords (told side r)
 
 -- ---- a run with its store
 pub record StoreRun (bases : Bases) (before : List Record) (leave : Files → Type 0) (p : Point) : Type 0 where
@@ -82,6 +95,10 @@ pub record StoreRun (bases : Bases) (before : List Record) (leave : Files → Ty
   pub copied : (side : Side) (r : ℕ) (k : Copy) (g : RegionState) → p.copies side r ≡ Some k
       → slice_get p.core.regions r ≡ Some g
       → IsCopied (bases (last_epoch p.log).first) (last_epoch p.log) r g k (p.told side r)
+  pub written : AreWritten p.core.regions p.copies p.told
+  -- each move of the anchor stands behind records of its own
+  pub moved : p.core.vault.current ≤ stable p.core
+  pub few : (F : Files) → leave F → F.gates ≤ length (log_in F)
 
 abbrev pub StoreStepKeeps : Type 0
 StoreStepKeeps =
@@ -101,6 +118,10 @@ BareStoreCourseKeeps =
     (bases : Bases) (before : List Record) (p q : Point) (xs : List StoreStep) → StoreRun bases before no_image p
     → IsPointCourse p xs q
     → StoreRun bases before no_image q
+
+-- ---- how often the anchor was moved
+abbrev pub CurrentIsSmall : Type 0
+CurrentIsSmall = (bases : Bases) (before : List Record) (p : Point) → StoreRun bases before no_image p → p.core.vault.current < 2 ^ 40
 
 -- ---- a checkpoint that ended
 -- the next number is the current one
@@ -146,7 +167,7 @@ pub record CrashIsRightWith (before : List Record) (c : CoreState) (F : Files) :
 
 pub record LeavesRight (bases : Bases) (before : List Record) (c : CoreState) (F : Files) : Type 0 where
   pub fits : FitsBut c.system.sizes bases (λ r. is_missed (slice_get c.regions r)) (log_in F) F (last_epoch (log_in F))
-  pub right : NoneEscapes (last_epoch (log_in F)) c → CrashIsRightWith before c F
+  pub right : IsHistory before → NoneEscapes (last_epoch (log_in F)) c → CrashIsRightWith before c F
 
 -- ---- the flag of a checkpoint
 abbrev pub FlagTells : Point → Type 0

@@ -4,6 +4,7 @@
 -- there: that real files behave like a store that tells is trusted.
 --     TraceGoesOn              one step more
 --     Start                    a log, and what is known of the store, where a core is made
+--     MayRun L v               what is asked of the vault of a core that is made over the log L
 --     IsRestingImage L v D     the crash image D fits the log L, whose last epoch is empty
 --     IsFreshImage L v D, FreshRests       it is that of a log that was just formatted or restarted: then it does
 --     CrashRests               what a crash of a run left does, where the last epoch of its log is empty
@@ -12,15 +13,17 @@
 --     StartRuns, BareStartRuns it is a run with its store, and so it is where nothing is said of crashes
 --     EveryTraceIsRight        from such a start on, each crash image that came along any steps fits and restarts right
 --     EveryMomentIsRight       so does one inside a step, for the core before it
+--     FewGates                 its anchor has no more open gates than its log has records
 --     FlushedTraces, AcknowledgedTraces    what was flushed stands in it, and what was acknowledged is committed there
 --     UnpokedTraceIsRight      without a stray write it restarts right, and the restart deletes nobody of its last epoch
 --     core_start               a core alone that was just made
 --     EveryCoreTraceIsRight, UnpokedCoreTraceIsRight   so it is of what came along any steps of it, from a crash image that has its log
-use Rattle.std.specs.Prelude.{◌≡◌, ℕ, ◌+◌, ◌≤◌, ◌<◌, ◌^◌, Bool, false, ◌⊎◌, List, [], ◌∷◌, ◌++◌, Some, sum_by, slice_get, length, Contains}
+use Rattle.std.specs.Prelude.{◌≡◌, ℕ, ◌+◌, ◌*◌, ◌≤◌, ◌<◌, ◌^◌, Bool, false, ◌⊎◌, List, [], ◌∷◌, ◌++◌, Some, sum_by, slice_get, length, Contains}
 use Rattle.std.specs.List.{list_any}
 use Rattle.dali_record.specs.declared.records.Record.{Record}
 use Rattle.dali_record.specs.Log.{committed}
 use Rattle.dali_record.specs.Epochs.{Epoch, last_epoch}
+use Rattle.dali_record.specs.Spelling.{record_length}
 use Rattle.dali_record.specs.Legal.{sizes_of, Rules, rules_state}
 use Rattle.dali_record.specs.Files.{Files, batch_length, Fits}
 use Rattle.dali_region.specs.declared.Side.{Side}
@@ -35,7 +38,7 @@ use Rattle.dali_system.specs.Courses.{Step, CoreTraced, Moment}
 use Rattle.dali_system.specs.Images.{Told}
 use Rattle.dali_crash.specs.Restarts.{RestartsRight}
 use Rattle.dali_crash.specs.Fitting.{FitsWhole}
-use Rattle.dali_crash.specs.Starts.{IsFresh}
+use Rattle.dali_crash.specs.Starts.{IsFresh, IsLawful}
 use Rattle.dali_crash.specs.Checkpoints.{Head, StoreStep, Came, Inside, IsPointStep, Point, Traced}
 use Rattle.dali_crash.specs.StoreRuns.{CrashIsRightWith, LeavesRight, StoreRun, point_start}
 use Rattle.dali_crash.specs.Unpoked.{store_pokes, DeletesNobody, pokes}
@@ -47,7 +50,7 @@ TraceGoesOn =
     → Traced start D (xs ++ x ∷ []) q F
 
 -- ---- where a core is made
--- a history whose last epoch has no record, and what is known of the store
+-- a log whose last epoch has no record, and what is known of the store
 pub record Start : Type 0 where
   pub log : List Record
   pub rules : Rules
@@ -57,16 +60,19 @@ pub record Start : Type 0 where
   pub heads : Side → Head
   pub synced : Side → Bool
 
--- the vault runs and has flushed nothing yet, and its counts of faults are in order
-pub record MayRun (v : VaultState) : Type 0 where
+-- the vault runs and has flushed nothing yet, and its counts of faults are in order; the log's file is no longer than its records, with a frame
+-- for each, and the anchor was moved no more often than there are records: so it is behind a format, and each restart that moves it logs one
+pub record MayRun (L : List Record) (v : VaultState) : Type 0 where
   pub runs : v.stopped ≡ false
   pub flushed : v.flushed ≡ 0
   pub faults : v.faults_then ≤ v.faults
   pub faults_fit : v.faults_then < 2 ^ 64
+  pub short : v.end ≤ sum_by record_length L + 5 * length L
+  pub moved : v.current ≤ length L
 
 -- the image fits the log at its last epoch, which is empty; the vault knows where the log ends and which image is current
 pub record IsRestingImage (L : List Record) (v : VaultState) (D : Files) : Type 0 where
-  pub vault : MayRun v
+  pub vault : MayRun L v
   pub none : (last_epoch L).records ≡ []
   pub files : FitsWhole (sizes_of L) (base_of (sizes_of L) L) L D (last_epoch L)
   pub end : v.end ≡ sum_by batch_length D.batches
@@ -74,20 +80,20 @@ pub record IsRestingImage (L : List Record) (v : VaultState) (D : Files) : Type 
 
 -- right after a format or a restart
 pub record IsFreshImage (L : List Record) (v : VaultState) (D : Files) : Type 0 where
-  pub vault : MayRun v
+  pub vault : MayRun L v
   pub none : (last_epoch L).records ≡ []
   pub files : IsFresh L D
   pub end : v.end ≡ sum_by batch_length D.batches
   pub current : D.gates ≡ v.current
 
 abbrev pub FreshRests : Type 0
-FreshRests = (L : List Record) (v : VaultState) (D : Files) → IsHistory L → IsFreshImage L v D → IsRestingImage L v D
+FreshRests = (L : List Record) (v : VaultState) (D : Files) → IsFreshImage L v D → IsRestingImage L v D
 
 -- a crash image that restarts right may be a start as it is, where no record stands in its last epoch
 abbrev pub CrashRests : Type 0
 CrashRests =
     (before : List Record) (c : CoreState) (F : Files) (v : VaultState) → CrashIsRightWith before c F
-    → (last_epoch (log_in F)).records ≡ [] → MayRun v
+    → (last_epoch (log_in F)).records ≡ [] → MayRun (log_in F) v
     → v.end ≡ sum_by batch_length F.batches → F.gates ≡ v.current
     → IsRestingImage (log_in F) v F
 
@@ -99,8 +105,9 @@ FitsAtLast =
     → Fits (sizes_of L) base L D e → length L ≤ D.first + 1
     → (e ≡ last_epoch L) ⊎ (e.records ≡ [])
 
+-- a legal log, honest or not: what speaks of records asks for a history besides
 pub record StartsAt (s : Start) (D : Files) : Type 0 where
-  pub history : IsHistory s.log
+  pub lawful : IsLawful s.log
   pub rules : rules_state (sizes_of s.log) s.log ≡ Some s.rules
   pub fits : s.limit ≤ 268435456
   pub rests : IsRestingImage s.log s.vault D
@@ -118,8 +125,8 @@ StartRuns = (s : Start) (D : Files) → StartsAt s D → StoreRun (bases_of s) s
 -- so it is where nothing is said of crashes
 abbrev pub BareStartRuns : Type 0
 BareStartRuns =
-    (s : Start) → IsHistory s.log → rules_state (sizes_of s.log) s.log ≡ Some s.rules → (last_epoch s.log).records ≡ []
-    → s.limit ≤ 268435456 → MayRun s.vault
+    (s : Start) → IsLawful s.log → rules_state (sizes_of s.log) s.log ≡ Some s.rules → (last_epoch s.log).records ≡ []
+    → s.limit ≤ 268435456 → MayRun s.log s.vault
     → StoreRun (bases_of s) s.log no_image (start_point s)
 
 abbrev pub EveryTraceIsRight : Type 0
@@ -134,6 +141,13 @@ EveryMomentIsRight =
     → (xs : List StoreStep) (p : Point) (E : Files) → Traced (start_point s) D xs p E
     → (x : StoreStep) (q : Point) (F : Files) → IsPointStep p x q → Inside p x E F
     → LeavesRight (bases_of s) s.log p.core F
+
+-- no crash image has more open gates than records: so it may be a start
+abbrev pub FewGates : Type 0
+FewGates =
+    (s : Start) (D : Files) → StartsAt s D
+    → (xs : List StoreStep) (p : Point) (F : Files) → Traced (start_point s) D xs p F
+    → F.gates ≤ length (log_in F)
 
 -- ---- with damage or without
 abbrev pub FlushedTraces : Type 0
@@ -153,7 +167,7 @@ AcknowledgedTraces =
 -- ---- without a stray write
 abbrev pub UnpokedTraceIsRight : Type 0
 UnpokedTraceIsRight =
-    (s : Start) (D : Files) → StartsAt s D
+    (s : Start) (D : Files) → IsHistory s.log → StartsAt s D
     → (xs : List StoreStep) (p : Point) (F : Files) → list_any store_pokes xs ≡ false
     → Traced (start_point s) D xs p F
     → CrashIsRightWith s.log p.core F × DeletesNobody F

@@ -8,10 +8,10 @@ ghost use Rattle.dali_crash.specs.Restarted.{WorkedRestart};
 ghost use Rattle.dali_crash.specs.Damaged.{DamagedRun};
 ghost use Rattle.dali_crash.specs.Restarts.{FormatHasRightBase, RestartHasRightBase, CrashIsHistory, CrashIsRight, RunIsRight, FlushedStays, AcknowledgedStays, CourseKeepsTheBase, FormatIsHistory};
 ghost use Rattle.dali_crash.specs.Fitting.{ButIsWhole, RedoesTheEpoch, RecoversFromImage};
-ghost use Rattle.dali_crash.specs.Starts.{FreshFits, RestartStarts};
-ghost use Rattle.dali_crash.specs.StoreRuns.{StoreStepKeeps, StoreCourseKeeps, BareStoreCourseKeeps, TurnEnds, TurnLeaves, FlagStays, CourseFlagTells, FlagChanges, IdleLeavesImages, KeptStays, SyncedStays};
+ghost use Rattle.dali_crash.specs.Starts.{HistoryIsLawful, FreshFits, RestartStarts};
+ghost use Rattle.dali_crash.specs.StoreRuns.{StoreStepKeeps, StoreCourseKeeps, BareStoreCourseKeeps, CurrentIsSmall, TurnEnds, TurnLeaves, FlagStays, CourseFlagTells, FlagChanges, IdleLeavesImages, KeptStays, SyncedStays};
 ghost use Rattle.dali_crash.specs.Growth.{CourseGrows};
-ghost use Rattle.dali_crash.specs.Traces.{TraceGoesOn, FreshRests, CrashRests, FitsAtLast, StartRuns, BareStartRuns, EveryTraceIsRight, EveryMomentIsRight, FlushedTraces, AcknowledgedTraces, UnpokedTraceIsRight, EveryCoreTraceIsRight, UnpokedCoreTraceIsRight};
+ghost use Rattle.dali_crash.specs.Traces.{TraceGoesOn, FreshRests, CrashRests, FitsAtLast, StartRuns, BareStartRuns, EveryTraceIsRight, EveryMomentIsRight, FewGates, FlushedTraces, AcknowledgedTraces, UnpokedTraceIsRight, EveryCoreTraceIsRight, UnpokedCoreTraceIsRight};
 
 /// Where no damage escapes a stop, the last epoch of what it leaves is honest.
 pub fn a_stop_is_honest()
@@ -100,6 +100,11 @@ pub fn a_restart_may_begin_with_the_image()
     ensures { RecoversFromImage }
 {}
 
+/// A history is a lawful log that is honest besides.
+pub fn a_history_is_lawful()
+    ensures { HistoryIsLawful }
+{}
+
 /// The files that a format or a restart leaves fit their log.
 pub fn fresh_files_fit()
     ensures { FreshFits }
@@ -121,6 +126,12 @@ pub fn each_store_step_keeps_a_run()
 pub fn each_list_of_store_steps_keeps_a_run()
     ensures each { StoreCourseKeeps }
     ensures bare { BareStoreCourseKeeps }
+{}
+
+/// In a run with its store the number of the current image is below 2^40, whatever is known of the store, for each move of
+/// the anchor stands behind records of its own: so the anchor may move once more.
+pub fn the_anchor_may_always_move()
+    ensures { CurrentIsSmall }
 {}
 
 /// Once the anchor moved, each crash image has the checkpoint's number, and its image stands at the
@@ -162,8 +173,8 @@ pub fn the_flag_changes_at_starts_and_ends()
     ensures { FlagChanges }
 {}
 
-/// Along any steps the current number and the flushed records only grow, these stay as they are, what was acknowledged
-/// stays so, and a vault that has stopped stays stopped.
+/// Along any steps the current number and the flushed records only grow, the log only gets more records, what was
+/// acknowledged stays so, and a vault that has stopped stays stopped.
 pub fn steps_only_add()
     ensures { CourseGrows }
 {}
@@ -206,6 +217,11 @@ pub fn every_trace_is_right()
 /// So is a restart from what a crash inside a step leaves, with what was acknowledged before the step.
 pub fn every_moment_is_right()
     ensures { EveryMomentIsRight }
+{}
+
+/// Its anchor has no more open gates than its log has records.
+pub fn a_trace_has_few_gates()
+    ensures { FewGates }
 {}
 
 /// So is one from each that came along the steps of a core alone, whose image files nobody looks at.

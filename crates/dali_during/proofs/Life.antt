@@ -25,7 +25,7 @@ use Rattle.dali_crash.specs.Worked.{look}
 use Rattle.dali_crash.specs.Restarted.{put, add}
 use Rattle.dali_crash.specs.Checkpoints.{Head, Copy, Point, StoreStep, Does, Starts, Keeps, Copies, WritesHead, Syncs, Turns, Finishes, is_of_checkpoint, target, head_now, head_with, synced_with, copies_with, copies_after, IsCertified, MayTurn, IsPointStep, with_current, with_flag, turned, Came, IsTurnedFrom, Traced, moment_of}
 use Rattle.dali_crash.specs.Checkpointed.{no_head, checkpoint_start, checkpoint_from}
-use Rattle.dali_crash.proofs.Checkpointed.{starts, right}
+use Rattle.dali_crash.proofs.Checkpointed.{history, starts, right}
 use Rattle.dali_during.specs.Whole.{look_free, put_again, unput, before_checkpoint, worked, life, WorkedLife}
 use Rattle.dali_during.proofs.Gaps.{first}
 use Rattle.dali_during.proofs.Whole.{ready, index_now, heap_now, course_before}
@@ -285,7 +285,7 @@ life_trace =
 
 -- ---- what is left
 is_quiet : CourseIsQuiet first_log (moment_of s18)
-is_quiet = unpoked_point_courses checkpoint_from starts.history starts.rules starts.rests.none starts.fits starts.rests.vault (life new_head) s18 refl (traced_course checkpoint_start s18 first_files crash (life new_head) life_trace)
+is_quiet = unpoked_point_courses checkpoint_from history starts.rules starts.rests.none starts.fits starts.rests.vault (life new_head) s18 refl (traced_course checkpoint_start s18 first_files crash (life new_head) life_trace)
 
 pub worked_life : WorkedLife
 unfolding look put add found kill_cell kill_entry free_cell free_entry look_free put_again unput entries cells crash old_files
@@ -299,7 +299,7 @@ worked_life = record {
   gates = refl;
   first = refl;
   batches = refl;
-  survive = (unpoked_traces checkpoint_from first_files starts (life new_head) s18 crash refl life_trace).none_deleted (refl, tt);
+  survive = (unpoked_traces checkpoint_from first_files history starts (life new_head) s18 crash refl life_trace).none_deleted (refl, tt);
   right = right (life new_head) s18 crash refl life_trace;
   quiet = is_quiet;
 }

@@ -10,7 +10,7 @@ use Rattle.dali_history.specs.History.{IsHistory}
 use Rattle.dali_headline.proofs.Undamaged.{all_survive}
 use Rattle.dali_system.specs.Run.{log_in}
 use Rattle.dali_crash.proofs.Courses.{format_is_history}
-use Rattle.dali_crash.proofs.Starts.{restart_starts}
+use Rattle.dali_crash.proofs.Starts.{restart_starts, lawful}
 use Rattle.dali_during.specs.During.{NoneFailed}
 use Rattle.dali_during.specs.Reported.{Life, restarted, IsLife, AreLives, IsWholeLog, NobodyIsDeleted}
 use Rattle.dali_during.proofs.UnpokedCourses.{all_and_last, unpoked_traces}
@@ -38,13 +38,13 @@ life_whole L x M whole life = subst IsWholeLog (sym life.log) (restarts_whole (l
     start = record { log = L; rules = x.rules; limit = x.limit; vault = x.vault; told = x.told; heads = x.heads; synced = x.synced }
 
     from : StartsAt start x.first
-    from = record { history = whole.history; rules = life.rules; fits = life.limit; rests = life.rests }
+    from = record { lawful = lawful L whole.history; rules = life.rules; fits = life.limit; rests = life.rests }
 
     right : CrashIsRightWith L x.finish.core x.crash
-    right = (unpoked_trace_is_right start x.first from x.steps x.finish x.crash life.unpoked life.trace).0
+    right = (unpoked_trace_is_right start x.first whole.history from x.steps x.finish x.crash life.unpoked life.trace).0
 
     failed : NoneFailed (log_in x.crash)
-    failed = (unpoked_traces start x.first from x.steps x.finish x.crash life.unpoked life.trace).none_failed whole.none_failed
+    failed = (unpoked_traces start x.first whole.history from x.steps x.finish x.crash life.unpoked life.trace).none_failed whole.none_failed
 
 lives_whole : (L : List Record) (xs : List Life) (M : List Record) → IsWholeLog L → AreLives L xs M → IsWholeLog M
 lives_whole L [] M whole e = subst IsWholeLog (sym e) whole

@@ -10,6 +10,7 @@ use Rattle.dali_record.proofs.Pushes.{cut_push}
 use Rattle.dali_history.specs.Recovered.{recovered}
 use Rattle.dali_history.specs.History.{IsHistory}
 use Rattle.dali_crash.specs.Checkpoints.{Point, StoreStep, IsPointCourse, moment_of}
+use Rattle.dali_crash.proofs.Starts.{lawful}
 use Rattle.dali_crash.proofs.StoreStarts.{store_goes, store_base}
 use Rattle.dali_headline.proofs.Undamaged.{all_survive}
 use Rattle.dali_headline.proofs.NothingToFree.{recovered-base}
@@ -136,7 +137,7 @@ unpoked_courses L g limit v history rules none fits vault zero xs n quiet course
 pub unpoked_core_traces : UnpokedCoreTraces
 unpoked_core_traces L g limit v D history rules none fits vault zero xs n F quiet t =
     let bases : Bases = λ k. recovered (sizes_of L) L in
-    let bare : VaultRun no_image L (length L) v = record { within = vault.within; prefix = λ G h. absurd h; exact = λ e G h. absurd h; then_fits = vault.then_fits; counts = vault.counts; rose = vault.rose } in
+    let bare : VaultRun no_image L (length L) v = record { within = vault.within; prefix = λ G h. absurd h; exact = λ e G h. absurd h; short = vault.short; then_fits = vault.then_fits; counts = vault.counts; rose = vault.rose } in
     image_is_quiet bases L n F
     (core_quiet L g limit v history rules none fits bare zero xs n quiet (trace_course (core_start L g limit v) n D F xs t))
     (course_keeps bases L (core_start L g limit v) n xs D F (core_starts L g limit v (only D) history rules none fits vault zero) t)
@@ -148,12 +149,12 @@ closed_point_course p q (x ∷ xs) course = closed_point_course course.0 q xs co
 
 point_quiet :
     (s : Start) → IsHistory s.log → rules_state (sizes_of s.log) s.log ≡ Some s.rules → (last_epoch s.log).records ≡ []
-    → s.limit ≤ 268435456 → MayRun s.vault
+    → s.limit ≤ 268435456 → MayRun s.log s.vault
     → (xs : List StoreStep) (p : Point) → list_any store_pokes xs ≡ false → IsPointCourse (start_point s) xs p
     → Quiet (bases_of s) s.log (moment_of p)
 point_quiet s history rules none limit may xs p quiet course =
     let start : Point = start_point s in
-    let begins : StoreRun (bases_of s) s.log no_image start = bare_start_runs s history rules none limit may in
+    let begins : StoreRun (bases_of s) s.log no_image start = bare_start_runs s (lawful s.log history) rules none limit may in
     record {
       there = (bare_store_course_keeps (bases_of s) s.log start p xs begins course).run;
       none_poked = store_course_unpoked start p xs quiet course (none_loaded (recovered (sizes_of s.log) s.log));
@@ -167,7 +168,7 @@ unpoked_point_courses s history rules none limit may xs p quiet course =
     course_is_quiet (bases_of s) s.log (moment_of p) (point_quiet s history rules none limit may xs p quiet course)
 
 pub unpoked_traces : UnpokedTraces
-unpoked_traces s D from xs p F quiet t =
+unpoked_traces s D history from xs p F quiet t =
     image_is_quiet (bases_of s) s.log (moment_of p) F
-    (point_quiet s from.history from.rules from.rests.none from.fits from.rests.vault xs p quiet (traced_course (start_point s) p D F xs t))
+    (point_quiet s history from.rules from.rests.none from.fits from.rests.vault xs p quiet (traced_course (start_point s) p D F xs t))
     (trace_runs s D from xs p F t).run

@@ -173,12 +173,12 @@ UnpokedCoreTraces =
 abbrev pub UnpokedPointCourses : Type 0
 UnpokedPointCourses =
     (s : Start) → IsHistory s.log → rules_state (sizes_of s.log) s.log ≡ Some s.rules → (last_epoch s.log).records ≡ []
-    → s.limit ≤ 268435456 → MayRun s.vault
+    → s.limit ≤ 268435456 → MayRun s.log s.vault
     → (xs : List StoreStep) (p : Point) → list_any store_pokes xs ≡ false → IsPointCourse (start_point s) xs p
     → CourseIsQuiet s.log (moment_of p)
 
 abbrev pub UnpokedTraces : Type 0
 UnpokedTraces =
-    (s : Start) (D : Files) → StartsAt s D
+    (s : Start) (D : Files) → IsHistory s.log → StartsAt s D
     → (xs : List StoreStep) (p : Point) (F : Files) → list_any store_pokes xs ≡ false → Traced (start_point s) D xs p F
     → ImageIsQuiet s.log F

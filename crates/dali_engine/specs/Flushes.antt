@@ -49,6 +49,7 @@ module _ {V : Type 0} (told : V → Option Files) (may_leave : V → Files → T
     pub any_moment : IfSome (told old) (λ _. LeavesOnly moment left_since old new (SomeAdded (may_leave old) at (body ∷ [])))
     pub taken : ok ≡ true → IfSome (told old) (λ _. (c : Files) → may_leave new c → AllAdded (may_leave old) at (body ∷ []) c)
     pub failed : ok ≡ false → Rose (faults old) (faults new)
+    pub kept : ok ≡ true → faults new ≡ faults old
 
   abbrev pub Wrote : Bool → ℕ → List ℕ → V → V → Type 0
   Wrote ok at [] old new = new ≡ old

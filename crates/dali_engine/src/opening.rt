@@ -137,6 +137,7 @@ fn find_all<V: Store>(
     ensures reads { OnlyReads V.told V.moment V.left_since V.may_leave store.old store.new }
     ensures fault { IsErrOf result OpenError.Fault → Rose (V.faults store.old) (V.faults store.new) }
     ensures later { V.faults store.old ≤ V.faults store.new }
+    ensures kept { (IsErrOf result OpenError.Fault → ⊥) → V.faults store.new ≡ V.faults store.old }
     ensures passes { PassesFewer (V.lets_pass store.old) (V.lets_pass store.new) }
 {
     let mut finder = Finder::new(alloc);
@@ -192,7 +193,7 @@ fn make<V: Store>(
 }
 
 /// Makes a database of these sizes in a log without batches, and gives what is held in memory then. `Formatted` exactly
-/// where the log has a first batch; nothing is changed then. It takes memory for the regions.
+/// where the log has a first batch; nothing is changed then. It takes memory for the regions, before it calls the store.
 pub fn format<V: Store>(
     alloc: Global,
     geometry: &Geometry,
@@ -206,9 +207,11 @@ pub fn format<V: Store>(
     ensures formatted { IsErrOf result OpenError.Formatted → IfSome (V.told store.old) (λ fs. IsUnformatted fs.log → ⊥) }
     ensures untouched { IfSome (V.told store.old) (λ fs. (IsUnformatted fs.log → ⊥) → V.told store.new ≡ V.told store.old) }
     ensures tells { is_some (V.told store.new) ≡ is_some (V.told store.old) }
+    ensures memory { IsErrOf result OpenError.OutOfMemory → store.new ≡ store.old }
     ensures errors { OnErr result ((IsErrOf result OpenError.Fault) ⊎ (IsErrOf result OpenError.Formatted) ⊎ (IsErrOf result OpenError.OutOfMemory)) }
     ensures fault { IsErrOf result OpenError.Fault → Rose (V.faults store.old) (V.faults store.new) }
     ensures later { V.faults store.old ≤ V.faults store.new }
+    ensures kept { (IsErrOf result OpenError.Fault → ⊥) → V.faults store.new ≡ V.faults store.old }
     ensures passes { PassesFewer (V.lets_pass store.old) (V.lets_pass store.new) }
 {
     let frame = first_frame(alloc, geometry)?;
@@ -233,6 +236,7 @@ pub fn restart<V: Store>(alloc: Global, store: &mut V) -> Result<(Engine, Vec<u6
     ensures reads { OnlyReads V.told V.moment V.left_since V.may_leave store.old store.new }
     ensures fault { IsErrOf result OpenError.Fault → Rose (V.faults store.old) (V.faults store.new) }
     ensures later { V.faults store.old ≤ V.faults store.new }
+    ensures kept { (IsErrOf result OpenError.Fault → ⊥) → V.faults store.new ≡ V.faults store.old }
     ensures passes { PassesFewer (V.lets_pass store.old) (V.lets_pass store.new) }
 {
     sync_all(store)?;

@@ -10,13 +10,14 @@ use Rattle.dali_record.specs.declared.operations.Undo.TheVariants.{FreeCell as U
 use Rattle.dali_record.specs.declared.records.Record.{Record}
 use Rattle.dali_record.specs.declared.records.Record.TheVariants.{Format, Begin, Forward, Done, Commit, Ended, Solo, AuditBegin, AuditClean, AuditFail, Restarted, Back}
 use Rattle.dali_record.specs.Calls.{Fresh}
-use Rattle.dali_record.specs.Legal.{TxnState, Unbegun, Active, Committed, Over, Onward, txn_state, txn_next, txn_step, allowed, freed, concerns, is_level, is_none_left, is_of, same_op, dead_of, freeing_op}
+use Rattle.dali_record.specs.Legal.{Working, TxnState, Unbegun, Active, Committed, Over, Onward, txn_state, txn_next, txn_step, allowed, freed, concerns, is_level, is_none_left, is_of, same_op, dead_of, freeing_op}
 use Rattle.dali_record.proofs.Pushes.{txn_state_push}
 use Rattle.dali_counts.proofs.Lists.{self, equal, or_false}
 use Rattle.dali_att.specs.declared.state.State.TheVariants.{Committed as RowCommitted}
 use Rattle.dali_system.specs.State.{TxnRow, CoreState, row_of, state_of, state_in}
 use Rattle.dali_system.specs.Run.{Bases, IsRow, RunsOn}
 use Rattle.dali_system.specs.Keeps.{IsNext, may_log_in}
+use Rattle.dali_facts.specs.Plans.{AtWork}
 use Rattle.dali_facts.specs.Ends.{IsEnding, IsFreed, BeginFollows, NextIsUnbegun, CommitFollows, SoloFollows, EndFollows, EmptyEnds, FreesFirst, MayFollowCommit, OnlyThese, OthersLeave, CommitIsStep, SoloIsStep, EndIsStep, EmptyEndIsStep}
 
 -- one record more, from a state that is known
@@ -24,12 +25,13 @@ stepped : (s : Sizes) (t : ℕ) (L : List Record) (x : Record) (y : TxnState) �
 stepped s t L x y e = txn_state_push s t L x ∙ ap (λ o. txn_next s t o x) e
 
 pub begin_follows : BeginFollows
-begin_follows s L t e = record {
-  working = record { undos = []; mark = 0; progress = Fresh; way = Onward };
-  at_work = stepped s t L (Begin t) Unbegun e ∙ ap (λ c. let o : Option TxnState = Some (cond c (Active (record { undos = []; mark = 0; progress = Fresh; way = Onward })) Unbegun) in o) (self t);
-  undos = refl;
-  level = refl;
-}
+begin_follows s L t e = record { working = fresh; at_work = at_work; undos = refl; level = refl; plan = record { working = fresh; at_work = at_work; progress_is = refl; onward = refl; mark_is = refl } }
+  where
+    fresh : Working
+    fresh = record { undos = []; mark = 0; progress = Fresh; way = Onward }
+
+    at_work : AtWork s (L ++ Begin t ∷ []) t fresh
+    at_work = stepped s t L (Begin t) Unbegun e ∙ ap (λ c. let o : Option TxnState = Some (cond c (Active fresh) Unbegun) in o) (self t)
 
 pub next_is_unbegun : NextIsUnbegun
 next_is_unbegun bases L c run = run.counts.fresh c.system.next (omega (arith, run.counts.next))

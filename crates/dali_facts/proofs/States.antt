@@ -13,7 +13,7 @@ use Rattle.dali_counts.proofs.Lists.{equal, some_same}
 use Rattle.dali_system.specs.State.{TxnRow, CoreState, row_of, state_in, state_of}
 use Rattle.dali_system.specs.Run.{Bases, IsRow, RunsOn}
 use Rattle.dali_system.specs.Steps.{committed_row}
-use Rattle.dali_system.specs.Courses.{Begins, Operates, TakesBack, Frees, Answers, Commits, Ends, AuditBegins, AuditEnds, Locks, Refuses, OnRegion, Passes, Dies, Claims, GivesBack, Recovers, Stops, Checkpoints, Takes, Flushes, Faults}
+use Rattle.dali_system.specs.Courses.{Begins, Operates, TakesBack, Frees, Answers, Commits, Ends, AuditBegins, AuditEnds, Locks, Refuses, OnRegion, Passes, Dies, Claims, GivesBack, Recovers, Stops, Checkpoints, Takes, Flushes, Faults, ReadFails}
 use Rattle.dali_system.proofs.Tables.{Puts, with_undos, changed, added, ended, kept, dropped}
 use Rattle.dali_system.proofs.WholeSteps.{commits_live}
 use Rattle.dali_facts.specs.States.{CameFrom, StatesComeFrom}
@@ -99,3 +99,4 @@ states_come_from bases L M c d (Checkpoints b) run s t = same_table c d t (ap ta
 states_come_from bases L M c d Takes run s t = same_table c d t (ap table_of s.1)
 states_come_from bases L M c d Flushes run s t = same_table c d t (ap table_of s.1.1)
 states_come_from bases L M c d (Faults n) run s t = same_table c d t (ap table_of s.2.1)
+states_come_from bases L M c d (ReadFails n) run s t = same_table c d t (ap table_of s.1.1)

@@ -1,7 +1,7 @@
 -- Which record the rules of the log allow next to a transaction outside its calls: to who begins, commits, frees what it removed, and ends. What is known of it,
 -- what its own record makes of that, and that others' records leave it.
 --     IsUnbegun, IsEnding s L t dead, IsOver   where the rules have t: no record yet; committed, with these removals still to be freed; ended
---     HasBegun, BeginFollows   behind its Begin it is between calls, with nothing to take back
+--     HasBegun, BeginFollows   behind its Begin it is between calls, with nothing to take back, as a plan is that has made no operation
 --     NextIsUnbegun            in a run the next number has no record yet
 --     CommitFollows            between calls a Commit is allowed where nothing was taken back of what had been answered; its removals are left to be freed then
 --     IsFreed u b              the block b frees for good what the undo u would have put back
@@ -17,6 +17,7 @@ use Rattle.dali_record.specs.declared.operations.Block.{Block}
 use Rattle.dali_record.specs.declared.operations.Pending.{Pending}
 use Rattle.dali_record.specs.declared.records.Record.{Record}
 use Rattle.dali_record.specs.declared.records.Record.TheVariants.{Begin, Commit, Ended, Solo, Restarted}
+use Rattle.dali_record.specs.Calls.{Fresh}
 use Rattle.dali_record.specs.Spelling.{CanBeSpelled}
 use Rattle.dali_record.specs.Legal.{Unbegun, Committed, Over, Working, txn_state, concerns, is_level, dead_of, freeing_op, is_of, on_kind}
 use Rattle.dali_region.specs.State.{RegionState}
@@ -27,7 +28,7 @@ use Rattle.dali_system.specs.Steps.{solo_logged, commit_logged, ended_logged}
 use Rattle.dali_system.specs.Regions.{IsOpen}
 use Rattle.dali_system.specs.Keeps.{IsNext, IsFree, may_log_in, with_system, with_touched}
 use Rattle.dali_system.specs.Courses.{Frees, Commits, Ends, IsStep}
-use Rattle.dali_facts.specs.Plans.{AtWork}
+use Rattle.dali_facts.specs.Plans.{AtWork, IsPlan}
 
 abbrev pub IsUnbegun : Sizes → List Record → ℕ → Type 0
 IsUnbegun s L t = txn_state s t L ≡ Some Unbegun
@@ -44,6 +45,8 @@ pub record HasBegun (s : Sizes) (L : List Record) (t : ℕ) : Type 0 where
   pub at_work : AtWork s L t working
   pub undos : working.undos ≡ []
   pub level : is_level working ≡ true
+  -- as a plan is that has made no operation
+  pub plan : IsPlan s L t Fresh 0
 
 abbrev pub BeginFollows : Type 0
 BeginFollows = (s : Sizes) (L : List Record) (t : ℕ) → IsUnbegun s L t → HasBegun s (L ++ Begin t ∷ []) t

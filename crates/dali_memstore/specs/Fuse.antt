@@ -1,11 +1,16 @@
 -- A fuse over a store.
--- Words: inner, passes_of, failed_of, forgetful; PassesOn, Burns.
-use Rattle.std.specs.Prelude.{◌≡◌, ◌≢◌, ℕ, Option, Some, Result, IsErr}
+-- Words: inner, passes_of, failed_by, failed_of, forgetful; PassesOn, Burns.
+use Rattle.std.specs.Prelude.{◌≡◌, ◌≢◌, ℕ, Option, Some, None, Result, IsErr}
 use Rattle.dali_store.specs.Calls.{one_less}
 use Rattle.dali_store.specs.Faults.{HasCause}
 use Rattle.dali_store.specs.declared.store.StoreFault.{StoreFault}
 use Rattle.dali_memstore.specs.Counts.{one_more}
 use Rattle.dali_memstore.specs.declared.fuse.Fuse.{Fuse}
+
+-- a fuse without a number has failed none
+abbrev pub failed_by : Option ℕ → ℕ → ℕ
+failed_by None failed = 0
+failed_by (Some left) failed = failed
 
 module _ {V : Type 0} where
   -- the store
@@ -18,7 +23,7 @@ module _ {V : Type 0} where
 
   -- how many calls it failed since it last forgot them
   abbrev pub failed_of : Fuse V → ℕ
-  failed_of f = f.failed
+  failed_of f = failed_by f.passes f.failed
 
   -- it has forgotten the calls that it failed
   abbrev pub forgetful : Fuse V → Fuse V

@@ -3,7 +3,7 @@ ghost use Rattle.std.specs.Prelude.{◌≡◌, ◌≢◌, ◌≤◌, ◌<◌, �
 ghost use Rattle.dali_store.specs.Calls.{one_less};
 ghost use Rattle.dali_store.specs.Faults.{Rose, HasCause};
 ghost use Rattle.dali_store.specs.Store.{Files, file_of, Only, Follows, TornIn, TornTold, HoldsIn, ReadsAt, Elapses};
-ghost use Rattle.dali_memstore.specs.Fuse.{Burns, PassesOn, inner, passes_of, failed_of, forgetful};
+ghost use Rattle.dali_memstore.specs.Fuse.{Burns, PassesOn, inner, passes_of, failed_by, failed_of, forgetful};
 ghost use Rattle.dali_memstore.specs.Counts.{one_more};
 
 use dali_store::{FileName, Store, StoreFault};
@@ -12,7 +12,7 @@ use dali_store::{FileName, Store, StoreFault};
 /// With no number it passes all calls on. A cut is always passed on, and uses up one of the calls where some are left.
 ///
 /// The calls that it still makes are those that it passes on; what its store counts isn't told.
-/// Its count of faults is the store's plus the calls that it failed since it last forgot them.
+/// Its count of faults is the store's plus the calls that it failed since it last forgot them, none while it has no number.
 #[derive(Drop)]
 pub struct Fuse<V: Store> {
     store: V,
@@ -34,19 +34,30 @@ impl<V: Store> Fuse<V> {
         }
     }
 
+    // How many calls it failed since it last forgot them.
+    fn failed(&self) -> u64
+        ensures { result ≡ failed_of self.now }
+    {
+        match self.passes {
+            Some(_) => self.failed,
+            None => 0,
+        }
+    }
+
     /// Whether a call was failed by the fuse since it last forgot them. Where none was, its count is the store's.
     pub fn spent(&self) -> bool
         ensures { IsTrue result ↔ (0 < failed_of self.now) }
     {
-        self.failed > 0
+        self.failed() > 0
     }
 
-    /// Passes so many calls on from now on. The calls that were failed stay counted.
+    /// Passes so many calls on from now on. The calls that were failed stay counted, but none are where it has no number.
     pub fn set(&mut self, passes: Option<u64>)
         ensures inner { inner self.new ≡ inner self.old }
         ensures passes { passes_of self.new ≡ passes }
-        ensures failed { failed_of self.new ≡ failed_of self.old }
+        ensures failed { failed_of self.new ≡ failed_by passes (failed_of self.old) }
     {
+        self.failed = self.failed();
         self.passes = passes;
     }
 
@@ -102,7 +113,7 @@ impl<V: Store> Store for Fuse<V> {
 
     ghost left_since = { λ f. V.left_since f.store };
 
-    ghost faults = { λ f. V.faults f.store + f.failed };
+    ghost faults = { λ f. V.faults f.store + failed_of f };
 
     ghost lets_pass = { passes_of };
 

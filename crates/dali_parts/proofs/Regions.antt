@@ -12,7 +12,7 @@ use Rattle.dali_region.specs.State.{RegionState, IsLive, touched, checked, taken
 use Rattle.dali_system.specs.State.{CoreState, hold_of}
 use Rattle.dali_system.specs.Run.{RegionRun, blocks_on, certified_on}
 use Rattle.dali_system.specs.Regions.{IsOpen, RegionStep, region_after, MayChange, Check, Die, TakeBack}
-use Rattle.dali_system.specs.Courses.{Step, Begins, Operates, TakesBack, Frees, Answers, Commits, Ends, AuditBegins, AuditEnds, Locks, Refuses, OnRegion, Passes, Dies, Claims, GivesBack, Recovers, Stops, Checkpoints, Takes, Flushes, Faults}
+use Rattle.dali_system.specs.Courses.{Step, Begins, Operates, TakesBack, Frees, Answers, Commits, Ends, AuditBegins, AuditEnds, Locks, Refuses, OnRegion, Passes, Dies, Claims, GivesBack, Recovers, Stops, Checkpoints, Takes, Flushes, Faults, ReadFails}
 use Rattle.dali_counts.proofs.Lists.{equal, same_number, some_same}
 use Rattle.dali_counts.proofs.SmallLogs.{is_small}
 use Rattle.dali_counts.proofs.Tallies.{number_is}
@@ -138,6 +138,7 @@ step_has_region L M c d (Checkpoints b) r g h s e f = left_region c.regions d.re
 step_has_region L M c d Takes r g h s e f = left_region c.regions d.regions r g h (ap regions_of s.1) e f
 step_has_region L M c d Flushes r g h s e f = left_region c.regions d.regions r g h (ap regions_of s.1.1) e f
 step_has_region L M c d (Faults n) r g h s e f = left_region c.regions d.regions r g h (ap regions_of s.2.1) e f
+step_has_region L M c d (ReadFails n) r g h s e f = left_region c.regions d.regions r g h (ap regions_of s.1.1) e f
 
 -- ---- other regions
 abbrev Leaves : List RegionState → List RegionState → (ℕ → Bool) → Type 0
@@ -176,6 +177,7 @@ regions_leave L M c d (Checkpoints b) s = none_leaves c.regions d.regions (ap re
 regions_leave L M c d Takes s = none_leaves c.regions d.regions (ap regions_of s.1)
 regions_leave L M c d Flushes s = none_leaves c.regions d.regions (ap regions_of s.1.1)
 regions_leave L M c d (Faults n) s = none_leaves c.regions d.regions (ap regions_of s.2.1)
+regions_leave L M c d (ReadFails n) s = none_leaves c.regions d.regions (ap regions_of s.1.1)
 
 -- ---- each step
 -- the epoch of a log with one record more
@@ -252,3 +254,4 @@ region_keeps base L M y z x r g h run system s within here certified = by_step x
     by_step Takes s here certified = left s.0 here
     by_step Flushes s here certified = left s.0 here
     by_step (Faults n) s here certified = left s.0 here
+    by_step (ReadFails n) s here certified = left s.0 here

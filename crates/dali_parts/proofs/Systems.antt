@@ -22,7 +22,7 @@ use Rattle.dali_system.specs.Run.{RegionRun, Bases, RunsOn, blocks_on}
 use Rattle.dali_system.specs.Steps.{begun, op_logged, back_logged, solo_logged, done_logged, commit_logged, ended_logged, audit_begun, audit_ended, granted, refused, in_state, store_stopped, in_checkpoint, taken, committed_row}
 use Rattle.dali_system.specs.Keeps.{MayLogBlock}
 use Rattle.dali_system.specs.Audits.{MayEndAudit}
-use Rattle.dali_system.specs.Courses.{Step, Begins, Operates, TakesBack, Frees, Answers, Commits, Ends, AuditBegins, AuditEnds, Locks, Refuses, OnRegion, Passes, Dies, Claims, GivesBack, Recovers, Stops, Checkpoints, Takes, Flushes, Faults}
+use Rattle.dali_system.specs.Courses.{Step, Begins, Operates, TakesBack, Frees, Answers, Commits, Ends, AuditBegins, AuditEnds, Locks, Refuses, OnRegion, Passes, Dies, Claims, GivesBack, Recovers, Stops, Checkpoints, Takes, Flushes, Faults, ReadFails}
 use Rattle.dali_system.proofs.RecordSteps.{begin_keeps, op_keeps, back_keeps, solo_keeps, done_keeps, commit_keeps, ended_keeps}
 use Rattle.dali_system.proofs.AuditSteps.{audit_begin_keeps, audit_end_keeps}
 use Rattle.dali_system.proofs.QuietSteps.{grant_keeps, refuse_keeps, state_keeps, stop_keeps, checkpoint_flag_keeps}
@@ -182,6 +182,7 @@ system_keeps L M y z x run s = by_step x s
     by_step Takes s = by_shadow _ M z (blank y.sizes) _ s (take_keeps (blank y.sizes) L c plain)
     by_step Flushes s = keeps_at L M y z y s run
     by_step (Faults n) s = keeps_at L M y z y s run
+    by_step (ReadFails n) s = keeps_at L M y z y s run
 
 -- ---- a step of a core
 abbrev system_of : CoreState → SystemState
@@ -226,6 +227,7 @@ step_has_system bases L M c d (Checkpoints b) run s = (s.0, (s.1.0, ap system_of
 step_has_system bases L M c d Takes run s = (s.0, ap system_of s.1)
 step_has_system bases L M c d Flushes run s = (s.1.0, ap system_of s.1.1)
 step_has_system bases L M c d (Faults n) run s = (s.2.0, ap system_of s.2.1)
+step_has_system bases L M c d (ReadFails n) run s = (s.1.0, ap system_of s.1.1)
 
 -- ---- what a step leaves
 -- the system that a step leads to, in place of z
@@ -420,6 +422,18 @@ system_leaves L M y z Flushes s = left_at L M y z (y) Flushes s.1 (record {
   checking = λ h. refl;
 })
 system_leaves L M y z (Faults n) s = left_at L M y z (y) (Faults n) s.1 (record {
+  sizes = refl;
+  first = refl;
+  limit = refl;
+  rows = λ u h. refl;
+  locks = λ u l h. refl;
+  counts = λ h. none_counted L M y (y) s.0 refl refl refl refl;
+  stop = λ h. refl;
+  refusals = λ h. refl;
+  taken = λ h. refl;
+  checking = λ h. refl;
+})
+system_leaves L M y z (ReadFails n) s = left_at L M y z (y) (ReadFails n) s.1 (record {
   sizes = refl;
   first = refl;
   limit = refl;

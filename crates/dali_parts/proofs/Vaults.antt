@@ -1,15 +1,16 @@
 -- Each step on the vault keeps its part.
-use Rattle.std.proofs.Common.{ℕ, List, refl, ap, sym, subst, ◌∙◌, inl, inr, ⊎_elim, arith}
-use Rattle.std.specs.Prelude.{drop, take}
+use Rattle.std.proofs.Common.{ℕ, ◌+◌, ◌*◌, ◌≤◌, List, refl, ap, sym, subst, ◌∙◌, inl, inr, ⊎_elim, arith}
+use Rattle.std.specs.Prelude.{drop, sum_by, take}
 use Rattle.std.proofs.lemmas.List.{length-append, take-append-le}
 use Rattle.dali_record.specs.declared.records.Record.{Record}
 use Rattle.dali_record.specs.Files.{Files}
+use Rattle.dali_record.specs.Spelling.{record_length}
 use Rattle.dali_system.specs.Run.{VaultRun, IsPrefix, IsFlushed, only}
-use Rattle.dali_system.specs.Courses.{Begins, Operates, TakesBack, Frees, Answers, Commits, Ends, AuditBegins, AuditEnds, Locks, Refuses, OnRegion, Passes, Dies, Claims, GivesBack, Recovers, Stops, Checkpoints, Takes, Flushes, Faults}
+use Rattle.dali_system.specs.Courses.{Begins, Operates, TakesBack, Frees, Answers, Commits, Ends, AuditBegins, AuditEnds, Locks, Refuses, OnRegion, Passes, Dies, Claims, GivesBack, Recovers, Stops, Checkpoints, Takes, Flushes, Faults, ReadFails}
 use Rattle.dali_system.specs.State.{VaultState, CoreState}
 use Rattle.dali_system.specs.Flushes.{with_frame}
-use Rattle.dali_system.proofs.Flushes.{flush_leaves, fault_leaves}
-use Rattle.dali_parts.specs.Vaults.{VaultFlushes, VaultFaults, VaultMisses, StepHasVault}
+use Rattle.dali_system.proofs.Flushes.{flush_leaves, fault_leaves, read_leaves, end_within}
+use Rattle.dali_parts.specs.Vaults.{VaultFlushes, VaultFaults, VaultReads, VaultMisses, VaultIsShort, StepHasVault}
 
 pub vault_flushes : VaultFlushes
 vault_flushes L n m v D run from within runs = flush_leaves (only D) (only (with_frame D (drop n (take m L)))) L n m v run from within runs (record { each = λ F is. (D, refl, is) })
@@ -19,11 +20,18 @@ vault_faults L n m faults v D F run from within runs rose left =
     fault_leaves (only D) (only F) L n m faults v run from within runs rose
     (record { each = λ G is. (D, refl, ⊎_elim (λ same. inl (is ∙ same)) (λ more. inr (is ∙ more)) left) })
 
+pub vault_reads : VaultReads
+vault_reads L n faults v D run rose = read_leaves (only D) L n faults v run rose
+
+pub vault_is_short : VaultIsShort
+vault_is_short s L n v D log run = end_within s L n v.end log run.within run.short
+
 pub vault_misses : VaultMisses
 vault_misses L more n v D run = record {
   within = omega (arith, run.within, length-append L more);
   prefix = λ F h. let was : IsPrefix L n F = run.prefix F h in record { count = was.count; flushed = was.flushed; within = omega (arith, was.within, length-append L more); log = was.log ∙ sym (take-append-le was.count L more was.within) };
   exact = λ running F h. let was : IsFlushed L n v F = run.exact running F h in record { log = was.log ∙ sym (take-append-le n L more run.within); end = was.end };
+  short = subst (λ K. v.end ≤ sum_by record_length K + 5 * n) (sym (take-append-le n L more run.within)) run.short;
   then_fits = run.then_fits;
   counts = run.counts;
   rose = run.rose;
@@ -35,6 +43,7 @@ of_each leave L n v F run may = record {
   within = run.within;
   prefix = λ G is. run.prefix G (subst leave (sym is) may);
   exact = λ running G is. run.exact running G (subst leave (sym is) may);
+  short = run.short;
   then_fits = run.then_fits;
   counts = run.counts;
   rose = run.rose;
@@ -66,3 +75,4 @@ step_has_vault L M c d (Checkpoints b) s = ap vault_of s.1.1
 step_has_vault L M c d Takes s = ap vault_of s.1
 step_has_vault L M c d Flushes s = (s.0, ap vault_of s.1.1)
 step_has_vault L M c d (Faults n) s = (s.0, s.1, ap vault_of s.2.1)
+step_has_vault L M c d (ReadFails n) s = (s.0, ap vault_of s.1.1)

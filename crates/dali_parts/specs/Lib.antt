@@ -5,3 +5,4 @@ pub mod Systems
 pub mod Regions
 pub mod Vaults
 pub mod Joined
+pub mod Logs

@@ -5,7 +5,8 @@ ghost use Rattle.dali_parts.specs.Tables.{TableLogs, TableMoves, TableLeaves};
 ghost use Rattle.dali_parts.specs.Locks.{LocksGrant, LocksRefuse, LocksLog};
 ghost use Rattle.dali_parts.specs.Counts.{CountsLog};
 ghost use Rattle.dali_parts.specs.Regions.{RegionMoves, RegionTouches, RegionMisses, RegionKeeps, StepHasRegion, RegionsLeave};
-ghost use Rattle.dali_parts.specs.Vaults.{VaultFlushes, VaultFaults, VaultMisses, StepHasVault};
+ghost use Rattle.dali_parts.specs.Logs.{LogLogs, HeldIsFree, SystemHasLog};
+ghost use Rattle.dali_parts.specs.Vaults.{VaultFlushes, VaultFaults, VaultReads, VaultIsShort, VaultMisses, StepHasVault};
 ghost use Rattle.dali_parts.specs.Joined.{PartsAreARun};
 
 /// Each step keeps what a run says of the system, with no region known but the one of the block that is logged.
@@ -63,6 +64,16 @@ pub fn a_vault_that_fails_keeps_its_part()
     ensures { VaultFaults }
 {}
 
+/// So does a read of the log that fails.
+pub fn a_vault_whose_read_fails_keeps_its_part()
+    ensures { VaultReads }
+{}
+
+/// In a legal log the vault ends below 2^62, so a flush may add its frame behind it.
+pub fn a_vault_ends_below_its_limit()
+    ensures { VaultIsShort }
+{}
+
 /// So does the logging of more records.
 pub fn a_vault_that_is_left_keeps_its_part()
     ensures { VaultMisses }
@@ -71,6 +82,18 @@ pub fn a_vault_that_is_left_keeps_its_part()
 /// Each step of a core is one of its vault.
 pub fn a_step_has_its_vault()
     ensures { StepHasVault }
+{}
+
+/// A record that the rules allow, that can be spelled, whose block reads some word, and which is free, keeps what a run
+/// says of the log; and only such a one does. Where the owner of its block holds the lock for it, it is free.
+pub fn a_log_that_grows_keeps_its_part()
+    ensures logs { LogLogs }
+    ensures free { HeldIsFree }
+{}
+
+/// Each step of a system logs such a record, or leaves the log.
+pub fn a_step_has_its_log()
+    ensures { SystemHasLog }
 {}
 
 /// The parts together are what a run says of the core.

@@ -219,7 +219,7 @@ restarts_onward K Z F r E history some front spell full = record {
     }
 
     but : FitsBut (sizes_of (closed_log (K ++ Z))) (λ k. recovered (sizes_of (K ++ Z)) (K ++ Z)) (λ q. false) (flat_map (λ b. b) (turned (K ++ Z) F).batches) (turned (K ++ Z) F) (last_epoch (flat_map (λ b. b) (turned (K ++ Z) F).batches))
-    but = fresh_fits (λ k. recovered (sizes_of L) L) (closed_log L) (turned L F) (λ q. false) later (sym again) (record { log = log_is; kind = inr restarted })
+    but = fresh_fits (λ k. recovered (sizes_of L) L) (closed_log L) (turned L F) (λ q. false) (sym again) (record { log = log_is; kind = inr restarted })
 
     turned_fits : FitsWhole (sizes_of (K ++ Z)) (recovered (sizes_of (K ++ Z)) (K ++ Z)) (closed_log (K ++ Z)) (turned (K ++ Z) F) (last_epoch (closed_log (K ++ Z)))
     turned_fits =

@@ -2,10 +2,10 @@
 use Rattle.dali_record.specs.Settled.{redo_all}
 use Rattle.std.specs.List.{list_any}
 use Rattle.std.specs.Prelude.{IsNone, IsSome, fold, not, sum_by, ◌&&◌, ◌||◌, ◌==◌}
-use Rattle.std.proofs.Common.{Bool, List, None, Option, Some, ap, append_assoc, arith, cond, drop, false, length, refl, subst, sym, true, ℕ, ◌≡◌, ◌∷◌, ◌++◌, ◌∙◌, ◌<◌, []}
+use Rattle.std.proofs.Common.{Bool, List, None, Option, Some, ap, append_assoc, arith, cond, drop, false, length, refl, subst, sym, take, true, ℕ, ◌+◌, ◌≡◌, ◌∷◌, ◌++◌, ◌∙◌, ◌<◌, []}
 use Rattle.std.proofs.lemmas.Bool.{and_parts, both_ways, false_from_ne_true}
-use Rattle.std.proofs.lemmas.List.{append-nil, drop-append-le, length-append}
-use Rattle.std.proofs.lemmas.List.Sums.{fold-append}
+use Rattle.std.proofs.lemmas.List.{append-nil, drop-append-le, length-append, take-append-drop, take-append-le}
+use Rattle.std.proofs.lemmas.List.Sums.{fold-append, sum_by-append}
 use Rattle.dali_geometry.specs.Places.{formatted_image}
 use Rattle.dali_geometry.specs.Sizes.{Sizes}
 use Rattle.dali_record.specs.Damage.{deleted_list, rolled_list}
@@ -298,7 +298,14 @@ resumes_through s K Z F some_index some_heap fit some legal spelled =
       resumed = ends_reached s (K ++ Z) F.first (goes_through s F (drop F.first (K ++ Z))) w.1;
       number = w.1.number;
       next = w.1.next;
+      weight = omega (arith, fit.1.fits.lengths, front, whole);
     }
+  where
+    front : sum_by record_length (take F.first (K ++ Z)) ≡ sum_by record_length (take F.first K)
+    front = ap (sum_by record_length) (take-append-le F.first K Z fit.1.fits.count)
+
+    whole : sum_by record_length (K ++ Z) ≡ sum_by record_length (take F.first (K ++ Z)) + sum_by record_length (drop F.first (K ++ Z))
+    whole = ap (sum_by record_length) (sym (take-append-drop F.first (K ++ Z))) ∙ sum_by-append record_length (take F.first (K ++ Z)) (drop F.first (K ++ Z))
 
 -- ---- the lists of a Restarted that may follow
 numbers_same : (xs ys : List ℕ) → same_numbers xs ys ≡ true → xs ≡ ys

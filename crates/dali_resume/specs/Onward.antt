@@ -24,7 +24,7 @@
 --     FormatHandsOut           of Format alone, and of Format and Restarted, the formatted regions are handed out, and nobody
 --     CrashIsAnswered          so it is from what a crash of a run with its store leaves
 --     RestartsOnward           where the last epoch has a record, a restart may be stopped and made again
-use Rattle.std.specs.Prelude.{◌≡◌, ◌<◌, ◌&&◌, ℕ, Bool, true, false, ◌+◌, not, List, [], ◌∷◌, ◌++◌, ◌==◌, if◌then◌else◌, Option, Some, None, drop, length, flat_map, fold}
+use Rattle.std.specs.Prelude.{◌≡◌, ◌<◌, ◌&&◌, ℕ, Bool, true, false, ◌+◌, not, List, [], ◌∷◌, ◌++◌, ◌==◌, if◌then◌else◌, Option, Some, None, drop, length, flat_map, fold, sum_by}
 use Rattle.std.specs.List.{list_any}
 use Rattle.dali_geometry.specs.Sizes.{Sizes}
 use Rattle.dali_geometry.specs.Places.{formatted_image}
@@ -32,6 +32,7 @@ use Rattle.dali_record.specs.declared.records.Record.{Record}
 use Rattle.dali_record.specs.declared.records.Record.TheVariants.{Format, Restarted}
 use Rattle.dali_record.specs.Epochs.{last_epoch, recovered_epoch}
 use Rattle.dali_record.specs.Damage.{rolled_list, deleted_list}
+use Rattle.dali_record.specs.Spelling.{record_length}
 use Rattle.dali_record.specs.Legal.{sizes_of, IsLegalFor}
 use Rattle.dali_record.specs.Log.{undo_step}
 use Rattle.dali_record.specs.Settled.{redo_all}
@@ -114,12 +115,14 @@ pub record IsResumed (s : Sizes) (L : List Record) (n : ℕ) (o : Outcome) : Typ
   pub deleted : n < length L → o.deleted ≡ deleted_list (recovered_epoch L)
   pub unread : n ≡ length L → (o.rolled ≡ []) × (o.deleted ≡ [])
 
--- what is handed out there, and what is known: the numbers of the next record and of the next transaction
+-- what is handed out there, and what is known: the numbers of the next record and of the next transaction, and the sum of the records' lengths, of
+-- which the image tells those before it
 pub record IsRightAtEnd (s : Sizes) (L : List Record) (F : Files) (c : Going) : Type 0 where
   pub verdict : verdict_of s F L ≡ HandedOut (hands_on s c)
   pub resumed : IsResumed s L F.first (hands_on s c)
   pub number : c.known.number ≡ length L
   pub next : c.known.next ≡ next_after L
+  pub weight : F.weight + sum_by record_length (drop F.first L) ≡ sum_by record_length L
 
 abbrev pub ResumesThrough : Type 0
 ResumesThrough =

@@ -143,9 +143,9 @@ module _ {V : Type 0} (told : V → Option Files) (may_leave : V → Files → T
 
   -- for want of memory for its lines
   pub lines_wanting : (command : ClientCommand) (old new : Running V) (before : List Line) (stage : Stage) (listed : List Line) → before ≡ [] → ActsFrom command old before (turn new stage listed)
-      → AloneFails told may_leave moment left_since faults halts.OutOfMemory command old new.store
-  lines_wanting command old new before stage listed none acts =
-      (inl (record { new = new; stage = stage; listed = listed; acts = subst (λ (l : List Line). ActsFrom command old l (turn new stage listed)) none acts; store = refl }), tt)
+      → (Stopped listed → 0 < failed_of new.store) → AloneFails told may_leave moment left_since faults halts.OutOfMemory command old new.store
+  lines_wanting command old new before stage listed none acts by_fuse =
+      (inl (record { new = new; stage = stage; listed = listed; acts = subst (λ (l : List Line). ActsFrom command old l (turn new stage listed)) none acts; store = refl }), (tt, by_fuse))
 
   -- the store wasn't asked, or failed in the flush, and why
   pub alone_undone : (error : EngineError) (command : ClientCommand) (old : Running V) (f : Fuse V)
@@ -156,7 +156,7 @@ module _ {V : Type 0} (told : V → Option Files) (may_leave : V → Files → T
   alone_undone (engines.LogFull end limit) command old f lost undone = (inr lost, undone)
 
   pub acts_alone : (command : ClientCommand) (old new : Running V) (before : List Line) (stage : Stage) (listed : List Line) (text : List ℕ) → before ≡ [] → ActsFrom command old before (turn new stage listed)
-      → text ≡ texts listed → (Stopped listed → 0 < failed_of new.store) → KeepsFuse old.store new.store → ActsAlone told may_leave moment left_since faults command old text new
+      → text ≡ texts listed → (Stopped listed → 0 < failed_of new.store) → KeepsFuse faults old.store new.store → ActsAlone told may_leave moment left_since faults command old text new
   acts_alone command old new before stage listed text none acts printed by_fuse fuse =
       record { stage = stage; listed = listed; acts = subst (λ (l : List Line). ActsFrom command old l (turn new stage listed)) none acts; fuse = fuse; printed = printed; by_fuse = by_fuse }
 
@@ -179,7 +179,7 @@ module _ {V : Type 0} (told : V → Option Files) (may_leave : V → Files → T
       no_audit same = absurd cc
   poke_fails (halts.LogFull end limit) r w m old f e fails = fails
   poke_fails halts.OutOfNumbers r w m old f e fails = fails
-  poke_fails halts.OutOfMemory r w m old f e fails = fails
+  poke_fails halts.OutOfMemory r w m old f e fails = (fails.0, fails.1, tt)
   poke_fails halts.BadWords r w m old f e fails = absurd fails
   poke_fails (halts.BadScript line kind) r w m old f e fails = absurd fails
   poke_fails halts.TooLong r w m old f e fails = absurd fails
@@ -194,7 +194,7 @@ module _ {V : Type 0} (told : V → Option Files) (may_leave : V → Files → T
   audit_fails halts.StoreFault old f e fails = (tt, fails.1, fails.2, fails.3)
   audit_fails (halts.LogFull end limit) old f e fails = fails
   audit_fails halts.OutOfNumbers old f e fails = fails
-  audit_fails halts.OutOfMemory old f e fails = fails
+  audit_fails halts.OutOfMemory old f e fails = (fails.0, fails.1, tt)
   audit_fails halts.BadWords old f e fails = absurd fails
   audit_fails (halts.BadScript line kind) old f e fails = absurd fails
   audit_fails halts.TooLong old f e fails = absurd fails
@@ -221,7 +221,7 @@ module _ {V : Type 0} (told : V → Option Files) (may_leave : V → Files → T
   -- ---- a round over a program that is up
   round_fails : (error : EngineError) (blocks : List Block) (old : Program V) (f : Fuse V) (e : Engine) → RoundFails told may_leave moment left_since faults error blocks (running e old.store) f
       → Fails told may_leave moment left_since faults (halt_of_engine error) (Round blocks) (record old { engine = Some e }) f
-  round_fails engines.OutOfMemory blocks old f e fails = fails
+  round_fails engines.OutOfMemory blocks old f e fails = (fails.0, fails.1, tt)
   round_fails engines.OutOfNumbers blocks old f e fails = fails
   round_fails (engines.LogFull end limit) blocks old f e fails = fails
 

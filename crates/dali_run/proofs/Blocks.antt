@@ -27,7 +27,7 @@ module _ {V : Type 0} (told : V → Option Files) (may_leave : V → Files → T
 
   -- the commands are those of the block, and no line was there before
   pub block_ran : (block : Block) (old new : Running V) (commands : List ClientCommand) (before : List Line) (stage : Stage) (listed : List Line) → commands ≡ block.commands → before ≡ []
-      → AllDone commands old before stage listed new → KeepsFuse old.store new.store → RunsBlock told may_leave moment left_since faults block old (client_texts block.client listed) new
+      → AllDone commands old before stage listed new → KeepsFuse faults old.store new.store → RunsBlock told may_leave moment left_since faults block old (client_texts block.client listed) new
   block_ran block old new commands before stage listed same none done fuse = record {
     stage = stage;
     listed = listed;

@@ -1,6 +1,6 @@
 -- A run in which nothing is wrong ends well, or for want of memory.
 use Rattle.std.proofs.Common.{◌≡◌, ◌⊎◌, ◌<◌, ◌≤◌, ◌+◌, ℕ, zero, suc, List, [], ◌∷◌, ◌++◌, length, take, Option, Some, None, inl, inr, refl, sym, ◌∙◌, ap, subst, arith, append_assoc}
-use Rattle.std.specs.Prelude.{IfSome, is_some, true}
+use Rattle.std.specs.Prelude.{◌≢◌, IfSome, is_some, true}
 use Rattle.std.specs.List.{AllByRecursion}
 use Rattle.std.proofs.lemmas.List.{append-nil}
 use Rattle.dali_batch.proofs.Unique.{log_is_formatted}
@@ -21,17 +21,18 @@ use Rattle.dali_run.specs.declared.halt.Halt.TheVariants as halts
 use Rattle.dali_run.specs.declared.program.Program.{Program}
 use Rattle.dali_run.specs.declared.status.Status.{Status}
 use Rattle.dali_run.specs.declared.status.Status.TheVariants as statuses
-use Rattle.dali_run.specs.Complete.{EndsWell, RightRunsEndWell, HasNoLog, HasOwnLog, IsReady, IsRight}
+use Rattle.dali_run.specs.Complete.{EndsWell, RightRunsEndWell, HasNoLog, HasOwnLog, IsReady, IsRight, SetsNoFuse, NoneFailed, DoneRunsAreReady}
 use Rattle.dali_run.specs.Ends.{Spells, StoppedIn, Course, Ended}
 use Rattle.dali_run.specs.Fails.{Opens, IsSize}
 use Rattle.dali_run.specs.Program.{settled, told_in}
 use Rattle.dali_run.specs.Run.{RunsAll}
-use Rattle.dali_run.specs.Served.{IsWhole}
+use Rattle.dali_run.specs.Served.{IsWhole, ServesBehind}
 use Rattle.dali_run.specs.Steps.{sizes_of}
-use Rattle.dali_run.specs.Survives.{IsOwn, AllSurvive}
+use Rattle.dali_run.specs.Survives.{Holds, IsOwn, AllSurvive}
+use Rattle.dali_run.proofs.Counted.{all_stay}
 use Rattle.dali_run.proofs.Keeping.{never_told}
 use Rattle.dali_run.proofs.Kept.{ended_kept, front, next}
-use Rattle.dali_run.proofs.Served.{size_serves, serving_settled, all_serve}
+use Rattle.dali_run.proofs.Served.{behind, size_serves, serving_settled, all_serve}
 use Rattle.dali_run.proofs.Wholes.{whole_behind, whole_behind_open}
 
 -- ---- where a command stands
@@ -65,6 +66,10 @@ not_behind first later (suc n) command whole is size = absurd (no_size command (
 never_rose : (before now : ℕ) → now ≡ 0 → Rose before now → ⊥
 never_rose before now none (inl lt) = omega (arith, none, lt)
 never_rose before now none (inr end) = omega (arith, none, end)
+
+rose_less : (a b d : ℕ) → a ≤ b → Rose b d → Rose a d
+rose_less a b d le (inl lt) = inl (omega (arith, le, lt))
+rose_less a b d le (inr end) = inr end
 
 rose_more : (a b d : ℕ) → b ≤ d → Rose a b → Rose a d
 rose_more a b d le (inl lt) = inl (omega (arith, le, lt))
@@ -202,6 +207,15 @@ module _ {V : Type 0} (told : V → Option Files) (may_leave : V → Files → T
     not_bad (Next ∷ later) ready file at ended = ready
     not_bad (Fuse n ∷ later) ready file at ended = ready
 
+    not_failed : (script : List Command) → Stopped halts.StoreFault script → NoneFailed faults script c.store c.store' → ⊥
+    not_failed script stopped (inl none) =
+        let first = stopped.run.first in
+        let start : inner first.store ≡ c.store = stopped.run.down.store_is in
+        let stays = all_stay told may_leave moment left_since faults cuts (take stopped.count script) first stopped.state stopped.text (front SetsNoFuse stopped.count script none.0) stopped.run.down.unfused.passes stopped.run.runs in
+        let grown : faults c.store ≤ faults (inner stopped.state.store) = subst (λ (s : V). faults s ≤ faults (inner stopped.state.store)) start stays.1 in
+        none.1 (rose_less (faults c.store) _ _ grown (subst (λ (s : V). Rose (faults (inner stopped.state.store)) (faults s)) stopped.store stopped.fails.1))
+    not_failed script stopped (inr none) = never_rose _ _ none (subst (λ (s : V). Rose (faults (inner stopped.state.store)) (faults s)) stopped.store stopped.fails.1)
+
     well : (status : Status) → IsRight told may_leave faults words c → count ≤ c.write_faults' → Ends status → EndsWell told may_leave moment left_since faults cuts words c status
     well statuses.Done right le ended = tt
     well statuses.OutOfMemory right le ended = tt
@@ -215,8 +229,8 @@ module _ {V : Type 0} (told : V → Option Files) (may_leave : V → Files → T
     well statuses.ReadFault right le ended = absurd (right.all_read ended.1)
     well statuses.WriteFault right le ended = absurd (right.all_written (rose_more c.write_faults count c.write_faults' le ended.1))
     well statuses.StoreFault right le ended =
-        let stopped = ended.1.2 in
-        absurd (never_rose _ _ right.none_failed (subst (λ (s : V). Rose (faults (inner stopped.state.store)) (faults s)) stopped.store stopped.fails.1))
+        let same = the_script right.bytes right.script ended.1.0 right.given right.spelled ended.1.1 in
+        absurd (not_failed right.script (subst (λ (s : List Command). Stopped halts.StoreFault s) same ended.1.2) right.none_failed)
     well (statuses.BadStore file at) right le ended = absurd (not_bad right.script right.ready file at ended)
     well statuses.Unformatted right le ended =
         let same = the_script right.bytes right.script ended.1.0 right.given right.spelled ended.1.1 in
@@ -227,3 +241,53 @@ module _ {V : Type 0} (told : V → Option Files) (may_leave : V → Files → T
 
   pub ends_well : (words : List (List ℕ)) (c : Course V) (status : Status) → RightRunsEndWell told may_leave moment left_since faults cuts words c status
   ends_well words c status right ended = well words c ended.mid ended.count status right ended.later ended.ended
+
+  -- ---- what a run leaves that was done
+  base_of : (c : Files) (l : Log) → ServesBehind l c → Holds l.batches c
+  base_of c l s = inr (record { L = s.L; log = s.log; more = s.more; front = s.front; rests = s.rests; serves = s.serves })
+
+  has_batch : (index heap : ℕ) (l : Log) → (more : List (List Record)) × (l.batches ≡ (new_log (sizes_of index heap)).batches ++ more) → l.batches ≢ []
+  has_batch index heap l kept none = absurd (some_first _ kept.0 (sym kept.1 ∙ none))
+    where
+      some_first : (first : List Record) (more : List (List Record)) → first ∷ more ≡ [] → ⊥
+      some_first first more is = cc
+
+  sized_is_ready : (index heap : ℕ) (later : List Command) (n : ℕ) (first state : Program V) (text : List ℕ) → AllByRecursion IsWhole later → is_some (told (inner first.store)) ≡ true
+      → RunsAll told may_leave moment left_since faults cuts first (Size index heap ∷ take n later) text state → HasOwnLog told may_leave (inner state.store)
+  sized_is_ready index heap later n first state text whole tells runs =
+      let mid = runs.1 in
+      let made = size_serves told may_leave moment left_since faults cuts reads_now counts_now only_now index heap first mid runs.0 tells runs.3 in
+      let l = new_log (sizes_of index heap) in
+      let all = all_serve told may_leave moment left_since faults cuts reads_now counts_now only_now tells_cuts (take n later) (settled mid) state runs.2 l (front IsWhole n later whole)
+      (serving_settled told may_leave moment left_since faults cuts reads_now counts_now only_now mid l made) runs.4 in
+      let serving = all.serves.serving in
+      (all.log.batches, (serving.tells, λ c left. base_of c all.log (behind told may_leave moment left_since faults cuts reads_now counts_now only_now state all.log serving c left)), has_batch index heap all.log all.serves.kept)
+
+  module _ (words : List (List ℕ)) (c : Course V) (mid : Option (List ℕ)) (count : ℕ) (ended : Ended told may_leave moment left_since faults cuts words c mid count statuses.Done) where
+    opened_is_ready : HasOwnLog told may_leave c.store → HasOwnLog told may_leave c.store'
+    opened_is_ready own =
+        let whole = ended_kept told may_leave moment left_since faults cuts reads_now counts_now only_now tells_cuts words own.0 c mid count own.1 statuses.Done ended in
+        let ran = ended.1.2 in
+        let grown = all_grow (take (length ended.1.0) ended.1.0) own.0 _ ran.run.first ran.text ran.state ran.run.runs whole.base' whole.each in
+        (whole.base', whole.behind, λ none. own.2 (left_of own.0 grown.0 (sym grown.1 ∙ none)))
+
+    ready_behind : (script : List Command) → Spells c.left script c.left' → Rattle.dali_run.specs.Ends.RanWhole told may_leave moment left_since faults cuts c.store script c.taken mid c.store' → IsReady told may_leave script c.store
+        → HasOwnLog told may_leave c.store'
+    ready_behind [] spells ran ready = absurd ready
+    ready_behind (Size index heap ∷ later) spells ran ready =
+        subst (HasOwnLog told may_leave) ran.store (
+        sized_is_ready index heap later (length later) ran.run.first ran.state ran.text (whole_behind index heap later start (command_lines spells.bytes) spells.spelled.end spells.spelled.reads)
+        (ap (λ (s : V). is_some (told s)) ran.run.down.store_is ∙ ready.0) ran.run.runs
+        )
+    ready_behind (Open ∷ later) spells ran ready = opened_is_ready ready
+    ready_behind (Round blocks ∷ later) spells ran ready = absurd ready
+    ready_behind (Poke r w m ∷ later) spells ran ready = absurd ready
+    ready_behind (Audit ∷ later) spells ran ready = absurd ready
+    ready_behind (Crash n ∷ later) spells ran ready = absurd ready
+    ready_behind (Restart ∷ later) spells ran ready = absurd ready
+    ready_behind (Show ∷ later) spells ran ready = absurd ready
+    ready_behind (Next ∷ later) spells ran ready = absurd ready
+    ready_behind (Fuse n ∷ later) spells ran ready = absurd ready
+
+  pub done_is_ready : (words : List (List ℕ)) (c : Course V) → DoneRunsAreReady told may_leave moment left_since faults cuts words c
+  done_is_ready words c e ready later = ready_behind words c e.mid e.count e.ended e.ended.1.0 e.ended.1.1 e.ended.1.2 ready

@@ -199,7 +199,7 @@ module _ {V : Type 0} (told : V → Option Files) (may_leave : V → Files → T
 
   -- ---- a restart
   restored_keeps : (command : Command) (base : List (List Record)) (t : Told) (old new : Program V) (text : List ℕ) → Answers told may_leave moment left_since faults cuts command t old text ≡ RestartAnswers text → Stays base t old
-      → (r : Restarts told may_leave moment left_since old text new) (o : Option Files) → told (inner old.store) ≡ o → IfSome o (λ fs. IsRestored fs.log r.engine r.rolled_back) → IfSome o (λ fs. Only fs (may_leave (inner new.store)))
+      → (r : Restarts told may_leave moment left_since faults old text new) (o : Option Files) → told (inner old.store) ≡ o → IfSome o (λ fs. IsRestored fs.log r.engine r.rolled_back) → IfSome o (λ fs. Only fs (may_leave (inner new.store)))
       → IfSome o (λ fs. may_leave (inner old.store) fs) → Keeps command base t old text new (loaded t)
   restored_keeps command base t old new text means s r None is restored only now = absurd (never_told (told (inner old.store)) is s.tells)
   restored_keeps command base t old new text means s r (Some fs) is restored only now =
@@ -417,7 +417,7 @@ module _ {V : Type 0} (told : V → Option Files) (may_leave : V → Files → T
   can_be_spelled : (index heap : ℕ) → AreInRange (sizes_of index heap) → CanBeSpelled (Format index heap)
   can_be_spelled index heap are = (grind (arith, nat_tests, are.some_index, are.few_index), grind (arith, nat_tests, are.some_heap, are.few_heap))
 
-  size_keeps : (index heap : ℕ) (base : List (List Record)) (t : Told) (old new : Program V) (text : List ℕ) → AreInRange (sizes_of index heap) → Stays base t old → StepsSize told may_leave moment left_since index heap old text new
+  size_keeps : (index heap : ℕ) (base : List (List Record)) (t : Told) (old new : Program V) (text : List ℕ) → AreInRange (sizes_of index heap) → Stays base t old → StepsSize told may_leave moment left_since faults index heap old text new
       → Keeps (Size index heap) base t old text new (loaded t)
   size_keeps index heap base t old new text are s step =
       let serving = size_serves told may_leave moment left_since faults cuts reads_now counts_now only_now index heap old new text s.tells step in

@@ -1,8 +1,10 @@
 mod Alone
 mod Blocks
 mod Complete
+mod Counted
 mod Courses
 mod Endings
+mod Fresh
 mod Fronts
 mod Keeping
 mod Kept

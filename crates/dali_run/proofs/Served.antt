@@ -264,7 +264,7 @@ module _ {V : Type 0} (told : V → Option Files) (may_leave : V → Files → T
   none_told None e t = absurd cc
   none_told (Some x) e t = absurd cc
 
-  restarts_serve : (old new : Program V) (text : List ℕ) (l : Log) → IsServing told may_leave old l → (r : Restarts told may_leave moment left_since old text new) (o : Option Files) → told (inner old.store) ≡ o
+  restarts_serve : (old new : Program V) (text : List ℕ) (l : Log) → IsServing told may_leave old l → (r : Restarts told may_leave moment left_since faults old text new) (o : Option Files) → told (inner old.store) ≡ o
       → IfSome o (λ fs. IsRestored fs.log r.engine r.rolled_back) → IfSome o (λ fs. Only fs (may_leave (inner new.store))) → IfSome o (λ fs. may_leave (inner old.store) fs)
       → (l' : Log) × ServesOn told may_leave moment left_since old l new l'
   restarts_serve old new text l s r None is restored only now = absurd (none_told (told (inner old.store)) is s.tells)
@@ -293,7 +293,7 @@ module _ {V : Type 0} (told : V → Option Files) (may_leave : V → Files → T
       )
 
   restart_serves : (old new : Program V) (text : List ℕ) (l : Log) → IsServing told may_leave old l
-      → Restarts told may_leave moment left_since old text new ⊎ RestartStops told may_leave moment left_since faults old text new → (l' : Log) × ServesOn told may_leave moment left_since old l new l'
+      → Restarts told may_leave moment left_since faults old text new ⊎ RestartStops told may_leave moment left_since faults old text new → (l' : Log) × ServesOn told may_leave moment left_since old l new l'
   restart_serves old new text l s step = ⊎_elim
       (λ r. restarts_serve old new text l s r (told (inner old.store)) refl r.restored r.durable (reads_now (inner old.store)))
       (λ stops. (l, less_left old new l s (ap is_some stops.reads.same ∙ s.tells) stops.down stops.reads.crash stops.reads.any_moment)) step
@@ -323,7 +323,7 @@ module _ {V : Type 0} (told : V → Option Files) (may_leave : V → Files → T
   step_serves tells_cuts (SetFuse passes) old new text l whole s step = (l, same_store old new l s step.store (subst (λ (o : Option Engine). IfSome o (λ e. RunsUnless e l × IsOwn e l None)) (sym step.engine) s.engine))
 
   -- ---- the first command
-  pub size_serves : (index heap : ℕ) (old new : Program V) (text : List ℕ) → is_some (told (inner old.store)) ≡ true → StepsSize told may_leave moment left_since index heap old text new → IsServing told may_leave new (new_log (sizes_of index heap))
+  pub size_serves : (index heap : ℕ) (old new : Program V) (text : List ℕ) → is_some (told (inner old.store)) ≡ true → StepsSize told may_leave moment left_since faults index heap old text new → IsServing told may_leave new (new_log (sizes_of index heap))
   size_serves index heap old new text tells step =
       let own = made_own (told_in told) (leaves_in told may_leave) (sizes_of index heap) step.engine step.fresh in
       let at = made_at (told_in told) (leaves_in told may_leave) (sizes_of index heap) step.engine old.store new.store step.tells step.fresh step.makes in

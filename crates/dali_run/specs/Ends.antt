@@ -7,7 +7,7 @@
 --     Course, course            what a run was handed, and what it left
 --     Ended                     what holds of each status, where this was written before the last line, and the sink's count of faults was this one then
 --     LastLine                  the last line was written behind what was, cut only where the sink's count of faults rose in it
---     HasEnded                  a run from its start to its end
+--     HasEnded                  a run from its start to its end; the source's count of faults stayed unless the status says that it failed
 use Rattle.std.specs.Prelude.{◌≡◌, ◌⊎◌, ℕ, ◌+◌, ◌<◌, ◌≤◌, List, [], ◌∷◌, ◌++◌, length, take, Option, codes}
 use Rattle.dali_memstore.specs.Fuse.{inner}
 use Rattle.dali_run.specs.declared.halt.Halt.{Halt}
@@ -150,4 +150,5 @@ module _ {V : Type 0} (told : V → Option Files) (may_leave : V → Files → T
     pub count : ℕ
     pub ended : Ended c mid count status
     pub later : count ≤ c.write_faults'
+    pub read : (status ≡ ReadFault → ⊥) → c.read_faults' ≡ c.read_faults
     pub last : LastLine mid status c.taken' count c.write_faults'

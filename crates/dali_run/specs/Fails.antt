@@ -3,9 +3,11 @@
 --     LostAlone                   memory was wanting in a poke or an audit, or the store failed in it, or memory was wanting for its lines
 --     LeavesLess                  a crash leaves nothing that it might not have left before
 --     IsWanting error             memory was wanting, as it may be for the lines of a command that was done
---     IsRefused error ..          a client's command, of a round the last one, wasn't done for this error; where memory was wanting for it, it meets no limit
+--     IsRefused error ..          a client's command, of a round the last one, wasn't done for this error; where memory was wanting for it, it meets no limit; where it was for its lines, the store hasn't failed by itself in an audit
 --     BlockFails, RoundFails, AloneFails error ..     a block, a round, a poke or an audit that fails with this
 --     Breaks command old f        what a command that doesn't come to its end leaves of the store
+--     KeepsCount old f            the store's count stayed, unless the fuse has failed a call
+--     HidesNone command old f     the same of the commands that end with a failure of the store where one was met
 --     MeetsStore, Opens, IsSize   the commands that may end with a failure of the store, and those that look for a database or make one
 --     Fails halt command old f    a command that ends the run with this; with a failure of the store only where the fuse has failed no call
 use Rattle.std.proofs.Common.{inl, inr}
@@ -34,6 +36,7 @@ use Rattle.dali_script.specs.declared.commands.ClientCommand.TheVariants as clie
 use Rattle.dali_script.specs.declared.commands.Command.{Command}
 use Rattle.dali_script.specs.declared.commands.Command.TheVariants.{Size, Open, Round, Poke, Audit, Crash, Restart, Show, Next, Fuse as SetFuse}
 use Rattle.dali_script.specs.declared.outputs.Line.{Line}
+use Rattle.dali_script.specs.declared.outputs.Line.TheVariants as lines
 use Rattle.dali_store.specs.Faults.{Rose}
 use Rattle.dali_store.specs.Store.{Files, LeavesOnly}
 
@@ -65,6 +68,16 @@ module _ {V : Type 0} (told : V → Option Files) (may_leave : V → Files → T
     pub any_moment : LeavesOnly (moment_in moment left_since) (since_in moment left_since) old new (leaves_in told may_leave old)
 
   module _ (faults : V → ℕ) where
+    abbrev pub KeepsCount : Fuse V → Fuse V → Type 0
+    KeepsCount old f = (0 < failed_of f → ⊥) → faults (inner f) ≡ faults (inner old)
+
+    abbrev pub HidesNone : Command → Fuse V → Fuse V → Type 0
+    HidesNone (Size index heap) old f = KeepsCount old f
+    HidesNone Open old f = KeepsCount old f
+    HidesNone (Crash choice) old f = KeepsCount old f
+    HidesNone Restart old f = KeepsCount old f
+    HidesNone _ old f = Unit {0}
+
     -- it was run, and its lines weren't told
     pub record BlockUntold (block : Block) (old : Running V) (f : Fuse V) : Type 0 where
       pub text : List ℕ
@@ -118,7 +131,7 @@ module _ {V : Type 0} (told : V → Option Files) (may_leave : V → Files → T
         (flushes old.engine Outside command) (logs old.engine Outside command) old.engine.end (flushed_by old.engine Outside command) old.store f
 
     abbrev pub AloneRefused : (error : EngineError) (command : ClientCommand) (old : Running V) (f : Fuse V) → LostAlone command old f → Type 0
-    AloneRefused error command old f (inl untold) = IsWanting error
+    AloneRefused error command old f (inl untold) = IsWanting error × (untold.listed ≡ lines.AuditStoreStopped ∷ [] → 0 < failed_of f)
     AloneRefused error command old f (inr lost) = Undone error old.engine Outside command
 
     abbrev pub AloneFails : Halt → ClientCommand → Running V → Fuse V → Type 0
@@ -163,11 +176,11 @@ module _ {V : Type 0} (told : V → Option Files) (may_leave : V → Files → T
 
     abbrev pub Fails : Halt → Command → Program V → Fuse V → Type 0
     Fails StoreFault command old f = MeetsStore command × Rose (faults (inner old.store)) (faults (inner f)) × (0 < failed_of f → ⊥) × Breaks command old f
-    Fails (BadLog at) command old f = Opens command × IfSome (told_in told old.store) (λ fs. BadAt fs.log at) × Reads told may_leave moment left_since old.store f
-    Fails Unformatted command old f = Opens command × IfSome (told_in told old.store) (λ fs. IsUnformatted fs.log) × Reads told may_leave moment left_since old.store f
+    Fails (BadLog at) command old f = Opens command × IfSome (told_in told old.store) (λ fs. BadAt fs.log at) × Reads told may_leave moment left_since old.store f × KeepsCount old.store f
+    Fails Unformatted command old f = Opens command × IfSome (told_in told old.store) (λ fs. IsUnformatted fs.log) × Reads told may_leave moment left_since old.store f × KeepsCount old.store f
     Fails Formatted command old f =
-        IsSize command × IfSome (told_in told old.store) (λ fs. IsUnformatted fs.log → ⊥) × (told_in told f ≡ told_in told old.store) × Breaks command old f
+        IsSize command × IfSome (told_in told old.store) (λ fs. IsUnformatted fs.log → ⊥) × (told_in told f ≡ told_in told old.store) × Breaks command old f × KeepsCount old.store f
     Fails (LogFull end limit) command old f = (breaks : Breaks command old f) × IsRefused (engines.LogFull end limit) command old f breaks
     Fails OutOfNumbers command old f = (breaks : Breaks command old f) × IsRefused engines.OutOfNumbers command old f breaks
-    Fails OutOfMemory command old f = (breaks : Breaks command old f) × IsRefused engines.OutOfMemory command old f breaks
+    Fails OutOfMemory command old f = (breaks : Breaks command old f) × IsRefused engines.OutOfMemory command old f breaks × HidesNone command old.store f
     Fails _ command old f = ⊥

@@ -1,13 +1,13 @@
 -- What a run holds between two commands, and the store behind its fuse as contracts see it.
 --     IsUnfused f             no fuse is set, and none has failed a call
 --     IsDown p store          the program is down over this store, and no fuse is set
---     KeepsFuse old new       the fuse passes on no more calls than before, and is set exactly where it was
+--     KeepsFuse old new       the fuse passes on no more calls than before, and is set exactly where it was; its count hasn't fallen
 --     settled p               between two commands: the fuse has forgotten the calls that it failed
 --     told_in, leaves_in, moment_in, since_in, faults_in f      what is said of the store, said of the fuse over it
 --     Running                 an engine that is up or stopped, and its store
 --     turn r stage lines      what a client's command goes on from
 --     IsUp p                  where there is an engine that isn't stopped, a closed gate stands where its log ends
-use Rattle.std.specs.Prelude.{◌≡◌, ℕ, ◌+◌, List, Option, None, IfSome}
+use Rattle.std.specs.Prelude.{◌≡◌, ◌≤◌, ℕ, ◌+◌, List, Option, None, IfSome}
 use Rattle.dali_engine.specs.declared.engine.Engine.{Engine}
 use Rattle.dali_engine.specs.declared.engine.Stage.{Stage}
 use Rattle.dali_engine.specs.Flushes.{Turn, IsGated}
@@ -27,8 +27,13 @@ pub record IsDown {V : Type 0} (p : Program V) (store : V) : Type 0 where
   pub unfused : IsUnfused p.store
   pub engine_is : p.engine ≡ None
 
-abbrev pub KeepsFuse : {V : Type 0} → Fuse V → Fuse V → Type 0
-KeepsFuse old new = PassesFewer (passes_of old) (passes_of new)
+-- the count of the fuse: the store's, and the calls that the fuse failed
+abbrev pub faults_in : {V : Type 0} → (V → ℕ) → Fuse V → ℕ
+faults_in faults f = faults (inner f) + failed_of f
+
+pub record KeepsFuse {V : Type 0} (faults : V → ℕ) (old new : Fuse V) : Type 0 where
+  pub passes : PassesFewer (passes_of old) (passes_of new)
+  pub later : faults_in faults old ≤ faults_in faults new
 
 abbrev pub settled : {V : Type 0} → Program V → Program V
 settled p = record p { store = forgetful p.store }
@@ -63,7 +68,3 @@ module _ {V : Type 0} (moment : V → ℕ) (left_since : V → ℕ → Files →
 
   abbrev pub since_in : Fuse V → ℕ → Files → Type 0
   since_in f = left_since (inner f)
-
--- the count of the fuse: the store's, and the calls that the fuse failed
-abbrev pub faults_in : {V : Type 0} → (V → ℕ) → Fuse V → ℕ
-faults_in faults f = faults (inner f) + failed_of f

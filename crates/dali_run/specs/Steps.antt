@@ -4,7 +4,7 @@
 --     Prints line old text new    a line is printed, and nothing changes
 --     StepsSize, StepsRestart, StepsRound, StepsAct, StepsCrash, StepsShow, StepsFuse     one for each command
 --     Steps old command text new      any command
-use Rattle.std.specs.Prelude.{◌≡◌, ◌<◌, ◌⊎◌, ℕ, List, [], ◌∷◌, ◌++◌, Option, Some, None, IfSome, is_some}
+use Rattle.std.specs.Prelude.{◌≡◌, ◌<◌, ◌≤◌, ◌⊎◌, ℕ, List, [], ◌∷◌, ◌++◌, Option, Some, None, IfSome, is_some}
 use Rattle.dali_batch.specs.Batch.{IsUnformatted}
 use Rattle.dali_batch.specs.Reads.{OnlyReads}
 use Rattle.dali_engine.specs.declared.engine.Engine.{Engine}
@@ -56,37 +56,38 @@ module _ {V : Type 0} (told : V → Option Files) (may_leave : V → Files → T
   abbrev pub Reads : Fuse V → Fuse V → Type 0
   Reads old new = OnlyReads (told_in told) (moment_in moment left_since) (since_in moment left_since) (leaves_in told may_leave) old new
 
-  -- a database is made over a log without batches, and loaded
-  pub record StepsSize (index heap : ℕ) (old : Program V) (text : List ℕ) (new : Program V) : Type 0 where
-    pub engine : Engine
-    pub up : new.engine ≡ Some engine
-    pub fresh : IsNew (sizes_of index heap) engine
-    pub unformatted : IfSome (told_in told old.store) (λ fs. IsUnformatted fs.log)
-    pub makes : Makes told may_leave (sizes_of index heap) (inner old.store) (inner new.store)
-    pub any_moment : MakesAtAnyMoment told may_leave moment left_since (sizes_of index heap) (inner old.store) (inner new.store)
-    pub tells : is_some (told_in told new.store) ≡ is_some (told_in told old.store)
-    pub unfused : IsUnfused new.store
-    pub silent : text ≡ []
-
-  -- the memory is given up, and the database is found in the log's file
-  pub record Restarts (old : Program V) (text : List ℕ) (new : Program V) : Type 0 where
-    pub engine : Engine
-    pub rolled_back : List ℕ
-    pub up : new.engine ≡ Some engine
-    pub restored : IfSome (told_in told old.store) (λ fs. IsRestored fs.log engine rolled_back)
-    pub durable : IfSome (told_in told old.store) (λ fs. Only fs (leaves_in told may_leave new.store))
-    pub reads : Reads old.store new.store
-    pub fuse : KeepsFuse old.store new.store
-    pub printed : text ≡ texts (lines.RolledBack rolled_back ∷ lines.Deleted [] ∷ [])
-
   module _ (faults : V → ℕ) where
+    -- a database is made over a log without batches, and loaded
+    pub record StepsSize (index heap : ℕ) (old : Program V) (text : List ℕ) (new : Program V) : Type 0 where
+      pub engine : Engine
+      pub up : new.engine ≡ Some engine
+      pub fresh : IsNew (sizes_of index heap) engine
+      pub unformatted : IfSome (told_in told old.store) (λ fs. IsUnformatted fs.log)
+      pub makes : Makes told may_leave (sizes_of index heap) (inner old.store) (inner new.store)
+      pub any_moment : MakesAtAnyMoment told may_leave moment left_since (sizes_of index heap) (inner old.store) (inner new.store)
+      pub tells : is_some (told_in told new.store) ≡ is_some (told_in told old.store)
+      pub unfused : IsUnfused new.store
+      pub later : faults (inner old.store) ≤ faults (inner new.store)
+      pub silent : text ≡ []
+
+    -- the memory is given up, and the database is found in the log's file
+    pub record Restarts (old : Program V) (text : List ℕ) (new : Program V) : Type 0 where
+      pub engine : Engine
+      pub rolled_back : List ℕ
+      pub up : new.engine ≡ Some engine
+      pub restored : IfSome (told_in told old.store) (λ fs. IsRestored fs.log engine rolled_back)
+      pub durable : IfSome (told_in told old.store) (λ fs. Only fs (leaves_in told may_leave new.store))
+      pub reads : Reads old.store new.store
+      pub fuse : KeepsFuse faults old.store new.store
+      pub printed : text ≡ texts (lines.RolledBack rolled_back ∷ lines.Deleted [] ∷ [])
+
     -- a call of the store failed in it, and the fuse has failed one
     pub record RestartStops (old : Program V) (text : List ℕ) (new : Program V) : Type 0 where
       pub down : new.engine ≡ None
       pub by_fuse : 0 < failed_of new.store
       pub rose : Rose (faults_in faults old.store) (faults_in faults new.store)
       pub reads : Reads old.store new.store
-      pub fuse : KeepsFuse old.store new.store
+      pub fuse : KeepsFuse faults old.store new.store
       pub printed : text ≡ texts (lines.RestartStoreStopped ∷ [])
 
     abbrev pub StepsRestart : Program V → List ℕ → Program V → Type 0
@@ -98,7 +99,7 @@ module _ {V : Type 0} (told : V → Option Files) (may_leave : V → Files → T
       pub listed : List Line
       pub acts : ActsAll (told_in told) (leaves_in told may_leave) (moment_in moment left_since) (since_in moment left_since) (faults_in faults)
           block.commands (turn old Outside []) (turn new stage listed)
-      pub fuse : KeepsFuse old.store new.store
+      pub fuse : KeepsFuse faults old.store new.store
       pub printed : text ≡ client_texts block.client listed
 
     abbrev pub RunsBlocks : List Block → Running V → List ℕ → Running V → Type 0
@@ -119,7 +120,7 @@ module _ {V : Type 0} (told : V → Option Files) (may_leave : V → Files → T
       pub listed : List Line
       pub acts : Acts (told_in told) (leaves_in told may_leave) (moment_in moment left_since) (since_in moment left_since) (faults_in faults)
           command (turn old Outside []) (turn new stage listed)
-      pub fuse : KeepsFuse old.store new.store
+      pub fuse : KeepsFuse faults old.store new.store
       pub printed : text ≡ texts listed
       pub by_fuse : listed ≡ lines.AuditStoreStopped ∷ [] → 0 < failed_of new.store
 
@@ -135,6 +136,7 @@ module _ {V : Type 0} (told : V → Option Files) (may_leave : V → Files → T
       pub record StepsCrash (choice : ℕ) (old : Program V) (text : List ℕ) (new : Program V) : Type 0 where
         pub down : new.engine ≡ None
         pub unfused : IsUnfused new.store
+        pub later : faults (inner old.store) ≤ faults (inner new.store)
         pub chosen : told_in told new.store ≡ cuts (inner old.store) choice
         pub durable : IfSome (told_in told new.store) (λ fs. Only fs (leaves_in told may_leave new.store))
         pub crash : (c : Files) → leaves_in told may_leave new.store c → leaves_in told may_leave old.store c

@@ -1,5 +1,5 @@
 //! The commands of a script, each on what the run holds.
-ghost use Rattle.std.specs.Prelude.{◌≡◌, ◌<◌, ◌++◌, ◌∷◌, [], ◌⊎◌, ◌↔◌, ℕ, List, IfOk, IfErr, OnOk, OnErr, IfSome, IsErrOf, IsTrue};
+ghost use Rattle.std.specs.Prelude.{◌≡◌, ◌<◌, ◌≤◌, ◌++◌, ◌∷◌, [], ◌⊎◌, ◌↔◌, ℕ, List, IfOk, IfErr, OnOk, OnErr, IfSome, IsErrOf, IsTrue};
 ghost use Rattle.dali_engine.specs.Flushes.{IsGated, Shows};
 ghost use Rattle.dali_geometry.specs.Sizes.{AreInRange};
 ghost use Rattle.dali_memstore.specs.Fuse.{inner, failed_of};
@@ -36,7 +36,7 @@ fn size<V: Store>(
     program: Program<V>,
 ) -> (Program<V>, Result<Vec<u8>, Halt>)
     requires sizes { AreInRange (sizes_of index heap) }
-    ensures steps { IfOk result.1 (λ text. StepsSize V.told V.may_leave V.moment V.left_since index heap program text.items result.0) }
+    ensures steps { IfOk result.1 (λ text. StepsSize V.told V.may_leave V.moment V.left_since V.faults index heap program text.items result.0) }
     ensures gated { OnOk result.1 (IsUp V.told V.may_leave result.0) }
     ensures fails { IfErr result.1 (λ halt. Fails V.told V.may_leave V.moment V.left_since V.faults halt (commands.Size index heap) program result.0.store) }
 {
@@ -231,11 +231,13 @@ impl<V: Store> Program<V> {
 
 fn cut<V: Store>(alloc: Global, choice: u32, store: &mut Fuse<V>) -> Result<Vec<u8>, Halt>
     ensures unfused { IsUnfused store.old → IsUnfused store.new }
+    ensures later { V.faults (inner store.old) ≤ V.faults (inner store.new) }
     ensures chosen { OnOk result (V.told (inner store.new) ≡ V.cuts (inner store.old) choice) }
     ensures durable { OnOk result (IfSome (V.told (inner store.new)) (λ fs. Only fs (V.may_leave (inner store.new)))) }
     ensures less { LeavesLess V.told V.may_leave V.moment V.left_since store.old store.new }
     ensures printed { IfOk result (λ text. text.items ≡ texts (lines.Crash choice ∷ [])) }
     ensures fault { IsErrOf result Halt.StoreFault → Rose (V.faults (inner store.old)) (V.faults (inner store.new)) }
+    ensures kept { (IsErrOf result Halt.StoreFault → ⊥) → V.faults (inner store.new) ≡ V.faults (inner store.old) }
     ensures errors { OnErr result (IsErrOf result Halt.StoreFault ⊎ IsErrOf result Halt.OutOfMemory) }
 {
     let text = text_of_line(alloc, &Line::Crash { choice })?;

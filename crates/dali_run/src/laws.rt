@@ -11,19 +11,21 @@ ghost use Rattle.dali_store.specs.Store.{Files, Only};
 ghost use Rattle.std.specs.List.{AllByRecursion};
 ghost use Rattle.dali_script.specs.Grammar.{IsSpelled};
 ghost use Rattle.dali_script.specs.declared.commands.Command.TheVariants.{Size};
-ghost use Rattle.dali_run.specs.Complete.{RightRunsEndWell};
+ghost use Rattle.dali_memstore.specs.Memory.{Memory, no_files};
+ghost use Rattle.dali_run.specs.Complete.{IsReady, RightRunsEndWell, DoneRunsAreReady};
 ghost use Rattle.dali_run.specs.Ends.{Course};
 ghost use Rattle.dali_run.specs.declared.status.Status.{Status as StatusOf};
 ghost use Rattle.dali_run.specs.Steps.{Steps, StepsSize, sizes_of};
 ghost use Rattle.dali_script.specs.declared.commands.Command.{Command};
 
+use dali_memstore::MemoryStore;
 use dali_store::Store;
 
 /// A run that makes its database serves from then on, over a store that tells its files, whatever the store does: after
 /// each command, and at each moment of one, a crash leaves a log with all batches from before at its front, from which a
 /// restart gives exactly the serial replay of its committed transactions.
 pub fn runs_serve<V: Store>()
-    ensures made { (index heap : ℕ) (old new : Program V) (text : List ℕ) → is_some (V.told old.store.store) ≡ true → StepsSize V.told V.may_leave V.moment V.left_since index heap old text new →
+    ensures made { (index heap : ℕ) (old new : Program V) (text : List ℕ) → is_some (V.told old.store.store) ≡ true → StepsSize V.told V.may_leave V.moment V.left_since V.faults index heap old text new →
         IsServing V.told V.may_leave new (new_log (sizes_of index heap)) }
     ensures steps { (command : Command) (old new : Program V) (text : List ℕ) (l : Log) → IsWhole command → IsServing V.told V.may_leave old l →
         Steps V.told V.may_leave V.moment V.left_since V.faults V.cuts old command text new → (l' : Log) × ServesOn V.told V.may_leave V.moment V.left_since old l new l' }
@@ -45,8 +47,22 @@ pub fn scripts_are_whole()
 
 /// A run is done, or memory was refused, or the log had no room or no number for a command (and which command, behind
 /// which others, is said), where the words are `run`, the source gave the bytes of a script, the store is as its first
-/// command wants it, and no call of the source, the sink or the store has failed. `run` ensures the premise `HasEnded`.
+/// command wants it, and no call of the source, the sink or the store has failed. That none of the store has is known by
+/// its counts: in a script that sets no fuse by the one before and the one behind, else where the one behind is 0. `run`
+/// ensures the premise `HasEnded`.
 pub fn right_runs_end_well<V: Store>()
     ensures { (words : List (List ℕ)) (c : Course V) (status : StatusOf) →
         RightRunsEndWell V.told V.may_leave V.moment V.left_since V.faults V.cuts words c status }
+{}
+
+/// A new store in memory is as a script wants it that begins with `size`.
+pub fn new_stores_are_ready()
+    ensures { (s : Memory) (index heap : ℕ) (later : List Command) → s.history ≡ record { start = no_files; events = [] } →
+        IsReady ⟦<MemoryStore as Store>⟧.told ⟦<MemoryStore as Store>⟧.may_leave (Size index heap ∷ later) s }
+{}
+
+/// What a run leaves that was done is as a script wants it that begins with `open`, where the run's own script began over
+/// a store as it wants it: so behind `size` there is a log of this program with a batch, whatever a crash leaves.
+pub fn done_runs_are_ready<V: Store>()
+    ensures { (words : List (List ℕ)) (c : Course V) → DoneRunsAreReady V.told V.may_leave V.moment V.left_since V.faults V.cuts words c }
 {}

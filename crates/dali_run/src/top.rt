@@ -1,5 +1,5 @@
 //! The run of a script over a store.
-ghost use Rattle.std.specs.Prelude.{◌≡◌, ◌≤◌, ◌↔◌, ℕ, List, IfOk, IfErr, OnOk, IsTrue, map, string_bytes};
+ghost use Rattle.std.specs.Prelude.{◌≡◌, ◌≤◌, ◌↔◌, ℕ, List, IfOk, IfErr, OnOk, IsErrOf, IsTrue, map, string_bytes};
 ghost use Rattle.dali_record.specs.declared.records.Record.{Record};
 ghost use Rattle.dali_streams.specs.Streams.{Appends};
 ghost use Rattle.dali_run.specs.Ends.{IsRun, Spells, RanWhole, Ended, HasEnded, LastLine, course};
@@ -41,6 +41,7 @@ fn is_run(words: &[String]) -> bool
 fn read_script<S: Source>(alloc: Global, words: &[String], source: &mut S) -> Result<Script, Halt>
     ensures read { IfOk result (λ script. IsRun (map string_bytes words.now) × Spells (S.left source.old) script (S.left source.new)) }
     ensures fails { IfErr result (λ halt. NotRead (map string_bytes words.now) (S.left source.old) (S.left source.new) (S.faults source.old) (S.faults source.new) halt) }
+    ensures kept { (IsErrOf result Halt.ReadFault → ⊥) → S.faults source.new ≡ S.faults source.old }
 {
     if !is_run(words) {
         return Err(Halt::BadWords);
@@ -113,6 +114,7 @@ fn run_words<S: Source, K: Sink, V: Store>(
 ) -> (V, Result<(), Halt>)
     ensures ended { Ended V.told V.may_leave V.moment V.left_since V.faults V.cuts (map string_bytes words.now) (course S.left S.faults K.taken K.faults source.old source.new sink.old sink.new store result.0) (K.taken sink.new) (K.faults sink.new) (status_in result.1) }
     ensures later { K.faults sink.old ≤ K.faults sink.new }
+    ensures read { (status_in result.1 ≡ Status.ReadFault → ⊥) → S.faults source.new ≡ S.faults source.old }
 {
     match read_script(alloc, words, source) {
         Ok(script) => run_script(alloc, &script, sink, store),

@@ -26,12 +26,13 @@ use Rattle.dali_locks.specs.declared.mode.LockAnswer.{LockAnswer}
 use Rattle.dali_locks.specs.declared.mode.LockAnswer.TheVariants.{Granted, Busy as LockBusy}
 use Rattle.dali_locks.specs.Locks.{Locks, locks_with, stronger_mode, IsAnswer}
 use Rattle.dali_locks.proofs.Changes.{get-locks_with}
+use Rattle.dali_att.specs.declared.state.State.TheVariants.{Live}
 use Rattle.dali_att.specs.Table.{undos_at}
 use Rattle.dali_system.specs.State.{SystemState, VaultState, CoreState, row_of, state_of, lock_of}
 use Rattle.dali_system.specs.Run.{covers}
 use Rattle.dali_system.specs.Steps.{granted, refused as not_granted, done_logged}
 use Rattle.dali_system.specs.Keeps.{HasRoom, IsFree, with_system}
-use Rattle.dali_system.specs.Courses.{Step, Locks as AsksLock, Answers}
+use Rattle.dali_system.specs.Courses.{Step, IsStep, Locks as AsksLock, Answers}
 use Rattle.dali_facts.specs.Plans.{AtWork}
 use Rattle.dali_core.specs.Served.{Served}
 use Rattle.dali_core.specs.Asked.{after_request}
@@ -52,7 +53,7 @@ use Rattle.dali_single.specs.Refusals.{IsRefusal}
 use Rattle.dali_single.specs.declared.error.CallError.TheVariants.{Wait, Busy, Refused, HalfDone}
 use Rattle.dali_single.specs.Single.{core, Leads, MayCall, IsAnswered, IsAsBefore, IsHalfDone, Fails, MayUndo, AreCovered, Keeps}
 use Rattle.dali_single.specs.Advanced.{IsAtRest, AtPlan, Led, Advanced, Finished, GivenUp}
-use Rattle.dali_single.proofs.Leading.{leads_on, one_step}
+use Rattle.dali_single.proofs.Going.{row_there}
 
 -- ---- the lock
 covered : (o : Option Mode) (b : Bool) → covers (Some (stronger_mode o (if b then Shared else Exclusive))) (not b) ≡ true
@@ -76,6 +77,9 @@ holds_new : (y : SystemState) (t : ℕ) (call : Call) → covers (lock_of (grant
 holds_new y t call =
     ap (λ (o : Option Mode). covers o (not (is_get call))) (lock_here y.locks t (call_key call) (mode_of call))
     ∙ covered (get y.locks (t, call_key call)) (is_get call)
+
+pub lock_apart : (locks : Locks) (t u k j : ℕ) (m : Mode) → (t == u) ≡ false → get (locks_with locks t k m) (u, j) ≡ get locks (u, j)
+lock_apart locks t u k j m e = get-locks_with locks t k m u j ∙ ap (λ (b : Bool). if b && (k == j) then Some (stronger_mode (get locks (u, j)) m) else get locks (u, j)) e
 
 -- ---- the plan
 plan_begins : (s : Sizes) (L : List Record) (t : ℕ) (call : Call) (w : Working) → AtWork s L t w → is_level w ≡ true
@@ -113,69 +117,65 @@ plan_turns s L p e f = record {
     same = ap (λ (b : Bool). not (b || is_fresh p.stage)) e
 
 -- ---- a call is asked for
-pub rest_new : (rs : List RegionState) (y : SystemState) (t : ℕ) (call : Call) → length rs ≡ regions y.sizes → IsSome (row_of y t)
+pub rest_new : (rs : List RegionState) (y : SystemState) (t : ℕ) (call : Call) → length rs ≡ regions y.sizes → state_of y t ≡ Some Live
     → IsAtRest rs (granted y t (call_key call) (mode_of call)) (new_plan y.sizes t call)
-rest_new rs y t call whole row = record { sizes = refl; whole = whole; running = row; closed = refl }
+rest_new rs y t call whole lives = record { sizes = refl; whole = whole; lives = lives; closed = refl }
 
 at_new : (L : List Record) (rs : List RegionState) (y : SystemState) (v : VaultState) (t : ℕ) (call : Call) → MayCall L (core rs y v) t
     → AtPlan L (core rs (granted y t (call_key call) (mode_of call)) v) (new_plan y.sizes t call)
 at_new L rs y v t call may = record {
   follows = plan_begins y.sizes L t call may.working may.at_work may.level;
   holds = holds_new y t call;
-  lives = may.lives;
   free = may.free;
 }
 
-asked : (L M : List Record) (c : CoreState) (d e : CoreState) (t k : ℕ) (m : Mode) (xs : List Step) → IsSome (row_of c.system t) → IsAnswer c.system.locks t k m Granted
-    → d ≡ with_system c (granted c.system t k m) → Leads L d xs M e → Leads L c (AsksLock t k m ∷ xs) M e
-asked L M c d e t k m xs row free is rest = (L, d, (row, free, (refl, is)), rest)
+asked : (precheck : Bool) (L M : List Record) (c : CoreState) (d e : CoreState) (t k : ℕ) (m : Mode) (xs : List Step) → IsSome (row_of c.system t) → IsAnswer c.system.locks t k m Granted
+    → d ≡ with_system c (granted c.system t k m) → Leads precheck t L d xs M e → Leads precheck t L c (AsksLock t k m ∷ xs) M e
+asked precheck L M c d e t k m xs row free is rest = (L, d, ((row, free, (refl, is)), refl, refl), rest)
 
 -- ---- it is answered
-answers : (L : List Record) (c : CoreState) (p : Planned) (a : Answer) → AtPlan L c p → IsWhole p → p.geometry ≡ c.system.sizes → want_of p ≡ AnswerIsNext
+answers : (L : List Record) (c : CoreState) (p : Planned) (a : Answer) → state_of c.system p.txn ≡ Some Live → AtPlan L c p → IsWhole p → p.geometry ≡ c.system.sizes → want_of p ≡ AnswerIsNext
     → answer_of p.geometry p.call p.stage ≡ Some a → HasRoom c.system (Done p.txn p.call a)
-    → Leads L c (Answers p.txn p.call a ∷ []) (L ++ Done p.txn p.call a ∷ []) (with_system c (done_logged c.system p.txn p.call a)) × MayCall (L ++ Done p.txn p.call a ∷ []) (with_system c (done_logged c.system p.txn p.call a)) p.txn
-answers L c p a plan w sizes wants given room =
+    → IsStep L c (Answers p.txn p.call a) (L ++ Done p.txn p.call a ∷ []) (with_system c (done_logged c.system p.txn p.call a)) × MayCall (L ++ Done p.txn p.call a ∷ []) (with_system c (done_logged c.system p.txn p.call a)) p.txn
+answers L c p a lives plan w sizes wants given room =
     let now = done_follows c.system.sizes L p a sizes w plan.follows wants given in (
-      one_step L (L ++ Done p.txn p.call a ∷ []) c (with_system c (done_logged c.system p.txn p.call a)) (Answers p.txn p.call a) (done_is_step L c p a sizes w plan.follows wants given room plan.lives),
-      record { working = now.working; at_work = now.at_work; level = now.rests refl; lives = plan.lives; free = plan.free },
+      done_is_step L c p a sizes w plan.follows wants given room lives,
+      record { working = now.working; at_work = now.at_work; level = now.rests refl; free = plan.free },
     )
 
-txn_kept : (rs rs' : List RegionState) (y y' : SystemState) (p q : Planned) → Advanced rs y p rs' y' q → q.txn ≡ p.txn
-txn_kept rs rs' y y' p q a = ap (λ (z : Planned). z.txn) a.same
+txn_kept : (precheck : Bool) (rs rs' : List RegionState) (y y' : SystemState) (p q : Planned) → Advanced precheck rs y p rs' y' q → q.txn ≡ p.txn
+txn_kept precheck rs rs' y y' p q a = ap (λ (z : Planned). z.txn) a.same
 
-call_kept : (rs rs' : List RegionState) (y y' : SystemState) (p q : Planned) → Advanced rs y p rs' y' q → q.call ≡ p.call
-call_kept rs rs' y y' p q a = ap (λ (z : Planned). z.call) a.same
+call_kept : (precheck : Bool) (rs rs' : List RegionState) (y y' : SystemState) (p q : Planned) → Advanced precheck rs y p rs' y' q → q.call ≡ p.call
+call_kept precheck rs rs' y y' p q a = ap (λ (z : Planned). z.call) a.same
 
-finished_there : (L : List Record) (rs rs' : List RegionState) (y z : SystemState) (v : VaultState) (p q : Planned) (a : Answer) → Advanced rs y p rs' z q → IsWhole q → want_of q ≡ AnswerIsNext
+finished_there : (precheck : Bool) (L : List Record) (rs rs' : List RegionState) (y z : SystemState) (v : VaultState) (p q : Planned) (a : Answer) → Advanced precheck rs y p rs' z q → IsWhole q → want_of q ≡ AnswerIsNext
     → answer_of q.geometry q.call q.stage ≡ Some a → HasRoom z (Done q.txn q.call a) → AtPlan L (core rs y v) p
-    → IsAnswered L (core rs y v) q.txn q.call a (core rs' (done_logged z q.txn q.call a) v)
-finished_there L rs rs' y z v p q a go w wants given room plan =
-    let led = go.goes L v plan in
-    let last = answers led.log (core rs' z v) q a led.at w go.rest.sizes wants given room in
-    record {
-      log = led.log;
-      steps = led.steps ++ Answers q.txn q.call a ∷ [];
-      leads = leads_on L led.log (led.log ++ Done q.txn q.call a ∷ []) (core rs y v) (core rs' z v) (core rs' (done_logged z q.txn q.call a) v) led.steps (Answers q.txn q.call a ∷ []) led.leads last.0;
-      may = last.1;
-    }
+    → IsAnswered precheck L (core rs y v) q.txn q.call a (core rs' (done_logged z q.txn q.call a) v)
+finished_there precheck L rs rs' y z v p q a go w wants given room plan =
+    let led = subst (λ (n : ℕ). Led precheck n L (core rs y v) (core rs' z v) q) (sym (txn_kept precheck rs rs' y z p q go)) (go.goes L v plan) in
+    let last = answers led.log (core rs' z v) q a go.rest.lives led.at w go.rest.sizes wants given room in
+    record { log = led.log; mid = core rs' z v; steps = led.steps; leads = led.leads; answers = last.0; may = last.1 }
 
-pub call_answered : (rs rs' : List RegionState) (y y' : SystemState) (t : ℕ) (call : Call) (a : Answer) → length rs ≡ regions y.sizes → IsSome (row_of y t) → IsAnswer y.locks t (call_key call) (mode_of call) Granted
-    → Finished rs (granted y t (call_key call) (mode_of call)) (new_plan y.sizes t call) a rs' y'
-    → (L : List Record) (v : VaultState) → MayCall L (core rs y v) t → IsAnswered L (core rs y v) t call a (core rs' y' v)
-call_answered rs rs' y y' t call a whole row free f L v may =
+pub call_answered : (precheck : Bool) (rs rs' : List RegionState) (y y' : SystemState) (t : ℕ) (call : Call) (a : Answer) → length rs ≡ regions y.sizes → state_of y t ≡ Some Live → IsAnswer y.locks t (call_key call) (mode_of call) Granted
+    → Finished precheck rs (granted y t (call_key call) (mode_of call)) (new_plan y.sizes t call) a rs' y'
+    → (L : List Record) (v : VaultState) → MayCall L (core rs y v) t → IsAnswered precheck L (core rs y v) t call a (core rs' y' v)
+call_answered precheck rs rs' y y' t call a whole lives free f L v may =
     let go = f.advanced in
     let q = f.plan in
-    let txn = txn_kept rs rs' (granted y t (call_key call) (mode_of call)) f.system (new_plan y.sizes t call) q go in
-    let same = call_kept rs rs' (granted y t (call_key call) (mode_of call)) f.system (new_plan y.sizes t call) q go in
-    let there = finished_there L rs rs' (granted y t (call_key call) (mode_of call)) f.system v (new_plan y.sizes t call) q a go f.whole f.wants f.given f.room (at_new L rs y v t call may) in
-    let now : IsAnswered L (core rs (granted y t (call_key call) (mode_of call)) v) t call a (core rs' y' v) =
-    subst (λ (u : ℕ). IsAnswered L (core rs (granted y t (call_key call) (mode_of call)) v) u call a (core rs' y' v)) txn
-    (subst (λ (k : Call). IsAnswered L (core rs (granted y t (call_key call) (mode_of call)) v) q.txn k a (core rs' y' v)) same
-    (subst (λ (x : SystemState). IsAnswered L (core rs (granted y t (call_key call) (mode_of call)) v) q.txn q.call a (core rs' x v)) (sym f.logged) there)) in
+    let txn = txn_kept precheck rs rs' (granted y t (call_key call) (mode_of call)) f.system (new_plan y.sizes t call) q go in
+    let same = call_kept precheck rs rs' (granted y t (call_key call) (mode_of call)) f.system (new_plan y.sizes t call) q go in
+    let there = finished_there precheck L rs rs' (granted y t (call_key call) (mode_of call)) f.system v (new_plan y.sizes t call) q a go f.whole f.wants f.given f.room (at_new L rs y v t call may) in
+    let now : IsAnswered precheck L (core rs (granted y t (call_key call) (mode_of call)) v) t call a (core rs' y' v) =
+    subst (λ (u : ℕ). IsAnswered precheck L (core rs (granted y t (call_key call) (mode_of call)) v) u call a (core rs' y' v)) txn
+    (subst (λ (k : Call). IsAnswered precheck L (core rs (granted y t (call_key call) (mode_of call)) v) q.txn k a (core rs' y' v)) same
+    (subst (λ (x : SystemState). IsAnswered precheck L (core rs (granted y t (call_key call) (mode_of call)) v) q.txn q.call a (core rs' x v)) (sym f.logged) there)) in
     record {
       log = now.log;
+      mid = now.mid;
       steps = AsksLock t (call_key call) (mode_of call) ∷ now.steps;
-      leads = asked L (now.log ++ Done t call a ∷ []) (core rs y v) (core rs (granted y t (call_key call) (mode_of call)) v) (core rs' y' v) t (call_key call) (mode_of call) now.steps row free refl now.leads;
+      leads = asked precheck L now.log (core rs y v) (core rs (granted y t (call_key call) (mode_of call)) v) now.mid t (call_key call) (mode_of call) now.steps (row_there y t Live lives) free refl now.leads;
+      answers = now.answers;
       may = now.may;
     }
 
@@ -243,14 +243,15 @@ stays_covered y z t call q sizes locks geometry same w undos old =
         ∙ (ap (λ (l : Locks). covers (get l (t, call_key call)) true) locks
         ∙ (ap (λ (b : Bool). covers (get (locks_with y.locks t (call_key call) (mode_of call)) (t, call_key call)) (not b)) (sym (ap is_get (sym same) ∙ e)) ∙ holds_new y t call))
 
-pub finished_keeps : (rs rs' : List RegionState) (y y' : SystemState) (t : ℕ) (call : Call) (a : Answer)
-    → Finished rs (granted y t (call_key call) (mode_of call)) (new_plan y.sizes t call) a rs' y' → Keeps y t y'
-finished_keeps rs rs' y y' t call a f =
-    let txn = txn_kept rs rs' (granted y t (call_key call) (mode_of call)) f.system (new_plan y.sizes t call) f.plan f.advanced in
+pub finished_keeps : (precheck : Bool) (rs rs' : List RegionState) (y y' : SystemState) (t : ℕ) (call : Call) (a : Answer) → state_of y t ≡ Some Live
+    → Finished precheck rs (granted y t (call_key call) (mode_of call)) (new_plan y.sizes t call) a rs' y' → Keeps y t y'
+finished_keeps precheck rs rs' y y' t call a lives f =
+    let txn = txn_kept precheck rs rs' (granted y t (call_key call) (mode_of call)) f.system (new_plan y.sizes t call) f.plan f.advanced in
     subst (λ (x : SystemState). Keeps y t x) (sym f.logged) (record {
       sizes = f.advanced.sizes;
-      row = subst (λ (u : ℕ). IsSome (row_of f.system u)) txn f.advanced.rest.running;
-      covered = stays_covered y (done_logged f.system f.plan.txn f.plan.call a) t call f.plan f.advanced.sizes f.advanced.locks f.advanced.rest.sizes (call_kept rs rs' (granted y t (call_key call) (mode_of call)) f.system (new_plan y.sizes t call) f.plan f.advanced) f.whole (f.advanced.undos (undos_at y.table t) (sym (append-nil (undos_at y.table t))));
+      state = subst (λ (u : ℕ). state_of f.system u ≡ Some Live) txn f.advanced.rest.lives ∙ sym lives;
+      others = λ u e. (f.advanced.rows u e, λ k. ap (λ (l : Locks). get l (u, k)) f.advanced.locks ∙ lock_apart y.locks t u (call_key call) k (mode_of call) e);
+      covered = stays_covered y (done_logged f.system f.plan.txn f.plan.call a) t call f.plan f.advanced.sizes f.advanced.locks f.advanced.rest.sizes (call_kept precheck rs rs' (granted y t (call_key call) (mode_of call)) f.system (new_plan y.sizes t call) f.plan f.advanced) f.whole (f.advanced.undos (undos_at y.table t) (sym (append-nil (undos_at y.table t))));
     })
 
 -- ---- it is refused
@@ -276,85 +277,83 @@ none_left : (q : Planned) → q.phase ≡ RefusedPhase → plan_next q ≡ None 
 none_left q e n = none_there q.changes (undo_none (last_of q.changes) (sym (back_next q (is_back q) refl (refused_back q e)) ∙ n))
 
 turned : (L : List Record) (c : CoreState) (p : Planned) → p.phase ≡ Calling → AtPlan L c p → AtPlan L c (refused p)
-turned L c p e plan = record { follows = plan_turns c.system.sizes L p (ap is_answered e) plan.follows; holds = plan.holds; lives = plan.lives; free = plan.free }
+turned L c p e plan = record { follows = plan_turns c.system.sizes L p (ap is_answered e) plan.follows; holds = plan.holds; free = plan.free }
 
 pub rest_turned : (rs : List RegionState) (y : SystemState) (p : Planned) → IsAtRest rs y p → IsAtRest rs y (refused p)
-rest_turned rs y p rest = record { sizes = rest.sizes; whole = rest.whole; running = rest.running; closed = rest.closed }
-
-both_led : (L : List Record) (rs rs1 rs2 : List RegionState) (y y1 y2 : SystemState) (v : VaultState) (p p1 q : Planned) → p1.phase ≡ Calling → Advanced rs y p rs1 y1 p1 → Advanced rs1 y1 (refused p1) rs2 y2 q
-    → AtPlan L (core rs y v) p → Led L (core rs y v) (core rs2 y2 v) q
-both_led L rs rs1 rs2 y y1 y2 v p p1 q calling a b plan =
-    let one = a.goes L v plan in
-    let two = b.goes one.log v (turned one.log (core rs1 y1 v) p1 calling one.at) in
-    record { log = two.log; steps = one.steps ++ two.steps; leads = leads_on L one.log two.log (core rs y v) (core rs1 y1 v) (core rs2 y2 v) one.steps two.steps one.leads two.leads; at = two.at }
+rest_turned rs y p rest = record { sizes = rest.sizes; whole = rest.whole; lives = rest.lives; closed = rest.closed }
 
 -- what the plan of a call of t came to when it was refused
-pub record Turned (rs : List RegionState) (y : SystemState) (t : ℕ) (call : Call) (rs2 : List RegionState) (y2 : SystemState) (q : Planned) : Type 0 where
+pub record Turned (precheck : Bool) (rs : List RegionState) (y : SystemState) (t : ℕ) (call : Call) (rs2 : List RegionState) (y2 : SystemState) (q : Planned) : Type 0 where
   pub mid_regions : List RegionState
   pub mid_system : SystemState
   pub mid : Planned
   pub calling : mid.phase ≡ Calling
-  pub onward : Advanced rs (granted y t (call_key call) (mode_of call)) (new_plan y.sizes t call) mid_regions mid_system mid
-  pub back : Advanced mid_regions mid_system (refused mid) rs2 y2 q
+  pub onward : Advanced precheck rs (granted y t (call_key call) (mode_of call)) (new_plan y.sizes t call) mid_regions mid_system mid
+  pub back : Advanced false mid_regions mid_system (refused mid) rs2 y2 q
 
-turned_txn : (rs rs2 : List RegionState) (y y2 : SystemState) (t : ℕ) (call : Call) (q : Planned) → Turned rs y t call rs2 y2 q → q.txn ≡ t
-turned_txn rs rs2 y y2 t call q m = ap (λ (z : Planned). z.txn) m.back.same ∙ ap (λ (z : Planned). z.txn) m.onward.same
+turned_txn : (precheck : Bool) (rs rs2 : List RegionState) (y y2 : SystemState) (t : ℕ) (call : Call) (q : Planned) → Turned precheck rs y t call rs2 y2 q → q.txn ≡ t
+turned_txn precheck rs rs2 y y2 t call q m = ap (λ (z : Planned). z.txn) m.back.same ∙ ap (λ (z : Planned). z.txn) m.onward.same
 
-turned_led : (rs rs2 : List RegionState) (y y2 : SystemState) (t : ℕ) (call : Call) (q : Planned) → Turned rs y t call rs2 y2 q
-    → (L : List Record) (v : VaultState) → MayCall L (core rs y v) t → Led L (core rs (granted y t (call_key call) (mode_of call)) v) (core rs2 y2 v) q
-turned_led rs rs2 y y2 t call q m L v may =
-    both_led L rs m.mid_regions rs2 (granted y t (call_key call) (mode_of call)) m.mid_system y2 v (new_plan y.sizes t call) m.mid q m.calling m.onward m.back (at_new L rs y v t call may)
-
-turned_undos : (rs rs2 : List RegionState) (y y2 : SystemState) (t : ℕ) (call : Call) (q : Planned) → Turned rs y t call rs2 y2 q → undos_at y2.table t ≡ undos_at y.table t ++ q.changes
-turned_undos rs rs2 y y2 t call q m =
-    let mid_txn = txn_kept rs m.mid_regions (granted y t (call_key call) (mode_of call)) m.mid_system (new_plan y.sizes t call) m.mid m.onward in
+turned_undos : (precheck : Bool) (rs rs2 : List RegionState) (y y2 : SystemState) (t : ℕ) (call : Call) (q : Planned) → Turned precheck rs y t call rs2 y2 q → undos_at y2.table t ≡ undos_at y.table t ++ q.changes
+turned_undos precheck rs rs2 y y2 t call q m =
+    let mid_txn = txn_kept precheck rs m.mid_regions (granted y t (call_key call) (mode_of call)) m.mid_system (new_plan y.sizes t call) m.mid m.onward in
     let first = m.onward.undos (undos_at y.table t) (sym (append-nil (undos_at y.table t))) in
     ap (undos_at y2.table) (sym mid_txn) ∙ m.back.undos (undos_at y.table t) (subst (λ (u : ℕ). undos_at m.mid_system.table u ≡ undos_at y.table t ++ m.mid.changes) (sym mid_txn) first)
 
-pub call_taken_back : (rs rs2 : List RegionState) (y y2 : SystemState) (t : ℕ) (call : Call) (q : Planned) (cause : StepError) → IsSome (row_of y t) → IsAnswer y.locks t (call_key call) (mode_of call) Granted
-    → (m : Turned rs y t call rs2 y2 q) (b : Bool) → IsRefusal b t m.mid_regions m.mid_system cause → IsWhole q → plan_next q ≡ None
-    → (L : List Record) (v : VaultState) → MayCall L (core rs y v) t → IsAsBefore L (core rs y v) t cause (core rs2 y2 v)
-call_taken_back rs rs2 y y2 t call q cause row free m b why w none L v may =
+pub call_taken_back : (precheck : Bool) (rs rs2 : List RegionState) (y y2 : SystemState) (t : ℕ) (call : Call) (q : Planned) (cause : StepError) → state_of y t ≡ Some Live → IsAnswer y.locks t (call_key call) (mode_of call) Granted
+    → (m : Turned precheck rs y t call rs2 y2 q) (b : Bool) → IsRefusal precheck b t m.mid_regions m.mid_system cause → IsWhole q → plan_next q ≡ None
+    → (L : List Record) (v : VaultState) → MayCall L (core rs y v) t → IsAsBefore L (core rs y v) t precheck cause (core rs2 y2 v)
+call_taken_back precheck rs rs2 y y2 t call q cause lives free m b why w none L v may =
     let one = m.onward.goes L v (at_new L rs y v t call may) in
-    let led = m.back.goes one.log v (turned one.log (core m.mid_regions m.mid_system v) m.mid m.calling one.at) in
-    let txn = turned_txn rs rs2 y y2 t call q m in
+    let mid_txn = txn_kept precheck rs m.mid_regions (granted y t (call_key call) (mode_of call)) m.mid_system (new_plan y.sizes t call) m.mid m.onward in
+    let led = subst (λ (n : ℕ). Led false n one.log (core m.mid_regions m.mid_system v) (core rs2 y2 v) q) mid_txn (m.back.goes one.log v (turned one.log (core m.mid_regions m.mid_system v) m.mid m.calling one.at)) in
+    let txn = turned_txn precheck rs rs2 y y2 t call q m in
     let phase : q.phase ≡ RefusedPhase = ap (λ (z : Planned). z.phase) m.back.same in
     let now = refused_rests y2.sizes led.log q w led.at.follows (refused_wants q phase none) in
     record {
       mid_log = one.log;
       mid = core m.mid_regions m.mid_system v;
       onward = AsksLock t (call_key call) (mode_of call) ∷ one.steps;
-      leads = asked L one.log (core rs y v) (core rs (granted y t (call_key call) (mode_of call)) v) (core m.mid_regions m.mid_system v) t (call_key call) (mode_of call) one.steps row free refl one.leads;
+      leads = asked precheck L one.log (core rs y v) (core rs (granted y t (call_key call) (mode_of call)) v) (core m.mid_regions m.mid_system v) t (call_key call) (mode_of call) one.steps (row_there y t Live lives) free refl one.leads;
       refused = (b, why);
       log = led.log;
       steps = led.steps;
       back = led.leads;
-      may = subst (λ (u : ℕ). MayCall led.log (core rs2 y2 v) u) txn (record { working = now.0; at_work = now.1; level = now.2; lives = led.at.lives; free = led.at.free });
-      undos = turned_undos rs rs2 y y2 t call q m ∙ (ap (λ (us : List Pending). undos_at y.table t ++ us) (none_left q phase none) ∙ append-nil (undos_at y.table t));
+      may = subst (λ (u : ℕ). MayCall led.log (core rs2 y2 v) u) txn (record { working = now.0; at_work = now.1; level = now.2; free = led.at.free });
+      undos = turned_undos precheck rs rs2 y y2 t call q m ∙ (ap (λ (us : List Pending). undos_at y.table t ++ us) (none_left q phase none) ∙ append-nil (undos_at y.table t));
     }
 
-pub call_half_done : (rs rs2 : List RegionState) (y y2 : SystemState) (t : ℕ) (call : Call) (q : Planned) (cause : StepError) → IsRefusal true t rs2 y2 cause → IsSome (row_of y t) → IsAnswer y.locks t (call_key call) (mode_of call) Granted
-    → Turned rs y t call rs2 y2 q
-    → (L : List Record) (v : VaultState) → MayCall L (core rs y v) t → IsHalfDone L (core rs y v) t cause (core rs2 y2 v)
-call_half_done rs rs2 y y2 t call q cause why row free m L v may =
-    let led = turned_led rs rs2 y y2 t call q m L v may in
-    let txn = turned_txn rs rs2 y y2 t call q m in
+pub call_half_done : (precheck : Bool) (rs rs2 : List RegionState) (y y2 : SystemState) (t : ℕ) (call : Call) (q : Planned) (cause : StepError) → IsRefusal false true t rs2 y2 cause → state_of y t ≡ Some Live → IsAnswer y.locks t (call_key call) (mode_of call) Granted
+    → Turned precheck rs y t call rs2 y2 q
+    → (L : List Record) (v : VaultState) → MayCall L (core rs y v) t → IsHalfDone L (core rs y v) t precheck cause (core rs2 y2 v)
+call_half_done precheck rs rs2 y y2 t call q cause why lives free m L v may =
+    let one = m.onward.goes L v (at_new L rs y v t call may) in
+    let mid_txn = txn_kept precheck rs m.mid_regions (granted y t (call_key call) (mode_of call)) m.mid_system (new_plan y.sizes t call) m.mid m.onward in
+    let led = subst (λ (n : ℕ). Led false n one.log (core m.mid_regions m.mid_system v) (core rs2 y2 v) q) mid_txn (m.back.goes one.log v (turned one.log (core m.mid_regions m.mid_system v) m.mid m.calling one.at)) in
+    let txn = turned_txn precheck rs rs2 y y2 t call q m in
     record {
+      mid_log = one.log;
+      mid = core m.mid_regions m.mid_system v;
+      onward = AsksLock t (call_key call) (mode_of call) ∷ one.steps;
+      leads = asked precheck L one.log (core rs y v) (core rs (granted y t (call_key call) (mode_of call)) v) (core m.mid_regions m.mid_system v) t (call_key call) (mode_of call) one.steps (row_there y t Live lives) free refl one.leads;
       refused = why;
       log = led.log;
-      steps = AsksLock t (call_key call) (mode_of call) ∷ led.steps;
-      leads = asked L led.log (core rs y v) (core rs (granted y t (call_key call) (mode_of call)) v) (core rs2 y2 v) t (call_key call) (mode_of call) led.steps row free refl led.leads;
+      steps = led.steps;
+      back = led.leads;
       working = led.at.follows.working;
       at_work = subst (λ (u : ℕ). AtWork y2.sizes led.log u led.at.follows.working) txn led.at.follows.at_work;
-      lives = ap (state_of y2) (sym txn) ∙ led.at.lives;
       free = subst (λ (u : ℕ). IsFree (core rs2 y2 v) u) txn led.at.free;
     }
 
-pub turned_keeps : (rs rs2 : List RegionState) (y y2 : SystemState) (t : ℕ) (call : Call) (q : Planned) → IsWhole q → Turned rs y t call rs2 y2 q → Keeps y t y2
-turned_keeps rs rs2 y y2 t call q w m = record {
-  covered = stays_covered y y2 t call q (m.back.sizes ∙ m.onward.sizes) (m.back.locks ∙ m.onward.locks) m.back.rest.sizes (ap (λ (z : Planned). z.call) m.back.same ∙ ap (λ (z : Planned). z.call) m.onward.same) w (turned_undos rs rs2 y y2 t call q m);
+pub turned_keeps : (precheck : Bool) (rs rs2 : List RegionState) (y y2 : SystemState) (t : ℕ) (call : Call) (q : Planned) → state_of y t ≡ Some Live → IsWhole q → Turned precheck rs y t call rs2 y2 q → Keeps y t y2
+turned_keeps precheck rs rs2 y y2 t call q lives w m = record {
+  covered = stays_covered y y2 t call q (m.back.sizes ∙ m.onward.sizes) (m.back.locks ∙ m.onward.locks) m.back.rest.sizes (ap (λ (z : Planned). z.call) m.back.same ∙ ap (λ (z : Planned). z.call) m.onward.same) w (turned_undos precheck rs rs2 y y2 t call q m);
   sizes = m.back.sizes ∙ m.onward.sizes;
-  row = subst (λ (u : ℕ). IsSome (row_of y2 u)) (turned_txn rs rs2 y y2 t call q m) m.back.rest.running;
+  state = subst (λ (u : ℕ). state_of y2 u ≡ Some Live) (turned_txn precheck rs rs2 y y2 t call q m) m.back.rest.lives ∙ sym lives;
+  others = λ u e. (
+    m.back.rows u (ap (λ (n : ℕ). n == u) (txn_kept precheck rs m.mid_regions (granted y t (call_key call) (mode_of call)) m.mid_system (new_plan y.sizes t call) m.mid m.onward) ∙ e) ∙ m.onward.rows u e,
+    λ k. ap (λ (l : Locks). get l (u, k)) (m.back.locks ∙ m.onward.locks) ∙ lock_apart y.locks t u (call_key call) k (mode_of call) e,
+  );
 }
 
 -- ---- in terms of what the calls gave
@@ -375,54 +374,58 @@ is_asked y asked t call p g lock a granted_is sizes plan is now free =
       free = subst (λ (l : ℕ × Mode). IsAnswer y.state.locks t l.0 l.1 Granted) keys (subst (IsAnswer y.state.locks t lock.0 lock.1) granted_is free);
     }
 
-finished_as : (rs rs' : List RegionState) (y asked : Served) (y' : SystemState) (t : ℕ) (call : Call) (p : Planned) (a : Answer) → IsAsked y t call asked p → Finished rs asked.state p a rs' y'
-    → Finished rs (granted y.state t (call_key call) (mode_of call)) (new_plan y.state.sizes t call) a rs' y'
-finished_as rs rs' y asked y' t call p a is f = subst (λ (x : Planned). Finished rs (granted y.state t (call_key call) (mode_of call)) x a rs' y') is.plan (subst (λ (x : SystemState). Finished rs x p a rs' y') is.granted_there f)
+finished_as : (precheck : Bool) (rs rs' : List RegionState) (y asked : Served) (y' : SystemState) (t : ℕ) (call : Call) (p : Planned) (a : Answer) → IsAsked y t call asked p → Finished precheck rs asked.state p a rs' y'
+    → Finished precheck rs (granted y.state t (call_key call) (mode_of call)) (new_plan y.state.sizes t call) a rs' y'
+finished_as precheck rs rs' y asked y' t call p a is f = subst (λ (x : Planned). Finished precheck rs (granted y.state t (call_key call) (mode_of call)) x a rs' y') is.plan (subst (λ (x : SystemState). Finished precheck rs x p a rs' y') is.granted_there f)
 
-pub answered_there : (rs rs' : List RegionState) (y asked : Served) (y' : SystemState) (t : ℕ) (call : Call) (p : Planned) (a : Answer) → length rs ≡ regions y.state.sizes → IsSome (row_of y.state t)
-    → IsAsked y t call asked p → Finished rs asked.state p a rs' y'
-    → (L : List Record) (v : VaultState) → MayCall L (core rs y.state v) t → IsAnswered L (core rs y.state v) t call a (core rs' y' v)
-answered_there rs rs' y asked y' t call p a whole row is f = call_answered rs rs' y.state y' t call a whole row is.free (finished_as rs rs' y asked y' t call p a is f)
+pub answered_there : (precheck : Bool) (rs rs' : List RegionState) (y asked : Served) (y' : SystemState) (t : ℕ) (call : Call) (p : Planned) (a : Answer) → length rs ≡ regions y.state.sizes → state_of y.state t ≡ Some Live
+    → IsAsked y t call asked p → Finished precheck rs asked.state p a rs' y'
+    → (L : List Record) (v : VaultState) → MayCall L (core rs y.state v) t → IsAnswered precheck L (core rs y.state v) t call a (core rs' y' v)
+answered_there precheck rs rs' y asked y' t call p a whole lives is f = call_answered precheck rs rs' y.state y' t call a whole lives is.free (finished_as precheck rs rs' y asked y' t call p a is f)
 
-pub answered_keeps : (rs rs' : List RegionState) (y asked : Served) (y' : SystemState) (t : ℕ) (call : Call) (p : Planned) (a : Answer) → IsAsked y t call asked p → Finished rs asked.state p a rs' y' → Keeps y.state t y'
-answered_keeps rs rs' y asked y' t call p a is f = finished_keeps rs rs' y.state y' t call a (finished_as rs rs' y asked y' t call p a is f)
+pub answered_keeps : (precheck : Bool) (rs rs' : List RegionState) (y asked : Served) (y' : SystemState) (t : ℕ) (call : Call) (p : Planned) (a : Answer) → state_of y.state t ≡ Some Live → IsAsked y t call asked p → Finished precheck rs asked.state p a rs' y' → Keeps y.state t y'
+answered_keeps precheck rs rs' y asked y' t call p a lives is f = finished_keeps precheck rs rs' y.state y' t call a lives (finished_as precheck rs rs' y asked y' t call p a is f)
 
-advanced_as : (rs rs' : List RegionState) (y asked : Served) (y' : SystemState) (t : ℕ) (call : Call) (p q : Planned) → IsAsked y t call asked p → Advanced rs asked.state p rs' y' q
-    → Advanced rs (granted y.state t (call_key call) (mode_of call)) (new_plan y.state.sizes t call) rs' y' q
-advanced_as rs rs' y asked y' t call p q is f = subst (λ (x : Planned). Advanced rs (granted y.state t (call_key call) (mode_of call)) x rs' y' q) is.plan (subst (λ (x : SystemState). Advanced rs x p rs' y' q) is.granted_there f)
+advanced_as : (precheck : Bool) (rs rs' : List RegionState) (y asked : Served) (y' : SystemState) (t : ℕ) (call : Call) (p q : Planned) → IsAsked y t call asked p → Advanced precheck rs asked.state p rs' y' q
+    → Advanced precheck rs (granted y.state t (call_key call) (mode_of call)) (new_plan y.state.sizes t call) rs' y' q
+advanced_as precheck rs rs' y asked y' t call p q is f = subst (λ (x : Planned). Advanced precheck rs (granted y.state t (call_key call) (mode_of call)) x rs' y' q) is.plan (subst (λ (x : SystemState). Advanced precheck rs x p rs' y' q) is.granted_there f)
 
-abbrev turned_as : (rs rs1 rs2 : List RegionState) (y asked : Served) (y1 y2 : SystemState) (t : ℕ) (call : Call) (p p1 q : Planned) → IsAsked y t call asked p → Advanced rs asked.state p rs1 y1 p1 → Advanced rs1 y1 (refused p1) rs2 y2 q
-    → Turned rs y.state t call rs2 y2 q
-turned_as rs rs1 rs2 y asked y1 y2 t call p p1 q is a b =
-    let now = advanced_as rs rs1 y asked y1 t call p p1 is a in
+abbrev turned_as : (precheck : Bool) (rs rs1 rs2 : List RegionState) (y asked : Served) (y1 y2 : SystemState) (t : ℕ) (call : Call) (p p1 q : Planned) → IsAsked y t call asked p → Advanced precheck rs asked.state p rs1 y1 p1 → Advanced false rs1 y1 (refused p1) rs2 y2 q
+    → Turned precheck rs y.state t call rs2 y2 q
+turned_as precheck rs rs1 rs2 y asked y1 y2 t call p p1 q is a b =
+    let now = advanced_as precheck rs rs1 y asked y1 t call p p1 is a in
     record { mid_regions = rs1; mid_system = y1; mid = p1; calling = ap (λ (x : Planned). x.phase) now.same; onward = now; back = b }
 
-pub failed_there : (e : CallError) (rs rs1 rs2 : List RegionState) (y asked : Served) (y1 y2 : SystemState) (t : ℕ) (call : Call) (p p1 : Planned) (given : StepError) → IsSome (row_of y.state t)
-    → IsAsked y t call asked p → Advanced rs asked.state p rs1 y1 p1 → (back : Bool) × IsRefusal back p.txn rs1 y1 given → GivenUp e given rs1 y1 p1 rs2 y2
-    → (L : List Record) (v : VaultState) → MayCall L (core rs y.state v) t → Fails e L (core rs y.state v) t call (core rs2 y2 v)
-failed_there (Wait h) rs rs1 rs2 y asked y1 y2 t call p p1 given row is a why g = absurd g
-failed_there (Busy h) rs rs1 rs2 y asked y1 y2 t call p p1 given row is a why g = absurd g
-failed_there (Refused cause) rs rs1 rs2 y asked y1 y2 t call p p1 given row is a why g =
+pub failed_there : (precheck : Bool) (e : CallError) (rs rs1 rs2 : List RegionState) (y asked : Served) (y1 y2 : SystemState) (t : ℕ) (call : Call) (p p1 : Planned) (given : StepError) → state_of y.state t ≡ Some Live
+    → IsAsked y t call asked p → Advanced precheck rs asked.state p rs1 y1 p1 → (back : Bool) × IsRefusal precheck back p.txn rs1 y1 given → GivenUp e given rs1 y1 p1 rs2 y2
+    → (L : List Record) (v : VaultState) → MayCall L (core rs y.state v) t → Fails precheck e L (core rs y.state v) t call (core rs2 y2 v)
+failed_there precheck (Wait h) rs rs1 rs2 y asked y1 y2 t call p p1 given row is a why g = absurd g
+failed_there precheck (Busy h) rs rs1 rs2 y asked y1 y2 t call p p1 given row is a why g = absurd g
+failed_there precheck (Refused cause) rs rs1 rs2 y asked y1 y2 t call p p1 given row is a why g =
     let txn : p.txn ≡ t = ap (λ (x : Planned). x.txn) is.plan in
-    call_taken_back rs rs2 y.state y2 t call g.1 cause row is.free (turned_as rs rs1 rs2 y asked y1 y2 t call p p1 g.1 is a g.3) why.0
-    (subst (λ (e : StepError). IsRefusal why.0 t rs1 y1 e) (sym g.0) (subst (λ (u : ℕ). IsRefusal why.0 u rs1 y1 given) txn why.1)) g.2 g.4
-failed_there (HalfDone cause) rs rs1 rs2 y asked y1 y2 t call p p1 given row is a why g =
+    call_taken_back precheck rs rs2 y.state y2 t call g.1 cause row is.free (turned_as precheck rs rs1 rs2 y asked y1 y2 t call p p1 g.1 is a g.3) why.0
+    (subst (λ (e : StepError). IsRefusal precheck why.0 t rs1 y1 e) (sym g.0) (subst (λ (u : ℕ). IsRefusal precheck why.0 u rs1 y1 given) txn why.1)) g.2 g.4
+failed_there precheck (HalfDone cause) rs rs1 rs2 y asked y1 y2 t call p p1 given row is a why g =
     let txn : p1.txn ≡ t = ap (λ (x : Planned). x.txn) a.same ∙ ap (λ (x : Planned). x.txn) is.plan in
-    call_half_done rs rs2 y.state y2 t call g.1 cause (subst (λ (u : ℕ). IsRefusal true u rs2 y2 cause) txn g.0) row is.free (turned_as rs rs1 rs2 y asked y1 y2 t call p p1 g.1 is a g.3)
+    call_half_done precheck rs rs2 y.state y2 t call g.1 cause (subst (λ (u : ℕ). IsRefusal false true u rs2 y2 cause) txn g.0) row is.free (turned_as precheck rs rs1 rs2 y asked y1 y2 t call p p1 g.1 is a g.3)
 
-pub failed_keeps : (e : CallError) (rs rs1 rs2 : List RegionState) (y asked : Served) (y1 y2 : SystemState) (t : ℕ) (call : Call) (p p1 : Planned) (given : StepError)
-    → IsAsked y t call asked p → Advanced rs asked.state p rs1 y1 p1 → GivenUp e given rs1 y1 p1 rs2 y2 → Keeps y.state t y2
-failed_keeps (Wait h) rs rs1 rs2 y asked y1 y2 t call p p1 given is a g = absurd g
-failed_keeps (Busy h) rs rs1 rs2 y asked y1 y2 t call p p1 given is a g = absurd g
-failed_keeps (Refused cause) rs rs1 rs2 y asked y1 y2 t call p p1 given is a g = turned_keeps rs rs2 y.state y2 t call g.1 g.2 (turned_as rs rs1 rs2 y asked y1 y2 t call p p1 g.1 is a g.3)
-failed_keeps (HalfDone cause) rs rs1 rs2 y asked y1 y2 t call p p1 given is a g = turned_keeps rs rs2 y.state y2 t call g.1 g.2 (turned_as rs rs1 rs2 y asked y1 y2 t call p p1 g.1 is a g.3)
+pub failed_keeps : (precheck : Bool) (e : CallError) (rs rs1 rs2 : List RegionState) (y asked : Served) (y1 y2 : SystemState) (t : ℕ) (call : Call) (p p1 : Planned) (given : StepError) → state_of y.state t ≡ Some Live
+    → IsAsked y t call asked p → Advanced precheck rs asked.state p rs1 y1 p1 → GivenUp e given rs1 y1 p1 rs2 y2 → Keeps y.state t y2
+failed_keeps precheck (Wait h) rs rs1 rs2 y asked y1 y2 t call p p1 given lives is a g = absurd g
+failed_keeps precheck (Busy h) rs rs1 rs2 y asked y1 y2 t call p p1 given lives is a g = absurd g
+failed_keeps precheck (Refused cause) rs rs1 rs2 y asked y1 y2 t call p p1 given lives is a g = turned_keeps precheck rs rs2 y.state y2 t call g.1 lives g.2 (turned_as precheck rs rs1 rs2 y asked y1 y2 t call p p1 g.1 is a g.3)
+failed_keeps precheck (HalfDone cause) rs rs1 rs2 y asked y1 y2 t call p p1 given lives is a g = turned_keeps precheck rs rs2 y.state y2 t call g.1 lives g.2 (turned_as precheck rs rs1 rs2 y asked y1 y2 t call p p1 g.1 is a g.3)
 
 -- ---- a request that was refused
-pub busy_keeps : (y asked : Served) (t k : ℕ) (m : Mode) (a : LockAnswer) (h : ℕ) → a ≡ LockBusy h → asked ≡ record y { state = after_request y.state t k m a } → IsSome (row_of y.state t) → Keeps y.state t asked.state
-busy_keeps y asked t k m a h busy is row =
+pub busy_keeps : (y asked : Served) (t k : ℕ) (m : Mode) (a : LockAnswer) (h : ℕ) → a ≡ LockBusy h → asked ≡ record y { state = after_request y.state t k m a } → Keeps y.state t asked.state
+busy_keeps y asked t k m a h busy is =
     let now : asked.state ≡ not_granted y.state t k m h = ap (λ (s : Served). s.state) is ∙ ap (after_request y.state t k m) busy in
     subst (λ (x : SystemState). Keeps y.state t x) (sym now) (record {
       sizes = refl;
-      row = row;
+      state = refl;
+      others = λ u e. (refl, λ k. refl);
       covered = all_undos (MayUndo y.state t) (MayUndo (not_granted y.state t k m h) t) (undos_at y.state.table t) (λ u may. record { spelled = may.spelled; kind = may.kind; lock = may.lock });
     })
+
+pub keeps_same : (y z : Served) (t : ℕ) → z ≡ y → Keeps y.state t z.state
+keeps_same y z t same = subst (λ (x : Served). Keeps y.state t x.state) (sym same) (record { sizes = refl; state = refl; covered = λ h. h; others = λ u e. (refl, λ k. refl) })

@@ -76,12 +76,12 @@ plan_answers p w calling none = by_answer (answer_of p.geometry p.call p.stage) 
 error_is : (a b : SystemError) → (let r : Result (Answer × Receipt) SystemError = Err b in let q : Result (Answer × Receipt) SystemError = Err a in q ≡ r) → a ≡ b
 error_is a b e = cc
 
-pub done_refused : (p : Planned) (t : ℕ) (y z : SystemState) (rs : List RegionState) (cause : SystemError) → IsWhole p → p.phase ≡ Calling → plan_next p ≡ None → p.txn ≡ t → z ≡ y
+pub done_refused : (precheck : Bool) (p : Planned) (t : ℕ) (y z : SystemState) (rs : List RegionState) (cause : SystemError) → IsWhole p → p.phase ≡ Calling → plan_next p ≡ None → p.txn ≡ t → z ≡ y
     → IfSome (answer_of p.geometry p.call p.stage) (λ a. IfSome (refusal y (record_length (Done p.txn p.call a))) (λ e. let r : Result (Answer × Receipt) SystemError = Err e in let q : Result (Answer × Receipt) SystemError = Err cause in q ≡ r))
     → IfSome (answer_of p.geometry p.call p.stage) (λ a. refusal y (record_length (Done p.txn p.call a)) ≡ None → cause ≡ Memory)
-    → (b : Bool) × IsRefusal b t rs z (System cause)
-done_refused p t y z rs cause w calling none txn still refused memory =
-    (false, subst (λ (x : SystemState). IsRefusal false t rs x (System cause)) (sym still) (subst (λ (u : ℕ). IsRefusal false u rs y (System cause)) txn (n, inr (inr (p, given.0, w, given.1, refl)), by_refusal (refusal y n) refl)))
+    → (b : Bool) × IsRefusal precheck b t rs z (System cause)
+done_refused precheck p t y z rs cause w calling none txn still refused memory =
+    (false, subst (λ (x : SystemState). IsRefusal precheck false t rs x (System cause)) (sym still) (subst (λ (u : ℕ). IsRefusal precheck false u rs y (System cause)) txn (n, inr (inr (p, given.0, w, given.1, refl)), by_refusal (refusal y n) refl)))
   where
     given : (a : Answer) × (answer_of p.geometry p.call p.stage ≡ Some a)
     given = plan_answers p w calling none
@@ -103,11 +103,11 @@ done_refused p t y z rs cause w calling none txn still refused memory =
 lock_error_is : (a b : SystemError) → (let r : Result LockAnswer SystemError = Err b in let q : Result LockAnswer SystemError = Err a in q ≡ r) → a ≡ b
 lock_error_is a b e = cc
 
-pub not_asked : (rs : List RegionState) (y z : Served) (t : ℕ) (told : StepError) (cause : SystemError) → told ≡ System cause → z ≡ y
+pub not_asked : (precheck : Bool) (rs : List RegionState) (y z : Served) (t : ℕ) (told : StepError) (cause : SystemError) → told ≡ System cause → z ≡ y
     → IfSome (stop_refusal y.state) (λ e. let r : Result LockAnswer SystemError = Err e in let q : Result LockAnswer SystemError = Err cause in q ≡ r) → (stop_refusal y.state ≡ None → cause ≡ Memory)
-    → (L : List Record) (v : VaultState) → MayCall L (core rs y.state v) t → IsAsBefore L (core rs y.state v) t told (core rs z.state v)
-not_asked rs y z t told cause is still refused memory L v may =
-    subst (λ (x : Served). IsAsBefore L (core rs y.state v) t told (core rs x.state v)) (sym still) (subst (λ (e : StepError). IsAsBefore L (core rs y.state v) t e (core rs y.state v)) (sym is) (record {
+    → (L : List Record) (v : VaultState) → MayCall L (core rs y.state v) t → IsAsBefore L (core rs y.state v) t precheck told (core rs z.state v)
+not_asked precheck rs y z t told cause is still refused memory L v may =
+    subst (λ (x : Served). IsAsBefore L (core rs y.state v) t precheck told (core rs x.state v)) (sym still) (subst (λ (e : StepError). IsAsBefore L (core rs y.state v) t precheck e (core rs y.state v)) (sym is) (record {
       mid_log = L;
       mid = core rs y.state v;
       onward = [];

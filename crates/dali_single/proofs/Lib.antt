@@ -10,3 +10,4 @@ pub mod Causes
 pub mod Undoing
 pub mod Guards
 pub mod Settled
+pub mod Standing

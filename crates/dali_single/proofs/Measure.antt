@@ -192,8 +192,8 @@ back_fewer p b way next =
     none : (let n : Option (ℕ × Op) = None in n ≡ Some (b.region, b.op)) → ⊥
     none e = cc
 
-pub fewer_left : (p q : Planned) (g h : RegionState) (y z : SystemState) → IsWhole p → Operated p g y q h z → plan_left q < plan_left p
-fewer_left p q g h y z w o = by_way (is_back p) refl
+pub fewer_left : (precheck : Bool) (p q : Planned) (g h : RegionState) (y z : SystemState) → IsWhole p → Operated precheck p g y q h z → plan_left q < plan_left p
+fewer_left precheck p q g h y z w o = by_way (is_back p) refl
   where
     by_way : (b : Bool) → is_back p ≡ b → plan_left q < plan_left p
     by_way false e = onward_fewer p q o.block w (o.onward e).2

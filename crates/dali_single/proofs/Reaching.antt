@@ -94,15 +94,15 @@ region_there rs y p r rest w e =
     let same : regions p.geometry ≡ regions y.sizes = ap regions rest.sizes in
     omega (arith, less, rest.whole, same)
 
-pub one_further : (rs0 rs : List RegionState) (y0 y z : SystemState) (p0 p q : Planned) (r : ℕ) (g h : RegionState) → Advanced rs0 y0 p0 rs y p → IsWhole p → Region r ≡ want_of p → slice_get rs r ≡ Some g
-    → Operated p g y q h z → Advanced rs0 y0 p0 (slice_set rs r h) z q
-one_further rs0 rs y0 y z p0 p q r g h a w e at o =
+pub one_further : (precheck : Bool) (rs0 rs : List RegionState) (y0 y z : SystemState) (p0 p q : Planned) (r : ℕ) (g h : RegionState) → Advanced precheck rs0 y0 p0 rs y p → IsWhole p → Region r ≡ want_of p → slice_get rs r ≡ Some g
+    → Operated precheck p g y q h z → Advanced precheck rs0 y0 p0 (slice_set rs r h) z q
+one_further precheck rs0 rs y0 y z p0 p q r g h a w e at o =
     let next = wanted p r e in
-    goes_further rs0 rs (slice_set rs r h) y0 y z p0 p q a (one_operated rs y z p q r next.0 g h a.rest w next.1 at o)
+    goes_further precheck rs0 rs (slice_set rs r h) y0 y z p0 p q a (one_operated precheck rs y z p q r next.0 g h a.rest w next.1 at o)
 
-pub none_further : (rs0 rs : List RegionState) (y0 y z : SystemState) (p0 p q : Planned) (r : ℕ) (g h : RegionState) → Advanced rs0 y0 p0 rs y p → slice_get rs r ≡ Some g
-    → q ≡ p → z ≡ y → IsLeftOf p.txn g h → Advanced rs0 y0 p0 (slice_set rs r h) z q
-none_further rs0 rs y0 y z p0 p q r g h a at same still left =
-    subst (λ (x : Planned). Advanced rs0 y0 p0 (slice_set rs r h) z x) (sym same)
-    (subst (λ (x : SystemState). Advanced rs0 y0 p0 (slice_set rs r h) x p) (sym still)
-    (goes_further rs0 rs (slice_set rs r h) y0 y y p0 p p a (none_operated rs y p r g h a.rest at left)))
+pub none_further : (precheck : Bool) (rs0 rs : List RegionState) (y0 y z : SystemState) (p0 p q : Planned) (r : ℕ) (g h : RegionState) → Advanced precheck rs0 y0 p0 rs y p → slice_get rs r ≡ Some g
+    → q ≡ p → z ≡ y → IsLeftOf p.txn g h → Advanced precheck rs0 y0 p0 (slice_set rs r h) z q
+none_further precheck rs0 rs y0 y z p0 p q r g h a at same still left =
+    subst (λ (x : Planned). Advanced precheck rs0 y0 p0 (slice_set rs r h) z x) (sym same)
+    (subst (λ (x : SystemState). Advanced precheck rs0 y0 p0 (slice_set rs r h) x p) (sym still)
+    (goes_further precheck rs0 rs (slice_set rs r h) y0 y y p0 p p a (none_operated precheck rs y p r g h a.rest at left)))

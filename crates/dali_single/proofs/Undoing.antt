@@ -1,9 +1,11 @@
 -- An undo is performed, and then the next one.
-use Rattle.std.proofs.Common.{inl, inr, ◌≡◌, ℕ, suc, ◌-◌, ◌<◌, Bool, true, false, List, [], ◌∷◌, ◌++◌, Option, Some, None, IsSome, IsSomeAnd, IfSome, refl, sym, ap, subst, ◌∙◌, arith, length, slice_get, slice_set}
-use Rattle.std.specs.Prelude.{◌^◌, if◌then◌else◌, nat_lt}
+use Rattle.std.proofs.Common.{inl, inr, ◌≡◌, ℕ, suc, ◌-◌, ◌<◌, Bool, true, false, List, [], ◌∷◌, ◌++◌, Option, Some, None, IsSomeAnd, IfSome, refl, sym, ap, subst, ◌∙◌, arith, length, slice_get, slice_set}
+use Rattle.std.specs.Prelude.{◌==◌, ◌^◌, if◌then◌else◌, nat_lt}
+use Rattle.std.specs.FinMap.{get}
 use Rattle.std.specs.List.{AllByRecursion}
 use Rattle.std.proofs.lemmas.List.{length-set}
 use Rattle.std.proofs.lemmas.Bool.{lt-ltb}
+use Rattle.std.proofs.lemmas.Bool.Decides.{Decides-eqb}
 use Rattle.dali_geometry.specs.Places.{regions}
 use Rattle.dali_record.specs.declared.operations.Block.{Block}
 use Rattle.dali_record.specs.declared.operations.Pending.{Pending}
@@ -14,8 +16,11 @@ use Rattle.dali_record.specs.Log.{last_of, drop_last}
 use Rattle.dali_record.specs.Spelling.{Is64}
 use Rattle.dali_region.specs.State.{RegionState, latched, with_reads, touched, taken_back}
 use Rattle.dali_att.specs.declared.state.State.{State}
-use Rattle.dali_att.specs.Table.{undos_at, last_of as table_last}
-use Rattle.dali_system.specs.State.{SystemState, VaultState, row_of, state_of}
+use Rattle.dali_att.specs.declared.state.State.TheVariants.{Live}
+use Rattle.dali_att.specs.Table.{undos_at, without_last, last_of as table_last}
+use Rattle.dali_att.proofs.Changes.{get-ended}
+use Rattle.dali_locks.proofs.Changes.{get-locks_without}
+use Rattle.dali_system.specs.State.{SystemState, VaultState, state_of}
 use Rattle.dali_system.specs.Steps.{back_logged, ended_logged}
 use Rattle.dali_system.specs.Keeps.{may_log_in, with_region, with_touched}
 use Rattle.dali_system.specs.Regions.{RegionStep, TakeBack as TakesRegionBack, IsOpen}
@@ -29,13 +34,13 @@ use Rattle.dali_core.specs.UnderWay.{IsUnderWay}
 use Rattle.dali_core.specs.Served.{Served}
 use Rattle.dali_calls.proofs.TakingBack.{taking_back_is_step}
 use Rattle.dali_calls.proofs.Following.{last_all}
-use Rattle.dali_single.specs.Operated.{AreWritten, Goes, IsLeftOf}
-use Rattle.dali_single.specs.Single.{core, Leads, MayUndo, AreCovered, Keeps}
+use Rattle.dali_single.specs.Operated.{IsHeldBy, AreWritten, Goes, IsLeftOf}
+use Rattle.dali_single.specs.Single.{core, OthersStay, IsGone, MayUndo, AreCovered, Keeps}
 use Rattle.dali_single.specs.Ending.{IsAtWork, IsEnded, IsStillAtWork, Undone, UndoesFrom}
 use Rattle.dali_single.proofs.Lists.{set_same, get_set}
-use Rattle.dali_single.proofs.Leading.{leads_on, one_step, leads_there, steps_on, stays_free, goes_on}
-use Rattle.dali_single.proofs.Writing.{IsWay, IsSameWay, opened_by, live_hold}
-use Rattle.dali_single.proofs.Going.{changes_popped, both_steps, alive}
+use Rattle.dali_single.proofs.Leading.{leads_on, leads_there, steps_on, stays_free, goes_on}
+use Rattle.dali_single.proofs.Writing.{IsWay, IsSameWay, opened_by, held_open}
+use Rattle.dali_single.proofs.Going.{changes_popped, both_steps, alive, row_apart, row_there}
 use Rattle.dali_single.proofs.Reaching.{kind_in}
 use Rattle.dali_single.proofs.Measure.{drop_one}
 use Rattle.dali_single.proofs.Calling.{all_undos}
@@ -83,8 +88,8 @@ rewritten p p1 p2 g g1 g2 free made one opened same two w = by_both p1.operation
 
 pub back_left_over : (p q : TakeBack) (g h k : RegionState) → Rewritten p g q h → k ≡ taken_back h → IsLeftOf p.txn g k
 back_left_over p q g h k w is =
-    let held = live_hold h w.operation.txn w.operation.block w.is_open in
-    inr (w.steps ++ TakesRegionBack ∷ [], goes_on p.txn g h k w.steps (TakesRegionBack ∷ []) w.goes (held.1, held.0, sym is), ap (λ (x : RegionState). x.hold) is)
+    let held = held_open h w.operation.txn w.operation.block w.is_open in
+    inr (w.steps ++ TakesRegionBack ∷ [], goes_on p.txn g h k w.steps (TakesRegionBack ∷ []) w.goes (held.1, subst (λ (n : ℕ). IsHeldBy n h) w.txn held.0, sym is), ap (λ (x : RegionState). x.hold) is)
 
 pub back_as_before : (p q r : TakeBack) (g h : RegionState) → p.operation ≡ None → Rewritten p g q h → r ≡ record q { operation = None } → r ≡ p
 back_as_before p q r g h closed w is = is ∙ (ap (λ (x : TakeBack). record x { operation = None }) w.is ∙ ap (λ (o : Option Operation). record p { operation = o }) (sym closed))
@@ -130,24 +135,24 @@ dropped P (u ∷ []) h = tt
 dropped P (u ∷ v ∷ us) h = (h.0, dropped P (v ∷ us) h.1)
 
 -- ---- one undo, in a core
-one_led : (L : List Record) (rs : List RegionState) (y : SystemState) (v : VaultState) (t : ℕ) (u : Pending) (b : Block) (g opened : RegionState) (xs : List RegionStep) → Is64 t → IsSome (row_of y t)
+one_led : (L : List Record) (rs : List RegionState) (y : SystemState) (v : VaultState) (t : ℕ) (u : Pending) (b : Block) (g opened : RegionState) (xs : List RegionStep) → Is64 t → state_of y t ≡ Some Live
     → last_of (undos_at y.table t) ≡ Some u → MayUndo y t u → IsMadeOf u b → y.stop ≡ None → slice_get rs u.region ≡ Some g → Goes t g xs opened → IsOpen opened t b
     → IsAtWork L (core rs y v) t → IsStillAtWork L (core rs y v) t (core (slice_set rs u.region (touched opened)) (back_logged y t b) v)
-one_led L rs y v t u b g opened xs fits row last may made runs at goes is work =
+one_led L rs y v t u b g opened xs fits lives last may made runs at goes is work =
     let c = with_region (core rs y v) u.region opened in
     let here = get_set rs u.region g opened at in
     let same : b.region ≡ u.region = ap (λ (x : Block). x.region) made.made_on in
     let by = taking_back_is_step L c t work.working u b opened work.at_work (ap last_of (sym work.undos) ∙ last) (record {
       txn = fits;
       runs = runs;
-      by = ap (λ (o : Option State). may_log_in o (Back t b)) work.lives;
+      by = ap (λ (o : Option State). may_log_in o (Back t b)) lives;
       holds = may.lock;
       kind = may.kind;
       made = made;
       at = here;
       written = is;
     }) in
-    let there = both_steps L (L ++ Back t b ∷ []) rs y (back_logged y t b) v t u.region g opened xs (TakesBack t b) work.lives at goes
+    let there = both_steps false L (L ++ Back t b ∷ []) rs y (back_logged y t b) v t u.region g opened xs (TakesBack t b) lives at goes refl refl
     (subst (λ (n : ℕ). IsStep L c (TakesBack t b) (L ++ Back t b ∷ []) (with_touched c (back_logged y t b) n opened)) same by.step) in
     let popped = changes_popped y.table t in
     record {
@@ -157,25 +162,25 @@ one_led L rs y v t u b g opened xs fits row last may made runs at goes is work =
       at = record {
         working = by.left;
         at_work = by.at_work;
-        undos = (popped work.working.undos).undos work.undos row ∙ sym by.undos;
-        lives = (popped []).state ∙ work.lives;
+        undos = (popped work.working.undos).undos work.undos (row_there y t Live lives) ∙ sym by.undos;
         free = stays_free (core rs y v) (core (slice_set rs u.region (touched opened)) (back_logged y t b) v) t u.region g (touched opened) work.free at refl refl;
       };
     }
 
-pub nothing_undone : (rs : List RegionState) (y : SystemState) (t : ℕ) → length rs ≡ regions y.sizes → IsSome (row_of y t) → AreCovered y t → UndoesFrom rs y t rs y
-nothing_undone rs y t whole row covered = record {
+pub nothing_undone : (rs : List RegionState) (y : SystemState) (t : ℕ) → length rs ≡ regions y.sizes → state_of y t ≡ Some Live → AreCovered y t → UndoesFrom rs y t rs y
+nothing_undone rs y t whole lives covered = record {
   whole = whole;
   sizes = refl;
-  row = row;
+  lives = lives;
   covered = covered;
+  others = λ n e. (refl, λ k. refl);
   leads = λ L v work. record { log = L; steps = []; leads = (refl, refl); at = work };
 }
 
-pub one_undone : (rs : List RegionState) (y z : SystemState) (t r : ℕ) (p q : TakeBack) (u : Pending) (g h : RegionState) → Is64 t → length rs ≡ regions y.sizes → IsSome (row_of y t) → AreCovered y t
+pub one_undone : (rs : List RegionState) (y z : SystemState) (t r : ℕ) (p q : TakeBack) (u : Pending) (g h : RegionState) → Is64 t → length rs ≡ regions y.sizes → state_of y t ≡ Some Live → AreCovered y t
     → p.txn ≡ t → p.next ≡ Some u → u.region ≡ r → next_undo (undos_at y.table t) 0 ≡ Some u → slice_get rs r ≡ Some g → Undone p g y q h z
     → UndoesFrom rs y t (slice_set rs r h) z
-one_undone rs y z t r p q u g h fits whole row covered txn next region is at o =
+one_undone rs y z t r p q u g h fits whole lives covered txn next region is at o =
     subst (λ (n : ℕ). UndoesFrom rs y t (slice_set rs n h) z) region
     (subst (λ (k : RegionState). UndoesFrom rs y t (slice_set rs u.region k) z) (sym o.region)
     (subst (λ (x : SystemState). UndoesFrom rs y t (slice_set rs u.region (touched o.opened)) x) (sym (o.system ∙ ap (λ (n : ℕ). back_logged y n o.block) txn)) there))
@@ -184,32 +189,34 @@ one_undone rs y z t r p q u g h fits whole row covered txn next region is at o =
     last = next_last (undos_at y.table t) u is
 
     popped : undos_at (back_logged y t o.block).table t ≡ drop_last (undos_at y.table t)
-    popped = (changes_popped y.table t (undos_at y.table t)).undos refl row
+    popped = (changes_popped y.table t (undos_at y.table t)).undos refl (row_there y t Live lives)
 
     there : UndoesFrom rs y t (slice_set rs u.region (touched o.opened)) (back_logged y t o.block)
     there = record {
       whole = length-set rs u.region (touched o.opened) ∙ whole;
       sizes = refl;
-      row = (changes_popped y.table t []).there row;
+      lives = (changes_popped y.table t []).state ∙ lives;
+      others = λ n e. (row_apart y.table t n without_last e, λ k. refl);
       covered = subst (AllByRecursion (MayUndo (back_logged y t o.block) t)) (sym popped) (all_undos (MayUndo y t) (MayUndo (back_logged y t o.block) t) (drop_last (undos_at y.table t)) (λ w may. record { spelled = may.spelled; kind = may.kind; lock = may.lock }) (dropped (MayUndo y t) (undos_at y.table t) covered));
       leads = λ L v work.
-          one_led L rs y v t u o.block g o.opened o.steps fits row last (last_all (MayUndo y t) (undos_at y.table t) u covered last) (subst (λ (n : Option Pending). IsUndoBlock n o.block) next o.of) o.runs
+          one_led L rs y v t u o.block g o.opened o.steps fits lives last (last_all (MayUndo y t) (undos_at y.table t) u covered last) (subst (λ (n : Option Pending). IsUndoBlock n o.block) next o.of) o.runs
           (ap (slice_get rs) region ∙ at) (subst (λ (n : ℕ). Goes n g o.steps o.opened) txn o.goes) (subst (λ (n : ℕ). IsOpen o.opened n o.block) txn o.is_open) work;
     }
 
-pub none_undone : (rs : List RegionState) (y : SystemState) (t r : ℕ) (g h : RegionState) → length rs ≡ regions y.sizes → IsSome (row_of y t) → AreCovered y t → slice_get rs r ≡ Some g
+pub none_undone : (rs : List RegionState) (y : SystemState) (t r : ℕ) (g h : RegionState) → length rs ≡ regions y.sizes → state_of y t ≡ Some Live → AreCovered y t → slice_get rs r ≡ Some g
     → IsLeftOf t g h → UndoesFrom rs y t (slice_set rs r h) y
-none_undone rs y t r g h whole row covered at (inl same) = subst (λ (gs : List RegionState). UndoesFrom rs y t gs y) (sym (set_same rs r h (at ∙ ap Some (sym same)))) (nothing_undone rs y t whole row covered)
-none_undone rs y t r g h whole row covered at (inr left) = record {
+none_undone rs y t r g h whole lives covered at (inl same) = subst (λ (gs : List RegionState). UndoesFrom rs y t gs y) (sym (set_same rs r h (at ∙ ap Some (sym same)))) (nothing_undone rs y t whole lives covered)
+none_undone rs y t r g h whole lives covered at (inr left) = record {
   whole = length-set rs r h ∙ whole;
   sizes = refl;
-  row = row;
+  lives = lives;
   covered = covered;
+  others = λ n e. (refl, λ k. refl);
   leads = λ L v work. record {
     log = L;
     steps = steps_on r left.0;
-    leads = leads_there L (core rs y v) t r g h left.0 (alive (state_of y t) work.lives) at left.1;
-    at = record { working = work.working; at_work = work.at_work; undos = work.undos; lives = work.lives; free = stays_free (core rs y v) (core (slice_set rs r h) y v) t r g h work.free at left.2 refl };
+    leads = leads_there false L (core rs y v) t r g h left.0 (alive (state_of y t) lives) at left.1;
+    at = record { working = work.working; at_work = work.at_work; undos = work.undos; free = stays_free (core rs y v) (core (slice_set rs r h) y v) t r g h work.free at left.2 refl };
   };
 }
 
@@ -217,12 +224,13 @@ pub undoes_further : (rs rs' rs'' : List RegionState) (y y' y'' : SystemState) (
 undoes_further rs rs' rs'' y y' y'' t a b = record {
   whole = b.whole;
   sizes = b.sizes ∙ a.sizes;
-  row = b.row;
+  lives = b.lives;
   covered = b.covered;
+  others = λ n e. ((b.others n e).0 ∙ (a.others n e).0, λ k. (b.others n e).1 k ∙ (a.others n e).1 k);
   leads = λ L v work.
       let one = a.leads L v work in
       let two = b.leads one.log v one.at in
-      record { log = two.log; steps = one.steps ++ two.steps; leads = leads_on L one.log two.log (core rs y v) (core rs' y' v) (core rs'' y'' v) one.steps two.steps one.leads two.leads; at = two.at };
+      record { log = two.log; steps = one.steps ++ two.steps; leads = leads_on false t L one.log two.log (core rs y v) (core rs' y' v) (core rs'' y'' v) one.steps two.steps one.leads two.leads; at = two.at };
 }
 
 -- ---- the end
@@ -230,16 +238,33 @@ pub abort_ends : (rs rs' : List RegionState) (y y1 z : SystemState) (t : ℕ) �
     → (L : List Record) (v : VaultState) → IsAtWork L (core rs y v) t → IsEnded L (core rs y v) t (core rs' z v)
 abort_ends rs rs' y y1 z t u none runs is L v work =
     let led = u.leads L v work in
-    let last = empty_end_is_step led.log (core rs' y1 v) t led.at.working led.at.at_work (sym led.at.undos ∙ none) runs led.at.free (ap (λ (o : Option State). may_log_in o (Ended t)) led.at.lives) in
+    let last = empty_end_is_step led.log (core rs' y1 v) t led.at.working led.at.at_work (sym led.at.undos ∙ none) runs led.at.free (ap (λ (o : Option State). may_log_in o (Ended t)) u.lives) in
     record {
       log = led.log;
-      steps = led.steps ++ Ends t ∷ [];
-      leads = subst (λ (x : SystemState). Leads L (core rs y v) (led.steps ++ Ends t ∷ []) (led.log ++ Ended t ∷ []) (core rs' x v)) (sym is)
-          (leads_on L led.log (led.log ++ Ended t ∷ []) (core rs y v) (core rs' y1 v) (core rs' (ended_logged y1 t) v) led.steps (Ends t ∷ []) led.leads (one_step led.log (led.log ++ Ended t ∷ []) (core rs' y1 v) (core rs' (ended_logged y1 t) v) (Ends t) last));
+      mid = core rs' y1 v;
+      steps = led.steps;
+      leads = led.leads;
+      ends = subst (λ (x : SystemState). IsStep led.log (core rs' y1 v) (Ends t) (led.log ++ Ended t ∷ []) (core rs' x v)) (sym is) last;
     }
 
-pub undoes_keep : (rs rs' : List RegionState) (y z : SystemState) (t : ℕ) → UndoesFrom rs y t rs' z → Keeps y t z
-undoes_keep rs rs' y z t u = record { sizes = u.sizes; row = u.row; covered = λ old. u.covered }
+-- its row and its locks are gone, and those of others stay
+pub ended_others : (y z : SystemState) (t : ℕ) → z ≡ ended_logged y t → OthersStay y t z
+ended_others y z t is = subst (λ (x : SystemState). OthersStay y t x) (sym is) (λ n e. (get-ended y.table t n ∙ ap (λ (b : Bool). if b then None else get y.table n) e, λ k. get-locks_without y.locks t n k ∙ ap (λ (b : Bool). if b then None else get y.locks (n, k)) e))
+
+pub ended_gone : (y z : SystemState) (t : ℕ) → z ≡ ended_logged y t → IsGone z t
+ended_gone y z t is = subst (λ (x : SystemState). IsGone x t) (sym is) (
+  get-ended y.table t t ∙ ap (λ (b : Bool). if b then None else get y.table t) self,
+  λ k. get-locks_without y.locks t t k ∙ ap (λ (b : Bool). if b then None else get y.locks (t, k)) self,
+)
+  where
+    self : (t == t) ≡ true
+    self = (Decides-eqb t t).1 refl
+
+pub others_further : (y m z : SystemState) (t : ℕ) → OthersStay y t m → OthersStay m t z → OthersStay y t z
+others_further y m z t a b n e = ((b n e).0 ∙ (a n e).0, λ k. (b n e).1 k ∙ (a n e).1 k)
+
+pub undoes_keep : (rs rs' : List RegionState) (y z : SystemState) (t : ℕ) → state_of y t ≡ Some Live → UndoesFrom rs y t rs' z → Keeps y t z
+undoes_keep rs rs' y z t lives u = record { sizes = u.sizes; state = u.lives ∙ sym lives; covered = λ old. u.covered; others = u.others }
 
 -- ---- the region of an undo
 pub undo_there : (rs : List RegionState) (y : SystemState) (t : ℕ) (u : Pending) → length rs ≡ regions y.sizes → AreCovered y t → next_undo (undos_at y.table t) 0 ≡ Some u → u.region < length rs
@@ -248,9 +273,9 @@ undo_there rs y t u whole covered is =
     let less = kind_in y.sizes u.region (undo_op u.undo) may.kind in
     omega (arith, less, whole)
 
-pub fewer_undos : (m : SystemState) (t : ℕ) (b : Block) (u : Pending) → IsSome (row_of m t) → next_undo (undos_at m.table t) 0 ≡ Some u → length (undos_at (back_logged m t b).table t) < length (undos_at m.table t)
-fewer_undos m t b u row is =
-    let popped = ap length ((changes_popped m.table t (undos_at m.table t)).undos refl row) in
+pub fewer_undos : (m : SystemState) (t : ℕ) (b : Block) (u : Pending) → state_of m t ≡ Some Live → next_undo (undos_at m.table t) 0 ≡ Some u → length (undos_at (back_logged m t b).table t) < length (undos_at m.table t)
+fewer_undos m t b u lives is =
+    let popped = ap length ((changes_popped m.table t (undos_at m.table t)).undos refl (row_there m t Live lives)) in
     let less = drop_one (undos_at m.table t) u (next_last (undos_at m.table t) u is) in
     omega (arith, popped, less)
 
@@ -283,13 +308,13 @@ pub undo_further : (rs0 rs : List RegionState) (y0 y z : SystemState) (t r : ℕ
     → slice_get rs r ≡ Some g → Undone p g y q h z → UndoesFrom rs0 y0 t (slice_set rs r h) z
 undo_further rs0 rs y0 y z t r p q g h fits goes txn is want at o =
     let u = wanted_undo p.next r want in
-    undoes_further rs0 rs (slice_set rs r h) y0 y z t goes (one_undone rs y z t r p q u.0 g h fits goes.whole goes.row goes.covered txn u.1 u.2 (sym is ∙ u.1) at o)
+    undoes_further rs0 rs (slice_set rs r h) y0 y z t goes (one_undone rs y z t r p q u.0 g h fits goes.whole goes.lives goes.covered txn u.1 u.2 (sym is ∙ u.1) at o)
 
-pub undo_fewer : (y z : SystemState) (t r : ℕ) (p q : TakeBack) (g h : RegionState) → IsSome (row_of y t) → p.txn ≡ t → p.next ≡ next_undo (undos_at y.table t) 0 → Region r ≡ want_of p.next → Undone p g y q h z
+pub undo_fewer : (y z : SystemState) (t r : ℕ) (p q : TakeBack) (g h : RegionState) → state_of y t ≡ Some Live → p.txn ≡ t → p.next ≡ next_undo (undos_at y.table t) 0 → Region r ≡ want_of p.next → Undone p g y q h z
     → length (undos_at z.table t) < length (undos_at y.table t)
-undo_fewer y z t r p q g h row txn is want o =
+undo_fewer y z t r p q g h lives txn is want o =
     let u = wanted_undo p.next r want in
-    subst (λ (x : SystemState). length (undos_at x.table t) < length (undos_at y.table t)) (sym (o.system ∙ ap (λ (n : ℕ). back_logged y n o.block) txn)) (fewer_undos y t o.block u.0 row (sym is ∙ u.1))
+    subst (λ (x : SystemState). length (undos_at x.table t) < length (undos_at y.table t)) (sym (o.system ∙ ap (λ (n : ℕ). back_logged y n o.block) txn)) (fewer_undos y t o.block u.0 lives (sym is ∙ u.1))
 
 pub undo_next : (y z : SystemState) (t : ℕ) (p q : TakeBack) (g h : RegionState) → p.txn ≡ t → p.down_to ≡ 0 → Undone p g y q h z → q.next ≡ next_undo (undos_at z.table t) 0
 undo_next y z t p q g h txn down o = ap (λ (x : TakeBack). x.next) o.next ∙ (ap (λ (n : ℕ). next_undo (undos_at z.table n) p.down_to) txn ∙ ap (next_undo (undos_at z.table t)) down)
@@ -298,4 +323,4 @@ pub undo_refused : (rs0 rs : List RegionState) (y0 : SystemState) (s z : Served)
     → z ≡ s → IsLeftOf p.txn g h → UndoesFrom rs0 y0 t (slice_set rs r h) z.state
 undo_refused rs0 rs y0 s z t r p g h goes txn at still left =
     subst (λ (x : Served). UndoesFrom rs0 y0 t (slice_set rs r h) x.state) (sym still)
-    (undoes_further rs0 rs (slice_set rs r h) y0 s.state s.state t goes (none_undone rs s.state t r g h goes.whole goes.row goes.covered at (subst (λ (n : ℕ). IsLeftOf n g h) txn left)))
+    (undoes_further rs0 rs (slice_set rs r h) y0 s.state s.state t goes (none_undone rs s.state t r g h goes.whole goes.lives goes.covered at (subst (λ (n : ℕ). IsLeftOf n g h) txn left)))

@@ -1,14 +1,14 @@
 -- The words of an operation are written, one after another, and the operation is logged.
-use Rattle.std.proofs.Common.{inl, inr, inr, ◌≡◌, ℕ, ◌+◌, ◌-◌, ◌<◌, true, false, List, [], ◌∷◌, ◌++◌, Option, Some, None, IsSome, IsSomeAnd, IfSome, OnErr, Result, Ok, Err, refl, sym, ap, subst, ◌∙◌, length, arith}
+use Rattle.std.proofs.Common.{inl, inr, inr, ◌≡◌, ℕ, ◌+◌, ◌-◌, ◌<◌, Bool, true, false, List, [], ◌∷◌, ◌++◌, Option, Some, None, IsSome, IsSomeAnd, IfSome, OnErr, Result, Ok, Err, refl, sym, ap, subst, ◌∙◌, length, arith}
 use Rattle.std.specs.Prelude.{◌^◌}
 use Rattle.dali_record.specs.declared.operations.Block.{Block}
 use Rattle.dali_record.specs.declared.records.Record.TheVariants.{Forward}
 use Rattle.dali_region.specs.declared.Hold.{Hold}
-use Rattle.dali_region.specs.State.{RegionState, IsLive, latched, with_reads, touched, taken_back}
+use Rattle.dali_region.specs.State.{RegionState, latched, with_reads, touched, taken_back}
 use Rattle.dali_system.specs.State.{SystemState}
 use Rattle.dali_system.specs.Steps.{op_logged, back_logged}
 use Rattle.dali_system.specs.Keeps.{HasRoom}
-use Rattle.dali_system.specs.Regions.{RegionStep, Latch, NoteReads, TakeBack, IsOpen}
+use Rattle.dali_system.specs.Regions.{RegionStep, Latch, NoteReads, Update, TakeBack, Poke, Check, Die, Clean, IsOpen, region_after}
 use Rattle.dali_core.specs.declared.operation.Operation.{Operation}
 use Rattle.dali_region.specs.declared.Receipt.{Receipt}
 use Rattle.dali_core.specs.declared.error.SystemError.{SystemError}
@@ -20,7 +20,7 @@ use Rattle.dali_calls.specs.Plans.{Planned, plan_next, is_back, went_back, with_
 use Rattle.dali_record.specs.Spelling.{record_length}
 use Rattle.dali_single.specs.declared.error.StepError.TheVariants.{System}
 use Rattle.dali_single.specs.Refusals.{IsAnswerTo, IsRefused}
-use Rattle.dali_single.specs.Operated.{AreWritten, Goes, Operated, IsLeftOf}
+use Rattle.dali_single.specs.Operated.{IsHeldBy, AreWritten, Goes, Operated, IsLeftOf}
 use Rattle.dali_single.proofs.Leading.{updates_on, updates_go, goes_on}
 
 -- how many are left
@@ -58,9 +58,22 @@ fewer_left (Some a) (Some b) g h w v s t =
 -- ---- the region from its latch on
 pub opened_by : (t : ℕ) (b : Block) (g g1 g2 : RegionState) → g.hold ≡ None → b.read < 2 ^ 64 → g1 ≡ with_reads b.read (latched t g) → AreWritten g1 g2 → (xs : List RegionStep) × Goes t g xs g2
 opened_by t b g g1 g2 free fits is w =
-    let rest = updates_go t g1 g2 w.0 w.1 in
-    let first : Goes t g (Latch t ∷ NoteReads b.read ∷ []) g1 = (free, refl, (((refl, refl), fits), tt, sym is)) in
+    let held : IsHeldBy t g1 = subst (IsHeldBy t) (sym is) (refl, refl) in
+    let rest = updates_go t g1 g2 w.0 held w.1 in
+    let first : Goes t g (Latch t ∷ NoteReads b.read ∷ []) g1 = (free, refl, (((refl, refl), fits), (refl, refl), sym is)) in
     (Latch t ∷ NoteReads b.read ∷ [] ++ rest.0, goes_on t g g1 g2 (Latch t ∷ NoteReads b.read ∷ []) rest.0 first rest.1)
+
+-- an operation leaves what the codeword tells of stray writes
+stray_kept : (t : ℕ) (g h : RegionState) (xs : List RegionStep) → Goes t g xs h → h.stray ≡ g.stray
+stray_kept t g h [] go = ap (λ (k : RegionState). k.stray) (sym go)
+stray_kept t g h (Latch u ∷ xs) go = stray_kept t (region_after (Latch u) g) h xs go.2
+stray_kept t g h (NoteReads mask ∷ xs) go = stray_kept t (region_after (NoteReads mask) g) h xs go.2
+stray_kept t g h (Update word value ∷ xs) go = stray_kept t (region_after (Update word value) g) h xs go.2
+stray_kept t g h (TakeBack ∷ xs) go = stray_kept t (region_after TakeBack g) h xs go.2
+stray_kept t g h (Poke word mask ∷ xs) go = absurd go.1
+stray_kept t g h (Check ∷ xs) go = absurd go.1
+stray_kept t g h (Die ∷ xs) go = absurd go.1
+stray_kept t g h (Clean side ∷ xs) go = absurd go.1
 
 -- ---- what stands when the block is logged, or isn't
 -- the plan with its operation written, from its latch on
@@ -100,13 +113,13 @@ pub way_of : (p : Planned) (g : RegionState) (o : Option Operation) (g1 : Region
 way_of p g None g1 m = absurd m
 way_of p g (Some o) g1 m = m.2
 
-pub live_hold : (g : RegionState) (t : ℕ) (b : Block) → IsOpen g t b → IsLive g × IsSome g.hold
-live_hold g t b o = (subst (λ (h : Option Hold). IsSomeAnd h (λ k. k.dead ≡ false)) (sym o.hold) refl, subst (λ (h : Option Hold). IsSome h) (sym o.hold) refl)
+pub held_open : (g : RegionState) (t : ℕ) (b : Block) → IsOpen g t b → IsHeldBy t g × IsSome g.hold
+held_open g t b o = (subst (λ (h : Option Hold). IsSomeAnd h (λ k. (k.txn ≡ t) × (k.dead ≡ false))) (sym o.hold) (refl, refl), subst (λ (h : Option Hold). IsSome h) (sym o.hold) refl)
 
 pub left_over : (p q : Planned) (g h k : RegionState) → Written p g q h → k ≡ taken_back h → IsLeftOf p.txn g k
 left_over p q g h k w is =
-    let held = live_hold h w.operation.txn w.operation.block w.is_open in
-    inr (w.steps ++ TakeBack ∷ [], goes_on p.txn g h k w.steps (TakeBack ∷ []) w.goes (held.1, held.0, sym is), ap (λ (x : RegionState). x.hold) is)
+    let held = held_open h w.operation.txn w.operation.block w.is_open in
+    inr (w.steps ++ TakeBack ∷ [], goes_on p.txn g h k w.steps (TakeBack ∷ []) w.goes (held.1, subst (λ (n : ℕ). IsHeldBy n h) w.txn held.0, sym is), ap (λ (x : RegionState). x.hold) is)
 
 pub as_before : (p q r : Planned) (g h : RegionState) → p.operation ≡ None → Written p g q h → r ≡ with_operation q None → r ≡ p
 as_before p q r g h closed w is = is ∙ (ap (λ (x : Planned). with_operation x None) w.is ∙ ap (with_operation p) (sym closed))
@@ -114,11 +127,11 @@ as_before p q r g h closed w is = is ∙ (ap (λ (x : Planned). with_operation x
 error_is : (a b : SystemError) → (let r : Result Receipt SystemError = Err b in let q : Result Receipt SystemError = Err a in q ≡ r) → a ≡ b
 error_is a b e = cc
 
-pub refused_so : (p q : Planned) (g h : RegionState) (y : SystemState) (cause : SystemError) → Written p g q h
+pub refused_so : (precheck : Bool) (p q : Planned) (g h : RegionState) (y : SystemState) (cause : SystemError) → Written p g q h
     → IfSome q.operation (λ o. IfSome (commit_refusal (is_back q) y (record_length (Forward q.txn o.block))) (λ e. let r : Result Receipt SystemError = Err e in let q : Result Receipt SystemError = Err cause in q ≡ r))
     → IfSome q.operation (λ o. commit_refusal (is_back q) y (record_length (Forward q.txn o.block)) ≡ None → cause ≡ Memory)
-    → IsRefused (is_back p) p.txn g y (System cause)
-refused_so p q g h y cause w refused memory =
+    → IsRefused precheck (is_back p) p.txn g y (System cause)
+refused_so precheck p q g h y cause w refused memory =
     let n = record_length (Forward p.txn w.operation.block) in
     (n, inr (inl (w.operation.block, w.of.spelled, refl)), by_refusal (commit_refusal (is_back p) y n) refl)
   where
@@ -132,17 +145,17 @@ refused_so p q g h y cause w refused memory =
     by_refusal None i = else_memory i
     by_refusal (Some f) i = error_is cause f (subst (λ (o : Option SystemError). IfSome o (λ e. let r : Result Receipt SystemError = Err e in let q : Result Receipt SystemError = Err cause in q ≡ r)) i given)
 
-pub refused_still : (p q : Planned) (g h k : RegionState) (y z : Served) (cause : SystemError) → Written p g q h → z ≡ y
+pub refused_still : (precheck : Bool) (p q : Planned) (g h k : RegionState) (y z : Served) (cause : SystemError) → Written p g q h → z ≡ y
     → IfSome q.operation (λ o. IfSome (commit_refusal (is_back q) y.state (record_length (Forward q.txn o.block))) (λ e. let r : Result Receipt SystemError = Err e in let q : Result Receipt SystemError = Err cause in q ≡ r))
     → IfSome q.operation (λ o. commit_refusal (is_back q) y.state (record_length (Forward q.txn o.block)) ≡ None → cause ≡ Memory)
-    → IsRefused (is_back p) p.txn k z.state (System cause)
-refused_still p q g h k y z cause w still refused memory = subst (λ (x : Served). IsRefused (is_back p) p.txn k x.state (System cause)) (sym still) (refused_so p q g h y.state cause w refused memory)
+    → IsRefused precheck (is_back p) p.txn k z.state (System cause)
+refused_still precheck p q g h k y z cause w still refused memory = subst (λ (x : Served). IsRefused precheck (is_back p) p.txn k x.state (System cause)) (sym still) (refused_so precheck p q g h y.state cause w refused memory)
 
-pub operated : (p q r : Planned) (g h k : RegionState) (y z : Served) → Written p g q h
+pub operated : (precheck : Bool) (p q r : Planned) (g h k : RegionState) (y z : Served) → Written p g q h → (is_back p ≡ false → precheck ≡ true → g.stray ≡ 0)
     → (is_back q ≡ false → IfSome q.operation (λ o. (z ≡ record y { state = op_logged y.state q.txn o.block }) × HasRoom y.state (Forward q.txn o.block) × GoesOn q o.block r))
     → (is_back q ≡ true → IfSome q.operation (λ o. (z ≡ record y { state = back_logged y.state q.txn o.block }) × (y.state.stop ≡ None) × (r ≡ went_back q)))
-    → k ≡ touched h → Operated p g y.state r k z.state
-operated p q r g h k y z w onward back is = record {
+    → k ≡ touched h → Operated precheck p g y.state r k z.state
+operated precheck p q r g h k y z w clean onward back is = record {
   block = w.operation.block;
   of = w.of;
   opened = h;
@@ -150,6 +163,7 @@ operated p q r g h k y z w onward back is = record {
   goes = w.goes;
   is_open = subst (λ (t : ℕ). IsOpen h t w.operation.block) w.txn w.is_open;
   region = is;
+  checked = λ e f. stray_kept p.txn g h w.steps w.goes ∙ clean e f;
   onward = λ e. went_on (subst (λ (x : Planned). is_back x ≡ false → IfSome x.operation (λ o. (z ≡ record y { state = op_logged y.state x.txn o.block }) × HasRoom y.state (Forward x.txn o.block) × GoesOn x o.block r)) w.is onward e);
   back = λ e. came_back (subst (λ (x : Planned). is_back x ≡ true → IfSome x.operation (λ o. (z ≡ record y { state = back_logged y.state x.txn o.block }) × (y.state.stop ≡ None) × (r ≡ went_back x))) w.is back e);
 }

@@ -1,10 +1,10 @@
 -- How a plan goes on over a core that one thread has alone.
---     IsAtRest rs y p          the plan p has no operation open; it is of these regions and of a transaction of this system
---     AtPlan L c p             the log has come as far as the plan, whose client is alive, has its lock and has no region latched
---     Advanced rs y p rs' y' p'        operations of the plan p led to p', and steps of a core to its regions and system
---     Finished rs y p a rs' y'         so did they, and the answer a was logged
+--     IsAtRest rs y p          the plan p has no operation open; it is of these regions and of a live transaction of this system
+--     AtPlan L c p             the log has come as far as the plan, which has its lock and no region latched
+--     Advanced precheck rs y p rs' y' p'       operations of the plan p led to p', and steps of a core to its regions and system
+--     Finished precheck rs y p a rs' y'        so did they, and the answer a was logged
 --     GivenUp e given rs y p rs' y'          or what they changed was taken back
-use Rattle.std.specs.Prelude.{◌≡◌, true, List, ◌++◌, Some, None, IsSome, length}
+use Rattle.std.specs.Prelude.{◌≡◌, ◌==◌, ℕ, Bool, true, false, List, ◌++◌, Some, None, length}
 use Rattle.dali_geometry.specs.Places.{regions}
 use Rattle.dali_record.specs.declared.operations.Pending.{Pending}
 use Rattle.dali_record.specs.declared.records.Answer.{Answer}
@@ -30,34 +30,34 @@ use Rattle.dali_single.specs.Single.{core, Leads}
 pub record IsAtRest (rs : List RegionState) (y : SystemState) (p : Planned) : Type 0 where
   pub sizes : p.geometry ≡ y.sizes
   pub whole : length rs ≡ regions y.sizes
-  pub running : IsSome (row_of y p.txn)
+  pub lives : state_of y p.txn ≡ Some Live
   pub closed : p.operation ≡ None
 
 pub record AtPlan (L : List Record) (c : CoreState) (p : Planned) : Type 0 where
   pub follows : Follows c.system.sizes L p
   pub holds : HoldsCall c.system p
-  pub lives : state_of c.system p.txn ≡ Some Live
   pub free : IsFree c p.txn
 
 -- the steps of a core that the operations made, and the log behind them
-pub record Led (L : List Record) (c : CoreState) (d : CoreState) (q : Planned) : Type 0 where
+pub record Led (precheck : Bool) (t : ℕ) (L : List Record) (c : CoreState) (d : CoreState) (q : Planned) : Type 0 where
   pub log : List Record
   pub steps : List Step
-  pub leads : Leads L c steps log d
+  pub leads : Leads precheck t L c steps log d
   pub at : AtPlan log d q
 
-pub record Advanced (rs : List RegionState) (y : SystemState) (p : Planned) (rs' : List RegionState) (y' : SystemState) (p' : Planned) : Type 0 where
+pub record Advanced (precheck : Bool) (rs : List RegionState) (y : SystemState) (p : Planned) (rs' : List RegionState) (y' : SystemState) (p' : Planned) : Type 0 where
   pub rest : IsAtRest rs' y' p'
   pub sizes : y'.sizes ≡ y.sizes
   pub locks : y'.locks ≡ y.locks
+  pub rows : (u : ℕ) → (p.txn == u) ≡ false → row_of y' u ≡ row_of y u
   pub same : p' ≡ record p { stage = p'.stage; changes = p'.changes; operation = p'.operation }
   pub undos : (before : List Pending) → undos_at y.table p.txn ≡ before ++ p.changes → undos_at y'.table p.txn ≡ before ++ p'.changes
-  pub goes : (L : List Record) (v : VaultState) → AtPlan L (core rs y v) p → Led L (core rs y v) (core rs' y' v) p'
+  pub goes : (L : List Record) (v : VaultState) → AtPlan L (core rs y v) p → Led precheck p.txn L (core rs y v) (core rs' y' v) p'
 
-pub record Finished (rs : List RegionState) (y : SystemState) (p : Planned) (a : Answer) (rs' : List RegionState) (y' : SystemState) : Type 0 where
+pub record Finished (precheck : Bool) (rs : List RegionState) (y : SystemState) (p : Planned) (a : Answer) (rs' : List RegionState) (y' : SystemState) : Type 0 where
   pub plan : Planned
   pub system : SystemState
-  pub advanced : Advanced rs y p rs' system plan
+  pub advanced : Advanced precheck rs y p rs' system plan
   pub whole : IsWhole plan
   pub wants : want_of plan ≡ AnswerIsNext
   pub given : answer_of plan.geometry plan.call plan.stage ≡ Some a
@@ -65,6 +65,6 @@ pub record Finished (rs : List RegionState) (y : SystemState) (p : Planned) (a :
   pub logged : y' ≡ done_logged system plan.txn plan.call a
 
 abbrev pub GivenUp : CallError → StepError → List RegionState → SystemState → Planned → List RegionState → SystemState → Type 0
-GivenUp (Refused cause) given rs y p rs' y' = (cause ≡ given) × (q : Planned) × IsWhole q × Advanced rs y (refused p) rs' y' q × (plan_next q ≡ None)
-GivenUp (HalfDone cause) given rs y p rs' y' = IsRefusal true p.txn rs' y' cause × (q : Planned) × IsWhole q × Advanced rs y (refused p) rs' y' q
+GivenUp (Refused cause) given rs y p rs' y' = (cause ≡ given) × (q : Planned) × IsWhole q × Advanced false rs y (refused p) rs' y' q × (plan_next q ≡ None)
+GivenUp (HalfDone cause) given rs y p rs' y' = IsRefusal false true p.txn rs' y' cause × (q : Planned) × IsWhole q × Advanced false rs y (refused p) rs' y' q
 GivenUp e given rs y p rs' y' = ⊥

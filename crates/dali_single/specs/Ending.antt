@@ -1,10 +1,10 @@
 -- A transaction is taken back, by a thread that has the core alone.
---     IsAtWork L c t           its client is alive and has no region latched, and its row has the undos that the log leaves it
---     IsEnded L c t d          it was taken back: the log ends with its end
+--     IsAtWork L c t           it has no region latched, and its row has the undos that the log leaves it
+--     IsEnded L c t d          it was taken back: behind its undos comes its end
 --     IsStillAtWork L c t d    some of its undos were performed, and the others are left
 --     Undone b g y b' h z      its last undo was performed on the region g, and the block logged by the system y
 --     UndoesFrom rs y t rs' z  undos of t were performed, the last ones, and steps of a core led to these regions and this system
-use Rattle.std.specs.Prelude.{◌≡◌, ℕ, List, [], ◌∷◌, ◌++◌, Some, None, IsSome, length}
+use Rattle.std.specs.Prelude.{◌≡◌, false, ℕ, List, [], ◌∷◌, ◌++◌, Some, None, length}
 use Rattle.dali_record.specs.declared.operations.Block.{Block}
 use Rattle.dali_record.specs.declared.records.Record.{Record}
 use Rattle.dali_record.specs.declared.records.Record.TheVariants.{Ended}
@@ -13,33 +13,34 @@ use Rattle.dali_geometry.specs.Places.{regions}
 use Rattle.dali_region.specs.State.{RegionState, touched}
 use Rattle.dali_att.specs.declared.state.State.TheVariants.{Live}
 use Rattle.dali_att.specs.Table.{undos_at}
-use Rattle.dali_system.specs.State.{SystemState, VaultState, CoreState, row_of, state_of}
+use Rattle.dali_system.specs.State.{SystemState, VaultState, CoreState, state_of}
 use Rattle.dali_system.specs.Steps.{back_logged}
 use Rattle.dali_system.specs.Keeps.{IsFree}
 use Rattle.dali_system.specs.Regions.{RegionStep, IsOpen}
-use Rattle.dali_system.specs.Courses.{Step}
+use Rattle.dali_system.specs.Courses.{Step, Ends, IsStep}
 use Rattle.dali_facts.specs.Plans.{AtWork}
 use Rattle.dali_core.specs.declared.take_back.TakeBack.{TakeBack}
 use Rattle.dali_core.specs.TakenBack.{next_undo, IsUndoBlock}
 use Rattle.dali_single.specs.Operated.{Goes}
-use Rattle.dali_single.specs.Single.{core, Leads, AreCovered}
+use Rattle.dali_single.specs.Single.{core, Leads, OthersStay, AreCovered}
 
 pub record IsAtWork (L : List Record) (c : CoreState) (t : ℕ) : Type 0 where
   pub working : Working
   pub at_work : AtWork c.system.sizes L t working
   pub undos : undos_at c.system.table t ≡ working.undos
-  pub lives : state_of c.system t ≡ Some Live
   pub free : IsFree c t
 
 pub record IsEnded (L : List Record) (c : CoreState) (t : ℕ) (d : CoreState) : Type 0 where
   pub log : List Record
+  pub mid : CoreState
   pub steps : List Step
-  pub leads : Leads L c steps (log ++ Ended t ∷ []) d
+  pub leads : Leads false t L c steps log mid
+  pub ends : IsStep log mid (Ends t) (log ++ Ended t ∷ []) d
 
 pub record IsStillAtWork (L : List Record) (c : CoreState) (t : ℕ) (d : CoreState) : Type 0 where
   pub log : List Record
   pub steps : List Step
-  pub leads : Leads L c steps log d
+  pub leads : Leads false t L c steps log d
   pub at : IsAtWork log d t
 
 pub record Undone (p : TakeBack) (g : RegionState) (y : SystemState) (q : TakeBack) (h : RegionState) (z : SystemState) : Type 0 where
@@ -58,6 +59,7 @@ pub record Undone (p : TakeBack) (g : RegionState) (y : SystemState) (q : TakeBa
 pub record UndoesFrom (rs : List RegionState) (y : SystemState) (t : ℕ) (rs' : List RegionState) (z : SystemState) : Type 0 where
   pub whole : length rs' ≡ regions z.sizes
   pub sizes : z.sizes ≡ y.sizes
-  pub row : IsSome (row_of z t)
+  pub lives : state_of z t ≡ Some Live
   pub covered : AreCovered z t
+  pub others : OthersStay y t z
   pub leads : (L : List Record) (v : VaultState) → IsAtWork L (core rs y v) t → IsStillAtWork L (core rs y v) t (core rs' z v)

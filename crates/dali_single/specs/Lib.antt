@@ -4,3 +4,4 @@ pub mod Single
 pub mod Advanced
 pub mod Ending
 pub mod Settling
+pub mod Others

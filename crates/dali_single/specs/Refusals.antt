@@ -1,9 +1,10 @@
 -- Why a step is refused.
 --     IsLengthOf t n           n is the length of a record that a plan of t logs, or 0 where the length doesn't matter
 --     IsAnswerTo o e           e is the refusal o, or want of memory where there is none
---     IsRefused back t g y e   so the region g or the system y refuses it; a step that takes back uses no room
---     IsRefusal back t rs y e  the same of one of these regions
-use Rattle.std.specs.Prelude.{◌≡◌, ◌⊎◌, ℕ, Bool, List, Option, Some, None, Err, false, slice_get}
+--     IsRefused precheck back t g y e      so the region g or the system y refuses it; a step that takes back uses no room, and no precheck
+--     IsLatched e              a latch is why
+--     IsRefusal precheck back t rs y e     the same of one of these regions
+use Rattle.std.specs.Prelude.{◌≡◌, ◌⊎◌, ◌&&◌, ℕ, Bool, not, List, Option, Some, None, Err, ⊤, slice_get}
 use Rattle.dali_record.specs.declared.operations.Block.{Block}
 use Rattle.dali_record.specs.declared.records.Answer.{Answer}
 use Rattle.dali_record.specs.declared.records.Record.TheVariants.{Forward, Done}
@@ -28,10 +29,15 @@ abbrev pub IsAnswerTo : Option SystemError → SystemError → Type 0
 IsAnswerTo None e = e ≡ Memory
 IsAnswerTo (Some f) e = e ≡ f
 
-abbrev pub IsRefused : Bool → ℕ → RegionState → SystemState → StepError → Type 0
-IsRefused back t g y (Latch e) = Err e ≡ latch_answer false g
-IsRefused back t g y (System e) = (n : ℕ) × IsLengthOf t n × IsAnswerTo (commit_refusal back y n) e
+abbrev pub IsRefused : Bool → Bool → ℕ → RegionState → SystemState → StepError → Type 0
+IsRefused precheck back t g y (Latch e) = Err e ≡ latch_answer (not back && precheck) g
+IsRefused precheck back t g y (System e) = (n : ℕ) × IsLengthOf t n × IsAnswerTo (commit_refusal back y n) e
 
-abbrev pub IsRefusal : Bool → ℕ → List RegionState → SystemState → StepError → Type 0
-IsRefusal back t rs y (Latch e) = (r : ℕ) × (g : RegionState) × (slice_get rs r ≡ Some g) × (Err e ≡ latch_answer false g)
-IsRefusal back t rs y (System e) = (n : ℕ) × IsLengthOf t n × IsAnswerTo (commit_refusal back y n) e
+-- by the latch of a region, and not by the system
+abbrev pub IsLatched : StepError → Type 0
+IsLatched (Latch e) = ⊤
+IsLatched (System e) = ⊥
+
+abbrev pub IsRefusal : Bool → Bool → ℕ → List RegionState → SystemState → StepError → Type 0
+IsRefusal precheck back t rs y (Latch e) = (r : ℕ) × (g : RegionState) × (slice_get rs r ≡ Some g) × (Err e ≡ latch_answer (not back && precheck) g)
+IsRefusal precheck back t rs y (System e) = (n : ℕ) × IsLengthOf t n × IsAnswerTo (commit_refusal back y n) e

@@ -1,13 +1,16 @@
 -- What a committed transaction removed is freed for good, by a thread that has the core alone.
 --     MayFree y t u            the undo u is a removal's, what frees it is on a region of its kind, and t has its key alone
 --     MayCommit L c t          t may call, and no number from the next one on was given
---     Commits L c t us d       its commit is logged, and these removals are left to be freed
---     IsCommitted L c t us     t is committed with these removals left, has no region latched, and no number from the next one on was given
---     IsSettled L c t d        they were freed, and the log ends with its end
---     IsLeft L c t left d, IsHalfSettled L c t d       some were freed, and these others are left
+--     Commits L c t us d       one step logs its commit, and these removals are left to be freed
+--     IsCommitted L c t us     the log has t committed with these removals left; it has no region latched, and no number from the next one on was given
+--     IsSettled L c t d        they were freed, and behind that comes its end
+--     IsLeft L c t left d      some were freed, and these others are left
+--     left_behind y z us       of the removals us those that are left, when the system y came to z: as many were freed as it gave numbers
+--     settle_room n            for how many bytes memory is to be promised, that n removals are freed and the end logged without more
+--     IsPromised s t n         the system runs, and memory for so many bytes is promised to t
 --     AreFreed rs y t us left rs' z    of the removals us all but those left were freed, and steps of a core led to these regions and this system
 --     Freed u g y t h z        what the undo u would put back was freed on the region g, and the block logged by the system y
-use Rattle.std.specs.Prelude.{◌≡◌, ◌≤◌, ◌<◌, ◌^◌, ℕ, true, List, [], ◌∷◌, ◌++◌, Some, None, length}
+use Rattle.std.specs.Prelude.{◌≡◌, false, ◌≤◌, ◌<◌, ◌+◌, ◌-◌, ◌*◌, ◌^◌, ℕ, true, List, [], ◌∷◌, ◌++◌, Some, None, drop, length}
 use Rattle.std.specs.List.{AllByRecursion}
 use Rattle.dali_geometry.specs.Places.{regions}
 use Rattle.dali_record.specs.declared.operations.Block.{Block}
@@ -25,10 +28,12 @@ use Rattle.dali_system.specs.Run.{covers}
 use Rattle.dali_system.specs.Steps.{solo_logged}
 use Rattle.dali_system.specs.Keeps.{IsFree}
 use Rattle.dali_system.specs.Regions.{RegionStep, IsOpen}
-use Rattle.dali_system.specs.Courses.{Step}
+use Rattle.dali_system.specs.Courses.{Step, Commits as CommitsStep, Ends, IsStep}
+use Rattle.dali_core.specs.Promised.{promised_to}
+use Rattle.dali_core.specs.Served.{Served, solo_room}
 use Rattle.dali_facts.specs.Ends.{IsUnbegun, IsEnding}
 use Rattle.dali_single.specs.Operated.{Goes}
-use Rattle.dali_single.specs.Single.{core, Leads, MayCall}
+use Rattle.dali_single.specs.Single.{core, Leads, OthersStay, MayCall}
 
 pub record MayFree (y : SystemState) (t : ℕ) (u : Pending) : Type 0 where
   pub removal : is_removal u.undo ≡ true
@@ -38,7 +43,6 @@ pub record MayFree (y : SystemState) (t : ℕ) (u : Pending) : Type 0 where
 
 pub record IsCommitted (L : List Record) (c : CoreState) (t : ℕ) (us : List Pending) : Type 0 where
   pub ending : IsEnding c.system.sizes L t us
-  pub state : state_of c.system t ≡ Some Committed
   pub free : IsFree c t
   pub unbegun : (n : ℕ) → c.system.next ≤ n → IsUnbegun c.system.sizes L n
 
@@ -48,23 +52,25 @@ pub record MayCommit (L : List Record) (c : CoreState) (t : ℕ) : Type 0 where
   pub unbegun : (n : ℕ) → c.system.next ≤ n → IsUnbegun c.system.sizes L n
 
 pub record Commits (L : List Record) (c : CoreState) (t : ℕ) (us : List Pending) (d : CoreState) : Type 0 where
-  pub steps : List Step
-  pub leads : Leads L c steps (L ++ Commit t ∷ []) d
+  pub step : IsStep L c (CommitsStep t) (L ++ Commit t ∷ []) d
   pub is : IsCommitted (L ++ Commit t ∷ []) d t us
 
 pub record IsSettled (L : List Record) (c : CoreState) (t : ℕ) (d : CoreState) : Type 0 where
   pub log : List Record
+  pub mid : CoreState
   pub steps : List Step
-  pub leads : Leads L c steps (log ++ Ended t ∷ []) d
+  pub leads : Leads false t L c steps log mid
+  pub ends : IsStep log mid (Ends t) (log ++ Ended t ∷ []) d
 
 pub record IsLeft (L : List Record) (c : CoreState) (t : ℕ) (left : List Pending) (d : CoreState) : Type 0 where
   pub log : List Record
   pub steps : List Step
-  pub leads : Leads L c steps log d
+  pub leads : Leads false t L c steps log d
   pub at : IsCommitted log d t left
 
-abbrev pub IsHalfSettled : List Record → CoreState → ℕ → CoreState → Type 0
-IsHalfSettled L c t d = (left : List Pending) × IsLeft L c t left d
+-- each solo takes a number
+abbrev pub left_behind : SystemState → SystemState → List Pending → List Pending
+left_behind y z us = drop (z.next - y.next) us
 
 pub record Freed (u : Pending) (g : RegionState) (y : SystemState) (t : ℕ) (h : RegionState) (z : SystemState) : Type 0 where
   pub block : Block
@@ -81,7 +87,17 @@ pub record Freed (u : Pending) (g : RegionState) (y : SystemState) (t : ℕ) (h 
   pub fits : y.next < 2 ^ 64
   pub system : z ≡ solo_logged y t block
 
+-- the longest solo has solo_room bytes, and an end has 9
+abbrev pub settle_room : ℕ → ℕ
+settle_room n = 9 + n * solo_room
+
+pub record IsPromised (s : Served) (t n : ℕ) : Type 0 where
+  pub runs : s.state.stop ≡ None
+  pub enough : n ≤ promised_to s.promised t
+
 pub record AreFreed (rs : List RegionState) (y : SystemState) (t : ℕ) (us left : List Pending) (rs' : List RegionState) (z : SystemState) : Type 0 where
   pub whole : length rs' ≡ regions z.sizes
   pub may : AllByRecursion (MayFree z t) left
+  pub state : state_of z t ≡ Some Committed
+  pub others : OthersStay y t z
   pub leads : (L : List Record) (v : VaultState) → IsCommitted L (core rs y v) t us → IsLeft L (core rs y v) t left (core rs' z v)

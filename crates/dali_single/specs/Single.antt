@@ -1,14 +1,21 @@
 -- A core that one thread has alone, and what a whole call makes of it.
 --     core rs y v              the core of these regions, this system and this vault
---     Leads L c xs M d         these steps lead from the log L and the core c to the log M and the core d
---     MayCall L c t            the client of t is alive, between two calls, and has no region latched
---     IsAnswered L c t call a d        a call was answered: the log ends with its answer, and t may call again
+--     is_end x                 the step x logs the answer of a call, a commit or an end
+--     IsOwnStep precheck t c x         the step x is one of t's: it asks for a lock and is granted it, makes an operation on a region, or logs a record
+--                              of t; with precheck an operation that goes on with a call is logged only where the codeword tells no damage
+--     Leads precheck t L c xs M d      these steps of t, none of which is such an end, lead from the log L and the core c to the log M and the core d
+--     OthersStay y t z         each other transaction has the row and the locks that it had
+--     HoldsStay t c d          it has the regions latched that it had
+--     IsGone y t               t has no row, so nothing to take back, and no lock
+--     StandAside t L c M d     so it is, and the rules of the log have it where they had it
+--     MayCall L c t            t is between two calls, and has no region latched
+--     IsAnswered precheck L c t call a d       a call was answered: behind its operations comes its answer, and t may call again
 --     IsAsBefore, IsHalfDone   a call was refused: t may call again and has the undos that it had; or it is in the midst of the call; and why
---     Fails e L c t call d     so it is, by the error
+--     Fails precheck e L c t call d    so it is, by the error
 --     MayUndo y t u            the undo u of t is on a region of its kind, and t has its key alone
 --     AreCovered y t           so it is of each of its undos
---     Keeps y t z              the system has the sizes that it had, and the row of t, whose undos are covered where they were
-use Rattle.std.specs.Prelude.{◌≡◌, ℕ, Bool, true, List, [], ◌∷◌, ◌++◌, Some, IsSome}
+--     Keeps y t z              the system has the sizes that it had, t its state, and undos that are covered where they were; and others stay
+use Rattle.std.specs.Prelude.{◌≡◌, ◌==◌, ◌<◌, ◌↔◌, ℕ, Bool, true, false, List, [], ◌∷◌, ◌++◌, Some, None, IsSomeAnd, IfSome, slice_get}
 use Rattle.std.specs.List.{AllByRecursion}
 use Rattle.dali_record.specs.declared.operations.Pending.{Pending}
 use Rattle.dali_record.specs.declared.records.Answer.{Answer}
@@ -17,21 +24,22 @@ use Rattle.dali_record.specs.declared.records.Record.{Record}
 use Rattle.dali_record.specs.declared.records.Record.TheVariants.{Done}
 use Rattle.dali_record.specs.Operations.{undo_op}
 use Rattle.dali_record.specs.Spelling.{IsUndo}
-use Rattle.dali_record.specs.Legal.{Working, is_level, on_kind}
+use Rattle.dali_record.specs.Legal.{Working, is_level, on_kind, txn_state}
+use Rattle.dali_region.specs.declared.Hold.{Hold}
 use Rattle.dali_region.specs.State.{RegionState}
 use Rattle.dali_locks.specs.declared.mode.LockAnswer.TheVariants.{Wait as LockWait, Busy as LockBusy}
 use Rattle.dali_locks.specs.Locks.{IsAnswer}
-use Rattle.dali_att.specs.declared.state.State.TheVariants.{Live}
 use Rattle.dali_att.specs.Table.{undos_at}
-use Rattle.dali_system.specs.State.{SystemState, VaultState, CoreState, row_of, state_of, lock_of}
+use Rattle.dali_system.specs.State.{SystemState, VaultState, CoreState, row_of, state_of, hold_of, lock_of}
 use Rattle.dali_system.specs.Run.{covers}
 use Rattle.dali_system.specs.Keeps.{IsFree, with_system}
 use Rattle.dali_system.specs.Steps.{refused}
-use Rattle.dali_system.specs.Courses.{Step, IsStep}
+use Rattle.dali_system.specs.Courses.{Step, Operates, TakesBack, Frees, Answers, Commits, Ends, Locks, OnRegion, IsStep}
 use Rattle.dali_facts.specs.Plans.{AtWork}
 use Rattle.dali_calls.specs.Steps.{call_key}
 use Rattle.dali_calls.specs.Plans.{mode_of}
 use Rattle.dali_single.specs.declared.error.StepError.{StepError}
+use Rattle.dali_single.specs.Operated.{IsOwn}
 use Rattle.dali_single.specs.Refusals.{IsRefusal}
 use Rattle.dali_single.specs.declared.error.CallError.{CallError}
 use Rattle.dali_single.specs.declared.error.CallError.TheVariants.{Wait, Busy, Refused, HalfDone}
@@ -39,52 +47,91 @@ use Rattle.dali_single.specs.declared.error.CallError.TheVariants.{Wait, Busy, R
 abbrev pub core : List RegionState → SystemState → VaultState → CoreState
 core rs y v = record { regions = rs; system = y; vault = v }
 
-abbrev pub Leads : List Record → CoreState → List Step → List Record → CoreState → Type 0
-Leads L c [] M d = (L ≡ M) × (c ≡ d)
-Leads L c (x ∷ xs) M d = (K : List Record) × (e : CoreState) × IsStep L c x K e × Leads K e xs M d
+abbrev pub is_end : Step → Bool
+is_end (Answers t call a) = true
+is_end (Commits t) = true
+is_end (Ends t) = true
+is_end x = false
 
+abbrev pub IsOwnStep : Bool → ℕ → CoreState → Step → Type 0
+IsOwnStep precheck t c (Locks u k m) = u ≡ t
+IsOwnStep precheck t c (OnRegion r x) = IsSomeAnd (slice_get c.regions r) (IsOwn t x)
+IsOwnStep precheck t c (Operates u b) = (u ≡ t) × (precheck ≡ true → IfSome (slice_get c.regions b.region) (λ g. g.stray ≡ 0))
+IsOwnStep precheck t c (TakesBack u b) = u ≡ t
+IsOwnStep precheck t c (Frees p b) = p ≡ t
+IsOwnStep precheck t c (Answers u call a) = u ≡ t
+IsOwnStep precheck t c (Commits u) = u ≡ t
+IsOwnStep precheck t c (Ends u) = u ≡ t
+IsOwnStep precheck t c x = ⊥
+
+abbrev pub Leads : Bool → ℕ → List Record → CoreState → List Step → List Record → CoreState → Type 0
+Leads precheck t L c [] M d = (L ≡ M) × (c ≡ d)
+Leads precheck t L c (x ∷ xs) M d = (K : List Record) × (e : CoreState) × (IsStep L c x K e × IsOwnStep precheck t c x × (is_end x ≡ false)) × Leads precheck t K e xs M d
+
+-- ---- the other transactions
+abbrev pub OthersStay : SystemState → ℕ → SystemState → Type 0
+OthersStay y t z = (u : ℕ) → (t == u) ≡ false → (row_of z u ≡ row_of y u) × ((k : ℕ) → lock_of z u k ≡ lock_of y u k)
+
+abbrev pub IsGone : SystemState → ℕ → Type 0
+IsGone y t = (row_of y t ≡ None) × ((k : ℕ) → lock_of y t k ≡ None)
+
+abbrev pub HoldsStay : ℕ → CoreState → CoreState → Type 0
+HoldsStay t c d = (u r : ℕ) (h : Hold) → (t == u) ≡ false → h.txn ≡ u → (hold_of c r ≡ Some h) ↔ (hold_of d r ≡ Some h)
+
+pub record StandAside (t : ℕ) (L : List Record) (c : CoreState) (M : List Record) (d : CoreState) : Type 0 where
+  pub system : OthersStay c.system t d.system
+  pub holds : HoldsStay t c d
+  -- a number that wasn't given yet may have become that of a solo
+  pub rules : (u : ℕ) → (t == u) ≡ false → u < c.system.next → txn_state c.system.sizes u M ≡ txn_state c.system.sizes u L
+
+-- ---- a call
 pub record MayCall (L : List Record) (c : CoreState) (t : ℕ) : Type 0 where
   pub working : Working
   pub at_work : AtWork c.system.sizes L t working
   pub level : is_level working ≡ true
-  pub lives : state_of c.system t ≡ Some Live
   pub free : IsFree c t
 
-pub record IsAnswered (L : List Record) (c : CoreState) (t : ℕ) (call : Call) (a : Answer) (d : CoreState) : Type 0 where
+pub record IsAnswered (precheck : Bool) (L : List Record) (c : CoreState) (t : ℕ) (call : Call) (a : Answer) (d : CoreState) : Type 0 where
   pub log : List Record
+  pub mid : CoreState
   pub steps : List Step
-  pub leads : Leads L c steps (log ++ Done t call a ∷ []) d
+  pub leads : Leads precheck t L c steps log mid
+  pub answers : IsStep log mid (Answers t call a) (log ++ Done t call a ∷ []) d
   pub may : MayCall (log ++ Done t call a ∷ []) d t
 
-pub record IsAsBefore (L : List Record) (c : CoreState) (t : ℕ) (cause : StepError) (d : CoreState) : Type 0 where
+pub record IsAsBefore (L : List Record) (c : CoreState) (t : ℕ) (precheck : Bool) (cause : StepError) (d : CoreState) : Type 0 where
   -- where it was refused
   pub mid_log : List Record
   pub mid : CoreState
   pub onward : List Step
-  pub leads : Leads L c onward mid_log mid
-  pub refused : (back : Bool) × IsRefusal back t mid.regions mid.system cause
+  pub leads : Leads precheck t L c onward mid_log mid
+  pub refused : (back : Bool) × IsRefusal precheck back t mid.regions mid.system cause
   pub log : List Record
   pub steps : List Step
-  pub back : Leads mid_log mid steps log d
+  pub back : Leads false t mid_log mid steps log d
   pub may : MayCall log d t
   pub undos : undos_at d.system.table t ≡ undos_at c.system.table t
 
-pub record IsHalfDone (L : List Record) (c : CoreState) (t : ℕ) (cause : StepError) (d : CoreState) : Type 0 where
-  pub refused : IsRefusal true t d.regions d.system cause
+pub record IsHalfDone (L : List Record) (c : CoreState) (t : ℕ) (precheck : Bool) (cause : StepError) (d : CoreState) : Type 0 where
+  -- where the call was refused
+  pub mid_log : List Record
+  pub mid : CoreState
+  pub onward : List Step
+  pub leads : Leads precheck t L c onward mid_log mid
+  pub refused : IsRefusal false true t d.regions d.system cause
   pub log : List Record
   pub steps : List Step
-  pub leads : Leads L c steps log d
+  pub back : Leads false t mid_log mid steps log d
   pub working : Working
   pub at_work : AtWork d.system.sizes log t working
-  pub lives : state_of d.system t ≡ Some Live
   pub free : IsFree d t
 
-abbrev pub Fails : CallError → List Record → CoreState → ℕ → Call → CoreState → Type 0
-Fails (Wait h) L c t call d = IsAnswer c.system.locks t (call_key call) (mode_of call) (LockWait h) × (d ≡ c)
-Fails (Busy h) L c t call d =
+abbrev pub Fails : Bool → CallError → List Record → CoreState → ℕ → Call → CoreState → Type 0
+Fails precheck (Wait h) L c t call d = IsAnswer c.system.locks t (call_key call) (mode_of call) (LockWait h) × (d ≡ c)
+Fails precheck (Busy h) L c t call d =
     IsAnswer c.system.locks t (call_key call) (mode_of call) (LockBusy h) × (d ≡ with_system c (refused c.system t (call_key call) (mode_of call) h))
-Fails (Refused cause) L c t call d = IsAsBefore L c t cause d
-Fails (HalfDone cause) L c t call d = IsHalfDone L c t cause d
+Fails precheck (Refused cause) L c t call d = IsAsBefore L c t precheck cause d
+Fails precheck (HalfDone cause) L c t call d = IsHalfDone L c t precheck cause d
 
 pub record MayUndo (y : SystemState) (t : ℕ) (u : Pending) : Type 0 where
   pub spelled : IsUndo u.undo
@@ -96,5 +143,6 @@ AreCovered y t = AllByRecursion (MayUndo y t) (undos_at y.table t)
 
 pub record Keeps (y : SystemState) (t : ℕ) (z : SystemState) : Type 0 where
   pub sizes : z.sizes ≡ y.sizes
-  pub row : IsSome (row_of z t)
+  pub state : state_of z t ≡ state_of y t
   pub covered : AreCovered y t → AreCovered z t
+  pub others : OthersStay y t z

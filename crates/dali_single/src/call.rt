@@ -1,9 +1,10 @@
 //! A whole call.
-ghost use Rattle.std.specs.Prelude.{◌≡◌, Bool, true, List, None, IsSome, OnOk, OnErr, IfOk, IfErr, length};
+ghost use Rattle.std.specs.Prelude.{◌≡◌, Bool, true, List, Some, None, OnOk, OnErr, IfOk, IfErr, length};
 ghost use Rattle.dali_geometry.specs.Places.{regions as regions_of};
 ghost use Rattle.dali_record.specs.declared.records.Record.{Record};
 ghost use Rattle.dali_record.specs.Spelling.{IsCall};
-ghost use Rattle.dali_system.specs.State.{VaultState, row_of};
+ghost use Rattle.dali_att.specs.declared.state.State.TheVariants.{Live};
+ghost use Rattle.dali_system.specs.State.{VaultState, state_of};
 ghost use Rattle.dali_calls.specs.declared.plan.Phase.TheVariants.{Calling, Refused as RefusedPhase};
 ghost use Rattle.dali_calls.specs.Plans.{plan_next, IsWhole};
 ghost use Rattle.dali_single.specs.Refusals.{IsRefusal};
@@ -19,15 +20,20 @@ use dali_record::{Answer, Call};
 use dali_region::Region;
 
 // Makes the operations of the plan, one after another, until it wants none.
-fn advance(plan: &mut Plan, regions: &mut [Region], system: &mut System) -> Result<(), StepError>
+fn advance(
+    plan: &mut Plan,
+    regions: &mut [Region],
+    system: &mut System,
+    precheck: bool,
+) -> Result<(), StepError>
     requires { IsAtRest regions.old system.old.state plan.old }
-    ensures goes { Advanced regions.old system.old.state plan.old regions.new system.new.state plan.new }
+    ensures goes { Advanced precheck regions.old system.old.state plan.old regions.new system.new.state plan.new }
     ensures ends { OnOk result (plan_next plan.new ≡ None) }
     ensures whole { IsWhole plan.new }
-    ensures cause { IfErr result (λ e. (back : Bool) × (plan.old.phase ≡ RefusedPhase → back ≡ true) × IsRefusal back plan.old.txn regions.new system.new.state e) }
+    ensures cause { IfErr result (λ e. (back : Bool) × (plan.old.phase ≡ RefusedPhase → back ≡ true) × IsRefusal precheck back plan.old.txn regions.new system.new.state e) }
 {
     while let Want::Region { region } = plan.wants() {
-        match operate(plan, &mut regions[region as usize], system) {
+        match operate(plan, &mut regions[region as usize], system, precheck) {
             Ok(()) => {}
             Err(cause) => return Err(cause),
         }
@@ -36,14 +42,19 @@ fn advance(plan: &mut Plan, regions: &mut [Region], system: &mut System) -> Resu
 }
 
 // Makes the operations of a call, and logs its answer.
-fn finish(plan: &mut Plan, regions: &mut [Region], system: &mut System) -> Result<Answer, StepError>
+fn finish(
+    plan: &mut Plan,
+    regions: &mut [Region],
+    system: &mut System,
+    precheck: bool,
+) -> Result<Answer, StepError>
     requires rest { IsAtRest regions.old system.old.state plan.old }
     requires calling { plan.old.phase ≡ Calling }
-    ensures ok { IfOk result (λ a. Finished regions.old system.old.state plan.old a regions.new system.new.state) }
-    ensures err { OnErr result (Advanced regions.old system.old.state plan.old regions.new system.new.state plan.new) }
-    ensures cause { IfErr result (λ e. (back : Bool) × IsRefusal back plan.old.txn regions.new system.new.state e) }
+    ensures ok { IfOk result (λ a. Finished precheck regions.old system.old.state plan.old a regions.new system.new.state) }
+    ensures err { OnErr result (Advanced precheck regions.old system.old.state plan.old regions.new system.new.state plan.new) }
+    ensures cause { IfErr result (λ e. (back : Bool) × IsRefusal precheck back plan.old.txn regions.new system.new.state e) }
 {
-    match advance(plan, regions, system) {
+    match advance(plan, regions, system, precheck) {
         Ok(()) => {}
         Err(cause) => return Err(cause),
     }
@@ -65,28 +76,30 @@ fn give_up(
     ensures { GivenUp result cause regions.old system.old.state plan.old regions.new system.new.state }
 {
     plan.refuse();
-    match advance(plan, regions, system) {
+    match advance(plan, regions, system, false) {
         Ok(()) => CallError::Refused { cause },
         Err(cause) => CallError::HalfDone { cause },
     }
 }
 
-/// Asks for the lock of a call, makes its operations one after another, and logs its answer. Where it is refused, what
-/// it had changed is taken back. It takes memory for its lock, its records and what takes it back.
+/// Asks for the lock of a call of a live transaction, makes its operations one after another, and logs its answer. With
+/// `precheck` each operation first compares its region's codeword with the words. Where the call is refused, what it had
+/// changed is taken back, which never prechecks. It takes memory for its lock, its records and what takes it back.
 pub fn perform(
     regions: &mut [Region],
     system: &mut System,
     txn: u64,
     call: Call,
+    precheck: bool,
 ) -> Result<Answer, CallError>
     requires call { IsCall call }
     requires whole { length regions.old ≡ regions_of system.old.state.sizes }
-    requires running { IsSome (row_of system.old.state txn) }
+    requires lives { state_of system.old.state txn ≡ Some Live }
     ensures keeps { Keeps system.old.state txn system.new.state }
     ensures ok { IfOk result (λ a. (L : List Record) (v : VaultState) → MayCall L (core regions.old system.old.state v) txn
-        → IsAnswered L (core regions.old system.old.state v) txn call a (core regions.new system.new.state v)) }
+        → IsAnswered precheck L (core regions.old system.old.state v) txn call a (core regions.new system.new.state v)) }
     ensures err { IfErr result (λ e. (L : List Record) (v : VaultState) → MayCall L (core regions.old system.old.state v) txn
-        → Fails e L (core regions.old system.old.state v) txn call (core regions.new system.new.state v)) }
+        → Fails precheck e L (core regions.old system.old.state v) txn call (core regions.new system.new.state v)) }
 {
     let mut plan = Plan::new(system.geometry(), txn, call);
     let (key, mode) = plan.lock();
@@ -100,7 +113,7 @@ pub fn perform(
             });
         }
     }
-    match finish(&mut plan, regions, system) {
+    match finish(&mut plan, regions, system, precheck) {
         Ok(answer) => Ok(answer),
         Err(cause) => Err(give_up(&mut plan, regions, system, cause)),
     }

@@ -4,6 +4,7 @@
 mod call;
 mod ending;
 mod error;
+pub mod laws;
 mod operate;
 mod settling;
 

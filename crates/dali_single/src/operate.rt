@@ -28,15 +28,16 @@ pub(crate) fn operate(
     plan: &mut Plan,
     region: &mut Region,
     system: &mut System,
+    precheck: bool,
 ) -> Result<(), StepError>
     requires wants { IsSome (plan_next plan.old) }
     requires closed { plan.old.operation ≡ None }
     requires running { IsSome (row_of system.old.state plan.old.txn) }
-    ensures ok { OnOk result (Operated plan.old region.old system.old.state plan.new region.new system.new.state) }
+    ensures ok { OnOk result (Operated precheck plan.old region.old system.old.state plan.new region.new system.new.state) }
     ensures err { OnErr result ((plan.new ≡ plan.old) × (system.new ≡ system.old) × IsLeftOf plan.old.txn region.old region.new) }
-    ensures cause { IfErr result (λ e. IsRefused (is_back plan.old) plan.old.txn region.new system.new.state e) }
+    ensures cause { IfErr result (λ e. IsRefused precheck (is_back plan.old) plan.old.txn region.new system.new.state e) }
 {
-    match plan.latch(region, false) {
+    match plan.latch(region, precheck) {
         Ok(()) => {}
         Err(cause) => return Err(StepError::Latch { cause }),
     }

@@ -1,20 +1,22 @@
 //! A transaction commits, and what it removed is freed for good.
-ghost use Rattle.std.specs.Prelude.{◌≡◌, List, [], None, Err, IsSome, IfSome, OnOk, OnErr, IfOk, IfErr, length, true};
+ghost use Rattle.std.specs.Prelude.{◌≡◌, List, [], Some, None, Err, IfSome, OnOk, OnErr, IfOk, IfErr, length, true, false, ◌≤◌, ◌+◌, ℕ};
 ghost use Rattle.std.specs.List.{AllByRecursion};
 ghost use Rattle.dali_geometry.specs.Places.{regions as regions_of};
-ghost use Rattle.dali_record.specs.declared.operations.Pending.{Pending as PendingOf};
 ghost use Rattle.dali_record.specs.declared.records.Record.{Record};
 ghost use Rattle.dali_record.specs.Legal.{freeing_op};
 ghost use Rattle.dali_region.specs.State.{RegionState};
-ghost use Rattle.dali_system.specs.State.{VaultState, row_of};
+ghost use Rattle.dali_att.specs.declared.state.State.TheVariants.{Live, Committed};
+ghost use Rattle.dali_system.specs.State.{VaultState, state_of};
 ghost use Rattle.dali_system.specs.Regions.{IsOpen};
 ghost use Rattle.dali_core.specs.Refused.{stop_refusal};
+ghost use Rattle.dali_core.specs.Promised.{promised_to};
+ghost use Rattle.dali_core.specs.Served.{solo_room};
 ghost use Rattle.dali_core.specs.UnderWay.{IsUnderWay};
 ghost use Rattle.dali_core.specs.declared.error.SystemError.TheVariants.{OutOfMemory as Memory};
 ghost use Rattle.dali_single.specs.Operated.{AreWritten, IsLeftOf};
-ghost use Rattle.dali_single.specs.Refusals.{IsRefused, IsRefusal};
-ghost use Rattle.dali_single.specs.Single.{core, AreCovered};
-ghost use Rattle.dali_single.specs.Settling.{MayFree, Freed, MayCommit, Commits, IsCommitted, AreFreed, IsSettled, IsHalfSettled};
+ghost use Rattle.dali_single.specs.Refusals.{IsRefused, IsRefusal, IsLatched};
+ghost use Rattle.dali_single.specs.Single.{core, AreCovered, OthersStay, IsGone};
+ghost use Rattle.dali_single.specs.Settling.{MayFree, Freed, MayCommit, Commits, IsCommitted, AreFreed, IsSettled, IsLeft, left_behind, settle_room, IsPromised};
 
 use crate::error::StepError;
 use dali_core::{Operation, System, SystemError};
@@ -53,7 +55,9 @@ fn free(
     requires { MayFree system.old.state txn removal.now }
     ensures ok { IfOk result (λ number. (number ≡ system.old.state.next) × Freed removal.now region.old system.old.state txn region.new system.new.state) }
     ensures err { OnErr result ((system.new ≡ system.old) × IsLeftOf txn region.old region.new) }
-    ensures cause { IfErr result (λ e. IsRefused true txn region.new system.new.state e) }
+    ensures cause { IfErr result (λ e. IsRefused false true txn region.new system.new.state e) }
+    ensures promised { IsPromised system.old txn solo_room → IfErr result IsLatched }
+    ensures kept { OnOk result ((n : ℕ) → IsPromised system.old txn (solo_room + n) → IsPromised system.new txn n) }
 {
     let number = system.next();
     let op = freeing_op(&removal.undo);
@@ -87,9 +91,13 @@ fn free_all(
 ) -> Result<(), StepError>
     requires whole { length regions.old ≡ regions_of system.old.state.sizes }
     requires may { AllByRecursion (MayFree system.old.state txn) removals.now }
+    requires committed { state_of system.old.state txn ≡ Some Committed }
     ensures ok { OnOk result (AreFreed regions.old system.old.state txn removals.now [] regions.new system.new.state) }
-    ensures err { OnErr result ((left : List PendingOf) × AreFreed regions.old system.old.state txn removals.now left regions.new system.new.state) }
-    ensures cause { IfErr result (λ e. IsRefusal true txn regions.new system.new.state e) }
+    ensures freed { OnOk result (system.new.state.next ≡ system.old.state.next + length removals.now) }
+    ensures err { OnErr result (AreFreed regions.old system.old.state txn removals.now (left_behind system.old.state system.new.state removals.now) regions.new system.new.state) }
+    ensures cause { IfErr result (λ e. IsRefusal false true txn regions.new system.new.state e) }
+    ensures promised { IsPromised system.old txn (settle_room (length removals.now)) → IfErr result IsLatched }
+    ensures kept { OnOk result (IsPromised system.old txn (settle_room (length removals.now)) → IsPromised system.new txn (settle_room 0)) }
 {
     for removal in removals {
         match free(removal, &mut regions[removal.region as usize], system, txn) {
@@ -100,16 +108,19 @@ fn free_all(
     Ok(())
 }
 
-/// Commits a transaction: memory for what follows is promised, and its commit is logged. Answers what it removed, for
-/// `settle`. The commit is durable once the system's frame is flushed. It takes memory for both, and is refused where
-/// the system has stopped, or for want of memory.
+/// Commits a live transaction: memory for what follows is promised, and its commit is logged. Answers what it removed,
+/// for `settle`. The commit is durable once the system's frame is flushed. It takes memory for both, and is refused
+/// where the system has stopped, or for want of memory.
 pub fn commit(alloc: Global, system: &mut System, txn: u64) -> Result<Vec<Pending>, SystemError>
-    requires running { IsSome (row_of system.old.state txn) }
+    requires lives { state_of system.old.state txn ≡ Some Live }
     requires covered { AreCovered system.old.state txn }
     ensures sizes { system.new.state.sizes ≡ system.old.state.sizes }
     ensures may { IfOk result (λ removals. AllByRecursion (MayFree system.new.state txn) removals.items) }
     ensures ok { IfOk result (λ removals. (L : List Record) (rs : List RegionState) (v : VaultState) → MayCommit L (core rs system.old.state v) txn
         → Commits L (core rs system.old.state v) txn removals.items (core rs system.new.state v)) }
+    ensures committed { OnOk result (state_of system.new.state txn ≡ Some Committed) }
+    ensures promised { IfOk result (λ removals. settle_room (length removals.items) ≤ promised_to system.new.promised txn) }
+    ensures others { OthersStay system.old.state txn system.new.state }
     ensures err { OnErr result (system.new.state ≡ system.old.state) }
     ensures refused { IfSome (stop_refusal system.old.state) (λ e. result ≡ Err e) }
     ensures memory { stop_refusal system.old.state ≡ None → IfErr result (λ e. e ≡ Memory) }
@@ -120,8 +131,9 @@ pub fn commit(alloc: Global, system: &mut System, txn: u64) -> Result<Vec<Pendin
 }
 
 /// Frees for good what a committed transaction removed, one after another, and logs its end. `removals` is what
-/// `commit` answered, or those of it that are left. Where that is refused what was freed stays so.
-/// It takes memory only where none was promised.
+/// `commit` answered, or those of it that are left. Where that is refused what was freed stays so, and the others may
+/// be freed later: as many were freed as the system gave numbers.
+/// What `commit` promised is enough: after it no memory is wanting here, whatever others log in between.
 pub fn settle(
     regions: &mut [Region],
     system: &mut System,
@@ -130,11 +142,16 @@ pub fn settle(
 ) -> Result<(), StepError>
     requires whole { length regions.old ≡ regions_of system.old.state.sizes }
     requires may { AllByRecursion (MayFree system.old.state txn) removals.now }
+    requires committed { state_of system.old.state txn ≡ Some Committed }
     ensures ok { OnOk result ((L : List Record) (v : VaultState) → IsCommitted L (core regions.old system.old.state v) txn removals.now
         → IsSettled L (core regions.old system.old.state v) txn (core regions.new system.new.state v)) }
     ensures err { OnErr result ((L : List Record) (v : VaultState) → IsCommitted L (core regions.old system.old.state v) txn removals.now
-        → IsHalfSettled L (core regions.old system.old.state v) txn (core regions.new system.new.state v)) }
-    ensures cause { IfErr result (λ e. IsRefusal true txn regions.new system.new.state e) }
+        → IsLeft L (core regions.old system.old.state v) txn (left_behind system.old.state system.new.state removals.now) (core regions.new system.new.state v)) }
+    ensures again { OnErr result (AllByRecursion (MayFree system.new.state txn) (left_behind system.old.state system.new.state removals.now) × (state_of system.new.state txn ≡ Some Committed)) }
+    ensures cause { IfErr result (λ e. IsRefusal false true txn regions.new system.new.state e) }
+    ensures promised { IsPromised system.old txn (settle_room (length removals.now)) → IfErr result IsLatched }
+    ensures gone { OnOk result (IsGone system.new.state txn) }
+    ensures others { OthersStay system.old.state txn system.new.state }
 {
     match free_all(regions, system, txn, removals) {
         Ok(()) => {}

@@ -2,28 +2,28 @@ ghost use Rattle.std.specs.Prelude.{◌≤◌};
 
 use crate::{CallError, StepError, abort, commit, perform, settle};
 use anyhow::{Context, Result};
+use dali_att::State;
 use dali_core::{System, SystemError};
 use dali_geometry::Geometry;
 use dali_record::{Answer, Call};
-use dali_region::Region;
+use dali_region::{LatchError, Region};
 use dali_words::Value;
 use std::alloc::Global;
 use std::test::*;
 
-// A call of a transaction of the table, over one index region and one heap region.
-#[tactic(auto, using(dali_core::proofs::Guards::some_row))]
+// A call of a live transaction over all regions.
 fn answer(
-    regions: &mut [Region; 2],
+    regions: &mut [Region],
     system: &mut System,
     txn: u64,
     call: Call,
 ) -> Option<Result<Answer, CallError>> {
-    if system.geometry().regions() != 2 {
+    if regions.len() != system.geometry().regions() as usize {
         return None;
     }
     match system.state(txn) {
-        Some(_) => Some(perform(regions, system, txn, call)),
-        None => None,
+        Some(State::Live) => Some(perform(regions, system, txn, call, true)),
+        _ => None,
     }
 }
 
@@ -131,7 +131,7 @@ fn an_entry_may_name_no_record(rt: HostRuntime) -> Result<()> {
 }
 
 // Begins a transaction that makes this call and is taken back; None where the call isn't done.
-#[tactic(auto, using(crate::proofs::Guards::begun_has, crate::proofs::Guards::begun_covered))]
+#[tactic(auto, using(crate::proofs::Guards::begun_lives, crate::proofs::Guards::begun_covered, crate::proofs::Guards::still_lives))]
 fn taken_back(
     regions: &mut [Region; 2],
     system: &mut System,
@@ -143,7 +143,7 @@ fn taken_back(
     let Ok((txn, _)) = system.begin() else {
         return None;
     };
-    match perform(regions, system, txn, call) {
+    match perform(regions, system, txn, call, true) {
         Ok(Answer::Ok) => Some(abort(regions, system, txn)),
         _ => None,
     }
@@ -162,7 +162,7 @@ fn an_abort_takes_all_back(rt: HostRuntime) -> Result<()> {
 }
 
 // Inserts and deletes a key in one transaction, commits it, and frees what it removed.
-#[tactic(auto, using(crate::proofs::Guards::begun_has, crate::proofs::Guards::begun_covered))]
+#[tactic(auto, using(crate::proofs::Guards::begun_lives, crate::proofs::Guards::begun_covered, crate::proofs::Guards::still_lives))]
 fn removed(
     alloc: Global,
     regions: &mut [Region; 2],
@@ -175,8 +175,8 @@ fn removed(
     let Ok((txn, _)) = system.begin() else {
         return None;
     };
-    let _ = perform(regions, system, txn, Call::Insert { key: 1, value });
-    let _ = perform(regions, system, txn, Call::Delete { key: 1 });
+    let _ = perform(regions, system, txn, Call::Insert { key: 1, value }, true);
+    let _ = perform(regions, system, txn, Call::Delete { key: 1 }, true);
     let Ok(removals) = commit(alloc, system, txn) else {
         return None;
     };
@@ -195,5 +195,113 @@ fn a_removal_is_freed(rt: HostRuntime) -> Result<()> {
         (settled, entry_and_cell, left),
         (Some(Ok(())), (0, 0), (None, 5))
     );
+    Ok(())
+}
+
+// An index region whose 21 entries are of other keys.
+fn full() -> Region {
+    let mut words = [0; 64];
+    for entry in 0..21 {
+        words[3 * entry + 1] = 1;
+        words[3 * entry + 2] = 100 + entry as u64;
+        words[3 * entry + 3] = 9;
+    }
+    Region::load(words)
+}
+
+#[test]
+fn an_index_without_a_free_entry(rt: HostRuntime) -> Result<()> {
+    let value = Value::from_bytes(b"a").context("no value")?;
+    let insert = Call::Insert { key: 1, value };
+    let (mut regions, mut system) = begun(&rt, 200_000)?;
+    regions[0] = full();
+    let answered = answer(&mut regions, &mut system, 1, insert);
+    // the put is taken back, and the overflow flag is raised
+    assert_eq!(rt;
+        (answered, regions[1].words()[8], regions[0].words()[0]),
+        (Some(Ok(Answer::FullIndex)), 0, 1)
+    );
+    Ok(())
+}
+
+#[test]
+fn a_walk_goes_over_a_full_region(rt: HostRuntime) -> Result<()> {
+    let value = Value::from_bytes(b"a").context("no value")?;
+    // the key 1 has its home in region 1; region 2 is the heap
+    let geometry = Geometry::new(2, 1)?;
+    let mut regions = [
+        Region::load(geometry.formatted(0)),
+        full(),
+        Region::load(geometry.formatted(2)),
+    ];
+    let mut system = System::new(rt.alloc(), geometry, 1, 1, 10, 200_000)?;
+    system.begin()?;
+    let calls = [Call::Insert { key: 1, value }, Call::Get { key: 1 }];
+    let answers = calls.map(|call| answer(&mut regions, &mut system, 1, call));
+    // the entry stands in the next index region, with the place of the cell 1 of region 2
+    assert_eq!(rt;
+        (answers, regions[0].words()[1..4].starts_with(&[1, 1, 17])),
+        (
+            [Some(Ok(Answer::Ok)), Some(Ok(Answer::Got { value }))],
+            true
+        )
+    );
+    Ok(())
+}
+
+#[test]
+fn a_key_that_another_transaction_holds(rt: HostRuntime) -> Result<()> {
+    let value = Value::from_bytes(b"a").context("no value")?;
+    let (mut regions, mut system) = begun(&rt, 200_000)?;
+    system.begin()?;
+    let rows = [
+        (2, Call::Insert { key: 1, value }, Ok(Answer::Ok)),
+        // the older one may wait, the younger one is refused
+        (1, Call::Get { key: 1 }, Err(CallError::Wait { holder: 2 })),
+        (1, Call::Insert { key: 2, value }, Ok(Answer::Ok)),
+        (2, Call::Get { key: 2 }, Err(CallError::Busy { holder: 1 })),
+    ];
+    for (txn, call, wanted) in rows {
+        assert_eq!(rt; answer(&mut regions, &mut system, txn, call), Some(wanted));
+    }
+    assert_eq!(rt; system.refusals().len(), 1);
+    Ok(())
+}
+
+// Inserts the key 4, damages its cell, asks for it with precheck, and takes all back.
+#[tactic(auto, using(crate::proofs::Guards::begun_lives, crate::proofs::Guards::begun_covered, crate::proofs::Guards::still_lives))]
+fn damaged(
+    regions: &mut [Region; 2],
+    system: &mut System,
+    value: Value,
+) -> Option<(Result<Answer, CallError>, Result<(), StepError>)> {
+    if system.geometry().regions() != 2 {
+        return None;
+    }
+    let Ok((txn, _)) = system.begin() else {
+        return None;
+    };
+    let _ = perform(regions, system, txn, Call::Insert { key: 4, value }, true);
+    regions[1].poke(11, 0x0100_0000_0000_0000);
+    let refused = perform(regions, system, txn, Call::Get { key: 4 }, true);
+    Some((refused, abort(regions, system, txn)))
+}
+
+#[test]
+fn a_damaged_region_is_refused(rt: HostRuntime) -> Result<()> {
+    let value = Value::from_bytes(b"abc").context("no value")?;
+    let (mut regions, mut system) = begun(&rt, 200_000)?;
+    // the parity of 1 in word 0, and of the cell's state 1, key 4, length 3 and value
+    let cause = LatchError::Damaged {
+        codeword: 0x6162_6300_0000_0007,
+        found: 0x6062_6300_0000_0007,
+    };
+    let cause = StepError::Latch { cause };
+    // what takes back doesn't look at the codeword
+    assert_eq!(rt;
+        damaged(&mut regions, &mut system, value),
+        Some((Err(CallError::Refused { cause }), Ok(())))
+    );
+    assert_eq!(rt; (regions[1].words()[8], system.state(2)), (0, None));
     Ok(())
 }

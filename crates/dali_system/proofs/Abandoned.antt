@@ -21,8 +21,8 @@ use Rattle.dali_att.specs.Table.{fresh_row}
 use Rattle.dali_system.specs.State.{TxnRow, state_of, hold_of}
 use Rattle.dali_system.specs.Steps.{begun, refused, in_state, back_logged, ended_logged, store_stopped, taken}
 use Rattle.dali_system.specs.Keeps.{with_system, Latches, IsFree, died}
-use Rattle.dali_system.specs.Flushes.{with_vault, faulted}
-use Rattle.dali_system.specs.Courses.{Step, Begins, Refuses, Dies, Claims, GivesBack, Recovers, TakesBack, Ends, Takes, Faults, Stops, Moment, IsStepAt, IsCourse, CoreTraced}
+use Rattle.dali_system.specs.Flushes.{with_vault, faulted, read_failed}
+use Rattle.dali_system.specs.Courses.{Step, Begins, Refuses, Dies, Claims, GivesBack, Recovers, TakesBack, Ends, Takes, Faults, ReadFails, Stops, Moment, IsStepAt, IsCourse, CoreTraced}
 use Rattle.dali_system.specs.Worked.{small, first_log, first_vault, start, opening, touching, index_words, heap_words, stored, look, kill_cell, kill_entry, revive_cell, kills, abandoned, Abandoned, first_files}
 use Rattle.dali_system.proofs.Courses.{course_keeps, with_none}
 use Rattle.dali_system.proofs.Tables.{added}
@@ -197,8 +197,11 @@ ended = record { log = revived.log ++ Ended 1 ∷ []; core = with_system revived
 abbrev in_hand : Moment
 in_hand = record { log = ended.log; core = with_system ended.core (taken ended.core.system); audits = ended.audits }
 
+abbrev unread : Moment
+unread = record { log = in_hand.log; core = with_vault in_hand.core (read_failed in_hand.core.vault 1); audits = in_hand.audits }
+
 abbrev failed : Moment
-failed = record { log = in_hand.log; core = with_vault in_hand.core (faulted in_hand.core.vault 1); audits = in_hand.audits }
+failed = record { log = unread.log; core = with_vault unread.core (faulted unread.core.vault 2); audits = unread.audits }
 
 abbrev finish : Moment
 finish = record { log = failed.log; core = with_system failed.core (store_stopped failed.core.system); audits = failed.audits }
@@ -219,7 +222,10 @@ ends = ((refl, (record { next = refl; by = logs_by _ (Cleaning (Some 0)) (Ended 
 takes_frame : IsStepAt ended Takes in_hand
 takes_frame = ((refl, refl), refl)
 
-fails : IsStepAt in_hand (Faults 1) failed
+fails_to_read : IsStepAt in_hand (ReadFails 1) unread
+fails_to_read = ((inl (omega arith), (refl, refl)), refl)
+
+fails : IsStepAt unread (Faults 2) failed
 fails = ((refl, inl (omega arith), (refl, refl)), refl)
 
 stops : IsStepAt failed Stops finish
@@ -227,7 +233,7 @@ stops = ((refl, (refl, refl)), refl)
 
 -- ---- all of it
 abbrev ending : List Step
-ending = Ends 1 ∷ Takes ∷ Faults 1 ∷ Stops ∷ []
+ending = Ends 1 ∷ Takes ∷ ReadFails 1 ∷ Faults 2 ∷ Stops ∷ []
 
 abbrev reviving : List Step
 reviving = touching 1 revive_cell ((8, 1) ∷ []) (TakesBack 1 revive_cell) ++ ending
@@ -245,7 +251,7 @@ revive_to_end : left put_back reviving
 revive_to_end =
     join_traces put_back revived finish first_files first_files first_files (touching 1 revive_cell ((8, 1) ∷ []) (TakesBack 1 revive_cell)) ending
     (quiet_trace put_back revived (touching 1 revive_cell ((8, 1) ∷ []) (TakesBack 1 revive_cell)) first_files refl revive_course)
-    (ended, first_files, ends, refl, (in_hand, first_files, takes_frame, refl, (failed, first_files, fails, inl refl, (finish, first_files, stops, refl, (refl, refl)))))
+    (ended, first_files, ends, refl, (in_hand, first_files, takes_frame, refl, (unread, first_files, fails_to_read, refl, (failed, first_files, fails, inl refl, (finish, first_files, stops, refl, (refl, refl))))))
 
 claim_trace : left left_dead claiming
 claim_trace = (claimed_first, first_files, claims_first, refl, (given_back, first_files, gives_back, refl, (claimed, first_files, claims, refl, (put_back, first_files, takes, refl, revive_to_end))))

@@ -17,8 +17,8 @@ use Rattle.dali_record.specs.Damage.{has}
 use Rattle.dali_system.specs.Passes.{Pass, audits_with, has_found, IsVerdict, AuditsRun, no_audits}
 use Rattle.dali_system.specs.Keeps.{with_system}
 use Rattle.dali_system.specs.Loads.{new_core, IsAtRest}
-use Rattle.dali_system.specs.Flushes.{frame_of, longer, faulted, with_vault, Appended, Appending}
-use Rattle.dali_system.specs.Courses.{Begins, Operates, TakesBack, Frees, Answers, Commits, Ends, AuditBegins, AuditEnds, Locks, Refuses, OnRegion, Passes, Dies, Claims, GivesBack, Recovers, Stops, Checkpoints, Takes, Flushes, Faults, Adds, AddsNone, Moment, CameBy, RunsAt, StepKeeps, CourseKeeps, TakenAllIsFlushed, AuditEndTells, Step, LoadRunsAt, IsStepAt, BareCourseKeeps, BareLoadRuns}
+use Rattle.dali_system.specs.Flushes.{frame_of, longer, faulted, with_vault, Appended, Appending, read_failed}
+use Rattle.dali_system.specs.Courses.{Begins, Operates, TakesBack, Frees, Answers, Commits, Ends, AuditBegins, AuditEnds, Locks, Refuses, OnRegion, Passes, Dies, Claims, GivesBack, Recovers, Stops, Checkpoints, Takes, Flushes, Faults, ReadFails, Adds, AddsNone, Moment, CameBy, RunsAt, StepKeeps, CourseKeeps, TakenAllIsFlushed, AuditEndTells, Step, LoadRunsAt, IsStepAt, BareCourseKeeps, BareLoadRuns}
 use Rattle.dali_system.proofs.OneMore.{is_inside, last_epoch-push, VaultRun-push}
 use Rattle.dali_system.proofs.RecordSteps.{begin_keeps, op_keeps, back_keeps, solo_keeps, done_keeps, commit_keeps, ended_keeps}
 use Rattle.dali_system.proofs.AuditSteps.{audit_begin_keeps, audit_end_keeps}
@@ -27,7 +27,7 @@ use Rattle.dali_system.proofs.Deaths.{death_keeps, recover_keeps}
 use Rattle.dali_system.proofs.Passes.{AreLater, later_all, later_one, check_later, after_later, death_later, touch_later, audits_later, audits_begin, audits_pass, no_audits_run, pass_at}
 use Rattle.dali_system.proofs.AuditEnds.{pass_of, found_is, none_found, may_end_audit}
 use Rattle.dali_system.proofs.Loads.{load_runs}
-use Rattle.dali_system.proofs.Flushes.{take_keeps, flush_keeps, fault_keeps, flush_leaves, fault_leaves, longer_flushed, length-frame}
+use Rattle.dali_system.proofs.Flushes.{take_keeps, flush_keeps, fault_keeps, read_keeps, flush_leaves, fault_leaves, read_leaves, longer_flushed, length-frame}
 use Rattle.dali_geometry.specs.Sizes.{Sizes}
 use Rattle.dali_record.specs.Legal.{Rules}
 
@@ -49,6 +49,7 @@ vault_less old new L n v less run = record {
   within = run.within;
   prefix = λ F h. run.prefix F (less F h);
   exact = λ e F h. run.exact e F (less F h);
+  short = run.short;
   then_fits = run.then_fits;
   counts = run.counts;
   rose = run.rose;
@@ -214,6 +215,16 @@ step_stands bases before old new m n (Faults k) at s l =
       taken = at.run.taken;
       vault = fault_leaves old new (log_after before m.core.system) (stable m.core) (taken_to m.core.system) k m.core.vault at.run.vault at.run.frame at.run.taken s.0.0 s.0.1 (subst (λ L. Appending old new (frame_of L m.core)) at.log (record { each = l }));
     })
+step_stands bases before old new m n (ReadFails k) at s l =
+    at_once bases before new m n (with_vault m.core (read_failed m.core.vault k)) s.0.1.1 (s.0.1.0 ∙ at.log)
+    (record {
+      first = at.run.first;
+      began = at.run.began;
+      runs = read_keeps bases (log_after before m.core.system) m.core k at.run.runs;
+      frame = at.run.frame;
+      taken = at.run.taken;
+      vault = vault_less old new (log_after before m.core.system) (stable m.core) (read_failed m.core.vault k) (fewer old new l) (read_leaves old (log_after before m.core.system) (stable m.core) k m.core.vault at.run.vault s.0.0);
+    })
 
 -- ---- what each step leaves of the sizes and of the epochs
 pub record Goes (m n : Moment) : Type 0 where
@@ -249,6 +260,7 @@ step_goes m n (Checkpoints b) s = goes_on m n _ refl s.0.1
 step_goes m n Takes s = goes_on m n _ refl s.0
 step_goes m n Flushes s = goes_on m n _ refl s.0.1
 step_goes m n (Faults k) s = goes_on m n _ refl s.0.2
+step_goes m n (ReadFails k) s = goes_on m n _ refl s.0.1
 
 -- ---- what the audits have passed
 runs_on : (bases : Bases) (before : List Record) (old : Files → Type 0) (m : Moment) → RunsAt bases before old m → RunsOn bases m.log m.core
@@ -283,6 +295,7 @@ regions_later bases before old m n (Checkpoints b) at s = later_same m n _ s.0.1
 regions_later bases before old m n Takes at s = later_same m n _ s.0.1 refl
 regions_later bases before old m n Flushes at s = later_same m n _ s.0.1.1 refl
 regions_later bases before old m n (Faults k) at s = later_same m n _ s.0.2.1 refl
+regions_later bases before old m n (ReadFails k) at s = later_same m n _ s.0.1.1 refl
 
 -- the audits of a step that passes nothing
 audits_left : (bases : Bases) (before : List Record) (old : Files → Type 0) (m n : Moment) (x : Step) → RunsAt bases before old m → IsStepAt m x n → n.audits ≡ m.audits → AuditsRun n.log n.core n.audits
@@ -314,6 +327,7 @@ audits_step bases before old m n (Checkpoints b) at s = audits_left bases before
 audits_step bases before old m n Takes at s = audits_left bases before old m n Takes at s s.1
 audits_step bases before old m n Flushes at s = audits_left bases before old m n Flushes at s s.1
 audits_step bases before old m n (Faults k) at s = audits_left bases before old m n (Faults k) at s s.1
+audits_step bases before old m n (ReadFails k) at s = audits_left bases before old m n (ReadFails k) at s s.1
 
 -- of whatever a crash leaves
 pub step_runs : (bases : Bases) (before : List Record) (old new : Files → Type 0) (m n : Moment) (x : Step) → RunsAt bases before old m → IsStepAt m x n → LeavesBy old new m.log m.core x → RunsAt bases before new n

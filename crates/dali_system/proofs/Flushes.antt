@@ -1,15 +1,18 @@
 -- A frame that is taken, its flush, and a fault in one, keep a run.
-use Rattle.std.proofs.Common.{◌≡◌, ℕ, ◌+◌, ◌<◌, ◌≤◌, false, List, [], ◌∷◌, ◌++◌, length, take, drop, refl, ap, sym, ◌∙◌, inl, inr, ⊎_elim, arith}
+use Rattle.std.proofs.Common.{◌≡◌, ℕ, ◌+◌, ◌*◌, ◌<◌, ◌≤◌, false, List, [], ◌∷◌, ◌++◌, length, take, drop, refl, ap, sym, ◌∙◌, inl, inr, ⊎_elim, arith}
 use Rattle.std.specs.Prelude.{◌^◌, flat_map, sum_by}
 use Rattle.std.proofs.lemmas.List.{take-append-drop, append-nil, length-drop, length-take-le}
-use Rattle.std.proofs.lemmas.List.Sums.{sum_by_push}
+use Rattle.std.proofs.lemmas.List.Sums.{sum_by_push, sum_by-append}
 use Rattle.std.proofs.lemmas.Grind.{flat_map-append}
 use Rattle.dali_record.specs.declared.records.Record.{Record}
 use Rattle.dali_record.specs.Files.{Files, batch_length}
+use Rattle.dali_record.specs.Spelling.{record_length}
+use Rattle.dali_geometry.specs.Sizes.{Sizes}
 use Rattle.dali_counts.proofs.Lists.{take_take}
-use Rattle.dali_system.specs.State.{VaultState}
-use Rattle.dali_system.specs.Run.{CountRun, log_in, IsPrefix, HasRisen}
-use Rattle.dali_system.specs.Flushes.{with_batch, longer, TakeKeeps, FlushKeeps, FaultKeeps, FlushLeaves, FaultLeaves}
+use Rattle.dali_counts.proofs.ShortLogs.{is_short}
+use Rattle.dali_system.specs.State.{VaultState, CoreState, stable, log_after}
+use Rattle.dali_system.specs.Run.{LogRun, CountRun, VaultRun, log_in, IsPrefix, IsFlushed, HasRisen, Bases, RunsOn}
+use Rattle.dali_system.specs.Flushes.{with_batch, with_vault, longer, read_failed, TakeKeeps, FlushKeeps, FaultKeeps, FlushLeaves, FaultLeaves, EndIsSmall}
 
 batch_added : (batches : List (List Record)) (frame : List Record) → flat_map (λ b. b) (with_batch batches frame) ≡ flat_map (λ b. b) batches ++ frame
 batch_added batches [] = sym (append-nil (flat_map (λ b. b) batches))
@@ -51,6 +54,20 @@ longer_flushed v (r ∷ rs) = refl
 pub length-frame : (L : List Record) (n m : ℕ) → n ≤ m → m ≤ length L → n + length (drop n (take m L)) ≡ m
 length-frame L n m h g = omega (arith, h, length-drop n (take m L), length-take-le m L g)
 
+-- a batch is its records with a frame, and an empty one isn't written
+longer_end : (v : VaultState) (frame : List Record) → (longer v frame).end ≤ v.end + sum_by record_length frame + 5 * length frame
+longer_end v [] = omega arith
+longer_end v (r ∷ rs) = omega arith
+
+longer_within :
+    (L : List Record) (n m : ℕ) (v : VaultState) → n ≤ m → m ≤ length L → v.end ≤ sum_by record_length (take n L) + 5 * n
+    → (longer v (drop n (take m L))).end ≤ sum_by record_length (take m L) + 5 * m
+longer_within L n m v from to short =
+    let frame : List Record = drop n (take m L) in
+    let whole : sum_by record_length (take m L) ≡ sum_by record_length (take n L) + sum_by record_length frame =
+    ap (sum_by record_length) (sym (ap (λ l. l ++ frame) (sym (take_take n m L from)) ∙ take-append-drop n (take m L))) ∙ sum_by-append record_length (take n L) frame in
+    omega (arith, short, whole, longer_end v frame, length-frame L n m from to)
+
 longer_stopped : (v : VaultState) (frame : List Record) → (longer v frame).stopped ≡ v.stopped
 longer_stopped v [] = refl
 longer_stopped v (r ∷ rs) = refl
@@ -91,11 +108,40 @@ fault_keeps bases L c faults run = record {
   regions = run.regions;
 }
 
+pub read_keeps : (bases : Bases) (L : List Record) (c : CoreState) (faults : ℕ) → RunsOn bases L c → RunsOn bases L (with_vault c (read_failed c.vault faults))
+read_keeps bases L c faults run = record {
+  log = run.log;
+  counts = run.counts;
+  table = run.table;
+  locks = run.locks;
+  stop = record { damage = run.stop.damage; failed = run.stop.failed; store = run.stop.store };
+  whole = run.whole;
+  base = run.base;
+  regions = run.regions;
+}
+
+-- a count that rose goes on to have risen
+risen_still : (then before now : ℕ) → HasRisen then before → HasRisen before now → HasRisen then now
+risen_still then before now was rose = ⊎_elim (λ less. risen_since then before now (omega (arith, less)) rose) (λ full. inr (⊎_elim (λ more. omega (arith, full, more)) (λ still. still) rose)) was
+
+-- behind a read that failed, stopped or not
+pub read_leaves : (leave : Files → Type 0) (L : List Record) (n faults : ℕ) (v : VaultState) → VaultRun leave L n v → HasRisen v.faults faults → VaultRun leave L n (read_failed v faults)
+read_leaves leave L n faults v run rose = record {
+  within = run.within;
+  prefix = run.prefix;
+  exact = λ running F h. let old : IsFlushed L n v F = run.exact running F h in record { log = old.log; end = old.end };
+  short = run.short;
+  then_fits = run.then_fits;
+  counts = no_less v.faults_then v.faults faults run.then_fits run.counts rose;
+  rose = λ h. risen_still v.faults_then v.faults faults (run.rose h) rose;
+}
+
 pub flush_leaves : (old new : Files → Type 0) → FlushLeaves old new
 flush_leaves old new L n m v run from to runs store = record {
   within = to;
   prefix = λ F h. record { count = m; flushed = omega arith; within = to; log = has_taken F h };
   exact = λ running F h. record { log = has_taken F h; end = ends F h };
+  short = longer_within L n m v from to run.short;
   then_fits = longer_then v frame run.then_fits;
   counts = longer_counts v frame run.counts;
   rose = λ h. let isnt : (longer v frame).stopped ≡ false = longer_stopped v frame ∙ runs in absurd (cc);
@@ -115,6 +161,7 @@ fault_leaves old new L n m faults v run from to runs rose store = record {
   within = run.within;
   prefix = λ F h. let w = store.each F h in ⊎_elim (λ same. without F w.0 (run.prefix w.0 w.1) (ap (λ (f : Files). f.batches) same)) (λ more. record { count = m; flushed = from; within = to; log = taken_log L n m F w.0 from (run.exact runs w.0 w.1).log (ap (λ (f : Files). f.batches) more) }) w.2;
   exact = λ running. absurd (cc);
+  short = run.short;
   then_fits = run.then_fits;
   counts = no_less v.faults_then v.faults faults run.then_fits run.counts rose;
   rose = λ h. risen_since v.faults_then v.faults faults run.counts rose;
@@ -122,3 +169,14 @@ fault_leaves old new L n m faults v run from to runs rose store = record {
   where
     without : (F D : Files) → IsPrefix L n D → F.batches ≡ D.batches → IsPrefix L n F
     without F D is same = record { count = is.count; flushed = is.flushed; within = is.within; log = ap (flat_map (λ b. b)) same ∙ is.log }
+
+-- ---- where the log's file ends
+-- a front of a legal log is no longer than the log
+pub end_within : (s : Sizes) (L : List Record) (n end : ℕ) → LogRun s L → n ≤ length L → end ≤ sum_by record_length (take n L) + 5 * n → end < 2 ^ 62
+end_within s L n end log within short =
+    let whole : sum_by record_length L ≡ sum_by record_length (take n L) + sum_by record_length (drop n L) =
+    ap (sum_by record_length) (sym (take-append-drop n L)) ∙ sum_by-append record_length (take n L) (drop n L) in
+    omega (arith, short, within, whole, is_short s L log.legal log.spelled)
+
+pub end_is_small : EndIsSmall
+end_is_small bases before c run = end_within c.system.sizes (log_after before c.system) (stable c) c.vault.end run.runs.log run.vault.within run.vault.short

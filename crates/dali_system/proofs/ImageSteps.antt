@@ -21,7 +21,7 @@ use Rattle.dali_system.specs.Run.{Bases, log_in, only}
 use Rattle.dali_system.specs.Steps.{in_state}
 use Rattle.dali_system.proofs.Deaths.{region_with, dead_at}
 use Rattle.dali_system.specs.Regions.{IsOpen, RegionStep, Latch, NoteReads, Update, TakeBack, Poke, Check, Die, Clean, region_after}
-use Rattle.dali_system.specs.Courses.{Begins, Operates, TakesBack, Frees, Answers, Commits, Ends, AuditBegins, AuditEnds, Locks, Refuses, OnRegion, Passes, Dies, Claims, GivesBack, Recovers, Stops, Checkpoints, Takes, Flushes, Faults, IsStepAt, Moment, Step}
+use Rattle.dali_system.specs.Courses.{Begins, Operates, TakesBack, Frees, Answers, Commits, Ends, AuditBegins, AuditEnds, Locks, Refuses, OnRegion, Passes, Dies, Claims, GivesBack, Recovers, Stops, Checkpoints, Takes, Flushes, Faults, ReadFails, IsStepAt, Moment, Step}
 use Rattle.dali_system.specs.Images.{Told, FitsBut, is_missed, ImageRun}
 use Rattle.dali_system.specs.ImageSteps.{clears, ImagesKeep, same_side, CopyKeeps, told_with, writes_images}
 use Rattle.dali_system.specs.Keeps.{with_region}
@@ -169,6 +169,7 @@ images_kept bases told leave m n (Checkpoints b) run s w = images_same bases tol
 images_kept bases told leave m n Takes run s w = images_same bases told leave leave m.core n.core _ s.0.1 refl refl (λ F h. h) run
 images_kept bases told leave m n Flushes run s w = absurd (cc)
 images_kept bases told leave m n (Faults k) run s w = absurd (cc)
+images_kept bases told leave m n (ReadFails k) run s w = images_same bases told leave leave m.core n.core _ s.0.1.1 refl refl (λ F h. h) run
 
 pub images_keep : ImagesKeep
 images_keep bases told m n x F run s w = images_kept bases told (only F) m n x run s w

@@ -1,6 +1,6 @@
 -- The parts of a run with one more record at the end of its log.
 use Rattle.std.proofs.Common.{◌≡◌, ℕ, ◌+◌, ◌<◌, ◌≤◌, Bool, true, false, List, [], ◌∷◌, ◌++◌, length, Option, Some, None, refl, ap, sym, subst, ◌∙◌, ◌⊎◌, inl, inr, ⊎_elim, arith}
-use Rattle.std.specs.Prelude.{IsSome, ◌==◌, not, slice_get}
+use Rattle.std.specs.Prelude.{◌*◌, IsSome, ◌==◌, not, slice_get, sum_by}
 use Rattle.std.specs.FinMap.{get}
 use Rattle.std.proofs.lemmas.List.{take-append-le}
 use Rattle.std.proofs.lemmas.Option.{slice_get_within}
@@ -233,6 +233,7 @@ VaultRun-push leave L x n v run = record {
   within = omega (arith, run.within, length-push L x);
   prefix = λ F h. let old : IsPrefix L n F = run.prefix F h in record { count = old.count; flushed = old.flushed; within = omega (arith, old.within, length-push L x); log = old.log ∙ sym (take-append-le old.count L (x ∷ []) old.within) };
   exact = λ running F h. let old : IsFlushed L n v F = run.exact running F h in record { log = old.log ∙ sym (take-append-le n L (x ∷ []) run.within); end = old.end };
+  short = subst (λ K. v.end ≤ sum_by record_length K + 5 * n) (sym (take-append-le n L (x ∷ []) run.within)) run.short;
   then_fits = run.then_fits;
   counts = run.counts;
   rose = run.rose;

@@ -10,7 +10,7 @@ use Rattle.dali_region.specs.State.{RegionState}
 use Rattle.dali_system.specs.State.{SystemState, CoreState, state_of}
 use Rattle.dali_system.specs.Regions.{RegionStep, Update, region_after, MayChange, is_alive, IsAlone}
 use Rattle.dali_system.specs.Keeps.{with_region}
-use Rattle.dali_system.specs.Courses.{Step, OnRegion, Moment, IsStepAt, IsCourse, Answers, AuditBegins, AuditEnds, Begins, CameBy, Checkpoints, Claims, Commits, CoreTraced, Dies, Ends, Faults, Flushes, Frees, GivesBack, Locks, Operates, Passes, Recovers, Refuses, Stops, Takes, TakesBack}
+use Rattle.dali_system.specs.Courses.{Step, OnRegion, Moment, IsStepAt, IsCourse, Answers, AuditBegins, AuditEnds, Begins, CameBy, Checkpoints, Claims, Commits, CoreTraced, Dies, Ends, Faults, Flushes, Frees, GivesBack, Locks, Operates, Passes, ReadFails, Recovers, Refuses, Stops, Takes, TakesBack}
 use Rattle.dali_system.specs.Passes.{audits_with}
 use Rattle.dali_system.specs.Worked.{opening, touching}
 
@@ -47,6 +47,7 @@ came_quiet L c (Checkpoints b) D e = refl
 came_quiet L c Takes D e = refl
 came_quiet L c Flushes D e = absurd (cc)
 came_quiet L c (Faults n) D e = absurd (cc)
+came_quiet L c (ReadFails n) D e = refl
 
 -- steps that flush nothing leave it
 pub quiet_trace : (m n : Moment) (xs : List Step) (D : Files) → list_any is_flush xs ≡ false → IsCourse m xs n → CoreTraced m D xs n D

@@ -9,7 +9,7 @@ use Rattle.dali_counts.proofs.Lists.{some_same, length-push}
 use Rattle.dali_system.specs.State.{CoreState, state_in, state_of}
 use Rattle.dali_system.specs.Steps.{audit_record}
 use Rattle.dali_system.specs.Keeps.{may_log_in}
-use Rattle.dali_system.specs.Courses.{Begins, Operates, TakesBack, Frees, Answers, Commits, Ends, AuditBegins, AuditEnds, Locks, Refuses, OnRegion, Passes, Dies, Claims, GivesBack, Recovers, Stops, Checkpoints, Takes, Flushes, Faults}
+use Rattle.dali_system.specs.Courses.{Begins, Operates, TakesBack, Frees, Answers, Commits, Ends, AuditBegins, AuditEnds, Locks, Refuses, OnRegion, Passes, Dies, Claims, GivesBack, Recovers, Stops, Checkpoints, Takes, Flushes, Faults, ReadFails}
 use Rattle.dali_system.specs.Wholes.{owner_of, logs_as, WhoLogs}
 use Rattle.dali_system.proofs.WholeSteps.{none_yet}
 
@@ -117,3 +117,4 @@ who_logs bases L M c d (Checkpoints b) r t run s new whose = absurd (no_more L r
 who_logs bases L M c d Takes r t run s new whose = absurd (no_more L r (sym s.0 ∙ new))
 who_logs bases L M c d Flushes r t run s new whose = absurd (no_more L r (sym s.1.0 ∙ new))
 who_logs bases L M c d (Faults n) r t run s new whose = absurd (no_more L r (sym s.2.0 ∙ new))
+who_logs bases L M c d (ReadFails n) r t run s new whose = absurd (no_more L r (sym s.1.0 ∙ new))

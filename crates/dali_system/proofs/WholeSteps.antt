@@ -30,7 +30,7 @@ use Rattle.dali_system.specs.Run.{Bases, RunsOn, IsRow}
 use Rattle.dali_system.specs.Steps.{committed_row}
 use Rattle.dali_system.specs.Regions.{IsOpen, RegionStep, region_after, MayChange, IsAlone, Latch, NoteReads, Update, TakeBack, Poke, Check, Die, Clean}
 use Rattle.dali_system.specs.Keeps.{dead_in, may_log_in, MayDie, died}
-use Rattle.dali_system.specs.Courses.{Step, IsStep, Moment, Begins, Operates, TakesBack, Frees, Answers, Commits, Ends, AuditBegins, AuditEnds, Locks, Refuses, OnRegion, Passes, Dies, Claims, GivesBack, Recovers, Stops, Checkpoints, Takes, Flushes, Faults}
+use Rattle.dali_system.specs.Courses.{Step, IsStep, Moment, Begins, Operates, TakesBack, Frees, Answers, Commits, Ends, AuditBegins, AuditEnds, Locks, Refuses, OnRegion, Passes, Dies, Claims, GivesBack, Recovers, Stops, Checkpoints, Takes, Flushes, Faults, ReadFails}
 use Rattle.dali_system.specs.Wholes.{is_of_kind, AreOfKind, IsWhole, WholeKeeps, WholeCourseKeeps, LoadIsWhole}
 use Rattle.dali_system.proofs.Tables.{Puts, with_undos, changed, added, ended, kept, dropped}
 use Rattle.dali_system.proofs.RowStates.{puts_states, puts_same, undos_state, state_there, commit_there}
@@ -233,6 +233,7 @@ step_whole bases L M c d (Checkpoints b) run w s = subst IsWhole (sym s.1.1) (le
 step_whole bases L M c d Takes run w s = subst IsWhole (sym s.1) (left_whole c _ w refl refl refl)
 step_whole bases L M c d Flushes run w s = subst IsWhole (sym s.1.1) (left_whole c _ w refl refl refl)
 step_whole bases L M c d (Faults n) run w s = subst IsWhole (sym s.2.1) (left_whole c _ w refl refl refl)
+step_whole bases L M c d (ReadFails n) run w s = subst IsWhole (sym s.1.1) (left_whole c _ w refl refl refl)
 
 pub whole_keeps : WholeKeeps
 whole_keeps = step_whole

@@ -39,13 +39,14 @@ first_store = record {
   within = omega arith;
   prefix = λ F h. record { count = 1; flushed = omega arith; within = omega arith; log = ap log_in h };
   exact = λ e F h. record { log = ap log_in h; end = sym (ap (λ (G : Files). sum_by batch_length G.batches) h) };
+  short = omega arith;
   then_fits = omega arith;
   counts = omega arith;
   rose = λ h. absurd (cc);
 }
 
 pub bare_store : VaultRun no_image first_log 1 first_vault
-bare_store = record { within = omega arith; prefix = λ F h. absurd h; exact = λ e F h. absurd h; then_fits = omega arith; counts = omega arith; rose = λ h. absurd (cc) }
+bare_store = record { within = omega arith; prefix = λ F h. absurd h; exact = λ e F h. absurd h; short = omega arith; then_fits = omega arith; counts = omega arith; rose = λ h. absurd (cc) }
 
 pub start_runs : (base : List (List ℕ)) → length base ≡ 2 → AllAreWords base → RunsAt (λ n. base) first_log (only first_files) (start base)
 start_runs base whole words = load_runs_at (λ n. base) small first_log (passes rules_start (Format 1 1)) 1000000 first_vault first_files (format_rests small (refl, refl)) (omega arith) whole words first_store refl

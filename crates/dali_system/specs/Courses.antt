@@ -41,7 +41,7 @@ use Rattle.dali_system.specs.Keeps.{with_system, with_region, with_touched, HasR
 use Rattle.dali_system.specs.Audits.{MayLogEnd, MayEndAudit}
 use Rattle.dali_system.specs.Passes.{Pass, Audits, no_audits, audits_with, has_found, MayPass, IsVerdict, AuditsRun}
 use Rattle.dali_system.specs.Loads.{IsAtRest, new_core}
-use Rattle.dali_system.specs.Flushes.{frame_of, with_frame, with_vault, longer, faulted}
+use Rattle.dali_system.specs.Flushes.{frame_of, with_frame, with_vault, longer, faulted, read_failed}
 
 pub data Step : Type 0 where
   Begins : Step
@@ -73,6 +73,8 @@ pub data Step : Type 0 where
   Flushes : Step
   -- a flush meets a fault
   Faults : (faults : ℕ) → Step
+  -- a read of the log fails: the store's count of faults rises, and nothing else changes; so it may also once the vault has stopped
+  ReadFails : (faults : ℕ) → Step
 
 abbrev pub Adds : List Record → Record → CoreState → List Record → CoreState → Type 0
 Adds L x e M d = (M ≡ L ++ x ∷ []) × (d ≡ e)
@@ -103,6 +105,7 @@ IsStep L c (Checkpoints b) M d = (c.system.checking ≡ not b) × AddsNone L (wi
 IsStep L c Takes M d = AddsNone L (with_system c (taken c.system)) M d
 IsStep L c Flushes M d = (c.vault.stopped ≡ false) × AddsNone L (with_vault c (longer c.vault (frame_of L c))) M d
 IsStep L c (Faults n) M d = (c.vault.stopped ≡ false) × HasRisen c.vault.faults n × AddsNone L (with_vault c (faulted c.vault n)) M d
+IsStep L c (ReadFails n) M d = HasRisen c.vault.faults n × AddsNone L (with_vault c (read_failed c.vault n)) M d
 
 abbrev pub CheckpointsTurn : Type 0
 CheckpointsTurn = (L M : List Record) (c d : CoreState) (b : Bool) → IsStep L c (Checkpoints b) M d → (c.system.checking ≡ not b) × (d.system.checking ≡ b)

@@ -4,11 +4,12 @@
 --     Appended old new frame, Appending old new frame     what the store may leave once the batch was added, and while it is
 --     TakeKeeps, FlushKeeps, FaultKeeps    the parts of a run that don't look at the store
 --     FlushLeaves, FaultLeaves     the part that does
-use Rattle.std.specs.Prelude.{◌≡◌, ℕ, ◌+◌, ◌≤◌, ◌⊎◌, drop, take, true, false, List, [], ◌∷◌, ◌++◌, length}
+--     EndIsSmall               the log's file ends below 2^62 in every run, also over a store that tells nothing: so a flush may add its frame behind it
+use Rattle.std.specs.Prelude.{◌≡◌, ℕ, ◌+◌, ◌<◌, ◌≤◌, ◌^◌, ◌⊎◌, drop, take, true, false, List, [], ◌∷◌, ◌++◌, length}
 use Rattle.dali_record.specs.declared.records.Record.{Record}
 use Rattle.dali_record.specs.Files.{Files, batch_length}
 use Rattle.dali_system.specs.State.{VaultState, CoreState, taken_to, stable}
-use Rattle.dali_system.specs.Run.{Bases, RunsOn, HasRisen, VaultRun}
+use Rattle.dali_system.specs.Run.{Bases, RunsOn, HasRisen, VaultRun, IsRun, no_image}
 use Rattle.dali_system.specs.Keeps.{with_system}
 use Rattle.dali_system.specs.Steps.{taken}
 
@@ -44,6 +45,10 @@ longer v (r ∷ rs) = record v { end = v.end + batch_length (r ∷ rs); flushed 
 abbrev pub faulted : VaultState → ℕ → VaultState
 faulted v faults = record v { stopped = true; faults = faults }
 
+-- behind a read that failed
+abbrev pub read_failed : VaultState → ℕ → VaultState
+read_failed v faults = record v { faults = faults }
+
 abbrev pub TakeKeeps : Type 0
 TakeKeeps = (bases : Bases) (L : List Record) (c : CoreState) → RunsOn bases L c → RunsOn bases L (with_system c (taken c.system))
 
@@ -65,3 +70,7 @@ FaultLeaves old new =
     (L : List Record) (n m faults : ℕ) (v : VaultState) → VaultRun old L n v
     → n ≤ m → m ≤ length L → v.stopped ≡ false → HasRisen v.faults faults → Appending old new (drop n (take m L))
     → VaultRun new L n (faulted v faults)
+
+-- also of a vault that has stopped
+abbrev pub EndIsSmall : Type 0
+EndIsSmall = (bases : Bases) (before : List Record) (c : CoreState) → IsRun bases before no_image c → c.vault.end < 2 ^ 62

@@ -9,7 +9,7 @@
 --     VaultRun leave L n v              what crash images hold of the log, of which n records are flushed
 --     RunsOn bases L c                  all of these but the last
 --     IsRun bases before leave c        all of these, of the log that the system has
-use Rattle.std.specs.Prelude.{◌≡◌, ℕ, ◌+◌, ◌-◌, ◌^◌, ◌<◌, ◌≤◌, Bool, true, false, not, ◌⊎◌, List, [], ◌∷◌, if◌then◌else◌, ◌==◌, Option, Some, None, IsSome, is_some, IfSome, fold, take, length, sum_by, slice_get, flat_map}
+use Rattle.std.specs.Prelude.{◌≡◌, ℕ, ◌+◌, ◌-◌, ◌*◌, ◌^◌, ◌<◌, ◌≤◌, Bool, true, false, not, ◌⊎◌, List, [], ◌∷◌, if◌then◌else◌, ◌==◌, Option, Some, None, IsSome, is_some, IfSome, fold, take, length, sum_by, slice_get, flat_map}
 use Rattle.std.specs.FinMap as map
 use Rattle.dali_geometry.specs.Sizes.{Sizes}
 use Rattle.dali_geometry.specs.Places.{regions}
@@ -21,7 +21,7 @@ use Rattle.dali_record.specs.Blocks.{AreWords, changes_item}
 use Rattle.dali_record.specs.Log.{Touch, touch_of, touch_at}
 use Rattle.dali_record.specs.Epochs.{Epoch, last_epoch, next_number, clean_place}
 use Rattle.dali_record.specs.Damage.{any_touch}
-use Rattle.dali_record.specs.Spelling.{CanBeSpelled}
+use Rattle.dali_record.specs.Spelling.{CanBeSpelled, record_length}
 use Rattle.dali_record.specs.Locks.{EndedBetween, IsLockLegal}
 use Rattle.dali_record.specs.Settled.{settled, IsSoundAt}
 use Rattle.dali_record.specs.Legal.{TxnState, Unbegun, Active, Committed as Ending, Over, txn_state, Rules, rules_state, IsLegalFor}
@@ -185,6 +185,8 @@ pub record VaultRun (leave : Files → Type 0) (L : List Record) (n : ℕ) (v : 
   pub within : n ≤ length L
   pub prefix : (F : Files) → leave F → IsPrefix L n F
   pub exact : v.stopped ≡ false → (F : Files) → leave F → IsFlushed L n v F
+  -- whatever a crash may leave, the log's file is no longer than its records, with a frame for each of them
+  pub short : v.end ≤ sum_by record_length (take n L) + 5 * n
   -- the count of faults is one of 64 bits, and never falls
   pub then_fits : v.faults_then < 2 ^ 64
   pub counts : v.faults_then ≤ v.faults

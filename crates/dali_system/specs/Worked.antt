@@ -33,7 +33,7 @@ use Rattle.dali_system.specs.Loads.{new_core}
 use Rattle.dali_system.specs.Passes.{no_audits}
 use Rattle.dali_system.specs.Wholes.{IsWhole}
 use Rattle.dali_system.specs.Crashes.{NoneEscapes}
-use Rattle.dali_system.specs.Courses.{Step, Begins, Operates, TakesBack, Frees, Answers, Commits, Ends, AuditBegins, AuditEnds, Locks, Refuses, OnRegion, Passes, Dies, Claims, GivesBack, Recovers, Stops, Checkpoints, Takes, Flushes, Faults, Moment, CoreTraced, RunsAt}
+use Rattle.dali_system.specs.Courses.{Step, Begins, Operates, TakesBack, Frees, Answers, Commits, Ends, AuditBegins, AuditEnds, Locks, Refuses, OnRegion, Passes, Dies, Claims, GivesBack, Recovers, Stops, Checkpoints, Takes, Flushes, Faults, ReadFails, Moment, CoreTraced, RunsAt}
 
 -- ---- the first moment
 abbrev pub small : Sizes
@@ -133,7 +133,7 @@ abandoned =
     ++ touching 1 kill_entry ((1, 2) ∷ []) (Dies 1 (Some 0))
     ++ Claims 1 ∷ GivesBack 1 (Some 0) ∷ Claims 1 ∷ Recovers 0 ∷ []
     ++ touching 1 revive_cell ((8, 1) ∷ []) (TakesBack 1 revive_cell)
-    ++ Ends 1 ∷ Takes ∷ Faults 1 ∷ Stops ∷ []
+    ++ Ends 1 ∷ Takes ∷ ReadFails 1 ∷ Faults 2 ∷ Stops ∷ []
 
 pub record Abandoned : Type 0 where
   pub finish : Moment

@@ -1,7 +1,7 @@
 //! Laws over the definitions, each the contract of a function that does nothing: a step takes a run to a run.
 
 ghost use Rattle.dali_system.specs.Keeps.{BeginKeeps, OpKeeps, BackKeeps, SoloKeeps, DoneKeeps, CommitKeeps, EndedKeeps, GrantKeeps, RefuseKeeps, RegionKeeps, StopKeeps, StateKeeps, DeathKeeps, RecoverKeeps, CheckpointFlagKeeps};
-ghost use Rattle.dali_system.specs.Flushes.{TakeKeeps, FlushKeeps, FaultKeeps};
+ghost use Rattle.dali_system.specs.Flushes.{TakeKeeps, FlushKeeps, FaultKeeps, EndIsSmall};
 ghost use Rattle.dali_system.specs.Audits.{AuditBeginKeeps, AuditEndKeeps, AuditStarts, AuditGoesOn, PassCertifies, PassFinds, CertifiesStays};
 ghost use Rattle.dali_system.specs.Courses.{StepKeeps, CourseKeeps, TakenAllIsFlushed, LoadRunsAt, CheckpointsTurn, AuditEndTells, BareCourseKeeps, BareLoadRuns};
 ghost use Rattle.dali_system.specs.ImageSteps.{ImagesKeep, CopyKeeps, FlushKeepsImages, FaultKeepsImages};
@@ -112,6 +112,11 @@ pub fn flush_keeps_a_run()
 /// A flush meets a fault.
 pub fn fault_keeps_a_run()
     ensures { FaultKeeps }
+{}
+
+/// In a run the log's file ends below 2^62, whatever is known of the store: no flush meets that limit.
+pub fn a_log_ends_below_its_limit()
+    ensures { EndIsSmall }
 {}
 
 /// A core that was just made over a log at rest is a run.

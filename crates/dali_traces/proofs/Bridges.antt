@@ -19,14 +19,15 @@ use Rattle.dali_region.specs.declared.Side.{Side}
 use Rattle.dali_region.specs.declared.Side.TheVariants.{A, B}
 use Rattle.dali_store.specs.Store.{Files as Disk, file_of, SameBut}
 use Rattle.dali_store.specs.declared.store.FileName.TheVariants.{Log, ImageA, ImageB, Anchor}
-use Rattle.dali_system.specs.State.{CoreState, taken_to, stable}
-use Rattle.dali_system.specs.Run.{IsPrefix, log_in, only}
+use Rattle.dali_system.specs.State.{CoreState, taken_to, stable, log_after}
+use Rattle.dali_system.specs.Run.{Bases, IsPrefix, IsRun, log_in, no_image as no_crash, only}
 use Rattle.dali_system.specs.Flushes.{frame_of, with_batch, with_frame}
 use Rattle.dali_system.specs.Courses.{Flushes, Faults, Step}
 use Rattle.dali_crash.specs.Checkpoints.{Head, Point, StoreStep, Does, Copies, WritesHead, CopyFails, HeadFails, Turns, TurnFails, side_of, target, image_in, turned, IsTurnedFrom, Came, Inside, IsPointStep}
 use Rattle.dali_crash.specs.StoreRuns.{StoreRun}
 use Rattle.dali_crash.proofs.Restarts.{sizes_take, begins_behind}
 use Rattle.dali_crash.proofs.Courses.{format_is_history}
+use Rattle.dali_crash.proofs.Starts.{lawful}
 use Rattle.dali_batch.specs.Batch.{batch, batches}
 use Rattle.dali_batch.specs.Appending.{bodies_of, next_place, Adds, SomeAdded, AllAdded}
 use Rattle.dali_batch.specs.Log.{body_bytes, AreSpelled, bodies, records_in, HasFormat, LogOf}
@@ -71,7 +72,7 @@ spells_longer c d l D made more at whole log is each same adds = record {
     sizes = same_sizes D.batches more is.log.format
 
 -- ---- the batches of a frame
-abbrev frames : List Record → List (List Record)
+abbrev pub frames : List Record → List (List Record)
 frames [] = []
 frames (r ∷ rs) = (r ∷ rs) ∷ []
 
@@ -79,7 +80,7 @@ not_empty : (body : List ℕ) → ([] ≡ body → ⊥) → body ∷ [] ≡ bodi
 not_empty [] some = absurd (some refl)
 not_empty (b ∷ bs) some = refl
 
-frame_bodies : (rs : List Record) → bodies (frames rs) ≡ bodies_of (body_bytes rs)
+pub frame_bodies : (rs : List Record) → bodies (frames rs) ≡ bodies_of (body_bytes rs)
 frame_bodies [] = refl
 frame_bodies (r ∷ rs) = not_empty (body_bytes (r ∷ rs)) (some_bytes r (body_bytes rs))
 
@@ -90,7 +91,7 @@ frame_with : (D : Files) (rs : List Record) → longer D (frames rs) ≡ with_fr
 frame_with D [] = longer_none D
 frame_with D (r ∷ rs) = refl
 
-frames_spelled : (rs : List Record) → AreSpelled rs → AllByRecursion AreSpelled (frames rs)
+pub frames_spelled : (rs : List Record) → AreSpelled rs → AllByRecursion AreSpelled (frames rs)
 frames_spelled [] all = tt
 frames_spelled (r ∷ rs) all = (all, tt)
 
@@ -111,7 +112,7 @@ body_length : (rs : List Record) → AreSpelled rs → length (body_bytes rs) �
 body_length [] all = refl
 body_length (r ∷ rs) all = length-append (spelling r) (body_bytes rs) ∙ (ap (λ n. n + length (body_bytes rs)) (length-spelling r all.0) ∙ (ap (λ n. record_length r + n) (body_length rs all.1) ∙ sym (sum_by-cons record_length r rs)))
 
-batches_length : (L : List (List Record)) → AllByRecursion AreSpelled L → length (batches (bodies L)) ≡ sum_by batch_length L
+pub batches_length : (L : List (List Record)) → AllByRecursion AreSpelled L → length (batches (bodies L)) ≡ sum_by batch_length L
 batches_length [] all = refl
 batches_length (rs ∷ L) all =
     let one : length (batch (body_bytes rs)) ≡ batch_length rs = omega (arith, length-batch (body_bytes rs), body_length rs all.0) in
@@ -123,6 +124,10 @@ ends_at bytes L e log = log.front.place ∙ batches_length L log.front.each
 -- ---- files that came along steps
 pub runs_at : (s : Start) (made : List (List Record)) (p : Point) (D : Files) → TracedTo s made p D → StoreRun (bases_of s) s.log (only D) p
 runs_at s made p D t = trace_runs s t.first t.starts t.steps p D t.trace
+
+pub frame_spelled : (bases : Bases) (before : List Record) (c : CoreState) → IsRun bases before no_crash c → AreSpelled (frame_of (log_after before c.system) c)
+frame_spelled bases before c run =
+    spelled_behind (stable c) (take (taken_to c.system) (log_after before c.system)) (λ i r e. run.runs.log.spelled i r (get_in_take (taken_to c.system) (log_after before c.system) i r e))
 
 spelled_frame : (s : Start) (made : List (List Record)) (p : Point) (D : Files) → TracedTo s made p D → AreSpelled (frame_of p.log p.core)
 spelled_frame s made p D t = let run = (runs_at s made p D t).run in
@@ -452,11 +457,11 @@ format_starts old new index heap g limit v told heads synced can rules fits vaul
       record {
         first = F;
         starts = record {
-          history = history;
+          lawful = lawful (Format index heap ∷ []) history;
           rules = rules;
           fits = fits;
-          rests = fresh_rests (Format index heap ∷ []) v F history (record {
-            vault = vault.may;
+          rests = fresh_rests (Format index heap ∷ []) v F (record {
+            vault = record { runs = vault.runs; flushed = vault.flushed; faults = vault.faults; faults_fit = vault.faults_fit; short = omega (arith, vault.end); moved = omega (arith, vault.current) };
             none = refl;
             files = record { log = refl; kind = inl (record { batches = refl; gates = refl; place = refl; first = refl; weight = refl; next = refl; image = refl; table = refl }) };
             end = vault.end;
@@ -470,12 +475,12 @@ format_starts old new index heap g limit v told heads synced can rules fits vaul
     )
 
 pub restart_starts : (new : Disk → Type 0) → RestartStarts new
-restart_starts new s older rolled deleted r E history log some rules fits vault end restarted c left = (
+restart_starts new s older rolled deleted r E is_lawful log some rules fits vault end restarted c left = (
   F,
   spells,
   record {
     first = F;
-    starts = record { history = history; rules = rules; fits = fits; rests = fresh_rests s.log s.vault F history fresh };
+    starts = record { lawful = is_lawful; rules = rules; fits = fits; rests = fresh_rests s.log s.vault F fresh };
     steps = [];
     trace = (refl, refl);
     batches = λ h. refl;

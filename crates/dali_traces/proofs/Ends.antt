@@ -9,7 +9,7 @@ use Rattle.dali_record.specs.Files.{Files, batch_length}
 use Rattle.dali_history.specs.History.{AreSpelled}
 use Rattle.dali_history.proofs.Prefixes.{IsLegalFor-front}
 use Rattle.dali_history.proofs.Spelled.{AreSpelled-front}
-use Rattle.dali_counts.proofs.ShortLogs.{file_is_short}
+use Rattle.dali_counts.proofs.ShortLogs.{batches_framed, file_is_short}
 use Rattle.dali_store.specs.Store.{Files as Disk}
 use Rattle.dali_batch.specs.Batch.{IsBody}
 use Rattle.dali_batch.specs.Log.{body_bytes, bodies, LogOf}
@@ -18,8 +18,8 @@ use Rattle.dali_crash.specs.StoreRuns.{StoreRun, IsPlace}
 use Rattle.dali_crash.specs.Checkpoints.{Point}
 use Rattle.dali_crash.specs.Traces.{Start, bases_of}
 use Rattle.dali_traces.specs.Bridges.{TracedTo}
-use Rattle.dali_traces.specs.Ends.{EndIsSmall, PlaceIsSmall}
-use Rattle.dali_traces.proofs.Bridges.{runs_at}
+use Rattle.dali_traces.specs.Ends.{EndIsSmall, PlaceIsSmall, LogIsFramed}
+use Rattle.dali_traces.proofs.Bridges.{ends_at, runs_at}
 
 some_body : (b : List Record) → IsBody (body_bytes b) → 1 ≤ length b
 some_body [] is = absurd (omega (arith, is.0))
@@ -68,3 +68,6 @@ place_is_small may s B p all d left h begun =
     let D = all d left in
     let place : IsPlace D.0 h.first h.place = ((runs_at s B p D.0 D.2).kept h begun).place D.0 refl in
     omega (arith, place.2, first_less place.0 D.0.batches, disk_is_short s B p d D.0 D.1.end D.2 D.1.log)
+
+pub log_is_framed : LogIsFramed
+log_is_framed bytes B end log = omega (arith, ends_at bytes B end log, batches_framed B (some_in B log.front.sizes))

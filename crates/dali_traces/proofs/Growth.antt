@@ -1,15 +1,17 @@
 -- What only grows along steps, what the anchor tells, and what a fault leaves.
 use Rattle.std.proofs.Common.{◌≡◌, ℕ, ◌+◌, true, false, List, [], ◌∷◌, Some, None, refl, ap, sym, subst, ◌∙◌, inl, inr, ⊎_elim, arith}
-use Rattle.std.specs.Prelude.{◌⊎◌}
+use Rattle.std.specs.Prelude.{◌⊎◌, slice_get}
 use Rattle.dali_record.specs.declared.records.Record.{Record}
 use Rattle.dali_record.specs.Files.{Files}
+use Rattle.dali_region.specs.State.{RegionState}
+use Rattle.dali_region.specs.Answers.{is_dirty}
 use Rattle.dali_counts.proofs.Lists.{some_same}
 use Rattle.dali_system.specs.State.{CoreState}
 use Rattle.dali_system.specs.Courses.{Step, Flushes, Faults, CameBy}
 use Rattle.dali_system.specs.ImageSteps.{told_with}
-use Rattle.dali_crash.specs.Checkpoints.{Point, StoreStep, Does, Starts, Keeps, Copies, Skips, WritesHead, Syncs, Turns, CopyFails, HeadFails, SyncFails, TurnFails, Finishes, target, head_with, synced_with, copies_with, copies_after, IsTurnedFrom, IsOverwritten, with_fault, Came, Inside, IsPointStep, Traced, moment_of, turned}
+use Rattle.dali_crash.specs.Checkpoints.{Head, MayWrite, MayTurn, Point, StoreStep, Does, Starts, Keeps, Copies, Skips, WritesHead, Syncs, Turns, CopyFails, HeadFails, SyncFails, TurnFails, Finishes, target, head_with, synced_with, copies_with, copies_after, IsTurnedFrom, IsOverwritten, with_fault, Came, Inside, IsPointStep, Traced, moment_of, turned}
 use Rattle.dali_crash.proofs.StepLeaves.{vault_goes}
-use Rattle.dali_traces.specs.Growth.{IsNextOrNow, IsAnchored, AnchorTells, AnchorTellsInside, fault_of, IsLeftByFault, InsideIsFault, FaultIsInside, QuietInside}
+use Rattle.dali_traces.specs.Growth.{IsNextOrNow, IsAnchored, AnchorTells, AnchorTellsInside, fault_of, calls_store, MayFail, EachCallMayFail, OthersNeverFail, IsLeftByFault, InsideIsFault, FaultIsInside, QuietInside}
 use Rattle.dali_crash.proofs.Traces.{risen}
 use Rattle.dali_crash.specs.Traces.{Start, StartsAt, start_point}
 
@@ -223,3 +225,106 @@ quiet_inside p x D F e inside = ⊎_elim (λ same. same) (by_step x e) inside
     by_step (Skips r m) f came = came
     by_step Finishes f came = came
     by_step z f came = absurd (cc)
+
+-- ---- each call may fail
+pub each_call_may_fail : EachCallMayFail
+each_call_may_fail p q x ws n s calls rose = by_step x s calls
+  where
+    c : CoreState
+    c = p.core
+
+    in_flush : (y : Step) → fault_of (Does y) ws n ≡ Some (Does (Faults n)) → p.core.vault.stopped ≡ false → MayFail p (Does y) ws n
+    in_flush y is runs = record {
+      step = Does (Faults n);
+      is_fault = is;
+      behind = record { log = p.log; core = with_fault c n; audits = p.audits; told = p.told; heads = p.heads; synced = p.synced; begun = p.begun; copies = copies_after c (Faults n) p.copies };
+      leads = (refl, ((runs, rose, (refl, refl)), refl), refl);
+      vault = refl;
+    }
+
+    in_copy : (y : StoreStep) (r : ℕ) (g : RegionState) → fault_of y ws n ≡ Some (CopyFails r ws n) → slice_get p.core.regions r ≡ Some g → is_dirty g (target p) ≡ true → MayWrite p → MayFail p y ws n
+    in_copy y r g is at dirty may = record {
+      step = CopyFails r ws n;
+      is_fault = is;
+      behind = record {
+        log = p.log;
+        core = with_fault c n;
+        audits = p.audits;
+        told = told_with p.told (target p) r ws;
+        heads = p.heads;
+        synced = synced_with p.synced (target p) false;
+        begun = p.begun;
+        copies = copies_with p.copies (target p) r None;
+      };
+      leads = (g, at, dirty, record { may = may; rose = rose }, refl);
+      vault = refl;
+    }
+
+    in_head : (y : StoreStep) (h : Head) → fault_of y ws n ≡ Some (HeadFails h n) → MayWrite p → MayFail p y ws n
+    in_head y h is may = record {
+      step = HeadFails h n;
+      is_fault = is;
+      behind = record {
+        log = p.log;
+        core = with_fault c n;
+        audits = p.audits;
+        told = p.told;
+        heads = head_with p.heads (target p) h;
+        synced = synced_with p.synced (target p) false;
+        begun = p.begun;
+        copies = p.copies;
+      };
+      leads = (record { may = may; rose = rose }, refl);
+      vault = refl;
+    }
+
+    in_sync : (y : StoreStep) → fault_of y ws n ≡ Some (SyncFails n) → MayWrite p → MayFail p y ws n
+    in_sync y is may = record {
+      step = SyncFails n;
+      is_fault = is;
+      behind = record { log = p.log; core = with_fault c n; audits = p.audits; told = p.told; heads = p.heads; synced = p.synced; begun = p.begun; copies = p.copies };
+      leads = (record { may = may; rose = rose }, refl);
+      vault = refl;
+    }
+
+    in_turn : (y : StoreStep) (h : Head) (b k : ℕ) → fault_of y ws n ≡ Some (TurnFails n) → MayWrite p → MayTurn p h b k → MayFail p y ws n
+    in_turn y h b k is may turn = record {
+      step = TurnFails n;
+      is_fault = is;
+      behind = record { log = p.log; core = with_fault c n; audits = p.audits; told = p.told; heads = p.heads; synced = p.synced; begun = None; copies = p.copies };
+      leads = (h, b, k, record { may = may; rose = rose }, turn, refl);
+      vault = refl;
+    }
+
+    in_core : (y : Step) → IsPointStep p (Does y) q → calls_store (Does y) ≡ true → MayFail p (Does y) ws n
+    in_core Flushes st e = in_flush Flushes refl st.1.0.0
+    in_core (Faults k) st e = in_flush (Faults k) refl st.1.0.0
+    in_core y st e = absurd (cc)
+
+    by_step : (y : StoreStep) → IsPointStep p y q → calls_store y ≡ true → MayFail p y ws n
+    by_step (Does y) st e = in_core y st e
+    by_step (Copies r m) st e = in_copy (Copies r m) r st.0 refl st.1 st.3 st.2
+    by_step (CopyFails r us k) st e = in_copy (CopyFails r us k) r st.0 refl st.1 st.2 st.3.may
+    by_step (WritesHead h) st e = in_head (WritesHead h) h refl st.0
+    by_step (HeadFails h k) st e = in_head (HeadFails h k) h refl st.0.may
+    by_step Syncs st e = in_sync Syncs refl st.0
+    by_step (SyncFails k) st e = in_sync (SyncFails k) refl st.0.may
+    by_step Turns st e = in_turn Turns st.0 st.1 st.2 refl st.3 st.4
+    by_step (TurnFails k) st e = in_turn (TurnFails k) st.0 st.1 st.2 refl st.3.may st.4
+    by_step y st e = absurd (cc)
+
+pub others_never_fail : OthersNeverFail
+others_never_fail x ws n calls = by_step x calls
+  where
+    in_core : (y : Step) → calls_store (Does y) ≡ false → fault_of (Does y) ws n ≡ None
+    in_core Flushes e = absurd (cc)
+    in_core (Faults k) e = absurd (cc)
+    in_core y e = refl
+
+    by_step : (y : StoreStep) → calls_store y ≡ false → fault_of y ws n ≡ None
+    by_step (Does y) e = in_core y e
+    by_step Starts e = refl
+    by_step Keeps e = refl
+    by_step (Skips r m) e = refl
+    by_step Finishes e = refl
+    by_step y e = absurd (cc)

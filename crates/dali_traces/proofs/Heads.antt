@@ -1,7 +1,7 @@
 -- The head that is kept for an image fits its fields, where the log is legal.
-use Rattle.std.specs.List.{AllByRecursion}
+use Rattle.std.specs.List.{AllByRecursion, range_with_len}
 use Rattle.std.specs.List.Sorted.{IsStrictlyIncreasing}
-use Rattle.std.specs.Prelude.{IsSome, filter, filter_map, flat_map, map, nat_lt, not, slice_get, slice_index, sum_by, ◌&&◌, ◌||◌, ◌==◌}
+use Rattle.std.specs.Prelude.{IsSome, filter, filter_map, flat_map, is_some, map, nat_lt, not, slice_get, slice_index, sum_by, ◌&&◌, ◌||◌, ◌==◌}
 use Rattle.std.proofs.Common.{Bool, List, None, Option, Some, ap, arith, cond, drop, false, inl, inr, length, length-append, refl, subst, suc, sym, take, take-append-drop, true, zero, ℕ, ◌≡◌, ◌∷◌, ◌++◌, ◌∙◌, ◌⊎◌, ◌≤◌, ◌^◌, ◌+◌, ◌-◌, ◌<◌, ◌*◌, [], ⊎_elim}
 use Rattle.std.proofs.lemmas.Bool.{and_from, and_parts, both_ways, cases_lt, lt-ltb, or_cases, or_left, or_right}
 use Rattle.std.proofs.lemmas.List.{append-nil, length-map, length-take-le, take-append-le}
@@ -9,8 +9,9 @@ use Rattle.std.proofs.lemmas.List.Elements.{Contains-append_right, filter_map-ap
 use Rattle.std.proofs.lemmas.List.Folds.{list_any-append}
 use Rattle.std.proofs.lemmas.List.Kept.{IsStrictlyIncreasing-filter}
 use Rattle.std.proofs.lemmas.List.Sums.{sum_by_push}
+use Rattle.dali_geometry.specs.Places.{regions}
 use Rattle.dali_geometry.specs.Sizes.{Sizes}
-use Rattle.dali_record.specs.Blocks.{pending}
+use Rattle.dali_record.specs.Blocks.{AreWords, pending}
 use Rattle.dali_record.specs.Damage.{has}
 use Rattle.dali_record.specs.Epochs.{Cut, Epoch, cut, last_epoch, separates}
 use Rattle.dali_record.specs.Files.{Row, draws, next_after, row_of, table_before}
@@ -41,14 +42,17 @@ use Rattle.dali_counts.proofs.SmallLogs.{is_small, some_length}
 use Rattle.dali_counts.proofs.LightLogs.{is_light}
 use Rattle.dali_counts.proofs.Tallies.{number_is, numbers, numbers_drawn, tallies}
 use Rattle.dali_bytes.specs.Fields.{number32, number64}
-use Rattle.dali_crash.specs.Checkpoints.{head_now}
+use Rattle.dali_crash.specs.Checkpoints.{head_now, image_in, target}
 use Rattle.dali_crash.specs.StoreRuns.{IsKept}
+use Rattle.dali_crash.proofs.StoreRuns.{current_is_small}
+use Rattle.dali_system.proofs.Flushes.{end_within}
+use Rattle.std.proofs.lemmas.List.FromFn.{length-range_with_len}
 use Rattle.dali_system.specs.State.{log_after}
 use Rattle.dali_traces.specs.Disks.{IsPendingIn, IsRowIn, pending_bytes, row_bytes, txn_in, undoes_on}
-use Rattle.dali_traces.specs.Heads.{HeadsFit, KeptFits, StaysFitting}
+use Rattle.dali_traces.specs.Heads.{HeadsFit, KeptFits, StaysFitting, NextFits}
 use Rattle.dali_record.specs.declared.operations.Outcome.TheVariants.{Found, Absent, Added, NoEntry, Killed, Put as PutIn, NoCell, Value, Changed, NotLive, OtherKey, OddLength, Undone}
 use Rattle.dali_record.specs.declared.operations.Undo.TheVariants.{FreeCell as UndoFreeCell, ReviveCell as UndoReviveCell, Restore as UndoRestore, FreeEntry as UndoFreeEntry, ReviveEntry as UndoReviveEntry}
-use Rattle.dali_system.specs.Run.{no_image}
+use Rattle.dali_system.specs.Run.{LogRun, no_image}
 
 or_none : (a : Bool) → (a || false) ≡ a
 or_none true = refl
@@ -799,3 +803,29 @@ stays_fitting bases before st h image run begun number place regions_are words =
 
     some : 0 < length (take h.first st.log)
     some = omega (arith, size, w.from, begins_late L s.index s.heap (subst (λ M. slice_get M 0 ≡ Some (Format s.index s.heap)) (sym log) run.run.run.runs.log.format))
+
+-- ---- the words, once each region has a copy
+words_told : (told : ℕ → List ℕ) (k n : ℕ) → ((r : ℕ) → r < k + n → AreWords (told r)) → AllByRecursion AreWords (map told (range_with_len k n))
+words_told told k zero each = tt
+words_told told k (suc n) each = (each k (omega arith), words_told told (k + 1) n (λ r lt. each r (omega (arith, lt))))
+
+some_is : {X : Type 0} (o : Option X) → is_some o ≡ true → (x : X) × (o ≡ Some x)
+some_is None e = absurd (cc)
+some_is (Some x) e = (x, refl)
+
+pub next_fits : NextFits
+next_fits bases before st h run begun copied =
+    stays_fitting bases before st h (image_in s st.told (target st)) run begun
+    (omega (arith, kept.number, current_is_small bases before st run))
+    (omega (arith, kept.weight, kept.short, end_within s st.log h.first h.place log kept.to (omega (arith, kept.weight, kept.short))))
+    (length-map (range_with_len 0 (regions s)) (st.told (target st)) ∙ length-range_with_len 0 (regions s))
+    (words_told (st.told (target st)) 0 (regions s) (λ r lt. let k = some_is (st.copies (target st) r) (copied r (omega (arith, lt))) in run.written.copied (target st) r k.0 k.1))
+  where
+    s : Sizes
+    s = st.core.system.sizes
+
+    kept : IsKept st.log st.core.vault no_image h
+    kept = run.kept h begun
+
+    log : LogRun st.core.system.sizes st.log
+    log = subst (LogRun s) (sym run.run.log) run.run.run.runs.log

@@ -17,7 +17,7 @@
 --     IsRestartedBy, RestartStarts     so it is behind a restart
 --     GoesOnBy, StopsBy, IsRightIn     what a call that flushes makes of these: on Ok, in any case, and at each moment of it
 --     TurnsBy, TurnStopsBy, TurnIsRightIn      what a call that moves the anchor makes of them
-use Rattle.std.specs.Prelude.{◌≡◌, ℕ, ◌≤◌, ◌<◌, Bool, true, false, List, [], ◌∷◌, ◌++◌, length, sum_by, Some, Option, IfSome}
+use Rattle.std.specs.Prelude.{◌≡◌, ℕ, ◌≤◌, ◌<◌, ◌^◌, Bool, true, false, List, [], ◌∷◌, ◌++◌, length, sum_by, Some, Option, IfSome}
 use Rattle.dali_record.specs.declared.records.Record.{Record}
 use Rattle.dali_record.specs.declared.records.Record.TheVariants.{Format, Restarted}
 use Rattle.dali_record.specs.Spelling.{CanBeSpelled, spelling, record_length}
@@ -26,7 +26,7 @@ use Rattle.dali_record.specs.Legal.{sizes_of, Rules, rules_state}
 use Rattle.dali_record.specs.Files.{Files, batch_length, next_after}
 use Rattle.dali_region.specs.declared.Side.{Side}
 use Rattle.dali_history.specs.Recovered.{recovered}
-use Rattle.dali_history.specs.History.{IsHistory}
+use Rattle.dali_crash.specs.Starts.{IsLawful}
 use Rattle.dali_store.specs.Store.{Files as Disk, SameBut}
 use Rattle.dali_system.specs.State.{VaultState, stable}
 use Rattle.dali_system.specs.Run.{IsPrefix}
@@ -70,7 +70,10 @@ first_start index heap g limit v told heads synced = record {
 }
 
 pub record IsNewVault (v : VaultState) : Type 0 where
-  pub may : MayRun v
+  pub runs : v.stopped ≡ false
+  pub flushed : v.flushed ≡ 0
+  pub faults : v.faults_then ≤ v.faults
+  pub faults_fit : v.faults_then < 2 ^ 64
   pub end : v.end ≡ 15
   pub current : v.current ≡ 0
 
@@ -214,9 +217,9 @@ pub record IsRestartedBy (older : List (List Record)) (rolled deleted : List ℕ
 module _ (new : Disk → Type 0) where
   abbrev pub RestartStarts : Type 0
   RestartStarts =
-      (s : Start) (older : List (List Record)) (rolled deleted : List ℕ) (r : Record) (E : List Record) → IsHistory s.log
+      (s : Start) (older : List (List Record)) (rolled deleted : List ℕ) (r : Record) (E : List Record) → IsLawful s.log
       → s.log ≡ restarted_records older rolled deleted → (last_epoch (records_in older)).records ≡ r ∷ E
-      → rules_state (sizes_of s.log) s.log ≡ Some s.rules → s.limit ≤ 268435456 → MayRun s.vault
+      → rules_state (sizes_of s.log) s.log ≡ Some s.rules → s.limit ≤ 268435456 → MayRun s.log s.vault
       → s.vault.end ≡ sum_by batch_length (older ++ (Restarted rolled deleted ∷ []) ∷ [])
       → ((c : Disk) → new c → IsRestartedBy older rolled deleted s.vault.current c)
       → AllSpell new (TracedTo s (older ++ (Restarted rolled deleted ∷ []) ∷ []) (start_point s))

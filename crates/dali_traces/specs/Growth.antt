@@ -3,11 +3,16 @@
 --     AnchorTells              the open gates of each crash image are as many as the current number, or one more; just as many while the vault runs
 --     AnchorTellsInside        so it is inside a step
 --     fault_of x ws n          the step that is a fault in the step x, where x calls the store
+--     calls_store x            whether the step x calls the store to write, to sync, or to move the anchor
+--     EachCallMayFail          at each such step there is a fault in it, whatever the count that the store then has and the words that are read then
+--     OthersNeverFail          and at no other one
 --     InsideIsFault            inside a step a crash leaves what it left before, or what a fault in this step leaves
 --     FaultIsInside            and what a fault leaves may be left inside the step
 --     QuietInside              inside a step that doesn't call the store a crash leaves what it left before
-use Rattle.std.specs.Prelude.{◌≡◌, ℕ, ◌+◌, false, ◌⊎◌, List, [], Option, Some, None}
+use Rattle.std.specs.Prelude.{◌≡◌, ℕ, ◌+◌, Bool, true, false, ◌⊎◌, List, [], Option, Some, None}
 use Rattle.dali_record.specs.Files.{Files}
+use Rattle.dali_system.specs.Run.{HasRisen}
+use Rattle.dali_system.specs.Flushes.{faulted}
 use Rattle.dali_system.specs.Courses.{Flushes, Faults}
 use Rattle.dali_crash.specs.Checkpoints.{StoreStep, Does, Copies, WritesHead, Syncs, Turns, CopyFails, HeadFails, SyncFails, TurnFails, Came, Inside, IsPointStep, Point, Traced}
 use Rattle.dali_crash.specs.Traces.{Start, StartsAt, start_point}
@@ -47,6 +52,34 @@ fault_of (SyncFails k) ws n = Some (SyncFails n)
 fault_of Turns ws n = Some (TurnFails n)
 fault_of (TurnFails k) ws n = Some (TurnFails n)
 fault_of _ ws n = None
+
+abbrev pub calls_store : StoreStep → Bool
+calls_store (Does Flushes) = true
+calls_store (Does (Faults k)) = true
+calls_store (Copies r m) = true
+calls_store (CopyFails r us k) = true
+calls_store (WritesHead h) = true
+calls_store (HeadFails h k) = true
+calls_store Syncs = true
+calls_store (SyncFails k) = true
+calls_store Turns = true
+calls_store (TurnFails k) = true
+calls_store _ = false
+
+pub record MayFail (p : Point) (x : StoreStep) (ws : List ℕ) (n : ℕ) : Type 0 where
+  pub step : StoreStep
+  pub is_fault : fault_of x ws n ≡ Some step
+  pub behind : Point
+  pub leads : IsPointStep p step behind
+  pub vault : behind.core.vault ≡ faulted p.core.vault n
+
+abbrev pub EachCallMayFail : Type 0
+EachCallMayFail =
+    (p q : Point) (x : StoreStep) (ws : List ℕ) (n : ℕ) → IsPointStep p x q → calls_store x ≡ true → HasRisen p.core.vault.faults n
+    → MayFail p x ws n
+
+abbrev pub OthersNeverFail : Type 0
+OthersNeverFail = (x : StoreStep) (ws : List ℕ) (n : ℕ) → calls_store x ≡ false → fault_of x ws n ≡ None
 
 -- what a fault in the step x at p makes of the crash image D
 pub record IsLeftByFault (p : Point) (x : StoreStep) (D F : Files) : Type 0 where

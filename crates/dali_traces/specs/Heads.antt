@@ -5,7 +5,9 @@
 --                              regions do
 --     KeptFits                 so does the head that a checkpoint of a run keeps
 --     StaysFitting             and it does at every later moment of the run, as long as it is kept
-use Rattle.std.specs.Prelude.{◌≡◌, ◌⊎◌, ◌<◌, ◌+◌, ℕ, List, [], Some, length, sum_by}
+--     NextFits                 once each region has a copy, the words fit too, a region with stray writes among them: so what a checkpoint kept and copied can
+--                              be the next image
+use Rattle.std.specs.Prelude.{◌≡◌, ◌⊎◌, ◌<◌, ◌+◌, ℕ, List, [], Some, true, is_some, length, sum_by}
 use Rattle.std.specs.List.{AllByRecursion}
 use Rattle.dali_geometry.specs.Sizes.{Sizes}
 use Rattle.dali_geometry.specs.Places.{regions}
@@ -18,7 +20,7 @@ use Rattle.dali_record.specs.Spelling.{Is64, record_length}
 use Rattle.dali_history.specs.History.{AreSpelled}
 use Rattle.dali_system.specs.State.{CoreState}
 use Rattle.dali_system.specs.Run.{Bases, RunsOn, no_image}
-use Rattle.dali_crash.specs.Checkpoints.{Head, Point, head_now}
+use Rattle.dali_crash.specs.Checkpoints.{Head, Point, head_now, image_in, target}
 use Rattle.dali_crash.specs.StoreRuns.{StoreRun}
 use Rattle.dali_traces.specs.Disks.{CanBeImage}
 
@@ -49,3 +51,9 @@ StaysFitting =
     → p.begun ≡ Some h → Is64 h.number → Is64 h.place
     → length image ≡ regions p.core.system.sizes → AllByRecursion AreWords image
     → CanBeImage p.core.system.sizes h image
+
+abbrev pub NextFits : Type 0
+NextFits =
+    (bases : Bases) (before : List Record) (p : Point) (h : Head) → StoreRun bases before no_image p → p.begun ≡ Some h
+    → ((r : ℕ) → r < regions p.core.system.sizes → is_some (p.copies (target p) r) ≡ true)
+    → CanBeImage p.core.system.sizes h (image_in p.core.system.sizes p.told (target p))

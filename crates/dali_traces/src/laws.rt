@@ -1,11 +1,11 @@
 //! Laws over the definitions, each the contract of a function that does nothing.
 
 ghost use Rattle.std.specs.Prelude.{ℕ};
-ghost use Rattle.dali_traces.specs.Growth.{AnchorTells, AnchorTellsInside, InsideIsFault, FaultIsInside, QuietInside};
+ghost use Rattle.dali_traces.specs.Growth.{AnchorTells, AnchorTellsInside, EachCallMayFail, OthersNeverFail, InsideIsFault, FaultIsInside, QuietInside};
 ghost use Rattle.dali_traces.specs.Places.{ImageIsRead, WriteIsRead};
 ghost use Rattle.dali_traces.specs.Images.{HeadIsRead, CopyIsRead, HeadGoesOn, QuietIsRead, SyncHolds, HeldGoesOn};
-ghost use Rattle.dali_traces.specs.Heads.{HeadsFit, KeptFits, StaysFitting};
-ghost use Rattle.dali_traces.specs.Ends.{EndIsSmall, PlaceIsSmall};
+ghost use Rattle.dali_traces.specs.Heads.{HeadsFit, KeptFits, StaysFitting, NextFits};
+ghost use Rattle.dali_traces.specs.Ends.{EndIsSmall, PlaceIsSmall, LogIsFramed};
 ghost use Rattle.dali_traces.specs.Changes.{SpellsBeside, SpellsLonger, SpellsTurned};
 ghost use Rattle.dali_traces.specs.Ordered.{OrderedIsRead};
 ghost use Rattle.dali_traces.specs.NewFiles.{EmptyReads, HeaderBegins, CopyContinues, QuietContinues, TableEnds};
@@ -22,8 +22,11 @@ pub fn the_anchor_tells_the_current_image()
 {}
 
 /// Inside a step a crash leaves what it left before, or what a fault in this step leaves; all that a fault leaves may be
-/// left there; and nothing else is left inside a step that calls no store.
+/// left there; and nothing else is left inside a step that calls no store. At each step that calls it, a sync too, a fault
+/// may come, and at no other one.
 pub fn inside_a_step_stands_what_a_fault_leaves()
+    ensures may_fail { EachCallMayFail }
+    ensures others { OthersNeverFail }
     ensures is_fault { InsideIsFault }
     ensures faults { FaultIsInside }
     ensures quiet { QuietInside }
@@ -100,11 +103,12 @@ pub fn images_are_read_by_places()
 
 /// The head that a checkpoint or a restart keeps of a legal log fits the fields of an image: its numbers, its rows in
 /// order and in range, and their undos; and so it does as long as a checkpoint keeps it. Only the bounds of its own
-/// number and place, and of the words, are asked for.
+/// number and place, and of the words, are asked for; and once each region has a copy, none of them.
 pub fn a_kept_head_fits_its_fields()
     ensures fits { HeadsFit }
     ensures kept { KeptFits }
     ensures later { StaysFitting }
+    ensures next { NextFits }
 {}
 
 /// An image file of any length, an empty one too, is written in order, its header first, then its regions, and its table
@@ -131,10 +135,12 @@ pub fn a_synced_image_is_held<V: Store>()
 {}
 
 /// Where each disk that a crash may leave spells files that came along steps, the log ends below 2^62 while the vault runs,
-/// which is what a flush asks for, and so is the place that a checkpoint keeps.
+/// which is what a flush asks for, and so is the place that a checkpoint keeps. A log is no longer than its records, with a
+/// frame for each, as a start asks.
 pub fn a_log_ends_below_its_limit<V: Store>()
     ensures end { (v : V) → EndIsSmall (V.may_leave v) }
     ensures place { (v : V) → PlaceIsSmall (V.may_leave v) }
+    ensures framed { LogIsFramed }
 {}
 
 /// Files go on to be spelled whatever is written to the file of the image that the anchor doesn't name; with more batches

@@ -1,1 +1,2 @@
 pub mod Vaulted
+pub mod Stepped

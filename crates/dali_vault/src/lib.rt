@@ -3,6 +3,7 @@
 #![tactic(auto)]
 
 mod error;
+pub mod laws;
 mod vault;
 
 pub use error::VaultError;

@@ -1,4 +1,4 @@
-use Rattle.std.proofs.Common.{◌∷◌, arith, rules}
+use Rattle.std.proofs.Common.{◌∷◌, ◌∙◌, arith, rules}
 use Rattle.std.specs.Prelude.{IsNone, IsSome}
 use Rattle.std.proofs.lemmas.Result.{err_from_is_err_and}
 use Rattle.dali_record.specs.declared.records.Record.TheVariants.{Format}
@@ -27,6 +27,7 @@ records-preserved g c =
       reads = reads_then g.V.Store.told g.V.Store.moment g.V.Store.left_since g.V.Store.may_leave c.args.store.now c.records.store c.next.new.store c.records.invariant.reads c.next.ensures.reads;
       passes = passes_on _ _ _ c.records.invariant.passes c.next.ensures.passes;
       later = omega (arith, c.records.invariant.later, c.next.ensures.later);
+      kept = c.in_ok-entry.ensures.kept (λ wrong. absurd cc) ∙ c.records.invariant.kept;
     }
 
 pub returns-clause-all : goal.returns-clause-all

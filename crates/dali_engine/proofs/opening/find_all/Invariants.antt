@@ -1,4 +1,4 @@
-use Rattle.std.proofs.Common.{◌≤◌, ◌-◌, ◌^◌, [], ◌∷◌, IfSome}
+use Rattle.std.proofs.Common.{◌≡◌, ◌≤◌, ◌-◌, ◌^◌, [], ◌∷◌, IfSome}
 use Rattle.dali_record.specs.declared.records.Record.TheVariants.{Format}
 use Rattle.dali_batch.specs.Reads.{OnlyReads}
 use Rattle.dali_batch.specs.Stream.{IsWhole, IsReadTo}
@@ -15,6 +15,7 @@ invariant-records g l = record {
   reads : OnlyReads g.V.Store.told g.V.Store.moment g.V.Store.left_since g.V.Store.may_leave l.fn.store l.store;
   passes : PassesFewer (g.V.Store.lets_pass l.fn.store) (g.V.Store.lets_pass l.store);
   later : g.V.Store.faults l.fn.store ≤ g.V.Store.faults l.store;
+  kept : g.V.Store.faults l.store ≡ g.V.Store.faults l.fn.store;
 }
 
 abbrev pub decreases-records : goal.decreases-records

@@ -30,7 +30,11 @@ returns-in_err-text_of_lines-clause-fails g c =
     let p = err_from_is_err_and c.from_residual-in_err-text_of_lines.result c.from_residual-in_err-text_of_lines.ensures.1 in
     rw (p.1, p.2) (
     lines_wanting g.V.Store.told g.V.Store.may_leave g.V.Store.moment g.V.Store.left_since g.V.Store.faults c.args.command.now (running c.args.engine.now c.args.store.now) (running c.act.new.self c.act.new.store) c.new-lines.result
-    c.act.new.stage c.act.new.lines c.new-lines.ensures c.in_ok-act.ensures.acts
+    c.act.new.stage c.act.new.lines c.new-lines.ensures c.in_ok-act.ensures.acts (λ same.
+    elim c.else-is_stopped_audit.branch [
+      | else-is_stopped_audit-via-then-is_stopped_audit+else-not-spent w ↦ w.spent.ensures.0 w.if-not-spent.false
+      | else-is_stopped_audit-via-else-is_stopped_audit w ↦ absurd (not_both c.is_stopped_audit.result (c.is_stopped_audit.ensures.1 same) w.if-is_stopped_audit.false)
+    ])
     )
 
 pub returns-clause-acts : goal.returns-clause-acts
@@ -40,4 +44,4 @@ returns-clause-acts g c =
     elim c.else-is_stopped_audit.branch [
       | else-is_stopped_audit-via-then-is_stopped_audit+else-not-spent w ↦ w.spent.ensures.0 w.if-not-spent.false
       | else-is_stopped_audit-via-else-is_stopped_audit w ↦ absurd (not_both c.is_stopped_audit.result (c.is_stopped_audit.ensures.1 same) w.if-is_stopped_audit.false)
-    ]) c.act.ensures.passes
+    ]) (record { passes = c.act.ensures.passes; later = c.act.ensures.later })

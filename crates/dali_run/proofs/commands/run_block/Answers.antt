@@ -21,7 +21,7 @@ returns-in_err-put_client_lines-clause-lost g c =
     let p = err_from_is_err_and c.from_residual-in_err-put_client_lines.result c.from_residual-in_err-put_client_lines.ensures.1 in
     rw (p.1, p.2) (
     block_untold g.V.Store.told g.V.Store.may_leave g.V.Store.moment g.V.Store.left_since g.V.Store.faults block old new (client_texts block.client c.run_block.new.lines)
-    (block_ran g.V.Store.told g.V.Store.may_leave g.V.Store.moment g.V.Store.left_since g.V.Store.faults block old new c.as_slice.result.now c.new-lines.result acts.0 c.run_block.new.lines c.as_slice.ensures c.new-lines.ensures acts.1 c.run_block.ensures.passes)
+    (block_ran g.V.Store.told g.V.Store.may_leave g.V.Store.moment g.V.Store.left_since g.V.Store.faults block old new c.as_slice.result.now c.new-lines.result acts.0 c.run_block.new.lines c.as_slice.ensures c.new-lines.ensures acts.1 (record { passes = c.run_block.ensures.passes; later = c.run_block.ensures.later }))
     )
 
 pub returns-clause-ran : goal.returns-clause-ran
@@ -31,5 +31,5 @@ returns-clause-ran g c =
       client_texts block.client c.run_block.new.lines,
       c.in_ok-put_client_lines.ensures,
       block_ran g.V.Store.told g.V.Store.may_leave g.V.Store.moment g.V.Store.left_since g.V.Store.faults block (running c.args.engine.now c.args.store.now) (running c.run_block.new.self c.run_block.new.store)
-          c.as_slice.result.now c.new-lines.result acts.0 c.run_block.new.lines c.as_slice.ensures c.new-lines.ensures acts.1 c.run_block.ensures.passes,
+          c.as_slice.result.now c.new-lines.result acts.0 c.run_block.new.lines c.as_slice.ensures c.new-lines.ensures acts.1 (record { passes = c.run_block.ensures.passes; later = c.run_block.ensures.later }),
     )

@@ -1,4 +1,4 @@
-use Rattle.std.proofs.Common.{sym, subst, map}
+use Rattle.std.proofs.Common.{◌∙◌, sym, subst, map}
 use Rattle.std.specs.Prelude.{string_bytes}
 use Rattle.dali_run.specs.declared.status.Status.{Status}
 use Rattle.dali_run.specs.Ends.{course, Ended}
@@ -17,6 +17,7 @@ returns-clause-ended g c =
           (g.K.Sink.taken c.run_words-store.new.sink) (g.K.Sink.faults c.run_words-store.new.sink) c.finish-status.result
           (subst (λ (s : Status). Ended g.V.Store.told g.V.Store.may_leave g.V.Store.moment g.V.Store.left_since g.V.Store.faults g.V.Store.cuts words before (g.K.Sink.taken c.run_words-store.new.sink) (g.K.Sink.faults c.run_words-store.new.sink) s) (sym c.finish-status.ensures.status) c.run_words-store.ensures.ended);
       later = c.finish-status.ensures.later;
+      read = λ other. c.run_words-store.ensures.read (λ is. other (c.finish-status.ensures.status ∙ is));
       last = c.finish-status.ensures.last;
     }
 

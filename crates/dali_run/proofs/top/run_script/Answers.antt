@@ -1,8 +1,9 @@
-use Rattle.std.proofs.Common.{◌≡◌, ◌<◌, ◌+◌, List, length, get_or, refl, sym, subst, arith}
+use Rattle.std.proofs.Common.{◌≡◌, ◌<◌, ◌+◌, List, length, get_or, sym, subst, arith}
 use Rattle.dali_script.specs.declared.commands.Command.{Command}
 use Rattle.dali_run.specs.Program.{IsUp}
 use Rattle.dali_memstore.specs.Fuse.{failed_of}
 use Rattle.dali_run.specs.declared.program.Program.{Program}
+use Rattle.dali_run.proofs.Counted.{none_left}
 use Rattle.dali_run.proofs.Courses.{Reached, begins, goes_on, stops_in, is_whole, ok_of, err_of, is_up_down}
 use Rattle.dali_run.proofs.top.run_script.Goals as goal
 
@@ -42,7 +43,7 @@ loop-command-preserved g c =
           (g.K.Sink.taken c.args.sink.now) (g.K.Sink.taken c.loop-command.sink) (g.K.Sink.taken c.run_command-next.new.sink) c.loop-command.program c.run_command-next.result.0 within is c.loop-command.invariant.reached
           (ok_of c.run_command-next.result.1 c.in_default.field-0 c.in_default.is c.run_command-next.ensures.done));
       gated = subst (λ (p : Program g.row.V.Denot). IsUp g.V.Store.told g.V.Store.may_leave p) (sym c.settled-program.ensures) (ok_of c.run_command-next.result.1 c.in_default.field-0 c.in_default.is c.run_command-next.ensures.gated);
-      unspent = subst (λ (p : Program g.row.V.Denot). failed_of p.store ≡ 0) (sym c.settled-program.ensures) refl;
+      unspent = subst (λ (p : Program g.row.V.Denot). failed_of p.store ≡ 0) (sym c.settled-program.ensures) (none_left c.run_command-next.result.0.store.passes);
       later = omega (arith, c.loop-command.invariant.later, c.run_command-next.ensures.later);
     }
 

@@ -10,19 +10,19 @@ pub bounds-regions-region : goal.bounds-regions-region
 bounds-regions-region c = region_there c.loop-region.regions c.loop-region.system.state c.loop-region.plan c.in-Region.region c.loop-region.invariant.rest c.wants.ensures.whole c.in-Region.ensures.wants
 
 pub loop-region-smaller : goal.loop-region-smaller
-loop-region-smaller c = fewer_left c.loop-region.plan c.operate.new.plan _ c.operate.new.region c.loop-region.system.state c.operate.new.system.state c.wants.ensures.whole c.in-Ok.ensures.ok
+loop-region-smaller c = fewer_left c.args.precheck c.loop-region.plan c.operate.new.plan _ c.operate.new.region c.loop-region.system.state c.operate.new.system.state c.wants.ensures.whole c.in-Ok.ensures.ok
 
 pub loop-region-preserved : goal.loop-region-preserved
 loop-region-preserved c =
     let there = region_there c.loop-region.regions c.loop-region.system.state c.loop-region.plan c.in-Region.region c.loop-region.invariant.rest c.wants.ensures.whole c.in-Region.ensures.wants in
-    one_further c.args.regions.now c.loop-region.regions c.args.system.now.state c.loop-region.system.state c.operate.new.system.state c.args.plan.now c.loop-region.plan c.operate.new.plan c.in-Region.region _ c.operate.new.region c.loop-region.invariant c.wants.ensures.whole c.in-Region.ensures.wants (get_here c.loop-region.regions c.in-Region.region _ there) c.in-Ok.ensures.ok
+    one_further c.args.precheck c.args.regions.now c.loop-region.regions c.args.system.now.state c.loop-region.system.state c.operate.new.system.state c.args.plan.now c.loop-region.plan c.operate.new.plan c.in-Region.region _ c.operate.new.region c.loop-region.invariant c.wants.ensures.whole c.in-Region.ensures.wants (get_here c.loop-region.regions c.in-Region.region _ there) c.in-Ok.ensures.ok
 
 pub returns-in-Err-clause-goes : goal.returns-in-Err-clause-goes
 returns-in-Err-clause-goes c =
     let there = region_there c.loop-region.regions c.loop-region.system.state c.loop-region.plan c.in-Region.region c.loop-region.invariant.rest c.wants.ensures.whole c.in-Region.ensures.wants in
-    none_further c.args.regions.now c.loop-region.regions c.args.system.now.state c.loop-region.system.state c.operate.new.system.state c.args.plan.now c.loop-region.plan c.operate.new.plan c.in-Region.region _ c.operate.new.region c.loop-region.invariant (get_here c.loop-region.regions c.in-Region.region _ there) c.in-Err.ensures.err.0 (ap (λ (s : Served). s.state) c.in-Err.ensures.err.1) c.in-Err.ensures.err.2
+    none_further c.args.precheck c.args.regions.now c.loop-region.regions c.args.system.now.state c.loop-region.system.state c.operate.new.system.state c.args.plan.now c.loop-region.plan c.operate.new.plan c.in-Region.region _ c.operate.new.region c.loop-region.invariant (get_here c.loop-region.regions c.in-Region.region _ there) c.in-Err.ensures.err.0 (ap (λ (s : Served). s.state) c.in-Err.ensures.err.1) c.in-Err.ensures.err.2
 
 pub returns-in-Err-clause-cause : goal.returns-in-Err-clause-cause
 returns-in-Err-clause-cause c =
     let there = region_there c.loop-region.regions c.loop-region.system.state c.loop-region.plan c.in-Region.region c.loop-region.invariant.rest c.wants.ensures.whole c.in-Region.ensures.wants in
-    cause_in c.args.plan.now c.loop-region.plan c.loop-region.regions c.in-Region.region _ c.operate.new.region c.operate.new.system.state c.in-Err.cause c.loop-region.invariant.same (get_here c.loop-region.regions c.in-Region.region c.operate.new.region there) c.in-Err.ensures.cause
+    cause_in c.args.precheck c.args.plan.now c.loop-region.plan c.loop-region.regions c.in-Region.region _ c.operate.new.region c.operate.new.system.state c.in-Err.cause c.loop-region.invariant.same (get_here c.loop-region.regions c.in-Region.region c.operate.new.region there) c.in-Err.ensures.cause

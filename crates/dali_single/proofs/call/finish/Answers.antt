@@ -20,4 +20,4 @@ returns-in-Ok-done-clause-ok c = record {
 pub returns-in-Err-done-clause-cause : goal.returns-in-Err-done-clause-cause
 returns-in-Err-done-clause-cause c =
     let same = c.advance.ensures.goes.same in
-    done_refused c.advance.new.plan c.args.plan.now.txn c.advance.new.system.state c.done.new.system.state c.advance.new.regions c.in-Err-done.cause c.advance.ensures.whole (ap (λ (p : Planned). p.phase) same ∙ c.requires.calling) c.in-Ok.ensures.ends (ap (λ (p : Planned). p.txn) same) (ap (λ (s : Served). s.state) c.in-Err-done.ensures.err.0) c.in-Err-done.ensures.refused c.in-Err-done.ensures.memory
+    done_refused c.args.precheck c.advance.new.plan c.args.plan.now.txn c.advance.new.system.state c.done.new.system.state c.advance.new.regions c.in-Err-done.cause c.advance.ensures.whole (ap (λ (p : Planned). p.phase) same ∙ c.requires.calling) c.in-Ok.ensures.ends (ap (λ (p : Planned). p.txn) same) (ap (λ (s : Served). s.state) c.in-Err-done.ensures.err.0) c.in-Err-done.ensures.refused c.in-Err-done.ensures.memory

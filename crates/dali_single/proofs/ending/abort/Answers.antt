@@ -1,7 +1,15 @@
 use Rattle.std.proofs.Common.{ap}
 use Rattle.dali_core.specs.Served.{Served}
-use Rattle.dali_single.proofs.Undoing.{abort_ends}
+use Rattle.dali_single.proofs.Undoing.{abort_ends, ended_gone, ended_others, others_further}
 use Rattle.dali_single.proofs.ending.abort.Goals as goal
 
 pub returns-in-Ok-ended-clause-ok : goal.returns-in-Ok-ended-clause-ok
 returns-in-Ok-ended-clause-ok c = abort_ends c.args.regions.now c.take_back.new.regions c.args.system.now.state c.take_back.new.system.state c.ended.new.self.state c.args.txn c.take_back.ensures.goes c.in-Ok.ensures.all c.in-Ok-ended.ensures.runs (ap (λ (s : Served). s.state) c.in-Ok-ended.ensures.ok)
+
+pub returns-in-Ok-ended-clause-others : goal.returns-in-Ok-ended-clause-others
+returns-in-Ok-ended-clause-others c =
+    let ended = ended_others c.take_back.new.system.state c.ended.new.self.state c.args.txn (ap (λ (s : Served). s.state) c.in-Ok-ended.ensures.ok) in
+    others_further c.args.system.now.state c.take_back.new.system.state c.ended.new.self.state c.args.txn c.take_back.ensures.goes.others ended
+
+pub returns-in-Ok-ended-clause-gone : goal.returns-in-Ok-ended-clause-gone
+returns-in-Ok-ended-clause-gone c = ended_gone c.take_back.new.system.state c.ended.new.self.state c.args.txn (ap (λ (s : Served). s.state) c.in-Ok-ended.ensures.ok)

@@ -9,7 +9,7 @@ pub bounds-regions-region : goal.bounds-regions-region
 bounds-regions-region c = undo_region c.args.regions.now c.loop-region.regions c.args.system.now.state c.loop-region.system.state c.args.txn c.in-Region.region c.loop-region.back.next c.loop-region.invariant.goes c.loop-region.invariant.next c.in-Region.ensures
 
 pub loop-region-smaller : goal.loop-region-smaller
-loop-region-smaller c = undo_fewer c.loop-region.system.state c.undo.new.system.state c.args.txn c.in-Region.region c.loop-region.back c.undo.new.back _ c.undo.new.region c.loop-region.invariant.goes.row c.loop-region.invariant.txn c.loop-region.invariant.next c.in-Region.ensures c.in-Ok.ensures.ok
+loop-region-smaller c = undo_fewer c.loop-region.system.state c.undo.new.system.state c.args.txn c.in-Region.region c.loop-region.back c.undo.new.back _ c.undo.new.region c.loop-region.invariant.goes.lives c.loop-region.invariant.txn c.loop-region.invariant.next c.in-Region.ensures c.in-Ok.ensures.ok
 
 pub loop-region-preserved : goal.loop-region-preserved
 loop-region-preserved c =

@@ -1,12 +1,16 @@
-use Rattle.std.proofs.Common.{List, ◌≡◌, ap, sym, subst, ◌∙◌}
+use Rattle.std.proofs.Common.{List, length, ◌≤◌, ◌≡◌, ap, sym, subst, ◌∙◌}
 use Rattle.std.specs.List.{AllByRecursion}
+use Rattle.std.specs.FinMap.{insert}
 use Rattle.dali_record.specs.declared.operations.Pending.{Pending}
 use Rattle.dali_att.specs.Table.{undos_at}
-use Rattle.dali_system.specs.State.{SystemState}
+use Rattle.dali_att.specs.declared.state.State.TheVariants.{Live}
+use Rattle.dali_system.specs.State.{SystemState, state_of}
 use Rattle.dali_system.specs.Steps.{commit_logged}
-use Rattle.dali_core.specs.Served.{Served}
-use Rattle.dali_single.specs.Settling.{MayFree}
-use Rattle.dali_single.proofs.Settled.{may_free_all, commit_led}
+use Rattle.dali_core.specs.Served.{Served, promised_for}
+use Rattle.dali_core.specs.Promised.{Promised, promised_to, used}
+use Rattle.dali_single.specs.Settling.{MayFree, settle_room}
+use Rattle.dali_single.proofs.Going.{row_there}
+use Rattle.dali_single.proofs.Settled.{may_free_all, commit_led, committed_state, commit_others, promise_left}
 use Rattle.dali_single.proofs.settling.commit.Goals as goal
 
 pub returns-clause-may : goal.returns-clause-may
@@ -20,6 +24,23 @@ returns-clause-may c =
 pub returns-clause-ok : goal.returns-clause-ok
 returns-clause-ok c =
     let same : c.ready.new.self.state ≡ c.args.system.now.state = ap (λ (s : Served). s.state) c.in_ok-removals.ensures.ok in
-    commit_led c.args.system.now.state c.commit.new.self.state c.args.txn c.in_ok-removals.removals.items c.requires.running c.in_ok-removals.ensures.removals
+    commit_led c.args.system.now.state c.commit.new.self.state c.args.txn c.in_ok-removals.removals.items c.requires.lives c.in_ok-removals.ensures.removals
     (ap (λ (s : Served). s.state) c.in_ok-commit.ensures.ok ∙ ap (λ (y : SystemState). commit_logged y c.args.txn) same)
     (ap (λ (y : SystemState). y.stop) (sym same) ∙ c.in_ok-commit.ensures.runs)
+
+pub returns-clause-committed : goal.returns-clause-committed
+returns-clause-committed c =
+    let same : c.ready.new.self.state ≡ c.args.system.now.state = ap (λ (s : Served). s.state) c.in_ok-removals.ensures.ok in
+    let now : c.commit.new.self.state ≡ commit_logged c.args.system.now.state c.args.txn = ap (λ (s : Served). s.state) c.in_ok-commit.ensures.ok ∙ ap (λ (y : SystemState). commit_logged y c.args.txn) same in
+    ap (λ (y : SystemState). state_of y c.args.txn) now ∙ committed_state c.args.system.now.state c.args.txn (row_there c.args.system.now.state c.args.txn Live c.requires.lives)
+
+pub returns-clause-promised : goal.returns-clause-promised
+returns-clause-promised c =
+    let promised : c.commit.new.self.promised ≡ used (insert c.args.system.now.promised c.args.txn (promised_for (length c.in_ok-removals.removals.items))) c.args.txn 9 =
+    ap (λ (s : Served). s.promised) c.in_ok-commit.ensures.ok ∙ ap (λ (s : Served). used s.promised c.args.txn 9) c.in_ok-removals.ensures.ok in
+    subst (λ (m : Promised). settle_room (length c.in_ok-removals.removals.items) ≤ promised_to m c.args.txn) (sym promised) (promise_left c.args.system.now.promised c.args.txn (length c.in_ok-removals.removals.items))
+
+pub returns-clause-others : goal.returns-clause-others
+returns-clause-others c =
+    let same : c.ready.new.self.state ≡ c.args.system.now.state = ap (λ (s : Served). s.state) c.in_ok-removals.ensures.ok in
+    commit_others c.args.system.now.state c.commit.new.self.state c.args.txn (ap (λ (s : Served). s.state) c.in_ok-commit.ensures.ok ∙ ap (λ (y : SystemState). commit_logged y c.args.txn) same)

@@ -1,8 +1,9 @@
-use Rattle.std.proofs.Common.{rules, false, sym, ap, ◌∙◌}
+use Rattle.std.proofs.Common.{◌≡◌, rules, true, false, sym, ap, ◌∙◌}
 use Rattle.dali_region.specs.State.{taken_back}
 use Rattle.dali_core.specs.Served.{Served}
 use Rattle.dali_core.proofs.UnderWays.{latched_unheld}
-use Rattle.dali_single.proofs.Settled.{freed, free_left_over}
+use Rattle.dali_core.specs.Refused.{stop_of}
+use Rattle.dali_single.proofs.Settled.{freed, free_left_over, spends_one}
 use Rattle.dali_single.proofs.settling.free.Goals as goal
 
 pub returns-in-Ok-solo_op-clause-ok : goal.returns-in-Ok-solo_op-clause-ok
@@ -14,3 +15,9 @@ pub returns-in-Err-solo_op-clause-err : goal.returns-in-Err-solo_op-clause-err
 returns-in-Err-solo_op-clause-err c =
     let made = c.in-Ok.ensures.made in
     (c.in-Err-solo_op.ensures.err.0, free_left_over c.args.region.now c.start.new.region c.write_freed.new.region c.take_back.new.self c.args.txn c.in-Ok.operation c.write_freed.new.operation (latched_unheld false c.args.region.now (sym c.in-Ok.ensures.latched.0)) made.1 made.2 c.in-Ok.ensures.latched.1 c.write_freed.ensures.written c.write_freed.ensures.same c.write_freed.ensures.is_open (c.take_back.ensures.after ∙ ap taken_back c.in-Err-solo_op.ensures.err.1))
+
+pub returns-in-Err-solo_op-clause-promised : goal.returns-in-Err-solo_op-clause-promised
+returns-in-Err-solo_op-clause-promised c = λ h. absurd (let no : false ≡ true = c.in-Err-solo_op.ensures.promised (ap stop_of h.runs) h.enough in cc)
+
+pub returns-in-Ok-solo_op-clause-kept : goal.returns-in-Ok-solo_op-clause-kept
+returns-in-Ok-solo_op-clause-kept c = λ n h. spends_one c.args.system.now c.solo_op.new.self c.args.txn n c.block.result.now c.in-Ok-solo_op.ensures.ok.0 h

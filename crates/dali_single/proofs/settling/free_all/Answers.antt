@@ -1,23 +1,31 @@
 use Rattle.std.proofs.Common.{refl}
 use Rattle.dali_single.proofs.Lists.{get_here}
 use Rattle.dali_single.proofs.Refusing.{refused_there}
-use Rattle.dali_single.proofs.Settled.{removal_there, free_there, free_further, free_refused}
+use Rattle.dali_single.proofs.Settled.{next_further, those_left, promised_further, promised_one, removal_there, free_there, free_further, free_refused}
 use Rattle.dali_single.proofs.settling.free_all.Goals as goal
 
 pub returns-in-Err-clause-err : goal.returns-in-Err-clause-err
 returns-in-Err-clause-err c =
-    let goes = removal_there c.args.regions.now c.loop-removal.regions c.args.system.now.state c.loop-removal.system.state c.args.txn c.loop-removal.removal-index c.args.removals.now _ c.loop-removal-test.true c.loop-removal.invariant in
+    let goes = removal_there c.args.regions.now c.loop-removal.regions c.args.system.now.state c.loop-removal.system.state c.args.txn c.loop-removal.removal-index c.args.removals.now _ c.loop-removal-test.true c.loop-removal.invariant.goes in
     let there = free_there c.args.regions.now c.loop-removal.regions c.args.system.now.state c.loop-removal.system.state c.args.txn c.args.removals.now _ _ goes in
-    (_, free_refused c.args.regions.now c.loop-removal.regions c.args.system.now.state c.loop-removal.system c.free.new.system c.args.txn _ c.args.removals.now _ _ c.free.new.region goes (get_here c.loop-removal.regions _ _ there) c.in-Err.ensures.err.0 c.in-Err.ensures.err.1)
+    let left = free_refused c.args.regions.now c.loop-removal.regions c.args.system.now.state c.loop-removal.system c.free.new.system c.args.txn _ c.args.removals.now _ _ c.free.new.region goes (get_here c.loop-removal.regions _ _ there) c.in-Err.ensures.err.0 c.in-Err.ensures.err.1 in
+    those_left c.args.regions.now _ c.args.system.now.state c.loop-removal.system c.free.new.system c.args.txn c.loop-removal.removal-index c.args.removals.now _ c.loop-removal-test.true c.loop-removal.invariant.next c.in-Err.ensures.err.0 left
 
 pub loop-removal-preserved : goal.loop-removal-preserved
 loop-removal-preserved c =
-    let goes = removal_there c.args.regions.now c.loop-removal.regions c.args.system.now.state c.loop-removal.system.state c.args.txn c.loop-removal.removal-index c.args.removals.now _ c.loop-removal-test.true c.loop-removal.invariant in
+    let goes = removal_there c.args.regions.now c.loop-removal.regions c.args.system.now.state c.loop-removal.system.state c.args.txn c.loop-removal.removal-index c.args.removals.now _ c.loop-removal-test.true c.loop-removal.invariant.goes in
     let there = free_there c.args.regions.now c.loop-removal.regions c.args.system.now.state c.loop-removal.system.state c.args.txn c.args.removals.now _ _ goes in
-    free_further c.args.regions.now c.loop-removal.regions c.args.system.now.state c.loop-removal.system.state c.free.new.system.state c.args.txn c.args.removals.now _ _ _ c.free.new.region c.ranges.txn.fits goes (get_here c.loop-removal.regions _ _ there) c.in-Ok.ensures.ok.1
+    record {
+      goes = free_further c.args.regions.now c.loop-removal.regions c.args.system.now.state c.loop-removal.system.state c.free.new.system.state c.args.txn c.args.removals.now _ _ _ c.free.new.region c.ranges.txn.fits goes (get_here c.loop-removal.regions _ _ there) c.in-Ok.ensures.ok.1;
+      next = next_further c.args.system.now.state c.loop-removal.system.state c.free.new.system.state c.args.txn c.loop-removal.removal-index _ _ c.free.new.region c.loop-removal.invariant.next c.in-Ok.ensures.ok.1;
+      promised = λ h. promised_further c.loop-removal.system c.free.new.system c.args.txn c.loop-removal.removal-index c.args.removals.now c.loop-removal-test.true (c.loop-removal.invariant.promised h) c.in-Ok.ensures.kept;
+    }
 
 pub returns-in-Err-clause-cause : goal.returns-in-Err-clause-cause
 returns-in-Err-clause-cause c =
-    let goes = removal_there c.args.regions.now c.loop-removal.regions c.args.system.now.state c.loop-removal.system.state c.args.txn c.loop-removal.removal-index c.args.removals.now _ c.loop-removal-test.true c.loop-removal.invariant in
+    let goes = removal_there c.args.regions.now c.loop-removal.regions c.args.system.now.state c.loop-removal.system.state c.args.txn c.loop-removal.removal-index c.args.removals.now _ c.loop-removal-test.true c.loop-removal.invariant.goes in
     let there = free_there c.args.regions.now c.loop-removal.regions c.args.system.now.state c.loop-removal.system.state c.args.txn c.args.removals.now _ _ goes in
     refused_there c.args.txn c.args.txn c.loop-removal.regions _ _ c.free.new.region c.free.new.system.state c.in-Err.cause refl (get_here c.loop-removal.regions _ c.free.new.region there) c.in-Err.ensures.cause
+
+pub returns-in-Err-clause-promised : goal.returns-in-Err-clause-promised
+returns-in-Err-clause-promised c = λ h. c.in-Err.ensures.promised (promised_one c.loop-removal.system c.args.txn c.loop-removal.removal-index c.args.removals.now c.loop-removal-test.true (c.loop-removal.invariant.promised h))

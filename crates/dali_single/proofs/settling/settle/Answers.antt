@@ -1,10 +1,37 @@
-use Rattle.std.proofs.Common.{ap}
+use Rattle.dali_core.specs.Refused.{stop_of}
+use Rattle.dali_single.specs.Single.{OthersStay}
+use Rattle.std.proofs.Common.{◌≡◌, true, false, ap, sym, subst, []}
 use Rattle.dali_core.specs.Served.{Served}
-use Rattle.dali_single.proofs.Settled.{settle_ends, settle_refused}
+use Rattle.dali_single.proofs.Undoing.{ended_gone}
+use Rattle.dali_single.proofs.Settled.{settle_ends, settle_refused, settled_others, none_left_again}
 use Rattle.dali_single.proofs.settling.settle.Goals as goal
 
 pub returns-in-Err-ended-clause-err : goal.returns-in-Err-ended-clause-err
-returns-in-Err-ended-clause-err c = settle_refused c.args.regions.now c.free_all.new.regions c.args.system.now.state c.free_all.new.system c.ended.new.self c.args.txn c.args.removals.now c.in-Ok.ensures.ok c.in-Err-ended.ensures.err
+returns-in-Err-ended-clause-err c = settle_refused c.args.regions.now c.free_all.new.regions c.args.system.now.state c.free_all.new.system c.ended.new.self c.args.txn c.args.removals.now c.in-Ok.ensures.ok c.in-Err-ended.ensures.err c.in-Ok.ensures.freed
 
 pub returns-in-Ok-ended-clause-ok : goal.returns-in-Ok-ended-clause-ok
 returns-in-Ok-ended-clause-ok c = settle_ends c.args.regions.now c.free_all.new.regions c.args.system.now.state c.free_all.new.system.state c.ended.new.self.state c.args.txn c.args.removals.now c.in-Ok.ensures.ok c.in-Ok-ended.ensures.runs (ap (λ (s : Served). s.state) c.in-Ok-ended.ensures.ok)
+
+pub returns-in-Err-ended-clause-promised : goal.returns-in-Err-ended-clause-promised
+returns-in-Err-ended-clause-promised c = λ h. let left = c.in-Ok.ensures.kept h in absurd (let no : false ≡ true = c.in-Err-ended.ensures.promised (ap stop_of left.runs) left.enough in cc)
+
+pub returns-in-Ok-ended-clause-others : goal.returns-in-Ok-ended-clause-others
+returns-in-Ok-ended-clause-others c = settled_others c.args.regions.now c.free_all.new.regions c.args.system.now.state c.free_all.new.system.state c.ended.new.self.state c.args.txn c.args.removals.now [] c.in-Ok.ensures.ok (ap (λ (s : Served). s.state) c.in-Ok-ended.ensures.ok)
+
+pub returns-in-Err-ended-clause-others : goal.returns-in-Err-ended-clause-others
+returns-in-Err-ended-clause-others c = subst (λ (s : Served). OthersStay c.args.system.now.state c.args.txn s.state) (sym c.in-Err-ended.ensures.err) c.in-Ok.ensures.ok.others
+
+pub returns-in-Err-clause-others : goal.returns-in-Err-clause-others
+returns-in-Err-clause-others c = c.in-Err.ensures.err.others
+
+pub returns-in-Err-clause-err : goal.returns-in-Err-clause-err
+returns-in-Err-clause-err c = c.in-Err.ensures.err.leads
+
+pub returns-in-Err-clause-again : goal.returns-in-Err-clause-again
+returns-in-Err-clause-again c = (c.in-Err.ensures.err.may, c.in-Err.ensures.err.state)
+
+pub returns-in-Err-ended-clause-again : goal.returns-in-Err-ended-clause-again
+returns-in-Err-ended-clause-again c = none_left_again c.args.regions.now c.free_all.new.regions c.args.system.now.state c.free_all.new.system c.ended.new.self c.args.txn c.args.removals.now c.in-Ok.ensures.ok c.in-Err-ended.ensures.err c.in-Ok.ensures.freed
+
+pub returns-in-Ok-ended-clause-gone : goal.returns-in-Ok-ended-clause-gone
+returns-in-Ok-ended-clause-gone c = ended_gone c.free_all.new.system.state c.ended.new.self.state c.args.txn (ap (λ (s : Served). s.state) c.in-Ok-ended.ensures.ok)

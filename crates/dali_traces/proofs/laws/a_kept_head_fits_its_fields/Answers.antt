@@ -1,4 +1,4 @@
-use Rattle.dali_traces.proofs.Heads.{heads_fit, kept_fits, stays_fitting}
+use Rattle.dali_traces.proofs.Heads.{heads_fit, kept_fits, next_fits, stays_fitting}
 use Rattle.dali_traces.proofs.laws.a_kept_head_fits_its_fields.Goals as goal
 
 pub returns-clause-fits : goal.returns-clause-fits
@@ -9,3 +9,6 @@ returns-clause-kept c = kept_fits
 
 pub returns-clause-later : goal.returns-clause-later
 returns-clause-later c = stays_fitting
+
+pub returns-clause-next : goal.returns-clause-next
+returns-clause-next c = next_fits

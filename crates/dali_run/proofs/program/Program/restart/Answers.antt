@@ -10,6 +10,6 @@ returns-in_ok-text-in-Ok-clause-steps g c =
       restored = c.in-Ok.ensures.restored;
       durable = c.in-Ok.ensures.durable;
       reads = c.in-Ok.ensures.reads;
-      fuse = c.restart.ensures.passes;
+      fuse = record { passes = c.restart.ensures.passes; later = c.restart.ensures.later };
       printed = c.in_ok-text-in-Ok.ensures;
     })

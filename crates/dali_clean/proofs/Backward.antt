@@ -1,0 +1,146 @@
+-- The operation of an undo, from its latch to its record; and the undo that is last.
+use Rattle.std.proofs.Common.{◌≡◌, ℕ, suc, ◌-◌, ◌<◌, Bool, true, false, List, [], ◌∷◌, ◌++◌, Option, Some, None, IsSomeAnd, IfSome, refl, sym, ap, subst, ◌∙◌, arith, length, take}
+use Rattle.std.specs.Prelude.{◌^◌, if◌then◌else◌, nat_lt}
+use Rattle.std.specs.List.{AllByRecursion}
+use Rattle.std.proofs.lemmas.Bool.{lt-ltb}
+use Rattle.dali_record.specs.declared.operations.Block.{Block}
+use Rattle.dali_record.specs.declared.operations.Pending.{Pending}
+use Rattle.dali_record.specs.Log.{last_of, drop_last}
+use Rattle.dali_region.specs.State.{RegionState, latched, with_reads, touched, taken_back}
+use Rattle.dali_att.specs.Table.{undos_at, last_of as table_last}
+use Rattle.dali_system.specs.Steps.{back_logged}
+use Rattle.dali_system.specs.Regions.{RegionStep, TakeBack as TakesRegionBack, IsOpen}
+use Rattle.dali_core.specs.declared.operation.Operation.{Operation}
+use Rattle.dali_core.specs.declared.take_back.TakeBack.{TakeBack}
+use Rattle.dali_core.specs.declared.want.Want.TheVariants.{Region}
+use Rattle.dali_core.specs.TakenBack.{next_undo, want_of, IsUndoBlock}
+use Rattle.dali_core.specs.UnderWay.{IsUnderWay}
+use Rattle.dali_core.specs.Served.{Served}
+use Rattle.dali_clean.specs.Undone.{AreWritten, Goes, Undone, IsTakenBack}
+use Rattle.dali_clean.proofs.Writing.{IsWay, IsSameWay, opened_by, goes_on, live_hold}
+
+-- ---- the operation of an undo
+pub record Rewritten (p : TakeBack) (g : RegionState) (q : TakeBack) (h : RegionState) : Type 0 where
+  pub operation : Operation
+  pub is : q ≡ record p { operation = Some operation }
+  pub txn : operation.txn ≡ p.txn
+  pub of : IsUndoBlock p.next operation.block
+  pub steps : List RegionStep
+  pub goes : Goes p.txn g steps h
+  pub is_open : IsOpen h operation.txn operation.block
+
+abbrev pub IsMadeBack : TakeBack → RegionState → Option Operation → RegionState → Type 0
+IsMadeBack p g o g1 = IsSomeAnd o (λ o. (o.txn ≡ p.txn) × IsUndoBlock p.next o.block × IsUnderWay o.txn o.block o.left o.taken g1 × (g1 ≡ with_reads o.block.read (latched p.txn g)))
+
+pub way_back_of : (p : TakeBack) (g : RegionState) (o : Option Operation) (g1 : RegionState) → IsMadeBack p g o g1 → IsWay o g1
+way_back_of p g None g1 m = absurd m
+way_back_of p g (Some o) g1 m = m.2
+
+reads_fit : (o : Option Pending) (b : Block) → IsUndoBlock o b → b.read < 2 ^ 64
+reads_fit None b h = absurd h
+reads_fit (Some u) b h = h.spelled.read
+
+pub rewritten : (p p1 p2 : TakeBack) (g g1 g2 : RegionState) → g.hold ≡ None → IsMadeBack p g p1.operation g1 → p1 ≡ record p { operation = p1.operation }
+    → IsSomeAnd p2.operation (λ o. IsOpen g2 o.txn o.block) → IsSameWay p1.operation p2.operation → p2 ≡ record p1 { operation = p2.operation } → AreWritten g1 g2
+    → Rewritten p g p2 g2
+rewritten p p1 p2 g g1 g2 free made one opened same two w = by_both p1.operation p2.operation refl refl made opened same
+  where
+    by_both : (a b : Option Operation) → p1.operation ≡ a → p2.operation ≡ b → IsMadeBack p g a g1 → IsSomeAnd b (λ o. IsOpen g2 o.txn o.block) → IsSameWay a b → Rewritten p g p2 g2
+    by_both None b i j m o s = absurd m
+    by_both (Some a) None i j m o s = absurd o
+    by_both (Some a) (Some b) i j m o s =
+        let goes = opened_by p.txn a.block g g1 g2 free (reads_fit p.next a.block m.1) m.3 w in
+        record {
+          operation = b;
+          is = two ∙ (ap (λ (x : TakeBack). record x { operation = p2.operation }) one ∙ ap (λ (x : Option Operation). record p { operation = x }) j);
+          txn = s.0 ∙ m.0;
+          of = subst (IsUndoBlock p.next) (sym s.1) m.1;
+          steps = goes.0;
+          goes = goes.1;
+          is_open = o;
+        }
+
+pub is_taken_back : (p q : TakeBack) (g h k : RegionState) → Rewritten p g q h → k ≡ taken_back h → IsTakenBack p.txn g k
+is_taken_back p q g h k w is =
+    let held = live_hold h w.operation.txn w.operation.block w.is_open in
+    (w.steps ++ TakesRegionBack ∷ [], goes_on p.txn g h k w.steps (TakesRegionBack ∷ []) w.goes (held.1, held.0, sym is), ap (λ (x : RegionState). x.hold) is)
+
+pub undone : (p q r : TakeBack) (g h k : RegionState) (y z : Served) → Rewritten p g q h
+    → IfSome q.operation (λ o. (z ≡ record y { state = back_logged y.state q.txn o.block }) × (k ≡ touched h))
+    → r ≡ record q { next = next_undo (undos_at z.state.table q.txn) q.down_to; operation = None } → y.state.stop ≡ None
+    → Undone p g y.state r k z.state
+undone p q r g h k y z w ok next runs =
+    let now : (z ≡ record y { state = back_logged y.state p.txn w.operation.block }) × (k ≡ touched h) = subst (λ (x : TakeBack). IfSome x.operation (λ o. (z ≡ record y { state = back_logged y.state x.txn o.block }) × (k ≡ touched h))) w.is ok in
+    record {
+      block = w.operation.block;
+      of = w.of;
+      opened = h;
+      steps = w.steps;
+      goes = w.goes;
+      is_open = subst (λ (t : ℕ). IsOpen h t w.operation.block) w.txn w.is_open;
+      region = now.1;
+      runs = runs;
+      system = ap (λ (x : Served). x.state) now.0;
+      next = next ∙ ap (λ (x : TakeBack). record x { next = next_undo (undos_at z.state.table x.txn) x.down_to; operation = None }) w.is;
+    }
+
+-- ---- the last undo
+last_same : (us : List Pending) → table_last us ≡ last_of us
+last_same [] = refl
+last_same (u ∷ []) = refl
+last_same (u ∷ v ∷ us) = let e : length (u ∷ v ∷ us) - 1 ≡ suc (length (v ∷ us) - 1) = omega arith in rw e (last_same (v ∷ us))
+
+pub next_last : (us : List Pending) (u : Pending) → next_undo us 0 ≡ Some u → last_of us ≡ Some u
+next_last us u e = by_test (nat_lt 0 (length us)) refl
+  where
+    by_test : (b : Bool) → nat_lt 0 (length us) ≡ b → last_of us ≡ Some u
+    by_test true i = sym (last_same us) ∙ (sym (ap (λ (b : Bool). if b then table_last us else None) i) ∙ e)
+    by_test false i = absurd (never (sym (ap (λ (b : Bool). if b then table_last us else None) i) ∙ e))
+      where
+        never : (let n : Option Pending = None in n ≡ Some u) → ⊥
+        never f = cc
+
+pub all_dropped : (P : Pending → Type 0) (us : List Pending) → AllByRecursion P us → AllByRecursion P (drop_last us)
+all_dropped P [] h = tt
+all_dropped P (u ∷ []) h = tt
+all_dropped P (u ∷ v ∷ us) h = (h.0, all_dropped P (v ∷ us) h.1)
+
+pub but_last : (us : List Pending) → take (length us - 1) us ≡ drop_last us
+but_last [] = refl
+but_last (p ∷ []) = refl
+but_last (p ∷ q ∷ us) = let e : length (p ∷ q ∷ us) - 1 ≡ suc (length (q ∷ us) - 1) = omega arith in rw e (ap (λ vs. p ∷ vs) (but_last (q ∷ us)))
+
+pub last_has : (P : Pending → Type 0) (us : List Pending) (u : Pending) → AllByRecursion P us → last_of us ≡ Some u → P u
+last_has P [] u h e = absurd (never e)
+  where
+    never : (let n : Option Pending = None in n ≡ Some u) → ⊥
+    never f = cc
+last_has P (v ∷ []) u h e = let same : v ≡ u = cc in subst P same h.0
+last_has P (v ∷ w ∷ us) u h e = last_has P (w ∷ us) u h.1 e
+
+pub fewer : (us : List Pending) (u : Pending) → last_of us ≡ Some u → length (drop_last us) < length us
+fewer [] u e = absurd (never e)
+  where
+    never : (let n : Option Pending = None in n ≡ Some u) → ⊥
+    never f = cc
+fewer (v ∷ []) u e = omega arith
+fewer (v ∷ w ∷ us) u e = omega (arith, fewer (w ∷ us) u e)
+
+-- ---- what the plan wants
+pub wanted_undo : (o : Option Pending) (r : ℕ) → Region r ≡ want_of o → (u : Pending) × (o ≡ Some u) × (u.region ≡ r)
+wanted_undo None r e = absurd cc
+wanted_undo (Some u) r e = (u, refl, cc)
+
+pub none_wanted : (us : List Pending) (o : Option Pending) → o ≡ next_undo us 0 → ((r : ℕ) → want_of o ≡ Region r → ⊥) → us ≡ []
+none_wanted [] o e f = refl
+none_wanted (u ∷ us) o e f = absurd (some (table_last (u ∷ us)) refl (last_some u us))
+  where
+    last_some : (v : Pending) (vs : List Pending) → (w : Pending) × (table_last (v ∷ vs) ≡ Some w)
+    last_some v [] = (v, refl)
+    last_some v (x ∷ vs) = let rest = last_some x vs in let n : length (v ∷ x ∷ vs) - 1 ≡ suc (length (x ∷ vs) - 1) = omega arith in (rest.0, rw n rest.1)
+
+    test : nat_lt 0 (length (u ∷ us)) ≡ true
+    test = lt-ltb 0 (length (u ∷ us)) (omega arith)
+
+    some : (p : Option Pending) → table_last (u ∷ us) ≡ p → (w : Pending) × (table_last (u ∷ us) ≡ Some w) → ⊥
+    some p i w = f w.0.region (ap want_of (e ∙ (ap (λ (b : Bool). if b then table_last (u ∷ us) else None) test ∙ w.1)))

@@ -1,0 +1,206 @@
+-- Steps of a core, one behind another, and what a run says along them.
+use Rattle.std.proofs.Common.{◌≡◌, ◌≢◌, ℕ, ◌<◌, Bool, true, false, ◌&&◌, List, [], ◌∷◌, ◌++◌, Option, Some, None, refl, sym, ap, subst, ◌∙◌, arith, slice_get, slice_set, option_map}
+use Rattle.std.specs.List.{list_all}
+use Rattle.std.specs.Prelude.{◌==◌, nat_lt, nat_le, if◌then◌else◌}
+use Rattle.std.specs.Option.{option_map_or}
+use Rattle.std.specs.FinMap.{get}
+use Rattle.std.proofs.lemmas.Bool.{ltb-true}
+use Rattle.std.proofs.lemmas.Bool.Decides.{Decides-eqb}
+use Rattle.dali_geometry.specs.Sizes.{Sizes}
+use Rattle.dali_geometry.specs.Places.{regions, is_index, is_heap}
+use Rattle.dali_record.specs.declared.operations.Op.{Op}
+use Rattle.dali_record.specs.declared.operations.Op.TheVariants.{Look, Add, KillEntry, FreeEntry, ReviveEntry, Put, Read, Change, KillCell, FreeCell, ReviveCell, Restore}
+use Rattle.dali_record.specs.declared.operations.Pending.{Pending}
+use Rattle.dali_record.specs.declared.records.Record.{Record}
+use Rattle.dali_record.specs.Legal.{on_kind, Working, TxnState, Unbegun, Active, Committed as Ending, Over, txn_state}
+use Rattle.dali_region.specs.declared.Hold.{Hold}
+use Rattle.dali_region.specs.State.{RegionState}
+use Rattle.dali_att.specs.declared.state.State.{State}
+use Rattle.dali_att.specs.declared.state.State.TheVariants.{Committed}
+use Rattle.dali_att.specs.Table.{Table, with_row}
+use Rattle.dali_att.proofs.Changes.{get-with_row}
+use Rattle.dali_system.specs.State.{TxnRow, SystemState, VaultState, state_of, state_in, hold_in}
+use Rattle.dali_system.specs.Run.{Bases, RunsOn, IsRow, is_committed}
+use Rattle.dali_system.specs.Regions.{RegionStep, Latch, NoteReads, Update, TakeBack, Poke, Check, Die, Clean, region_after, is_alive, IsAlone}
+use Rattle.dali_system.specs.Passes.{Audits}
+use Rattle.dali_system.specs.Courses.{Step, OnRegion, Moment, IsStepAt, IsCourse}
+use Rattle.dali_system.proofs.Courses.{bare_course_keeps}
+use Rattle.dali_system.proofs.WholeSteps.{whole_course_keeps}
+use Rattle.dali_facts.specs.Plans.{AtWork}
+use Rattle.dali_clean.specs.Undone.{IsOwn, Goes}
+use Rattle.dali_clean.specs.Cleaned.{moment, AreLocked, is_own_change, is_own_step, InRun, LeadsOn}
+use Rattle.dali_clean.proofs.Lists.{set_same, set_twice, get_set, get_apart}
+
+-- ---- lists of steps
+pub join : (m k n : Moment) (xs ys : List Step) → IsCourse m xs k → IsCourse k ys n → IsCourse m (xs ++ ys) n
+join m k n [] ys p q = subst (λ (x : Moment). IsCourse x ys n) (sym p) q
+join m k n (x ∷ xs) ys p q = (p.0, p.1, join p.0 k n xs ys p.2 q)
+
+pub one : (m n : Moment) (x : Step) → IsStepAt m x n → IsCourse m (x ∷ []) n
+one m n x s = (n, s, refl)
+
+both_first : (b r s : Bool) → (b && r) ≡ true → (r ≡ true → s ≡ true) → (b && s) ≡ true
+both_first true r s e f = f e
+both_first false r s e f = absurd cc
+
+pub both_own : (t : ℕ) (xs ys : List Step) → list_all (is_own_step t) xs ≡ true → list_all (is_own_step t) ys ≡ true → list_all (is_own_step t) (xs ++ ys) ≡ true
+both_own t [] ys p q = q
+both_own t (x ∷ xs) ys p q = both_first (is_own_step t x) (list_all (is_own_step t) xs) (list_all (is_own_step t) (xs ++ ys)) p (λ e. both_own t xs ys e q)
+
+pub in_run_on : (bases : Bases) (before : List Record) (m n : Moment) (xs : List Step) (t : ℕ) → InRun bases before m t → IsCourse m xs n → AreLocked n.core.system t → InRun bases before n t
+in_run_on bases before m n xs t is course locked = record {
+  run = bare_course_keeps bases before m n xs is.run course;
+  whole = whole_course_keeps bases before m n xs is.run is.whole course;
+  locked = locked;
+}
+
+pub leads_further : (rs rs' rs'' : List RegionState) (y y' y'' : SystemState) (t : ℕ) → LeadsOn rs y t rs' y' → LeadsOn rs' y' t rs'' y'' → LeadsOn rs y t rs'' y''
+leads_further rs rs' rs'' y y' y'' t p q bases before L v a is =
+    let first = p bases before L v a is in
+    let mid = moment rs' y' first.log v a in
+    let next = q bases before first.log v a (in_run_on bases before (moment rs y L v a) mid first.steps t is first.course first.locked) in
+    record {
+      log = next.log;
+      steps = first.steps ++ next.steps;
+      own = both_own t first.steps next.steps first.own next.own;
+      course = join (moment rs y L v a) mid (moment rs'' y'' next.log v a) first.steps next.steps first.course next.course;
+      locked = next.locked;
+    }
+
+pub stays : (rs : List RegionState) (y : SystemState) (t : ℕ) → LeadsOn rs y t rs y
+stays rs y t bases before L v a is = record { log = L; steps = []; own = refl; course = refl; locked = is.locked }
+
+-- ---- on one region
+alone_of : (y : SystemState) (t : ℕ) (x : RegionStep) (g : RegionState) → is_alive (state_of y t) ≡ true → IsOwn t x g → IsAlone y x g
+alone_of y t (Latch u) g a o = ap (λ (v : ℕ). is_alive (state_of y v)) o ∙ a
+alone_of y t (NoteReads mask) g a o = tt
+alone_of y t (Update word value) g a o = tt
+alone_of y t TakeBack g a o = o
+alone_of y t (Poke word mask) g a o = absurd o
+alone_of y t Check g a o = absurd o
+alone_of y t Die g a o = absurd o
+alone_of y t (Clean side) g a o = absurd o
+
+abbrev pub steps_on : ℕ → List RegionStep → List Step
+steps_on r [] = []
+steps_on r (x ∷ xs) = OnRegion r x ∷ steps_on r xs
+
+pub on_region : (rs : List RegionState) (y : SystemState) (L : List Record) (v : VaultState) (a : Audits) (t r : ℕ) (g h : RegionState) (xs : List RegionStep) → is_alive (state_of y t) ≡ true → slice_get rs r ≡ Some g → Goes t g xs h
+    → IsCourse (moment rs y L v a) (steps_on r xs) (moment (slice_set rs r h) y L v a)
+on_region rs y L v a t r g h [] alive at go = ap (λ (gs : List RegionState). moment gs y L v a) (sym (set_same rs r h (at ∙ ap Some go)))
+on_region rs y L v a t r g h (x ∷ xs) alive at go =
+    let next = region_after x g in (
+      moment (slice_set rs r next) y L v a,
+      ((g, at, (go.0, alone_of y t x g alive go.1), (refl, refl)), refl),
+      subst (λ (gs : List RegionState). IsCourse (moment (slice_set rs r next) y L v a) (steps_on r xs) (moment gs y L v a)) (set_twice rs r next h)
+          (on_region (slice_set rs r next) y L v a t r next h xs alive (get_set rs r g next at) go.2),
+    )
+
+own_change : (t : ℕ) (x : RegionStep) (g : RegionState) → IsOwn t x g → is_own_change t x ≡ true
+own_change t (Latch u) g o = (Decides-eqb u t).1 o
+own_change t (NoteReads mask) g o = refl
+own_change t (Update word value) g o = refl
+own_change t TakeBack g o = refl
+own_change t (Poke word mask) g o = absurd o
+own_change t Check g o = absurd o
+own_change t Die g o = absurd o
+own_change t (Clean side) g o = absurd o
+
+pub region_own : (t r : ℕ) (g h : RegionState) (xs : List RegionStep) → Goes t g xs h → list_all (is_own_step t) (steps_on r xs) ≡ true
+region_own t r g h [] go = refl
+region_own t r g h (x ∷ xs) go = ap (λ b. b && list_all (is_own_step t) (steps_on r xs)) (own_change t x g go.1) ∙ region_own t r (region_after x g) h xs go.2
+
+pub self_own : (t : ℕ) → (t == t && true) ≡ true
+self_own t = ap (λ b. b && true) ((Decides-eqb t t).1 refl)
+
+-- ---- what a run says
+pub runs_of : (bases : Bases) (before : List Record) (m : Moment) (t : ℕ) → InRun bases before m t → RunsOn bases m.log m.core
+runs_of bases before m t is = subst (λ M. RunsOn bases M m.core) (sym is.run.log) is.run.run.runs
+
+abbrev pub undos_in : Option TxnRow → List Pending
+undos_in row = option_map_or (λ (r : TxnRow). r.undos) row []
+
+-- a transaction that runs is at work, with the undos of its row
+pub record HasWork (s : Sizes) (L : List Record) (t : ℕ) (row : Option TxnRow) : Type 0 where
+  pub working : Working
+  pub at_work : AtWork s L t working
+  pub undos : undos_in row ≡ working.undos
+
+pub work_of : (s : Sizes) (L : List Record) (t : ℕ) (row : Option TxnRow) (st : State) → IsRow (txn_state s t L) row → state_in row ≡ Some st → is_committed st ≡ false → HasWork s L t row
+work_of s L t row st is state runs = by_state (txn_state s t L) refl is
+  where
+    none_there : row ≡ None → ⊥
+    none_there e = never (sym (ap state_in e) ∙ state)
+      where
+        never : (let n : Option State = None in n ≡ Some st) → ⊥
+        never f = cc
+
+    by_state : (o : Option TxnState) → txn_state s t L ≡ o → IsRow o row → HasWork s L t row
+    by_state None e r = absurd r
+    by_state (Some Unbegun) e r = absurd (none_there r)
+    by_state (Some (Active w)) e r = record { working = w; at_work = e; undos = ap undos_in r.2 }
+    by_state (Some (Ending dead)) e r = absurd (clash (sym (ap state_in r) ∙ state))
+      where
+        clash : Some Committed ≡ Some st → ⊥
+        clash f = let same : Committed ≡ st = cc in let is : is_committed st ≡ true = ap is_committed (sym same) in cc
+    by_state (Some Over) e r = absurd (none_there r)
+
+-- ---- rows
+self_same : (t : ℕ) → (t == t) ≡ true
+self_same t = (Decides-eqb t t).1 refl
+
+pub row_here : (m : Table Pending) (t : ℕ) (f : TxnRow → TxnRow) → get (with_row m t f) t ≡ option_map f (get m t)
+row_here m t f = get-with_row m t f t ∙ ap (λ (b : Bool). if b then option_map f (get m t) else get m t) (self_same t)
+
+pub row_there : (m : Table Pending) (u t : ℕ) (f : TxnRow → TxnRow) → (u == t) ≡ false → get (with_row m u f) t ≡ get m t
+row_there m u t f apart = get-with_row m u f t ∙ ap (λ (b : Bool). if b then option_map f (get m u) else get m t) apart
+
+-- ---- regions
+-- which hold stands once a region has none
+pub held_of : (rs : List RegionState) (r : ℕ) (g h : RegionState) (q : ℕ) (o : Hold) → slice_get rs r ≡ Some g → h.hold ≡ None → hold_in (slice_get (slice_set rs r h) q) ≡ Some o → (r ≢ q) × (hold_in (slice_get rs q) ≡ Some o)
+held_of rs r g h q o at none held = by_test (r == q) refl
+  where
+    no_hold : (let n : Option Hold = None in n ≡ Some o) → ⊥
+    no_hold f = cc
+
+    apart : (r == q) ≡ false → r ≢ q
+    apart n e = let is : (r == q) ≡ true = (Decides-eqb r q).1 e in cc
+
+    by_test : (b : Bool) → (r == q) ≡ b → (r ≢ q) × (hold_in (slice_get rs q) ≡ Some o)
+    by_test true e =
+        let same : r ≡ q = (Decides-eqb r q).0 e in
+        let is : hold_in (slice_get (slice_set rs r h) q) ≡ None = subst (λ (n : ℕ). hold_in (slice_get (slice_set rs r h) n) ≡ None) same (ap hold_in (get_set rs r g h at) ∙ none) in
+        absurd (no_hold (sym is ∙ held))
+    by_test false e = (apart e, ap hold_in (sym (get_apart rs r h q (apart e))) ∙ held)
+
+-- the region of a hold
+pub holder : (o : Option RegionState) (h : Hold) → hold_in o ≡ Some h → (g : RegionState) × (o ≡ Some g) × (g.hold ≡ Some h)
+holder None h e = absurd (never e)
+  where
+    never : (let n : Option Hold = None in n ≡ Some h) → ⊥
+    never f = cc
+holder (Some g) h e = (g, refl, e)
+
+right_true : (a b : Bool) → (a && b) ≡ true → b ≡ true
+right_true true b e = e
+right_true false b e = absurd cc
+
+index_in : (s : Sizes) (r : ℕ) → is_index s r ≡ true → r < regions s
+index_in s r e = let less = ltb-true r s.index e in omega (arith, less)
+
+heap_in : (s : Sizes) (r : ℕ) → is_heap s r ≡ true → r < regions s
+heap_in s r e = ltb-true r (regions s) (right_true (nat_le s.index r) (nat_lt r (regions s)) e)
+
+pub kind_in : (s : Sizes) (r : ℕ) (op : Op) → on_kind s r op ≡ true → r < regions s
+kind_in s r Look e = index_in s r e
+kind_in s r (Add p) e = index_in s r e
+kind_in s r (KillEntry n) e = index_in s r e
+kind_in s r (FreeEntry n) e = index_in s r e
+kind_in s r (ReviveEntry n) e = index_in s r e
+kind_in s r (Put v) e = heap_in s r e
+kind_in s r (Read c) e = heap_in s r e
+kind_in s r (Change c v) e = heap_in s r e
+kind_in s r (KillCell c) e = heap_in s r e
+kind_in s r (FreeCell c) e = heap_in s r e
+kind_in s r (ReviveCell c) e = heap_in s r e
+kind_in s r (Restore c n ws) e = heap_in s r e

@@ -1,0 +1,5 @@
+pub mod Lists
+pub mod Writing
+pub mod Backward
+pub mod Courses
+pub mod Cleaning

@@ -1,0 +1,95 @@
+use Rattle.std.proofs.Common.{◌∙◌, ap, refl}
+use Rattle.dali_region.specs.State.{RegionState}
+use Rattle.dali_core.specs.declared.take_back.TakeBack.{TakeBack}
+use Rattle.dali_clean.proofs.Lists.{get_here}
+use Rattle.dali_clean.proofs.Courses.{stays}
+use Rattle.dali_clean.proofs.Backward.{none_wanted}
+use Rattle.dali_clean.proofs.Cleaning.{region_in, dead_of_quiet, there_still, set_here, turned, turned_as, turn_fewer, refused_turn, undone_next}
+use Rattle.dali_clean.proofs.cleaner.take_back.Goals as goal
+
+pub loop-region-init : goal.loop-region-init
+loop-region-init c = record {
+  goes = stays c.args.regions.now c.args.system.now.state c.args.txn;
+  is = record { regions = c.requires.regions; kind = c.requires.kind; quiet = c.requires.quiet; claimed = c.requires.claimed };
+  stop = refl;
+  txn = c.new-back.ensures.fields.0;
+  down = c.new-back.ensures.fields.1;
+  next = c.new-back.ensures.next;
+  undoes = c.new-back.ensures.undoes;
+  closed = c.new-back.ensures.fields.2;
+}
+
+pub bounds-regions-region : goal.bounds-regions-region
+bounds-regions-region c = region_in c.loop-region.regions c.loop-region.system.state c.args.txn c.in-Region.region c.loop-region.back.next c.loop-region.invariant.is c.loop-region.invariant.next c.in-Region.ensures
+
+pub release-requires : goal.release-requires
+release-requires c =
+    let less = region_in c.loop-region.regions c.loop-region.system.state c.args.txn c.in-Region.region c.loop-region.back.next c.loop-region.invariant.is c.loop-region.invariant.next c.in-Region.ensures in
+    record { dead = dead_of_quiet c.args.txn c.loop-region.regions c.loop-region.invariant.is.quiet c.in-Region.region _ (get_here c.loop-region.regions c.in-Region.region _ less) }
+
+pub bounds-regions-region-in-Region : goal.bounds-regions-region-in-Region
+bounds-regions-region-in-Region c =
+    there_still c.loop-region.regions c.in-Region.region c.release.new.region (region_in c.loop-region.regions c.loop-region.system.state c.args.txn c.in-Region.region c.loop-region.back.next c.loop-region.invariant.is c.loop-region.invariant.next c.in-Region.ensures)
+
+pub undo-requires-clause-unheld : goal.undo-requires-clause-unheld
+undo-requires-clause-unheld c =
+    let less = region_in c.loop-region.regions c.loop-region.system.state c.args.txn c.in-Region.region c.loop-region.back.next c.loop-region.invariant.is c.loop-region.invariant.next c.in-Region.ensures in
+    ap (λ (g : RegionState). g.hold) (set_here c.loop-region.regions c.in-Region.region c.release.new.region c.index-regions-region-in-Region.result less) ∙ c.release.ensures.unheld
+
+pub loop-region-smaller : goal.loop-region-smaller
+loop-region-smaller c =
+    let less = region_in c.loop-region.regions c.loop-region.system.state c.args.txn c.in-Region.region c.loop-region.back.next c.loop-region.invariant.is c.loop-region.invariant.next c.in-Region.ensures in
+    turn_fewer c.args.regions.now c.loop-region.regions c.args.system.now.state c.loop-region.system.state c.release.new.system.state c.args.txn c.in-Region.region c.loop-region.back _ c.release.new.region _ c.undo.new.region
+    c.loop-region.invariant.goes c.loop-region.invariant.is c.loop-region.invariant.stop c.loop-region.invariant.txn c.loop-region.invariant.next c.in-Region.ensures
+    (get_here c.loop-region.regions c.in-Region.region _ less) c.release.ensures.released (get_here _ c.in-Region.region _ (there_still c.loop-region.regions c.in-Region.region c.release.new.region less))
+    c.undo.new.system.state c.undo.new.back c.in-Ok.ensures.ok
+
+pub loop-region-preserved : goal.loop-region-preserved
+loop-region-preserved c =
+    let less = region_in c.loop-region.regions c.loop-region.system.state c.args.txn c.in-Region.region c.loop-region.back.next c.loop-region.invariant.is c.loop-region.invariant.next c.in-Region.ensures in
+    let one = c.in-Ok.ensures.ok in
+    let turn =
+    turned c.args.regions.now c.loop-region.regions c.args.system.now.state c.loop-region.system.state c.release.new.system.state c.args.txn c.in-Region.region c.loop-region.back _ c.release.new.region _ c.undo.new.region
+    c.loop-region.invariant.goes c.loop-region.invariant.is c.loop-region.invariant.stop c.loop-region.invariant.txn c.loop-region.invariant.next c.in-Region.ensures
+    (get_here c.loop-region.regions c.in-Region.region _ less) c.release.ensures.released (get_here _ c.in-Region.region _ (there_still c.loop-region.regions c.in-Region.region c.release.new.region less))
+    c.undo.new.system.state c.undo.new.back c.ranges.txn.fits one in
+    record {
+      goes = turn.goes;
+      is = turn.is;
+      stop = turn.stop;
+      txn = ap (λ (b : TakeBack). b.txn) one.next ∙ c.loop-region.invariant.txn;
+      down = ap (λ (b : TakeBack). b.down_to) one.next ∙ c.loop-region.invariant.down;
+      next = undone_next c.undo.new.system.state c.args.txn c.loop-region.back c.undo.new.back _ c.undo.new.region c.release.new.system.state c.loop-region.invariant.txn c.loop-region.invariant.down one;
+      undoes = c.in-Ok.ensures.undoes;
+      closed = ap (λ (b : TakeBack). b.operation) one.next;
+    }
+
+pub returns-in-Err-clause-goes : goal.returns-in-Err-clause-goes
+returns-in-Err-clause-goes c =
+    let less = region_in c.loop-region.regions c.loop-region.system.state c.args.txn c.in-Region.region c.loop-region.back.next c.loop-region.invariant.is c.loop-region.invariant.next c.in-Region.ensures in
+    let turn =
+    refused_turn c.args.regions.now c.loop-region.regions c.args.system.now.state c.loop-region.system.state c.release.new.system.state c.args.txn c.in-Region.region c.loop-region.back _ c.release.new.region _ c.undo.new.region
+    c.loop-region.invariant.goes c.loop-region.invariant.is c.loop-region.invariant.stop c.loop-region.invariant.txn c.loop-region.invariant.next c.in-Region.ensures
+    (get_here c.loop-region.regions c.in-Region.region _ less) c.release.ensures.released (get_here _ c.in-Region.region _ (there_still c.loop-region.regions c.in-Region.region c.release.new.region less))
+    c.in-Err.ensures.err.1 in
+    (turned_as c.args.regions.now c.args.system.now.state c.args.txn _ c.release.new.system c.undo.new.system c.in-Err.ensures.err.0 turn).goes
+
+pub returns-in-Err-clause-is : goal.returns-in-Err-clause-is
+returns-in-Err-clause-is c =
+    let less = region_in c.loop-region.regions c.loop-region.system.state c.args.txn c.in-Region.region c.loop-region.back.next c.loop-region.invariant.is c.loop-region.invariant.next c.in-Region.ensures in
+    let turn =
+    refused_turn c.args.regions.now c.loop-region.regions c.args.system.now.state c.loop-region.system.state c.release.new.system.state c.args.txn c.in-Region.region c.loop-region.back _ c.release.new.region _ c.undo.new.region
+    c.loop-region.invariant.goes c.loop-region.invariant.is c.loop-region.invariant.stop c.loop-region.invariant.txn c.loop-region.invariant.next c.in-Region.ensures
+    (get_here c.loop-region.regions c.in-Region.region _ less) c.release.ensures.released (get_here _ c.in-Region.region _ (there_still c.loop-region.regions c.in-Region.region c.release.new.region less))
+    c.in-Err.ensures.err.1 in
+    (turned_as c.args.regions.now c.args.system.now.state c.args.txn _ c.release.new.system c.undo.new.system c.in-Err.ensures.err.0 turn).is
+
+pub returns : goal.returns
+returns c = record {
+  goes = c.loop-region.invariant.goes;
+  is = c.loop-region.invariant.is;
+  stop = c.loop-region.invariant.stop;
+  all = none_wanted _ c.loop-region.back.next c.loop-region.invariant.next (λ r e. c.in_default.not-Region r (c.wants.ensures ∙ e));
+  refused = tt;
+  memory = λ e. tt;
+}

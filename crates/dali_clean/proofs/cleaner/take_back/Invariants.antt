@@ -1,0 +1,21 @@
+use Rattle.std.proofs.Common.{◌≡◌, IfSome, None, length}
+use Rattle.dali_record.specs.Spelling.{IsUndo}
+use Rattle.dali_att.specs.Table.{undos_at}
+use Rattle.dali_core.specs.TakenBack.{next_undo}
+use Rattle.dali_clean.specs.Cleaned.{LeadsOn, IsCleaning}
+use Rattle.dali_clean.proofs.cleaner.take_back.Given as goal
+
+abbrev pub invariant-loop-region : goal.invariant-loop-region
+invariant-loop-region l = record {
+  goes : LeadsOn l.initial.regions l.initial.system.state l.txn l.regions l.system.state;
+  is : IsCleaning l.regions l.system.state l.txn;
+  stop : l.system.state.stop ≡ l.initial.system.state.stop;
+  txn : l.back.txn ≡ l.txn;
+  down : l.back.down_to ≡ 0;
+  next : l.back.next ≡ next_undo (undos_at l.system.state.table l.txn) 0;
+  undoes : IfSome l.back.next (λ u. IsUndo u.undo);
+  closed : l.back.operation ≡ None;
+}
+
+abbrev pub decreases-loop-region : goal.decreases-loop-region
+decreases-loop-region l = length (undos_at l.system.state.table l.txn)

@@ -1,0 +1,12 @@
+use Rattle.std.proofs.Common.{◌∙◌, ap}
+use Rattle.dali_core.specs.declared.take_back.TakeBack.{TakeBack}
+use Rattle.dali_clean.proofs.Writing.{more_written, still_same}
+use Rattle.dali_clean.proofs.undoing.write_back.Goals as goal
+
+pub loop-preserved : goal.loop-preserved
+loop-preserved c = record {
+  under_way = c.update.ensures.under_way;
+  same = still_same c.args.back.now.operation c.loop.back.operation c.update.new.self.operation c.loop.invariant.same c.update.ensures.same;
+  rest = c.update.ensures.rest ∙ ap (λ (p : TakeBack). record p { operation = c.update.new.self.operation }) c.loop.invariant.rest;
+  written = more_written c.args.region.now c.loop.region c.update.new.region c.loop.invariant.written (c.update.ensures.step c.loop-test.true).1;
+}

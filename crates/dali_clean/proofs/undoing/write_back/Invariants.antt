@@ -1,0 +1,16 @@
+use Rattle.std.proofs.Common.{◌≡◌, IsSomeAnd, IfSome}
+use Rattle.dali_core.specs.UnderWay.{IsUnderWay}
+use Rattle.dali_clean.specs.Undone.{AreWritten}
+use Rattle.dali_clean.proofs.Writing.{words_left}
+use Rattle.dali_clean.proofs.undoing.write_back.Given as goal
+
+abbrev pub invariant-loop : goal.invariant-loop
+invariant-loop l = record {
+  under_way : IsSomeAnd l.back.operation (λ o. IsUnderWay o.txn o.block o.left o.taken l.region);
+  same : IfSome l.initial.back.operation (λ o. IsSomeAnd l.back.operation (λ p. (p.txn ≡ o.txn) × (p.block ≡ o.block)));
+  rest : l.back ≡ record l.initial.back { operation = l.back.operation };
+  written : AreWritten l.initial.region l.region;
+}
+
+abbrev pub decreases-loop : goal.decreases-loop
+decreases-loop l = words_left l.back.operation

@@ -1,0 +1,10 @@
+//! The clean-up of a transaction whose client died, by a thread that has regions and system to itself.
+#![tactic(auto)]
+
+mod cleaner;
+mod error;
+pub mod laws;
+mod undoing;
+
+pub use cleaner::clean;
+pub use error::CleanError;

@@ -1,0 +1,12 @@
+pub mod Loops
+pub mod Above
+pub mod Tables
+pub mod Headings
+pub mod Fronts
+pub mod Words
+pub mod Bounds
+pub mod Taken
+pub mod Again
+pub mod OneHeader
+pub mod Kept
+pub mod Passed

@@ -1,0 +1,5 @@
+use Rattle.dali_parts.proofs.Vaults.{vault_reads}
+use Rattle.dali_parts.proofs.laws.a_vault_whose_read_fails_keeps_its_part.Goals as goal
+
+pub returns : goal.returns
+returns c = vault_reads

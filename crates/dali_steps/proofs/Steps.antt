@@ -1,0 +1,413 @@
+-- Each call of a vault is a step of a run.
+use Rattle.std.proofs.Common.{◌≡◌, ℕ, ◌+◌, ◌<◌, ◌^◌, true, false, cond, List, [], ◌∷◌, length, Option, Some, None, IfSome, is_some, refl, ap, sym, subst, ◌∙◌, arith}
+use Rattle.std.specs.Prelude.{⊤, ◌==◌, ◌&&◌}
+use Rattle.std.proofs.lemmas.Option.{IfSome_then}
+use Rattle.dali_geometry.specs.Places.{regions}
+use Rattle.dali_record.specs.declared.records.Record.{Record}
+use Rattle.dali_record.specs.Spelling.{words_bytes}
+use Rattle.dali_region.specs.declared.Side.{Side}
+use Rattle.dali_region.specs.Answers.{cleaned}
+use Rattle.dali_system.specs.Keeps.{with_region}
+use Rattle.dali_store.specs.declared.store.FileName.TheVariants.{Log}
+use Rattle.dali_store.specs.Store.{Files as Disk, file_of, Holds, TornIn}
+use Rattle.dali_store.specs.Faults.{Rose}
+use Rattle.dali_counts.proofs.Lists.{same_number}
+use Rattle.dali_batch.specs.Appending.{bodies_of, SomeAdded, AllAdded}
+use Rattle.dali_system.specs.State.{VaultState}
+use Rattle.dali_system.specs.Run.{HasRisen, no_image}
+use Rattle.dali_system.specs.Flushes.{frame_of, longer, with_vault, faulted, read_failed}
+use Rattle.dali_system.specs.ImageSteps.{told_with}
+use Rattle.dali_system.specs.Courses.{Flushes, Faults, ReadFails}
+use Rattle.dali_crash.specs.Checkpoints.{Head, StoreStep, Does, Copies, CopyFails, WritesHead, HeadFails, Syncs, SyncFails, Turns, TurnFails, Point, target, head_with, synced_with, copies_with, copies_after, copy_at, with_fault, with_current, IsFault, IsPointStep}
+use Rattle.dali_crash.specs.StoreRuns.{StoreRun}
+use Rattle.dali_system.proofs.Flushes.{end_is_small}
+use Rattle.dali_crash.proofs.StoreRuns.{bare_store_course_keeps, fewer_runs, current_is_small}
+use Rattle.dali_crash.proofs.Traces.{acknowledged_traces, start_runs}
+use Rattle.dali_crash.specs.Traces.{Start, bases_of, start_point}
+use Rattle.dali_traces.specs.Disks.{header_bytes, table_bytes, image_name, AllSpell}
+use Rattle.dali_traces.specs.Places.{place_of}
+use Rattle.dali_traces.specs.Anchors.{HasMoved, MayHaveMoved}
+use Rattle.dali_traces.specs.Bridges.{TracedTo, HoldsNext, body_at, batches_on, is_image_write}
+use Rattle.dali_traces.specs.Images.{next_file, ReadsWords}
+use Rattle.dali_traces.specs.NewFiles.{IsUnderWay, IsWholeFile}
+use Rattle.dali_traces.proofs.Bridges.{flush_goes_on, fault_goes_on, quiet_goes_on, write_goes_on, turn_goes_on, turn_fault_goes_on, flush_is_right, are_right, store_starts, same_image}
+use Rattle.dali_traces.proofs.Images.{same_self, quiet_is_read, held_goes_on, sync_holds}
+use Rattle.dali_traces.proofs.NewFiles.{copy_continues, header_begins, table_ends, quiet_continues}
+use Rattle.dali_vault.specs.Vaulted.{Vaulted, grown, moved, with_store}
+use Rattle.dali_vault.specs.Vaulted as vaulted
+use Rattle.dali_vault.proofs.Serving.{still, both}
+use Rattle.dali_steps.specs.At.{IsVault, IsAt}
+use Rattle.dali_steps.specs.Said.{IsOk, HasWritten}
+use Rattle.dali_steps.specs.Called.{KeepsImage, FlushGoes, FlushFaults, FlushIsRight, CopyGoes, CopyFaults, HeaderGoes, TableGoes, HeadFaults, SyncGoes, SyncFaults, TurnGoes, TurnFaults, ReadStays, ReadFaults, QuietGoes, QuietKeeps, RunBegins, CrashIsRight, AcknowledgedStands, PlacesAreSmall}
+use Rattle.dali_steps.proofs.Frames.{spelled_frame, frame_is_small, longer_is, longer_current}
+use Rattle.dali_steps.proofs.Files.{named, torn_over, held_over, same_told, if_both}
+
+-- ---- counts of faults
+risen_from : (u n m : ℕ) → u ≡ n → Rose n m → HasRisen u m
+risen_from u n m same rose = subst (λ k. HasRisen k m) (sym same) rose
+
+module _ {V : Type 0} (told : V → Option Disk) (may_leave : V → Disk → Type 0) (faults : V → ℕ) where
+  -- ---- one step more of a run
+  runs_on : (s : Start) (B : List (List Record)) (p q : Point) (x : StoreStep) (v : Vaulted V) → IsAt told may_leave faults s B p v → IsPointStep p x q → StoreRun (bases_of s) s.log no_image q
+  runs_on s B p q x v at step = bare_store_course_keeps (bases_of s) s.log p q (x ∷ []) at.run (q, step, refl)
+
+  -- the vault stands as before, over another store
+  same_vault : (v w : Vaulted V) (u : VaultState) → IsVault faults v u → w ≡ with_store v w.store → faults w.store ≡ faults v.store → IsVault faults w u
+  same_vault v w u is vault kept = record {
+    stopped = is.stopped ∙ sym (ap (λ (z : Vaulted V). z.stopped) vault);
+    end = is.end ∙ sym (ap (λ (z : Vaulted V). z.end) vault);
+    flushed = is.flushed ∙ sym (ap (λ (z : Vaulted V). z.flushed) vault);
+    current = is.current ∙ sym (ap (λ (z : Vaulted V). z.current) vault);
+    counted = is.counted ∙ sym kept;
+  }
+
+  -- it stopped
+  failed_vault : (v w : Vaulted V) (u : VaultState) → IsVault faults v u → w ≡ vaulted.faulted v w.store → IsVault faults w (faulted u (faults w.store))
+  failed_vault v w u is vault = record {
+    stopped = sym (ap (λ (z : Vaulted V). z.stopped) vault);
+    end = is.end ∙ sym (ap (λ (z : Vaulted V). z.end) vault);
+    flushed = is.flushed ∙ sym (ap (λ (z : Vaulted V). z.flushed) vault);
+    current = is.current ∙ sym (ap (λ (z : Vaulted V). z.current) vault);
+    counted = refl;
+  }
+
+  ran : (v w : Vaulted V) → IsOk told may_leave faults v w → w.stopped ≡ v.stopped → v.stopped ≡ false
+  ran v w ok same = sym same ∙ ok.runs
+
+  -- ---- a flush
+  pub flush_goes : FlushGoes told may_leave faults
+  flush_goes s B p v w f at fr said = record { goes = record { to = q; step = step; is = record { run = runs_on s B p q (Does Flushes) v at step; vault = vault; files = files } }; keeps = keeps }
+    where
+      runs : p.core.vault.stopped ≡ false
+      runs = at.vault.stopped ∙ ran v w said.ok (ap (λ (z : Vaulted V). z.stopped) said.vault)
+
+      q : Point
+      q = record p { core = with_vault p.core (longer p.core.vault (frame_of p.log p.core)); copies = copies_after p.core Flushes p.copies }
+
+      step : IsPointStep p (Does Flushes) q
+      step = (refl, ((runs, (refl, refl)), refl), refl)
+
+      vault : IsVault faults w q.core.vault
+      vault = longer_is faults v w p.core.vault f (frame_of p.log p.core) at.vault fr.body fr.records (spelled_frame (bases_of s) s.log p at.run.run) (frame_is_small (bases_of s) s.log p at.run.run) said.vault said.ok.kept
+
+      added : ((c : Disk) → may_leave w.store c → AllAdded (may_leave v.store) v.end (bodies_of f.body) c) → (c : Disk) → may_leave w.store c → AllAdded (may_leave v.store) p.core.vault.end (bodies_of (body_at p)) c
+      added each c left = subst (λ n. AllAdded (may_leave v.store) n (bodies_of (body_at p)) c) (sym at.vault.end) (subst (λ b. AllAdded (may_leave v.store) v.end (bodies_of b) c) fr.body (each c left))
+
+      files : IfSome (told w.store) (λ _. AllSpell (may_leave w.store) (TracedTo s (batches_on B p) q))
+      files = both (told v.store) (told w.store) said.ok.tells (λ all each. flush_goes_on (may_leave v.store) (may_leave w.store) s B p q all step (added each)) at.files said.added
+
+      current : q.core.vault.current ≡ p.core.vault.current
+      current = longer_current p.core.vault (frame_of p.log p.core)
+
+      keeps : KeepsImage told may_leave faults p q v.store w.store
+      keeps = record {
+        under_way = λ h k. torn_over Log v.end (length f.body + 6) (told v.store) (told w.store) (IsUnderWay p h k) (IsUnderWay q h k) said.torn (λ a b same. quiet_continues p q (Does Flushes) h k a b step refl current (same_image b a (target p) same));
+        whole = torn_over Log v.end (length f.body + 6) (told v.store) (told w.store) (IsWholeFile p) (IsWholeFile q) said.torn
+            (λ a b same is. let reads = quiet_is_read p q (Does Flushes) a b step refl current (same_image b a (target p) same) in record { words = reads.words is.words; head = reads.head is.head });
+        held = λ holds. both (told v.store) (told w.store) said.ok.tells
+            (λ held each. held_goes_on (may_leave v.store) (may_leave w.store) p q (Does Flushes) step refl current (λ c left. let o = (each c left).others in (o.0, o.1, same_image c o.0 (target p) o.2)) held) holds said.added;
+      }
+
+  pub flush_faults : FlushFaults told may_leave faults
+  flush_faults s B p v w f at fr said = record { to = q; step = step; is = record { run = runs_on s B p q (Does (Faults (faults w.store))) v at step; vault = failed_vault v w p.core.vault at.vault said.vault; files = files } }
+    where
+      runs : p.core.vault.stopped ≡ false
+      runs = at.vault.stopped ∙ said.ran
+
+      q : Point
+      q = record p { core = with_vault p.core (faulted p.core.vault (faults w.store)); copies = copies_after p.core (Faults (faults w.store)) p.copies }
+
+      step : IsPointStep p (Does (Faults (faults w.store))) q
+      step = (refl, ((runs, risen_from p.core.vault.faults (faults v.store) (faults w.store) at.vault.counted said.rose, (refl, refl)), refl), refl)
+
+      some : ((c : Disk) → may_leave w.store c → SomeAdded (may_leave v.store) v.end (bodies_of f.body) c) → (c : Disk) → may_leave w.store c → SomeAdded (may_leave v.store) p.core.vault.end (bodies_of (body_at p)) c
+      some each c left = subst (λ n. SomeAdded (may_leave v.store) n (bodies_of (body_at p)) c) (sym at.vault.end) (subst (λ b. SomeAdded (may_leave v.store) v.end (bodies_of b) c) fr.body (each c left))
+
+      files : IfSome (told w.store) (λ _. AllSpell (may_leave w.store) (TracedTo s B q))
+      files = both (told v.store) (told w.store) said.tells (λ all each. fault_goes_on (may_leave v.store) (may_leave w.store) s B p q (faults w.store) all step (some each)) at.files said.crash
+
+  pub flush_is_right_in : FlushIsRight told may_leave faults
+  flush_is_right_in s B p v f at fr running = IfSome_then (told v.store) at.files (λ fs all c left.
+      flush_is_right (may_leave v.store) s B p q all step c (subst (λ n. SomeAdded (may_leave v.store) n (bodies_of (body_at p)) c) (sym at.vault.end) (subst (λ b. SomeAdded (may_leave v.store) v.end (bodies_of b) c) fr.body left)))
+    where
+      q : Point
+      q = record p { core = with_vault p.core (longer p.core.vault (frame_of p.log p.core)); copies = copies_after p.core Flushes p.copies }
+
+      step : IsPointStep p (Does Flushes) q
+      step = (refl, ((at.vault.stopped ∙ running, (refl, refl)), refl), refl)
+
+  -- ---- an image's write
+  -- what a write to the next image makes of what a crash may leave
+  writes : (s : Start) (B : List (List Record)) (p q : Point) (x : StoreStep) (v w : Vaulted V) (at n : ℕ) → is_some (told w.store) ≡ is_some (told v.store) → IsPointStep p x q → is_image_write x ≡ true
+      → IfSome (told v.store) (λ _. (c : Disk) → may_leave w.store c → (d : Disk) × may_leave v.store d × TornIn (image_name (target p)) at n d c)
+      → IfSome (told v.store) (λ _. AllSpell (may_leave v.store) (TracedTo s B p)) → IfSome (told w.store) (λ _. AllSpell (may_leave w.store) (TracedTo s B q))
+  writes s B p q x v w at n tells step image crash files =
+      both (told v.store) (told w.store) tells (λ all each. write_goes_on (may_leave v.store) (may_leave w.store) s B p q x all step image (λ c left. let o = each c left in (o.0, o.1, o.2.same))) files crash
+
+  each_of : {X : Type 0} (o : Option Disk) → X → IfSome o (λ _. X)
+  each_of o x = IfSome_then o (all_of o) (λ _ _. x)
+    where
+      all_of : (z : Option Disk) → IfSome z (λ _. ⊤)
+      all_of (Some z) = tt
+      all_of z = tt
+
+  pub copy_goes : CopyGoes told may_leave faults
+  copy_goes s B p v w r n g at now may said = record {
+    goes = record { to = q; step = step; is = record { run = runs_on s B p q (Copies r n) v at step; vault = same_vault v w p.core.vault at.vault said.vault said.ok.kept; files = files } };
+    further = λ h k way le. held_over (image_name side) (place_of r) (words_bytes g.back) (told v.store) (told w.store) _ (IsUnderWay q h (r + 1)) said.written
+        (λ a b holds is. (copy_continues s B p q (is.1.1 a is.1.0).0 h k r n a b (is.1.1 a is.1.0).2 step is.0 le (told_holds a b holds)).further) (if_both (told v.store) _ _ way (if_both (told v.store) _ _ now at.files));
+    still = λ h k way le. held_over (image_name side) (place_of r) (words_bytes g.back) (told v.store) (told w.store) _ (IsUnderWay q h k) said.written
+        (λ a b holds is. (copy_continues s B p q (is.1.1 a is.1.0).0 h k r n a b (is.1.1 a is.1.0).2 step is.0 le (told_holds a b holds)).still) (if_both (told v.store) _ _ way (if_both (told v.store) _ _ now at.files));
+  }
+    where
+      side : Side
+      side = target p
+
+      runs : p.core.vault.stopped ≡ false
+      runs = at.vault.stopped ∙ ran v w said.ok (ap (λ (z : Vaulted V). z.stopped) said.vault)
+
+      q : Point
+      q = record p {
+        core = with_region p.core r (cleaned side g);
+        told = told_with p.told side r g.back;
+        synced = synced_with p.synced side false;
+        copies = copies_with p.copies side r (Some (copy_at n));
+      }
+
+      step : IsPointStep p (Copies r n) q
+      step = (g, may.at, record { runs = runs; under_way = may.under_way }, may.dirty, may.untouched, refl)
+
+      files : IfSome (told w.store) (λ _. AllSpell (may_leave w.store) (TracedTo s B q))
+      files = writes s B p q (Copies r n) v w (place_of r) (length (words_bytes g.back)) said.ok.tells step refl (each_of (told v.store) said.crash) at.files
+
+      back_is : g.back ≡ told_with p.told side r g.back side r
+      back_is = sym (ap (λ b. cond (b && (r == r)) g.back (p.told side r)) (same_self side) ∙ ap (λ b. cond b g.back (p.told side r)) (same_number r r refl))
+
+      told_holds : (a b : Disk) → Holds (file_of (image_name side) a) (place_of r) (words_bytes g.back) (file_of (image_name side) b) → Holds (next_file p a) (place_of r) (words_bytes (q.told (target p) r)) (next_file p b)
+      told_holds a b holds =
+          subst (λ ws. Holds (next_file p a) (place_of r) (words_bytes ws) (next_file p b)) back_is
+          (subst (λ x. Holds x (place_of r) (words_bytes g.back) (next_file p b)) (named side a) (subst (λ y. Holds (file_of (image_name side) a) (place_of r) (words_bytes g.back) y) (named side b) holds))
+
+  pub copy_faults : CopyFaults told may_leave faults
+  copy_faults s B p v w r n g at may said = record { to = q; step = step; is = record { run = runs_on s B p q (CopyFails r [] (faults w.store)) v at step; vault = failed_vault v w p.core.vault at.vault said.vault; files = files } }
+    where
+      fault : IsFault p (faults w.store)
+      fault = record { may = record { runs = at.vault.stopped ∙ said.ran; under_way = may.under_way }; rose = risen_from p.core.vault.faults (faults v.store) (faults w.store) at.vault.counted said.rose }
+
+      q : Point
+      q = record p {
+        core = with_fault p.core (faults w.store);
+        told = told_with p.told (target p) r [];
+        synced = synced_with p.synced (target p) false;
+        copies = copies_with p.copies (target p) r None;
+      }
+
+      step : IsPointStep p (CopyFails r [] (faults w.store)) q
+      step = (g, may.at, may.dirty, fault, refl)
+
+      files : IfSome (told w.store) (λ _. AllSpell (may_leave w.store) (TracedTo s B q))
+      files = writes s B p q (CopyFails r [] (faults w.store)) v w (place_of r) (length (words_bytes g.back)) said.tells step refl said.crash at.files
+
+  -- ---- header and table
+  abbrev head_point : Point → Head → Point
+  head_point p h = record p { heads = head_with p.heads (target p) h; synced = synced_with p.synced (target p) false }
+
+  head_goes : (s : Start) (B : List (List Record)) (p : Point) (v w : Vaulted V) (h : Head) (place : ℕ) (bytes : List ℕ) → IsAt told may_leave faults s B p v → is_some p.begun ≡ true
+      → HasWritten told may_leave faults v (image_name (target p)) place bytes w → IsPointStep p (WritesHead h) (head_point p h) × IsAt told may_leave faults s B (head_point p h) w
+  head_goes s B p v w h place bytes at begun said = (step, record { run = runs_on s B p (head_point p h) (WritesHead h) v at step; vault = same_vault v w p.core.vault at.vault said.vault said.ok.kept; files = files })
+    where
+      step : IsPointStep p (WritesHead h) (head_point p h)
+      step = (record { runs = at.vault.stopped ∙ ran v w said.ok (ap (λ (z : Vaulted V). z.stopped) said.vault); under_way = begun }, refl)
+
+      files : IfSome (told w.store) (λ _. AllSpell (may_leave w.store) (TracedTo s B (head_point p h)))
+      files = writes s B p (head_point p h) (WritesHead h) v w place (length bytes) said.ok.tells step refl (each_of (told v.store) said.crash) at.files
+
+  next_holds : (p : Point) (place : ℕ) (bytes : List ℕ) (a b : Disk) → Holds (file_of (image_name (target p)) a) place bytes (file_of (image_name (target p)) b) → Holds (next_file p a) place bytes (next_file p b)
+  next_holds p place bytes a b holds = subst (λ x. Holds x place bytes (next_file p b)) (named (target p) a) (subst (λ y. Holds (file_of (image_name (target p)) a) place bytes y) (named (target p) b) holds)
+
+  pub header_goes : HeaderGoes told may_leave faults
+  header_goes s B p v w h at begun said =
+      let goes = head_goes s B p v w h 0 (header_bytes p.core.system.sizes h) at begun said in record {
+        goes = record { to = head_point p h; step = goes.0; is = goes.1 };
+        begins = held_over (image_name (target p)) 0 (header_bytes p.core.system.sizes h) (told v.store) (told w.store) (ReadsWords p) (IsUnderWay (head_point p h) h 0) said.written
+            (λ a b holds reads. header_begins p (head_point p h) h a b goes.0 reads (next_holds p 0 (header_bytes p.core.system.sizes h) a b holds));
+      }
+
+  pub table_goes : TableGoes told may_leave faults
+  table_goes s B p v w h at begun said =
+      let place = place_of (regions p.core.system.sizes) in
+      let goes = head_goes s B p v w h place (table_bytes h.table) at begun said in record {
+        goes = record { to = head_point p h; step = goes.0; is = goes.1 };
+        whole = held_over (image_name (target p)) place (table_bytes h.table) (told v.store) (told w.store) (IsUnderWay p h (regions p.core.system.sizes)) (IsWholeFile (head_point p h)) said.written
+            (λ a b holds way. table_ends p (head_point p h) h a b goes.0 way (next_holds p place (table_bytes h.table) a b holds));
+      }
+
+  pub head_faults : HeadFaults told may_leave faults
+  head_faults s B p v w h place n at begun said = record { to = q; step = step; is = record { run = runs_on s B p q (HeadFails h (faults w.store)) v at step; vault = failed_vault v w p.core.vault at.vault said.vault; files = files } }
+    where
+      q : Point
+      q = record p { core = with_fault p.core (faults w.store); heads = head_with p.heads (target p) h; synced = synced_with p.synced (target p) false }
+
+      step : IsPointStep p (HeadFails h (faults w.store)) q
+      step = (record { may = record { runs = at.vault.stopped ∙ said.ran; under_way = begun }; rose = risen_from p.core.vault.faults (faults v.store) (faults w.store) at.vault.counted said.rose }, refl)
+
+      files : IfSome (told w.store) (λ _. AllSpell (may_leave w.store) (TracedTo s B q))
+      files = writes s B p q (HeadFails h (faults w.store)) v w place n said.tells step refl said.crash at.files
+
+  -- ---- a sync
+  pub sync_goes : SyncGoes told may_leave faults
+  sync_goes s B p v w at begun said = record {
+    goes = record { to = q; step = step; is = record { run = runs_on s B p q Syncs v at step; vault = same_vault v w p.core.vault at.vault said.vault said.ok.kept; files = files } };
+    held = λ fits whole. same_told (told v.store) (told w.store) _ (λ _. (c : Disk) → may_leave w.store c → HoldsNext q c) said.same
+        (λ fs both c left. sync_holds (may_leave w.store) p fs both.0.words both.0.head fits both.1 c left) (if_both (told v.store) (IsWholeFile p) _ whole said.durable);
+  }
+    where
+      q : Point
+      q = record p { synced = synced_with p.synced (target p) true }
+
+      step : IsPointStep p Syncs q
+      step = (record { runs = at.vault.stopped ∙ ran v w said.ok (ap (λ (z : Vaulted V). z.stopped) said.vault); under_way = begun }, refl)
+
+      files : IfSome (told w.store) (λ _. AllSpell (may_leave w.store) (TracedTo s B q))
+      files = still (told v.store) (told w.store) said.ok.tells (λ all. quiet_goes_on (may_leave v.store) (may_leave w.store) s B p q Syncs all step (λ F. refl) said.crash) at.files
+
+  pub sync_faults : SyncFaults told may_leave faults
+  sync_faults s B p v w at begun said = record { to = q; step = step; is = record { run = runs_on s B p q (SyncFails (faults w.store)) v at step; vault = failed_vault v w p.core.vault at.vault said.vault; files = files } }
+    where
+      q : Point
+      q = record p { core = with_fault p.core (faults w.store) }
+
+      step : IsPointStep p (SyncFails (faults w.store)) q
+      step = (record { may = record { runs = at.vault.stopped ∙ said.ran; under_way = begun }; rose = risen_from p.core.vault.faults (faults v.store) (faults w.store) at.vault.counted said.rose }, refl)
+
+      files : IfSome (told w.store) (λ _. AllSpell (may_leave w.store) (TracedTo s B q))
+      files = both (told v.store) (told w.store) said.tells (λ all each. quiet_goes_on (may_leave v.store) (may_leave w.store) s B p q (SyncFails (faults w.store)) all step (λ F. refl) each) at.files said.crash
+
+  -- ---- the anchor
+  pub turn_goes : TurnGoes told may_leave faults
+  turn_goes s B p v w h b k at begun may held said = record { to = q; step = step; is = record { run = runs_on s B p q Turns v at step; vault = vault; files = files } }
+    where
+      q : Point
+      q = record p { core = with_current p.core; begun = None }
+
+      step : IsPointStep p Turns q
+      step = (h, b, k, record { runs = at.vault.stopped ∙ ran v w said.ok (ap (λ (z : Vaulted V). z.stopped) said.vault); under_way = begun }, may, refl)
+
+      vault : IsVault faults w q.core.vault
+      vault = record {
+        stopped = at.vault.stopped ∙ sym (ap (λ (z : Vaulted V). z.stopped) said.vault);
+        end = at.vault.end ∙ sym (ap (λ (z : Vaulted V). z.end) said.vault);
+        flushed = at.vault.flushed ∙ sym (ap (λ (z : Vaulted V). z.flushed) said.vault);
+        current = ap (λ n. n + 1) at.vault.current ∙ sym (ap (λ (z : Vaulted V). z.current) said.vault);
+        counted = at.vault.counted ∙ sym said.ok.kept;
+      }
+
+      moves : ((c : Disk) → may_leave w.store c → HasMoved (may_leave v.store) v.current c) → (c : Disk) → may_leave w.store c → HasMoved (may_leave v.store) p.core.vault.current c
+      moves each c left = subst (λ n. HasMoved (may_leave v.store) n c) (sym at.vault.current) (each c left)
+
+      files : IfSome (told w.store) (λ _. AllSpell (may_leave w.store) (TracedTo s B q))
+      files = both (told v.store) (told w.store) said.ok.tells (λ all each. turn_goes_on (may_leave v.store) (may_leave w.store) s B p q all.1 step all.0 (moves each)) (if_both (told v.store) _ _ held at.files) said.moved
+
+  pub turn_faults : TurnFaults told may_leave faults
+  turn_faults s B p v w h b k at begun may held said = record { to = q; step = step; is = record { run = runs_on s B p q (TurnFails (faults w.store)) v at step; vault = failed_vault v w p.core.vault at.vault said.vault; files = files } }
+    where
+      q : Point
+      q = record p { core = with_fault p.core (faults w.store); begun = None }
+
+      step : IsPointStep p (TurnFails (faults w.store)) q
+      step = (
+        h,
+        b,
+        k,
+        record { may = record { runs = at.vault.stopped ∙ said.ran; under_way = begun }; rose = risen_from p.core.vault.faults (faults v.store) (faults w.store) at.vault.counted said.rose },
+        may,
+        refl,
+      )
+
+      moves : ((c : Disk) → may_leave w.store c → MayHaveMoved (may_leave v.store) v.current c) → (c : Disk) → may_leave w.store c → MayHaveMoved (may_leave v.store) p.core.vault.current c
+      moves each c left = subst (λ n. MayHaveMoved (may_leave v.store) n c) (sym at.vault.current) (each c left)
+
+      files : IfSome (told w.store) (λ _. AllSpell (may_leave w.store) (TracedTo s B q))
+      files = both (told v.store) (told w.store) said.tells (λ all each. turn_fault_goes_on (may_leave v.store) (may_leave w.store) s B p q (faults w.store) all.1 step all.0 (moves each)) (if_both (told v.store) _ _ held at.files) said.crash
+
+  -- ---- what is no call that writes
+  fewer_spell : (s : Start) (B : List (List Record)) (p : Point) (v w : V) → told w ≡ told v → ((c : Disk) → may_leave w c → may_leave v c)
+      → IfSome (told v) (λ _. AllSpell (may_leave v) (TracedTo s B p)) → IfSome (told w) (λ _. AllSpell (may_leave w) (TracedTo s B p))
+  fewer_spell s B p v w same fewer files = same_told (told v) (told w) _ (λ _. AllSpell (may_leave w) (TracedTo s B p)) same (λ fs all c left. all c (fewer c left)) files
+
+  read_keeps : (p q : Point) (v w : V) → told w ≡ told v → ((c : Disk) → may_leave w c → may_leave v c) → KeepsImage told may_leave faults p q v v → KeepsImage told may_leave faults p q v w
+  read_keeps p q v w same fewer keeps = record {
+    under_way = λ h k way. same_told (told v) (told w) (IsUnderWay q h k) (IsUnderWay q h k) same (λ a is. is) (keeps.under_way h k way);
+    whole = λ whole. same_told (told v) (told w) (IsWholeFile q) (IsWholeFile q) same (λ a is. is) (keeps.whole whole);
+    held = λ holds. same_told (told v) (told w) _ (λ _. (c : Disk) → may_leave w c → HoldsNext q c) same (λ a held c left. held c (fewer c left)) (keeps.held holds);
+  }
+
+  pub read_stays : ReadStays told may_leave faults
+  read_stays s B p v w at said = (
+    record { run = at.run; vault = same_vault v w p.core.vault at.vault said.0.vault said.1; files = fewer_spell s B p v.store w.store said.0.same said.0.crash at.files },
+    read_keeps p p v.store w.store said.0.same said.0.crash (record { under_way = λ h k way. way; whole = λ whole. whole; held = λ held. held }),
+  )
+
+  pub quiet_goes : QuietGoes told may_leave faults
+  quiet_goes s B p q x v at step stays same = record {
+    run = runs_on s B p q x v at step;
+    vault = subst (IsVault faults v) (sym same) at.vault;
+    files = IfSome_then (told v.store) at.files (λ fs all. quiet_goes_on (may_leave v.store) (may_leave v.store) s B p q x all step stays (λ c left. left));
+  }
+
+  image_kept : (p q : Point) (x : StoreStep) (v : V) → IsPointStep p x q → is_image_write x ≡ false → q.core.vault.current ≡ p.core.vault.current → KeepsImage told may_leave faults p q v v
+  image_kept p q x v step quiet current = record {
+    under_way = λ h k way. IfSome_then (told v) way (λ a. quiet_continues p q x h k a a step quiet current refl);
+    whole = λ whole. IfSome_then (told v) whole (λ a is. let reads = quiet_is_read p q x a a step quiet current refl in record { words = reads.words is.words; head = reads.head is.head });
+    held = λ holds. IfSome_then (told v) holds (λ a held. held_goes_on (may_leave v) (may_leave v) p q x step quiet current (λ c left. (c, left, refl)) held);
+  }
+
+  pub quiet_keeps : QuietKeeps told may_leave faults
+  quiet_keeps p q x v step quiet same = image_kept p q x v step quiet (ap (λ (u : VaultState). u.current) same)
+
+  pub read_faults : ReadFaults told may_leave faults
+  read_faults s B p v w at said = record {
+    goes = record {
+      to = q;
+      step = step;
+      is = record {
+        run = runs_on s B p q (Does (ReadFails (faults w.store))) v at step;
+        vault = record {
+          stopped = at.vault.stopped ∙ sym (ap (λ (z : Vaulted V). z.stopped) said.0.vault);
+          end = at.vault.end ∙ sym (ap (λ (z : Vaulted V). z.end) said.0.vault);
+          flushed = at.vault.flushed ∙ sym (ap (λ (z : Vaulted V). z.flushed) said.0.vault);
+          current = at.vault.current ∙ sym (ap (λ (z : Vaulted V). z.current) said.0.vault);
+          counted = refl;
+        };
+        files = fewer_spell s B q v.store w.store said.0.same said.0.crash (IfSome_then (told v.store) at.files (λ fs all. quiet_goes_on (may_leave v.store) (may_leave v.store) s B p q (Does (ReadFails (faults w.store))) all step (λ F. refl) (λ c left. left)));
+      };
+    };
+    keeps = read_keeps p q v.store w.store said.0.same said.0.crash (image_kept p q (Does (ReadFails (faults w.store))) v.store step refl refl);
+  }
+    where
+      q : Point
+      q = record p { core = with_vault p.core (read_failed p.core.vault (faults w.store)); copies = copies_after p.core (ReadFails (faults w.store)) p.copies }
+
+      step : IsPointStep p (Does (ReadFails (faults w.store))) q
+      step = (refl, ((risen_from p.core.vault.faults (faults v.store) (faults w.store) at.vault.counted said.1, (refl, refl)), refl), refl)
+
+  -- ---- the start, and what holds of it
+  pub run_begins : RunBegins told may_leave faults
+  run_begins s B v D starts vault all = record {
+    run = fewer_runs (bases_of s) s.log _ _ (start_point s) (λ F none. absurd none) (start_runs s D starts);
+    vault = vault;
+    files = IfSome_then (told v.store) all (λ fs each. store_starts (may_leave v.store) s B each);
+  }
+
+  pub crash_is_right : CrashIsRight told may_leave faults
+  crash_is_right s B p v at = IfSome_then (told v.store) at.files (λ fs all. are_right (may_leave v.store) s B p all)
+
+  pub acknowledged_stands : AcknowledgedStands told may_leave faults
+  acknowledged_stands s B p v at = IfSome_then (told v.store) at.files (λ fs all c left.
+      let D = all c left in (D.0, D.1, λ t is. acknowledged_traces s D.2.first D.2.starts D.2.steps p D.0 D.2.trace t is))
+
+  pub places_are_small : PlacesAreSmall told may_leave faults
+  places_are_small s B p v at = (
+    subst (λ n. n < 2 ^ 62) at.vault.end (end_is_small (bases_of s) s.log p.core at.run.run.run),
+    omega (arith, at.vault.current, current_is_small (bases_of s) s.log p at.run),
+  )

@@ -1,0 +1,34 @@
+-- A vault at a point of a run.
+--     IsVault v u              a run says u of the vault v
+--     IsAt s B p v             a run from the start s has come to the point p with the vault v; where the store tells what its reads give, each disk
+--                              that a crash may leave spells files that came along its steps, and while the vault runs they have the batches B
+--     Goes s p x B w           the step x leads from the point p to one where the vault is w
+use Rattle.std.specs.Prelude.{◌≡◌, ℕ, List, Option, IfSome}
+use Rattle.dali_record.specs.declared.records.Record.{Record}
+use Rattle.dali_store.specs.Store.{Files as Disk}
+use Rattle.dali_system.specs.State.{VaultState}
+use Rattle.dali_system.specs.Run.{no_image}
+use Rattle.dali_crash.specs.Checkpoints.{StoreStep, Point, IsPointStep}
+use Rattle.dali_crash.specs.StoreRuns.{StoreRun}
+use Rattle.dali_crash.specs.Traces.{Start, bases_of}
+use Rattle.dali_traces.specs.Disks.{AllSpell}
+use Rattle.dali_traces.specs.Bridges.{TracedTo}
+use Rattle.dali_vault.specs.Vaulted.{Vaulted}
+
+pub record IsVault {V : Type 0} (faults : V → ℕ) (v : Vaulted V) (u : VaultState) : Type 0 where
+  pub stopped : u.stopped ≡ v.stopped
+  pub end : u.end ≡ v.end
+  pub flushed : u.flushed ≡ v.flushed
+  pub current : u.current ≡ v.current
+  pub counted : u.faults ≡ faults v.store
+
+module _ {V : Type 0} (told : V → Option Disk) (may_leave : V → Disk → Type 0) (faults : V → ℕ) where
+  pub record IsAt (s : Start) (B : List (List Record)) (p : Point) (v : Vaulted V) : Type 0 where
+    pub run : StoreRun (bases_of s) s.log no_image p
+    pub vault : IsVault faults v p.core.vault
+    pub files : IfSome (told v.store) (λ _. AllSpell (may_leave v.store) (TracedTo s B p))
+
+  pub record Goes (s : Start) (p : Point) (x : StoreStep) (B : List (List Record)) (w : Vaulted V) : Type 0 where
+    pub to : Point
+    pub step : IsPointStep p x to
+    pub is : IsAt s B to w

@@ -1,0 +1,4 @@
+pub mod At
+pub mod Said
+pub mod Called
+pub mod Courses

@@ -1,0 +1,74 @@
+//! Laws of vaults over any store, each the contract of a function that does nothing.
+ghost use Rattle.dali_steps.specs.Called.{FlushGoes, FlushFaults, FlushIsRight, CopyGoes, CopyFaults, HeaderGoes, TableGoes, HeadFaults, SyncGoes, SyncFaults, TurnGoes, TurnFaults, ReadStays, ReadFaults, QuietGoes, QuietKeeps, RunBegins, CrashIsRight, AcknowledgedStands, PlacesAreSmall};
+ghost use Rattle.dali_steps.specs.Courses.{QuietCourse};
+
+use dali_store::Store;
+
+/// A vault over whose store a core is made is at the start of a run.
+pub fn a_run_begins<V: Store>()
+    ensures { RunBegins V.told V.may_leave V.faults }
+{}
+
+/// A flush of what was taken is a step, and so is a fault in one; and each disk that a crash inside one leaves restarts
+/// right.
+pub fn a_flush_is_a_step<V: Store>()
+    ensures ok { FlushGoes V.told V.may_leave V.faults }
+    ensures fault { FlushFaults V.told V.may_leave V.faults }
+    ensures inside { FlushIsRight V.told V.may_leave V.faults }
+{}
+
+/// So is the write of a region to the next image, without the updates of an open operation.
+pub fn a_copy_is_a_step<V: Store>()
+    ensures ok { CopyGoes V.told V.may_leave V.faults }
+    ensures fault { CopyFaults V.told V.may_leave V.faults }
+{}
+
+/// So is the write of its header, and that of its table: behind all regions the file reads the head and the words that
+/// the point says.
+pub fn a_heads_write_is_a_step<V: Store>()
+    ensures header { HeaderGoes V.told V.may_leave V.faults }
+    ensures table { TableGoes V.told V.may_leave V.faults }
+    ensures fault { HeadFaults V.told V.may_leave V.faults }
+{}
+
+/// So is its sync: then each disk that a crash may leave holds the image.
+pub fn an_images_sync_is_a_step<V: Store>()
+    ensures ok { SyncGoes V.told V.may_leave V.faults }
+    ensures fault { SyncFaults V.told V.may_leave V.faults }
+{}
+
+/// So is the anchor's move, where each disk holds the image.
+pub fn the_anchors_move_is_a_step<V: Store>()
+    ensures ok { TurnGoes V.told V.may_leave V.faults }
+    ensures fault { TurnFaults V.told V.may_leave V.faults }
+{}
+
+/// A read of the log is no step, and one that fails is the step that counts its fault; both leave what is read and held of
+/// the next image.
+pub fn a_read_of_the_log_leaves_the_files<V: Store>()
+    ensures ok { ReadStays V.told V.may_leave V.faults }
+    ensures fault { ReadFaults V.told V.may_leave V.faults }
+{}
+
+/// A step that calls no store leaves the vault, and what is read and held of the next image.
+pub fn other_steps_leave_the_vault<V: Store>()
+    ensures goes { QuietGoes V.told V.may_leave V.faults }
+    ensures keeps { QuietKeeps V.told V.may_leave V.faults }
+{}
+
+/// So does each list of steps of a core that call no store and are none of a checkpoint.
+pub fn a_course_that_calls_no_store_leaves_the_vault<V: Store>()
+    ensures { QuietCourse V.told V.may_leave V.faults }
+{}
+
+/// Each disk that a crash may leave has the flushed records, fits, and restarts right, and what was acknowledged is
+/// committed there.
+pub fn what_a_crash_leaves_of_a_vault_is_right<V: Store>()
+    ensures right { CrashIsRight V.told V.may_leave V.faults }
+    ensures acknowledged { AcknowledgedStands V.told V.may_leave V.faults }
+{}
+
+/// A vault of a run may be asked for a flush and for the anchor's move: its log's end and its current number are below 2^62.
+pub fn the_places_of_a_vault_are_small<V: Store>()
+    ensures { PlacesAreSmall V.told V.may_leave V.faults }
+{}

@@ -1,0 +1,3 @@
+pub mod Cores
+pub mod Flushed
+pub mod Cleaned

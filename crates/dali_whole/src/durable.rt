@@ -1,0 +1,67 @@
+//! What makes the records of a core durable.
+ghost use Rattle.std.specs.Prelude.{◌≡◌, ◌<◌, ◌^◌, ℕ, true, false, Err, OnOk, OnErr, IsErrOf};
+ghost use Rattle.dali_store.specs.declared.store.FileName.TheVariants.{Log};
+ghost use Rattle.dali_store.specs.Faults.{Rose};
+ghost use Rattle.dali_store.specs.Store.{TornTold};
+ghost use Rattle.dali_system.specs.Steps.{taken, store_stopped};
+ghost use Rattle.dali_vault.specs.Vaulted.{faulted};
+ghost use Rattle.dali_vault.specs.declared.error.VaultError.TheVariants.{Fault, Stopped};
+ghost use Rattle.dali_whole.specs.Flushed.{Grows, FlushesFrame, FailsFrame, FlushesAll, FlushFails};
+ghost use Rattle.dali_whole.specs.Cores.{IsWholeCore};
+
+use crate::whole::Core;
+use dali_core::System;
+use dali_steps::called;
+use dali_store::Store;
+use dali_vault::{Vault, VaultError};
+use std::alloc::Global;
+
+// Takes the records that aren't taken yet, and flushes them. Where no memory is left for the next frame, they are flushed
+// from where they stand.
+fn write_out<V: Store>(
+    system: &mut System,
+    vault: &mut Vault<V>,
+    alloc: Global,
+) -> Result<u64, VaultError>
+    requires small { vault.old.end < 2 ^ 62 }
+    requires runs { vault.old.stopped ≡ false }
+    ensures taken { system.new ≡ record system.old { state = taken system.old.state } }
+    ensures ok { OnOk result (FlushesFrame V.told V.may_leave V.faults system.old.state vault.old vault.new) }
+    ensures fault { OnErr result ((result ≡ Err Fault) × FailsFrame V.told V.may_leave V.faults system.old.state vault.old vault.new) }
+    ensures torn { (n : ℕ) × TornTold Log vault.old.end n (V.told vault.old.store) (V.told vault.new.store) }
+{
+    match system.take_frame(alloc) {
+        Ok(frame) => called::flush(vault, &frame),
+        Err(_) => {
+            let flushed = called::flush(vault, system.frame());
+            system.flushed();
+            flushed
+        }
+    }
+}
+
+/// Flushes all records of a core: behind Ok each crash leaves them. A commit is durable by this. `Stopped` exactly where
+/// the vault was stopped before, and then nothing changes; `Fault` only where the store's count of faults rose, and then
+/// vault and system stop. It never fails for want of memory.
+pub fn flush<V: Store>(core: &mut Core<V>, alloc: Global) -> Result<(), VaultError>
+    requires small { core.old.vault.end < 2 ^ 62 }
+    ensures stopped { core.old.vault.stopped ≡ true → (result ≡ Err Stopped) × (core.new ≡ core.old) }
+    ensures runs { IsErrOf result Stopped → core.old.vault.stopped ≡ true }
+    ensures ok { OnOk result (Grows core.old.system.state core.old.vault core.new.vault) }
+    ensures parts { OnOk result (core.new ≡ record core.old { system = record core.old.system { state = taken core.old.system.state }; vault = core.new.vault }) }
+    ensures fault { IsErrOf result Fault → (core.new ≡ record core.old { system = record core.old.system { state = store_stopped (taken core.old.system.state) }; vault = faulted core.old.vault core.new.vault.store }) × Rose (V.faults core.old.vault.store) (V.faults core.new.vault.store) }
+    ensures durable { OnOk result (FlushesAll V.told V.may_leave V.faults core.old.regions.items core.old.system.state core.old.vault core.new.system.state core.new.vault) }
+    ensures stops { IsErrOf result Fault → FlushFails V.told V.may_leave V.faults core.old.regions.items core.old.system.state core.old.vault core.new.system.state core.new.vault }
+    ensures whole { IsWholeCore V.told core.old.regions.items core.old.system.state core.old.vault → IsWholeCore V.told core.new.regions.items core.new.system.state core.new.vault }
+{
+    if core.vault.stopped() {
+        return Err(VaultError::Stopped);
+    }
+    match write_out(&mut core.system, &mut core.vault, alloc) {
+        Ok(_) => Ok(()),
+        Err(error) => {
+            core.system.stop();
+            Err(error)
+        }
+    }
+}

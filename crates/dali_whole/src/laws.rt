@@ -1,0 +1,10 @@
+//! Laws of whole cores over any store, each the contract of a function that does nothing.
+ghost use Rattle.dali_whole.specs.Flushed.{CommittedStands};
+
+use dali_store::Store;
+
+/// Where all records of a core are flushed, as behind Ok of `flush`, each disk that a crash may leave spells files of
+/// whose log each committed transaction is committed.
+pub fn a_flushed_commit_is_in_each_crash_image<V: Store>()
+    ensures { CommittedStands V.told V.may_leave V.faults }
+{}

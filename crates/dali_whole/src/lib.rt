@@ -1,0 +1,11 @@
+//! A whole core: regions, system and vault as one value, and what makes its records durable.
+#![tactic(auto)]
+
+mod cleaning;
+mod durable;
+pub mod laws;
+mod whole;
+
+pub use cleaning::clean;
+pub use durable::flush;
+pub use whole::Core;
