@@ -13,7 +13,7 @@ pub struct Value {
 }
 
 impl Value {
-    fn from_bytes(bytes: &[u8]) -> Option<Value> {
+    pub fn from_bytes(bytes: &[u8]) -> Option<Value> {
         if bytes.is_empty() || bytes.len() > 40 {
             return None;
         }
@@ -25,12 +25,12 @@ impl Value {
         })
     }
 
-    fn bytes(&self) -> &[u8] {
+    pub fn bytes(&self) -> &[u8] {
         &self.bytes[..self.count as usize]
     }
 
     /// The value as five words, padded with zero bytes.
-    fn words(&self) -> [u64; 5] {
+    pub fn words(&self) -> [u64; 5] {
         let mut words = [0; 5];
         for (word, bytes) in words.iter_mut().zip(self.bytes.chunks_exact(8)) {
             *word = u64::from_be_bytes(bytes.try_into().unwrap());
@@ -129,15 +129,15 @@ pub enum Record {
     Back { txn: u64, block: Block },
 }
 
-fn put32(into: &mut Vec<u8>, number: u32) {
+pub fn put32(into: &mut Vec<u8>, number: u32) {
     into.extend_from_slice(&number.to_be_bytes());
 }
 
-fn put64(into: &mut Vec<u8>, number: u64) {
+pub fn put64(into: &mut Vec<u8>, number: u64) {
     into.extend_from_slice(&number.to_be_bytes());
 }
 
-fn put_words(into: &mut Vec<u8>, words: &[u64]) {
+pub fn put_words(into: &mut Vec<u8>, words: &[u64]) {
     for word in words {
         put64(into, *word);
     }
@@ -148,7 +148,7 @@ fn put_value(into: &mut Vec<u8>, value: &Value) {
     into.extend_from_slice(value.bytes());
 }
 
-fn put_op(into: &mut Vec<u8>, op: &Op) {
+pub fn put_op(into: &mut Vec<u8>, op: &Op) {
     match op {
         Op::Look => into.push(1),
         Op::Add { place } => {
@@ -178,7 +178,7 @@ fn put_op(into: &mut Vec<u8>, op: &Op) {
     }
 }
 
-fn put_outcome(into: &mut Vec<u8>, outcome: &Outcome) {
+pub fn put_outcome(into: &mut Vec<u8>, outcome: &Outcome) {
     match outcome {
         Outcome::Found { entry, place } => {
             into.extend_from_slice(&[1, *entry]);
@@ -211,7 +211,7 @@ fn put_outcome(into: &mut Vec<u8>, outcome: &Outcome) {
     }
 }
 
-fn put_undo(into: &mut Vec<u8>, undo: &Option<Undo>) {
+pub fn put_undo(into: &mut Vec<u8>, undo: &Option<Undo>) {
     match undo {
         None => into.push(0),
         Some(Undo::FreeCell { cell }) => into.extend_from_slice(&[1, *cell]),

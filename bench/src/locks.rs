@@ -10,27 +10,33 @@ const KEYS: u64 = 100_000;
 const REQUESTS: u64 = 100;
 
 #[derive(Clone, Copy, PartialEq, Eq)]
-enum Mode {
+pub enum Mode {
     Shared,
     Exclusive,
 }
 
-enum Answer {
+pub enum Answer {
     Granted,
     Wait,
     Busy,
 }
 
+impl Answer {
+    pub fn is_granted(&self) -> bool {
+        matches!(self, Answer::Granted)
+    }
+}
+
 /// Who holds which key: by transaction and key, and by key and transaction.
 #[derive(Default)]
-struct LockTable {
+pub struct LockTable {
     held: BTreeMap<(u64, u64), Mode>,
     holders: BTreeMap<(u64, u64), Mode>,
 }
 
 impl LockTable {
     /// An older transaction may wait for younger ones, and a younger one is refused where an older one is in its way.
-    fn request(&mut self, txn: u64, key: u64, mode: Mode) -> Answer {
+    pub fn request(&mut self, txn: u64, key: u64, mode: Mode) -> Answer {
         match self.oldest_other(txn, key) {
             Some((holder, held)) if mode == Mode::Exclusive || held == Mode::Exclusive => {
                 if holder < txn {
@@ -62,7 +68,7 @@ impl LockTable {
         self.holders.insert((key, txn), mode);
     }
 
-    fn release_all(&mut self, txn: u64) {
+    pub fn release_all(&mut self, txn: u64) {
         let keys: Vec<u64> = self
             .held
             .range((txn, 0)..=(txn, u64::MAX))
@@ -89,7 +95,7 @@ pub fn run(count: u64) -> Option<Timing> {
             } else {
                 Mode::Shared
             };
-            if let Answer::Granted = locks.request(txn, below(KEYS, place), mode) {
+            if locks.request(txn, below(KEYS, place), mode).is_granted() {
                 granted += 1;
             }
             if step % REQUESTS == REQUESTS - 1 {

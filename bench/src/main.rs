@@ -1,4 +1,5 @@
 //! The plain Rust side of the benches: the same work as `dali_bench` on the same data, and the table of both.
+mod calls;
 mod codec;
 mod files;
 mod keys;
@@ -23,13 +24,18 @@ fn time(words: &[&str]) -> Option<Timing> {
         ["parse", count] => script::run(count.parse().ok()?),
         ["claims", count] => shared::draw(count.parse().ok()?),
         ["notes", count] => shared::note(count.parse().ok()?),
+        ["insert", count] => calls::run(calls::Kind::Insert, count.parse().ok()?),
+        ["get", count] => calls::run(calls::Kind::Get, count.parse().ok()?),
+        ["change", count] => calls::run(calls::Kind::Update, count.parse().ok()?),
+        ["delete", count] => calls::run(calls::Kind::Delete, count.parse().ok()?),
+        ["tens", count] => calls::run_tens(count.parse().ok()?),
         ["commit", count, folder] => files::commit(count.parse().ok()?, Path::new(folder)),
         ["restart", folder] => files::read(Path::new(folder)),
         _ => None,
     }
 }
 
-const USAGE: &str = "usage: bench codec|locks|update|check|parse|claims|notes COUNT, \
+const USAGE: &str = "usage: bench codec|locks|update|check|parse|claims|notes|insert|get|change|delete|tens COUNT, \
     bench commit COUNT FOLDER, bench restart FOLDER, or bench table PROGRAM FOLDER";
 
 fn main() -> ExitCode {

@@ -1,4 +1,4 @@
-//! Regions of 64 words, without a codeword.
+//! Regions of 64 words. The codeword is kept by the calls alone.
 use crate::keys::{below, mix};
 use crate::timing::{timed, Timing};
 use std::hint::black_box;
@@ -16,11 +16,12 @@ struct Hold {
     write: u64,
 }
 
-/// What a region keeps but for its codeword: the latch with what was read and written, the words' old values, the count
+/// What a region keeps: the latch with what was read and written, the words' old values, the count
 /// of operations and the two flags.
 #[derive(Clone)]
-struct Region {
+pub struct Region {
     words: [u64; 64],
+    codeword: u64,
     olds: [u64; 64],
     hold: Option<Hold>,
     touches: u64,
@@ -29,9 +30,10 @@ struct Region {
 }
 
 impl Region {
-    fn load(words: [u64; 64]) -> Region {
+    pub fn load(words: [u64; 64]) -> Region {
         Region {
             words,
+            codeword: words.iter().fold(0, |all, word| all ^ word),
             olds: words,
             hold: None,
             touches: 0,
@@ -41,7 +43,7 @@ impl Region {
     }
 
     /// The transaction that has the latch, if it is refused.
-    fn latch(&mut self, txn: u64) -> Result<(), u64> {
+    pub fn latch(&mut self, txn: u64) -> Result<(), u64> {
         match &self.hold {
             Some(hold) => Err(hold.txn),
             None => {
@@ -57,7 +59,7 @@ impl Region {
         }
     }
 
-    fn note_reads(&mut self, mask: u64) {
+    pub fn note_reads(&mut self, mask: u64) {
         if let Some(hold) = &mut self.hold {
             let mut unread = mask & !hold.read;
             hold.read |= mask;
@@ -66,6 +68,21 @@ impl Region {
                 unread &= unread - 1;
             }
         }
+    }
+
+    pub fn words(&self) -> &[u64; 64] {
+        &self.words
+    }
+
+    /// The exclusive-or of the words that were noted as read.
+    pub fn noted(&self) -> u64 {
+        self.hold.map_or(0, |hold| hold.xor)
+    }
+
+    /// Updates a word, and keeps the codeword.
+    pub fn update_coded(&mut self, word: usize, value: u64) {
+        self.codeword ^= self.words[word] ^ value;
+        self.update(word, value);
     }
 
     fn update(&mut self, word: usize, value: u64) {
@@ -79,7 +96,7 @@ impl Region {
         }
     }
 
-    fn touch(&mut self) {
+    pub fn touch(&mut self) {
         if let Some(hold) = self.hold.take() {
             if hold.write != 0 && !hold.dead {
                 self.dirty_a = true;

@@ -29,6 +29,8 @@ enum Goal {
     Times(f64),
     /// dali's rate is at least so much of that of the other side.
     Share(f64),
+    /// None: dali's time is told by that of the other side.
+    Unset,
 }
 
 /// Which files both sides work on.
@@ -54,7 +56,7 @@ struct Row {
     goal: Goal,
 }
 
-const ROWS: [Row; 9] = [
+const ROWS: [Row; 14] = [
     Row {
         name: "codec",
         count: Some(1_000_000),
@@ -124,6 +126,56 @@ const ROWS: [Row; 9] = [
         beside: "one `fetch_add` and one load each",
         unit: "notes",
         goal: Goal::Times(3.0),
+    },
+    Row {
+        name: "insert",
+        count: Some(100_000),
+        files: Files::Absent,
+        turns: TURNS,
+        dali: "insert 100,000 records by calls, five a transaction, one thread, in memory",
+        beside: "Rust with the same regions, codewords, locks, undos and bytes of the log",
+        unit: "inserts",
+        goal: Goal::Times(2.0),
+    },
+    Row {
+        name: "get",
+        count: Some(100_000),
+        files: Files::Absent,
+        turns: TURNS,
+        dali: "get each of 100,000 records by calls, five a transaction",
+        beside: "Rust with the same regions, codewords, locks, undos and bytes of the log",
+        unit: "gets",
+        goal: Goal::Times(2.0),
+    },
+    Row {
+        name: "change",
+        count: Some(100_000),
+        files: Files::Absent,
+        turns: TURNS,
+        dali: "update each of 100,000 records by calls, five a transaction",
+        beside: "Rust with the same regions, codewords, locks, undos and bytes of the log",
+        unit: "updates",
+        goal: Goal::Times(2.0),
+    },
+    Row {
+        name: "delete",
+        count: Some(100_000),
+        files: Files::Absent,
+        turns: TURNS,
+        dali: "delete each of 100,000 records by calls, five a transaction",
+        beside: "Rust with the same regions, codewords, locks, undos and bytes of the log",
+        unit: "deletes",
+        goal: Goal::Times(2.0),
+    },
+    Row {
+        name: "tens",
+        count: Some(5_000),
+        files: Files::Absent,
+        turns: TURNS,
+        dali: "insert 5,000 records by calls, ten a transaction",
+        beside: "Rust with the same regions, codewords, locks, undos and bytes of the log",
+        unit: "inserts",
+        goal: Goal::Unset,
     },
     Row {
         name: "commit",
@@ -237,7 +289,7 @@ fn median(runs: &[Run]) -> Run {
 /// The ratio's form in the table: of times, or of rates.
 fn ratio_of(goal: &Goal, dali: u64, beside: u64) -> f64 {
     match goal {
-        Goal::Times(_) => beside as f64 / dali as f64,
+        Goal::Times(_) | Goal::Unset => beside as f64 / dali as f64,
         Goal::Share(_) => dali as f64 / beside as f64,
     }
 }
@@ -280,13 +332,14 @@ fn print_row(row: &Row, dali_runs: &[Run], beside_runs: &[Run]) {
         Goal::Times(most) => (
             format!("{ratio:.2} times"),
             format!("at most {most} times"),
-            ratio <= most,
+            if ratio <= most { "yes" } else { "no" },
         ),
         Goal::Share(least) => (
             format!("{ratio:.2} of its rate"),
             format!("at least {least} of its rate"),
-            ratio >= least,
+            if ratio >= least { "yes" } else { "no" },
         ),
+        Goal::Unset => (format!("{ratio:.2} times"), "none".to_string(), ""),
     };
     println!(
         "| {} | {} | {} {} | {} | {ratio} | {} | {goal} | {} | {} | {} |",
@@ -296,7 +349,7 @@ fn print_row(row: &Row, dali_runs: &[Run], beside_runs: &[Run]) {
         row.unit,
         in_threes(beside.rate),
         middle_half(&row.goal, dali_runs, beside_runs),
-        if met { "yes" } else { "no" },
+        met,
         mebibytes(dali),
         mebibytes(beside),
     );

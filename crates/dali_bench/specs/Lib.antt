@@ -1,4 +1,5 @@
 pub mod Amounts
+pub mod Calls
 pub mod Databases
 pub mod Keys
 pub mod Regions

@@ -4,7 +4,7 @@
 --     has_folder task      whether it has files
 use Rattle.std.specs.Prelude.{ℕ, Bool, true, false, List, codes}
 use Rattle.dali_bench.specs.declared.arguments.Task.{Task}
-use Rattle.dali_bench.specs.declared.arguments.Task.TheVariants.{Codec, Locks, Update, Check, Parse, Claims, Notes, Commit, Log, Restart, Growth, Small}
+use Rattle.dali_bench.specs.declared.arguments.Task.TheVariants.{Codec, Locks, Update, Check, Parse, Claims, Notes, Commit, Log, Restart, Growth, Insert, Get, Change, Delete, Tens, Small}
 
 abbrev pub name_of : Task → List ℕ
 name_of Codec = codes "codec"
@@ -18,6 +18,11 @@ name_of Commit = codes "commit"
 name_of Log = codes "log"
 name_of Restart = codes "restart"
 name_of Growth = codes "growth"
+name_of Insert = codes "insert"
+name_of Get = codes "get"
+name_of Change = codes "change"
+name_of Delete = codes "delete"
+name_of Tens = codes "tens"
 name_of Small = codes "small"
 
 abbrev pub has_count : Task → Bool

@@ -31,11 +31,21 @@ pub enum Task {
     Restart,
     /// Inserts records into a database in memory.
     Growth,
+    /// Makes calls that insert.
+    Insert,
+    /// Makes calls that read.
+    Get,
+    /// Makes calls that update.
+    Change,
+    /// Makes calls that delete.
+    Delete,
+    /// Makes calls that insert, ten a transaction.
+    Tens,
     /// Does a little of each, in a new folder within a folder.
     Small,
 }
 
-const TASKS: [Task; 12] = [
+const TASKS: [Task; 17] = [
     Task::Codec,
     Task::Locks,
     Task::Update,
@@ -47,6 +57,11 @@ const TASKS: [Task; 12] = [
     Task::Log,
     Task::Restart,
     Task::Growth,
+    Task::Insert,
+    Task::Get,
+    Task::Change,
+    Task::Delete,
+    Task::Tens,
     Task::Small,
 ];
 
@@ -66,6 +81,11 @@ impl Task {
             Task::Log => "log",
             Task::Restart => "restart",
             Task::Growth => "growth",
+            Task::Insert => "insert",
+            Task::Get => "get",
+            Task::Change => "change",
+            Task::Delete => "delete",
+            Task::Tens => "tens",
             Task::Small => "small",
         }
     }
@@ -85,6 +105,11 @@ impl Task {
                 "Writes the log of COUNT transactions of ten inserts as a new file into FOLDER",
             Task::Restart => "Restarts from the log in FOLDER",
             Task::Growth => "Inserts COUNT records in transactions of ten, in memory",
+            Task::Insert => "Makes COUNT calls that insert, five a transaction",
+            Task::Get => "Makes COUNT calls that read, five a transaction",
+            Task::Change => "Makes COUNT calls that update, five a transaction",
+            Task::Delete => "Makes COUNT calls that delete, five a transaction",
+            Task::Tens => "Makes COUNT calls that insert, ten a transaction",
             Task::Small => "Does a little of each, in a folder within FOLDER, and prints ok",
         }
     }

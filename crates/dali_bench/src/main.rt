@@ -2,6 +2,7 @@
 #![tactic(auto)]
 
 mod arguments;
+mod calls;
 mod codec;
 mod databases;
 mod keys;
@@ -13,6 +14,7 @@ mod timing;
 
 use anyhow::{Context, Result, bail};
 use arguments::{Job, Task};
+use calls::Kind;
 use dali_filestore::FileStore;
 use std::io::ErrorKind;
 use std::process::ExitCode;
@@ -33,6 +35,7 @@ fn run_small(rt: &HostRuntime, folder: &str) -> Result<()> {
     shared::draw(rt, alloc, 1000)?;
     shared::note(rt, alloc, 1000)?;
     databases::grow(rt, alloc, 100)?;
+    calls::run(rt, alloc, Kind::Delete, 100)?;
     let commits = make_folder(rt, folder)?;
     time_commits(rt, 3, commits.as_str())?;
     make_log(rt, 5, folder)?;
@@ -80,6 +83,11 @@ fn run_job(rt: &HostRuntime, job: &Job) -> Result<()> {
         Task::Claims => shared::draw(rt, alloc, count)?,
         Task::Notes => shared::note(rt, alloc, count)?,
         Task::Growth => databases::grow(rt, alloc, count)?,
+        Task::Insert => calls::run(rt, alloc, Kind::Insert, count)?,
+        Task::Get => calls::run(rt, alloc, Kind::Get, count)?,
+        Task::Change => calls::run(rt, alloc, Kind::Update, count)?,
+        Task::Delete => calls::run(rt, alloc, Kind::Delete, count)?,
+        Task::Tens => calls::run_tens(rt, alloc, count)?,
         Task::Commit => {
             let folder = make_folder(rt, job.folder)?;
             let timing = time_commits(rt, count, folder.as_str());

@@ -3,3 +3,4 @@ pub mod Writing
 pub mod Backward
 pub mod Courses
 pub mod Cleaning
+pub mod Guards

@@ -8,3 +8,6 @@ mod undoing;
 
 pub use cleaner::clean;
 pub use error::CleanError;
+
+#[cfg(test)]
+mod tests;

@@ -1,5 +1,5 @@
 //! The clean-up of a dead transaction, made as steps.
-ghost use Rattle.std.specs.Prelude.{◌≡◌, not, ◌==◌, true, false, Some, None, OnOk, OnErr, IfOk, IfErr, IfSome, IsSomeAnd, Option as OptionOf, Err, ℕ};
+ghost use Rattle.std.specs.Prelude.{◌≡◌, ◌+◌, not, ◌==◌, true, false, Some, None, OnOk, OnErr, IfOk, IfErr, IfSome, IsSomeAnd, Option as OptionOf, Err, ℕ};
 ghost use Rattle.std.specs.FinMap as map;
 ghost use Rattle.dali_att.specs.Table.{undos_at};
 ghost use Rattle.dali_att.specs.declared.state.State.TheVariants.{Dead, Cleaning as Claimed};
@@ -9,7 +9,7 @@ ghost use Rattle.dali_system.specs.Steps.{in_state, back_logged, ended_logged};
 ghost use Rattle.dali_system.specs.Regions.{IsOpen};
 ghost use Rattle.dali_core.specs.Refused.{stop_refusal};
 ghost use Rattle.dali_core.specs.TakenBack.{next_undo, IsUndoBlock};
-ghost use Rattle.dali_core.specs.UnderWay.{IsUnderWay};
+ghost use Rattle.dali_core.specs.UnderWay.{IsUpdated, IsUnderWay};
 ghost use Rattle.dali_core.specs.declared.error.SystemError.TheVariants.{OutOfMemory as Memory};
 ghost use Rattle.dali_core.specs.declared.want.Want.TheVariants.{Done};
 ghost use Rattle.dali_cleanup.specs.Cleaned.{want_of, clean_answer, MayLatch, is_claimed};
@@ -125,6 +125,7 @@ impl Cleaning {
         ensures under_way { IsSomeAnd self.new.operation (λ o. IsUnderWay o.txn o.block o.left o.taken region.new) }
         ensures same { IfSome self.old.operation (λ o. IsSomeAnd self.new.operation (λ p. (p.txn ≡ o.txn) × (p.block ≡ o.block))) }
         ensures some { IfSome self.old.operation (λ o. result ≡ not (o.left == 0)) }
+        ensures step { result ≡ true → IfSome self.old.operation (λ o. IsSomeAnd self.new.operation (λ p. p.taken ≡ o.taken + 1)) × IsUpdated region.old region.new }
         ensures none { result ≡ false → (region.new ≡ region.old) × (self.new ≡ self.old) × IsSomeAnd self.new.operation (λ o. IsOpen region.new o.txn o.block) }
         ensures rest { self.new ≡ record self.old { operation = self.new.operation } }
     {

@@ -219,6 +219,11 @@ fn a_put_is_cleaned_up(rt: HostRuntime) -> Result<()> {
             (0, (Some(Ok(Receipt { number: 6 })), None))
         )
     );
+    // one word is written for the undo, the cell's state: its key, length and value stay, and the codeword tells no
+    // stray write
+    let mut words = Geometry::new(1, 1)?.formatted(1);
+    words[9..12].copy_from_slice(&[7, 3, 0x6162_6300_0000_0000]);
+    assert!(rt; region.words().as_slice() == words.as_slice() && region.check() == 0);
     Ok(())
 }
 

@@ -13,6 +13,7 @@ pub mod Shows
 pub mod Ends
 pub mod UndosFind
 pub mod UnpokedCourses
+pub mod Points
 pub mod Ascends
 pub mod Reported
 pub mod Lives

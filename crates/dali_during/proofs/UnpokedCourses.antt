@@ -3,11 +3,15 @@ use Rattle.std.proofs.Common.{false, Some, refl, ◌≡◌, ℕ, ◌-◌, ◌≤
 use Rattle.std.specs.List.{AllByRecursion, list_any}
 use Rattle.dali_geometry.specs.Places.{formatted_image}
 use Rattle.dali_record.specs.declared.records.Record.{Record}
+use Rattle.dali_record.specs.declared.records.Record.TheVariants.{Ended}
+use Rattle.dali_record.specs.Log.{committed}
+use Rattle.dali_record.specs.Damage.{has}
 use Rattle.dali_record.specs.Epochs.{Epoch, Cut, cut, last_epoch, failing}
 use Rattle.dali_record.specs.Legal.{sizes_of, Rules, rules_state}
 use Rattle.dali_record.specs.Files.{Files}
+use Rattle.dali_record.specs.Settled.{redo_all}
 use Rattle.dali_record.proofs.Pushes.{cut_push}
-use Rattle.dali_history.specs.Recovered.{recovered}
+use Rattle.dali_history.specs.Recovered.{base_of, recovered}
 use Rattle.dali_history.specs.History.{IsHistory}
 use Rattle.dali_crash.specs.Checkpoints.{Point, StoreStep, IsPointCourse, moment_of}
 use Rattle.dali_crash.proofs.Starts.{lawful}
@@ -17,7 +21,7 @@ use Rattle.dali_headline.proofs.NothingToFree.{recovered-base}
 use Rattle.dali_system.specs.State.{stable, VaultState}
 use Rattle.dali_system.specs.Run.{Bases, base_at, log_in, RunsOn, IsPrefix, only, VaultRun, no_image}
 use Rattle.dali_system.specs.Courses.{Step, Moment, IsCourse, RunsAt}
-use Rattle.dali_system.proofs.OneMore.{is_inside, step_inside}
+use Rattle.dali_system.proofs.OneMore.{is_inside, step_inside, last_epoch-push}
 use Rattle.dali_system.proofs.Courses.{Goes, step_goes, course_keeps, bare_course_keeps}
 use Rattle.dali_crash.specs.CrashLogs.{cut_to, IsUnpoked}
 use Rattle.dali_crash.specs.Restarts.{HasRightBase}
@@ -25,9 +29,10 @@ use Rattle.dali_crash.proofs.CrashLogs.{cut_parts}
 use Rattle.dali_crash.proofs.Courses.{course_keeps_the_base, honest_before}
 use Rattle.dali_undos.specs.AsLeft.{FindAsLeft}
 use Rattle.dali_during.proofs.UndosFind.{undos_find_in_runs}
-use Rattle.dali_during.specs.During.{IsRightBase, image_of, NoneFailed, CourseIsQuiet, ImageIsQuiet, UnpokedCourses, UnpokedCoreTraces, UnpokedPointCourses, UnpokedTraces}
+use Rattle.dali_during.specs.During.{IsRightBase, image_of, IsTakenBack, NoneFailed, AllSurvive, CourseIsQuiet, ImageIsQuiet, UnpokedCourses, UnpokedCoreTraces, UnpokedPointCourses, UnpokedTraces}
 use Rattle.dali_crash.proofs.Unpoked.{NonePoked, NoneFails, IsClean, none_loaded, course_unpoked, none_failing, none_fails_take, course_clean, store_course_unpoked, store_course_clean}
-use Rattle.dali_during.proofs.Runs.{right_bases, indexed_in_runs, quiet_in_runs}
+use Rattle.dali_during.proofs.Runs.{right_bases, image_is, indexed_in_runs, quiet_in_runs, taken_back_in_runs}
+use Rattle.dali_during.proofs.Ends.{taken_back_at_its_end}
 use Rattle.dali_during.proofs.Shows.{shows_what_is_expected}
 use Rattle.dali_system.proofs.Touching.{trace_course}
 use Rattle.dali_crash.specs.Traces.{bases_of, core_start, start_point, MayRun, Start}
@@ -58,6 +63,10 @@ closed_course : (m n : Moment) (xs : List Step) → IsCourse m xs n → (cut n.l
 closed_course m n [] course = ap (λ (k : Moment). (cut k.log).closed) (sym course)
 closed_course m n (x ∷ xs) course = closed_course course.0 n xs course.2 ∙ closed_goes m course.0 (step_goes m course.0 x course.1)
 
+-- ---- a log by itself
+pub all_that_committed_survives : AllSurvive
+all_that_committed_survives L none = all_survive L none
+
 -- what a course keeps that the laws ask for
 record Quiet (bases : Bases) (L : List Record) (n : Moment) : Type 0 where
   there : RunsAt bases L no_image n
@@ -72,11 +81,17 @@ whole_epoch bases L n q = none_failing (last_epoch n.log).records q.clean
 closed_quiet : (bases : Bases) (L : List Record) (n : Moment) → Quiet bases L n → NoneFailed L → AllByRecursion FailsNot (cut n.log).closed
 closed_quiet bases L n q before = subst (AllByRecursion FailsNot) (sym q.closed) (all_but_last (cut L).closed (cut L).now before)
 
-course_is_quiet : (bases : Bases) (L : List Record) (n : Moment) → Quiet bases L n → CourseIsQuiet L n
-course_is_quiet bases L n q = record {
+course_is_quiet : (bases : Bases) (L : List Record) (n : Moment) → base_at bases n.log ≡ recovered (sizes_of L) L → Quiet bases L n → CourseIsQuiet L n
+course_is_quiet bases L n start q = record {
+  unpoked = unpoked;
+  right_base = subst (IsRightBase n.core.system.sizes) q.right.base base;
+  base_is = sym q.right.base ∙ start;
+  image_is = subst (λ b. image_of n.core ≡ redo_all b (last_epoch n.log).records) q.right.base (image_is bases n.log n.core runs unpoked base.image);
   indexed = indexed_in_runs bases n.log n.core runs unpoked base;
   quiet = quiet_in_runs bases n.log n.core runs unpoked base;
   undos = λ order permutes. subst (λ b. FindAsLeft b (last_epoch n.log).records (image_of n.core) order) q.right.base (undos_find_in_runs bases n.log n.core runs unpoked base order permutes);
+  taken_back = λ t row at state none. subst (λ b. IsTakenBack n.core.system.sizes (image_of n.core) b (last_epoch n.log).records t) q.right.base (taken_back_in_runs bases n.log n.core runs unpoked base t row at state none);
+  ended = ended;
   shows = λ idle. shows_what_is_expected bases n.log n.core runs unpoked q.right (whole_epoch bases L n q) idle;
   none_failed = none_failed;
   none_deleted = λ before. all_survive n.log (none_failed before);
@@ -90,6 +105,12 @@ course_is_quiet bases L n q = record {
 
     base : IsRightBase n.core.system.sizes (base_at bases n.log)
     base = right_bases bases n.log n.core runs q.right
+
+    ended : (M : List Record) (t : ℕ) → n.log ≡ M ++ Ended t ∷ [] → has (committed (last_epoch M).records) t ≡ false → IsTakenBack n.core.system.sizes (image_of n.core) (base_of n.core.system.sizes n.log) (last_epoch M).records t
+    ended M t log un = subst (λ b. IsTakenBack n.core.system.sizes (image_of n.core) b (last_epoch M).records t) same (taken_back_at_its_end bases M t n.core (subst (λ K. RunsOn bases K n.core) log runs) unpoked (subst (λ K. IsRightBase n.core.system.sizes (base_at bases K)) log base) un)
+      where
+        same : base_at bases M ≡ base_of n.core.system.sizes n.log
+        same = ap (λ (e : Epoch). bases e.first) (sym (ap last_epoch log ∙ last_epoch-push M (Ended t) refl)) ∙ q.right.base
 
     none_failed : NoneFailed L → NoneFailed n.log
     none_failed before = all_and_last (cut n.log).closed (cut n.log).now (closed_quiet bases L n q before) (whole_epoch bases L n q)
@@ -132,7 +153,7 @@ core_quiet L g limit v history rules none fits vault zero xs n quiet course =
 
 pub unpoked_courses : UnpokedCourses
 unpoked_courses L g limit v history rules none fits vault zero xs n quiet course =
-    course_is_quiet (λ k. recovered (sizes_of L) L) L n (core_quiet L g limit v history rules none fits vault zero xs n quiet course)
+    course_is_quiet (λ k. recovered (sizes_of L) L) L n refl (core_quiet L g limit v history rules none fits vault zero xs n quiet course)
 
 pub unpoked_core_traces : UnpokedCoreTraces
 unpoked_core_traces L g limit v D history rules none fits vault zero xs n F quiet t =
@@ -165,7 +186,7 @@ point_quiet s history rules none limit may xs p quiet course =
 
 pub unpoked_point_courses : UnpokedPointCourses
 unpoked_point_courses s history rules none limit may xs p quiet course =
-    course_is_quiet (bases_of s) s.log (moment_of p) (point_quiet s history rules none limit may xs p quiet course)
+    course_is_quiet (bases_of s) s.log (moment_of p) refl (point_quiet s history rules none limit may xs p quiet course)
 
 pub unpoked_traces : UnpokedTraces
 unpoked_traces s D history from xs p F quiet t =

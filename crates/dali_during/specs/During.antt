@@ -5,12 +5,15 @@
 --     IndexedInRuns            at each moment the index's invariant holds, but for gaps of such keys
 --     IsQuiet E                no answer is Odd, and no block finds a slot that isn't live, of another key or with an odd length
 --     QuietInRuns              so it is of all records of the epoch, whatever becomes of their transactions
+--     IsTakenBack s image base E t     of each key of the transaction's blocks in E, the image has the records from before its first block on it
 --     TakenBackInRuns          a transaction that has taken all back leaves each key of its blocks the records from before its first block on it
 --     TakenBackSince, TakenBackAtItsEnd      those that the regions had then, and once its Ended is logged
 --     ShowsWhatIsExpected      where no transaction runs, the regions have the records that the log is expected to leave
 --     UnpokedCourses           from a core that a format or a restart hands out, after any steps without a stray write, all of this holds,
---                              each undo finds its slot as its transaction left it;
+--                              each undo finds its slot as its transaction left it; no region is poked, and the epoch's base is right, which
+--                              is what the laws above ask for; memory is what the epoch's records write over what the start recovered;
 --                              and where no audit failed before, nobody is deleted in any epoch
+--     AllSurvive               where no audit failed in any epoch of a log, every commit in it survives
 --     UnpokedCoreTraces        nor in any epoch of a crash image that came along these steps
 --     UnpokedPointCourses, UnpokedTraces   so it is of a core with its store, with the steps of checkpoints among the others
 --     RightBases               the base of a run behind epochs from which no damage escaped is such a base
@@ -33,7 +36,7 @@ use Rattle.dali_region.specs.State.{RegionState}
 use Rattle.dali_record.specs.Legal.{Working, Unwinding, Active, txn_state, sizes_of, Rules, rules_state}
 use Rattle.dali_record.specs.Files.{Files}
 use Rattle.dali_history.specs.Serial.{Map, expected, survivors}
-use Rattle.dali_history.specs.Recovered.{base_of}
+use Rattle.dali_history.specs.Recovered.{base_of, recovered}
 use Rattle.dali_history.specs.History.{IsHistory}
 use Rattle.dali_history.specs.Images.{HasRecords}
 use Rattle.dali_kept.specs.Kept.{uncommitted}
@@ -101,12 +104,16 @@ QuietInRuns = (bases : Bases) (L : List Record) (c : CoreState) → RunsOn bases
 abbrev pub IsFirstOn : List Record → ℕ → ℕ → Touch → Type 0
 IsFirstOn E t i a = (touch_at E i ≡ Some a) × (a.owner ≡ t) × ((j : ℕ) (b : Touch) → j < i → touch_at E j ≡ Some b → b.owner ≡ t → b.block.key ≡ a.block.key → ⊥)
 
+abbrev pub IsTakenBack : Sizes → List (List ℕ) → List (List ℕ) → List Record → ℕ → Type 0
+IsTakenBack s image base E t =
+    (i : ℕ) (a : Touch) → IsFirstOn E t i a
+    → (v : List ℕ) → Contains (records s image) (a.block.key, v) ↔ Contains (records s (redo_all base (take i E))) (a.block.key, v)
+
 abbrev pub TakenBackInRuns : Type 0
 TakenBackInRuns =
     (bases : Bases) (L : List Record) (c : CoreState) → RunsOn bases L c → IsUnpoked c → IsRightBase c.system.sizes (base_at bases L)
     → (t : ℕ) (row : TxnRow) → row_of c.system t ≡ Some row → is_committed row.state ≡ false → row.undos ≡ []
-    → (i : ℕ) (a : Touch) → IsFirstOn (last_epoch L).records t i a
-    → (v : List ℕ) → Contains (records c.system.sizes (image_of c)) (a.block.key, v) ↔ Contains (records c.system.sizes (redo_all (base_at bases L) (take i (last_epoch L).records))) (a.block.key, v)
+    → IsTakenBack c.system.sizes (image_of c) (base_at bases L) (last_epoch L).records t
 
 -- so the regions have there what they had when that block was not yet logged
 abbrev pub TakenBackSince : Type 0
@@ -122,8 +129,7 @@ abbrev pub TakenBackAtItsEnd : Type 0
 TakenBackAtItsEnd =
     (bases : Bases) (M : List Record) (t : ℕ) (c : CoreState) → RunsOn bases (M ++ Ended t ∷ []) c → IsUnpoked c → IsRightBase c.system.sizes (base_at bases (M ++ Ended t ∷ []))
     → has (committed (last_epoch M).records) t ≡ false
-    → (i : ℕ) (a : Touch) → IsFirstOn (last_epoch M).records t i a
-    → (v : List ℕ) → Contains (records c.system.sizes (image_of c)) (a.block.key, v) ↔ Contains (records c.system.sizes (redo_all (base_at bases M) (take i (last_epoch M).records))) (a.block.key, v)
+    → IsTakenBack c.system.sizes (image_of c) (base_at bases M) (last_epoch M).records t
 
 -- ---- what stands where nothing runs
 abbrev pub IsIdle : CoreState → Type 0
@@ -140,10 +146,22 @@ ShowsWhatIsExpected =
 abbrev pub NoneFailed : List Record → Type 0
 NoneFailed L = AllByRecursion (λ e. failing e ≡ []) (epochs L)
 
+-- a log by itself
+abbrev pub AllSurvive : Type 0
+AllSurvive = (L : List Record) → NoneFailed L → survivors L ≡ committed L
+
 pub record CourseIsQuiet (L : List Record) (n : Moment) : Type 0 where
+  pub unpoked : IsUnpoked n.core
+  pub right_base : IsRightBase n.core.system.sizes (base_of n.core.system.sizes n.log)
+  pub base_is : base_of n.core.system.sizes n.log ≡ recovered (sizes_of L) L
+  pub image_is : image_of n.core ≡ redo_all (base_of n.core.system.sizes n.log) (last_epoch n.log).records
   pub indexed : IsIndexedNow n.log n.core
   pub quiet : IsQuiet (last_epoch n.log).records
   pub undos : (order : List ℕ) → IsPermutation order (uncommitted (last_epoch n.log).records) → FindAsLeft (base_of n.core.system.sizes n.log) (last_epoch n.log).records (image_of n.core) order
+  pub taken_back : (t : ℕ) (row : TxnRow) → row_of n.core.system t ≡ Some row → is_committed row.state ≡ false → row.undos ≡ []
+      → IsTakenBack n.core.system.sizes (image_of n.core) (base_of n.core.system.sizes n.log) (last_epoch n.log).records t
+  pub ended : (M : List Record) (t : ℕ) → n.log ≡ M ++ Ended t ∷ [] → has (committed (last_epoch M).records) t ≡ false
+      → IsTakenBack n.core.system.sizes (image_of n.core) (base_of n.core.system.sizes n.log) (last_epoch M).records t
   pub shows : IsIdle n.core → (m : Map) × (expected n.log ≡ Some m) × HasRecords n.core.system.sizes (map (λ g. g.words) n.core.regions) m
   pub none_failed : NoneFailed L → NoneFailed n.log
   pub none_deleted : NoneFailed L → survivors n.log ≡ committed n.log

@@ -1,4 +1,5 @@
 pub mod During
+pub mod Points
 pub mod Reported
 pub mod Gaps
 pub mod Whole

@@ -1,6 +1,7 @@
 //! Laws over the definitions, each the contract of a function that does nothing.
 
-ghost use Rattle.dali_during.specs.During.{RightBases, IndexedInRuns, QuietInRuns, TakenBackInRuns, TakenBackSince, TakenBackAtItsEnd, ShowsWhatIsExpected, UnpokedCourses, UnpokedCoreTraces, UnpokedPointCourses, UnpokedTraces};
+ghost use Rattle.dali_during.specs.During.{RightBases, IndexedInRuns, QuietInRuns, TakenBackInRuns, TakenBackSince, TakenBackAtItsEnd, ShowsWhatIsExpected, AllSurvive, UnpokedCourses, UnpokedCoreTraces, UnpokedPointCourses, UnpokedTraces};
+ghost use Rattle.dali_during.specs.Points.{PointWholeKeeps, PointWholeCourseKeeps, PointCourseKeepsTheBase};
 ghost use Rattle.dali_during.specs.Gaps.{CutInInsert, CutInDelete};
 ghost use Rattle.dali_during.specs.Whole.{WorkedLife};
 ghost use Rattle.dali_during.specs.UndosFind.{UndosFindInRuns, RowUndosFind, LastUndoFinds, BacksFindInRuns, FindsInInsert, FindsInDelete, FindsBelow};
@@ -42,6 +43,11 @@ pub fn a_run_shows_what_is_expected()
     ensures { ShowsWhatIsExpected }
 {}
 
+/// Where no audit failed in any epoch of a log, every commit in it survives.
+pub fn where_no_audit_failed_all_survive()
+    ensures { AllSurvive }
+{}
+
 /// From a format or a restart on, whatever steps are taken without a stray write, all of this holds, and nobody is
 /// deleted in any epoch.
 pub fn without_stray_writes_a_run_is_as_expected()
@@ -53,6 +59,18 @@ pub fn without_stray_writes_a_run_is_as_expected()
 pub fn without_stray_writes_a_run_with_its_store_is_as_expected()
     ensures course { UnpokedPointCourses }
     ensures image { UnpokedTraces }
+{}
+
+/// Each step of a core with its store keeps the core whole, those of a checkpoint too, and so does each list of steps, in
+/// whatever order: dead holds, the rows that name their regions, and holds of who is alive go together.
+pub fn each_store_step_keeps_a_core_whole()
+    ensures step { PointWholeKeeps }
+    ensures course { PointWholeCourseKeeps }
+{}
+
+/// The base of the last epoch stays right, whatever steps are taken, those of a checkpoint too.
+pub fn store_steps_keep_the_base()
+    ensures { PointCourseKeepsTheBase }
 {}
 
 /// The deleted that the restarts of a log named, with those of its open epoch, are just those that a chain deletes,

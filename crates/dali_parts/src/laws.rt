@@ -6,7 +6,7 @@ ghost use Rattle.dali_parts.specs.Locks.{LocksGrant, LocksRefuse, LocksLog};
 ghost use Rattle.dali_parts.specs.Counts.{CountsLog};
 ghost use Rattle.dali_parts.specs.Regions.{RegionMoves, RegionTouches, RegionMisses, RegionKeeps, StepHasRegion, RegionsLeave};
 ghost use Rattle.dali_parts.specs.Logs.{LogLogs, HeldIsFree, SystemHasLog};
-ghost use Rattle.dali_parts.specs.Vaults.{VaultFlushes, VaultFaults, VaultReads, VaultIsShort, VaultMisses, StepHasVault};
+ghost use Rattle.dali_parts.specs.Vaults.{VaultFlushes, VaultFaults, VaultReads, VaultIsShort, VaultMisses, BareVaultFlushes, BareVaultFaults, BareVaultReads, BareVaultIsShort, BareVaultMisses, StepHasVault};
 ghost use Rattle.dali_parts.specs.Joined.{PartsAreARun};
 
 /// Each step keeps what a run says of the system, with no region known but the one of the block that is logged.
@@ -54,29 +54,34 @@ pub fn a_step_leaves_other_regions()
     ensures { RegionsLeave }
 {}
 
-/// A flush keeps what a run says of the vault.
+/// A flush keeps what a run says of the vault, of each crash image by itself, and where nothing is said of crashes.
 pub fn a_vault_that_flushes_keeps_its_part()
-    ensures { VaultFlushes }
+    ensures each { VaultFlushes }
+    ensures bare { BareVaultFlushes }
 {}
 
 /// So does a fault in a flush.
 pub fn a_vault_that_fails_keeps_its_part()
-    ensures { VaultFaults }
+    ensures each { VaultFaults }
+    ensures bare { BareVaultFaults }
 {}
 
 /// So does a read of the log that fails.
 pub fn a_vault_whose_read_fails_keeps_its_part()
-    ensures { VaultReads }
+    ensures each { VaultReads }
+    ensures bare { BareVaultReads }
 {}
 
 /// In a legal log the vault ends below 2^62, so a flush may add its frame behind it.
 pub fn a_vault_ends_below_its_limit()
-    ensures { VaultIsShort }
+    ensures each { VaultIsShort }
+    ensures bare { BareVaultIsShort }
 {}
 
 /// So does the logging of more records.
 pub fn a_vault_that_is_left_keeps_its_part()
-    ensures { VaultMisses }
+    ensures each { VaultMisses }
+    ensures bare { BareVaultMisses }
 {}
 
 /// Each step of a core is one of its vault.

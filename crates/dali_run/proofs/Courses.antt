@@ -38,6 +38,10 @@ pub err_of : {T E : Type 0} (P : E → Type 0) (r : Result T E) (x : E) → r �
 err_of P (Ok t) x e p = absurd cc
 err_of P (Err f) x e p = let same : f ≡ x = cc in subst P same p
 
+pub ok_is_no_err : {T E : Type 0} (r : Result T E) (x : T) (f : E) → r ≡ Ok x → r ≡ Err f → ⊥
+ok_is_no_err (Ok t) x f ok err = cc
+ok_is_no_err (Err g) x f ok err = cc
+
 pub is_up_down : {V : Type 0} (told : V → Option Files) (may_leave : V → Files → Type 0) (p : Program V) → p.engine ≡ None → IsUp told may_leave p
 is_up_down told may_leave p e = subst (λ (o : Option Engine). IsGatedIn told may_leave o p.store) (sym e) tt
 

@@ -1,6 +1,6 @@
 -- How a run ends.
 use Rattle.std.proofs.Common.{◌≡◌, ℕ, ◌<◌, ◌≤◌, List, [], ◌∷◌, Bool, length, get_or, Option, Some, None, Result, Ok, Err, refl, sym, ◌∙◌, ap, subst, arith, inl, inr}
-use Rattle.std.specs.Prelude.{OnOk, IfErr, IsTrue, bytes_eq}
+use Rattle.std.specs.Prelude.{OnOk, IfErr, IsErrOf, IsTrue, bytes_eq}
 use Rattle.std.proofs.lemmas.Slice.Eq.{bytes_eq-Decides}
 use Rattle.std.proofs.lemmas.List.{append-nil}
 use Rattle.dali_store.specs.Faults.{HasCause}
@@ -74,13 +74,17 @@ module _ {V : Type 0} (told : V → Option Files) (may_leave : V → Files → T
 -- the last line, by the answer of the call that wrote it
 pub last_of : (mid after : Option (List ℕ)) (status : Status) (r : Result (Unit {0}) Failed) (before now : ℕ) → OnOk r (Appends mid (last_line status) after) → AppendsSome mid (last_line status) after → HasCause before now r
     → LastLine mid status after before now
-last_of mid after status (Ok t) before now all some cause = inl all
+last_of mid after status (Ok t) before now all some cause = inl (all, cause.kept)
 last_of mid after status (Err e) before now all some cause = inr (some, cause.failed)
 
 -- nothing is behind the lines of a run that is done
-pub no_last : (mid : Option (List ℕ)) (first now : ℕ) → LastLine mid statuses.Done mid first now
-no_last (Some old) first now = inl (ap Some (sym (append-nil old)))
-no_last None first now = inl refl
+pub no_last : (mid : Option (List ℕ)) (count : ℕ) → LastLine mid statuses.Done mid count count
+no_last (Some old) count = inl (ap Some (sym (append-nil old)), refl)
+no_last None count = inl (refl, refl)
+
+-- a result that is this failure has its status
+pub write_fault_of : (r : Result (Unit {0}) Halt) → IsErrOf r WriteFault → status_in r ≡ statuses.WriteFault
+write_fault_of r is = ap status_in is
 
 -- ---- one word
 pub single : {X : Type 0} (xs : List X) (x : X) → 1 ≤ length xs → length xs < 2 → x ≡ get_or xs 0 x → xs ≡ x ∷ []

@@ -6,8 +6,8 @@
 --     CutIn                     the sink failed in writing the lines of a command: the lines of those before it were written, and some of the first bytes of its own
 --     Course, course            what a run was handed, and what it left
 --     Ended                     what holds of each status, where this was written before the last line, and the sink's count of faults was this one then
---     LastLine                  the last line was written behind what was, cut only where the sink's count of faults rose in it
---     HasEnded                  a run from its start to its end; the source's count of faults stayed unless the status says that it failed
+--     LastLine                  the last line was written behind what was, and the sink's count of faults stayed; or it was cut, and the count rose in it
+--     HasEnded                  a run from its start to its end; each stream's count of faults stayed, until the last line, unless the status says that it failed
 use Rattle.std.specs.Prelude.{◌≡◌, ◌⊎◌, ℕ, ◌+◌, ◌<◌, ◌≤◌, List, [], ◌∷◌, ◌++◌, length, take, Option, codes}
 use Rattle.dali_memstore.specs.Fuse.{inner}
 use Rattle.dali_run.specs.declared.halt.Halt.{Halt}
@@ -40,7 +40,7 @@ pub record SpellsNone (before : Option (List ℕ)) (line : ℕ) (kind : Kind) (a
   pub wrong : IsWrong bytes line kind
 
 abbrev pub LastLine : Option (List ℕ) → Status → Option (List ℕ) → ℕ → ℕ → Type 0
-LastLine before status after faults faults' = Appends before (last_line status) after ⊎ (AppendsSome before (last_line status) after × Rose faults faults')
+LastLine before status after faults faults' = (Appends before (last_line status) after × (faults' ≡ faults)) ⊎ (AppendsSome before (last_line status) after × Rose faults faults')
 
 abbrev pub IsRun : List (List ℕ) → Type 0
 IsRun words = words ≡ codes "run" ∷ []
@@ -149,6 +149,8 @@ module _ {V : Type 0} (told : V → Option Files) (may_leave : V → Files → T
     pub mid : Option (List ℕ)
     pub count : ℕ
     pub ended : Ended c mid count status
+    pub earlier : c.write_faults ≤ count
+    pub kept : (status ≡ WriteFault → ⊥) → count ≡ c.write_faults
     pub later : count ≤ c.write_faults'
     pub read : (status ≡ ReadFault → ⊥) → c.read_faults' ≡ c.read_faults
     pub last : LastLine mid status c.taken' count c.write_faults'

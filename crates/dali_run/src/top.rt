@@ -69,6 +69,7 @@ fn run_command<K: Sink, V: Store>(
     ensures stops { IfErr result.1 (λ halt. CommandStops V.told V.may_leave V.moment V.left_since V.faults V.cuts halt command.now program result.0
         (K.taken sink.old) (K.taken sink.new) (K.faults sink.old) (K.faults sink.new)) }
     ensures later { K.faults sink.old ≤ K.faults sink.new }
+    ensures kept { (IsErrOf result.1 Halt.WriteFault → ⊥) → K.faults sink.new ≡ K.faults sink.old }
 {
     let (program, printed) = step(alloc, command, program);
     match printed {
@@ -92,6 +93,7 @@ fn run_script<K: Sink, V: Store>(
     ensures stops { IfErr result.1 (λ halt. ScriptStops V.told V.may_leave V.moment V.left_since V.faults V.cuts halt store script.now result.0
         (K.taken sink.old) (K.taken sink.new) (K.faults sink.old) (K.faults sink.new)) }
     ensures later { K.faults sink.old ≤ K.faults sink.new }
+    ensures kept { (IsErrOf result.1 Halt.WriteFault → ⊥) → K.faults sink.new ≡ K.faults sink.old }
 {
     let mut program = Program::down(store);
     for command in script.commands() {
@@ -114,6 +116,7 @@ fn run_words<S: Source, K: Sink, V: Store>(
 ) -> (V, Result<(), Halt>)
     ensures ended { Ended V.told V.may_leave V.moment V.left_since V.faults V.cuts (map string_bytes words.now) (course S.left S.faults K.taken K.faults source.old source.new sink.old sink.new store result.0) (K.taken sink.new) (K.faults sink.new) (status_in result.1) }
     ensures later { K.faults sink.old ≤ K.faults sink.new }
+    ensures kept { (IsErrOf result.1 Halt.WriteFault → ⊥) → K.faults sink.new ≡ K.faults sink.old }
     ensures read { (status_in result.1 ≡ Status.ReadFault → ⊥) → S.faults source.new ≡ S.faults source.old }
 {
     match read_script(alloc, words, source) {

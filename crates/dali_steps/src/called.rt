@@ -1,10 +1,11 @@
 //! The calls of a vault, with what they say as the laws ask for it. Each is the vault's call and nothing else.
-ghost use Rattle.std.specs.Prelude.{◌≡◌, ◌≤◌, ◌<◌, ◌+◌, ◌^◌, false, Err, OnOk, OnErr, IfSome, IsErrOf, length};
+ghost use Rattle.std.specs.Prelude.{◌≡◌, ◌≤◌, ◌<◌, ◌+◌, ◌^◌, ℕ, true, false, Err, IfOk, IfErr, OnOk, OnErr, IfSome, IsErrOf, length};
 ghost use Rattle.dali_store.specs.declared.store.FileName.TheVariants.{Log};
 ghost use Rattle.dali_store.specs.Store.{file_of, TornTold};
-ghost use Rattle.dali_batch.specs.declared.error.BatchError.TheVariants.{Fault as BatchFault};
+ghost use Rattle.dali_batch.specs.declared.error.BatchError.TheVariants.{BadLog, Fault as BatchFault};
+ghost use Rattle.dali_batch.specs.Finding.{IsFound, IsBad, IsFurther};
 ghost use Rattle.dali_traces.specs.Disks.{image_name};
-ghost use Rattle.dali_vault.specs.declared.error.VaultError.TheVariants.{Fault};
+ghost use Rattle.dali_vault.specs.declared.error.VaultError.TheVariants.{Fault, Stopped};
 ghost use Rattle.dali_steps.specs.Said.{HasFlushed, FlushHasFailed, HasWritten, WriteHasFailed, HasSynced, SyncHasFailed, HasTurned, TurnHasFailed, HasRead, ReadHasFailed};
 
 use dali_batch::{BatchError, Found, Frame};
@@ -16,6 +17,7 @@ use std::alloc::Global;
 /// Adds a frame to the log, as `Vault::flush` does.
 pub fn flush<V: Store>(vault: &mut Vault<V>, frame: &Frame) -> Result<u64, VaultError>
     requires small { vault.old.end < 2 ^ 62 }
+    ensures stopped { vault.old.stopped ≡ true → (result ≡ Err Stopped) × (vault.new ≡ vault.old) }
     ensures ok { OnOk result (HasFlushed V.told V.may_leave V.faults vault.old frame.now vault.new) }
     ensures fault { IsErrOf result Fault → FlushHasFailed V.told V.may_leave V.faults vault.old frame.now vault.new }
     ensures torn { vault.old.stopped ≡ false → TornTold Log vault.old.end (length frame.now.body + 6) (V.told vault.old.store) (V.told vault.new.store) }
@@ -32,16 +34,20 @@ pub fn image_write<V: Store>(
     bytes: &[u8],
 ) -> Result<(), VaultError>
     requires { vault.old.stopped ≡ false → IfSome (V.told vault.old.store) (λ fs. at ≤ length (file_of (image_name side) fs)) }
+    ensures stopped { vault.old.stopped ≡ true → (result ≡ Err Stopped) × (vault.new ≡ vault.old) }
     ensures ok { OnOk result (HasWritten V.told V.may_leave V.faults vault.old (image_name side) at bytes.now vault.new) }
     ensures fault { IsErrOf result Fault → WriteHasFailed V.told V.may_leave V.faults vault.old (image_name side) at (length bytes.now) vault.new }
+    ensures runs { IsErrOf result Stopped → vault.old.stopped ≡ true }
 {
     vault.image_write(side, at, bytes)
 }
 
 /// Syncs an image, as `Vault::image_sync` does.
 pub fn image_sync<V: Store>(vault: &mut Vault<V>, side: Side) -> Result<(), VaultError>
+    ensures stopped { vault.old.stopped ≡ true → (result ≡ Err Stopped) × (vault.new ≡ vault.old) }
     ensures ok { OnOk result (HasSynced V.told V.may_leave V.faults vault.old (image_name side) vault.new) }
     ensures fault { IsErrOf result Fault → SyncHasFailed V.told V.may_leave V.faults vault.old vault.new }
+    ensures runs { IsErrOf result Stopped → vault.old.stopped ≡ true }
 {
     vault.image_sync(side)
 }
@@ -49,14 +55,19 @@ pub fn image_sync<V: Store>(vault: &mut Vault<V>, side: Side) -> Result<(), Vaul
 /// Moves the anchor, as `Vault::move_anchor` does.
 pub fn move_anchor<V: Store>(vault: &mut Vault<V>) -> Result<(), VaultError>
     requires small { vault.old.current < 2 ^ 62 }
+    ensures stopped { vault.old.stopped ≡ true → (result ≡ Err Stopped) × (vault.new ≡ vault.old) }
     ensures ok { OnOk result (HasTurned V.told V.may_leave V.faults vault.old vault.new) }
     ensures fault { IsErrOf result Fault → TurnHasFailed V.told V.may_leave V.faults vault.old vault.new }
+    ensures runs { IsErrOf result Stopped → vault.old.stopped ≡ true }
 {
     vault.move_anchor()
 }
 
 /// Reads the log, as `Vault::read_log` does.
 pub fn read_log<V: Store>(vault: &mut Vault<V>, alloc: Global, at: u64) -> Result<Found, BatchError>
+    ensures found { IfOk result (λ found. IfSome (V.told vault.old.store) (λ fs. IsFound fs.log at found)) }
+    ensures further { IfOk result (λ found. IsFurther at found) }
+    ensures bad { IfErr result (λ e. (bad : ℕ) → e ≡ BadLog bad → IfSome (V.told vault.old.store) (λ fs. IsBad fs.log at bad)) }
     ensures ok { (IsErrOf result BatchFault → ⊥) → HasRead V.told V.may_leave V.faults vault.old vault.new }
     ensures fault { IsErrOf result BatchFault → ReadHasFailed V.told V.may_leave V.faults vault.old vault.new }
 {

@@ -2,7 +2,7 @@ use Rattle.std.proofs.Common.{◌∙◌, sym, subst, map}
 use Rattle.std.specs.Prelude.{string_bytes}
 use Rattle.dali_run.specs.declared.status.Status.{Status}
 use Rattle.dali_run.specs.Ends.{course, Ended}
-use Rattle.dali_run.proofs.Endings.{moved}
+use Rattle.dali_run.proofs.Endings.{moved, write_fault_of}
 use Rattle.dali_run.proofs.Kept.{ended_kept}
 use Rattle.dali_run.proofs.top.run.Goals as goal
 
@@ -16,6 +16,8 @@ returns-clause-ended g c =
       ended = moved g.V.Store.told g.V.Store.may_leave g.V.Store.moment g.V.Store.left_since g.V.Store.faults g.V.Store.cuts words before (g.K.Sink.taken c.finish-status.new.sink) (g.K.Sink.faults c.finish-status.new.sink)
           (g.K.Sink.taken c.run_words-store.new.sink) (g.K.Sink.faults c.run_words-store.new.sink) c.finish-status.result
           (subst (λ (s : Status). Ended g.V.Store.told g.V.Store.may_leave g.V.Store.moment g.V.Store.left_since g.V.Store.faults g.V.Store.cuts words before (g.K.Sink.taken c.run_words-store.new.sink) (g.K.Sink.faults c.run_words-store.new.sink) s) (sym c.finish-status.ensures.status) c.run_words-store.ensures.ended);
+      earlier = c.run_words-store.ensures.later;
+      kept = λ other. c.run_words-store.ensures.kept (λ is. other (c.finish-status.ensures.status ∙ write_fault_of c.run_words-store.result.1 is));
       later = c.finish-status.ensures.later;
       read = λ other. c.run_words-store.ensures.read (λ is. other (c.finish-status.ensures.status ∙ is));
       last = c.finish-status.ensures.last;

@@ -1,10 +1,11 @@
-use Rattle.std.proofs.Common.{◌≡◌, ◌<◌, ◌+◌, List, length, get_or, sym, subst, arith}
+use Rattle.std.proofs.Common.{◌≡◌, ◌<◌, ◌+◌, ◌∙◌, List, length, get_or, refl, sym, subst, arith}
 use Rattle.dali_script.specs.declared.commands.Command.{Command}
 use Rattle.dali_run.specs.Program.{IsUp}
 use Rattle.dali_memstore.specs.Fuse.{failed_of}
+use Rattle.dali_run.specs.declared.halt.Halt.TheVariants.{WriteFault}
 use Rattle.dali_run.specs.declared.program.Program.{Program}
 use Rattle.dali_run.proofs.Counted.{none_left}
-use Rattle.dali_run.proofs.Courses.{Reached, begins, goes_on, stops_in, is_whole, ok_of, err_of, is_up_down}
+use Rattle.dali_run.proofs.Courses.{Reached, begins, goes_on, stops_in, is_whole, ok_of, err_of, ok_is_no_err, is_up_down}
 use Rattle.dali_run.proofs.top.run_script.Goals as goal
 
 pub loop-command-init : goal.loop-command-init
@@ -12,7 +13,7 @@ loop-command-init g c = record {
   reached = begins g.V.Store.told g.V.Store.may_leave g.V.Store.moment g.V.Store.left_since g.V.Store.faults g.V.Store.cuts c.args.store c.args.script.now (g.K.Sink.taken c.args.sink.now) c.down-program.result c.down-program.ensures;
   gated = is_up_down g.V.Store.told g.V.Store.may_leave c.down-program.result c.down-program.ensures.engine_is;
   unspent = c.down-program.ensures.unfused.failed;
-  later = omega arith;
+  kept = refl;
 }
 
 pub run_command-next-requires-clause-gated : goal.run_command-next-requires-clause-gated
@@ -26,10 +27,13 @@ returns-in-Err-clause-stops g c =
     stops_in g.V.Store.told g.V.Store.may_leave g.V.Store.moment g.V.Store.left_since g.V.Store.faults g.V.Store.cuts c.in-Err.halt c.args.store c.args.script.now c.loop-command.command-index c.command-item.result
     (g.K.Sink.taken c.args.sink.now) (g.K.Sink.taken c.loop-command.sink) (g.K.Sink.taken c.run_command-next.new.sink) c.loop-command.program c.run_command-next.result.0 c.into_inner.result
     (g.K.Sink.faults c.args.sink.now) (g.K.Sink.faults c.loop-command.sink) (g.K.Sink.faults c.run_command-next.new.sink)
-    within is (sym c.into_inner.ensures) c.loop-command.invariant.later c.loop-command.invariant.reached (err_of _ c.run_command-next.result.1 c.in-Err.halt c.in-Err.is c.run_command-next.ensures.stops)
+    within is (sym c.into_inner.ensures) (omega (arith, c.loop-command.invariant.kept)) c.loop-command.invariant.reached (err_of _ c.run_command-next.result.1 c.in-Err.halt c.in-Err.is c.run_command-next.ensures.stops)
 
 pub returns-in-Err-clause-later : goal.returns-in-Err-clause-later
-returns-in-Err-clause-later g c = omega (arith, c.loop-command.invariant.later, c.run_command-next.ensures.later)
+returns-in-Err-clause-later g c = omega (arith, c.loop-command.invariant.kept, c.run_command-next.ensures.later)
+
+pub returns-in-Err-clause-kept : goal.returns-in-Err-clause-kept
+returns-in-Err-clause-kept g c = λ other. c.run_command-next.ensures.kept (λ is. other (sym c.in-Err.is ∙ is)) ∙ c.loop-command.invariant.kept
 
 pub loop-command-preserved : goal.loop-command-preserved
 loop-command-preserved g c =
@@ -44,7 +48,7 @@ loop-command-preserved g c =
           (ok_of c.run_command-next.result.1 c.in_default.field-0 c.in_default.is c.run_command-next.ensures.done));
       gated = subst (λ (p : Program g.row.V.Denot). IsUp g.V.Store.told g.V.Store.may_leave p) (sym c.settled-program.ensures) (ok_of c.run_command-next.result.1 c.in_default.field-0 c.in_default.is c.run_command-next.ensures.gated);
       unspent = subst (λ (p : Program g.row.V.Denot). failed_of p.store ≡ 0) (sym c.settled-program.ensures) (none_left c.run_command-next.result.0.store.passes);
-      later = omega (arith, c.loop-command.invariant.later, c.run_command-next.ensures.later);
+      kept = c.run_command-next.ensures.kept (ok_is_no_err c.run_command-next.result.1 c.in_default.field-0 WriteFault c.in_default.is) ∙ c.loop-command.invariant.kept;
     }
 
 pub returns-clause-whole : goal.returns-clause-whole
@@ -55,4 +59,7 @@ returns-clause-whole g c =
     (g.K.Sink.taken c.loop-command.sink) c.loop-command.program c.into_inner-2.result all (sym c.into_inner-2.ensures) c.loop-command.invariant.reached
 
 pub returns-clause-later : goal.returns-clause-later
-returns-clause-later g c = omega (arith, c.loop-command.invariant.later)
+returns-clause-later g c = omega (arith, c.loop-command.invariant.kept)
+
+pub returns-clause-kept : goal.returns-clause-kept
+returns-clause-kept g c = λ other. c.loop-command.invariant.kept

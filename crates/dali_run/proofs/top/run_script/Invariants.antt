@@ -1,4 +1,4 @@
-use Rattle.std.proofs.Common.{◌≡◌, ◌≤◌}
+use Rattle.std.proofs.Common.{◌≡◌}
 use Rattle.dali_memstore.specs.Fuse.{failed_of}
 use Rattle.dali_run.specs.Program.{IsUp}
 use Rattle.dali_run.proofs.Courses.{Reached}
@@ -9,5 +9,5 @@ invariant-loop-command g l = record {
   reached : Reached g.V.Store.told g.V.Store.may_leave g.V.Store.moment g.V.Store.left_since g.V.Store.faults g.V.Store.cuts l.fn.store l.script l.command-index (g.K.Sink.taken l.fn.sink) l.program (g.K.Sink.taken l.sink);
   gated : IsUp g.V.Store.told g.V.Store.may_leave l.program;
   unspent : failed_of l.program.store ≡ 0;
-  later : g.K.Sink.faults l.fn.sink ≤ g.K.Sink.faults l.sink;
+  kept : g.K.Sink.faults l.sink ≡ g.K.Sink.faults l.fn.sink;
 }

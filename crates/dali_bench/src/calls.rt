@@ -1,0 +1,183 @@
+//! Record calls of one client, in transactions, over regions and a system in memory.
+ghost use Rattle.std.specs.Prelude.{◌≡◌, ◌<◌, ◌*◌, ◌/◌, length, codes, OnOk, IfOk};
+ghost use Rattle.dali_geometry.specs.Places.{regions as regions_of};
+ghost use Rattle.dali_bench.specs.Amounts.{Counts};
+ghost use Rattle.dali_bench.specs.Calls.{unit_of, MayServe};
+
+use crate::keys::{mix_bytes, scattered};
+use crate::timing::Timing;
+use anyhow::{Context, Result, ensure};
+use dali_core::System;
+use dali_geometry::Geometry;
+use dali_record::{Answer, Call};
+use dali_region::Region;
+use dali_single::{commit, perform, settle};
+use dali_words::Value;
+use std::alloc::{AllocError, Global};
+use std::rt::Clock;
+use std::time::Instant;
+
+/// The greatest limit of a log, in bytes.
+const LIMIT: u64 = 268_435_456;
+
+/// How many calls a transaction makes, where it isn't said.
+const CALLS: u32 = 5;
+
+/// What is done with each key.
+#[derive(Clone, Copy, Debug, PartialEq, Eq)]
+pub enum Kind {
+    /// Its record is inserted.
+    Insert,
+    /// Its record is read.
+    Get,
+    /// Its record gets another value.
+    Update,
+    /// Its record is removed.
+    Delete,
+}
+
+// What is counted.
+fn unit<'a>(kind: Kind) -> &'a str
+    ensures { result.now ≡ unit_of kind }
+{
+    match kind {
+        Kind::Insert => "inserts",
+        Kind::Get => "gets",
+        Kind::Update => "updates",
+        Kind::Delete => "deletes",
+    }
+}
+
+// The regions of a new database.
+fn load(alloc: Global, geometry: &Geometry) -> Result<Vec<Region>, AllocError>
+    ensures { IfOk result (λ regions. length regions.items ≡ regions_of geometry.now) }
+{
+    let count = geometry.regions();
+    let mut regions = Vec::with_capacity(alloc, count as usize)?;
+    for region in 0..count {
+        regions.push(Region::load(geometry.formatted(region)))?;
+    }
+    Ok(regions)
+}
+
+fn call_of(kind: Kind, key: u64, values: &[Value; 2]) -> Call {
+    match kind {
+        Kind::Insert => Call::Insert {
+            key,
+            value: values[0],
+        },
+        Kind::Get => Call::Get { key },
+        Kind::Update => Call::Update {
+            key,
+            value: values[1],
+        },
+        Kind::Delete => Call::Delete { key },
+    }
+}
+
+// Makes the calls of a transaction, on the keys from this place on.
+fn call_all(
+    regions: &mut [Region],
+    system: &mut System,
+    txn: u64,
+    kind: Kind,
+    first: u64,
+    calls: u32,
+    values: &[Value; 2],
+) -> Result<()>
+    requires { MayServe regions.old system.old.state txn }
+    ensures { OnOk result (MayServe regions.new system.new.state txn) }
+{
+    for call in 0..calls as u64 {
+        let key = scattered(first.wrapping_add(call));
+        let answer = perform(regions, system, txn, call_of(kind, key, values), false)?;
+        ensure!(
+            matches!(answer, Answer::Ok | Answer::Got { .. }),
+            "a call failed"
+        );
+    }
+    Ok(())
+}
+
+// A whole transaction.
+#[tactic(auto, using(dali_single::proofs::Guards::begun_lives, dali_single::proofs::Guards::begun_covered))]
+fn run_transaction(
+    alloc: Global,
+    regions: &mut [Region],
+    system: &mut System,
+    kind: Kind,
+    first: u64,
+    calls: u32,
+    values: &[Value; 2],
+) -> Result<()> {
+    ensure!(
+        regions.len() == system.geometry().regions() as usize,
+        "these aren't the system's regions"
+    );
+    let (txn, _) = system.begin()?;
+    call_all(regions, system, txn, kind, first, calls, values)?;
+    let removals = commit(alloc, system, txn)?;
+    settle(regions, system, txn, &removals)?;
+    system.flushed();
+    Ok(())
+}
+
+// So many calls, in transactions of so many.
+fn run_transactions(
+    alloc: Global,
+    regions: &mut [Region],
+    system: &mut System,
+    kind: Kind,
+    transactions: u32,
+    calls: u32,
+) -> Result<()> {
+    let values = [
+        Value::from_bytes(b"abc").context("no value")?,
+        Value::from_bytes(b"xyz").context("no value")?,
+    ];
+    for number in 0..transactions as u64 {
+        let first = number.wrapping_mul(calls as u64);
+        run_transaction(alloc, regions, system, kind, first, calls, &values)?;
+    }
+    Ok(())
+}
+
+// So many calls in transactions of `calls`, on keys that were inserted before where the calls find them. The check number
+// is that of the bytes that the system has logged.
+fn run_in(clock: &impl Clock, alloc: Global, kind: Kind, count: u32, calls: u32) -> Result<Timing>
+    requires { 0 < calls }
+    ensures counts { IfOk result (Counts (count / calls * calls) (unit_of kind)) }
+{
+    let geometry = Geometry::new(count / 10 + 1, count / 5 + 1)?;
+    let mut regions = load(alloc, &geometry)?;
+    let mut system = System::new(alloc, geometry, 1, 1, 10, LIMIT)?;
+    if kind != Kind::Insert {
+        run_transactions(
+            alloc,
+            &mut regions,
+            &mut system,
+            Kind::Insert,
+            count / CALLS,
+            CALLS,
+        )?;
+    }
+    let transactions = count / calls;
+    let start = Instant::now(clock)?;
+    run_transactions(alloc, &mut regions, &mut system, kind, transactions, calls)?;
+    let timing = Timing::since(clock, start, transactions as u64 * calls as u64, unit(kind))?;
+    Ok(timing.checked(mix_bytes(system.logged())))
+}
+
+/// So many calls on as many keys, in transactions of five.
+pub fn run(clock: &impl Clock, alloc: Global, kind: Kind, count: u32) -> Result<Timing>
+    ensures counts { IfOk result (Counts (count / 5 * 5) (unit_of kind)) }
+{
+    run_in(clock, alloc, kind, count, CALLS)
+}
+
+/// So many inserts in transactions of ten, which is more than a heap region has cells.
+pub fn run_tens(clock: &impl Clock, alloc: Global, count: u32) -> Result<Timing>
+    ensures counts { IfOk result (Counts (count / 10 * 10) (codes "inserts")) }
+{
+    run_in(clock, alloc, Kind::Insert, count, 2 * CALLS)
+}

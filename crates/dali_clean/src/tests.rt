@@ -1,0 +1,218 @@
+//! What no clause says: that a dead transaction is cleaned up with ample memory, and what stands then.
+ghost use Rattle.std.specs.Prelude.{◌≡◌, true, IfSome, None};
+ghost use Rattle.std.specs.List.{list_all};
+ghost use Rattle.dali_record.specs.Spelling.{IsOperation};
+ghost use Rattle.dali_system.specs.Wholes.{is_of_kind, latched_in};
+ghost use Rattle.dali_system.specs.Regions.{IsOpen};
+ghost use Rattle.dali_core.specs.UnderWay.{IsUnderWay};
+
+use crate::{CleanError, clean};
+use dali_att::State;
+use dali_core::{Operation, System, SystemError};
+use dali_geometry::Geometry;
+use dali_locks::{LockAnswer, Mode};
+use dali_record::{Op, Pending, Undo};
+use dali_region::{Receipt, Region};
+use dali_system::Cause;
+use dali_words::Value;
+use std::alloc::Global;
+use std::test::Fail;
+
+// A log of 3 records and 100 bytes, with room for 900 more, in which the transaction 5 has begun and holds the key 7.
+fn begun(alloc: Global) -> Option<System> {
+    let geometry = Geometry::new(1, 1).ok()?;
+    let mut system = System::new(alloc, geometry, 3, 5, 100, 1000).ok()?;
+    match (system.begin(), system.request(5, 7, Mode::Exclusive)) {
+        (Ok((5, _)), Ok(LockAnswer::Granted)) => Some(system),
+        _ => None,
+    }
+}
+
+// The index region and the heap region, formatted.
+fn formatted() -> Option<[Region; 2]> {
+    let geometry = Geometry::new(1, 1).ok()?;
+    Some([
+        Region::load(geometry.formatted(0)),
+        Region::load(geometry.formatted(1)),
+    ])
+}
+
+// What puts three bytes.
+fn put() -> Option<Op>
+    ensures { IfSome result IsOperation }
+{
+    match Value::from_bytes(b"abc") {
+        Some(value) => Some(Op::Put { value }),
+        None => None,
+    }
+}
+
+// Writes the words of an operation that has eight at most; then it is open.
+fn finish(operation: &mut Operation, region: &mut Region) -> Option<u32>
+    requires { IsUnderWay operation.old.txn operation.old.block operation.old.left operation.old.taken region.old }
+    ensures same { (operation.new.txn ≡ operation.old.txn) × (operation.new.block ≡ operation.old.block) }
+    ensures open { IfSome result (λ _. IsOpen region.new operation.new.txn operation.new.block) }
+{
+    for words in 0..9 {
+        if !operation.update(region) {
+            return Some(words);
+        }
+    }
+    None
+}
+
+// Puts three bytes into the first cell of region 1, for the key 7 and a transaction of the table.
+#[tactic(auto, using(crate::proofs::Guards::some_row))]
+fn put_in(
+    system: &mut System,
+    region: &mut Region,
+    txn: u64,
+) -> Option<Result<Receipt, SystemError>> {
+    let Some(op) = put() else { return None };
+    let Ok(mut operation) = Operation::start(region, 1, txn, 7, op, true) else {
+        return None;
+    };
+    let Some(_) = finish(&mut operation, region) else {
+        return None;
+    };
+    match (system.state(txn), operation.block().op) {
+        (Some(_), Op::Put { .. }) => Some(system.commit_op(region, txn, operation.block())),
+        _ => None,
+    }
+}
+
+// The client of a live transaction dies between two calls.
+fn die(system: &mut System, txn: u64) -> bool {
+    match system.state(txn) {
+        Some(State::Live) => {
+            system.mark_dead(txn, None);
+            true
+        }
+        _ => false,
+    }
+}
+
+// The region that is still latched for a transaction in this state.
+fn latched(state: Option<State>) -> Option<u32>
+    ensures { result ≡ latched_in state }
+{
+    match state {
+        Some(State::Dead { latched } | State::Cleaning { latched }) => latched,
+        _ => None,
+    }
+}
+
+// Whether these are no undos, or one that frees a cell of a heap region.
+fn of_kind(geometry: &Geometry, undos: &[Pending]) -> bool
+    ensures { result ≡ true → list_all (is_of_kind geometry.now) undos.now ≡ true }
+{
+    match undos {
+        [] => true,
+        [pending] => match pending.undo {
+            Undo::FreeCell { .. } => {
+                geometry.index() <= pending.region && pending.region < geometry.regions()
+            }
+            _ => false,
+        },
+        _ => false,
+    }
+}
+
+// Cleans a transaction up where no region is latched and what it did is one put.
+#[tactic(auto, using(crate::proofs::Guards::may_clean))]
+fn cleaned(
+    regions: [Region; 2],
+    system: &mut System,
+    txn: u64,
+) -> Option<([Region; 2], Result<(), CleanError>)> {
+    let [index, heap] = regions;
+    if index.hold().is_some() || heap.hold().is_some() {
+        return None;
+    }
+    if system.geometry().regions() != 2 || latched(system.state(txn)).is_some() {
+        return None;
+    }
+    if !of_kind(&system.geometry(), system.table().undos(txn)) {
+        return None;
+    }
+    let mut regions = [index, heap];
+    let answer = clean(&mut regions, system, txn);
+    Some((regions, answer))
+}
+
+// Whether all words are those of formatted regions but for the key, the length and the value of the first cell, which
+// is free, and no codeword tells a stray write.
+fn is_free_again(regions: &mut [Region; 2]) -> Option<bool> {
+    let geometry = Geometry::new(1, 1).ok()?;
+    let mut words = geometry.formatted(1);
+    words[9..12].copy_from_slice(&[7, 3, 0x6162_6300_0000_0000]);
+    let index = regions[0].words().as_slice() == geometry.formatted(0).as_slice();
+    let heap = regions[1].words().as_slice() == words.as_slice();
+    let checked = regions[0].check() == 0 && regions[1].check() == 0;
+    Some(index && heap && checked)
+}
+
+// A put, the death of its client and the clean-up: its answer, whether the words are as before, the row, how many
+// records the log has, and whether another transaction is granted the key.
+fn put_and_clean(
+    alloc: Global,
+    stops: bool,
+) -> Option<
+    (
+        Result<(), CleanError>,
+        Option<bool>,
+        Option<State>,
+        u64,
+        Option<LockAnswer>,
+    ),
+> {
+    let mut system = begun(alloc)?;
+    let mut regions = formatted()?;
+    let Some(Ok(_)) = put_in(&mut system, &mut regions[1], 5) else {
+        return None;
+    };
+    if regions[1].words()[8] != 1 || !die(&mut system, 5) {
+        return None;
+    }
+    if stops {
+        system.stop();
+    }
+    let (mut regions, answer) = cleaned(regions, &mut system, 5)?;
+    let free = is_free_again(&mut regions);
+    let lock = system.request(6, 7, Mode::Exclusive).ok();
+    Some((answer, free, system.state(5), system.records(), lock))
+}
+
+// A begin, a put, its taking back and the end are logged; or, where the engine is stopped, the first two.
+#[test]
+fn a_dead_transaction_is_cleaned_up(rt: HostRuntime) -> Result<(), Fail> {
+    let granted = Some(LockAnswer::Granted);
+    assert_eq!(rt;
+        put_and_clean(rt.alloc(), false),
+        Some((Ok(()), Some(true), None, 7, granted))
+    );
+    let stopped = CleanError::Stopped {
+        cause: Cause::Store,
+    };
+    let dead = Some(State::Dead { latched: None });
+    assert_eq!(rt;
+        put_and_clean(rt.alloc(), true),
+        Some((Err(stopped), Some(false), dead, 5, None))
+    );
+    Ok(())
+}
+
+// The answers for a live transaction and for one that isn't there.
+fn not_dead(alloc: Global) -> Option<[Result<(), CleanError>; 2]> {
+    let mut system = begun(alloc)?;
+    let (regions, live) = cleaned(formatted()?, &mut system, 5)?;
+    let (_, absent) = cleaned(regions, &mut system, 6)?;
+    Some([live, absent])
+}
+
+#[test]
+fn who_is_not_dead_is_not_cleaned_up(rt: HostRuntime) -> Result<(), Fail> {
+    let refused = Err(CleanError::NotDead);
+    assert_eq!(rt; not_dead(rt.alloc()), Some([refused, refused]));
+    Ok(())
+}
