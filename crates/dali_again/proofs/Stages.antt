@@ -14,10 +14,10 @@ use Rattle.dali_record.specs.Legal.{sizes_of}
 use Rattle.dali_record.specs.Files.{Files, batch_length, is_restarted_first, next_after}
 use Rattle.dali_record.proofs.Ends.{get_new}
 use Rattle.dali_record.proofs.Pushes.{cut_push}
-use Rattle.dali_history.specs.Recovered.{base_of, recovered, recovered_now}
+use Rattle.dali_history.specs.Recovered.{recovered}
 use Rattle.dali_history.specs.History.{IsHistory}
 use Rattle.dali_history.proofs.Prefixes.{sizes_of-front}
-use Rattle.dali_history.proofs.Restarts.{IsHistory-restarted, sizes_of-restarted}
+use Rattle.dali_history.proofs.Restarts.{recovered-same, sizes_of-restarted}
 use Rattle.dali_store.specs.declared.store.FileName.TheVariants.{Log, Anchor}
 use Rattle.dali_store.specs.Store.{Files as Disk, SameBut}
 use Rattle.dali_batch.specs.Appending.{Adds, next_place}
@@ -28,8 +28,9 @@ use Rattle.dali_batch.proofs.Unique.{one_log}
 use Rattle.dali_counts.proofs.Lists.{take_take}
 use Rattle.dali_system.specs.Run.{log_in}
 use Rattle.dali_crash.specs.Checkpoints.{side_of, turned as turned_to}
-use Rattle.dali_crash.proofs.Starts.{lawful}
-use Rattle.dali_crash.specs.Fitting.{FitsWhole}
+use Rattle.dali_crash.specs.Starts.{IsRestarted, IsFresh, IsLawful}
+use Rattle.dali_crash.proofs.Closing.{lawful_restarts}
+use Rattle.dali_crash.proofs.Traces.{fresh_rests}
 use Rattle.dali_traces.specs.Disks.{AllSpell, IsAnchor, IsImageOf, Spells, image_file, image_name, sizes_in}
 use Rattle.dali_traces.specs.Bridges.{closed_head}
 use Rattle.dali_traces.proofs.Bridges.{batches_length, ends_at, spells_unmoved}
@@ -40,16 +41,15 @@ use Rattle.dali_resume.specs.Again.{Outcome, closing, closed_log, with_closing, 
 use Rattle.dali_resume.specs.Onward.{FitsFront, HandedOut, IsAgainOnward, verdict_of}
 use Rattle.dali_resume.specs.Batches.{misplaced, records_of, verdict_over}
 use Rattle.dali_resume.proofs.Batches.{answers_over_batches, both_good, fits_in_batches, front_answers_over_batches}
-use Rattle.dali_resume.proofs.Onward.{base_restarted}
 use Rattle.dali_resume.proofs.Stopped.{restarts_onward}
 use Rattle.dali_again.specs.Stages.{IsRestarting, IsFound, IsLogged, IsTurned, AnswersAs, EveryStageAnswers, StartsBehind, FoundLogged, closing_bodies, HoldsImage, IsAppending, IsMoving, AppendStages, Appended, LogSettles, MoveStages, Moved, AnchorSettles, Written}
 
 -- ---- the files
-again_at : (L : List Record) (B : List (List Record)) (n : ℕ) (D : Files) → IsRestarting L B → IsFound L B n D → IsAgainOnward L D
-again_at L B n D w f =
+again_at : (L : List Record) (B : List (List Record)) (n : ℕ) (D : Files) → IsHistory L → IsRestarting L B → IsFound L B n D → IsAgainOnward L D
+again_at L B n D h w f =
     let e = sym f.log in
     subst (λ M. IsAgainOnward M D) f.log
-    (restarts_onward f.front (records_of f.more) D w.some.0 w.some.1 (subst IsHistory e w.history) f.some f.fits (ap records_in f.batches ∙ (w.batches ∙ e)) (ap (λ M. (last_epoch M).records) f.log ∙ w.some.2))
+    (restarts_onward f.front (records_of f.more) D w.some.0 w.some.1 (subst IsHistory e h) f.some f.fits (ap records_in f.batches ∙ (w.batches ∙ e)) (ap (λ M. (last_epoch M).records) f.log ∙ w.some.2))
 
 found_log : (L : List Record) (B : List (List Record)) (n : ℕ) (D : Files) → IsRestarting L B → IsFound L B n D → log_in D ≡ L
 found_log L B n D w f = ap records_in f.batches ∙ w.batches
@@ -85,16 +85,16 @@ over_front s K F more o front good parts answer =
 front_sizes : (L : List Record) (B : List (List Record)) (n : ℕ) (D : Files) (f : IsFound L B n D) → sizes_of f.front ≡ sizes_of L
 front_sizes L B n D f = sym (sizes_of-front f.front (records_of f.more) f.some) ∙ ap sizes_of f.log
 
-found_over : (L : List Record) (B : List (List Record)) (n : ℕ) (D : Files) → IsRestarting L B → IsFound L B n D → AnswersOver (sizes_of L) D (outcome_is L)
-found_over L B n D w f =
+found_over : (L : List Record) (B : List (List Record)) (n : ℕ) (D : Files) → IsHistory L → IsRestarting L B → IsFound L B n D → AnswersOver (sizes_of L) D (outcome_is L)
+found_over L B n D h w f =
     subst (λ z. AnswersOver z D (outcome_is L)) (front_sizes L B n D f)
     (over_front (sizes_of f.front) f.front D f.more (outcome_is L) f.fits f.good (f.batches ∙ sym f.parts) answer)
   where
     answer : verdict_of (sizes_of f.front) D (f.front ++ records_of f.more) ≡ HandedOut (outcome_is L)
-    answer = ap (λ z. verdict_of z D (f.front ++ records_of f.more)) (front_sizes L B n D f) ∙ (ap (verdict_of (sizes_of L) D) f.log ∙ (again_at L B n D w f).first)
+    answer = ap (λ z. verdict_of z D (f.front ++ records_of f.more)) (front_sizes L B n D f) ∙ (ap (verdict_of (sizes_of L) D) f.log ∙ (again_at L B n D h w f).first)
 
-logged_over : (L : List Record) (B : List (List Record)) (n : ℕ) (D : Files) → IsRestarting L B → IsFound L B n D → AnswersOver (sizes_of L) (with_closing L D) (outcome_is L)
-logged_over L B n D w f =
+logged_over : (L : List Record) (B : List (List Record)) (n : ℕ) (D : Files) → IsHistory L → IsRestarting L B → IsFound L B n D → AnswersOver (sizes_of L) (with_closing L D) (outcome_is L)
+logged_over L B n D h w f =
     subst (λ z. AnswersOver z (with_closing L D) (outcome_is L)) (front_sizes L B n D f)
     (over_front (sizes_of f.front) f.front (with_closing L D) (f.more ++ (closing L ∷ []) ∷ []) (outcome_is L) f.fits (both_good f.more ((closing L ∷ []) ∷ []) f.good refl) parts answer)
   where
@@ -109,14 +109,14 @@ logged_over L B n D w f =
     answer : verdict_of (sizes_of f.front) (with_closing L D) (f.front ++ records_of (f.more ++ (closing L ∷ []) ∷ [])) ≡ HandedOut (outcome_is L)
     answer =
         ap (λ z. verdict_of z (with_closing L D) (f.front ++ records_of (f.more ++ (closing L ∷ []) ∷ []))) (front_sizes L B n D f)
-        ∙ (ap (verdict_of (sizes_of L) (with_closing L D)) log ∙ (again_at L B n D w f).logged)
+        ∙ (ap (verdict_of (sizes_of L) (with_closing L D)) log ∙ (again_at L B n D h w f).logged)
 
 -- the image of the restart fits the whole log
-turned_over : (L : List Record) (B : List (List Record)) (n : ℕ) (D : Files) → IsRestarting L B → IsFound L B n D → AnswersOver (sizes_of L) (turned L D) (outcome_is L)
-turned_over L B n D w f = (k.0, k.1, (answers_over_batches (sizes_of L) (turned L D) (closed_log L) (drop k.0 (turned L D).batches) k.2).0 none ∙ again.turned_again)
+turned_over : (L : List Record) (B : List (List Record)) (n : ℕ) (D : Files) → IsHistory L → IsRestarting L B → IsFound L B n D → AnswersOver (sizes_of L) (turned L D) (outcome_is L)
+turned_over L B n D h w f = (k.0, k.1, (answers_over_batches (sizes_of L) (turned L D) (closed_log L) (drop k.0 (turned L D).batches) k.2).0 none ∙ again.turned_again)
   where
     again : IsAgainOnward L D
-    again = again_at L B n D w f
+    again = again_at L B n D h w f
 
     k : (k : ℕ) × ((turned L D).place ≡ sum_by batch_length (take k (turned L D).batches)) × (records_of (drop k (turned L D).batches) ≡ drop (turned L D).first (closed_log L)) × (misplaced (drop k (turned L D).batches ++ []) ≡ None)
     k = fits_in_batches (sizes_of L) (recovered (sizes_of L) L) (closed_log L) (turned L D) (last_epoch (closed_log L)) [] again.turned_fits refl
@@ -129,38 +129,55 @@ answers_by : (L K : List Record) (F : Files) → log_in F ≡ K → verdict_of (
 answers_by L K F e v over = record { records = ap (verdict_of (sizes_of L) F) e ∙ v; batches = over }
 
 pub every_stage_answers : EveryStageAnswers
-every_stage_answers L B n F w = record {
-  found = λ f. answers_by L L F (found_log L B n F w f) (again_at L B n F w f).first (found_over L B n F w f);
-  logged = λ g. subst (AnswersAs L) (sym g.2) (answers_by L (closed_log L) (with_closing L g.0) (closing_log L B n g.0 w g.1) (again_at L B n g.0 w g.1).logged (logged_over L B n g.0 w g.1));
-  turned = λ g. subst (AnswersAs L) (sym g.2) (answers_by L (closed_log L) (turned L g.0) (closing_log L B n g.0 w g.1) (again_at L B n g.0 w g.1).turned_again (turned_over L B n g.0 w g.1));
+every_stage_answers L B n F h w = record {
+  found = λ f. answers_by L L F (found_log L B n F w f) (again_at L B n F h w f).first (found_over L B n F h w f);
+  logged = λ g. subst (AnswersAs L) (sym g.2) (answers_by L (closed_log L) (with_closing L g.0) (closing_log L B n g.0 w g.1) (again_at L B n g.0 h w g.1).logged (logged_over L B n g.0 h w g.1));
+  turned = λ g. subst (AnswersAs L) (sym g.2) (answers_by L (closed_log L) (turned L g.0) (closing_log L B n g.0 w g.1) (again_at L B n g.0 h w g.1).turned_again (turned_over L B n g.0 h w g.1));
 }
 
-closed_history : (L : List Record) (B : List (List Record)) → IsRestarting L B → IsHistory (closed_log L)
-closed_history L B w = IsHistory-restarted L w.some.0 w.some.1 (rolled_list (last_epoch L)) (deleted_list (last_epoch L)) w.history w.some.2 refl refl
+closed_lawful : (L : List Record) (B : List (List Record)) → IsRestarting L B → IsLawful (closed_log L)
+closed_lawful L B w = lawful_restarts L w.some.0 w.some.1 w.lawful w.some.2
 
 same_sizes : (L : List Record) → sizes_of (closed_log L) ≡ sizes_of L
 same_sizes L = sizes_of-restarted L (rolled_list (last_epoch L)) (deleted_list (last_epoch L))
 
+-- the image stands right before the batch of Restarted
+turned_is_fresh : (L : List Record) (B : List (List Record)) (n : ℕ) (D : Files) → IsRestarting L B → IsFound L B n D → IsRestarted (closed_log L) (turned L D)
+turned_is_fresh L B n D w f = record {
+  closed = L;
+  rolled = rolled_list (last_epoch L);
+  deleted = deleted_list (last_epoch L);
+  log = refl;
+  some = w.some;
+  older = D.batches;
+  batches = refl;
+  spell = found_log L B n D w f;
+  gates = omega arith;
+  number = refl;
+  place = refl;
+  first = refl;
+  weight = refl;
+  next = refl;
+  image = sym (ap (λ z. recovered z (closed_log L)) (same_sizes L) ∙ recovered-same (sizes_of L) L w.some.0 w.some.1 (rolled_list (last_epoch L)) (deleted_list (last_epoch L)) w.some.2);
+  table = refl;
+}
+
 pub starts_behind : StartsBehind
 starts_behind L B n F s w g log rules fits may end current = record {
-  lawful = lawful s.log (subst IsHistory (sym log) (closed_history L B w));
+  lawful = subst IsLawful (sym log) (closed_lawful L B w);
   rules = rules;
   fits = fits;
-  rests = record {
+  rests = fresh_rests s.log s.vault F (record {
     vault = may;
     none = ap (λ M. (last_epoch M).records) log ∙ ap (λ (q : Cut). q.now.records) (cut_push L (closing L));
-    files = subst (λ M. FitsWhole (sizes_of M) (base_of (sizes_of M) M) M F (last_epoch M)) (sym log) (subst (λ z. FitsWhole (sizes_of (closed_log L)) (base_of (sizes_of (closed_log L)) (closed_log L)) (closed_log L) z (last_epoch (closed_log L))) (sym g.2) fit);
+    files = subst (λ M. IsFresh M F) (sym log) (subst (IsFresh (closed_log L)) (sym g.2) fresh);
     end = end;
     current = ap (λ (z : Files). z.gates) g.2 ∙ (ap (λ m. m + 1) g.1.gates ∙ sym current);
-  };
+  });
 }
   where
-    base_is : base_of (sizes_of (closed_log L)) (closed_log L) ≡ recovered (sizes_of L) L
-    base_is = ap (λ z. base_of z (closed_log L)) (same_sizes L) ∙ (base_restarted (sizes_of L) L (rolled_list (last_epoch L)) (deleted_list (last_epoch L)) ∙ sym (ap (λ X. recovered_now (sizes_of L) (base_of (sizes_of L) L) (last_epoch L) X) w.some.2))
-
-    fit : FitsWhole (sizes_of (closed_log L)) (base_of (sizes_of (closed_log L)) (closed_log L)) (closed_log L) (turned L g.0) (last_epoch (closed_log L))
-    fit = subst (λ b. FitsWhole (sizes_of (closed_log L)) b (closed_log L) (turned L g.0) (last_epoch (closed_log L))) (sym base_is)
-        (subst (λ z. FitsWhole z (recovered (sizes_of L) L) (closed_log L) (turned L g.0) (last_epoch (closed_log L))) (sym (same_sizes L)) (again_at L B n g.0 w g.1).turned_fits)
+    fresh : IsFresh (closed_log L) (turned L g.0)
+    fresh = record { log = closing_log L B n g.0 w g.1; kind = inr (turned_is_fresh L B n g.0 w g.1) }
 
 -- ---- a log that ends with the batch of Restarted
 take_front : {X : Type 0} (A B : List X) → take (length A) (A ++ B) ≡ A
@@ -184,7 +201,7 @@ found_logged L B n F rs ds w legal batches found = (
 
 -- ---- the batch of Restarted
 closing_spelled : (L : List Record) (B : List (List Record)) → IsRestarting L B → AllByRecursion AreSpelled ((closing L ∷ []) ∷ [])
-closing_spelled L B w = (((closed_history L B w).spelled (length L) (closing L) (get_new L (closing L)), tt), tt)
+closing_spelled L B w = (((closed_lawful L B w).spelled (length L) (closing L) (get_new L (closing L)), tt), tt)
 
 found_at : (old : Disk → Type 0) (L : List Record) (B : List (List Record)) (n : ℕ) → AllSpell old (IsFound L B n) → (d : Disk) → old d → LogOf d.log B (sum_by batch_length B)
 found_at old L B n all d left =

@@ -1,7 +1,7 @@
 -- The stages of a restart, as crash images. The log L that is found has the batches B and a record in its last epoch, and n gates of its anchor are open.
 -- Where the last epoch has none a restart logs nothing. It writes nothing either where no record stands from the image's place on, of which no law here
 -- speaks, or Restarted alone, as at the third stage; else the log ends with the batch of Restarted, and the restart goes on from the second stage.
---     IsRestarting L B         what is asked of the log
+--     IsRestarting L B         what is asked of the log, honest or not: but for what a restart hands out, which is said of a history
 --     IsFound L B n F          the files as they are found: their image fits a front of the log at its last epoch, whose batches are the first of the
 --                              disk's, and any batches stand behind these, where each Restarted is the first record of its batch
 --     IsLogged L B n F         with the batch of Restarted
@@ -37,6 +37,7 @@ use Rattle.dali_batch.specs.Batch.{IsClosedAt}
 use Rattle.dali_batch.specs.Log.{LogOf, bodies, records_in}
 use Rattle.dali_system.specs.Run.{log_in}
 use Rattle.dali_crash.specs.Checkpoints.{side_of}
+use Rattle.dali_crash.specs.Starts.{IsLawful}
 use Rattle.dali_crash.specs.Traces.{MayRun, Start, StartsAt}
 use Rattle.dali_traces.specs.Disks.{AllSpell, IsAnchor, IsImageOf, image_file, image_name}
 use Rattle.dali_traces.specs.Anchors.{HasMoved, MayHaveMoved, AreAnchored}
@@ -46,7 +47,7 @@ use Rattle.dali_resume.specs.Onward.{FitsFront, HandedOut, verdict_of}
 use Rattle.dali_resume.specs.Batches.{records_of, verdict_over}
 
 pub record IsRestarting (L : List Record) (B : List (List Record)) : Type 0 where
-  pub history : IsHistory L
+  pub lawful : IsLawful L
   pub batches : records_in B ≡ L
   pub some : (r : Record) × (E : List Record) × ((last_epoch L).records ≡ r ∷ E)
 
@@ -94,7 +95,7 @@ pub record AllAnswer (L : List Record) (B : List (List Record)) (n : ℕ) (F : F
   pub turned : IsTurned L B n F → AnswersAs L F
 
 abbrev pub EveryStageAnswers : Type 0
-EveryStageAnswers = (L : List Record) (B : List (List Record)) (n : ℕ) (F : Files) → IsRestarting L B → AllAnswer L B n F
+EveryStageAnswers = (L : List Record) (B : List (List Record)) (n : ℕ) (F : Files) → IsHistory L → IsRestarting L B → AllAnswer L B n F
 
 abbrev pub StartsBehind : Type 0
 StartsBehind =

@@ -6,7 +6,8 @@ use dali_store::Store;
 
 /// From the files as they were found, from those with the batch of Restarted, and from those whose anchor names the image
 /// that the restart wrote, a restart hands out the same records and the same lists, by the rules on records and by that on
-/// batches; and behind it a run may start. One that finds the batch of Restarted at the log's end goes on from there.
+/// batches, where the log is a history. Behind it a run may start, over any lawful log; and one that finds the batch of
+/// Restarted at the log's end goes on from there.
 pub fn each_stage_of_a_restart_answers_alike()
     ensures answers { EveryStageAnswers }
     ensures starts { StartsBehind }

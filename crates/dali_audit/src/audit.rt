@@ -83,6 +83,13 @@ impl Verdict {
     {
         &self.failing
     }
+
+    /// These regions as a list. It takes no memory.
+    pub fn into_failing(self) -> Regions
+        ensures { result ≡ self.failing }
+    {
+        Regions::new(self.failing)
+    }
 }
 
 // The memory of an audit of so many regions.

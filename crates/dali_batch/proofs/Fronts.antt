@@ -1,7 +1,7 @@
 -- The front of a log, batch by batch, and where it ends.
-use Rattle.std.proofs.Common.{◌≡◌, inl, inr, ℕ, ◌+◌, ◌≤◌, ◌<◌, List, [], ◌∷◌, ◌++◌, length, get_or, take, drop, refl, sym, ◌∙◌, ap, subst, arith, append_assoc, length-append, length-drop, take-append-drop}
+use Rattle.std.proofs.Common.{◌≡◌, ◌⊎◌, inl, inr, ℕ, ◌+◌, ◌≤◌, ◌<◌, List, [], ◌∷◌, ◌++◌, length, get_or, take, drop, refl, sym, ◌∙◌, ap, subst, arith, append_assoc, length-append, length-drop, take-append-drop}
 use Rattle.std.specs.List.{AllByRecursion}
-use Rattle.std.proofs.lemmas.List.{append-nil, flat_map_more, take_at, get_or-drop, length-take-le}
+use Rattle.std.proofs.lemmas.List.{append-nil, flat_map_more, take_at, drop_at, drop-drop, get_or-drop, length-take-le}
 use Rattle.dali_record.specs.declared.records.Record.{Record}
 use Rattle.dali_record.specs.declared.records.Record.TheVariants.{Format}
 use Rattle.dali_record.specs.Spelling.{spelling, CanBeSpelled}
@@ -11,7 +11,7 @@ use Rattle.dali_batch.specs.declared.error.LogError.TheVariants.{BadLog as BadLo
 use Rattle.dali_batch.specs.Batch.{batch, batches, IsBody, IsOpenAt, IsClosedAt, IsUnformatted}
 use Rattle.dali_batch.specs.Finding.{BatchAt, IsBad}
 use Rattle.dali_batch.specs.Errors.{log_error}
-use Rattle.dali_batch.specs.Log.{body_bytes, AreSpelled, bodies, records_in, HasFormat, IsFront, LogOf, NoRecordAt, BadBody, BadAt}
+use Rattle.dali_batch.specs.Log.{body_bytes, AreSpelled, bodies, records_in, HasFormat, IsFront, LogOf, NoRecordAt, BadBody, BadAt, IsRun, TailOf, BadBehind}
 use Rattle.dali_batch.proofs.Bytes.{length-batch}
 
 -- the error that names a bad place
@@ -145,3 +145,121 @@ past_bad bytes from at bad old mid past is front has stands = let so_far = past 
 
 pub past_body_bad : (bytes : List ℕ) (from at bad : ℕ) (old mid : List Record) (body : List ℕ) → Past bytes from at old mid → BatchAt bytes at body → (within : ℕ) × NoRecordAt body within × (bad ≡ at + 5 + within) → (front : List (List Record)) → HasFormat front → IsFront bytes front from → BadAt bytes bad
 past_body_bad bytes from at bad old mid body past found none front has stands = let so_far = past front has stands in later_body_bad bytes so_far.0 at body none.0 bad so_far.2 so_far.1 found none.1 none.2
+
+-- ---- batches from a place on
+pub empty_run : (bytes : List ℕ) (p : ℕ) → IsRun bytes p [] p
+empty_run bytes p = record { place = omega arith; spells = refl; sizes = tt; each = tt }
+
+pub run_push : (bytes : List ℕ) (p : ℕ) (L : List (List Record)) (q : ℕ) (body : List ℕ) (rs : List Record) → IsRun bytes p L q → BatchAt bytes q body → body ≡ body_bytes rs → AreSpelled rs → IsRun bytes p (L ++ rs ∷ []) (q + 5 + length body)
+run_push bytes p L q body rs run found e each =
+    let old = batches (bodies L) in
+    let all : batches (bodies (L ++ rs ∷ [])) ≡ old ++ batch body = ap batches (bodies_push L rs) ∙ batches_push (bodies L) (body_bytes rs) ∙ ap (λ (b : List ℕ). old ++ batch b) (sym e) in
+    let here : p + length old ≡ q = sym run.place in
+    let behind : drop (length old) (drop p bytes) ≡ batch body ++ found.1 = drop-drop (length old) p bytes ∙ ap (λ (n : ℕ). drop n bytes) here ∙ found.2 in
+    let whole : drop p bytes ≡ (old ++ batch body) ++ found.1 =
+    sym (take-append-drop (length old) (drop p bytes)) ∙ ap (λ (l : List ℕ). l ++ drop (length old) (drop p bytes)) run.spells ∙ ap (λ (l : List ℕ). old ++ l) behind ∙ sym (append_assoc old (batch body) found.1) in
+    record {
+      place = omega (arith, run.place, ap length all, length-append old (batch body), length-batch body);
+      spells = ap (λ (l : List ℕ). take (length l) (drop p bytes)) all ∙ ap (λ (l : List ℕ). take (length (old ++ batch body)) l) whole ∙ take_at (old ++ batch body) found.1 (length (old ++ batch body)) refl ∙ sym all;
+      sizes = subst (AllByRecursion IsBody) (sym (bodies_push L rs)) (all_bodies (bodies L) (body_bytes rs) run.sizes (subst IsBody e found.0));
+      each = all_spelled L rs run.each each;
+    }
+
+pub front_of_run : (bytes : List ℕ) (L : List (List Record)) (q : ℕ) → HasFormat L → IsRun bytes 0 L q → IsFront bytes L q
+front_of_run bytes L q has run = record {
+  place = omega (arith, run.place);
+  spells = let long : q ≡ length (batches (bodies L)) = omega (arith, run.place) in ap (λ (n : ℕ). take n bytes) long ∙ run.spells;
+  sizes = run.sizes;
+  each = run.each;
+  first = inr has;
+}
+
+pub run_of_front : (bytes : List ℕ) (L : List (List Record)) (q : ℕ) → IsFront bytes L q → IsRun bytes 0 L q
+run_of_front bytes L q front = record {
+  place = omega (arith, front.place);
+  spells = ap (λ (n : ℕ). take n bytes) (sym front.place) ∙ front.spells;
+  sizes = front.sizes;
+  each = front.each;
+}
+
+pub bodies_join : (L M : List (List Record)) → bodies (L ++ M) ≡ bodies L ++ bodies M
+bodies_join [] M = refl
+bodies_join (x ∷ L) M = ap (λ (l : List (List ℕ)). body_bytes x ∷ l) (bodies_join L M)
+
+pub batches_join : (L M : List (List Record)) → batches (bodies (L ++ M)) ≡ batches (bodies L) ++ batches (bodies M)
+batches_join [] M = refl
+batches_join (x ∷ L) M = ap (λ (l : List ℕ). batch (body_bytes x) ++ l) (batches_join L M) ∙ sym (append_assoc (batch (body_bytes x)) (batches (bodies L)) (batches (bodies M)))
+
+join_all : {X : Type 0} (P : X → Type 0) (L M : List X) → AllByRecursion P L → AllByRecursion P M → AllByRecursion P (L ++ M)
+join_all P [] M all more = more
+join_all P (x ∷ L) M all more = (all.0, join_all P L M all.1 more)
+
+split_all : {X : Type 0} (P : X → Type 0) (L M : List X) → AllByRecursion P (L ++ M) → AllByRecursion P M
+split_all P [] M all = all
+split_all P (x ∷ L) M all = split_all P L M all.1
+
+format_join : (L M : List (List Record)) → HasFormat L → HasFormat (L ++ M)
+format_join L M has = (has.0, has.1, has.2 ++ M, ap (λ (l : List (List Record)). l ++ M) has.3)
+
+-- a front, and what stands behind it
+pub front_join : (bytes : List ℕ) (L M : List (List Record)) (p q : ℕ) → IsFront bytes L p → HasFormat L → IsRun bytes p M q → IsFront bytes (L ++ M) q
+front_join bytes L M p q front has run =
+    let old = batches (bodies L) in
+    let more = batches (bodies M) in
+    let all : batches (bodies (L ++ M)) ≡ old ++ more = batches_join L M in
+    let whole : bytes ≡ (old ++ more) ++ drop (length more) (drop p bytes) =
+    sym (take-append-drop p bytes) ∙ ap (λ (l : List ℕ). l ++ drop p bytes) front.spells
+    ∙ ap (λ (l : List ℕ). old ++ l) (sym (take-append-drop (length more) (drop p bytes)) ∙ ap (λ (l : List ℕ). l ++ drop (length more) (drop p bytes)) run.spells)
+    ∙ sym (append_assoc old more (drop (length more) (drop p bytes))) in
+    record {
+      place = omega (arith, front.place, run.place, ap length all, length-append old more);
+      spells = ap (λ (l : List ℕ). take q l) whole ∙ take_at (old ++ more) (drop (length more) (drop p bytes)) q (omega (arith, front.place, run.place, length-append old more)) ∙ sym all;
+      sizes = subst (AllByRecursion IsBody) (sym (bodies_join L M)) (join_all IsBody (bodies L) (bodies M) front.sizes run.sizes);
+      each = join_all AreSpelled L M front.each run.each;
+      first = inr (format_join L M has);
+    }
+
+pub log_from_place : (bytes : List ℕ) (L M : List (List Record)) (p e : ℕ) → IsFront bytes L p → HasFormat L → TailOf bytes p M e → LogOf bytes (L ++ M) e
+log_from_place bytes L M p e front has tail = record { front = front_join bytes L M p e front has tail.run; format = format_join L M has; closed = tail.closed }
+
+pub bad_from_place : (bytes : List ℕ) (L M : List (List Record)) (p at : ℕ) → IsFront bytes L p → HasFormat L → BadBehind bytes p M at → BadAt bytes at
+bad_from_place bytes L M p at front has bad = by_sum bad.bad
+  where
+    longer : IsFront bytes (L ++ M) bad.place
+    longer = front_join bytes L M p bad.place front has bad.good
+
+    format : HasFormat (L ++ M)
+    format = format_join L M has
+
+    by_sum : IsBad bytes bad.place at ⊎ ((body : List ℕ) × (within : ℕ) × BatchAt bytes bad.place body × NoRecordAt body within × (at ≡ bad.place + 5 + within)) → BadAt bytes at
+    by_sum (inl is) = later_bad bytes (L ++ M) bad.place at longer format is
+    by_sum (inr b) = later_body_bad bytes (L ++ M) bad.place b.0 b.1 at longer format b.2 b.3 b.4
+
+-- behind batches of a whole log
+pub bad_behind : (bytes : List ℕ) (L : List (List Record)) (at : ℕ) → HasFormat L → BadBehind bytes 0 L at → BadAt bytes at
+bad_behind bytes L at has bad = by_sum bad.bad
+  where
+    front : IsFront bytes L bad.place
+    front = front_of_run bytes L bad.place has bad.good
+
+    by_sum : IsBad bytes bad.place at ⊎ ((body : List ℕ) × (within : ℕ) × BatchAt bytes bad.place body × NoRecordAt body within × (at ≡ bad.place + 5 + within)) → BadAt bytes at
+    by_sum (inl is) = later_bad bytes L bad.place at front has is
+    by_sum (inr b) = later_body_bad bytes L bad.place b.0 b.1 at front has b.2 b.3 b.4
+
+-- a log from the place behind some of its batches
+pub tail_from_place : (bytes : List ℕ) (L M : List (List Record)) (p e : ℕ) → LogOf bytes (L ++ M) e → p ≡ length (batches (bodies L)) → TailOf bytes p M e
+tail_from_place bytes L M p e log place =
+    let old = batches (bodies L) in
+    let more = batches (bodies M) in
+    let all : batches (bodies (L ++ M)) ≡ old ++ more = batches_join L M in
+    let whole : bytes ≡ old ++ (more ++ drop e bytes) = sym (take-append-drop e bytes) ∙ ap (λ (l : List ℕ). l ++ drop e bytes) (log.front.spells ∙ all) ∙ append_assoc old more (drop e bytes) in
+    let behind : drop p bytes ≡ more ++ drop e bytes = ap (λ (l : List ℕ). drop p l) whole ∙ drop_at old (more ++ drop e bytes) p (sym place) in
+    record {
+      run = record {
+        place = omega (arith, log.front.place, place, ap length all, length-append old more);
+        spells = ap (λ (l : List ℕ). take (length more) l) behind ∙ take_at more (drop e bytes) (length more) refl;
+        sizes = split_all IsBody (bodies L) (bodies M) (subst (AllByRecursion IsBody) (bodies_join L M) log.front.sizes);
+        each = split_all AreSpelled L M log.front.each;
+      };
+      closed = log.closed;
+    }

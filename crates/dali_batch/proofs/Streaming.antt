@@ -1,17 +1,18 @@
 -- Going over a log record by record.
-use Rattle.std.proofs.Common.{◌≡◌, ◌⊎◌, inl, inr, ℕ, ◌+◌, ◌-◌, ◌≤◌, ◌<◌, List, [], ◌∷◌, ◌++◌, length, get_or, take, drop, refl, sym, ◌∙◌, ap, subst, arith, append_assoc, length-append}
+use Rattle.std.proofs.Common.{◌≡◌, ◌⊎◌, ◌↔◌, Bool, true, false, inl, inr, ℕ, ◌+◌, ◌-◌, ◌≤◌, ◌<◌, List, [], ◌∷◌, ◌++◌, length, get_or, take, drop, refl, sym, ◌∙◌, ap, subst, arith, append_assoc, length-append}
 use Rattle.std.proofs.lemmas.List.{append-nil, drop-take, take-take, drop-drop, drop_at, take_at, get_or-take, get_or-drop}
 use Rattle.dali_bytes.specs.Fields.{number32}
 use Rattle.dali_bytes.proofs.Numbers.{length-number32}
 use Rattle.dali_record.specs.declared.records.Record.{Record}
-use Rattle.dali_record.specs.declared.records.Record.TheVariants.{Format}
+use Rattle.dali_record.specs.declared.records.Record.TheVariants.{Format, Begin, Forward, Done, Commit, Ended, Solo, AuditBegin, AuditClean, AuditFail, Restarted, Back}
 use Rattle.dali_record.specs.Spelling.{spelling, CanBeSpelled, Begins}
-use Rattle.dali_batch.specs.Batch.{batch, IsClosedAt}
+use Rattle.dali_batch.specs.Batch.{batch, batches, IsClosedAt}
 use Rattle.dali_batch.specs.Finding.{BatchAt, IsBad}
-use Rattle.dali_batch.specs.Log.{body_bytes, records_in, IsFront, LogOf, BadAt}
-use Rattle.dali_batch.specs.Stream.{Reading, Covers, IsWindow, IsBetween, IsWithin, IsReadTo}
+use Rattle.dali_batch.specs.Log.{body_bytes, bodies, records_in, HasFormat, LogOf, BadAt, IsRun, TailOf, BadBehind, AreSpelled}
+use Rattle.dali_batch.specs.declared.reader.Placed.{Placed}
+use Rattle.dali_batch.specs.Stream.{Reading, Covers, IsWindow, IsWithin, IsReadFrom, IsReadTo, place_of, is_first, HandsOut, GoesOn, EndsAt, IsBadFrom, Stays, Keeps}
 use Rattle.dali_batch.proofs.Bodies.{spelled_push, bytes_push}
-use Rattle.dali_batch.proofs.Fronts.{front_push, format_more, log_ends, later_bad, later_body_bad, records_push}
+use Rattle.dali_batch.proofs.Fronts.{empty_run, run_push, front_of_run, format_more, records_push, bad_behind, log_ends}
 
 -- ---- the part that the reader holds
 -- what it holds is what the log has
@@ -63,70 +64,109 @@ rest_of log body past rest place found e =
     ap (λ (n : ℕ). drop n log) (sym place_is) ∙ sym (drop-drop (5 + length past) place log) ∙ ap (λ (l : List ℕ). drop (5 + length past) l) (found.2 ∙ whole) ∙ drop_at head (rest ++ found.1) (5 + length past) long in
     ap (λ (l : List ℕ). take (length rest) l) there ∙ take_at rest found.1 (length rest) refl
 
+-- ---- between two batches, and in one
+-- a reader that was told to go on at a place
+pub sought : (log : List ℕ) (r : Reading) → IsWindow log r → r.at ≡ r.end → IsReadFrom log r.at [] [] r
+sought log r window e = record { window = window; stands = inl (e, empty_run log r.at, refl) }
+
 -- behind the first batch
-pub first_read : (log : List ℕ) (r : Reading) (index heap : ℕ) (end : ℕ) → IsFront log ((Format index heap ∷ []) ∷ []) end → r.at ≡ end → r.end ≡ end → IsWindow log r → IsReadTo log r (Format index heap ∷ [])
-first_read log r index heap end front at ends window = record {
+pub first_read : (log : List ℕ) (r : Reading) (index heap : ℕ) (end : ℕ) → IsRun log 0 ((Format index heap ∷ []) ∷ []) end → r.at ≡ end → r.end ≡ end → IsWindow log r → IsReadFrom log 0 ((Format index heap ∷ []) ∷ []) [] r
+first_read log r index heap end run at ends window = record {
   window = window;
-  stands = inl (at ∙ sym ends, record { front = (Format index heap ∷ []) ∷ []; format = (index, heap, [], refl); good = subst (IsFront log ((Format index heap ∷ []) ∷ [])) (sym at) front; records = refl });
+  stands = inl (at ∙ sym ends, subst (IsRun log 0 ((Format index heap ∷ []) ∷ [])) (sym at) run, refl);
 }
 
 module _ (log : List ℕ) (r s : Reading) where
-  between_of : (rs : List Record) → r.at ≡ r.end → IsReadTo log r rs → IsBetween log r.end rs
-  between_of rs e read = by_place read.stands
-    where
-      by_place : ((r.at ≡ r.end) × IsBetween log r.at rs) ⊎ ((r.at < r.end) × IsWithin log r.at r.end rs) → IsBetween log r.end rs
-      by_place (inl p) = subst (λ (n : ℕ). IsBetween log n rs) e p.1
-      by_place (inr p) = absurd (omega (arith, p.0, e))
+  module _ (start : ℕ) (front : List (List Record)) (done : List Record) (read : IsReadFrom log start front done r) where
+    between_of : r.at ≡ r.end → IsRun log start front r.end × (done ≡ [])
+    between_of e = by_place read.stands
+      where
+        by_place : ((r.at ≡ r.end) × IsRun log start front r.at × (done ≡ [])) ⊎ ((r.at < r.end) × IsWithin log start front done r) → IsRun log start front r.end × (done ≡ [])
+        by_place (inl p) = (subst (IsRun log start front) e p.1, p.2)
+        by_place (inr p) = absurd (omega (arith, p.0, e))
 
-  within_of : (rs : List Record) → r.at < r.end → IsReadTo log r rs → IsWithin log r.at r.end rs
-  within_of rs lt read = by_place read.stands
-    where
-      by_place : ((r.at ≡ r.end) × IsBetween log r.at rs) ⊎ ((r.at < r.end) × IsWithin log r.at r.end rs) → IsWithin log r.at r.end rs
-      by_place (inl p) = absurd (omega (arith, p.0, lt))
-      by_place (inr p) = p.1
+    pub within_of : r.at < r.end → IsWithin log start front done r
+    within_of lt = by_place read.stands
+      where
+        by_place : ((r.at ≡ r.end) × IsRun log start front r.at × (done ≡ [])) ⊎ ((r.at < r.end) × IsWithin log start front done r) → IsWithin log start front done r
+        by_place (inl p) = absurd (omega (arith, p.0, lt))
+        by_place (inr p) = p.1
 
   -- the log ends
-  pub all_read : (rs : List Record) → r.at ≡ r.end → IsReadTo log r rs → IsClosedAt r.end log → s.at ≡ r.end → (L : List (List Record)) × LogOf log L s.at × (rs ≡ records_in L)
-  all_read rs e read shut at =
-      let b = between_of rs e read in
-      (b.front, subst (LogOf log b.front) (sym at) (log_ends log b.front r.end b.good b.format shut), b.records)
+  pub ends_at : r.at ≡ r.end → IsClosedAt r.end log → s.at ≡ r.end → EndsAt log r s
+  ends_at e shut at = λ start front done read.
+      let b = between_of start front done read e in
+      (b.1, record { run = subst (IsRun log start front) (sym at) b.0; closed = subst (λ (n : ℕ). IsClosedAt n log) (sym at) shut })
 
   -- no batch stands there
-  pub bad_batch : (rs : List Record) (bad : ℕ) → r.at ≡ r.end → IsReadTo log r rs → IsBad log r.end bad → BadAt log bad
-  bad_batch rs bad e read is = let b = between_of rs e read in later_bad log b.front r.end bad b.good b.format is
+  pub bad_batch : (bad : ℕ) → r.at ≡ r.end → IsBad log r.end bad → IsBadFrom log r bad
+  bad_batch bad e is = λ start front done read. record { place = r.end; good = (between_of start front done read e).0; bad = inl is }
 
   -- one more batch
-  pub batch_begun : (rs : List Record) (body : List ℕ) (size : ℕ) → r.at ≡ r.end → IsReadTo log r rs → BatchAt log r.end body → length body ≡ size → s.at ≡ r.end + 5 → s.end ≡ r.end + 5 + size → 0 < size → IsWindow log s → IsReadTo log s rs
-  batch_begun rs body size e read found long at end some window =
-      let b = between_of rs e read in
+  pub batch_begun : (body : List ℕ) (size : ℕ) → r.at ≡ r.end → BatchAt log r.end body → length body ≡ size → s.body ≡ r.end + 5 → s.at ≡ r.end + 5 → s.end ≡ r.end + 5 + size → 0 < size → (IsWindow log r → IsWindow log s) → Stays log r s
+  batch_begun body size e found long begun at end some window = λ start front done read.
+      let b = between_of start front done read e in
       record {
-        window = window;
+        window = window read.window;
         stands = inr (
           omega (arith, at, end, some),
           record {
-            front = b.front;
-            format = b.format;
             place = r.end;
-            good = b.good;
+            good = b.0;
             body = body;
             batch = found;
+            begun = begun;
             ends = omega (arith, end, long);
-            done = [];
-            spelled = tt;
-            reached = omega (arith, at);
-            begins = (body, refl);
-            records = b.records ∙ sym (append-nil (records_in b.front));
+            spelled = subst AreSpelled (sym b.1) tt;
+            reached = omega (arith, at, ap (λ (rs : List Record). length (body_bytes rs)) b.1);
+            begins = (body, ap (λ (rs : List Record). body_bytes rs ++ body) (sym b.1));
           },
         );
       }
 
+-- its places are as before
+pub kept_stays : (log : List ℕ) (r s : Reading) → Keeps r s → (IsWindow log r → IsWindow log s) → Stays log r s
+kept_stays log r s keeps window = λ start front done read. record { window = window read.window; stands = by_place start front done read.stands }
+  where
+    by_place : (start : ℕ) (front : List (List Record)) (done : List Record) → ((r.at ≡ r.end) × IsRun log start front r.at × (done ≡ [])) ⊎ ((r.at < r.end) × IsWithin log start front done r)
+        → ((s.at ≡ s.end) × IsRun log start front s.at × (done ≡ [])) ⊎ ((s.at < s.end) × IsWithin log start front done s)
+    by_place start front done (inl p) = inl (keeps.at ∙ p.0 ∙ sym keeps.ends, subst (IsRun log start front) (sym keeps.at) p.1, p.2)
+    by_place start front done (inr p) = inr (
+      omega (arith, p.0, keeps.at, keeps.ends),
+      record {
+        place = p.1.place;
+        good = p.1.good;
+        body = p.1.body;
+        batch = p.1.batch;
+        begun = keeps.body ∙ p.1.begun;
+        ends = keeps.ends ∙ p.1.ends;
+        spelled = p.1.spelled;
+        reached = keeps.at ∙ p.1.reached;
+        begins = p.1.begins;
+      },
+    )
+
 -- ---- the records of a batch
-module _ (log : List ℕ) (r : Reading) (rs : List Record) (lt : r.at < r.end) (whole : (r.from ≤ r.at) × (r.end ≤ r.from + length r.bytes)) (read : IsReadTo log r rs) where
-  within : IsWithin log r.at r.end rs
-  within = within_of log r r rs lt read
+some_length : (r : Record) → 0 < length (spelling r)
+some_length (Format i h) = omega arith
+some_length (Begin t) = omega arith
+some_length (Forward t b) = omega arith
+some_length (Done t c a) = omega arith
+some_length (Commit t) = omega arith
+some_length (Ended t) = omega arith
+some_length (Solo t p b) = omega arith
+some_length AuditBegin = omega arith
+some_length (AuditClean n) = omega arith
+some_length (AuditFail n rs) = omega arith
+some_length (Restarted rs ds) = omega arith
+some_length (Back t b) = omega arith
+
+module _ (log : List ℕ) (r : Reading) (start : ℕ) (front : List (List Record)) (done : List Record) (lt : r.at < r.end) (whole : (r.from ≤ r.at) × (r.end ≤ r.from + length r.bytes)) (read : IsReadFrom log start front done r) where
+  within : IsWithin log start front done r
+  within = within_of log r r start front done read lt
 
   rest_long : length (within.begins.0) ≡ r.end - r.at
-  rest_long = omega (arith, within.ends, within.reached, ap length within.begins.1, length-append (body_bytes within.done) within.begins.0)
+  rest_long = omega (arith, within.ends, within.reached, ap length within.begins.1, length-append (body_bytes done) within.begins.0)
 
   -- what is left of the body
   rest_is : (part : List ℕ) → part ≡ take (r.end - r.at) (drop (r.at - r.from) r.bytes) → part ≡ within.begins.0
@@ -135,65 +175,112 @@ module _ (log : List ℕ) (r : Reading) (rs : List Record) (lt : r.at < r.end) (
       e ∙ (part_of log r r.at (r.end - r.at) read.window covers).1
       ∙ ap (λ (n : ℕ). take n (drop r.at log)) (sym rest_long)
       ∙ ap (λ (n : ℕ). take (length within.begins.0) (drop n log)) within.reached
-      ∙ rest_of log within.body (body_bytes within.done) within.begins.0 within.place within.batch within.begins.1
+      ∙ rest_of log within.body (body_bytes done) within.begins.0 within.place within.batch within.begins.1
 
   -- no record begins there
-  pub bad_record : (part : List ℕ) → part ≡ take (r.end - r.at) (drop (r.at - r.from) r.bytes) → ((x : Record) → Begins part x → ⊥) → BadAt log r.at
+  pub bad_record : (part : List ℕ) → part ≡ take (r.end - r.at) (drop (r.at - r.from) r.bytes) → ((x : Record) → Begins part x → ⊥) → BadBehind log start front r.at
   bad_record part e none =
       let rest = within.begins.0 in
       let some : 0 < length rest = omega (arith, rest_long, lt) in
-      later_body_bad log within.front within.place within.body (length (body_bytes within.done)) r.at within.good within.format within.batch
-      (within.done, rest, within.spelled, within.begins.1, refl, some, subst (λ (l : List ℕ). (x : Record) → Begins l x → ⊥) (rest_is part e) none) within.reached
-
-  module _ (s : Reading) (x : Record) (part more : List ℕ) (can : CanBeSpelled x) (part_is : part ≡ take (r.end - r.at) (drop (r.at - r.from) r.bytes)) (spells : part ≡ spelling x ++ more)
-      (at : s.at ≡ r.at + length (spelling x)) (ends : s.end ≡ r.end) (window : IsWindow log s) where
-    body_is : within.body ≡ body_bytes (within.done ++ x ∷ []) ++ more
-    body_is =
-        within.begins.1 ∙ ap (λ (l : List ℕ). body_bytes within.done ++ l) (sym (rest_is part part_is) ∙ spells) ∙ sym (append_assoc (body_bytes within.done) (spelling x) more)
-        ∙ ap (λ (l : List ℕ). l ++ more) (bytes_push within.done x)
-
-    longer : length (body_bytes (within.done ++ x ∷ [])) ≡ length (body_bytes within.done) + length (spelling x)
-    longer = sym (ap length (bytes_push within.done x)) ∙ length-append (body_bytes within.done) (spelling x)
-
-    records_are : rs ++ x ∷ [] ≡ records_in within.front ++ (within.done ++ x ∷ [])
-    records_are = ap (λ (l : List Record). l ++ x ∷ []) within.records ∙ append_assoc (records_in within.front) within.done (x ∷ [])
-
-    reached_is : s.at ≡ within.place + 5 + length (body_bytes (within.done ++ x ∷ []))
-    reached_is = omega (arith, at, within.reached, longer)
-
-    by_more : (l : List ℕ) → more ≡ l → ((s.at ≡ s.end) × IsBetween log s.at (rs ++ x ∷ [])) ⊎ ((s.at < s.end) × IsWithin log s.at s.end (rs ++ x ∷ []))
-    by_more [] none =
-        let body : within.body ≡ body_bytes (within.done ++ x ∷ []) = body_is ∙ ap (λ (l : List ℕ). body_bytes (within.done ++ x ∷ []) ++ l) none ∙ append-nil (body_bytes (within.done ++ x ∷ [])) in
-        let format = format_more within.front (within.done ++ x ∷ []) within.format in
-        let front = front_push log within.front within.place within.body (within.done ++ x ∷ []) within.good within.batch body (spelled_push within.done x within.spelled can) format in
-        let place : s.at ≡ within.place + 5 + length within.body = omega (arith, reached_is, ap length body) in
-        inl (
-          place ∙ sym within.ends ∙ sym ends,
-          record {
-            front = within.front ++ (within.done ++ x ∷ []) ∷ [];
-            format = format;
-            good = subst (IsFront log (within.front ++ (within.done ++ x ∷ []) ∷ [])) (sym place) front;
-            records = records_are ∙ records_push within.front (within.done ++ x ∷ []);
-          },
-        )
-    by_more (b ∷ bs) some = inr (
-      omega (arith, ends, within.ends, reached_is, ap length body_is, length-append (body_bytes (within.done ++ x ∷ [])) more, ap length some),
       record {
-        front = within.front;
-        format = within.format;
         place = within.place;
         good = within.good;
-        body = within.body;
-        batch = within.batch;
-        ends = ends ∙ within.ends;
-        done = within.done ++ x ∷ [];
-        spelled = spelled_push within.done x within.spelled can;
-        reached = reached_is;
-        begins = (more, body_is);
-        records = records_are;
-      },
-    )
+        bad = inr (
+          within.body,
+          length (body_bytes done),
+          within.batch,
+          (done, rest, within.spelled, within.begins.1, refl, some, subst (λ (l : List ℕ). (x : Record) → Begins l x → ⊥) (rest_is part e) none),
+          within.reached,
+        );
+      }
+
+  -- whether the next one is the first of its batch
+  first_of : (rs : List Record) → done ≡ rs → (b : Bool) → (b ≡ true ↔ r.at ≡ r.body) → b ≡ is_first rs
+  first_of [] e b is = is.1 (omega (arith, within.reached, within.begun, ap (λ (l : List Record). length (body_bytes l)) e))
+  first_of (x ∷ rs) e b is = by_bool b refl
+    where
+      longer : 0 < length (body_bytes (x ∷ rs))
+      longer = omega (arith, length-append (spelling x) (body_bytes rs), some_length x)
+
+      by_bool : (c : Bool) → b ≡ c → b ≡ false
+      by_bool false same = same
+      by_bool true same = absurd (omega (arith, is.0 same, within.reached, within.begun, ap (λ (l : List Record). length (body_bytes l)) e, longer))
+
+  module _ (s : Reading) (given : Placed) (part more : List ℕ) (can : CanBeSpelled given.entry) (part_is : part ≡ take (r.end - r.at) (drop (r.at - r.from) r.bytes)) (spells : part ≡ spelling given.entry ++ more)
+      (at : s.at ≡ r.at + length (spelling given.entry)) (begun : s.body ≡ r.body) (ends : s.end ≡ r.end) (window : IsWindow log s) (place : given.at ≡ r.at) (tells : given.first ≡ true ↔ r.at ≡ r.body) where
+    body_is : within.body ≡ body_bytes (done ++ given.entry ∷ []) ++ more
+    body_is =
+        within.begins.1 ∙ ap (λ (l : List ℕ). body_bytes done ++ l) (sym (rest_is part part_is) ∙ spells) ∙ sym (append_assoc (body_bytes done) (spelling given.entry) more)
+        ∙ ap (λ (l : List ℕ). l ++ more) (bytes_push done given.entry)
+
+    longer : length (body_bytes (done ++ given.entry ∷ [])) ≡ length (body_bytes done) + length (spelling given.entry)
+    longer = sym (ap length (bytes_push done given.entry)) ∙ length-append (body_bytes done) (spelling given.entry)
+
+    reached_is : s.at ≡ within.place + 5 + length (body_bytes (done ++ given.entry ∷ []))
+    reached_is = omega (arith, at, within.reached, longer)
+
+    by_more : (l : List ℕ) → more ≡ l → IsReadFrom log start front (done ++ given.entry ∷ []) s ⊎ IsReadFrom log start (front ++ (done ++ given.entry ∷ []) ∷ []) [] s
+    by_more [] none =
+        let body : within.body ≡ body_bytes (done ++ given.entry ∷ []) = body_is ∙ ap (λ (l : List ℕ). body_bytes (done ++ given.entry ∷ []) ++ l) none ∙ append-nil (body_bytes (done ++ given.entry ∷ [])) in
+        let run = run_push log start front within.place within.body (done ++ given.entry ∷ []) within.good within.batch body (spelled_push done given.entry within.spelled can) in
+        let stop : s.at ≡ within.place + 5 + length within.body = omega (arith, reached_is, ap length body) in
+        inr (record { window = window; stands = inl (stop ∙ sym within.ends ∙ sym ends, subst (IsRun log start (front ++ (done ++ given.entry ∷ []) ∷ [])) (sym stop) run, refl) })
+    by_more (b ∷ bs) some = inl (record {
+      window = window;
+      stands = inr (
+        omega (arith, ends, within.ends, reached_is, ap length body_is, length-append (body_bytes (done ++ given.entry ∷ [])) more, ap length some),
+        record {
+          place = within.place;
+          good = within.good;
+          body = within.body;
+          batch = within.batch;
+          begun = begun ∙ within.begun;
+          ends = ends ∙ within.ends;
+          spelled = spelled_push done given.entry within.spelled can;
+          reached = reached_is;
+          begins = (more, body_is);
+        },
+      );
+    })
 
     -- one more record
-    pub record_read : IsReadTo log s (rs ++ x ∷ [])
-    record_read = record { window = window; stands = by_more more refl }
+    pub record_read : HandsOut log start front done given s
+    record_read = record {
+      at = omega (arith, place, within.reached, within.good.place);
+      first = first_of done refl given.first tells;
+      goes = by_more more refl;
+    }
+
+-- ---- from the first batch of the file on
+pub read_first : (log : List ℕ) (r : Reading) (index heap : ℕ) → IsReadFrom log 0 ((Format index heap ∷ []) ∷ []) [] r → IsReadTo log r (Format index heap ∷ [])
+read_first log r index heap read = record { front = (Format index heap ∷ []) ∷ []; done = []; format = (index, heap, [], refl); read = read; records = refl }
+
+pub read_on : (log : List ℕ) (r s : Reading) (given : Placed) → GoesOn log r given s → (rs : List Record) → IsReadTo log r rs → IsReadTo log s (rs ++ given.entry ∷ [])
+read_on log r s given goes rs read = by_sum (goes 0 read.front read.done read.read).goes
+  where
+    more : List Record
+    more = read.done ++ given.entry ∷ []
+
+    records : rs ++ given.entry ∷ [] ≡ records_in read.front ++ more
+    records = ap (λ (l : List Record). l ++ given.entry ∷ []) read.records ∙ append_assoc (records_in read.front) read.done (given.entry ∷ [])
+
+    by_sum : IsReadFrom log 0 read.front more s ⊎ IsReadFrom log 0 (read.front ++ more ∷ []) [] s → IsReadTo log s (rs ++ given.entry ∷ [])
+    by_sum (inl is) = record { front = read.front; done = more; format = read.format; read = is; records = records }
+    by_sum (inr is) = record {
+      front = read.front ++ more ∷ [];
+      done = [];
+      format = format_more read.front more read.format;
+      read = is;
+      records = records ∙ records_push read.front more ∙ sym (append-nil (records_in (read.front ++ more ∷ [])));
+    }
+
+pub read_all : (log : List ℕ) (r s : Reading) → EndsAt log r s → (rs : List Record) → IsReadTo log r rs → (L : List (List Record)) × LogOf log L s.at × (rs ≡ records_in L)
+read_all log r s ends rs read =
+    let is = ends 0 read.front read.done read.read in (
+      read.front,
+      log_ends log read.front s.at (front_of_run log read.front s.at read.format is.1.run) read.format is.1.closed,
+      read.records ∙ ap (λ (l : List Record). records_in read.front ++ l) is.0 ∙ append-nil (records_in read.front),
+    )
+
+pub read_bad : (log : List ℕ) (r : Reading) (bad : ℕ) → IsBadFrom log r bad → (rs : List Record) → IsReadTo log r rs → BadAt log bad
+read_bad log r bad is rs read = bad_behind log read.front bad read.format (is 0 read.front read.done read.read)

@@ -5,7 +5,7 @@ use Rattle.dali_batch.specs.declared.reader.LogReader.TheInside.{Inside}
 use Rattle.dali_batch.specs.Stream.{Reading, IsWhole}
 
 abbrev pub reading_of : Inside → Reading
-reading_of r = record { bytes = r.bytes.items; from = r.from; length = r.length; at = r.at; end = r.end }
+reading_of r = record { bytes = r.bytes.items; from = r.from; length = r.length; body = r.body; at = r.at; end = r.end }
 
 abbrev pub IsInOrder : Inside → Type 0
 IsInOrder r = IsWhole (reading_of r)

@@ -1,6 +1,7 @@
 -- Laws of logs, and of batches that are added one after another.
 --     HasOneReading bytes     the bytes are unformatted, a log, or bad at a place, and only one of these in only one way
 --     LogsGrow                what a crash leaves of a log of records while batches of records are added, and once they have been
+--     GoesOnFrom bytes L p    a log that has these batches up to place p is what stands there and what is read from p on, and so is a bad one
 --     AppendsGoOn             what a crash leaves over two rows of batches that are added one after the other, and over any number so
 use Rattle.std.specs.Prelude.{◌≡◌, ◌⊎◌, ◌≤◌, ℕ, List, ◌++◌, length, take}
 use Rattle.dali_bytes.specs.Cursor.{IsBytes}
@@ -8,7 +9,7 @@ use Rattle.dali_store.specs.Store.{Files, LeavesOnly}
 use Rattle.dali_record.specs.declared.records.Record.{Record}
 use Rattle.dali_batch.specs.Batch.{IsUnformatted}
 use Rattle.dali_batch.specs.Appending.{next_place, SomeAdded, AllAdded}
-use Rattle.dali_batch.specs.Log.{LogOf, BadAt, bodies}
+use Rattle.dali_batch.specs.Log.{LogOf, BadAt, bodies, HasFormat, IsFront, TailOf, BadFrom}
 
 pub record HasOneReading (bytes : List ℕ) : Type 0 where
   pub some : IsBytes bytes → IsUnformatted bytes ⊎ ((L : List (List Record)) × (e : ℕ) × LogOf bytes L e) ⊎ ((at : ℕ) × BadAt bytes at)
@@ -17,6 +18,11 @@ pub record HasOneReading (bytes : List ℕ) : Type 0 where
   pub log_is_good : (L : List (List Record)) (e at : ℕ) → LogOf bytes L e → BadAt bytes at → ⊥
   pub log_is_formatted : (L : List (List Record)) (e : ℕ) → LogOf bytes L e → IsUnformatted bytes → ⊥
   pub bad_is_formatted : (at : ℕ) → BadAt bytes at → IsUnformatted bytes → ⊥
+
+pub record GoesOnFrom (bytes : List ℕ) (L : List (List Record)) (p : ℕ) : Type 0 where
+  pub log : (M : List (List Record)) (e : ℕ) → TailOf bytes p M e → LogOf bytes (L ++ M) e
+  pub tail : (M : List (List Record)) (e : ℕ) → LogOf bytes (L ++ M) e → TailOf bytes p M e
+  pub bad : (at : ℕ) → BadFrom bytes p at → BadAt bytes at
 
 module _ {D : Type 0} (may_leave : D → Files → Type 0) where
   pub record LogsGrow (L more : List (List Record)) (at : ℕ) (old : D) (c : Files) : Type 0 where

@@ -7,7 +7,11 @@
 --     NoRecordAt body at      whole records up to this place of a body, and there begins none
 --     BadBody L body at       the body of the batch behind L is bad at this place of it
 --     BadAt bytes at          the bytes are no log: the first bad place
-use Rattle.std.specs.Prelude.{◌<◌, ◌≡◌, ◌⊎◌, ℕ, ◌+◌, List, [], ◌∷◌, ◌++◌, length, take, map, flat_map}
+--     IsRun bytes p L q       from place p up to place q the bytes are these batches
+--     TailOf bytes p L e      from place p on the bytes are these batches, and the log ends at e
+--     BadBehind bytes p L at  behind these batches, which stand at place p, the log is bad: the first bad place
+--     BadFrom bytes p at      so it is behind some
+use Rattle.std.specs.Prelude.{◌<◌, ◌≡◌, ◌⊎◌, ℕ, ◌+◌, List, [], ◌∷◌, ◌++◌, length, take, drop, map, flat_map}
 use Rattle.std.specs.List.{AllByRecursion}
 use Rattle.dali_record.specs.declared.records.Record.{Record}
 use Rattle.dali_record.specs.declared.records.Record.TheVariants.{Format}
@@ -57,3 +61,22 @@ pub record BadAt (bytes : List ℕ) (at : ℕ) : Type 0 where
   pub place : ℕ
   pub good : IsFront bytes front place
   pub bad : IsBad bytes place at ⊎ ((body : List ℕ) × (within : ℕ) × BatchAt bytes place body × BadBody front body within × (at ≡ place + 5 + within))
+
+-- ---- a log from a place
+pub record IsRun (bytes : List ℕ) (p : ℕ) (L : List (List Record)) (q : ℕ) : Type 0 where
+  pub place : q ≡ p + length (batches (bodies L))
+  pub spells : take (length (batches (bodies L))) (drop p bytes) ≡ batches (bodies L)
+  pub sizes : AllByRecursion IsBody (bodies L)
+  pub each : AllByRecursion AreSpelled L
+
+pub record TailOf (bytes : List ℕ) (p : ℕ) (L : List (List Record)) (e : ℕ) : Type 0 where
+  pub run : IsRun bytes p L e
+  pub closed : IsClosedAt e bytes
+
+pub record BadBehind (bytes : List ℕ) (p : ℕ) (L : List (List Record)) (at : ℕ) : Type 0 where
+  pub place : ℕ
+  pub good : IsRun bytes p L place
+  pub bad : IsBad bytes place at ⊎ ((body : List ℕ) × (within : ℕ) × BatchAt bytes place body × NoRecordAt body within × (at ≡ place + 5 + within))
+
+abbrev pub BadFrom : List ℕ → ℕ → ℕ → Type 0
+BadFrom bytes p at = (L : List (List Record)) × BadBehind bytes p L at

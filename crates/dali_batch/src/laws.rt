@@ -7,8 +7,8 @@ ghost use Rattle.dali_record.specs.Spelling.{CanBeSpelled, spelling};
 ghost use Rattle.dali_store.specs.Store.{Files};
 ghost use Rattle.dali_batch.specs.Batch.{Ends};
 ghost use Rattle.dali_batch.specs.Appending.{next_place, Adds};
-ghost use Rattle.dali_batch.specs.Log.{LogOf, AreSpelled, bodies};
-ghost use Rattle.dali_batch.specs.Laws.{HasOneReading, LogsGrow, AppendsGoOn};
+ghost use Rattle.dali_batch.specs.Log.{LogOf, AreSpelled, bodies, HasFormat, IsFront};
+ghost use Rattle.dali_batch.specs.Laws.{HasOneReading, LogsGrow, GoesOnFrom, AppendsGoOn};
 
 use dali_store::Store;
 
@@ -24,6 +24,12 @@ pub fn logs_are_batches()
         → LogOf bytes ((Format index heap ∷ []) ∷ []) e }
     ensures grow { (old new : List ℕ) (L more : List (List Record)) (at : ℕ) → LogOf old L at → AllByRecursion AreSpelled more
         → Adds at (bodies more) old new → LogOf new (L ++ more) (next_place at (bodies more)) }
+{}
+
+/// A log that is read from a place between two of its batches is what stands before it and what was read, and so is a bad
+/// one.
+pub fn a_log_goes_on_from_a_place()
+    ensures { (bytes : List ℕ) (L : List (List Record)) (p : ℕ) → HasFormat L → IsFront bytes L p → GoesOnFrom bytes L p }
 {}
 
 /// Where each crash leaves one log, it leaves that log with none or some of the batches that are being added, and with

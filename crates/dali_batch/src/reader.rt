@@ -1,5 +1,5 @@
 //! The log, record by record.
-ghost use Rattle.std.specs.Prelude.{◌≡◌, ◌≤◌, ◌<◌, ◌+◌, ◌-◌, ◌^◌, ◌++◌, ◌⊎◌, [], ◌∷◌, ℕ, true, false, Bool, List, length, take, drop, IfOk, OnOk, IfErr, IsErrOf, IfSome, IsNone, IsSome};
+ghost use Rattle.std.specs.Prelude.{◌≡◌, ◌≤◌, ◌<◌, ◌+◌, ◌-◌, ◌^◌, ◌++◌, ◌⊎◌, [], ◌∷◌, ℕ, true, false, Bool, List, Err, length, take, drop, IfOk, OnOk, OnErr, IfErr, IsErr, IsErrOf, IfSome, IsNone, IsSome};
 ghost use Rattle.dali_store.specs.Calls.{PassesFewer, MakesAtMost};
 ghost use Rattle.dali_store.specs.Faults.{Rose};
 ghost use Rattle.dali_record.specs.declared.records.Record.{Record};
@@ -7,8 +7,8 @@ ghost use Rattle.dali_record.specs.Spelling.{CanBeSpelled, Begins, spelling};
 ghost use Rattle.dali_batch.specs.Batch.{IsUnformatted, IsClosedAt};
 ghost use Rattle.dali_batch.specs.Finding.{IsBad};
 ghost use Rattle.dali_batch.specs.Reads.{OnlyReads};
-ghost use Rattle.dali_batch.specs.Log.{LogOf, BadAt, records_in};
-ghost use Rattle.dali_batch.specs.Stream.{Covers, IsWhole, IsWindow, IsReadTo, HasBatch, Keeps};
+ghost use Rattle.dali_batch.specs.Log.{BadAt, BadFrom};
+ghost use Rattle.dali_batch.specs.Stream.{Covers, IsWhole, IsWindow, IsReadFrom, HandsOut, GoesOn, EndsAt, IsBadFrom, Stays, HasBatch, Keeps};
 
 use crate::finding::{fill, number_of};
 use crate::{BatchError, LogError, MOST_BYTES, OPEN};
@@ -21,17 +21,31 @@ use std::marker::Model;
 /// How many bytes of the log are read at once, where it has so many.
 const AHEAD: u64 = 1 << 18;
 
-/// Reads a log from its first gate to its end, one record after another. It holds a part of the file, 2^18 bytes or one
-/// batch where that is longer, and for a moment the next part too.
+/// The bytes of the first batch: no more are read before a reader goes on to a place.
+const FIRST: u64 = 15;
+
+/// A record, the place of its first byte in the log, and whether it is the first of its batch.
+#[derive(Drop)]
+pub struct Placed {
+    pub entry: Record,
+    pub at: u64,
+    pub first: bool,
+}
+
+/// Reads a log to its end, one record after another: its first batch, and then from the place behind it or from another
+/// one on. It holds a part of the file in one buffer, of 2^18 bytes or of one batch where that is longer.
 #[derive(Drop)]
 pub struct LogReader {
     alloc: Global,
     // the part of the file that was read, and its place
     bytes: Vec<u8>,
     from: u64,
+    // how many bytes are read at once
+    ahead: u64,
     // the length of the file
     length: u64,
-    // the next record's place in the batch that is being read, and the end of that batch
+    // the place of the body of the batch that is being read, that of the next record in it, and its end
+    body: u64,
     at: u64,
     end: u64,
 }
@@ -90,6 +104,7 @@ impl LogReader {
         ensures short { IfOk result (λ whole. whole ≡ false → IfSome (V.told store.old) (λ fs. self.old.length ≡ length fs.log → ⊥)) }
         ensures window { OnOk result (IfSome (V.told store.old) (λ fs. IsWindow fs.log self.old → IsWindow fs.log self.new)) }
         ensures keeps { Keeps self.old self.new }
+        ensures wanting { IsErrOf result BatchError.OutOfMemory → self.new ≡ self.old }
         ensures good { IfErr result (λ e. (bad : ℕ) → e ≡ BatchError.BadLog bad → ⊥) }
         ensures reads { OnlyReads V.told V.moment V.left_since V.may_leave store.old store.new }
         ensures later { V.faults store.old ≤ V.faults store.new }
@@ -98,14 +113,20 @@ impl LogReader {
         ensures most { MakesAtMost 1 (V.lets_pass store.old) (V.lets_pass store.new) }
         ensures passes { PassesFewer (V.lets_pass store.old) (V.lets_pass store.new) }
     {
-        let count = (self.length - at).min(AHEAD.max(size as u64));
-        let mut bytes = vec![in self.alloc; 0; count as usize]?;
-        if !fill(store, at, &mut bytes)? {
-            return Ok(false);
-        }
-        self.bytes = bytes;
+        let count = (self.length - at).min(self.ahead.max(size as u64));
+        self.bytes.resize(count as usize, 0)?;
         self.from = at;
-        Ok(true)
+        match fill(store, at, &mut self.bytes) {
+            Ok(true) => Ok(true),
+            Ok(false) => {
+                self.bytes.clear();
+                Ok(false)
+            }
+            Err(fault) => {
+                self.bytes.clear();
+                Err(fault.into())
+            }
+        }
     }
 
     // Answers whether the file has so many bytes from a place on; they stand in the part that was read then.
@@ -116,6 +137,7 @@ impl LogReader {
         ensures short { IfOk result (λ whole. whole ≡ false → IfSome (V.told store.old) (λ fs. IsWindow fs.log self.old → length fs.log < at + size)) }
         ensures window { OnOk result (IfSome (V.told store.old) (λ fs. IsWindow fs.log self.old → IsWindow fs.log self.new)) }
         ensures keeps { Keeps self.old self.new }
+        ensures wanting { IsErrOf result BatchError.OutOfMemory → self.new ≡ self.old }
         ensures good { IfErr result (λ e. (bad : ℕ) → e ≡ BatchError.BadLog bad → ⊥) }
         ensures reads { OnlyReads V.told V.moment V.left_since V.may_leave store.old store.new }
         ensures later { V.faults store.old ≤ V.faults store.new }
@@ -153,6 +175,7 @@ impl LogReader {
         ensures there { IfOk result (λ found. IfSome found (λ size. Covers self.new (at + 5) size × (at + 5 + size ≤ self.new.length) × (0 < size))) }
         ensures window { OnOk result (IfSome (V.told store.old) (λ fs. IsWindow fs.log self.old → IsWindow fs.log self.new)) }
         ensures keeps { Keeps self.old self.new }
+        ensures wanting { IsErrOf result BatchError.OutOfMemory → IfSome (V.told store.old) (λ fs. IsWindow fs.log self.old → IsWindow fs.log self.new) }
         ensures bad { IfErr result (λ e. (bad : ℕ) → e ≡ BatchError.BadLog bad → IfSome (V.told store.old) (λ fs. IsWindow fs.log self.old → IsBad fs.log at bad)) }
         ensures reads { OnlyReads V.told V.moment V.left_since V.may_leave store.old store.new }
         ensures later { V.faults store.old ≤ V.faults store.new }
@@ -180,13 +203,13 @@ impl LogReader {
         Ok(Some(size))
     }
 
-    /// A reader of the log, and the sizes in its first batch, which it has read: `Unformatted` exactly where the log has
-    /// fewer than two bytes or its first gate is closed, `BadLog` where no first batch with one Format stands there. It
-    /// takes memory for the part that it holds.
+    /// A reader of the log, and the sizes in its first batch, which it has read and no byte behind it: `Unformatted`
+    /// exactly where the log has fewer than two bytes or its first gate is closed, `BadLog` where no first batch with one
+    /// Format stands there. It takes memory for the part that it holds.
     pub fn open<V: Store>(alloc: Global, store: &mut V) -> Result<(Self, (u32, u32)), LogError>
         ensures whole { IfOk result (λ opened. IsWhole opened.0) }
         ensures further { IfOk result (λ opened. 0 < opened.0.at) }
-        ensures first { IfOk result (λ opened. IfSome (V.told store.old) (λ fs. IsReadTo fs.log opened.0 (Record.Format opened.1.0 opened.1.1 ∷ []))) }
+        ensures first { IfOk result (λ opened. IfSome (V.told store.old) (λ fs. IsReadFrom fs.log 0 ((Record.Format opened.1.0 opened.1.1 ∷ []) ∷ []) [] opened.0)) }
         ensures spelled { IfOk result (λ opened. CanBeSpelled (Record.Format opened.1.0 opened.1.1)) }
         ensures bad { IfErr result (λ e. (bad : ℕ) → e ≡ LogError.BadLog bad → IfSome (V.told store.old) (λ fs. BadAt fs.log bad)) }
         ensures unformatted { IsErrOf result LogError.Unformatted → IfSome (V.told store.old) (λ fs. IsUnformatted fs.log) }
@@ -205,7 +228,9 @@ impl LogReader {
             alloc,
             bytes: Vec::new(alloc),
             from: 0,
+            ahead: FIRST,
             length,
+            body: 0,
             at: 0,
             end: 0,
         };
@@ -215,9 +240,29 @@ impl LogReader {
         let Some(sizes) = format_of(alloc, reader.part(5, size as u64)) else {
             return Err(LogError::BadLog { at: 5 });
         };
+        reader.ahead = AHEAD;
         reader.at = 5 + size as u64;
         reader.end = reader.at;
         Ok((reader, sizes))
+    }
+
+    /// Goes on at a place, where a batch is to begin: the batches between aren't read. `BadLog` exactly where the log ends
+    /// before it. It takes no memory.
+    pub fn seek(&mut self, at: u64) -> Result<(), LogError>
+        ensures ok { OnOk result (self.new ≡ record self.old { body = at; at = at; end = at }) }
+        ensures whole { IsWhole self.new }
+        ensures stands { OnOk result ((log : List ℕ) → IsWindow log self.old → IsReadFrom log at [] [] self.new) }
+        ensures err { OnErr result ((result ≡ Err (LogError.BadLog at)) × (self.old.length < at) × (self.new ≡ self.old)) }
+        ensures bad { OnErr result ((log : List ℕ) → IsWindow log self.old → BadFrom log at at) }
+        ensures inside { self.old.length < at → IsErr result }
+    {
+        if self.length < at {
+            return Err(LogError::BadLog { at });
+        }
+        self.body = at;
+        self.at = at;
+        self.end = at;
+        Ok(())
     }
 
     // Goes on to the batch behind the one that was read. It answers whether there is one.
@@ -226,10 +271,10 @@ impl LogReader {
         ensures whole { IsWhole self.new }
         ensures more { IfOk result (λ more. more ≡ true → (self.old.at < self.new.at) × (self.new.at < self.new.end)) }
         ensures none { IfOk result (λ more. more ≡ false → self.new.at ≡ self.new.end) }
-        ensures stands { IfOk result (λ more. more ≡ true → IfSome (V.told store.old) (λ fs. (rs : List Record) → IsReadTo fs.log self.old rs → IsReadTo fs.log self.new rs)) }
-        ensures ends { IfOk result (λ more. more ≡ false → IfSome (V.told store.old) (λ fs. (rs : List Record) → IsReadTo fs.log self.old rs →
-            (L : List (List Record)) × LogOf fs.log L self.new.at × (rs ≡ records_in L))) }
-        ensures bad { IfErr result (λ e. (bad : ℕ) → e ≡ LogError.BadLog bad → IfSome (V.told store.old) (λ fs. (rs : List Record) → IsReadTo fs.log self.old rs → BadAt fs.log bad)) }
+        ensures stands { IfOk result (λ more. more ≡ true → IfSome (V.told store.old) (λ fs. Stays fs.log self.old self.new)) }
+        ensures ends { IfOk result (λ more. more ≡ false → IfSome (V.told store.old) (λ fs. EndsAt fs.log self.old self.new)) }
+        ensures bad { IfErr result (λ e. (bad : ℕ) → e ≡ LogError.BadLog bad → IfSome (V.told store.old) (λ fs. IsBadFrom fs.log self.old bad)) }
+        ensures wanting { IsErrOf result LogError.OutOfMemory → IfSome (V.told store.old) (λ fs. Stays fs.log self.old self.new) }
         ensures formatted { IsErrOf result LogError.Unformatted → ⊥ }
         ensures reads { OnlyReads V.told V.moment V.left_since V.may_leave store.old store.new }
         ensures later { V.faults store.old ≤ V.faults store.new }
@@ -242,27 +287,30 @@ impl LogReader {
         let Some(size) = self.batch_at(store, place)? else {
             return Ok(false);
         };
-        self.at = place + 5;
-        self.end = self.at + size as u64;
+        self.body = place + 5;
+        self.at = self.body;
+        self.end = self.body + size as u64;
         Ok(true)
     }
 
     // The next record of the batch, of which some is left.
-    fn next_record(&mut self) -> Result<Record, LogError>
+    fn next_record(&mut self) -> Result<Placed, LogError>
         requires left { self.old.at < self.old.end }
         ensures whole { IsWhole self.new }
         ensures further { OnOk result (self.old.at < self.new.at) }
-        ensures read { IfOk result (λ entry. (log : List ℕ) (rs : List Record) → IsReadTo log self.old rs → IsReadTo log self.new (rs ++ entry ∷ [])) }
-        ensures bad { IfErr result (λ e. (bad : ℕ) → e ≡ LogError.BadLog bad → (log : List ℕ) (rs : List Record) → IsReadTo log self.old rs → BadAt log bad) }
+        ensures read { IfOk result (λ given. (log : List ℕ) → GoesOn log self.old given self.new) }
+        ensures bad { IfErr result (λ e. (bad : ℕ) → e ≡ LogError.BadLog bad → (log : List ℕ) → IsBadFrom log self.old bad) }
+        ensures err { OnErr result (self.new ≡ self.old) }
         ensures errors { IfErr result (λ e. ((bad : ℕ) × (e ≡ LogError.BadLog bad)) ⊎ (e ≡ LogError.OutOfMemory)) }
     {
         let at = self.at;
+        let first = at == self.body;
         let mut reader = Reader::new(self.part(at, self.end - at));
         match decode(self.alloc, &mut reader) {
             Ok(entry) => {
                 let size = reader.at() as u64;
                 self.at = at + size;
-                Ok(entry)
+                Ok(Placed { entry, at, first })
             }
             Err(DecodeError::OutOfMemory) => Err(LogError::OutOfMemory),
             Err(DecodeError::BadRecord { .. }) => Err(LogError::BadLog { at }),
@@ -272,16 +320,15 @@ impl LogReader {
     /// The next record, or none where the log ends. `BadLog` exactly where the bytes are no log, with the first bad
     /// place: a place without a gate, a length that isn't 1 to 2^30 with so many bytes behind it, a place in a batch
     /// where no record begins. `Fault` exactly where the store's count of faults rose. It takes memory for a record's lists,
-    /// and for the next part of the file where the one that is held ends. Nothing is said of the reader after an error,
-    /// nor after the end of the log, but that its places are in order.
-    pub fn next<V: Store>(&mut self, store: &mut V) -> Result<Option<Record>, LogError>
+    /// and for the buffer where a part is longer than those before; where that is refused it goes on where it was.
+    /// Nothing is said of the reader after another error, nor after the end of the log, but that its places are in order.
+    pub fn next<V: Store>(&mut self, store: &mut V) -> Result<Option<Placed>, LogError>
         ensures whole { IsWhole self.new }
         ensures further { IfOk result (λ next. IsSome next → self.old.at < self.new.at) }
-        ensures read { IfOk result (λ next. IfSome next (λ entry. IfSome (V.told store.old) (λ fs. (rs : List Record) →
-            IsReadTo fs.log self.old rs → IsReadTo fs.log self.new (rs ++ entry ∷ [])))) }
-        ensures ends { IfOk result (λ next. IsNone next → IfSome (V.told store.old) (λ fs. (rs : List Record) → IsReadTo fs.log self.old rs →
-            (L : List (List Record)) × LogOf fs.log L self.new.at × (rs ≡ records_in L))) }
-        ensures bad { IfErr result (λ e. (bad : ℕ) → e ≡ LogError.BadLog bad → IfSome (V.told store.old) (λ fs. (rs : List Record) → IsReadTo fs.log self.old rs → BadAt fs.log bad)) }
+        ensures read { IfOk result (λ next. IfSome next (λ given. IfSome (V.told store.old) (λ fs. GoesOn fs.log self.old given self.new))) }
+        ensures ends { IfOk result (λ next. IsNone next → IfSome (V.told store.old) (λ fs. EndsAt fs.log self.old self.new)) }
+        ensures bad { IfErr result (λ e. (bad : ℕ) → e ≡ LogError.BadLog bad → IfSome (V.told store.old) (λ fs. IsBadFrom fs.log self.old bad)) }
+        ensures wanting { IsErrOf result LogError.OutOfMemory → IfSome (V.told store.old) (λ fs. Stays fs.log self.old self.new) }
         ensures formatted { IsErrOf result LogError.Unformatted → ⊥ }
         ensures reads { OnlyReads V.told V.moment V.left_since V.may_leave store.old store.new }
         ensures later { V.faults store.old ≤ V.faults store.new }

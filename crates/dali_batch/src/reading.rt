@@ -41,8 +41,8 @@ pub fn read_log<V: Store>(alloc: Global, store: &mut V) -> Result<Log, LogError>
     let (mut reader, (index, heap)) = LogReader::open(alloc, store)?;
     let mut records = Vec::new(alloc);
     records.push(Record::Format { index, heap })?;
-    'records: while let Some(entry) = reader.next(store)? {
-        records.push(entry)?;
+    'records: while let Some(next) = reader.next(store)? {
+        records.push(next.entry)?;
     }
     Ok(Log {
         records,

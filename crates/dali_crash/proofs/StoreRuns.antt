@@ -1,5 +1,5 @@
 -- Each step keeps a run with its store, and each list of steps.
-use Rattle.std.proofs.Common.{◌≡◌, ℕ, zero, suc, ◌+◌, ◌*◌, ◌%◌, ◌<◌, ◌≤◌, Bool, true, false, cond, List, [], ◌∷◌, length, take, Option, Some, None, refl, ap, sym, subst, ◌∙◌, inl, inr, ⊎_elim, arith, ◌⊎◌}
+use Rattle.std.proofs.Common.{◌≡◌, ℕ, zero, suc, ◌+◌, ◌*◌, ◌%◌, ◌<◌, ◌≤◌, Bool, true, false, cond, List, [], ◌∷◌, length, take, Option, Some, None, is_some, refl, ap, sym, subst, ◌∙◌, inl, inr, ⊎_elim, arith, ◌⊎◌}
 use Rattle.std.specs.Prelude.{◌==◌, ◌^◌, ◌&&◌, ◌||◌, not, slice_get, slice_set, flat_map, sum_by}
 use Rattle.std.specs.List.{range_with_len}
 use Rattle.std.proofs.lemmas.List.{length-map, take_all, length-take-le}
@@ -58,7 +58,7 @@ other_side c e = by_tests (c == 0) (c % 2 == 1) ((c + 1) % 2 == 1) refl refl e
         odd_or : (c % 2 ≡ 1 → ⊥) → ((c + 1) % 2 ≡ 1 → ⊥) → ⊥
         odd_or x y = omega (arith, x, y)
 
-side_is : (a b : Side) → same_side a b ≡ true → a ≡ b
+pub side_is : (a b : Side) → same_side a b ≡ true → a ≡ b
 side_is A A f = refl
 side_is B B f = refl
 side_is A B f = absurd (cc)
@@ -174,6 +174,10 @@ some_copy : (b : Bool) (o : Option Copy) (k : Copy) → pass_copy b o ≡ Some k
 some_copy b None k e = absurd (cc)
 some_copy b (Some c) k e = (c, refl, sym (some_same e))
 
+still_copied : (b : Bool) (o : Option Copy) → is_some o ≡ true → is_some (pass_copy b o) ≡ true
+still_copied b None e = absurd (cc)
+still_copied b (Some c) e = refl
+
 does : (bases : Bases) (before : List Record) (old new : Files → Type 0) (st : Point) (x : Step) (n : Moment) → StoreRun bases before old st → is_of_checkpoint x ≡ false → IsStepAt (moment_of st) x n → LeavesBy old new st.log st.core x → StoreRun bases before new (record st { log = n.log; core = n.core; audits = n.audits; copies = copies_after st.core x st.copies })
 does bases before old new st x n run quiet s l = record {
   run = there;
@@ -185,12 +189,12 @@ does bases before old new st x n run quiet s l = record {
   copied = λ side r k g e at. copied side r k g (some_copy (passes_region st.core x r) (st.copies side r) k e) (regions_go (moment_of st) n x r g s at);
   written = record {
     copied = λ side r k e. let w = some_copy (passes_region st.core x r) (st.copies side r) k e in run.written.copied side r w.0 w.1;
-    clean = λ side r g at clear. let w = flags_go (moment_of st) n x r g s quiet at in run.written.clean side r w.0 w.1 (w.2 side clear);
+    clean = λ side r g at clear. let w = flags_go (moment_of st) n x r g s quiet at in still_copied (passes_region st.core x r) (st.copies side r) (run.written.clean side r w.0 w.1 (w.2 side clear));
   };
   moved = omega (arith, run.moved, vault.current, vault.flushed, run.run.run.first, there.run.first);
   few = λ F l. let w = files F l in ⊎_elim
-      (λ same. subst (λ (f : Files). f.gates ≤ length (log_in f)) (sym same) (run.few w.0 w.1))
-      (λ more. omega (arith, ap (λ (f : Files). f.gates) more, held_frame F w.0 _ w.0.gates more (run.few w.0 w.1)))
+      (λ same. subst (λ (f : Files). f.gates ≤ length (log_in f) + 2 ^ 61) (sym same) (run.few w.0 w.1))
+      (λ more. omega (arith, ap (λ (f : Files). f.gates) more, held_frame F w.0 _ (length (log_in w.0)) more (let e : length (log_in w.0) ≤ length (log_in w.0) = omega arith in e), run.few w.0 w.1))
       w.2;
 }
   where
@@ -244,7 +248,7 @@ keeps_other :
 keeps_other bases before leave st o run kept = record { run = run.run; images = run.images; anchor = run.anchor; kept = kept; copied = run.copied; written = record { copied = run.written.copied; clean = run.written.clean }; moved = run.moved; few = run.few }
 
 -- ---- what a checkpoint keeps
-keeps_now : (bases : Bases) (before : List Record) (leave : Files → Type 0) (m : Moment) → RunsAt bases before leave m → m.core.vault.stopped ≡ false → stable m.core ≡ m.core.system.records → m.core.vault.current ≤ stable m.core → IsKept m.log m.core.vault leave (head_now m.log m.core)
+keeps_now : (bases : Bases) (before : List Record) (leave : Files → Type 0) (m : Moment) → RunsAt bases before leave m → m.core.vault.stopped ≡ false → stable m.core ≡ m.core.system.records → m.core.vault.current ≤ stable m.core + 2 ^ 61 → IsKept m.log m.core.vault leave (head_now m.log m.core)
 keeps_now bases before leave m at runs all few = record {
   number = refl;
   from = omega (arith, number_is m.log, count);
@@ -362,8 +366,8 @@ written_now rs copies told t r n g was at words = record {
     copied_there side q k true f e = words
     copied_there side q k false f e = was.copied side q k e
 
-    clean_there : (side : Side) (q : ℕ) (h : RegionState) → slice_get (slice_set rs r (cleaned t g)) q ≡ Some h → is_dirty h side ≡ false → (a b : Bool) → same_side side t ≡ a → (q == r) ≡ b → AreWords (cond (a && b) g.back (told side q))
-    clean_there side q h e clear true true f d = words
+    clean_there : (side : Side) (q : ℕ) (h : RegionState) → slice_get (slice_set rs r (cleaned t g)) q ≡ Some h → is_dirty h side ≡ false → (a b : Bool) → same_side side t ≡ a → (q == r) ≡ b → is_some (cond (a && b) (Some (copy_at n)) (copies side q)) ≡ true
+    clean_there side q h e clear true true f d = refl
     clean_there side q h e clear true false f d = ⊎_elim
         (λ w. absurd (let same : (q == r) ≡ true = same_number q r w.0 in cc))
         (λ w. was.clean side q h w.1 clear)
@@ -387,7 +391,7 @@ written_torn rs copies told t r g ws was at dirty = record {
     copied_there side q k true f e = absurd (cc)
     copied_there side q k false f e = was.copied side q k e
 
-    clean_there : (side : Side) (q : ℕ) (h : RegionState) → slice_get rs q ≡ Some h → is_dirty h side ≡ false → (a b : Bool) → same_side side t ≡ a → (q == r) ≡ b → AreWords (cond (a && b) ws (told side q))
+    clean_there : (side : Side) (q : ℕ) (h : RegionState) → slice_get rs q ≡ Some h → is_dirty h side ≡ false → (a b : Bool) → same_side side t ≡ a → (q == r) ≡ b → is_some (cond (a && b) None (copies side q)) ≡ true
     clean_there side q h e clear true true f d =
         let same : h ≡ g = some_same (sym e ∙ (ap (slice_get rs) (equal q r d) ∙ at)) in
         let stands : is_dirty h side ≡ true = ap (λ (z : RegionState). is_dirty z side) same ∙ (ap (is_dirty g) (side_is side t f) ∙ dirty) in
@@ -395,15 +399,26 @@ written_torn rs copies told t r g ws was at dirty = record {
     clean_there side q h e clear true false f d = was.clean side q h e clear
     clean_there side q h e clear false b f d = was.clean side q h e clear
 
+pub of_some : (o : Option Copy) → is_some o ≡ true → (k : Copy) × (o ≡ Some k)
+of_some None e = absurd (cc)
+of_some (Some k) e = (k, refl)
+
 -- a region that is skipped, whose flag is clear
 written_skipped :
     (rs : List RegionState) (copies : Side → ℕ → Option Copy) (told : Told) (t : Side) (r n : ℕ) (g : RegionState) → AreWritten rs copies told
     → slice_get rs r ≡ Some g → is_dirty g t ≡ false
     → AreWritten rs (copies_with copies t r (Some (copy_at n))) told
-written_skipped rs copies told t r n g was at clear = record { copied = λ side q k e. copied_there side q k (same_side side t) (q == r) refl refl e; clean = was.clean }
+written_skipped rs copies told t r n g was at clear = record {
+  copied = λ side q k e. copied_there side q k (same_side side t) (q == r) refl refl e;
+  clean = λ side q h e empty. clean_there side q (same_side side t && (q == r)) (was.clean side q h e empty);
+}
   where
+    clean_there : (side : Side) (q : ℕ) (b : Bool) → is_some (copies side q) ≡ true → is_some (cond b (Some (copy_at n)) (copies side q)) ≡ true
+    clean_there side q true e = refl
+    clean_there side q false e = e
+
     copied_there : (side : Side) (q : ℕ) (k : Copy) (a b : Bool) → same_side side t ≡ a → (q == r) ≡ b → cond (a && b) (Some (copy_at n)) (copies side q) ≡ Some k → AreWords (told side q)
-    copied_there side q k true true f d e = was.clean side q g (ap (slice_get rs) (equal q r d) ∙ at) (ap (is_dirty g) (side_is side t f) ∙ clear)
+    copied_there side q k true true f d e = let w = of_some (copies side q) (was.clean side q g (ap (slice_get rs) (equal q r d) ∙ at) (ap (is_dirty g) (side_is side t f) ∙ clear)) in was.copied side q w.0 w.1
     copied_there side q k true false f d e = was.copied side q k e
     copied_there side q k false b f d e = was.copied side q k e
 
@@ -497,10 +512,10 @@ later_than bases before old st h b k run may = let w = may.copies 0 some in omeg
         by_index (suc i) e = omega arith
 
 -- the audit's end is a record behind the one where the checkpoint began
-moves_once : (bases : Bases) (before : List Record) (old : Files → Type 0) (st : Point) (h : Head) (b k : ℕ) → StoreRun bases before old st → MayTurn st h b k → st.core.vault.current + 1 ≤ stable st.core
+moves_once : (bases : Bases) (before : List Record) (old : Files → Type 0) (st : Point) (h : Head) (b k : ℕ) → StoreRun bases before old st → MayTurn st h b k → st.core.vault.current + 1 ≤ stable st.core + 2 ^ 61
 moves_once bases before old st h b k run may = omega (arith, (run.kept h may.begun).moved, later_than bases before old st h b k run may, may.ends, may.flushed)
 
-few_turned : (bases : Bases) (before : List Record) (old : Files → Type 0) (st : Point) (h : Head) (b k : ℕ) (D : Files) → StoreRun bases before old st → st.core.vault.stopped ≡ false → MayTurn st h b k → old D → D.gates + 1 ≤ length (log_in D)
+few_turned : (bases : Bases) (before : List Record) (old : Files → Type 0) (st : Point) (h : Head) (b k : ℕ) (D : Files) → StoreRun bases before old st → st.core.vault.stopped ≡ false → MayTurn st h b k → old D → D.gates + 1 ≤ length (log_in D) + 2 ^ 61
 few_turned bases before old st h b k D run runs may l =
     let is : IsPrefix (log_after before st.core.system) (stable st.core) D = run.run.run.vault.prefix D l in
     omega (arith, run.anchor runs D l, moves_once bases before old st h b k run may, is.flushed, ap length is.log, length-take-le is.count (log_after before st.core.system) is.within)
@@ -564,7 +579,7 @@ turns bases before old new st h b k run runs may store = record {
   copied = run.copied;
   written = run.written;
   moved = moves_once bases before old st h b k run may;
-  few = λ F l. let w = store F l in subst (λ (f : Files). f.gates ≤ length (log_in f)) (sym w.2.3) (few_turned bases before old st h b k w.0 run runs may w.1);
+  few = λ F l. let w = store F l in subst (λ (f : Files). f.gates ≤ length (log_in f) + 2 ^ 61) (sym w.2.3) (few_turned bases before old st h b k w.0 run runs may w.1);
 }
 
 turn_fails :
@@ -586,8 +601,8 @@ turn_fails bases before old new st h b k n run fault may store = record {
   written = run.written;
   moved = run.moved;
   few = λ F l. let w = store F l in ⊎_elim
-      (λ e. subst (λ (f : Files). f.gates ≤ length (log_in f)) (sym e) (run.few w.0 w.1))
-      (λ s. subst (λ (f : Files). f.gates ≤ length (log_in f)) (sym s.3) (few_turned bases before old st h b k w.0 run fault.may.runs may w.1))
+      (λ e. subst (λ (f : Files). f.gates ≤ length (log_in f) + 2 ^ 61) (sym e) (run.few w.0 w.1))
+      (λ s. subst (λ (f : Files). f.gates ≤ length (log_in f) + 2 ^ 61) (sym s.3) (few_turned bases before old st h b k w.0 run fault.may.runs may w.1))
       w.2;
 }
 

@@ -1,6 +1,6 @@
 -- Each crash image that came along steps fits and restarts right.
 use Rattle.std.proofs.Common.{◌≡◌, ℕ, length, take, drop, ◌+◌, ◌-◌, ◌*◌, ◌≤◌, Bool, true, false, List, [], ◌∷◌, ◌++◌, Some, refl, ap, sym, subst, ◌∙◌, inl, inr, ⊎_elim, arith, map}
-use Rattle.std.specs.Prelude.{◌⊎◌, None, fold, sum_by, slice_get, Contains}
+use Rattle.std.specs.Prelude.{◌^◌, ◌⊎◌, None, fold, sum_by, slice_get, Contains}
 use Rattle.std.proofs.lemmas.List.{take_all}
 use Rattle.dali_geometry.specs.Sizes.{Sizes}
 use Rattle.dali_geometry.specs.Places.{formatted_image}
@@ -124,7 +124,7 @@ starts_with :
     → s.limit ≤ 268435456 → VaultRun leave s.log (length s.log) s.vault → s.vault.flushed ≡ 0
     → ((F : Files) → leave F → FitsWhole (sizes_of s.log) (base_of (sizes_of s.log) s.log) s.log F (last_epoch s.log))
     → ((F : Files) → leave F → F.gates ≡ s.vault.current)
-    → s.vault.current ≤ length s.log
+    → s.vault.current ≤ length s.log + 2 ^ 61
     → StoreRun (bases_of s) s.log leave (start_point s)
 starts_with s leave is rules nothing limit vault flushed fits current moved = record {
   run = there;

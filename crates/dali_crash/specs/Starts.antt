@@ -6,6 +6,7 @@
 --     IsLawful L               a log that can be spelled, and is legal and lock-legal, honest or not: a core may be made over it
 --     MayStart L               a history with an empty last epoch
 --     RestartStarts            so it may over the log that a restart leaves: a run may be stopped and started again
+--     LawfulRestarts           the log that a restart leaves of a lawful one is lawful
 use Rattle.std.specs.Prelude.{◌≡◌, ◌↔◌, ℕ, ◌<◌, Bool, ◌⊎◌, List, [], ◌∷◌, ◌++◌, length, sum_by, flat_map, IsSome}
 use Rattle.dali_geometry.specs.Sizes.{Sizes}
 use Rattle.dali_geometry.specs.Places.{formatted_image}
@@ -85,3 +86,9 @@ abbrev pub RestartStarts : Type 0
 RestartStarts =
     (K : List Record) (r : Record) (E : List Record) → IsHistory K → (last_epoch K).records ≡ r ∷ E
     → MayStart (K ++ Restarted (rolled_list (recovered_epoch K)) (deleted_list (recovered_epoch K)) ∷ [])
+
+-- honest or not
+abbrev pub LawfulRestarts : Type 0
+LawfulRestarts =
+    (K : List Record) (r : Record) (E : List Record) → IsLawful K → (last_epoch K).records ≡ r ∷ E
+    → IsLawful (K ++ Restarted (rolled_list (last_epoch K)) (deleted_list (last_epoch K)) ∷ [])

@@ -1,11 +1,11 @@
 -- Runs with their store, from a format or a restart on.
 --     IsCopied base e r g k ws what is known of a region's place in an image file, which reads the words ws
 --     IsKept L v leave h       what a checkpoint kept belongs to the records before
---     AreWritten regions copies told   where a place was written since the load, it reads 64 words of 64 bits
+--     AreWritten regions copies told   where a place was written since the load, it reads 64 words of 64 bits; and where a flag is clear, it was written
 --     StoreRun bases before leave p    the core is a run, each crash image fits the log that it has, and these hold
 --     StoreStepKeeps, StoreCourseKeeps     each step, and each list of steps, keeps it, of each crash image by itself
 --     BareStoreCourseKeeps     so it is where nothing is said of crashes
---     CurrentIsSmall           the anchor was moved fewer than 2^40 times: so it may be moved once more
+--     CurrentIsSmall           the number of the current image is below 2^62: so the anchor may be moved once more
 --     TurnEnds, TurnLeaves     what is true once the anchor moved, of the point and of the crash image
 --     point_start L g limit v ..           a core that was just made, with its store
 --     ImageIsRight K F         files of the log K fit it whole, and their image gives what a restart gives
@@ -75,8 +75,8 @@ pub record IsKept (L : List Record) (v : VaultState) (leave : Files → Type 0) 
   pub weight : h.weight ≡ sum_by record_length (take h.first L)
   pub next : h.next ≡ next_after (take h.first L)
   pub table : h.table ≡ table_before (last_epoch L) h.first
-  -- no more moves of the anchor than records, and a place no farther than the records before it, with a frame for each
-  pub moved : v.current ≤ h.first
+  -- hardly more moves of the anchor than records, and a place no farther than the records before it, with a frame for each
+  pub moved : v.current ≤ h.first + 2 ^ 61
   pub short : h.place ≤ h.weight + 5 * h.first
   pub held : (F : Files) → leave F → h.first ≤ length (log_in F)
   pub place : (F : Files) → leave F → IsPlace F h.first h.place
@@ -84,7 +84,7 @@ pub record IsKept (L : List Record) (v : VaultState) (leave : Files → Type 0) 
 -- ---- what is read where a place was written since the load
 pub record AreWritten (regions : List RegionState) (copies : Side → ℕ → Option Copy) (told : Told) : Type 0 where
   pub copied : (side : Side) (r : ℕ) (k : Copy) → copies side r ≡ Some k → AreWords (told side r)
-  pub clean : (side : Side) (r : ℕ) (g : RegionState) → slice_get regions r ≡ Some g → is_dirty g side ≡ false → AreWords (told side r)
+  pub clean : (side : Side) (r : ℕ) (g : RegionState) → slice_get regions r ≡ Some g → is_dirty g side ≡ false → is_some (copies side r) ≡ true
 
 -- ---- a run with its store
 pub record StoreRun (bases : Bases) (before : List Record) (leave : Files → Type 0) (p : Point) : Type 0 where
@@ -96,9 +96,9 @@ pub record StoreRun (bases : Bases) (before : List Record) (leave : Files → Ty
       → slice_get p.core.regions r ≡ Some g
       → IsCopied (bases (last_epoch p.log).first) (last_epoch p.log) r g k (p.told side r)
   pub written : AreWritten p.core.regions p.copies p.told
-  -- each move of the anchor stands behind records of its own
-  pub moved : p.core.vault.current ≤ stable p.core
-  pub few : (F : Files) → leave F → F.gates ≤ length (log_in F)
+  -- files that were handed in may have more open gates than records; each move of the anchor since then stands behind records of its own
+  pub moved : p.core.vault.current ≤ stable p.core + 2 ^ 61
+  pub few : (F : Files) → leave F → F.gates ≤ length (log_in F) + 2 ^ 61
 
 abbrev pub StoreStepKeeps : Type 0
 StoreStepKeeps =
@@ -121,7 +121,7 @@ BareStoreCourseKeeps =
 
 -- ---- how often the anchor was moved
 abbrev pub CurrentIsSmall : Type 0
-CurrentIsSmall = (bases : Bases) (before : List Record) (p : Point) → StoreRun bases before no_image p → p.core.vault.current < 2 ^ 40
+CurrentIsSmall = (bases : Bases) (before : List Record) (p : Point) → StoreRun bases before no_image p → p.core.vault.current < 2 ^ 62
 
 -- ---- a checkpoint that ended
 -- the next number is the current one

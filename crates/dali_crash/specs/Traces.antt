@@ -13,7 +13,7 @@
 --     StartRuns, BareStartRuns it is a run with its store, and so it is where nothing is said of crashes
 --     EveryTraceIsRight        from such a start on, each crash image that came along any steps fits and restarts right
 --     EveryMomentIsRight       so does one inside a step, for the core before it
---     FewGates                 its anchor has no more open gates than its log has records
+--     FewGates                 its anchor has at most 2^61 open gates more than its log has records
 --     FlushedTraces, AcknowledgedTraces    what was flushed stands in it, and what was acknowledged is committed there
 --     UnpokedTraceIsRight      without a stray write it restarts right, and the restart deletes nobody of its last epoch
 --     core_start               a core alone that was just made
@@ -61,14 +61,15 @@ pub record Start : Type 0 where
   pub synced : Side → Bool
 
 -- the vault runs and has flushed nothing yet, and its counts of faults are in order; the log's file is no longer than its records, with a frame
--- for each, and the anchor was moved no more often than there are records: so it is behind a format, and each restart that moves it logs one
+-- for each, and the anchor has at most 2^61 open gates more than there are records: so it may be moved, and files that were handed in may have more
+-- gates than records
 pub record MayRun (L : List Record) (v : VaultState) : Type 0 where
   pub runs : v.stopped ≡ false
   pub flushed : v.flushed ≡ 0
   pub faults : v.faults_then ≤ v.faults
   pub faults_fit : v.faults_then < 2 ^ 64
   pub short : v.end ≤ sum_by record_length L + 5 * length L
-  pub moved : v.current ≤ length L
+  pub moved : v.current ≤ length L + 2 ^ 61
 
 -- the image fits the log at its last epoch, which is empty; the vault knows where the log ends and which image is current
 pub record IsRestingImage (L : List Record) (v : VaultState) (D : Files) : Type 0 where
@@ -101,7 +102,7 @@ CrashRests =
 -- Restarted closed an epoch without a record
 abbrev pub FitsAtLast : Type 0
 FitsAtLast =
-    (L : List Record) (base : List (List ℕ)) (D : Files) (e : Epoch) → IsHistory L → (last_epoch L).records ≡ []
+    (L : List Record) (base : List (List ℕ)) (D : Files) (e : Epoch) → IsLawful L → (last_epoch L).records ≡ []
     → Fits (sizes_of L) base L D e → length L ≤ D.first + 1
     → (e ≡ last_epoch L) ⊎ (e.records ≡ [])
 
@@ -142,12 +143,12 @@ EveryMomentIsRight =
     → (x : StoreStep) (q : Point) (F : Files) → IsPointStep p x q → Inside p x E F
     → LeavesRight (bases_of s) s.log p.core F
 
--- no crash image has more open gates than records: so it may be a start
+-- no crash image has 2^61 open gates more than records: so it may be a start
 abbrev pub FewGates : Type 0
 FewGates =
     (s : Start) (D : Files) → StartsAt s D
     → (xs : List StoreStep) (p : Point) (F : Files) → Traced (start_point s) D xs p F
-    → F.gates ≤ length (log_in F)
+    → F.gates ≤ length (log_in F) + 2 ^ 61
 
 -- ---- with damage or without
 abbrev pub FlushedTraces : Type 0

@@ -8,7 +8,7 @@ ghost use Rattle.dali_crash.specs.Restarted.{WorkedRestart};
 ghost use Rattle.dali_crash.specs.Damaged.{DamagedRun};
 ghost use Rattle.dali_crash.specs.Restarts.{FormatHasRightBase, RestartHasRightBase, CrashIsHistory, CrashIsRight, RunIsRight, FlushedStays, AcknowledgedStays, CourseKeepsTheBase, FormatIsHistory};
 ghost use Rattle.dali_crash.specs.Fitting.{ButIsWhole, RedoesTheEpoch, RecoversFromImage};
-ghost use Rattle.dali_crash.specs.Starts.{HistoryIsLawful, FreshFits, RestartStarts};
+ghost use Rattle.dali_crash.specs.Starts.{HistoryIsLawful, FreshFits, RestartStarts, LawfulRestarts};
 ghost use Rattle.dali_crash.specs.StoreRuns.{StoreStepKeeps, StoreCourseKeeps, BareStoreCourseKeeps, CurrentIsSmall, TurnEnds, TurnLeaves, FlagStays, CourseFlagTells, FlagChanges, IdleLeavesImages, KeptStays, SyncedStays};
 ghost use Rattle.dali_crash.specs.Growth.{CourseGrows};
 ghost use Rattle.dali_crash.specs.Traces.{TraceGoesOn, FreshRests, CrashRests, FitsAtLast, StartRuns, BareStartRuns, EveryTraceIsRight, EveryMomentIsRight, FewGates, FlushedTraces, AcknowledgedTraces, UnpokedTraceIsRight, EveryCoreTraceIsRight, UnpokedCoreTraceIsRight};
@@ -111,9 +111,10 @@ pub fn fresh_files_fit()
 {}
 
 /// The log that a restart leaves is a history without a record in its last epoch: so a core may be made
-/// over it again.
+/// over it again. It is lawful where the log that the restart found is, honest or not.
 pub fn a_restart_starts_a_run()
-    ensures { RestartStarts }
+    ensures starts { RestartStarts }
+    ensures lawful { LawfulRestarts }
 {}
 
 /// Each step keeps a run with its store, those of a checkpoint too: each crash image goes on to fit its
@@ -128,8 +129,9 @@ pub fn each_list_of_store_steps_keeps_a_run()
     ensures bare { BareStoreCourseKeeps }
 {}
 
-/// In a run with its store the number of the current image is below 2^40, whatever is known of the store, for each move of
-/// the anchor stands behind records of its own: so the anchor may move once more.
+/// In a run with its store the number of the current image is below 2^62, whatever is known of the store, for a start asks
+/// for 2^61 open gates more than records at most, and each move of the anchor behind it stands behind records of its own:
+/// so the anchor may move once more.
 pub fn the_anchor_may_always_move()
     ensures { CurrentIsSmall }
 {}
@@ -195,8 +197,8 @@ pub fn a_crash_image_may_be_at_rest()
     ensures { CrashRests }
 {}
 
-/// Files that fit a history at rest, and behind whose image no record stands or Restarted alone, as a restart leaves them,
-/// fit at its last epoch, but where that Restarted closed an epoch without a record.
+/// Files that fit a lawful log at rest, and behind whose image no record stands or Restarted alone, as a restart leaves
+/// them, fit at its last epoch, but where that Restarted closed an epoch without a record.
 pub fn files_that_a_restart_leaves_fit_at_the_last_epoch()
     ensures { FitsAtLast }
 {}
@@ -207,9 +209,9 @@ pub fn a_store_at_rest_is_a_run()
     ensures bare { BareStartRuns }
 {}
 
-/// From any crash image on that fits a history whose last epoch is empty, as a format and a restart leave one, each crash
-/// image that came along any steps, those of checkpoints too, fits its log but for missed regions; and where no damage
-/// escapes, a restart from it gives exactly the records of the survivors.
+/// From any crash image on that fits a lawful log whose last epoch is empty, as a format and a restart leave one, each
+/// crash image that came along any steps, those of checkpoints too, fits its log but for missed regions; and where that
+/// lawful log is a history and no damage escapes, a restart from it gives exactly the records of the survivors.
 pub fn every_trace_is_right()
     ensures { EveryTraceIsRight }
 {}
@@ -219,7 +221,7 @@ pub fn every_moment_is_right()
     ensures { EveryMomentIsRight }
 {}
 
-/// Its anchor has no more open gates than its log has records.
+/// Its anchor has at most 2^61 open gates more than its log has records, as a start asks.
 pub fn a_trace_has_few_gates()
     ensures { FewGates }
 {}

@@ -143,8 +143,8 @@ fn find_all<V: Store>(
     let mut finder = Finder::new(alloc);
     take(&mut finder, Record::Format { index, heap })?;
     let mut count = 1;
-    'records: while let Some(entry) = reader.next(store)? {
-        take(&mut finder, entry)?;
+    'records: while let Some(next) = reader.next(store)? {
+        take(&mut finder, next.entry)?;
         count += 1;
     }
     Ok((finder, count))

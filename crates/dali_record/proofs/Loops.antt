@@ -1,9 +1,12 @@
 -- Reading numbers one after the other, as a loop does.
-use Rattle.std.proofs.Common.{length-append, drop, get_or, ◌≢◌, ◌%◌, ◌/◌, ◌≡◌, ℕ, zero, suc, Bool, true, false, cond, ltb, ◌&&◌, length, ◌-◌, ◌+◌, ◌≤◌, ◌<◌, List, [], ◌∷◌, ◌++◌, Option, Some, None, refl, sym, ap, ◌∙◌, append_assoc, arith}
+use Rattle.std.proofs.Common.{length-append, drop, get_or, ◌≢◌, ◌%◌, ◌/◌, ◌^◌, ◌≡◌, ℕ, zero, suc, Bool, true, false, cond, ltb, ◌&&◌, length, ◌-◌, ◌+◌, ◌≤◌, ◌<◌, List, [], ◌∷◌, ◌++◌, Option, Some, None, refl, sym, ap, ◌∙◌, append_assoc, arith}
 use Rattle.std.proofs.lemmas.List.{append-nil}
 use Rattle.std.proofs.lemmas.Bool.Decides.{nat_tests, Decides-eqb}
 use Rattle.std.proofs.lemmas.List.{drop_more}
-use Rattle.dali_words.specs.Words.{has_first, under}
+use Rattle.std.specs.Prelude.{bit_and}
+use Rattle.std.specs.Int.Count.{count_trailing_zeros}
+use Rattle.dali_words.specs.Words.{under}
+use Rattle.dali_words.proofs.Lowest.{under-lowest, under_few}
 use Rattle.dali_record.specs.Spelling.{ascends}
 use Rattle.dali_record.proofs.Readers.{bind_some, only_some, some_is}
 use Rattle.dali_record.specs.Reading.{At, ◌>>=◌, only, many, tested, is_above, numbers_at, regions_at, counted32_at, counted64_at}
@@ -147,20 +150,11 @@ unfolding counted32_at regions_at
 counted32_all bytes n more rest e h = rw e (passed_all number32_at n more rest h)
 
 -- ---- one word more of a set
-under_more : (m i : ℕ) (ws : List ℕ) → i < length ws → under m (drop i ws) ≡ cond (has_first m) (get_or ws i 0 ∷ under (m / 2) (drop (i + 1) ws)) (under (m / 2) (drop (i + 1) ws))
-under_more m i ws inside = ap (under m) (drop_more ws i 0 inside)
+pub lowest_chosen : (m : ℕ) (old new ws all : List ℕ) → 0 < m → m < 2 ^ length ws → new ≡ old ++ get_or ws (count_trailing_zeros (length ws) m) 0 ∷ [] → old ++ under m ws ≡ all → new ++ under (bit_and m (m - 1)) ws ≡ all
+lowest_chosen m old new ws all some fits is so_far =
+    let rest : List ℕ = under (bit_and m (m - 1)) ws in
+    ap (λ (l : List ℕ). l ++ rest) is ∙ append_assoc old (get_or ws (count_trailing_zeros (length ws) m) 0 ∷ []) rest ∙ ap (λ (l : List ℕ). old ++ l) (sym (under-lowest m ws some fits)) ∙ so_far
 
-pub word_chosen : (m i : ℕ) (old new ws all : List ℕ) → i < length ws → m % 2 ≡ 1 → new ≡ old ++ get_or ws i 0 ∷ [] → old ++ under m (drop i ws) ≡ all → length old ≤ i
-    → record { so_far : new ++ under (m / 2) (drop (i + 1) ws) ≡ all; few : length new ≤ i + 1 }
-word_chosen m i old new ws all inside odd is so_far few =
-    let test : has_first m ≡ true = (Decides-eqb (m % 2) 1).1 odd in
-    let here : under m (drop i ws) ≡ get_or ws i 0 ∷ under (m / 2) (drop (i + 1) ws) = under_more m i ws inside ∙ ap (λ c. cond c (get_or ws i 0 ∷ under (m / 2) (drop (i + 1) ws)) (under (m / 2) (drop (i + 1) ws))) test in
-    let shape : new ++ under (m / 2) (drop (i + 1) ws) ≡ old ++ under m (drop i ws) = ap (λ (l : List ℕ). l ++ under (m / 2) (drop (i + 1) ws)) is ∙ append_assoc old (get_or ws i 0 ∷ []) (under (m / 2) (drop (i + 1) ws)) ∙ ap (λ (l : List ℕ). old ++ l) (sym here) in
-    record { so_far = shape ∙ so_far; few = rw is (omega (arith, few, length-append old (get_or ws i 0 ∷ []))) }
-
-pub word_passed : (m i : ℕ) (old new ws all : List ℕ) → i < length ws → m % 2 ≢ 1 → new ≡ old → old ++ under m (drop i ws) ≡ all → length old ≤ i
-    → record { so_far : new ++ under (m / 2) (drop (i + 1) ws) ≡ all; few : length new ≤ i + 1 }
-word_passed m i old new ws all inside even is so_far few =
-    let test : has_first m ≡ false = grind (arith, nat_tests) in
-    let here : under m (drop i ws) ≡ under (m / 2) (drop (i + 1) ws) = under_more m i ws inside ∙ ap (λ c. cond c (get_or ws i 0 ∷ under (m / 2) (drop (i + 1) ws)) (under (m / 2) (drop (i + 1) ws))) test in
-    record { so_far = ap (λ (l : List ℕ). l ++ under (m / 2) (drop (i + 1) ws)) is ∙ ap (λ (l : List ℕ). old ++ l) (sym here) ∙ so_far; few = rw is (omega (arith, few)) }
+pub room_for_lowest : (m mask : ℕ) (old ws : List ℕ) → 0 < m → m < 2 ^ length ws → old ++ under m ws ≡ under mask ws → length old < length ws
+room_for_lowest m mask old ws some fits so_far =
+    omega (arith, length-append old (under m ws), ap length so_far, ap length (under-lowest m ws some fits), under_few mask ws)

@@ -1,5 +1,7 @@
 //! What each operation does to the words of a region.
-ghost use Rattle.std.specs.Prelude.{◌≡◌, ◌≤◌};
+ghost use Rattle.std.specs.Prelude.{◌≡◌, ◌≤◌, None};
+ghost use Rattle.dali_heap.specs.Rows as heap;
+ghost use Rattle.dali_index.specs.Rows as index;
 ghost use Rattle.dali_record.specs.Spelling.{IsOperation, IsBlock};
 ghost use Rattle.dali_record.specs.Blocks.{made};
 ghost use Rattle.dali_record.specs.Operations as table;
@@ -9,7 +11,7 @@ use crate::lists::Words;
 use crate::operations::{Block, Op, Outcome, Undo};
 use dali_heap::{ChangeOutcome, PutOutcome, ReadOutcome};
 use dali_index::{AddOutcome, LookOutcome};
-use dali_words::{Effect, KillOutcome, xor_under};
+use dali_words::{Effect, KillOutcome, Value, xor_under};
 
 impl From<LookOutcome> for Outcome {
     ghost use Rattle.dali_record.specs.Operations.{looked};
@@ -105,74 +107,174 @@ fn undo_of_kill(undo: Undo, found: KillOutcome) -> Option<Undo>
     }
 }
 
+// A look.
+fn look(key: u64, words: &[u64; 64]) -> (Effect, Outcome, Option<Undo>)
+    ensures { result ≡ table.effect Op.Look key words.now }
+{
+    let found = dali_index::look(words, key);
+    (found.0, found.1.into(), None)
+}
+
+// An add.
+fn add(place: u64, key: u64, words: &[u64; 64]) -> (Effect, Outcome, Option<Undo>)
+    ensures { result ≡ table.effect (Op.Add place) key words.now }
+{
+    let found = dali_index::add(words, key, place);
+    let undo = match found.1 {
+        AddOutcome::Added { entry } => Some(Undo::FreeEntry { entry }),
+        AddOutcome::NoEntry => None,
+    };
+    (found.0, found.1.into(), undo)
+}
+
+// The killing of an entry.
+fn kill_entry(entry: u8, key: u64, words: &[u64; 64]) -> (Effect, Outcome, Option<Undo>)
+    requires { entry ≤ 20 }
+    ensures { result ≡ table.effect (Op.KillEntry entry) key words.now }
+{
+    let found = dali_index::kill(words, entry, key);
+    let undo = undo_of_kill(Undo::ReviveEntry { entry }, found.1);
+    (found.0, found.1.into(), undo)
+}
+
+// A put.
+fn put(value: &Value, key: u64, words: &[u64; 64]) -> (Effect, Outcome, Option<Undo>)
+    ensures { result ≡ table.effect (Op.Put value.now) key words.now }
+{
+    let found = dali_heap::put(words, key, value);
+    let undo = match found.1 {
+        PutOutcome::Put { cell } => Some(Undo::FreeCell { cell }),
+        PutOutcome::NoCell => None,
+    };
+    (found.0, found.1.into(), undo)
+}
+
+// A read.
+fn read(cell: u8, key: u64, words: &[u64; 64]) -> (Effect, Outcome, Option<Undo>)
+    requires low { 1 ≤ cell }
+    requires high { cell ≤ 7 }
+    ensures { result ≡ table.effect (Op.Read cell) key words.now }
+{
+    let found = dali_heap::read(words, cell, key);
+    (found.0, found.1.into(), None)
+}
+
+// The undo of a change.
+fn undo_of_change(cell: u8, words: &[u64; 64], found: ChangeOutcome) -> Option<Undo>
+    requires low { 1 ≤ cell }
+    requires high { cell ≤ 7 }
+    ensures { result ≡ table.undo_of_change words.now cell found }
+{
+    match found {
+        ChangeOutcome::Changed => Some(Undo::Restore {
+            cell,
+            length: words[8 * cell as usize + 2],
+            words: dali_heap::value_words(words, cell),
+        }),
+        _ => None,
+    }
+}
+
+// A change.
+fn change(cell: u8, value: &Value, key: u64, words: &[u64; 64]) -> (Effect, Outcome, Option<Undo>)
+    requires low { 1 ≤ cell }
+    requires high { cell ≤ 7 }
+    ensures { result ≡ table.effect (Op.Change cell value.now) key words.now }
+{
+    let found = dali_heap::change(words, cell, key, value);
+    let undo = undo_of_change(cell, words, found.1);
+    (found.0, found.1.into(), undo)
+}
+
+// The killing of a cell.
+fn kill_cell(cell: u8, key: u64, words: &[u64; 64]) -> (Effect, Outcome, Option<Undo>)
+    requires low { 1 ≤ cell }
+    requires high { cell ≤ 7 }
+    ensures { result ≡ table.effect (Op.KillCell cell) key words.now }
+{
+    let found = dali_heap::kill(words, cell, key);
+    let undo = undo_of_kill(Undo::ReviveCell { cell }, found.1);
+    (found.0, found.1.into(), undo)
+}
+
+// The freeing of a cell.
+fn free_cell(cell: u8, words: &[u64; 64]) -> (Effect, Outcome, Option<Undo>)
+    requires low { 1 ≤ cell }
+    requires high { cell ≤ 7 }
+    ensures { result ≡ (heap.free words.now cell, Outcome.Undone, None) }
+{
+    (dali_heap::free(words, cell), Outcome::Undone, None)
+}
+
+// The revival of a cell.
+fn revive_cell(cell: u8, words: &[u64; 64]) -> (Effect, Outcome, Option<Undo>)
+    requires low { 1 ≤ cell }
+    requires high { cell ≤ 7 }
+    ensures { result ≡ (heap.revive words.now cell, Outcome.Undone, None) }
+{
+    (dali_heap::revive(words, cell), Outcome::Undone, None)
+}
+
+// The restoring of a cell.
+fn restore(
+    cell: u8,
+    length: u64,
+    value: &[u64; 5],
+    words: &[u64; 64],
+) -> (Effect, Outcome, Option<Undo>)
+    requires low { 1 ≤ cell }
+    requires high { cell ≤ 7 }
+    ensures { result ≡ (heap.restore words.now cell length value.now, Outcome.Undone, None) }
+{
+    (
+        dali_heap::restore(words, cell, length, value),
+        Outcome::Undone,
+        None,
+    )
+}
+
+// The freeing of an entry.
+fn free_entry(entry: u8, words: &[u64; 64]) -> (Effect, Outcome, Option<Undo>)
+    requires { entry ≤ 20 }
+    ensures { result ≡ (index.free words.now entry, Outcome.Undone, None) }
+{
+    (dali_index::free(words, entry), Outcome::Undone, None)
+}
+
+// The revival of an entry.
+fn revive_entry(entry: u8, words: &[u64; 64]) -> (Effect, Outcome, Option<Undo>)
+    requires { entry ≤ 20 }
+    ensures { result ≡ (index.revive words.now entry, Outcome.Undone, None) }
+{
+    (dali_index::revive(words, entry), Outcome::Undone, None)
+}
+
 /// What the operation does to the words of its region, what it finds there, and what takes it back.
 ///
 /// It depends on the words that it reads alone. Takes no memory.
+#[tactic(auto, using(crate::proofs::ByReads::effect_by_reads))]
 pub fn effect(op: &Op, key: u64, words: &[u64; 64]) -> (Effect, Outcome, Option<Undo>)
     requires { IsOperation op.now }
     ensures row { result ≡ table.effect op.now key words.now }
     ensures by_reads { EffectByReads op.now key words.now }
 {
     match op {
-        Op::Look => {
-            let (effect, found) = dali_index::look(words, key);
-            (effect, found.into(), None)
-        }
-        Op::Add { place } => {
-            let (effect, found) = dali_index::add(words, key, *place);
-            let undo = match found {
-                AddOutcome::Added { entry } => Some(Undo::FreeEntry { entry }),
-                AddOutcome::NoEntry => None,
-            };
-            (effect, found.into(), undo)
-        }
-        Op::KillEntry { entry } => {
-            let (effect, found) = dali_index::kill(words, *entry, key);
-            let undo = undo_of_kill(Undo::ReviveEntry { entry: *entry }, found);
-            (effect, found.into(), undo)
-        }
-        Op::Put { value } => {
-            let (effect, found) = dali_heap::put(words, key, value);
-            let undo = match found {
-                PutOutcome::Put { cell } => Some(Undo::FreeCell { cell }),
-                PutOutcome::NoCell => None,
-            };
-            (effect, found.into(), undo)
-        }
-        Op::Read { cell } => {
-            let (effect, found) = dali_heap::read(words, *cell, key);
-            (effect, found.into(), None)
-        }
-        Op::Change { cell, value } => {
-            let (effect, found) = dali_heap::change(words, *cell, key, value);
-            let undo = match found {
-                ChangeOutcome::Changed => Some(Undo::Restore {
-                    cell: *cell,
-                    length: words[8 * *cell as usize + 2],
-                    words: dali_heap::value_words(words, *cell),
-                }),
-                _ => None,
-            };
-            (effect, found.into(), undo)
-        }
-        Op::KillCell { cell } => {
-            let (effect, found) = dali_heap::kill(words, *cell, key);
-            let undo = undo_of_kill(Undo::ReviveCell { cell: *cell }, found);
-            (effect, found.into(), undo)
-        }
-        Op::FreeCell { cell } => (dali_heap::free(words, *cell), Outcome::Undone, None),
-        Op::ReviveCell { cell } => (dali_heap::revive(words, *cell), Outcome::Undone, None),
+        Op::Look => look(key, words),
+        Op::Add { place } => add(*place, key, words),
+        Op::KillEntry { entry } => kill_entry(*entry, key, words),
+        Op::Put { value } => put(value, key, words),
+        Op::Read { cell } => read(*cell, key, words),
+        Op::Change { cell, value } => change(*cell, value, key, words),
+        Op::KillCell { cell } => kill_cell(*cell, key, words),
+        Op::FreeCell { cell } => free_cell(*cell, words),
+        Op::ReviveCell { cell } => revive_cell(*cell, words),
         Op::Restore {
             cell,
             length,
             words: value,
-        } => (
-            dali_heap::restore(words, *cell, *length, value),
-            Outcome::Undone,
-            None,
-        ),
-        Op::FreeEntry { entry } => (dali_index::free(words, *entry), Outcome::Undone, None),
-        Op::ReviveEntry { entry } => (dali_index::revive(words, *entry), Outcome::Undone, None),
+        } => restore(*cell, *length, value, words),
+        Op::FreeEntry { entry } => free_entry(*entry, words),
+        Op::ReviveEntry { entry } => revive_entry(*entry, words),
     }
 }
 
@@ -183,17 +285,17 @@ impl Block {
         ensures made { result ≡ made words.now key region op }
         ensures spelled { IsBlock result }
     {
-        let (effect, outcome, undo) = effect(&op, key, words);
+        let found = effect(&op, key, words);
         Block {
             key,
             region,
             op,
-            read: effect.read,
-            xor: xor_under(words, effect.read),
-            write: effect.write,
-            after: Words::under(effect.write, &effect.after),
-            outcome,
-            undo,
+            read: found.0.read,
+            xor: xor_under(words, found.0.read),
+            write: found.0.write,
+            after: Words::under(found.0.write, &found.0.after),
+            outcome: found.1,
+            undo: found.2,
         }
     }
 }

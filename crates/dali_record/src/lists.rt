@@ -35,17 +35,15 @@ impl Words {
         }
     }
 
-    /// The words of a region in the set `mask`, ascending.
+    /// The words of a region in the set `mask`, ascending. It goes from one word of the set to the next.
     pub fn under(mask: u64, words: &[u64; 64]) -> Self
         ensures { result ≡ under mask words.now }
     {
         let mut chosen = Words::new();
         let mut left = mask;
-        for word in words {
-            if left % 2 == 1 {
-                chosen.push(*word);
-            }
-            left /= 2;
+        while left != 0 {
+            chosen.push(words[left.trailing_zeros() as usize]);
+            left &= left - 1;
         }
         chosen
     }

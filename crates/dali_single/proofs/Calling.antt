@@ -1,5 +1,5 @@
 -- A whole call: its request, its plan, and its end.
-use Rattle.std.proofs.Common.{◌≡◌, ℕ, Bool, true, false, not, ◌&&◌, ◌||◌, List, [], ◌∷◌, ◌++◌, Option, Some, None, IsSome, refl, sym, ap, subst, ◌∙◌, length}
+use Rattle.std.proofs.Common.{inl, inr, ◌≡◌, ℕ, Bool, true, false, not, ◌&&◌, ◌||◌, List, [], ◌∷◌, ◌++◌, Option, Some, None, IsSome, refl, sym, ap, subst, ◌∙◌, length, slice_get, slice_set}
 use Rattle.std.specs.Prelude.{◌==◌, if◌then◌else◌}
 use Rattle.std.specs.List.{AllByRecursion}
 use Rattle.std.specs.FinMap.{get}
@@ -47,13 +47,17 @@ use Rattle.dali_calls.proofs.Wholes.{back_next}
 use Rattle.dali_calls.proofs.Answering.{done_follows}
 use Rattle.dali_calls.proofs.Following.{refused_rests}
 use Rattle.dali_calls.proofs.Stepping.{done_is_step}
+use Rattle.dali_single.specs.Stands.{core, IsAtRest, AtPlan}
 use Rattle.dali_single.specs.declared.error.CallError.{CallError}
 use Rattle.dali_single.specs.declared.error.StepError.{StepError}
 use Rattle.dali_single.specs.Refusals.{IsRefusal}
 use Rattle.dali_single.specs.declared.error.CallError.TheVariants.{Wait, Busy, Refused, HalfDone}
-use Rattle.dali_single.specs.Single.{core, Leads, MayCall, IsAnswered, IsAsBefore, IsHalfDone, Fails, MayUndo, AreCovered, Keeps}
-use Rattle.dali_single.specs.Advanced.{IsAtRest, AtPlan, Led, Advanced, Finished, GivenUp}
-use Rattle.dali_single.proofs.Going.{row_there}
+use Rattle.dali_single.specs.Single.{Leads, MayCall, IsAnswered, IsRefusedAt, IsAsBefore, IsHalfDone, Fails, MayUndo, AreCovered, Keeps}
+use Rattle.dali_single.specs.Operated.{IsLeftOf}
+use Rattle.dali_single.specs.Advanced.{Led, Advanced, Finished, AreLeftOf, Halts, GivenUp}
+use Rattle.dali_single.proofs.Lists.{set_same}
+use Rattle.dali_single.proofs.Leading.{leads_there, steps_on, stays_free}
+use Rattle.dali_single.proofs.Going.{row_there, alive, stays, none_operated, goes_further}
 
 -- ---- the lock
 covered : (o : Option Mode) (b : Bool) → covers (Some (stronger_mode o (if b then Shared else Exclusive))) (not b) ≡ true
@@ -300,22 +304,48 @@ turned_undos precheck rs rs2 y y2 t call q m =
     let first = m.onward.undos (undos_at y.table t) (sym (append-nil (undos_at y.table t))) in
     ap (undos_at y2.table) (sym mid_txn) ∙ m.back.undos (undos_at y.table t) (subst (λ (u : ℕ). undos_at m.mid_system.table u ≡ undos_at y.table t ++ m.mid.changes) (sym mid_txn) first)
 
-pub call_taken_back : (precheck : Bool) (rs rs2 : List RegionState) (y y2 : SystemState) (t : ℕ) (call : Call) (q : Planned) (cause : StepError) → state_of y t ≡ Some Live → IsAnswer y.locks t (call_key call) (mode_of call) Granted
-    → (m : Turned precheck rs y t call rs2 y2 q) (b : Bool) → IsRefusal precheck b t m.mid_regions m.mid_system cause → IsWhole q → plan_next q ≡ None
-    → (L : List Record) (v : VaultState) → MayCall L (core rs y v) t → IsAsBefore L (core rs y v) t precheck cause (core rs2 y2 v)
-call_taken_back precheck rs rs2 y y2 t call q cause lives free m b why w none L v may =
+-- where it stood when it was refused
+abbrev refused_at : (precheck : Bool) (rs rs2 : List RegionState) (y y2 : SystemState) (t : ℕ) (call : Call) (q : Planned) (cause : StepError) → state_of y t ≡ Some Live → IsAnswer y.locks t (call_key call) (mode_of call) Granted
+    → (m : Turned precheck rs y t call rs2 y2 q) → IsWhole m.mid → IsRefusal precheck m.mid m.mid_regions m.mid_system cause
+    → (L : List Record) (v : VaultState) → MayCall L (core rs y v) t → IsRefusedAt precheck L (core rs y v) t call Calling cause
+refused_at precheck rs rs2 y y2 t call q cause lives free m w why L v may =
     let one = m.onward.goes L v (at_new L rs y v t call may) in
+    record {
+      log = one.log;
+      mid = core m.mid_regions m.mid_system v;
+      steps = AsksLock t (call_key call) (mode_of call) ∷ one.steps;
+      leads = asked precheck L one.log (core rs y v) (core rs (granted y t (call_key call) (mode_of call)) v) (core m.mid_regions m.mid_system v) t (call_key call) (mode_of call) one.steps (row_there y t Live lives) free refl one.leads;
+      plan = m.mid;
+      is_of = (
+        txn_kept precheck rs m.mid_regions (granted y t (call_key call) (mode_of call)) m.mid_system (new_plan y.sizes t call) m.mid m.onward,
+        call_kept precheck rs m.mid_regions (granted y t (call_key call) (mode_of call)) m.mid_system (new_plan y.sizes t call) m.mid m.onward,
+        m.calling,
+      );
+      whole = w;
+      rest = m.onward.rest;
+      at = one.at;
+      refused = why;
+    }
+
+-- the steps that took back
+led_back : (precheck : Bool) (L : List Record) (rs rs2 : List RegionState) (y y2 : SystemState) (v : VaultState) (t : ℕ) (call : Call) (q : Planned) → (m : Turned precheck rs y t call rs2 y2 q)
+    → AtPlan L (core m.mid_regions m.mid_system v) m.mid → Led false t L (core m.mid_regions m.mid_system v) (core rs2 y2 v) q
+led_back precheck L rs rs2 y y2 v t call q m at =
     let mid_txn = txn_kept precheck rs m.mid_regions (granted y t (call_key call) (mode_of call)) m.mid_system (new_plan y.sizes t call) m.mid m.onward in
-    let led = subst (λ (n : ℕ). Led false n one.log (core m.mid_regions m.mid_system v) (core rs2 y2 v) q) mid_txn (m.back.goes one.log v (turned one.log (core m.mid_regions m.mid_system v) m.mid m.calling one.at)) in
+    subst (λ (n : ℕ). Led false n L (core m.mid_regions m.mid_system v) (core rs2 y2 v) q) mid_txn (m.back.goes L v (turned L (core m.mid_regions m.mid_system v) m.mid m.calling at))
+
+pub call_taken_back : (precheck : Bool) (rs rs2 : List RegionState) (y y2 : SystemState) (t : ℕ) (call : Call) (q : Planned) (cause : StepError) → state_of y t ≡ Some Live → IsAnswer y.locks t (call_key call) (mode_of call) Granted
+    → (m : Turned precheck rs y t call rs2 y2 q) → IsWhole m.mid → IsRefusal precheck m.mid m.mid_regions m.mid_system cause → IsWhole q → plan_next q ≡ None
+    → (L : List Record) (v : VaultState) → MayCall L (core rs y v) t → IsAsBefore L (core rs y v) t call precheck cause (core rs2 y2 v)
+call_taken_back precheck rs rs2 y y2 t call q cause lives free m mid_whole why w none L v may =
+    let first : IsRefusedAt precheck L (core rs y v) t call Calling cause = refused_at precheck rs rs2 y y2 t call q cause lives free m mid_whole why L v may in
+    let one = m.onward.goes L v (at_new L rs y v t call may) in
+    let led = led_back precheck one.log rs rs2 y y2 v t call q m one.at in
     let txn = turned_txn precheck rs rs2 y y2 t call q m in
     let phase : q.phase ≡ RefusedPhase = ap (λ (z : Planned). z.phase) m.back.same in
     let now = refused_rests y2.sizes led.log q w led.at.follows (refused_wants q phase none) in
     record {
-      mid_log = one.log;
-      mid = core m.mid_regions m.mid_system v;
-      onward = AsksLock t (call_key call) (mode_of call) ∷ one.steps;
-      leads = asked precheck L one.log (core rs y v) (core rs (granted y t (call_key call) (mode_of call)) v) (core m.mid_regions m.mid_system v) t (call_key call) (mode_of call) one.steps (row_there y t Live lives) free refl one.leads;
-      refused = (b, why);
+      refused = first;
       log = led.log;
       steps = led.steps;
       back = led.leads;
@@ -323,26 +353,60 @@ call_taken_back precheck rs rs2 y y2 t call q cause lives free m b why w none L 
       undos = turned_undos precheck rs rs2 y y2 t call q m ∙ (ap (λ (us : List Pending). undos_at y.table t ++ us) (none_left q phase none) ∙ append-nil (undos_at y.table t));
     }
 
-pub call_half_done : (precheck : Bool) (rs rs2 : List RegionState) (y y2 : SystemState) (t : ℕ) (call : Call) (q : Planned) (cause : StepError) → IsRefusal false true t rs2 y2 cause → state_of y t ≡ Some Live → IsAnswer y.locks t (call_key call) (mode_of call) Granted
-    → Turned precheck rs y t call rs2 y2 q
-    → (L : List Record) (v : VaultState) → MayCall L (core rs y v) t → IsHalfDone L (core rs y v) t precheck cause (core rs2 y2 v)
-call_half_done precheck rs rs2 y y2 t call q cause why lives free m L v may =
+-- ---- what a refused operation leaves
+pub left_advanced : (precheck : Bool) (rs rs' : List RegionState) (y : SystemState) (p : Planned) → IsAtRest rs y p → AreLeftOf p.txn rs rs' → Advanced precheck rs y p rs' y p
+left_advanced precheck rs rs' y p rest (inl same) = subst (λ (gs : List RegionState). Advanced precheck rs y p gs y p) (sym same) (stays precheck rs y p rest)
+left_advanced precheck rs rs' y p rest (inr o) = subst (λ (gs : List RegionState). Advanced precheck rs y p gs y p) (sym o.5) (none_operated precheck rs y p o.0 o.1 o.2 rest o.3 o.4)
+
+-- its steps log nothing
+record Left (t : ℕ) (L : List Record) (c d : CoreState) : Type 0 where
+  pub steps : List Step
+  pub leads : Leads false t L c steps L d
+  pub free : IsFree d t
+
+left_in : (L : List Record) (rs : List RegionState) (y : SystemState) (v : VaultState) (t r : ℕ) (g h : RegionState) → state_of y t ≡ Some Live → IsFree (core rs y v) t → slice_get rs r ≡ Some g → IsLeftOf t g h
+    → Left t L (core rs y v) (core (slice_set rs r h) y v)
+left_in L rs y v t r g h lives free at (inl same) =
+    subst (λ (gs : List RegionState). Left t L (core rs y v) (core gs y v)) (sym (set_same rs r h (at ∙ ap Some (sym same)))) (record { steps = []; leads = (refl, refl); free = free })
+left_in L rs y v t r g h lives free at (inr left) = record {
+  steps = steps_on r left.0;
+  leads = leads_there false L (core rs y v) t r g h left.0 (alive (state_of y t) lives) at left.1;
+  free = stays_free (core rs y v) (core (slice_set rs r h) y v) t r g h free at left.2 refl;
+}
+
+left_leads : (L : List Record) (rs rs' : List RegionState) (y : SystemState) (v : VaultState) (t : ℕ) → state_of y t ≡ Some Live → IsFree (core rs y v) t → AreLeftOf t rs rs' → Left t L (core rs y v) (core rs' y v)
+left_leads L rs rs' y v t lives free (inl same) = subst (λ (gs : List RegionState). Left t L (core rs y v) (core gs y v)) (sym same) (record { steps = []; leads = (refl, refl); free = free })
+left_leads L rs rs' y v t lives free (inr o) = subst (λ (gs : List RegionState). Left t L (core rs y v) (core gs y v)) (sym o.5) (left_in L rs y v t o.0 o.1 o.2 lives free o.3 o.4)
+
+pub call_half_done : (precheck : Bool) (rs rs2 rs3 : List RegionState) (y y2 : SystemState) (t : ℕ) (call : Call) (q : Planned) (first cause : StepError) → state_of y t ≡ Some Live → IsAnswer y.locks t (call_key call) (mode_of call) Granted
+    → (m : Turned precheck rs y t call rs2 y2 q) → IsWhole m.mid → IsRefusal precheck m.mid m.mid_regions m.mid_system first → IsWhole q → IsRefusal false q rs2 y2 cause → AreLeftOf q.txn rs2 rs3
+    → (L : List Record) (v : VaultState) → MayCall L (core rs y v) t → IsHalfDone L (core rs y v) t call precheck cause (core rs3 y2 v)
+call_half_done precheck rs rs2 rs3 y y2 t call q first cause lives free m mid_whole why w stuck left L v may =
+    let at_first : IsRefusedAt precheck L (core rs y v) t call Calling first = refused_at precheck rs rs2 y y2 t call q first lives free m mid_whole why L v may in
     let one = m.onward.goes L v (at_new L rs y v t call may) in
-    let mid_txn = txn_kept precheck rs m.mid_regions (granted y t (call_key call) (mode_of call)) m.mid_system (new_plan y.sizes t call) m.mid m.onward in
-    let led = subst (λ (n : ℕ). Led false n one.log (core m.mid_regions m.mid_system v) (core rs2 y2 v) q) mid_txn (m.back.goes one.log v (turned one.log (core m.mid_regions m.mid_system v) m.mid m.calling one.at)) in
+    let led = led_back precheck one.log rs rs2 y y2 v t call q m one.at in
     let txn = turned_txn precheck rs rs2 y y2 t call q m in
+    let more = left_leads led.log rs2 rs3 y2 v t (subst (λ (u : ℕ). state_of y2 u ≡ Some Live) txn m.back.rest.lives) (subst (IsFree (core rs2 y2 v)) txn led.at.free) (subst (λ (u : ℕ). AreLeftOf u rs2 rs3) txn left) in
     record {
-      mid_log = one.log;
-      mid = core m.mid_regions m.mid_system v;
-      onward = AsksLock t (call_key call) (mode_of call) ∷ one.steps;
-      leads = asked precheck L one.log (core rs y v) (core rs (granted y t (call_key call) (mode_of call)) v) (core m.mid_regions m.mid_system v) t (call_key call) (mode_of call) one.steps (row_there y t Live lives) free refl one.leads;
-      refused = why;
-      log = led.log;
-      steps = led.steps;
-      back = led.leads;
+      first = first;
+      refused = at_first;
+      stuck = record {
+        log = led.log;
+        mid = core rs2 y2 v;
+        steps = led.steps;
+        leads = led.leads;
+        plan = q;
+        is_of = (txn, ap (λ (z : Planned). z.call) m.back.same ∙ call_kept precheck rs m.mid_regions (granted y t (call_key call) (mode_of call)) m.mid_system (new_plan y.sizes t call) m.mid m.onward, ap (λ (z : Planned). z.phase) m.back.same);
+        whole = w;
+        rest = m.back.rest;
+        at = led.at;
+        refused = stuck;
+      };
+      steps = more.steps;
+      left = more.leads;
       working = led.at.follows.working;
       at_work = subst (λ (u : ℕ). AtWork y2.sizes led.log u led.at.follows.working) txn led.at.follows.at_work;
-      free = subst (λ (u : ℕ). IsFree (core rs2 y2 v) u) txn led.at.free;
+      free = more.free;
     }
 
 pub turned_keeps : (precheck : Bool) (rs rs2 : List RegionState) (y y2 : SystemState) (t : ℕ) (call : Call) (q : Planned) → state_of y t ≡ Some Live → IsWhole q → Turned precheck rs y t call rs2 y2 q → Keeps y t y2
@@ -390,31 +454,38 @@ advanced_as : (precheck : Bool) (rs rs' : List RegionState) (y asked : Served) (
     → Advanced precheck rs (granted y.state t (call_key call) (mode_of call)) (new_plan y.state.sizes t call) rs' y' q
 advanced_as precheck rs rs' y asked y' t call p q is f = subst (λ (x : Planned). Advanced precheck rs (granted y.state t (call_key call) (mode_of call)) x rs' y' q) is.plan (subst (λ (x : SystemState). Advanced precheck rs x p rs' y' q) is.granted_there f)
 
-abbrev turned_as : (precheck : Bool) (rs rs1 rs2 : List RegionState) (y asked : Served) (y1 y2 : SystemState) (t : ℕ) (call : Call) (p p1 q : Planned) → IsAsked y t call asked p → Advanced precheck rs asked.state p rs1 y1 p1 → Advanced false rs1 y1 (refused p1) rs2 y2 q
-    → Turned precheck rs y.state t call rs2 y2 q
-turned_as precheck rs rs1 rs2 y asked y1 y2 t call p p1 q is a b =
-    let now = advanced_as precheck rs rs1 y asked y1 t call p p1 is a in
-    record { mid_regions = rs1; mid_system = y1; mid = p1; calling = ap (λ (x : Planned). x.phase) now.same; onward = now; back = b }
+-- what it came to, from where it stood
+abbrev turned_as : (precheck : Bool) (rs rs1 rs2 : List RegionState) (y asked : Served) (y1 y2 : SystemState) (t : ℕ) (call : Call) (p p1 q : Planned) (given : StepError) → IsAsked y t call asked p → (h : Halts precheck rs asked.state p rs1 y1 p1 given)
+    → Advanced false rs1 y1 (refused p1) rs2 y2 q → Turned precheck rs y.state t call rs2 y2 q
+turned_as precheck rs rs1 rs2 y asked y1 y2 t call p p1 q given is h b =
+    let now = advanced_as precheck rs h.mid y asked y1 t call p p1 is h.advanced in
+    record {
+      mid_regions = h.mid;
+      mid_system = y1;
+      mid = p1;
+      calling = ap (λ (x : Planned). x.phase) now.same;
+      onward = now;
+      back = goes_further false h.mid rs1 rs2 y1 y1 y2 (refused p1) (refused p1) q (left_advanced false h.mid rs1 y1 (refused p1) (rest_turned h.mid y1 p1 h.advanced.rest) h.left) b;
+    }
 
 pub failed_there : (precheck : Bool) (e : CallError) (rs rs1 rs2 : List RegionState) (y asked : Served) (y1 y2 : SystemState) (t : ℕ) (call : Call) (p p1 : Planned) (given : StepError) → state_of y.state t ≡ Some Live
-    → IsAsked y t call asked p → Advanced precheck rs asked.state p rs1 y1 p1 → (back : Bool) × IsRefusal precheck back p.txn rs1 y1 given → GivenUp e given rs1 y1 p1 rs2 y2
+    → IsAsked y t call asked p → Halts precheck rs asked.state p rs1 y1 p1 given → GivenUp e given rs1 y1 p1 rs2 y2
     → (L : List Record) (v : VaultState) → MayCall L (core rs y.state v) t → Fails precheck e L (core rs y.state v) t call (core rs2 y2 v)
-failed_there precheck (Wait h) rs rs1 rs2 y asked y1 y2 t call p p1 given row is a why g = absurd g
-failed_there precheck (Busy h) rs rs1 rs2 y asked y1 y2 t call p p1 given row is a why g = absurd g
-failed_there precheck (Refused cause) rs rs1 rs2 y asked y1 y2 t call p p1 given row is a why g =
-    let txn : p.txn ≡ t = ap (λ (x : Planned). x.txn) is.plan in
-    call_taken_back precheck rs rs2 y.state y2 t call g.1 cause row is.free (turned_as precheck rs rs1 rs2 y asked y1 y2 t call p p1 g.1 is a g.3) why.0
-    (subst (λ (e : StepError). IsRefusal precheck why.0 t rs1 y1 e) (sym g.0) (subst (λ (u : ℕ). IsRefusal precheck why.0 u rs1 y1 given) txn why.1)) g.2 g.4
-failed_there precheck (HalfDone cause) rs rs1 rs2 y asked y1 y2 t call p p1 given row is a why g =
-    let txn : p1.txn ≡ t = ap (λ (x : Planned). x.txn) a.same ∙ ap (λ (x : Planned). x.txn) is.plan in
-    call_half_done precheck rs rs2 y.state y2 t call g.1 cause (subst (λ (u : ℕ). IsRefusal false true u rs2 y2 cause) txn g.0) row is.free (turned_as precheck rs rs1 rs2 y asked y1 y2 t call p p1 g.1 is a g.3)
+failed_there precheck (Wait h) rs rs1 rs2 y asked y1 y2 t call p p1 given row is a g = absurd g
+failed_there precheck (Busy h) rs rs1 rs2 y asked y1 y2 t call p p1 given row is a g = absurd g
+failed_there precheck (Refused cause) rs rs1 rs2 y asked y1 y2 t call p p1 given row is a g = λ L v may.
+    inr (call_taken_back precheck rs rs2 y.state y2 t call g.1 cause row is.free (turned_as precheck rs rs1 rs2 y asked y1 y2 t call p p1 g.1 given is a g.3) a.whole
+    (subst (λ (e : StepError). IsRefusal precheck p1 a.mid y1 e) (sym g.0) a.refused) g.2 g.4 L v may)
+failed_there precheck (HalfDone cause) rs rs1 rs2 y asked y1 y2 t call p p1 given row is a g =
+    call_half_done precheck rs g.1.mid rs2 y.state y2 t call g.0 given cause row is.free (turned_as precheck rs rs1 g.1.mid y asked y1 y2 t call p p1 g.0 given is a g.1.advanced) a.whole a.refused g.1.whole g.1.refused g.1.left
 
 pub failed_keeps : (precheck : Bool) (e : CallError) (rs rs1 rs2 : List RegionState) (y asked : Served) (y1 y2 : SystemState) (t : ℕ) (call : Call) (p p1 : Planned) (given : StepError) → state_of y.state t ≡ Some Live
-    → IsAsked y t call asked p → Advanced precheck rs asked.state p rs1 y1 p1 → GivenUp e given rs1 y1 p1 rs2 y2 → Keeps y.state t y2
+    → IsAsked y t call asked p → Halts precheck rs asked.state p rs1 y1 p1 given → GivenUp e given rs1 y1 p1 rs2 y2 → Keeps y.state t y2
 failed_keeps precheck (Wait h) rs rs1 rs2 y asked y1 y2 t call p p1 given lives is a g = absurd g
 failed_keeps precheck (Busy h) rs rs1 rs2 y asked y1 y2 t call p p1 given lives is a g = absurd g
-failed_keeps precheck (Refused cause) rs rs1 rs2 y asked y1 y2 t call p p1 given lives is a g = turned_keeps precheck rs rs2 y.state y2 t call g.1 lives g.2 (turned_as precheck rs rs1 rs2 y asked y1 y2 t call p p1 g.1 is a g.3)
-failed_keeps precheck (HalfDone cause) rs rs1 rs2 y asked y1 y2 t call p p1 given lives is a g = turned_keeps precheck rs rs2 y.state y2 t call g.1 lives g.2 (turned_as precheck rs rs1 rs2 y asked y1 y2 t call p p1 g.1 is a g.3)
+failed_keeps precheck (Refused cause) rs rs1 rs2 y asked y1 y2 t call p p1 given lives is a g = turned_keeps precheck rs rs2 y.state y2 t call g.1 lives g.2 (turned_as precheck rs rs1 rs2 y asked y1 y2 t call p p1 g.1 given is a g.3)
+failed_keeps precheck (HalfDone cause) rs rs1 rs2 y asked y1 y2 t call p p1 given lives is a g =
+    turned_keeps precheck rs g.1.mid y.state y2 t call g.0 lives g.1.whole (turned_as precheck rs rs1 g.1.mid y asked y1 y2 t call p p1 g.0 given is a g.1.advanced)
 
 -- ---- a request that was refused
 pub busy_keeps : (y asked : Served) (t k : ℕ) (m : Mode) (a : LockAnswer) (h : ℕ) → a ≡ LockBusy h → asked ≡ record y { state = after_request y.state t k m a } → Keeps y.state t asked.state

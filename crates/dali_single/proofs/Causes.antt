@@ -1,5 +1,5 @@
 -- Why a call is refused where no operation is.
-use Rattle.std.proofs.Common.{inl, inr, ◌≡◌, ℕ, Bool, true, false, List, [], Option, Some, None, IfSome, Result, Err, refl, sym, ap, subst, ◌∙◌}
+use Rattle.std.proofs.Common.{inl, ◌≡◌, ℕ, Bool, true, false, List, Option, Some, None, IsSomeAnd, IfSome, Result, Err, refl, sym, ap, subst, ◌∙◌}
 use Rattle.std.specs.Prelude.{if◌then◌else◌}
 use Rattle.dali_geometry.specs.Sizes.{Sizes}
 use Rattle.dali_geometry.specs.Places.{heap_start, is_place, region_at, cell_at}
@@ -17,6 +17,7 @@ use Rattle.dali_locks.specs.declared.mode.LockAnswer.{LockAnswer}
 use Rattle.dali_system.specs.State.{SystemState, VaultState}
 use Rattle.dali_core.specs.declared.error.SystemError.{SystemError}
 use Rattle.dali_core.specs.declared.error.SystemError.TheVariants.{OutOfMemory as Memory}
+use Rattle.dali_core.specs.declared.want.Want.{Want}
 use Rattle.dali_core.specs.Refused.{refusal, stop_refusal}
 use Rattle.dali_core.specs.Served.{Served}
 use Rattle.dali_calls.specs.declared.stage.Stage.{Stage}
@@ -26,10 +27,14 @@ use Rattle.dali_calls.specs.declared.plan.Phase.TheVariants.{Calling}
 use Rattle.dali_calls.specs.Steps.{next_op, cell_op, in_cell, put_of, answer_of, nowhere_of, somewhere_of, is_insert, IsAt}
 use Rattle.dali_calls.specs.Plans.{Planned, plan_next, onward_next, is_back, is_back_in, IsWhole}
 use Rattle.dali_calls.proofs.Wholes.{onward_of}
+use Rattle.dali_single.specs.Stands.{core}
 use Rattle.dali_single.specs.declared.error.StepError.{StepError}
 use Rattle.dali_single.specs.declared.error.StepError.TheVariants.{System}
-use Rattle.dali_single.specs.Refusals.{IsAnswerTo, IsRefusal}
-use Rattle.dali_single.specs.Single.{core, MayCall, IsAsBefore}
+use Rattle.dali_single.specs.declared.error.CallError.TheVariants.{Refused}
+use Rattle.dali_single.specs.Refusals.{IsAnswerTo, IsRefusedIn, IsUnasked}
+use Rattle.dali_single.specs.Single.{MayCall, Fails}
+use Rattle.dali_single.specs.Advanced.{Advanced, Halts}
+use Rattle.dali_single.proofs.Reaching.{answers_next}
 
 -- ---- an answer that isn't logged
 somewhere_there : (s : Sizes) (call : Call) (place : ℕ) (b : Bool) → is_place s place ≡ b → cell_op s call place ≡ None → (a : Answer) × (somewhere_of s call place ≡ Some a)
@@ -76,12 +81,19 @@ plan_answers p w calling none = by_answer (answer_of p.geometry p.call p.stage) 
 error_is : (a b : SystemError) → (let r : Result (Answer × Receipt) SystemError = Err b in let q : Result (Answer × Receipt) SystemError = Err a in q ≡ r) → a ≡ b
 error_is a b e = cc
 
-pub done_refused : (precheck : Bool) (p : Planned) (t : ℕ) (y z : SystemState) (rs : List RegionState) (cause : SystemError) → IsWhole p → p.phase ≡ Calling → plan_next p ≡ None → p.txn ≡ t → z ≡ y
+pub done_halts : (precheck : Bool) (rs0 rs : List RegionState) (y0 y z : SystemState) (p0 p q : Planned) (cause : SystemError) → Advanced precheck rs0 y0 p0 rs y p → IsWhole p → p.phase ≡ Calling → plan_next p ≡ None → z ≡ y → q ≡ p
     → IfSome (answer_of p.geometry p.call p.stage) (λ a. IfSome (refusal y (record_length (Done p.txn p.call a))) (λ e. let r : Result (Answer × Receipt) SystemError = Err e in let q : Result (Answer × Receipt) SystemError = Err cause in q ≡ r))
     → IfSome (answer_of p.geometry p.call p.stage) (λ a. refusal y (record_length (Done p.txn p.call a)) ≡ None → cause ≡ Memory)
-    → (b : Bool) × IsRefusal precheck b t rs z (System cause)
-done_refused precheck p t y z rs cause w calling none txn still refused memory =
-    (false, subst (λ (x : SystemState). IsRefusal precheck false t rs x (System cause)) (sym still) (subst (λ (u : ℕ). IsRefusal precheck false u rs y (System cause)) txn (n, inr (inr (p, given.0, w, given.1, refl)), by_refusal (refusal y n) refl)))
+    → Halts precheck rs0 y0 p0 rs z q (System cause)
+done_halts precheck rs0 rs y0 y z p0 p q cause goes w calling none still same refused memory =
+    subst (λ (x : Planned). Halts precheck rs0 y0 p0 rs z x (System cause)) (sym same)
+    (subst (λ (x : SystemState). Halts precheck rs0 y0 p0 rs x p (System cause)) (sym still) (record {
+      mid = rs;
+      advanced = goes;
+      whole = w;
+      refused = subst (λ (n : Want). IsRefusedIn n precheck p rs y (System cause)) (sym (answers_next p calling none)) (subst (λ (o : Option Answer). IsSomeAnd o (λ a. IsAnswerTo (refusal y (record_length (Done p.txn p.call a))) cause)) (sym given.1) (by_refusal (refusal y n) refl));
+      left = inl refl;
+    }))
   where
     given : (a : Answer) × (answer_of p.geometry p.call p.stage ≡ Some a)
     given = plan_answers p w calling none
@@ -103,22 +115,11 @@ done_refused precheck p t y z rs cause w calling none txn still refused memory =
 lock_error_is : (a b : SystemError) → (let r : Result LockAnswer SystemError = Err b in let q : Result LockAnswer SystemError = Err a in q ≡ r) → a ≡ b
 lock_error_is a b e = cc
 
-pub not_asked : (precheck : Bool) (rs : List RegionState) (y z : Served) (t : ℕ) (told : StepError) (cause : SystemError) → told ≡ System cause → z ≡ y
+pub not_asked : (precheck : Bool) (rs : List RegionState) (y z : Served) (t : ℕ) (call : Call) (told : StepError) (cause : SystemError) → told ≡ System cause → z ≡ y
     → IfSome (stop_refusal y.state) (λ e. let r : Result LockAnswer SystemError = Err e in let q : Result LockAnswer SystemError = Err cause in q ≡ r) → (stop_refusal y.state ≡ None → cause ≡ Memory)
-    → (L : List Record) (v : VaultState) → MayCall L (core rs y.state v) t → IsAsBefore L (core rs y.state v) t precheck told (core rs z.state v)
-not_asked precheck rs y z t told cause is still refused memory L v may =
-    subst (λ (x : Served). IsAsBefore L (core rs y.state v) t precheck told (core rs x.state v)) (sym still) (subst (λ (e : StepError). IsAsBefore L (core rs y.state v) t precheck e (core rs y.state v)) (sym is) (record {
-      mid_log = L;
-      mid = core rs y.state v;
-      onward = [];
-      leads = (refl, refl);
-      refused = (true, (0, inl refl, by_refusal (stop_refusal y.state) refl));
-      log = L;
-      steps = [];
-      back = (refl, refl);
-      may = may;
-      undos = refl;
-    }))
+    → (L : List Record) (v : VaultState) → MayCall L (core rs y.state v) t → Fails precheck (Refused told) L (core rs y.state v) t call (core rs z.state v)
+not_asked precheck rs y z t call told cause is still refused memory L v may =
+    inl (subst (IsUnasked y.state) (sym is) (by_refusal (stop_refusal y.state) refl), ap (λ (x : Served). core rs x.state v) still)
   where
     by_refusal : (o : Option SystemError) → stop_refusal y.state ≡ o → IsAnswerTo o cause
     by_refusal None i = memory i

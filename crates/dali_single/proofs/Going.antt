@@ -33,9 +33,10 @@ use Rattle.dali_calls.specs.Followed.{Follows, HoldsCall, IsReady}
 use Rattle.dali_calls.proofs.Wholes.{back_next}
 use Rattle.dali_calls.proofs.Following.{onward_follows, back_follows, drop_append}
 use Rattle.dali_calls.proofs.Stepping.{onward_is_step, back_is_step}
+use Rattle.dali_single.specs.Stands.{core, IsAtRest, AtPlan}
 use Rattle.dali_single.specs.Operated.{Goes, Operated, IsLeftOf}
-use Rattle.dali_single.specs.Single.{core, is_end, IsOwnStep, Leads}
-use Rattle.dali_single.specs.Advanced.{IsAtRest, AtPlan, Led, Advanced}
+use Rattle.dali_single.specs.Single.{is_end, IsOwnStep, Leads}
+use Rattle.dali_single.specs.Advanced.{Led, Advanced}
 use Rattle.dali_single.proofs.Lists.{set_same, set_twice, get_set}
 use Rattle.dali_single.proofs.Leading.{leads_on, one_step, leads_there, steps_on, stays_free}
 

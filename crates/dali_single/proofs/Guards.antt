@@ -1,16 +1,23 @@
--- A transaction that just began is live, and has nothing to take back.
-use Rattle.std.proofs.Common.{◌≡◌, ℕ, Option, Some, [], refl, sym, ap, subst, ◌∙◌}
+-- A transaction that just began is live, and has nothing to take back; a plan driven by hand is at rest; for the tests.
+use Rattle.std.proofs.Common.{◌≡◌, ℕ, Bool, List, Option, Some, None, [], refl, sym, ap, subst, ◌∙◌, length}
 use Rattle.std.specs.Prelude.{if◌then◌else◌}
 use Rattle.std.specs.List.{AllByRecursion}
 use Rattle.std.specs.Option.{option_map_or}
 use Rattle.std.specs.FinMap.{get}
 use Rattle.std.proofs.lemmas.Bool.Decides.{Decides-eqb}
+use Rattle.dali_geometry.specs.Places.{regions}
+use Rattle.dali_record.specs.declared.operations.Pending.{Pending}
+use Rattle.dali_region.specs.State.{RegionState}
 use Rattle.dali_att.specs.declared.state.State.TheVariants.{Live}
-use Rattle.dali_att.specs.Table.{fresh_row}
+use Rattle.dali_att.specs.Table.{Table, fresh_row}
 use Rattle.dali_att.proofs.Changes.{get-added}
 use Rattle.dali_system.specs.State.{TxnRow, SystemState, row_of, state_of, state_in}
 use Rattle.dali_system.specs.Steps.{begun}
+use Rattle.dali_calls.specs.declared.plan.Phase.TheVariants.{Calling}
+use Rattle.dali_calls.specs.Plans.{Planned}
+use Rattle.dali_single.specs.Stands.{IsAtRest}
 use Rattle.dali_single.specs.Single.{MayUndo, AreCovered, Keeps}
+use Rattle.dali_single.specs.Advanced.{Advanced}
 
 row_begun : (y : SystemState) → row_of (begun y) y.next ≡ Some fresh_row
 row_begun y = get-added y.table y.next fresh_row y.next ∙ ap (λ b. if b then Some fresh_row else get y.table y.next) ((Decides-eqb y.next y.next).1 refl)
@@ -25,3 +32,18 @@ begun_covered y z t e f =
 
 pub still_lives : (y z : SystemState) (t : ℕ) → Keeps y t z → state_of y t ≡ Some Live → state_of z t ≡ Some Live
 still_lives y z t keeps lives = keeps.state ∙ lives
+
+-- ---- a plan that is driven by hand
+pub rest_begun : (rs : List RegionState) (y : SystemState) (p : Planned) → p.geometry ≡ y.sizes → p.operation ≡ None → length rs ≡ regions y.sizes → state_of y p.txn ≡ Some Live → IsAtRest rs y p
+rest_begun rs y p sizes closed whole lives = record { sizes = sizes; whole = whole; lives = lives; closed = closed }
+
+pub rest_stopped : (rs : List RegionState) (y z : SystemState) (p : Planned) → z.sizes ≡ y.sizes → z.table ≡ y.table → IsAtRest rs y p → IsAtRest rs z p
+rest_stopped rs y z p sizes table rest = record {
+  sizes = rest.sizes ∙ sym sizes;
+  whole = rest.whole ∙ ap regions (sym sizes);
+  lives = ap (λ (m : Table Pending). state_in (get m p.txn)) table ∙ rest.lives;
+  closed = rest.closed;
+}
+
+pub still_calling : (precheck : Bool) (rs rs' : List RegionState) (y y' : SystemState) (p q : Planned) → Advanced precheck rs y p rs' y' q → p.phase ≡ Calling → q.phase ≡ Calling
+still_calling precheck rs rs' y y' p q goes calling = ap (λ (x : Planned). x.phase) goes.same ∙ calling

@@ -19,8 +19,9 @@ use Rattle.dali_calls.specs.Plans.{Planned, plan_next, want_of, want_in, undo_ne
 use Rattle.dali_calls.proofs.Wholes.{back_next, onward_of}
 use Rattle.dali_calls.proofs.OnKind.{next_kind}
 use Rattle.dali_calls.proofs.Following.{last_all}
+use Rattle.dali_single.specs.Stands.{IsAtRest}
 use Rattle.dali_single.specs.Operated.{Operated, IsLeftOf}
-use Rattle.dali_single.specs.Advanced.{IsAtRest, Advanced}
+use Rattle.dali_single.specs.Advanced.{Advanced}
 use Rattle.dali_single.proofs.Going.{one_operated, none_operated, goes_further}
 
 -- ---- the next operation

@@ -36,8 +36,11 @@ use Rattle.dali_core.specs.declared.operation.Operation.{Operation}
 use Rattle.dali_core.specs.Served.{Served, solo_room, promised_for}
 use Rattle.dali_core.specs.Promised.{Promised, promised_to, used}
 use Rattle.dali_core.proofs.Totals.{own_changes}
+use Rattle.dali_single.specs.Stands.{core}
 use Rattle.dali_single.specs.Operated.{IsHeldBy, AreWritten, Goes, IsLeftOf}
-use Rattle.dali_single.specs.Single.{core, OthersStay, MayUndo}
+use Rattle.dali_single.specs.declared.error.StepError.{StepError}
+use Rattle.dali_single.specs.Refusals.{IsUnfreed, IsStuck}
+use Rattle.dali_single.specs.Single.{OthersStay, MayUndo}
 use Rattle.dali_single.specs.Settling.{settle_room, IsPromised, MayFree, MayCommit, Commits, IsCommitted, IsSettled, IsLeft, left_behind, Freed, AreFreed}
 use Rattle.dali_single.proofs.Lists.{set_same, set_twice, get_set}
 use Rattle.dali_single.proofs.Leading.{leads_on, one_step, leads_there, steps_on, stays_free, goes_on}
@@ -46,6 +49,7 @@ use Rattle.dali_single.proofs.Calling.{all_undos}
 use Rattle.dali_single.proofs.Going.{row_here, row_apart}
 use Rattle.dali_single.proofs.Undoing.{ended_others, others_further}
 use Rattle.dali_single.proofs.Reaching.{kind_in}
+use Rattle.dali_single.proofs.Refusing.{stuck_there}
 
 -- ---- the operation
 pub freeing_spelled : (u : Undo) → is_removal u ≡ true → IsUndo u → IsOperation (freeing_op u) × (is_solo (freeing_op u) ≡ true)
@@ -142,7 +146,7 @@ freed_led L rs y v t u us b ws g opened xs fits may made_on spelled at goes is r
     }
 
 pub none_freed : (rs : List RegionState) (y : SystemState) (t : ℕ) (us : List Pending) → length rs ≡ regions y.sizes → AllByRecursion (MayFree y t) us → state_of y t ≡ Some Committed → AreFreed rs y t us us rs y
-none_freed rs y t us whole may state = record { whole = whole; may = may; state = state; others = λ n e. (refl, λ k. refl); leads = λ L v work. record { log = L; steps = []; leads = (refl, refl); at = work } }
+none_freed rs y t us whole may state = record { whole = whole; sizes = refl; may = may; state = state; others = λ n e. (refl, λ k. refl); leads = λ L v work. record { log = L; steps = []; leads = (refl, refl); at = work } }
 
 same_may : (y : SystemState) (t u : ℕ) (b : Block) (us : List Pending) → AllByRecursion (MayFree y t) us → AllByRecursion (MayFree (solo_logged y u b) t) us
 same_may y t u b us h = all_undos (MayFree y t) (MayFree (solo_logged y u b) t) us (λ w may. record { removal = may.removal; spelled = may.spelled; kind = may.kind; lock = may.lock }) h
@@ -153,6 +157,7 @@ free_further rs0 rs y0 y z t all us u g h fits goes at o =
     subst (λ (k : RegionState). AreFreed rs0 y0 t all us (slice_set rs u.region k) z) (sym o.region)
     (subst (λ (x : SystemState). AreFreed rs0 y0 t all us (slice_set rs u.region (touched o.opened)) x) (sym o.system) (record {
       whole = length-set rs u.region (touched o.opened) ∙ goes.whole;
+      sizes = goes.sizes;
       may = same_may y t t o.block us goes.may.1;
       state = goes.state;
       others = goes.others;
@@ -169,6 +174,7 @@ free_refused rs0 rs y0 s z t r all us g h goes at still (inl same) =
 free_refused rs0 rs y0 s z t r all us g h goes at still (inr left) =
     subst (λ (x : Served). AreFreed rs0 y0 t all us (slice_set rs r h) x.state) (sym still) (record {
       whole = length-set rs r h ∙ goes.whole;
+      sizes = goes.sizes;
       may = goes.may;
       state = goes.state;
       others = goes.others;
@@ -230,6 +236,16 @@ next_further y0 y z t i u g h e o = let one : z.next ≡ y.next + 1 = ap (λ (x 
 pub those_left : (rs rs' : List RegionState) (y : SystemState) (s z : Served) (t i : ℕ) (all : List Pending) (d : Pending) → i < length all → s.state.next ≡ y.next + i → z ≡ s → AreFreed rs y t all (get_or all i d ∷ drop (i + 1) all) rs' z.state
     → AreFreed rs y t all (left_behind y z.state all) rs' z.state
 those_left rs rs' y s z t i all d h e still goes = subst (λ (us : List Pending). AreFreed rs y t all us rs' z.state) (sym (left_is y z.state i all (next_still y s z i e still) ∙ drop_here all i d h)) goes
+
+pub none_behind : (y : SystemState) (s z : Served) (us : List Pending) → z ≡ s → s.state.next ≡ y.next + length us → slice_get (left_behind y z.state us) 0 ≡ None
+none_behind y s z us still e = ap (λ (left : List Pending). slice_get left 0) (left_is y z.state (length us) us (next_still y s z (length us) e still) ∙ drop_all us)
+
+-- the next one is what is refused
+pub removal_stuck : (rs : List RegionState) (y : SystemState) (s z : Served) (i : ℕ) (all : List Pending) (d : Pending) (g h : RegionState) (e : StepError) → i < length all → s.state.next ≡ y.next + i → z ≡ s
+    → slice_get rs (get_or all i d).region ≡ Some g → IsUnfreed h z.state e → IsStuck (slice_get (left_behind y z.state all) 0) (slice_set rs (get_or all i d).region h) z.state e
+removal_stuck rs y s z i all d g h e less next still at why =
+    subst (λ (us : List Pending). IsStuck (slice_get us 0) (slice_set rs (get_or all i d).region h) z.state e) (sym (left_is y z.state i all (next_still y s z i next still) ∙ drop_here all i d less))
+    (stuck_there rs (get_or all i d).region (get_or all i d) g h z.state e refl at why)
 
 pub settle_refused : (rs rs' : List RegionState) (y : SystemState) (s z : Served) (t : ℕ) (us : List Pending) → AreFreed rs y t us [] rs' s.state → z ≡ s → s.state.next ≡ y.next + length us
     → (L : List Record) (v : VaultState) → IsCommitted L (core rs y v) t us → IsLeft L (core rs y v) t (left_behind y z.state us) (core rs' z.state v)
@@ -319,6 +335,11 @@ pub promised_further : (s z : Served) (t i : ℕ) (all : List Pending) → i < l
 promised_further s z t i all less h kept =
     let long = drop_long all i less in
     kept (settle_room (length (drop (i + 1) all))) (less_promised s t (settle_room (length (drop i all))) (solo_room + settle_room (length (drop (i + 1) all))) (omega (arith, long)) h)
+
+pub promised_still : (y : SystemState) (s z : Served) (t i : ℕ) (all : List Pending) → s.state.next ≡ y.next + i → z ≡ s → IsPromised s t (settle_room (length (drop i all))) → IsPromised z t (settle_room (length (left_behind y z.state all)))
+promised_still y s z t i all next still h =
+    subst (λ (us : List Pending). IsPromised z t (settle_room (length us))) (sym (left_is y z.state i all (next_still y s z i next still)))
+    (subst (λ (x : Served). IsPromised x t (settle_room (length (drop i all)))) (sym still) h)
 
 pub promised_one : (s : Served) (t i : ℕ) (all : List Pending) → i < length all → IsPromised s t (settle_room (length (drop i all))) → IsPromised s t solo_room
 promised_one s t i all less h = let long = drop_long all i less in less_promised s t (settle_room (length (drop i all))) solo_room (omega (arith, long)) h

@@ -16,8 +16,9 @@ use Rattle.dali_system.specs.Keeps.{with_system, with_region, with_touched}
 use Rattle.dali_system.specs.Regions.{RegionStep, Latch, NoteReads, Update, TakeBack, Poke, Check, Die, Clean, IsOpen, MayChange, region_after}
 use Rattle.dali_system.specs.Courses.{Step, Begins, Operates, TakesBack, Frees, Answers, Commits, Ends, AuditBegins, AuditEnds, Locks as AsksLock, Refuses, OnRegion, Passes, Dies, Claims, GivesBack, Recovers, Stops, Checkpoints, Takes, Flushes, Faults, ReadFails, IsStep}
 use Rattle.dali_facts.proofs.Ends.{others_leave}
+use Rattle.dali_single.specs.Stands.{core}
 use Rattle.dali_single.specs.Operated.{IsOwn}
-use Rattle.dali_single.specs.Single.{core, IsOwnStep, Leads, HoldsStay, StandAside}
+use Rattle.dali_single.specs.Single.{IsOwnStep, Leads, HoldsStay, StandAside}
 use Rattle.dali_single.specs.Others.{OwnStepStandsAside, OwnStepsStandAside}
 use Rattle.dali_single.proofs.Lists.{get_set, get_apart}
 use Rattle.dali_single.proofs.Leading.{still_held}

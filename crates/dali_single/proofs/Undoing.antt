@@ -34,8 +34,9 @@ use Rattle.dali_core.specs.UnderWay.{IsUnderWay}
 use Rattle.dali_core.specs.Served.{Served}
 use Rattle.dali_calls.proofs.TakingBack.{taking_back_is_step}
 use Rattle.dali_calls.proofs.Following.{last_all}
+use Rattle.dali_single.specs.Stands.{core}
 use Rattle.dali_single.specs.Operated.{IsHeldBy, AreWritten, Goes, IsLeftOf}
-use Rattle.dali_single.specs.Single.{core, OthersStay, IsGone, MayUndo, AreCovered, Keeps}
+use Rattle.dali_single.specs.Single.{OthersStay, IsGone, MayUndo, AreCovered, Keeps}
 use Rattle.dali_single.specs.Ending.{IsAtWork, IsEnded, IsStillAtWork, Undone, UndoesFrom}
 use Rattle.dali_single.proofs.Lists.{set_same, get_set}
 use Rattle.dali_single.proofs.Leading.{leads_on, leads_there, steps_on, stays_free, goes_on}

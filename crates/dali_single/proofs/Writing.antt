@@ -1,6 +1,6 @@
 -- The words of an operation are written, one after another, and the operation is logged.
-use Rattle.std.proofs.Common.{inl, inr, inr, ◌≡◌, ℕ, ◌+◌, ◌-◌, ◌<◌, Bool, true, false, List, [], ◌∷◌, ◌++◌, Option, Some, None, IsSome, IsSomeAnd, IfSome, OnErr, Result, Ok, Err, refl, sym, ap, subst, ◌∙◌, length, arith}
-use Rattle.std.specs.Prelude.{◌^◌}
+use Rattle.std.proofs.Common.{inr, ◌≡◌, ℕ, ◌+◌, ◌-◌, ◌<◌, Bool, true, false, List, [], ◌∷◌, ◌++◌, Option, Some, None, IsSome, IsSomeAnd, IfSome, OnErr, Result, Ok, Err, refl, sym, ap, subst, ◌∙◌, length, arith}
+use Rattle.std.specs.Prelude.{◌^◌, not, ◌&&◌}
 use Rattle.dali_record.specs.declared.operations.Block.{Block}
 use Rattle.dali_record.specs.declared.records.Record.TheVariants.{Forward}
 use Rattle.dali_region.specs.declared.Hold.{Hold}
@@ -11,15 +11,17 @@ use Rattle.dali_system.specs.Keeps.{HasRoom}
 use Rattle.dali_system.specs.Regions.{RegionStep, Latch, NoteReads, Update, TakeBack, Poke, Check, Die, Clean, IsOpen, region_after}
 use Rattle.dali_core.specs.declared.operation.Operation.{Operation}
 use Rattle.dali_region.specs.declared.Receipt.{Receipt}
+use Rattle.dali_region.specs.Answers.{latch_answer}
 use Rattle.dali_core.specs.declared.error.SystemError.{SystemError}
 use Rattle.dali_core.specs.declared.error.SystemError.TheVariants.{OutOfMemory as Memory}
 use Rattle.dali_core.specs.Served.{Served}
 use Rattle.dali_core.specs.UnderWay.{IsUnderWay, IsUpdated}
 use Rattle.dali_calls.specs.Steps.{call_key, IsBlockOf}
 use Rattle.dali_calls.specs.Plans.{Planned, plan_next, is_back, went_back, with_operation, commit_refusal, GoesOn}
+use Rattle.dali_record.specs.Blocks.{IsSoundOn}
 use Rattle.dali_record.specs.Spelling.{record_length}
 use Rattle.dali_single.specs.declared.error.StepError.TheVariants.{System}
-use Rattle.dali_single.specs.Refusals.{IsAnswerTo, IsRefused}
+use Rattle.dali_single.specs.Refusals.{IsAnswerTo, IsRefusedOn}
 use Rattle.dali_single.specs.Operated.{IsHeldBy, AreWritten, Goes, Operated, IsLeftOf}
 use Rattle.dali_single.proofs.Leading.{updates_on, updates_go, goes_on}
 
@@ -82,6 +84,7 @@ pub record Written (p : Planned) (g : RegionState) (q : Planned) (h : RegionStat
   pub is : q ≡ with_operation p (Some operation)
   pub txn : operation.txn ≡ p.txn
   pub of : IsBlockOf (plan_next p) (call_key p.call) operation.block
+  pub sound : IsSoundOn g.words operation.block
   pub steps : List RegionStep
   pub goes : Goes p.txn g steps h
   pub is_open : IsOpen h operation.txn operation.block
@@ -89,21 +92,22 @@ pub record Written (p : Planned) (g : RegionState) (q : Planned) (h : RegionStat
 abbrev pub IsMade : Planned → RegionState → Option Operation → RegionState → Type 0
 IsMade p g o g1 = IsSomeAnd o (λ o. (o.txn ≡ p.txn) × IsBlockOf (plan_next p) (call_key p.call) o.block × IsUnderWay o.txn o.block o.left o.taken g1 × (g1 ≡ with_reads o.block.read (latched p.txn g)))
 
-pub written : (p p1 p2 : Planned) (g g1 g2 : RegionState) → g.hold ≡ None → IsMade p g p1.operation g1 → p1 ≡ with_operation p p1.operation
+pub written : (p p1 p2 : Planned) (g g1 g2 : RegionState) → g.hold ≡ None → IsMade p g p1.operation g1 → IsSomeAnd p1.operation (λ o. IsSoundOn g.words o.block) → p1 ≡ with_operation p p1.operation
     → IsSomeAnd p2.operation (λ o. IsOpen g2 o.txn o.block) → IsSameWay p1.operation p2.operation → p2 ≡ with_operation p1 p2.operation → AreWritten g1 g2
     → Written p g p2 g2
-written p p1 p2 g g1 g2 free made one opened same two w = by_both p1.operation p2.operation refl refl made opened same
+written p p1 p2 g g1 g2 free made sound one opened same two w = by_both p1.operation p2.operation refl refl made sound opened same
   where
-    by_both : (a b : Option Operation) → p1.operation ≡ a → p2.operation ≡ b → IsMade p g a g1 → IsSomeAnd b (λ o. IsOpen g2 o.txn o.block) → IsSameWay a b → Written p g p2 g2
-    by_both None b i j m o s = absurd m
-    by_both (Some a) None i j m o s = absurd o
-    by_both (Some a) (Some b) i j m o s =
+    by_both : (a b : Option Operation) → p1.operation ≡ a → p2.operation ≡ b → IsMade p g a g1 → IsSomeAnd a (λ o. IsSoundOn g.words o.block) → IsSomeAnd b (λ o. IsOpen g2 o.txn o.block) → IsSameWay a b → Written p g p2 g2
+    by_both None b i j m k o s = absurd m
+    by_both (Some a) None i j m k o s = absurd o
+    by_both (Some a) (Some b) i j m k o s =
         let goes = opened_by p.txn a.block g g1 g2 free m.1.spelled.read m.3 w in
         record {
           operation = b;
           is = two ∙ (ap (λ (x : Planned). with_operation x p2.operation) one ∙ ap (with_operation p) j);
           txn = s.0 ∙ m.0;
           of = subst (IsBlockOf (plan_next p) (call_key p.call)) (sym s.1) m.1;
+          sound = subst (IsSoundOn g.words) (sym s.1) k;
           steps = goes.0;
           goes = goes.1;
           is_open = o;
@@ -127,13 +131,12 @@ as_before p q r g h closed w is = is ∙ (ap (λ (x : Planned). with_operation x
 error_is : (a b : SystemError) → (let r : Result Receipt SystemError = Err b in let q : Result Receipt SystemError = Err a in q ≡ r) → a ≡ b
 error_is a b e = cc
 
-pub refused_so : (precheck : Bool) (p q : Planned) (g h : RegionState) (y : SystemState) (cause : SystemError) → Written p g q h
+pub refused_so : (precheck : Bool) (p q : Planned) (g h : RegionState) (y : SystemState) (cause : SystemError) → Written p g q h → Ok tt ≡ latch_answer (not (is_back p) && precheck) g
     → IfSome q.operation (λ o. IfSome (commit_refusal (is_back q) y (record_length (Forward q.txn o.block))) (λ e. let r : Result Receipt SystemError = Err e in let q : Result Receipt SystemError = Err cause in q ≡ r))
     → IfSome q.operation (λ o. commit_refusal (is_back q) y (record_length (Forward q.txn o.block)) ≡ None → cause ≡ Memory)
-    → IsRefused precheck (is_back p) p.txn g y (System cause)
-refused_so precheck p q g h y cause w refused memory =
-    let n = record_length (Forward p.txn w.operation.block) in
-    (n, inr (inl (w.operation.block, w.of.spelled, refl)), by_refusal (commit_refusal (is_back p) y n) refl)
+    → IsRefusedOn precheck p g y (System cause)
+refused_so precheck p q g h y cause w latched refused memory =
+    (latched, w.operation.block, w.of, w.sound, by_refusal (commit_refusal (is_back p) y (record_length (Forward p.txn w.operation.block))) refl)
   where
     given : IfSome (commit_refusal (is_back p) y (record_length (Forward p.txn w.operation.block))) (λ e. let r : Result Receipt SystemError = Err e in let q : Result Receipt SystemError = Err cause in q ≡ r)
     given = subst (λ (x : Planned). IfSome x.operation (λ o. IfSome (commit_refusal (is_back x) y (record_length (Forward x.txn o.block))) (λ e. let r : Result Receipt SystemError = Err e in let q : Result Receipt SystemError = Err cause in q ≡ r))) w.is refused
@@ -145,11 +148,11 @@ refused_so precheck p q g h y cause w refused memory =
     by_refusal None i = else_memory i
     by_refusal (Some f) i = error_is cause f (subst (λ (o : Option SystemError). IfSome o (λ e. let r : Result Receipt SystemError = Err e in let q : Result Receipt SystemError = Err cause in q ≡ r)) i given)
 
-pub refused_still : (precheck : Bool) (p q : Planned) (g h k : RegionState) (y z : Served) (cause : SystemError) → Written p g q h → z ≡ y
+pub refused_still : (precheck : Bool) (p q : Planned) (g h : RegionState) (y z : Served) (cause : SystemError) → Written p g q h → Ok tt ≡ latch_answer (not (is_back p) && precheck) g → z ≡ y
     → IfSome q.operation (λ o. IfSome (commit_refusal (is_back q) y.state (record_length (Forward q.txn o.block))) (λ e. let r : Result Receipt SystemError = Err e in let q : Result Receipt SystemError = Err cause in q ≡ r))
     → IfSome q.operation (λ o. commit_refusal (is_back q) y.state (record_length (Forward q.txn o.block)) ≡ None → cause ≡ Memory)
-    → IsRefused precheck (is_back p) p.txn k z.state (System cause)
-refused_still precheck p q g h k y z cause w still refused memory = subst (λ (x : Served). IsRefused precheck (is_back p) p.txn k x.state (System cause)) (sym still) (refused_so precheck p q g h y.state cause w refused memory)
+    → IsRefusedOn precheck p g z.state (System cause)
+refused_still precheck p q g h y z cause w latched still refused memory = subst (λ (x : Served). IsRefusedOn precheck p g x.state (System cause)) (sym still) (refused_so precheck p q g h y.state cause w latched refused memory)
 
 pub operated : (precheck : Bool) (p q r : Planned) (g h k : RegionState) (y z : Served) → Written p g q h → (is_back p ≡ false → precheck ≡ true → g.stray ≡ 0)
     → (is_back q ≡ false → IfSome q.operation (λ o. (z ≡ record y { state = op_logged y.state q.txn o.block }) × HasRoom y.state (Forward q.txn o.block) × GoesOn q o.block r))

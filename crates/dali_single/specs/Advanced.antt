@@ -1,42 +1,30 @@
 -- How a plan goes on over a core that one thread has alone.
---     IsAtRest rs y p          the plan p has no operation open; it is of these regions and of a live transaction of this system
---     AtPlan L c p             the log has come as far as the plan, which has its lock and no region latched
 --     Advanced precheck rs y p rs' y' p'       operations of the plan p led to p', and steps of a core to its regions and system
 --     Finished precheck rs y p a rs' y'        so did they, and the answer a was logged
---     GivenUp e given rs y p rs' y'          or what they changed was taken back
-use Rattle.std.specs.Prelude.{◌≡◌, ◌==◌, ℕ, Bool, true, false, List, ◌++◌, Some, None, length}
-use Rattle.dali_geometry.specs.Places.{regions}
+--     AreLeftOf t rs rs'       no operation was made: one region at most was latched for t, and is as its steps left it
+--     Halts precheck rs y p rs' y' q e         operations of p led to q, and the next one, or the answer, was refused
+--     GivenUp e given rs y p rs' y'            what they changed was taken back, or that was refused too
+use Rattle.std.specs.Prelude.{◌≡◌, ◌==◌, ◌⊎◌, ℕ, Bool, false, List, ◌++◌, Some, None, slice_get, slice_set}
 use Rattle.dali_record.specs.declared.operations.Pending.{Pending}
 use Rattle.dali_record.specs.declared.records.Answer.{Answer}
 use Rattle.dali_record.specs.declared.records.Record.{Record}
 use Rattle.dali_record.specs.declared.records.Record.TheVariants.{Done}
 use Rattle.dali_region.specs.State.{RegionState}
-use Rattle.dali_att.specs.declared.state.State.TheVariants.{Live}
 use Rattle.dali_att.specs.Table.{undos_at}
-use Rattle.dali_system.specs.State.{SystemState, VaultState, CoreState, row_of, state_of}
-use Rattle.dali_system.specs.Keeps.{HasRoom, IsFree}
+use Rattle.dali_system.specs.State.{SystemState, VaultState, CoreState, row_of}
+use Rattle.dali_system.specs.Keeps.{HasRoom}
 use Rattle.dali_system.specs.Steps.{done_logged}
 use Rattle.dali_system.specs.Courses.{Step}
 use Rattle.dali_core.specs.declared.want.Want.TheVariants.{Done as AnswerIsNext}
-use Rattle.dali_calls.specs.Followed.{Follows, HoldsCall}
 use Rattle.dali_calls.specs.Steps.{answer_of}
 use Rattle.dali_calls.specs.Plans.{Planned, plan_next, want_of, refused, IsWhole}
 use Rattle.dali_single.specs.declared.error.CallError.{CallError}
 use Rattle.dali_single.specs.declared.error.StepError.{StepError}
 use Rattle.dali_single.specs.Refusals.{IsRefusal}
 use Rattle.dali_single.specs.declared.error.CallError.TheVariants.{Refused, HalfDone}
-use Rattle.dali_single.specs.Single.{core, Leads}
-
-pub record IsAtRest (rs : List RegionState) (y : SystemState) (p : Planned) : Type 0 where
-  pub sizes : p.geometry ≡ y.sizes
-  pub whole : length rs ≡ regions y.sizes
-  pub lives : state_of y p.txn ≡ Some Live
-  pub closed : p.operation ≡ None
-
-pub record AtPlan (L : List Record) (c : CoreState) (p : Planned) : Type 0 where
-  pub follows : Follows c.system.sizes L p
-  pub holds : HoldsCall c.system p
-  pub free : IsFree c p.txn
+use Rattle.dali_single.specs.Operated.{IsLeftOf}
+use Rattle.dali_single.specs.Stands.{core, IsAtRest, AtPlan}
+use Rattle.dali_single.specs.Single.{Leads}
 
 -- the steps of a core that the operations made, and the log behind them
 pub record Led (precheck : Bool) (t : ℕ) (L : List Record) (c : CoreState) (d : CoreState) (q : Planned) : Type 0 where
@@ -64,7 +52,18 @@ pub record Finished (precheck : Bool) (rs : List RegionState) (y : SystemState) 
   pub room : HasRoom system (Done plan.txn plan.call a)
   pub logged : y' ≡ done_logged system plan.txn plan.call a
 
+abbrev pub AreLeftOf : ℕ → List RegionState → List RegionState → Type 0
+AreLeftOf t rs rs' = (rs' ≡ rs) ⊎ ((r : ℕ) × (g : RegionState) × (h : RegionState) × (slice_get rs r ≡ Some g) × IsLeftOf t g h × (rs' ≡ slice_set rs r h))
+
+pub record Halts (precheck : Bool) (rs : List RegionState) (y : SystemState) (p : Planned) (rs' : List RegionState) (y' : SystemState) (q : Planned) (e : StepError) : Type 0 where
+  -- where the plan stood
+  pub mid : List RegionState
+  pub advanced : Advanced precheck rs y p mid y' q
+  pub whole : IsWhole q
+  pub refused : IsRefusal precheck q mid y' e
+  pub left : AreLeftOf q.txn mid rs'
+
 abbrev pub GivenUp : CallError → StepError → List RegionState → SystemState → Planned → List RegionState → SystemState → Type 0
 GivenUp (Refused cause) given rs y p rs' y' = (cause ≡ given) × (q : Planned) × IsWhole q × Advanced false rs y (refused p) rs' y' q × (plan_next q ≡ None)
-GivenUp (HalfDone cause) given rs y p rs' y' = IsRefusal false true p.txn rs' y' cause × (q : Planned) × IsWhole q × Advanced false rs y (refused p) rs' y' q
+GivenUp (HalfDone cause) given rs y p rs' y' = (q : Planned) × Halts false rs y (refused p) rs' y' q cause
 GivenUp e given rs y p rs' y' = ⊥

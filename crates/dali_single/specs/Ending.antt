@@ -21,8 +21,9 @@ use Rattle.dali_system.specs.Courses.{Step, Ends, IsStep}
 use Rattle.dali_facts.specs.Plans.{AtWork}
 use Rattle.dali_core.specs.declared.take_back.TakeBack.{TakeBack}
 use Rattle.dali_core.specs.TakenBack.{next_undo, IsUndoBlock}
+use Rattle.dali_single.specs.Stands.{core}
 use Rattle.dali_single.specs.Operated.{Goes}
-use Rattle.dali_single.specs.Single.{core, Leads, OthersStay, AreCovered}
+use Rattle.dali_single.specs.Single.{Leads, OthersStay, AreCovered}
 
 pub record IsAtWork (L : List Record) (c : CoreState) (t : ℕ) : Type 0 where
   pub working : Working

@@ -1,5 +1,6 @@
 pub mod Operated
 pub mod Refusals
+pub mod Stands
 pub mod Single
 pub mod Advanced
 pub mod Ending

@@ -32,8 +32,9 @@ use Rattle.dali_system.specs.Courses.{Step, Commits as CommitsStep, Ends, IsStep
 use Rattle.dali_core.specs.Promised.{promised_to}
 use Rattle.dali_core.specs.Served.{Served, solo_room}
 use Rattle.dali_facts.specs.Ends.{IsUnbegun, IsEnding}
+use Rattle.dali_single.specs.Stands.{core}
 use Rattle.dali_single.specs.Operated.{Goes}
-use Rattle.dali_single.specs.Single.{core, Leads, OthersStay, MayCall}
+use Rattle.dali_single.specs.Single.{Leads, OthersStay, MayCall}
 
 pub record MayFree (y : SystemState) (t : ℕ) (u : Pending) : Type 0 where
   pub removal : is_removal u.undo ≡ true
@@ -97,6 +98,7 @@ pub record IsPromised (s : Served) (t n : ℕ) : Type 0 where
 
 pub record AreFreed (rs : List RegionState) (y : SystemState) (t : ℕ) (us left : List Pending) (rs' : List RegionState) (z : SystemState) : Type 0 where
   pub whole : length rs' ≡ regions z.sizes
+  pub sizes : z.sizes ≡ y.sizes
   pub may : AllByRecursion (MayFree z t) left
   pub state : state_of z t ≡ Some Committed
   pub others : OthersStay y t z

@@ -1,5 +1,4 @@
 -- A core that one thread has alone, and what a whole call makes of it.
---     core rs y v              the core of these regions, this system and this vault
 --     is_end x                 the step x logs the answer of a call, a commit or an end
 --     IsOwnStep precheck t c x         the step x is one of t's: it asks for a lock and is granted it, makes an operation on a region, or logs a record
 --                              of t; with precheck an operation that goes on with a call is logged only where the codeword tells no damage
@@ -10,12 +9,14 @@
 --     StandAside t L c M d     so it is, and the rules of the log have it where they had it
 --     MayCall L c t            t is between two calls, and has no region latched
 --     IsAnswered precheck L c t call a d       a call was answered: behind its operations comes its answer, and t may call again
---     IsAsBefore, IsHalfDone   a call was refused: t may call again and has the undos that it had; or it is in the midst of the call; and why
+--     IsRefusedAt precheck L c t call phase e  steps of t lead to where the plan of its call stands, in this phase, and what it wants next is refused
+--     IsAsBefore, IsHalfDone   a call was refused so, and t may call again and has the undos that it had; or its taking back was refused too, and t
+--                              is in the midst of the call
 --     Fails precheck e L c t call d    so it is, by the error
 --     MayUndo y t u            the undo u of t is on a region of its kind, and t has its key alone
 --     AreCovered y t           so it is of each of its undos
 --     Keeps y t z              the system has the sizes that it had, t its state, and undos that are covered where they were; and others stay
-use Rattle.std.specs.Prelude.{◌≡◌, ◌==◌, ◌<◌, ◌↔◌, ℕ, Bool, true, false, List, [], ◌∷◌, ◌++◌, Some, None, IsSomeAnd, IfSome, slice_get}
+use Rattle.std.specs.Prelude.{◌≡◌, ◌==◌, ◌<◌, ◌↔◌, ◌⊎◌, ℕ, Bool, true, false, List, [], ◌∷◌, ◌++◌, Some, None, IsSomeAnd, IfSome, slice_get}
 use Rattle.std.specs.List.{AllByRecursion}
 use Rattle.dali_record.specs.declared.operations.Pending.{Pending}
 use Rattle.dali_record.specs.declared.records.Answer.{Answer}
@@ -26,26 +27,25 @@ use Rattle.dali_record.specs.Operations.{undo_op}
 use Rattle.dali_record.specs.Spelling.{IsUndo}
 use Rattle.dali_record.specs.Legal.{Working, is_level, on_kind, txn_state}
 use Rattle.dali_region.specs.declared.Hold.{Hold}
-use Rattle.dali_region.specs.State.{RegionState}
 use Rattle.dali_locks.specs.declared.mode.LockAnswer.TheVariants.{Wait as LockWait, Busy as LockBusy}
 use Rattle.dali_locks.specs.Locks.{IsAnswer}
 use Rattle.dali_att.specs.Table.{undos_at}
-use Rattle.dali_system.specs.State.{SystemState, VaultState, CoreState, row_of, state_of, hold_of, lock_of}
+use Rattle.dali_system.specs.State.{SystemState, CoreState, row_of, state_of, hold_of, lock_of}
 use Rattle.dali_system.specs.Run.{covers}
 use Rattle.dali_system.specs.Keeps.{IsFree, with_system}
 use Rattle.dali_system.specs.Steps.{refused}
 use Rattle.dali_system.specs.Courses.{Step, Operates, TakesBack, Frees, Answers, Commits, Ends, Locks, OnRegion, IsStep}
 use Rattle.dali_facts.specs.Plans.{AtWork}
 use Rattle.dali_calls.specs.Steps.{call_key}
-use Rattle.dali_calls.specs.Plans.{mode_of}
+use Rattle.dali_calls.specs.declared.plan.Phase.{Phase}
+use Rattle.dali_calls.specs.declared.plan.Phase.TheVariants.{Calling, Refused as GoesBack}
+use Rattle.dali_calls.specs.Plans.{Planned, mode_of, IsWhole}
 use Rattle.dali_single.specs.declared.error.StepError.{StepError}
 use Rattle.dali_single.specs.Operated.{IsOwn}
-use Rattle.dali_single.specs.Refusals.{IsRefusal}
+use Rattle.dali_single.specs.Refusals.{IsRefusal, IsUnasked}
+use Rattle.dali_single.specs.Stands.{IsAtRest, AtPlan}
 use Rattle.dali_single.specs.declared.error.CallError.{CallError}
 use Rattle.dali_single.specs.declared.error.CallError.TheVariants.{Wait, Busy, Refused, HalfDone}
-
-abbrev pub core : List RegionState → SystemState → VaultState → CoreState
-core rs y v = record { regions = rs; system = y; vault = v }
 
 abbrev pub is_end : Step → Bool
 is_end (Answers t call a) = true
@@ -99,39 +99,44 @@ pub record IsAnswered (precheck : Bool) (L : List Record) (c : CoreState) (t : �
   pub answers : IsStep log mid (Answers t call a) (log ++ Done t call a ∷ []) d
   pub may : MayCall (log ++ Done t call a ∷ []) d t
 
-pub record IsAsBefore (L : List Record) (c : CoreState) (t : ℕ) (precheck : Bool) (cause : StepError) (d : CoreState) : Type 0 where
-  -- where it was refused
-  pub mid_log : List Record
+pub record IsRefusedAt (precheck : Bool) (L : List Record) (c : CoreState) (t : ℕ) (call : Call) (phase : Phase) (cause : StepError) : Type 0 where
+  pub log : List Record
   pub mid : CoreState
-  pub onward : List Step
-  pub leads : Leads precheck t L c onward mid_log mid
-  pub refused : (back : Bool) × IsRefusal precheck back t mid.regions mid.system cause
+  pub steps : List Step
+  pub leads : Leads precheck t L c steps log mid
+  pub plan : Planned
+  pub is_of : (plan.txn ≡ t) × (plan.call ≡ call) × (plan.phase ≡ phase)
+  pub whole : IsWhole plan
+  pub rest : IsAtRest mid.regions mid.system plan
+  pub at : AtPlan log mid plan
+  pub refused : IsRefusal precheck plan mid.regions mid.system cause
+
+pub record IsAsBefore (L : List Record) (c : CoreState) (t : ℕ) (call : Call) (precheck : Bool) (cause : StepError) (d : CoreState) : Type 0 where
+  pub refused : IsRefusedAt precheck L c t call Calling cause
   pub log : List Record
   pub steps : List Step
-  pub back : Leads false t mid_log mid steps log d
+  pub back : Leads false t refused.log refused.mid steps log d
   pub may : MayCall log d t
   pub undos : undos_at d.system.table t ≡ undos_at c.system.table t
 
-pub record IsHalfDone (L : List Record) (c : CoreState) (t : ℕ) (precheck : Bool) (cause : StepError) (d : CoreState) : Type 0 where
-  -- where the call was refused
-  pub mid_log : List Record
-  pub mid : CoreState
-  pub onward : List Step
-  pub leads : Leads precheck t L c onward mid_log mid
-  pub refused : IsRefusal false true t d.regions d.system cause
-  pub log : List Record
+pub record IsHalfDone (L : List Record) (c : CoreState) (t : ℕ) (call : Call) (precheck : Bool) (cause : StepError) (d : CoreState) : Type 0 where
+  -- why it was taken back
+  pub first : StepError
+  pub refused : IsRefusedAt precheck L c t call Calling first
+  pub stuck : IsRefusedAt false refused.log refused.mid t call GoesBack cause
+  -- behind it nothing was logged
   pub steps : List Step
-  pub back : Leads false t mid_log mid steps log d
+  pub left : Leads false t stuck.log stuck.mid steps stuck.log d
   pub working : Working
-  pub at_work : AtWork d.system.sizes log t working
+  pub at_work : AtWork d.system.sizes stuck.log t working
   pub free : IsFree d t
 
 abbrev pub Fails : Bool → CallError → List Record → CoreState → ℕ → Call → CoreState → Type 0
 Fails precheck (Wait h) L c t call d = IsAnswer c.system.locks t (call_key call) (mode_of call) (LockWait h) × (d ≡ c)
 Fails precheck (Busy h) L c t call d =
     IsAnswer c.system.locks t (call_key call) (mode_of call) (LockBusy h) × (d ≡ with_system c (refused c.system t (call_key call) (mode_of call) h))
-Fails precheck (Refused cause) L c t call d = IsAsBefore L c t precheck cause d
-Fails precheck (HalfDone cause) L c t call d = IsHalfDone L c t precheck cause d
+Fails precheck (Refused cause) L c t call d = (IsUnasked c.system cause × (d ≡ c)) ⊎ IsAsBefore L c t call precheck cause d
+Fails precheck (HalfDone cause) L c t call d = IsHalfDone L c t call precheck cause d
 
 pub record MayUndo (y : SystemState) (t : ℕ) (u : Pending) : Type 0 where
   pub spelled : IsUndo u.undo

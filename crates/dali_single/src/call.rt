@@ -1,15 +1,15 @@
 //! A whole call.
-ghost use Rattle.std.specs.Prelude.{◌≡◌, Bool, true, List, Some, None, OnOk, OnErr, IfOk, IfErr, length};
+ghost use Rattle.std.specs.Prelude.{◌≡◌, List, Some, None, OnOk, OnErr, IfOk, IfErr, length};
 ghost use Rattle.dali_geometry.specs.Places.{regions as regions_of};
 ghost use Rattle.dali_record.specs.declared.records.Record.{Record};
 ghost use Rattle.dali_record.specs.Spelling.{IsCall};
 ghost use Rattle.dali_att.specs.declared.state.State.TheVariants.{Live};
 ghost use Rattle.dali_system.specs.State.{VaultState, state_of};
-ghost use Rattle.dali_calls.specs.declared.plan.Phase.TheVariants.{Calling, Refused as RefusedPhase};
+ghost use Rattle.dali_calls.specs.declared.plan.Phase.TheVariants.{Calling};
 ghost use Rattle.dali_calls.specs.Plans.{plan_next, IsWhole};
-ghost use Rattle.dali_single.specs.Refusals.{IsRefusal};
-ghost use Rattle.dali_single.specs.Single.{core, MayCall, IsAnswered, Fails, Keeps};
-ghost use Rattle.dali_single.specs.Advanced.{Advanced, IsAtRest, Finished, GivenUp};
+ghost use Rattle.dali_single.specs.Stands.{core, IsAtRest};
+ghost use Rattle.dali_single.specs.Single.{MayCall, IsAnswered, Fails, Keeps};
+ghost use Rattle.dali_single.specs.Advanced.{Advanced, Finished, Halts, GivenUp};
 
 use crate::error::{CallError, StepError};
 use crate::operate::operate;
@@ -20,7 +20,7 @@ use dali_record::{Answer, Call};
 use dali_region::Region;
 
 // Makes the operations of the plan, one after another, until it wants none.
-fn advance(
+pub(crate) fn advance(
     plan: &mut Plan,
     regions: &mut [Region],
     system: &mut System,
@@ -30,7 +30,7 @@ fn advance(
     ensures goes { Advanced precheck regions.old system.old.state plan.old regions.new system.new.state plan.new }
     ensures ends { OnOk result (plan_next plan.new ≡ None) }
     ensures whole { IsWhole plan.new }
-    ensures cause { IfErr result (λ e. (back : Bool) × (plan.old.phase ≡ RefusedPhase → back ≡ true) × IsRefusal precheck back plan.old.txn regions.new system.new.state e) }
+    ensures cause { IfErr result (Halts precheck regions.old system.old.state plan.old regions.new system.new.state plan.new) }
 {
     while let Want::Region { region } = plan.wants() {
         match operate(plan, &mut regions[region as usize], system, precheck) {
@@ -52,7 +52,7 @@ fn finish(
     requires calling { plan.old.phase ≡ Calling }
     ensures ok { IfOk result (λ a. Finished precheck regions.old system.old.state plan.old a regions.new system.new.state) }
     ensures err { OnErr result (Advanced precheck regions.old system.old.state plan.old regions.new system.new.state plan.new) }
-    ensures cause { IfErr result (λ e. (back : Bool) × IsRefusal precheck back plan.old.txn regions.new system.new.state e) }
+    ensures cause { IfErr result (Halts precheck regions.old system.old.state plan.old regions.new system.new.state plan.new) }
 {
     match advance(plan, regions, system, precheck) {
         Ok(()) => {}
@@ -65,7 +65,7 @@ fn finish(
 }
 
 // Takes back what a refused call has changed.
-fn give_up(
+pub(crate) fn give_up(
     plan: &mut Plan,
     regions: &mut [Region],
     system: &mut System,

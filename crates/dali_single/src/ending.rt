@@ -1,5 +1,5 @@
 //! A transaction is taken back.
-ghost use Rattle.std.specs.Prelude.{◌≡◌, List, [], Some, None, IsSomeAnd, IfSome, IfErr, OnOk, OnErr, length, true, false};
+ghost use Rattle.std.specs.Prelude.{◌≡◌, List, [], Some, None, IsSomeAnd, IfSome, IfErr, OnOk, OnErr, length};
 ghost use Rattle.dali_geometry.specs.Places.{regions as regions_of};
 ghost use Rattle.dali_record.specs.declared.records.Record.{Record};
 ghost use Rattle.dali_record.specs.Spelling.{IsUndo};
@@ -7,10 +7,12 @@ ghost use Rattle.dali_att.specs.declared.state.State.TheVariants.{Live};
 ghost use Rattle.dali_att.specs.Table.{undos_at};
 ghost use Rattle.dali_system.specs.State.{VaultState, state_of};
 ghost use Rattle.dali_system.specs.Regions.{IsOpen};
+ghost use Rattle.dali_core.specs.TakenBack.{next_undo};
 ghost use Rattle.dali_core.specs.UnderWay.{IsUnderWay};
+ghost use Rattle.dali_single.specs.Stands.{core};
 ghost use Rattle.dali_single.specs.Operated.{AreWritten, IsLeftOf};
-ghost use Rattle.dali_single.specs.Refusals.{IsRefused, IsRefusal};
-ghost use Rattle.dali_single.specs.Single.{core, AreCovered, Keeps, OthersStay, IsGone};
+ghost use Rattle.dali_single.specs.Refusals.{IsUnfreed, IsStuck};
+ghost use Rattle.dali_single.specs.Single.{AreCovered, Keeps, OthersStay, IsGone};
 ghost use Rattle.dali_single.specs.Ending.{IsAtWork, IsEnded, IsStillAtWork, Undone, UndoesFrom};
 
 use crate::error::StepError;
@@ -35,7 +37,7 @@ fn undo(back: &mut TakeBack, region: &mut Region, system: &mut System) -> Result
     ensures ok { OnOk result (Undone back.old region.old system.old.state back.new region.new system.new.state) }
     ensures undoes { OnOk result (IfSome back.new.next (λ u. IsUndo u.undo)) }
     ensures err { OnErr result ((back.new ≡ back.old) × (system.new ≡ system.old) × IsLeftOf back.old.txn region.old region.new) }
-    ensures cause { IfErr result (λ e. IsRefused false true back.old.txn region.new system.new.state e) }
+    ensures cause { IfErr result (IsUnfreed region.new system.new.state) }
 {
     match back.latch(region, false) {
         Ok(()) => {}
@@ -55,7 +57,7 @@ fn take_back(regions: &mut [Region], system: &mut System, txn: u64) -> Result<()
     requires covered { AreCovered system.old.state txn }
     ensures goes { UndoesFrom regions.old system.old.state txn regions.new system.new.state }
     ensures all { OnOk result (undos_at system.new.state.table txn ≡ []) }
-    ensures cause { IfErr result (λ e. IsRefusal false true txn regions.new system.new.state e) }
+    ensures cause { IfErr result (IsStuck (next_undo (undos_at system.new.state.table txn) 0) regions.new system.new.state) }
 {
     let mut back = TakeBack::new(system, txn, 0);
     while let Want::Region { region } = back.wants() {
@@ -77,7 +79,7 @@ pub fn abort(regions: &mut [Region], system: &mut System, txn: u64) -> Result<()
         → IsEnded L (core regions.old system.old.state v) txn (core regions.new system.new.state v)) }
     ensures err { OnErr result ((L : List Record) (v : VaultState) → IsAtWork L (core regions.old system.old.state v) txn
         → IsStillAtWork L (core regions.old system.old.state v) txn (core regions.new system.new.state v)) }
-    ensures cause { IfErr result (λ e. IsRefusal false true txn regions.new system.new.state e) }
+    ensures cause { IfErr result (IsStuck (next_undo (undos_at system.new.state.table txn) 0) regions.new system.new.state) }
     ensures gone { OnOk result (IsGone system.new.state txn) }
     ensures others { OthersStay system.old.state txn system.new.state }
     ensures again { OnErr result (Keeps system.old.state txn system.new.state) }

@@ -3,9 +3,9 @@ ghost use Rattle.std.specs.Prelude.{◌≡◌, None, IsSome, IsSomeAnd, IfSome, 
 ghost use Rattle.dali_system.specs.State.{row_of};
 ghost use Rattle.dali_system.specs.Regions.{IsOpen};
 ghost use Rattle.dali_core.specs.UnderWay.{IsUnderWay};
-ghost use Rattle.dali_calls.specs.Plans.{plan_next, is_back, with_operation};
+ghost use Rattle.dali_calls.specs.Plans.{plan_next, with_operation};
 ghost use Rattle.dali_single.specs.Operated.{AreWritten, Operated, IsLeftOf};
-ghost use Rattle.dali_single.specs.Refusals.{IsRefused};
+ghost use Rattle.dali_single.specs.Refusals.{IsRefusedOn};
 
 use crate::error::StepError;
 use dali_calls::Plan;
@@ -35,7 +35,7 @@ pub(crate) fn operate(
     requires running { IsSome (row_of system.old.state plan.old.txn) }
     ensures ok { OnOk result (Operated precheck plan.old region.old system.old.state plan.new region.new system.new.state) }
     ensures err { OnErr result ((plan.new ≡ plan.old) × (system.new ≡ system.old) × IsLeftOf plan.old.txn region.old region.new) }
-    ensures cause { IfErr result (λ e. IsRefused precheck (is_back plan.old) plan.old.txn region.new system.new.state e) }
+    ensures cause { IfErr result (IsRefusedOn precheck plan.old region.old system.new.state) }
 {
     match plan.latch(region, precheck) {
         Ok(()) => {}

@@ -1,5 +1,5 @@
 //! A transaction commits, and what it removed is freed for good.
-ghost use Rattle.std.specs.Prelude.{◌≡◌, List, [], Some, None, Err, IfSome, OnOk, OnErr, IfOk, IfErr, length, true, false, ◌≤◌, ◌+◌, ℕ};
+ghost use Rattle.std.specs.Prelude.{◌≡◌, List, [], Some, None, Err, IfSome, OnOk, OnErr, IfOk, IfErr, length, slice_get, ◌≤◌, ◌+◌, ℕ};
 ghost use Rattle.std.specs.List.{AllByRecursion};
 ghost use Rattle.dali_geometry.specs.Places.{regions as regions_of};
 ghost use Rattle.dali_record.specs.declared.records.Record.{Record};
@@ -13,9 +13,10 @@ ghost use Rattle.dali_core.specs.Promised.{promised_to};
 ghost use Rattle.dali_core.specs.Served.{solo_room};
 ghost use Rattle.dali_core.specs.UnderWay.{IsUnderWay};
 ghost use Rattle.dali_core.specs.declared.error.SystemError.TheVariants.{OutOfMemory as Memory};
+ghost use Rattle.dali_single.specs.Stands.{core};
 ghost use Rattle.dali_single.specs.Operated.{AreWritten, IsLeftOf};
-ghost use Rattle.dali_single.specs.Refusals.{IsRefused, IsRefusal, IsLatched};
-ghost use Rattle.dali_single.specs.Single.{core, AreCovered, OthersStay, IsGone};
+ghost use Rattle.dali_single.specs.Refusals.{IsUnfreed, IsStuck, IsLatched};
+ghost use Rattle.dali_single.specs.Single.{AreCovered, OthersStay, IsGone};
 ghost use Rattle.dali_single.specs.Settling.{MayFree, Freed, MayCommit, Commits, IsCommitted, AreFreed, IsSettled, IsLeft, left_behind, settle_room, IsPromised};
 
 use crate::error::StepError;
@@ -55,7 +56,7 @@ fn free(
     requires { MayFree system.old.state txn removal.now }
     ensures ok { IfOk result (λ number. (number ≡ system.old.state.next) × Freed removal.now region.old system.old.state txn region.new system.new.state) }
     ensures err { OnErr result ((system.new ≡ system.old) × IsLeftOf txn region.old region.new) }
-    ensures cause { IfErr result (λ e. IsRefused false true txn region.new system.new.state e) }
+    ensures cause { IfErr result (IsUnfreed region.new system.new.state) }
     ensures promised { IsPromised system.old txn solo_room → IfErr result IsLatched }
     ensures kept { OnOk result ((n : ℕ) → IsPromised system.old txn (solo_room + n) → IsPromised system.new txn n) }
 {
@@ -95,8 +96,11 @@ fn free_all(
     ensures ok { OnOk result (AreFreed regions.old system.old.state txn removals.now [] regions.new system.new.state) }
     ensures freed { OnOk result (system.new.state.next ≡ system.old.state.next + length removals.now) }
     ensures err { OnErr result (AreFreed regions.old system.old.state txn removals.now (left_behind system.old.state system.new.state removals.now) regions.new system.new.state) }
-    ensures cause { IfErr result (λ e. IsRefusal false true txn regions.new system.new.state e) }
+    ensures cause { IfErr result (IsStuck (slice_get (left_behind system.old.state system.new.state removals.now) 0)
+        regions.new system.new.state) }
     ensures promised { IsPromised system.old txn (settle_room (length removals.now)) → IfErr result IsLatched }
+    ensures still { IsPromised system.old txn (settle_room (length removals.now))
+        → OnErr result (IsPromised system.new txn (settle_room (length (left_behind system.old.state system.new.state removals.now)))) }
     ensures kept { OnOk result (IsPromised system.old txn (settle_room (length removals.now)) → IsPromised system.new txn (settle_room 0)) }
 {
     for removal in removals {
@@ -148,8 +152,12 @@ pub fn settle(
     ensures err { OnErr result ((L : List Record) (v : VaultState) → IsCommitted L (core regions.old system.old.state v) txn removals.now
         → IsLeft L (core regions.old system.old.state v) txn (left_behind system.old.state system.new.state removals.now) (core regions.new system.new.state v)) }
     ensures again { OnErr result (AllByRecursion (MayFree system.new.state txn) (left_behind system.old.state system.new.state removals.now) × (state_of system.new.state txn ≡ Some Committed)) }
-    ensures cause { IfErr result (λ e. IsRefusal false true txn regions.new system.new.state e) }
+    ensures cause { IfErr result (IsStuck (slice_get (left_behind system.old.state system.new.state removals.now) 0)
+        regions.new system.new.state) }
     ensures promised { IsPromised system.old txn (settle_room (length removals.now)) → IfErr result IsLatched }
+    ensures still { IsPromised system.old txn (settle_room (length removals.now))
+        → OnErr result (IsPromised system.new txn (settle_room (length (left_behind system.old.state system.new.state removals.now)))) }
+    ensures sizes { system.new.state.sizes ≡ system.old.state.sizes }
     ensures gone { OnOk result (IsGone system.new.state txn) }
     ensures others { OthersStay system.old.state txn system.new.state }
 {

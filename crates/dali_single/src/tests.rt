@@ -1,12 +1,15 @@
 ghost use Rattle.std.specs.Prelude.{◌≤◌};
 
+use crate::call::{advance, give_up};
 use crate::{CallError, StepError, abort, commit, perform, settle};
 use anyhow::{Context, Result};
 use dali_att::State;
+use dali_calls::Plan;
 use dali_core::{System, SystemError};
 use dali_geometry::Geometry;
 use dali_record::{Answer, Call};
 use dali_region::{LatchError, Region};
+use dali_system::Cause;
 use dali_words::Value;
 use std::alloc::Global;
 use std::test::*;
@@ -104,19 +107,34 @@ fn a_call_that_is_refused_leaves_nothing(rt: HostRuntime) -> Result<()> {
     Ok(())
 }
 
-// The answer of a get over an entry of the key 1 with this place, and the cell 1 of region 1 with these words.
-fn odd(rt: &HostRuntime, place: u64, cell: [u64; 3]) -> Result<Option<Result<Answer, CallError>>> {
+// The answer of a call on the key 1 over an entry of it with this place, where the cell 1 of region 1 has these words, and
+// whether both regions have the words that they had.
+fn odd(
+    rt: &HostRuntime,
+    call: Call,
+    place: u64,
+    cell: [u64; 3],
+) -> Result<(Option<Result<Answer, CallError>>, bool)> {
     let (mut regions, mut system) = begun(rt, 200_000)?;
     let mut index = [0; 64];
     index[1..4].copy_from_slice(&[1, 1, place]);
     let mut heap = [0; 64];
     heap[8..11].copy_from_slice(&cell);
     regions = [Region::load(index), Region::load(heap)];
-    Ok(answer(&mut regions, &mut system, 1, Call::Get { key: 1 }))
+    let answered = answer(&mut regions, &mut system, 1, call);
+    let same = regions[0].words().as_slice() == index.as_slice()
+        && regions[1].words().as_slice() == heap.as_slice();
+    Ok((answered, same))
 }
 
 #[test]
 fn an_entry_may_name_no_record(rt: HostRuntime) -> Result<()> {
+    let value = Value::from_bytes(b"a").context("no value")?;
+    let calls = [
+        Call::Get { key: 1 },
+        Call::Update { key: 1, value },
+        Call::Delete { key: 1 },
+    ];
     let rows = [
         // a place in the index region, a free cell, another key, and a length above 40
         (3, [1, 1, 1]),
@@ -124,9 +142,61 @@ fn an_entry_may_name_no_record(rt: HostRuntime) -> Result<()> {
         (9, [1, 2, 1]),
         (9, [1, 1, 41]),
     ];
-    for (place, cell) in rows {
-        assert_eq!(rt; odd(&rt, place, cell)?, Some(Ok(Answer::Odd { place })));
+    for call in calls {
+        for (place, cell) in rows {
+            assert_eq!(rt;
+                odd(&rt, call, place, cell)?,
+                (Some(Ok(Answer::Odd { place })), true)
+            );
+        }
     }
+    Ok(())
+}
+
+// Makes the operations of a call of the transaction 1, stops the engine, and takes the call back; with how many undos are
+// left.
+#[tactic(auto, using(crate::proofs::Guards::rest_begun, crate::proofs::Guards::rest_stopped, crate::proofs::Guards::still_calling))]
+fn stopped_amid(
+    regions: &mut [Region; 2],
+    system: &mut System,
+    call: Call,
+) -> Option<(CallError, usize)> {
+    if system.geometry().regions() != 2 {
+        return None;
+    }
+    match system.state(1) {
+        Some(State::Live) => {}
+        _ => return None,
+    }
+    let mut plan = Plan::new(system.geometry(), 1, call);
+    match advance(&mut plan, regions, system, false) {
+        Ok(()) => {}
+        Err(_) => return None,
+    }
+    system.stop();
+    let cause = StepError::Latch {
+        cause: LatchError::Latched { holder: 2 },
+    };
+    let told = give_up(&mut plan, regions, system, cause);
+    Some((told, system.table().undos(1).len()))
+}
+
+#[test]
+fn a_call_that_cannot_be_taken_back_stands_half_done(rt: HostRuntime) -> Result<()> {
+    let value = Value::from_bytes(b"a").context("no value")?;
+    let (mut regions, mut system) = begun(&rt, 200_000)?;
+    let call = Call::Insert { key: 1, value };
+    let cause = StepError::System {
+        cause: SystemError::Stopped {
+            cause: Cause::Store,
+        },
+    };
+    // its put and its entry are left
+    assert_eq!(rt;
+        stopped_amid(&mut regions, &mut system, call),
+        Some((CallError::HalfDone { cause }, 2))
+    );
+    assert_eq!(rt; (regions[0].words()[1], regions[1].words()[8]), (1, 1));
     Ok(())
 }
 

@@ -17,19 +17,19 @@ use Rattle.dali_steps.specs.Called.{KeepsImage}
 use Rattle.dali_steps.specs.Courses.{calls_none, is_quiet, QuietCourse}
 use Rattle.dali_steps.proofs.Steps.{quiet_goes, quiet_keeps}
 
-came_same : (L : List Record) (c : CoreState) (x : Step) → calls_none x ≡ true → (F : Files) → CameBy L c x F F
+pub came_same : (L : List Record) (c : CoreState) (x : Step) → calls_none x ≡ true → (F : Files) → CameBy L c x F F
 came_same L c Flushes e F = absurd cc
 came_same L c (Faults n) e F = absurd cc
 came_same L c (ReadFails n) e F = refl
 came_same L c x e F = refl
 
-vault_same : (frame : List Record) (v w : VaultState) (x : Step) → calls_none x ≡ true → IsVaultStep frame v x w → w ≡ v
+pub vault_same : (frame : List Record) (v w : VaultState) (x : Step) → calls_none x ≡ true → IsVaultStep frame v x w → w ≡ v
 vault_same frame v w Flushes e s = absurd cc
 vault_same frame v w (Faults n) e s = absurd cc
 vault_same frame v w (ReadFails n) e s = absurd cc
 vault_same frame v w x e s = s
 
-both_true : (a b : Bool) → (not a && b) ≡ true → (a ≡ false) × (b ≡ true)
+pub both_true : (a b : Bool) → (not a && b) ≡ true → (a ≡ false) × (b ≡ true)
 both_true true b e = absurd cc
 both_true false b e = (refl, e)
 
@@ -49,7 +49,7 @@ module _ {V : Type 0} (told : V → Option Disk) (may_leave : V → Disk → Typ
   one_on : (s : Start) (B : List (List Record)) (p : Point) (n : Moment) (x : Step) (v : Vaulted V) → IsAt told may_leave faults s B p v → is_quiet x ≡ true → IsStepAt (moment_of p) x n → WentOneOn s B p n x v
   one_on s B p n x v at quiet there = record {
     step = step;
-    is = quiet_goes told may_leave faults s B p (stepped p x n) (Does x) v at step (came_same p.log p.core x calm.1) same;
+    is = quiet_goes told may_leave faults s B p (stepped p x n) (Does x) v at step refl (came_same p.log p.core x calm.1) same;
     keeps = quiet_keeps told may_leave faults p (stepped p x n) (Does x) v.store step refl same;
   }
     where

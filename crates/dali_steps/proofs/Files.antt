@@ -3,6 +3,7 @@ use Rattle.std.proofs.Common.{◌≡◌, ℕ, Bool, true, false, List, Option, S
 use Rattle.dali_vault.specs.declared.error.VaultError.{VaultError}
 use Rattle.dali_vault.specs.declared.error.VaultError.TheVariants.{Fault, Stopped}
 use Rattle.dali_store.specs.declared.store.FileName.{FileName}
+use Rattle.dali_store.specs.declared.store.FileName.TheVariants.{Anchor, ImageA, ImageB}
 use Rattle.dali_store.specs.Store.{Files as Disk, file_of, SameBut, Holds, HoldsIn, TornTold}
 use Rattle.dali_region.specs.declared.Side.{Side}
 use Rattle.dali_region.specs.declared.Side.TheVariants.{A, B}
@@ -12,6 +13,11 @@ pub named : (side : Side) (fs : Disk) → file_of (image_name side) fs ≡ image
 named A fs = refl
 named B fs = refl
 
+-- the anchor's move leaves both image files
+pub image_stays : (c d : Disk) (side : Side) → SameBut Anchor d c → image_file side c ≡ image_file side d
+image_stays c d A same = same ImageA (λ e. absurd (cc))
+image_stays c d B same = same ImageB (λ e. absurd (cc))
+
 -- the other files stay
 pub torn_over : (f : FileName) (at n : ℕ) (old new : Option Disk) (P Q : Disk → Type 0) → TornTold f at n old new → ((a b : Disk) → SameBut f a b → P a → Q b) → IfSome old P → IfSome new Q
 torn_over f at n (Some a) (Some b) P Q torn go is = go a b torn.same is
@@ -19,9 +25,9 @@ torn_over f at n (Some a) None P Q torn go is = tt
 torn_over f at n None (Some b) P Q torn go is = absurd (cc)
 torn_over f at n None None P Q torn go is = tt
 
--- the file holds the bytes
-pub held_over : (f : FileName) (at : ℕ) (bytes : List ℕ) (old new : Option Disk) (P Q : Disk → Type 0) → HoldsIn f at bytes old new → ((a b : Disk) → Holds (file_of f a) at bytes (file_of f b) → P a → Q b) → IfSome old P → IfSome new Q
-held_over f at bytes (Some a) (Some b) P Q holds go is = go a b holds.0 is
+-- the file holds the bytes, and the other files stay
+pub held_over : (f : FileName) (at : ℕ) (bytes : List ℕ) (old new : Option Disk) (P Q : Disk → Type 0) → HoldsIn f at bytes old new → ((a b : Disk) → SameBut f a b → Holds (file_of f a) at bytes (file_of f b) → P a → Q b) → IfSome old P → IfSome new Q
+held_over f at bytes (Some a) (Some b) P Q holds go is = go a b holds.1 holds.0 is
 held_over f at bytes (Some a) None P Q holds go is = tt
 held_over f at bytes None (Some b) P Q holds go is = absurd (cc)
 held_over f at bytes None None P Q holds go is = tt

@@ -1,4 +1,5 @@
 pub mod Frames
 pub mod Files
+pub mod Moments
 pub mod Steps
 pub mod Courses

@@ -1,5 +1,5 @@
 -- Each call of a vault is a step of a run.
-use Rattle.std.proofs.Common.{◌≡◌, ℕ, ◌+◌, ◌<◌, ◌^◌, true, false, cond, List, [], ◌∷◌, length, Option, Some, None, IfSome, is_some, refl, ap, sym, subst, ◌∙◌, arith}
+use Rattle.std.proofs.Common.{◌≡◌, ℕ, ◌+◌, ◌<◌, ◌≤◌, ◌^◌, true, false, cond, List, [], ◌∷◌, length, Option, Some, None, IfSome, is_some, refl, ap, sym, subst, ◌∙◌, arith}
 use Rattle.std.specs.Prelude.{⊤, ◌==◌, ◌&&◌}
 use Rattle.std.proofs.lemmas.Option.{IfSome_then}
 use Rattle.dali_geometry.specs.Places.{regions}
@@ -8,7 +8,7 @@ use Rattle.dali_record.specs.Spelling.{words_bytes}
 use Rattle.dali_region.specs.declared.Side.{Side}
 use Rattle.dali_region.specs.Answers.{cleaned}
 use Rattle.dali_system.specs.Keeps.{with_region}
-use Rattle.dali_store.specs.declared.store.FileName.TheVariants.{Log}
+use Rattle.dali_store.specs.declared.store.FileName.TheVariants.{Log, Anchor}
 use Rattle.dali_store.specs.Store.{Files as Disk, file_of, Holds, TornIn}
 use Rattle.dali_store.specs.Faults.{Rose}
 use Rattle.dali_counts.proofs.Lists.{same_number}
@@ -18,33 +18,37 @@ use Rattle.dali_system.specs.Run.{HasRisen, no_image}
 use Rattle.dali_system.specs.Flushes.{frame_of, longer, with_vault, faulted, read_failed}
 use Rattle.dali_system.specs.ImageSteps.{told_with}
 use Rattle.dali_system.specs.Courses.{Flushes, Faults, ReadFails}
-use Rattle.dali_crash.specs.Checkpoints.{Head, StoreStep, Does, Copies, CopyFails, WritesHead, HeadFails, Syncs, SyncFails, Turns, TurnFails, Point, target, head_with, synced_with, copies_with, copies_after, copy_at, with_fault, with_current, IsFault, IsPointStep}
+use Rattle.dali_crash.specs.Checkpoints.{Head, StoreStep, Does, Copies, Skips, CopyFails, WritesHead, HeadFails, Syncs, SyncFails, Turns, TurnFails, Point, target, head_with, synced_with, copies_with, copies_after, copy_at, with_fault, with_current, IsFault, IsPointStep}
 use Rattle.dali_crash.specs.StoreRuns.{StoreRun}
 use Rattle.dali_system.proofs.Flushes.{end_is_small}
 use Rattle.dali_crash.proofs.StoreRuns.{bare_store_course_keeps, fewer_runs, current_is_small}
 use Rattle.dali_crash.proofs.Traces.{acknowledged_traces, start_runs}
 use Rattle.dali_crash.specs.Traces.{Start, bases_of, start_point}
-use Rattle.dali_traces.specs.Disks.{header_bytes, table_bytes, image_name, AllSpell}
+use Rattle.dali_traces.specs.Disks.{header_bytes, table_bytes, image_file, image_name, AllSpell}
 use Rattle.dali_traces.specs.Places.{place_of}
 use Rattle.dali_traces.specs.Anchors.{HasMoved, MayHaveMoved}
 use Rattle.dali_traces.specs.Bridges.{TracedTo, HoldsNext, body_at, batches_on, is_image_write}
-use Rattle.dali_traces.specs.Images.{next_file, ReadsWords}
-use Rattle.dali_traces.specs.NewFiles.{IsUnderWay, IsWholeFile}
-use Rattle.dali_traces.proofs.Bridges.{flush_goes_on, fault_goes_on, quiet_goes_on, write_goes_on, turn_goes_on, turn_fault_goes_on, flush_is_right, are_right, store_starts, same_image}
+use Rattle.dali_traces.specs.Images.{next_file}
+use Rattle.dali_traces.specs.NewFiles.{ReadsCopies, IsUnderWay, IsWholeFile}
+use Rattle.dali_traces.proofs.Bridges.{flush_goes_on, fault_goes_on, quiet_goes_on, write_goes_on, turn_goes_on, turn_fault_goes_on, flush_is_right, are_right, store_starts, same_image, write_is_right, turn_is_right}
 use Rattle.dali_traces.proofs.Images.{same_self, quiet_is_read, held_goes_on, sync_holds}
-use Rattle.dali_traces.proofs.NewFiles.{copy_continues, header_begins, table_ends, quiet_continues}
+use Rattle.dali_traces.proofs.NewFiles.{start_reads, quiet_reads, header_reads, copy_reads, table_reads, copy_continues, header_begins, table_ends, quiet_continues, skip_continues, has_places}
 use Rattle.dali_vault.specs.Vaulted.{Vaulted, grown, moved, with_store}
 use Rattle.dali_vault.specs.Vaulted as vaulted
 use Rattle.dali_vault.proofs.Serving.{still, both}
 use Rattle.dali_steps.specs.At.{IsVault, IsAt}
 use Rattle.dali_steps.specs.Said.{IsOk, HasWritten}
-use Rattle.dali_steps.specs.Called.{KeepsImage, FlushGoes, FlushFaults, FlushIsRight, CopyGoes, CopyFaults, HeaderGoes, TableGoes, HeadFaults, SyncGoes, SyncFaults, TurnGoes, TurnFaults, ReadStays, ReadFaults, QuietGoes, QuietKeeps, RunBegins, CrashIsRight, AcknowledgedStands, PlacesAreSmall}
+use Rattle.dali_steps.specs.Called.{KeepsImage, FlushGoes, FlushFaults, FlushIsRight, CopyGoes, CopyFaults, SkipGoes, WriteIsRight, TurnIsRight, HeaderGoes, TableGoes, HeadFaults, SyncGoes, SyncFaults, TurnGoes, TurnFaults, ReadStays, ReadFaults, QuietGoes, QuietKeeps, RunBegins, CrashIsRight, AcknowledgedStands, PlacesAreSmall, PlacesStand}
 use Rattle.dali_steps.proofs.Frames.{spelled_frame, frame_is_small, longer_is, longer_current}
-use Rattle.dali_steps.proofs.Files.{named, torn_over, held_over, same_told, if_both}
+use Rattle.dali_steps.proofs.Files.{named, image_stays, torn_over, held_over, same_told, if_both}
 
 -- ---- counts of faults
 risen_from : (u n m : ℕ) → u ≡ n → Rose n m → HasRisen u m
 risen_from u n m same rose = subst (λ k. HasRisen k m) (sym same) rose
+
+-- a vault that stopped runs no more
+runs_no_more : {V X : Type 0} (v w : Vaulted V) → w ≡ vaulted.faulted v w.store → w.stopped ≡ false → X
+runs_no_more v w vault runs = let e : w.stopped ≡ true = ap (λ (z : Vaulted _). z.stopped) vault in absurd (cc)
 
 module _ {V : Type 0} (told : V → Option Disk) (may_leave : V → Disk → Type 0) (faults : V → ℕ) where
   -- ---- one step more of a run
@@ -74,9 +78,13 @@ module _ {V : Type 0} (told : V → Option Disk) (may_leave : V → Disk → Typ
   ran : (v w : Vaulted V) → IsOk told may_leave faults v w → w.stopped ≡ v.stopped → v.stopped ≡ false
   ran v w ok same = sym same ∙ ok.runs
 
+  -- a step that leaves both image files
+  reads_stay : (s : Start) (B : List (List Record)) (p q : Point) (x : StoreStep) (v : Vaulted V) (a b : Disk) → IsAt told may_leave faults s B p v → IsPointStep p x q → is_image_write x ≡ false → ((side : Side) → image_file side b ≡ image_file side a) → ReadsCopies p a → ReadsCopies q b
+  reads_stay s B p q x v a b at step quiet files = quiet_reads (bases_of s) s.log p q x a b at.run step quiet files
+
   -- ---- a flush
   pub flush_goes : FlushGoes told may_leave faults
-  flush_goes s B p v w f at fr said = record { goes = record { to = q; step = step; is = record { run = runs_on s B p q (Does Flushes) v at step; vault = vault; files = files } }; keeps = keeps }
+  flush_goes s B p v w f at fr said = record { goes = record { to = q; step = step; is = record { run = runs_on s B p q (Does Flushes) v at step; vault = vault; files = files; reads = λ _. reads } }; keeps = keeps }
     where
       runs : p.core.vault.stopped ≡ false
       runs = at.vault.stopped ∙ ran v w said.ok (ap (λ (z : Vaulted V). z.stopped) said.vault)
@@ -96,6 +104,10 @@ module _ {V : Type 0} (told : V → Option Disk) (may_leave : V → Disk → Typ
       files : IfSome (told w.store) (λ _. AllSpell (may_leave w.store) (TracedTo s (batches_on B p) q))
       files = both (told v.store) (told w.store) said.ok.tells (λ all each. flush_goes_on (may_leave v.store) (may_leave w.store) s B p q all step (added each)) at.files said.added
 
+      reads : IfSome (told w.store) (ReadsCopies q)
+      reads = torn_over Log v.end (length f.body + 6) (told v.store) (told w.store) (ReadsCopies p) (ReadsCopies q) said.torn (λ a b same. reads_stay s B p q (Does Flushes) v a b at step refl (λ side. same_image b a side same))
+          (at.reads (ran v w said.ok (ap (λ (z : Vaulted V). z.stopped) said.vault)))
+
       current : q.core.vault.current ≡ p.core.vault.current
       current = longer_current p.core.vault (frame_of p.log p.core)
 
@@ -109,7 +121,7 @@ module _ {V : Type 0} (told : V → Option Disk) (may_leave : V → Disk → Typ
       }
 
   pub flush_faults : FlushFaults told may_leave faults
-  flush_faults s B p v w f at fr said = record { to = q; step = step; is = record { run = runs_on s B p q (Does (Faults (faults w.store))) v at step; vault = failed_vault v w p.core.vault at.vault said.vault; files = files } }
+  flush_faults s B p v w f at fr said = record { to = q; step = step; is = record { run = runs_on s B p q (Does (Faults (faults w.store))) v at step; vault = failed_vault v w p.core.vault at.vault said.vault; files = files; reads = runs_no_more v w said.vault } }
     where
       runs : p.core.vault.stopped ≡ false
       runs = at.vault.stopped ∙ said.ran
@@ -152,12 +164,12 @@ module _ {V : Type 0} (told : V → Option Disk) (may_leave : V → Disk → Typ
       all_of z = tt
 
   pub copy_goes : CopyGoes told may_leave faults
-  copy_goes s B p v w r n g at now may said = record {
-    goes = record { to = q; step = step; is = record { run = runs_on s B p q (Copies r n) v at step; vault = same_vault v w p.core.vault at.vault said.vault said.ok.kept; files = files } };
-    further = λ h k way le. held_over (image_name side) (place_of r) (words_bytes g.back) (told v.store) (told w.store) _ (IsUnderWay q h (r + 1)) said.written
-        (λ a b holds is. (copy_continues s B p q (is.1.1 a is.1.0).0 h k r n a b (is.1.1 a is.1.0).2 step is.0 le (told_holds a b holds)).further) (if_both (told v.store) _ _ way (if_both (told v.store) _ _ now at.files));
-    still = λ h k way le. held_over (image_name side) (place_of r) (words_bytes g.back) (told v.store) (told w.store) _ (IsUnderWay q h k) said.written
-        (λ a b holds is. (copy_continues s B p q (is.1.1 a is.1.0).0 h k r n a b (is.1.1 a is.1.0).2 step is.0 le (told_holds a b holds)).still) (if_both (told v.store) _ _ way (if_both (told v.store) _ _ now at.files));
+  copy_goes s B p v w r n g at may said = record {
+    goes = record { to = q; step = step; is = record { run = runs_on s B p q (Copies r n) v at step; vault = same_vault v w p.core.vault at.vault said.vault said.ok.kept; files = files; reads = λ _. reads } };
+    further = λ h k way le. held_over (image_name side) (place_of r) (words_bytes g.back) (told v.store) (told w.store) (IsUnderWay p h k) (IsUnderWay q h (r + 1)) said.written
+        (λ a b same holds is. (copy_continues (bases_of s) s.log p q h k r n a b at.run step is le (told_holds a b holds)).further) way;
+    still = λ h k way le. held_over (image_name side) (place_of r) (words_bytes g.back) (told v.store) (told w.store) (IsUnderWay p h k) (IsUnderWay q h k) said.written
+        (λ a b same holds is. (copy_continues (bases_of s) s.log p q h k r n a b at.run step is le (told_holds a b holds)).still) way;
   }
     where
       side : Side
@@ -188,8 +200,29 @@ module _ {V : Type 0} (told : V → Option Disk) (may_leave : V → Disk → Typ
           subst (λ ws. Holds (next_file p a) (place_of r) (words_bytes ws) (next_file p b)) back_is
           (subst (λ x. Holds x (place_of r) (words_bytes g.back) (next_file p b)) (named side a) (subst (λ y. Holds (file_of (image_name side) a) (place_of r) (words_bytes g.back) y) (named side b) holds))
 
+      reads : IfSome (told w.store) (ReadsCopies q)
+      reads = held_over (image_name side) (place_of r) (words_bytes g.back) (told v.store) (told w.store) (λ a. ReadsCopies p a × (place_of r ≤ length (file_of (image_name side) a))) (ReadsCopies q) said.written
+          (λ a b same holds is. copy_reads (bases_of s) s.log p q r n a b at.run step same (subst (λ z. place_of r ≤ length z) (named side a) is.1) (told_holds a b holds) is.0)
+          (if_both (told v.store) _ _ (at.reads (ran v w said.ok (ap (λ (z : Vaulted V). z.stopped) said.vault))) said.inside)
+
+  pub skip_goes : SkipGoes told may_leave faults
+  skip_goes s B p v r n g at may = record {
+    goes = record { to = q; step = step; is = record { run = runs_on s B p q (Skips r n) v at step; vault = at.vault; files = files; reads = λ runs. IfSome_then (told v.store) (at.reads runs) (λ a. reads_stay s B p q (Skips r n) v a a at step refl (λ side. refl)) } };
+    further = λ runs h k way le. IfSome_then (told v.store) (if_both (told v.store) _ _ way (at.reads runs)) (λ a is. (skip_continues (bases_of s) s.log p q h k r n a at.run step is.1 is.0 le).further);
+    still = λ h k way. IfSome_then (told v.store) way (λ a. quiet_continues p q (Skips r n) h k a a step refl refl refl);
+  }
+    where
+      q : Point
+      q = record p { copies = copies_with p.copies (target p) r (Some (copy_at n)) }
+
+      step : IsPointStep p (Skips r n) q
+      step = (g, may.at, may.under_way, may.clear, may.untouched, refl)
+
+      files : IfSome (told v.store) (λ _. AllSpell (may_leave v.store) (TracedTo s B q))
+      files = IfSome_then (told v.store) at.files (λ fs all. quiet_goes_on (may_leave v.store) (may_leave v.store) s B p q (Skips r n) all step (λ F. refl) (λ c left. left))
+
   pub copy_faults : CopyFaults told may_leave faults
-  copy_faults s B p v w r n g at may said = record { to = q; step = step; is = record { run = runs_on s B p q (CopyFails r [] (faults w.store)) v at step; vault = failed_vault v w p.core.vault at.vault said.vault; files = files } }
+  copy_faults s B p v w r n g at may said = record { to = q; step = step; is = record { run = runs_on s B p q (CopyFails r [] (faults w.store)) v at step; vault = failed_vault v w p.core.vault at.vault said.vault; files = files; reads = runs_no_more v w said.vault } }
     where
       fault : IsFault p (faults w.store)
       fault = record { may = record { runs = at.vault.stopped ∙ said.ran; under_way = may.under_way }; rose = risen_from p.core.vault.faults (faults v.store) (faults w.store) at.vault.counted said.rose }
@@ -212,12 +245,16 @@ module _ {V : Type 0} (told : V → Option Disk) (may_leave : V → Disk → Typ
   abbrev head_point : Point → Head → Point
   head_point p h = record p { heads = head_with p.heads (target p) h; synced = synced_with p.synced (target p) false }
 
+  head_step : (s : Start) (B : List (List Record)) (p : Point) (v w : Vaulted V) (h : Head) (place : ℕ) (bytes : List ℕ) → IsAt told may_leave faults s B p v → is_some p.begun ≡ true
+      → HasWritten told may_leave faults v (image_name (target p)) place bytes w → IsPointStep p (WritesHead h) (head_point p h)
+  head_step s B p v w h place bytes at begun said = (record { runs = at.vault.stopped ∙ ran v w said.ok (ap (λ (z : Vaulted V). z.stopped) said.vault); under_way = begun }, refl)
+
   head_goes : (s : Start) (B : List (List Record)) (p : Point) (v w : Vaulted V) (h : Head) (place : ℕ) (bytes : List ℕ) → IsAt told may_leave faults s B p v → is_some p.begun ≡ true
-      → HasWritten told may_leave faults v (image_name (target p)) place bytes w → IsPointStep p (WritesHead h) (head_point p h) × IsAt told may_leave faults s B (head_point p h) w
-  head_goes s B p v w h place bytes at begun said = (step, record { run = runs_on s B p (head_point p h) (WritesHead h) v at step; vault = same_vault v w p.core.vault at.vault said.vault said.ok.kept; files = files })
+      → HasWritten told may_leave faults v (image_name (target p)) place bytes w → IfSome (told w.store) (ReadsCopies (head_point p h)) → IsAt told may_leave faults s B (head_point p h) w
+  head_goes s B p v w h place bytes at begun said reads = record { run = runs_on s B p (head_point p h) (WritesHead h) v at step; vault = same_vault v w p.core.vault at.vault said.vault said.ok.kept; files = files; reads = λ _. reads }
     where
       step : IsPointStep p (WritesHead h) (head_point p h)
-      step = (record { runs = at.vault.stopped ∙ ran v w said.ok (ap (λ (z : Vaulted V). z.stopped) said.vault); under_way = begun }, refl)
+      step = head_step s B p v w h place bytes at begun said
 
       files : IfSome (told w.store) (λ _. AllSpell (may_leave w.store) (TracedTo s B (head_point p h)))
       files = writes s B p (head_point p h) (WritesHead h) v w place (length bytes) said.ok.tells step refl (each_of (told v.store) said.crash) at.files
@@ -226,24 +263,47 @@ module _ {V : Type 0} (told : V → Option Disk) (may_leave : V → Disk → Typ
   next_holds p place bytes a b holds = subst (λ x. Holds x place bytes (next_file p b)) (named (target p) a) (subst (λ y. Holds (file_of (image_name (target p)) a) place bytes y) (named (target p) b) holds)
 
   pub header_goes : HeaderGoes told may_leave faults
-  header_goes s B p v w h at begun said =
-      let goes = head_goes s B p v w h 0 (header_bytes p.core.system.sizes h) at begun said in record {
-        goes = record { to = head_point p h; step = goes.0; is = goes.1 };
-        begins = held_over (image_name (target p)) 0 (header_bytes p.core.system.sizes h) (told v.store) (told w.store) (ReadsWords p) (IsUnderWay (head_point p h) h 0) said.written
-            (λ a b holds reads. header_begins p (head_point p h) h a b goes.0 reads (next_holds p 0 (header_bytes p.core.system.sizes h) a b holds));
-      }
+  header_goes s B p v w h at begun said = record { goes = record { to = head_point p h; step = step; is = head_goes s B p v w h 0 bytes at begun said reads }; begins = begins }
+    where
+      bytes : List ℕ
+      bytes = header_bytes p.core.system.sizes h
+
+      step : IsPointStep p (WritesHead h) (head_point p h)
+      step = head_step s B p v w h 0 bytes at begun said
+
+      reads : IfSome (told w.store) (ReadsCopies (head_point p h))
+      reads = held_over (image_name (target p)) 0 bytes (told v.store) (told w.store) (ReadsCopies p) (ReadsCopies (head_point p h)) said.written
+          (λ a b same holds is. header_reads p (head_point p h) h a b step same (next_holds p 0 bytes a b holds) is) (at.reads (ran v w said.ok (ap (λ (z : Vaulted V). z.stopped) said.vault)))
+
+      begins : IfSome (told w.store) (IsUnderWay (head_point p h) h 0)
+      begins = held_over (image_name (target p)) 0 bytes (told v.store) (told w.store) (ReadsCopies p) (IsUnderWay (head_point p h) h 0) said.written
+          (λ a b same holds is. header_begins p (head_point p h) h a b step (next_holds p 0 bytes a b holds)) (at.reads (ran v w said.ok (ap (λ (z : Vaulted V). z.stopped) said.vault)))
 
   pub table_goes : TableGoes told may_leave faults
-  table_goes s B p v w h at begun said =
-      let place = place_of (regions p.core.system.sizes) in
-      let goes = head_goes s B p v w h place (table_bytes h.table) at begun said in record {
-        goes = record { to = head_point p h; step = goes.0; is = goes.1 };
-        whole = held_over (image_name (target p)) place (table_bytes h.table) (told v.store) (told w.store) (IsUnderWay p h (regions p.core.system.sizes)) (IsWholeFile (head_point p h)) said.written
-            (λ a b holds way. table_ends p (head_point p h) h a b goes.0 way (next_holds p place (table_bytes h.table) a b holds));
-      }
+  table_goes s B p v w h at begun said = record { goes = record { to = head_point p h; step = step; is = head_goes s B p v w h place bytes at begun said reads }; whole = whole }
+    where
+      place : ℕ
+      place = place_of (regions p.core.system.sizes)
+
+      bytes : List ℕ
+      bytes = table_bytes h.table
+
+      step : IsPointStep p (WritesHead h) (head_point p h)
+      step = head_step s B p v w h place bytes at begun said
+
+      was : IfSome (told v.store) (ReadsCopies p)
+      was = at.reads (ran v w said.ok (ap (λ (z : Vaulted V). z.stopped) said.vault))
+
+      reads : IfSome (told w.store) (ReadsCopies (head_point p h))
+      reads = held_over (image_name (target p)) place bytes (told v.store) (told w.store) (λ a. ReadsCopies p a × (place ≤ length (file_of (image_name (target p)) a))) (ReadsCopies (head_point p h)) said.written
+          (λ a b same holds is. table_reads p (head_point p h) h a b step same (subst (λ z. place ≤ length z) (named (target p) a) is.1) (next_holds p place bytes a b holds) is.0) (if_both (told v.store) _ _ was said.inside)
+
+      whole : IfSome (told v.store) (IsUnderWay p h (regions p.core.system.sizes)) → IfSome (told w.store) (IsWholeFile (head_point p h))
+      whole way = held_over (image_name (target p)) place bytes (told v.store) (told w.store) (λ a. IsUnderWay p h (regions p.core.system.sizes) a × ReadsCopies p a) (IsWholeFile (head_point p h)) said.written
+          (λ a b same holds is. table_ends p (head_point p h) h a b step is.1 is.0 (next_holds p place bytes a b holds)) (if_both (told v.store) _ _ way was)
 
   pub head_faults : HeadFaults told may_leave faults
-  head_faults s B p v w h place n at begun said = record { to = q; step = step; is = record { run = runs_on s B p q (HeadFails h (faults w.store)) v at step; vault = failed_vault v w p.core.vault at.vault said.vault; files = files } }
+  head_faults s B p v w h place n at begun said = record { to = q; step = step; is = record { run = runs_on s B p q (HeadFails h (faults w.store)) v at step; vault = failed_vault v w p.core.vault at.vault said.vault; files = files; reads = runs_no_more v w said.vault } }
     where
       q : Point
       q = record p { core = with_fault p.core (faults w.store); heads = head_with p.heads (target p) h; synced = synced_with p.synced (target p) false }
@@ -254,10 +314,24 @@ module _ {V : Type 0} (told : V → Option Disk) (may_leave : V → Disk → Typ
       files : IfSome (told w.store) (λ _. AllSpell (may_leave w.store) (TracedTo s B q))
       files = writes s B p q (HeadFails h (faults w.store)) v w place n said.tells step refl said.crash at.files
 
+  -- ---- inside a write, and inside the anchor's move
+  pub write_is_right_in : WriteIsRight told may_leave faults
+  write_is_right_in s B p v place n at runs = IfSome_then (told v.store) at.files (λ fs all c torn. write_is_right (may_leave v.store) s B p all (at.vault.stopped ∙ runs) c (torn.0, torn.1, torn.2.same))
+
+  pub turn_is_right_in : TurnIsRight told may_leave faults
+  turn_is_right_in s B p v h b k at runs begun may held = IfSome_then (told v.store) (if_both (told v.store) _ _ held at.files) (λ fs all c moving.
+      turn_is_right (may_leave v.store) s B p q all.1 step all.0 c (subst (λ n. MayHaveMoved (may_leave v.store) n c) (sym at.vault.current) moving))
+    where
+      q : Point
+      q = record p { core = with_current p.core; begun = None }
+
+      step : IsPointStep p Turns q
+      step = (h, b, k, record { runs = at.vault.stopped ∙ runs; under_way = begun }, may, refl)
+
   -- ---- a sync
   pub sync_goes : SyncGoes told may_leave faults
   sync_goes s B p v w at begun said = record {
-    goes = record { to = q; step = step; is = record { run = runs_on s B p q Syncs v at step; vault = same_vault v w p.core.vault at.vault said.vault said.ok.kept; files = files } };
+    goes = record { to = q; step = step; is = record { run = runs_on s B p q Syncs v at step; vault = same_vault v w p.core.vault at.vault said.vault said.ok.kept; files = files; reads = λ _. reads } };
     held = λ fits whole. same_told (told v.store) (told w.store) _ (λ _. (c : Disk) → may_leave w.store c → HoldsNext q c) said.same
         (λ fs both c left. sync_holds (may_leave w.store) p fs both.0.words both.0.head fits both.1 c left) (if_both (told v.store) (IsWholeFile p) _ whole said.durable);
   }
@@ -268,11 +342,14 @@ module _ {V : Type 0} (told : V → Option Disk) (may_leave : V → Disk → Typ
       step : IsPointStep p Syncs q
       step = (record { runs = at.vault.stopped ∙ ran v w said.ok (ap (λ (z : Vaulted V). z.stopped) said.vault); under_way = begun }, refl)
 
+      reads : IfSome (told w.store) (ReadsCopies q)
+      reads = same_told (told v.store) (told w.store) (ReadsCopies p) (ReadsCopies q) said.same (λ a. reads_stay s B p q Syncs v a a at step refl (λ side. refl)) (at.reads (ran v w said.ok (ap (λ (z : Vaulted V). z.stopped) said.vault)))
+
       files : IfSome (told w.store) (λ _. AllSpell (may_leave w.store) (TracedTo s B q))
       files = still (told v.store) (told w.store) said.ok.tells (λ all. quiet_goes_on (may_leave v.store) (may_leave w.store) s B p q Syncs all step (λ F. refl) said.crash) at.files
 
   pub sync_faults : SyncFaults told may_leave faults
-  sync_faults s B p v w at begun said = record { to = q; step = step; is = record { run = runs_on s B p q (SyncFails (faults w.store)) v at step; vault = failed_vault v w p.core.vault at.vault said.vault; files = files } }
+  sync_faults s B p v w at begun said = record { to = q; step = step; is = record { run = runs_on s B p q (SyncFails (faults w.store)) v at step; vault = failed_vault v w p.core.vault at.vault said.vault; files = files; reads = runs_no_more v w said.vault } }
     where
       q : Point
       q = record p { core = with_fault p.core (faults w.store) }
@@ -285,7 +362,7 @@ module _ {V : Type 0} (told : V → Option Disk) (may_leave : V → Disk → Typ
 
   -- ---- the anchor
   pub turn_goes : TurnGoes told may_leave faults
-  turn_goes s B p v w h b k at begun may held said = record { to = q; step = step; is = record { run = runs_on s B p q Turns v at step; vault = vault; files = files } }
+  turn_goes s B p v w h b k at begun may held said = record { to = q; step = step; is = record { run = runs_on s B p q Turns v at step; vault = vault; files = files; reads = λ _. reads } }
     where
       q : Point
       q = record p { core = with_current p.core; begun = None }
@@ -302,6 +379,10 @@ module _ {V : Type 0} (told : V → Option Disk) (may_leave : V → Disk → Typ
         counted = at.vault.counted ∙ sym said.ok.kept;
       }
 
+      reads : IfSome (told w.store) (ReadsCopies q)
+      reads = torn_over Anchor v.current 2 (told v.store) (told w.store) (ReadsCopies p) (ReadsCopies q) said.torn (λ a b same. reads_stay s B p q Turns v a b at step refl (λ side. image_stays b a side same))
+          (at.reads (ran v w said.ok (ap (λ (z : Vaulted V). z.stopped) said.vault)))
+
       moves : ((c : Disk) → may_leave w.store c → HasMoved (may_leave v.store) v.current c) → (c : Disk) → may_leave w.store c → HasMoved (may_leave v.store) p.core.vault.current c
       moves each c left = subst (λ n. HasMoved (may_leave v.store) n c) (sym at.vault.current) (each c left)
 
@@ -309,7 +390,7 @@ module _ {V : Type 0} (told : V → Option Disk) (may_leave : V → Disk → Typ
       files = both (told v.store) (told w.store) said.ok.tells (λ all each. turn_goes_on (may_leave v.store) (may_leave w.store) s B p q all.1 step all.0 (moves each)) (if_both (told v.store) _ _ held at.files) said.moved
 
   pub turn_faults : TurnFaults told may_leave faults
-  turn_faults s B p v w h b k at begun may held said = record { to = q; step = step; is = record { run = runs_on s B p q (TurnFails (faults w.store)) v at step; vault = failed_vault v w p.core.vault at.vault said.vault; files = files } }
+  turn_faults s B p v w h b k at begun may held said = record { to = q; step = step; is = record { run = runs_on s B p q (TurnFails (faults w.store)) v at step; vault = failed_vault v w p.core.vault at.vault said.vault; files = files; reads = runs_no_more v w said.vault } }
     where
       q : Point
       q = record p { core = with_fault p.core (faults w.store); begun = None }
@@ -344,15 +425,21 @@ module _ {V : Type 0} (told : V → Option Disk) (may_leave : V → Disk → Typ
 
   pub read_stays : ReadStays told may_leave faults
   read_stays s B p v w at said = (
-    record { run = at.run; vault = same_vault v w p.core.vault at.vault said.0.vault said.1; files = fewer_spell s B p v.store w.store said.0.same said.0.crash at.files },
+    record {
+      run = at.run;
+      vault = same_vault v w p.core.vault at.vault said.0.vault said.1;
+      files = fewer_spell s B p v.store w.store said.0.same said.0.crash at.files;
+      reads = λ runs. same_told (told v.store) (told w.store) (ReadsCopies p) (ReadsCopies p) said.0.same (λ a is. is) (at.reads (sym (ap (λ (z : Vaulted V). z.stopped) said.0.vault) ∙ runs));
+    },
     read_keeps p p v.store w.store said.0.same said.0.crash (record { under_way = λ h k way. way; whole = λ whole. whole; held = λ held. held }),
   )
 
   pub quiet_goes : QuietGoes told may_leave faults
-  quiet_goes s B p q x v at step stays same = record {
+  quiet_goes s B p q x v at step quiet stays same = record {
     run = runs_on s B p q x v at step;
     vault = subst (IsVault faults v) (sym same) at.vault;
     files = IfSome_then (told v.store) at.files (λ fs all. quiet_goes_on (may_leave v.store) (may_leave v.store) s B p q x all step stays (λ c left. left));
+    reads = λ runs. IfSome_then (told v.store) (at.reads runs) (λ a. reads_stay s B p q x v a a at step quiet (λ side. refl));
   }
 
   image_kept : (p q : Point) (x : StoreStep) (v : V) → IsPointStep p x q → is_image_write x ≡ false → q.core.vault.current ≡ p.core.vault.current → KeepsImage told may_leave faults p q v v
@@ -380,6 +467,7 @@ module _ {V : Type 0} (told : V → Option Disk) (may_leave : V → Disk → Typ
           counted = refl;
         };
         files = fewer_spell s B q v.store w.store said.0.same said.0.crash (IfSome_then (told v.store) at.files (λ fs all. quiet_goes_on (may_leave v.store) (may_leave v.store) s B p q (Does (ReadFails (faults w.store))) all step (λ F. refl) (λ c left. left)));
+        reads = λ runs. same_told (told v.store) (told w.store) (ReadsCopies p) (ReadsCopies q) said.0.same (λ a. reads_stay s B p q (Does (ReadFails (faults w.store))) v a a at step refl (λ side. refl)) (at.reads (sym (ap (λ (z : Vaulted V). z.stopped) said.0.vault) ∙ runs));
       };
     };
     keeps = read_keeps p q v.store w.store said.0.same said.0.crash (image_kept p q (Does (ReadFails (faults w.store))) v.store step refl refl);
@@ -397,6 +485,7 @@ module _ {V : Type 0} (told : V → Option Disk) (may_leave : V → Disk → Typ
     run = fewer_runs (bases_of s) s.log _ _ (start_point s) (λ F none. absurd none) (start_runs s D starts);
     vault = vault;
     files = IfSome_then (told v.store) all (λ fs each. store_starts (may_leave v.store) s B each);
+    reads = λ _. IfSome_then (told v.store) all (λ fs each. start_reads s fs);
   }
 
   pub crash_is_right : CrashIsRight told may_leave faults
@@ -411,3 +500,6 @@ module _ {V : Type 0} (told : V → Option Disk) (may_leave : V → Disk → Typ
     subst (λ n. n < 2 ^ 62) at.vault.end (end_is_small (bases_of s) s.log p.core at.run.run.run),
     omega (arith, at.vault.current, current_is_small (bases_of s) s.log p at.run),
   )
+
+  pub places_stand : PlacesStand told may_leave faults
+  places_stand s B p v at runs side r g there clear = IfSome_then (told v.store) (at.reads runs) (λ fs reads. subst (λ bytes. place_of (r + 1) ≤ length bytes) (sym (named side fs)) (has_places (bases_of s) s.log p fs at.run reads side r g there clear))

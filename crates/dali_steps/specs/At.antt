@@ -1,9 +1,10 @@
 -- A vault at a point of a run.
 --     IsVault v u              a run says u of the vault v
 --     IsAt s B p v             a run from the start s has come to the point p with the vault v; where the store tells what its reads give, each disk
---                              that a crash may leave spells files that came along its steps, and while the vault runs they have the batches B
+--                              that a crash may leave spells files that came along its steps, and while the vault runs they have the batches B,
+--                              and each place that was written since the load reads the words that the run says, in both image files
 --     Goes s p x B w           the step x leads from the point p to one where the vault is w
-use Rattle.std.specs.Prelude.{◌≡◌, ℕ, List, Option, IfSome}
+use Rattle.std.specs.Prelude.{◌≡◌, ℕ, false, List, Option, IfSome}
 use Rattle.dali_record.specs.declared.records.Record.{Record}
 use Rattle.dali_store.specs.Store.{Files as Disk}
 use Rattle.dali_system.specs.State.{VaultState}
@@ -13,6 +14,7 @@ use Rattle.dali_crash.specs.StoreRuns.{StoreRun}
 use Rattle.dali_crash.specs.Traces.{Start, bases_of}
 use Rattle.dali_traces.specs.Disks.{AllSpell}
 use Rattle.dali_traces.specs.Bridges.{TracedTo}
+use Rattle.dali_traces.specs.NewFiles.{ReadsCopies}
 use Rattle.dali_vault.specs.Vaulted.{Vaulted}
 
 pub record IsVault {V : Type 0} (faults : V → ℕ) (v : Vaulted V) (u : VaultState) : Type 0 where
@@ -27,6 +29,7 @@ module _ {V : Type 0} (told : V → Option Disk) (may_leave : V → Disk → Typ
     pub run : StoreRun (bases_of s) s.log no_image p
     pub vault : IsVault faults v p.core.vault
     pub files : IfSome (told v.store) (λ _. AllSpell (may_leave v.store) (TracedTo s B p))
+    pub reads : v.stopped ≡ false → IfSome (told v.store) (ReadsCopies p)
 
   pub record Goes (s : Start) (p : Point) (x : StoreStep) (B : List (List Record)) (w : Vaulted V) : Type 0 where
     pub to : Point

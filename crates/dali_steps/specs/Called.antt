@@ -2,13 +2,17 @@
 --     FlushGoes, FlushFaults   a flush of what was taken, and a fault in one
 --     FlushIsRight             each disk that a crash inside one leaves spells files that restart right
 --     CopyGoes, CopyFaults     an image's write of a region, without the updates of an open operation
+--     SkipGoes                 a region whose flag is clear is skipped, and the file has its place
 --     HeadGoes, HeadFaults     its write of header or table
+--     WriteIsRight             each disk that a crash inside one of these writes leaves spells files that restart right
 --     SyncGoes, SyncFaults, TurnGoes, TurnFaults      its sync, and the anchor's move
+--     TurnIsRight              each disk that a crash inside the anchor's move leaves; inside a sync it leaves what it left before (CrashIsRight)
 --     ReadStays, ReadFaults    a read of the log is no step, and one that fails is
 --     QuietGoes                a step that leaves the vault, and what a crash may leave
 --     RunBegins                where a core is made a run begins
 --     CrashIsRight, AcknowledgedStands         each disk that a crash may leave restarts right, and has what was acknowledged
 --     PlacesAreSmall           the log's end and the number of the current image are below 2^62
+--     PlacesStand              where a region's flag for a side is clear, the file of that side has its place, where the store tells it
 --     IsUnderWayIn, IsWholeIn  what is read of the next image, where the store tells it
 --     IsHeldIn                 and each disk that a crash may leave holds it
 --     KeepsImage               all this goes on
@@ -18,30 +22,37 @@ use Rattle.dali_record.specs.declared.records.Record.{Record}
 use Rattle.dali_record.specs.Log.{committed}
 use Rattle.dali_record.specs.Spelling.{words_bytes}
 use Rattle.dali_record.specs.Files.{Files}
+use Rattle.dali_region.specs.declared.Side.{Side}
 use Rattle.dali_region.specs.State.{RegionState}
 use Rattle.dali_region.specs.Answers.{is_dirty}
-use Rattle.dali_store.specs.Store.{Files as Disk}
+use Rattle.dali_store.specs.Store.{Files as Disk, file_of}
 use Rattle.dali_batch.specs.Batch.{Framed}
 use Rattle.dali_batch.specs.Appending.{bodies_of, SomeAdded}
 use Rattle.dali_system.specs.Run.{log_in}
 use Rattle.dali_system.specs.Crashes.{IsAcknowledged}
 use Rattle.dali_system.specs.Courses.{Flushes, Faults, ReadFails}
-use Rattle.dali_crash.specs.Checkpoints.{Head, StoreStep, Does, Copies, CopyFails, WritesHead, HeadFails, Syncs, SyncFails, Turns, TurnFails, Point, target, image_in, IsUntouched, MayTurn, Came, IsPointStep}
+use Rattle.dali_crash.specs.Checkpoints.{Head, StoreStep, Does, Copies, Skips, CopyFails, WritesHead, HeadFails, Syncs, SyncFails, Turns, TurnFails, Point, target, image_in, IsUntouched, MayTurn, Came, IsPointStep}
 use Rattle.dali_crash.specs.Traces.{Start, StartsAt, start_point}
 use Rattle.dali_traces.specs.Disks.{header_bytes, table_bytes, image_name, CanBeImage, AllSpell}
 use Rattle.dali_traces.specs.Places.{place_of}
 use Rattle.dali_traces.specs.Bridges.{LeavesRightAt, HoldsNext, batches_on, is_image_write}
-use Rattle.dali_traces.specs.Images.{ReadsWords}
+use Rattle.dali_traces.specs.Anchors.{MayHaveMoved}
 use Rattle.dali_traces.specs.NewFiles.{IsUnderWay, IsWholeFile}
 use Rattle.dali_vault.specs.Vaulted.{Vaulted}
 use Rattle.dali_steps.specs.At.{IsVault, IsAt, Goes}
-use Rattle.dali_steps.specs.Said.{IsFrameAt, HasFlushed, FlushHasFailed, HasWritten, WriteHasFailed, HasSynced, SyncHasFailed, HasTurned, TurnHasFailed, HasRead, ReadHasFailed}
+use Rattle.dali_steps.specs.Said.{IsFrameAt, HasFlushed, FlushHasFailed, TornFrom, HasWritten, WriteHasFailed, HasSynced, SyncHasFailed, HasTurned, TurnHasFailed, HasRead, ReadHasFailed}
 
--- the region's words are copied to the next image, and no block on it stands from record n on
+-- the region's words are copied to the next image, or stand there, and no block on it stands from record n on
 pub record MayCopy (p : Point) (r n : ℕ) (g : RegionState) : Type 0 where
   pub at : slice_get p.core.regions r ≡ Some g
   pub under_way : is_some p.begun ≡ true
   pub dirty : is_dirty g (target p) ≡ true
+  pub untouched : IsUntouched p.log r n
+
+pub record MaySkip (p : Point) (r n : ℕ) (g : RegionState) : Type 0 where
+  pub at : slice_get p.core.regions r ≡ Some g
+  pub under_way : is_some p.begun ≡ true
+  pub clear : is_dirty g (target p) ≡ false
   pub untouched : IsUntouched p.log r n
 
 module _ {V : Type 0} (told : V → Option Disk) (may_leave : V → Disk → Type 0) (faults : V → ℕ) where
@@ -92,9 +103,18 @@ module _ {V : Type 0} (told : V → Option Disk) (may_leave : V → Disk → Typ
   abbrev pub CopyGoes : Type 0
   CopyGoes =
       (s : Start) (B : List (List Record)) (p : Point) (v w : Vaulted V) (r n : ℕ) (g : RegionState) → IsAt told may_leave faults s B p v
-      → IfSome (told v.store) (may_leave v.store) → MayCopy p r n g
+      → MayCopy p r n g
       → HasWritten told may_leave faults v (image_name (target p)) (place_of r) (words_bytes g.back) w
       → Copied s B p r n v w
+
+  -- the vault isn't called
+  pub record Skipped (s : Start) (B : List (List Record)) (p : Point) (r n : ℕ) (v : Vaulted V) : Type 0 where
+    pub goes : Goes told may_leave faults s p (Skips r n) B v
+    pub further : v.stopped ≡ false → (h : Head) (k : ℕ) → IsUnderWayIn p h k v.store → r ≤ k → IsUnderWayIn goes.to h (r + 1) v.store
+    pub still : (h : Head) (k : ℕ) → IsUnderWayIn p h k v.store → IsUnderWayIn goes.to h k v.store
+
+  abbrev pub SkipGoes : Type 0
+  SkipGoes = (s : Start) (B : List (List Record)) (p : Point) (v : Vaulted V) (r n : ℕ) (g : RegionState) → IsAt told may_leave faults s B p v → MaySkip p r n g → Skipped s B p r n v
 
   abbrev pub CopyFaults : Type 0
   CopyFaults =
@@ -106,7 +126,7 @@ module _ {V : Type 0} (told : V → Option Disk) (may_leave : V → Disk → Typ
   -- ---- header and table
   pub record HeaderWritten (s : Start) (B : List (List Record)) (p : Point) (h : Head) (v w : Vaulted V) : Type 0 where
     pub goes : Goes told may_leave faults s p (WritesHead h) B w
-    pub begins : IfSome (told v.store) (ReadsWords p) → IsUnderWayIn goes.to h 0 w.store
+    pub begins : IsUnderWayIn goes.to h 0 w.store
 
   abbrev pub HeaderGoes : Type 0
   HeaderGoes =
@@ -133,6 +153,12 @@ module _ {V : Type 0} (told : V → Option Disk) (may_leave : V → Disk → Typ
       → WriteHasFailed told may_leave faults v (image_name (target p)) at n w
       → Goes told may_leave faults s p (HeadFails h (faults w.store)) B w
 
+  -- a crash inside a write leaves the file of the next image torn in the written range
+  abbrev pub WriteIsRight : Type 0
+  WriteIsRight =
+      (s : Start) (B : List (List Record)) (p : Point) (v : Vaulted V) (at n : ℕ) → IsAt told may_leave faults s B p v → v.stopped ≡ false
+      → IfSome (told v.store) (λ _. AllSpell (TornFrom (may_leave v.store) (image_name (target p)) at n) (LeavesRightAt s p))
+
   -- ---- a sync
   pub record IsSynced (s : Start) (B : List (List Record)) (p : Point) (v w : Vaulted V) : Type 0 where
     pub goes : Goes told may_leave faults s p Syncs B w
@@ -152,6 +178,12 @@ module _ {V : Type 0} (told : V → Option Disk) (may_leave : V → Disk → Typ
       → Goes told may_leave faults s p (SyncFails (faults w.store)) B w
 
   -- ---- the anchor
+  abbrev pub TurnIsRight : Type 0
+  TurnIsRight =
+      (s : Start) (B : List (List Record)) (p : Point) (v : Vaulted V) (h : Head) (b k : ℕ) → IsAt told may_leave faults s B p v → v.stopped ≡ false
+      → is_some p.begun ≡ true → MayTurn p h b k → IsHeldIn p v.store
+      → IfSome (told v.store) (λ _. AllSpell (MayHaveMoved (may_leave v.store) v.current) (LeavesRightAt s p))
+
   abbrev pub TurnGoes : Type 0
   TurnGoes =
       (s : Start) (B : List (List Record)) (p : Point) (v w : Vaulted V) (h : Head) (b k : ℕ) → IsAt told may_leave faults s B p v
@@ -186,7 +218,7 @@ module _ {V : Type 0} (told : V → Option Disk) (may_leave : V → Disk → Typ
   abbrev pub QuietGoes : Type 0
   QuietGoes =
       (s : Start) (B : List (List Record)) (p q : Point) (x : StoreStep) (v : Vaulted V) → IsAt told may_leave faults s B p v
-      → IsPointStep p x q → ((F : Files) → Came p x F F) → q.core.vault ≡ p.core.vault
+      → IsPointStep p x q → is_image_write x ≡ false → ((F : Files) → Came p x F F) → q.core.vault ≡ p.core.vault
       → IsAt told may_leave faults s B q v
 
   abbrev pub QuietKeeps : Type 0
@@ -212,3 +244,10 @@ module _ {V : Type 0} (told : V → Option Disk) (may_leave : V → Disk → Typ
   -- what a flush and the anchor's move ask of their places
   abbrev pub PlacesAreSmall : Type 0
   PlacesAreSmall = (s : Start) (B : List (List Record)) (p : Point) (v : Vaulted V) → IsAt told may_leave faults s B p v → (v.end < 2 ^ 62) × (v.current < 2 ^ 62)
+
+  -- what a copy asks of a region that is skipped
+  abbrev pub PlacesStand : Type 0
+  PlacesStand =
+      (s : Start) (B : List (List Record)) (p : Point) (v : Vaulted V) → IsAt told may_leave faults s B p v → v.stopped ≡ false
+      → (side : Side) (r : ℕ) (g : RegionState) → slice_get p.core.regions r ≡ Some g → is_dirty g side ≡ false
+      → IfSome (told v.store) (λ fs. place_of (r + 1) ≤ length (file_of (image_name side) fs))

@@ -7,9 +7,10 @@
 --     HasRead v w              the log was read
 --     ReadHasFailed v w        a read of it failed
 --     IsFrameAt p f            the frame has the records that were taken at p
-use Rattle.std.specs.Prelude.{◌≡◌, ℕ, ◌+◌, false, List, length, Option, IfSome, is_some}
+--     TornFrom old name at n   a disk of these, whose file has what a write of n bytes leaves at any moment
+use Rattle.std.specs.Prelude.{◌≡◌, ℕ, ◌+◌, ◌≤◌, false, List, length, Option, IfSome, is_some}
 use Rattle.dali_store.specs.declared.store.FileName.{FileName}
-use Rattle.dali_store.specs.declared.store.FileName.TheVariants.{Log}
+use Rattle.dali_store.specs.declared.store.FileName.TheVariants.{Log, Anchor}
 use Rattle.dali_store.specs.Store.{Files as Disk, file_of, HoldsIn, TornIn, TornTold, Follows}
 use Rattle.dali_store.specs.Faults.{Rose}
 use Rattle.dali_batch.specs.Batch.{Framed}
@@ -23,6 +24,10 @@ use Rattle.dali_vault.specs.Vaulted.{Vaulted, grown, moved, faulted, with_store}
 pub record IsFrameAt (p : Point) (f : Framed) : Type 0 where
   pub body : f.body ≡ body_at p
   pub records : f.records ≡ length (frame_of p.log p.core)
+
+-- one of these disks, with these n bytes of a file written in part or in full
+abbrev pub TornFrom : (Disk → Type 0) → FileName → ℕ → ℕ → Disk → Type 0
+TornFrom old name at n c = (d : Disk) × old d × TornIn name at n d c
 
 module _ {V : Type 0} (told : V → Option Disk) (may_leave : V → Disk → Type 0) (faults : V → ℕ) where
   -- the count of faults stayed, and the store tells as before
@@ -53,11 +58,12 @@ module _ {V : Type 0} (told : V → Option Disk) (may_leave : V → Disk → Typ
   pub record HasWritten (v : Vaulted V) (name : FileName) (at : ℕ) (bytes : List ℕ) (w : Vaulted V) : Type 0 where
     pub ok : IsOk v w
     pub vault : w ≡ with_store v w.store
+    pub inside : IfSome (told v.store) (λ fs. at ≤ length (file_of name fs))
     pub written : HoldsIn name at bytes (told v.store) (told w.store)
     pub crash : Follows (TornIn name at (length bytes)) (may_leave v.store) (may_leave w.store)
 
   abbrev pub WriteHasFailed : Vaulted V → FileName → ℕ → ℕ → Vaulted V → Type 0
-  WriteHasFailed v name at n w = HasFailed v w (λ c. (d : Disk) × may_leave v.store d × TornIn name at n d c)
+  WriteHasFailed v name at n w = HasFailed v w (TornFrom (may_leave v.store) name at n)
 
   pub record HasSynced (v : Vaulted V) (name : FileName) (w : Vaulted V) : Type 0 where
     pub ok : IsOk v w
@@ -73,6 +79,7 @@ module _ {V : Type 0} (told : V → Option Disk) (may_leave : V → Disk → Typ
   pub record HasTurned (v w : Vaulted V) : Type 0 where
     pub ok : IsOk v w
     pub vault : w ≡ moved v w.store
+    pub torn : TornTold Anchor v.current 2 (told v.store) (told w.store)
     pub moved : IfSome (told v.store) (λ _. (c : Disk) → may_leave w.store c → HasMoved (may_leave v.store) v.current c)
 
   abbrev pub TurnHasFailed : Vaulted V → Vaulted V → Type 0

@@ -1,5 +1,5 @@
 //! Laws of vaults over any store, each the contract of a function that does nothing.
-ghost use Rattle.dali_steps.specs.Called.{FlushGoes, FlushFaults, FlushIsRight, CopyGoes, CopyFaults, HeaderGoes, TableGoes, HeadFaults, SyncGoes, SyncFaults, TurnGoes, TurnFaults, ReadStays, ReadFaults, QuietGoes, QuietKeeps, RunBegins, CrashIsRight, AcknowledgedStands, PlacesAreSmall};
+ghost use Rattle.dali_steps.specs.Called.{FlushGoes, FlushFaults, FlushIsRight, CopyGoes, CopyFaults, SkipGoes, WriteIsRight, HeaderGoes, TableGoes, HeadFaults, SyncGoes, SyncFaults, TurnGoes, TurnFaults, TurnIsRight, ReadStays, ReadFaults, QuietGoes, QuietKeeps, RunBegins, CrashIsRight, AcknowledgedStands, PlacesAreSmall, PlacesStand};
 ghost use Rattle.dali_steps.specs.Courses.{QuietCourse};
 
 use dali_store::Store;
@@ -17,30 +17,34 @@ pub fn a_flush_is_a_step<V: Store>()
     ensures inside { FlushIsRight V.told V.may_leave V.faults }
 {}
 
-/// So is the write of a region to the next image, without the updates of an open operation.
+/// So is the write of a region to the next image, without the updates of an open operation; and a region whose flag is
+/// clear is skipped, for the file has its place. Each disk that a crash inside a write to that file leaves restarts right.
 pub fn a_copy_is_a_step<V: Store>()
     ensures ok { CopyGoes V.told V.may_leave V.faults }
+    ensures skip { SkipGoes V.told V.may_leave V.faults }
     ensures fault { CopyFaults V.told V.may_leave V.faults }
+    ensures inside { WriteIsRight V.told V.may_leave V.faults }
 {}
 
-/// So is the write of its header, and that of its table: behind all regions the file reads the head and the words that
-/// the point says.
+/// So is the write of its header, over whatever bytes the file has, and that of its table: behind all regions the file
+/// reads the head and the words that the point says.
 pub fn a_heads_write_is_a_step<V: Store>()
     ensures header { HeaderGoes V.told V.may_leave V.faults }
     ensures table { TableGoes V.told V.may_leave V.faults }
     ensures fault { HeadFaults V.told V.may_leave V.faults }
 {}
 
-/// So is its sync: then each disk that a crash may leave holds the image.
+/// So is its sync: then each disk that a crash may leave holds the image. A crash inside it leaves what it left before.
 pub fn an_images_sync_is_a_step<V: Store>()
     ensures ok { SyncGoes V.told V.may_leave V.faults }
     ensures fault { SyncFaults V.told V.may_leave V.faults }
 {}
 
-/// So is the anchor's move, where each disk holds the image.
+/// So is the anchor's move, where each disk holds the image; and each disk that a crash inside it leaves restarts right.
 pub fn the_anchors_move_is_a_step<V: Store>()
     ensures ok { TurnGoes V.told V.may_leave V.faults }
     ensures fault { TurnFaults V.told V.may_leave V.faults }
+    ensures inside { TurnIsRight V.told V.may_leave V.faults }
 {}
 
 /// A read of the log is no step, and one that fails is the step that counts its fault; both leave what is read and held of
@@ -69,6 +73,8 @@ pub fn what_a_crash_leaves_of_a_vault_is_right<V: Store>()
 {}
 
 /// A vault of a run may be asked for a flush and for the anchor's move: its log's end and its current number are below 2^62.
-pub fn the_places_of_a_vault_are_small<V: Store>()
-    ensures { PlacesAreSmall V.told V.may_leave V.faults }
+/// And where a region's flag for a side is clear, the file of that side has its place.
+pub fn the_places_of_a_vault_may_be_asked_for<V: Store>()
+    ensures small { PlacesAreSmall V.told V.may_leave V.faults }
+    ensures stand { PlacesStand V.told V.may_leave V.faults }
 {}

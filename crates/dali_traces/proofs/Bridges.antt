@@ -37,7 +37,7 @@ use Rattle.dali_batch.proofs.Rows.{grown, first_log}
 use Rattle.dali_batch.proofs.Unique.{some_bytes, one_log}
 use Rattle.dali_traces.specs.Disks.{IsAnchor, IsImageOf, image_file, image_name, head_of, sizes_in, unchecked, Spells, AllSpell}
 use Rattle.dali_traces.specs.Anchors.{HasMoved, MayHaveMoved}
-use Rattle.dali_traces.specs.Bridges.{IsRightNow, TracedTo, LeavesRightAt, body_at, batches_on, AreRight, HaveOneLog, HaveOneAnchor, StoreStarts, InsideOf, MomentsAreRight, FlushIsRight, FlushGoesOn, FaultGoesOn, QuietGoesOn, WriteGoesOn, TurnGoesOn, TurnFaultGoesOn, is_image_write, HoldsNext, FormatStarts, restarted_records, closed_head, IsRestartedBy, RestartStarts, GoesOnBy, StopsBy, IsRightIn, TurnsBy, TurnStopsBy, TurnIsRightIn}
+use Rattle.dali_traces.specs.Bridges.{IsRightNow, TracedTo, LeavesRightAt, body_at, batches_on, AreRight, HaveOneLog, HaveOneAnchor, StoreStarts, InsideOf, MomentsAreRight, FlushIsRight, WriteIsRight, FlushGoesOn, FaultGoesOn, QuietGoesOn, WriteGoesOn, TurnGoesOn, TurnFaultGoesOn, is_image_write, HoldsNext, FormatStarts, restarted_records, closed_head, IsRestartedBy, RestartStarts, GoesOnBy, StopsBy, IsRightIn, TurnsBy, TurnStopsBy, TurnIsRightIn}
 use Rattle.dali_counts.proofs.Lists.{equal, same_number}
 use Rattle.dali_crash.proofs.Traces.{every_moment_is_right, trace_prefix, moment_prefix, every_trace_is_right, fresh_rests, trace_goes_on, trace_runs}
 use Rattle.dali_traces.proofs.Growth.{point_runs}
@@ -348,6 +348,11 @@ write_goes_on old new s made p q x all step writes same c left = by_step x step 
     by_step (CopyFails r ws n) st e = goes (CopyFails r ws n) st (inl refl) st.3.may.runs
     by_step (HeadFails h n) st e = goes (HeadFails h n) st (inl refl) st.0.may.runs
     by_step y st e = absurd (cc)
+
+pub write_is_right : (old : Disk → Type 0) → WriteIsRight old
+write_is_right old s made p all runs c w =
+    let D = all w.0 w.1 in
+    (D.0, spells_written p c w.0 D.0 (gates_at s made p D.0 D.2 runs) w.2 D.1, right_at s made p D.0 D.2)
 
 -- ---- the anchor's move
 -- what the anchor names then

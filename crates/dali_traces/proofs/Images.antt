@@ -1,28 +1,23 @@
 -- The file of the next image, over a whole checkpoint.
-use Rattle.std.proofs.Common.{◌≡◌, ℕ, ◌+◌, ◌<◌, true, false, cond, zero, suc, List, [], ◌∷◌, ◌++◌, length, take, drop, Some, refl, ap, sym, subst, ◌∙◌, arith, append_assoc, length-append}
-use Rattle.std.specs.Prelude.{◌==◌, ◌&&◌, slice_get, codes}
+use Rattle.std.proofs.Common.{◌≡◌, ℕ, ◌+◌, ◌<◌, true, false, zero, suc, List, [], ◌∷◌, ◌++◌, length, take, drop, Some, refl, ap, sym, subst, ◌∙◌, arith, append_assoc, length-append}
+use Rattle.std.specs.Prelude.{slice_get, codes}
 use Rattle.std.proofs.lemmas.List.{drop_at, length-take-le}
 use Rattle.dali_geometry.specs.Sizes.{Sizes}
 use Rattle.dali_geometry.specs.Places.{regions}
 use Rattle.dali_bytes.specs.Fields.{number32, number64}
-use Rattle.dali_record.specs.Spelling.{words_bytes}
 use Rattle.dali_record.proofs.Lengths.{number32_is_4, number64_is_8}
 use Rattle.dali_region.specs.declared.Side.{Side}
 use Rattle.dali_region.specs.declared.Side.TheVariants.{A, B}
-use Rattle.dali_region.specs.State.{RegionState}
-use Rattle.dali_store.specs.Store.{Files as Disk, Holds}
-use Rattle.dali_counts.proofs.Lists.{same_number}
-use Rattle.dali_system.specs.Run.{RunsOn}
-use Rattle.dali_system.specs.ImageSteps.{same_side, told_with}
-use Rattle.dali_crash.specs.Checkpoints.{Head, Point, StoreStep, Does, Starts, Keeps, Copies, Skips, WritesHead, Syncs, Turns, CopyFails, HeadFails, SyncFails, TurnFails, Finishes, side_of, target, image_in, head_with, IsPointStep}
+use Rattle.dali_store.specs.Store.{Files as Disk}
+use Rattle.dali_system.specs.ImageSteps.{same_side}
+use Rattle.dali_crash.specs.Checkpoints.{Head, Point, StoreStep, Does, Starts, Keeps, Copies, Skips, WritesHead, Syncs, Turns, CopyFails, HeadFails, SyncFails, TurnFails, Finishes, side_of, target, image_in, IsPointStep}
 use Rattle.dali_crash.proofs.StoreStarts.{store_goes}
 use Rattle.dali_traces.specs.Disks.{header_bytes, table_bytes, IsImageOf, image_file}
-use Rattle.dali_traces.specs.Places.{place_of, ReadsPlaces, ReadsHead, StaysRead, words_with}
+use Rattle.dali_traces.specs.Places.{place_of, ReadsPlaces, ReadsHead}
 use Rattle.dali_traces.specs.Bridges.{is_image_write}
-use Rattle.dali_traces.specs.Images.{next_file, ReadsWords, ReadsNextHead, HeadStands, HeadIsRead, CopyIsRead, HeadGoesOn, QuietIsRead, SyncHolds, HeldGoesOn}
-use Rattle.dali_traces.proofs.Places.{image_is_read, write_is_read, before_it, there, behind_it, head_behind}
-use Rattle.dali_traces.proofs.Bridges.{runs_at, file_named}
-use Rattle.dali_crash.specs.Traces.{bases_of}
+use Rattle.dali_traces.specs.Images.{next_file, ReadsWords, ReadsNextHead, HeadIsRead, QuietIsRead, SyncHolds, HeldGoesOn}
+use Rattle.dali_traces.proofs.Places.{image_is_read, before_it, there, behind_it}
+use Rattle.dali_traces.proofs.Bridges.{file_named}
 
 -- ---- the head
 eight_fields : (a b : List ℕ) (m n : ℕ) → length a ≡ m → length b ≡ n → length (a ++ b) ≡ m + n
@@ -41,9 +36,9 @@ header_is_64 s h =
     (number64_is_8 (length (table_bytes h.table))))))))))
 
 pub head_is_read : HeadIsRead
-head_is_read s words h old mid new reads first inside second = record {
+head_is_read s h old mid new first inside second = record {
   places = λ r lt. before_it mid new (table_bytes h.table) (place_of (regions s)) inside second 512 (place_of r) (omega (arith, lt))
-      ∙ (ap (take 512) (behind_it old mid (header_bytes s h) 0 (omega arith) first (place_of r) (omega (arith, header_is_64 s h))) ∙ reads r lt);
+      ∙ ap (take 512) (behind_it old mid (header_bytes s h) 0 (omega arith) first (place_of r) (omega (arith, header_is_64 s h)));
   head = record {
     header = before_it mid new (table_bytes h.table) (place_of (regions s)) inside second 64 0 (omega arith)
         ∙ (ap (λ (n : ℕ). take n mid) (sym (header_is_64 s h)) ∙ there old mid (header_bytes s h) 0 (omega arith) first);
@@ -59,7 +54,7 @@ head_is_read s words h old mid new reads first inside second = record {
     whole = second ∙ append_assoc (take (place_of (regions s)) mid) (table_bytes h.table) (drop (place_of (regions s) + length (table_bytes h.table)) mid)
 
 -- ---- steps
-there_is : {X : Type 0} (xs : List X) (r : ℕ) (x : X) → slice_get xs r ≡ Some x → r < length xs
+pub there_is : {X : Type 0} (xs : List X) (r : ℕ) (x : X) → slice_get xs r ≡ Some x → r < length xs
 there_is [] r x e = absurd (cc)
 there_is (y ∷ xs) zero x e = omega arith
 there_is (y ∷ xs) (suc r) x e = omega (arith, there_is xs r x e)
@@ -67,10 +62,6 @@ there_is (y ∷ xs) (suc r) x e = omega (arith, there_is xs r x e)
 pub same_self : (a : Side) → same_side a a ≡ true
 same_self A = refl
 same_self B = refl
-
--- each place reads other words that are the same
-as_told : (s : Sizes) (words others : ℕ → List ℕ) (bytes : List ℕ) → ((r : ℕ) → others r ≡ words r) → ReadsPlaces s words bytes → ReadsPlaces s others bytes
-as_told s words others bytes same reads r lt = reads r lt ∙ ap words_bytes (sym (same r))
 
 -- sizes, side, words and head of the next image are as before
 pub record IsLike (p q : Point) : Type 0 where
@@ -130,84 +121,11 @@ module _ (p q : Point) (new : Disk) (sizes : q.core.system.sizes ≡ p.core.syst
       (subst (λ (n : ℕ). ReadsPlaces p.core.system.sizes (q.told (side_of (n + 1))) (image_file (side_of (n + 1)) new)) (sym current)
       (subst (λ (u : Side → ℕ → List ℕ). ReadsPlaces p.core.system.sizes (u (target p)) (next_file p new)) (sym told) reads))
 
-  head_at : (k : Side → Head) → q.heads ≡ k → ReadsHead p.core.system.sizes (k (target p)) (next_file p new) → ReadsNextHead q new
+  pub head_at : (k : Side → Head) → q.heads ≡ k → ReadsHead p.core.system.sizes (k (target p)) (next_file p new) → ReadsNextHead q new
   head_at k heads reads =
       subst (λ z. ReadsHead z (q.heads (target q)) (next_file q new)) (sym sizes)
       (subst (λ (n : ℕ). ReadsHead p.core.system.sizes (q.heads (side_of (n + 1))) (image_file (side_of (n + 1)) new)) (sym current)
       (subst (λ (u : Side → Head). ReadsHead p.core.system.sizes (u (target p)) (next_file p new)) (sym heads) reads))
-
-pub copy_is_read : CopyIsRead
-copy_is_read s made p q F r n old new t step inside holds = record {
-  words = λ reads. words_at p q new sizes current (told_with p.told side r g.back) told
-      (as_told p.core.system.sizes (words_with (p.told side) r g.back) (told_with p.told side r g.back side) (next_file p new) pointwise (stays reads).places);
-  head = λ reads. head_at p q new sizes current p.heads heads (head_stays reads);
-}
-  where
-    side : Side
-    side = target p
-
-    g : RegionState
-    g = step.0
-
-    sizes : q.core.system.sizes ≡ p.core.system.sizes
-    sizes = (store_goes p q (Copies r n) step).sizes
-
-    current : q.core.vault.current ≡ p.core.vault.current
-    current = ap (λ (z : Point). z.core.vault.current) step.5
-
-    told : q.told ≡ told_with p.told side r g.back
-    told = ap (λ (z : Point). z.told) step.5
-
-    heads : q.heads ≡ p.heads
-    heads = ap (λ (z : Point). z.heads) step.5
-
-    runs : RunsOn (bases_of s) p.log p.core
-    runs = let run = (runs_at s made p F t).run in subst (λ M. RunsOn (bases_of s) M p.core) (sym run.log) run.run.runs
-
-    size : length g.back ≡ 64
-    size = (runs.regions r g step.1).protected.back_size
-
-    count : r < regions p.core.system.sizes
-    count = omega (arith, there_is p.core.regions r g step.1, runs.whole)
-
-    pointwise : (k : ℕ) → told_with p.told side r g.back side k ≡ words_with (p.told side) r g.back k
-    pointwise k = ap (λ b. cond (b && (k == r)) g.back (p.told side k)) (same_self side)
-
-    back_is : q.told side r ≡ g.back
-    back_is = ap (λ (u : Side → ℕ → List ℕ). u side r) told ∙ (pointwise r ∙ ap (λ b. cond b g.back (p.told side r)) (same_number r r refl))
-
-    written : Holds (next_file p old) (place_of r) (words_bytes g.back) (next_file p new)
-    written = subst (λ ws. Holds (next_file p old) (place_of r) (words_bytes ws) (next_file p new)) back_is holds
-
-    stays : ReadsWords p old → StaysRead p.core.system.sizes (words_with (p.told side) r g.back) (next_file p new) (next_file p old)
-    stays reads = write_is_read p.core.system.sizes (p.told side) (next_file p old) (next_file p new) r g.back reads count size inside written
-
-    head_stays : ReadsNextHead p old → ReadsHead p.core.system.sizes (p.heads side) (next_file p new)
-    head_stays reads = head_behind p.core.system.sizes (next_file p old) (next_file p new) r g.back count size inside written (p.heads side) reads
-
-pub head_goes_on : HeadGoesOn
-head_goes_on p q h old mid new step reads first inside second = (
-  words_at p q new sizes current p.told told stands.places,
-  head_at p q new sizes current (head_with p.heads (target p) h) heads (subst (λ k. ReadsHead p.core.system.sizes k (next_file p new)) (sym here) stands.head),
-)
-  where
-    sizes : q.core.system.sizes ≡ p.core.system.sizes
-    sizes = (store_goes p q (WritesHead h) step).sizes
-
-    current : q.core.vault.current ≡ p.core.vault.current
-    current = ap (λ (z : Point). z.core.vault.current) step.1
-
-    told : q.told ≡ p.told
-    told = ap (λ (z : Point). z.told) step.1
-
-    heads : q.heads ≡ head_with p.heads (target p) h
-    heads = ap (λ (z : Point). z.heads) step.1
-
-    here : head_with p.heads (target p) h (target p) ≡ h
-    here = ap (λ b. cond b h (p.heads (target p))) (same_self (target p))
-
-    stands : HeadStands p.core.system.sizes (p.told (target p)) h (next_file p new)
-    stands = head_is_read p.core.system.sizes (p.told (target p)) h (next_file p old) (next_file p mid) (next_file p new) reads first inside second
 
 pub sync_holds : (may : Disk → Type 0) → SyncHolds may
 sync_holds may p fs words head fits synced c left = subst (λ bytes. IsImageOf p.core.system.sizes bytes (p.heads (target p)) (image_in p.core.system.sizes p.told (target p)))

@@ -1,5 +1,5 @@
 -- Reading an image file by its places, and writing one of them.
-use Rattle.std.proofs.Common.{◌≡◌, ℕ, zero, suc, ◌+◌, ◌<◌, ◌≤◌, Bool, true, false, cond, List, ◌++◌, length, take, drop, refl, ap, sym, ◌∙◌, inl, inr, ⊎_elim, arith, append_assoc, length-append, length-take, length-drop, take-append-drop}
+use Rattle.std.proofs.Common.{◌≡◌, ℕ, zero, suc, ◌+◌, ◌<◌, ◌≤◌, Bool, true, false, List, ◌++◌, length, take, drop, refl, ap, sym, ◌∙◌, inl, inr, ⊎_elim, arith, append_assoc, length-append, length-take, length-drop, take-append-drop}
 use Rattle.std.specs.Prelude.{◌⊎◌, ◌==◌, map, flat_map}
 use Rattle.std.specs.List.{range_with_len}
 use Rattle.std.proofs.lemmas.Bool.{cases_lt}
@@ -9,11 +9,11 @@ use Rattle.dali_geometry.specs.Sizes.{Sizes}
 use Rattle.dali_geometry.specs.Places.{regions}
 use Rattle.dali_record.specs.Spelling.{words_bytes}
 use Rattle.dali_record.proofs.Lengths.{words_are_8}
-use Rattle.dali_counts.proofs.Lists.{equal, same_number}
+use Rattle.dali_counts.proofs.Lists.{same_number}
 use Rattle.dali_store.specs.Store.{Holds}
 use Rattle.dali_traces.specs.Disks.{header_bytes, table_bytes}
 use Rattle.dali_crash.specs.Checkpoints.{Head}
-use Rattle.dali_traces.specs.Places.{place_of, ReadsHead, ImageIsRead, WriteIsRead}
+use Rattle.dali_traces.specs.Places.{place_of, ReadsHead, SamePlace, ImageIsRead, WriteIsRead}
 
 -- n places from place k on
 places_read :
@@ -84,27 +84,21 @@ head_behind s old new r ws inside count within holds h is = record {
 }
 
 pub write_is_read : WriteIsRead
-write_is_read s words old new r ws reads inside count within holds = record {
-  places = λ q lt. by_test q lt (q == r) refl;
+write_is_read s old new r ws inside count within holds = record {
+  here = ap (λ (n : ℕ). take n (drop (place_of r) new)) (sym long) ∙ there old new (words_bytes ws) (place_of r) within holds;
+  others = λ q e. other q (apart q e);
   head = λ h is. head_behind s old new r ws inside count within holds h is;
 }
   where
     long : length (words_bytes ws) ≡ 512
     long = omega (arith, words_are_8 ws, count)
 
-    other : (q : ℕ) → q < regions s → (q < r) ⊎ (r < q) → take 512 (drop (place_of q) new) ≡ words_bytes (words q)
-    other q lt (inl less) = before_it old new (words_bytes ws) (place_of r) within holds 512 (place_of q) (omega (arith, less)) ∙ reads q lt
-    other q lt (inr more) = ap (take 512) (behind_it old new (words_bytes ws) (place_of r) within holds (place_of q) (omega (arith, more, long))) ∙ reads q lt
-
-    here : take 512 (drop (place_of r) new) ≡ words_bytes ws
-    here = ap (λ (n : ℕ). take n (drop (place_of r) new)) (sym long) ∙ there old new (words_bytes ws) (place_of r) within holds
+    other : (q : ℕ) → (q < r) ⊎ (r < q) → SamePlace q old new
+    other q (inl less) = before_it old new (words_bytes ws) (place_of r) within holds 512 (place_of q) (omega (arith, less))
+    other q (inr more) = ap (take 512) (behind_it old new (words_bytes ws) (place_of r) within holds (place_of q) (omega (arith, more, long)))
 
     apart : (q : ℕ) → (q == r) ≡ false → (q < r) ⊎ (r < q)
     apart q e = ⊎_elim (λ lt. inl lt) (λ ge. ⊎_elim (λ gt. inr gt) (λ le. absurd (clash (same_number q r (omega (arith, ge, le))) e)) (cases_lt r q)) (cases_lt q r)
       where
         clash : {b : Bool} → b ≡ true → b ≡ false → ⊥
         clash g h = cc
-
-    by_test : (q : ℕ) → q < regions s → (b : Bool) → (q == r) ≡ b → take 512 (drop (place_of q) new) ≡ words_bytes (cond b ws (words q))
-    by_test q lt true e = ap (λ (p : ℕ). take 512 (drop (place_of p) new)) (equal q r e) ∙ here
-    by_test q lt false e = other q lt (apart q e)

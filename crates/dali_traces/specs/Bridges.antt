@@ -10,7 +10,7 @@
 --     StoreStarts              each disk spells files that came so, where it spells files at the start
 --     FlushGoesOn, FaultGoesOn, QuietGoesOn    so it is behind a flush, behind a fault in one, and behind a step that leaves what may be left
 --     InsideOf, MomentsAreRight        each disk that may be left inside a step spells such files, where it spells files that came so inside it
---     FlushIsRight             so it is inside a flush
+--     FlushIsRight, WriteIsRight       so it is inside a flush, and inside a write to the file of the next image
 --     WriteGoesOn, TurnGoesOn, TurnFaultGoesOn     behind a write to an image file, behind the anchor's move, and behind a fault in it
 --     HoldsNext p d            the file of the next image spells its head and its words
 --     first_start, FormatStarts        behind a format each disk spells files from which a run may start
@@ -115,6 +115,12 @@ module _ (old : Disk → Type 0) where
   FlushIsRight =
       (s : Start) (B : List (List Record)) (p q : Point) → AllSpell old (TracedTo s B p) → IsPointStep p (Does Flushes) q
       → AllSpell (SomeAdded old p.core.vault.end (bodies_of (body_at p))) (LeavesRightAt s p)
+
+  -- and inside a write to the file of the next image
+  abbrev pub WriteIsRight : Type 0
+  WriteIsRight =
+      (s : Start) (B : List (List Record)) (p : Point) → AllSpell old (TracedTo s B p) → p.core.vault.stopped ≡ false
+      → AllSpell (λ c. (d : Disk) × old d × SameBut (image_name (target p)) d c) (LeavesRightAt s p)
 
 -- the crash image F came so inside the step
 pub record InsideOf (s : Start) (p : Point) (x : StoreStep) (F : Files) : Type 0 where

@@ -1,25 +1,19 @@
--- What reads give of the file of the next image, over a whole checkpoint. A place that was never written reads as no words.
+-- What reads give of the file of the next image, once all of it was written.
 --     next_file p fs           the bytes of that file
 --     ReadsWords p fs          each region's place in it reads the words that the point says
 --     ReadsNextHead p fs       its header and its table read the head that the point says
 --     HeadIsRead               header and table written in their places are read there, and each region's place as before
---     CopyIsRead               behind a copy of a region, written in its place
---     HeadGoesOn               behind the write of the head
---     QuietIsRead              behind every other step that leaves the file and the current number
+--     QuietIsRead              the point's words and its head are read behind every step that leaves the file and the current number, where they were before it
 --     SyncHolds                behind a sync each disk holds the head and the words that reads give
 --     HeldGoesOn               and goes on to hold them behind every other step that leaves the file in each disk
-use Rattle.std.specs.Prelude.{◌≡◌, ℕ, ◌≤◌, false, List, length}
+use Rattle.std.specs.Prelude.{◌≡◌, ℕ, ◌≤◌, ◌<◌, false, List, length}
 use Rattle.dali_geometry.specs.Sizes.{Sizes}
 use Rattle.dali_geometry.specs.Places.{regions}
-use Rattle.dali_record.specs.declared.records.Record.{Record}
-use Rattle.dali_record.specs.Spelling.{words_bytes}
-use Rattle.dali_record.specs.Files.{Files}
 use Rattle.dali_store.specs.Store.{Files as Disk, file_of, Holds}
-use Rattle.dali_crash.specs.Checkpoints.{Head, StoreStep, Copies, WritesHead, target, image_in, IsPointStep, Point}
+use Rattle.dali_crash.specs.Checkpoints.{Head, StoreStep, target, image_in, IsPointStep, Point}
 use Rattle.dali_traces.specs.Disks.{header_bytes, table_bytes, CanBeImage, image_file, image_name}
-use Rattle.dali_traces.specs.Places.{place_of, ReadsPlaces, ReadsHead}
-use Rattle.dali_traces.specs.Bridges.{TracedTo, is_image_write, HoldsNext}
-use Rattle.dali_crash.specs.Traces.{Start}
+use Rattle.dali_traces.specs.Places.{place_of, ReadsPlaces, ReadsHead, SamePlace}
+use Rattle.dali_traces.specs.Bridges.{is_image_write, HoldsNext}
 
 abbrev pub next_file : Point → Disk → List ℕ
 next_file p fs = image_file (target p) fs
@@ -31,38 +25,20 @@ abbrev pub ReadsNextHead : Point → Disk → Type 0
 ReadsNextHead p fs = ReadsHead p.core.system.sizes (p.heads (target p)) (next_file p fs)
 
 -- ---- the head's two writes
-pub record HeadStands (s : Sizes) (words : ℕ → List ℕ) (h : Head) (new : List ℕ) : Type 0 where
-  pub places : ReadsPlaces s words new
+pub record HeadStands (s : Sizes) (h : Head) (old : List ℕ) (new : List ℕ) : Type 0 where
+  pub places : (q : ℕ) → q < regions s → SamePlace q old new
   pub head : ReadsHead s h new
 
 abbrev pub HeadIsRead : Type 0
 HeadIsRead =
-    (s : Sizes) (words : ℕ → List ℕ) (h : Head) (old mid new : List ℕ) → ReadsPlaces s words old
-    → Holds old 0 (header_bytes s h) mid
+    (s : Sizes) (h : Head) (old mid new : List ℕ) → Holds old 0 (header_bytes s h) mid
     → place_of (regions s) ≤ length mid → Holds mid (place_of (regions s)) (table_bytes h.table) new
-    → HeadStands s words h new
+    → HeadStands s h old new
 
--- ---- steps
--- the point's words and its head are read behind the step, where they were before it
+-- ---- other steps
 pub record StaysSo (p q : Point) (old new : Disk) : Type 0 where
   pub words : ReadsWords p old → ReadsWords q new
   pub head : ReadsNextHead p old → ReadsNextHead q new
-
--- the region's place is written, from within the file or from its end on
-abbrev pub CopyIsRead : Type 0
-CopyIsRead =
-    (s : Start) (B : List (List Record)) (p q : Point) (F : Files) (r n : ℕ) (old new : Disk) → TracedTo s B p F → IsPointStep p (Copies r n) q
-    → place_of r ≤ length (next_file p old)
-    → Holds (next_file p old) (place_of r) (words_bytes (q.told (target p) r)) (next_file p new)
-    → StaysSo p q old new
-
-abbrev pub HeadGoesOn : Type 0
-HeadGoesOn =
-    (p q : Point) (h : Head) (old mid new : Disk) → IsPointStep p (WritesHead h) q → ReadsWords p old
-    → Holds (next_file p old) 0 (header_bytes p.core.system.sizes h) (next_file p mid)
-    → place_of (regions p.core.system.sizes) ≤ length (next_file p mid)
-    → Holds (next_file p mid) (place_of (regions p.core.system.sizes)) (table_bytes h.table) (next_file p new)
-    → ReadsWords q new × ReadsNextHead q new
 
 abbrev pub QuietIsRead : Type 0
 QuietIsRead =

@@ -3,14 +3,14 @@
 ghost use Rattle.std.specs.Prelude.{ℕ};
 ghost use Rattle.dali_traces.specs.Growth.{AnchorTells, AnchorTellsInside, EachCallMayFail, OthersNeverFail, InsideIsFault, FaultIsInside, QuietInside};
 ghost use Rattle.dali_traces.specs.Places.{ImageIsRead, WriteIsRead};
-ghost use Rattle.dali_traces.specs.Images.{HeadIsRead, CopyIsRead, HeadGoesOn, QuietIsRead, SyncHolds, HeldGoesOn};
+ghost use Rattle.dali_traces.specs.Images.{HeadIsRead, QuietIsRead, SyncHolds, HeldGoesOn};
 ghost use Rattle.dali_traces.specs.Heads.{HeadsFit, KeptFits, StaysFitting, NextFits};
 ghost use Rattle.dali_traces.specs.Ends.{EndIsSmall, PlaceIsSmall, LogIsFramed};
 ghost use Rattle.dali_traces.specs.Changes.{SpellsBeside, SpellsLonger, SpellsTurned};
 ghost use Rattle.dali_traces.specs.Ordered.{OrderedIsRead};
-ghost use Rattle.dali_traces.specs.NewFiles.{EmptyReads, HeaderBegins, CopyContinues, QuietContinues, TableEnds};
+ghost use Rattle.dali_traces.specs.NewFiles.{StartReads, HeaderReads, CopyReads, TableReads, QuietReads, HasPlaces, HeaderBegins, CopyContinues, SkipContinues, QuietContinues, TableEnds};
 ghost use Rattle.dali_traces.specs.Disks.{SpellsOne};
-ghost use Rattle.dali_traces.specs.Bridges.{AreRight, HaveOneLog, HaveOneAnchor, StoreStarts, MomentsAreRight, IsRightNow, FlushGoesOn, FaultGoesOn, QuietGoesOn, FlushIsRight, WriteGoesOn, TurnGoesOn, TurnFaultGoesOn, FormatStarts, RestartStarts};
+ghost use Rattle.dali_traces.specs.Bridges.{AreRight, HaveOneLog, HaveOneAnchor, StoreStarts, MomentsAreRight, IsRightNow, FlushGoesOn, FaultGoesOn, QuietGoesOn, FlushIsRight, WriteIsRight, WriteGoesOn, TurnGoesOn, TurnFaultGoesOn, FormatStarts, RestartStarts};
 
 use dali_store::Store;
 
@@ -69,9 +69,10 @@ pub fn what_a_store_leaves_in_a_call_is_right<V: Store>()
     ensures { (v : V) (t : ℕ) → MomentsAreRight (V.left_since v t) }
 {}
 
-/// At each moment inside a flush a crash leaves such files.
+/// At each moment inside a flush a crash leaves such files, and inside a write to the file of the next image.
 pub fn what_a_store_leaves_in_a_flush_is_right<V: Store>()
-    ensures { (v : V) → FlushIsRight (V.may_leave v) }
+    ensures flush { (v : V) → FlushIsRight (V.may_leave v) }
+    ensures write { (v : V) → WriteIsRight (V.may_leave v) }
 {}
 
 /// Each disk that a crash leaves of a store that was just formatted spells files at the start of a run.
@@ -94,7 +95,8 @@ pub fn what_a_store_leaves_goes_on_in_a_checkpoint<V: Store>()
 {}
 
 /// A file whose header, places and table read so spells an image; a region's words written in its place are read there,
-/// and all else as before; and a header and a table written in their places are read there, and each region as before.
+/// and all else as before, wherever the file ended; and a header and a table written in their places are read there, and
+/// each region as before.
 pub fn images_are_read_by_places()
     ensures image { ImageIsRead }
     ensures write { WriteIsRead }
@@ -117,13 +119,10 @@ pub fn a_new_image_is_written_in_order()
     ensures { OrderedIsRead }
 {}
 
-/// What reads give of the file of the next image, over a whole checkpoint: behind a copy and behind the head's write it
-/// has the words and the head of the point behind the step; and so it has behind every other step that leaves the file,
-/// up to the anchor's move.
+/// Once the file of the next image reads the words and the head that the point says, it does so behind every other step
+/// that leaves the file, up to the anchor's move.
 pub fn the_next_image_is_read_as_the_point_says()
-    ensures copy { CopyIsRead }
-    ensures head { HeadGoesOn }
-    ensures quiet { QuietIsRead }
+    ensures { QuietIsRead }
 {}
 
 /// Behind a sync of that file each disk that a crash may leave holds the head and the words that reads give of it, where
@@ -151,12 +150,25 @@ pub fn a_disk_is_read_behind_a_change()
     ensures anchor { SpellsTurned }
 {}
 
-/// A checkpoint over a new image file: its header alone is a step, then each region in order, and at last its table alone.
-/// No write begins behind the file's end, and what the point says is read all along and at the end.
+/// In both image files each place that was written since the load reads the words that the point says: from a start on,
+/// whatever bytes the files have there, behind each write of a checkpoint, and behind every other step. So where a
+/// region's flag for a side is clear, the file of that side has its place.
+pub fn what_was_written_since_the_load_is_read()
+    ensures start { StartReads }
+    ensures header { HeaderReads }
+    ensures copy { CopyReads }
+    ensures table { TableReads }
+    ensures quiet { QuietReads }
+    ensures places { HasPlaces }
+{}
+
+/// A checkpoint over an image file of any bytes, such as a crash cut inside a place: its header alone is a step, then each
+/// region in order, skipped where its flag is clear, and at last its table alone. No write begins behind the file's end,
+/// and behind the table the file reads the words and the head that the point says.
 pub fn a_checkpoint_writes_a_new_file_in_order()
-    ensures empty { EmptyReads }
     ensures header { HeaderBegins }
     ensures copy { CopyContinues }
+    ensures skip { SkipContinues }
     ensures quiet { QuietContinues }
     ensures table { TableEnds }
 {}

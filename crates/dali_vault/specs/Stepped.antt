@@ -37,7 +37,7 @@ module _ {V : Type 0} (faults : V → ℕ) where
 
   abbrev pub BeginsRight : Type 0
   BeginsRight =
-      (L : List Record) (store : V) (end current : ℕ) → end ≤ sum_by record_length L + 5 * length L → current ≤ length L
+      (L : List Record) (store : V) (end current : ℕ) → end ≤ sum_by record_length L + 5 * length L → current ≤ length L + 2 ^ 61
       → MayRun L (vault_in (faults store) (record { store = store; end = end; flushed = 0; current = current; stopped = false }))
 
   -- the core whose log this is has this vault

@@ -4,8 +4,8 @@ ghost use Rattle.dali_vault.specs.Stepped.{BeginsRight, FlushIsStep, FaultIsStep
 
 use dali_store::Store;
 
-/// A vault that was just made may run over a log whose records, with a frame for each, reach to its place, and which has no
-/// fewer records than its number. A run takes the count of faults that the store had then as the one at its load.
+/// A vault that was just made may run over a log whose records, with a frame for each, reach to its place, and to which its
+/// number is greater by 2^61 at most. A run takes the count of faults that the store had then as the one at its load.
 pub fn a_new_vault_may_run<V: Store>()
     ensures { BeginsRight V.faults }
 {}

@@ -1,6 +1,6 @@
 //! A store with the place where its log ends.
 ghost use Rattle.std.specs.Prelude.{◌≡◌, ◌==◌, ◌≤◌, ◌<◌, ◌+◌, ◌^◌, true, false, ℕ, Err, length, is_some, if◌then◌else◌, IfOk, IfErr, OnOk, OnErr, IfSome, IsErrOf};
-ghost use Rattle.dali_store.specs.declared.store.FileName.TheVariants.{Log};
+ghost use Rattle.dali_store.specs.declared.store.FileName.TheVariants.{Log, Anchor};
 ghost use Rattle.dali_store.specs.Calls.{fewer, one_less, PassesFewer, MakesAtMost};
 ghost use Rattle.dali_store.specs.Faults.{Rose};
 ghost use Rattle.dali_store.specs.Store.{Files, file_of, LeavesOnly, HoldsIn, TornIn, TornTold, Follows, Elapses};
@@ -184,6 +184,7 @@ impl<V: Store> Vault<V> {
         ensures runs { IsErrOf result Stopped → self.old.stopped ≡ true }
         ensures kept { OnOk result (V.faults self.new.store ≡ V.faults self.old.store) }
         ensures tells { is_some (V.told self.new.store) ≡ is_some (V.told self.old.store) }
+        ensures torn { self.old.stopped ≡ false → TornTold Anchor self.old.current 2 (V.told self.old.store) (V.told self.new.store) }
         ensures any_moment { self.old.stopped ≡ false → IfSome (V.told self.old.store) (λ _. LeavesOnly V.moment V.left_since self.old.store self.new.store
             (MayHaveMoved (V.may_leave self.old.store) self.old.current)) }
         ensures acknowledged { OnOk result (IfSome (V.told self.old.store) (λ _. (c : Files) → V.may_leave self.new.store c →

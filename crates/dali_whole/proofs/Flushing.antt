@@ -57,7 +57,7 @@ takes p = (refl, ((refl, refl), refl), refl)
 
 module _ {V : Type 0} (told : V → Option Disk) (may_leave : V → Disk → Type 0) (faults : V → ℕ) where
   took : (s : Start) (B : List (List Record)) (p : Point) (v : Vaulted V) → IsAt told may_leave faults s B p v → IsAt told may_leave faults s B (take_point p) v
-  took s B p v at = quiet_goes told may_leave faults s B p (take_point p) (Does Takes) v at (takes p) (λ F. refl) refl
+  took s B p v at = quiet_goes told may_leave faults s B p (take_point p) (Does Takes) v at (takes p) refl (λ F. refl) refl
 
   frame_at : (s : Start) (B : List (List Record)) (p : Point) (v : Vaulted V) (f : Framed) → IsAt told may_leave faults s B p v → v.flushed ≡ p.core.system.taken → IsUntaken p.core.system f → IsFrameAt (take_point p) f
   frame_at s B p v f at none is = record {
@@ -137,7 +137,7 @@ module _ {V : Type 0} (told : V → Option Disk) (may_leave : V → Disk → Typ
     at = record {
       regions = ap (λ (c : CoreState). c.regions) core_is ∙ at.regions;
       system = ap (λ (c : CoreState). store_stopped c.system) core_is ∙ (ap (λ (x : SystemState). store_stopped (taken x)) at.system ∙ sym is);
-      vault = quiet_goes told may_leave faults s B failed.to q (Does Stops) w failed.is stops (λ F. refl) refl;
+      vault = quiet_goes told may_leave faults s B failed.to q (Does Stops) w failed.is stops refl (λ F. refl) refl;
       none_in_hand = λ runs. absurd (ends (sym (ap (λ (x : Vaulted V). x.stopped) said.2.vault) ∙ runs));
     };
   }

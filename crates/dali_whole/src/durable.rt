@@ -16,9 +16,10 @@ use dali_store::Store;
 use dali_vault::{Vault, VaultError};
 use std::alloc::Global;
 
-// Takes the records that aren't taken yet, and flushes them. Where no memory is left for the next frame, they are flushed
-// from where they stand.
-fn write_out<V: Store>(
+/// Takes the records that aren't taken yet, and flushes them: what `flush` does of a system and a running vault that stand
+/// apart. `Fault` only where the store's count of faults rose; then the vault stops, and the caller stops the system. Where no
+/// memory is left for the next frame, they are flushed from where they stand.
+pub fn write_out<V: Store>(
     system: &mut System,
     vault: &mut Vault<V>,
     alloc: Global,

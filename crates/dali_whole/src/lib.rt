@@ -7,5 +7,5 @@ pub mod laws;
 mod whole;
 
 pub use cleaning::clean;
-pub use durable::flush;
+pub use durable::{flush, write_out};
 pub use whole::Core;

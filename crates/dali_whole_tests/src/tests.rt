@@ -1,14 +1,20 @@
 //! What no clause says: that a core is flushed with ample memory, and what is left where each call of the store fails.
-ghost use Rattle.std.specs.Prelude.{◌<◌, length};
+ghost use Rattle.std.specs.Prelude.{◌≡◌, ◌<◌, true, length};
+ghost use Rattle.std.specs.List.{list_all};
+ghost use Rattle.dali_system.specs.Wholes.{is_of_kind, latched_in};
 
+use dali_att::State;
 use dali_batch::{Found, Frame, format, is_formatted};
+use dali_clean::CleanError;
 use dali_core::System;
 use dali_geometry::Geometry;
 use dali_memstore::{Fuse, MemoryStore};
+use dali_record::Pending;
+use dali_region::Region;
 use dali_store::Store;
 use dali_system::Cause;
 use dali_vault::{Vault, VaultError};
-use dali_whole::{Core, flush};
+use dali_whole::{Core, clean, flush};
 use std::alloc::Global;
 use std::test::Fail;
 
@@ -125,5 +131,101 @@ fn a_fault_stops_vault_and_system(rt: HostRuntime) -> Result<(), Fail> {
             Some((first, second, told, there))
         );
     }
+    Ok(())
+}
+
+// The region that is still latched for a transaction in this state.
+fn latched(state: Option<State>) -> Option<u32>
+    ensures { result ≡ latched_in state }
+{
+    match state {
+        Some(State::Dead { latched } | State::Cleaning { latched }) => latched,
+        _ => None,
+    }
+}
+
+// Whether a transaction with these undos has nothing to take back.
+fn has_none(geometry: &Geometry, undos: &[Pending]) -> bool
+    ensures { result ≡ true → list_all (is_of_kind geometry.now) undos.now ≡ true }
+{
+    matches!(undos, [])
+}
+
+// Cleans up a transaction that has nothing to take back, over a core of formatted regions.
+#[tactic(auto, using(dali_clean::proofs::Guards::may_clean))]
+fn cleaned<V: Store + Drop>(
+    alloc: Global,
+    system: System,
+    vault: Vault<V>,
+    txn: u64,
+) -> Option<(Core<V>, Result<(), CleanError>)> {
+    let geometry = system.geometry();
+    if geometry.regions() != 2 || latched(system.state(txn)).is_some() {
+        return None;
+    }
+    if !has_none(&geometry, system.table().undos(txn)) {
+        return None;
+    }
+    let index = Region::load(geometry.formatted(0));
+    let heap = Region::load(geometry.formatted(1));
+    let Ok(regions) = Vec::from_array(alloc, [index, heap]) else {
+        return None;
+    };
+    let mut core = Core {
+        regions,
+        system,
+        vault,
+    };
+    let answer = clean(&mut core, txn);
+    Some((core, answer))
+}
+
+// The client of the transaction 1 dies, and is cleaned up, where so many calls of the store pass; then all is flushed:
+// the clean-up's answer, the transaction's state, and what the core tells.
+fn die_and_clean(
+    alloc: Global,
+    passes: u64,
+) -> Option<
+    (
+        Result<(), CleanError>,
+        Option<State>,
+        (Option<Cause>, bool, u64, usize, u64),
+    ),
+>
+    requires few { passes < 100 }
+{
+    let mut core = begun(alloc, passes)?;
+    let _ = flush_core(&mut core, alloc)?;
+    let Core {
+        regions: _,
+        mut system,
+        vault,
+    } = core;
+    match system.state(1) {
+        Some(State::Live) => system.mark_dead(1, None),
+        _ => return None,
+    }
+    let (mut core, answer) = cleaned(alloc, system, vault, 1)?;
+    let _ = flush_core(&mut core, alloc)?;
+    Some((answer, core.system.state(1), seen(&core)))
+}
+
+// The begin is flushed, and then the end, in a batch of 14 bytes each; or the first flush stops the core, and the
+// transaction stays dead.
+#[test]
+fn a_dead_transaction_of_a_core_is_cleaned_up(rt: HostRuntime) -> Result<(), Fail> {
+    let alloc = rt.alloc();
+    assert_eq!(rt;
+        die_and_clean(alloc, 50),
+        Some((Ok(()), None, (None, false, 2, 0, 43)))
+    );
+    let stopped = CleanError::Stopped {
+        cause: Cause::Store,
+    };
+    let dead = Some(State::Dead { latched: None });
+    assert_eq!(rt;
+        die_and_clean(alloc, 2),
+        Some((Err(stopped), dead, (Some(Cause::Store), true, 0, 0, 15)))
+    );
     Ok(())
 }

@@ -1,5 +1,6 @@
 use Rattle.dali_crash.proofs.Starts.{restart_starts}
+use Rattle.dali_crash.proofs.Closing.{lawful_restarts}
 use Rattle.dali_crash.proofs.laws.a_restart_starts_a_run.Goals as goal
 
 pub returns : goal.returns
-returns c = restart_starts
+returns c = record { starts = restart_starts; lawful = lawful_restarts }

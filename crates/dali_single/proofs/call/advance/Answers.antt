@@ -2,7 +2,7 @@ use Rattle.std.proofs.Common.{ap}
 use Rattle.dali_core.specs.Served.{Served}
 use Rattle.dali_single.proofs.Lists.{get_here}
 use Rattle.dali_single.proofs.Reaching.{region_there, one_further, none_further}
-use Rattle.dali_single.proofs.Refusing.{cause_in}
+use Rattle.dali_single.proofs.Refusing.{halts}
 use Rattle.dali_single.proofs.Measure.{fewer_left}
 use Rattle.dali_single.proofs.call.advance.Goals as goal
 
@@ -25,4 +25,4 @@ returns-in-Err-clause-goes c =
 pub returns-in-Err-clause-cause : goal.returns-in-Err-clause-cause
 returns-in-Err-clause-cause c =
     let there = region_there c.loop-region.regions c.loop-region.system.state c.loop-region.plan c.in-Region.region c.loop-region.invariant.rest c.wants.ensures.whole c.in-Region.ensures.wants in
-    cause_in c.args.precheck c.args.plan.now c.loop-region.plan c.loop-region.regions c.in-Region.region _ c.operate.new.region c.operate.new.system.state c.in-Err.cause c.loop-region.invariant.same (get_here c.loop-region.regions c.in-Region.region c.operate.new.region there) c.in-Err.ensures.cause
+    halts c.args.precheck c.args.regions.now c.loop-region.regions c.args.system.now.state c.loop-region.system.state c.operate.new.system.state c.args.plan.now c.loop-region.plan c.operate.new.plan c.in-Region.region _ c.operate.new.region c.in-Err.cause c.loop-region.invariant c.wants.ensures.whole c.in-Region.ensures.wants (get_here c.loop-region.regions c.in-Region.region _ there) c.in-Err.ensures.err.0 (ap (λ (s : Served). s.state) c.in-Err.ensures.err.1) c.in-Err.ensures.err.2 c.in-Err.ensures.cause

@@ -2,7 +2,7 @@ use Rattle.std.proofs.Common.{ap, ◌∙◌}
 use Rattle.dali_core.specs.Served.{Served}
 use Rattle.dali_calls.specs.Plans.{Planned}
 use Rattle.dali_single.proofs.Reaching.{answers_next}
-use Rattle.dali_single.proofs.Causes.{done_refused}
+use Rattle.dali_single.proofs.Causes.{done_halts}
 use Rattle.dali_single.proofs.call.finish.Goals as goal
 
 pub returns-in-Ok-done-clause-ok : goal.returns-in-Ok-done-clause-ok
@@ -18,6 +18,4 @@ returns-in-Ok-done-clause-ok c = record {
 }
 
 pub returns-in-Err-done-clause-cause : goal.returns-in-Err-done-clause-cause
-returns-in-Err-done-clause-cause c =
-    let same = c.advance.ensures.goes.same in
-    done_refused c.args.precheck c.advance.new.plan c.args.plan.now.txn c.advance.new.system.state c.done.new.system.state c.advance.new.regions c.in-Err-done.cause c.advance.ensures.whole (ap (λ (p : Planned). p.phase) same ∙ c.requires.calling) c.in-Ok.ensures.ends (ap (λ (p : Planned). p.txn) same) (ap (λ (s : Served). s.state) c.in-Err-done.ensures.err.0) c.in-Err-done.ensures.refused c.in-Err-done.ensures.memory
+returns-in-Err-done-clause-cause c = done_halts c.args.precheck c.args.regions.now c.advance.new.regions c.args.system.now.state c.advance.new.system.state c.done.new.system.state c.args.plan.now c.advance.new.plan c.done.new.self c.in-Err-done.cause c.advance.ensures.goes c.advance.ensures.whole (ap (λ (p : Planned). p.phase) c.advance.ensures.goes.same ∙ c.requires.calling) c.in-Ok.ensures.ends (ap (λ (s : Served). s.state) c.in-Err-done.ensures.err.0) c.in-Err-done.ensures.err.1 c.in-Err-done.ensures.refused c.in-Err-done.ensures.memory

@@ -1,6 +1,7 @@
 use Rattle.std.proofs.Common.{ap}
 use Rattle.dali_core.specs.Served.{Served}
 use Rattle.dali_single.proofs.Undoing.{abort_ends, ended_gone, ended_others, others_further}
+use Rattle.dali_single.proofs.Refusing.{end_stuck, none_next}
 use Rattle.dali_single.proofs.ending.abort.Goals as goal
 
 pub returns-in-Ok-ended-clause-ok : goal.returns-in-Ok-ended-clause-ok
@@ -13,3 +14,6 @@ returns-in-Ok-ended-clause-others c =
 
 pub returns-in-Ok-ended-clause-gone : goal.returns-in-Ok-ended-clause-gone
 returns-in-Ok-ended-clause-gone c = ended_gone c.take_back.new.system.state c.ended.new.self.state c.args.txn (ap (λ (s : Served). s.state) c.in-Ok-ended.ensures.ok)
+
+pub returns-in-Err-ended-clause-cause : goal.returns-in-Err-ended-clause-cause
+returns-in-Err-ended-clause-cause c = end_stuck c.take_back.new.regions c.take_back.new.system c.ended.new.self c.in-Err-ended.cause _ (none_next c.take_back.new.system c.ended.new.self c.args.txn c.in-Ok.ensures.all c.in-Err-ended.ensures.err) c.in-Err-ended.ensures.err c.in-Err-ended.ensures.refused c.in-Err-ended.ensures.memory

@@ -1,7 +1,7 @@
 use Rattle.std.proofs.Common.{ap, ◌∙◌}
 use Rattle.dali_core.specs.declared.take_back.TakeBack.{TakeBack}
 use Rattle.dali_single.proofs.Lists.{get_here}
-use Rattle.dali_single.proofs.Refusing.{refused_there}
+use Rattle.dali_single.proofs.Refusing.{undo_stuck}
 use Rattle.dali_single.proofs.Undoing.{undo_region, undo_further, undo_fewer, undo_next, none_wanted, undo_refused}
 use Rattle.dali_single.proofs.ending.take_back.Goals as goal
 
@@ -39,4 +39,4 @@ returns c = record {
 pub returns-in-Err-clause-cause : goal.returns-in-Err-clause-cause
 returns-in-Err-clause-cause c =
     let there = undo_region c.args.regions.now c.loop-region.regions c.args.system.now.state c.loop-region.system.state c.args.txn c.in-Region.region c.loop-region.back.next c.loop-region.invariant.goes c.loop-region.invariant.next c.in-Region.ensures in
-    refused_there c.args.txn c.loop-region.back.txn c.loop-region.regions c.in-Region.region _ c.undo.new.region c.undo.new.system.state c.in-Err.cause c.loop-region.invariant.txn (get_here c.loop-region.regions c.in-Region.region c.undo.new.region there) c.in-Err.ensures.cause
+    undo_stuck c.loop-region.regions c.loop-region.system c.undo.new.system c.args.txn c.in-Region.region c.loop-region.back.next _ c.undo.new.region c.in-Err.cause c.loop-region.invariant.next c.in-Region.ensures (get_here c.loop-region.regions c.in-Region.region c.undo.new.region there) c.in-Err.ensures.err.1 c.in-Err.ensures.cause

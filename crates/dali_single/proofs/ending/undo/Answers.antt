@@ -1,4 +1,5 @@
-use Rattle.std.proofs.Common.{false}
+use Rattle.std.proofs.Common.{false, ap}
+use Rattle.dali_region.specs.State.{RegionState}
 use Rattle.dali_core.proofs.UnderWays.{latched_unheld}
 use Rattle.dali_single.proofs.Refusing.{stop_only}
 use Rattle.dali_single.proofs.Undoing.{way_back_of, rewritten, back_left_over, back_as_before, undone}
@@ -22,4 +23,4 @@ returns-in-Ok-commit-clause-ok c =
     undone c.args.back.now c.write_back.new.back c.commit.new.self c.args.region.now c.write_back.new.region c.commit.new.region c.args.system.now c.commit.new.system w c.in-Ok-commit.ensures.ok c.in-Ok-commit.ensures.next c.in-Ok-commit.ensures.runs
 
 pub returns-in-Err-commit-clause-cause : goal.returns-in-Err-commit-clause-cause
-returns-in-Err-commit-clause-cause c = stop_only c.args.back.now.txn c.commit.new.region c.args.system.now c.commit.new.system c.in-Err-commit.cause c.in-Err-commit.ensures.err.0 c.in-Err-commit.ensures.refused c.in-Err-commit.ensures.memory
+returns-in-Err-commit-clause-cause c = stop_only c.commit.new.region c.args.system.now c.commit.new.system c.in-Err-commit.cause (ap (λ (r : RegionState). r.hold) c.in-Err-commit.ensures.err.1) c.in-Err-commit.ensures.err.0 c.in-Err-commit.ensures.refused c.in-Err-commit.ensures.memory

@@ -9,7 +9,7 @@ write_all-requires c = way_of c.args.plan.now c.args.region.now c.latch.new.self
 
 pub returns-in-Err-commit-clause-err : goal.returns-in-Err-commit-clause-err
 returns-in-Err-commit-clause-err c =
-    let w = written c.args.plan.now c.latch.new.self c.write_all.new.plan c.args.region.now c.latch.new.region c.write_all.new.region (latched_unheld (not (is_back c.args.plan.now) && c.args.precheck) c.args.region.now c.in-Ok.ensures.answer) c.in-Ok.ensures.made c.latch.ensures.same c.write_all.ensures.is_open c.write_all.ensures.same c.write_all.ensures.rest c.write_all.ensures.written in
+    let w = written c.args.plan.now c.latch.new.self c.write_all.new.plan c.args.region.now c.latch.new.region c.write_all.new.region (latched_unheld (not (is_back c.args.plan.now) && c.args.precheck) c.args.region.now c.in-Ok.ensures.answer) c.in-Ok.ensures.made c.in-Ok.ensures.sound c.latch.ensures.same c.write_all.ensures.is_open c.write_all.ensures.same c.write_all.ensures.rest c.write_all.ensures.written in
     let left = c.in-Err-commit.ensures.err in (
       as_before c.args.plan.now c.write_all.new.plan c.commit.new.self c.args.region.now c.write_all.new.region c.requires.closed w left.2,
       left.0,
@@ -18,10 +18,10 @@ returns-in-Err-commit-clause-err c =
 
 pub returns-in-Ok-commit-clause-ok : goal.returns-in-Ok-commit-clause-ok
 returns-in-Ok-commit-clause-ok c =
-    let w = written c.args.plan.now c.latch.new.self c.write_all.new.plan c.args.region.now c.latch.new.region c.write_all.new.region (latched_unheld (not (is_back c.args.plan.now) && c.args.precheck) c.args.region.now c.in-Ok.ensures.answer) c.in-Ok.ensures.made c.latch.ensures.same c.write_all.ensures.is_open c.write_all.ensures.same c.write_all.ensures.rest c.write_all.ensures.written in
+    let w = written c.args.plan.now c.latch.new.self c.write_all.new.plan c.args.region.now c.latch.new.region c.write_all.new.region (latched_unheld (not (is_back c.args.plan.now) && c.args.precheck) c.args.region.now c.in-Ok.ensures.answer) c.in-Ok.ensures.made c.in-Ok.ensures.sound c.latch.ensures.same c.write_all.ensures.is_open c.write_all.ensures.same c.write_all.ensures.rest c.write_all.ensures.written in
     operated c.args.precheck c.args.plan.now c.write_all.new.plan c.commit.new.self c.args.region.now c.write_all.new.region c.commit.new.region c.args.system.now c.commit.new.system w c.in-Ok.ensures.checked c.in-Ok-commit.ensures.onward c.in-Ok-commit.ensures.back c.in-Ok-commit.ensures.ok
 
 pub returns-in-Err-commit-clause-cause : goal.returns-in-Err-commit-clause-cause
 returns-in-Err-commit-clause-cause c =
-    let w = written c.args.plan.now c.latch.new.self c.write_all.new.plan c.args.region.now c.latch.new.region c.write_all.new.region (latched_unheld (not (is_back c.args.plan.now) && c.args.precheck) c.args.region.now c.in-Ok.ensures.answer) c.in-Ok.ensures.made c.latch.ensures.same c.write_all.ensures.is_open c.write_all.ensures.same c.write_all.ensures.rest c.write_all.ensures.written in
-    refused_still c.args.precheck c.args.plan.now c.write_all.new.plan c.args.region.now c.write_all.new.region c.commit.new.region c.args.system.now c.commit.new.system c.in-Err-commit.cause w c.in-Err-commit.ensures.err.0 c.in-Err-commit.ensures.refused c.in-Err-commit.ensures.memory
+    let w = written c.args.plan.now c.latch.new.self c.write_all.new.plan c.args.region.now c.latch.new.region c.write_all.new.region (latched_unheld (not (is_back c.args.plan.now) && c.args.precheck) c.args.region.now c.in-Ok.ensures.answer) c.in-Ok.ensures.made c.in-Ok.ensures.sound c.latch.ensures.same c.write_all.ensures.is_open c.write_all.ensures.same c.write_all.ensures.rest c.write_all.ensures.written in
+    refused_still c.args.precheck c.args.plan.now c.write_all.new.plan c.args.region.now c.write_all.new.region c.args.system.now c.commit.new.system c.in-Err-commit.cause w c.in-Ok.ensures.answer c.in-Err-commit.ensures.err.0 c.in-Err-commit.ensures.refused c.in-Err-commit.ensures.memory

@@ -1,8 +1,9 @@
 use Rattle.std.proofs.Common.{◌≡◌, rules, true, false, sym, ap, ◌∙◌}
-use Rattle.dali_region.specs.State.{taken_back}
+use Rattle.dali_region.specs.State.{RegionState, taken_back}
 use Rattle.dali_core.specs.Served.{Served}
 use Rattle.dali_core.proofs.UnderWays.{latched_unheld}
 use Rattle.dali_core.specs.Refused.{stop_of}
+use Rattle.dali_single.proofs.Refusing.{stop_only}
 use Rattle.dali_single.proofs.Settled.{freed, free_left_over, spends_one}
 use Rattle.dali_single.proofs.settling.free.Goals as goal
 
@@ -21,3 +22,6 @@ returns-in-Err-solo_op-clause-promised c = λ h. absurd (let no : false ≡ true
 
 pub returns-in-Ok-solo_op-clause-kept : goal.returns-in-Ok-solo_op-clause-kept
 returns-in-Ok-solo_op-clause-kept c = λ n h. spends_one c.args.system.now c.solo_op.new.self c.args.txn n c.block.result.now c.in-Ok-solo_op.ensures.ok.0 h
+
+pub returns-in-Err-solo_op-clause-cause : goal.returns-in-Err-solo_op-clause-cause
+returns-in-Err-solo_op-clause-cause c = stop_only c.take_back.new.self c.args.system.now c.solo_op.new.self c.in-Err-solo_op.cause (ap (λ (r : RegionState). r.hold) c.take_back.ensures.after) c.in-Err-solo_op.ensures.err.0 c.in-Err-solo_op.ensures.refused c.in-Err-solo_op.ensures.memory

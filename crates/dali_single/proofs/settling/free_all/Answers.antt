@@ -1,7 +1,5 @@
-use Rattle.std.proofs.Common.{refl}
 use Rattle.dali_single.proofs.Lists.{get_here}
-use Rattle.dali_single.proofs.Refusing.{refused_there}
-use Rattle.dali_single.proofs.Settled.{next_further, those_left, promised_further, promised_one, removal_there, free_there, free_further, free_refused}
+use Rattle.dali_single.proofs.Settled.{next_further, those_left, removal_stuck, promised_further, promised_still, promised_one, removal_there, free_there, free_further, free_refused}
 use Rattle.dali_single.proofs.settling.free_all.Goals as goal
 
 pub returns-in-Err-clause-err : goal.returns-in-Err-clause-err
@@ -25,7 +23,10 @@ pub returns-in-Err-clause-cause : goal.returns-in-Err-clause-cause
 returns-in-Err-clause-cause c =
     let goes = removal_there c.args.regions.now c.loop-removal.regions c.args.system.now.state c.loop-removal.system.state c.args.txn c.loop-removal.removal-index c.args.removals.now _ c.loop-removal-test.true c.loop-removal.invariant.goes in
     let there = free_there c.args.regions.now c.loop-removal.regions c.args.system.now.state c.loop-removal.system.state c.args.txn c.args.removals.now _ _ goes in
-    refused_there c.args.txn c.args.txn c.loop-removal.regions _ _ c.free.new.region c.free.new.system.state c.in-Err.cause refl (get_here c.loop-removal.regions _ c.free.new.region there) c.in-Err.ensures.cause
+    removal_stuck c.loop-removal.regions c.args.system.now.state c.loop-removal.system c.free.new.system c.loop-removal.removal-index c.args.removals.now _ _ c.free.new.region c.in-Err.cause c.loop-removal-test.true c.loop-removal.invariant.next c.in-Err.ensures.err.0 (get_here c.loop-removal.regions _ c.free.new.region there) c.in-Err.ensures.cause
 
 pub returns-in-Err-clause-promised : goal.returns-in-Err-clause-promised
 returns-in-Err-clause-promised c = λ h. c.in-Err.ensures.promised (promised_one c.loop-removal.system c.args.txn c.loop-removal.removal-index c.args.removals.now c.loop-removal-test.true (c.loop-removal.invariant.promised h))
+
+pub returns-in-Err-clause-still : goal.returns-in-Err-clause-still
+returns-in-Err-clause-still c = λ h. promised_still c.args.system.now.state c.loop-removal.system c.free.new.system c.args.txn c.loop-removal.removal-index c.args.removals.now c.loop-removal.invariant.next c.in-Err.ensures.err.0 (c.loop-removal.invariant.promised h)

@@ -1,9 +1,10 @@
 use Rattle.dali_core.specs.Refused.{stop_of}
 use Rattle.dali_single.specs.Single.{OthersStay}
-use Rattle.std.proofs.Common.{◌≡◌, true, false, ap, sym, subst, []}
+use Rattle.std.proofs.Common.{◌≡◌, true, false, ap, sym, subst, ◌∙◌, []}
 use Rattle.dali_core.specs.Served.{Served}
 use Rattle.dali_single.proofs.Undoing.{ended_gone}
-use Rattle.dali_single.proofs.Settled.{settle_ends, settle_refused, settled_others, none_left_again}
+use Rattle.dali_single.proofs.Settled.{none_behind, settle_ends, settle_refused, settled_others, none_left_again}
+use Rattle.dali_single.proofs.Refusing.{end_stuck}
 use Rattle.dali_single.proofs.settling.settle.Goals as goal
 
 pub returns-in-Err-ended-clause-err : goal.returns-in-Err-ended-clause-err
@@ -35,3 +36,18 @@ returns-in-Err-ended-clause-again c = none_left_again c.args.regions.now c.free_
 
 pub returns-in-Ok-ended-clause-gone : goal.returns-in-Ok-ended-clause-gone
 returns-in-Ok-ended-clause-gone c = ended_gone c.free_all.new.system.state c.ended.new.self.state c.args.txn (ap (λ (s : Served). s.state) c.in-Ok-ended.ensures.ok)
+
+pub returns-in-Err-ended-clause-cause : goal.returns-in-Err-ended-clause-cause
+returns-in-Err-ended-clause-cause c = end_stuck c.free_all.new.regions c.free_all.new.system c.ended.new.self c.in-Err-ended.cause _ (none_behind c.args.system.now.state c.free_all.new.system c.ended.new.self c.args.removals.now c.in-Err-ended.ensures.err c.in-Ok.ensures.freed) c.in-Err-ended.ensures.err c.in-Err-ended.ensures.refused c.in-Err-ended.ensures.memory
+
+pub returns-in-Err-ended-clause-still : goal.returns-in-Err-ended-clause-still
+returns-in-Err-ended-clause-still c = λ h. let left = c.in-Ok.ensures.kept h in absurd (let no : false ≡ true = c.in-Err-ended.ensures.promised (ap stop_of left.runs) left.enough in cc)
+
+pub returns-in-Ok-ended-clause-sizes : goal.returns-in-Ok-ended-clause-sizes
+returns-in-Ok-ended-clause-sizes c = ap (λ (s : Served). s.state.sizes) c.in-Ok-ended.ensures.ok ∙ c.in-Ok.ensures.ok.sizes
+
+pub returns-in-Err-ended-clause-sizes : goal.returns-in-Err-ended-clause-sizes
+returns-in-Err-ended-clause-sizes c = ap (λ (s : Served). s.state.sizes) c.in-Err-ended.ensures.err ∙ c.in-Ok.ensures.ok.sizes
+
+pub returns-in-Err-clause-sizes : goal.returns-in-Err-clause-sizes
+returns-in-Err-clause-sizes c = c.in-Err.ensures.err.sizes

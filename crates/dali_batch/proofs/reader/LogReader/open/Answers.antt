@@ -4,7 +4,7 @@ use Rattle.std.proofs.lemmas.Result.{err_from_is_err_and}
 use Rattle.dali_batch.specs.Log.{BadAt}
 use Rattle.dali_batch.specs.Stream.{IsWindow}
 use Rattle.dali_batch.proofs.Finds.{if_some_two, if_some_three, if_some_same}
-use Rattle.dali_batch.proofs.Fronts.{log_bad, first_bad, first_front, no_format}
+use Rattle.dali_batch.proofs.Fronts.{log_bad, first_bad, first_front, no_format, run_of_front}
 use Rattle.dali_batch.proofs.Streaming.{part_of, empty_window, first_read}
 use Rattle.dali_batch.proofs.reader.LogReader.open.Goals as goal
 
@@ -43,5 +43,5 @@ returns-clause-first g c =
     let body = part_of fs.log c.batch_at.new.self 5 c.in-Some.size seen there.0 in
     let place : 5 + c.in-Some.size ≡ 0 + 5 + length (take c.in-Some.size (drop (0 + 5) fs.log)) = omega (arith, found.1) in
     first_read fs.log _ c.in-Some-format_of.sizes.0 c.in-Some-format_of.sizes.1 (0 + 5 + length (take c.in-Some.size (drop (0 + 5) fs.log)))
-    (first_front fs.log (take c.in-Some.size (drop (0 + 5) fs.log)) c.in-Some-format_of.sizes.0 c.in-Some-format_of.sizes.1 found.0 some.0 (sym body.1 ∙ sym c.part.ensures ∙ some.1)) place place
+    (run_of_front fs.log _ _ (first_front fs.log (take c.in-Some.size (drop (0 + 5) fs.log)) c.in-Some-format_of.sizes.0 c.in-Some-format_of.sizes.1 found.0 some.0 (sym body.1 ∙ sym c.part.ensures ∙ some.1))) place place
     (record { all = held.all; part = held.part; within = held.within }))

@@ -6,5 +6,5 @@ use Rattle.dali_record.proofs.operations.Block.new.Goals as goal
 pub returns-clause-spelled : goal.returns-clause-spelled
 returns-clause-spelled c =
     let words : AreWords c.args.words.now = (c.told-words, all_fit c.args.words.now c.fits-words) in
-    rw (c.under.ensures, c.xor_under.ensures, c.effect-outcome.ensures.row)
+    rw (c.under.ensures, c.xor_under.ensures, c.effect-found.ensures.row)
     (made_is_block c.args.op c.args.key c.args.region c.args.words.now c.requires (omega (arith, c.ranges.key.fits)) (omega (arith, c.ranges.region.fits)) words)

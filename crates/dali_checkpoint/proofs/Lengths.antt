@@ -1,0 +1,129 @@
+-- No image file becomes shorter, so what it reaches it goes on to reach.
+use Rattle.std.proofs.Common.{◌≡◌, ℕ, ◌+◌, ◌≤◌, Bool, true, false, List, length, Option, Some, None, IfSome, refl, ap, sym, subst, ◌∙◌, ⊎_elim, arith, length-append, inl, inr}
+use Rattle.std.specs.Prelude.{◌⊎◌, ◌++◌, take, drop, slice_get, slice_set}
+use Rattle.std.proofs.lemmas.List.{length-take-le}
+use Rattle.dali_counts.proofs.Lists.{set_cases}
+use Rattle.dali_region.specs.declared.Side.{Side}
+use Rattle.dali_region.specs.declared.Side.TheVariants.{A, B}
+use Rattle.dali_region.specs.State.{RegionState}
+use Rattle.dali_region.specs.Answers.{is_dirty, cleaned}
+use Rattle.dali_store.specs.declared.store.FileName.{FileName}
+use Rattle.dali_store.specs.declared.store.FileName.TheVariants.{Log, ImageA, ImageB, Anchor}
+use Rattle.dali_store.specs.Store.{Files as Disk, file_of, Holds, HoldsIn, TornIn, TornTold}
+use Rattle.dali_traces.specs.Disks.{image_file, image_name}
+use Rattle.dali_traces.specs.Places.{place_of}
+use Rattle.dali_vault.specs.Vaulted.{Vaulted}
+use Rattle.dali_whole.specs.Cores.{HoldsPlaces}
+use Rattle.dali_checkpoint.specs.Done.{NoShorter, Reaches}
+
+pub same_length : (o p : Option Disk) → p ≡ o → NoShorter o p
+same_length (Some a) (Some b) e = λ side. let one : b ≡ a = cc in subst (λ (z : Disk). length (image_file side a) ≤ length (image_file side z)) (sym one) (omega arith)
+same_length (Some a) None e = absurd (cc)
+same_length None p e = e
+
+from_same : (x y : List ℕ) → y ≡ x → length x ≤ length y
+from_same x y e = omega (arith, ap length e)
+
+torn_one : (f : FileName) (at n : ℕ) (a b : Disk) → TornIn f at n a b → (side : Side) → length (image_file side a) ≤ length (image_file side b)
+torn_one Log at n a b t A = from_same a.a b.a (t.same ImageA (λ e. cc))
+torn_one Log at n a b t B = from_same a.b b.b (t.same ImageB (λ e. cc))
+torn_one ImageA at n a b t A = t.torn.no_shorter
+torn_one ImageA at n a b t B = from_same a.b b.b (t.same ImageB (λ e. cc))
+torn_one ImageB at n a b t A = from_same a.a b.a (t.same ImageA (λ e. cc))
+torn_one ImageB at n a b t B = t.torn.no_shorter
+torn_one Anchor at n a b t A = from_same a.a b.a (t.same ImageA (λ e. cc))
+torn_one Anchor at n a b t B = from_same a.b b.b (t.same ImageB (λ e. cc))
+
+pub torn_length : (f : FileName) (at n : ℕ) (o p : Option Disk) → TornTold f at n o p → NoShorter o p
+torn_length f at n (Some a) (Some b) t = torn_one f at n a b t
+torn_length f at n (Some a) None t = t
+torn_length f at n None p t = t
+
+pub then_length : (o p q : Option Disk) → NoShorter o p → NoShorter p q → NoShorter o q
+then_length (Some a) (Some b) (Some d) s t = λ side. omega (arith, s side, t side)
+then_length (Some a) (Some b) None s t = t
+then_length (Some a) None q s t = absurd s
+then_length None (Some b) q s t = absurd (cc)
+then_length None None q s t = t
+
+-- over a call that a stopped vault refuses
+pub unless_stopped : (b : Bool) (o p : Option Disk) → (b ≡ true → p ≡ o) → (b ≡ false → NoShorter o p) → NoShorter o p
+unless_stopped true o p s t = same_length o p (s refl)
+unless_stopped false o p s t = t refl
+
+reaches_told : (o p : Option Disk) (side : Side) (n : ℕ) → NoShorter o p → IfSome o (λ fs. place_of n ≤ length (image_file side fs)) → IfSome p (λ fs. place_of n ≤ length (image_file side fs))
+reaches_told (Some a) (Some b) side n s r = omega (arith, s side, r)
+reaches_told (Some a) None side n s r = tt
+reaches_told None (Some b) side n s r = absurd (cc)
+reaches_told None None side n s r = tt
+
+pub reaches_on : {V : Type 0} (told : V → Option Disk) (side : Side) (n : ℕ) (v w : Vaulted V) → NoShorter (told v.store) (told w.store) → Reaches told side n v → Reaches told side n w
+reaches_on told side n v w s r = reaches_told (told v.store) (told w.store) side n s r
+
+places_one : (gs : List RegionState) (a b : Disk) → ((side : Side) → length (image_file side a) ≤ length (image_file side b)) → HoldsPlaces gs a → HoldsPlaces gs b
+places_one gs a b s holds = λ side r g at clean. omega (arith, s side, holds side r g at clean)
+
+pub places_stay : (o p : Option Disk) (gs : List RegionState) → NoShorter o p → IfSome o (HoldsPlaces gs) → IfSome p (HoldsPlaces gs)
+places_stay (Some a) (Some b) gs s holds = places_one gs a b s holds
+places_stay (Some a) None gs s holds = tt
+places_stay None (Some b) gs s holds = absurd (cc)
+places_stay None None gs s holds = tt
+
+-- the region with the number r was cleaned for one side
+clean_cases : (side other : Side) (g : RegionState) → is_dirty (cleaned side g) other ≡ false → (other ≡ side) ⊎ (is_dirty g other ≡ false)
+clean_cases A A g e = inl refl
+clean_cases A B g e = inr e
+clean_cases B A g e = inr e
+clean_cases B B g e = inl refl
+
+-- ---- the region that was copied
+copied_place : (gs : List RegionState) (r : ℕ) (side : Side) (g : RegionState) (a b : Disk) → slice_get gs r ≡ Some g → ((s : Side) → length (image_file s a) ≤ length (image_file s b))
+    → place_of (r + 1) ≤ length (image_file side b)
+    → HoldsPlaces gs a → HoldsPlaces (slice_set gs r (cleaned side g)) b
+copied_place gs r side g a b at long there holds = λ s q h is clean. ⊎_elim (here s q h clean) (other s q h clean) (set_cases gs r (cleaned side g) q h is)
+  where
+    of_side : (s : Side) → (s ≡ side) ⊎ (is_dirty g s ≡ false) → place_of (r + 1) ≤ length (image_file s b)
+    of_side s same = ⊎_elim
+        (λ e. subst (λ z. place_of (r + 1) ≤ length (image_file z b)) (sym e) there)
+        (λ clean. omega (arith, long s, holds s r g at clean)) same
+
+    here : (s : Side) (q : ℕ) (h : RegionState) → is_dirty h s ≡ false → (q ≡ r) × (h ≡ cleaned side g) → place_of (q + 1) ≤ length (image_file s b)
+    here s q h clean e = subst (λ n. place_of (n + 1) ≤ length (image_file s b)) (sym e.0) (of_side s (clean_cases side s g (ap (λ z. is_dirty z s) (sym e.1) ∙ clean)))
+
+    other : (s : Side) (q : ℕ) (h : RegionState) → is_dirty h s ≡ false → ((r ≡ q → ⊥) × (slice_get gs q ≡ Some h)) → place_of (q + 1) ≤ length (image_file s b)
+    other s q h clean e = omega (arith, long s, holds s q h e.1 clean)
+
+pub copied_places : (o p : Option Disk) (gs : List RegionState) (r : ℕ) (side : Side) (g : RegionState) → slice_get gs r ≡ Some g → NoShorter o p
+    → IfSome p (λ fs. place_of (r + 1) ≤ length (image_file side fs))
+    → IfSome o (HoldsPlaces gs) → IfSome p (HoldsPlaces (slice_set gs r (cleaned side g)))
+copied_places (Some a) (Some b) gs r side g at long there holds = copied_place gs r side g a b at long there holds
+copied_places (Some a) None gs r side g at long there holds = tt
+copied_places None (Some b) gs r side g at long there holds = absurd (cc)
+copied_places None None gs r side g at long there holds = tt
+
+-- ---- bytes that were written
+held_length : (at : ℕ) (bytes old new : List ℕ) → at ≤ length old → Holds old at bytes new → at + length bytes ≤ length new
+held_length at bytes old new inside holds =
+    let all : length new ≡ (length (take at old) + length bytes) + length (drop (at + length bytes) old) = ap length holds ∙ (length-append (take at old ++ bytes) (drop (at + length bytes) old) ∙ ap (λ n. n + length (drop (at + length bytes) old)) (length-append (take at old) bytes)) in
+    let front : length (take at old) ≡ at = length-take-le at old inside in
+    omega (arith, all, front)
+
+written_one : (side : Side) (at : ℕ) (bytes : List ℕ) (a b : Disk) → at ≤ length (image_file side a) → Holds (file_of (image_name side) a) at bytes (file_of (image_name side) b) → at + length bytes ≤ length (image_file side b)
+written_one A at bytes a b inside holds = held_length at bytes a.a b.a inside holds
+written_one B at bytes a b inside holds = held_length at bytes a.b b.b inside holds
+
+pub written_reaches : (side : Side) (at n : ℕ) (bytes : List ℕ) (o p : Option Disk) → place_of n ≤ at + length bytes → IfSome o (λ fs. at ≤ length (image_file side fs)) → HoldsIn (image_name side) at bytes o p → IfSome p (λ fs. place_of n ≤ length (image_file side fs))
+written_reaches side at n bytes (Some a) (Some b) e inside holds = omega (arith, e, written_one side at bytes a b inside holds.0)
+written_reaches side at n bytes (Some a) None e inside holds = tt
+written_reaches side at n bytes None (Some b) e inside holds = absurd (cc)
+written_reaches side at n bytes None None e inside holds = tt
+
+-- a file by its name
+pub by_name : (o : Option Disk) (side : Side) (at : ℕ) → IfSome o (λ fs. at ≤ length (image_file side fs)) → IfSome o (λ fs. at ≤ length (file_of (image_name side) fs))
+by_name (Some a) A at e = e
+by_name (Some a) B at e = e
+by_name None side at e = tt
+
+pub at_start : (o : Option Disk) (side : Side) → IfSome o (λ fs. 0 ≤ length (image_file side fs))
+at_start (Some a) side = omega arith
+at_start None side = tt

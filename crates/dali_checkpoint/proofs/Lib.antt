@@ -1,0 +1,9 @@
+pub mod Lengths
+pub mod Stays
+pub mod Rows
+pub mod Calls
+pub mod Audited
+pub mod Others
+pub mod Faults
+pub mod Joined
+pub mod Flushing

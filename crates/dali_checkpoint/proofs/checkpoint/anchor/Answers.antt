@@ -1,0 +1,24 @@
+use Rattle.std.proofs.Common.{rules}
+use Rattle.dali_crash.specs.Checkpoints.{side_of}
+use Rattle.dali_traces.specs.Disks.{image_name}
+use Rattle.dali_steps.specs.Said.{HasSynced, SyncHasFailed, TurnHasFailed}
+use Rattle.dali_checkpoint.specs.Done.{FailsToTurn}
+use Rattle.dali_checkpoint.proofs.Joined.{turns, sync_fails, turn_fails}
+use Rattle.dali_checkpoint.proofs.checkpoint.anchor.Goals as goal
+
+pub returns-in_err-sync-clause-fault : goal.returns-in_err-sync-clause-fault
+returns-in_err-sync-clause-fault g c none =
+    let failed : SyncHasFailed g.V.Store.told g.V.Store.may_leave g.V.Store.faults c.flush.new.vault c.sync.new.vault = search rules in
+    let fails : FailsToTurn g.V.Store.told g.V.Store.may_leave g.V.Store.faults c.args.system.now.state c.args.vault.now (side_of c.args.number) c.sync.new.vault = sync_fails g.V.Store.told g.V.Store.may_leave g.V.Store.faults c.args.system.now.state c.args.vault.now c.flush.new.vault c.sync.new.vault (side_of c.args.number) c.in_ok-flush.ensures.ok.1 failed in
+    search rules
+
+pub returns-in_err-turn-clause-fault : goal.returns-in_err-turn-clause-fault
+returns-in_err-turn-clause-fault g c none =
+    let synced : HasSynced g.V.Store.told g.V.Store.may_leave g.V.Store.faults c.flush.new.vault (image_name (side_of c.args.number)) c.sync.new.vault = search rules in
+    let failed : TurnHasFailed g.V.Store.told g.V.Store.may_leave g.V.Store.faults c.sync.new.vault c.turn.new.vault = search rules in
+    let fails : FailsToTurn g.V.Store.told g.V.Store.may_leave g.V.Store.faults c.args.system.now.state c.args.vault.now (side_of c.args.number) c.turn.new.vault = turn_fails g.V.Store.told g.V.Store.may_leave g.V.Store.faults c.args.system.now.state c.args.vault.now c.flush.new.vault c.sync.new.vault c.turn.new.vault (side_of c.args.number) c.in_ok-flush.ensures.ok.1 synced failed in
+    search rules
+
+pub returns-clause-ok : goal.returns-clause-ok
+returns-clause-ok g c =
+    (search rules, turns g.V.Store.told g.V.Store.may_leave g.V.Store.faults c.args.system.now.state c.args.vault.now c.flush.new.vault c.sync.new.vault c.turn.new.vault (side_of c.args.number) c.in_ok-flush.ensures.ok.1 (search rules) c.in_ok-turn.ensures.ok.1)

@@ -1,0 +1,99 @@
+-- What the calls of a checkpoint do with the store, in the words of the vault's calls.
+--     Reaches told side n v    the file of this side's image, where the store tells it, is long enough for the place of region n
+--     IsNoShorter told v w     where the store tells its files, it still does, and no image file became shorter
+--     Writes, FailsToWrite     all records are flushed and these bytes written to a file, or one of the two met a fault
+--     HasStarted y v c w       a checkpoint c started
+--     HasTurnedTo, FailsToTurn all records are flushed, the image is synced and the anchor moved, or one of the three met a fault
+--     IsKept y v z w           what an audit that failed logged is flushed
+--     IsLost y v z w e         it waits, since the vault was stopped before or stops now, and e tells which
+--     HasEnded y v z w         one of both
+use Rattle.std.specs.Prelude.{◌≡◌, ℕ, ◌≤◌, true, false, ◌⊎◌, List, [], drop, length, Option, Some, None, IfSome}
+use Rattle.dali_region.specs.declared.Side.{Side}
+use Rattle.dali_store.specs.declared.store.FileName.{FileName}
+use Rattle.dali_store.specs.Store.{Files as Disk}
+use Rattle.dali_system.specs.State.{SystemState}
+use Rattle.dali_system.specs.Steps.{taken, store_stopped, in_checkpoint}
+use Rattle.dali_traces.specs.Disks.{image_file, image_name, table_bytes}
+use Rattle.dali_traces.specs.Places.{place_of}
+use Rattle.dali_vault.specs.Vaulted.{Vaulted}
+use Rattle.dali_steps.specs.Said.{HasWritten, WriteHasFailed, HasSynced, SyncHasFailed, HasTurned, TurnHasFailed}
+use Rattle.dali_whole.specs.Flushed.{FlushesFrame, FailsFrame}
+use Rattle.dali_image.specs.Headers.{heading}
+use Rattle.dali_image.specs.Rows.{rows_of}
+use Rattle.dali_checkpoint.specs.Kept.{Checkpointed, side_in, header_at, cause_of}
+use Rattle.dali_checkpoint.specs.declared.error.CheckpointError.{CheckpointError}
+use Rattle.dali_checkpoint.specs.declared.error.CheckpointError.TheVariants.{Stopped, Fault}
+
+abbrev pub Reaches : {V : Type 0} → (V → Option Disk) → Side → ℕ → Vaulted V → Type 0
+Reaches told side n v = IfSome (told v.store) (λ fs. place_of n ≤ length (image_file side fs))
+
+abbrev pub NoShorter : Option Disk → Option Disk → Type 0
+NoShorter (Some a) (Some b) = (side : Side) → length (image_file side a) ≤ length (image_file side b)
+NoShorter (Some a) None = ⊥
+NoShorter None new = new ≡ None
+
+abbrev pub IsNoShorter : {V : Type 0} → (V → Option Disk) → Vaulted V → Vaulted V → Type 0
+IsNoShorter told v w = NoShorter (told v.store) (told w.store)
+
+module _ {V : Type 0} (told : V → Option Disk) (may_leave : V → Disk → Type 0) (faults : V → ℕ) where
+  -- ---- a flush and a write
+  pub record Writes (y : SystemState) (v : Vaulted V) (f : FileName) (at : ℕ) (bytes : List ℕ) (w : Vaulted V) : Type 0 where
+    pub mid : Vaulted V
+    pub flushed : FlushesFrame told may_leave faults y v mid
+    pub written : HasWritten told may_leave faults mid f at bytes w
+
+  pub record WriteFails (y : SystemState) (v : Vaulted V) (f : FileName) (at n : ℕ) (w : Vaulted V) : Type 0 where
+    pub mid : Vaulted V
+    pub flushed : FlushesFrame told may_leave faults y v mid
+    pub failed : WriteHasFailed told may_leave faults mid f at n w
+
+  abbrev pub FailsToWrite : SystemState → Vaulted V → FileName → ℕ → ℕ → Vaulted V → Type 0
+  FailsToWrite y v f at n w = FailsFrame told may_leave faults y v w ⊎ WriteFails y v f at n w
+
+  -- the header is written to the file of the image that isn't the current one
+  pub record HasStarted (y : SystemState) (v : Vaulted V) (c : Checkpointed) (w : Vaulted V) : Type 0 where
+    pub header : c.header ≡ header_at y w (length c.table)
+    pub table : c.table ≡ table_bytes (rows_of y.table)
+    pub copied : c.copied ≡ 0
+    pub settled : c.settled ≡ None
+    pub faulted : c.faulted ≡ false
+    pub writes : Writes y v (image_name (side_in c)) 0 (heading c.header) w
+
+  -- ---- a flush, a sync and the anchor's move
+  pub record HasTurnedTo (y : SystemState) (v : Vaulted V) (side : Side) (w : Vaulted V) : Type 0 where
+    pub mid : Vaulted V
+    pub flushed : FlushesFrame told may_leave faults y v mid
+    pub late : Vaulted V
+    pub synced : HasSynced told may_leave faults mid (image_name side) late
+    pub turned : HasTurned told may_leave faults late w
+
+  pub record SyncFails (y : SystemState) (v : Vaulted V) (w : Vaulted V) : Type 0 where
+    pub mid : Vaulted V
+    pub flushed : FlushesFrame told may_leave faults y v mid
+    pub failed : SyncHasFailed told may_leave faults mid w
+
+  pub record TurnFails (y : SystemState) (v : Vaulted V) (side : Side) (w : Vaulted V) : Type 0 where
+    pub mid : Vaulted V
+    pub flushed : FlushesFrame told may_leave faults y v mid
+    pub late : Vaulted V
+    pub synced : HasSynced told may_leave faults mid (image_name side) late
+    pub failed : TurnHasFailed told may_leave faults late w
+
+  abbrev pub FailsToTurn : SystemState → Vaulted V → Side → Vaulted V → Type 0
+  FailsToTurn y v side w = FailsFrame told may_leave faults y v w ⊎ (SyncFails y v w ⊎ TurnFails y v side w)
+
+  -- ---- a flush behind an audit that failed
+  -- what it logged was flushed by another, or is now
+  abbrev pub IsKept : SystemState → Vaulted V → SystemState → Vaulted V → Type 0
+  IsKept y v z w =
+      ((drop y.taken y.since ≡ []) × (w ≡ v) × (z ≡ in_checkpoint y false))
+      ⊎ ((v.stopped ≡ false) × FlushesFrame told may_leave faults y v w × (z ≡ in_checkpoint (taken y) false))
+
+  -- or it waits, and the vault was stopped before, or stops now
+  abbrev pub IsLost : SystemState → Vaulted V → SystemState → Vaulted V → CheckpointError → Type 0
+  IsLost y v z w (Stopped cause) = (cause_of y v ≡ Some cause) × (v.stopped ≡ true) × (w ≡ v) × (z ≡ in_checkpoint y false)
+  IsLost y v z w Fault = (v.stopped ≡ false) × FailsFrame told may_leave faults y v w × (z ≡ in_checkpoint (store_stopped (taken y)) false)
+  IsLost y v z w e = ⊥
+
+  abbrev pub HasEnded : SystemState → Vaulted V → SystemState → Vaulted V → Type 0
+  HasEnded y v z w = IsKept y v z w ⊎ ((e : CheckpointError) × IsLost y v z w e)

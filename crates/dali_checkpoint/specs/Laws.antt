@@ -1,0 +1,194 @@
+-- The calls of a checkpoint as steps of a run.
+--     StartGoes, CopyGoes, SkipGoes, SettleGoes, CertifyGoes       what each call leaves on Ok is behind steps, and the next call's premise holds there
+--     OthersKeep               between them steps of others keep it, those of an audit too
+--     FlushKeeps               and so does a flush of all records
+--     AuditsTell               an audit that began behind the settlement and ended clean certifies it
+--     StartFaults, CopyFaults, SettleFaults, CertifyFaults, FailureEnds, GivesUp   what each leaves otherwise is behind steps too
+--     PlacesStay, PlacesGoOn   where the file of a side has the place of each region whose flag for that side is clear, it has so behind each call, and
+--                              behind a copy
+use Rattle.std.specs.Prelude.{◌≡◌, ℕ, ◌+◌, ◌≤◌, Bool, true, false, List, [], ◌∷◌, Option, Some, IfSome, length, slice_get, slice_set}
+use Rattle.dali_geometry.specs.Places.{regions}
+use Rattle.dali_record.specs.declared.records.Record.{Record}
+use Rattle.dali_record.specs.Spelling.{words_bytes}
+use Rattle.dali_region.specs.declared.Side.{Side}
+use Rattle.dali_region.specs.State.{RegionState}
+use Rattle.dali_region.specs.Answers.{is_dirty, cleaned}
+use Rattle.dali_store.specs.Store.{Files as Disk}
+use Rattle.dali_system.specs.State.{SystemState, stable}
+use Rattle.dali_system.specs.Steps.{taken, store_stopped, in_checkpoint}
+use Rattle.dali_system.specs.Courses.{Step, Takes, Flushes, AuditBegins, AuditEnds}
+use Rattle.dali_crash.specs.Checkpoints.{Head, StoreStep, Does, Starts, Keeps as KeepsAll, Copies, Skips, WritesHead, Syncs, Turns, Finishes, Point, IsPointStep, IsPointCourse, side_of}
+use Rattle.dali_crash.specs.Traces.{Start}
+use Rattle.dali_traces.specs.Disks.{image_name}
+use Rattle.dali_traces.specs.Places.{place_of}
+use Rattle.dali_vault.specs.Vaulted.{Vaulted}
+use Rattle.dali_steps.specs.Said.{HasWritten, WriteHasFailed}
+use Rattle.dali_steps.specs.Courses.{is_quiet}
+use Rattle.dali_whole.specs.Cores.{IsCoreAt, HoldsPlaces}
+use Rattle.dali_whole.specs.Flushed.{FlushesFrame}
+use Rattle.dali_checkpoint.specs.Kept.{Checkpointed, side_in, given_up}
+use Rattle.dali_checkpoint.specs.Done.{Reaches, IsNoShorter, Writes, FailsToWrite, HasStarted, HasTurnedTo, FailsToTurn, HasEnded}
+use Rattle.dali_checkpoint.specs.Running.{PassesTell, IsCertifiedAt, IsIdle, IsCopying, IsSettled}
+
+-- ---- an audit behind the settlement: before its passes nothing is to be told, and a clean end certifies each copy
+pub record AuditTells (p q : Point) (b : ℕ) : Type 0 where
+  pub begins : IsPointStep p (Does AuditBegins) q → PassesTell q p.core.system.records
+  pub ends : (n : ℕ) → IsPointStep p (Does (AuditEnds b [])) q → n ≤ b → PassesTell p b → IsCertifiedAt q n b
+
+abbrev pub AuditsTell : Type 0
+AuditsTell = (p q : Point) (b : ℕ) → AuditTells p q b
+
+module _ {V : Type 0} (told : V → Option Disk) (may_leave : V → Disk → Type 0) (faults : V → ℕ) where
+  -- ---- a start
+  pub record Started (s : Start) (p : Point) (gs : List RegionState) (y z : SystemState) (w : Vaulted V) (c : Checkpointed) : Type 0 where
+    pub to : Point
+    pub batches : List (List Record)
+    pub head : Head
+    pub course : IsPointCourse p (Starts ∷ Does Takes ∷ Does Flushes ∷ KeepsAll ∷ WritesHead head ∷ []) to
+    pub is : IsCopying told may_leave faults s batches to gs z w c head
+    -- the image knows of no fewer records than there were
+    pub first : head.first ≡ y.records
+
+  abbrev pub StartGoes : Type 0
+  StartGoes =
+      (s : Start) (B : List (List Record)) (p : Point) (gs : List RegionState) (y z : SystemState) (v w : Vaulted V) (c : Checkpointed)
+      → IsIdle told may_leave faults s B p gs y v → HasStarted told may_leave faults y v c w → z ≡ in_checkpoint (taken y) true
+      → Started s p gs y z w c
+
+  -- ---- a copy
+  pub record Went (s : Start) (B : List (List Record)) (p : Point) (x : StoreStep) (gs : List RegionState) (y : SystemState) (w : Vaulted V) (c : Checkpointed) (h : Head) : Type 0 where
+    pub to : Point
+    pub step : IsPointStep p x to
+    pub is : IsCopying told may_leave faults s B to gs y w c h
+
+  abbrev pub CopyGoes : Type 0
+  CopyGoes =
+      (s : Start) (B : List (List Record)) (p : Point) (gs : List RegionState) (y : SystemState) (v w : Vaulted V) (c : Checkpointed) (h : Head) (g : RegionState)
+      → IsCopying told may_leave faults s B p gs y v c h
+      → slice_get gs c.copied ≡ Some g → is_dirty g (side_in c) ≡ true
+      → HasWritten told may_leave faults v (image_name (side_in c)) (place_of c.copied) (words_bytes g.back) w
+      → Went s B p (Copies c.copied (length p.log)) (slice_set gs c.copied (cleaned (side_in c) g)) y w (record c { copied = c.copied + 1 }) h
+
+  abbrev pub SkipGoes : Type 0
+  SkipGoes =
+      (s : Start) (B : List (List Record)) (p : Point) (gs : List RegionState) (y : SystemState) (v : Vaulted V) (c : Checkpointed) (h : Head) (g : RegionState)
+      → IsCopying told may_leave faults s B p gs y v c h
+      → slice_get gs c.copied ≡ Some g → is_dirty g (side_in c) ≡ false → Reaches told (side_in c) (c.copied + 1) v
+      → Went s B p (Skips c.copied (length p.log)) gs y v (record c { copied = c.copied + 1 }) h
+
+  -- ---- a settlement
+  pub record HasSettled (s : Start) (p : Point) (gs : List RegionState) (z : SystemState) (w : Vaulted V) (c : Checkpointed) (h : Head) (n : ℕ) : Type 0 where
+    pub to : Point
+    pub batches : List (List Record)
+    pub course : IsPointCourse p (Does Takes ∷ Does Flushes ∷ WritesHead h ∷ []) to
+    pub is : IsSettled told may_leave faults s batches to gs z w c h n
+
+  abbrev pub SettleGoes : Type 0
+  SettleGoes =
+      (s : Start) (B : List (List Record)) (p : Point) (gs : List RegionState) (y z : SystemState) (v w : Vaulted V) (c : Checkpointed) (h : Head)
+      → IsCopying told may_leave faults s B p gs y v c h → c.copied ≡ regions c.header.geometry
+      → Writes told may_leave faults y v (image_name (side_in c)) (place_of c.copied) c.table w → z ≡ taken y
+      → HasSettled s p gs z w (record c { settled = Some y.records }) h y.records
+
+  -- ---- between the calls: a step of others that calls no store, and takes no frame
+  pub record Keeps (s : Start) (B : List (List Record)) (p q : Point) (v : Vaulted V) : Type 0 where
+    pub idle : (gs : List RegionState) (y : SystemState) → IsIdle told may_leave faults s B p gs y v → IsIdle told may_leave faults s B q q.core.regions q.core.system v
+    pub copying : (gs : List RegionState) (y : SystemState) (c : Checkpointed) (h : Head) → IsCopying told may_leave faults s B p gs y v c h
+        → IsCopying told may_leave faults s B q q.core.regions q.core.system v c h
+    pub settled : (gs : List RegionState) (y : SystemState) (c : Checkpointed) (h : Head) (n : ℕ) → IsSettled told may_leave faults s B p gs y v c h n
+        → IsSettled told may_leave faults s B q q.core.regions q.core.system v c h n
+    pub passes : (gs : List RegionState) (y : SystemState) (c : Checkpointed) (h : Head) (n b : ℕ) → IsSettled told may_leave faults s B p gs y v c h n → PassesTell p b → PassesTell q b
+    pub certified : (n b : ℕ) → IsCertifiedAt p n b → IsCertifiedAt q n b
+
+  abbrev pub OthersKeep : Type 0
+  OthersKeep =
+      (s : Start) (B : List (List Record)) (p q : Point) (v : Vaulted V) (x : Step) → is_quiet x ≡ true → IsPointStep p (Does x) q → q.core.system.taken ≡ p.core.system.taken
+      → Keeps s B p q v
+
+  -- a flush of all records, by others too
+  pub record Onward (p : Point) (P : List (List Record) → Point → Type 0) : Type 0 where
+    pub to : Point
+    pub batches : List (List Record)
+    pub course : IsPointCourse p (Does Takes ∷ Does Flushes ∷ []) to
+    pub is : P batches to
+
+  pub record KeepsOverFlush (s : Start) (B : List (List Record)) (p : Point) (gs : List RegionState) (y : SystemState) (v w : Vaulted V) : Type 0 where
+    pub idle : IsIdle told may_leave faults s B p gs y v → Onward p (λ C q. IsIdle told may_leave faults s C q gs (taken y) w)
+    pub copying : (c : Checkpointed) (h : Head) → IsCopying told may_leave faults s B p gs y v c h → Onward p (λ C q. IsCopying told may_leave faults s C q gs (taken y) w c h)
+    -- and what an audit has told so far
+    pub settled : (c : Checkpointed) (h : Head) (n : ℕ) → IsSettled told may_leave faults s B p gs y v c h n
+        → Onward p (λ C q. IsSettled told may_leave faults s C q gs (taken y) w c h n × ((b : ℕ) → PassesTell p b → PassesTell q b) × ((m b : ℕ) → IsCertifiedAt p m b → IsCertifiedAt q m b))
+
+  abbrev pub FlushKeeps : Type 0
+  FlushKeeps = (s : Start) (B : List (List Record)) (p : Point) (gs : List RegionState) (y : SystemState) (v w : Vaulted V) → FlushesFrame told may_leave faults y v w → KeepsOverFlush s B p gs y v w
+
+  -- ---- the anchor
+  pub record HasMoved (s : Start) (p : Point) (gs : List RegionState) (z : SystemState) (w : Vaulted V) : Type 0 where
+    pub to : Point
+    pub batches : List (List Record)
+    pub course : IsPointCourse p (Does Takes ∷ Does Flushes ∷ Syncs ∷ Turns ∷ Finishes ∷ []) to
+    pub is : IsIdle told may_leave faults s batches to gs z w
+    pub all : stable to.core ≡ length to.log
+
+  abbrev pub CertifyGoes : Type 0
+  CertifyGoes =
+      (s : Start) (B : List (List Record)) (p : Point) (gs : List RegionState) (y z : SystemState) (v w : Vaulted V) (c : Checkpointed) (h : Head) (n b : ℕ)
+      → IsSettled told may_leave faults s B p gs y v c h n → IsCertifiedAt p n b
+      → HasTurnedTo told may_leave faults y v (side_in c) w → z ≡ in_checkpoint (taken y) false
+      → HasMoved s p gs z w
+
+  -- ---- what the calls leave otherwise is behind steps too
+  pub record Ends (s : Start) (p : Point) (gs : List RegionState) (z : SystemState) (w : Vaulted V) : Type 0 where
+    pub to : Point
+    pub batches : List (List Record)
+    pub steps : List StoreStep
+    pub course : IsPointCourse p steps to
+    pub at : IsCoreAt told may_leave faults s batches to gs z w
+
+  abbrev pub StartFaults : Type 0
+  StartFaults =
+      (s : Start) (B : List (List Record)) (p : Point) (gs : List RegionState) (y : SystemState) (v w : Vaulted V) → IsIdle told may_leave faults s B p gs y v
+      → FailsToWrite told may_leave faults y v (image_name (side_of (v.current + 1))) 0 64 w
+      → Ends s p gs (store_stopped (taken y)) w
+
+  abbrev pub CopyFaults : Type 0
+  CopyFaults =
+      (s : Start) (B : List (List Record)) (p : Point) (gs : List RegionState) (y : SystemState) (v w : Vaulted V) (c : Checkpointed) (h : Head) (g : RegionState)
+      → IsCopying told may_leave faults s B p gs y v c h → slice_get gs c.copied ≡ Some g → is_dirty g (side_in c) ≡ true
+      → WriteHasFailed told may_leave faults v (image_name (side_in c)) (place_of c.copied) (length (words_bytes g.back)) w
+      → Ends s p gs y w
+
+  abbrev pub SettleFaults : Type 0
+  SettleFaults =
+      (s : Start) (B : List (List Record)) (p : Point) (gs : List RegionState) (y : SystemState) (v w : Vaulted V) (c : Checkpointed) (h : Head) (at n : ℕ)
+      → IsCopying told may_leave faults s B p gs y v c h → FailsToWrite told may_leave faults y v (image_name (side_in c)) at n w
+      → Ends s p gs (store_stopped (taken y)) w
+
+  abbrev pub CertifyFaults : Type 0
+  CertifyFaults =
+      (s : Start) (B : List (List Record)) (p : Point) (gs : List RegionState) (y : SystemState) (v w : Vaulted V) (c : Checkpointed) (h : Head) (n b : ℕ)
+      → IsSettled told may_leave faults s B p gs y v c h n → IsCertifiedAt p n b → FailsToTurn told may_leave faults y v (side_in c) w
+      → Ends s p gs (in_checkpoint (store_stopped (taken y)) false) w
+
+  -- behind an audit that failed
+  abbrev pub FailureEnds : Type 0
+  FailureEnds =
+      (s : Start) (B : List (List Record)) (p : Point) (gs : List RegionState) (y z : SystemState) (v w : Vaulted V) → IsCoreAt told may_leave faults s B p gs y v
+      → y.checking ≡ true → HasEnded told may_leave faults y v z w
+      → Ends s p gs z w
+
+  -- a call of the store has failed, where the checkpoint says so
+  abbrev pub GivesUp : Type 0
+  GivesUp =
+      (s : Start) (B : List (List Record)) (p : Point) (gs : List RegionState) (y : SystemState) (v : Vaulted V) (failed : Bool) → IsCoreAt told may_leave faults s B p gs y v
+      → y.checking ≡ true → (failed ≡ true → v.stopped ≡ true)
+      → Ends s p gs (given_up failed y) v
+
+  -- ---- the places of the regions
+  abbrev pub PlacesStay : Type 0
+  PlacesStay = (gs : List RegionState) (v w : Vaulted V) → IsNoShorter told v w → IfSome (told v.store) (HoldsPlaces gs) → IfSome (told w.store) (HoldsPlaces gs)
+
+  abbrev pub PlacesGoOn : Type 0
+  PlacesGoOn =
+      (gs : List RegionState) (r : ℕ) (side : Side) (g : RegionState) (v w : Vaulted V) → slice_get gs r ≡ Some g → IsNoShorter told v w → Reaches told side (r + 1) w
+      → IfSome (told v.store) (HoldsPlaces gs) → IfSome (told w.store) (HoldsPlaces (slice_set gs r (cleaned side g)))

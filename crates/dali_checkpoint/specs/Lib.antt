@@ -1,0 +1,4 @@
+pub mod Kept
+pub mod Done
+pub mod Running
+pub mod Laws

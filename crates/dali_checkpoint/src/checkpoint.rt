@@ -1,0 +1,318 @@
+//! One checkpoint, from its start to the anchor's move.
+ghost use Rattle.std.specs.Prelude.{◌≡◌, ◌≤◌, ◌<◌, ◌+◌, ◌^◌, ◌⊎◌, [], true, false, Ok, Some, None, Err, OnOk, OnErr, IfOk, IfErr, IfSome, IsErrOf, IsSomeAnd, length};
+ghost use Rattle.dali_geometry.specs.Places.{regions as regions_of};
+ghost use Rattle.dali_record.specs.Spelling.{words_bytes};
+ghost use Rattle.dali_region.specs.Answers.{is_dirty, cleaned};
+ghost use Rattle.dali_store.specs.Faults.{Rose};
+ghost use Rattle.dali_system.specs.declared.causes.Cause.TheVariants.{Store as ByStore};
+ghost use Rattle.dali_system.specs.Steps.{taken, store_stopped, in_checkpoint};
+ghost use Rattle.dali_crash.specs.Checkpoints;
+ghost use Rattle.dali_traces.specs.Disks.{image_name};
+ghost use Rattle.dali_traces.specs.Places.{place_of};
+ghost use Rattle.dali_steps.specs.Said.{HasWritten, WriteHasFailed};
+ghost use Rattle.dali_checkpoint.specs.Kept.{side_in, cause_of, given_up};
+ghost use Rattle.dali_checkpoint.specs.Done.{Reaches, IsNoShorter, Writes, FailsToWrite, HasStarted, HasTurnedTo, FailsToTurn, IsKept, IsLost};
+ghost use Rattle.dali_checkpoint.specs.declared.error.CheckpointError.TheVariants.{Failed, InProgress, Stopped, Fault, OutOfMemory};
+
+use crate::error::CheckpointError;
+use crate::parts::{self, side_of};
+use dali_audit::Verdict;
+use dali_core::System;
+use dali_image::{Header, header_bytes, table_bytes};
+use dali_region::Region;
+use dali_store::Store;
+use dali_system::Cause;
+use dali_vault::{Vault, VaultError};
+use std::alloc::Global;
+use std::marker::Model;
+
+/// A checkpoint under way: what its start kept of the log and of the table, and how far it has come.
+///
+/// After `start` each region is copied, in the order of their numbers, then `settle` ends the image; behind it an audit of all
+/// regions is made, and `certify` moves the anchor to the image where that audit found nothing. Between these calls others may
+/// log records, flush them and change regions. The image is the one that isn't current (ping-pong checkpointing: Bohannon et
+/// al., TKDE 2003; Jagadish et al., VLDB 1994).
+#[derive(Drop)]
+pub struct Checkpoint {
+    header: Header,
+    table: Vec<u8>,
+    copied: u32,
+    settled: Option<u64>,
+    faulted: bool,
+}
+
+impl Model for Checkpoint {
+    ghost use Rattle.dali_checkpoint.specs.Kept.{Checkpointed};
+
+    ghost Value = { Checkpointed };
+
+    ghost view = { λ c. record { header = c.header; table = c.table.items; copied = c.copied; settled = c.settled; faulted = c.faulted } };
+}
+
+// Flushes all records, keeps what they come to, and writes the header of the image.
+#[tactic(auto, using(crate::proofs::Joined::writes, crate::proofs::Joined::write_fails))]
+fn begin<V: Store>(
+    alloc: Global,
+    system: &mut System,
+    vault: &mut Vault<V>,
+) -> Result<Checkpoint, CheckpointError>
+    requires end { vault.old.end < 2 ^ 62 }
+    requires current { vault.old.current < 2 ^ 62 }
+    ensures ok { IfOk result (λ c. HasStarted V.told V.may_leave V.faults system.old.state vault.old c vault.new) }
+    ensures taken { OnOk result (system.new ≡ record system.old { state = taken system.old.state }) }
+    ensures refused { IfSome (cause_of system.old.state vault.old) (λ cause. result ≡ Err (Stopped cause)) }
+    ensures stops { IsErrOf result Fault → system.new ≡ record system.old { state = store_stopped (taken system.old.state) } }
+    ensures fault { IsErrOf result Fault → FailsToWrite V.told V.may_leave V.faults system.old.state vault.old (image_name (Checkpoints.side_of (vault.old.current + 1))) 0 64 vault.new }
+    ensures same { (IsErrOf result Fault → ⊥) → OnErr result ((system.new ≡ system.old) × (vault.new ≡ vault.old)) }
+    ensures memory { cause_of system.old.state vault.old ≡ None → IfErr result (λ e. (e ≡ Fault) ⊎ (e ≡ OutOfMemory)) }
+    ensures reaches { IfOk result (λ c. Reaches V.told (side_in c) 0 vault.new) }
+    ensures files { IsNoShorter V.told vault.old vault.new }
+    ensures rose { IsErrOf result Fault → Rose (V.faults vault.old.store) (V.faults vault.new.store) }
+{
+    if let Some(cause) = parts::cause_of(system, vault) {
+        return Err(CheckpointError::Stopped { cause });
+    }
+    let Ok(table) = table_bytes(alloc, system.table()) else {
+        return Err(CheckpointError::OutOfMemory);
+    };
+    parts::flush(alloc, system, vault)?;
+    let header = Header {
+        geometry: system.geometry(),
+        number: vault.current() + 1,
+        place: vault.end(),
+        first: system.records(),
+        weight: system.end(),
+        next: system.next(),
+        table: table.len() as u64,
+    };
+    let side = side_of(header.number);
+    parts::write(system, vault, side, 0, &header_bytes(&header))?;
+    Ok(Checkpoint {
+        header,
+        table,
+        copied: 0,
+        settled: None,
+        faulted: false,
+    })
+}
+
+// Makes an image the current one, once all records are flushed.
+#[tactic(auto, using(crate::proofs::Joined::turns, crate::proofs::Joined::sync_fails, crate::proofs::Joined::turn_fails))]
+fn anchor<V: Store>(
+    alloc: Global,
+    number: u64,
+    system: &mut System,
+    vault: &mut Vault<V>,
+) -> Result<u64, CheckpointError>
+    requires end { vault.old.end < 2 ^ 62 }
+    requires current { vault.old.current < 2 ^ 62 }
+    ensures ok { IfOk result (λ now. (now ≡ vault.new.current) × HasTurnedTo V.told V.may_leave V.faults system.old.state vault.old (Checkpoints.side_of number) vault.new) }
+    ensures taken { OnOk result (system.new ≡ record system.old { state = taken system.old.state }) }
+    ensures refused { IfSome (cause_of system.old.state vault.old) (λ cause. (result ≡ Err (Stopped cause)) × (system.new ≡ system.old) × (vault.new ≡ vault.old)) }
+    ensures fault { cause_of system.old.state vault.old ≡ None → OnErr result ((result ≡ Err Fault) × (system.new ≡ record system.old { state = store_stopped (taken system.old.state) }) × FailsToTurn V.told V.may_leave V.faults system.old.state vault.old (Checkpoints.side_of number) vault.new) }
+    ensures number { IfOk result (λ now. now ≡ vault.old.current + 1) }
+    ensures files { IsNoShorter V.told vault.old vault.new }
+    ensures rose { IsErrOf result Fault → Rose (V.faults vault.old.store) (V.faults vault.new.store) }
+{
+    if let Some(cause) = parts::cause_of(system, vault) {
+        return Err(CheckpointError::Stopped { cause });
+    }
+    parts::flush(alloc, system, vault)?;
+    parts::sync(system, vault, side_of(number))?;
+    parts::turn(system, vault)?;
+    Ok(vault.current())
+}
+
+// Flushes what an audit that failed logged, unless another has.
+fn keep_failure<V: Store>(
+    alloc: Global,
+    system: &mut System,
+    vault: &mut Vault<V>,
+) -> Result<(), CheckpointError>
+    requires end { vault.old.end < 2 ^ 62 }
+    ensures kept { OnOk result (IsKept V.told V.may_leave V.faults system.old.state vault.old system.new.state vault.new) }
+    ensures lost { IfErr result (IsLost V.told V.may_leave V.faults system.old.state vault.old system.new.state vault.new) }
+    ensures files { IsNoShorter V.told vault.old vault.new }
+    ensures rose { IsErrOf result Fault → Rose (V.faults vault.old.store) (V.faults vault.new.store) }
+    ensures ends { system.new.state.checking ≡ false }
+{
+    system.end_copy();
+    if system.frame().records() == 0 {
+        return Ok(());
+    }
+    match parts::cause_of(system, vault) {
+        Some(cause) if vault.stopped() => Err(CheckpointError::Stopped { cause }),
+        _ => parts::flush(alloc, system, vault),
+    }
+}
+
+impl Checkpoint {
+    /// Starts a checkpoint: all records are flushed, what they come to is kept with the table of running transactions, and the
+    /// header is written to the image that isn't the current one. `InProgress` exactly where another checkpoint is under way,
+    /// else `Stopped` exactly where the engine is stopped, with that cause; `OutOfMemory` where memory for the table is
+    /// refused: then nothing changes. `Fault` only where the store's count of faults rose; then vault and engine stop.
+    pub fn start<V: Store>(
+        alloc: Global,
+        system: &mut System,
+        vault: &mut Vault<V>,
+    ) -> Result<Self, CheckpointError>
+        requires end { vault.old.end < 2 ^ 62 }
+        requires current { vault.old.current < 2 ^ 62 }
+        ensures ok { IfOk result (λ c. HasStarted V.told V.may_leave V.faults system.old.state vault.old c vault.new) }
+        ensures flag { OnOk result ((system.old.state.checking ≡ false) × (system.new ≡ record system.old { state = in_checkpoint (taken system.old.state) true })) }
+        ensures reaches { IfOk result (λ c. Reaches V.told (side_in c) 0 vault.new) }
+        ensures in_progress { system.old.state.checking ≡ true → result ≡ Err InProgress }
+        ensures alone { IsErrOf result InProgress → system.old.state.checking ≡ true }
+        ensures stopped { system.old.state.checking ≡ false → IfSome (cause_of system.old.state vault.old) (λ cause. result ≡ Err (Stopped cause)) }
+        ensures runs { cause_of system.old.state vault.old ≡ None → IfErr result (λ e. (e ≡ InProgress) ⊎ ((e ≡ Fault) ⊎ (e ≡ OutOfMemory))) }
+        ensures stops { IsErrOf result Fault → system.new ≡ record system.old { state = store_stopped (taken system.old.state) } }
+        ensures fault { IsErrOf result Fault → FailsToWrite V.told V.may_leave V.faults system.old.state vault.old (image_name (Checkpoints.side_of (vault.old.current + 1))) 0 64 vault.new }
+        ensures files { IsNoShorter V.told vault.old vault.new }
+        ensures rose { IsErrOf result Fault → Rose (V.faults vault.old.store) (V.faults vault.new.store) }
+        ensures same { (IsErrOf result Fault → ⊥) → OnErr result ((system.new ≡ system.old) × (vault.new ≡ vault.old)) }
+    {
+        if !system.start_copy() {
+            return Err(CheckpointError::InProgress);
+        }
+        match begin(alloc, system, vault) {
+            Ok(checkpoint) => Ok(checkpoint),
+            Err(error) => {
+                system.end_copy();
+                Err(error)
+            }
+        }
+    }
+
+    /// Copies the region with this number, which is the next one, to the image: its words are written without the updates of
+    /// an open operation, and its flag for that image is cleared. Where the flag is clear the image has these words already,
+    /// and nothing is written. `Stopped` exactly where the flag is set and the vault was stopped before, and then nothing
+    /// changes; `Fault` only where the store's count of faults rose: then the vault stops, the region is as it was, and
+    /// `give_up` stops the engine. It takes no memory beyond the store's own.
+    pub fn copy<V: Store>(
+        &mut self,
+        number: u32,
+        region: &mut Region,
+        vault: &mut Vault<V>,
+    ) -> Result<(), CheckpointError>
+        requires next { number ≡ self.old.copied }
+        requires within { number < regions_of self.old.header.geometry }
+        requires reaches { Reaches V.told (side_in self.old) number vault.old }
+        requires holds { is_dirty region.old (side_in self.old) ≡ false → Reaches V.told (side_in self.old) (number + 1) vault.old }
+        ensures ok { OnOk result ((self.new ≡ record self.old { copied = number + 1 }) × (region.new ≡ cleaned (side_in self.old) region.old)) }
+        ensures reaches { OnOk result (Reaches V.told (side_in self.old) (number + 1) vault.new) }
+        ensures clean { is_dirty region.old (side_in self.old) ≡ false → (result ≡ Ok tt) × (region.new ≡ region.old) × (vault.new ≡ vault.old) }
+        ensures written { is_dirty region.old (side_in self.old) ≡ true → OnOk result (HasWritten V.told V.may_leave V.faults vault.old (image_name (side_in self.old)) (place_of number) (words_bytes region.old.back) vault.new) }
+        ensures stopped { is_dirty region.old (side_in self.old) ≡ true → vault.old.stopped ≡ true → (result ≡ Err (Stopped ByStore)) × (self.new ≡ self.old) × (vault.new ≡ vault.old) }
+        ensures files { IsNoShorter V.told vault.old vault.new }
+        ensures fault { vault.old.stopped ≡ false → OnErr result ((result ≡ Err Fault) × (self.new ≡ record self.old { faulted = true }) × WriteHasFailed V.told V.may_leave V.faults vault.old (image_name (side_in self.old)) (place_of number) (length (words_bytes region.old.back)) vault.new) }
+        ensures region { OnErr result (region.new ≡ region.old) }
+    {
+        let side = side_of(self.header.number);
+        if region.dirty(side) {
+            match parts::write_region(vault, side, number, region) {
+                Ok(()) => {}
+                Err(VaultError::Stopped) => {
+                    return Err(CheckpointError::Stopped {
+                        cause: Cause::Store,
+                    });
+                }
+                Err(VaultError::Fault) => {
+                    self.faulted = true;
+                    return Err(CheckpointError::Fault);
+                }
+            }
+        }
+        let _count = self.header.geometry.regions();
+        self.copied = number + 1;
+        Ok(())
+    }
+
+    /// Ends the image, once each region was copied: all records are flushed, and the table is written behind the regions. An
+    /// audit that begins behind it may certify the image. `Stopped` exactly where the engine was stopped before, and then
+    /// nothing changes; `Fault` only where the store's count of faults rose, and then vault and engine stop. It never fails
+    /// for want of memory.
+    #[tactic(auto, using(crate::proofs::Joined::writes, crate::proofs::Joined::write_fails))]
+    pub fn settle<V: Store>(
+        &mut self,
+        alloc: Global,
+        system: &mut System,
+        vault: &mut Vault<V>,
+    ) -> Result<(), CheckpointError>
+        requires all { self.old.copied ≡ regions_of self.old.header.geometry }
+        requires reaches { Reaches V.told (side_in self.old) self.old.copied vault.old }
+        requires end { vault.old.end < 2 ^ 62 }
+        ensures ok { OnOk result (Writes V.told V.may_leave V.faults system.old.state vault.old (image_name (side_in self.old)) (place_of self.old.copied) self.old.table vault.new) }
+        ensures settled { OnOk result ((self.new ≡ record self.old { settled = Some system.old.state.records }) × (system.new ≡ record system.old { state = taken system.old.state })) }
+        ensures stopped { IfSome (cause_of system.old.state vault.old) (λ cause. (result ≡ Err (Stopped cause)) × (system.new ≡ system.old) × (vault.new ≡ vault.old)) }
+        ensures fault { cause_of system.old.state vault.old ≡ None → OnErr result ((result ≡ Err Fault) × (system.new ≡ record system.old { state = store_stopped (taken system.old.state) }) × FailsToWrite V.told V.may_leave V.faults system.old.state vault.old (image_name (side_in self.old)) (place_of self.old.copied) (length self.old.table) vault.new) }
+        ensures files { IsNoShorter V.told vault.old vault.new }
+        ensures rose { IsErrOf result Fault → Rose (V.faults vault.old.store) (V.faults vault.new.store) }
+        ensures same { OnErr result (self.new ≡ self.old) }
+    {
+        if let Some(cause) = parts::cause_of(system, vault) {
+            return Err(CheckpointError::Stopped { cause });
+        }
+        parts::flush(alloc, system, vault)?;
+        let side = side_of(self.header.number);
+        parts::write(
+            system,
+            vault,
+            side,
+            64 + 512 * u64::from(self.copied),
+            &self.table,
+        )?;
+        self.settled = Some(system.records());
+        Ok(())
+    }
+
+    /// Ends the checkpoint by the verdict of an audit that began behind `settle`: where it names no region, all records are
+    /// flushed, the image is synced and the anchor moves to it. It answers the number of the image, which is the current one
+    /// then. Where the verdict names regions what the audit logged is flushed, and it answers `Failed`; only where that record
+    /// waits and can't be flushed it answers why: `Stopped` where the vault was stopped before, else `Fault`. For a clean
+    /// verdict `Stopped` comes exactly where the engine was stopped before; `Fault` only where the store's count of faults
+    /// rose, and then vault and engine stop. No checkpoint is under way behind any answer. It never fails for want of memory.
+    pub fn certify<V: Store>(
+        self,
+        alloc: Global,
+        verdict: Verdict,
+        system: &mut System,
+        vault: &mut Vault<V>,
+    ) -> Result<u64, CheckpointError>
+        requires settled { IsSomeAnd self.settled (λ n. n ≤ verdict.begin) }
+        requires end { vault.old.end < 2 ^ 62 }
+        requires current { vault.old.current < 2 ^ 62 }
+        ensures ok { IfOk result (λ now. (verdict.failing ≡ []) × (now ≡ vault.old.current + 1) × (now ≡ vault.new.current)) }
+        ensures turned { OnOk result (HasTurnedTo V.told V.may_leave V.faults system.old.state vault.old (side_in self) vault.new) }
+        ensures flag { OnOk result (system.new ≡ record system.old { state = in_checkpoint (taken system.old.state) false }) }
+        ensures kept { IsErrOf result (Failed verdict.failing) → IsKept V.told V.may_leave V.faults system.old.state vault.old system.new.state vault.new }
+        ensures failed { IfErr result (λ e. (verdict.failing ≡ [] → ⊥) → (e ≡ Failed verdict.failing) ⊎ IsLost V.told V.may_leave V.faults system.old.state vault.old system.new.state vault.new e) }
+        ensures stopped { verdict.failing ≡ [] → IfSome (cause_of system.old.state vault.old) (λ cause. (result ≡ Err (Stopped cause)) × (system.new ≡ record system.old { state = in_checkpoint system.old.state false }) × (vault.new ≡ vault.old)) }
+        ensures fault { verdict.failing ≡ [] → cause_of system.old.state vault.old ≡ None → OnErr result ((result ≡ Err Fault) × (system.new ≡ record system.old { state = in_checkpoint (store_stopped (taken system.old.state)) false }) × FailsToTurn V.told V.may_leave V.faults system.old.state vault.old (side_in self) vault.new) }
+        ensures files { IsNoShorter V.told vault.old vault.new }
+        ensures rose { IsErrOf result Fault → Rose (V.faults vault.old.store) (V.faults vault.new.store) }
+        ensures ends { system.new.state.checking ≡ false }
+    {
+        if !verdict.failing().is_empty() {
+            return match keep_failure(alloc, system, vault) {
+                Ok(()) => Err(CheckpointError::Failed {
+                    regions: verdict.into_failing(),
+                }),
+                Err(error) => Err(error),
+            };
+        }
+        let anchored = anchor(alloc, self.header.number, system, vault);
+        system.end_copy(); // with every answer
+        anchored
+    }
+
+    /// Ends a checkpoint without an image, behind an error of `copy` or `settle`, or where its audit was refused. Where a call
+    /// of the store has failed in a copy, the engine stops. It takes no memory.
+    pub fn give_up(self, system: &mut System)
+        ensures { system.new ≡ record system.old { state = given_up self.faulted system.old.state } }
+    {
+        if self.faulted {
+            system.stop();
+        }
+        system.end_copy();
+    }
+}

@@ -1,0 +1,56 @@
+//! Laws of checkpoints over any store, each the contract of a function that does nothing.
+ghost use Rattle.dali_checkpoint.specs.Laws.{StartGoes, CopyGoes, SkipGoes, SettleGoes, OthersKeep, FlushKeeps, AuditsTell, CertifyGoes, StartFaults, CopyFaults, SettleFaults, CertifyFaults, FailureEnds, GivesUp, PlacesStay, PlacesGoOn};
+
+use dali_store::Store;
+
+/// Where no checkpoint is under way and the image files read as the run says, what a start leaves on Ok is behind steps: its
+/// own start, a taking and a flush, the keeping of what the records come to, and the write of the header. Nothing is copied
+/// yet then.
+pub fn a_start_makes_steps<V: Store>()
+    ensures { StartGoes V.told V.may_leave V.faults }
+{}
+
+/// So is a copy of the next region, which is brought up to date with all records so far; one whose flag is clear was so
+/// before. One region more is copied then.
+pub fn a_copy_makes_a_step<V: Store>()
+    ensures copied { CopyGoes V.told V.may_leave V.faults }
+    ensures skipped { SkipGoes V.told V.may_leave V.faults }
+{}
+
+/// So is a settlement, once all regions are copied: a taking and a flush, and the write of the table, behind which the whole
+/// image is read.
+pub fn a_settlement_makes_steps<V: Store>()
+    ensures { SettleGoes V.told V.may_leave V.faults }
+{}
+
+/// Between these calls each step of others that calls no store and takes no frame keeps all that they say, and so does a
+/// flush of all records, as a commit makes it. The passes of an audit mark the copies; one that began behind the settlement
+/// and ended clean certifies each copy.
+pub fn an_audit_certifies_the_copies<V: Store>()
+    ensures others { OthersKeep V.told V.may_leave V.faults }
+    ensures flush { FlushKeeps V.told V.may_leave V.faults }
+    ensures audit { AuditsTell }
+{}
+
+/// What a certified settlement leaves on Ok is behind a taking and a flush, the image's sync, the anchor's move and the
+/// checkpoint's end; then no checkpoint is under way and the image files read as the run says, so the next one may start.
+pub fn a_certification_makes_steps<V: Store>()
+    ensures { CertifyGoes V.told V.may_leave V.faults }
+{}
+
+/// Where a call meets a fault, where an audit failed, and where a checkpoint is given up, what is left is behind steps too.
+pub fn a_checkpoint_that_fails_makes_steps<V: Store>()
+    ensures start { StartFaults V.told V.may_leave V.faults }
+    ensures copy { CopyFaults V.told V.may_leave V.faults }
+    ensures settle { SettleFaults V.told V.may_leave V.faults }
+    ensures certify { CertifyFaults V.told V.may_leave V.faults }
+    ensures audit { FailureEnds V.told V.may_leave V.faults }
+    ensures given_up { GivesUp V.told V.may_leave V.faults }
+{}
+
+/// Where the file of a side has the place of each region whose flag for that side is clear, it has so behind a call that
+/// leaves no image file shorter, and behind a copy, which clears a flag.
+pub fn a_clear_flag_has_its_place<V: Store>()
+    ensures stays { PlacesStay V.told V.may_leave V.faults }
+    ensures copied { PlacesGoOn V.told V.may_leave V.faults }
+{}

@@ -1,0 +1,372 @@
+//! What no clause says: that a checkpoint is made with ample memory, what it leaves in the files, and what is left where each
+//! call of the store fails.
+ghost use Rattle.std.specs.Prelude.{◌≡◌, ◌<◌, [], ◌∷◌, length, IfOk, OnOk, IfSome};
+ghost use Rattle.dali_geometry.specs.Places.{regions as regions_of};
+ghost use Rattle.dali_region.specs.State.{checked};
+ghost use Rattle.dali_whole.specs.Cores.{HoldsPlaces};
+ghost use Rattle.dali_checkpoint.specs.Kept.{side_in};
+ghost use Rattle.dali_checkpoint.specs.Done.{Reaches};
+ghost use Rattle.dali_checkpoint_tests.specs.Flags.{IsUncopied};
+
+use dali_audit::{Audit, Verdict};
+use dali_batch::{Frame, format, is_formatted};
+use dali_checkpoint::{Checkpoint, CheckpointError};
+use dali_core::{System, SystemError};
+use dali_geometry::Geometry;
+use dali_memstore::{Fuse, MemoryStore};
+use dali_record::Regions;
+use dali_region::Region;
+use dali_store::{FileName, Store};
+use dali_system::Cause;
+use dali_vault::Vault;
+use std::alloc::Global;
+use std::test::Fail;
+
+// The record of a format with one index region and one heap region.
+const FIRST: [u8; 10] = [1, 1, 0, 0, 0, 1, 0, 0, 0, 1];
+
+// The calls that a format makes: a sync, a length and a read; a length, two writes and two syncs; a batch's four.
+const BEFORE: u64 = 12;
+
+// A database of two regions, without locks and transactions.
+#[derive(Drop)]
+struct Small<V: Store> {
+    index: Region,
+    heap: Region,
+    system: System,
+    vault: Vault<V>,
+}
+
+// Formats a store with this first batch.
+fn vault_of<V: Store + Drop>(store: V, first: &Frame) -> Option<Vault<V>>
+    requires { 0 < length first.now.body }
+{
+    let mut store = store;
+    match is_formatted(&mut store) {
+        Ok(false) => {}
+        _ => return None,
+    }
+    match format(&mut store, first) {
+        Ok(end) => Some(Vault::new(store, end, 0)),
+        Err(_) => None,
+    }
+}
+
+// A database whose store passes so many calls on once it is formatted, with one transaction that has begun. Each word of the
+// index region is 1, and each of the heap region 2.
+fn begun(alloc: Global, passes: u64) -> Option<Small<Fuse<MemoryStore>>>
+    requires few { passes < 1000 }
+    ensures two { IfSome result (λ s. regions_of s.system.state.sizes ≡ 2) }
+    ensures uncopied { IfSome result (λ s. IsUncopied s.index × IsUncopied s.heap) }
+{
+    let fuse = Fuse::new(
+        MemoryStore::new(alloc, Vec::new(alloc)),
+        Some(BEFORE + passes),
+    );
+    let Ok(mut first) = Frame::new(alloc) else {
+        return None;
+    };
+    if first.add(&FIRST).is_err() || first.is_empty() {
+        return None;
+    }
+    let vault = vault_of(fuse, &first)?;
+    let Ok(geometry) = Geometry::new(1, 1) else {
+        return None;
+    };
+    let Ok(mut system) = System::new(alloc, geometry, 1, 1, 10, 1000) else {
+        return None;
+    };
+    let Ok((1, _)) = system.begin() else {
+        return None;
+    };
+    Some(Small {
+        index: Region::load([1; 64]),
+        heap: Region::load([2; 64]),
+        system,
+        vault,
+    })
+}
+
+// Changes the first word of a region by an operation of transaction 1 that is left open.
+fn change(region: &mut Region) -> bool
+    requires was_uncopied { IsUncopied region.old }
+    ensures uncopied { IsUncopied region.new }
+{
+    if region.latch(1, false).is_err() {
+        return false;
+    }
+    region.note_reads(1);
+    region.update(0, 77);
+    true
+}
+
+// An audit of both regions.
+fn audit<V: Store>(alloc: Global, small: &mut Small<V>) -> Result<Verdict, SystemError>
+    requires two { regions_of small.old.system.state.sizes ≡ 2 }
+    ensures begin { IfOk result (λ verdict. verdict.begin ≡ small.old.system.state.records) }
+    ensures vault { small.new.vault ≡ small.old.vault }
+    ensures sizes { small.new.system.state.sizes ≡ small.old.system.state.sizes }
+    ensures regions { OnOk result ((small.new.index ≡ checked small.old.index) × (small.new.heap ≡ checked small.old.heap)) }
+{
+    let mut audit = Audit::begin(alloc, &mut small.system)?;
+    audit.pass(0, &mut small.index);
+    audit.pass(1, &mut small.heap);
+    audit.end(&mut small.system)
+}
+
+// Copies both regions.
+fn copy_both<V: Store>(
+    checkpoint: &mut Checkpoint,
+    small: &mut Small<V>,
+) -> Result<(), CheckpointError>
+    requires first { checkpoint.old.copied ≡ 0 }
+    requires two { regions_of checkpoint.old.header.geometry ≡ 2 }
+    requires reaches { Reaches V.told (side_in checkpoint.old) 0 small.old.vault }
+    requires places { IfSome (V.told small.old.vault.store) (HoldsPlaces (small.old.index ∷ small.old.heap ∷ [])) }
+    ensures checkpoint { OnOk result (checkpoint.new ≡ record checkpoint.old { copied = 2 }) }
+    ensures reaches { OnOk result (Reaches V.told (side_in checkpoint.old) 2 small.new.vault) }
+    ensures places { OnOk result (IfSome (V.told small.new.vault.store) (HoldsPlaces (small.new.index ∷ small.new.heap ∷ []))) }
+    ensures system { small.new.system ≡ small.old.system }
+{
+    checkpoint.copy(0, &mut small.index, &mut small.vault)?;
+    checkpoint.copy(1, &mut small.heap, &mut small.vault)?;
+    Ok(())
+}
+
+// Settles a checkpoint that has copied both regions, audits them and certifies it. None where the log or the anchor is too long,
+// or the audit is refused.
+fn finish<V: Store>(
+    alloc: Global,
+    checkpoint: Checkpoint,
+    small: &mut Small<V>,
+) -> Option<Result<u64, CheckpointError>>
+    requires copied { checkpoint.copied ≡ 2 }
+    requires two { (regions_of checkpoint.header.geometry ≡ 2) × (regions_of small.old.system.state.sizes ≡ 2) }
+    requires reaches { Reaches V.told (side_in checkpoint) 2 small.old.vault }
+    requires places { IfSome (V.told small.old.vault.store) (HoldsPlaces (small.old.index ∷ small.old.heap ∷ [])) }
+    ensures places { IfSome result (λ answer. OnOk answer (IfSome (V.told small.new.vault.store) (HoldsPlaces (small.new.index ∷ small.new.heap ∷ [])))) }
+    ensures two { IfSome result (λ answer. OnOk answer (regions_of small.new.system.state.sizes ≡ 2)) }
+{
+    let mut checkpoint = checkpoint;
+    if small.vault.end() >= 1 << 62 {
+        checkpoint.give_up(&mut small.system);
+        return None;
+    }
+    if let Err(error) = checkpoint.settle(alloc, &mut small.system, &mut small.vault) {
+        checkpoint.give_up(&mut small.system);
+        return Some(Err(error));
+    }
+    let Ok(verdict) = audit(alloc, small) else {
+        checkpoint.give_up(&mut small.system);
+        return None;
+    };
+    if small.vault.end() >= 1 << 62 || small.vault.current() >= 1 << 62 {
+        checkpoint.give_up(&mut small.system);
+        return None;
+    }
+    Some(checkpoint.certify(alloc, verdict, &mut small.system, &mut small.vault))
+}
+
+// A whole checkpoint of both regions. None where the log or the anchor is too long, or the audit is refused.
+fn checkpoint<V: Store>(alloc: Global, small: &mut Small<V>) -> Option<Result<u64, CheckpointError>>
+    requires two { regions_of small.old.system.state.sizes ≡ 2 }
+    requires places { IfSome (V.told small.old.vault.store) (HoldsPlaces (small.old.index ∷ small.old.heap ∷ [])) }
+    ensures places { IfSome result (λ answer. OnOk answer (IfSome (V.told small.new.vault.store) (HoldsPlaces (small.new.index ∷ small.new.heap ∷ [])))) }
+    ensures two { IfSome result (λ answer. OnOk answer (regions_of small.new.system.state.sizes ≡ 2)) }
+{
+    if small.vault.end() >= 1 << 62 || small.vault.current() >= 1 << 62 {
+        return None;
+    }
+    let mut checkpoint = match Checkpoint::start(alloc, &mut small.system, &mut small.vault) {
+        Ok(checkpoint) => checkpoint,
+        Err(error) => return Some(Err(error)),
+    };
+    if let Err(error) = copy_both(&mut checkpoint, small) {
+        checkpoint.give_up(&mut small.system);
+        return Some(Err(error));
+    }
+    finish(alloc, checkpoint, small)
+}
+
+// What is left behind a checkpoint: why the engine is stopped, whether the vault is, and which image is current.
+fn seen<V: Store>(small: &Small<V>) -> (Option<Cause>, bool, u64) {
+    (
+        small.system.stopped(),
+        small.vault.stopped(),
+        small.vault.current(),
+    )
+}
+
+// The answer of the last of so many checkpoints, one after another; the first that fails is the last.
+fn repeated<V: Store>(
+    alloc: Global,
+    count: u32,
+    small: &mut Small<V>,
+) -> Option<Result<u64, CheckpointError>>
+    requires two { regions_of small.old.system.state.sizes ≡ 2 }
+    requires places { IfSome (V.told small.old.vault.store) (HoldsPlaces (small.old.index ∷ small.old.heap ∷ [])) }
+{
+    for _ in 1..count {
+        match checkpoint(alloc, small)? {
+            Ok(_) => {}
+            Err(error) => return Some(Err(error)),
+        }
+    }
+    checkpoint(alloc, small)
+}
+
+// The answer of the last of so many checkpoints where so many calls of the store pass, and what is left.
+#[tactic(auto, using(crate::proofs::Places::uncopied_places))]
+fn checkpoints(
+    alloc: Global,
+    passes: u64,
+    count: u32,
+) -> Option<(Result<u64, CheckpointError>, (Option<Cause>, bool, u64))>
+    requires few { passes < 1000 }
+{
+    let mut small = begun(alloc, passes)?;
+    let last = repeated(alloc, count, &mut small)?;
+    Some((last, seen(&small)))
+}
+
+// A start flushes the begin by four calls, and writes the header by one; two regions and the table are written by one each; and
+// a certification flushes the audit's records by four, syncs by one, and moves the anchor by four.
+#[test]
+fn each_failing_call_stops_the_engine(rt: HostRuntime) -> Result<(), Fail> {
+    let alloc = rt.alloc();
+    for passes in 0..17 {
+        assert_eq!(rt;
+            checkpoints(alloc, passes, 1),
+            Some((Err(CheckpointError::Fault), (Some(Cause::Store), true, 0)))
+        );
+    }
+    assert_eq!(rt; checkpoints(alloc, 17, 1), Some((Ok(1), (None, false, 1))));
+    Ok(())
+}
+
+// The second one flushes nothing at its start, and writes both regions to the other image; the third one writes none: 17, 13
+// and 11 calls.
+#[test]
+fn a_clean_region_costs_no_call(rt: HostRuntime) -> Result<(), Fail> {
+    let alloc = rt.alloc();
+    let fault = Err(CheckpointError::Fault);
+    for (passes, count, answer, left) in [
+        (29, 2, fault, (Some(Cause::Store), true, 1)),
+        (30, 2, Ok(2), (None, false, 2)),
+        (41, 3, Ok(3), (None, false, 3)),
+    ] {
+        assert_eq!(rt; checkpoints(alloc, passes, count), Some((answer, left)));
+    }
+    Ok(())
+}
+
+// The header of an image of two regions: checkpoint 1 at place 29, behind 2 records of 19 bytes; the next transaction is 2, and
+// the table has 17 bytes.
+const HEADER: [u8; 64] = [
+    68, 65, 76, 73, 73, 77, 71, 49, 0, 0, 0, 1, 0, 0, 0, 1, //
+    0, 0, 0, 0, 0, 0, 0, 1, 0, 0, 0, 0, 0, 0, 0, 29, //
+    0, 0, 0, 0, 0, 0, 0, 2, 0, 0, 0, 0, 0, 0, 0, 19, //
+    0, 0, 0, 0, 0, 0, 0, 2, 0, 0, 0, 0, 0, 0, 0, 17, //
+];
+
+// Transaction 1 is active, without undos.
+const TABLE: [u8; 17] = [0, 0, 0, 1, 0, 0, 0, 0, 0, 0, 0, 1, 0, 0, 0, 0, 0];
+
+// The whole image.
+fn image(alloc: Global) -> Option<Vec<u8>> {
+    let mut bytes = Vec::new(alloc);
+    bytes.extend_from_slice(&HEADER).ok()?;
+    for _ in 0..64 {
+        bytes.extend_from_slice(&[0, 0, 0, 0, 0, 0, 0, 1]).ok()?;
+    }
+    for _ in 0..64 {
+        bytes.extend_from_slice(&[0, 0, 0, 0, 0, 0, 0, 2]).ok()?;
+    }
+    bytes.extend_from_slice(&TABLE).ok()?;
+    Some(bytes)
+}
+
+// Whether the files behind a checkpoint have this image as A, none as B, and one open gate. An operation is open on the index
+// region meanwhile, and has changed its first word.
+#[tactic(auto, using(crate::proofs::Places::uncopied_places))]
+fn writes_the_image(alloc: Global) -> Option<[bool; 4]> {
+    let mut small = begun(alloc, 100)?;
+    let changed = change(&mut small.index);
+    let made = matches!(checkpoint(alloc, &mut small)?, Ok(1));
+    let Small { vault, .. } = small;
+    let store = vault.into_store().into_inner();
+    let image = image(alloc)?;
+    Some([
+        changed && made,
+        store.file(FileName::ImageA) == image.as_slice(),
+        store.file(FileName::ImageB).is_empty(),
+        store.file(FileName::Anchor) == [0xa5, 0].as_slice(),
+    ])
+}
+
+#[test]
+fn an_image_has_the_words_without_an_open_operation(rt: HostRuntime) -> Result<(), Fail> {
+    assert_eq!(rt; writes_the_image(rt.alloc()), Some([true; 4]));
+    Ok(())
+}
+
+fn start<V: Store>(
+    alloc: Global,
+    small: &mut Small<V>,
+) -> Option<Result<Checkpoint, CheckpointError>> {
+    if small.vault.end() >= 1 << 62 || small.vault.current() >= 1 << 62 {
+        return None;
+    }
+    Some(Checkpoint::start(alloc, &mut small.system, &mut small.vault))
+}
+
+// What a second start answers beside a first one, and once that is given up.
+fn start_beside(alloc: Global) -> Option<(bool, bool, bool)> {
+    let mut small = begun(alloc, 100)?;
+    let first = start(alloc, &mut small)?.ok()?;
+    let beside = matches!(start(alloc, &mut small)?, Err(CheckpointError::InProgress));
+    let still = matches!(start(alloc, &mut small)?, Err(CheckpointError::InProgress));
+    first.give_up(&mut small.system);
+    Some((beside, still, start(alloc, &mut small)?.is_ok()))
+}
+
+#[test]
+fn one_checkpoint_goes_on_at_a_time(rt: HostRuntime) -> Result<(), Fail> {
+    assert_eq!(rt; start_beside(rt.alloc()), Some((true, true, true)));
+    Ok(())
+}
+
+// A checkpoint of a region with a stray write, what is left of it, and what a start answers then.
+#[tactic(auto, using(crate::proofs::Places::uncopied_places))]
+fn damaged(
+    alloc: Global,
+) -> Option<
+    (
+        Result<u64, CheckpointError>,
+        (Option<Cause>, bool, u64),
+        Option<CheckpointError>,
+    ),
+> {
+    let mut small = begun(alloc, 100)?;
+    small.heap.poke(5, 1 << 40);
+    let failed = checkpoint(alloc, &mut small)?;
+    let left = seen(&small);
+    let next = start(alloc, &mut small)?.err();
+    Some((failed, left, next))
+}
+
+#[test]
+fn an_audit_that_fails_leaves_the_anchor(rt: HostRuntime) -> Result<(), Fail> {
+    let alloc = rt.alloc();
+    let cause = Cause::Damage { region: 1 };
+    let regions = Regions::new(Vec::from_slice(alloc, &[1])?);
+    assert_eq!(rt;
+        damaged(alloc),
+        Some((
+            Err(CheckpointError::Failed { regions }),
+            (Some(cause), false, 0),
+            Some(CheckpointError::Stopped { cause })
+        ))
+    );
+    Ok(())
+}

@@ -1,0 +1,80 @@
+-- The steps of a transaction's own make a course.
+use Rattle.std.proofs.Common.{◌≡◌, ℕ, Bool, true, false, ◌||◌, List, [], ◌∷◌, ◌++◌, Option, Some, None, IsSomeAnd, refl, ap, sym, subst, ◌∙◌, slice_get}
+use Rattle.std.specs.List.{list_any}
+use Rattle.dali_record.specs.declared.records.Record.{Record}
+use Rattle.dali_region.specs.State.{RegionState}
+use Rattle.dali_system.specs.State.{CoreState}
+use Rattle.dali_system.specs.Passes.{Audits}
+use Rattle.dali_system.specs.Regions.{RegionStep, Latch, NoteReads, Update, TakeBack, Poke, Check, Die, Clean}
+use Rattle.dali_system.specs.Courses.{Step, Begins, Operates, TakesBack, Frees, Answers, Commits, Ends, AuditBegins, AuditEnds, Locks, Refuses, OnRegion, Passes, Dies, Claims, GivesBack, Recovers, Stops, Checkpoints, Takes, Flushes, Faults, ReadFails, AuditsBy, IsStep}
+use Rattle.dali_crash.specs.Unpoked.{is_poke, pokes}
+use Rattle.dali_single.specs.Operated.{IsOwn}
+use Rattle.dali_single.specs.Single.{IsOwnStep, Leads}
+use Rattle.dali_courses.specs.Alone.{moment, Makes, OwnStepsAreACourse, AnswerEndsACourse, AbortEndsACourse, SettlingEndsACourse}
+
+own_change : (t : ℕ) (x : RegionStep) (g : RegionState) → IsOwn t x g → is_poke x ≡ false
+own_change t (Latch u) g own = refl
+own_change t (NoteReads mask) g own = refl
+own_change t (Update word value) g own = refl
+own_change t TakeBack g own = refl
+own_change t (Poke word mask) g own = absurd own
+own_change t Check g own = refl
+own_change t Die g own = refl
+own_change t (Clean side) g own = refl
+
+own_change_at : (t : ℕ) (x : RegionStep) (o : Option RegionState) → IsSomeAnd o (IsOwn t x) → is_poke x ≡ false
+own_change_at t x None own = absurd own
+own_change_at t x (Some g) own = own_change t x g own
+
+own_step : (precheck : Bool) (t : ℕ) (L : List Record) (c : CoreState) (x : Step) (a : Audits) → IsOwnStep precheck t c x → AuditsBy a a L c x × (pokes x ≡ false)
+own_step precheck t L c (Operates u b) a own = (refl, refl)
+own_step precheck t L c (TakesBack u b) a own = (refl, refl)
+own_step precheck t L c (Frees p b) a own = (refl, refl)
+own_step precheck t L c (Answers u k e) a own = (refl, refl)
+own_step precheck t L c (Commits u) a own = (refl, refl)
+own_step precheck t L c (Ends u) a own = (refl, refl)
+own_step precheck t L c (Locks u k m) a own = (refl, refl)
+own_step precheck t L c (OnRegion r x) a own = (refl, own_change_at t x (slice_get c.regions r) own)
+own_step precheck t L c Begins a own = absurd own
+own_step precheck t L c AuditBegins a own = absurd own
+own_step precheck t L c (AuditEnds b found) a own = absurd own
+own_step precheck t L c (Refuses u k m h) a own = absurd own
+own_step precheck t L c (Passes b r) a own = absurd own
+own_step precheck t L c (Dies u o) a own = absurd own
+own_step precheck t L c (Claims u) a own = absurd own
+own_step precheck t L c (GivesBack u o) a own = absurd own
+own_step precheck t L c (Recovers r) a own = absurd own
+own_step precheck t L c Stops a own = absurd own
+own_step precheck t L c (Checkpoints b) a own = absurd own
+own_step precheck t L c Takes a own = absurd own
+own_step precheck t L c Flushes a own = absurd own
+own_step precheck t L c (Faults n) a own = absurd own
+own_step precheck t L c (ReadFails n) a own = absurd own
+
+-- these steps, and one more
+makes_on : (precheck : Bool) (t : ℕ) (L K M : List Record) (c e d : CoreState) (xs : List Step) (x : Step) (a : Audits) → Leads precheck t L c xs K e → IsStep K e x M d → AuditsBy a a K e x → pokes x ≡ false
+    → Makes (moment L c a) (xs ++ x ∷ []) (moment M d a)
+makes_on precheck t L K M c e d [] x a leads step audits quiet =
+    subst (λ (k : List Record). Makes (moment k c a) (x ∷ []) (moment M d a)) (sym leads.0)
+    (subst (λ (k : CoreState). Makes (moment K k a) (x ∷ []) (moment M d a)) (sym leads.1)
+    ((moment M d a, (step, audits), refl), ap (λ (b : Bool). b || false) quiet))
+makes_on precheck t L K M c e d (y ∷ xs) x a leads step audits quiet =
+    let own = own_step precheck t L c y a leads.2.1 in
+    let rest = makes_on precheck t leads.0 K M leads.1 e d xs x a leads.3 step audits quiet in
+    ((moment leads.0 leads.1 a, (leads.2.0, own.0), rest.0), ap (λ (b : Bool). b || list_any pokes (xs ++ x ∷ [])) own.1 ∙ rest.1)
+
+pub own_steps_make : OwnStepsAreACourse
+own_steps_make precheck t L M c d [] a leads = (ap (λ (k : List Record). moment k c a) leads.0 ∙ ap (λ (k : CoreState). moment M k a) leads.1, refl)
+own_steps_make precheck t L M c d (y ∷ xs) a leads =
+    let own = own_step precheck t L c y a leads.2.1 in
+    let rest = own_steps_make precheck t leads.0 M leads.1 d xs a leads.3 in
+    ((moment leads.0 leads.1 a, (leads.2.0, own.0), rest.0), ap (λ (b : Bool). b || list_any pokes xs) own.1 ∙ rest.1)
+
+pub answer_makes : AnswerEndsACourse
+answer_makes precheck L c d t call told a e = makes_on precheck t L e.log _ c e.mid d e.steps (Answers t call told) a e.leads e.answers refl refl
+
+pub abort_makes : AbortEndsACourse
+abort_makes L c d t a e = makes_on false t L e.log _ c e.mid d e.steps (Ends t) a e.leads e.ends refl refl
+
+pub settling_makes : SettlingEndsACourse
+settling_makes L c d t a e = makes_on false t L e.log _ c e.mid d e.steps (Ends t) a e.leads e.ends refl refl

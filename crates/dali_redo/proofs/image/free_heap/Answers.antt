@@ -1,0 +1,9 @@
+use Rattle.std.specs.Prelude.{fold, map}
+use Rattle.dali_heap.specs.Cells as cell
+use Rattle.dali_history.specs.Recovered.{free_word}
+use Rattle.dali_redo.proofs.Writes.{one_more_in}
+use Rattle.dali_redo.proofs.image.free_heap.Goals as goal
+
+pub loop-region-preserved : goal.loop-region-preserved
+loop-region-preserved c =
+    one_more_in (λ ws. fold free_word ws (map cell.state_word cell.cells)) c.loop-region.regions c.args.regions.now c.loop-region.region _ c.free_cells.new.words c.loop-region-test.true c.loop-region.invariant c.free_cells.ensures

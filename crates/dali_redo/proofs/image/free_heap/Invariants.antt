@@ -1,0 +1,8 @@
+use Rattle.std.proofs.Common.{◌≡◌, ◌++◌, take, drop}
+use Rattle.std.specs.Prelude.{fold, map}
+use Rattle.dali_heap.specs.Cells as cell
+use Rattle.dali_history.specs.Recovered.{free_word}
+use Rattle.dali_redo.proofs.image.free_heap.Given as goal
+
+abbrev pub invariant-loop-region : goal.invariant-loop-region
+invariant-loop-region l = l.regions ≡ map (λ ws. fold free_word ws (map cell.state_word cell.cells)) (take l.region l.initial.regions) ++ drop l.region l.initial.regions
