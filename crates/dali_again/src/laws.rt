@@ -1,6 +1,8 @@
 //! Laws over the definitions, each the contract of a function that does nothing.
 
 ghost use Rattle.dali_again.specs.Stages.{EveryStageAnswers, StartsBehind, FoundLogged, AppendStages, Appended, LogSettles, Written, MoveStages, Moved, AnchorSettles};
+ghost use Rattle.dali_again.specs.Found.{CrashIsFound};
+ghost use Rattle.dali_again.specs.Runs.{RunLeaves};
 
 use dali_store::Store;
 
@@ -35,4 +37,17 @@ pub fn a_move_in_a_restart_leaves_a_stage<V: Store>()
     ensures meanwhile { (v : V) → MoveStages (V.may_leave v) }
     ensures behind { (v : V) → Moved (V.may_leave v) }
     ensures settles { (v w : V) → AnchorSettles (V.may_leave v) (V.may_leave w) }
+{}
+
+/// What a crash of a run with its store leaves, at any moment, inside a step too, is what a restart finds, whether its log is a
+/// history or not: where no stray write was missed the files fit their log, which is lawful, so each stage behind them is one of
+/// the above.
+pub fn a_crash_image_is_found()
+    ensures { CrashIsFound }
+{}
+
+/// Whatever a crash leaves at any moment of a run of calls, it might have left before the run, or may leave behind one of the
+/// calls: so what is known of each of these disks, in whatever terms, is known of it.
+pub fn a_run_of_calls_leaves_what_its_calls_leave<V: Store>()
+    ensures { RunLeaves V.moment V.left_since V.may_leave }
 {}

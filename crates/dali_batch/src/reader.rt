@@ -203,9 +203,9 @@ impl LogReader {
         Ok(Some(size))
     }
 
-    /// A reader of the log, and the sizes in its first batch, which it has read and no byte behind it: `Unformatted`
-    /// exactly where the log has fewer than two bytes or its first gate is closed, `BadLog` where no first batch with one
-    /// Format stands there. It takes memory for the part that it holds.
+    /// A reader of the log, and the sizes in its first batch, which it has read; of a log whose first batch is good no byte
+    /// behind that was read. `Unformatted` exactly where the log has fewer than two bytes or its first gate is closed,
+    /// `BadLog` where no first batch with one Format stands there. It takes memory for the part that it holds.
     pub fn open<V: Store>(alloc: Global, store: &mut V) -> Result<(Self, (u32, u32)), LogError>
         ensures whole { IfOk result (λ opened. IsWhole opened.0) }
         ensures further { IfOk result (λ opened. 0 < opened.0.at) }

@@ -7,9 +7,10 @@ use dali_batch::{
     read_log,
 };
 use dali_bytes::{OutOfMemory, put, put_byte, put32};
-use dali_memstore::{Fuse, MemoryStore};
-use dali_store::{Store, StoreFault};
+use dali_memstore::{CallKind, Fuse, Hook, MemoryStore, Watch};
+use dali_store::{FileName, Store, StoreFault};
 use std::alloc::Global;
+use std::cell::Cell;
 use std::test::Fail;
 
 // The first batch, of a format with one index region and one heap region.
@@ -313,9 +314,8 @@ fn logs_are_read_across_the_parts(rt: HostRuntime) -> Result<(), Fail> {
     Ok(())
 }
 
-// From a place on, where the records begin, which of them are the first of their batch, and where the log ends. Between
-// the first batch and place 35 stands nothing that is one.
-fn placed_from(alloc: Global, at: u64) -> Result<(Vec<(u64, bool)>, u64), LogError> {
+// A log between whose first batch and place 35 stands nothing that is a batch.
+fn log_with_a_gap(alloc: Global) -> Result<MemoryStore, LogError> {
     let mut rest = Vec::new(alloc);
     for part in [
         [7; 20].as_slice(),
@@ -328,17 +328,74 @@ fn placed_from(alloc: Global, at: u64) -> Result<(Vec<(u64, bool)>, u64), LogErr
             return Err(LogError::OutOfMemory);
         }
     }
-    let mut store = store_of(alloc, &FIRST, &rest)?;
-    let (mut reader, _) = LogReader::open(alloc, &mut store)?;
+    store_of(alloc, &FIRST, &rest)
+}
+
+// From a place on, where the records begin, which of them are the first of their batch, and where the log ends.
+fn placed_in<V: Store>(
+    alloc: Global,
+    store: &mut V,
+    at: u64,
+) -> Result<(Vec<(u64, bool)>, u64), LogError> {
+    let (mut reader, _) = LogReader::open(alloc, store)?;
     reader.seek(at)?;
     let mut placed = Vec::new(alloc);
     'records: for _ in 0..10 {
-        match reader.next(&mut store)? {
+        match reader.next(store)? {
             Some(next) => placed.push((next.at, next.first))?,
             None => break 'records,
         }
     }
     Ok((placed, reader.at()))
+}
+
+fn placed_from(alloc: Global, at: u64) -> Result<(Vec<(u64, bool)>, u64), LogError> {
+    let mut store = log_with_a_gap(alloc)?;
+    placed_in(alloc, &mut store, at)
+}
+
+// Counts the reads of a log, and those of them that reach into a range of its bytes.
+#[derive(Drop)]
+struct Reads<'a> {
+    from: u64,
+    to: u64,
+    all: &'a Cell<u64>,
+    within: &'a Cell<u64>,
+}
+
+impl<'a> Hook for Reads<'a> {
+    fn called(&self, kind: CallKind, file: Option<FileName>, at: u64, length: u64) {
+        if kind == CallKind::Read && file == Some(FileName::Log) {
+            self.all.set(self.all.get().wrapping_add(1));
+            if at < self.to && at.saturating_add(length) > self.from {
+                self.within.set(self.within.get().wrapping_add(1));
+            }
+        }
+    }
+}
+
+// Where a log is read from a place on, how many records are found, and how many reads reach bytes between the first batch
+// and that place.
+fn reads_between(alloc: Global, at: u64) -> Result<(usize, bool, u64), LogError> {
+    let all = Cell::new(0);
+    let within = Cell::new(0);
+    let hook = Reads {
+        from: 15,
+        to: at,
+        all: &all,
+        within: &within,
+    };
+    let mut store = Watch::new(log_with_a_gap(alloc)?, hook);
+    let (placed, _) = placed_in(alloc, &mut store, at)?;
+    Ok((placed.len(), all.get() > 1, within.get()))
+}
+
+#[test]
+fn no_byte_between_the_first_batch_and_the_place_is_read(rt: HostRuntime) {
+    let alloc = rt.alloc();
+    for (at, records) in [(35, 4), (59, 1), (65, 0)] {
+        assert_eq!(rt; reads_between(alloc, at), Ok((records, true, 0)));
+    }
 }
 
 #[test]

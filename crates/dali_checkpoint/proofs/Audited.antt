@@ -82,7 +82,7 @@ module _ (p q : Point) (h : Head) (n b r : ℕ) (g : RegionState) (stay : Stays 
       none = or_neither (has_found (p.audits b) i) ((r == i) && not (g.stray == 0)) (sym (any_push (is_find_of i) (p.audits b) (record { region = r; answer = g.stray })) ∙ (ap (λ ps. has_found ps i) (sym now) ∙ found))
 
 -- ---- each step
-audits_at : (a b : ℕ) (old new : ℕ → List Pass) (ps : List Pass) → new ≡ audits_with old a ps → (t : Bool) → (b == a) ≡ t → new b ≡ (if t then ps else old b)
+pub audits_at : (a b : ℕ) (old new : ℕ → List Pass) (ps : List Pass) → new ≡ audits_with old a ps → (t : Bool) → (b == a) ≡ t → new b ≡ (if t then ps else old b)
 audits_at a b old new ps e t f = ap (λ z. z b) e ∙ ap (λ c. if c then ps else old b) f
 
 pub passes_go_on : (p q : Point) (x : Step) (h : Head) (n b : ℕ) → IsPointStep p (Does x) q → Stays p q → AreCopied p h n (regions p.core.system.sizes) → PassesTell p b → PassesTell q b

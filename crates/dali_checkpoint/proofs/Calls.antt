@@ -553,6 +553,7 @@ module _ {V : Type 0} (told : V → Option Disk) (may_leave : V → Disk → Typ
       flag = ap (λ (x : SystemState). x.checking) is;
       begun = refl;
     };
+    head = ap to.heads (ap side_of (ap (λ (x : Vaulted V). x.current) said.turned.vault ∙ sym (ap (λ n. n + 1) t.at.vault.vault.current))) ∙ (ap (λ (q : Point). q.heads (target t.to)) same ∙ t.may.head);
     all = ap (λ (q : Point). stable q.core) same ∙ (t.all ∙ sym (ap (λ (q : Point). length q.log) same));
   }
     where

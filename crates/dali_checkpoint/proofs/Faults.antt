@@ -29,7 +29,7 @@ use Rattle.dali_checkpoint.proofs.Calls.{course_join, untouched_now, flush_ran, 
 
 module _ {V : Type 0} (told : V → Option Disk) (may_leave : V → Disk → Type 0) (faults : V → ℕ) where
   -- ---- steps behind others
-  more : (s : Start) (p q : Point) (gs : List RegionState) (z : SystemState) (w : Vaulted V) (xs : List StoreStep) → IsPointCourse p xs q → Ends told may_leave faults s q gs z w → Ends told may_leave faults s p gs z w
+  pub more : (s : Start) (p q : Point) (gs : List RegionState) (z : SystemState) (w : Vaulted V) (xs : List StoreStep) → IsPointCourse p xs q → Ends told may_leave faults s q gs z w → Ends told may_leave faults s p gs z w
   more s p q gs z w xs course e = record { to = e.to; batches = e.batches; steps = xs ++ e.steps; course = course_join p q e.to xs e.steps course e.course; at = e.at }
 
   stop : (s : Start) (p : Point) (gs : List RegionState) (z : SystemState) (w : Vaulted V) → w.stopped ≡ true → Ends told may_leave faults s p gs z w → Ends told may_leave faults s p gs (store_stopped z) w
@@ -72,7 +72,7 @@ module _ {V : Type 0} (told : V → Option Disk) (may_leave : V → Disk → Typ
       finishes : IsPointStep e.to Finishes q
       finishes = (ap (λ (x : SystemState). x.checking) e.at.system ∙ checking, refl)
 
-  nothing : (s : Start) (B : List (List Record)) (p : Point) (gs : List RegionState) (y : SystemState) (v : Vaulted V) → IsCoreAt told may_leave faults s B p gs y v → Ends told may_leave faults s p gs y v
+  pub nothing : (s : Start) (B : List (List Record)) (p : Point) (gs : List RegionState) (y : SystemState) (v : Vaulted V) → IsCoreAt told may_leave faults s B p gs y v → Ends told may_leave faults s p gs y v
   nothing s B p gs y v at = record { to = p; batches = B; steps = []; course = refl; at = at }
 
   -- a step that met a fault: the vault stopped, and the rest of the core is as it was

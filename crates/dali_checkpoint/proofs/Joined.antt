@@ -33,7 +33,7 @@ module _ {V : Type 0} (told : V → Option Disk) (may_leave : V → Disk → Typ
   turn_fails y v mid late w side a b d = inr (inr (record { mid = mid; flushed = a; late = late; synced = b; failed = d }))
 
   -- the flag of a checkpoint is none of what a flush looks at
-  flushes_over : (y : SystemState) (b : Bool) (v w : Vaulted V) → FlushesFrame told may_leave faults (in_checkpoint y b) v w → FlushesFrame told may_leave faults y v w
+  pub flushes_over : (y : SystemState) (b : Bool) (v w : Vaulted V) → FlushesFrame told may_leave faults (in_checkpoint y b) v w → FlushesFrame told may_leave faults y v w
   flushes_over y b v w said = (said.0, record { body = said.1.body; records = said.1.records }, said.2)
 
   pub started_over : (y : SystemState) (b : Bool) (v w : Vaulted V) (c : Checkpointed) → HasStarted told may_leave faults (in_checkpoint y b) v c w → HasStarted told may_leave faults y v c w

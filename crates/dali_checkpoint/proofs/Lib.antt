@@ -7,3 +7,5 @@ pub mod Others
 pub mod Faults
 pub mod Joined
 pub mod Flushing
+pub mod Moments
+pub mod Idle

@@ -3,15 +3,17 @@
 --     header_at y v n          the header of the image that begins behind all records of the system, where the vault's log ends there and the table has
 --                              n bytes
 --     cause_of y v             why the engine is stopped, if it is: the system's cause, else the vault's
+--     IsEndOf y n j            the records since the load have the end of an audit with this verdict, which didn't begin before record n
 --     given_up b y             the system behind a checkpoint that is given up, where a call of the store failed or didn't
-use Rattle.std.specs.Prelude.{ℕ, ◌+◌, Bool, true, false, List, Option, Some, None}
+use Rattle.std.specs.Prelude.{ℕ, ◌+◌, ◌≤◌, Bool, true, false, List, Option, Some, None, Contains}
 use Rattle.dali_region.specs.declared.Side.{Side}
 use Rattle.dali_system.specs.declared.causes.Cause.{Cause}
 use Rattle.dali_system.specs.declared.causes.Cause.TheVariants.{Store}
 use Rattle.dali_system.specs.State.{SystemState}
-use Rattle.dali_system.specs.Steps.{store_stopped, in_checkpoint}
+use Rattle.dali_system.specs.Steps.{store_stopped, in_checkpoint, audit_record}
 use Rattle.dali_crash.specs.Checkpoints.{side_of}
 use Rattle.dali_vault.specs.Vaulted.{Vaulted}
+use Rattle.dali_audit.specs.Findings.{Judged}
 use Rattle.dali_image.specs.declared.header.Header.{Header}
 
 pub record Checkpointed : Type 0 where
@@ -42,3 +44,7 @@ cause_of y v = cause_in y.stop v.stopped
 abbrev pub given_up : Bool → SystemState → SystemState
 given_up true y = in_checkpoint (store_stopped y) false
 given_up false y = in_checkpoint y false
+
+pub record IsEndOf (y : SystemState) (n : ℕ) (j : Judged) : Type 0 where
+  pub behind : n ≤ j.begin
+  pub logged : Contains y.since (audit_record j.begin j.failing)

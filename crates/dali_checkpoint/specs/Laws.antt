@@ -4,9 +4,11 @@
 --     FlushKeeps               and so does a flush of all records
 --     AuditsTell               an audit that began behind the settlement and ended clean certifies it
 --     StartFaults, CopyFaults, SettleFaults, CertifyFaults, FailureEnds, GivesUp   what each leaves otherwise is behind steps too
+--     PointsTell, EndsIdle     at each of these points the flag tells whether a checkpoint is under way, so behind one that ended the next may start
+--     EndIsFar                 the log's end and the number of the current image are small enough for a whole checkpoint
 --     PlacesStay, PlacesGoOn   where the file of a side has the place of each region whose flag for that side is clear, it has so behind each call, and
 --                              behind a copy
-use Rattle.std.specs.Prelude.{◌≡◌, ℕ, ◌+◌, ◌≤◌, Bool, true, false, List, [], ◌∷◌, Option, Some, IfSome, length, slice_get, slice_set}
+use Rattle.std.specs.Prelude.{◌≡◌, ℕ, ◌+◌, ◌<◌, ◌≤◌, ◌^◌, Bool, true, false, List, [], ◌∷◌, Option, Some, IfSome, length, slice_get, slice_set}
 use Rattle.dali_geometry.specs.Places.{regions}
 use Rattle.dali_record.specs.declared.records.Record.{Record}
 use Rattle.dali_record.specs.Spelling.{words_bytes}
@@ -18,6 +20,7 @@ use Rattle.dali_system.specs.State.{SystemState, stable}
 use Rattle.dali_system.specs.Steps.{taken, store_stopped, in_checkpoint}
 use Rattle.dali_system.specs.Courses.{Step, Takes, Flushes, AuditBegins, AuditEnds}
 use Rattle.dali_crash.specs.Checkpoints.{Head, StoreStep, Does, Starts, Keeps as KeepsAll, Copies, Skips, WritesHead, Syncs, Turns, Finishes, Point, IsPointStep, IsPointCourse, side_of}
+use Rattle.dali_crash.specs.StoreRuns.{FlagTells}
 use Rattle.dali_crash.specs.Traces.{Start}
 use Rattle.dali_traces.specs.Disks.{image_name}
 use Rattle.dali_traces.specs.Places.{place_of}
@@ -123,11 +126,13 @@ module _ {V : Type 0} (told : V → Option Disk) (may_leave : V → Disk → Typ
   FlushKeeps = (s : Start) (B : List (List Record)) (p : Point) (gs : List RegionState) (y : SystemState) (v w : Vaulted V) → FlushesFrame told may_leave faults y v w → KeepsOverFlush s B p gs y v w
 
   -- ---- the anchor
-  pub record HasMoved (s : Start) (p : Point) (gs : List RegionState) (z : SystemState) (w : Vaulted V) : Type 0 where
+  -- the current image has the head that the checkpoint kept
+  pub record HasMoved (s : Start) (p : Point) (gs : List RegionState) (z : SystemState) (w : Vaulted V) (h : Head) : Type 0 where
     pub to : Point
     pub batches : List (List Record)
     pub course : IsPointCourse p (Does Takes ∷ Does Flushes ∷ Syncs ∷ Turns ∷ Finishes ∷ []) to
     pub is : IsIdle told may_leave faults s batches to gs z w
+    pub head : to.heads (side_of w.current) ≡ h
     pub all : stable to.core ≡ length to.log
 
   abbrev pub CertifyGoes : Type 0
@@ -135,7 +140,7 @@ module _ {V : Type 0} (told : V → Option Disk) (may_leave : V → Disk → Typ
       (s : Start) (B : List (List Record)) (p : Point) (gs : List RegionState) (y z : SystemState) (v w : Vaulted V) (c : Checkpointed) (h : Head) (n b : ℕ)
       → IsSettled told may_leave faults s B p gs y v c h n → IsCertifiedAt p n b
       → HasTurnedTo told may_leave faults y v (side_in c) w → z ≡ in_checkpoint (taken y) false
-      → HasMoved s p gs z w
+      → HasMoved s p gs z w h
 
   -- ---- what the calls leave otherwise is behind steps too
   pub record Ends (s : Start) (p : Point) (gs : List RegionState) (z : SystemState) (w : Vaulted V) : Type 0 where
@@ -183,6 +188,28 @@ module _ {V : Type 0} (told : V → Option Disk) (may_leave : V → Disk → Typ
       (s : Start) (B : List (List Record)) (p : Point) (gs : List RegionState) (y : SystemState) (v : Vaulted V) (failed : Bool) → IsCoreAt told may_leave faults s B p gs y v
       → y.checking ≡ true → (failed ≡ true → v.stopped ≡ true)
       → Ends s p gs (given_up failed y) v
+
+  -- ---- at each of these points the flag tells whether a checkpoint is under way
+  pub record PointTells (s : Start) (B : List (List Record)) (p : Point) (gs : List RegionState) (y : SystemState) (v : Vaulted V) : Type 0 where
+    pub idle : IsIdle told may_leave faults s B p gs y v → FlagTells p
+    pub copying : (c : Checkpointed) (h : Head) → IsCopying told may_leave faults s B p gs y v c h → FlagTells p
+    pub settled : (c : Checkpointed) (h : Head) (n : ℕ) → IsSettled told may_leave faults s B p gs y v c h n → FlagTells p
+    pub under_way : IsCoreAt told may_leave faults s B p gs y v → y.checking ≡ true → FlagTells p
+
+  abbrev pub PointsTell : Type 0
+  PointsTell = (s : Start) (B : List (List Record)) (p : Point) (gs : List RegionState) (y : SystemState) (v : Vaulted V) → PointTells s B p gs y v
+
+  -- so where a checkpoint has ended, the next one may start
+  abbrev pub EndsIdle : Type 0
+  EndsIdle =
+      (s : Start) (p : Point) (gs : List RegionState) (z : SystemState) (w : Vaulted V) → FlagTells p → (e : Ends s p gs z w) → z.checking ≡ false
+      → IsIdle told may_leave faults s e.batches e.to gs z w
+
+  -- a core of a run may be asked for a whole checkpoint
+  abbrev pub EndIsFar : Type 0
+  EndIsFar =
+      (s : Start) (B : List (List Record)) (p : Point) (gs : List RegionState) (y : SystemState) (v : Vaulted V) → IsCoreAt told may_leave faults s B p gs y v
+      → (v.end < 2 ^ 61) × (v.current < 2 ^ 62)
 
   -- ---- the places of the regions
   abbrev pub PlacesStay : Type 0

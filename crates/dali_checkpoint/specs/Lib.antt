@@ -2,3 +2,4 @@ pub mod Kept
 pub mod Done
 pub mod Running
 pub mod Laws
+pub mod Moments

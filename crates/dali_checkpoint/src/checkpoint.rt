@@ -3,15 +3,19 @@ ghost use Rattle.std.specs.Prelude.{◌≡◌, ◌≤◌, ◌<◌, ◌+◌, ◌^
 ghost use Rattle.dali_geometry.specs.Places.{regions as regions_of};
 ghost use Rattle.dali_record.specs.Spelling.{words_bytes};
 ghost use Rattle.dali_region.specs.Answers.{is_dirty, cleaned};
+ghost use Rattle.dali_store.specs.Calls.{fewer, one_less};
 ghost use Rattle.dali_store.specs.Faults.{Rose};
+ghost use Rattle.dali_store.specs.Store.{LeavesOnly};
 ghost use Rattle.dali_system.specs.declared.causes.Cause.TheVariants.{Store as ByStore};
 ghost use Rattle.dali_system.specs.Steps.{taken, store_stopped, in_checkpoint};
 ghost use Rattle.dali_crash.specs.Checkpoints;
 ghost use Rattle.dali_traces.specs.Disks.{image_name};
 ghost use Rattle.dali_traces.specs.Places.{place_of};
-ghost use Rattle.dali_steps.specs.Said.{HasWritten, WriteHasFailed};
-ghost use Rattle.dali_checkpoint.specs.Kept.{side_in, cause_of, given_up};
+ghost use Rattle.dali_steps.specs.Said.{TornFrom, HasWritten, WriteHasFailed};
+ghost use Rattle.dali_whole.specs.Moments.{flush_calls, FlushLeaves, Within};
+ghost use Rattle.dali_checkpoint.specs.Kept.{side_in, cause_of, given_up, IsEndOf};
 ghost use Rattle.dali_checkpoint.specs.Done.{Reaches, IsNoShorter, Writes, FailsToWrite, HasStarted, HasTurnedTo, FailsToTurn, IsKept, IsLost};
+ghost use Rattle.dali_checkpoint.specs.Moments.{WriteLeaves, TurnLeaves};
 ghost use Rattle.dali_checkpoint.specs.declared.error.CheckpointError.TheVariants.{Failed, InProgress, Stopped, Fault, OutOfMemory};
 
 use crate::error::CheckpointError;
@@ -67,6 +71,10 @@ fn begin<V: Store>(
     ensures memory { cause_of system.old.state vault.old ≡ None → IfErr result (λ e. (e ≡ Fault) ⊎ (e ≡ OutOfMemory)) }
     ensures reaches { IfOk result (λ c. Reaches V.told (side_in c) 0 vault.new) }
     ensures files { IsNoShorter V.told vault.old vault.new }
+    ensures any_moment { vault.old.stopped ≡ false → Within V.told V.moment V.left_since vault.old vault.new
+        (WriteLeaves V.told V.may_leave V.faults system.old.state vault.old (image_name (Checkpoints.side_of (vault.old.current + 1))) 0 64) }
+    ensures grows { OnOk result (vault.new.end ≤ vault.old.end + 2 ^ 31) }
+    ensures calls { OnOk result (V.lets_pass vault.new.store ≡ fewer (flush_calls system.old.state + 1) (V.lets_pass vault.old.store)) }
     ensures rose { IsErrOf result Fault → Rose (V.faults vault.old.store) (V.faults vault.new.store) }
 {
     if let Some(cause) = parts::cause_of(system, vault) {
@@ -112,6 +120,8 @@ fn anchor<V: Store>(
     ensures fault { cause_of system.old.state vault.old ≡ None → OnErr result ((result ≡ Err Fault) × (system.new ≡ record system.old { state = store_stopped (taken system.old.state) }) × FailsToTurn V.told V.may_leave V.faults system.old.state vault.old (Checkpoints.side_of number) vault.new) }
     ensures number { IfOk result (λ now. now ≡ vault.old.current + 1) }
     ensures files { IsNoShorter V.told vault.old vault.new }
+    ensures any_moment { vault.old.stopped ≡ false → Within V.told V.moment V.left_since vault.old vault.new (TurnLeaves V.told V.may_leave V.faults system.old.state vault.old (Checkpoints.side_of number)) }
+    ensures calls { OnOk result (V.lets_pass vault.new.store ≡ fewer (flush_calls system.old.state + 5) (V.lets_pass vault.old.store)) }
     ensures rose { IsErrOf result Fault → Rose (V.faults vault.old.store) (V.faults vault.new.store) }
 {
     if let Some(cause) = parts::cause_of(system, vault) {
@@ -133,6 +143,8 @@ fn keep_failure<V: Store>(
     ensures kept { OnOk result (IsKept V.told V.may_leave V.faults system.old.state vault.old system.new.state vault.new) }
     ensures lost { IfErr result (IsLost V.told V.may_leave V.faults system.old.state vault.old system.new.state vault.new) }
     ensures files { IsNoShorter V.told vault.old vault.new }
+    ensures any_moment { vault.old.stopped ≡ false → Within V.told V.moment V.left_since vault.old vault.new (FlushLeaves V.may_leave system.old.state vault.old) }
+    ensures calls { OnOk result (V.lets_pass vault.new.store ≡ fewer (flush_calls system.old.state) (V.lets_pass vault.old.store)) }
     ensures rose { IsErrOf result Fault → Rose (V.faults vault.old.store) (V.faults vault.new.store) }
     ensures ends { system.new.state.checking ≡ false }
 {
@@ -168,6 +180,10 @@ impl Checkpoint {
         ensures stops { IsErrOf result Fault → system.new ≡ record system.old { state = store_stopped (taken system.old.state) } }
         ensures fault { IsErrOf result Fault → FailsToWrite V.told V.may_leave V.faults system.old.state vault.old (image_name (Checkpoints.side_of (vault.old.current + 1))) 0 64 vault.new }
         ensures files { IsNoShorter V.told vault.old vault.new }
+        ensures any_moment { vault.old.stopped ≡ false → Within V.told V.moment V.left_since vault.old vault.new
+            (WriteLeaves V.told V.may_leave V.faults system.old.state vault.old (image_name (Checkpoints.side_of (vault.old.current + 1))) 0 64) }
+        ensures grows { OnOk result (vault.new.end ≤ vault.old.end + 2 ^ 31) }
+        ensures calls { OnOk result (V.lets_pass vault.new.store ≡ fewer (flush_calls system.old.state + 1) (V.lets_pass vault.old.store)) }
         ensures rose { IsErrOf result Fault → Rose (V.faults vault.old.store) (V.faults vault.new.store) }
         ensures same { (IsErrOf result Fault → ⊥) → OnErr result ((system.new ≡ system.old) × (vault.new ≡ vault.old)) }
     {
@@ -204,6 +220,9 @@ impl Checkpoint {
         ensures written { is_dirty region.old (side_in self.old) ≡ true → OnOk result (HasWritten V.told V.may_leave V.faults vault.old (image_name (side_in self.old)) (place_of number) (words_bytes region.old.back) vault.new) }
         ensures stopped { is_dirty region.old (side_in self.old) ≡ true → vault.old.stopped ≡ true → (result ≡ Err (Stopped ByStore)) × (self.new ≡ self.old) × (vault.new ≡ vault.old) }
         ensures files { IsNoShorter V.told vault.old vault.new }
+        ensures any_moment { is_dirty region.old (side_in self.old) ≡ true → vault.old.stopped ≡ false → LeavesOnly V.moment V.left_since vault.old.store vault.new.store
+            (TornFrom (V.may_leave vault.old.store) (image_name (side_in self.old)) (place_of number) (length (words_bytes region.old.back))) }
+        ensures calls { is_dirty region.old (side_in self.old) ≡ true → vault.old.stopped ≡ false → V.lets_pass vault.new.store ≡ one_less (V.lets_pass vault.old.store) }
         ensures fault { vault.old.stopped ≡ false → OnErr result ((result ≡ Err Fault) × (self.new ≡ record self.old { faulted = true }) × WriteHasFailed V.told V.may_leave V.faults vault.old (image_name (side_in self.old)) (place_of number) (length (words_bytes region.old.back)) vault.new) }
         ensures region { OnErr result (region.new ≡ region.old) }
     {
@@ -246,6 +265,10 @@ impl Checkpoint {
         ensures stopped { IfSome (cause_of system.old.state vault.old) (λ cause. (result ≡ Err (Stopped cause)) × (system.new ≡ system.old) × (vault.new ≡ vault.old)) }
         ensures fault { cause_of system.old.state vault.old ≡ None → OnErr result ((result ≡ Err Fault) × (system.new ≡ record system.old { state = store_stopped (taken system.old.state) }) × FailsToWrite V.told V.may_leave V.faults system.old.state vault.old (image_name (side_in self.old)) (place_of self.old.copied) (length self.old.table) vault.new) }
         ensures files { IsNoShorter V.told vault.old vault.new }
+        ensures any_moment { vault.old.stopped ≡ false → Within V.told V.moment V.left_since vault.old vault.new
+            (WriteLeaves V.told V.may_leave V.faults system.old.state vault.old (image_name (side_in self.old)) (place_of self.old.copied) (length self.old.table)) }
+        ensures grows { OnOk result (vault.new.end ≤ vault.old.end + 2 ^ 31) }
+        ensures calls { OnOk result (V.lets_pass vault.new.store ≡ fewer (flush_calls system.old.state + 1) (V.lets_pass vault.old.store)) }
         ensures rose { IsErrOf result Fault → Rose (V.faults vault.old.store) (V.faults vault.new.store) }
         ensures same { OnErr result (self.new ≡ self.old) }
     {
@@ -265,7 +288,8 @@ impl Checkpoint {
         Ok(())
     }
 
-    /// Ends the checkpoint by the verdict of an audit that began behind `settle`: where it names no region, all records are
+    /// Ends the checkpoint by the verdict of an audit of this system that began behind `settle` and whose end is in its log:
+    /// where it names no region, all records are
     /// flushed, the image is synced and the anchor moves to it. It answers the number of the image, which is the current one
     /// then. Where the verdict names regions what the audit logged is flushed, and it answers `Failed`; only where that record
     /// waits and can't be flushed it answers why: `Stopped` where the vault was stopped before, else `Fault`. For a clean
@@ -278,7 +302,7 @@ impl Checkpoint {
         system: &mut System,
         vault: &mut Vault<V>,
     ) -> Result<u64, CheckpointError>
-        requires settled { IsSomeAnd self.settled (λ n. n ≤ verdict.begin) }
+        requires audited { IsSomeAnd self.settled (λ n. IsEndOf system.old.state n verdict) }
         requires end { vault.old.end < 2 ^ 62 }
         requires current { vault.old.current < 2 ^ 62 }
         ensures ok { IfOk result (λ now. (verdict.failing ≡ []) × (now ≡ vault.old.current + 1) × (now ≡ vault.new.current)) }
@@ -289,6 +313,12 @@ impl Checkpoint {
         ensures stopped { verdict.failing ≡ [] → IfSome (cause_of system.old.state vault.old) (λ cause. (result ≡ Err (Stopped cause)) × (system.new ≡ record system.old { state = in_checkpoint system.old.state false }) × (vault.new ≡ vault.old)) }
         ensures fault { verdict.failing ≡ [] → cause_of system.old.state vault.old ≡ None → OnErr result ((result ≡ Err Fault) × (system.new ≡ record system.old { state = in_checkpoint (store_stopped (taken system.old.state)) false }) × FailsToTurn V.told V.may_leave V.faults system.old.state vault.old (side_in self) vault.new) }
         ensures files { IsNoShorter V.told vault.old vault.new }
+        ensures any_moment { verdict.failing ≡ [] → vault.old.stopped ≡ false → Within V.told V.moment V.left_since vault.old vault.new
+            (TurnLeaves V.told V.may_leave V.faults system.old.state vault.old (side_in self)) }
+        ensures failing_moment { (verdict.failing ≡ [] → ⊥) → vault.old.stopped ≡ false → Within V.told V.moment V.left_since vault.old vault.new
+            (FlushLeaves V.may_leave system.old.state vault.old) }
+        ensures calls { OnOk result (V.lets_pass vault.new.store ≡ fewer (flush_calls system.old.state + 5) (V.lets_pass vault.old.store)) }
+        ensures failing_calls { IsErrOf result (Failed verdict.failing) → V.lets_pass vault.new.store ≡ fewer (flush_calls system.old.state) (V.lets_pass vault.old.store) }
         ensures rose { IsErrOf result Fault → Rose (V.faults vault.old.store) (V.faults vault.new.store) }
         ensures ends { system.new.state.checking ≡ false }
     {

@@ -1,5 +1,6 @@
 //! Laws of checkpoints over any store, each the contract of a function that does nothing.
-ghost use Rattle.dali_checkpoint.specs.Laws.{StartGoes, CopyGoes, SkipGoes, SettleGoes, OthersKeep, FlushKeeps, AuditsTell, CertifyGoes, StartFaults, CopyFaults, SettleFaults, CertifyFaults, FailureEnds, GivesUp, PlacesStay, PlacesGoOn};
+ghost use Rattle.dali_checkpoint.specs.Laws.{StartGoes, CopyGoes, SkipGoes, SettleGoes, OthersKeep, FlushKeeps, AuditsTell, CertifyGoes, StartFaults, CopyFaults, SettleFaults, CertifyFaults, FailureEnds, GivesUp, PointsTell, EndsIdle, EndIsFar, PlacesStay, PlacesGoOn};
+ghost use Rattle.dali_checkpoint.specs.Moments.{StartIsRight, CopyIsRight, SettleIsRight, CertifyIsRight, FailureIsRight};
 
 use dali_store::Store;
 
@@ -34,6 +35,7 @@ pub fn an_audit_certifies_the_copies<V: Store>()
 
 /// What a certified settlement leaves on Ok is behind a taking and a flush, the image's sync, the anchor's move and the
 /// checkpoint's end; then no checkpoint is under way and the image files read as the run says, so the next one may start.
+/// The current image has the head that the start kept.
 pub fn a_certification_makes_steps<V: Store>()
     ensures { CertifyGoes V.told V.may_leave V.faults }
 {}
@@ -53,4 +55,25 @@ pub fn a_checkpoint_that_fails_makes_steps<V: Store>()
 pub fn a_clear_flag_has_its_place<V: Store>()
     ensures stays { PlacesStay V.told V.may_leave V.faults }
     ensures copied { PlacesGoOn V.told V.may_leave V.faults }
+{}
+
+/// Each disk that a crash inside a call of a checkpoint leaves spells files that restart right.
+pub fn a_crash_inside_a_checkpoint_is_right<V: Store>()
+    ensures start { StartIsRight V.told V.may_leave V.faults }
+    ensures copy { CopyIsRight V.told V.may_leave V.faults }
+    ensures settle { SettleIsRight V.told V.may_leave V.faults }
+    ensures certify { CertifyIsRight V.told V.may_leave V.faults }
+    ensures failure { FailureIsRight V.told V.may_leave V.faults }
+{}
+
+/// Where a checkpoint has ended, given up ones and those with a fault among them, none is under way, and the next one may
+/// start: so it is behind `give_up`, behind a start that failed, and behind each answer of `certify`.
+pub fn a_checkpoint_that_ended_leaves_none_under_way<V: Store>()
+    ensures told { PointsTell V.told V.may_leave V.faults }
+    ensures ends { EndsIdle V.told V.may_leave V.faults }
+{}
+
+/// A core of a run may be asked for a whole checkpoint: its log's end is below 2^61, and its current number below 2^62.
+pub fn a_core_of_a_run_may_make_a_checkpoint<V: Store>()
+    ensures { EndIsFar V.told V.may_leave V.faults }
 {}

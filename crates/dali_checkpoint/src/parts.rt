@@ -2,13 +2,16 @@
 ghost use Rattle.std.specs.Prelude.{◌≡◌, ◌≤◌, ◌<◌, ◌+◌, ◌^◌, true, false, Err, OnOk, OnErr, IfSome, length};
 ghost use Rattle.dali_record.specs.Spelling.{words_bytes};
 ghost use Rattle.dali_region.specs.Answers.{cleaned};
-ghost use Rattle.dali_store.specs.Store.{file_of};
+ghost use Rattle.dali_store.specs.Calls.{fewer, one_less};
+ghost use Rattle.dali_store.specs.Store.{file_of, LeavesOnly};
 ghost use Rattle.dali_system.specs.Steps.{taken, store_stopped};
+ghost use Rattle.dali_traces.specs.Anchors.{MayHaveMoved};
 ghost use Rattle.dali_traces.specs.Disks.{image_name};
 ghost use Rattle.dali_traces.specs.Places.{place_of};
 ghost use Rattle.dali_crash.specs.Checkpoints;
-ghost use Rattle.dali_steps.specs.Said.{HasWritten, WriteHasFailed, HasSynced, SyncHasFailed, HasTurned, TurnHasFailed};
+ghost use Rattle.dali_steps.specs.Said.{TornFrom, HasWritten, WriteHasFailed, HasSynced, SyncHasFailed, HasTurned, TurnHasFailed};
 ghost use Rattle.dali_whole.specs.Flushed.{FlushesFrame, FailsFrame};
+ghost use Rattle.dali_whole.specs.Moments.{flush_calls, FlushLeaves, Within};
 ghost use Rattle.dali_checkpoint.specs.Kept;
 ghost use Rattle.dali_checkpoint.specs.Done.{IsNoShorter, Reaches};
 ghost use Rattle.dali_checkpoint.specs.declared.error.CheckpointError.TheVariants.{Fault};
@@ -18,11 +21,10 @@ use crate::error::CheckpointError;
 use dali_core::System;
 use dali_image::region_bytes;
 use dali_region::{Region, Side};
-use dali_steps::called;
 use dali_store::Store;
 use dali_system::Cause;
 use dali_vault::{Vault, VaultError};
-use dali_whole::write_out;
+use dali_whole::{calls, write_out};
 use std::alloc::Global;
 
 // The side of the image with this number.
@@ -54,6 +56,9 @@ pub fn flush<V: Store>(
     ensures ok { OnOk result ((system.new ≡ record system.old { state = taken system.old.state }) × FlushesFrame V.told V.may_leave V.faults system.old.state vault.old vault.new) }
     ensures fault { OnErr result ((result ≡ Err Fault) × (system.new ≡ record system.old { state = store_stopped (taken system.old.state) }) × FailsFrame V.told V.may_leave V.faults system.old.state vault.old vault.new) }
     ensures files { IsNoShorter V.told vault.old vault.new }
+    ensures any_moment { Within V.told V.moment V.left_since vault.old vault.new (FlushLeaves V.may_leave system.old.state vault.old) }
+    ensures grows { OnOk result (vault.new.end ≤ vault.old.end + 2 ^ 31) }
+    ensures calls { OnOk result (V.lets_pass vault.new.store ≡ fewer (flush_calls system.old.state) (V.lets_pass vault.old.store)) }
 {
     match write_out(system, vault, alloc) {
         Ok(_) => Ok(()),
@@ -77,8 +82,10 @@ pub fn write<V: Store>(
     ensures ok { OnOk result ((system.new ≡ system.old) × HasWritten V.told V.may_leave V.faults vault.old (image_name side) at bytes.now vault.new) }
     ensures fault { OnErr result ((result ≡ Err Fault) × (system.new ≡ record system.old { state = store_stopped system.old.state }) × WriteHasFailed V.told V.may_leave V.faults vault.old (image_name side) at (length bytes.now) vault.new) }
     ensures files { IsNoShorter V.told vault.old vault.new }
+    ensures any_moment { LeavesOnly V.moment V.left_since vault.old.store vault.new.store (TornFrom (V.may_leave vault.old.store) (image_name side) at (length bytes.now)) }
+    ensures calls { V.lets_pass vault.new.store ≡ one_less (V.lets_pass vault.old.store) }
 {
-    match called::image_write(vault, side, at, bytes) {
+    match calls::image_write(vault, side, at, bytes) {
         Ok(()) => Ok(()),
         Err(_) => {
             system.stop();
@@ -97,8 +104,10 @@ pub fn sync<V: Store>(
     ensures ok { OnOk result ((system.new ≡ system.old) × HasSynced V.told V.may_leave V.faults vault.old (image_name side) vault.new) }
     ensures fault { OnErr result ((result ≡ Err Fault) × (system.new ≡ record system.old { state = store_stopped system.old.state }) × SyncHasFailed V.told V.may_leave V.faults vault.old vault.new) }
     ensures files { IsNoShorter V.told vault.old vault.new }
+    ensures any_moment { LeavesOnly V.moment V.left_since vault.old.store vault.new.store (V.may_leave vault.old.store) }
+    ensures calls { V.lets_pass vault.new.store ≡ one_less (V.lets_pass vault.old.store) }
 {
-    match called::image_sync(vault, side) {
+    match calls::image_sync(vault, side) {
         Ok(()) => Ok(()),
         Err(_) => {
             system.stop();
@@ -114,8 +123,10 @@ pub fn turn<V: Store>(system: &mut System, vault: &mut Vault<V>) -> Result<(), C
     ensures ok { OnOk result ((system.new ≡ system.old) × HasTurned V.told V.may_leave V.faults vault.old vault.new) }
     ensures fault { OnErr result ((result ≡ Err Fault) × (system.new ≡ record system.old { state = store_stopped system.old.state }) × TurnHasFailed V.told V.may_leave V.faults vault.old vault.new) }
     ensures files { IsNoShorter V.told vault.old vault.new }
+    ensures any_moment { Within V.told V.moment V.left_since vault.old vault.new (MayHaveMoved (V.may_leave vault.old.store) vault.old.current) }
+    ensures calls { OnOk result (V.lets_pass vault.new.store ≡ fewer 4 (V.lets_pass vault.old.store)) }
 {
-    match called::move_anchor(vault) {
+    match calls::move_anchor(vault) {
         Ok(()) => Ok(()),
         Err(_) => {
             system.stop();
@@ -138,10 +149,12 @@ pub fn write_region<V: Store>(
     ensures same { OnErr result (region.new ≡ region.old) }
     ensures fault { vault.old.stopped ≡ false → OnErr result ((result ≡ Err StoreFault) × WriteHasFailed V.told V.may_leave V.faults vault.old (image_name side) (place_of number) (length (words_bytes region.old.back)) vault.new) }
     ensures files { IsNoShorter V.told vault.old vault.new }
+    ensures any_moment { vault.old.stopped ≡ false → LeavesOnly V.moment V.left_since vault.old.store vault.new.store (TornFrom (V.may_leave vault.old.store) (image_name side) (place_of number) (length (words_bytes region.old.back))) }
+    ensures calls { vault.old.stopped ≡ false → V.lets_pass vault.new.store ≡ one_less (V.lets_pass vault.old.store) }
 {
     let mut words = [0; 64];
     region.copy_settled(&mut words);
-    called::image_write(
+    calls::image_write(
         vault,
         side,
         64 + 512 * u64::from(number),

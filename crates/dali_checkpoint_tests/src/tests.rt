@@ -1,8 +1,9 @@
 //! What no clause says: that a checkpoint is made with ample memory, what it leaves in the files, and what is left where each
 //! call of the store fails.
-ghost use Rattle.std.specs.Prelude.{◌≡◌, ◌<◌, [], ◌∷◌, length, IfOk, OnOk, IfSome};
+ghost use Rattle.std.specs.Prelude.{◌≡◌, ◌<◌, [], ◌∷◌, length, IfOk, OnOk, IfSome, Contains};
 ghost use Rattle.dali_geometry.specs.Places.{regions as regions_of};
 ghost use Rattle.dali_region.specs.State.{checked};
+ghost use Rattle.dali_system.specs.Steps.{audit_record};
 ghost use Rattle.dali_whole.specs.Cores.{HoldsPlaces};
 ghost use Rattle.dali_checkpoint.specs.Kept.{side_in};
 ghost use Rattle.dali_checkpoint.specs.Done.{Reaches};
@@ -104,6 +105,7 @@ fn change(region: &mut Region) -> bool
 fn audit<V: Store>(alloc: Global, small: &mut Small<V>) -> Result<Verdict, SystemError>
     requires two { regions_of small.old.system.state.sizes ≡ 2 }
     ensures begin { IfOk result (λ verdict. verdict.begin ≡ small.old.system.state.records) }
+    ensures ended { IfOk result (λ verdict. Contains small.new.system.state.since (audit_record verdict.begin verdict.failing)) }
     ensures vault { small.new.vault ≡ small.old.vault }
     ensures sizes { small.new.system.state.sizes ≡ small.old.system.state.sizes }
     ensures regions { OnOk result ((small.new.index ≡ checked small.old.index) × (small.new.heap ≡ checked small.old.heap)) }

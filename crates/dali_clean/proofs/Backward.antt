@@ -13,7 +13,7 @@ use Rattle.dali_system.specs.Regions.{RegionStep, TakeBack as TakesRegionBack, I
 use Rattle.dali_core.specs.declared.operation.Operation.{Operation}
 use Rattle.dali_core.specs.declared.take_back.TakeBack.{TakeBack}
 use Rattle.dali_core.specs.declared.want.Want.TheVariants.{Region}
-use Rattle.dali_core.specs.TakenBack.{next_undo, want_of, IsUndoBlock}
+use Rattle.dali_core.specs.TakenBack.{next_undo, want_of, IsUndoBlock, IsUndoOn}
 use Rattle.dali_core.specs.UnderWay.{IsUnderWay}
 use Rattle.dali_core.specs.Served.{Served}
 use Rattle.dali_clean.specs.Undone.{AreWritten, Goes, Undone, IsTakenBack}
@@ -25,12 +25,17 @@ pub record Rewritten (p : TakeBack) (g : RegionState) (q : TakeBack) (h : Region
   pub is : q ≡ record p { operation = Some operation }
   pub txn : operation.txn ≡ p.txn
   pub of : IsUndoBlock p.next operation.block
+  pub on : IsUndoOn g.words p.next operation.block
   pub steps : List RegionStep
   pub goes : Goes p.txn g steps h
   pub is_open : IsOpen h operation.txn operation.block
 
 abbrev pub IsMadeBack : TakeBack → RegionState → Option Operation → RegionState → Type 0
 IsMadeBack p g o g1 = IsSomeAnd o (λ o. (o.txn ≡ p.txn) × IsUndoBlock p.next o.block × IsUnderWay o.txn o.block o.left o.taken g1 × (g1 ≡ with_reads o.block.read (latched p.txn g)))
+
+-- on the region's own words
+abbrev pub IsMadeOn : TakeBack → RegionState → Option Operation → Type 0
+IsMadeOn p g o = IsSomeAnd o (λ o. IsUndoOn g.words p.next o.block)
 
 pub way_back_of : (p : TakeBack) (g : RegionState) (o : Option Operation) (g1 : RegionState) → IsMadeBack p g o g1 → IsWay o g1
 way_back_of p g None g1 m = absurd m
@@ -40,21 +45,22 @@ reads_fit : (o : Option Pending) (b : Block) → IsUndoBlock o b → b.read < 2 
 reads_fit None b h = absurd h
 reads_fit (Some u) b h = h.spelled.read
 
-pub rewritten : (p p1 p2 : TakeBack) (g g1 g2 : RegionState) → g.hold ≡ None → IsMadeBack p g p1.operation g1 → p1 ≡ record p { operation = p1.operation }
+pub rewritten : (p p1 p2 : TakeBack) (g g1 g2 : RegionState) → g.hold ≡ None → IsMadeBack p g p1.operation g1 → IsMadeOn p g p1.operation → p1 ≡ record p { operation = p1.operation }
     → IsSomeAnd p2.operation (λ o. IsOpen g2 o.txn o.block) → IsSameWay p1.operation p2.operation → p2 ≡ record p1 { operation = p2.operation } → AreWritten g1 g2
     → Rewritten p g p2 g2
-rewritten p p1 p2 g g1 g2 free made one opened same two w = by_both p1.operation p2.operation refl refl made opened same
+rewritten p p1 p2 g g1 g2 free made on one opened same two w = by_both p1.operation p2.operation refl refl made on opened same
   where
-    by_both : (a b : Option Operation) → p1.operation ≡ a → p2.operation ≡ b → IsMadeBack p g a g1 → IsSomeAnd b (λ o. IsOpen g2 o.txn o.block) → IsSameWay a b → Rewritten p g p2 g2
-    by_both None b i j m o s = absurd m
-    by_both (Some a) None i j m o s = absurd o
-    by_both (Some a) (Some b) i j m o s =
+    by_both : (a b : Option Operation) → p1.operation ≡ a → p2.operation ≡ b → IsMadeBack p g a g1 → IsMadeOn p g a → IsSomeAnd b (λ o. IsOpen g2 o.txn o.block) → IsSameWay a b → Rewritten p g p2 g2
+    by_both None b i j m n o s = absurd m
+    by_both (Some a) None i j m n o s = absurd o
+    by_both (Some a) (Some b) i j m n o s =
         let goes = opened_by p.txn a.block g g1 g2 free (reads_fit p.next a.block m.1) m.3 w in
         record {
           operation = b;
           is = two ∙ (ap (λ (x : TakeBack). record x { operation = p2.operation }) one ∙ ap (λ (x : Option Operation). record p { operation = x }) j);
           txn = s.0 ∙ m.0;
           of = subst (IsUndoBlock p.next) (sym s.1) m.1;
+          on = subst (IsUndoOn g.words p.next) (sym s.1) n;
           steps = goes.0;
           goes = goes.1;
           is_open = o;
@@ -74,6 +80,7 @@ undone p q r g h k y z w ok next runs =
     record {
       block = w.operation.block;
       of = w.of;
+      on = w.on;
       opened = h;
       steps = w.steps;
       goes = w.goes;

@@ -1,7 +1,7 @@
 -- A clean-up, from its claim to its end.
 use Rattle.std.proofs.Common.{inl, inr, ◌≡◌, ℕ, ◌<◌, Bool, true, false, List, [], ◌∷◌, ◌++◌, Option, Some, None, IsSome, IsSomeAnd, IfSome, OnOk, Result, Ok, refl, sym, ap, subst, ◌∙◌, arith, length, get_or, slice_get, slice_set, option_map}
-use Rattle.std.specs.Prelude.{◌==◌, ◌&&◌, if◌then◌else◌}
-use Rattle.std.specs.List.{AllByRecursion, list_all}
+use Rattle.std.specs.Prelude.{◌==◌, ◌&&◌}
+use Rattle.std.specs.List.{list_all}
 use Rattle.std.specs.FinMap.{get}
 use Rattle.std.proofs.lemmas.List.{length-set}
 use Rattle.std.proofs.lemmas.Bool.Decides.{Decides-eqb}
@@ -19,7 +19,6 @@ use Rattle.dali_region.specs.State.{RegionState, touched, taken_back}
 use Rattle.dali_att.specs.declared.state.State.{State}
 use Rattle.dali_att.specs.declared.state.State.TheVariants.{Live, Dead, Cleaning, Committed}
 use Rattle.dali_att.specs.Table.{undos_at, with_row, with_state, without_last}
-use Rattle.dali_att.proofs.Changes.{get-ended}
 use Rattle.dali_system.specs.State.{TxnRow, SystemState, VaultState, row_of, state_of, state_in, hold_in, lock_of}
 use Rattle.dali_system.specs.Run.{covers}
 use Rattle.dali_system.specs.Steps.{in_state, back_logged, ended_logged}
@@ -35,10 +34,10 @@ use Rattle.dali_core.specs.Served.{Served}
 use Rattle.dali_facts.proofs.Ends.{empty_end_is_step}
 use Rattle.dali_calls.proofs.TakingBack.{taking_back_is_step}
 use Rattle.dali_clean.specs.Undone.{Goes, Undone, IsTakenBack, IsReclaimed, Released}
-use Rattle.dali_clean.specs.Cleaned.{core, moment, AreDead, AreQuiet, AreLocked, MayClean, WholeMayClean, InRun, Led, LeadsOn, is_claimed, IsCleaning, IsLeftAt, IsRecovered, Claims, IsEnded, Ends, IsGivenBack, GivesBack}
+use Rattle.dali_clean.specs.Cleaned.{core, moment, AreDead, AreQuiet, MayClean, WholeMayClean, InRun, Led, LeadsOn, is_claimed, IsCleaning, IsLeftAt, IsRecovered, Claims, IsEnded, Ends, IsGivenBack, GivesBack}
 use Rattle.dali_clean.proofs.Lists.{set_same, set_twice, get_set, get_here}
-use Rattle.dali_clean.proofs.Courses.{join, one, both_own, region_own, self_own, in_run_on, leads_further, stays, steps_on, on_region, runs_of, undos_in, HasWork, work_of, row_here, row_there, held_of, holder, kind_in}
-use Rattle.dali_clean.proofs.Backward.{next_last, all_dropped, but_last, last_has, fewer, wanted_undo}
+use Rattle.dali_clean.proofs.Courses.{locked_keys, join, one, both_own, region_own, self_own, in_run_on, leads_further, stays, steps_on, on_region, runs_of, undos_in, HasWork, work_of, row_here, row_there, held_of, holder, kind_in}
+use Rattle.dali_clean.proofs.Backward.{next_last, but_last, last_has, fewer, wanted_undo}
 
 -- ---- options
 pub if_some_by : {A : Type 0} (o : Option A) (P : A → Type 0) → ((x : A) → o ≡ Some x → P x) → IfSome o P
@@ -93,9 +92,6 @@ module _ (y : SystemState) (u t : ℕ) (st : State) where
 
   kinds_put : AreOfKind y.sizes (row_of y t) → AreOfKind y.sizes (row_of (in_state y u st) t)
   kinds_put h = by_row (AreOfKind y.sizes) (λ same. kinds_mapped y.sizes st (get y.table t) h) (λ apart. h)
-
-  locked_put : AreLocked y t → AreLocked (in_state y u st) t
-  locked_put h = subst (AllByRecursion (λ (p : Pending). covers (lock_of y t p.key) true ≡ true)) (sym undos_put) h
 
 state_put : (y : SystemState) (t : ℕ) (st old : State) → state_of y t ≡ Some old → state_of (in_state y t st) t ≡ Some st
 state_put y t st old e = ap state_in (row_here y.table t (with_state st)) ∙ state_mapped st (get y.table t) old e
@@ -187,7 +183,7 @@ claimed rs rs' y z t latched cleans dead is back = subst (λ (x : SystemState). 
 
     by_latched : (o : Option ℕ) → state_of y t ≡ Some (Dead o) → IsRecovered rs o rs' → Claims rs y t rs' (now o)
     by_latched None d same = subst (λ (gs : List RegionState). Claims rs y t gs (now None)) (sym same) (record {
-      goes = λ bases before L v a is. record { log = L; steps = ClaimsTxn t ∷ []; own = refl; course = claim_course rs y t None d L v a; locked = locked_put y t t (Cleaning None) is.locked };
+      goes = λ bases before L v a is. record { log = L; steps = ClaimsTxn t ∷ []; own = refl; course = claim_course rs y t None d L v a };
       is = is_cleaning None rs d refl (λ r g at. if_some_by g.hold _ (λ h held. each None d r h (holds_at rs r g h at held) (none_some r)));
       stop = refl;
     })
@@ -198,7 +194,6 @@ claimed rs rs' y z t latched cleans dead is back = subst (λ (x : SystemState). 
         own = refl;
         course = join (moment rs y L v a) (moment rs (now (Some r)) L v a) (moment (slice_set rs r (taken_back same.0)) (now (Some r)) L v a) (ClaimsTxn t ∷ []) (Recovers r ∷ []) (claim_course rs y t (Some r) d L v a)
             (recover_course rs (now (Some r)) r same.0 same.1 L v a (may v));
-        locked = locked_put y t t (Cleaning (Some r)) is.locked;
       };
       is = is_cleaning (Some r) (slice_set rs r (taken_back same.0)) d (length-set rs r (taken_back same.0)) (λ q k at. if_some_by k.hold _ (λ h held.
           let was = held_of rs r same.0 (taken_back same.0) q h same.1 refl (holds_at (slice_set rs r (taken_back same.0)) q k h at held) in
@@ -289,7 +284,6 @@ freed rs y z t r g h is at (inr some) = subst (λ (k : RegionState). Freed rs y 
           steps = (ClaimsTxn u ∷ [] ++ Recovers r ∷ []) ++ GivesTxnBack u None ∷ [];
           own = refl;
           course = join m0 m2 (moment gs y2 L v a) (ClaimsTxn u ∷ [] ++ Recovers r ∷ []) (GivesTxnBack u None ∷ []) course (one m2 (moment gs y2 L v a) (GivesTxnBack u None) ((may, (refl, refl)), refl));
-          locked = locked_put y1 u t (Dead None) (locked_put y u t (Cleaning o) run.locked);
         }
           where
             m0 : Moment
@@ -301,8 +295,8 @@ freed rs y z t r g h is at (inr some) = subst (λ (k : RegionState). Freed rs y 
             course : IsCourse m0 (ClaimsTxn u ∷ [] ++ Recovers r ∷ []) m2
             course = join m0 (moment rs y1 L v a) m2 (ClaimsTxn u ∷ []) (Recovers r ∷ []) (claim_course rs y u o was.1 L v a) (recover_course rs y1 r g at L v a (record { hold = k; at = some.1; dead = mine.0; latched = o; claimed = now }))
 
-            there : InRun bases before m2 t
-            there = in_run_on bases before m0 m2 (ClaimsTxn u ∷ [] ++ Recovers r ∷ []) t run course (locked_put y u t (Cleaning o) run.locked)
+            there : InRun bases before m2
+            there = in_run_on bases before m0 m2 (ClaimsTxn u ∷ [] ++ Recovers r ∷ []) run course
 
             names : o ≡ Some r
             names = sym (ap latched_in was.1) ∙ run.whole.dead r k held mine.0
@@ -328,7 +322,7 @@ freed rs y z t r g h is at (inr some) = subst (λ (k : RegionState). Freed rs y 
                 clash : {b : Bool} → b ≡ false → b ≡ true → ⊥
                 clash e f = cc
     by_claim (inr not) = subst (λ (x : SystemState). Freed rs y t r (taken_back g) x) (sym not.1) (record {
-      goes = λ bases before L v a run. record { log = L; steps = Recovers r ∷ []; own = refl; course = recover_course rs y r g at L v a (may (state_of y u) refl (run.whole.dead r k held mine.0)); locked = run.locked };
+      goes = λ bases before L v a run. record { log = L; steps = Recovers r ∷ []; own = refl; course = recover_course rs y r g at L v a (may (state_of y u) refl (run.whole.dead r k held mine.0)) };
       is = record { regions = length-set rs r (taken_back g) ∙ is.regions; kind = is.kind; quiet = still_quiet; claimed = is.claimed };
       stop = refl;
       undos = refl;
@@ -399,14 +393,14 @@ one_back : (rs : List RegionState) (y : SystemState) (t : ℕ) (u : Pending) (b 
     → y.stop ≡ None → slice_get rs u.region ≡ Some g → Goes t g xs opened → IsOpen opened t b → Back1 rs y t u.region (touched opened) (back_logged y t b)
 one_back rs y t u b g opened xs fits is last made runs at goes open_now = record {
   goes = λ bases before L v a run.
-      let work = work_of y.sizes L t (row_of y t) (Cleaning claim.0) ((runs_of bases before (moment rs y L v a) t run).table t) claim.1 refl in
+      let work = work_of y.sizes L t (row_of y t) (Cleaning claim.0) ((runs_of bases before (moment rs y L v a) run).table t) claim.1 refl in
       let c = with_region (core rs y v) u.region opened in
       let here = get_set rs u.region g opened at in
       let by = taking_back_is_step L c t work.working u b opened work.at_work (ap last_of (sym work.undos) ∙ last) (record {
         txn = fits;
         runs = runs;
         by = ap (λ o. may_log_in o (Back t b)) claim.1;
-        holds = last_has (λ (p : Pending). covers (lock_of y t p.key) true ≡ true) (undos_at y.table t) u run.locked last;
+        holds = last_has (λ (p : Pending). covers (lock_of y t p.key) true ≡ true) (undos_at y.table t) u (locked_keys bases before (moment rs y L v a) t run) last;
         kind = last_kind y.sizes (undos_at y.table t) u (kinds_of y.sizes (row_of y t) is.kind) last;
         made = made;
         at = here;
@@ -423,7 +417,6 @@ one_back rs y t u b g opened xs fits is last made runs at goes open_now = record
                   (subst (λ (n : ℕ). IsStep L c (TakesBack t b) (L ++ Back t b ∷ []) (with_touched c (back_logged y t b) n opened)) same by.step),
               refl,
             ));
-        locked = subst (AllByRecursion (λ (p : Pending). covers (lock_of y t p.key) true ≡ true)) (sym (undos_popped y t b)) (all_dropped (λ (p : Pending). covers (lock_of y t p.key) true ≡ true) (undos_at y.table t) run.locked);
       };
   is = record {
     regions = length-set rs u.region (touched opened) ∙ is.regions;
@@ -464,7 +457,7 @@ undone_next z t p q g h y txn down o = ap (λ (x : TakeBack). x.next) o.next ∙
 -- it was refused, and its words are taken back
 pub back_refused : (rs : List RegionState) (y : SystemState) (t r : ℕ) (g h : RegionState) → IsCleaning rs y t → slice_get rs r ≡ Some g → IsTakenBack t g h → Back1 rs y t r h y
 back_refused rs y t r g h is at back = record {
-  goes = λ bases before L v a run. record { log = L; steps = steps_on r back.0; own = region_own t r g h back.0 back.1; course = on_region rs y L v a t r g h back.0 (claimed_lives (state_of y t) is.claimed) at back.1; locked = run.locked };
+  goes = λ bases before L v a run. record { log = L; steps = steps_on r back.0; own = region_own t r g h back.0 back.1; course = on_region rs y L v a t r g h back.0 (claimed_lives (state_of y t) is.claimed) at back.1 };
   is = record { regions = length-set rs r h ∙ is.regions; kind = is.kind; quiet = quiet_set t rs r g h is.quiet at back.2; claimed = is.claimed };
   stop = refl;
 }
@@ -489,14 +482,14 @@ ends_so rs rs' y y1 z t goes is none runs end bases before L v a run = subst (λ
     mid : Moment
     mid = moment rs' y1 led.log v a
 
-    at_mid : InRun bases before mid t
-    at_mid = in_run_on bases before (moment rs y L v a) mid led.steps t run led.course led.locked
+    at_mid : InRun bases before mid
+    at_mid = in_run_on bases before (moment rs y L v a) mid led.steps run led.course
 
     claim : (latched : Option ℕ) × (state_of y1 t ≡ Some (Cleaning latched))
     claim = latched_of (state_of y1 t) is.claimed
 
     work : HasWork y1.sizes led.log t (row_of y1 t)
-    work = work_of y1.sizes led.log t (row_of y1 t) (Cleaning claim.0) ((runs_of bases before mid t at_mid).table t) claim.1 refl
+    work = work_of y1.sizes led.log t (row_of y1 t) (Cleaning claim.0) ((runs_of bases before mid at_mid).table t) claim.1 refl
 
     last : Moment
     last = moment rs' (ended_logged y1 t) (led.log ++ Ended t ∷ []) v a
@@ -507,11 +500,8 @@ ends_so rs rs' y y1 z t goes is none runs end bases before L v a run = subst (λ
     course : IsCourse (moment rs y L v a) (led.steps ++ EndsTxn t ∷ []) last
     course = join (moment rs y L v a) mid last led.steps (EndsTxn t ∷ []) led.course (one mid last (EndsTxn t) step)
 
-    gone : undos_at (ended_logged y1 t).table t ≡ []
-    gone = ap undos_in (get-ended y1.table t t ∙ ap (λ (b : Bool). if b then None else get y1.table t) ((Decides-eqb t t).1 refl))
-
-    there : InRun bases before last t
-    there = in_run_on bases before (moment rs y L v a) last (led.steps ++ EndsTxn t ∷ []) t run course (subst (AllByRecursion (λ (p : Pending). covers (lock_of (ended_logged y1 t) t p.key) true ≡ true)) (sym gone) tt)
+    there : InRun bases before last
+    there = in_run_on bases before (moment rs y L v a) last (led.steps ++ EndsTxn t ∷ []) run course
 
 -- ---- the claim is given back
 pub given_back : (rs rs1 rs' : List RegionState) (y y1 y2 z : SystemState) (t : ℕ) → LeadsOn rs y t rs1 y1 → LeadsOn rs1 y1 t rs' y2 → IsCleaning rs' y2 t → z ≡ in_state y2 t (Dead None) → GivesBack rs y t rs' z × (state_of z t ≡ Some (Dead None))
@@ -535,10 +525,9 @@ given_back rs rs1 rs' y y1 y2 z t first rest is back = (
           idle = record { held = λ q e. absurd (none_some q e); only = λ q h held own dead. absurd (apart (free_of_quiet rs' y2 v t is.quiet q h held) own) };
         } in
         let course = join (moment rs y L v a) mid last led.steps (GivesTxnBack t None ∷ []) led.course (one mid last (GivesTxnBack t None) ((may, (refl, refl)), refl)) in
-        let locked = locked_put y2 t t (Dead None) led.locked in
         record {
-          led = record { log = led.log; steps = led.steps ++ GivesTxnBack t None ∷ []; own = both_own t led.steps (GivesTxnBack t None ∷ []) led.own refl; course = course; locked = locked };
-          again = in_run_on bases before (moment rs y L v a) last (led.steps ++ GivesTxnBack t None ∷ []) t run course locked;
+          led = record { log = led.log; steps = led.steps ++ GivesTxnBack t None ∷ []; own = both_own t led.steps (GivesTxnBack t None ∷ []) led.own refl; course = course };
+          again = in_run_on bases before (moment rs y L v a) last (led.steps ++ GivesTxnBack t None ∷ []) run course;
         }
       where
         apart : {n : ℕ} → (n == t) ≡ false → n ≡ t → ⊥
@@ -594,7 +583,7 @@ pub ends_further : (rs rs1 rs' : List RegionState) (y y1 z : SystemState) (t : �
 ends_further rs rs1 rs' y y1 z t first rest bases before L v a run =
     let led = first bases before L v a run in
     let mid = moment rs1 y1 led.log v a in
-    let end = rest bases before led.log v a (in_run_on bases before (moment rs y L v a) mid led.steps t run led.course led.locked) in
+    let end = rest bases before led.log v a (in_run_on bases before (moment rs y L v a) mid led.steps run led.course) in
     record {
       log = end.log;
       steps = led.steps ++ end.steps;

@@ -1,6 +1,6 @@
 -- Steps of a core, one behind another, and what a run says along them.
 use Rattle.std.proofs.Common.{◌≡◌, ◌≢◌, ℕ, ◌<◌, Bool, true, false, ◌&&◌, List, [], ◌∷◌, ◌++◌, Option, Some, None, refl, sym, ap, subst, ◌∙◌, arith, slice_get, slice_set, option_map}
-use Rattle.std.specs.List.{list_all}
+use Rattle.std.specs.List.{AllByRecursion, list_all}
 use Rattle.std.specs.Prelude.{◌==◌, nat_lt, nat_le, if◌then◌else◌}
 use Rattle.std.specs.Option.{option_map_or}
 use Rattle.std.specs.FinMap.{get}
@@ -17,18 +17,20 @@ use Rattle.dali_region.specs.declared.Hold.{Hold}
 use Rattle.dali_region.specs.State.{RegionState}
 use Rattle.dali_att.specs.declared.state.State.{State}
 use Rattle.dali_att.specs.declared.state.State.TheVariants.{Committed}
-use Rattle.dali_att.specs.Table.{Table, with_row}
+use Rattle.dali_att.specs.Table.{Table, with_row, undos_at}
 use Rattle.dali_att.proofs.Changes.{get-with_row}
-use Rattle.dali_system.specs.State.{TxnRow, SystemState, VaultState, state_of, state_in, hold_in}
-use Rattle.dali_system.specs.Run.{Bases, RunsOn, IsRow, is_committed}
+use Rattle.dali_system.specs.State.{TxnRow, SystemState, VaultState, state_of, state_in, lock_of, hold_in}
+use Rattle.dali_system.specs.Run.{Bases, RunsOn, IsRow, covers, is_committed}
 use Rattle.dali_system.specs.Regions.{RegionStep, Latch, NoteReads, Update, TakeBack, Poke, Check, Die, Clean, region_after, is_alive, IsAlone}
 use Rattle.dali_system.specs.Passes.{Audits}
 use Rattle.dali_system.specs.Courses.{Step, OnRegion, Moment, IsStepAt, IsCourse}
 use Rattle.dali_system.proofs.Courses.{bare_course_keeps}
 use Rattle.dali_system.proofs.WholeSteps.{whole_course_keeps}
 use Rattle.dali_facts.specs.Plans.{AtWork}
+use Rattle.dali_facts.specs.Undos.{MayBePerformed}
+use Rattle.dali_facts.proofs.Undos.{all_by, undos_may_be_performed}
 use Rattle.dali_clean.specs.Undone.{IsOwn, Goes}
-use Rattle.dali_clean.specs.Cleaned.{moment, AreLocked, is_own_change, is_own_step, InRun, LeadsOn}
+use Rattle.dali_clean.specs.Cleaned.{moment, is_own_change, is_own_step, InRun, LeadsOn}
 use Rattle.dali_clean.proofs.Lists.{set_same, set_twice, get_set, get_apart}
 
 -- ---- lists of steps
@@ -47,28 +49,26 @@ pub both_own : (t : ℕ) (xs ys : List Step) → list_all (is_own_step t) xs ≡
 both_own t [] ys p q = q
 both_own t (x ∷ xs) ys p q = both_first (is_own_step t x) (list_all (is_own_step t) xs) (list_all (is_own_step t) (xs ++ ys)) p (λ e. both_own t xs ys e q)
 
-pub in_run_on : (bases : Bases) (before : List Record) (m n : Moment) (xs : List Step) (t : ℕ) → InRun bases before m t → IsCourse m xs n → AreLocked n.core.system t → InRun bases before n t
-in_run_on bases before m n xs t is course locked = record {
+pub in_run_on : (bases : Bases) (before : List Record) (m n : Moment) (xs : List Step) → InRun bases before m → IsCourse m xs n → InRun bases before n
+in_run_on bases before m n xs is course = record {
   run = bare_course_keeps bases before m n xs is.run course;
   whole = whole_course_keeps bases before m n xs is.run is.whole course;
-  locked = locked;
 }
 
 pub leads_further : (rs rs' rs'' : List RegionState) (y y' y'' : SystemState) (t : ℕ) → LeadsOn rs y t rs' y' → LeadsOn rs' y' t rs'' y'' → LeadsOn rs y t rs'' y''
 leads_further rs rs' rs'' y y' y'' t p q bases before L v a is =
     let first = p bases before L v a is in
     let mid = moment rs' y' first.log v a in
-    let next = q bases before first.log v a (in_run_on bases before (moment rs y L v a) mid first.steps t is first.course first.locked) in
+    let next = q bases before first.log v a (in_run_on bases before (moment rs y L v a) mid first.steps is first.course) in
     record {
       log = next.log;
       steps = first.steps ++ next.steps;
       own = both_own t first.steps next.steps first.own next.own;
       course = join (moment rs y L v a) mid (moment rs'' y'' next.log v a) first.steps next.steps first.course next.course;
-      locked = next.locked;
     }
 
 pub stays : (rs : List RegionState) (y : SystemState) (t : ℕ) → LeadsOn rs y t rs y
-stays rs y t bases before L v a is = record { log = L; steps = []; own = refl; course = refl; locked = is.locked }
+stays rs y t bases before L v a is = record { log = L; steps = []; own = refl; course = refl }
 
 -- ---- on one region
 alone_of : (y : SystemState) (t : ℕ) (x : RegionStep) (g : RegionState) → is_alive (state_of y t) ≡ true → IsOwn t x g → IsAlone y x g
@@ -114,8 +114,14 @@ pub self_own : (t : ℕ) → (t == t && true) ≡ true
 self_own t = ap (λ b. b && true) ((Decides-eqb t t).1 refl)
 
 -- ---- what a run says
-pub runs_of : (bases : Bases) (before : List Record) (m : Moment) (t : ℕ) → InRun bases before m t → RunsOn bases m.log m.core
-runs_of bases before m t is = subst (λ M. RunsOn bases M m.core) (sym is.run.log) is.run.run.runs
+pub runs_of : (bases : Bases) (before : List Record) (m : Moment) → InRun bases before m → RunsOn bases m.log m.core
+runs_of bases before m is = subst (λ M. RunsOn bases M m.core) (sym is.run.log) is.run.run.runs
+
+-- each undo's key is locked
+pub locked_keys : (bases : Bases) (before : List Record) (m : Moment) (t : ℕ) → InRun bases before m → AllByRecursion (λ (u : Pending). covers (lock_of m.core.system t u.key) true ≡ true) (undos_at m.core.system.table t)
+locked_keys bases before m t is =
+    all_by (MayBePerformed m.core.system t) (λ (u : Pending). covers (lock_of m.core.system t u.key) true ≡ true) (undos_at m.core.system.table t) (λ u may. may.lock)
+    (undos_may_be_performed bases m.log m.core (runs_of bases before m is) t)
 
 abbrev pub undos_in : Option TxnRow → List Pending
 undos_in row = option_map_or (λ (r : TxnRow). r.undos) row []

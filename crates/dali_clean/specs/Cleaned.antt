@@ -4,8 +4,7 @@
 --     AreQuiet t rs            and none has one of t
 --     MayClean rs y t          what a clean-up of t asks of regions and system: a whole core without a live hold has it
 --     WholeMayClean            so it does
---     AreLocked y t            t holds the key of each of its undos alone
---     InRun bases before m t   the core is a run, and whole, and so it is of t
+--     InRun bases before m     the core is a run, and whole
 --     is_own_step t x          the step x is one of a clean-up of t: nothing is logged but its undos and its end
 --     Led m t rs z             such steps of a core lead from the moment m to these regions and this system
 --     LeadsOn rs y t rs' z     so they do from each run
@@ -15,18 +14,16 @@
 --     Claims rs y t rs' z      t was claimed, and the operation in which its client died taken back
 --     Ends, IsGivenBack        its undos were performed and its end is logged; or some were, and it is dead again
 use Rattle.std.specs.Prelude.{Bool, ◌≡◌, ◌==◌, ℕ, true, false, ⊤, List, [], ◌∷◌, ◌++◌, Option, Some, None, IfSome, IsSome, IsSomeAnd, length, slice_get, slice_set}
-use Rattle.std.specs.List.{AllByRecursion, list_all}
+use Rattle.std.specs.List.{list_all}
 use Rattle.dali_geometry.specs.Places.{regions}
-use Rattle.dali_record.specs.declared.operations.Pending.{Pending}
 use Rattle.dali_record.specs.declared.records.Record.{Record}
 use Rattle.dali_record.specs.declared.records.Record.TheVariants.{Ended}
 use Rattle.dali_region.specs.declared.Hold.{Hold}
 use Rattle.dali_region.specs.State.{RegionState, taken_back}
 use Rattle.dali_att.specs.declared.state.State.{State}
 use Rattle.dali_att.specs.declared.state.State.TheVariants.{Dead, Cleaning}
-use Rattle.dali_att.specs.Table.{undos_at}
-use Rattle.dali_system.specs.State.{SystemState, VaultState, CoreState, row_of, state_of, lock_of, hold_in}
-use Rattle.dali_system.specs.Run.{Bases, covers, no_image}
+use Rattle.dali_system.specs.State.{SystemState, VaultState, CoreState, row_of, state_of, hold_in}
+use Rattle.dali_system.specs.Run.{Bases, no_image}
 use Rattle.dali_system.specs.Regions.{RegionStep, Latch, NoteReads, Update, TakeBack}
 use Rattle.dali_system.specs.Passes.{Audits}
 use Rattle.dali_system.specs.Wholes.{IsWhole, AreOfKind, latched_in}
@@ -55,13 +52,9 @@ pub record MayClean (rs : List RegionState) (y : SystemState) (t : ℕ) : Type 0
 abbrev pub WholeMayClean : Type 0
 WholeMayClean = (rs : List RegionState) (y : SystemState) (v : VaultState) (t : ℕ) → IsWhole (core rs y v) → AreDead rs → MayClean rs y t
 
-abbrev pub AreLocked : SystemState → ℕ → Type 0
-AreLocked y t = AllByRecursion (λ (u : Pending). covers (lock_of y t u.key) true ≡ true) (undos_at y.table t)
-
-pub record InRun (bases : Bases) (before : List Record) (m : Moment) (t : ℕ) : Type 0 where
+pub record InRun (bases : Bases) (before : List Record) (m : Moment) : Type 0 where
   pub run : RunsAt bases before no_image m
   pub whole : IsWhole m.core
-  pub locked : AreLocked m.core.system t
 
 abbrev pub is_own_change : ℕ → RegionStep → Bool
 is_own_change t (Latch u) = u == t
@@ -85,10 +78,9 @@ pub record Led (m : Moment) (t : ℕ) (rs : List RegionState) (z : SystemState) 
   pub steps : List Step
   pub own : list_all (is_own_step t) steps ≡ true
   pub course : IsCourse m steps (moment rs z log m.core.vault m.audits)
-  pub locked : AreLocked z t
 
 abbrev pub LeadsOn : List RegionState → SystemState → ℕ → List RegionState → SystemState → Type 0
-LeadsOn rs y t rs' z = (bases : Bases) (before L : List Record) (v : VaultState) (a : Audits) → InRun bases before (moment rs y L v a) t → Led (moment rs y L v a) t rs' z
+LeadsOn rs y t rs' z = (bases : Bases) (before L : List Record) (v : VaultState) (a : Audits) → InRun bases before (moment rs y L v a) → Led (moment rs y L v a) t rs' z
 
 abbrev pub is_claimed : State → Type 0
 is_claimed (Cleaning latched) = ⊤
@@ -125,12 +117,12 @@ pub record IsEnded (bases : Bases) (before : List Record) (m : Moment) (t : ℕ)
   pub whole : IsWhole (core rs z m.core.vault)
 
 abbrev pub Ends : List RegionState → SystemState → ℕ → List RegionState → SystemState → Type 0
-Ends rs y t rs' z = (bases : Bases) (before L : List Record) (v : VaultState) (a : Audits) → InRun bases before (moment rs y L v a) t → IsEnded bases before (moment rs y L v a) t rs' z
+Ends rs y t rs' z = (bases : Bases) (before L : List Record) (v : VaultState) (a : Audits) → InRun bases before (moment rs y L v a) → IsEnded bases before (moment rs y L v a) t rs' z
 
 -- it may be asked for again
 pub record IsGivenBack (bases : Bases) (before : List Record) (m : Moment) (t : ℕ) (rs : List RegionState) (z : SystemState) : Type 0 where
   pub led : Led m t rs z
-  pub again : InRun bases before (moment rs z led.log m.core.vault m.audits) t
+  pub again : InRun bases before (moment rs z led.log m.core.vault m.audits)
 
 abbrev pub GivesBack : List RegionState → SystemState → ℕ → List RegionState → SystemState → Type 0
-GivesBack rs y t rs' z = (bases : Bases) (before L : List Record) (v : VaultState) (a : Audits) → InRun bases before (moment rs y L v a) t → IsGivenBack bases before (moment rs y L v a) t rs' z
+GivesBack rs y t rs' z = (bases : Bases) (before L : List Record) (v : VaultState) (a : Audits) → InRun bases before (moment rs y L v a) → IsGivenBack bases before (moment rs y L v a) t rs' z

@@ -16,7 +16,7 @@ use Rattle.dali_system.specs.State.{SystemState, state_of}
 use Rattle.dali_system.specs.Steps.{back_logged, in_state}
 use Rattle.dali_system.specs.Regions.{RegionStep, Latch, NoteReads, Update, TakeBack as TakesBack, IsOpen, MayChange, region_after}
 use Rattle.dali_core.specs.declared.take_back.TakeBack.{TakeBack}
-use Rattle.dali_core.specs.TakenBack.{next_undo, IsUndoBlock}
+use Rattle.dali_core.specs.TakenBack.{next_undo, IsUndoBlock, IsUndoOn}
 
 abbrev pub IsOwn : ℕ → RegionStep → RegionState → Type 0
 IsOwn t (Latch u) g = u ≡ t
@@ -42,6 +42,8 @@ IsUnheld g = g.hold ≡ None
 pub record Undone (p : TakeBack) (g : RegionState) (y : SystemState) (q : TakeBack) (h : RegionState) (z : SystemState) : Type 0 where
   pub block : Block
   pub of : IsUndoBlock p.next block
+  -- made on the region's own words
+  pub on : IsUndoOn g.words p.next block
   -- the region with the operation open
   pub opened : RegionState
   pub steps : List RegionStep

@@ -8,7 +8,7 @@ ghost use Rattle.dali_system.specs.State.{state_of};
 ghost use Rattle.dali_system.specs.Steps.{in_state, back_logged, ended_logged};
 ghost use Rattle.dali_system.specs.Regions.{IsOpen};
 ghost use Rattle.dali_core.specs.Refused.{stop_refusal};
-ghost use Rattle.dali_core.specs.TakenBack.{next_undo, IsUndoBlock};
+ghost use Rattle.dali_core.specs.TakenBack.{next_undo, IsUndoBlock, IsUndoOn};
 ghost use Rattle.dali_core.specs.UnderWay.{IsUpdated, IsUnderWay};
 ghost use Rattle.dali_core.specs.declared.error.SystemError.TheVariants.{OutOfMemory as Memory};
 ghost use Rattle.dali_core.specs.declared.want.Want.TheVariants.{Done};
@@ -109,6 +109,7 @@ impl Cleaning {
         ensures recovered { IfSome self.old.latched (λ _. (self.new ≡ record self.old { latched = None }) × (region.new ≡ taken_back region.old)) }
         ensures made { self.old.latched ≡ None → OnOk result (IsSomeAnd self.new.operation (λ o. (o.txn ≡ self.old.txn) × IsUndoBlock self.old.next o.block
             × IsUnderWay o.txn o.block o.left o.taken region.new × (region.new ≡ with_reads o.block.read (latched self.old.txn region.old)))) }
+        ensures own { self.old.latched ≡ None → OnOk result (IsSomeAnd self.new.operation (λ o. IsUndoOn region.old.words self.old.next o.block)) }
         ensures same { self.old.latched ≡ None → self.new ≡ record self.old { operation = self.new.operation } }
     {
         if self.latched.is_some() {

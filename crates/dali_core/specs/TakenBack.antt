@@ -2,6 +2,7 @@
 --     next_undo undos n        the undo that is performed next, where more than n are left: the last one
 --     want_of o                what the plan needs next, by that undo
 --     IsMadeOf u b, IsUndoBlock o b    b is the block of its operation on some words
+--     IsUndoOn ws o b          it is that of its operation on the words ws
 use Rattle.std.specs.Prelude.{◌≡◌, ℕ, List, Option, Some, None, if◌then◌else◌, nat_lt, length}
 use Rattle.dali_record.specs.declared.operations.Pending.{Pending}
 use Rattle.dali_record.specs.declared.operations.Block.{Block}
@@ -27,3 +28,7 @@ pub record IsMadeOf (u : Pending) (b : Block) : Type 0 where
 abbrev pub IsUndoBlock : Option Pending → Block → Type 0
 IsUndoBlock None b = ⊥
 IsUndoBlock (Some u) b = IsMadeOf u b
+
+abbrev pub IsUndoOn : List ℕ → Option Pending → Block → Type 0
+IsUndoOn ws None b = ⊥
+IsUndoOn ws (Some u) b = b ≡ made ws u.key u.region (undo_op u.undo)

@@ -7,7 +7,7 @@ ghost use Rattle.dali_att.specs.Table.{undos_at};
 ghost use Rattle.dali_system.specs.Steps.{back_logged};
 ghost use Rattle.dali_system.specs.Regions.{IsOpen};
 ghost use Rattle.dali_core.specs.Refused.{stop_refusal};
-ghost use Rattle.dali_core.specs.TakenBack.{next_undo, want_of, IsUndoBlock};
+ghost use Rattle.dali_core.specs.TakenBack.{next_undo, want_of, IsUndoBlock, IsUndoOn};
 ghost use Rattle.dali_core.specs.UnderWay.{IsUpdated, IsUnderWay};
 ghost use Rattle.dali_core.specs.declared.error.SystemError.TheVariants.{OutOfMemory as Memory};
 
@@ -75,8 +75,8 @@ impl TakeBack {
         }
     }
 
-    /// Latches the region that is wanted, and makes the block of the operation that performs the undo. Refused exactly
-    /// as the latch; plan and region are then as before.
+    /// Latches the region that is wanted, and makes the block of the operation that performs the undo, on the region's own
+    /// words. Refused exactly as the latch; plan and region are then as before.
     pub fn latch(&mut self, region: &mut Region, precheck: bool) -> Result<(), LatchError>
         requires wants { IsSomeAnd self.old.next (λ u. IsUndo u.undo) }
         requires closed { self.old.operation ≡ None }
@@ -84,6 +84,7 @@ impl TakeBack {
         ensures refused { OnErr result ((self.new ≡ self.old) × (region.new ≡ region.old)) }
         ensures made { OnOk result (IsSomeAnd self.new.operation (λ o. (o.txn ≡ self.old.txn) × IsUndoBlock self.old.next o.block
             × IsUnderWay o.txn o.block o.left o.taken region.new × (region.new ≡ with_reads o.block.read (latched self.old.txn region.old)))) }
+        ensures own { OnOk result (IsSomeAnd self.new.operation (λ o. IsUndoOn region.old.words self.old.next o.block)) }
         ensures same { self.new ≡ record self.old { operation = self.new.operation } }
     {
         let Some(pending) = self.next else {

@@ -312,7 +312,9 @@ fn take_back(
     let Want::Region { .. } = back.wants() else {
         return None;
     };
-    back.latch(region, true).ok()?;
+    let Ok(()) = back.latch(region, true) else {
+        return None;
+    };
     let _ = back.update(region);
     if back.update(region) {
         return None;

@@ -209,7 +209,7 @@ stands_more s t o c x inside h =
     (subst (λ e. Stands (txn_next s t o x) (has (begun c.now.records) t || hits (begin_by x) t) e) (sym (filter_hits ended_by c.now.records x t))
     (st_inside s t o x (has (begun c.now.records) t) (has (ended c.now.records) t) inside h)))
 
-state_before : (s : Sizes) (o : Option Rules) (x : Record) (g : Rules) → rules_next s o x ≡ Some g → (h : Rules) × (o ≡ Some h)
+pub state_before : (s : Sizes) (o : Option Rules) (x : Record) (g : Rules) → rules_next s o x ≡ Some g → (h : Rules) × (o ≡ Some h)
 state_before s None x g e = absurd (cc)
 state_before s (Some h) x g e = (h, refl)
 

@@ -6,3 +6,4 @@ pub mod Told
 pub mod States
 pub mod OlderRows
 pub mod Ends
+pub mod Undos

@@ -2,6 +2,7 @@
 
 ghost use Rattle.dali_facts.specs.Facts.{HoldsItsKeys, HasItsUndos, HasCounts, RowsAreOlder, CommittedIsLogged, HoldsTheBegun, RefusalsTell, StopTells, RegionsTell};
 ghost use Rattle.dali_facts.specs.States.{StatesComeFrom};
+ghost use Rattle.dali_facts.specs.Undos.{UndosMayBePerformed};
 ghost use Rattle.dali_facts.specs.Ends.{BeginFollows, NextIsUnbegun, CommitFollows, SoloFollows, EndFollows, EmptyEnds, OnlyThese, OthersLeave, CommitIsStep, SoloIsStep, EndIsStep, EmptyEndIsStep};
 ghost use Rattle.dali_facts.specs.Plans.{PlanGoesOn, PlanStarts, PlanAnswers, TakeBackGoesOn};
 
@@ -109,4 +110,9 @@ pub fn the_ends_of_a_transaction_are_steps()
     ensures solo { SoloIsStep }
     ensures end { EndIsStep }
     ensures abort { EmptyEndIsStep }
+{}
+
+/// Each undo of a row may be performed: it can be spelled, its region is one of its kind, and its transaction has its key alone.
+pub fn the_undos_of_a_row_may_be_performed()
+    ensures { UndosMayBePerformed }
 {}

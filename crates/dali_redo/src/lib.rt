@@ -1,10 +1,18 @@
-//! What a restart does to the words of an image: it writes the new words of blocks, performs undos, and frees what is dead.
+//! What a restart does to the words of an image: it tests each record against those before it, writes the new
+//! words of blocks, performs undos, and frees what is dead.
 #![tactic(auto)]
 
+mod error;
 mod image;
+pub mod laws;
+mod redo;
+mod rules;
+mod tables;
 mod words;
 
+pub use error::RedoError;
 pub use image::Image;
+pub use redo::Redo;
 
 #[cfg(test)]
 mod tests;

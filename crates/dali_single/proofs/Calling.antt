@@ -52,7 +52,8 @@ use Rattle.dali_single.specs.declared.error.CallError.{CallError}
 use Rattle.dali_single.specs.declared.error.StepError.{StepError}
 use Rattle.dali_single.specs.Refusals.{IsRefusal}
 use Rattle.dali_single.specs.declared.error.CallError.TheVariants.{Wait, Busy, Refused, HalfDone}
-use Rattle.dali_single.specs.Single.{Leads, MayCall, IsAnswered, IsRefusedAt, IsAsBefore, IsHalfDone, Fails, MayUndo, AreCovered, Keeps}
+use Rattle.dali_facts.specs.Undos.{MayBePerformed}
+use Rattle.dali_single.specs.Single.{Leads, MayCall, IsAnswered, IsRefusedAt, IsAsBefore, IsHalfDone, Fails, AreCovered, Keeps}
 use Rattle.dali_single.specs.Operated.{IsLeftOf}
 use Rattle.dali_single.specs.Advanced.{Led, Advanced, Finished, AreLeftOf, Halts, GivenUp}
 use Rattle.dali_single.proofs.Lists.{set_same}
@@ -196,7 +197,7 @@ lock_still locks t k m j e = ap (λ (o : Option Mode). covers o true) (get-locks
     by_test true i = covers_still (get locks (t, j)) m e
     by_test false i = e
 
-undo_still : (y z : SystemState) (t k : ℕ) (m : Mode) (u : Pending) → z.sizes ≡ y.sizes → z.locks ≡ locks_with y.locks t k m → MayUndo y t u → MayUndo z t u
+undo_still : (y z : SystemState) (t k : ℕ) (m : Mode) (u : Pending) → z.sizes ≡ y.sizes → z.locks ≡ locks_with y.locks t k m → MayBePerformed y t u → MayBePerformed z t u
 undo_still y z t k m u sizes locks may = record {
   spelled = may.spelled;
   kind = ap (λ (s : Sizes). on_kind s u.region (undo_op u.undo)) sizes ∙ may.kind;
@@ -210,7 +211,7 @@ undo_spelled (UndoRestore c n ws) h = h
 undo_spelled (UndoFreeEntry e) h = h
 undo_spelled (UndoReviveEntry e) h = h
 
-undo_new : (z : SystemState) (s : Sizes) (t : ℕ) (call : Call) (u : Pending) → z.sizes ≡ s → covers (lock_of z t (call_key call)) true ≡ true → IsUndoOf s call u → MayUndo z t u
+undo_new : (z : SystemState) (s : Sizes) (t : ℕ) (call : Call) (u : Pending) → z.sizes ≡ s → covers (lock_of z t (call_key call)) true ≡ true → IsUndoOf s call u → MayBePerformed z t u
 undo_new z s t call u sizes lock of = record {
   spelled = undo_spelled u.undo of.spelled;
   kind = ap (λ (x : Sizes). on_kind x u.region (undo_op u.undo)) sizes ∙ of.kind;
@@ -226,19 +227,19 @@ both_undos P [] vs h k = k
 both_undos P (u ∷ us) vs h k = (h.0, both_undos P us vs h.1 k)
 
 -- whatever the plan has changed
-new_covered : (z : SystemState) (q : Planned) (t : ℕ) → z.sizes ≡ q.geometry → (is_get q.call ≡ false → covers (lock_of z t (call_key q.call)) true ≡ true) → IsWhole q → AllByRecursion (MayUndo z t) q.changes
+new_covered : (z : SystemState) (q : Planned) (t : ℕ) → z.sizes ≡ q.geometry → (is_get q.call ≡ false → covers (lock_of z t (call_key q.call)) true ≡ true) → IsWhole q → AllByRecursion (MayBePerformed z t) q.changes
 new_covered z q t sizes lock w = by_call (is_get q.call) refl
   where
-    by_call : (b : Bool) → is_get q.call ≡ b → AllByRecursion (MayUndo z t) q.changes
-    by_call true e = subst (AllByRecursion (MayUndo z t)) (sym (w.gets e)) tt
-    by_call false e = all_undos (IsUndoOf q.geometry q.call) (MayUndo z t) q.changes (λ u of. undo_new z q.geometry t q.call u sizes (lock e) of) w.undoes
+    by_call : (b : Bool) → is_get q.call ≡ b → AllByRecursion (MayBePerformed z t) q.changes
+    by_call true e = subst (AllByRecursion (MayBePerformed z t)) (sym (w.gets e)) tt
+    by_call false e = all_undos (IsUndoOf q.geometry q.call) (MayBePerformed z t) q.changes (λ u of. undo_new z q.geometry t q.call u sizes (lock e) of) w.undoes
 
 pub stays_covered : (y z : SystemState) (t : ℕ) (call : Call) (q : Planned) → z.sizes ≡ y.sizes → z.locks ≡ locks_with y.locks t (call_key call) (mode_of call) → q.geometry ≡ z.sizes → q.call ≡ call → IsWhole q
     → undos_at z.table t ≡ undos_at y.table t ++ q.changes → AreCovered y t → AreCovered z t
 stays_covered y z t call q sizes locks geometry same w undos old =
-    subst (AllByRecursion (MayUndo z t)) (sym undos)
-    (both_undos (MayUndo z t) (undos_at y.table t) q.changes
-    (all_undos (MayUndo y t) (MayUndo z t) (undos_at y.table t) (λ u may. undo_still y z t (call_key call) (mode_of call) u sizes locks may) old)
+    subst (AllByRecursion (MayBePerformed z t)) (sym undos)
+    (both_undos (MayBePerformed z t) (undos_at y.table t) q.changes
+    (all_undos (MayBePerformed y t) (MayBePerformed z t) (undos_at y.table t) (λ u may. undo_still y z t (call_key call) (mode_of call) u sizes locks may) old)
     (new_covered z q t (sym geometry) (λ e. lock e) w))
   where
     lock : is_get q.call ≡ false → covers (lock_of z t (call_key q.call)) true ≡ true
@@ -495,7 +496,7 @@ busy_keeps y asked t k m a h busy is =
       sizes = refl;
       state = refl;
       others = λ u e. (refl, λ k. refl);
-      covered = all_undos (MayUndo y.state t) (MayUndo (not_granted y.state t k m h) t) (undos_at y.state.table t) (λ u may. record { spelled = may.spelled; kind = may.kind; lock = may.lock });
+      covered = all_undos (MayBePerformed y.state t) (MayBePerformed (not_granted y.state t k m h) t) (undos_at y.state.table t) (λ u may. record { spelled = may.spelled; kind = may.kind; lock = may.lock });
     })
 
 pub keeps_same : (y z : Served) (t : ℕ) → z ≡ y → Keeps y.state t z.state

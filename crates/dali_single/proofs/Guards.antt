@@ -16,7 +16,8 @@ use Rattle.dali_system.specs.Steps.{begun}
 use Rattle.dali_calls.specs.declared.plan.Phase.TheVariants.{Calling}
 use Rattle.dali_calls.specs.Plans.{Planned}
 use Rattle.dali_single.specs.Stands.{IsAtRest}
-use Rattle.dali_single.specs.Single.{MayUndo, AreCovered, Keeps}
+use Rattle.dali_facts.specs.Undos.{MayBePerformed}
+use Rattle.dali_single.specs.Single.{AreCovered, Keeps}
 use Rattle.dali_single.specs.Advanced.{Advanced}
 
 row_begun : (y : SystemState) → row_of (begun y) y.next ≡ Some fresh_row
@@ -28,7 +29,7 @@ begun_lives y z t e f = subst (λ (x : SystemState). state_of x t ≡ Some Live)
 pub begun_covered : (y z : SystemState) (t : ℕ) → z ≡ begun y → t ≡ y.next → AreCovered z t
 begun_covered y z t e f =
     subst (λ (x : SystemState). AreCovered x t) (sym e) (subst (λ (n : ℕ). AreCovered (begun y) n) (sym f)
-    (subst (AllByRecursion (MayUndo (begun y) y.next)) (sym (ap (λ (o : Option TxnRow). option_map_or (λ r. r.undos) o []) (row_begun y))) tt))
+    (subst (AllByRecursion (MayBePerformed (begun y) y.next)) (sym (ap (λ (o : Option TxnRow). option_map_or (λ r. r.undos) o []) (row_begun y))) tt))
 
 pub still_lives : (y z : SystemState) (t : ℕ) → Keeps y t z → state_of y t ≡ Some Live → state_of z t ≡ Some Live
 still_lives y z t keeps lives = keeps.state ∙ lives

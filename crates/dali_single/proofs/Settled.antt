@@ -40,7 +40,8 @@ use Rattle.dali_single.specs.Stands.{core}
 use Rattle.dali_single.specs.Operated.{IsHeldBy, AreWritten, Goes, IsLeftOf}
 use Rattle.dali_single.specs.declared.error.StepError.{StepError}
 use Rattle.dali_single.specs.Refusals.{IsUnfreed, IsStuck}
-use Rattle.dali_single.specs.Single.{OthersStay, MayUndo}
+use Rattle.dali_facts.specs.Undos.{MayBePerformed}
+use Rattle.dali_single.specs.Single.{OthersStay}
 use Rattle.dali_single.specs.Settling.{settle_room, IsPromised, MayFree, MayCommit, Commits, IsCommitted, IsSettled, IsLeft, left_behind, Freed, AreFreed}
 use Rattle.dali_single.proofs.Lists.{set_same, set_twice, get_set}
 use Rattle.dali_single.proofs.Leading.{leads_on, one_step, leads_there, steps_on, stays_free, goes_on}
@@ -68,7 +69,6 @@ freed u g g1 g2 h t op o p b y z is none made_on spelled txn reads w same opened
     let all : b ≡ o.block = block ∙ same.1 in
     record {
       block = b;
-      words = g.words;
       made_on = all ∙ (made_on ∙ ap (made g.words u.key u.region) is);
       spelled = subst IsBlock (sym all) spelled;
       opened = g2;
@@ -163,7 +163,7 @@ free_further rs0 rs y0 y z t all us u g h fits goes at o =
       others = goes.others;
       leads = λ L v work.
           let one = goes.leads L v work in
-          let two = freed_led one.log rs y v t u us o.block o.words g o.opened o.steps fits goes.may.0 o.made_on o.spelled at o.goes o.is_open o.runs o.fits goes.state one.at in
+          let two = freed_led one.log rs y v t u us o.block g.words g o.opened o.steps fits goes.may.0 o.made_on o.spelled at o.goes o.is_open o.runs o.fits goes.state one.at in
           record { log = two.log; steps = one.steps ++ two.steps; leads = leads_on false t L one.log two.log (core rs0 y0 v) (core rs y v) (core (slice_set rs u.region (touched o.opened)) (solo_logged y t o.block) v) one.steps two.steps one.leads two.leads; at = two.at };
     }))
 
@@ -268,7 +268,7 @@ freeing_kind s r (UndoFreeCell c) h k = absurd cc
 freeing_kind s r (UndoFreeEntry e) h k = absurd cc
 freeing_kind s r (UndoRestore c n ws) h k = absurd cc
 
-pub may_free_all : (y : SystemState) (t : ℕ) (us : List Pending) → AllByRecursion (MayUndo y t) us → AllByRecursion (MayFree (commit_logged y t) t) (dead_of us)
+pub may_free_all : (y : SystemState) (t : ℕ) (us : List Pending) → AllByRecursion (MayBePerformed y t) us → AllByRecursion (MayFree (commit_logged y t) t) (dead_of us)
 may_free_all y t [] h = tt
 may_free_all y t (u ∷ us) h = by_removal (is_removal u.undo) refl (may_free_all y t us h.1)
   where

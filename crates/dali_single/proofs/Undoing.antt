@@ -29,14 +29,15 @@ use Rattle.dali_facts.proofs.Ends.{empty_end_is_step}
 use Rattle.dali_core.specs.declared.operation.Operation.{Operation}
 use Rattle.dali_core.specs.declared.take_back.TakeBack.{TakeBack}
 use Rattle.dali_core.specs.declared.want.Want.TheVariants.{Region}
-use Rattle.dali_core.specs.TakenBack.{next_undo, want_of, IsMadeOf, IsUndoBlock}
+use Rattle.dali_core.specs.TakenBack.{next_undo, want_of, IsMadeOf, IsUndoBlock, IsUndoOn}
 use Rattle.dali_core.specs.UnderWay.{IsUnderWay}
 use Rattle.dali_core.specs.Served.{Served}
 use Rattle.dali_calls.proofs.TakingBack.{taking_back_is_step}
 use Rattle.dali_calls.proofs.Following.{last_all}
 use Rattle.dali_single.specs.Stands.{core}
 use Rattle.dali_single.specs.Operated.{IsHeldBy, AreWritten, Goes, IsLeftOf}
-use Rattle.dali_single.specs.Single.{OthersStay, IsGone, MayUndo, AreCovered, Keeps}
+use Rattle.dali_facts.specs.Undos.{MayBePerformed}
+use Rattle.dali_single.specs.Single.{OthersStay, IsGone, AreCovered, Keeps}
 use Rattle.dali_single.specs.Ending.{IsAtWork, IsEnded, IsStillAtWork, Undone, UndoesFrom}
 use Rattle.dali_single.proofs.Lists.{set_same, get_set}
 use Rattle.dali_single.proofs.Leading.{leads_on, leads_there, steps_on, stays_free, goes_on}
@@ -52,12 +53,17 @@ pub record Rewritten (p : TakeBack) (g : RegionState) (q : TakeBack) (h : Region
   pub is : q ≡ record p { operation = Some operation }
   pub txn : operation.txn ≡ p.txn
   pub of : IsUndoBlock p.next operation.block
+  pub on : IsUndoOn g.words p.next operation.block
   pub steps : List RegionStep
   pub goes : Goes p.txn g steps h
   pub is_open : IsOpen h operation.txn operation.block
 
 abbrev pub IsMadeBack : TakeBack → RegionState → Option Operation → RegionState → Type 0
 IsMadeBack p g o g1 = IsSomeAnd o (λ o. (o.txn ≡ p.txn) × IsUndoBlock p.next o.block × IsUnderWay o.txn o.block o.left o.taken g1 × (g1 ≡ with_reads o.block.read (latched p.txn g)))
+
+-- on the region's own words
+abbrev pub IsMadeOn : TakeBack → RegionState → Option Operation → Type 0
+IsMadeOn p g o = IsSomeAnd o (λ o. IsUndoOn g.words p.next o.block)
 
 pub way_back_of : (p : TakeBack) (g : RegionState) (o : Option Operation) (g1 : RegionState) → IsMadeBack p g o g1 → IsWay o g1
 way_back_of p g None g1 m = absurd m
@@ -67,21 +73,22 @@ reads_fit : (o : Option Pending) (b : Block) → IsUndoBlock o b → b.read < 2 
 reads_fit None b h = absurd h
 reads_fit (Some u) b h = h.spelled.read
 
-pub rewritten : (p p1 p2 : TakeBack) (g g1 g2 : RegionState) → g.hold ≡ None → IsMadeBack p g p1.operation g1 → p1 ≡ record p { operation = p1.operation }
+pub rewritten : (p p1 p2 : TakeBack) (g g1 g2 : RegionState) → g.hold ≡ None → IsMadeBack p g p1.operation g1 → IsMadeOn p g p1.operation → p1 ≡ record p { operation = p1.operation }
     → IsSomeAnd p2.operation (λ o. IsOpen g2 o.txn o.block) → IsSameWay p1.operation p2.operation → p2 ≡ record p1 { operation = p2.operation } → AreWritten g1 g2
     → Rewritten p g p2 g2
-rewritten p p1 p2 g g1 g2 free made one opened same two w = by_both p1.operation p2.operation refl refl made opened same
+rewritten p p1 p2 g g1 g2 free made on one opened same two w = by_both p1.operation p2.operation refl refl made on opened same
   where
-    by_both : (a b : Option Operation) → p1.operation ≡ a → p2.operation ≡ b → IsMadeBack p g a g1 → IsSomeAnd b (λ o. IsOpen g2 o.txn o.block) → IsSameWay a b → Rewritten p g p2 g2
-    by_both None b i j m o s = absurd m
-    by_both (Some a) None i j m o s = absurd o
-    by_both (Some a) (Some b) i j m o s =
+    by_both : (a b : Option Operation) → p1.operation ≡ a → p2.operation ≡ b → IsMadeBack p g a g1 → IsMadeOn p g a → IsSomeAnd b (λ o. IsOpen g2 o.txn o.block) → IsSameWay a b → Rewritten p g p2 g2
+    by_both None b i j m n o s = absurd m
+    by_both (Some a) None i j m n o s = absurd o
+    by_both (Some a) (Some b) i j m n o s =
         let goes = opened_by p.txn a.block g g1 g2 free (reads_fit p.next a.block m.1) m.3 w in
         record {
           operation = b;
           is = two ∙ (ap (λ (x : TakeBack). record x { operation = p2.operation }) one ∙ ap (λ (x : Option Operation). record p { operation = x }) j);
           txn = s.0 ∙ m.0;
           of = subst (IsUndoBlock p.next) (sym s.1) m.1;
+          on = subst (IsUndoOn g.words p.next) (sym s.1) n;
           steps = goes.0;
           goes = goes.1;
           is_open = o;
@@ -104,6 +111,7 @@ undone p q r g h k y z w ok next runs =
     record {
       block = w.operation.block;
       of = w.of;
+      on = w.on;
       opened = h;
       steps = w.steps;
       goes = w.goes;
@@ -137,7 +145,7 @@ dropped P (u ∷ v ∷ us) h = (h.0, dropped P (v ∷ us) h.1)
 
 -- ---- one undo, in a core
 one_led : (L : List Record) (rs : List RegionState) (y : SystemState) (v : VaultState) (t : ℕ) (u : Pending) (b : Block) (g opened : RegionState) (xs : List RegionStep) → Is64 t → state_of y t ≡ Some Live
-    → last_of (undos_at y.table t) ≡ Some u → MayUndo y t u → IsMadeOf u b → y.stop ≡ None → slice_get rs u.region ≡ Some g → Goes t g xs opened → IsOpen opened t b
+    → last_of (undos_at y.table t) ≡ Some u → MayBePerformed y t u → IsMadeOf u b → y.stop ≡ None → slice_get rs u.region ≡ Some g → Goes t g xs opened → IsOpen opened t b
     → IsAtWork L (core rs y v) t → IsStillAtWork L (core rs y v) t (core (slice_set rs u.region (touched opened)) (back_logged y t b) v)
 one_led L rs y v t u b g opened xs fits lives last may made runs at goes is work =
     let c = with_region (core rs y v) u.region opened in
@@ -198,9 +206,9 @@ one_undone rs y z t r p q u g h fits whole lives covered txn next region is at o
       sizes = refl;
       lives = (changes_popped y.table t []).state ∙ lives;
       others = λ n e. (row_apart y.table t n without_last e, λ k. refl);
-      covered = subst (AllByRecursion (MayUndo (back_logged y t o.block) t)) (sym popped) (all_undos (MayUndo y t) (MayUndo (back_logged y t o.block) t) (drop_last (undos_at y.table t)) (λ w may. record { spelled = may.spelled; kind = may.kind; lock = may.lock }) (dropped (MayUndo y t) (undos_at y.table t) covered));
+      covered = subst (AllByRecursion (MayBePerformed (back_logged y t o.block) t)) (sym popped) (all_undos (MayBePerformed y t) (MayBePerformed (back_logged y t o.block) t) (drop_last (undos_at y.table t)) (λ w may. record { spelled = may.spelled; kind = may.kind; lock = may.lock }) (dropped (MayBePerformed y t) (undos_at y.table t) covered));
       leads = λ L v work.
-          one_led L rs y v t u o.block g o.opened o.steps fits lives last (last_all (MayUndo y t) (undos_at y.table t) u covered last) (subst (λ (n : Option Pending). IsUndoBlock n o.block) next o.of) o.runs
+          one_led L rs y v t u o.block g o.opened o.steps fits lives last (last_all (MayBePerformed y t) (undos_at y.table t) u covered last) (subst (λ (n : Option Pending). IsUndoBlock n o.block) next o.of) o.runs
           (ap (slice_get rs) region ∙ at) (subst (λ (n : ℕ). Goes n g o.steps o.opened) txn o.goes) (subst (λ (n : ℕ). IsOpen o.opened n o.block) txn o.is_open) work;
     }
 
@@ -270,7 +278,7 @@ undoes_keep rs rs' y z t lives u = record { sizes = u.sizes; state = u.lives ∙
 -- ---- the region of an undo
 pub undo_there : (rs : List RegionState) (y : SystemState) (t : ℕ) (u : Pending) → length rs ≡ regions y.sizes → AreCovered y t → next_undo (undos_at y.table t) 0 ≡ Some u → u.region < length rs
 undo_there rs y t u whole covered is =
-    let may = last_all (MayUndo y t) (undos_at y.table t) u covered (next_last (undos_at y.table t) u is) in
+    let may = last_all (MayBePerformed y t) (undos_at y.table t) u covered (next_last (undos_at y.table t) u is) in
     let less = kind_in y.sizes u.region (undo_op u.undo) may.kind in
     omega (arith, less, whole)
 

@@ -20,7 +20,7 @@ use Rattle.dali_system.specs.Regions.{RegionStep, IsOpen}
 use Rattle.dali_system.specs.Courses.{Step, Ends, IsStep}
 use Rattle.dali_facts.specs.Plans.{AtWork}
 use Rattle.dali_core.specs.declared.take_back.TakeBack.{TakeBack}
-use Rattle.dali_core.specs.TakenBack.{next_undo, IsUndoBlock}
+use Rattle.dali_core.specs.TakenBack.{next_undo, IsUndoBlock, IsUndoOn}
 use Rattle.dali_single.specs.Stands.{core}
 use Rattle.dali_single.specs.Operated.{Goes}
 use Rattle.dali_single.specs.Single.{Leads, OthersStay, AreCovered}
@@ -47,6 +47,8 @@ pub record IsStillAtWork (L : List Record) (c : CoreState) (t : ℕ) (d : CoreSt
 pub record Undone (p : TakeBack) (g : RegionState) (y : SystemState) (q : TakeBack) (h : RegionState) (z : SystemState) : Type 0 where
   pub block : Block
   pub of : IsUndoBlock p.next block
+  -- made on the region's own words
+  pub on : IsUndoOn g.words p.next block
   -- the region with the operation open
   pub opened : RegionState
   pub steps : List RegionStep

@@ -75,8 +75,7 @@ left_behind y z us = drop (z.next - y.next) us
 
 pub record Freed (u : Pending) (g : RegionState) (y : SystemState) (t : ℕ) (h : RegionState) (z : SystemState) : Type 0 where
   pub block : Block
-  pub words : List ℕ
-  pub made_on : block ≡ made words u.key u.region (freeing_op u.undo)
+  pub made_on : block ≡ made g.words u.key u.region (freeing_op u.undo)
   pub spelled : IsBlock block
   pub opened : RegionState
   pub steps : List RegionStep

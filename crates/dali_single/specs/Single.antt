@@ -13,29 +13,27 @@
 --     IsAsBefore, IsHalfDone   a call was refused so, and t may call again and has the undos that it had; or its taking back was refused too, and t
 --                              is in the midst of the call
 --     Fails precheck e L c t call d    so it is, by the error
---     MayUndo y t u            the undo u of t is on a region of its kind, and t has its key alone
---     AreCovered y t           so it is of each of its undos
+--     AreCovered y t           each undo of t may be performed: it is on a region of its kind, and t has its key alone
+--     RunCovers                so it is at each point of a run
 --     Keeps y t z              the system has the sizes that it had, t its state, and undos that are covered where they were; and others stay
 use Rattle.std.specs.Prelude.{◌≡◌, ◌==◌, ◌<◌, ◌↔◌, ◌⊎◌, ℕ, Bool, true, false, List, [], ◌∷◌, ◌++◌, Some, None, IsSomeAnd, IfSome, slice_get}
 use Rattle.std.specs.List.{AllByRecursion}
-use Rattle.dali_record.specs.declared.operations.Pending.{Pending}
 use Rattle.dali_record.specs.declared.records.Answer.{Answer}
 use Rattle.dali_record.specs.declared.records.Call.{Call}
 use Rattle.dali_record.specs.declared.records.Record.{Record}
 use Rattle.dali_record.specs.declared.records.Record.TheVariants.{Done}
-use Rattle.dali_record.specs.Operations.{undo_op}
-use Rattle.dali_record.specs.Spelling.{IsUndo}
-use Rattle.dali_record.specs.Legal.{Working, is_level, on_kind, txn_state}
+use Rattle.dali_record.specs.Legal.{Working, is_level, txn_state}
 use Rattle.dali_region.specs.declared.Hold.{Hold}
 use Rattle.dali_locks.specs.declared.mode.LockAnswer.TheVariants.{Wait as LockWait, Busy as LockBusy}
 use Rattle.dali_locks.specs.Locks.{IsAnswer}
 use Rattle.dali_att.specs.Table.{undos_at}
 use Rattle.dali_system.specs.State.{SystemState, CoreState, row_of, state_of, hold_of, lock_of}
-use Rattle.dali_system.specs.Run.{covers}
+use Rattle.dali_system.specs.Run.{Bases, RunsOn}
 use Rattle.dali_system.specs.Keeps.{IsFree, with_system}
 use Rattle.dali_system.specs.Steps.{refused}
 use Rattle.dali_system.specs.Courses.{Step, Operates, TakesBack, Frees, Answers, Commits, Ends, Locks, OnRegion, IsStep}
 use Rattle.dali_facts.specs.Plans.{AtWork}
+use Rattle.dali_facts.specs.Undos.{MayBePerformed}
 use Rattle.dali_calls.specs.Steps.{call_key}
 use Rattle.dali_calls.specs.declared.plan.Phase.{Phase}
 use Rattle.dali_calls.specs.declared.plan.Phase.TheVariants.{Calling, Refused as GoesBack}
@@ -138,13 +136,11 @@ Fails precheck (Busy h) L c t call d =
 Fails precheck (Refused cause) L c t call d = (IsUnasked c.system cause × (d ≡ c)) ⊎ IsAsBefore L c t call precheck cause d
 Fails precheck (HalfDone cause) L c t call d = IsHalfDone L c t call precheck cause d
 
-pub record MayUndo (y : SystemState) (t : ℕ) (u : Pending) : Type 0 where
-  pub spelled : IsUndo u.undo
-  pub kind : on_kind y.sizes u.region (undo_op u.undo) ≡ true
-  pub lock : covers (lock_of y t u.key) true ≡ true
-
 abbrev pub AreCovered : SystemState → ℕ → Type 0
-AreCovered y t = AllByRecursion (MayUndo y t) (undos_at y.table t)
+AreCovered y t = AllByRecursion (MayBePerformed y t) (undos_at y.table t)
+
+abbrev pub RunCovers : Type 0
+RunCovers = (bases : Bases) (L : List Record) (c : CoreState) → RunsOn bases L c → (t : ℕ) → AreCovered c.system t
 
 pub record Keeps (y : SystemState) (t : ℕ) (z : SystemState) : Type 0 where
   pub sizes : z.sizes ≡ y.sizes

@@ -1,4 +1,5 @@
-//! A law of what these calls leave to other transactions, the contract of a function that does nothing.
+//! Laws of what these calls ask for, and of what they leave to other transactions, each the contract of a function that does nothing.
+ghost use Rattle.dali_single.specs.Single.{RunCovers};
 ghost use Rattle.dali_single.specs.Others.{OwnStepStandsAside, OwnStepsStandAside};
 
 /// Each step of a transaction's own, and so each list of them, leaves every other transaction its row, its locks, the
@@ -6,4 +7,10 @@ ghost use Rattle.dali_single.specs.Others.{OwnStepStandsAside, OwnStepsStandAsid
 pub fn others_are_left_alone()
     ensures step { OwnStepStandsAside }
     ensures steps { OwnStepsStandAside }
+{}
+
+/// At each point of a run what a transaction would take back may be performed: the calls that end it ask for no more of its
+/// undos.
+pub fn the_undos_of_a_run_are_covered()
+    ensures { RunCovers }
 {}

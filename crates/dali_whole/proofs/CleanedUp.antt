@@ -1,5 +1,5 @@
 -- A clean-up leaves the vault, and what is flushed.
-use Rattle.std.proofs.Common.{◌≡◌, ℕ, length, take, drop, Bool, true, false, ◌&&◌, List, [], ◌∷◌, ◌++◌, Option, refl, ap, sym, subst, ◌∙◌}
+use Rattle.std.proofs.Common.{◌≡◌, ℕ, length, take, drop, Bool, true, false, ◌&&◌, List, [], ◌∷◌, ◌++◌, Option, Result, Ok, Err, IfErr, refl, ap, sym, subst, ◌∙◌}
 use Rattle.std.specs.List.{list_all}
 use Rattle.dali_record.specs.declared.records.Record.{Record}
 use Rattle.dali_record.specs.declared.records.Record.TheVariants.{Ended}
@@ -12,10 +12,12 @@ use Rattle.dali_system.specs.Courses.{Step, TakesBack, Ends as EndsTxn, Claims, 
 use Rattle.dali_crash.specs.Checkpoints.{moment_of}
 use Rattle.dali_crash.specs.Traces.{bases_of}
 use Rattle.dali_vault.specs.Vaulted.{Vaulted}
-use Rattle.dali_clean.specs.Cleaned.{moment, is_own_change, is_own_step, AreLocked, InRun, IsEnded, Ends}
+use Rattle.dali_clean.specs.declared.error.CleanError.{CleanError}
+use Rattle.dali_clean.specs.declared.error.CleanError.TheVariants.{NotDead as IsNotDead}
+use Rattle.dali_clean.specs.Cleaned.{moment, is_own_change, is_own_step, InRun, IsEnded, Ends, IsGivenBack, GivesBack as GivesBackTo}
 use Rattle.dali_steps.specs.Courses.{is_quiet, WentOn}
 use Rattle.dali_steps.proofs.Courses.{quiet_course}
-use Rattle.dali_whole.specs.Cleaned.{EndsAt}
+use Rattle.dali_whole.specs.Cleaned.{EndsAt, LeavesAt}
 
 change_is_quiet : (t r : ℕ) (x : RegionStep) → is_own_change t x ≡ true → is_quiet (OnRegion r x) ≡ true
 change_is_quiet t r (Latch u) e = refl
@@ -58,7 +60,7 @@ all_leave_taken t m n (x ∷ xs) e course =
 
 module _ {V : Type 0} (told : V → Option Disk) (may_leave : V → Disk → Type 0) (faults : V → ℕ) where
   pub ends_at : (gs gs' : List RegionState) (y z : SystemState) (v : Vaulted V) (t : ℕ) → Ends gs y t gs' z → EndsAt told may_leave faults gs y v t gs' z
-  ends_at gs gs' y z v t ends s B p at whole locked = record {
+  ends_at gs gs' y z v t ends s B p at whole = record {
     to = went.to;
     steps = end.steps;
     course = went.course;
@@ -77,8 +79,8 @@ module _ {V : Type 0} (told : V → Option Disk) (may_leave : V → Disk → Typ
       here : Ends p.core.regions p.core.system t gs' z
       here = subst (λ (x : SystemState). Ends p.core.regions x t gs' z) (sym at.system) (subst (λ (rs : List RegionState). Ends rs y t gs' z) (sym at.regions) ends)
 
-      run : InRun (bases_of s) s.log (moment_of p) t
-      run = record { run = at.vault.run.run; whole = whole; locked = subst (λ (x : SystemState). AreLocked x t) (sym at.system) locked }
+      run : InRun (bases_of s) s.log (moment_of p)
+      run = record { run = at.vault.run.run; whole = whole }
 
       end : IsEnded (bases_of s) s.log (moment_of p) t gs' z
       end = here (bases_of s) s.log p.log p.core.vault p.audits run
@@ -88,6 +90,38 @@ module _ {V : Type 0} (told : V → Option Disk) (may_leave : V → Disk → Typ
 
       went : WentOn told may_leave faults s B p last end.steps v
       went = quiet_course told may_leave faults s B p last end.steps v at.vault (all_quiet t end.steps end.own) end.course
+
+  pub left_at : (gs gs' : List RegionState) (y z : SystemState) (v : Vaulted V) (t : ℕ) → GivesBackTo gs y t gs' z → LeavesAt told may_leave faults gs y v gs' z
+  left_at gs gs' y z v t back s B p at whole = record {
+    to = went.to;
+    steps = given.led.steps;
+    course = went.course;
+    at = record {
+      regions = ap (λ (m : Moment). m.core.regions) went.moment;
+      system = ap (λ (m : Moment). m.core.system) went.moment;
+      vault = went.is;
+      none_in_hand = λ runs. at.none_in_hand runs ∙ (ap (λ (x : SystemState). x.taken) (sym at.system) ∙ sym (all_leave_taken t (moment_of p) last given.led.steps given.led.own given.led.course));
+    };
+    whole = subst (λ (m : Moment). IsWhole m.core) (sym went.moment) given.again.whole;
+    keeps = went.keeps;
+  }
+    where
+      here : GivesBackTo p.core.regions p.core.system t gs' z
+      here = subst (λ (x : SystemState). GivesBackTo p.core.regions x t gs' z) (sym at.system) (subst (λ (rs : List RegionState). GivesBackTo rs y t gs' z) (sym at.regions) back)
+
+      given : IsGivenBack (bases_of s) s.log (moment_of p) t gs' z
+      given = here (bases_of s) s.log p.log p.core.vault p.audits (record { run = at.vault.run.run; whole = whole })
+
+      last : Moment
+      last = moment gs' z given.led.log p.core.vault p.audits
+
+      went : WentOn told may_leave faults s B p last given.led.steps v
+      went = quiet_course told may_leave faults s B p last given.led.steps v at.vault (all_quiet t given.led.steps given.led.own) given.led.course
+
+  pub err_left : {X : Type 0} (r : Result X CleanError) (gs gs' : List RegionState) (y z : SystemState) (v : Vaulted V) (t : ℕ) (P : Type 0) → IfErr r (λ e. (e ≡ IsNotDead → ⊥) → GivesBackTo gs y t gs' z × P)
+      → IfErr r (λ e. (e ≡ IsNotDead → ⊥) → LeavesAt told may_leave faults gs y v gs' z)
+  err_left (Ok x) gs gs' y z v t P h = tt
+  err_left (Err e) gs gs' y z v t P h = λ f. left_at gs gs' y z v t (h f).0
 
 -- a vector whose items were all written
 pub put_back : (n : ℕ) (xs ys : List RegionState) → length xs ≡ n → take n (xs ++ drop (length xs) ys) ≡ xs

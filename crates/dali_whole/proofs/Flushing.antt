@@ -49,17 +49,17 @@ untaken before since first k n e le =
 counted : (bases : Bases) (before : List Record) (p : Point) → RunsAt bases before no_image (moment_of p) → p.core.system.records ≡ length (log_after before p.core.system)
 counted bases before p run = run.run.runs.counts.records ∙ (tallies p.core.system.sizes (log_after before p.core.system) run.run.runs.counts.now run.run.runs.counts.rules).0
 
-abbrev take_point : Point → Point
+abbrev pub take_point : Point → Point
 take_point p = record p { core = with_system p.core (taken p.core.system); copies = copies_after p.core Takes p.copies }
 
-takes : (p : Point) → IsPointStep p (Does Takes) (take_point p)
+pub takes : (p : Point) → IsPointStep p (Does Takes) (take_point p)
 takes p = (refl, ((refl, refl), refl), refl)
 
 module _ {V : Type 0} (told : V → Option Disk) (may_leave : V → Disk → Type 0) (faults : V → ℕ) where
-  took : (s : Start) (B : List (List Record)) (p : Point) (v : Vaulted V) → IsAt told may_leave faults s B p v → IsAt told may_leave faults s B (take_point p) v
+  pub took : (s : Start) (B : List (List Record)) (p : Point) (v : Vaulted V) → IsAt told may_leave faults s B p v → IsAt told may_leave faults s B (take_point p) v
   took s B p v at = quiet_goes told may_leave faults s B p (take_point p) (Does Takes) v at (takes p) refl (λ F. refl) refl
 
-  frame_at : (s : Start) (B : List (List Record)) (p : Point) (v : Vaulted V) (f : Framed) → IsAt told may_leave faults s B p v → v.flushed ≡ p.core.system.taken → IsUntaken p.core.system f → IsFrameAt (take_point p) f
+  pub frame_at : (s : Start) (B : List (List Record)) (p : Point) (v : Vaulted V) (f : Framed) → IsAt told may_leave faults s B p v → v.flushed ≡ p.core.system.taken → IsUntaken p.core.system f → IsFrameAt (take_point p) f
   frame_at s B p v f at none is = record {
     body = is.body ∙ ap body_bytes (sym same);
     records = is.records ∙ ap length (sym same);

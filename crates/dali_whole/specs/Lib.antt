@@ -1,3 +1,4 @@
 pub mod Cores
 pub mod Flushed
 pub mod Cleaned
+pub mod Moments

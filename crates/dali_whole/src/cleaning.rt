@@ -4,7 +4,7 @@ ghost use Rattle.dali_att.specs.declared.state.State.TheVariants.{Dead};
 ghost use Rattle.dali_system.specs.State.{state_of};
 ghost use Rattle.dali_clean.specs.declared.error.CleanError.TheVariants.{NotDead as IsNotDead, Stopped, OutOfMemory};
 ghost use Rattle.dali_clean.specs.Cleaned.{AreDead, MayClean, IsDead, Ends, GivesBack};
-ghost use Rattle.dali_whole.specs.Cleaned.{EndsAt};
+ghost use Rattle.dali_whole.specs.Cleaned.{EndsAt, LeavesAt};
 
 use crate::whole::Core;
 use dali_clean::CleanError;
@@ -26,6 +26,7 @@ fn clean_up<V: Store>(
     ensures not_dead { IsErrOf result IsNotDead → (system.new ≡ system.old) × (regions.new ≡ regions.old) × (IsDead (state_of system.old.state txn) → ⊥) }
     ensures was { (IsErrOf result IsNotDead → ⊥) → IsDead (state_of system.old.state txn) }
     ensures again { IfErr result (λ e. (e ≡ IsNotDead → ⊥) → GivesBack regions.old system.old.state txn regions.new system.new.state × (state_of system.new.state txn ≡ Some (Dead None))) }
+    ensures left { IfErr result (λ e. (e ≡ IsNotDead → ⊥) → LeavesAt V.told V.may_leave V.faults regions.old system.old.state beside.now regions.new system.new.state) }
     ensures dead { AreDead regions.new }
     ensures refused { IsDead (state_of system.old.state txn) → IfSome system.old.state.stop (λ cause. result ≡ Err (Stopped cause)) }
     ensures memory { system.old.state.stop ≡ None → IfErr result (λ e. (e ≡ IsNotDead → ⊥) → e ≡ OutOfMemory) }
@@ -36,7 +37,7 @@ fn clean_up<V: Store>(
 /// Cleans up a transaction whose client died, and leaves the vault: `dali_clean::clean` over the regions and the system.
 /// It asks what a whole core without a live hold has. `NotDead` exactly where the transaction isn't dead, and then nothing
 /// changes. `Stopped` exactly where it is and the engine is stopped, with that cause, else `OutOfMemory` where memory for a
-/// record is refused: then the transaction is dead again, and the clean-up may be asked for again.
+/// record is refused: then the transaction is dead again, the core is whole again, and the clean-up may be asked for again.
 pub fn clean<V: Store>(core: &mut Core<V>, txn: u64) -> Result<(), CleanError>
     requires { MayClean core.old.regions.items core.old.system.state txn }
     ensures ok { OnOk result (Ends core.old.regions.items core.old.system.state txn core.new.regions.items core.new.system.state) }
@@ -45,6 +46,7 @@ pub fn clean<V: Store>(core: &mut Core<V>, txn: u64) -> Result<(), CleanError>
     ensures not_dead { IsErrOf result IsNotDead → (core.new.system ≡ core.old.system) × (core.new.regions.items ≡ core.old.regions.items) × (IsDead (state_of core.old.system.state txn) → ⊥) }
     ensures was { (IsErrOf result IsNotDead → ⊥) → IsDead (state_of core.old.system.state txn) }
     ensures again { IfErr result (λ e. (e ≡ IsNotDead → ⊥) → GivesBack core.old.regions.items core.old.system.state txn core.new.regions.items core.new.system.state × (state_of core.new.system.state txn ≡ Some (Dead None))) }
+    ensures left { IfErr result (λ e. (e ≡ IsNotDead → ⊥) → LeavesAt V.told V.may_leave V.faults core.old.regions.items core.old.system.state core.old.vault core.new.regions.items core.new.system.state) }
     ensures dead { AreDead core.new.regions.items }
     ensures refused { IsDead (state_of core.old.system.state txn) → IfSome core.old.system.state.stop (λ cause. result ≡ Err (Stopped cause)) }
     ensures memory { core.old.system.state.stop ≡ None → IfErr result (λ e. (e ≡ IsNotDead → ⊥) → e ≡ OutOfMemory) }

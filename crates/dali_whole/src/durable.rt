@@ -1,6 +1,7 @@
 //! What makes the records of a core durable.
-ghost use Rattle.std.specs.Prelude.{◌≡◌, ◌<◌, ◌^◌, ℕ, true, false, Err, OnOk, OnErr, IsErrOf};
+ghost use Rattle.std.specs.Prelude.{◌≡◌, ◌<◌, ◌≤◌, ◌+◌, ◌^◌, ℕ, true, false, Err, OnOk, OnErr, IsErrOf};
 ghost use Rattle.dali_store.specs.declared.store.FileName.TheVariants.{Log};
+ghost use Rattle.dali_store.specs.Calls.{fewer};
 ghost use Rattle.dali_store.specs.Faults.{Rose};
 ghost use Rattle.dali_store.specs.Store.{TornTold};
 ghost use Rattle.dali_system.specs.Steps.{taken, store_stopped};
@@ -8,17 +9,19 @@ ghost use Rattle.dali_vault.specs.Vaulted.{faulted};
 ghost use Rattle.dali_vault.specs.declared.error.VaultError.TheVariants.{Fault, Stopped};
 ghost use Rattle.dali_whole.specs.Flushed.{Grows, FlushesFrame, FailsFrame, FlushesAll, FlushFails};
 ghost use Rattle.dali_whole.specs.Cores.{IsWholeCore};
+ghost use Rattle.dali_whole.specs.Moments.{flush_calls, FlushLeaves, Within};
 
+use crate::calls;
 use crate::whole::Core;
 use dali_core::System;
-use dali_steps::called;
 use dali_store::Store;
 use dali_vault::{Vault, VaultError};
 use std::alloc::Global;
 
 /// Takes the records that aren't taken yet, and flushes them: what `flush` does of a system and a running vault that stand
 /// apart. `Fault` only where the store's count of faults rose; then the vault stops, and the caller stops the system. Where no
-/// memory is left for the next frame, they are flushed from where they stand.
+/// memory is left for the next frame, they are flushed from where they stand. It makes four calls of the store, and none
+/// where no record waits.
 pub fn write_out<V: Store>(
     system: &mut System,
     vault: &mut Vault<V>,
@@ -30,11 +33,14 @@ pub fn write_out<V: Store>(
     ensures ok { OnOk result (FlushesFrame V.told V.may_leave V.faults system.old.state vault.old vault.new) }
     ensures fault { OnErr result ((result ≡ Err Fault) × FailsFrame V.told V.may_leave V.faults system.old.state vault.old vault.new) }
     ensures torn { (n : ℕ) × TornTold Log vault.old.end n (V.told vault.old.store) (V.told vault.new.store) }
+    ensures any_moment { Within V.told V.moment V.left_since vault.old vault.new (FlushLeaves V.may_leave system.old.state vault.old) }
+    ensures grows { OnOk result (vault.new.end ≤ vault.old.end + 2 ^ 31) }
+    ensures calls { OnOk result (V.lets_pass vault.new.store ≡ fewer (flush_calls system.old.state) (V.lets_pass vault.old.store)) }
 {
     match system.take_frame(alloc) {
-        Ok(frame) => called::flush(vault, &frame),
+        Ok(frame) => calls::flush(vault, &frame),
         Err(_) => {
-            let flushed = called::flush(vault, system.frame());
+            let flushed = calls::flush(vault, system.frame());
             system.flushed();
             flushed
         }
@@ -43,7 +49,8 @@ pub fn write_out<V: Store>(
 
 /// Flushes all records of a core: behind Ok each crash leaves them. A commit is durable by this. `Stopped` exactly where
 /// the vault was stopped before, and then nothing changes; `Fault` only where the store's count of faults rose, and then
-/// vault and system stop. It never fails for want of memory.
+/// vault and system stop. It never fails for want of memory. It makes four calls of the store, and none where no record
+/// waits.
 pub fn flush<V: Store>(core: &mut Core<V>, alloc: Global) -> Result<(), VaultError>
     requires small { core.old.vault.end < 2 ^ 62 }
     ensures stopped { core.old.vault.stopped ≡ true → (result ≡ Err Stopped) × (core.new ≡ core.old) }
@@ -53,6 +60,8 @@ pub fn flush<V: Store>(core: &mut Core<V>, alloc: Global) -> Result<(), VaultErr
     ensures fault { IsErrOf result Fault → (core.new ≡ record core.old { system = record core.old.system { state = store_stopped (taken core.old.system.state) }; vault = faulted core.old.vault core.new.vault.store }) × Rose (V.faults core.old.vault.store) (V.faults core.new.vault.store) }
     ensures durable { OnOk result (FlushesAll V.told V.may_leave V.faults core.old.regions.items core.old.system.state core.old.vault core.new.system.state core.new.vault) }
     ensures stops { IsErrOf result Fault → FlushFails V.told V.may_leave V.faults core.old.regions.items core.old.system.state core.old.vault core.new.system.state core.new.vault }
+    ensures any_moment { core.old.vault.stopped ≡ false → Within V.told V.moment V.left_since core.old.vault core.new.vault (FlushLeaves V.may_leave core.old.system.state core.old.vault) }
+    ensures calls { OnOk result (V.lets_pass core.new.vault.store ≡ fewer (flush_calls core.old.system.state) (V.lets_pass core.old.vault.store)) }
     ensures whole { IsWholeCore V.told core.old.regions.items core.old.system.state core.old.vault → IsWholeCore V.told core.new.regions.items core.new.system.state core.new.vault }
 {
     if core.vault.stopped() {

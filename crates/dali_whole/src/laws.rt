@@ -1,5 +1,6 @@
 //! Laws of whole cores over any store, each the contract of a function that does nothing.
 ghost use Rattle.dali_whole.specs.Flushed.{CommittedStands};
+ghost use Rattle.dali_whole.specs.Moments.{FlushIsRight};
 
 use dali_store::Store;
 
@@ -7,4 +8,10 @@ use dali_store::Store;
 /// whose log each committed transaction is committed.
 pub fn a_flushed_commit_is_in_each_crash_image<V: Store>()
     ensures { CommittedStands V.told V.may_leave V.faults }
+{}
+
+/// Where a core stands at a point of a run, each disk that a crash inside `flush` leaves spells files that restart right:
+/// they have what was flushed before, and maybe the records that are flushed now.
+pub fn a_crash_inside_a_flush_is_right<V: Store>()
+    ensures { FlushIsRight V.told V.may_leave V.faults }
 {}

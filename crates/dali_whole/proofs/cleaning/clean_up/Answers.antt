@@ -1,7 +1,7 @@
 use Rattle.std.proofs.lemmas.Result.{on_ok_weaker}
 use Rattle.dali_clean.specs.Cleaned.{Ends}
 use Rattle.dali_whole.specs.Cleaned.{EndsAt}
-use Rattle.dali_whole.proofs.CleanedUp.{ends_at}
+use Rattle.dali_whole.proofs.CleanedUp.{ends_at, err_left}
 use Rattle.dali_whole.proofs.cleaning.clean_up.Goals as goal
 
 pub returns-clause-goes : goal.returns-clause-goes
@@ -9,3 +9,7 @@ returns-clause-goes g c =
     on_ok_weaker {P = Ends c.args.regions.now c.args.system.now.state c.args.txn c.clean.new.regions c.clean.new.system.state}
     {Q = EndsAt g.V.Store.told g.V.Store.may_leave g.V.Store.faults c.args.regions.now c.args.system.now.state c.args.beside.now c.args.txn c.clean.new.regions c.clean.new.system.state}
     c.clean.result (ends_at g.V.Store.told g.V.Store.may_leave g.V.Store.faults c.args.regions.now c.clean.new.regions c.args.system.now.state c.clean.new.system.state c.args.beside.now c.args.txn) c.clean.ensures.ok
+
+pub returns-clause-left : goal.returns-clause-left
+returns-clause-left g c =
+    err_left g.V.Store.told g.V.Store.may_leave g.V.Store.faults c.clean.result c.args.regions.now c.clean.new.regions c.args.system.now.state c.clean.new.system.state c.args.beside.now c.args.txn _ c.clean.ensures.again

@@ -1,0 +1,4 @@
+pub mod Causes
+pub mod Formatted
+pub mod Opening
+pub mod Laws

@@ -1,0 +1,15 @@
+use Rattle.std.proofs.Common.{◌≡◌, ◌∙◌, ap, drop}
+use Rattle.std.proofs.lemmas.Result.{on_ok_weaker}
+use Rattle.dali_store.specs.Calls.{fewer}
+use Rattle.dali_batch.specs.Log.{body_bytes}
+use Rattle.dali_core.specs.Served.{Served}
+use Rattle.dali_whole.proofs.Moments.{calls_of}
+use Rattle.dali_whole.proofs.durable.write_out.Goals as goal
+
+pub returns-in-Ok-clause-calls : goal.returns-in-Ok-clause-calls
+returns-in-Ok-clause-calls g c =
+    on_ok_weaker c.flush.result (λ e. e ∙ ap (λ n. fewer n (g.V.Store.lets_pass c.args.vault.now.store)) (calls_of c.args.system.now.state c.in-Ok.frame.body c.in-Ok.ensures.frame.0)) c.flush.ensures.calls
+
+pub returns-in-Err-clause-calls : goal.returns-in-Err-clause-calls
+returns-in-Err-clause-calls g c =
+    on_ok_weaker c.flush-flushed.result (λ e. e ∙ ap (λ n. fewer n (g.V.Store.lets_pass c.args.vault.now.store)) (calls_of c.args.system.now.state c.frame-in-Err.result.now.body (c.frame-in-Err.ensures.body ∙ ap (λ (s : Served). body_bytes (drop s.state.taken s.state.since)) c.in-Err.ensures.err))) c.flush-flushed.ensures.calls
