@@ -11,7 +11,7 @@ use Rattle.dali_batch.specs.declared.error.LogError.TheVariants.{BadLog as BadLo
 use Rattle.dali_batch.specs.Batch.{batch, batches, IsBody, IsOpenAt, IsClosedAt, IsUnformatted}
 use Rattle.dali_batch.specs.Finding.{BatchAt, IsBad}
 use Rattle.dali_batch.specs.Errors.{log_error}
-use Rattle.dali_batch.specs.Log.{body_bytes, AreSpelled, bodies, records_in, HasFormat, IsFront, LogOf, NoRecordAt, BadBody, BadAt, IsRun, TailOf, BadBehind}
+use Rattle.dali_batch.specs.Log.{body_bytes, AreSpelled, bodies, records_in, HasFormat, IsFront, LogOf, NoRecordAt, BadBody, HasNoFormat, IsBadFirst, BadAt, IsRun, TailOf, BadBehind}
 use Rattle.dali_batch.proofs.Bytes.{length-batch}
 
 -- the error that names a bad place
@@ -79,18 +79,23 @@ format_more L rs has = (has.0, has.1, has.2 ++ rs ∷ [], ap (λ (l : List (List
 pub first_front : (bytes body : List ℕ) (index heap : ℕ) → BatchAt bytes 0 body → CanBeSpelled (Format index heap) → body ≡ spelling (Format index heap) → IsFront bytes ((Format index heap ∷ []) ∷ []) (0 + 5 + length body)
 first_front bytes body index heap found can e = front_push bytes [] 0 body (Format index heap ∷ []) (empty_front bytes) found (e ∙ sym (append-nil (spelling (Format index heap)))) (can, tt) (index, heap, [], refl)
 
-pub first_bad : (bytes : List ℕ) (bad : ℕ) → 2 ≤ length bytes → IsBad bytes 0 bad → BadAt bytes bad
+pub first_bad : (bytes : List ℕ) (bad : ℕ) → 2 ≤ length bytes → IsBad bytes 0 bad → IsBadFirst bytes bad
 first_bad bytes bad long (inl none) = absurd (omega (arith, long, none.0))
-first_bad bytes bad long (inr none) = record { formatted = open_is_formatted bytes long none.0.gate; front = []; place = 0; good = empty_front bytes; bad = inl (inr none) }
+first_bad bytes bad long (inr none) = record { formatted = open_is_formatted bytes long none.0.gate; bad = inl (inr none) }
 
-pub no_format : (bytes body : List ℕ) → BatchAt bytes 0 body → ((index heap : ℕ) → CanBeSpelled (Format index heap) → body ≡ spelling (Format index heap) → ⊥) → BadAt bytes 5
+pub no_format : (bytes body : List ℕ) → BatchAt bytes 0 body → HasNoFormat body → IsBadFirst bytes 5
 no_format bytes body found none = record {
   formatted = open_is_formatted bytes (long_batch bytes body found) (open_of_batch bytes 0 body found);
-  front = [];
-  place = 0;
-  good = empty_front bytes;
-  bad = inr (body, 0, found, (none, refl), refl);
+  bad = inr (body, found, none, refl);
 }
+
+-- so the log is bad there
+pub bad_of_first : (bytes : List ℕ) (bad : ℕ) → IsBadFirst bytes bad → BadAt bytes bad
+bad_of_first bytes bad first = record { formatted = first.formatted; front = []; place = 0; good = empty_front bytes; bad = by_case first.bad }
+  where
+    by_case : IsBad bytes 0 bad ⊎ ((body : List ℕ) × BatchAt bytes 0 body × HasNoFormat body × (bad ≡ 5)) → IsBad bytes 0 bad ⊎ ((body : List ℕ) × (within : ℕ) × BatchAt bytes 0 body × BadBody [] body within × (bad ≡ 0 + 5 + within))
+    by_case (inl none) = inl none
+    by_case (inr found) = inr (found.0, 0, found.1, (found.2, refl), found.3)
 
 -- ---- the other batches
 -- a front that has a batch begins with an open gate

@@ -6,11 +6,11 @@ use Rattle.dali_bytes.proofs.Numbers.{length-number32}
 use Rattle.dali_record.specs.declared.records.Record.{Record}
 use Rattle.dali_record.specs.declared.records.Record.TheVariants.{Format, Begin, Forward, Done, Commit, Ended, Solo, AuditBegin, AuditClean, AuditFail, Restarted, Back}
 use Rattle.dali_record.specs.Spelling.{spelling, CanBeSpelled, Begins}
-use Rattle.dali_batch.specs.Batch.{batch, batches, IsClosedAt}
+use Rattle.dali_batch.specs.Batch.{batch, IsClosedAt}
 use Rattle.dali_batch.specs.Finding.{BatchAt, IsBad}
-use Rattle.dali_batch.specs.Log.{body_bytes, bodies, records_in, HasFormat, LogOf, BadAt, IsRun, TailOf, BadBehind, AreSpelled}
+use Rattle.dali_batch.specs.Log.{body_bytes, records_in, LogOf, BadAt, IsRun, BadBehind, AreSpelled}
 use Rattle.dali_batch.specs.declared.reader.Placed.{Placed}
-use Rattle.dali_batch.specs.Stream.{Reading, Covers, IsWindow, IsWithin, IsReadFrom, IsReadTo, place_of, is_first, HandsOut, GoesOn, EndsAt, IsBadFrom, Stays, Keeps}
+use Rattle.dali_batch.specs.Stream.{Reading, Covers, IsWindow, IsWithin, IsReadFrom, IsReadTo, is_first, HandsOut, GoesOn, EndsAt, IsBadFrom, Stays, Keeps}
 use Rattle.dali_batch.proofs.Bodies.{spelled_push, bytes_push}
 use Rattle.dali_batch.proofs.Fronts.{empty_run, run_push, front_of_run, format_more, records_push, bad_behind, log_ends}
 
@@ -93,10 +93,10 @@ module _ (log : List ℕ) (r s : Reading) where
         by_place (inr p) = p.1
 
   -- the log ends
-  pub ends_at : r.at ≡ r.end → IsClosedAt r.end log → s.at ≡ r.end → EndsAt log r s
-  ends_at e shut at = λ start front done read.
+  pub ends_at : r.at ≡ r.end → (IsWindow log r → IsClosedAt r.end log) → s.at ≡ r.end → (IsWindow log r → IsWindow log s) → EndsAt log r s
+  ends_at e shut at window = λ start front done read.
       let b = between_of start front done read e in
-      (b.1, record { run = subst (IsRun log start front) (sym at) b.0; closed = subst (λ (n : ℕ). IsClosedAt n log) (sym at) shut })
+      (b.1, record { run = subst (IsRun log start front) (sym at) b.0; closed = subst (λ (n : ℕ). IsClosedAt n log) (sym at) (shut read.window) }, window read.window)
 
   -- no batch stands there
   pub bad_batch : (bad : ℕ) → r.at ≡ r.end → IsBad log r.end bad → IsBadFrom log r bad

@@ -9,7 +9,7 @@ use Rattle.dali_store.specs.Store.{Files, LeavesOnly}
 use Rattle.dali_record.specs.declared.records.Record.{Record}
 use Rattle.dali_batch.specs.Batch.{IsUnformatted}
 use Rattle.dali_batch.specs.Appending.{next_place, SomeAdded, AllAdded}
-use Rattle.dali_batch.specs.Log.{LogOf, BadAt, bodies, HasFormat, IsFront, TailOf, BadFrom}
+use Rattle.dali_batch.specs.Log.{LogOf, BadAt, bodies, TailOf, BadFrom}
 
 pub record HasOneReading (bytes : List ℕ) : Type 0 where
   pub some : IsBytes bytes → IsUnformatted bytes ⊎ ((L : List (List Record)) × (e : ℕ) × LogOf bytes L e) ⊎ ((at : ℕ) × BadAt bytes at)

@@ -5,6 +5,8 @@
 --     IsFront bytes L p       up to place p the bytes are these batches
 --     LogOf bytes L e         the bytes are a log of these batches, which ends at e
 --     NoRecordAt body at      whole records up to this place of a body, and there begins none
+--     HasNoFormat body        the body isn't the spelling of one Format
+--     IsBadFirst bytes at     the log's first batch isn't that of one Format: the first bad place in it
 --     BadBody L body at       the body of the batch behind L is bad at this place of it
 --     BadAt bytes at          the bytes are no log: the first bad place
 --     IsRun bytes p L q       from place p up to place q the bytes are these batches
@@ -50,9 +52,16 @@ pub record LogOf (bytes : List ℕ) (L : List (List Record)) (e : ℕ) : Type 0 
 abbrev pub NoRecordAt : List ℕ → ℕ → Type 0
 NoRecordAt body at = (rs : List Record) × (rest : List ℕ) × AreSpelled rs × (body ≡ body_bytes rs ++ rest) × (at ≡ length (body_bytes rs)) × (0 < length rest) × ((r : Record) → Begins rest r → ⊥)
 
+abbrev pub HasNoFormat : List ℕ → Type 0
+HasNoFormat body = (index heap : ℕ) → CanBeSpelled (Format index heap) → body ≡ spelling (Format index heap) → ⊥
+
+pub record IsBadFirst (bytes : List ℕ) (at : ℕ) : Type 0 where
+  pub formatted : IsUnformatted bytes → ⊥
+  pub bad : IsBad bytes 0 at ⊎ ((body : List ℕ) × BatchAt bytes 0 body × HasNoFormat body × (at ≡ 5))
+
 -- the first batch is bad at its first byte, whatever else than one Format it holds
 abbrev pub BadBody : List (List Record) → List ℕ → ℕ → Type 0
-BadBody [] body at = ((index heap : ℕ) → CanBeSpelled (Format index heap) → body ≡ spelling (Format index heap) → ⊥) × (at ≡ 0)
+BadBody [] body at = HasNoFormat body × (at ≡ 0)
 BadBody (rs ∷ L) body at = NoRecordAt body at
 
 pub record BadAt (bytes : List ℕ) (at : ℕ) : Type 0 where

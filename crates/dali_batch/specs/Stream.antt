@@ -8,7 +8,7 @@
 --     place_of start front done              the place of the next record
 --     HandsOut log start front done given s  it hands out a record with its place, and goes on behind it
 --     GoesOn log r given s    so it does, whatever it has handed out
---     EndsAt log r s          the log ends there
+--     EndsAt log r s          the log ends there, and the reader may go on at a place
 --     IsBadFrom log r bad     the log is bad, and this is the first bad place
 --     Stays log r s           it goes on where it was
 --     IsReadTo log r rs       these are the records that it has handed out, from the first batch of the file on
@@ -77,7 +77,7 @@ abbrev pub GoesOn : List ℕ → Reading → Placed → Reading → Type 0
 GoesOn log r given s = (start : ℕ) (front : List (List Record)) (done : List Record) → IsReadFrom log start front done r → HandsOut log start front done given s
 
 abbrev pub EndsAt : List ℕ → Reading → Reading → Type 0
-EndsAt log r s = (start : ℕ) (front : List (List Record)) (done : List Record) → IsReadFrom log start front done r → (done ≡ []) × TailOf log start front s.at
+EndsAt log r s = (start : ℕ) (front : List (List Record)) (done : List Record) → IsReadFrom log start front done r → (done ≡ []) × TailOf log start front s.at × IsWindow log s
 
 abbrev pub IsBadFrom : List ℕ → Reading → ℕ → Type 0
 IsBadFrom log r bad = (start : ℕ) (front : List (List Record)) (done : List Record) → IsReadFrom log start front done r → BadBehind log start front bad

@@ -7,7 +7,7 @@ ghost use Rattle.dali_record.specs.Spelling.{CanBeSpelled, Begins, spelling};
 ghost use Rattle.dali_batch.specs.Batch.{IsUnformatted, IsClosedAt};
 ghost use Rattle.dali_batch.specs.Finding.{IsBad};
 ghost use Rattle.dali_batch.specs.Reads.{OnlyReads};
-ghost use Rattle.dali_batch.specs.Log.{BadAt, BadFrom};
+ghost use Rattle.dali_batch.specs.Log.{IsBadFirst, BadAt, BadFrom};
 ghost use Rattle.dali_batch.specs.Stream.{Covers, IsWhole, IsWindow, IsReadFrom, HandsOut, GoesOn, EndsAt, IsBadFrom, Stays, HasBatch, Keeps};
 
 use crate::finding::{fill, number_of};
@@ -205,13 +205,15 @@ impl LogReader {
 
     /// A reader of the log, and the sizes in its first batch, which it has read; of a log whose first batch is good no byte
     /// behind that was read. `Unformatted` exactly where the log has fewer than two bytes or its first gate is closed,
-    /// `BadLog` where no first batch with one Format stands there. It takes memory for the part that it holds.
+    /// `BadLog` exactly where no first batch with one Format stands there, with the first bad place in it, which is the
+    /// log's. It takes memory for the part that it holds.
     pub fn open<V: Store>(alloc: Global, store: &mut V) -> Result<(Self, (u32, u32)), LogError>
         ensures whole { IfOk result (λ opened. IsWhole opened.0) }
         ensures further { IfOk result (λ opened. 0 < opened.0.at) }
         ensures first { IfOk result (λ opened. IfSome (V.told store.old) (λ fs. IsReadFrom fs.log 0 ((Record.Format opened.1.0 opened.1.1 ∷ []) ∷ []) [] opened.0)) }
         ensures spelled { IfOk result (λ opened. CanBeSpelled (Record.Format opened.1.0 opened.1.1)) }
-        ensures bad { IfErr result (λ e. (bad : ℕ) → e ≡ LogError.BadLog bad → IfSome (V.told store.old) (λ fs. BadAt fs.log bad)) }
+        ensures bad { IfErr result (λ e. (bad : ℕ) → e ≡ LogError.BadLog bad → IfSome (V.told store.old) (λ fs. IsBadFirst fs.log bad)) }
+        ensures log { IfErr result (λ e. (bad : ℕ) → e ≡ LogError.BadLog bad → IfSome (V.told store.old) (λ fs. BadAt fs.log bad)) }
         ensures unformatted { IsErrOf result LogError.Unformatted → IfSome (V.told store.old) (λ fs. IsUnformatted fs.log) }
         ensures reads { OnlyReads V.told V.moment V.left_since V.may_leave store.old store.new }
         ensures later { V.faults store.old ≤ V.faults store.new }
@@ -298,6 +300,7 @@ impl LogReader {
         requires left { self.old.at < self.old.end }
         ensures whole { IsWhole self.new }
         ensures further { OnOk result (self.old.at < self.new.at) }
+        ensures spelled { IfOk result (λ given. CanBeSpelled given.entry) }
         ensures read { IfOk result (λ given. (log : List ℕ) → GoesOn log self.old given self.new) }
         ensures bad { IfErr result (λ e. (bad : ℕ) → e ≡ LogError.BadLog bad → (log : List ℕ) → IsBadFrom log self.old bad) }
         ensures err { OnErr result (self.new ≡ self.old) }
@@ -321,10 +324,12 @@ impl LogReader {
     /// place: a place without a gate, a length that isn't 1 to 2^30 with so many bytes behind it, a place in a batch
     /// where no record begins. `Fault` exactly where the store's count of faults rose. It takes memory for a record's lists,
     /// and for the buffer where a part is longer than those before; where that is refused it goes on where it was.
-    /// Nothing is said of the reader after another error, nor after the end of the log, but that its places are in order.
+    /// What it hands out can be spelled, also over a store that doesn't tell its contents. At the end of the log `seek` may
+    /// be asked again. Nothing is said of the reader after another error but that its places are in order.
     pub fn next<V: Store>(&mut self, store: &mut V) -> Result<Option<Placed>, LogError>
         ensures whole { IsWhole self.new }
         ensures further { IfOk result (λ next. IsSome next → self.old.at < self.new.at) }
+        ensures spelled { IfOk result (λ next. IfSome next (λ given. CanBeSpelled given.entry)) }
         ensures read { IfOk result (λ next. IfSome next (λ given. IfSome (V.told store.old) (λ fs. GoesOn fs.log self.old given self.new))) }
         ensures ends { IfOk result (λ next. IsNone next → IfSome (V.told store.old) (λ fs. EndsAt fs.log self.old self.new)) }
         ensures bad { IfErr result (λ e. (bad : ℕ) → e ≡ LogError.BadLog bad → IfSome (V.told store.old) (λ fs. IsBadFrom fs.log self.old bad)) }

@@ -10,3 +10,4 @@ pub mod Again
 pub mod OneHeader
 pub mod Kept
 pub mod Passed
+pub mod Undos

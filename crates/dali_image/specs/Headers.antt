@@ -3,6 +3,7 @@
 --     HasHeading bytes h       a file begins with them
 --     NoHeading bytes at       a file begins with no header: it is bad at 0, or at the sizes
 --     bad_header h x           the first place whose number isn't as the log and the anchor want it, or is out of range
+--     IsWanted h x             none is
 use Rattle.std.specs.Prelude.{◌≡◌, ◌⊎◌, ℕ, ◌<◌, ◌≤◌, ◌^◌, Bool, ◌||◌, ◌==◌, not, List, [], ◌∷◌, ◌++◌, length, take, Option, Some, None, if◌then◌else◌, nat_lt, nat_le}
 use Rattle.dali_geometry.specs.Sizes.{Sizes, AreInRange}
 use Rattle.dali_bytes.specs.Fields.{number32, number64}
@@ -41,3 +42,11 @@ first_of (p ∷ ps) = if p.1 then Some p.0 else first_of ps
 
 abbrev pub bad_header : Header → Expected → Option ℕ
 bad_header h x = first_of (are_wrong h x)
+
+pub record IsWanted (h : Header) (x : Expected) : Type 0 where
+  pub geometry : h.geometry ≡ x.geometry
+  pub number : h.number ≡ x.number
+  pub place : (15 ≤ h.place) × (h.place < x.log)
+  pub first : h.first < 2 ^ 40
+  pub weight : h.weight < 2 ^ 40
+  pub next : (0 < h.next) × (h.next < 2 ^ 40)

@@ -89,5 +89,5 @@ pub record IsPassed (bytes : List ℕ) (h : Header) (m : Table Pending) : Type 0
 
 abbrev pub WhatPassesIsAnImage : Type 0
 WhatPassesIsAnImage =
-    (bytes : List ℕ) (h : Header) (x : Expected) (m : Table Pending) → IsBytes bytes → IsHeader h
+    (bytes : List ℕ) (h : Header) (x : Expected) (m : Table Pending) → IsHeader h
     → HasHeading bytes h → bad_header h x ≡ None → ReadsTable bytes h m → IsPassed bytes h m

@@ -5,6 +5,7 @@
 --     NoTable file h at        the file is shorter than its header says, or a field of its table is wrong at this place
 use Rattle.std.specs.Prelude.{◌≡◌, ◌⊎◌, ℕ, ◌+◌, ◌*◌, ◌<◌, ◌≤◌, List, length, take, drop, flat_map, Ok, Err}
 use Rattle.dali_geometry.specs.Places.{regions}
+use Rattle.dali_bytes.specs.Cursor.{IsBytes}
 use Rattle.dali_att.specs.Table.{Table}
 use Rattle.dali_record.specs.declared.operations.Pending.{Pending}
 use Rattle.dali_record.specs.Spelling.{words_bytes}
@@ -34,6 +35,7 @@ table_part file h = take h.table (drop (table_place h) file)
 
 pub record ReadsTable (file : List ℕ) (h : Header) (m : Table Pending) : Type 0 where
   pub inside : table_place h + h.table ≤ length file
+  pub bytes : IsBytes (table_part file h)
   pub spells : table_in h.geometry h.next (table_part file h) ≡ Ok m
 
 -- at a place of the table itself

@@ -1,5 +1,5 @@
 //! The anchor.
-ghost use Rattle.std.specs.Prelude.{◌≡◌, ◌≤◌, ◌<◌, ℕ, length, IfOk, IfErr, IsErrOf, IfSome, IsNone};
+ghost use Rattle.std.specs.Prelude.{◌≡◌, ◌≤◌, ◌<◌, ◌^◌, ℕ, length, IfOk, IfErr, IsErrOf, IfSome, IsNone};
 ghost use Rattle.dali_store.specs.declared.store.FileName.{FileName};
 ghost use Rattle.dali_store.specs.declared.store.FileName.TheVariants.{Anchor};
 ghost use Rattle.dali_store.specs.Calls.{PassesFewer, MakesAtMost};
@@ -30,12 +30,13 @@ fn open_gates(gates: &[u8]) -> Option<usize>
     None
 }
 
-/// The number of the current image: how many open gates the anchor begins with. At 0 there is none, and the formatted
-/// regions count as it; else it is image A where the number is odd and image B where it is even. `BadImage` of the
-/// anchor exactly where it is empty or all its gates are open, at its length. `Fault` exactly where the store's count of
-/// faults rose. It takes memory for the anchor's bytes.
+/// The number of the current image, which is below 2^62: how many open gates the anchor begins with. At 0 there is none,
+/// and the formatted regions count as it; else it is image A where the number is odd and image B where it is even.
+/// `BadImage` of the anchor exactly where it is empty or all its gates are open, at its length. `Fault` exactly where the
+/// store's count of faults rose. It takes memory for the anchor's bytes.
 pub fn current<V: Store>(alloc: Global, store: &mut V) -> Result<u64, ImageError>
     ensures ok { IfOk result (λ number. IfSome (V.told store.old) (λ fs. IsAnchor fs.anchor number)) }
+    ensures small { IfOk result (λ number. number < 2 ^ 62) }
     ensures bad { IfErr result (λ e. (file : FileName) (at : ℕ) → e ≡ ImageError.BadImage file at → (file ≡ Anchor) × IfSome (V.told store.old) (λ fs. NoAnchor fs.anchor at)) }
     ensures reads { OnlyReads V.told V.moment V.left_since V.may_leave store.old store.new }
     ensures later { V.faults store.old ≤ V.faults store.new }

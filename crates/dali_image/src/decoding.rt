@@ -1,6 +1,7 @@
 //! The bytes of a table, read from the left. A field that is wrong is answered by its first place.
 ghost use Rattle.std.specs.Prelude.{◌≡◌, true, None, IfOk, OnOk};
 ghost use Rattle.std.specs.FinMap as map;
+ghost use Rattle.dali_bytes.specs.Cursor.{IsBytes};
 ghost use Rattle.dali_record.specs.Reading.{is_above};
 ghost use Rattle.dali_image.specs.Decoding.{Gives, GivesBy, Answers, byte_from, number32_from, number64_from, cell_from, entry_from, flag_from, five_from, restore_from, undo_from, kind_from, is_on, region_from, pending_from, pendings_from, txn_from, count_from, row_from, rows_from, with_row, table_in};
 ghost use Rattle.dali_image.specs.Fields.{row_of};
@@ -294,7 +295,8 @@ pub fn decode(
     geometry: &Geometry,
     next: u64,
 ) -> Result<Att<Pending>, TableError>
-    ensures { Answers (λ att. att) result (table_in geometry.now next bytes.now) }
+    ensures fits { IsBytes bytes.now }
+    ensures read { Answers (λ att. att) result (table_in geometry.now next bytes.now) }
 {
     let mut reader = Reader::new(bytes);
     let count = number32(&mut reader)?;

@@ -2,7 +2,8 @@
 ghost use Rattle.std.specs.Prelude.{◌≡◌, ◌≤◌, ◌+◌, ◌++◌, ℕ, length, drop, Some, None, IfOk, IfErr, OnOk};
 ghost use Rattle.dali_bytes.specs.Fields.{number32 as spelled32, number64 as spelled64};
 ghost use Rattle.dali_traces.specs.Disks.{image_name};
-ghost use Rattle.dali_image.specs.Headers.{heading, NoHeading, bad_header};
+ghost use Rattle.dali_image.specs.Headers.{heading, NoHeading, bad_header, IsWanted};
+ghost use Rattle.dali_image.specs.Laws.{IsHeader};
 
 use crate::ImageError;
 use crate::error::BadAt;
@@ -84,6 +85,7 @@ fn number64(bytes: &[u8], at: usize) -> u64
 // The header that these bytes spell.
 pub(crate) fn decode(bytes: &[u8; 64]) -> Result<Header, BadAt>
     ensures ok { IfOk result (λ header. bytes.now ≡ heading header) }
+    ensures fits { IfOk result (λ header. IsHeader header) }
     ensures bad { IfErr result (λ e. NoHeading bytes.now e.at) }
 {
     if !bytes.starts_with(&MARK) {
@@ -143,9 +145,10 @@ impl Header {
     /// Tests a header that was read from this side's image as that of the current image. `BadImage` of its file exactly
     /// where it is wrong, at the first place that is: the sizes are others, the number is another, the place in the log
     /// is below 15 or not below the log's length, or the records before it, the sum of their lengths or the next
-    /// transaction's number are 2^40 or more, or that number is 0. It takes no memory.
+    /// transaction's number are 2^40 or more, or that number is 0. Where it passes, none is (`IsWanted`). It takes no memory.
     pub fn check(&self, side: Side, expected: &Expected) -> Result<(), ImageError>
         ensures ok { OnOk result (bad_header self.now expected.now ≡ None) }
+        ensures wanted { OnOk result (IsWanted self.now expected.now) }
         ensures bad { IfErr result (λ e. (at : ℕ) × (e ≡ ImageError.BadImage (image_name side) at) × (bad_header self.now expected.now ≡ Some at)) }
     {
         match self.bad_place(expected) {

@@ -9,7 +9,10 @@ ghost use Rattle.dali_traces.specs.Disks.{image_name};
 ghost use Rattle.dali_traces.specs.Places;
 ghost use Rattle.dali_record.specs.Spelling.{words_bytes};
 ghost use Rattle.dali_image.specs.Headers.{HasHeading, NoHeading};
+ghost use Rattle.dali_att.specs.Table.{undos_at};
+ghost use Rattle.dali_image.specs.Laws.{IsHeader};
 ghost use Rattle.dali_image.specs.Reading.{ReadsRegions, end_of, ReadsTable, NoTable};
+ghost use Rattle.dali_image.specs.Rows.{AreUndos};
 
 use crate::error::TableError;
 use crate::header::{self, Header};
@@ -27,11 +30,13 @@ const TABLE_FIELD: u64 = 56;
 
 /// What the header of this side's image says; `Header::check` tests it as that of the current image. `BadImage` of its
 /// file exactly where no header stands there: at 0 where the file is shorter than 64 bytes or begins otherwise, at 8
-/// where no database has its sizes. `Fault` exactly where the store's count of faults rose. It takes no memory.
+/// where no database has its sizes. Its numbers fit their fields, whatever the store tells. `Fault` exactly where the
+/// store's count of faults rose. It takes no memory.
 pub fn read_header<V: Store>(store: &mut V, side: Side) -> Result<Header, ImageError>
     ensures ok { IfOk result (λ header. IfSome (V.told store.old) (λ fs. HasHeading (file_of (image_name side) fs) header)) }
     ensures bad { IfErr result (λ e. (file : FileName) (at : ℕ) → e ≡ ImageError.BadImage file at →
         (file ≡ image_name side) × IfSome (V.told store.old) (λ fs. NoHeading (file_of (image_name side) fs) at)) }
+    ensures fits { IfOk result (λ header. IsHeader header) }
     ensures room { IsErrOf result ImageError.OutOfMemory → ⊥ }
     ensures reads { OnlyReads V.told V.moment V.left_since V.may_leave store.old store.new }
     ensures later { V.faults store.old ≤ V.faults store.new }
@@ -130,6 +135,7 @@ pub fn read_region<V: Store>(
 /// The table of this side's image, whose header this is. `BadImage` of its file exactly where there is none: at 56 where
 /// the file is shorter than its header says, else at the first field of the table that is wrong, or behind its last field
 /// where bytes are left over. A region of the wrong kind is bad at the region, which is so once the undo's kind is known.
+/// Its undos have cells, entries and words in range (`AreUndos`), whatever the store tells.
 /// `Fault` exactly where the store's count of faults rose. It takes memory for the bytes and the table.
 pub fn read_table<V: Store>(
     alloc: Global,
@@ -138,6 +144,7 @@ pub fn read_table<V: Store>(
     header: &Header,
 ) -> Result<Att<Pending>, ImageError>
     ensures ok { IfOk result (λ att. IfSome (V.told store.old) (λ fs. ReadsTable (file_of (image_name side) fs) header.now att)) }
+    ensures undos { IfOk result (λ att. (t : ℕ) → AreUndos (undos_at att t)) }
     ensures bad { IfErr result (λ e. (file : FileName) (at : ℕ) → e ≡ ImageError.BadImage file at →
         (file ≡ image_name side) × IfSome (V.told store.old) (λ fs. NoTable (file_of (image_name side) fs) header.now at)) }
     ensures reads { OnlyReads V.told V.moment V.left_since V.may_leave store.old store.new }

@@ -1,6 +1,5 @@
 -- What a restart's error tells of the one that it was made of.
 use Rattle.std.proofs.Common.{◌≡◌, ℕ, refl, ap, ◌∙◌}
-use Rattle.std.specs.Prelude.{Result, Err}
 use Rattle.dali_store.specs.declared.store.FileName.{FileName}
 use Rattle.dali_store.specs.declared.store.FileName.TheVariants.{Log}
 use Rattle.dali_batch.specs.declared.error.LogError.{LogError}
@@ -53,6 +52,3 @@ pub image_formatted : (e : ImageError) → image_error e ≡ errors.Formatted �
 image_formatted images.Fault h = absurd cc
 image_formatted (images.BadImage name bad) h = absurd cc
 image_formatted images.OutOfMemory h = absurd cc
-
-pub one_place : {T : Type 0} (r : Result T LogError) (e : LogError) (at place : ℕ) → r ≡ Err e → e ≡ logs.BadLog at → r ≡ Err (logs.BadLog place) → at ≡ place
-one_place r e at place is one two = cc

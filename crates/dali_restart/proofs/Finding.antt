@@ -1,12 +1,15 @@
 -- What is found before the first record behind the image.
-use Rattle.std.proofs.Common.{◌≡◌, ◌⊎◌, inl, inr, ⊎_elim, ℕ, zero, suc, ◌+◌, ◌*◌, ◌<◌, List, [], ◌∷◌, ◌++◌, length, drop, Option, Some, None, IfSome, refl, ap, sym, subst, ◌∙◌, arith, append_assoc, length-append, take-append-drop}
-use Rattle.std.specs.Prelude.{flat_map, ◌==◌, ◌||◌, not, cond, Bool, true, false}
-use Rattle.std.proofs.lemmas.Bool.Decides.{nat_tests}
+use Rattle.std.proofs.Common.{◌≡◌, ◌⊎◌, inl, inr, ⊎_elim, ℕ, zero, suc, ◌+◌, ◌*◌, ◌<◌, List, [], ◌∷◌, ◌++◌, length, drop, Option, None, IfSome, refl, ap, sym, subst, ◌∙◌, arith, append_assoc, length-append, take-append-drop}
+use Rattle.std.specs.Prelude.{flat_map}
 use Rattle.std.specs.List.{AllByRecursion}
+use Rattle.std.specs.Option.{option_map_or}
+use Rattle.std.specs.Ordering.{nat_cmp}
+use Rattle.std.specs.FinMap.{get, get-empty}
 use Rattle.std.proofs.lemmas.List.{drop-drop}
 use Rattle.dali_geometry.specs.Sizes.{Sizes}
+use Rattle.dali_geometry.specs.Places.{regions}
 use Rattle.dali_bytes.specs.Fields.{number32}
-use Rattle.dali_att.specs.Table.{Table}
+use Rattle.dali_att.specs.Table.{Row, Table, undos_at}
 use Rattle.dali_record.specs.declared.operations.Pending.{Pending}
 use Rattle.dali_record.specs.declared.records.Record.{Record}
 use Rattle.dali_record.specs.declared.records.Record.TheVariants.{Format}
@@ -18,24 +21,25 @@ use Rattle.dali_record.proofs.Lengths.{number32_is_4}
 use Rattle.dali_region.specs.declared.Side.{Side}
 use Rattle.dali_region.specs.declared.Side.TheVariants.{A as SideA, B as SideB}
 use Rattle.dali_store.specs.declared.store.FileName.{FileName}
-use Rattle.dali_store.specs.declared.store.FileName.TheVariants.{Log}
 use Rattle.dali_store.specs.Store.{Files as Disk, file_of}
 use Rattle.dali_batch.specs.Batch.{batch, batches, IsUnformatted}
-use Rattle.dali_batch.specs.Log.{IsRun, LogOf, HasFormat, BadFrom, body_bytes, bodies}
+use Rattle.dali_batch.specs.Log.{IsRun, LogOf, HasFormat, body_bytes, bodies}
 use Rattle.dali_batch.specs.Stream.{Reading, IsReadFrom, IsWindow}
 use Rattle.dali_store.proofs.Moments.{if_some_each}
 use Rattle.dali_batch.proofs.Finds.{if_some_two, if_some_three, if_some_same}
 use Rattle.dali_batch.proofs.Unique.{same_batch, same_records}
 use Rattle.dali_crash.specs.Checkpoints.{Head, side_of}
 use Rattle.dali_traces.specs.Disks.{IsAnchor, IsImageOf, image_file, image_name, header_bytes, table_bytes, unchecked}
-use Rattle.dali_image.specs.Headers.{HasHeading, bad_header}
+use Rattle.dali_image.specs.Headers.{HasHeading, bad_header, IsWanted}
+use Rattle.dali_image.specs.Rows.{AreUndos}
 use Rattle.dali_image.specs.Reading.{NoTable}
-use Rattle.dali_image.specs.Laws.{header_of, IsPassed}
-use Rattle.dali_image.proofs.Passed.{what_passes}
+use Rattle.dali_image.specs.Laws.{header_of, IsHeader, IsPassed}
+use Rattle.dali_image.proofs.Passed.{what_passes, wanted}
 use Rattle.dali_image.specs.declared.header.Header.{Header}
 use Rattle.dali_image.specs.declared.header.Expected.{Expected}
-use Rattle.dali_restart.specs.Opening.{BeginsWith, BadImageAt, IsImageIn, StandsAlone, IsFoundIn, IsBadStore, IsBadLog, IsBadAnchor, IsBadImage, file_in, expected}
-use Rattle.dali_restart.specs.Laws.{WhatOpensIsSpelled, IsSpelledBy, OneAnswer}
+use Rattle.dali_restart.specs.Opening.{BeginsWith, BadImageAt, IsImageIn, IsInRange, StandsAlone, IsBadStore, IsBadLog, IsBadAnchor, IsBadImage, file_in, expected}
+use Rattle.dali_restart.specs.Laws.{WhatOpensIsSpelled, IsSpelledBy}
+use Rattle.dali_restart.proofs.Formatted.{image_length}
 
 -- ---- the first batch
 begins_at : (log : List ℕ) (front : List (List Record)) (r : Reading) → IsReadFrom log 0 front [] r → (end : ℕ) × IsRun log 0 front end
@@ -46,15 +50,15 @@ begins_with fs s r can is = let b = begins_at fs.log ((Format s.index s.heap ∷
 
 -- ---- an image
 pub table_bad :
-    (file : Disk → List ℕ) (x : Expected) (h : Header) (at : ℕ) (o p : Option Disk) → p ≡ o → bad_header h x ≡ None
+    (file : Disk → List ℕ) (x : Expected) (h : Header) (at : ℕ) (o p : Option Disk) → p ≡ o → IsHeader h → bad_header h x ≡ None
     → IfSome o (λ fs. HasHeading (file fs) h) → IfSome p (λ fs. NoTable (file fs) h at)
     → IfSome o (λ fs. BadImageAt (file fs) x at)
-table_bad file x h at o p same good header bad =
+table_bad file x h at o p same fits good header bad =
     if_some_two (λ fs. HasHeading (file fs) h) (λ fs. NoTable (file fs) h at) (λ fs. BadImageAt (file fs) x at) o header (if_some_same _ o p same bad)
-    (λ fs a b. inr (record { header = h; there = a; wrong = inr (good, b) }))
+    (λ fs a b. inr (record { header = h; fits = fits; there = a; wrong = inr (good, b) }))
 
 -- ---- one reading
-first_of : (fs : Disk) (s : Sizes) → BeginsWith fs s → fs.log ≡ batch (body_bytes (Format s.index s.heap ∷ [])) ++ ([] ++ drop (length (batches (bodies ((Format s.index s.heap ∷ []) ∷ [])))) fs.log)
+pub first_of : (fs : Disk) (s : Sizes) → BeginsWith fs s → fs.log ≡ batch (body_bytes (Format s.index s.heap ∷ [])) ++ ([] ++ drop (length (batches (bodies ((Format s.index s.heap ∷ []) ∷ [])))) fs.log)
 first_of fs s is =
     let L = (Format s.index s.heap ∷ []) ∷ [] in
     let n = length (batches (bodies L)) in
@@ -65,14 +69,8 @@ formatted_bytes [] rest body e un = absurd cc
 formatted_bytes (x ∷ []) rest body e un = absurd (omega (arith, ap length e, length-append (number32 (length body) ++ body) rest, length-append (number32 (length body)) body, number32_is_4 (length body)))
 formatted_bytes (x ∷ y ∷ log) rest body e un = ⊎_elim (λ short. absurd (omega (arith, short))) (λ closed. closed (let is : x ≡ 165 = cc in is)) un
 
-begun : (fs : Disk) (s : Sizes) → BeginsWith fs s → IsUnformatted fs.log → ⊥
+pub begun : (fs : Disk) (s : Sizes) → BeginsWith fs s → IsUnformatted fs.log → ⊥
 begun fs s is un = formatted_bytes fs.log _ (body_bytes (Format s.index s.heap ∷ [])) (first_of fs s is) un
-
-pub one_answer : OneAnswer
-one_answer fs = record {
-  opened = λ s c h image m r is un. begun fs s is.log un;
-  bad = λ file at is un. ⊎_elim (λ log. log.bad.formatted un) (λ more. ⊎_elim (λ anchor. begun fs anchor.sizes anchor.log un) (λ behind. begun fs behind.sizes behind.log un) more) is;
-}
 
 -- ---- what the disk spells
 no_first : HasFormat [] → ⊥
@@ -153,33 +151,14 @@ behind_one fs s c h image m B end log sizes anchor some is same p words = record
   table = sym p.table_is;
 }
 
--- ---- the sizes in a header that passes
-none_then : (b : Bool) (at : ℕ) (o : Option ℕ) → cond b (Some at) o ≡ None → (b ≡ false) × (o ≡ None)
-none_then true at o e = absurd cc
-none_then false at o e = (refl, e)
-
-neither : (a b : Bool) → (a || b) ≡ false → (a ≡ false) × (b ≡ false)
-neither false b e = (refl, e)
-neither true b e = absurd (cc)
-
-same_numbers : (a b : ℕ) → not (a == b) ≡ false → a ≡ b
-same_numbers a b e = grind (arith, nat_tests, e)
-
-geometry_is : (h : Header) (s : Sizes) (c n : ℕ) → bad_header h (expected s c n) ≡ None → h.geometry ≡ s
-geometry_is h s c n e =
-    let a = none_then (not (h.geometry.index == s.index) || not (h.geometry.heap == s.heap)) 8 _ e in
-    let b = neither (not (h.geometry.index == s.index)) (not (h.geometry.heap == s.heap)) a.0 in
-    let one : h.geometry.index ≡ s.index = same_numbers _ _ b.0 in
-    let two : h.geometry.heap ≡ s.heap = same_numbers _ _ b.1 in
-    λ i. record { index = one i; heap = two i }
-
 pub what_opens : WhatOpensIsSpelled
-what_opens fs s zero h image m r B end is log fits words bytes =
+what_opens fs s zero h image m r B end is log words =
     (unchecked s B, before_any fs s 0 h image m B end log (same_sizes fs s B end is.log log) is.anchor refl (is.image_is.none refl))
-what_opens fs s (suc c) h image m r B end is log fits words bytes =
+what_opens fs s (suc c) h image m r B end is log words =
     let found = is.image_is.some (omega arith) in
-    let p = what_passes (file_in fs (suc c)) h (expected s (suc c) (length fs.log)) m bytes fits found.header found.good found.table in
-    (files_in (suc c) p.head image B, behind_one fs s (suc c) h image m B end log (same_sizes fs s B end is.log log) is.anchor (omega arith) found (geometry_is h s (suc c) (length fs.log) found.good) p words)
+    let x = expected s (suc c) (length fs.log) in
+    let p = what_passes (file_in fs (suc c)) h x m found.fits found.header found.good found.table in
+    (files_in (suc c) p.head image B, behind_one fs s (suc c) h image m B end log (same_sizes fs s B end is.log log) is.anchor (omega arith) found (wanted h x found.good).geometry p words)
 
 -- ---- all of it
 pub first_bad : (file : FileName) (at : ℕ) (o p : Option Disk) → p ≡ o → IfSome p (λ fs. IsBadLog fs file at ⊎ IsBadAnchor fs file at) → IfSome o (λ fs. IsBadStore fs file at)
@@ -191,22 +170,7 @@ pub image_bad :
     → IfSome o (λ fs. IsBadStore fs file at)
 image_bad s c r0 file at o p q same next log anchor bad =
     if_some_three _ _ _ (λ fs. IsBadStore fs file at) o (if_some_same _ o p same log) (if_some_same _ o p same anchor) (if_some_same _ o q (next ∙ same) bad)
-    (λ fs a b d. inr (inr (record { sizes = s; log = a.0; current = c; anchor = b; bad = inl d })))
-
-pub end_bad :
-    (s : Sizes) (c : ℕ) (h : Header) (image : List (List ℕ)) (m : Table Pending) (r0 : Reading) (file : FileName) (at : ℕ) (o p q : Option Disk) → p ≡ o → q ≡ p
-    → IfSome p (λ fs. BeginsWith fs s × IsWindow fs.log r0) → IfSome p (λ fs. IsAnchor fs.anchor c) → IfSome q (λ fs. IsFoundIn fs s c h image m)
-    → file ≡ Log → at ≡ h.place → ((log : List ℕ) → IsWindow log r0 → BadFrom log h.place h.place)
-    → IfSome o (λ fs. IsBadStore fs file at)
-end_bad s c h image m r0 file at o p q same next log anchor found name place ends =
-    if_some_three _ _ _ (λ fs. IsBadStore fs file at) o (if_some_same _ o p same log) (if_some_same _ o p same anchor) (if_some_same _ o q (next ∙ same) found)
-    (λ fs a b d. inr (inr (record {
-      sizes = s;
-      log = a.0;
-      current = c;
-      anchor = b;
-      bad = inr (record { header = h; image = image; table = m; image_is = d; name = name; place = place; bad = subst (λ n. BadFrom fs.log n n) (sym place) (ends fs.log a.1) });
-    })))
+    (λ fs a b d. inr (inr (record { sizes = s; log = a.0; current = c; anchor = b; bad = d })))
 
 -- ---- the current image
 pub found_bad :
@@ -216,3 +180,22 @@ pub found_bad :
 found_bad s c n file at o p some same name size is =
     if_some_two _ _ (λ fs. IsBadImage fs s c file at) o size (if_some_same _ o p same is)
     (λ fs a b. record { some = omega (arith, some); name = name; bad = subst (λ k. BadImageAt (file_in fs c) (expected s c k) at) a b })
+
+-- ---- over any store
+no_undos : (t : ℕ) (o : Option (Row Pending)) → o ≡ None → AreUndos (option_map_or (λ row. row.undos) o [])
+no_undos t o none = subst (λ (k : Option (Row Pending)). AreUndos (option_map_or (λ row. row.undos) k [])) (sym none) tt
+
+-- what stands for the image is in range
+pub stands_in_range : (s : Sizes) (h : Header) (image : List (List ℕ)) (m : Table Pending) → StandsAlone s h image m → IsInRange s h image m
+stands_in_range s h image m is = record {
+  geometry = ap (λ (k : Header). k.geometry) is.header;
+  first = omega (arith, ap (λ (k : Header). k.first) is.header);
+  weight = omega (arith, ap (λ (k : Header). k.weight) is.header);
+  next = (omega (arith, ap (λ (k : Header). k.next) is.header), omega (arith, ap (λ (k : Header). k.next) is.header));
+  whole = ap length is.words ∙ image_length s;
+  undos = λ t. no_undos t (get m t) (ap (λ (k : Table Pending). get k t) is.table ∙ get-empty nat_cmp t);
+}
+
+-- and so is one that was read
+pub read_in_range : (x : Expected) (h : Header) (image : List (List ℕ)) (m : Table Pending) → IsWanted h x → length image ≡ regions h.geometry → ((t : ℕ) → AreUndos (undos_at m t)) → IsInRange x.geometry h image m
+read_in_range x h image m is whole undos = record { geometry = is.geometry; first = is.first; weight = is.weight; next = is.next; whole = whole ∙ ap regions is.geometry; undos = undos }

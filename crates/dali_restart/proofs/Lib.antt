@@ -1,3 +1,4 @@
 pub mod Causes
 pub mod Formatted
 pub mod Finding
+pub mod Exact

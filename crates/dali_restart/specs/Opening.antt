@@ -4,25 +4,28 @@
 --     BeginsWith fs s          the log begins with the first batch of these sizes
 --     StandsAlone, IsImageIn   before the first checkpoint the formatted regions count as the image; else it is read in its file
 --     IsOpened fs o            this is found in these files
---     IsBadLog, IsBadAnchor, IsBadImage, EndsBefore     the files are bad here: the log's first batch; the anchor; the current image; the log ends before the image's place
+--     IsInRange s h image m    what is found of an image of these sizes is in range, whatever a store tells
+--     IsBadLog, IsBadAnchor, IsBadImage     the files are bad here: the log's first batch; the anchor; the current image
 --     IsBadStore fs file at    one of these, the earlier ones first
-use Rattle.std.specs.Prelude.{◌≡◌, ◌⊎◌, ◌<◌, ℕ, List, [], ◌∷◌, Some, None, length}
+use Rattle.std.specs.Prelude.{◌≡◌, ◌⊎◌, ◌<◌, ◌^◌, ℕ, List, [], ◌∷◌, Some, None, length}
 use Rattle.std.specs.FinMap as finite
 use Rattle.dali_geometry.specs.Sizes.{Sizes}
 use Rattle.dali_geometry.specs.Places.{regions, formatted_image}
-use Rattle.dali_att.specs.Table.{Table}
+use Rattle.dali_att.specs.Table.{Table, undos_at}
 use Rattle.dali_record.specs.declared.operations.Pending.{Pending}
 use Rattle.dali_record.specs.declared.records.Record.TheVariants.{Format}
 use Rattle.dali_record.specs.Spelling.{CanBeSpelled}
 use Rattle.dali_store.specs.declared.store.FileName.{FileName}
 use Rattle.dali_store.specs.declared.store.FileName.TheVariants.{Log, Anchor}
 use Rattle.dali_store.specs.Store.{Files as Disk, file_of}
-use Rattle.dali_batch.specs.Log.{BadAt, BadFrom, IsRun}
+use Rattle.dali_batch.specs.Log.{IsBadFirst, IsRun}
 use Rattle.dali_batch.specs.Stream.{Reading, IsReadFrom}
 use Rattle.dali_crash.specs.Checkpoints.{side_of}
 use Rattle.dali_traces.specs.Disks.{IsAnchor, image_name}
 use Rattle.dali_image.specs.Headers.{HasHeading, NoHeading, bad_header}
 use Rattle.dali_image.specs.Reading.{NoAnchor, ReadsRegions, ReadsTable, NoTable}
+use Rattle.dali_image.specs.Rows.{AreUndos}
+use Rattle.dali_image.specs.Laws.{IsHeader}
 use Rattle.dali_image.specs.declared.header.Header.{Header}
 use Rattle.dali_image.specs.declared.header.Expected.{Expected}
 
@@ -46,6 +49,7 @@ pub record StandsAlone (s : Sizes) (h : Header) (image : List (List ℕ)) (m : T
 
 pub record IsImageIn (file : List ℕ) (x : Expected) (h : Header) (image : List (List ℕ)) (m : Table Pending) : Type 0 where
   pub header : HasHeading file h
+  pub fits : IsHeader h
   pub good : bad_header h x ≡ None
   pub table : ReadsTable file h m
   pub whole : length image ≡ regions h.geometry
@@ -65,10 +69,18 @@ pub record IsOpened (fs : Disk) (s : Sizes) (c : ℕ) (h : Header) (image : List
   pub image_is : IsFoundIn fs s c h image m
   pub reader : IsReadFrom fs.log h.place [] [] r
 
+pub record IsInRange (s : Sizes) (h : Header) (image : List (List ℕ)) (m : Table Pending) : Type 0 where
+  pub geometry : h.geometry ≡ s
+  pub first : h.first < 2 ^ 40
+  pub weight : h.weight < 2 ^ 40
+  pub next : (0 < h.next) × (h.next < 2 ^ 40)
+  pub whole : length image ≡ regions s
+  pub undos : (t : ℕ) → AreUndos (undos_at m t)
+
 -- ---- what is bad
 pub record IsBadLog (fs : Disk) (file : FileName) (at : ℕ) : Type 0 where
   pub name : file ≡ Log
-  pub bad : BadAt fs.log at
+  pub bad : IsBadFirst fs.log at
 
 pub record IsBadAnchor (fs : Disk) (file : FileName) (at : ℕ) : Type 0 where
   pub sizes : Sizes
@@ -79,6 +91,7 @@ pub record IsBadAnchor (fs : Disk) (file : FileName) (at : ℕ) : Type 0 where
 -- the header isn't there, or is wrong, or the table is
 pub record IsWrong (bytes : List ℕ) (x : Expected) (at : ℕ) : Type 0 where
   pub header : Header
+  pub fits : IsHeader header
   pub there : HasHeading bytes header
   pub wrong : (bad_header header x ≡ Some at) ⊎ ((bad_header header x ≡ None) × NoTable bytes header at)
 
@@ -90,21 +103,12 @@ pub record IsBadImage (fs : Disk) (s : Sizes) (c : ℕ) (file : FileName) (at : 
   pub name : file ≡ image_name (side_of c)
   pub bad : BadImageAt (file_in fs c) (expected s c (length fs.log)) at
 
-pub record EndsBefore (fs : Disk) (s : Sizes) (c : ℕ) (file : FileName) (at : ℕ) : Type 0 where
-  pub header : Header
-  pub image : List (List ℕ)
-  pub table : Table Pending
-  pub image_is : IsFoundIn fs s c header image table
-  pub name : file ≡ Log
-  pub place : at ≡ header.place
-  pub bad : BadFrom fs.log at at
-
 pub record IsBadBehind (fs : Disk) (file : FileName) (at : ℕ) : Type 0 where
   pub sizes : Sizes
   pub log : BeginsWith fs sizes
   pub current : ℕ
   pub anchor : IsAnchor fs.anchor current
-  pub bad : IsBadImage fs sizes current file at ⊎ EndsBefore fs sizes current file at
+  pub bad : IsBadImage fs sizes current file at
 
 abbrev pub IsBadStore : Disk → FileName → ℕ → Type 0
 IsBadStore fs file at = IsBadLog fs file at ⊎ IsBadAnchor fs file at ⊎ IsBadBehind fs file at

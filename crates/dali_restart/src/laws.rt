@@ -7,7 +7,8 @@ pub fn what_opens_is_spelled()
     ensures { WhatOpensIsSpelled }
 {}
 
-/// A log without batches is nowhere bad, and nothing is found there.
+/// A disk has one answer at most. A log without batches is nowhere bad, and nothing is found there; where something is found
+/// the files are nowhere bad; and they are bad at one place of one file.
 pub fn a_store_has_one_answer()
     ensures { OneAnswer }
 {}

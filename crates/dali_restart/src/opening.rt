@@ -1,5 +1,5 @@
 //! What a restart reads before the first record behind the current image.
-ghost use Rattle.std.specs.Prelude.{◌≡◌, ◌≤◌, ◌<◌, ◌⊎◌, ℕ, None, length, IfOk, IfErr, OnOk, IfSome, IsErrOf};
+ghost use Rattle.std.specs.Prelude.{◌≡◌, ◌≤◌, ◌<◌, ◌^◌, ◌⊎◌, ℕ, None, length, IfOk, IfErr, OnOk, IfSome, IsErrOf};
 ghost use Rattle.dali_geometry.specs.Places.{regions as regions_of};
 ghost use Rattle.dali_record.specs.declared.records.Record.TheVariants.{Format};
 ghost use Rattle.dali_record.specs.Spelling.{CanBeSpelled};
@@ -12,11 +12,12 @@ ghost use Rattle.dali_batch.specs.Reads.{OnlyReads};
 ghost use Rattle.dali_batch.specs.Stream.{IsWindow};
 ghost use Rattle.dali_crash.specs.Checkpoints;
 ghost use Rattle.dali_traces.specs.Disks.{IsAnchor, image_name};
-ghost use Rattle.dali_image.specs.Headers.{HasHeading, bad_header};
+ghost use Rattle.dali_image.specs.Headers.{HasHeading, bad_header, IsWanted};
+ghost use Rattle.dali_image.specs.Laws.{IsHeader};
 ghost use Rattle.dali_image.specs.Reading.{ReadsRegions, end_of};
 ghost use Rattle.dali_image.specs.declared.error.ImageError.TheVariants as images;
 ghost use Rattle.dali_restart.specs.declared.error.RestartError.TheVariants as errors;
-ghost use Rattle.dali_restart.specs.Opening.{BeginsWith, StandsAlone, BadImageAt, IsImageIn, IsBadLog, IsBadAnchor, IsBadImage, IsFoundIn, IsOpened, IsBadStore};
+ghost use Rattle.dali_restart.specs.Opening.{BeginsWith, StandsAlone, BadImageAt, IsImageIn, IsInRange, IsBadLog, IsBadAnchor, IsBadImage, IsFoundIn, IsOpened, IsBadStore};
 
 use crate::error::RestartError;
 use crate::regions;
@@ -137,6 +138,8 @@ fn read_checked<V: Store>(
     expected: &Expected,
 ) -> Result<Header, ImageError>
     ensures good { IfOk result (λ header. bad_header header expected.now ≡ None) }
+    ensures wanted { IfOk result (λ header. IsWanted header expected.now) }
+    ensures fits { IfOk result (λ header. IsHeader header) }
     ensures ok { IfOk result (λ header. IfSome (V.told store.old) (λ fs. HasHeading (file_of (image_name side) fs) header)) }
     ensures bad { IfErr result (λ e. (file : Name) (at : ℕ) → e ≡ images.BadImage file at →
         (file ≡ image_name side) × IfSome (V.told store.old) (λ fs. BadImageAt (file_of (image_name side) fs) expected.now at)) }
@@ -163,6 +166,7 @@ fn read_image<V: Store>(
     expected: &Expected,
 ) -> Result<Image, ImageError>
     ensures ok { IfOk result (λ image. IfSome (V.told store.old) (λ fs. IsImageIn (file_of (image_name side) fs) expected.now image.header image.regions.items image.table)) }
+    ensures in_range { IfOk result (λ image. IsInRange expected.now.geometry image.header image.regions.items image.table) }
     ensures bad { IfErr result (λ e. (file : Name) (at : ℕ) → e ≡ images.BadImage file at →
         (file ≡ image_name side) × IfSome (V.told store.old) (λ fs. BadImageAt (file_of (image_name side) fs) expected.now at)) }
     ensures reads { OnlyReads V.told V.moment V.left_since V.may_leave store.old store.new }
@@ -197,6 +201,7 @@ fn current_image<V: Store>(
     current: u64,
 ) -> Result<Image, RestartError>
     ensures ok { IfOk result (λ image. IfSome (V.told store.old) (λ fs. IsFoundIn fs geometry current image.header image.regions.items image.table)) }
+    ensures in_range { IfOk result (λ image. IsInRange geometry image.header image.regions.items image.table) }
     ensures bad { IfErr result (λ e. (file : Name) (at : ℕ) → e ≡ errors.BadStore file at → IfSome (V.told store.old) (λ fs. IsBadImage fs geometry current file at)) }
     ensures formatted { IsErrOf result errors.Formatted → ⊥ }
     ensures unformatted { IsErrOf result errors.Unformatted → ⊥ }
@@ -234,6 +239,7 @@ fn read_first<V: Store>(
 ) -> Result<(LogReader, Geometry, u64), RestartError>
     ensures log { IfOk result (λ first. IfSome (V.told store.old) (λ fs. BeginsWith fs first.1 × IsWindow fs.log first.0)) }
     ensures anchor { IfOk result (λ first. IfSome (V.told store.old) (λ fs. IsAnchor fs.anchor first.2)) }
+    ensures small { IfOk result (λ first. first.2 < 2 ^ 62) }
     ensures bad { IfErr result (λ e. (file : Name) (at : ℕ) → e ≡ errors.BadStore file at → IfSome (V.told store.old) (λ fs. IsBadLog fs file at ⊎ IsBadAnchor fs file at)) }
     ensures formatted { IsErrOf result errors.Formatted → ⊥ }
     ensures unformatted { IsErrOf result errors.Unformatted → IfSome (V.told store.old) (λ fs. IsUnformatted fs.log) }
@@ -258,11 +264,14 @@ fn read_first<V: Store>(
 /// record, the number of the current image, the image with its table, and a reader that goes on at its place. All files
 /// are synced first. No byte of the log between the first batch and the image's place is read.
 ///
-/// `Unformatted` exactly where the log has fewer than two bytes or its first gate is closed. `BadStore` only where the files
-/// are bad at that place; the log's first batch is looked at first, then the anchor, then the current image. `Fault`
-/// exactly where the store's count of faults rose. It takes memory for the image, twice as much while it is read.
+/// `Unformatted` exactly where the log has fewer than two bytes or its first gate is closed. `BadStore` exactly where the
+/// files are bad, at the first place that is: in the log's first batch, else in the anchor, else in the current image.
+/// `Fault` exactly where the store's count of faults rose. What is found is in range, whatever the store tells. It takes
+/// memory for the image, twice as much while it is read.
 pub fn open<V: Store>(alloc: Global, store: &mut V) -> Result<Opened, RestartError>
     ensures opened { IfOk result (λ o. IfSome (V.told store.old) (λ fs. IsOpened fs o.geometry o.current o.header o.regions.items o.table o.reader)) }
+    ensures in_range { IfOk result (λ o. IsInRange o.geometry o.header o.regions.items o.table) }
+    ensures small { IfOk result (λ o. o.current < 2 ^ 62) }
     ensures durable { OnOk result (IfSome (V.told store.old) (λ fs. Only fs (V.may_leave store.new))) }
     ensures bad { IfErr result (λ e. (file : Name) (at : ℕ) → e ≡ errors.BadStore file at → IfSome (V.told store.old) (λ fs. IsBadStore fs file at)) }
     ensures unformatted { IsErrOf result errors.Unformatted → IfSome (V.told store.old) (λ fs. IsUnformatted fs.log) }

@@ -25,6 +25,8 @@ const HEADER: [u8; 64] = [
     0, 0, 0, 0, 0, 0, 0, 9, 0, 0, 0, 0, 0, 0, 0, 4, //
 ];
 
+const TABLE: [u8; 4] = [0, 0, 0, 0];
+
 // A store with this log and this anchor, and no image.
 fn store_of(alloc: Global, log: &[u8], anchor: &[u8]) -> Option<MemoryStore> {
     let log = Vec::from_slice(alloc, log).ok()?;
@@ -117,10 +119,13 @@ fn opened(
     log: &[u8],
     anchor: &[u8],
 ) -> Option<Result<(u64, u64, usize), RestartError>> {
-    let mut store = store_of(alloc, log, anchor)?;
-    match open(alloc, &mut store) {
-        Ok(found) => Some(Ok((found.current, found.header.place, found.regions.len()))),
-        Err(error) => Some(Err(error)),
+    Some(answer_of(alloc, &mut store_of(alloc, log, anchor)?))
+}
+
+fn answer_of<V: Store>(alloc: Global, store: &mut V) -> Result<(u64, u64, usize), RestartError> {
+    match open(alloc, store) {
+        Ok(found) => Ok((found.current, found.header.place, found.regions.len())),
+        Err(error) => Err(error),
     }
 }
 
@@ -166,16 +171,58 @@ impl<'a> Hook for Furthest<'a> {
     }
 }
 
-// The store of the checkpoint.
-fn checkpointed(alloc: Global) -> Option<MemoryStore> {
-    let mut image = Vec::from_slice(alloc, &HEADER).ok()?;
+// The store of the checkpoint, with this log, and this header and table of its image.
+fn checkpointed(alloc: Global, log: &[u8], header: &[u8], table: &[u8]) -> Option<MemoryStore> {
+    let mut image = Vec::from_slice(alloc, header).ok()?;
     for _ in 0..128 {
         image.extend_from_slice(&[0, 0, 0, 0, 0, 0, 0, 7]).ok()?;
     }
-    image.extend_from_slice(&[0, 0, 0, 0]).ok()?;
-    let log = Vec::from_slice(alloc, &LOG).ok()?;
+    image.extend_from_slice(table).ok()?;
+    let log = Vec::from_slice(alloc, log).ok()?;
     let anchor = Vec::from_slice(alloc, &[0xa5, 0xa5, 0]).ok()?;
     Some(MemoryStore::with([log, Vec::new(alloc), image, anchor], Vec::new(alloc)))
+}
+
+// What `open` answers there.
+fn opened_behind(
+    alloc: Global,
+    log: &[u8],
+    header: &[u8],
+    table: &[u8],
+) -> Option<Result<(u64, u64, usize), RestartError>> {
+    Some(answer_of(alloc, &mut checkpointed(alloc, log, header, table)?))
+}
+
+// The log isn't looked at between its first batch and the image's place, and the header before the table.
+#[test]
+fn a_checkpoint_is_refused_at_its_first_bad_place(rt: HostRuntime) -> Result<(), Fail> {
+    let alloc = rt.alloc();
+    let whole = Some(Ok((2, 21, 2)));
+    let mut damaged = LOG;
+    damaged[15] = 0;
+    damaged[19] = 99;
+    let mut torn = LOG;
+    torn[5] = 9;
+    let mut next = HEADER;
+    next[50] = 1;
+    let mut number = HEADER;
+    number[23] = 3;
+    let none = &TABLE[..0];
+    let cut = &[0, 0, 0, 1][..];
+    for (log, header, table, answer) in [
+        (&LOG[..], &HEADER, &TABLE[..], whole),
+        (&damaged, &HEADER, &TABLE, whole),
+        (&torn, &next, cut, bad(FileName::Log, 5)),
+        (&LOG, &number, none, bad(FileName::ImageB, 16)),
+        (&LOG[..21], &HEADER, cut, bad(FileName::ImageB, 24)),
+        (&LOG, &next, cut, bad(FileName::ImageB, 48)),
+        (&LOG, &HEADER, none, bad(FileName::ImageB, 56)),
+        (&LOG, &HEADER, cut, bad(FileName::ImageB, 1092)),
+        (&damaged, &HEADER, cut, bad(FileName::ImageB, 1092)),
+    ] {
+        assert_eq!(rt; opened_behind(alloc, log, header, table), answer);
+    }
+    Ok(())
 }
 
 // What is found there: the image's place and next number, a word, and how many transactions.
@@ -195,7 +242,10 @@ fn found<V: Store>(alloc: Global, store: &mut V) -> Option<(u64, u64, u64, usize
 // The same, and how far the log was read.
 fn found_and_read(alloc: Global) -> Option<((u64, u64, u64, usize), u64)> {
     let end = Cell::new(0);
-    let mut watch = Watch::new(checkpointed(alloc)?, Furthest { end: &end });
+    let mut watch = Watch::new(
+        checkpointed(alloc, &LOG, &HEADER, &TABLE)?,
+        Furthest { end: &end },
+    );
     let found = found(alloc, &mut watch)?;
     Some((found, end.get()))
 }

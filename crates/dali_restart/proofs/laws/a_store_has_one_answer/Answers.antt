@@ -1,4 +1,4 @@
-use Rattle.dali_restart.proofs.Finding.{one_answer}
+use Rattle.dali_restart.proofs.Exact.{one_answer}
 use Rattle.dali_restart.proofs.laws.a_store_has_one_answer.Goals as goal
 
 pub returns : goal.returns

@@ -5,7 +5,7 @@ use Rattle.dali_store.specs.Store.{file_of}
 use Rattle.dali_traces.specs.Disks.{image_name}
 use Rattle.dali_restart.specs.Opening.{BadImageAt, expected}
 use Rattle.dali_restart.proofs.Causes.{image_bad}
-use Rattle.dali_restart.proofs.Finding.{found_bad}
+use Rattle.dali_restart.proofs.Finding.{found_bad, stands_in_range}
 use Rattle.dali_restart.proofs.opening.current_image.Goals as goal
 
 pub returns-in-Err-read_image-clause-bad : goal.returns-in-Err-read_image-clause-bad
@@ -17,3 +17,6 @@ returns-in-Err-read_image-clause-bad g c file at h =
     (subst (λ (side : Side). file ≡ image_name side) c.side_of.ensures n.0)
     c.in-Ok-length.ensures.length
     (subst (λ (side : Side). IfSome (told c.length.new.self) (λ fs. BadImageAt (file_of (image_name side) fs) x at)) c.side_of.ensures n.1)
+
+pub returns-in-Ok-clause-in_range : goal.returns-in-Ok-clause-in_range
+returns-in-Ok-clause-in_range g c = stands_in_range c.args.geometry c.in-Ok.image.header c.in-Ok.image.regions.items c.in-Ok.image.table c.in-Ok.ensures

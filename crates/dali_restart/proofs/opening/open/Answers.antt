@@ -1,6 +1,5 @@
-use Rattle.std.proofs.Common.{sym, ◌∙◌}
-use Rattle.dali_restart.proofs.Causes.{log_bad, one_place}
-use Rattle.dali_restart.proofs.Finding.{first_bad, image_bad, end_bad}
+use Rattle.dali_restart.proofs.Exact.{never_before}
+use Rattle.dali_restart.proofs.Finding.{first_bad, image_bad}
 use Rattle.dali_restart.proofs.opening.open.Goals as goal
 
 pub returns-in-Err-clause-bad : goal.returns-in-Err-clause-bad
@@ -17,7 +16,5 @@ pub returns-in-Err-seek-clause-bad : goal.returns-in-Err-seek-clause-bad
 returns-in-Err-seek-clause-bad g c file at h =
     let told = g.V.Store.told in
     let image = c.in-Ok-current_image.image in
-    let b = log_bad c.in-Err-seek.error file at (sym c.into.ensures ∙ h) in
-    end_bad c.in-Ok.first.1 c.in-Ok.first.2 image.header image.regions.items image.table c.in-Ok.first.0 file at (told c.args.store.now) (told c.sync_all.new.store) (told c.read_first.new.store)
-    c.sync_all.ensures.reads.same c.in-Ok.ensures.reads.same c.in-Ok.ensures.log c.in-Ok.ensures.anchor c.in-Ok-current_image.ensures.ok
-    b.0 (one_place c.seek.result c.in-Err-seek.error at image.header.place c.in-Err-seek.is b.1 (c.in-Err-seek.is ∙ c.in-Err-seek.ensures.err.0)) c.in-Err-seek.ensures.bad
+    never_before c.in-Ok.first.1 c.in-Ok.first.2 image.header image.regions.items image.table c.in-Ok.first.0 file at (told c.args.store.now) (told c.sync_all.new.store) (told c.read_first.new.store)
+    c.sync_all.ensures.reads.same c.in-Ok.ensures.reads.same c.in-Ok.ensures.log c.in-Ok-current_image.ensures.ok c.in-Err-seek.ensures.err.1

@@ -35,3 +35,6 @@ returns-in-Err-BadRecord-clause-bad c = λ bad e log start front done read.
     let none = c.decode.ensures.bad.0 (bad_at c.decode.result c.in-Err-BadRecord.field-0 c.new-reader.result.at c.in-Err-BadRecord.field-0-0 c.in-Err-BadRecord.is c.in-Err-BadRecord.field-0-is c.decode.ensures.errors) in
     subst (BadBehind log start front) here (bad_record log c.args.self.now start front done c.requires.left (whole.there c.requires.left) read part taken
     (subst (λ (l : List ℕ). (r : Record) → Begins l r → ⊥) (ap left c.new-reader.ensures) none))
+
+pub returns-in-Ok-clause-spelled : goal.returns-in-Ok-clause-spelled
+returns-in-Ok-clause-spelled c = c.in-Ok.ensures.record.0

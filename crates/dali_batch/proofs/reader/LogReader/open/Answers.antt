@@ -1,10 +1,10 @@
 use Rattle.std.proofs.Common.{◌≡◌, ◌∙◌, ◌+◌, arith, sym, refl, rules, length, take, drop, subst}
 use Rattle.std.specs.Prelude.{IsNone}
 use Rattle.std.proofs.lemmas.Result.{err_from_is_err_and}
-use Rattle.dali_batch.specs.Log.{BadAt}
+use Rattle.dali_batch.specs.Log.{IsBadFirst}
 use Rattle.dali_batch.specs.Stream.{IsWindow}
 use Rattle.dali_batch.proofs.Finds.{if_some_two, if_some_three, if_some_same}
-use Rattle.dali_batch.proofs.Fronts.{log_bad, first_bad, first_front, no_format, run_of_front}
+use Rattle.dali_batch.proofs.Fronts.{log_bad, first_bad, bad_of_first, first_front, no_format, run_of_front}
 use Rattle.dali_batch.proofs.Streaming.{part_of, empty_window, first_read}
 use Rattle.dali_batch.proofs.reader.LogReader.open.Goals as goal
 
@@ -27,7 +27,28 @@ returns-in_default-format_of-clause-bad g c = λ bad e.
     let found = is start in
     let seen = opens start in
     let body = part_of fs.log c.batch_at.new.self 5 c.in-Some.size seen there.0 in
-    subst (BadAt fs.log) five (no_format fs.log (take c.in-Some.size (drop (0 + 5) fs.log)) found.0 (λ index heap can same. c.format_of.ensures.none nothing index heap can (c.part.ensures ∙ body.1 ∙ same))))
+    subst (IsBadFirst fs.log) five (no_format fs.log (take c.in-Some.size (drop (0 + 5) fs.log)) found.0 (λ index heap can same. c.format_of.ensures.none nothing index heap can (c.part.ensures ∙ body.1 ∙ same))))
+
+pub returns-in_err-size-clause-log : goal.returns-in_err-size-clause-log
+returns-in_err-size-clause-log g c =
+    let p = err_from_is_err_and c.from_residual-in_err-size.result c.from_residual-in_err-size.ensures.1 in
+    rw (p.1, p.2) (λ bad e.
+    if_some_two _ _ _ (g.V.Store.told c.args.store.now) c.in_ok-length.ensures.length (if_some_same _ _ _ c.length.ensures.told (c.in_err-size.ensures.bad bad (log_bad c.in_err-size.field-0.0 bad e)))
+    (λ fs long is. bad_of_first fs.log bad (first_bad fs.log bad (omega (arith, long, c.if-length-lt2.false)) (is (empty_window fs.log _ long c.new.ensures.items refl)))))
+
+pub returns-in_default-format_of-clause-log : goal.returns-in_default-format_of-clause-log
+returns-in_default-format_of-clause-log g c = λ bad e.
+    let five : 5 ≡ bad = cc in
+    let nothing : IsNone c.format_of.result = search rules in
+    let batch = if_some_same _ _ _ c.length.ensures.told (rw c.in-Some.is at c.in_ok-size.ensures.batch) in
+    let window = if_some_same _ _ _ c.length.ensures.told c.in_ok-size.ensures.window in
+    let there = rw c.in-Some.is at c.in_ok-size.ensures.there in
+    if_some_three _ _ _ _ (g.V.Store.told c.args.store.now) c.in_ok-length.ensures.length batch window (λ fs long is opens.
+    let start = empty_window fs.log _ long c.new.ensures.items refl in
+    let found = is start in
+    let seen = opens start in
+    let body = part_of fs.log c.batch_at.new.self 5 c.in-Some.size seen there.0 in
+    bad_of_first fs.log bad (subst (IsBadFirst fs.log) five (no_format fs.log (take c.in-Some.size (drop (0 + 5) fs.log)) found.0 (λ index heap can same. c.format_of.ensures.none nothing index heap can (c.part.ensures ∙ body.1 ∙ same)))))
 
 pub returns-clause-first : goal.returns-clause-first
 returns-clause-first g c =
