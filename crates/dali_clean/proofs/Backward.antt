@@ -71,6 +71,10 @@ is_taken_back p q g h k w is =
     let held = live_hold h w.operation.txn w.operation.block w.is_open in
     (w.steps ++ TakesRegionBack ∷ [], goes_on p.txn g h k w.steps (TakesRegionBack ∷ []) w.goes (held.1, held.0, sym is), ap (λ (x : RegionState). x.hold) is)
 
+pub promise_kept : (p q : TakeBack) (g h k : RegionState) (y z : Served) → Rewritten p g q h → IfSome q.operation (λ o. (z ≡ record y { state = back_logged y.state q.txn o.block }) × (k ≡ touched h)) → z.promised ≡ y.promised
+promise_kept p q g h k y z w ok =
+    ap (λ (x : Served). x.promised) (subst (λ (x : TakeBack). IfSome x.operation (λ o. (z ≡ record y { state = back_logged y.state x.txn o.block }) × (k ≡ touched h))) w.is ok).0
+
 pub undone : (p q r : TakeBack) (g h k : RegionState) (y z : Served) → Rewritten p g q h
     → IfSome q.operation (λ o. (z ≡ record y { state = back_logged y.state q.txn o.block }) × (k ≡ touched h))
     → r ≡ record q { next = next_undo (undos_at z.state.table q.txn) q.down_to; operation = None } → y.state.stop ≡ None

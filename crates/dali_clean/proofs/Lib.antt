@@ -3,4 +3,5 @@ pub mod Writing
 pub mod Backward
 pub mod Courses
 pub mod Cleaning
+pub mod Others
 pub mod Guards

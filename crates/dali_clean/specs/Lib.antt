@@ -1,3 +1,4 @@
 pub mod Undone
 pub mod Refused
 pub mod Cleaned
+pub mod Others

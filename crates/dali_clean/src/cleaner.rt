@@ -7,6 +7,7 @@ ghost use Rattle.dali_core.specs.Refused.{stop_refusal};
 ghost use Rattle.dali_core.specs.declared.error.SystemError.TheVariants.{OutOfMemory as Memory};
 ghost use Rattle.dali_clean.specs.declared.error.CleanError.TheVariants.{NotDead as IsNotDead, Stopped, OutOfMemory};
 ghost use Rattle.dali_clean.specs.Cleaned.{AreDead, MayClean, IsDead, IsLeftAt, IsRecovered, IsCleaning, Claims, LeadsOn, Ends, GivesBack};
+ghost use Rattle.dali_clean.specs.Others.{OthersStay, PromisesStay, IsGone, HasKept};
 
 use crate::error::CleanError;
 use crate::undoing::{release, undo};
@@ -29,6 +30,8 @@ fn claim(regions: &mut [Region], system: &mut System, txn: u64) -> Result<(), No
     ensures ok { OnOk result (Claims regions.old system.old.state txn regions.new system.new.state) }
     ensures was { OnOk result (IsDead (state_of system.old.state txn)) }
     ensures err { OnErr result ((system.new ≡ system.old) × (regions.new ≡ regions.old) × (IsDead (state_of system.old.state txn) → ⊥)) }
+    ensures others { OthersStay regions.old system.old.state txn regions.new system.new.state }
+    ensures kept { HasKept system.old system.new }
 {
     match system.claim(txn) {
         Ok(latched) => {
@@ -48,6 +51,8 @@ fn take_back(regions: &mut [Region], system: &mut System, txn: u64) -> Result<()
     ensures all { OnOk result (undos_at system.new.state.table txn ≡ []) }
     ensures refused { OnErr result (IfSome (stop_refusal system.old.state) (λ e. result ≡ Err e)) }
     ensures memory { stop_refusal system.old.state ≡ None → IfErr result (λ e. e ≡ Memory) }
+    ensures others { OthersStay regions.old system.old.state txn regions.new system.new.state }
+    ensures kept { HasKept system.old system.new }
 {
     let mut back = TakeBack::new(system, txn, 0);
     while let Want::Region { region } = back.wants() {
@@ -69,6 +74,10 @@ fn finish(regions: &mut [Region], system: &mut System, txn: u64) -> Result<(), S
     ensures is { OnErr result (IsCleaning regions.new system.new.state txn) }
     ensures refused { IfSome (stop_refusal system.old.state) (λ e. result ≡ Err e) }
     ensures memory { stop_refusal system.old.state ≡ None → IfErr result (λ e. e ≡ Memory) }
+    ensures others { OthersStay regions.old system.old.state txn regions.new system.new.state }
+    ensures promises { PromisesStay system.old txn system.new }
+    ensures gone { OnOk result (IsGone system.new.state txn) }
+    ensures kept { OnErr result (HasKept system.old system.new) }
 {
     match take_back(regions, system, txn) {
         Ok(()) => {}
@@ -82,7 +91,7 @@ fn finish(regions: &mut [Region], system: &mut System, txn: u64) -> Result<(), S
 
 /// Cleans up a transaction whose client died: takes back the operation in which it died, performs its undos, the last one
 /// first, and logs its end. An operation that another dead client left on a region in the way is taken back first; that
-/// client's transaction is dead as before.
+/// client's transaction is dead as before, with no region latched. Nothing else of other transactions changes.
 ///
 /// `NotDead` exactly where the transaction isn't dead, and then nothing changes. `Stopped` exactly where it is and the
 /// engine is stopped, with that cause, else `OutOfMemory` where memory for a record is refused: what was taken back
@@ -96,6 +105,10 @@ pub fn clean(regions: &mut [Region], system: &mut System, txn: u64) -> Result<()
     ensures dead { AreDead regions.new }
     ensures refused { IsDead (state_of system.old.state txn) → IfSome system.old.state.stop (λ cause. result ≡ Err (Stopped cause)) }
     ensures memory { system.old.state.stop ≡ None → IfErr result (λ e. (e ≡ IsNotDead → ⊥) → e ≡ OutOfMemory) }
+    ensures others { OthersStay regions.old system.old.state txn regions.new system.new.state }
+    ensures promises { PromisesStay system.old txn system.new }
+    ensures gone { OnOk result (IsGone system.new.state txn) }
+    ensures kept { OnErr result (HasKept system.old system.new) }
 {
     match claim(regions, system, txn) {
         Ok(()) => {}

@@ -202,6 +202,96 @@ fn a_dead_transaction_is_cleaned_up(rt: HostRuntime) -> Result<(), Fail> {
     Ok(())
 }
 
+// Writes the first word of an operation of a transaction on a region, and then its client dies.
+#[tactic(auto, using(crate::proofs::Guards::is_live))]
+fn die_in(system: &mut System, region: &mut Region, number: u32, txn: u64, op: Op) -> bool
+    requires { IsOperation op }
+{
+    let Ok(mut operation) = Operation::start(region, number, txn, 8, op, true) else {
+        return false;
+    };
+    let written = operation.update(region);
+    region.mark_dead();
+    match system.state(txn) {
+        Some(State::Live) => {
+            system.mark_dead(txn, Some(number));
+            written
+        }
+        _ => false,
+    }
+}
+
+// Cleans a transaction up that died with region 0 latched, where another one died with region 1 latched.
+#[tactic(auto, using(crate::proofs::Guards::may_clean_over))]
+fn cleaned_over(
+    regions: [Region; 2],
+    system: &mut System,
+    txn: u64,
+) -> Option<([Region; 2], Result<(), CleanError>)> {
+    let [index, heap] = regions;
+    let (Some(own), Some(other)) = (index.hold(), heap.hold()) else {
+        return None;
+    };
+    if !own.dead || own.txn != txn || !other.dead || other.txn == txn {
+        return None;
+    }
+    let Some(State::Dead { latched: Some(0) }) = system.state(txn) else {
+        return None;
+    };
+    if system.geometry().regions() != 2 {
+        return None;
+    }
+    if !of_kind(&system.geometry(), system.table().undos(txn)) {
+        return None;
+    }
+    let mut regions = [index, heap];
+    let answer = clean(&mut regions, system, txn);
+    Some((regions, answer))
+}
+
+// Two clients die: the transaction 5 with a put logged and an add begun, 6 with a put begun in the region of the first
+// one's. Then 5 is cleaned up: its answer, whether the words are as before, both states, and how many records the log has.
+fn die_and_clean_over(
+    alloc: Global,
+) -> Option<
+    (
+        Result<(), CleanError>,
+        Option<bool>,
+        [Option<State>; 2],
+        u64,
+    ),
+> {
+    let mut system = begun(alloc)?;
+    let Ok((6, _)) = system.begin() else {
+        return None;
+    };
+    let mut regions = formatted()?;
+    let Some(Ok(_)) = put_in(&mut system, &mut regions[1], 5) else {
+        return None;
+    };
+    let add = Op::Add { place: 9 };
+    if !die_in(&mut system, &mut regions[0], 0, 5, add)
+        || !die_in(&mut system, &mut regions[1], 1, 6, put()?)
+    {
+        return None;
+    }
+    let (mut regions, answer) = cleaned_over(regions, &mut system, 5)?;
+    let free = is_free_again(&mut regions);
+    let states = [system.state(5), system.state(6)];
+    Some((answer, free, states, system.records()))
+}
+
+// Two begins, a put, its taking back and the end are logged; the other transaction is dead as before, without a region.
+#[test]
+fn both_holds_of_dead_clients_are_freed(rt: HostRuntime) -> Result<(), Fail> {
+    let dead = Some(State::Dead { latched: None });
+    assert_eq!(rt;
+        die_and_clean_over(rt.alloc()),
+        Some((Ok(()), Some(true), [None, dead], 8))
+    );
+    Ok(())
+}
+
 // The answers for a live transaction and for one that isn't there.
 fn not_dead(alloc: Global) -> Option<[Result<(), CleanError>; 2]> {
     let mut system = begun(alloc)?;

@@ -33,6 +33,7 @@ pub(crate) fn undo(
     ensures ok { OnOk result (Undone back.old region.old system.old.state back.new region.new system.new.state) }
     ensures undoes { OnOk result (IfSome back.new.next (λ u. IsUndo u.undo)) }
     ensures err { OnErr result ((system.new ≡ system.old) × IsTakenBack back.old.txn region.old region.new) }
+    ensures promised { system.new.promised ≡ system.old.promised }
     ensures refused { IfSome (stop_refusal system.old.state) (λ e. result ≡ Err e) }
     ensures memory { stop_refusal system.old.state ≡ None → IfErr result (λ e. e ≡ Memory) }
 {

@@ -1,6 +1,6 @@
 -- A transaction that just began is live, and has nothing to take back; a plan driven by hand is at rest; for the tests.
-use Rattle.std.proofs.Common.{◌≡◌, ℕ, Bool, List, Option, Some, None, [], refl, sym, ap, subst, ◌∙◌, length}
-use Rattle.std.specs.Prelude.{if◌then◌else◌}
+use Rattle.std.proofs.Common.{◌≡◌, ◌≤◌, ℕ, Bool, true, false, List, Option, Some, None, [], refl, sym, ap, subst, ◌∙◌, length}
+use Rattle.std.specs.Prelude.{◌==◌, if◌then◌else◌}
 use Rattle.std.specs.List.{AllByRecursion}
 use Rattle.std.specs.Option.{option_map_or}
 use Rattle.std.specs.FinMap.{get}
@@ -8,7 +8,7 @@ use Rattle.std.proofs.lemmas.Bool.Decides.{Decides-eqb}
 use Rattle.dali_geometry.specs.Places.{regions}
 use Rattle.dali_record.specs.declared.operations.Pending.{Pending}
 use Rattle.dali_region.specs.State.{RegionState}
-use Rattle.dali_att.specs.declared.state.State.TheVariants.{Live}
+use Rattle.dali_att.specs.declared.state.State.TheVariants.{Live, Committed}
 use Rattle.dali_att.specs.Table.{Table, fresh_row}
 use Rattle.dali_att.proofs.Changes.{get-added}
 use Rattle.dali_system.specs.State.{TxnRow, SystemState, row_of, state_of, state_in}
@@ -17,7 +17,12 @@ use Rattle.dali_calls.specs.declared.plan.Phase.TheVariants.{Calling}
 use Rattle.dali_calls.specs.Plans.{Planned}
 use Rattle.dali_single.specs.Stands.{IsAtRest}
 use Rattle.dali_facts.specs.Undos.{MayBePerformed}
-use Rattle.dali_single.specs.Single.{AreCovered, Keeps}
+use Rattle.dali_core.specs.Served.{Served}
+use Rattle.dali_core.specs.Promised.{promised_to}
+use Rattle.dali_single.specs.Single.{AreCovered, Keeps, OthersStay, PromisesStay}
+use Rattle.dali_single.specs.Settling.{MayFree, settle_room}
+use Rattle.dali_single.specs.Others.{IsReady}
+use Rattle.dali_single.proofs.Promising.{promises_same, begun_promises, begun_others, settling_waits}
 use Rattle.dali_single.specs.Advanced.{Advanced}
 
 row_begun : (y : SystemState) → row_of (begun y) y.next ≡ Some fresh_row
@@ -48,3 +53,28 @@ rest_stopped rs y z p sizes table rest = record {
 
 pub still_calling : (precheck : Bool) (rs rs' : List RegionState) (y y' : SystemState) (p q : Planned) → Advanced precheck rs y p rs' y' q → p.phase ≡ Calling → q.phase ≡ Calling
 still_calling precheck rs rs' y y' p q goes calling = ap (λ (x : Planned). x.phase) goes.same ∙ calling
+
+apart_from : (u t : ℕ) → (u ≡ t → ⊥) → (b : Bool) → (u == t) ≡ b → b ≡ false
+apart_from u t other true e = absurd (other ((Decides-eqb u t).0 e))
+apart_from u t other false e = refl
+
+-- ---- what is committed waits while another one begins, makes a call and commits
+pub waits_for : (s s2 s3 s4 : Served) (t u : ℕ) (us : List Pending) → (u ≡ t → ⊥) → AllByRecursion (MayFree s.state t) us → state_of s.state t ≡ Some Committed → settle_room (length us) ≤ promised_to s.promised t
+    → s2 ≡ record s { state = begun s.state } → u ≡ s.state.next → Keeps s2.state u s3.state → s3.promised ≡ s2.promised → s4.state.sizes ≡ s3.state.sizes → OthersStay s3.state u s4.state → PromisesStay s3 u s4
+    → IsReady s4 t us
+waits_for s s2 s3 s4 t u us other may committed promised is next keeps same sizes others promises =
+    let apart = apart_from u t other (u == t) refl in
+    settling_waits s3 s4 t u us apart sizes others promises (settling_waits s2 s3 t u us apart keeps.sizes keeps.others (promises_same s2 s3 u same)
+    (settling_waits s s2 t u us apart (ap (λ (x : Served). x.state.sizes) is) (begun_others s.state s2.state u (ap (λ (x : Served). x.state) is) next) (begun_promises s s2 u is) (record { may = may; committed = committed; promised = promised })))
+
+-- ---- one operation of a plan that is driven by hand
+pub none_advanced : (precheck : Bool) (rs : List RegionState) (y : SystemState) (p : Planned) → IsAtRest rs y p → Advanced precheck rs y p rs y p
+none_advanced precheck rs y p rest = record {
+  rest = rest;
+  sizes = refl;
+  locks = refl;
+  rows = λ u e. refl;
+  same = refl;
+  undos = λ before e. e;
+  goes = λ L v at. record { log = L; steps = []; leads = (refl, refl); at = at };
+}

@@ -8,6 +8,7 @@ pub mod Refusing
 pub mod Calling
 pub mod Causes
 pub mod Undoing
-pub mod Guards
 pub mod Settled
+pub mod Promising
+pub mod Guards
 pub mod Standing

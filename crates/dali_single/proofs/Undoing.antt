@@ -122,6 +122,10 @@ undone p q r g h k y z w ok next runs =
       next = next ∙ ap (λ (x : TakeBack). record x { next = next_undo (undos_at z.state.table x.txn) x.down_to; operation = None }) w.is;
     }
 
+pub promise_kept : (p q : TakeBack) (g h k : RegionState) (y z : Served) → Rewritten p g q h → IfSome q.operation (λ o. (z ≡ record y { state = back_logged y.state q.txn o.block }) × (k ≡ touched h)) → z.promised ≡ y.promised
+promise_kept p q g h k y z w ok =
+    ap (λ (x : Served). x.promised) (subst (λ (x : TakeBack). IfSome x.operation (λ o. (z ≡ record y { state = back_logged y.state x.txn o.block }) × (k ≡ touched h))) w.is ok).0
+
 -- ---- the last undo
 last_same : (us : List Pending) → table_last us ≡ last_of us
 last_same [] = refl

@@ -181,3 +181,13 @@ operated precheck p q r g h k y z w clean onward back is = record {
     came_back : (z ≡ record y { state = back_logged y.state p.txn b }) × (y.state.stop ≡ None) × (r ≡ went_back p)
         → (z.state ≡ back_logged y.state p.txn b) × (y.state.stop ≡ None) × (r ≡ went_back p)
     came_back h = (ap (λ (x : Served). x.state) h.0, h.1, h.2)
+
+pub promised_still : (p q r : Planned) (g h : RegionState) (y z : Served) → Written p g q h
+    → (is_back q ≡ false → IfSome q.operation (λ o. (z ≡ record y { state = op_logged y.state q.txn o.block }) × HasRoom y.state (Forward q.txn o.block) × GoesOn q o.block r))
+    → (is_back q ≡ true → IfSome q.operation (λ o. (z ≡ record y { state = back_logged y.state q.txn o.block }) × (y.state.stop ≡ None) × (r ≡ went_back q)))
+    → z.promised ≡ y.promised
+promised_still p q r g h y z w onward back = by_way (is_back p) refl
+  where
+    by_way : (b : Bool) → is_back p ≡ b → z.promised ≡ y.promised
+    by_way false e = ap (λ (x : Served). x.promised) (subst (λ (x : Planned). is_back x ≡ false → IfSome x.operation (λ o. (z ≡ record y { state = op_logged y.state x.txn o.block }) × HasRoom y.state (Forward x.txn o.block) × GoesOn x o.block r)) w.is onward e).0
+    by_way true e = ap (λ (x : Served). x.promised) (subst (λ (x : Planned). is_back x ≡ true → IfSome x.operation (λ o. (z ≡ record y { state = back_logged y.state x.txn o.block }) × (y.state.stop ≡ None) × (r ≡ went_back x))) w.is back e).0

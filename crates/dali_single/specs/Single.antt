@@ -5,6 +5,7 @@
 --     Leads precheck t L c xs M d      these steps of t, none of which is such an end, lead from the log L and the core c to the log M and the core d
 --     OthersStay y t z         each other transaction has the row and the locks that it had
 --     HoldsStay t c d          it has the regions latched that it had
+--     PromisesStay s t z       it has the memory promised that it had
 --     IsGone y t               t has no row, so nothing to take back, and no lock
 --     StandAside t L c M d     so it is, and the rules of the log have it where they had it
 --     MayCall L c t            t is between two calls, and has no region latched
@@ -16,7 +17,7 @@
 --     AreCovered y t           each undo of t may be performed: it is on a region of its kind, and t has its key alone
 --     RunCovers                so it is at each point of a run
 --     Keeps y t z              the system has the sizes that it had, t its state, and undos that are covered where they were; and others stay
-use Rattle.std.specs.Prelude.{◌≡◌, ◌==◌, ◌<◌, ◌↔◌, ◌⊎◌, ℕ, Bool, true, false, List, [], ◌∷◌, ◌++◌, Some, None, IsSomeAnd, IfSome, slice_get}
+use Rattle.std.specs.Prelude.{◌≡◌, ◌==◌, ◌<◌, ◌≤◌, ◌↔◌, ◌⊎◌, ℕ, Bool, true, false, List, [], ◌∷◌, ◌++◌, Some, None, IsSomeAnd, IfSome, slice_get}
 use Rattle.std.specs.List.{AllByRecursion}
 use Rattle.dali_record.specs.declared.records.Answer.{Answer}
 use Rattle.dali_record.specs.declared.records.Call.{Call}
@@ -32,6 +33,8 @@ use Rattle.dali_system.specs.Run.{Bases, RunsOn}
 use Rattle.dali_system.specs.Keeps.{IsFree, with_system}
 use Rattle.dali_system.specs.Steps.{refused}
 use Rattle.dali_system.specs.Courses.{Step, Operates, TakesBack, Frees, Answers, Commits, Ends, Locks, OnRegion, IsStep}
+use Rattle.dali_core.specs.Served.{Served}
+use Rattle.dali_core.specs.Promised.{promised_to}
 use Rattle.dali_facts.specs.Plans.{AtWork}
 use Rattle.dali_facts.specs.Undos.{MayBePerformed}
 use Rattle.dali_calls.specs.Steps.{call_key}
@@ -70,6 +73,9 @@ Leads precheck t L c (x ∷ xs) M d = (K : List Record) × (e : CoreState) × (I
 abbrev pub OthersStay : SystemState → ℕ → SystemState → Type 0
 OthersStay y t z = (u : ℕ) → (t == u) ≡ false → (row_of z u ≡ row_of y u) × ((k : ℕ) → lock_of z u k ≡ lock_of y u k)
 
+abbrev pub PromisesStay : Served → ℕ → Served → Type 0
+PromisesStay s t z = (u : ℕ) → (t == u) ≡ false → promised_to z.promised u ≡ promised_to s.promised u
+
 abbrev pub IsGone : SystemState → ℕ → Type 0
 IsGone y t = (row_of y t ≡ None) × ((k : ℕ) → lock_of y t k ≡ None)
 
@@ -77,10 +83,14 @@ abbrev pub HoldsStay : ℕ → CoreState → CoreState → Type 0
 HoldsStay t c d = (u r : ℕ) (h : Hold) → (t == u) ≡ false → h.txn ≡ u → (hold_of c r ≡ Some h) ↔ (hold_of d r ≡ Some h)
 
 pub record StandAside (t : ℕ) (L : List Record) (c : CoreState) (M : List Record) (d : CoreState) : Type 0 where
+  pub sizes : d.system.sizes ≡ c.system.sizes
+  pub next : c.system.next ≤ d.system.next
   pub system : OthersStay c.system t d.system
   pub holds : HoldsStay t c d
   -- a number that wasn't given yet may have become that of a solo
   pub rules : (u : ℕ) → (t == u) ≡ false → u < c.system.next → txn_state c.system.sizes u M ≡ txn_state c.system.sizes u L
+  -- and one that isn't given yet has no record
+  pub later : (n : ℕ) → (t == n) ≡ false → d.system.next ≤ n → txn_state c.system.sizes n M ≡ txn_state c.system.sizes n L
 
 -- ---- a call
 pub record MayCall (L : List Record) (c : CoreState) (t : ℕ) : Type 0 where

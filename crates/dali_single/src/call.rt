@@ -31,6 +31,7 @@ pub(crate) fn advance(
     ensures ends { OnOk result (plan_next plan.new ≡ None) }
     ensures whole { IsWhole plan.new }
     ensures cause { IfErr result (Halts precheck regions.old system.old.state plan.old regions.new system.new.state plan.new) }
+    ensures promised { system.new.promised ≡ system.old.promised }
 {
     while let Want::Region { region } = plan.wants() {
         match operate(plan, &mut regions[region as usize], system, precheck) {
@@ -42,7 +43,7 @@ pub(crate) fn advance(
 }
 
 // Makes the operations of a call, and logs its answer.
-fn finish(
+pub(crate) fn finish(
     plan: &mut Plan,
     regions: &mut [Region],
     system: &mut System,
@@ -53,6 +54,7 @@ fn finish(
     ensures ok { IfOk result (λ a. Finished precheck regions.old system.old.state plan.old a regions.new system.new.state) }
     ensures err { OnErr result (Advanced precheck regions.old system.old.state plan.old regions.new system.new.state plan.new) }
     ensures cause { IfErr result (Halts precheck regions.old system.old.state plan.old regions.new system.new.state plan.new) }
+    ensures promised { system.new.promised ≡ system.old.promised }
 {
     match advance(plan, regions, system, precheck) {
         Ok(()) => {}
@@ -73,7 +75,8 @@ pub(crate) fn give_up(
 ) -> CallError
     requires rest { IsAtRest regions.old system.old.state plan.old }
     requires calling { plan.old.phase ≡ Calling }
-    ensures { GivenUp result cause regions.old system.old.state plan.old regions.new system.new.state }
+    ensures given_up { GivenUp result cause regions.old system.old.state plan.old regions.new system.new.state }
+    ensures promised { system.new.promised ≡ system.old.promised }
 {
     plan.refuse();
     match advance(plan, regions, system, false) {
@@ -100,6 +103,7 @@ pub fn perform(
         → IsAnswered precheck L (core regions.old system.old.state v) txn call a (core regions.new system.new.state v)) }
     ensures err { IfErr result (λ e. (L : List Record) (v : VaultState) → MayCall L (core regions.old system.old.state v) txn
         → Fails precheck e L (core regions.old system.old.state v) txn call (core regions.new system.new.state v)) }
+    ensures promised { system.new.promised ≡ system.old.promised }
 {
     let mut plan = Plan::new(system.geometry(), txn, call);
     let (key, mode) = plan.lock();

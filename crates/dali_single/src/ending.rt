@@ -12,7 +12,7 @@ ghost use Rattle.dali_core.specs.UnderWay.{IsUnderWay};
 ghost use Rattle.dali_single.specs.Stands.{core};
 ghost use Rattle.dali_single.specs.Operated.{AreWritten, IsLeftOf};
 ghost use Rattle.dali_single.specs.Refusals.{IsUnfreed, IsStuck};
-ghost use Rattle.dali_single.specs.Single.{AreCovered, Keeps, OthersStay, IsGone};
+ghost use Rattle.dali_single.specs.Single.{AreCovered, Keeps, OthersStay, PromisesStay, IsGone};
 ghost use Rattle.dali_single.specs.Ending.{IsAtWork, IsEnded, IsStillAtWork, Undone, UndoesFrom};
 
 use crate::error::StepError;
@@ -38,6 +38,7 @@ fn undo(back: &mut TakeBack, region: &mut Region, system: &mut System) -> Result
     ensures undoes { OnOk result (IfSome back.new.next (λ u. IsUndo u.undo)) }
     ensures err { OnErr result ((back.new ≡ back.old) × (system.new ≡ system.old) × IsLeftOf back.old.txn region.old region.new) }
     ensures cause { IfErr result (IsUnfreed region.new system.new.state) }
+    ensures promised { system.new.promised ≡ system.old.promised }
 {
     match back.latch(region, false) {
         Ok(()) => {}
@@ -58,6 +59,7 @@ fn take_back(regions: &mut [Region], system: &mut System, txn: u64) -> Result<()
     ensures goes { UndoesFrom regions.old system.old.state txn regions.new system.new.state }
     ensures all { OnOk result (undos_at system.new.state.table txn ≡ []) }
     ensures cause { IfErr result (IsStuck (next_undo (undos_at system.new.state.table txn) 0) regions.new system.new.state) }
+    ensures promised { system.new.promised ≡ system.old.promised }
 {
     let mut back = TakeBack::new(system, txn, 0);
     while let Want::Region { region } = back.wants() {
@@ -81,8 +83,11 @@ pub fn abort(regions: &mut [Region], system: &mut System, txn: u64) -> Result<()
         → IsStillAtWork L (core regions.old system.old.state v) txn (core regions.new system.new.state v)) }
     ensures cause { IfErr result (IsStuck (next_undo (undos_at system.new.state.table txn) 0) regions.new system.new.state) }
     ensures gone { OnOk result (IsGone system.new.state txn) }
+    ensures sizes { system.new.state.sizes ≡ system.old.state.sizes }
     ensures others { OthersStay system.old.state txn system.new.state }
     ensures again { OnErr result (Keeps system.old.state txn system.new.state) }
+    ensures promised { OnErr result (system.new.promised ≡ system.old.promised) }
+    ensures promises { PromisesStay system.old txn system.new }
 {
     match take_back(regions, system, txn) {
         Ok(()) => {}

@@ -36,6 +36,7 @@ pub(crate) fn operate(
     ensures ok { OnOk result (Operated precheck plan.old region.old system.old.state plan.new region.new system.new.state) }
     ensures err { OnErr result ((plan.new ≡ plan.old) × (system.new ≡ system.old) × IsLeftOf plan.old.txn region.old region.new) }
     ensures cause { IfErr result (IsRefusedOn precheck plan.old region.old system.new.state) }
+    ensures promised { system.new.promised ≡ system.old.promised }
 {
     match plan.latch(region, precheck) {
         Ok(()) => {}

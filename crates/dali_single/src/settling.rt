@@ -16,7 +16,7 @@ ghost use Rattle.dali_core.specs.declared.error.SystemError.TheVariants.{OutOfMe
 ghost use Rattle.dali_single.specs.Stands.{core};
 ghost use Rattle.dali_single.specs.Operated.{AreWritten, IsLeftOf};
 ghost use Rattle.dali_single.specs.Refusals.{IsUnfreed, IsStuck, IsLatched};
-ghost use Rattle.dali_single.specs.Single.{AreCovered, OthersStay, IsGone};
+ghost use Rattle.dali_single.specs.Single.{AreCovered, OthersStay, PromisesStay, IsGone};
 ghost use Rattle.dali_single.specs.Settling.{MayFree, Freed, MayCommit, Commits, IsCommitted, AreFreed, IsSettled, IsLeft, left_behind, settle_room, IsPromised};
 
 use crate::error::StepError;
@@ -59,6 +59,7 @@ fn free(
     ensures cause { IfErr result (IsUnfreed region.new system.new.state) }
     ensures promised { IsPromised system.old txn solo_room → IfErr result IsLatched }
     ensures kept { OnOk result ((n : ℕ) → IsPromised system.old txn (solo_room + n) → IsPromised system.new txn n) }
+    ensures promises { PromisesStay system.old txn system.new }
 {
     let number = system.next();
     let op = freeing_op(&removal.undo);
@@ -102,6 +103,7 @@ fn free_all(
     ensures still { IsPromised system.old txn (settle_room (length removals.now))
         → OnErr result (IsPromised system.new txn (settle_room (length (left_behind system.old.state system.new.state removals.now)))) }
     ensures kept { OnOk result (IsPromised system.old txn (settle_room (length removals.now)) → IsPromised system.new txn (settle_room 0)) }
+    ensures promises { PromisesStay system.old txn system.new }
 {
     for removal in removals {
         match free(removal, &mut regions[removal.region as usize], system, txn) {
@@ -125,7 +127,8 @@ pub fn commit(alloc: Global, system: &mut System, txn: u64) -> Result<Vec<Pendin
     ensures committed { OnOk result (state_of system.new.state txn ≡ Some Committed) }
     ensures promised { IfOk result (λ removals. settle_room (length removals.items) ≤ promised_to system.new.promised txn) }
     ensures others { OthersStay system.old.state txn system.new.state }
-    ensures err { OnErr result (system.new.state ≡ system.old.state) }
+    ensures promises { PromisesStay system.old txn system.new }
+    ensures err { OnErr result (system.new ≡ system.old) }
     ensures refused { IfSome (stop_refusal system.old.state) (λ e. result ≡ Err e) }
     ensures memory { stop_refusal system.old.state ≡ None → IfErr result (λ e. e ≡ Memory) }
 {
@@ -160,6 +163,7 @@ pub fn settle(
     ensures sizes { system.new.state.sizes ≡ system.old.state.sizes }
     ensures gone { OnOk result (IsGone system.new.state txn) }
     ensures others { OthersStay system.old.state txn system.new.state }
+    ensures promises { PromisesStay system.old txn system.new }
 {
     match free_all(regions, system, txn, removals) {
         Ok(()) => {}

@@ -1,11 +1,14 @@
-ghost use Rattle.std.specs.Prelude.{◌≤◌};
+ghost use Rattle.std.specs.Prelude.{◌≡◌, ◌≤◌, IfSome, IfErr};
+ghost use Rattle.dali_single.specs.Stands.{IsAtRest};
+ghost use Rattle.dali_single.specs.Refusals.{IsLatched};
 
-use crate::call::{advance, give_up};
+use crate::call::{advance, finish, give_up};
+use crate::operate::operate;
 use crate::{CallError, StepError, abort, commit, perform, settle};
 use anyhow::{Context, Result};
 use dali_att::State;
 use dali_calls::Plan;
-use dali_core::{System, SystemError};
+use dali_core::{System, SystemError, Want};
 use dali_geometry::Geometry;
 use dali_record::{Answer, Call};
 use dali_region::{LatchError, Region};
@@ -231,6 +234,42 @@ fn an_abort_takes_all_back(rt: HostRuntime) -> Result<()> {
     Ok(())
 }
 
+// Inserts and deletes a key in one transaction and commits it, lets another one insert a key and commit, and frees then
+// what the first one removed.
+#[tactic(auto, using(crate::proofs::Guards::begun_lives, crate::proofs::Guards::begun_covered, crate::proofs::Guards::still_lives))]
+fn settled_later(
+    alloc: Global,
+    regions: &mut [Region; 2],
+    system: &mut System,
+    value: Value,
+) -> Option<Result<(), StepError>>
+    ensures { IfSome result (λ settled. IfErr settled IsLatched) }
+{
+    if system.geometry().regions() != 2 {
+        return None;
+    }
+    let Ok((txn, _)) = system.begin() else {
+        return None;
+    };
+    let _ = perform(regions, system, txn, Call::Insert { key: 1, value }, true);
+    let _ = perform(regions, system, txn, Call::Delete { key: 1 }, true);
+    let Ok(removals) = commit(alloc, system, txn) else {
+        return None;
+    };
+    let Ok((other, _)) = system.begin() else {
+        return None;
+    };
+    if other == txn {
+        return None;
+    }
+    let _ = perform(regions, system, other, Call::Insert { key: 2, value }, true);
+    let _ = commit(alloc, system, other);
+    if system.stopped().is_some() {
+        return None;
+    }
+    Some(settle(regions, system, txn, removals.as_slice()))
+}
+
 // Inserts and deletes a key in one transaction, commits it, and frees what it removed.
 #[tactic(auto, using(crate::proofs::Guards::begun_lives, crate::proofs::Guards::begun_covered, crate::proofs::Guards::still_lives))]
 fn removed(
@@ -268,6 +307,18 @@ fn a_removal_is_freed(rt: HostRuntime) -> Result<()> {
     Ok(())
 }
 
+#[test]
+fn a_settling_waits_for_a_call_of_another(rt: HostRuntime) -> Result<()> {
+    let a = Value::from_bytes(b"a").context("no value")?;
+    let (mut regions, mut system) = begun(&rt, 200_000)?;
+    let settled = settled_later(rt.alloc(), &mut regions, &mut system, a);
+    // the record of the key 2 stands in the second entry and in the second cell
+    let entries = (regions[0].words()[1], regions[0].words()[4]);
+    let cells = (regions[1].words()[8], regions[1].words()[16]);
+    assert_eq!(rt; (settled, entries, cells), (Some(Ok(())), (0, 1), (0, 1)));
+    Ok(())
+}
+
 // An index region whose 21 entries are of other keys.
 fn full() -> Region {
     let mut words = [0; 64];
@@ -291,6 +342,143 @@ fn an_index_without_a_free_entry(rt: HostRuntime) -> Result<()> {
         (answered, regions[1].words()[8], regions[0].words()[0]),
         (Some(Ok(Answer::FullIndex)), 0, 1)
     );
+    Ok(())
+}
+
+#[test]
+fn two_index_regions_without_a_free_entry(rt: HostRuntime) -> Result<()> {
+    let value = Value::from_bytes(b"a").context("no value")?;
+    let insert = Call::Insert { key: 1, value };
+    let geometry = Geometry::new(2, 1)?;
+    let mut regions = [full(), full(), Region::load(geometry.formatted(2))];
+    let mut system = System::new(rt.alloc(), geometry, 1, 1, 10, 200_000)?;
+    system.begin()?;
+    let answered = answer(&mut regions, &mut system, 1, insert);
+    // the put is taken back, and both overflow flags are raised
+    let cell = regions[2].words()[8];
+    let flags = (regions[0].words()[0], regions[1].words()[0]);
+    assert_eq!(rt;
+        (answered, cell, flags),
+        (Some(Ok(Answer::FullIndex)), 0, (1, 1))
+    );
+    Ok(())
+}
+
+// A heap region whose seven cells hold records of other keys.
+fn full_heap() -> Region {
+    let mut words = [0; 64];
+    words[0] = 1;
+    for cell in 1..8 {
+        words[8 * cell] = 1;
+        words[8 * cell + 1] = 100 + cell as u64;
+        words[8 * cell + 2] = 1;
+    }
+    Region::load(words)
+}
+
+// The answer of an insert of the transaction 1 where these of three heap regions are full, and the place in the entry of
+// its key.
+fn put_beside(
+    rt: &HostRuntime,
+    full: [bool; 3],
+) -> Result<(Option<Result<Answer, CallError>>, u64)> {
+    let value = Value::from_bytes(b"a").context("no value")?;
+    let geometry = Geometry::new(1, 3)?;
+    let mut regions = [
+        Region::load(geometry.formatted(0)),
+        Region::load(geometry.formatted(1)),
+        Region::load(geometry.formatted(2)),
+        Region::load(geometry.formatted(3)),
+    ];
+    for heap in 0..3 {
+        if full[heap] {
+            regions[heap + 1] = full_heap();
+        }
+    }
+    let mut system = System::new(rt.alloc(), geometry, 1, 1, 10, 200_000)?;
+    system.begin()?;
+    let insert = Call::Insert { key: 1, value };
+    let answered = answer(&mut regions, &mut system, 1, insert);
+    Ok((answered, regions[0].words()[3]))
+}
+
+#[test]
+fn a_heap_search_begins_in_the_middle(rt: HostRuntime) -> Result<()> {
+    // the transaction 1 begins with the second of them, region 2, whose first place is 17
+    let rows = [
+        ([false, false, false], Answer::Ok, 17),
+        ([false, true, false], Answer::Ok, 25),
+        ([false, true, true], Answer::Ok, 9),
+        ([true, true, true], Answer::FullHeap, 0),
+    ];
+    for (full, wanted, place) in rows {
+        assert_eq!(rt; put_beside(&rt, full)?, (Some(Ok(wanted)), place));
+    }
+    Ok(())
+}
+
+// Makes the next operation of a plan; false where it isn't made.
+fn step(plan: &mut Plan, regions: &mut [Region], system: &mut System) -> bool
+    requires rest { IsAtRest regions.old system.old.state plan.old }
+    ensures rest { IsAtRest regions.new system.new.state plan.new }
+    ensures phase { plan.new.phase ≡ plan.old.phase }
+{
+    match plan.wants() {
+        Want::Region { region } => {
+            match operate(plan, &mut regions[region as usize], system, false) {
+                Ok(()) => true,
+                Err(_) => false,
+            }
+        }
+        _ => false,
+    }
+}
+
+// A delete of the key 1 by the transaction 1, under which the index region gets these words once its cell is killed.
+#[tactic(auto, using(crate::proofs::Guards::rest_begun))]
+fn deleted_over(
+    regions: &mut [Region; 2],
+    system: &mut System,
+    index: [u64; 64],
+) -> Option<Result<Answer, StepError>> {
+    if system.geometry().regions() != 2 {
+        return None;
+    }
+    match system.state(1) {
+        Some(State::Live) => {}
+        _ => return None,
+    }
+    let mut plan = Plan::new(system.geometry(), 1, Call::Delete { key: 1 });
+    if !step(&mut plan, regions, system) || !step(&mut plan, regions, system) {
+        return None;
+    }
+    regions[0] = Region::load(index);
+    Some(finish(&mut plan, regions, system, false))
+}
+
+// Inserts the key 1 and deletes it, where its entry is this one once its cell is killed; and the state of the cell then.
+fn changed_amid(
+    rt: &HostRuntime,
+    entry: [u64; 3],
+) -> Result<(Option<Result<Answer, StepError>>, u64)> {
+    let value = Value::from_bytes(b"a").context("no value")?;
+    let (mut regions, mut system) = begun(rt, 200_000)?;
+    let insert = Call::Insert { key: 1, value };
+    let _ = answer(&mut regions, &mut system, 1, insert);
+    let mut index = [0; 64];
+    index[1..4].copy_from_slice(&entry);
+    let deleted = deleted_over(&mut regions, &mut system, index);
+    Ok((deleted, regions[1].words()[8]))
+}
+
+#[test]
+fn a_kill_of_an_entry_may_find_it_changed(rt: HostRuntime) -> Result<()> {
+    // the entry is free, it is dead, and it is another key's; the kill of the cell is taken back
+    let odd = Some(Ok(Answer::Odd { place: 9 }));
+    for entry in [[0, 1, 9], [2, 1, 9], [1, 2, 9]] {
+        assert_eq!(rt; changed_amid(&rt, entry)?, (odd, 1));
+    }
+    assert_eq!(rt; changed_amid(&rt, [1, 1, 9])?, (Some(Ok(Answer::Ok)), 2));
     Ok(())
 }
 

@@ -1,6 +1,8 @@
-use Rattle.std.proofs.Common.{ap}
+use Rattle.std.proofs.Common.{ap, None}
 use Rattle.dali_core.specs.Served.{Served}
 use Rattle.dali_clean.proofs.Cleaning.{ends_further, given_back}
+use Rattle.dali_clean.proofs.Others.{others_further, dead_others, kept_further, kept_in_state, promises_same, promises_further}
+use Rattle.dali_att.specs.declared.state.State.TheVariants.{Dead}
 use Rattle.dali_clean.proofs.cleaner.clean.Goals as goal
 
 pub returns-in-Ok-finish-clause-ok : goal.returns-in-Ok-finish-clause-ok
@@ -10,3 +12,32 @@ pub returns-in-Err-finish-clause-again : goal.returns-in-Err-finish-clause-again
 returns-in-Err-finish-clause-again c not =
     given_back c.args.regions.now c.claim.new.regions c.finish.new.regions c.args.system.now.state c.claim.new.system.state c.finish.new.system.state c.mark_dead.new.self.state c.args.txn c.in-Ok.ensures.ok.goes c.in-Err-finish.ensures.goes c.in-Err-finish.ensures.is
     (ap (λ (s : Served). s.state) c.mark_dead.ensures)
+
+pub returns-in-Ok-finish-clause-others : goal.returns-in-Ok-finish-clause-others
+returns-in-Ok-finish-clause-others c = others_further c.args.regions.now c.claim.new.regions c.finish.new.regions c.args.system.now.state c.claim.new.system.state c.finish.new.system.state c.args.txn c.claim.ensures.others c.finish.ensures.others
+
+pub returns-in-Err-finish-clause-others : goal.returns-in-Err-finish-clause-others
+returns-in-Err-finish-clause-others c =
+    others_further c.args.regions.now c.finish.new.regions c.finish.new.regions c.args.system.now.state c.finish.new.system.state c.mark_dead.new.self.state c.args.txn
+    (others_further c.args.regions.now c.claim.new.regions c.finish.new.regions c.args.system.now.state c.claim.new.system.state c.finish.new.system.state c.args.txn c.claim.ensures.others c.finish.ensures.others)
+    (dead_others c.finish.new.regions c.finish.new.system.state c.mark_dead.new.self.state c.args.txn (ap (λ (s : Served). s.state) c.mark_dead.ensures))
+
+pub returns-in-Err-clause-others : goal.returns-in-Err-clause-others
+returns-in-Err-clause-others c = c.claim.ensures.others
+
+pub returns-in-Ok-finish-clause-promises : goal.returns-in-Ok-finish-clause-promises
+returns-in-Ok-finish-clause-promises c = promises_further c.args.system.now c.claim.new.system c.finish.new.system c.args.txn (promises_same c.args.system.now c.claim.new.system c.args.txn c.claim.ensures.kept.promised) c.finish.ensures.promises
+
+pub returns-in-Err-finish-clause-promises : goal.returns-in-Err-finish-clause-promises
+returns-in-Err-finish-clause-promises c =
+    promises_further c.args.system.now c.finish.new.system c.mark_dead.new.self c.args.txn (promises_further c.args.system.now c.claim.new.system c.finish.new.system c.args.txn (promises_same c.args.system.now c.claim.new.system c.args.txn c.claim.ensures.kept.promised) c.finish.ensures.promises) (promises_same c.finish.new.system c.mark_dead.new.self c.args.txn (kept_in_state c.finish.new.system c.mark_dead.new.self c.args.txn (Dead None) c.mark_dead.ensures).promised)
+
+pub returns-in-Err-clause-promises : goal.returns-in-Err-clause-promises
+returns-in-Err-clause-promises c = promises_same c.args.system.now c.claim.new.system c.args.txn c.claim.ensures.kept.promised
+
+pub returns-in-Err-finish-clause-kept : goal.returns-in-Err-finish-clause-kept
+returns-in-Err-finish-clause-kept c =
+    kept_further c.args.system.now c.finish.new.system c.mark_dead.new.self (kept_further c.args.system.now c.claim.new.system c.finish.new.system c.claim.ensures.kept c.in-Err-finish.ensures.kept) (kept_in_state c.finish.new.system c.mark_dead.new.self c.args.txn (Dead None) c.mark_dead.ensures)
+
+pub returns-in-Err-clause-kept : goal.returns-in-Err-clause-kept
+returns-in-Err-clause-kept c = c.claim.ensures.kept

@@ -1,16 +1,19 @@
-use Rattle.std.proofs.Common.{◌∙◌, ap, refl}
+use Rattle.std.proofs.Common.{◌∙◌, ap, refl, slice_set}
 use Rattle.dali_region.specs.State.{RegionState}
 use Rattle.dali_core.specs.declared.take_back.TakeBack.{TakeBack}
 use Rattle.dali_clean.proofs.Lists.{get_here}
 use Rattle.dali_clean.proofs.Courses.{stays}
 use Rattle.dali_clean.proofs.Backward.{none_wanted}
 use Rattle.dali_clean.proofs.Cleaning.{region_in, dead_of_quiet, there_still, set_here, turned, turned_as, turn_fewer, refused_turn, undone_next}
+use Rattle.dali_clean.proofs.Others.{others_further, others_same, release_others, undone_others, refused_others, kept_further, kept_same, released_locks, undone_locks}
 use Rattle.dali_clean.proofs.cleaner.take_back.Goals as goal
 
 pub loop-region-init : goal.loop-region-init
 loop-region-init c = record {
   goes = stays c.args.regions.now c.args.system.now.state c.args.txn;
   is = record { regions = c.requires.regions; kind = c.requires.kind; quiet = c.requires.quiet; claimed = c.requires.claimed };
+  others = others_same c.args.regions.now c.args.regions.now c.args.system.now.state c.args.system.now.state c.args.txn refl refl;
+  kept = kept_same c.args.system.now c.args.system.now refl;
   stop = refl;
   txn = c.new-back.ensures.fields.0;
   down = c.new-back.ensures.fields.1;
@@ -56,6 +59,12 @@ loop-region-preserved c =
     record {
       goes = turn.goes;
       is = turn.is;
+      others = others_further c.args.regions.now c.loop-region.regions _ c.args.system.now.state c.loop-region.system.state c.undo.new.system.state c.args.txn c.loop-region.invariant.others
+          (others_further c.loop-region.regions (slice_set c.loop-region.regions c.in-Region.region c.release.new.region) _ c.loop-region.system.state c.release.new.system.state c.undo.new.system.state c.args.txn
+          (release_others c.loop-region.regions c.loop-region.system.state c.release.new.system.state c.args.txn c.in-Region.region _ c.release.new.region (get_here c.loop-region.regions c.in-Region.region _ less) c.release.ensures.released)
+          (undone_others (slice_set c.loop-region.regions c.in-Region.region c.release.new.region) c.release.new.system.state c.undo.new.system.state c.args.txn c.in-Region.region c.loop-region.back c.undo.new.back _ c.undo.new.region (get_here _ c.in-Region.region _ (there_still c.loop-region.regions c.in-Region.region c.release.new.region less)) c.loop-region.invariant.txn one));
+      kept = kept_further c.args.system.now c.loop-region.system c.undo.new.system c.loop-region.invariant.kept
+          (kept_further c.loop-region.system c.release.new.system c.undo.new.system (record { locks = released_locks _ c.release.new.region c.loop-region.system.state c.release.new.system.state c.release.ensures.released; promised = c.release.ensures.promised }) (record { locks = undone_locks c.loop-region.back c.undo.new.back _ c.undo.new.region c.release.new.system.state c.undo.new.system.state one; promised = c.undo.ensures.promised }));
       stop = turn.stop;
       txn = ap (λ (b : TakeBack). b.txn) one.next ∙ c.loop-region.invariant.txn;
       down = ap (λ (b : TakeBack). b.down_to) one.next ∙ c.loop-region.invariant.down;
@@ -88,8 +97,23 @@ pub returns : goal.returns
 returns c = record {
   goes = c.loop-region.invariant.goes;
   is = c.loop-region.invariant.is;
+  others = c.loop-region.invariant.others;
+  kept = c.loop-region.invariant.kept;
   stop = c.loop-region.invariant.stop;
   all = none_wanted _ c.loop-region.back.next c.loop-region.invariant.next (λ r e. c.in_default.not-Region r (c.wants.ensures ∙ e));
   refused = tt;
   memory = λ e. tt;
 }
+
+pub returns-in-Err-clause-others : goal.returns-in-Err-clause-others
+returns-in-Err-clause-others c =
+    let less = region_in c.loop-region.regions c.loop-region.system.state c.args.txn c.in-Region.region c.loop-region.back.next c.loop-region.invariant.is c.loop-region.invariant.next c.in-Region.ensures in
+    others_further c.args.regions.now c.loop-region.regions _ c.args.system.now.state c.loop-region.system.state c.undo.new.system.state c.args.txn c.loop-region.invariant.others
+    (others_further c.loop-region.regions (slice_set c.loop-region.regions c.in-Region.region c.release.new.region) _ c.loop-region.system.state c.release.new.system.state c.undo.new.system.state c.args.txn
+    (release_others c.loop-region.regions c.loop-region.system.state c.release.new.system.state c.args.txn c.in-Region.region _ c.release.new.region (get_here c.loop-region.regions c.in-Region.region _ less) c.release.ensures.released)
+    (refused_others (slice_set c.loop-region.regions c.in-Region.region c.release.new.region) c.release.new.system c.undo.new.system c.args.txn c.loop-region.back.txn c.in-Region.region _ c.undo.new.region (get_here _ c.in-Region.region _ (there_still c.loop-region.regions c.in-Region.region c.release.new.region less)) c.in-Err.ensures.err.0 c.in-Err.ensures.err.1))
+
+pub returns-in-Err-clause-kept : goal.returns-in-Err-clause-kept
+returns-in-Err-clause-kept c =
+    kept_further c.args.system.now c.loop-region.system c.undo.new.system c.loop-region.invariant.kept
+    (kept_further c.loop-region.system c.release.new.system c.undo.new.system (record { locks = released_locks _ c.release.new.region c.loop-region.system.state c.release.new.system.state c.release.ensures.released; promised = c.release.ensures.promised }) (kept_same c.release.new.system c.undo.new.system c.in-Err.ensures.err.0))

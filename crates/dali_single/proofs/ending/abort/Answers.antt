@@ -1,7 +1,8 @@
-use Rattle.std.proofs.Common.{ap}
+use Rattle.std.proofs.Common.{ap, ◌∙◌}
 use Rattle.dali_core.specs.Served.{Served}
 use Rattle.dali_single.proofs.Undoing.{abort_ends, ended_gone, ended_others, others_further}
 use Rattle.dali_single.proofs.Refusing.{end_stuck, none_next}
+use Rattle.dali_single.proofs.Promising.{promises_same, promises_further, promises_ended}
 use Rattle.dali_single.proofs.ending.abort.Goals as goal
 
 pub returns-in-Ok-ended-clause-ok : goal.returns-in-Ok-ended-clause-ok
@@ -17,3 +18,22 @@ returns-in-Ok-ended-clause-gone c = ended_gone c.take_back.new.system.state c.en
 
 pub returns-in-Err-ended-clause-cause : goal.returns-in-Err-ended-clause-cause
 returns-in-Err-ended-clause-cause c = end_stuck c.take_back.new.regions c.take_back.new.system c.ended.new.self c.in-Err-ended.cause _ (none_next c.take_back.new.system c.ended.new.self c.args.txn c.in-Ok.ensures.all c.in-Err-ended.ensures.err) c.in-Err-ended.ensures.err c.in-Err-ended.ensures.refused c.in-Err-ended.ensures.memory
+
+pub returns-in-Ok-ended-clause-sizes : goal.returns-in-Ok-ended-clause-sizes
+returns-in-Ok-ended-clause-sizes c = ap (λ (s : Served). s.state.sizes) c.in-Ok-ended.ensures.ok ∙ c.take_back.ensures.goes.sizes
+
+pub returns-in-Err-ended-clause-sizes : goal.returns-in-Err-ended-clause-sizes
+returns-in-Err-ended-clause-sizes c = ap (λ (s : Served). s.state.sizes) c.in-Err-ended.ensures.err ∙ c.take_back.ensures.goes.sizes
+
+pub returns-in-Err-clause-sizes : goal.returns-in-Err-clause-sizes
+returns-in-Err-clause-sizes c = c.take_back.ensures.goes.sizes
+
+pub returns-in-Ok-ended-clause-promises : goal.returns-in-Ok-ended-clause-promises
+returns-in-Ok-ended-clause-promises c =
+    promises_further c.args.system.now c.take_back.new.system c.ended.new.self c.args.txn (promises_same c.args.system.now c.take_back.new.system c.args.txn c.take_back.ensures.promised) (promises_ended c.take_back.new.system c.ended.new.self c.args.txn (ap (λ (s : Served). s.promised) c.in-Ok-ended.ensures.ok))
+
+pub returns-in-Err-ended-clause-promises : goal.returns-in-Err-ended-clause-promises
+returns-in-Err-ended-clause-promises c = promises_same c.args.system.now c.ended.new.self c.args.txn (ap (λ (s : Served). s.promised) c.in-Err-ended.ensures.err ∙ c.take_back.ensures.promised)
+
+pub returns-in-Err-clause-promises : goal.returns-in-Err-clause-promises
+returns-in-Err-clause-promises c = promises_same c.args.system.now c.take_back.new.system c.args.txn c.take_back.ensures.promised

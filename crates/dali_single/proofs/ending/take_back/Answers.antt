@@ -17,6 +17,7 @@ loop-region-preserved c =
     let one = c.in-Ok.ensures.ok in
     record {
       goes = undo_further c.args.regions.now c.loop-region.regions c.args.system.now.state c.loop-region.system.state c.undo.new.system.state c.args.txn c.in-Region.region c.loop-region.back c.undo.new.back _ c.undo.new.region c.ranges.txn.fits c.loop-region.invariant.goes c.loop-region.invariant.txn c.loop-region.invariant.next c.in-Region.ensures (get_here c.loop-region.regions c.in-Region.region _ there) one;
+      promised = c.undo.ensures.promised ∙ c.loop-region.invariant.promised;
       txn = ap (λ (b : TakeBack). b.txn) one.next ∙ c.loop-region.invariant.txn;
       down = ap (λ (b : TakeBack). b.down_to) one.next ∙ c.loop-region.invariant.down;
       next = undo_next c.loop-region.system.state c.undo.new.system.state c.args.txn c.loop-region.back c.undo.new.back _ c.undo.new.region c.loop-region.invariant.txn c.loop-region.invariant.down one;
@@ -34,6 +35,7 @@ returns c = record {
   goes = c.loop-region.invariant.goes;
   all = none_wanted _ c.loop-region.back.next c.loop-region.invariant.next (λ r e. c.in_default.not-Region r (c.wants.ensures ∙ e));
   cause = tt;
+  promised = c.loop-region.invariant.promised;
 }
 
 pub returns-in-Err-clause-cause : goal.returns-in-Err-clause-cause

@@ -8,6 +8,7 @@ use Rattle.dali_single.proofs.ending.take_back.Given as goal
 abbrev pub invariant-loop-region : goal.invariant-loop-region
 invariant-loop-region l = record {
   goes : UndoesFrom l.initial.regions l.initial.system.state l.txn l.regions l.system.state;
+  promised : l.system.promised ≡ l.initial.system.promised;
   txn : l.back.txn ≡ l.txn;
   down : l.back.down_to ≡ 0;
   next : l.back.next ≡ next_undo (undos_at l.system.state.table l.txn) 0;

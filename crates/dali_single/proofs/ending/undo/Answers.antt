@@ -2,7 +2,7 @@ use Rattle.std.proofs.Common.{false, ap}
 use Rattle.dali_region.specs.State.{RegionState}
 use Rattle.dali_core.proofs.UnderWays.{latched_unheld}
 use Rattle.dali_single.proofs.Refusing.{stop_only}
-use Rattle.dali_single.proofs.Undoing.{way_back_of, rewritten, back_left_over, back_as_before, undone}
+use Rattle.dali_single.proofs.Undoing.{way_back_of, rewritten, back_left_over, back_as_before, undone, promise_kept}
 use Rattle.dali_single.proofs.ending.undo.Goals as goal
 
 pub write_back-requires : goal.write_back-requires
@@ -24,3 +24,8 @@ returns-in-Ok-commit-clause-ok c =
 
 pub returns-in-Err-commit-clause-cause : goal.returns-in-Err-commit-clause-cause
 returns-in-Err-commit-clause-cause c = stop_only c.commit.new.region c.args.system.now c.commit.new.system c.in-Err-commit.cause (ap (λ (r : RegionState). r.hold) c.in-Err-commit.ensures.err.1) c.in-Err-commit.ensures.err.0 c.in-Err-commit.ensures.refused c.in-Err-commit.ensures.memory
+
+pub returns-in-Ok-commit-clause-promised : goal.returns-in-Ok-commit-clause-promised
+returns-in-Ok-commit-clause-promised c =
+    let w = rewritten c.args.back.now c.latch.new.self c.write_back.new.back c.args.region.now c.latch.new.region c.write_back.new.region (latched_unheld false c.args.region.now c.in-Ok.ensures.answer) c.in-Ok.ensures.made c.in-Ok.ensures.own c.latch.ensures.same c.write_back.ensures.is_open c.write_back.ensures.same c.write_back.ensures.rest c.write_back.ensures.written in
+    promise_kept c.args.back.now c.write_back.new.back c.args.region.now c.write_back.new.region c.commit.new.region c.args.system.now c.commit.new.system w c.in-Ok-commit.ensures.ok

@@ -1,4 +1,5 @@
-use Rattle.std.proofs.Common.{List, length, ◌≤◌, ◌≡◌, ap, sym, subst, ◌∙◌}
+use Rattle.dali_core.specs.Refused.{stop_refusal}
+use Rattle.std.proofs.Common.{true, false, List, length, ◌≤◌, ◌≡◌, ap, sym, subst, ◌∙◌}
 use Rattle.std.specs.List.{AllByRecursion}
 use Rattle.std.specs.FinMap.{insert}
 use Rattle.dali_record.specs.declared.operations.Pending.{Pending}
@@ -11,6 +12,7 @@ use Rattle.dali_core.specs.Promised.{Promised, promised_to, used}
 use Rattle.dali_single.specs.Settling.{MayFree, settle_room}
 use Rattle.dali_single.proofs.Going.{row_there}
 use Rattle.dali_single.proofs.Settled.{may_free_all, commit_led, committed_state, commit_others, promise_left}
+use Rattle.dali_single.proofs.Promising.{promises_further, promises_put, promises_used, runs_on, enough_to_commit}
 use Rattle.dali_single.proofs.settling.commit.Goals as goal
 
 pub returns-clause-may : goal.returns-clause-may
@@ -44,3 +46,15 @@ pub returns-clause-others : goal.returns-clause-others
 returns-clause-others c =
     let same : c.ready.new.self.state ≡ c.args.system.now.state = ap (λ (s : Served). s.state) c.in_ok-removals.ensures.ok in
     commit_others c.args.system.now.state c.commit.new.self.state c.args.txn (ap (λ (s : Served). s.state) c.in_ok-commit.ensures.ok ∙ ap (λ (y : SystemState). commit_logged y c.args.txn) same)
+
+pub returns-clause-promises : goal.returns-clause-promises
+returns-clause-promises c =
+    promises_further c.args.system.now c.ready.new.self c.commit.new.self c.args.txn
+    (promises_put c.args.system.now c.ready.new.self c.args.txn (promised_for (length c.in_ok-removals.removals.items)) (ap (λ (s : Served). s.promised) c.in_ok-removals.ensures.ok))
+    (promises_used c.ready.new.self c.commit.new.self c.args.txn 9 (ap (λ (s : Served). s.promised) c.in_ok-commit.ensures.ok))
+
+pub returns-in_err-commit-clause-promises : goal.returns-in_err-commit-clause-promises
+returns-in_err-commit-clause-promises c = absurd (let no : false ≡ true = c.in_err-commit.ensures.promised (ap (λ (s : Served). stop_refusal s.state) c.in_ok-removals.ensures.ok ∙ runs_on c.args.system.now.state c.in_ok-removals.removals c.in_ok-removals.ensures.refused) (enough_to_commit c.args.system.now c.ready.new.self c.args.txn (length c.in_ok-removals.removals.items) c.in_ok-removals.ensures.ok) in cc)
+
+pub returns-in_err-commit-clause-err : goal.returns-in_err-commit-clause-err
+returns-in_err-commit-clause-err c = absurd (let no : false ≡ true = c.in_err-commit.ensures.promised (ap (λ (s : Served). stop_refusal s.state) c.in_ok-removals.ensures.ok ∙ runs_on c.args.system.now.state c.in_ok-removals.removals c.in_ok-removals.ensures.refused) (enough_to_commit c.args.system.now c.ready.new.self c.args.txn (length c.in_ok-removals.removals.items) c.in_ok-removals.ensures.ok) in cc)

@@ -1,10 +1,11 @@
 use Rattle.std.proofs.Common.{◌≡◌, rules, true, false, sym, ap, ◌∙◌}
 use Rattle.dali_region.specs.State.{RegionState, taken_back}
-use Rattle.dali_core.specs.Served.{Served}
+use Rattle.dali_core.specs.Served.{Served, solo_room}
 use Rattle.dali_core.proofs.UnderWays.{latched_unheld}
 use Rattle.dali_core.specs.Refused.{stop_of}
 use Rattle.dali_single.proofs.Refusing.{stop_only}
 use Rattle.dali_single.proofs.Settled.{freed, free_left_over, spends_one}
+use Rattle.dali_single.proofs.Promising.{promises_same, promises_used}
 use Rattle.dali_single.proofs.settling.free.Goals as goal
 
 pub returns-in-Ok-solo_op-clause-ok : goal.returns-in-Ok-solo_op-clause-ok
@@ -25,3 +26,9 @@ returns-in-Ok-solo_op-clause-kept c = λ n h. spends_one c.args.system.now c.sol
 
 pub returns-in-Err-solo_op-clause-cause : goal.returns-in-Err-solo_op-clause-cause
 returns-in-Err-solo_op-clause-cause c = stop_only c.take_back.new.self c.args.system.now c.solo_op.new.self c.in-Err-solo_op.cause (ap (λ (r : RegionState). r.hold) c.take_back.ensures.after) c.in-Err-solo_op.ensures.err.0 c.in-Err-solo_op.ensures.refused c.in-Err-solo_op.ensures.memory
+
+pub returns-in-Ok-solo_op-clause-promises : goal.returns-in-Ok-solo_op-clause-promises
+returns-in-Ok-solo_op-clause-promises c = promises_used c.args.system.now c.solo_op.new.self c.args.txn solo_room (ap (λ (s : Served). s.promised) c.in-Ok-solo_op.ensures.ok.0)
+
+pub returns-in-Err-solo_op-clause-promises : goal.returns-in-Err-solo_op-clause-promises
+returns-in-Err-solo_op-clause-promises c = promises_same c.args.system.now c.solo_op.new.self c.args.txn (ap (λ (s : Served). s.promised) c.in-Err-solo_op.ensures.err.0)

@@ -1,5 +1,6 @@
 use Rattle.dali_single.proofs.Lists.{get_here}
 use Rattle.dali_single.proofs.Settled.{next_further, those_left, removal_stuck, promised_further, promised_still, promised_one, removal_there, free_there, free_further, free_refused}
+use Rattle.dali_single.proofs.Promising.{promises_further}
 use Rattle.dali_single.proofs.settling.free_all.Goals as goal
 
 pub returns-in-Err-clause-err : goal.returns-in-Err-clause-err
@@ -17,6 +18,7 @@ loop-removal-preserved c =
       goes = free_further c.args.regions.now c.loop-removal.regions c.args.system.now.state c.loop-removal.system.state c.free.new.system.state c.args.txn c.args.removals.now _ _ _ c.free.new.region c.ranges.txn.fits goes (get_here c.loop-removal.regions _ _ there) c.in-Ok.ensures.ok.1;
       next = next_further c.args.system.now.state c.loop-removal.system.state c.free.new.system.state c.args.txn c.loop-removal.removal-index _ _ c.free.new.region c.loop-removal.invariant.next c.in-Ok.ensures.ok.1;
       promised = λ h. promised_further c.loop-removal.system c.free.new.system c.args.txn c.loop-removal.removal-index c.args.removals.now c.loop-removal-test.true (c.loop-removal.invariant.promised h) c.in-Ok.ensures.kept;
+      promises = promises_further c.args.system.now c.loop-removal.system c.free.new.system c.args.txn c.loop-removal.invariant.promises c.free.ensures.promises;
     }
 
 pub returns-in-Err-clause-cause : goal.returns-in-Err-clause-cause
@@ -30,3 +32,6 @@ returns-in-Err-clause-promised c = λ h. c.in-Err.ensures.promised (promised_one
 
 pub returns-in-Err-clause-still : goal.returns-in-Err-clause-still
 returns-in-Err-clause-still c = λ h. promised_still c.args.system.now.state c.loop-removal.system c.free.new.system c.args.txn c.loop-removal.removal-index c.args.removals.now c.loop-removal.invariant.next c.in-Err.ensures.err.0 (c.loop-removal.invariant.promised h)
+
+pub returns-in-Err-clause-promises : goal.returns-in-Err-clause-promises
+returns-in-Err-clause-promises c = promises_further c.args.system.now c.loop-removal.system c.free.new.system c.args.txn c.loop-removal.invariant.promises c.free.ensures.promises
