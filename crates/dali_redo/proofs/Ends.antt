@@ -201,9 +201,10 @@ all_judged d sound [] g x y w = w
 all_judged d sound (r ∷ R) g x y w = (w.0, subst (λ b. Judges b x w.0 r) (sym (one_pass_keeps d g r sound)) w.1, all_judged d sound R (known_next g r) w.0 y w.2)
 
 pub one_pass_comes_to : OnePassComesTo
-one_pass_comes_to s n x y z d g k R first e none unfailed w r =
-    (comes_to s n x y z sound g k R same e none (all_judged sound refl R g x y w) r).0
-    ∙ ((undamaged_is_plain s x.image sound g.table R refl).0 ∙ sym (unfailed_is_plain s x.image g.first g.table R unfailed).0)
+one_pass_comes_to s n x y z d g k R first e none unfailed w r = (
+  end.0 ∙ ((undamaged_is_plain s x.image sound g.table R refl).0 ∙ sym (unfailed_is_plain s x.image g.first g.table R unfailed).0),
+  end.1,
+)
   where
     sound : Damage
     sound = record { first = d.first; clean = 0; failing = [] }
@@ -216,3 +217,6 @@ one_pass_comes_to s n x y z d g k R first e none unfailed w r =
           knows = first.knows;
           left = first.left;
         }
+
+    end : (freed s z.image ≡ recover_by s x.image (record { first = d.first; clean = 0; failing = [] }) g.table R) × (filter (λ t. is_running (status_at y.table t)) (finite.keys y.table) ≡ rolled_by g.table R)
+    end = comes_to s n x y z sound g k R same e none (all_judged sound refl R g x y w) r

@@ -145,10 +145,16 @@ starts_redo x d k first = starts_with x d k first.begins first.knows (none_left 
 
 -- ---- behind a Restarted
 pub ends_epoch : EndsEpoch
-ends_epoch x y d k rs ds knows a number = subst (λ im. Redoes im y d (known_next k (Restarted rs ds))) a.image (starts_with y d (known_next k (Restarted rs ds)) begins (a.knows k knows) a.left)
+ends_epoch x y d k rs ds next a number = subst (λ im. Redoes im y d (known_next k (Restarted rs ds))) a.image (starts_with y d (known_next k (Restarted rs ds)) begins knows a.left)
   where
+    behind : Knows y (known_next (record k { statuses = λ t. status_at x.table t }) (Restarted rs ds))
+    behind = a.knows (record k { statuses = λ t. status_at x.table t }) (record { next = next; statuses = λ t. refl })
+
     told : (t : ℕ) → status_at y.table t ≡ Idle
-    told t = (a.knows k knows).statuses t ∙ sym (idle_behind t (k.statuses t) rs ds)
+    told t = behind.statuses t ∙ sym (idle_behind t (status_at x.table t) rs ds)
+
+    knows : Knows y (known_next k (Restarted rs ds))
+    knows = record { next = behind.next; statuses = λ t. told t ∙ idle_behind t (k.statuses t) rs ds }
 
     no_undos : (t : ℕ) → undos_at y.table t ≡ []
     no_undos t = by_row (get y.table t) (told t)

@@ -53,10 +53,10 @@ SkipsOn =
     (s : Sizes) (n : ℕ) (base : List (List ℕ)) (x y : Redoing) (d : Damage) (k : Known) (r : Record) → Redoes base x d k → Skips x y r
     → may_follow s n k r ≡ true → separates r ≡ false → is_left_out d (scanned d k) r ≡ true → Redoes base y d (known_next k r)
 
--- the next epoch begins over the words that it stands on
+-- the next epoch begins over the words that it stands on, whatever its tables were
 abbrev pub EndsEpoch : Type 0
 EndsEpoch =
-    (x y : Redoing) (d : Damage) (k : Known) (rs ds : List ℕ) → Knows x k → Applies x y (Restarted rs ds) → d.first ≡ k.number + 1
+    (x y : Redoing) (d : Damage) (k : Known) (rs ds : List ℕ) → x.next ≡ k.next → Applies x y (Restarted rs ds) → d.first ≡ k.number + 1
     → Redoes x.image y d (known_next k (Restarted rs ds))
 
 abbrev pub Recovers : Type 0
@@ -101,4 +101,4 @@ abbrev pub OnePassComesTo : Type 0
 OnePassComesTo =
     (s : Sizes) (n : ℕ) (x y z : Redoing) (d : Damage) (g k : Known) (R : List Record) → IsFirst x d g → tests s n g R ≡ Some k → list_any separates R ≡ false
     → list_any is_audit_fail R ≡ false → AppliesAll R x y → RollsBack y z
-    → freed s z.image ≡ recover_by s x.image (damage_from g.first R) g.table R
+    → (freed s z.image ≡ recover_by s x.image (damage_from g.first R) g.table R) × (filter (λ t. is_running (status_at y.table t)) (map.keys y.table) ≡ rolled_by g.table R)

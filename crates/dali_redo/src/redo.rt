@@ -101,6 +101,20 @@ impl Redo {
         }
     }
 
+    /// Whether the record breaks its rule: `apply` and `skip` are a `Misfit` exactly then. Takes no memory.
+    pub fn misfits(&self, logged: &Record) -> bool
+        ensures { (k : Known) → Knows self.now k → result ≡ breaks self.now.sizes k logged.now }
+    {
+        rules::breaks(self.geometry, &self.table, self.next, logged)
+    }
+
+    /// The transactions at work with their undos, and those that are committed and haven't ended. Takes no memory.
+    pub fn table(&self) -> &Att<Pending>
+        ensures { result.now ≡ self.now.table }
+    {
+        &self.table
+    }
+
     /// Takes the next record, and writes the new words of its block, if it has one, and nothing else. `Misfit`
     /// exactly where it is a Begin, Forward, Done, Back, Commit, Ended or Solo and breaks its rule; a restart
     /// tests the others. It takes memory for a transaction that begins, and for an undo. After either error

@@ -1,0 +1,5 @@
+use Rattle.dali_recovery.proofs.Epochs.{finds_both}
+use Rattle.dali_recovery.proofs.recovery.Recovery.found.Goals as goal
+
+pub returns-clause-ok : goal.returns-clause-ok
+returns-clause-ok c = finds_both c.args.self.now c.in_ok-at_work.at_work.items c.in_ok-gone.gone.items c.in_ok-at_work.ensures c.in_ok-gone.ensures.ok

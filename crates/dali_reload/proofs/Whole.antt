@@ -1,0 +1,121 @@
+-- A legal log, read from the place of an image that fitted a front of it.
+use Rattle.std.proofs.Common.{◌≡◌, ◌⊎◌, inl, inr, ℕ, ◌+◌, List, [], ◌∷◌, ◌++◌, None, refl, ap, sym, subst, ◌∙◌, arith, length, take, drop, append_assoc, length-append, length-drop, take-append-drop}
+use Rattle.std.specs.Prelude.{sum_by}
+use Rattle.std.specs.List.{AllByRecursion}
+use Rattle.std.proofs.lemmas.List.{drop-append-le}
+use Rattle.std.proofs.lemmas.List.Concat.{flat_map-append}
+use Rattle.std.proofs.lemmas.List.Sums.{sum_by-cons}
+use Rattle.dali_geometry.specs.Sizes.{Sizes}
+use Rattle.dali_record.specs.declared.records.Record.{Record}
+use Rattle.dali_record.specs.Epochs.{last_epoch}
+use Rattle.dali_record.specs.Files.{Files, batch_length}
+use Rattle.dali_record.specs.Legal.{sizes_of}
+use Rattle.dali_record.specs.Spelling.{record_length, spelling}
+use Rattle.dali_record.proofs.Lengths.{length-spelling}
+use Rattle.dali_history.specs.History.{RestartGives}
+use Rattle.dali_history.specs.Recovered.{base_of}
+use Rattle.dali_batch.specs.Batch.{batch, batches}
+use Rattle.dali_batch.specs.Log.{AreSpelled, LogOf, TailOf, bodies, body_bytes}
+use Rattle.dali_batch.proofs.Bytes.{length-batch}
+use Rattle.dali_batch.proofs.Fronts.{tail_from_place}
+use Rattle.dali_resume.specs.Again.{Outcome}
+use Rattle.dali_resume.specs.Batches.{misplaced, records_of, verdict_over}
+use Rattle.dali_resume.specs.Onward.{HandedOut, IsResumed, IsRightAtEnd, Misfit as NamedMisfit, goes_through, history_says, verdict_of}
+use Rattle.dali_resume.proofs.Batches.{answers_over_batches, fits_in_batches}
+use Rattle.dali_resume.proofs.Stopped.{resumes_histories}
+use Rattle.dali_resume.proofs.Through.{resumes_through}
+use Rattle.dali_recovery.specs.Laws.{outcome_of}
+use Rattle.dali_reload.specs.Laws.{IsSpelledOut, IsWholeLog, ReadsHistory, ReadsLegal}
+use Rattle.dali_reload.specs.Reading.{FailsAt, IsBadBehind, IsReloaded}
+use Rattle.dali_reload.specs.declared.reading.Reloaded.{Reloaded}
+use Rattle.dali_reload.proofs.Tails.{has_batch, none_bad, one_tail}
+
+-- ---- the bytes of batches
+body_length : (rs : List Record) → AreSpelled rs → length (body_bytes rs) ≡ sum_by record_length rs
+body_length [] all = refl
+body_length (r ∷ rs) all = length-append (spelling r) (body_bytes rs) ∙ (ap (λ n. n + length (body_bytes rs)) (length-spelling r all.0) ∙ (ap (λ n. record_length r + n) (body_length rs all.1) ∙ sym (sum_by-cons record_length r rs)))
+
+batches_length : (L : List (List Record)) → AllByRecursion AreSpelled L → length (batches (bodies L)) ≡ sum_by batch_length L
+batches_length [] all = refl
+batches_length (rs ∷ L) all =
+    let one : length (batch (body_bytes rs)) ≡ batch_length rs = omega (arith, length-batch (body_bytes rs), body_length rs all.0) in
+    length-append (batch (body_bytes rs)) (batches (bodies L)) ∙ (ap (λ n. n + length (batches (bodies L))) one ∙ (ap (λ n. batch_length rs + n) (batches_length L all.1) ∙ sym (sum_by-cons batch_length rs L)))
+
+all_left : {X : Type 0} (P : X → Type 0) (L M : List X) → AllByRecursion P (L ++ M) → AllByRecursion P L
+all_left P [] M all = tt
+all_left P (x ∷ L) M all = (all.0, all_left P L M all.1)
+
+-- ---- the log behind the image
+module _ (log : List ℕ) (s : Sizes) (K : List Record) (F : Files) (more : List (List Record)) (out : IsSpelledOut log s K F more) where
+  abbrev bs : List (List Record)
+  bs = out.fits.front.0
+
+  abbrev L : List Record
+  L = K ++ records_of more
+
+  w : (k : ℕ) × (F.place ≡ sum_by batch_length (take k bs)) × (records_of (drop k bs) ≡ drop F.first K) × (misplaced (drop k bs ++ more) ≡ None)
+  w = fits_in_batches s (base_of s K) K (record F { batches = bs }) (last_epoch K) more out.fits.front.1 out.first
+
+  abbrev tail : List (List Record)
+  tail = drop w.0 bs ++ more
+
+  records_are : records_of tail ≡ drop F.first L
+  records_are = flat_map-append (λ b. b) (drop w.0 bs) more ∙ (ap (λ X. X ++ records_of more) w.2 ∙ sym (drop-append-le F.first K (records_of more) out.fits.front.1.fits.count))
+
+  whole : bs ++ more ≡ take w.0 bs ++ tail
+  whole = ap (λ z. z ++ more) (sym (take-append-drop w.0 bs)) ∙ append_assoc (take w.0 bs) (drop w.0 bs) more
+
+  log_is : LogOf log (take w.0 bs ++ tail) out.end
+  log_is = subst (λ z. LogOf log z out.end) whole out.spelled
+
+  tail_is : TailOf log F.place tail out.end
+  tail_is = tail_from_place log (take w.0 bs) tail F.place out.end log_is (w.1 ∙ sym (batches_length (take w.0 bs) (all_left AreSpelled (take w.0 bs) tail log_is.front.each)))
+
+  right : IsRightAtEnd s L F (goes_through s F (drop F.first L))
+  right = resumes_through s K (records_of more) F out.fits.index out.fits.heap out.fits.front out.fits.some out.fits.legal out.fits.spelled
+
+  verdict_is : verdict_over s F tail ≡ verdict_of s F L
+  verdict_is = (answers_over_batches s F L tail records_are).0 w.3
+
+  -- what is read is that log
+  read_whole : (o : Reloaded) (r : IsReloaded log s F o) → (r.batches ≡ tail) × (o.end ≡ out.end)
+  read_whole o r = one_tail log F.place r.batches tail o.end out.end r.tail tail_is
+
+  said : (o : Reloaded) → IsReloaded log s F o → verdict_of s F L ≡ HandedOut (outcome_of o.recovered)
+  said o r = sym verdict_is ∙ (ap (verdict_over s F) (sym (read_whole o r).0) ∙ r.verdict)
+
+  same_records : (o : Reloaded) (r : IsReloaded log s F o) → records_of r.batches ≡ drop F.first L
+  same_records o r = ap records_of (read_whole o r).0 ∙ records_are
+
+  handed_same : (a b : Outcome) → HandedOut a ≡ HandedOut b → a ≡ b
+  handed_same a b e = cc
+
+  pub reads_all : (o : Reloaded) → IsReloaded log s F o → (o.end ≡ out.end) × IsWholeLog s L F o
+  reads_all o r = (
+    (read_whole o r).1,
+    record {
+      resumed = subst (IsResumed s L F.first) (handed_same _ _ (sym right.verdict ∙ said o r)) right.resumed;
+      number = omega (arith, r.number, ap length (same_records o r), length-drop F.first L, out.fits.front.1.fits.count, length-append K (records_of more));
+      next = r.next ∙ (ap (λ (Q : List Record). (goes_through s F Q).known.next) (same_records o r) ∙ right.next);
+      weight = ap (λ (n : ℕ). F.weight + n) (r.counted.bytes ∙ ap (sum_by record_length) (same_records o r)) ∙ right.weight;
+    },
+  )
+
+  apart : (o : Outcome) (m : ℕ) → HandedOut o ≡ NamedMisfit m → ⊥
+  apart o m e = cc
+
+  pub none_fails : (at : ℕ) → IsBadBehind log s F at ⊎ FailsAt log s F at → ⊥
+  none_fails at (inl b) = none_bad log F.place b.front tail out.end at b.bad tail_is
+  none_fails at (inr b) =
+      let h = has_batch log F.place b.front tail (b.done ++ b.failing ∷ []) out.end b.stands tail_is in
+      let same : tail ≡ b.front ++ (b.done ++ b.failing ∷ h.0) ∷ h.1 = h.2 ∙ ap (λ z. b.front ++ z ∷ h.1) (append_assoc b.done (b.failing ∷ []) h.0) in
+      apart _ _ (sym right.verdict ∙ (sym verdict_is ∙ (ap (verdict_over s F) same ∙ b.verdict h.0 h.1)))
+
+pub reads_legal : ReadsLegal
+reads_legal log s K F more out = (reads_all log s K F more out, none_fails log s K F more out)
+
+pub reads_history : ReadsHistory
+reads_history log K F more o out history lt r =
+    let h = resumes_histories K (records_of more) F history out.fits.some out.fits.front lt in
+    let same : history_says (K ++ records_of more) ≡ outcome_of o.recovered = handed_same log (sizes_of K) K F more out _ _ (sym h.0 ∙ said log (sizes_of K) K F more out o r) in
+    subst (λ (u : Outcome). RestartGives (K ++ records_of more) u.image u.rolled u.deleted) same h.1

@@ -1,0 +1,4 @@
+pub mod Errors
+pub mod Counting
+pub mod Reading
+pub mod Laws

@@ -1,0 +1,5 @@
+pub mod Beside
+pub mod Bytes
+pub mod Images
+pub mod Bodies
+pub mod Staged
