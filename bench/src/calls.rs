@@ -228,10 +228,12 @@ struct Database {
     undos: BTreeMap<u64, Vec<Pending>>,
     log: Vec<u8>,
     next: u64,
+    /// Whether codewords are kept.
+    coded: bool,
 }
 
 impl Database {
-    fn new(index: u64, heap: u64) -> Database {
+    fn new(index: u64, heap: u64, coded: bool) -> Database {
         let mut regions: Vec<Region> = (0..index).map(|_| Region::load([0; 64])).collect();
         let mut words = [0; 64];
         words[0] = 1;
@@ -245,6 +247,7 @@ impl Database {
             undos: BTreeMap::new(),
             log: Vec::new(),
             next: 1,
+            coded,
         }
     }
 
@@ -271,7 +274,12 @@ impl Database {
         let xor = region.noted();
         let mut left = effect.write;
         for word in effect.after() {
-            region.update_coded(left.trailing_zeros() as usize, *word);
+            let place = left.trailing_zeros() as usize;
+            if self.coded {
+                region.update_coded(place, *word);
+            } else {
+                region.update(place, *word);
+            }
             left &= left - 1;
         }
         let before = self.log.len();
@@ -459,8 +467,8 @@ impl Database {
 }
 
 /// So many calls on as many keys, in transactions of `calls`. Where they find keys these were inserted before.
-fn run_in(kind: Kind, count: u64, calls: u64) -> Option<Timing> {
-    let mut database = Database::new(count / 10 + 1, count / 5 + 1);
+fn run_in(kind: Kind, count: u64, calls: u64, coded: bool) -> Option<Timing> {
+    let mut database = Database::new(count / 10 + 1, count / 5 + 1, coded);
     if kind != Kind::Insert {
         database.transactions(Kind::Insert, count, CALLS)?;
     }
@@ -478,10 +486,15 @@ fn run_in(kind: Kind, count: u64, calls: u64) -> Option<Timing> {
 
 /// So many calls in transactions of five.
 pub fn run(kind: Kind, count: u64) -> Option<Timing> {
-    run_in(kind, count, CALLS)
+    run_in(kind, count, CALLS, true)
+}
+
+/// So many inserts in transactions of five, by an update that keeps no codeword.
+pub fn run_uncoded(count: u64) -> Option<Timing> {
+    run_in(Kind::Insert, count, CALLS, false)
 }
 
 /// So many inserts in transactions of ten: more than a heap region has cells.
 pub fn run_tens(count: u64) -> Option<Timing> {
-    run_in(Kind::Insert, count, 2 * CALLS)
+    run_in(Kind::Insert, count, 2 * CALLS, true)
 }

@@ -65,3 +65,62 @@ pub fn read(folder: &Path) -> Option<Timing> {
     })?;
     Some(timing.checked(bytes.len() as u64))
 }
+
+/// How many bytes an image file has beside the words of its regions.
+const AROUND: u64 = 64 + 4;
+
+/// The bytes of a region's words.
+const REGION: u64 = 512;
+
+fn make(path: &Path) -> Option<File> {
+    OpenOptions::new()
+        .write(true)
+        .create_new(true)
+        .open(path)
+        .ok()
+}
+
+/// The bytes of an image of so many regions are written into a file of their own in the folder, in one piece, and synced.
+/// The check number is the file's length.
+pub fn image(regions: u64, folder: &Path) -> Option<Timing> {
+    let path = folder.join(format!("bare.{}.image", std::process::id()));
+    let bytes: Vec<u8> = (0..AROUND + REGION * regions)
+        .map(|place| place as u8)
+        .collect();
+    let file = make(&path)?;
+    let timing = timed(regions, "regions", || {
+        file.write_all_at(black_box(&bytes), 0).ok()?;
+        file.sync_all().ok()
+    });
+    let length = file.metadata().ok()?.len();
+    fs::remove_file(path).ok()?;
+    Some(timing?.checked(length))
+}
+
+/// Ten times, the eleven store calls of a checkpoint that copies no region, over three files of their own in the folder; and
+/// all words are read. The check number is the length of an image of so many regions.
+pub fn settle(regions: u64, folder: &Path) -> Option<Timing> {
+    let names = ["log", "image", "anchor"];
+    let paths = names.map(|name| folder.join(format!("bare.{}.{name}", std::process::id())));
+    let [log, image, anchor] = [make(&paths[0])?, make(&paths[1])?, make(&paths[2])?];
+    let length = AROUND + REGION * regions;
+    image.set_len(length).ok()?;
+    image.sync_all().ok()?;
+    let words: Vec<u64> = (0..regions * REGION / 8).collect();
+    let batch = [1; 5 + 1 + 9];
+    let timing = timed(10, "checkpoints", || {
+        for place in 0..10 {
+            image.write_all_at(&[0; 4], length - 4).ok()?;
+            image.write_all_at(&[place as u8; 64], 0).ok()?;
+            black_box(black_box(&words).iter().fold(0, |all, word| all ^ word));
+            write_batch(&log, place * batch.len() as u64, &batch).ok()?;
+            image.sync_all().ok()?;
+            write_batch(&anchor, place, &[0]).ok()?;
+        }
+        Some(())
+    });
+    for path in paths {
+        fs::remove_file(path).ok()?;
+    }
+    Some(timing?.checked(length))
+}

@@ -29,14 +29,18 @@ fn time(words: &[&str]) -> Option<Timing> {
         ["change", count] => calls::run(calls::Kind::Update, count.parse().ok()?),
         ["delete", count] => calls::run(calls::Kind::Delete, count.parse().ok()?),
         ["tens", count] => calls::run_tens(count.parse().ok()?),
+        ["uncoded", count] => calls::run_uncoded(count.parse().ok()?),
+        ["audit", count] => regions::read(count.parse().ok()?),
+        ["checkpoint", count, folder] => files::image(count.parse().ok()?, Path::new(folder)),
+        ["clean", count, folder] => files::settle(count.parse().ok()?, Path::new(folder)),
         ["commit", count, folder] => files::commit(count.parse().ok()?, Path::new(folder)),
         ["restart", folder] => files::read(Path::new(folder)),
         _ => None,
     }
 }
 
-const USAGE: &str = "usage: bench codec|locks|update|check|parse|claims|notes|insert|get|change|delete|tens COUNT, \
-    bench commit COUNT FOLDER, bench restart FOLDER, or bench table PROGRAM FOLDER";
+const USAGE: &str = "usage: bench codec|locks|update|check|parse|claims|notes|insert|get|change|delete|tens|uncoded|audit COUNT, \
+    bench commit|checkpoint|clean COUNT FOLDER, bench restart FOLDER, or bench table PROGRAM FOLDER";
 
 fn main() -> ExitCode {
     let words: Vec<String> = std::env::args().skip(1).collect();

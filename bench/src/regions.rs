@@ -85,7 +85,8 @@ impl Region {
         self.update(word, value);
     }
 
-    fn update(&mut self, word: usize, value: u64) {
+    /// Updates a word, and keeps no codeword.
+    pub fn update(&mut self, word: usize, value: u64) {
         if let Some(hold) = &mut self.hold {
             let bit = 1 << word;
             if hold.write & bit == 0 {
@@ -149,4 +150,16 @@ pub fn copy(passes: u64, regions: u64) -> Option<Timing> {
         Some(())
     })?;
     Some(timing.checked(words_check(to.iter())))
+}
+
+/// The words of all regions, which lie in one piece, are read ten times. The check number is how many regions there are.
+pub fn read(regions: u64) -> Option<Timing> {
+    let words: Vec<u64> = (0..regions).flat_map(words_of).collect();
+    let timing = timed(10 * regions, "regions", || {
+        for _ in 0..10 {
+            black_box(black_box(&words).iter().fold(0, |all, word| all ^ word));
+        }
+        Some(())
+    })?;
+    Some(timing.checked(regions))
 }

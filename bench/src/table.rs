@@ -56,7 +56,7 @@ struct Row {
     goal: Goal,
 }
 
-const ROWS: [Row; 14] = [
+const ROWS: [Row; 17] = [
     Row {
         name: "codec",
         count: Some(1_000_000),
@@ -178,6 +178,36 @@ const ROWS: [Row; 14] = [
         goal: Goal::Unset,
     },
     Row {
+        name: "audit",
+        count: Some(19_203),
+        files: Files::Absent,
+        turns: TURNS,
+        dali: "audit 19,203 regions ten times",
+        beside: "reading their words, which lie in one piece",
+        unit: "regions",
+        goal: Goal::Times(2.0),
+    },
+    Row {
+        name: "checkpoint",
+        count: Some(19_203),
+        files: Files::New,
+        turns: SHORT_TURNS,
+        dali: "the first checkpoint of 19,203 regions, with its audit, real files",
+        beside: "writing and syncing an image's bytes in one piece",
+        unit: "regions",
+        goal: Goal::Times(2.0),
+    },
+    Row {
+        name: "clean",
+        count: Some(19_203),
+        files: Files::New,
+        turns: SHORT_TURNS,
+        dali: "ten checkpoints of 19,203 regions that no image lacks, with their audits, real files",
+        beside: "the same store calls, and reading the words once for each",
+        unit: "checkpoints",
+        goal: Goal::Unset,
+    },
+    Row {
         name: "commit",
         count: Some(500),
         files: Files::New,
@@ -205,6 +235,12 @@ const LOGGED: u64 = 240_132;
 const GROWTH: [u64; 3] = [1_000, 10_000, 100_000];
 
 const MOST_GROWTH: f64 = 1.3;
+
+/// The inserts of the row of the codewords' share, which is told of the plain Rust side: dali's own update always keeps
+/// them.
+const CODED: u64 = 100_000;
+
+const MOST_CODED: f64 = 1.05;
 
 /// The layout of `struct rusage` on Linux with 64 bits.
 #[repr(C)]
@@ -372,6 +408,22 @@ fn print_growth(counts: [u64; 2], grown: [&[Run]; 2]) {
     );
 }
 
+/// Prints the row of inserts that keep codewords, beside those that keep none.
+fn print_share(coded: &[Run], uncoded: &[Run]) {
+    let runs = [coded, uncoded].map(median);
+    let times = runs[1].rate as f64 / runs[0].rate as f64;
+    println!(
+        "| insert {} records by calls, five a transaction, in plain Rust with codewords | the same without | {} inserts | {} | {times:.3} times | {} | at most {MOST_CODED} times | {} | {} | {} |",
+        in_threes(CODED),
+        in_threes(runs[0].rate),
+        in_threes(runs[1].rate),
+        middle_half(&Goal::Times(MOST_CODED), coded, uncoded),
+        if times <= MOST_CODED { "yes" } else { "no" },
+        mebibytes(runs[0]),
+        mebibytes(runs[1]),
+    );
+}
+
 /// The device and the kind of the file system in which the folder stands.
 fn disk_of(folder: &Path) -> io::Result<String> {
     let folder = fs::canonicalize(folder)?;
@@ -482,6 +534,12 @@ impl Sides<'_> {
         Ok(())
     }
 
+    fn share(&self, name: &str) -> io::Result<Run> {
+        let mut command = Command::new(&self.beside);
+        command.arg(name).arg(CODED.to_string());
+        run(&mut command)
+    }
+
     fn growth(&self, count: u64) -> io::Result<Run> {
         let mut command = Command::new(self.dali);
         command.arg("growth").arg("--count").arg(count.to_string());
@@ -506,6 +564,23 @@ fn print_rows(sides: &Sides) -> io::Result<()> {
         compare(row.name, dali.iter().chain(&beside))?;
         print_row(row, &dali, &beside);
     }
+    Ok(())
+}
+
+fn print_codewords(sides: &Sides) -> io::Result<()> {
+    let mut coded = Vec::new();
+    let mut uncoded = Vec::new();
+    for turn in 0..SHORT_TURNS {
+        if turn % 2 == 0 {
+            coded.push(sides.share("insert")?);
+            uncoded.push(sides.share("uncoded")?);
+        } else {
+            uncoded.push(sides.share("uncoded")?);
+            coded.push(sides.share("insert")?);
+        }
+    }
+    compare("codewords", coded.iter().chain(&uncoded))?;
+    print_share(&coded, &uncoded);
     Ok(())
 }
 
@@ -542,5 +617,6 @@ pub fn print(program: &Path, folder: &Path) -> io::Result<()> {
     println!("{HEAD}");
     sides.write_log()?;
     print_rows(&sides)?;
+    print_codewords(&sides)?;
     print_growths(&sides)
 }

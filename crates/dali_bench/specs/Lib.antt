@@ -1,5 +1,6 @@
 pub mod Amounts
 pub mod Calls
+pub mod Checkpoints
 pub mod Databases
 pub mod Keys
 pub mod Regions

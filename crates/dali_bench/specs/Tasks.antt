@@ -4,7 +4,7 @@
 --     has_folder task      whether it has files
 use Rattle.std.specs.Prelude.{ℕ, Bool, true, false, List, codes}
 use Rattle.dali_bench.specs.declared.arguments.Task.{Task}
-use Rattle.dali_bench.specs.declared.arguments.Task.TheVariants.{Codec, Locks, Update, Check, Parse, Claims, Notes, Commit, Log, Restart, Growth, Insert, Get, Change, Delete, Tens, Small}
+use Rattle.dali_bench.specs.declared.arguments.Task.TheVariants.{Codec, Locks, Update, Check, Parse, Claims, Notes, Commit, Log, Restart, Growth, Insert, Get, Change, Delete, Tens, Audit, Checkpoint, Clean, Small}
 
 abbrev pub name_of : Task → List ℕ
 name_of Codec = codes "codec"
@@ -23,6 +23,9 @@ name_of Get = codes "get"
 name_of Change = codes "change"
 name_of Delete = codes "delete"
 name_of Tens = codes "tens"
+name_of Audit = codes "audit"
+name_of Checkpoint = codes "checkpoint"
+name_of Clean = codes "clean"
 name_of Small = codes "small"
 
 abbrev pub has_count : Task → Bool
@@ -34,5 +37,7 @@ abbrev pub has_folder : Task → Bool
 has_folder Commit = true
 has_folder Log = true
 has_folder Restart = true
+has_folder Checkpoint = true
+has_folder Clean = true
 has_folder Small = true
 has_folder _ = false

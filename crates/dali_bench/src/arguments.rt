@@ -41,11 +41,17 @@ pub enum Task {
     Delete,
     /// Makes calls that insert, ten a transaction.
     Tens,
+    /// Audits all regions.
+    Audit,
+    /// Makes the first checkpoint of a database, in a new folder within a folder.
+    Checkpoint,
+    /// Makes checkpoints of regions that no image lacks, in a new folder within a folder.
+    Clean,
     /// Does a little of each, in a new folder within a folder.
     Small,
 }
 
-const TASKS: [Task; 17] = [
+const TASKS: [Task; 20] = [
     Task::Codec,
     Task::Locks,
     Task::Update,
@@ -62,6 +68,9 @@ const TASKS: [Task; 17] = [
     Task::Change,
     Task::Delete,
     Task::Tens,
+    Task::Audit,
+    Task::Checkpoint,
+    Task::Clean,
     Task::Small,
 ];
 
@@ -86,6 +95,9 @@ impl Task {
             Task::Change => "change",
             Task::Delete => "delete",
             Task::Tens => "tens",
+            Task::Audit => "audit",
+            Task::Checkpoint => "checkpoint",
+            Task::Clean => "clean",
             Task::Small => "small",
         }
     }
@@ -110,6 +122,11 @@ impl Task {
             Task::Change => "Makes COUNT calls that update, five a transaction",
             Task::Delete => "Makes COUNT calls that delete, five a transaction",
             Task::Tens => "Makes COUNT calls that insert, ten a transaction",
+            Task::Audit => "Audits COUNT regions ten times",
+            Task::Checkpoint =>
+                "Makes the first checkpoint of COUNT regions, in a folder within FOLDER",
+            Task::Clean =>
+                "Makes ten checkpoints of COUNT regions that no image lacks, in a folder within FOLDER",
             Task::Small => "Does a little of each, in a folder within FOLDER, and prints ok",
         }
     }
@@ -123,7 +140,10 @@ impl Task {
     fn has_folder(self) -> bool
         ensures { result ≡ has_folder self }
     {
-        matches!(self, Task::Commit | Task::Log | Task::Restart | Task::Small)
+        matches!(
+            self,
+            Task::Commit | Task::Log | Task::Restart | Task::Checkpoint | Task::Clean | Task::Small
+        )
     }
 }
 

@@ -2,7 +2,9 @@
 #![tactic(auto)]
 
 mod arguments;
+mod audits;
 mod calls;
+mod checkpoints;
 mod codec;
 mod databases;
 mod keys;
@@ -36,6 +38,11 @@ fn run_small(rt: &HostRuntime, folder: &str) -> Result<()> {
     shared::note(rt, alloc, 1000)?;
     databases::grow(rt, alloc, 100)?;
     calls::run(rt, alloc, Kind::Delete, 100)?;
+    audits::run(rt, alloc, 6)?;
+    let first = make_folder(rt, folder)?;
+    time_checkpoint(rt, 6, first.as_str())?;
+    let clean = make_folder(rt, folder)?;
+    time_clean(rt, 6, clean.as_str())?;
     let commits = make_folder(rt, folder)?;
     time_commits(rt, 3, commits.as_str())?;
     make_log(rt, 5, folder)?;
@@ -56,9 +63,25 @@ fn make_folder(rt: &HostRuntime, folder: &str) -> Result<String> {
     bail!("too many folders were left by runs that were cut off")
 }
 
+// Removes the folder, and gives what was timed in it.
+fn remove(rt: &HostRuntime, folder: &str, timing: Result<Timing>) -> Result<Timing> {
+    let removed = fs::remove_dir_all(rt, folder);
+    let timing = timing?;
+    removed?;
+    Ok(timing)
+}
+
 fn time_commits(rt: &HostRuntime, count: u32, folder: &str) -> Result<Timing> {
     let mut store = FileStore::in_folder(rt, folder);
     databases::commit(rt, rt.alloc(), &mut store, count)
+}
+
+fn time_checkpoint(rt: &HostRuntime, count: u32, folder: &str) -> Result<Timing> {
+    checkpoints::run_first(rt, rt.alloc(), FileStore::in_folder(rt, folder), count)
+}
+
+fn time_clean(rt: &HostRuntime, count: u32, folder: &str) -> Result<Timing> {
+    checkpoints::run_clean(rt, rt.alloc(), FileStore::in_folder(rt, folder), count)
 }
 
 fn make_log(rt: &HostRuntime, count: u32, folder: &str) -> Result<()> {
@@ -91,10 +114,18 @@ fn run_job(rt: &HostRuntime, job: &Job) -> Result<()> {
         Task::Commit => {
             let folder = make_folder(rt, job.folder)?;
             let timing = time_commits(rt, count, folder.as_str());
-            let removed = fs::remove_dir_all(rt, folder.as_str());
-            let timing = timing?;
-            removed?;
-            timing
+            remove(rt, folder.as_str(), timing)?
+        }
+        Task::Audit => audits::run(rt, alloc, count)?,
+        Task::Checkpoint => {
+            let folder = make_folder(rt, job.folder)?;
+            let timing = time_checkpoint(rt, count, folder.as_str());
+            remove(rt, folder.as_str(), timing)?
+        }
+        Task::Clean => {
+            let folder = make_folder(rt, job.folder)?;
+            let timing = time_clean(rt, count, folder.as_str());
+            remove(rt, folder.as_str(), timing)?
         }
         Task::Restart => time_restart(rt, job.folder)?,
         Task::Log => return make_log(rt, count, job.folder),

@@ -53,7 +53,7 @@ abbrev made : SystemState → ℕ → ℕ → ℕ → Header
 made y number place n = record { geometry = y.sizes; number = number; place = place; first = y.records; weight = y.end; next = y.next; table = n }
 
 -- ---- the records are counted
-runs_on_log : (s : Start) (p : Point) → StoreRun (bases_of s) s.log no_image p → RunsOn (bases_of s) p.log p.core
+pub runs_on_log : (s : Start) (p : Point) → StoreRun (bases_of s) s.log no_image p → RunsOn (bases_of s) p.log p.core
 runs_on_log s p run = subst (λ (L : List Record). RunsOn (bases_of s) L p.core) (sym run.run.log) run.run.run.runs
 
 -- ---- small facts on points

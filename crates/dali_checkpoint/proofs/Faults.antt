@@ -23,7 +23,7 @@ use Rattle.dali_whole.specs.Flushed.{FailsFrame, AllFlushed}
 use Rattle.dali_whole.proofs.Flushing.{flushes_all, flush_fails}
 use Rattle.dali_checkpoint.specs.Done.{IsLost}
 use Rattle.dali_checkpoint.specs.declared.error.CheckpointError.{CheckpointError}
-use Rattle.dali_checkpoint.specs.declared.error.CheckpointError.TheVariants.{Failed, InProgress, Stopped, Fault, OutOfMemory}
+use Rattle.dali_checkpoint.specs.declared.error.CheckpointError.TheVariants.{Failed, InProgress, Stopped, LogFull, Fault, OutOfMemory}
 use Rattle.dali_checkpoint.specs.Laws.{Ends, StartFaults, CopyFaults, SettleFaults, CertifyFaults, FailureEnds, GivesUp}
 use Rattle.dali_checkpoint.proofs.Calls.{course_join, untouched_now, flush_ran, start_keeps, KeptAt, side_is_next, copying_flushed, CopyingFlushed, settled_flushed, SettledFlushed, certify_turn, CertifyTurn}
 
@@ -180,6 +180,7 @@ module _ {V : Type 0} (told : V → Option Disk) (may_leave : V → Disk → Typ
       by_error Fault lost = subst (λ x. Ends told may_leave faults s p gs x w) (sym lost.2) (finish s p gs (store_stopped (taken y)) w checking (flush_fault s B p gs y v w at lost.1))
       by_error (Failed regions) lost = absurd lost
       by_error InProgress lost = absurd lost
+      by_error (LogFull end limit) lost = absurd lost
       by_error OutOfMemory lost = absurd lost
 
   -- ---- a checkpoint that is given up

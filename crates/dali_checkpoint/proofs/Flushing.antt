@@ -1,21 +1,15 @@
 -- A flush of all records between the calls.
-use Rattle.std.proofs.Common.{refl, Option, ◌≡◌, ℕ, List, [], ◌∷◌, ap, sym, subst, ◌∙◌, arith}
+use Rattle.std.proofs.Common.{refl, Option, ℕ, [], ◌∷◌, sym, subst, ◌∙◌, arith}
 use Rattle.dali_geometry.specs.Sizes.{Sizes}
 use Rattle.dali_geometry.specs.Places.{regions}
-use Rattle.dali_record.specs.declared.records.Record.{Record}
-use Rattle.dali_region.specs.State.{RegionState}
 use Rattle.dali_store.specs.Store.{Files as Disk}
-use Rattle.dali_system.specs.State.{SystemState}
 use Rattle.dali_system.specs.Steps.{taken}
 use Rattle.dali_system.specs.Courses.{Takes, Flushes}
 use Rattle.dali_crash.specs.Checkpoints.{Head, Does, Point, IsPointCourse}
-use Rattle.dali_crash.specs.Traces.{Start}
-use Rattle.dali_vault.specs.Vaulted.{Vaulted}
-use Rattle.dali_whole.specs.Flushed.{FlushesFrame, AllFlushed}
+use Rattle.dali_whole.specs.Flushed.{AllFlushed}
 use Rattle.dali_whole.proofs.Flushing.{flushes_all}
-use Rattle.dali_checkpoint.specs.Running.{AreCopied, PassesTell, IsSettled}
-use Rattle.dali_checkpoint.specs.Kept.{Checkpointed}
-use Rattle.dali_checkpoint.specs.Laws.{KeepsOverFlush, FlushKeeps}
+use Rattle.dali_checkpoint.specs.Running.{AreCopied, PassesTell}
+use Rattle.dali_checkpoint.specs.Laws.{FlushKeeps}
 use Rattle.dali_checkpoint.proofs.Audited.{passes_go_on, certified_on}
 use Rattle.dali_checkpoint.proofs.Calls.{flush_ran, copying_flushed, CopyingFlushed, settled_flushed, SettledFlushed}
 use Rattle.dali_checkpoint.proofs.Stays.{Stays, takes_stays, flushes_stays, both_stay, all_copied_on}

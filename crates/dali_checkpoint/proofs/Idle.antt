@@ -10,13 +10,11 @@ use Rattle.dali_record.specs.declared.records.Record.{Record}
 use Rattle.dali_record.specs.Spelling.{record_length}
 use Rattle.dali_steps.proofs.Steps.{places_are_small}
 use Rattle.dali_system.specs.Run.{LogRun}
-use Rattle.dali_region.specs.State.{RegionState}
 use Rattle.dali_store.specs.Store.{Files as Disk}
 use Rattle.dali_system.specs.State.{SystemState, log_after, stable}
 use Rattle.dali_crash.specs.Checkpoints.{Head, StoreStep, Point, IsPointCourse}
 use Rattle.dali_crash.specs.StoreRuns.{FlagTells}
 use Rattle.dali_crash.proofs.Flags.{flag_stays}
-use Rattle.dali_vault.specs.Vaulted.{Vaulted}
 use Rattle.dali_checkpoint.specs.Laws.{PointsTell, EndsIdle, EndIsFar}
 
 flags_on : (p q : Point) (xs : List StoreStep) → FlagTells p → IsPointCourse p xs q → FlagTells q

@@ -5,7 +5,15 @@ pub mod Calls
 pub mod Audited
 pub mod Others
 pub mod Faults
+pub mod Walks
+pub mod Passing
+pub mod Results
 pub mod Joined
 pub mod Flushing
 pub mod Moments
 pub mod Idle
+pub mod Whole
+pub mod Copying
+pub mod Imaging
+pub mod Made
+pub mod Onward

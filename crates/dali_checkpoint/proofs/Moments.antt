@@ -1,20 +1,16 @@
 -- What a crash at any moment of a call leaves restarts right.
-use Rattle.std.proofs.Common.{◌≡◌, ℕ, ◌+◌, Bool, true, false, List, [], ◌∷◌, Option, Some, None, IfSome, is_some, refl, ap, sym, subst, ◌∙◌, inl, inr, ⊎_elim}
+use Rattle.std.proofs.Common.{◌≡◌, ℕ, ◌+◌, Bool, true, [], ◌∷◌, Option, Some, None, IfSome, is_some, refl, ap, sym, subst, ◌∙◌, inl, inr, ⊎_elim}
 use Rattle.std.proofs.lemmas.Option.{IfSome_then}
-use Rattle.dali_record.specs.declared.records.Record.{Record}
 use Rattle.dali_record.specs.Files.{Files}
 use Rattle.dali_region.specs.declared.Side.{Side}
-use Rattle.dali_region.specs.State.{RegionState}
 use Rattle.dali_store.specs.declared.store.FileName.{FileName}
 use Rattle.dali_store.specs.Store.{Files as Disk, LeavesOnly}
-use Rattle.dali_batch.specs.Appending.{bodies_of}
-use Rattle.dali_batch.specs.Log.{body_bytes}
 use Rattle.dali_system.specs.State.{SystemState}
 use Rattle.dali_system.specs.Steps.{taken, in_checkpoint}
 use Rattle.dali_system.specs.Courses.{Takes, Flushes}
-use Rattle.dali_crash.specs.Checkpoints.{Head, Does, Starts, Keeps, Syncs, Point, IsPointCourse, target, side_of}
+use Rattle.dali_crash.specs.Checkpoints.{Does, Starts, Keeps, Syncs, Point, IsPointCourse, target, side_of}
 use Rattle.dali_crash.specs.Traces.{Start}
-use Rattle.dali_traces.specs.Disks.{AllSpell, Spells, image_name}
+use Rattle.dali_traces.specs.Disks.{Spells, image_name}
 use Rattle.dali_traces.specs.Bridges.{LeavesRightAt}
 use Rattle.dali_traces.specs.Anchors.{MayHaveMoved}
 use Rattle.dali_vault.specs.Vaulted.{Vaulted}
@@ -23,18 +19,17 @@ use Rattle.dali_steps.proofs.Steps.{write_is_right_in, turn_is_right_in, crash_i
 use Rattle.dali_whole.specs.Flushed.{FlushesFrame}
 use Rattle.dali_whole.specs.Moments.{FlushLeaves, Within, IsRightWithin}
 use Rattle.dali_whole.proofs.Moments.{none_added, flush_right, leaves_more, leaves_both, leaves_none}
-use Rattle.dali_checkpoint.specs.Kept.{Checkpointed, side_in}
-use Rattle.dali_checkpoint.specs.Running.{IsIdle, IsCopying, IsSettled, IsCertifiedAt}
+use Rattle.dali_checkpoint.specs.Kept.{side_in}
 use Rattle.dali_checkpoint.specs.Moments.{WriteLeft, WriteLeaves, SyncLeft, TurnLeft, TurnLeaves, StartIsRight, CopyIsRight, SettleIsRight, CertifyIsRight, FailureIsRight}
 use Rattle.dali_checkpoint.proofs.Joined.{flushes_over}
 use Rattle.dali_checkpoint.proofs.Calls.{start_keeps, KeptAt, side_is_next, copying_flushed, CopyingFlushed, settled_flushed, SettledFlushed, certify_turn, CertifyTurn}
 
 -- ---- where the store tells what its reads give
-each_told : (o : Option Disk) (X : Type 0) → (is_some o ≡ true → X) → IfSome o (λ _. X)
+pub each_told : (o : Option Disk) (X : Type 0) → (is_some o ≡ true → X) → IfSome o (λ _. X)
 each_told (Some d) X x = x refl
 each_told None X x = tt
 
-there : (o : Option Disk) (X : Type 0) → is_some o ≡ true → IfSome o (λ _. X) → X
+pub there : (o : Option Disk) (X : Type 0) → is_some o ≡ true → IfSome o (λ _. X) → X
 there (Some d) X e x = x
 there None X e x = absurd (cc)
 

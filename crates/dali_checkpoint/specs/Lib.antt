@@ -3,3 +3,4 @@ pub mod Done
 pub mod Running
 pub mod Laws
 pub mod Moments
+pub mod Making

@@ -3,19 +3,16 @@
 --     TurnLeaves y v side c        all records are flushed, the image is synced and the anchor moved: so it is of one of the three
 --     StartIsRight, CopyIsRight, SettleIsRight, CertifyIsRight     each disk that a crash inside the call leaves spells files that restart right
 --     FailureIsRight               so does each that one inside a certification by an audit that failed leaves
-use Rattle.std.specs.Prelude.{◌≡◌, ℕ, ◌+◌, ◌⊎◌, true, false, List, Some, Option, IfSome, length, slice_get}
+use Rattle.std.specs.Prelude.{◌≡◌, ℕ, ◌+◌, ◌⊎◌, false, List, Option, IfSome}
 use Rattle.dali_record.specs.declared.records.Record.{Record}
-use Rattle.dali_record.specs.Spelling.{words_bytes}
 use Rattle.dali_region.specs.declared.Side.{Side}
 use Rattle.dali_region.specs.State.{RegionState}
-use Rattle.dali_region.specs.Answers.{is_dirty}
 use Rattle.dali_store.specs.declared.store.FileName.{FileName}
 use Rattle.dali_store.specs.Store.{Files as Disk}
 use Rattle.dali_system.specs.State.{SystemState}
 use Rattle.dali_crash.specs.Checkpoints.{Head, Point, side_of}
 use Rattle.dali_crash.specs.Traces.{Start}
 use Rattle.dali_traces.specs.Disks.{AllSpell, image_name}
-use Rattle.dali_traces.specs.Places.{place_of}
 use Rattle.dali_traces.specs.Anchors.{MayHaveMoved}
 use Rattle.dali_vault.specs.Vaulted.{Vaulted}
 use Rattle.dali_steps.specs.Said.{TornFrom, HasSynced}

@@ -123,6 +123,7 @@ fn anchor<V: Store>(
     ensures any_moment { vault.old.stopped ≡ false → Within V.told V.moment V.left_since vault.old vault.new (TurnLeaves V.told V.may_leave V.faults system.old.state vault.old (Checkpoints.side_of number)) }
     ensures calls { OnOk result (V.lets_pass vault.new.store ≡ fewer (flush_calls system.old.state + 5) (V.lets_pass vault.old.store)) }
     ensures rose { IsErrOf result Fault → Rose (V.faults vault.old.store) (V.faults vault.new.store) }
+    ensures promised { system.new.promised ≡ system.old.promised }
 {
     if let Some(cause) = parts::cause_of(system, vault) {
         return Err(CheckpointError::Stopped { cause });
@@ -147,6 +148,7 @@ fn keep_failure<V: Store>(
     ensures calls { OnOk result (V.lets_pass vault.new.store ≡ fewer (flush_calls system.old.state) (V.lets_pass vault.old.store)) }
     ensures rose { IsErrOf result Fault → Rose (V.faults vault.old.store) (V.faults vault.new.store) }
     ensures ends { system.new.state.checking ≡ false }
+    ensures promised { system.new.promised ≡ system.old.promised }
 {
     system.end_copy();
     if system.frame().records() == 0 {
@@ -321,6 +323,7 @@ impl Checkpoint {
         ensures failing_calls { IsErrOf result (Failed verdict.failing) → V.lets_pass vault.new.store ≡ fewer (flush_calls system.old.state) (V.lets_pass vault.old.store) }
         ensures rose { IsErrOf result Fault → Rose (V.faults vault.old.store) (V.faults vault.new.store) }
         ensures ends { system.new.state.checking ≡ false }
+        ensures promised { system.new.promised ≡ system.old.promised }
     {
         if !verdict.failing().is_empty() {
             return match keep_failure(alloc, system, vault) {

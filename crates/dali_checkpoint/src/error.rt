@@ -3,6 +3,7 @@ ghost use Rattle.std.specs.Prelude.{◌≡◌};
 ghost use Rattle.dali_checkpoint.specs.declared.error.CheckpointError.TheVariants.{OutOfMemory as Memory};
 
 use dali_bytes::OutOfMemory;
+use dali_core::SystemError;
 use dali_record::Regions;
 use dali_system::Cause;
 use thiserror::Error;
@@ -19,6 +20,9 @@ pub enum CheckpointError {
     /// The engine is stopped.
     #[error("engine stopped")]
     Stopped { cause: Cause },
+    /// The log has no room for the begin of an audit: with it `end`, the bytes of all records, would pass this limit.
+    #[error("log full")]
+    LogFull { end: u64, limit: u64 },
     /// A call of the store failed.
     #[error("store fault")]
     Fault,
@@ -32,5 +36,20 @@ impl From<OutOfMemory> for CheckpointError {
 
     fn from(_: OutOfMemory) -> Self {
         CheckpointError::OutOfMemory
+    }
+}
+
+impl From<SystemError> for CheckpointError {
+    ghost use Rattle.std.specs.Prelude.{◌≡◌};
+    ghost use Rattle.dali_checkpoint.specs.Making.{checkpoint_error};
+
+    ghost from_gives = { λ error e. e ≡ checkpoint_error error };
+
+    fn from(error: SystemError) -> CheckpointError {
+        match error {
+            SystemError::Stopped { cause } => CheckpointError::Stopped { cause },
+            SystemError::LogFull { end, limit } => CheckpointError::LogFull { end, limit },
+            SystemError::OutOfMemory => CheckpointError::OutOfMemory,
+        }
     }
 }

@@ -5,7 +5,9 @@
 mod checkpoint;
 mod error;
 pub mod laws;
+mod making;
 mod parts;
 
 pub use checkpoint::Checkpoint;
 pub use error::CheckpointError;
+pub use making::make_checkpoint;

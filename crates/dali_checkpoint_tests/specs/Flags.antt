@@ -1,6 +1,17 @@
 -- IsUncopied g    no image has the words of the region
-use Rattle.std.specs.Prelude.{◌≡◌, true}
+-- IsFresh g       no operation is open on it
+-- HasBegun y      one transaction has begun in the system, and has done nothing
+use Rattle.std.specs.Prelude.{◌≡◌, true, ℕ, Option, None}
+use Rattle.std.specs.FinMap as map
+use Rattle.dali_att.specs.Table.{fresh_row}
 use Rattle.dali_region.specs.State.{RegionState}
+use Rattle.dali_system.specs.State.{SystemState}
 
 abbrev pub IsUncopied : RegionState → Type 0
 IsUncopied g = (g.dirty_a ≡ true) × (g.dirty_b ≡ true)
+
+abbrev pub IsFresh : RegionState → Type 0
+IsFresh g = (g.hold ≡ None) × IsUncopied g
+
+abbrev pub HasBegun : SystemState → Type 0
+HasBegun y = (t : ℕ) × (y.table ≡ map.insert map.empty t fresh_row)

@@ -4,14 +4,14 @@ ghost use Rattle.std.specs.Prelude.{◌≡◌, ◌<◌, [], ◌∷◌, length, I
 ghost use Rattle.dali_geometry.specs.Places.{regions as regions_of};
 ghost use Rattle.dali_region.specs.State.{checked};
 ghost use Rattle.dali_system.specs.Steps.{audit_record};
-ghost use Rattle.dali_whole.specs.Cores.{HoldsPlaces};
+ghost use Rattle.dali_whole.specs.Cores.{HoldsPlaces, IsWholeCore};
 ghost use Rattle.dali_checkpoint.specs.Kept.{side_in};
 ghost use Rattle.dali_checkpoint.specs.Done.{Reaches};
-ghost use Rattle.dali_checkpoint_tests.specs.Flags.{IsUncopied};
+ghost use Rattle.dali_checkpoint_tests.specs.Flags.{IsUncopied, IsFresh, HasBegun};
 
 use dali_audit::{Audit, Verdict};
 use dali_batch::{Frame, format, is_formatted};
-use dali_checkpoint::{Checkpoint, CheckpointError};
+use dali_checkpoint::{Checkpoint, CheckpointError, make_checkpoint};
 use dali_core::{System, SystemError};
 use dali_geometry::Geometry;
 use dali_memstore::{Fuse, MemoryStore};
@@ -20,6 +20,7 @@ use dali_region::Region;
 use dali_store::{FileName, Store};
 use dali_system::Cause;
 use dali_vault::Vault;
+use dali_whole::Core;
 use std::alloc::Global;
 use std::test::Fail;
 
@@ -59,6 +60,8 @@ fn begun(alloc: Global, passes: u64) -> Option<Small<Fuse<MemoryStore>>>
     requires few { passes < 1000 }
     ensures two { IfSome result (λ s. regions_of s.system.state.sizes ≡ 2) }
     ensures uncopied { IfSome result (λ s. IsUncopied s.index × IsUncopied s.heap) }
+    ensures fresh { IfSome result (λ s. IsFresh s.index × IsFresh s.heap) }
+    ensures begun { IfSome result (λ s. HasBegun s.system.state) }
 {
     let fuse = Fuse::new(
         MemoryStore::new(alloc, Vec::new(alloc)),
@@ -274,10 +277,10 @@ const HEADER: [u8; 64] = [
 // Transaction 1 is active, without undos.
 const TABLE: [u8; 17] = [0, 0, 0, 1, 0, 0, 0, 0, 0, 0, 0, 1, 0, 0, 0, 0, 0];
 
-// The whole image.
-fn image(alloc: Global) -> Option<Vec<u8>> {
+// The whole image behind this header.
+fn image(alloc: Global, header: &[u8]) -> Option<Vec<u8>> {
     let mut bytes = Vec::new(alloc);
-    bytes.extend_from_slice(&HEADER).ok()?;
+    bytes.extend_from_slice(header).ok()?;
     for _ in 0..64 {
         bytes.extend_from_slice(&[0, 0, 0, 0, 0, 0, 0, 1]).ok()?;
     }
@@ -297,7 +300,7 @@ fn writes_the_image(alloc: Global) -> Option<[bool; 4]> {
     let made = matches!(checkpoint(alloc, &mut small)?, Ok(1));
     let Small { vault, .. } = small;
     let store = vault.into_store().into_inner();
-    let image = image(alloc)?;
+    let image = image(alloc, &HEADER)?;
     Some([
         changed && made,
         store.file(FileName::ImageA) == image.as_slice(),
@@ -370,5 +373,146 @@ fn an_audit_that_fails_leaves_the_anchor(rt: HostRuntime) -> Result<(), Fail> {
             Some(CheckpointError::Stopped { cause })
         ))
     );
+    Ok(())
+}
+
+// ---- whole checkpoints, by one call
+
+// Two regions and a system as a core.
+fn core_of<V: Store + Drop>(alloc: Global, small: Small<V>) -> Option<Core<V>>
+    requires two { regions_of small.system.state.sizes ≡ 2 }
+    requires fresh { IsFresh small.index × IsFresh small.heap }
+    requires begun { HasBegun small.system.state }
+    ensures whole { IfSome result (λ core. IsWholeCore V.told core.regions.items core.system.state core.vault) }
+{
+    let Small {
+        index,
+        heap,
+        system,
+        vault,
+    } = small;
+    let Ok(regions) = vec![in alloc; index, heap] else {
+        return None;
+    };
+    Some(Core {
+        regions,
+        system,
+        vault,
+    })
+}
+
+// One checkpoint. None where the log or the anchor is too long.
+fn once<V: Store>(alloc: Global, core: &mut Core<V>) -> Option<Result<u64, CheckpointError>>
+    requires whole { IsWholeCore V.told core.old.regions.items core.old.system.state core.old.vault }
+    ensures whole { IsWholeCore V.told core.new.regions.items core.new.system.state core.new.vault }
+{
+    if core.vault.end() >= 1 << 61 || core.vault.current() >= 1 << 62 {
+        return None;
+    }
+    Some(make_checkpoint(core, alloc))
+}
+
+// The answer of the last of so many checkpoints; the first that fails is the last.
+fn again<V: Store>(
+    alloc: Global,
+    count: u32,
+    core: &mut Core<V>,
+) -> Option<Result<u64, CheckpointError>>
+    requires whole { IsWholeCore V.told core.old.regions.items core.old.system.state core.old.vault }
+{
+    for _ in 1..count {
+        match once(alloc, core)? {
+            Ok(_) => {}
+            Err(error) => return Some(Err(error)),
+        }
+    }
+    once(alloc, core)
+}
+
+// The answer of the last of so many checkpoints, and what is left.
+fn made(
+    alloc: Global,
+    passes: u64,
+    count: u32,
+    stray: bool,
+) -> Option<(Result<u64, CheckpointError>, (Option<Cause>, bool, u64))>
+    requires few { passes < 1000 }
+{
+    let mut small = begun(alloc, passes)?;
+    if stray {
+        small.heap.poke(5, 1 << 40);
+    }
+    let mut core = core_of(alloc, small)?;
+    let last = again(alloc, count, &mut core)?;
+    let left = (
+        core.system.stopped(),
+        core.vault.stopped(),
+        core.vault.current(),
+    );
+    Some((last, left))
+}
+
+#[test]
+fn a_whole_checkpoint_stops_at_each_failing_call(rt: HostRuntime) -> Result<(), Fail> {
+    let alloc = rt.alloc();
+    let fault = Err(CheckpointError::Fault);
+    for passes in 0..17 {
+        assert_eq!(rt;
+            made(alloc, passes, 1, false),
+            Some((Err(CheckpointError::Fault), (Some(Cause::Store), true, 0)))
+        );
+    }
+    for (passes, count, answer, left) in [
+        (17, 1, Ok(1), (None, false, 1)),
+        (29, 2, fault, (Some(Cause::Store), true, 1)),
+        (30, 2, Ok(2), (None, false, 2)),
+        (41, 3, Ok(3), (None, false, 3)),
+    ] {
+        assert_eq!(rt; made(alloc, passes, count, false), Some((answer, left)));
+    }
+    Ok(())
+}
+
+#[test]
+fn a_whole_checkpoint_of_a_stray_write_fails(rt: HostRuntime) -> Result<(), Fail> {
+    let alloc = rt.alloc();
+    let regions = Regions::new(Vec::from_slice(alloc, &[1])?);
+    assert_eq!(rt;
+        made(alloc, 100, 1, true),
+        Some((
+            Err(CheckpointError::Failed { regions }),
+            (Some(Cause::Damage { region: 1 }), false, 0)
+        ))
+    );
+    Ok(())
+}
+
+// The header of the second image: checkpoint 2 at place 44, behind the audit's begin and end of 10 bytes more.
+const SECOND: [u8; 64] = [
+    68, 65, 76, 73, 73, 77, 71, 49, 0, 0, 0, 1, 0, 0, 0, 1, //
+    0, 0, 0, 0, 0, 0, 0, 2, 0, 0, 0, 0, 0, 0, 0, 44, //
+    0, 0, 0, 0, 0, 0, 0, 4, 0, 0, 0, 0, 0, 0, 0, 29, //
+    0, 0, 0, 0, 0, 0, 0, 2, 0, 0, 0, 0, 0, 0, 0, 17, //
+];
+
+// Whether the files behind two checkpoints have these images as A and B, and two open gates.
+fn writes_both(alloc: Global) -> Option<[bool; 4]> {
+    let small = begun(alloc, 100)?;
+    let mut core = core_of(alloc, small)?;
+    let twice = matches!(again(alloc, 2, &mut core)?, Ok(2));
+    let store = core.into_store().into_inner();
+    let first = image(alloc, &HEADER)?;
+    let second = image(alloc, &SECOND)?;
+    Some([
+        twice,
+        store.file(FileName::ImageA) == first.as_slice(),
+        store.file(FileName::ImageB) == second.as_slice(),
+        store.file(FileName::Anchor) == [0xa5, 0xa5, 0].as_slice(),
+    ])
+}
+
+#[test]
+fn two_whole_checkpoints_write_both_images(rt: HostRuntime) -> Result<(), Fail> {
+    assert_eq!(rt; writes_both(rt.alloc()), Some([true; 4]));
     Ok(())
 }

@@ -1,10 +1,10 @@
-use Rattle.std.proofs.Common.{rules, ◌≡◌, ◌≤◌, ◌+◌, length, inl, refl, ap, sym, subst, ◌∙◌}
+use Rattle.std.proofs.Common.{rules, ◌≡◌, ◌≤◌, ◌+◌, length, inl, refl, ap, subst, ◌∙◌}
 use Rattle.dali_core.specs.Served.{Served}
 use Rattle.dali_image.specs.declared.header.Header.{Header}
 use Rattle.dali_checkpoint.specs.Kept.{header_at}
 use Rattle.dali_checkpoint.proofs.Joined.{writes, header_now}
 use Rattle.dali_checkpoint.proofs.Moments.{none_left, no_call, flush_write}
-use Rattle.dali_store.specs.Store.{LeavesOnly, HoldsIn}
+use Rattle.dali_store.specs.Store.{LeavesOnly}
 use Rattle.dali_steps.specs.Said.{TornFrom}
 use Rattle.dali_traces.specs.Disks.{image_name}
 use Rattle.dali_traces.specs.Places.{place_of}

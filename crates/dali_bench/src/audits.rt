@@ -1,0 +1,91 @@
+//! Audits of a database whose regions are as they were formatted.
+ghost use Rattle.std.specs.Prelude.{◌≡◌, ◌*◌, ◌<◌, ◌^◌, codes, length, map, OnOk, IfOk};
+ghost use Rattle.dali_geometry.specs.Places.{regions as regions_of};
+ghost use Rattle.dali_audit.specs.declared.audit.Finding.TheVariants.{Waiting};
+ghost use Rattle.dali_region.specs.State.{checked};
+ghost use Rattle.dali_checkpoint.specs.Making.{found_in};
+ghost use Rattle.dali_bench.specs.Amounts.{Counts};
+
+use crate::timing::Timing;
+use anyhow::{Result, ensure};
+use dali_audit::Audit;
+use dali_core::System;
+use dali_geometry::Geometry;
+use dali_region::Region;
+use std::alloc::{AllocError, Global};
+use std::rt::Clock;
+use std::time::Instant;
+
+/// The greatest limit of a log, in bytes.
+const LIMIT: u64 = 268_435_456;
+
+/// How often all regions are audited.
+const AUDITS: u32 = 10;
+
+/// Sizes with so many regions, a third of them index regions.
+pub fn sizes_for(regions: u32) -> Result<Geometry> {
+    let index = regions / 3;
+    Ok(Geometry::new(index, regions - index)?)
+}
+
+// The regions of a new database.
+fn load(alloc: Global, geometry: &Geometry) -> Result<Vec<Region>, AllocError>
+    ensures { IfOk result (λ regions. length regions.items ≡ regions_of geometry.now) }
+{
+    let count = geometry.regions();
+    let mut regions = Vec::with_capacity(alloc, count as usize)?;
+    for region in 0..count {
+        regions.push(Region::load(geometry.formatted(region)))?;
+    }
+    Ok(regions)
+}
+
+// Passes all regions.
+fn pass_all(audit: &mut Audit, regions: &mut [Region])
+    requires all { audit.old.findings ≡ map (λ _. Waiting) regions.old }
+    requires few { length regions.old < 2 ^ 32 }
+    ensures found { audit.new ≡ record audit.old { findings = map found_in regions.old } }
+    ensures regions { regions.new ≡ map checked regions.old }
+{
+    for number in 0..regions.len() {
+        audit.pass(number as u32, &mut regions[number]);
+    }
+}
+
+// An audit of all regions, which finds no damage.
+fn audit_once(alloc: Global, regions: &mut [Region], system: &mut System) -> Result<()>
+    requires whole { length regions.old ≡ regions_of system.old.state.sizes }
+    requires few { length regions.old < 2 ^ 32 }
+    ensures { OnOk result ((length regions.new ≡ length regions.old) × (system.new.state.sizes ≡ system.old.state.sizes)) }
+{
+    let mut audit = Audit::begin(alloc, system)?;
+    pass_all(&mut audit, regions);
+    let verdict = audit.end(system)?;
+    ensure!(verdict.failing().is_empty(), "a region is damaged");
+    system.flushed();
+    Ok(())
+}
+
+// So many audits.
+fn audit_times(alloc: Global, regions: &mut [Region], system: &mut System, times: u32) -> Result<()>
+    requires whole { length regions.old ≡ regions_of system.old.state.sizes }
+    requires few { length regions.old < 2 ^ 32 }
+{
+    for _ in 0..times {
+        audit_once(alloc, regions, system)?;
+    }
+    Ok(())
+}
+
+/// Ten audits of so many regions. The check number is how many regions there are.
+pub fn run(clock: &impl Clock, alloc: Global, regions: u32) -> Result<Timing>
+    ensures { IfOk result (Counts (regions * 10) (codes "regions")) }
+{
+    let geometry = sizes_for(regions)?;
+    let mut all = load(alloc, &geometry)?;
+    let mut system = System::new(alloc, geometry, 1, 1, 10, LIMIT)?;
+    let start = Instant::now(clock)?;
+    audit_times(alloc, &mut all, &mut system, AUDITS)?;
+    let timing = Timing::since(clock, start, regions as u64 * AUDITS as u64, "regions")?;
+    Ok(timing.checked(regions as u64))
+}

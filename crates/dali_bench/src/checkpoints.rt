@@ -1,0 +1,95 @@
+//! Checkpoints of databases whose regions are as they were formatted.
+ghost use Rattle.std.specs.Prelude.{◌≡◌, codes, OnOk, IfOk};
+ghost use Rattle.dali_bench.specs.Amounts.{Counts};
+ghost use Rattle.dali_bench.specs.Checkpoints.{MayCheckpoint};
+
+use crate::audits::sizes_for;
+use crate::timing::Timing;
+use anyhow::{Result, ensure};
+use dali_checkpoint::make_checkpoint;
+use dali_geometry::Geometry;
+use dali_restart::format;
+use dali_store::{FileName, Store};
+use dali_whole::Core;
+use std::alloc::Global;
+use std::rt::Clock;
+use std::time::Instant;
+
+/// The greatest limit of a log, in bytes.
+const LIMIT: u64 = 268_435_456;
+
+/// How many checkpoints are made of regions that no image lacks.
+const CHECKPOINTS: u32 = 10;
+
+// The core of a new database of these sizes.
+fn make<V: Store + Drop>(alloc: Global, store: V, geometry: Geometry) -> Result<Core<V>>
+    ensures { IfOk result (λ core. MayCheckpoint V.told core.regions.items core.system.state core.vault) }
+{
+    match format(alloc, store, geometry, LIMIT) {
+        Ok(core) => Ok(core),
+        Err(refused) => Err(refused.error.into()),
+    }
+}
+
+// A checkpoint, behind which another one may be made.
+fn checkpoint<V: Store>(alloc: Global, core: &mut Core<V>) -> Result<()>
+    requires { MayCheckpoint V.told core.old.regions.items core.old.system.state core.old.vault }
+    ensures { OnOk result (MayCheckpoint V.told core.new.regions.items core.new.system.state core.new.vault) }
+{
+    make_checkpoint(core, alloc)?;
+    ensure!(core.vault.end() < 1 << 61, "the log is too long");
+    ensure!(core.vault.current() < 1 << 62, "too many checkpoints");
+    Ok(())
+}
+
+// So many checkpoints.
+fn checkpoint_times<V: Store>(alloc: Global, core: &mut Core<V>, times: u32) -> Result<()>
+    requires { MayCheckpoint V.told core.old.regions.items core.old.system.state core.old.vault }
+    ensures { OnOk result (MayCheckpoint V.told core.new.regions.items core.new.system.state core.new.vault) }
+{
+    for _ in 0..times {
+        checkpoint(alloc, core)?;
+    }
+    Ok(())
+}
+
+// The length of the first image's file, as the check number.
+fn length<V: Store + Drop>(core: Core<V>) -> Result<u64> {
+    let mut store = core.into_store();
+    Ok(store.length(FileName::ImageA)?)
+}
+
+/// The first checkpoint of a database with so many regions, which writes them all. The check number is the length of the
+/// image's file.
+pub fn run_first<V: Store + Drop>(
+    clock: &impl Clock,
+    alloc: Global,
+    store: V,
+    regions: u32,
+) -> Result<Timing>
+    ensures { IfOk result (Counts regions (codes "regions")) }
+{
+    let mut core = make(alloc, store, sizes_for(regions)?)?;
+    let start = Instant::now(clock)?;
+    checkpoint(alloc, &mut core)?;
+    let timing = Timing::since(clock, start, regions as u64, "regions")?;
+    Ok(timing.checked(length(core)?))
+}
+
+/// Ten checkpoints of a database with so many regions, of which both images have each. The check number is the length of
+/// the first image's file.
+pub fn run_clean<V: Store + Drop>(
+    clock: &impl Clock,
+    alloc: Global,
+    store: V,
+    regions: u32,
+) -> Result<Timing>
+    ensures { IfOk result (Counts 10 (codes "checkpoints")) }
+{
+    let mut core = make(alloc, store, sizes_for(regions)?)?;
+    checkpoint_times(alloc, &mut core, 2)?;
+    let start = Instant::now(clock)?;
+    checkpoint_times(alloc, &mut core, CHECKPOINTS)?;
+    let timing = Timing::since(clock, start, CHECKPOINTS as u64, "checkpoints")?;
+    Ok(timing.checked(length(core)?))
+}

@@ -1,0 +1,8 @@
+use Rattle.dali_checkpoint.proofs.Passing.{none_passed, end_passed}
+use Rattle.dali_checkpoint.proofs.making.audit_all.Goals as goal
+
+pub pass_all-requires-clause-all : goal.pass_all-requires-clause-all
+pass_all-requires-clause-all c = none_passed c.args.regions.now c.in-Ok.audit _ _ c.in-Ok.ensures.audit c.requires.all
+
+pub end-requires : goal.end-requires
+end-requires c = end_passed c.args.regions.now c.in-Ok.audit c.pass_all.new.audit c.pass_all.ensures.found
