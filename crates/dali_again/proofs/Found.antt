@@ -1,5 +1,5 @@
 -- The files of a crash image are found, whether their log is a history or not.
-use Rattle.std.proofs.Common.{◌≡◌, ℕ, ◌+◌, ◌-◌, ◌<◌, ◌≤◌, false, List, [], ◌∷◌, ◌++◌, Some, length, take, slice_get, refl, ap, sym, subst, ◌∙◌, arith}
+use Rattle.std.proofs.Common.{◌≡◌, ℕ, ◌-◌, ◌<◌, ◌≤◌, List, [], Some, length, take, slice_get, refl, ap, sym, subst, ◌∙◌, arith}
 use Rattle.std.specs.Prelude.{fold}
 use Rattle.std.specs.List.{AllByRecursion}
 use Rattle.std.proofs.Math.Seq.{take-append_seam}
@@ -9,9 +9,9 @@ use Rattle.dali_geometry.specs.Sizes.{Sizes}
 use Rattle.dali_geometry.specs.Places.{formatted_image}
 use Rattle.dali_record.specs.declared.records.Record.{Record}
 use Rattle.dali_record.specs.declared.records.Record.TheVariants.{Format}
-use Rattle.dali_record.specs.Log.{Touch, touch_at, touch_in}
+use Rattle.dali_record.specs.Log.{touch_in}
 use Rattle.dali_record.specs.Epochs.{Epoch, Cut, cut, last_epoch}
-use Rattle.dali_record.specs.Locks.{EndedBetween, IsLockLegal, IsLockLegalIn}
+use Rattle.dali_record.specs.Locks.{EndedBetween, IsLockLegalIn}
 use Rattle.dali_record.specs.Legal.{sizes_of, IsLegalFor}
 use Rattle.dali_record.specs.Files.{Files}
 use Rattle.dali_record.proofs.Pushes.{touch_within}
@@ -19,10 +19,8 @@ use Rattle.dali_history.specs.Recovered.{recover, base_of, recovered}
 use Rattle.dali_headline.proofs.NothingToFree.{recovered-base}
 use Rattle.dali_counts.proofs.Lists.{found, get_take, length_take}
 use Rattle.dali_counts.proofs.Fronts.{prefix_legal}
-use Rattle.dali_region.specs.State.{RegionState}
-use Rattle.dali_system.specs.State.{CoreState, VaultState, stable, log_after}
+use Rattle.dali_system.specs.State.{CoreState, stable}
 use Rattle.dali_system.specs.Run.{RunsOn, IsPrefix, log_in, only}
-use Rattle.dali_system.specs.Flushes.{with_vault}
 use Rattle.dali_system.specs.Images.{is_missed}
 use Rattle.dali_crash.specs.Fitting.{FitsWhole}
 use Rattle.dali_crash.specs.Checkpoints.{StoreStep, Inside, IsPointStep, Point, Traced}
@@ -33,9 +31,10 @@ use Rattle.dali_crash.specs.Traces.{Start, StartsAt, start_point, bases_of}
 use Rattle.dali_crash.proofs.CrashLogs.{cut_parts}
 use Rattle.dali_crash.proofs.Restarts.{sizes_take, begins_behind, some_sizes}
 use Rattle.dali_crash.proofs.Fitting.{but_is_whole}
-use Rattle.dali_crash.proofs.Traces.{trace_runs, moment_halts}
-use Rattle.dali_again.specs.Stages.{IsFound, IsRestarting}
+use Rattle.dali_crash.proofs.Traces.{few_gates, trace_runs, moment_halts}
+use Rattle.dali_again.specs.Stages.{HasPlace}
 use Rattle.dali_again.specs.Found.{NoneMissed, FindsIt, CrashIsFound}
+use Rattle.dali_again.proofs.Places.{keeps_place}
 
 -- ---- a log cut off in its last epoch
 locks_cut : (m : ℕ) (E : List Record) → IsLockLegalIn E → IsLockLegalIn (take m E)
@@ -48,7 +47,7 @@ abbrev LegalCut : Cut → Type 0
 LegalCut c = AllByRecursion (λ (e : Epoch). IsLockLegalIn e.records) c.closed × IsLockLegalIn c.now.records
 
 -- ---- a crash image
-module _ (s : Start) (D : Files) (from : StartsAt s D) (xs : List StoreStep) (p : Point) (F : Files) (t : Traced (start_point s) D xs p F) (safe : NoneMissed p.core) where
+module _ (s : Start) (D : Files) (from : StartsAt s D) (has_place : HasPlace D) (xs : List StoreStep) (p : Point) (F : Files) (t : Traced (start_point s) D xs p F) (safe : NoneMissed p.core) where
   abbrev L : List Record
   L = s.log
 
@@ -122,27 +121,33 @@ module _ (s : Start) (D : Files) (from : StartsAt s D) (xs : List StoreStep) (p 
       sizes : (0 < z.index) × (0 < z.heap)
       sizes = some_sizes z (run.log.spelled 0 (Format z.index z.heap) run.log.format)
 
+  fits : FitsWhole (sizes_of K) (base_of (sizes_of K) K) K F (last_epoch K)
+  fits = subst (λ (y : Sizes). FitsWhole y (base_of y K) K F (last_epoch K)) (sym same) whole
+
   finds : FindsIt F
   finds = record {
     lawful = lawful;
     found = record {
       batches = refl;
       gates = refl;
+      place = keeps_place s D from has_place xs p F t;
       front = K;
       more = [];
       log = append-nil K;
       some = omega (arith, ap length has.log, length-take-le has.count p.log has.within, behind, to);
-      fits = (F.batches, subst (λ (y : Sizes). FitsWhole y (base_of y K) K F (last_epoch K)) (sym same) whole);
+      fits = (F.batches, fits);
       parts = append-nil F.batches;
       good = refl;
     };
+    few = few_gates s D from xs p F t;
     restarting = λ r E some. record { lawful = lawful; batches = refl; some = (r, E, some) };
+    resting = λ none le. record { none = none; files = fits };
   }
 
 pub crash_is_found : CrashIsFound
-crash_is_found s D from xs p E t safe = (finds s D from xs p E t safe, inside)
+crash_is_found s D from has_place xs p E t safe = (finds s D from has_place xs p E t safe, inside)
   where
     inside : (x : StoreStep) (q : Point) (F : Files) → IsPointStep p x q → Inside p x E F → FindsIt F
     inside x q F step moment =
         let h = moment_halts (start_point s) p q D E F xs x t step moment in
-        finds s D from h.steps h.point F h.trace (λ r g e. safe r g (subst (λ (d : CoreState). slice_get d.regions r ≡ Some g) h.core e))
+        finds s D from has_place h.steps h.point F h.trace (λ r g e. safe r g (subst (λ (d : CoreState). slice_get d.regions r ≡ Some g) h.core e))

@@ -1,7 +1,7 @@
 -- A crash at some moment of a run of calls.
-use Rattle.std.proofs.Common.{◌≡◌, ℕ, ◌≤◌, List, [], ◌∷◌, sym, subst, inl, inr, ◌⊎◌, ⊎_elim, arith}
+use Rattle.std.proofs.Common.{ℕ, [], ◌∷◌, sym, subst, inl, inr, ⊎_elim, arith}
 use Rattle.dali_store.specs.Store.{Files}
-use Rattle.dali_again.specs.Runs.{CallsOver, SomeMayLeave, RunLeaves}
+use Rattle.dali_again.specs.Runs.{RunLeaves}
 
 module _ {D : Type 0} (moment : D → ℕ) (left_since : D → ℕ → Files → Type 0) (may_leave : D → Files → Type 0) where
   pub run_leaves : RunLeaves moment left_since may_leave

@@ -10,11 +10,11 @@ use Rattle.dali_record.specs.declared.records.Record.TheVariants.{Format, Restar
 use Rattle.dali_record.specs.Epochs.{Cut, last_epoch}
 use Rattle.dali_record.specs.Damage.{rolled_list, deleted_list}
 use Rattle.dali_record.specs.Spelling.{record_length}
-use Rattle.dali_record.specs.Legal.{sizes_of}
+use Rattle.dali_record.specs.Legal.{IsLegal, sizes_of}
 use Rattle.dali_record.specs.Files.{Files, batch_length, is_restarted_first, next_after}
 use Rattle.dali_record.proofs.Ends.{get_new}
 use Rattle.dali_record.proofs.Pushes.{cut_push}
-use Rattle.dali_history.specs.Recovered.{recovered}
+use Rattle.dali_history.specs.Recovered.{base_of, recovered}
 use Rattle.dali_history.specs.History.{IsHistory}
 use Rattle.dali_history.proofs.Prefixes.{sizes_of-front}
 use Rattle.dali_history.proofs.Restarts.{recovered-same, sizes_of-restarted}
@@ -41,6 +41,7 @@ use Rattle.dali_resume.specs.Again.{Outcome, closing, closed_log, with_closing, 
 use Rattle.dali_resume.specs.Onward.{FitsFront, HandedOut, IsAgainOnward, verdict_of}
 use Rattle.dali_resume.specs.Batches.{misplaced, records_of, verdict_over}
 use Rattle.dali_resume.proofs.Batches.{answers_over_batches, both_good, fits_in_batches, front_answers_over_batches}
+use Rattle.dali_resume.proofs.Numbers.{image_stands_within}
 use Rattle.dali_resume.proofs.Stopped.{restarts_onward}
 use Rattle.dali_again.specs.Stages.{IsRestarting, IsFound, IsLogged, IsTurned, AnswersAs, EveryStageAnswers, StartsBehind, FoundLogged, closing_bodies, HoldsImage, IsAppending, IsMoving, AppendStages, Appended, LogSettles, MoveStages, Moved, AnchorSettles, Written}
 
@@ -51,11 +52,32 @@ again_at L B n D h w f =
     subst (λ M. IsAgainOnward M D) f.log
     (restarts_onward f.front (records_of f.more) D w.some.0 w.some.1 (subst IsHistory e h) f.some f.fits (ap records_in f.batches ∙ (w.batches ∙ e)) (ap (λ M. (last_epoch M).records) f.log ∙ w.some.2))
 
-found_log : (L : List Record) (B : List (List Record)) (n : ℕ) (D : Files) → IsRestarting L B → IsFound L B n D → log_in D ≡ L
+pub found_log : (L : List Record) (B : List (List Record)) (n : ℕ) (D : Files) → IsRestarting L B → IsFound L B n D → log_in D ≡ L
 found_log L B n D w f = ap records_in f.batches ∙ w.batches
 
-closing_log : (L : List Record) (B : List (List Record)) (n : ℕ) (D : Files) → IsRestarting L B → IsFound L B n D → log_in (with_closing L D) ≡ closed_log L
+pub closing_log : (L : List Record) (B : List (List Record)) (n : ℕ) (D : Files) → IsRestarting L B → IsFound L B n D → log_in (with_closing L D) ≡ closed_log L
 closing_log L B n D w f = flat_map-append (λ b. b) D.batches ((closing L ∷ []) ∷ []) ∙ ap (λ M. M ++ closing L ∷ []) (found_log L B n D w f)
+
+pub some_record : (L : List Record) (r : Record) (E : List Record) → (last_epoch L).records ≡ r ∷ E → 0 < length L
+some_record [] r E e = absurd (cc)
+some_record (x ∷ L) r E e = omega arith
+
+-- some record stands behind the image: in its front, or in the batches behind that
+pub behind_found : (L : List Record) (B : List (List Record)) (n : ℕ) (D : Files) → IsRestarting L B → IsFound L B n D → D.first < length L
+behind_found L B n D w f = by_more (records_of f.more) refl
+  where
+    by_more : (Q : List Record) → records_of f.more ≡ Q → D.first < length L
+    by_more (x ∷ Q) e = omega (arith, f.fits.1.fits.count, ap length f.log, length-append f.front (records_of f.more), ap length e)
+    by_more [] e =
+        omega (
+          arith,
+          ap length same,
+          image_stands_within (sizes_of f.front) (base_of (sizes_of f.front) f.front) f.front (record D { batches = f.fits.0 }) w.some.0 w.some.1 f.fits.1
+              (subst IsLegal (sym same) w.lawful.legal) (ap (λ M. (last_epoch M).records) same ∙ w.some.2),
+        )
+      where
+        same : f.front ≡ L
+        same = sym (append-nil f.front) ∙ (ap (λ X. f.front ++ X) (sym e) ∙ f.log)
 
 -- ---- over batches
 abbrev AnswersOver : Sizes → Files → Outcome → Type 0
@@ -135,14 +157,14 @@ every_stage_answers L B n F h w = record {
   turned = λ g. subst (AnswersAs L) (sym g.2) (answers_by L (closed_log L) (turned L g.0) (closing_log L B n g.0 w g.1) (again_at L B n g.0 h w g.1).turned_again (turned_over L B n g.0 h w g.1));
 }
 
-closed_lawful : (L : List Record) (B : List (List Record)) → IsRestarting L B → IsLawful (closed_log L)
+pub closed_lawful : (L : List Record) (B : List (List Record)) → IsRestarting L B → IsLawful (closed_log L)
 closed_lawful L B w = lawful_restarts L w.some.0 w.some.1 w.lawful w.some.2
 
-same_sizes : (L : List Record) → sizes_of (closed_log L) ≡ sizes_of L
+pub same_sizes : (L : List Record) → sizes_of (closed_log L) ≡ sizes_of L
 same_sizes L = sizes_of-restarted L (rolled_list (last_epoch L)) (deleted_list (last_epoch L))
 
 -- the image stands right before the batch of Restarted
-turned_is_fresh : (L : List Record) (B : List (List Record)) (n : ℕ) (D : Files) → IsRestarting L B → IsFound L B n D → IsRestarted (closed_log L) (turned L D)
+pub turned_is_fresh : (L : List Record) (B : List (List Record)) (n : ℕ) (D : Files) → IsRestarting L B → IsFound L B n D → IsRestarted (closed_log L) (turned L D)
 turned_is_fresh L B n D w f = record {
   closed = L;
   rolled = rolled_list (last_epoch L);

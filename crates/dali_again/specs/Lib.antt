@@ -1,3 +1,4 @@
 pub mod Stages
 pub mod Found
+pub mod Rests
 pub mod Runs

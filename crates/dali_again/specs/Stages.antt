@@ -2,6 +2,7 @@
 -- Where the last epoch has none a restart logs nothing. It writes nothing either where no record stands from the image's place on, of which no law here
 -- speaks, or Restarted alone, as at the third stage; else the log ends with the batch of Restarted, and the restart goes on from the second stage.
 --     IsRestarting L B         what is asked of the log, honest or not: but for what a restart hands out, which is said of a history
+--     HasPlace F               the image stands behind the first batch, and its number is hardly above that of the records before it
 --     IsFound L B n F          the files as they are found: their image fits a front of the log at its last epoch, whose batches are the first of the
 --                              disk's, and any batches stand behind these, where each Restarted is the first record of its batch
 --     IsLogged L B n F         with the batch of Restarted
@@ -22,7 +23,7 @@
 --     HoldsImage L B n d       that file spells the image that the restart came to
 --     MoveStages, Moved        what a crash leaves spells the second or the third while the anchor is moved, and the third behind it
 --     AnchorSettles            behind a sync of the anchor they are at one of the two, as reads of it tell
-use Rattle.std.specs.Prelude.{◌≡◌, ◌⊎◌, ◌<◌, ◌≤◌, ℕ, ◌+◌, List, [], ◌∷◌, ◌++◌, Some, drop, length, sum_by, take, true}
+use Rattle.std.specs.Prelude.{◌≡◌, ◌⊎◌, ◌<◌, ◌≤◌, ℕ, ◌+◌, ◌^◌, List, [], ◌∷◌, ◌++◌, Some, drop, length, sum_by, take, true}
 use Rattle.std.specs.List.{list_all}
 use Rattle.dali_record.specs.declared.records.Record.{Record}
 use Rattle.dali_record.specs.declared.records.Record.TheVariants.{Restarted}
@@ -52,9 +53,17 @@ pub record IsRestarting (L : List Record) (B : List (List Record)) : Type 0 wher
   pub some : (r : Record) × (E : List Record) × ((last_epoch L).records ≡ r ∷ E)
 
 -- ---- the files
+-- the image stands behind the first batch, and hardly more checkpoints were made than records stand before it: so the anchor may be moved; and none
+-- was made of a log of the format alone
+pub record HasPlace (F : Files) : Type 0 where
+  pub placed : 0 < F.place
+  pub moved : F.gates ≤ F.first + 1 + 2 ^ 61
+  pub some : (F.gates ≡ 0) ⊎ (1 < length (log_in F))
+
 pub record IsFound (L : List Record) (B : List (List Record)) (n : ℕ) (F : Files) : Type 0 where
   pub batches : F.batches ≡ B
   pub gates : F.gates ≡ n
+  pub place : HasPlace F
   -- the log that the image fits, and the batches behind those of that log
   pub front : List Record
   pub more : List (List Record)

@@ -1,7 +1,8 @@
 //! Laws over the definitions, each the contract of a function that does nothing.
 
 ghost use Rattle.dali_again.specs.Stages.{EveryStageAnswers, StartsBehind, FoundLogged, AppendStages, Appended, LogSettles, Written, MoveStages, Moved, AnchorSettles};
-ghost use Rattle.dali_again.specs.Found.{CrashIsFound};
+ghost use Rattle.dali_again.specs.Found.{CrashIsFound, FormatHasPlace, KeepsPlace, StartHasPlace, TurnedHasPlace};
+ghost use Rattle.dali_again.specs.Rests.{TellsStage, StagesSay};
 ghost use Rattle.dali_again.specs.Runs.{RunLeaves};
 
 use dali_store::Store;
@@ -46,8 +47,29 @@ pub fn a_crash_image_is_found()
     ensures { CrashIsFound }
 {}
 
+/// The image of a format's files stands behind the first batch, as does that of files behind a restart, and hardly more
+/// checkpoints were made than records stand before it. So it is of each start of a run that has no checkpoint's image, or
+/// whose log has a record behind the format; and so it stays along any steps of a run with its store.
+pub fn an_image_keeps_its_place()
+    ensures format { FormatHasPlace }
+    ensures turned { TurnedHasPlace }
+    ensures starts { StartHasPlace }
+    ensures keeps { KeepsPlace }
+{}
+
 /// Whatever a crash leaves at any moment of a run of calls, it might have left before the run, or may leave behind one of the
 /// calls: so what is known of each of these disks, in whatever terms, is known of it.
 pub fn a_run_of_calls_leaves_what_its_calls_leave<V: Store>()
     ensures { RunLeaves V.moment V.left_since V.may_leave }
+{}
+
+/// What stands behind the image tells at which stage files are that are found and that a disk spells: where the last epoch has a record a restart is to
+/// begin; where nothing stands there or a Restarted alone the files rest; and else a Restarted ends the log, as a restart left it.
+pub fn what_stands_behind_an_image_tells_the_stage()
+    ensures { TellsStage }
+{}
+
+/// At each stage of a restart the log says the same: the recovered words and the recovered epoch, honest or not.
+pub fn each_stage_of_a_restart_says_the_same()
+    ensures { StagesSay }
 {}

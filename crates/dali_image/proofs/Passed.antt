@@ -30,11 +30,12 @@ wanted h x e =
     let a = none_then (not (h.geometry.index == x.geometry.index) || not (h.geometry.heap == x.geometry.heap)) 8 _ e in
     let b = none_then (not (h.number == x.number)) 16 _ a.1 in
     let c = none_then (nat_lt h.place 15 || nat_le x.log h.place) 24 _ b.1 in
-    let d = none_then (nat_le (2 ^ 40) h.first) 32 _ c.1 in
+    let d = none_then (nat_le (2 ^ 40) h.first || (h.first == 0)) 32 _ c.1 in
     let f = none_then (nat_le (2 ^ 40) h.weight) 40 _ d.1 in
     let g = none_then (nat_le (2 ^ 40) h.next || (h.next == 0)) 48 _ f.1 in
     let s = neither (not (h.geometry.index == x.geometry.index)) (not (h.geometry.heap == x.geometry.heap)) a.0 in
     let p = neither (nat_lt h.place 15) (nat_le x.log h.place) c.0 in
+    let q = neither (nat_le (2 ^ 40) h.first) (h.first == 0) d.0 in
     let n = neither (nat_le (2 ^ 40) h.next) (h.next == 0) g.0 in
     let index : h.geometry.index ≡ x.geometry.index = same_numbers _ _ s.0 in
     let heap : h.geometry.heap ≡ x.geometry.heap = same_numbers _ _ s.1 in
@@ -42,7 +43,7 @@ wanted h x e =
       geometry = λ i. record { index = index i; heap = heap i };
       number = same_numbers _ _ b.0;
       place = (grind (arith, nat_tests, p.0), grind (arith, nat_tests, p.1));
-      first = grind (arith, nat_tests, d.0);
+      first = (grind (arith, nat_tests, q.1), grind (arith, nat_tests, q.0));
       weight = grind (arith, nat_tests, f.0);
       next = (grind (arith, nat_tests, n.1), grind (arith, nat_tests, n.0));
     }
@@ -66,5 +67,5 @@ what_passes bytes h x m is has checked reads =
         rest = drop h.table (drop place bytes);
         table = sym (take-append-drop h.table (drop place bytes)) ∙ ap (λ l. l ++ drop h.table (drop place bytes)) s.bytes_are;
       };
-      fits = λ image whole words. record { number = is.number; place = is.place; first = low.first; weight = low.weight; some = low.next.0; next = low.next.1; whole = whole; words = words; count = s.fits.count; size = subst Is64 (sym same) is.table; rows = s.fits.fit; ascending = s.fits.ascending };
+      fits = λ image whole words. record { number = is.number; place = is.place; first = low.first.1; weight = low.weight; some = low.next.0; next = low.next.1; whole = whole; words = words; count = s.fits.count; size = subst Is64 (sym same) is.table; rows = s.fits.fit; ascending = s.fits.ascending };
     }

@@ -31,7 +31,7 @@ are_wrong h x =
     (8, not (h.geometry.index == x.geometry.index) || not (h.geometry.heap == x.geometry.heap))
     ∷ (16, not (h.number == x.number))
     ∷ (24, nat_lt h.place 15 || nat_le x.log h.place)
-    ∷ (32, nat_le (2 ^ 40) h.first)
+    ∷ (32, nat_le (2 ^ 40) h.first || (h.first == 0))
     ∷ (40, nat_le (2 ^ 40) h.weight)
     ∷ (48, nat_le (2 ^ 40) h.next || (h.next == 0))
     ∷ []
@@ -47,6 +47,6 @@ pub record IsWanted (h : Header) (x : Expected) : Type 0 where
   pub geometry : h.geometry ≡ x.geometry
   pub number : h.number ≡ x.number
   pub place : (15 ≤ h.place) × (h.place < x.log)
-  pub first : h.first < 2 ^ 40
+  pub first : (0 < h.first) × (h.first < 2 ^ 40)
   pub weight : h.weight < 2 ^ 40
   pub next : (0 < h.next) × (h.next < 2 ^ 40)

@@ -1,5 +1,6 @@
 pub mod Passing
 pub mod Records
+pub mod Ordered
 pub mod Making
 pub mod Epochs
 pub mod Whole

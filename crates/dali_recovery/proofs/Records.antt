@@ -25,7 +25,7 @@ use Rattle.dali_redo.specs.Redoing.{Redoing, is_left, is_of, is_tested}
 use Rattle.dali_redo.specs.Steps.{Applies}
 use Rattle.dali_redo.proofs.Follows.{applies_on}
 use Rattle.dali_redo.proofs.Statuses.{still}
-use Rattle.dali_recovery.specs.Standing.{Fails, Follows, FollowsBy, IsAt, IsMade, Makes, Refuses, SameDamage, Stands, StandsOn, Takes, assumed_by, passed}
+use Rattle.dali_recovery.specs.Standing.{EndsScanned, Fails, Follows, FollowsBy, IsAt, IsMade, Makes, Refuses, SameDamage, Stands, StandsOn, Takes, assumed_by, passed}
 use Rattle.dali_recovery.specs.declared.error.RecoveryError.{RecoveryError}
 use Rattle.dali_recovery.specs.declared.error.RecoveryError.TheVariants.{Misfit, Unscanned, OutOfMemory}
 use Rattle.dali_recovery.specs.declared.scan.Scan.{Scan}
@@ -58,7 +58,7 @@ pub misfit_failed : (x : Recovery) (r : Record) → x.failed ≡ true → is_res
 misfit_failed x r failed e s n c st = may_not_failed s n c.known r (sym st.failed ∙ failed) e
 
 -- a number that was drawn has one behind it
-number_low : (s : Sizes) (n : ℕ) (k : Known) (r : Record) → allows s n k r ≡ true → next_behind 0 r ≤ 2 ^ 40
+pub number_low : (s : Sizes) (n : ℕ) (k : Known) (r : Record) → allows s n k r ≡ true → next_behind 0 r ≤ 2 ^ 40
 number_low s n k (Begin t) h = let low = ltb-true t (2 ^ 40) (and_parts (nat_lt t (2 ^ 40)) (nat_le k.next t) h).0 in omega (arith, low)
 number_low s n k (Solo t p b) h = let low = ltb-true t (2 ^ 40) (and_parts (nat_lt t (2 ^ 40)) (nat_le k.next t) (and_parts (draws_number k t) (is_waiting (k.statuses p) && on_kind s b.region b.op) h).0).0 in omega (arith, low)
 number_low s n k (Format i j) h = omega arith
@@ -86,6 +86,9 @@ never AuditBegin f e = absurd (cc)
 never (AuditClean b) f e = absurd (cc)
 never (AuditFail b rs) f e = absurd (cc)
 never (Restarted rs ds) f e = absurd (cc)
+
+pub scanned_within : (x : Recovery) (r q : Record) → r ≡ q → separates q ≡ false → EndsScanned x r
+scanned_within x r q e f h = never q f (sym (ap is_restarted e) ∙ h)
 
 is_at : (s : Sizes) (n : ℕ) (x : Recovery) (c : Going) → Stands s n x c → x.failed ≡ false → IsAt s x.redo x.scan x.number c.image c.known.first c.known
 is_at s n x c st sound = record { sizes = st.sizes; redoes = st.redoes; follows = st.follows; number = st.number; sound = sym st.failed ∙ sound }

@@ -16,17 +16,27 @@
 --     Tells x rs ds b          b is whether a Restarted with these lists may end the epoch
 --     Scans x y d              y is where x stands, where the epoch begins, and it assumes the damage d of it
 --     IsRecovered a b          b is the redo a with its undos performed, and what is dead freed
+--     EndsScanned x r          where r ends an epoch behind the image's place, x isn't unscanned
 --     HandsOn x o              o is what is handed out where no record follows
-use Rattle.std.specs.Prelude.{◌≡◌, ◌≤◌, ◌<◌, ◌+◌, ◌^◌, ◌&&◌, ◌==◌, not, ℕ, ⊤, Bool, true, false, List, [], map, fold, length, Option, Some, None, IsSomeAnd}
+--     Ascend rs ds             both lists ascend
+--     IsOrdered s x            whatever records were taken: x is of these sizes, the lists of a restart ascend, and the next number is 2^40 at most
+--     KeepsOrder x y           so it is of y, where it is of x
+--     IsOrderedOut s o         what is handed out has as many regions as the sizes say, and so on
+--     MakesOrdered a r b       the redo b is of the sizes of a, and its next number is the one behind the record r, which is 2^40 at most
+--     Passes x y r             y is x behind the record r, but for what an audit tells
+--     Reopens x y rs ds        y is x with these lists, but for what begins anew with an epoch
+use Rattle.std.specs.Prelude.{◌≡◌, ◌⊎◌, ◌≤◌, ◌<◌, ◌+◌, ◌^◌, ◌&&◌, ◌==◌, not, ℕ, ⊤, Bool, true, false, List, [], map, fold, length, Option, Some, None, IsSomeAnd}
 use Rattle.std.specs.List.{list_any}
 use Rattle.std.specs.List.Sorted.{IsStrictlyIncreasing}
 use Rattle.dali_geometry.specs.Sizes.{Sizes}
+use Rattle.dali_geometry.specs.Places.{regions}
 use Rattle.dali_att.specs.Table.{Table, undos_at}
 use Rattle.dali_record.specs.declared.operations.Pending.{Pending}
 use Rattle.dali_record.specs.declared.records.Record.{Record}
 use Rattle.dali_record.specs.Damage.{Damage, has}
 use Rattle.dali_record.specs.Epochs.{clean_step, failing_step}
 use Rattle.dali_record.specs.Files.{Files, is_restarted}
+use Rattle.dali_record.specs.Spelling.{ascends}
 use Rattle.dali_history.specs.Recovered.{freed}
 use Rattle.dali_resume.specs.Laws.{is_audit_fail}
 use Rattle.dali_resume.specs.Onward.{Going, going_next, hands_on}
@@ -110,6 +120,9 @@ abbrev pub Takes : Recovery → Recovery → Record → Type 0
 Takes x y r =
     (s : Sizes) (n : ℕ) (c : Going) → Stands s n x c → c.known.number + 1 < 2 ^ 64
     → (may_follow s n c.known r ≡ true) × Stands s n y (going_next s n c r) × (is_restarted r ≡ false → SameDamage x.scan y.scan) × (is_restarted r ≡ true → y.scan ≡ None)
+
+abbrev pub EndsScanned : Recovery → Record → Type 0
+EndsScanned x r = is_restarted r ≡ true → (x.number ≡ x.image) ⊎ (is_unscanned x ≡ false)
 
 abbrev pub Follows : Bool → Recovery → Record → Type 0
 Follows b x r = (s : Sizes) (n : ℕ) (c : Going) → Stands s n x c → may_follow s n c.known r ≡ b
@@ -225,3 +238,42 @@ TellsDamage x first clean failing =
 pub record Scans (x y : Recovery) (clean : ℕ) (failing : List ℕ) : Type 0 where
   pub stands : StandsOn x y
   pub assumes : IsFor clean failing y.scan
+
+-- ---- whatever records were taken
+abbrev pub Ascend : List ℕ → List ℕ → Type 0
+Ascend rs ds = (ascends rs ≡ true) × (ascends ds ≡ true)
+
+pub record IsOrdered (s : Sizes) (x : Recovery) : Type 0 where
+  pub geometry : x.geometry ≡ s
+  pub sizes : x.redo.sizes ≡ s
+  pub rolled : ascends x.rolled_back.items ≡ true
+  pub deleted : ascends x.deleted.items ≡ true
+  pub next : (x.redo.next ≤ 2 ^ 40) × (x.next ≤ 2 ^ 40)
+
+abbrev pub KeepsOrder : Recovery → Recovery → Type 0
+KeepsOrder x y = (s : Sizes) → IsOrdered s x → IsOrdered s y
+
+pub record IsOrderedOut (s : Sizes) (o : Recovered) : Type 0 where
+  pub whole : length o.regions.items ≡ regions s
+  pub rolled : ascends o.rolled_back.items ≡ true
+  pub deleted : ascends o.deleted.items ≡ true
+  pub next : o.next ≤ 2 ^ 40
+
+pub record MakesOrdered (a : Redoing) (r : Record) (b : Redoing) : Type 0 where
+  pub sizes : b.sizes ≡ a.sizes
+  pub low : next_behind 0 r ≤ 2 ^ 40
+  pub next : b.next ≡ next_behind a.next r
+
+pub record Passes (x y : Recovery) (r : Record) : Type 0 where
+  pub geometry : y.geometry ≡ x.geometry
+  pub redo : y.redo ≡ x.redo
+  pub rolled : y.rolled_back ≡ x.rolled_back
+  pub deleted : y.deleted ≡ x.deleted
+  pub next : next_behind 0 r ≤ 2 ^ 40 → y.next ≡ next_behind x.next r
+
+pub record Reopens (x y : Recovery) (rs ds : List ℕ) : Type 0 where
+  pub geometry : y.geometry ≡ x.geometry
+  pub redo : y.redo ≡ x.redo
+  pub rolled : y.rolled_back.items ≡ rs
+  pub deleted : y.deleted.items ≡ ds
+  pub next : y.next ≡ x.next

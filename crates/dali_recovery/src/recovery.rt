@@ -1,15 +1,17 @@
 //! The state of a restart between two records.
 ghost use Rattle.std.specs.Prelude.{◌≡◌, ◌↔◌, ◌≤◌, ◌^◌, ◌||◌, ◌==◌, ◌<◌, ◌+◌, ℕ, true, false, max, nat_lt, length, None, OnOk, OnErr, IfOk, IfErr};
 ghost use Rattle.std.specs.List.{list_all};
+ghost use Rattle.dali_geometry.specs.Sizes.{Sizes};
 ghost use Rattle.dali_geometry.specs.Places as places;
 ghost use Rattle.dali_att.specs.Table.{undos_at};
 ghost use Rattle.dali_record.specs.declared.records.Record.TheVariants.{AuditBegin, AuditClean, AuditFail, Restarted};
 ghost use Rattle.dali_record.specs.Files.{Files};
+ghost use Rattle.dali_record.specs.Spelling.{CanBeSpelled, ascends};
 ghost use Rattle.dali_resume.specs.Onward.{going_at};
 ghost use Rattle.dali_resume.specs.Tests.{next_behind as number_behind, same_numbers};
 ghost use Rattle.dali_taint.specs.Tables.{has_number};
 ghost use Rattle.dali_redo.specs.Redoing.{AreUndos, MayUndo, is_tested};
-ghost use Rattle.dali_recovery.specs.Standing.{Starts, Stands, StandsOn, Scans, Takes, Fails, Makes, Refuses, Finds, FindsDeleted, Tells, TellsDamage, Begins, IsRecovered, HandsLists, HandsOn, EndFails, passed, is_unscanned as unscanned};
+ghost use Rattle.dali_recovery.specs.Standing.{Starts, Stands, StandsOn, Scans, Takes, Fails, Makes, Refuses, Finds, FindsDeleted, Tells, TellsDamage, Begins, EndsScanned, IsRecovered, HandsLists, HandsOn, EndFails, IsOrdered, KeepsOrder, IsOrderedOut, MakesOrdered, Passes, Reopens, Ascend, passed, is_unscanned as unscanned};
 ghost use Rattle.dali_recovery.specs.declared.error.RecoveryError.TheVariants.{OutOfMemory};
 
 use crate::error::RecoveryError;
@@ -125,6 +127,7 @@ fn make(
     requires undo { MayUndo logged.now }
     requires tested { is_tested logged.now ≡ true }
     ensures ok { OnOk result (Makes redo.old scan.old number logged.now redo.new scan.new) }
+    ensures ordered { OnOk result (MakesOrdered redo.old logged.now redo.new) }
     ensures err { IfErr result (λ e. Refuses redo.old scan.old number logged.now e redo.new scan.new) }
 {
     match scan {
@@ -159,6 +162,7 @@ impl Recovery {
         requires undos { (t : ℕ) → AreUndos (undos_at table t) }
         ensures stands { (F : Files) → F.first ≡ first → F.next ≡ next → F.image ≡ regions.items → Starts F table → Stands geometry first result (going_at F) }
         ensures plain { result.scan ≡ None }
+        ensures ordered { next ≤ 2 ^ 40 → IsOrdered geometry result }
     {
         Recovery {
             alloc,
@@ -181,7 +185,8 @@ impl Recovery {
 
     // Goes on behind a record that ends no epoch.
     fn pass(&mut self, logged: &Record)
-        ensures { number_behind 0 logged.now ≤ 2 ^ 40 → self.old.number + 1 < 2 ^ 64 → self.new ≡ passed self.old logged.now }
+        ensures passed { number_behind 0 logged.now ≤ 2 ^ 40 → self.old.number + 1 < 2 ^ 64 → self.new ≡ passed self.old logged.now }
+        ensures ordered { Passes self.old self.new logged.now }
     {
         self.next = next_behind(self.next, logged);
         self.number = self.number.saturating_add(1);
@@ -193,6 +198,8 @@ impl Recovery {
         requires undo { MayUndo logged.now }
         requires tested { is_tested logged.now ≡ true }
         ensures ok { OnOk result (Takes self.old self.new logged.now) }
+        ensures ordered { OnOk result (CanBeSpelled logged.now → KeepsOrder self.old self.new) }
+        ensures scanned { OnOk result (EndsScanned self.old logged.now) }
         ensures err { IfErr result (λ e. Fails self.old self.new logged.now e) }
     {
         if self.failed {
@@ -207,6 +214,8 @@ impl Recovery {
     fn begin_audit(&mut self, logged: &Record) -> Result<(), RecoveryError>
         requires { logged.now ≡ AuditBegin }
         ensures ok { OnOk result (Takes self.old self.new logged.now) }
+        ensures ordered { OnOk result (CanBeSpelled logged.now → KeepsOrder self.old self.new) }
+        ensures scanned { OnOk result (EndsScanned self.old logged.now) }
         ensures err { IfErr result (λ e. Fails self.old self.new logged.now e) }
     {
         if self.failed {
@@ -228,6 +237,8 @@ impl Recovery {
     fn end_audit(&mut self, logged: &Record, begin: u64) -> Result<(), RecoveryError>
         requires { logged.now ≡ AuditClean begin }
         ensures ok { OnOk result (Takes self.old self.new logged.now) }
+        ensures ordered { OnOk result (CanBeSpelled logged.now → KeepsOrder self.old self.new) }
+        ensures scanned { OnOk result (EndsScanned self.old logged.now) }
         ensures err { IfErr result (λ e. Fails self.old self.new logged.now e) }
     {
         if self.failed {
@@ -251,6 +262,8 @@ impl Recovery {
     ) -> Result<(), RecoveryError>
         requires { logged.now ≡ AuditFail begin regions.now }
         ensures ok { OnOk result (Takes self.old self.new logged.now) }
+        ensures ordered { OnOk result (CanBeSpelled logged.now → KeepsOrder self.old self.new) }
+        ensures scanned { OnOk result (EndsScanned self.old logged.now) }
         ensures err { IfErr result (λ e. Fails self.old self.new logged.now e) }
     {
         if self.failed {
@@ -283,6 +296,7 @@ impl Recovery {
     // The deleted ones of the present epoch.
     fn deleted_so_far(&self) -> Result<Vec<u64>, RecoveryError>
         ensures ok { IfOk result (λ deleted. FindsDeleted self.now deleted.items) }
+        ensures ordered { IfOk result (λ deleted. ascends deleted.items ≡ true) }
         ensures err { IfErr result (λ e. e ≡ OutOfMemory) }
     {
         match &self.scan {
@@ -294,6 +308,7 @@ impl Recovery {
     // Whom a restart of the present epoch rolls back, and whom it deletes.
     fn found(&self) -> Result<(Vec<u64>, Vec<u64>), RecoveryError>
         ensures ok { IfOk result (λ lists. Finds self.now lists.0.items lists.1.items) }
+        ensures ordered { IfOk result (λ lists. Ascend lists.0.items lists.1.items) }
         ensures err { IfErr result (λ e. e ≡ OutOfMemory) }
     {
         let at_work = self.redo.rolled_back()?;
@@ -315,7 +330,8 @@ impl Recovery {
 
     // The next epoch begins.
     fn begin_epoch(&mut self, rolled_back: Vec<u64>, deleted: Vec<u64>)
-        ensures { self.old.number + 1 < 2 ^ 64 → Begins self.old self.new rolled_back.items deleted.items }
+        ensures begins { self.old.number + 1 < 2 ^ 64 → Begins self.old self.new rolled_back.items deleted.items }
+        ensures ordered { Reopens self.old self.new rolled_back.items deleted.items }
     {
         self.number = self.number.saturating_add(1);
         self.scan = None;
@@ -340,6 +356,8 @@ impl Recovery {
         requires first { self.old.number ≡ self.old.image }
         requires alone { self.old.restarted ≡ false }
         ensures ok { OnOk result (Takes self.old self.new logged.now) }
+        ensures ordered { OnOk result (CanBeSpelled logged.now → KeepsOrder self.old self.new) }
+        ensures scanned { OnOk result (EndsScanned self.old logged.now) }
         ensures err { IfErr result (λ e. Fails self.old self.new logged.now e) }
     {
         self.redo.apply(logged)?;
@@ -356,6 +374,8 @@ impl Recovery {
     ) -> Result<(), RecoveryError>
         requires { logged.now ≡ Restarted rolled_back.now deleted.now }
         ensures ok { OnOk result (Takes self.old self.new logged.now) }
+        ensures ordered { OnOk result (CanBeSpelled logged.now → KeepsOrder self.old self.new) }
+        ensures scanned { OnOk result (EndsScanned self.old logged.now) }
         ensures err { IfErr result (λ e. Fails self.old self.new logged.now e) }
     {
         if self.restarted {
@@ -397,6 +417,7 @@ impl Recovery {
     pub fn scan(&mut self, clean: u64, failing: &[u32]) -> Result<(), RecoveryError>
         requires { self.old.number ≡ self.old.first }
         ensures ok { OnOk result (Scans self.old self.new clean failing.now) }
+        ensures ordered { OnOk result (KeepsOrder self.old self.new) }
         ensures err { IfErr result (λ e. (e ≡ OutOfMemory) × (self.new ≡ self.old)) }
     {
         let scan = Scan::new(self.alloc, self.geometry, clean, failing, self.redo.table())?;
@@ -426,6 +447,8 @@ impl Recovery {
     pub fn take(&mut self, logged: &Record) -> Result<(), RecoveryError>
         requires { MayUndo logged.now }
         ensures ok { OnOk result (Takes self.old self.new logged.now) }
+        ensures ordered { OnOk result (CanBeSpelled logged.now → KeepsOrder self.old self.new) }
+        ensures scanned { OnOk result (EndsScanned self.old logged.now) }
         ensures err { IfErr result (λ e. Fails self.old self.new logged.now e) }
     {
         match logged {
@@ -452,6 +475,7 @@ impl Recovery {
     // The lists that are handed out.
     fn lists(&self) -> Result<(Vec<u64>, Vec<u64>), RecoveryError>
         ensures ok { IfOk result (λ lists. HandsLists self.now lists.0.items lists.1.items) }
+        ensures ordered { IfOk result (λ lists. Ascend self.now.rolled_back.items self.now.deleted.items → Ascend lists.0.items lists.1.items) }
         ensures err { IfErr result (λ e. e ≡ OutOfMemory) }
     {
         if self.restarted {
@@ -468,6 +492,7 @@ impl Recovery {
     /// takes memory for the lists alone.
     pub fn finish(self) -> Result<Recovered, RecoveryError>
         ensures ok { IfOk result (λ out. HandsOn self out) }
+        ensures ordered { IfOk result (λ out. (s : Sizes) → IsOrdered s self → IsOrderedOut s out) }
         ensures err { IfErr result (λ e. EndFails self e) }
     {
         if self.is_unscanned() {

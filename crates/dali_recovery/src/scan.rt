@@ -2,11 +2,12 @@
 ghost use Rattle.std.specs.Prelude.{◌≡◌, ◌&&◌, ◌==◌, ℕ, true, false, Some, IfOk, IfErr, OnOk};
 ghost use Rattle.dali_geometry.specs.Sizes.{Sizes};
 ghost use Rattle.dali_record.specs.Damage.{Damage};
+ghost use Rattle.dali_record.specs.Spelling.{ascends};
 ghost use Rattle.dali_resume.specs.Resumed.{deleted_by, scan as scan_of};
 ghost use Rattle.dali_resume.specs.Tests.{Known, same_numbers};
 ghost use Rattle.dali_taint.specs.Following.{Begins as BeginsTables};
 ghost use Rattle.dali_redo.specs.Redoing.{Knows, MayUndo, breaks, is_tested};
-ghost use Rattle.dali_recovery.specs.Standing.{FollowsBy, JudgedBy, Makes, Refuses, assumed_by};
+ghost use Rattle.dali_recovery.specs.Standing.{FollowsBy, JudgedBy, Makes, MakesOrdered, Refuses, assumed_by};
 ghost use Rattle.dali_recovery.specs.declared.error.RecoveryError.TheVariants.{OutOfMemory};
 
 use crate::error::RecoveryError;
@@ -90,6 +91,7 @@ impl Scan {
         requires undo { MayUndo logged.now }
         requires tested { is_tested logged.now ≡ true }
         ensures ok { OnOk result (Makes redo.old (Some self.old) number logged.now redo.new (Some self.new)) }
+        ensures ordered { OnOk result (MakesOrdered redo.old logged.now redo.new) }
         ensures err { IfErr result (λ e. Refuses redo.old (Some self.old) number logged.now e redo.new (Some self.new)) }
     {
         if redo.misfits(logged) {
@@ -102,7 +104,8 @@ impl Scan {
 
     /// The deleted ones so far, ascending. It takes memory for them.
     pub fn deleted(&self) -> Result<Vec<u64>, AllocError>
-        ensures { (p : ℕ) (k : Known) (s : Sizes) → FollowsBy s (Some self.now) p k → IfOk result (λ deleted. deleted.items ≡ deleted_by k.table k.seen (scan_of (assumed_by (Some self.now) p) k.table k.seen)) }
+        ensures deleted { (p : ℕ) (k : Known) (s : Sizes) → FollowsBy s (Some self.now) p k → IfOk result (λ deleted. deleted.items ≡ deleted_by k.table k.seen (scan_of (assumed_by (Some self.now) p) k.table k.seen)) }
+        ensures ascending { IfOk result (λ deleted. ascends deleted.items ≡ true) }
     {
         self.taint.deleted()
     }

@@ -1,12 +1,15 @@
 -- What a call makes of the fields of a redo.
-use Rattle.std.proofs.Common.{◌≡◌, ℕ, ◌≤◌, Bool, true, false, cond, List, [], ◌∷◌, ◌++◌, length, Option, Some, None, refl, ap, sym, subst, ◌∙◌, arith}
+use Rattle.std.proofs.Common.{◌≡◌, ℕ, zero, suc, Bool, true, false, cond, List, [], ◌∷◌, ◌++◌, length, map, take, drop, fold, Option, Some, None, refl, ap, sym, subst, ◌∙◌, arith}
 use Rattle.std.specs.Prelude.{not, ◌&&◌, ◌||◌, ◌==◌, is_some}
 use Rattle.std.specs.Option.{option_map, option_map_or}
 use Rattle.std.specs.Ordering.{nat_cmp}
 use Rattle.std.specs.FinMap.{empty, get, get-empty}
 use Rattle.std.proofs.Math.ListN.{length-set}
+use Rattle.std.proofs.lemmas.List.{length-map}
 use Rattle.dali_geometry.specs.Sizes.{Sizes}
 use Rattle.dali_geometry.specs.Places.{regions}
+use Rattle.dali_heap.specs.Cells as cell
+use Rattle.dali_index.specs.Entries as entry
 use Rattle.dali_att.specs.declared.state.State.{State}
 use Rattle.dali_att.specs.declared.state.State.TheVariants.{Live, Dead, Cleaning, Committed}
 use Rattle.dali_att.specs.Table.{Row, Table, state_at, undos_at}
@@ -19,6 +22,7 @@ use Rattle.dali_record.specs.Files.{is_restarted}
 use Rattle.dali_record.specs.Log.{Touch, touch_of, undo_added, drop_last}
 use Rattle.dali_record.specs.Settled.{redo, redo_touch}
 use Rattle.dali_record.specs.Spelling.{MayBeUndo}
+use Rattle.dali_history.specs.Recovered.{free_word, freed}
 use Rattle.dali_resume.specs.Laws.{undos_in}
 use Rattle.dali_resume.specs.Tests.{Known, Status, Idle, Running, Waiting, known_next, next_behind, status_next}
 use Rattle.dali_redo.specs.Redoing.{Redoing, Knows, AreUndos, status_by, status_at, is_left, performed, performed_in, either, is_of, MayUndo}
@@ -270,11 +274,19 @@ start_undos l m t e h = subst (λ o. AreUndos (performed_in o m t)) (sym e) (sub
 pub end_undos : (l m : Table Pending) (t : ℕ) → m ≡ empty → l ≡ empty → AreUndos (performed_in l m t)
 end_undos l m t e f = subst (λ o. AreUndos (performed_in o m t)) (sym f) (subst (λ o. AreUndos (performed_in empty o t)) (sym e) (subst AreUndos (sym (none_performed t)) tt))
 
-pub enough : (s : Sizes) (im jm : List (List ℕ)) → s.index ≤ length im → length jm ≡ length im → s.index ≤ length jm
-enough s im jm h e = omega (arith, h, e)
+pub as_many : (s : Sizes) (im jm : List (List ℕ)) → length im ≡ regions s → length jm ≡ length im → length jm ≡ regions s
+as_many s im jm h e = e ∙ h
 
-pub enough_at_start : (s : Sizes) (im jm : List (List ℕ)) → length im ≡ regions s → jm ≡ im → s.index ≤ length jm
-enough_at_start s im jm h e = let g : length jm ≡ length im = ap length e in omega (arith, h, g)
+pub as_many_at_start : (s : Sizes) (im jm : List (List ℕ)) → length im ≡ regions s → jm ≡ im → length jm ≡ regions s
+as_many_at_start s im jm h e = ap length e ∙ h
+
+halves_length : (f g : List ℕ → List ℕ) (n : ℕ) (xs : List (List ℕ)) → length (map f (take n xs) ++ map g (drop n xs)) ≡ length xs
+halves_length f g zero xs = length-map xs g
+halves_length f g (suc n) [] = refl
+halves_length f g (suc n) (x ∷ xs) = ap suc (halves_length f g n xs)
+
+pub as_many_freed : (s : Sizes) (im jm : List (List ℕ)) → length im ≡ regions s → jm ≡ freed s im → length jm ≡ regions s
+as_many_freed s im jm h e = ap length e ∙ (halves_length (λ ws. fold free_word ws (map entry.state_word entry.entries)) (λ ws. fold free_word ws (map cell.state_word cell.cells)) s.index im ∙ h)
 
 pub no_undos : (m : Table Pending) (t : ℕ) → m ≡ empty → AreUndos (undos_at m t)
 no_undos m t e = subst (λ o. AreUndos (undos_at o t)) (sym e) (subst (λ o. AreUndos (option_map_or (λ row. row.undos) o [])) (sym (no_rows t)) tt)

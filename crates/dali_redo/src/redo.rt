@@ -178,7 +178,8 @@ impl Redo {
 
     /// The words, region by region. Takes no memory.
     pub fn into_regions(self) -> Vec<[u64; 64]>
-        ensures { result.items ≡ self.image }
+        ensures words { result.items ≡ self.image }
+        ensures whole { length result.items ≡ places.regions self.sizes }
     {
         self.image.into_regions()
     }

@@ -1,35 +1,42 @@
 -- The loop over the records of a log.
-use Rattle.std.proofs.Common.{◌≡◌, ◌⊎◌, inl, inr, ⊎_elim, ℕ, ◌+◌, ◌-◌, ◌^◌, ◌≤◌, ◌<◌, Bool, true, false, cond, List, [], ◌∷◌, ◌++◌, Option, Some, None, refl, ap, sym, subst, ◌∙◌, arith, length, length-append}
-use Rattle.std.specs.Prelude.{sum_by, IsSome}
-use Rattle.std.specs.List.{list_all}
+use Rattle.std.proofs.Common.{◌≡◌, ◌⊎◌, inl, inr, ⊎_elim, ℕ, ◌+◌, ◌-◌, ◌^◌, ◌≤◌, ◌<◌, Bool, true, false, cond, List, [], ◌∷◌, ◌++◌, Option, Some, None, map, refl, ap, sym, subst, ◌∙◌, arith, length, length-append}
+use Rattle.std.specs.Prelude.{sum_by, IfSome, IsSome}
+use Rattle.std.specs.List.{list_all, list_any}
+use Rattle.std.proofs.lemmas.Bool.{cases_eq}
 use Rattle.std.proofs.lemmas.List.{append-nil}
 use Rattle.std.proofs.lemmas.List.Sums.{sum_by-append}
 use Rattle.dali_geometry.specs.Sizes.{Sizes}
 use Rattle.dali_record.specs.declared.records.Record.{Record}
-use Rattle.dali_record.specs.declared.records.Record.TheVariants.{Format, Begin, Forward, Done, Commit, Ended, Solo, AuditBegin, AuditClean, AuditFail, Restarted, Back}
+use Rattle.dali_record.specs.declared.records.Record.TheVariants.{Restarted}
 use Rattle.dali_record.specs.Files.{Files, is_restarted, is_restarted_first}
 use Rattle.dali_record.specs.Log.{last_of}
 use Rattle.dali_record.specs.Spelling.{CanBeSpelled, record_length}
 use Rattle.dali_record.proofs.Lengths.{length-spelling}
 use Rattle.dali_batch.specs.declared.reader.Placed.{Placed}
-use Rattle.dali_batch.specs.Log.{TailOf}
-use Rattle.dali_batch.specs.Stream.{EndsAt, GoesOn, HandsOut, IsBadFrom, IsReadFrom, IsWindow, Reading, is_first, place_of}
+use Rattle.dali_batch.specs.Batch.{batches}
+use Rattle.dali_batch.specs.Log.{IsRun, TailOf, bodies}
+use Rattle.dali_batch.specs.Stream.{EndsAt, GoesOn, HandsOut, IsBadFrom, IsReadFrom, IsWindow, IsWithin, Reading, is_first, place_of}
 use Rattle.dali_resume.specs.Batches.{records_of, verdict_over}
+use Rattle.dali_resume.specs.Laws.{is_audit_fail}
 use Rattle.dali_resume.specs.Onward.{HandedOut, Misfit as NamedMisfit, goes_through}
 use Rattle.dali_resume.specs.Rules.{ends_restarted}
 use Rattle.dali_resume.specs.Tests.{known_at, tests}
-use Rattle.dali_recovery.specs.Laws.{IsBehind, outcome_of}
-use Rattle.dali_recovery.specs.Standing.{Fails, HandsOn, is_unscanned, unscanned_by}
-use Rattle.dali_recovery.specs.declared.scan.Scan.{Scan}
+use Rattle.dali_recovery.specs.Laws.{IsBehind, damage_through, outcome_of}
+use Rattle.dali_recovery.specs.Standing.{Fails, HandsOn, TellsDamage, is_unscanned}
 use Rattle.dali_recovery.specs.declared.error.RecoveryError.TheVariants.{Misfit, Unscanned}
+use Rattle.dali_recovery.specs.declared.recovery.Damage.{Damage as Told}
 use Rattle.dali_recovery.specs.declared.recovery.Recovery.{Recovery}
-use Rattle.dali_recovery.proofs.Whole.{plain_further, takes_further}
-use Rattle.dali_reload.specs.Counting.{AreCounted, IsLast, StandsBefore, nothing_counted, one_more}
+use Rattle.dali_recovery.proofs.Whole.{scans_behind, takes_further, tells_unscanned}
+use Rattle.dali_reload.specs.Counting.{AreCounted, AreUpTo, IsLast, StandsBefore, nothing_counted, one_more}
 use Rattle.dali_reload.specs.Reading.{FailsAt, HasRecords, IsAtImage, IsBadBehind, IsReloaded, IsUnscanned, TakesAt}
+use Rattle.dali_reload.specs.Scanning.{AreFound, FindsDamage, ScansKnown, damages_through, told_of}
+use Rattle.dali_reload.specs.declared.counts.BeforeRestart.{BeforeRestart}
 use Rattle.dali_reload.specs.declared.counts.Counts.{Counts}
 use Rattle.dali_reload.specs.declared.reading.Reloaded.{Reloaded}
+use Rattle.dali_reload.proofs.Passes.{AreAmong, Ends, IsScanning, Judges, Past, closing, end_is, found_here, is_a_restart, judges, known_by, next_is, none_read, past_on, scanning_on}
 use Rattle.dali_reload.proofs.Lists.{done_first, front_first, last_pushed, pushed_first, records_pushed, records_so_far, records_with, so_far, so_far_push, with_batch}
-use Rattle.dali_reload.proofs.Runs.{before_record, behind_record, done_stands, record_stands}
+use Rattle.dali_reload.proofs.Runs.{batches_long, before_record, behind_record, done_stands, record_stands}
+use Rattle.dali_reload.proofs.Tails.{closed_here}
 use Rattle.dali_reload.proofs.Verdicts.{fails_place, fails_rule, handed}
 
 pub record IsOn (log : List ℕ) (s : Sizes) (F : Files) (r : Reading) (x : Recovery) (n : Counts) : Type 0 where
@@ -42,9 +49,12 @@ pub record IsOn (log : List ℕ) (s : Sizes) (F : Files) (r : Reading) (x : Reco
   pub many : n.records ≤ r.at
   pub long : n.bytes ≤ r.at
   pub room : F.first < 2 ^ 63
-  pub plain : x.scan ≡ None
 
-pub begins : (log : List ℕ) (s : Sizes) (F : Files) (r : Reading) (x : Recovery) → IsAtImage log s F r x → IsOn log s F r x nothing_counted
+-- its records
+abbrev pub records_on : List (List Record) → List Record → List Record
+records_on front done = records_of (so_far front done)
+
+abbrev begins : (log : List ℕ) (s : Sizes) (F : Files) (r : Reading) (x : Recovery) → IsAtImage log s F r x → IsOn log s F r x nothing_counted
 begins log s F r x at = record {
   front = [];
   done = [];
@@ -55,23 +65,30 @@ begins log s F r x at = record {
   many = omega arith;
   long = omega arith;
   room = at.first;
-  plain = at.plain;
+}
+
+-- a scan changes none of it
+scanned_behind : (s : Sizes) (F : Files) (Q : List Record) (x y : Recovery) (ds : List Told) → IsBehind s F Q x → ScansKnown x y ds → IsBehind s F Q y
+scanned_behind s F Q x y ds b (inl z) = subst (IsBehind s F Q) (sym z.0) b
+scanned_behind s F Q x y ds b (inr z) = (scans_behind s F Q x y z.damage.clean z.damage.failing.items b z.scans).0
+
+abbrev scans_on : (log : List ℕ) (s : Sizes) (F : Files) (r : Reading) (x y : Recovery) (n : Counts) (ds : List Told) → IsOn log s F r x n → ScansKnown x y ds → IsOn log s F r y n
+scans_on log s F r x y n ds on z = record {
+  front = on.front;
+  done = on.done;
+  read = on.read;
+  behind = scanned_behind s F (records_on on.front on.done) x y ds on.behind z;
+  first = on.first;
+  counted = on.counted;
+  many = on.many;
+  long = on.long;
+  room = on.room;
 }
 
 -- ---- one record more
-is_a_restart : (r : Record) → is_restarted r ≡ true → (rs ds : List ℕ) × (r ≡ Restarted rs ds)
-is_a_restart (Restarted rs ds) e = (rs, ds, refl)
-is_a_restart (Format i h) e = absurd (cc)
-is_a_restart (Begin t) e = absurd (cc)
-is_a_restart (Forward t b) e = absurd (cc)
-is_a_restart (Done t c a) e = absurd (cc)
-is_a_restart (Commit t) e = absurd (cc)
-is_a_restart (Ended t) e = absurd (cc)
-is_a_restart (Solo t p b) e = absurd (cc)
-is_a_restart AuditBegin e = absurd (cc)
-is_a_restart (AuditClean b) e = absurd (cc)
-is_a_restart (AuditFail b rs) e = absurd (cc)
-is_a_restart (Back t b) e = absurd (cc)
+no_length : (rs : List Record) → length rs ≡ 0 → rs ≡ []
+no_length [] e = refl
+no_length (r ∷ rs) e = absurd (omega (arith, e))
 
 first_is_none : (done : List Record) → is_first done ≡ true → done ≡ []
 first_is_none [] e = refl
@@ -80,10 +97,6 @@ first_is_none (d ∷ ds) e = absurd (cc)
 later_is_some : (done : List Record) → is_first done ≡ false → (d : Record) × (ds : List Record) × (done ≡ d ∷ ds)
 later_is_some [] e = absurd (cc)
 later_is_some (d ∷ ds) e = (d, ds, refl)
-
--- without a scan
-unscanned_is : (x : Recovery) → x.scan ≡ None → is_unscanned x ≡ x.failed
-unscanned_is x e = ap (λ (o : Option Scan). unscanned_by o x.failed x.clean x.failing.items) e
 
 module _ (log : List ℕ) (s : Sizes) (F : Files) (r t : Reading) (x y : Recovery) (n m : Counts) (g : Placed) (on : IsOn log s F r x n) (goes : GoesOn log r g t) where
   h : HandsOut log F.place on.front on.done g t
@@ -109,11 +122,11 @@ module _ (log : List ℕ) (s : Sizes) (F : Files) (r t : Reading) (x y : Recover
     is_more : m ≡ one_more n g
     is_more = counts (omega (arith, on.many, further, small)) (omega (arith, reach, small))
 
-    behind_new : IsBehind s F (records_of new) y
-    behind_new = subst (λ Q. IsBehind s F Q y) (sym records_are) (takes_further s F (records_of old) x y g.entry on.behind takes.1 (omega (arith, on.counted.records, on.many, on.room, further, small)))
+    room_here : F.first + length (records_of old) + 1 < 2 ^ 64
+    room_here = omega (arith, on.counted.records, on.many, on.room, further, small)
 
-    plain_new : y.scan ≡ None
-    plain_new = plain_further s F (records_of old) x y g.entry on.behind takes.1 (omega (arith, on.counted.records, on.many, on.room, further, small)) on.plain
+    behind_new : IsBehind s F (records_of new) y
+    behind_new = subst (λ Q. IsBehind s F Q y) (sym records_are) (takes_further s F (records_of old) x y g.entry on.behind takes.1 room_here)
 
     first_new : list_all is_restarted_first new ≡ true
     first_new = with_batch on.front (on.done ++ g.entry ∷ []) (front_first on.front on.done on.first) (pushed_first on.done g.entry (done_first on.front on.done on.first) alone)
@@ -144,26 +157,31 @@ module _ (log : List ℕ) (s : Sizes) (F : Files) (r t : Reading) (x y : Recover
       last = last_new;
     }
 
-    at_end : (front : List (List Record)) (done : List Record) → so_far front done ≡ new → IsReadFrom log F.place front done t → IsOn log s F t y (one_more n g)
-    at_end front done e read = record {
-      front = front;
-      done = done;
-      read = read;
-      behind = subst (λ (z : List (List Record)). IsBehind s F (records_of z) y) (sym e) behind_new;
-      first = subst (λ z. list_all is_restarted_first z ≡ true) (sym e) first_new;
-      counted = subst (λ z. AreCounted F.place z (one_more n g)) (sym e) counted_new;
-      many = omega (arith, on.many, further);
-      long = reach;
-      room = on.room;
-      plain = plain_new;
-    }
+    abbrev Further : Counts → Type 0
+    Further k = (more : IsOn log s F t y k) × (records_on more.front more.done ≡ records_of old ++ g.entry ∷ [])
 
-    by_sum : IsReadFrom log F.place on.front (on.done ++ g.entry ∷ []) t ⊎ IsReadFrom log F.place new [] t → IsOn log s F t y (one_more n g)
+    at_end : (front : List (List Record)) (done : List Record) → so_far front done ≡ new → IsReadFrom log F.place front done t → Further (one_more n g)
+    at_end front done e read = (
+      record {
+        front = front;
+        done = done;
+        read = read;
+        behind = subst (λ (z : List (List Record)). IsBehind s F (records_of z) y) (sym e) behind_new;
+        first = subst (λ z. list_all is_restarted_first z ≡ true) (sym e) first_new;
+        counted = subst (λ z. AreCounted F.place z (one_more n g)) (sym e) counted_new;
+        many = omega (arith, on.many, further);
+        long = reach;
+        room = on.room;
+      },
+      ap records_of e ∙ records_are,
+    )
+
+    by_sum : IsReadFrom log F.place on.front (on.done ++ g.entry ∷ []) t ⊎ IsReadFrom log F.place new [] t → Further (one_more n g)
     by_sum (inl z) = at_end on.front (on.done ++ g.entry ∷ []) (so_far_push on.front on.done g.entry) z
     by_sum (inr z) = at_end new [] refl z
 
-    pub goes_on : IsOn log s F t y m
-    goes_on = subst (IsOn log s F t y) (sym is_more) (by_sum h.goes)
+    pub goes_on : Further m
+    goes_on = subst Further (sym is_more) (by_sum h.goes)
 
   -- one that fails
   behind_both : IsBehind s F (records_of on.front ++ on.done) x
@@ -180,17 +198,25 @@ module _ (log : List ℕ) (s : Sizes) (F : Files) (r t : Reading) (x y : Recover
     fails_there (inr z) = fails_by (λ rest more. fails_rule s F on.front on.done g.entry x behind_both (front_first on.front on.done on.first) (done_first on.front on.done on.first) rest more y z)
 
   -- an epoch ends whose audit failed
-  pub unscanned_there : (is_restarted g.entry ≡ true → g.first ≡ true) → Fails x y g.entry Unscanned → IsUnscanned log s F
-  unscanned_there only f =
-      let none : on.done ≡ [] = first_is_none on.done (sym h.first ∙ only f.0.0) in record {
-        front = on.front;
-        passes = record {
-          rules = subst (λ (d : List Record). IsSome (tests s F.first (known_at F.first F.next F.table) (records_of (so_far on.front d)))) none on.behind.passed;
-          first = front_first on.front on.done on.first;
-        };
-        failed = sym (ap (λ (d : List Record). (goes_through s F (records_of (so_far on.front d))).known.failed) none) ∙ (sym on.behind.stands.failed ∙ (sym (unscanned_is x on.plain) ∙ f.0.1));
-        ends = inr (g.entry, f.0.0, subst (λ (d : List Record). HasRecords log F.place on.front (d ++ g.entry ∷ [])) none (record_stands log F.place on.front on.done g t h));
-      }
+  pub unscanned_there : (is_restarted g.entry ≡ true → g.first ≡ true) → Fails x y g.entry Unscanned → (goes_through s F (records_of old)).known.failed ≡ true
+      → (u : IsUnscanned log s F) × (records_of u.front ≡ records_of old)
+  unscanned_there only f failed =
+      let none : on.done ≡ [] = first_is_none on.done (sym h.first ∙ only f.0.0) in
+      let same : records_of old ≡ records_of on.front = ap (λ (d : List Record). records_of (so_far on.front d)) none in (
+        record {
+          front = on.front;
+          passes = record {
+            rules = subst (λ Q. IsSome (tests s F.first (known_at F.first F.next F.table) Q)) same on.behind.passed;
+            first = front_first on.front on.done on.first;
+          };
+          failed = subst (λ (Q : List Record). (goes_through s F Q).known.failed ≡ true) same failed;
+          ends = inr (g.entry, f.0.0, subst (λ (d : List Record). HasRecords log F.place on.front (d ++ g.entry ∷ [])) none (record_stands log F.place on.front on.done g t h));
+        },
+        sym same,
+      )
+
+  pub there : HasRecords log F.place on.front (on.done ++ g.entry ∷ [])
+  there = record_stands log F.place on.front on.done g t h
 
   pub window_there : IsWindow log t
   window_there = ⊎_elim (λ z. z.window) (λ z. z.window) h.goes
@@ -218,16 +244,42 @@ module _ (log : List ℕ) (s : Sizes) (F : Files) (r t : Reading) (x : Recovery)
     pub window_end : IsWindow log t
     window_end = w.2
 
-    pub unscanned_end : is_unscanned x ≡ true → IsUnscanned log s F
-    unscanned_end e = record {
-      front = on.front;
-      passes = record {
-        rules = subst (λ (bs : List (List Record)). IsSome (tests s F.first (known_at F.first F.next F.table) (records_of bs))) all_read on.behind.passed;
-        first = front_first on.front on.done on.first;
-      };
-      failed = subst (λ (bs : List (List Record)). (goes_through s F (records_of bs)).known.failed ≡ true) all_read (sym on.behind.stands.failed ∙ (sym (unscanned_is x on.plain) ∙ e));
-      ends = inl (t.at, w.1);
-    }
+    pub unscanned_end : (goes_through s F (records_on on.front on.done)).known.failed ≡ true → (u : IsUnscanned log s F) × (records_of u.front ≡ records_on on.front on.done)
+    unscanned_end failed =
+        let same : records_on on.front on.done ≡ records_of on.front = ap records_of all_read in (
+          record {
+            front = on.front;
+            passes = record {
+              rules = subst (λ Q. IsSome (tests s F.first (known_at F.first F.next F.table) Q)) same on.behind.passed;
+              first = front_first on.front on.done on.first;
+            };
+            failed = subst (λ (Q : List Record). (goes_through s F Q).known.failed ≡ true) same failed;
+            ends = inl (t.at, w.1);
+          },
+          sym same,
+        )
+
+    pub end_there : (u : List (List Record)) × TailOf log F.place u t.at × (records_of u ≡ records_on on.front on.done)
+    end_there = (on.front, w.1, sym (ap records_of all_read))
+
+    -- nothing that is counted is above it
+    here : r.at ≡ t.at
+    here = by_place on.read.stands
+      where
+        by_place : ((r.at ≡ r.end) × IsRun log F.place on.front r.at × (on.done ≡ [])) ⊎ ((r.at < r.end) × IsWithin log F.place on.front on.done r) → r.at ≡ t.at
+        by_place (inl z) = z.1.place ∙ sym w.1.run.place
+        by_place (inr z) = absurd (closed_here log z.1.place t.at z.1.body (z.1.good.place ∙ sym w.1.run.place) w.1.closed z.1.batch)
+
+    last_within : (o : Option BeforeRestart) → IsLast F.place (so_far on.front on.done) o → IfSome o (λ m. (m.place ≤ t.at) × (m.bytes ≤ t.at))
+    last_within None l = tt
+    last_within (Some m) l =
+        let b : List Record = Restarted l.rolled l.deleted ∷ [] in (
+          omega (arith, l.place, w.1.run.place, ap (λ (z : List (List Record)). length (batches (bodies z))) (sym all_read ∙ l.alone), batches_long l.front b),
+          omega (arith, l.bytes, on.counted.bytes, on.long, here, ap (λ z. sum_by record_length (records_of z)) l.alone, ap (sum_by record_length) (records_with l.front b []), sum_by-append record_length (records_of l.front) (b ++ records_of [])),
+        )
+
+    pub up_to_end : AreUpTo n t.at
+    up_to_end = record { records = omega (arith, on.many, here); bytes = omega (arith, on.long, here); before = last_within n.restarted on.counted.last }
 
   -- bad bytes
   pub bad_there : (at : ℕ) → IsBadFrom log r at → IsBadBehind log s F at
@@ -244,3 +296,90 @@ module _ (log : List ℕ) (s : Sizes) (F : Files) (r t : Reading) (x : Recovery)
     where
       records_all : (front : List (List Record)) (done : List Record) → records_of (front ++ done ∷ []) ≡ records_of front ++ done
       records_all front done = records_with front done [] ∙ ap (λ z. records_of front ++ z) (append-nil done)
+
+-- ---- a pass to which some damage is known
+pub record IsPassing (log : List ℕ) (s : Sizes) (F : Files) (ds : List Told) (Q : List Record) (x : Recovery) : Type 0 where
+  pub scanning : IsScanning s F Q ds x
+  pub among : AreAmong log s F ds Q
+
+abbrev pub IsPass : List ℕ → Sizes → Files → List Told → Reading → Recovery → Counts → Type 0
+IsPass log s F ds r x n = (on : IsOn log s F r x n) × (AreFound log s F ds → IsPassing log s F ds (records_on on.front on.done) x)
+
+pub pass_begins : (log : List ℕ) (s : Sizes) (F : Files) (ds : List Told) (r : Reading) (x : Recovery) → IsAtImage log s F r x → IsPass log s F ds r x nothing_counted
+pass_begins log s F ds r x at = (
+  begins log s F r x at,
+  λ found. record {
+    scanning = record { fresh = λ _. at.plain; inside = λ apart. absurd (apart refl) };
+    among = none_read log s F ds found;
+  },
+)
+
+module _ (log : List ℕ) (s : Sizes) (F : Files) (ds : List Told) (r t : Reading) (x y z : Recovery) (n m : Counts) (g : Placed) (pass : IsPass log s F ds r x n) (known : ScansKnown x y ds) (goes : GoesOn log r g t) where
+  abbrev on : IsOn log s F r y n
+  on = scans_on log s F r x y n ds pass.0 known
+
+  abbrev Q : List Record
+  Q = records_on pass.0.front pass.0.done
+
+  judged : AreFound log s F ds → Judges ds (known_by s F Q).first y
+  judged found = judges s F Q ds x y pass.0.behind (pass.1 found).scanning known
+
+  next : AreFound log s F ds → Past s F ds Q ⊎ (Ends s F ds Q g.entry × AreAmong log s F ds (Q ++ g.entry ∷ []))
+  next found = next_is log s F ds Q on.front on.done g.entry (records_so_far on.front on.done) (there log s F r t y z n m g on goes) (pass.1 found).among
+
+  pub pass_on : TakesAt y z g → r.at < t.at → t.at < 2 ^ 62 → CanBeSpelled g.entry → (n.records + 1 < 2 ^ 64 → n.bytes + record_length g.entry < 2 ^ 64 → m ≡ one_more n g) → IsPass log s F ds t z m
+  pass_on takes further small can counts =
+      let w = goes_on log s F r t y z n m g on goes takes further small can counts in (
+        w.0,
+        λ found. subst (λ P. IsPassing log s F ds P z) (sym w.1) (record {
+          scanning = scanning_on s F Q ds y z g.entry on.behind takes.1 (room_here log s F r t y z n m g on goes takes further small can counts) (judged found);
+          among = ⊎_elim (λ past. inl (past_on log s F ds Q g.entry y on.behind (judged found) takes.2 past)) (λ more. more.1) (next found);
+        }),
+      )
+
+  pub pass_fails : (at : ℕ) → at ≡ g.at → ((is_restarted g.entry ≡ true) × (g.first ≡ false)) ⊎ Fails y z g.entry Misfit → FailsAt log s F at
+  pass_fails at place f = fails_there log s F r t y z n m g on goes at place f
+
+  pub window_here : IsWindow log t
+  window_here = window_there log s F r t y z n m g on goes
+
+  -- the damage that the recovery tells then
+  pub pass_finds : (is_restarted g.entry ≡ true → g.first ≡ true) → Fails y z g.entry Unscanned → (d : Told) → TellsDamage z d.first d.clean d.failing.items → AreFound log s F ds
+      → FindsDamage log s F (map told_of ds) (told_of d)
+  pass_finds only f d tells found =
+      let end = found_here log s F ds Q g.entry y f.0.0 on.behind (judged found) f.0.1 (⊎_elim (λ past. inl past) (λ more. inr more.0) (next found)) in
+      let u = unscanned_there log s F r t y z n m g on goes only f end.1 in
+      record {
+        unscanned = u.0;
+        before = end.0 ∙ ap (damages_through s F) (sym u.1);
+        damage_is = tells s F.first (goes_through s F Q) (f.1 s F.first (goes_through s F Q) on.behind.stands) ∙ ap (damage_through s F) (sym u.1);
+      }
+
+-- ---- its end
+module _ (log : List ℕ) (s : Sizes) (F : Files) (ds : List Told) (r t : Reading) (x : Recovery) (n : Counts) (pass : IsPass log s F ds r x n) (ends : EndsAt log r t) where
+  abbrev all : List Record
+  all = records_on pass.0.front pass.0.done
+
+  -- an epoch that begins there has no record
+  judged_end : is_unscanned x ≡ true → AreFound log s F ds → Judges ds (known_by s F all).first x
+  judged_end bad found = ⊎_elim new (λ old. (pass.1 found).scanning.inside old) (cases_eq (known_by s F all).number (known_by s F all).first)
+    where
+      b : IsBehind s F all x
+      b = pass.0.behind
+
+      new : (known_by s F all).number ≡ (known_by s F all).first → Judges ds (known_by s F all).first x
+      new e =
+          let none : (known_by s F all).seen ≡ [] = no_length (known_by s F all).seen (omega (arith, e, b.stands.counted)) in
+          let failed : (known_by s F all).failed ≡ true = ((tells_unscanned s F all x b).0 ((pass.1 found).scanning.fresh e)).0 bad in
+          let good : (known_by s F all).failed ≡ false = sym b.stands.fails ∙ ap (list_any is_audit_fail) none in absurd (cc)
+
+  pub end_finds : is_unscanned x ≡ true → (d : Told) → TellsDamage x d.first d.clean d.failing.items → AreFound log s F ds → FindsDamage log s F (map told_of ds) (told_of d)
+  end_finds bad d tells found =
+      let w = end_there log s F r t x n pass.0 ends in
+      let end = found_here log s F ds all closing x refl pass.0.behind (judged_end bad found) bad (end_is log s F ds all w.0 t.at w.2 w.1 (pass.1 found).among) in
+      let u = unscanned_end log s F r t x n pass.0 ends end.1 in
+      record {
+        unscanned = u.0;
+        before = end.0 ∙ ap (damages_through s F) (sym u.1);
+        damage_is = tells s F.first (goes_through s F all) pass.0.behind.stands ∙ ap (damage_through s F) (sym u.1);
+      }

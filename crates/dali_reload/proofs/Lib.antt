@@ -1,7 +1,8 @@
 pub mod Lists
 pub mod Verdicts
 pub mod Runs
+pub mod Tails
+pub mod Passes
 pub mod Going
 pub mod Errors
-pub mod Tails
 pub mod Whole

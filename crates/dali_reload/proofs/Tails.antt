@@ -1,14 +1,18 @@
 -- What stands at a place of a log, against the batches that the log has there.
-use Rattle.std.proofs.Common.{◌≡◌, ◌⊎◌, inl, inr, ⊎_elim, ℕ, ◌+◌, List, [], ◌∷◌, ◌++◌, refl, ap, sym, subst, ◌∙◌, arith, length, drop, append_assoc, take-append-drop}
+use Rattle.std.proofs.Common.{◌≡◌, ◌⊎◌, inl, inr, ⊎_elim, ℕ, ◌+◌, ◌<◌, List, [], ◌∷◌, ◌++◌, refl, ap, sym, subst, ◌∙◌, arith, length, drop, append_assoc, length-append, take-append-drop}
 use Rattle.std.specs.List.{AllByRecursion}
-use Rattle.std.proofs.lemmas.List.{drop-drop}
+use Rattle.std.proofs.lemmas.List.{append-nil, drop-drop}
 use Rattle.dali_record.specs.declared.records.Record.{Record}
+use Rattle.dali_record.specs.Spelling.{spelling}
+use Rattle.dali_record.proofs.Spelled.{one_begins}
 use Rattle.dali_batch.specs.Batch.{IsBody, IsClosedAt, IsOpenAt, batch, batches}
 use Rattle.dali_batch.specs.Finding.{BatchAt, IsBad, NoBatch}
 use Rattle.dali_batch.specs.Log.{AreSpelled, BadBehind, IsRun, NoRecordAt, TailOf, bodies, body_bytes}
 use Rattle.dali_batch.proofs.Fronts.{open_of_batch}
 use Rattle.dali_batch.proofs.Unique.{front_of, same_batch, same_records, whole_is_good}
+use Rattle.dali_resume.specs.Batches.{records_of}
 use Rattle.dali_reload.specs.Reading.{HasRecords}
+use Rattle.dali_reload.proofs.Lists.{records_with}
 
 -- no batch stands in front
 abbrev Shut : List ℕ → Type 0
@@ -23,17 +27,25 @@ record More (L M : List (List Record)) (x : List ℕ) : Type 0 where
   pub size : IsBody (body_bytes next)
   pub spelled : AreSpelled next
 
-rows : (L M : List (List Record)) (x y : List ℕ) → AllByRecursion AreSpelled L → AllByRecursion AreSpelled M → AllByRecursion IsBody (bodies L) → AllByRecursion IsBody (bodies M) → Shut y
-    → batches (bodies L) ++ x ≡ batches (bodies M) ++ y → ((L ≡ M) × (x ≡ y)) ⊎ More L M x
-rows [] [] x y al am bl bm shut e = inl (refl, e)
-rows [] (m ∷ M) x y al am bl bm shut e = inr (record { next = m; others = M; rest = batches (bodies M) ++ y; goes = refl; stands = e ∙ append_assoc (batch (body_bytes m)) (batches (bodies M)) y; size = bm.0; spelled = am.0 })
-rows (l ∷ L) [] x y al am bl bm shut e = absurd (shut (body_bytes l) (batches (bodies L) ++ x) bl.0 (sym e ∙ append_assoc (batch (body_bytes l)) (batches (bodies L)) x))
-rows (l ∷ L) (m ∷ M) x y al am bl bm shut e =
+-- of both all whole batches are the same, or one of them goes on
+both : (L M : List (List Record)) (x y : List ℕ) → AllByRecursion AreSpelled L → AllByRecursion AreSpelled M → AllByRecursion IsBody (bodies L) → AllByRecursion IsBody (bodies M)
+    → batches (bodies L) ++ x ≡ batches (bodies M) ++ y → ((L ≡ M) × (x ≡ y)) ⊎ More L M x ⊎ More M L y
+both [] [] x y al am bl bm e = inl (refl, e)
+both [] (m ∷ M) x y al am bl bm e = inr (inl (record { next = m; others = M; rest = batches (bodies M) ++ y; goes = refl; stands = e ∙ append_assoc (batch (body_bytes m)) (batches (bodies M)) y; size = bm.0; spelled = am.0 }))
+both (l ∷ L) [] x y al am bl bm e = inr (inr (record { next = l; others = L; rest = batches (bodies L) ++ x; goes = refl; stands = sym e ∙ append_assoc (batch (body_bytes l)) (batches (bodies L)) x; size = bl.0; spelled = al.0 }))
+both (l ∷ L) (m ∷ M) x y al am bl bm e =
     let same = same_batch (body_bytes l) (body_bytes m) (batches (bodies L) ++ x) (batches (bodies M) ++ y) bl.0 bm.0 (sym (append_assoc (batch (body_bytes l)) (batches (bodies L)) x) ∙ (e ∙ append_assoc (batch (body_bytes m)) (batches (bodies M)) y)) in
     let one = same_records l m al.0 am.0 same.0 in
     ⊎_elim (λ (w : (L ≡ M) × (x ≡ y)). inl (ap (λ q. q ∷ L) one ∙ ap (λ Q. m ∷ Q) w.0, w.1))
-    (λ (w : More L M x). inr (record { next = w.next; others = w.others; rest = w.rest; goes = ap (λ Q. m ∷ Q) w.goes ∙ ap (λ q. q ∷ (L ++ w.next ∷ w.others)) (sym one); stands = w.stands; size = w.size; spelled = w.spelled }))
-    (rows L M x y al.1 am.1 bl.1 bm.1 shut same.1)
+    (λ (z : More L M x ⊎ More M L y). ⊎_elim
+    (λ (w : More L M x). inr (inl (record { next = w.next; others = w.others; rest = w.rest; goes = ap (λ Q. m ∷ Q) w.goes ∙ ap (λ q. q ∷ (L ++ w.next ∷ w.others)) (sym one); stands = w.stands; size = w.size; spelled = w.spelled })))
+    (λ (w : More M L y). inr (inr (record { next = w.next; others = w.others; rest = w.rest; goes = ap (λ Q. l ∷ Q) w.goes ∙ ap (λ q. q ∷ (M ++ w.next ∷ w.others)) one; stands = w.stands; size = w.size; spelled = w.spelled }))) z)
+    (both L M x y al.1 am.1 bl.1 bm.1 same.1)
+
+rows : (L M : List (List Record)) (x y : List ℕ) → AllByRecursion AreSpelled L → AllByRecursion AreSpelled M → AllByRecursion IsBody (bodies L) → AllByRecursion IsBody (bodies M) → Shut y
+    → batches (bodies L) ++ x ≡ batches (bodies M) ++ y → ((L ≡ M) × (x ≡ y)) ⊎ More L M x
+rows L M x y al am bl bm shut e =
+    ⊎_elim (λ w. inl w) (λ z. ⊎_elim (λ w. inr w) (λ (w : More M L y). absurd (shut (body_bytes w.next) w.rest w.size w.stands)) z) (both L M x y al am bl bm e)
 
 run_is : (log : List ℕ) (p : ℕ) (L : List (List Record)) (q : ℕ) → IsRun log p L q → drop p log ≡ batches (bodies L) ++ drop q log
 run_is log p L q run =
@@ -58,7 +70,7 @@ fork log p L M q e run tail =
     (λ (w : More L M (drop q log)). inr (record { next = w.next; others = w.others; goes = w.goes; stands = (w.size, w.rest, w.stands); spelled = w.spelled }))
     (rows L M (drop q log) (drop e log) run.each tail.run.each run.sizes tail.run.sizes (λ body rest is f. tail.closed.1 (open_of_batch log e body (is, rest, f)).1) (sym (run_is log p L q run) ∙ run_is log p M e tail.run))
 
-closed_here : (log : List ℕ) (q e : ℕ) (body : List ℕ) → q ≡ e → IsClosedAt e log → BatchAt log q body → ⊥
+pub closed_here : (log : List ℕ) (q e : ℕ) (body : List ℕ) → q ≡ e → IsClosedAt e log → BatchAt log q body → ⊥
 closed_here log q e body same shut found = shut.1 (open_of_batch log e body (subst (λ n. BatchAt log n body) same found)).1
 
 -- a tail is one row of batches
@@ -75,6 +87,37 @@ has_batch log p L M rs e has tail = ⊎_elim (λ w. absurd (closed_here log has.
         let same = same_batch (body_bytes rs ++ has.rest) (body_bytes w.next) has.batch.1 w.stands.1 has.batch.0 w.stands.0 (sym has.batch.2 ∙ w.stands.2) in
         let front = front_of rs w.next has.rest has.spelled w.spelled same.0 in
         (front.0, w.others, w.goes ∙ ap (λ b. L ++ b ∷ w.others) front.2)
+
+-- ---- two rows of batches that stand there
+-- a record that stands first in its batch: so many records end before it, or it is the last of them, or it is one before
+pub data Meets (L M : List (List Record)) (rs : List Record) (g r : Record) : Type 0 where
+  Ahead : (later : List Record) → (others : List (List Record)) → M ≡ L ++ (rs ++ g ∷ later) ∷ others → Meets L M rs g r
+  Here : M ≡ L → rs ≡ [] → r ≡ g → Meets L M rs g r
+  Behind : length (records_of M) < length (records_of L ++ rs) → Meets L M rs g r
+
+pub meets : (log : List ℕ) (p : ℕ) (L M : List (List Record)) (rs : List Record) (g r : Record) → HasRecords log p L (rs ++ g ∷ []) → HasRecords log p M (r ∷ []) → Meets L M rs g r
+meets log p L M rs g r one two =
+    ⊎_elim (λ w. same rs w.0 one.spelled (bodies_same w.1)) (λ z. ⊎_elim ahead behind z)
+    (both L M (drop one.place log) (drop two.place log) one.run.each two.run.each one.run.sizes two.run.sizes (sym (run_is log p L one.place one.run) ∙ run_is log p M two.place two.run))
+  where
+    bodies_same : drop one.place log ≡ drop two.place log → body_bytes (rs ++ g ∷ []) ++ one.rest ≡ body_bytes (r ∷ []) ++ two.rest
+    bodies_same e = (same_batch (body_bytes (rs ++ g ∷ []) ++ one.rest) (body_bytes (r ∷ []) ++ two.rest) one.batch.1 two.batch.1 one.batch.0 two.batch.0 (sym one.batch.2 ∙ (e ∙ two.batch.2))).0
+
+    same : (qs : List Record) → L ≡ M → AreSpelled (qs ++ g ∷ []) → body_bytes (qs ++ g ∷ []) ++ one.rest ≡ body_bytes (r ∷ []) ++ two.rest → Meets L M qs g r
+    same [] e all f = Here (sym e) refl (sym (one_begins g r one.rest two.rest all.0 two.spelled.0 (ap (λ (z : List ℕ). z ++ one.rest) (sym (append-nil (spelling g))) ∙ (f ∙ ap (λ (z : List ℕ). z ++ two.rest) (append-nil (spelling r))))).0)
+    same (q ∷ qs) e all f = Behind (omega (arith, ap (λ (z : List (List Record)). length (records_of z)) e, length-append (records_of L) (q ∷ qs)))
+
+    ahead : More L M (drop one.place log) → Meets L M rs g r
+    ahead w =
+        let bytes = same_batch (body_bytes (rs ++ g ∷ []) ++ one.rest) (body_bytes w.next) one.batch.1 w.rest one.batch.0 w.size (sym one.batch.2 ∙ w.stands) in
+        let front = front_of (rs ++ g ∷ []) w.next one.rest one.spelled w.spelled bytes.0 in
+        Ahead front.0 w.others (w.goes ∙ ap (λ b. L ++ b ∷ w.others) (front.2 ∙ append_assoc rs (g ∷ []) front.0))
+
+    behind : More M L (drop two.place log) → Meets L M rs g r
+    behind w =
+        let bytes = same_batch (body_bytes (r ∷ []) ++ two.rest) (body_bytes w.next) two.batch.1 w.rest two.batch.0 w.size (sym two.batch.2 ∙ w.stands) in
+        let front = front_of (r ∷ []) w.next two.rest two.spelled w.spelled bytes.0 in
+        Behind (omega (arith, ap (λ (z : List (List Record)). length (records_of z)) w.goes, ap length (records_with M w.next w.others), length-append (records_of M) (w.next ++ records_of w.others), length-append w.next (records_of w.others), ap length front.2, length-append (records_of L) rs))
 
 -- ---- no place is bad
 no_batch : (log : List ℕ) (q : ℕ) (body : List ℕ) → BatchAt log q body → NoBatch log q → ⊥

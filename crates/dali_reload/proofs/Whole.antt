@@ -25,7 +25,7 @@ use Rattle.dali_resume.proofs.Batches.{answers_over_batches, fits_in_batches}
 use Rattle.dali_resume.proofs.Stopped.{resumes_histories}
 use Rattle.dali_resume.proofs.Through.{resumes_through}
 use Rattle.dali_recovery.specs.Laws.{outcome_of}
-use Rattle.dali_reload.specs.Laws.{IsSpelledOut, IsWholeLog, ReadsHistory, ReadsLegal}
+use Rattle.dali_reload.specs.Laws.{IsSpelledOut, IsWholeLog, OneReading, ReadsHistory, ReadsLegal}
 use Rattle.dali_reload.specs.Reading.{FailsAt, IsBadBehind, IsReloaded}
 use Rattle.dali_reload.specs.declared.reading.Reloaded.{Reloaded}
 use Rattle.dali_reload.proofs.Tails.{has_batch, none_bad, one_tail}
@@ -44,6 +44,28 @@ batches_length (rs ∷ L) all =
 all_left : {X : Type 0} (P : X → Type 0) (L M : List X) → AllByRecursion P (L ++ M) → AllByRecursion P L
 all_left P [] M all = tt
 all_left P (x ∷ L) M all = (all.0, all_left P L M all.1)
+
+-- ---- any log that is read to an end
+apart : (o : Outcome) (m : ℕ) → HandedOut o ≡ NamedMisfit m → ⊥
+apart o m e = cc
+
+handed_same : (a b : Outcome) → HandedOut a ≡ HandedOut b → a ≡ b
+handed_same a b e = cc
+
+good_tail : (log : List ℕ) (s : Sizes) (F : Files) (bs : List (List Record)) (end : ℕ) (o : Outcome) → TailOf log F.place bs end → verdict_over s F bs ≡ HandedOut o
+    → (at : ℕ) → IsBadBehind log s F at ⊎ FailsAt log s F at → ⊥
+good_tail log s F bs end o tail verdict at (inl b) = none_bad log F.place b.front bs end at b.bad tail
+good_tail log s F bs end o tail verdict at (inr b) =
+    let h = has_batch log F.place b.front bs (b.done ++ b.failing ∷ []) end b.stands tail in
+    let same : bs ≡ b.front ++ (b.done ++ b.failing ∷ h.0) ∷ h.1 = h.2 ∙ ap (λ z. b.front ++ z ∷ h.1) (append_assoc b.done (b.failing ∷ []) h.0) in
+    apart _ _ (sym verdict ∙ (ap (verdict_over s F) same ∙ b.verdict h.0 h.1))
+
+pub one_reading : OneReading
+one_reading log s F bs end o tail verdict = record {
+  tail = λ cs e other. one_tail log F.place cs bs e end other tail;
+  answer = λ cs e p other said. handed_same p o (sym said ∙ (ap (verdict_over s F) (one_tail log F.place cs bs e end other tail).0 ∙ verdict));
+  good = good_tail log s F bs end o tail verdict;
+}
 
 -- ---- the log behind the image
 module _ (log : List ℕ) (s : Sizes) (K : List Record) (F : Files) (more : List (List Record)) (out : IsSpelledOut log s K F more) where
@@ -87,9 +109,6 @@ module _ (log : List ℕ) (s : Sizes) (K : List Record) (F : Files) (more : List
   same_records : (o : Reloaded) (r : IsReloaded log s F o) → records_of r.batches ≡ drop F.first L
   same_records o r = ap records_of (read_whole o r).0 ∙ records_are
 
-  handed_same : (a b : Outcome) → HandedOut a ≡ HandedOut b → a ≡ b
-  handed_same a b e = cc
-
   pub reads_all : (o : Reloaded) → IsReloaded log s F o → (o.end ≡ out.end) × IsWholeLog s L F o
   reads_all o r = (
     (read_whole o r).1,
@@ -101,15 +120,8 @@ module _ (log : List ℕ) (s : Sizes) (K : List Record) (F : Files) (more : List
     },
   )
 
-  apart : (o : Outcome) (m : ℕ) → HandedOut o ≡ NamedMisfit m → ⊥
-  apart o m e = cc
-
   pub none_fails : (at : ℕ) → IsBadBehind log s F at ⊎ FailsAt log s F at → ⊥
-  none_fails at (inl b) = none_bad log F.place b.front tail out.end at b.bad tail_is
-  none_fails at (inr b) =
-      let h = has_batch log F.place b.front tail (b.done ++ b.failing ∷ []) out.end b.stands tail_is in
-      let same : tail ≡ b.front ++ (b.done ++ b.failing ∷ h.0) ∷ h.1 = h.2 ∙ ap (λ z. b.front ++ z ∷ h.1) (append_assoc b.done (b.failing ∷ []) h.0) in
-      apart _ _ (sym right.verdict ∙ (sym verdict_is ∙ (ap (verdict_over s F) same ∙ b.verdict h.0 h.1)))
+  none_fails at bad = good_tail log s F tail out.end _ tail_is (verdict_is ∙ right.verdict) at bad
 
 pub reads_legal : ReadsLegal
 reads_legal log s K F more out = (reads_all log s K F more out, none_fails log s K F more out)
@@ -117,5 +129,5 @@ reads_legal log s K F more out = (reads_all log s K F more out, none_fails log s
 pub reads_history : ReadsHistory
 reads_history log K F more o out history lt r =
     let h = resumes_histories K (records_of more) F history out.fits.some out.fits.front lt in
-    let same : history_says (K ++ records_of more) ≡ outcome_of o.recovered = handed_same log (sizes_of K) K F more out _ _ (sym h.0 ∙ said log (sizes_of K) K F more out o r) in
+    let same : history_says (K ++ records_of more) ≡ outcome_of o.recovered = handed_same _ _ (sym h.0 ∙ said log (sizes_of K) K F more out o r) in
     subst (λ (u : Outcome). RestartGives (K ++ records_of more) u.image u.rolled u.deleted) same h.1

@@ -4,7 +4,8 @@
 --     one_more n g           of the record g more
 --     IsLast p bs o          what is told of the last record of the batches bs, which stand at place p
 --     AreCounted p bs n      n is counted of their records
-use Rattle.std.specs.Prelude.{◌≡◌, ℕ, ◌+◌, ◌-◌, false, List, [], ◌∷◌, ◌++◌, if◌then◌else◌, Option, Some, None, length, sum_by}
+--     AreUpTo n e            none of it is above this place
+use Rattle.std.specs.Prelude.{◌≡◌, ◌≤◌, ℕ, ◌+◌, ◌-◌, false, List, [], ◌∷◌, ◌++◌, if◌then◌else◌, Option, Some, None, IfSome, length, sum_by}
 use Rattle.dali_record.specs.declared.records.Record.{Record}
 use Rattle.dali_record.specs.declared.records.Record.TheVariants.{Restarted}
 use Rattle.dali_record.specs.Files.{is_restarted}
@@ -44,3 +45,9 @@ pub record AreCounted (p : ℕ) (bs : List (List Record)) (n : Counts) : Type 0 
   pub records : n.records ≡ length (records_of bs)
   pub bytes : n.bytes ≡ sum_by record_length (records_of bs)
   pub last : IsLast p bs n.restarted
+
+-- whatever a store tells
+pub record AreUpTo (n : Counts) (e : ℕ) : Type 0 where
+  pub records : n.records ≤ e
+  pub bytes : n.bytes ≤ e
+  pub before : IfSome n.restarted (λ m. (m.place ≤ e) × (m.bytes ≤ e))

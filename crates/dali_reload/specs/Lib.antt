@@ -1,4 +1,5 @@
 pub mod Errors
 pub mod Counting
 pub mod Reading
+pub mod Scanning
 pub mod Laws

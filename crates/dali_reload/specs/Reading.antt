@@ -6,7 +6,7 @@
 --     FailsAt log s F at         the record that begins at this place is the first that fails a test of either kind, whatever stands behind it
 --     IsBadBehind log s F at     the bytes are bad, this is the first bad place, and all records that were read before it pass
 --     IsUnscanned log s F        an audit of an epoch failed that is to be recovered, at a Restarted or at the log's end, and all records before it pass
---     Reloads, IsBadAt, IsLeft   so it is for all files whose image the reader and the recovery stand at
+--     Reloads, IsBadAt           so it is for all files whose image the reader and the recovery stand at
 --     TakesAt x y g              the recovery takes the record g, which stands where it may
 --     TakesNext x y n g m        and counts it
 --     RefusesAt x y g e          what the error e tells of it
@@ -20,12 +20,12 @@ use Rattle.dali_record.specs.Spelling.{record_length}
 use Rattle.dali_batch.specs.declared.reader.Placed.{Placed}
 use Rattle.dali_batch.specs.Finding.{BatchAt}
 use Rattle.dali_batch.specs.Log.{AreSpelled, BadBehind, IsRun, TailOf, body_bytes}
-use Rattle.dali_batch.specs.Stream.{IsReadFrom, IsWindow, Reading, place_of}
+use Rattle.dali_batch.specs.Stream.{IsReadFrom, Reading, place_of}
 use Rattle.dali_resume.specs.Batches.{records_of, verdict_over}
 use Rattle.dali_resume.specs.Onward.{HandedOut, Misfit as NamedMisfit, goes_through}
 use Rattle.dali_resume.specs.Tests.{known_at, tests}
 use Rattle.dali_recovery.specs.Laws.{IsBehind, outcome_of}
-use Rattle.dali_recovery.specs.Standing.{EndFails, Fails, Takes}
+use Rattle.dali_recovery.specs.Standing.{EndFails, EndsScanned, Fails, Takes}
 use Rattle.dali_recovery.specs.declared.error.RecoveryError.TheVariants.{Misfit, Unscanned as EpochUnscanned, OutOfMemory as RecoveryMemory}
 use Rattle.dali_recovery.specs.declared.recovery.Recovery.{Recovery}
 use Rattle.dali_reload.specs.Counting.{AreCounted, one_more}
@@ -90,13 +90,9 @@ pub record IsUnscanned (log : List ℕ) (s : Sizes) (F : Files) : Type 0 where
   pub failed : (goes_through s F (records_of front)).known.failed ≡ true
   pub ends : ((e : ℕ) × TailOf log F.place front e) ⊎ ((r : Record) × (is_restarted r ≡ true) × HasRecords log F.place front (r ∷ []))
 
--- the reader, which has come to t, may be told to go on at a place again
-abbrev pub IsLeft : List ℕ → Reading → Recovery → Reading → Type 0
-IsLeft log r x t = (s : Sizes) (F : Files) → IsAtImage log s F r x → IsUnscanned log s F × IsWindow log t
-
 -- ---- one record
 abbrev pub TakesAt : Recovery → Recovery → Placed → Type 0
-TakesAt x y g = (is_restarted g.entry ≡ true → g.first ≡ true) × Takes x y g.entry
+TakesAt x y g = (is_restarted g.entry ≡ true → g.first ≡ true) × Takes x y g.entry × EndsScanned x g.entry
 
 -- and counts it
 abbrev pub TakesNext : Recovery → Recovery → Counts → Placed → Counts → Type 0

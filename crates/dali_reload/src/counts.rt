@@ -2,7 +2,7 @@
 ghost use Rattle.std.specs.Prelude.{◌≡◌, ◌<◌, ◌+◌, ◌^◌};
 ghost use Rattle.dali_record.specs.Spelling.{CanBeSpelled, record_length};
 ghost use Rattle.dali_record.specs.Files.{is_restarted as is_of_restart};
-ghost use Rattle.dali_reload.specs.Counting.{nothing_counted, before_restart, one_more};
+ghost use Rattle.dali_reload.specs.Counting.{nothing_counted, before_restart, one_more, AreUpTo};
 
 use dali_batch::Placed;
 use dali_record::{Record, length};
@@ -62,12 +62,31 @@ impl Counts {
     /// Of one record more.
     pub(crate) fn with(self, given: &Placed) -> Counts
         requires { CanBeSpelled given.now.entry }
-        ensures { self.records + 1 < 2 ^ 64 → self.bytes + record_length given.now.entry < 2 ^ 64 → result ≡ one_more self given.now }
+        ensures counted { self.records + 1 < 2 ^ 64 → self.bytes + record_length given.now.entry < 2 ^ 64 → result ≡ one_more self given.now }
     {
         Counts {
             records: self.records.saturating_add(1),
             bytes: self.bytes.saturating_add(length(&given.entry)),
             restarted: self.before(given),
+        }
+    }
+
+    /// Of a log that ends here: what is counted of one that a store tells isn't above its end, and stays.
+    pub(crate) fn up_to(self, end: u64) -> Counts
+        ensures within { AreUpTo result end }
+        ensures stays { AreUpTo self end → result ≡ self }
+    {
+        let restarted = match self.restarted {
+            Some(BeforeRestart { place, bytes }) => Some(BeforeRestart {
+                place: place.min(end),
+                bytes: bytes.min(end),
+            }),
+            None => None,
+        };
+        Counts {
+            records: self.records.min(end),
+            bytes: self.bytes.min(end),
+            restarted,
         }
     }
 }

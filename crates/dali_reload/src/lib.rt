@@ -6,7 +6,9 @@ mod counts;
 mod error;
 pub mod laws;
 mod reading;
+mod scanning;
 
 pub use counts::{BeforeRestart, Counts};
 pub use error::ReloadError;
-pub use reading::{Reloaded, read_once};
+pub use reading::Reloaded;
+pub use scanning::{Pass, read_scanned};

@@ -1,12 +1,12 @@
-//! What no clause says: that a log is read with ample memory and a store that fails nothing, which logs are read and which are
-//! refused, by hand, and what is told where the store fails.
+//! What no clause says: that a log is read with ample memory and a store that fails nothing, which logs are read, in how many
+//! passes, and which are refused, by hand, and what is told where the store fails.
 use anyhow::Result;
 use dali_att::Att;
 use dali_batch::LogReader;
 use dali_geometry::Geometry;
 use dali_memstore::{Fuse, MemoryStore};
-use dali_recovery::Recovery;
-use dali_reload::{BeforeRestart, ReloadError, read_once};
+use dali_recovery::{Damage, Recovery};
+use dali_reload::{BeforeRestart, Pass, ReloadError, Reloaded, read_scanned};
 
 // A format of one index region and one heap region: the first batch, and its record has the number 0.
 const FIRST: [u8; 15] = [0xa5, 0, 0, 0, 10, 1, 1, 0, 0, 0, 1, 0, 0, 0, 1];
@@ -24,10 +24,34 @@ const AUDIT: [u8; 1] = [8];
 // The audit that began at record 1 failed in region 1.
 const FAILED: [u8; 17] = [10, 0, 0, 0, 0, 0, 0, 0, 1, 0, 0, 0, 1, 0, 0, 0, 1];
 
+// So did those that began at records 4 and 10.
+const FAILED_4: [u8; 17] = [10, 0, 0, 0, 0, 0, 0, 0, 4, 0, 0, 0, 1, 0, 0, 0, 1];
+
+const FAILED_10: [u8; 17] = [10, 0, 0, 0, 0, 0, 0, 0, 10, 0, 0, 0, 1, 0, 0, 0, 1];
+
+const COMMIT_2: [u8; 9] = [5, 0, 0, 0, 0, 0, 0, 0, 2];
+
+// Transaction 1 puts a byte into cell 1 of region 1 under key 5: it reads and writes the words 8 and 9.
+const PUT_1: [u8; 68] = [
+    3, 0, 0, 0, 0, 0, 0, 0, 1, 0, 0, 0, 0, 0, 0, 0, 5, 0, 0, 0, 1, 4, 1, 7, 0, 0, 0, 0, 0, 0, 3, 0,
+    0, 0, 0, 0, 0, 0, 0, 0, 0, 0, 0, 0, 0, 0, 3, 0, 0, 0, 0, 0, 0, 0, 0, 1, 0, 0, 0, 0, 0, 0, 0, 7,
+    6, 1, 1, 1,
+];
+
+// So does transaction 2.
+const PUT_2: [u8; 68] = [
+    3, 0, 0, 0, 0, 0, 0, 0, 2, 0, 0, 0, 0, 0, 0, 0, 5, 0, 0, 0, 1, 4, 1, 7, 0, 0, 0, 0, 0, 0, 3, 0,
+    0, 0, 0, 0, 0, 0, 0, 0, 0, 0, 0, 0, 0, 0, 3, 0, 0, 0, 0, 0, 0, 0, 0, 1, 0, 0, 0, 0, 0, 0, 0, 7,
+    6, 1, 1, 1,
+];
+
 const RESTARTED: [u8; 9] = [11, 0, 0, 0, 0, 0, 0, 0, 0];
 
 // With transaction 1 rolled back.
 const RESTARTED_1: [u8; 17] = [11, 0, 0, 0, 1, 0, 0, 0, 0, 0, 0, 0, 1, 0, 0, 0, 0];
+
+// With transaction 1 deleted.
+const DELETED_1: [u8; 17] = [11, 0, 0, 0, 0, 0, 0, 0, 1, 0, 0, 0, 0, 0, 0, 0, 1];
 
 const NO_RECORD: [u8; 1] = [0];
 
@@ -47,10 +71,65 @@ fn log_of(rt: &HostRuntime, batches: &[&[&[u8]]], cut: usize) -> Result<Vec<u8>>
     Ok(log)
 }
 
-// What is told of a log: the sum of the numbers of those who are rolled back, the numbers of the next record and transaction, the
-// place of the log's end, how many records were read and the sum of their lengths, and what stands before a last record of a
-// restart.
-type Told = (u64, u64, u64, u64, u64, u64, Option<(u64, u64)>);
+// What is told of a log: the sums of the numbers of those who are rolled back and of those who are deleted, the numbers of the
+// next record and transaction, the place of the log's end, how many records were read and the sum of their lengths, and what
+// stands before a last record of a restart.
+type Told = (u64, u64, u64, u64, u64, u64, u64, Option<(u64, u64)>);
+
+// What a pass comes to: a log that is read to its end, or the damage of an epoch, by its first record, its clean place and the
+// sum of its failing regions.
+#[derive(Clone, Copy, Debug, PartialEq, Eq)]
+enum Answer {
+    Whole(Told),
+    Damaged(u64, u64, u64),
+    Refused(ReloadError),
+}
+
+fn sum_of(numbers: &[u64]) -> u64 {
+    let mut sum: u64 = 0;
+    for number in numbers {
+        sum = sum.saturating_add(*number);
+    }
+    sum
+}
+
+fn told_of(read: &Reloaded) -> Told {
+    let restarted = match read.counts.restarted {
+        Some(BeforeRestart { place, bytes }) => Some((place, bytes)),
+        None => None,
+    };
+    (
+        sum_of(&read.recovered.rolled_back),
+        sum_of(&read.recovered.deleted),
+        read.recovered.number,
+        read.recovered.next,
+        read.end,
+        read.counts.records,
+        read.counts.bytes,
+        restarted,
+    )
+}
+
+fn damage_of(damage: &Damage) -> Answer {
+    let mut regions: u64 = 0;
+    for region in &damage.failing {
+        regions = regions.saturating_add(u64::from(*region));
+    }
+    Answer::Damaged(damage.first, damage.clean, regions)
+}
+
+// Damages with one failing region each.
+fn damages(rt: &HostRuntime, known: &[(u64, u64, u32)]) -> Result<Vec<Damage>> {
+    let mut list = Vec::new(rt.alloc());
+    for (first, clean, region) in known {
+        list.push(Damage {
+            first: *first,
+            clean: *clean,
+            failing: vec![in rt.alloc(); *region]?,
+        })?;
+    }
+    Ok(list)
+}
 
 // Behind the image of a format, as its record leaves it.
 fn started(rt: &HostRuntime) -> Result<Recovery> {
@@ -59,12 +138,13 @@ fn started(rt: &HostRuntime) -> Result<Recovery> {
     Ok(Recovery::new(rt.alloc(), geometry, 1, regions, Att::new(rt.alloc()), 1))
 }
 
-// It is read from the place behind the first batch on, with the image of the format.
+// It is read from the place behind the first batch on, with the image of the format, where this damage is known.
 fn read(
     rt: &HostRuntime,
     log: Vec<u8>,
+    known: &[(u64, u64, u32)],
     passes: Option<u64>,
-) -> Result<std::result::Result<Told, ReloadError>> {
+) -> Result<Answer> {
     let files = [
         log,
         Vec::new(rt.alloc()),
@@ -75,52 +155,37 @@ fn read(
     let (mut reader, _) = LogReader::open(rt.alloc(), &mut store)?;
     reader.seek(15)?;
     let recovery = started(rt)?;
+    let list = damages(rt, known)?;
     store.set(passes);
-    let read = match read_once(&mut store, &mut reader, recovery) {
-        Ok(read) => read,
-        Err(error) => return Ok(Err(error)),
-    };
-    let mut rolled_back: u64 = 0;
-    for number in &read.recovered.rolled_back {
-        rolled_back = rolled_back.saturating_add(*number);
+    match read_scanned(&mut store, &mut reader, recovery, &list) {
+        Ok(Pass::Whole(read)) => Ok(Answer::Whole(told_of(&read))),
+        Ok(Pass::Damaged(damage)) => Ok(damage_of(&damage)),
+        Err(error) => Ok(Answer::Refused(error)),
     }
-    let restarted = match read.counts.restarted {
-        Some(BeforeRestart { place, bytes }) => Some((place, bytes)),
-        None => None,
-    };
-    Ok(Ok((
-        rolled_back,
-        read.recovered.number,
-        read.recovered.next,
-        read.end,
-        read.counts.records,
-        read.counts.bytes,
-        restarted,
-    )))
 }
 
 #[test]
 fn logs_are_read_to_their_end(rt: HostRuntime) -> Result<()> {
     let logs: [(&[&[&[u8]]], Told); 6] = [
-        (&[], (0, 1, 1, 15, 0, 0, None)),
+        (&[], (0, 0, 1, 1, 15, 0, 0, None)),
         (
             &[&[&BEGIN_1, &COMMIT_1], &[&ENDED_1]],
-            (0, 4, 2, 52, 3, 27, None),
+            (0, 0, 4, 2, 52, 3, 27, None),
         ),
-        (&[&[&BEGIN_1]], (1, 2, 2, 29, 1, 9, None)),
+        (&[&[&BEGIN_1]], (1, 0, 2, 2, 29, 1, 9, None)),
         (
             &[&[&BEGIN_1], &[&RESTARTED_1], &[&BEGIN_2]],
-            (2, 4, 3, 65, 3, 35, None),
+            (2, 0, 4, 3, 65, 3, 35, None),
         ),
         (
             &[&[&BEGIN_1], &[&RESTARTED_1]],
-            (1, 3, 2, 51, 2, 26, Some((29, 9))),
+            (1, 0, 3, 2, 51, 2, 26, Some((29, 9))),
         ),
-        (&[&[&RESTARTED]], (0, 2, 1, 29, 1, 9, Some((15, 0)))),
+        (&[&[&RESTARTED]], (0, 0, 2, 1, 29, 1, 9, Some((15, 0)))),
     ];
     for (batches, told) in logs {
         let log = log_of(&rt, batches, 0)?;
-        assert_eq!(rt; read(&rt, log, None)?, Ok(told));
+        assert_eq!(rt; read(&rt, log, &[], None)?, Answer::Whole(told));
     }
     Ok(())
 }
@@ -144,14 +209,17 @@ fn a_log_is_refused_at_its_first_bad_place(rt: HostRuntime) -> Result<()> {
     ];
     for (batches, cut, at) in logs {
         let log = log_of(&rt, batches, cut)?;
-        assert_eq!(rt; read(&rt, log, None)?, Err(ReloadError::BadLog { at }));
+        assert_eq!(rt;
+            read(&rt, log, &[], None)?,
+            Answer::Refused(ReloadError::BadLog { at })
+        );
     }
     Ok(())
 }
 
 // At the log's end, and at the record of a restart whatever it tells.
 #[test]
-fn an_epoch_with_a_failed_audit_is_left(rt: HostRuntime) -> Result<()> {
+fn the_damage_of_an_epoch_is_told(rt: HostRuntime) -> Result<()> {
     let logs: [&[&[&[u8]]]; 3] = [
         &[&[&AUDIT], &[&FAILED]],
         &[&[&AUDIT], &[&FAILED], &[&RESTARTED]],
@@ -159,7 +227,44 @@ fn an_epoch_with_a_failed_audit_is_left(rt: HostRuntime) -> Result<()> {
     ];
     for batches in logs {
         let log = log_of(&rt, batches, 0)?;
-        assert_eq!(rt; read(&rt, log, None)?, Err(ReloadError::Unscanned));
+        assert_eq!(rt; read(&rt, log, &[], None)?, Answer::Damaged(1, 1, 1));
+    }
+    Ok(())
+}
+
+// Two epochs whose audits failed, of which the first was recovered, with transaction 1 deleted: what a pass comes to where this
+// damage is known. So three passes read the log, each with what those before it told.
+#[test]
+fn a_log_is_read_in_passes(rt: HostRuntime) -> Result<()> {
+    let batches: [&[&[u8]]; 7] = [
+        &[&BEGIN_1, &PUT_1, &COMMIT_1],
+        &[&AUDIT],
+        &[&FAILED_4],
+        &[&DELETED_1],
+        &[&BEGIN_2, &PUT_2, &COMMIT_2],
+        &[&AUDIT],
+        &[&FAILED_10],
+    ];
+    let passes: [(&[(u64, u64, u32)], Answer); 7] = [
+        (&[], Answer::Damaged(1, 1, 1)),
+        (&[(1, 1, 1)], Answer::Damaged(7, 7, 1)),
+        (
+            &[(1, 1, 1), (7, 7, 1)],
+            Answer::Whole((0, 2, 12, 3, 275, 11, 225, None)),
+        ),
+        // the order is any
+        (
+            &[(7, 7, 1), (1, 1, 1)],
+            Answer::Whole((0, 2, 12, 3, 275, 11, 225, None)),
+        ),
+        // the damage of the other epoch, or another one
+        (&[(7, 7, 1)], Answer::Damaged(1, 1, 1)),
+        (&[(1, 4, 1)], Answer::Damaged(1, 1, 1)),
+        (&[(1, 1, 1), (7, 7, 0)], Answer::Damaged(7, 7, 1)),
+    ];
+    for (known, told) in passes {
+        let log = log_of(&rt, &batches, 0)?;
+        assert_eq!(rt; read(&rt, log, known, None)?, told);
     }
     Ok(())
 }
@@ -168,11 +273,14 @@ fn an_epoch_with_a_failed_audit_is_left(rt: HostRuntime) -> Result<()> {
 #[test]
 fn a_fault_is_told(rt: HostRuntime) -> Result<()> {
     let batches: [&[&[u8]]; 1] = [&[&BEGIN_1]];
-    let failing = read(&rt, log_of(&rt, &batches, 0)?, Some(0))?;
-    let passing = read(&rt, log_of(&rt, &batches, 0)?, Some(1))?;
+    let failing = read(&rt, log_of(&rt, &batches, 0)?, &[], Some(0))?;
+    let passing = read(&rt, log_of(&rt, &batches, 0)?, &[], Some(1))?;
     assert_eq!(rt;
         (failing, passing),
-        (Err(ReloadError::Fault), Ok((1, 2, 2, 29, 1, 9, None)))
+        (
+            Answer::Refused(ReloadError::Fault),
+            Answer::Whole((1, 0, 2, 2, 29, 1, 9, None))
+        )
     );
     Ok(())
 }

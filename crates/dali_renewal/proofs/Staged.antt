@@ -37,7 +37,7 @@ use Rattle.dali_again.proofs.Stages.{append_stages, appended, every_stage_answer
 use Rattle.dali_renewal.specs.declared.renewing.Standing.{Standing}
 use Rattle.dali_renewal.specs.Written.{LeftBeside, ToldBeside, WritesOnly, head_in}
 use Rattle.dali_renewal.specs.Logged.{restart_body}
-use Rattle.dali_renewal.specs.Renewed.{AnyStage, AnswersAlike, AreReady, EndsBehind, KeepLogs, ImageTurns, IsStanding, LogStops, LogTurns, Names, Renews, SpellsSome, StandsAt, StartsRun, Stops, TurnStops, header_at}
+use Rattle.dali_renewal.specs.Renewed.{AnyStage, AnswersAlike, AreReady, EndsBehind, KeepLogs, ImageTurns, IsStanding, LeftAt, LogStops, LogTurns, Names, Renews, SpellsSome, StandsAt, StartsRun, Stops, TurnStops, header_at}
 use Rattle.dali_renewal.proofs.Beside.{now_beside}
 
 -- ---- the anchor, where another file changed
@@ -123,6 +123,10 @@ moving : (L : List Record) (B : List (List Record)) (n : ℕ) (F : Files) → Is
 moving L B n F (inl g) = inl (inr g)
 moving L B n F (inr t) = inr t
 
+pub any_stage : (logged : Option ℕ) (L : List Record) (B : List (List Record)) (n : ℕ) (F : Files) → LeftAt logged L B n F → AnyStage L B n F
+any_stage None L B n F left = left
+any_stage (Some end) L B n F left = moving L B n F left
+
 module _ {V : Type 0} (told : V → Option Disk) (may_leave : V → Disk → Type 0) (moment : V → ℕ) (left_since : V → ℕ → Disk → Type 0) (counts : (s : V) (t : ℕ) (c : Disk) → t ≤ moment s → may_leave s c → left_since s t c) where
   -- behind the image's writes
   pub image_stops : (f : FileName) (p : Standing) (words : List (List ℕ)) (old new : V) → f ≡ image_name (side_of (p.current + 1)) → WritesOnly told may_leave moment left_since f old new → TurnStops may_leave moment left_since p words old new
@@ -181,15 +185,15 @@ module _ {V : Type 0} (told : V → Option Disk) (may_leave : V → Disk → Typ
   -- ---- both
   module _ (p : Standing) (logged : Option ℕ) (rs ds : List ℕ) (words : List (List ℕ)) (old new : V) where
     pub nothing_stops : ((s : V) (c : Disk) → left_since s (moment s) c → may_leave s c) → Stops may_leave moment left_since p logged rs ds words old old
-    nothing_stops now L B n is names all = started moment left_since old (SpellsSome (AnyStage L B n)) (λ c left. let w = all c (now old c left) in (w.0, w.1, stands logged w.0 w.2))
+    nothing_stops now L B n is names all = started moment left_since old (SpellsSome (LeftAt logged L B n)) (λ c left. let w = all c (now old c left) in (w.0, w.1, stands logged w.0 w.2))
       where
-        stands : (m : Option ℕ) (F : Files) → StandsAt m L B n F → AnyStage L B n F
+        stands : (m : Option ℕ) (F : Files) → StandsAt m L B n F → LeftAt m L B n F
         stands None F f = inl f
-        stands (Some end) F f = inl (inr f)
+        stands (Some end) F f = inl f
 
     pub stops_logged : (end : ℕ) → logged ≡ Some end → TurnStops may_leave moment left_since p words old new → Stops may_leave moment left_since p logged rs ds words old new
     stops_logged end stands stops L B n is names all =
-        weaker moment left_since old new (SpellsSome (IsMoving L B n)) (SpellsSome (AnyStage L B n)) (stops L B n is (subst (λ m. AllSpell (may_leave old) (StandsAt m L B n)) stands all)) (λ c q. (q.0, q.1, moving L B n q.0 q.2))
+        subst (λ m. LeavesOnly moment left_since old new (SpellsSome (LeftAt m L B n))) (sym stands) (stops L B n is (subst (λ m. AllSpell (may_leave old) (StandsAt m L B n)) stands all))
 
     pub renews_logged : (end : ℕ) → logged ≡ Some end → ImageTurns may_leave moment left_since p words old new → Renews may_leave moment left_since p logged rs ds words old new
     renews_logged end stands turns L B n is names all = turns L B n is (subst (λ m. AllSpell (may_leave old) (StandsAt m L B n)) stands all)
@@ -198,13 +202,15 @@ module _ {V : Type 0} (told : V → Option Disk) (may_leave : V → Disk → Typ
     named L body none same names = same ∙ ap spelling (subst (λ m. Names m rs ds L) none names)
 
     pub stops_unlogged : (body : List ℕ) → logged ≡ None → body ≡ restart_body rs ds → LogStops may_leave moment left_since p body words old new → Stops may_leave moment left_since p logged rs ds words old new
-    stops_unlogged body none same stops L B n is names all = stops L B n is (named L body none same names) (subst (λ m. AllSpell (may_leave old) (StandsAt m L B n)) none all)
+    stops_unlogged body none same stops L B n is names all =
+        subst (λ m. LeavesOnly moment left_since old new (SpellsSome (LeftAt m L B n))) (sym none)
+        (stops L B n is (named L body none same names) (subst (λ m. AllSpell (may_leave old) (StandsAt m L B n)) none all))
 
     pub renews_unlogged : (body : List ℕ) → logged ≡ None → body ≡ restart_body rs ds → LogTurns may_leave moment left_since p body words old new → Renews may_leave moment left_since p logged rs ds words old new
     renews_unlogged body none same turns L B n is names all = turns L B n is (named L body none same names) (subst (λ m. AllSpell (may_leave old) (StandsAt m L B n)) none all)
 
     pub answers_alike : Stops may_leave moment left_since p logged rs ds words old new → AnswersAlike may_leave moment left_since p logged rs ds words old new
-    answers_alike stops L B n history is names all = weaker moment left_since old new (SpellsSome (AnyStage L B n)) (SpellsSome (AnswersAs L)) (stops L B n is names all) (λ c q. (q.0, q.1, answer q.0 q.2))
+    answers_alike stops L B n history is names all = weaker moment left_since old new (SpellsSome (LeftAt logged L B n)) (SpellsSome (AnswersAs L)) (stops L B n is names all) (λ c q. (q.0, q.1, answer q.0 (any_stage logged L B n q.0 q.2)))
       where
         answer : (F : Files) → AnyStage L B n F → AnswersAs L F
         answer F (inl (inl f)) = (every_stage_answers L B n F history is.restarting).found f

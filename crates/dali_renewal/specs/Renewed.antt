@@ -4,6 +4,7 @@
 --     StandsAt logged          the files from which a renewal begins: as they were found, or with that record; its end is known where it stands there
 --     Names logged rs ds L     the lists are those of the record, where it is to be logged
 --     AnyStage                 the files as they were found, with that record, or with that image
+--     LeftAt logged L B n F    the stages that a crash at any moment of a renewal leaves
 --     end_before logged p      where the log ends before the renewal
 --     end_of logged p rs ds    and where it ends behind it
 --     KeepLogs old new         each disk's log is that of one from before
@@ -59,6 +60,11 @@ Names (Some end) rs ds L = ⊤
 
 abbrev pub AnyStage : List Record → List (List Record) → ℕ → Files → Type 0
 AnyStage L B n F = IsAppending L B n F ⊎ IsTurned L B n F
+
+-- where that record stands already, it stays
+abbrev pub LeftAt : Option ℕ → List Record → List (List Record) → ℕ → Files → Type 0
+LeftAt None L B n F = AnyStage L B n F
+LeftAt (Some end) L B n F = IsMoving L B n F
 
 abbrev pub end_before : Option ℕ → Standing → ℕ
 end_before None p = p.place
@@ -120,7 +126,7 @@ module _ {V : Type 0} (may_leave : V → Disk → Type 0) (moment : V → ℕ) (
   Stops p logged rs ds words old new =
       (L : List Record) (B : List (List Record)) (n : ℕ) → IsStanding L B n p words → Names logged rs ds L
       → AllSpell (may_leave old) (StandsAt logged L B n)
-      → LeavesOnly moment left_since old new (SpellsSome (AnyStage L B n))
+      → LeavesOnly moment left_since old new (SpellsSome (LeftAt logged L B n))
 
   abbrev pub AnswersAlike : Standing → Option ℕ → List ℕ → List ℕ → List (List ℕ) → V → V → Type 0
   AnswersAlike p logged rs ds words old new =

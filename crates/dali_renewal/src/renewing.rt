@@ -179,8 +179,9 @@ fn renew_stages<V: Store>(
 /// record. That file is synced, and the anchor moves to it.
 ///
 /// Where each disk that a crash may leave spells files from which the restart of a log came to these words, numbers and lists,
-/// each is at one of the stages of that restart, at any moment: as it was found, with the record, or with the new image. So a
-/// restart that follows a stop in here hands out the same records and the same lists. After Ok each has the new image, and a vault may be made over the store.
+/// each is at one of the stages of that restart, at any moment: as it was found, with the record, or with the new image. A
+/// record that stood there already stays. So a restart that follows a stop in here hands out the same records and the same
+/// lists. After Ok each has the new image, and a vault may be made over the store.
 ///
 /// `TooLong` exactly where the record is to be logged and has more than 2^30 bytes; then, and where memory is refused
 /// (`OutOfMemory`), no call is made. `Fault` exactly where the store's count of faults rose. It takes memory for one write

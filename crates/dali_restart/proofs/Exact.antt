@@ -26,7 +26,7 @@ use Rattle.dali_image.specs.declared.header.Header.{Header}
 use Rattle.dali_image.specs.declared.header.Expected.{Expected}
 use Rattle.dali_image.proofs.OneHeader.{one_header}
 use Rattle.dali_image.proofs.Passed.{wanted}
-use Rattle.dali_restart.specs.Opening.{BeginsWith, BadImageAt, IsImageIn, IsFoundIn, IsOpened, IsBadStore, IsBadImage, IsBadBehind, file_in, expected}
+use Rattle.dali_restart.specs.Opening.{BeginsWith, BadImageAt, IsImageIn, IsFoundIn, IsOpened, IsBadStore, IsBadImage, IsBadCurrent, file_in, expected}
 use Rattle.dali_restart.specs.Laws.{OneAnswer}
 use Rattle.dali_restart.proofs.Finding.{begun, first_of}
 
@@ -44,7 +44,7 @@ first_is_good fs s at is bad = by_case bad.bad
         let same = same_batch found.0 (first_bytes s) found.1.1 _ found.1.0 is.first.sizes.0 (sym found.1.2 ∙ first_of fs s is) in
         found.2 s.index s.heap is.spelled (same.0 ∙ append-nil (spelling (Format s.index s.heap)))
 
-one_size : (fs : Disk) (s z : Sizes) → BeginsWith fs s → BeginsWith fs z → s ≡ z
+pub one_size : (fs : Disk) (s z : Sizes) → BeginsWith fs s → BeginsWith fs z → s ≡ z
 one_size fs s z is other =
     let bytes = same_batch (first_bytes s) (first_bytes z) _ _ is.first.sizes.0 other.first.sizes.0 (sym (first_of fs s is) ∙ first_of fs z other) in
     ap sizes_of (same_records (Format s.index s.heap ∷ []) (Format z.index z.heap ∷ []) is.first.each.0 other.first.each.0 bytes.0)
@@ -62,7 +62,7 @@ long_enough fs s is =
 anchor_is_good : (bytes : List ℕ) (c at : ℕ) → IsAnchor bytes c → NoAnchor bytes at → ⊥
 anchor_is_good bytes c at is bad = is.closed.1 (bad.gates c (omega (arith, is.closed.0, bad.ends))).1
 
-one_anchor : (bytes : List ℕ) (c d : ℕ) → IsAnchor bytes c → IsAnchor bytes d → c ≡ d
+pub one_anchor : (bytes : List ℕ) (c d : ℕ) → IsAnchor bytes c → IsAnchor bytes d → c ≡ d
 one_anchor bytes c d is other = ⊎_elim
     (λ less. absurd (is.closed.1 (other.gates c less).1))
     (λ more. ⊎_elim (λ less. absurd (other.closed.1 (is.gates d less).1)) (λ least. omega (arith, more, least)) (cases_lt d c))
@@ -131,7 +131,7 @@ module _ (fs : Disk) where
   one_image : (s : Sizes) (c : ℕ) (f g : FileName) (at bt : ℕ) → IsBadImage fs s c f at → IsBadImage fs s c g bt → (f ≡ g) × (at ≡ bt)
   one_image s c f g at bt a b = (a.name ∙ sym b.name, one_bad_image (file_in fs c) (expected s c (length fs.log)) at bt a.bad b.bad)
 
-  one_behind : (f g : FileName) (at bt : ℕ) → IsBadBehind fs f at → IsBadBehind fs g bt → (f ≡ g) × (at ≡ bt)
+  one_behind : (f g : FileName) (at bt : ℕ) → IsBadCurrent fs f at → IsBadCurrent fs g bt → (f ≡ g) × (at ≡ bt)
   one_behind f g at bt a b = one_image a.sizes a.current f g at bt a.bad (behind_same a.sizes b.sizes a.current b.current g bt (one_size fs a.sizes b.sizes a.log b.log) (one_anchor fs.anchor a.current b.current a.anchor b.anchor) b.bad)
 
   one_bad : (f g : FileName) (at bt : ℕ) → IsBadStore fs f at → IsBadStore fs g bt → (f ≡ g) × (at ≡ bt)
@@ -148,7 +148,7 @@ module _ (fs : Disk) where
   image_good : (s : Sizes) (c : ℕ) (h : Header) (image : List (List ℕ)) (m : Table Pending) (f : FileName) (at : ℕ) → IsFoundIn fs s c h image m → IsBadImage fs s c f at → ⊥
   image_good s c h image m f at is bad = image_is_good (file_in fs c) (expected s c (length fs.log)) h image m at (is.some bad.some) bad.bad
 
-  nowhere_bad : (s : Sizes) (c : ℕ) (h : Header) (image : List (List ℕ)) (m : Table Pending) (r : Reading) (f : FileName) (at : ℕ) → IsOpened fs s c h image m r → IsBadStore fs f at → ⊥
+  pub nowhere_bad : (s : Sizes) (c : ℕ) (h : Header) (image : List (List ℕ)) (m : Table Pending) (r : Reading) (f : FileName) (at : ℕ) → IsOpened fs s c h image m r → IsBadStore fs f at → ⊥
   nowhere_bad s c h image m r f at is (inl log) = first_is_good fs s at is.log log.bad
   nowhere_bad s c h image m r f at is (inr (inl anchor)) = anchor_is_good fs.anchor c at is.anchor anchor.bad
   nowhere_bad s c h image m r f at is (inr (inr b)) =

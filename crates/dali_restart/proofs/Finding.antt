@@ -37,7 +37,7 @@ use Rattle.dali_image.specs.Laws.{header_of, IsHeader, IsPassed}
 use Rattle.dali_image.proofs.Passed.{what_passes, wanted}
 use Rattle.dali_image.specs.declared.header.Header.{Header}
 use Rattle.dali_image.specs.declared.header.Expected.{Expected}
-use Rattle.dali_restart.specs.Opening.{BeginsWith, BadImageAt, IsImageIn, IsInRange, StandsAlone, IsBadStore, IsBadLog, IsBadAnchor, IsBadImage, file_in, expected}
+use Rattle.dali_restart.specs.Opening.{BeginsWith, BadImageAt, IsImageIn, IsInRange, IsNoImage, IsBadStore, IsBadLog, IsBadAnchor, IsBadImage, file_in, expected}
 use Rattle.dali_restart.specs.Laws.{WhatOpensIsSpelled, IsSpelledBy}
 use Rattle.dali_restart.proofs.Formatted.{image_length}
 
@@ -73,7 +73,7 @@ pub begun : (fs : Disk) (s : Sizes) → BeginsWith fs s → IsUnformatted fs.log
 begun fs s is un = formatted_bytes fs.log _ (body_bytes (Format s.index s.heap ∷ [])) (first_of fs s is) un
 
 -- ---- what the disk spells
-no_first : HasFormat [] → ⊥
+pub no_first : HasFormat [] → ⊥
 no_first has = let e : [] ≡ (Format has.0 has.1 ∷ []) ∷ has.2 = has.3 in absurd cc
 
 same_sizes : (fs : Disk) (s : Sizes) (B : List (List Record)) (end : ℕ) → BeginsWith fs s → LogOf fs.log B end → sizes_of (flat_map (λ b. b) B) ≡ s
@@ -105,16 +105,16 @@ image_there bytes x h image m is p words =
           ∙ sym (append_assoc (header_bytes s p.head) (flat ++ table_bytes p.head.table) p.reads.rest)));
     }
 
-of_side : (side : Side) (fs : Disk) → image_file side fs ≡ file_of (image_name side) fs
+pub of_side : (side : Side) (fs : Disk) → image_file side fs ≡ file_of (image_name side) fs
 of_side SideA fs = refl
 of_side SideB fs = refl
 
-abbrev files_in : ℕ → Head → List (List ℕ) → List (List Record) → Files
+abbrev pub files_in : ℕ → Head → List (List ℕ) → List (List Record) → Files
 files_in c h image B = record { batches = B; gates = c; number = h.number; place = h.place; first = h.first; weight = h.weight; next = h.next; image = image; table = h.table }
 
 before_any :
     (fs : Disk) (s : Sizes) (c : ℕ) (h : Header) (image : List (List ℕ)) (m : Table Pending) (B : List (List Record)) (end : ℕ) → LogOf fs.log B end → sizes_of (flat_map (λ b. b) B) ≡ s
-    → IsAnchor fs.anchor c → c ≡ 0 → StandsAlone s h image m → IsSpelledBy fs s c h image m B (unchecked s B)
+    → IsAnchor fs.anchor c → c ≡ 0 → IsNoImage s h image m → IsSpelledBy fs s c h image m B (unchecked s B)
 unfolding number32
 before_any fs s c h image m B end log sizes anchor none is = record {
   spells = record {
@@ -186,10 +186,10 @@ no_undos : (t : ℕ) (o : Option (Row Pending)) → o ≡ None → AreUndos (opt
 no_undos t o none = subst (λ (k : Option (Row Pending)). AreUndos (option_map_or (λ row. row.undos) k [])) (sym none) tt
 
 -- what stands for the image is in range
-pub stands_in_range : (s : Sizes) (h : Header) (image : List (List ℕ)) (m : Table Pending) → StandsAlone s h image m → IsInRange s h image m
+pub stands_in_range : (s : Sizes) (h : Header) (image : List (List ℕ)) (m : Table Pending) → IsNoImage s h image m → IsInRange s h image m
 stands_in_range s h image m is = record {
   geometry = ap (λ (k : Header). k.geometry) is.header;
-  first = omega (arith, ap (λ (k : Header). k.first) is.header);
+  first = (omega (arith, ap (λ (k : Header). k.first) is.header), omega (arith, ap (λ (k : Header). k.first) is.header));
   weight = omega (arith, ap (λ (k : Header). k.weight) is.header);
   next = (omega (arith, ap (λ (k : Header). k.next) is.header), omega (arith, ap (λ (k : Header). k.next) is.header));
   whole = ap length is.words ∙ image_length s;

@@ -2,3 +2,17 @@ pub mod Causes
 pub mod Formatted
 pub mod Finding
 pub mod Exact
+pub mod Bytes
+pub mod Started
+pub mod Wanted
+pub mod Once
+pub mod Beginning
+pub mod Telling
+pub mod BadOnce
+pub mod Headline
+pub mod Passing
+pub mod Handing
+pub mod Due
+pub mod Settling
+pub mod Short
+pub mod Idle

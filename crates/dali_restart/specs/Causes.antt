@@ -1,9 +1,13 @@
--- What a restart says of an error of the log's file, and of one of an image or the anchor.
+-- What a restart says of an error of the log's file, of one of an image or the anchor, of one of the log's records, and of one of what it writes.
 use Rattle.dali_store.specs.declared.store.FileName.TheVariants.{Log}
 use Rattle.dali_batch.specs.declared.error.LogError.{LogError}
 use Rattle.dali_batch.specs.declared.error.LogError.TheVariants as logs
 use Rattle.dali_image.specs.declared.error.ImageError.{ImageError}
 use Rattle.dali_image.specs.declared.error.ImageError.TheVariants as images
+use Rattle.dali_reload.specs.declared.error.ReloadError.{ReloadError}
+use Rattle.dali_reload.specs.declared.error.ReloadError.TheVariants as reloads
+use Rattle.dali_renewal.specs.declared.error.RenewalError.{RenewalError}
+use Rattle.dali_renewal.specs.declared.error.RenewalError.TheVariants as renewals
 use Rattle.dali_restart.specs.declared.error.RestartError.{RestartError}
 use Rattle.dali_restart.specs.declared.error.RestartError.TheVariants as errors
 
@@ -17,3 +21,15 @@ abbrev pub image_error : ImageError → RestartError
 image_error images.Fault = errors.Fault
 image_error (images.BadImage file at) = errors.BadStore file at
 image_error images.OutOfMemory = errors.OutOfMemory
+
+-- a pass that scans never tells that one has to be made again
+abbrev pub reload_error : ReloadError → RestartError
+reload_error reloads.Fault = errors.Fault
+reload_error (reloads.BadLog at) = errors.BadStore Log at
+reload_error reloads.Unscanned = errors.OutOfMemory
+reload_error reloads.OutOfMemory = errors.OutOfMemory
+
+abbrev pub renewal_error : RenewalError → RestartError
+renewal_error renewals.Fault = errors.Fault
+renewal_error renewals.TooLong = errors.TooLong
+renewal_error renewals.OutOfMemory = errors.OutOfMemory

@@ -2,8 +2,13 @@
 --     files_in c h image rows B    the files of these batches with this image
 --     IsSpelledBy              the disk spells such files, with just what was found
 --     WhatOpensIsSpelled       so it is of each disk whose log is one: what is found is its image, table and numbers
+--     OpensOnce                what is found before the records behind the image is that of one row of files, whatever their batches are
+--     ReadsOnce                a disk is read as one thing at most, and then it is nowhere bad
+--     OneBadFile               a disk is bad in one file; behind the image its bytes are bad at one place, and one record is the first that fails a test
+--     FoundIsGood              a disk that spells files that are found is nowhere bad, and isn't unformatted; it is read as what their log says, and the
+--                              record of the restart fits a batch
 --     OneAnswer                a disk has one answer: its log has no batches, or it is bad at one place of one file, or this is found
-use Rattle.std.specs.Prelude.{◌≡◌, ℕ, List}
+use Rattle.std.specs.Prelude.{◌≡◌, ◌≤◌, ◌^◌, ℕ, List}
 use Rattle.std.specs.List.{AllByRecursion}
 use Rattle.dali_geometry.specs.Sizes.{Sizes}
 use Rattle.dali_att.specs.Table.{Table}
@@ -19,9 +24,15 @@ use Rattle.dali_batch.specs.Stream.{Reading}
 use Rattle.dali_traces.specs.Disks.{Spells, head_of}
 use Rattle.dali_image.specs.Laws.{header_of, table_of}
 use Rattle.dali_image.specs.declared.header.Header.{Header}
+use Rattle.dali_resume.specs.Again.{Outcome}
+use Rattle.dali_again.specs.Found.{FindsIt}
+use Rattle.dali_reload.specs.Reading.{FailsAt, IsBadBehind}
+use Rattle.dali_renewal.specs.Logged.{restart_length}
 use Rattle.dali_restart.specs.Opening.{IsOpened, IsBadStore}
+use Rattle.dali_restart.specs.Restarting.{BeginsAt, IsBadAnywhere, IsReadAs, IsTold}
 
-pub record IsSpelledBy (fs : Disk) (s : Sizes) (c : ℕ) (h : Header) (image : List (List ℕ)) (m : Table Pending) (B : List (List Record)) (F : Files) : Type 0 where
+pub record IsSpelledBy (fs : Disk) (s : Sizes) (c : ℕ) (h : Header) (image : List (List ℕ)) (m : Table Pending) (B : List (List Record))
+    (F : Files) : Type 0 where
   pub spells : Spells fs F
   pub batches : F.batches ≡ B
   pub gates : F.gates ≡ c
@@ -37,10 +48,52 @@ WhatOpensIsSpelled =
     → (F : Files) × IsSpelledBy fs s c h image m B F
 
 pub record AnswersOnce (fs : Disk) : Type 0 where
-  pub opened : (s : Sizes) (c : ℕ) (h : Header) (image : List (List ℕ)) (m : Table Pending) (r : Reading) → IsOpened fs s c h image m r → IsUnformatted fs.log → ⊥
+  pub opened : (s : Sizes) (c : ℕ) (h : Header) (image : List (List ℕ)) (m : Table Pending) (r : Reading) → IsOpened fs s c h image m r → IsUnformatted fs.log
+      → ⊥
   pub bad : (file : FileName) (at : ℕ) → IsBadStore fs file at → IsUnformatted fs.log → ⊥
-  pub good : (s : Sizes) (c : ℕ) (h : Header) (image : List (List ℕ)) (m : Table Pending) (r : Reading) (file : FileName) (at : ℕ) → IsOpened fs s c h image m r → IsBadStore fs file at → ⊥
+  pub good : (s : Sizes) (c : ℕ) (h : Header) (image : List (List ℕ)) (m : Table Pending) (r : Reading) (file : FileName) (at : ℕ)
+      → IsOpened fs s c h image m r → IsBadStore fs file at → ⊥
   pub one : (f g : FileName) (at bt : ℕ) → IsBadStore fs f at → IsBadStore fs g bt → (f ≡ g) × (at ≡ bt)
 
 abbrev pub OneAnswer : Type 0
 OneAnswer = (fs : Disk) → AnswersOnce fs
+
+-- ---- a restart
+-- so a second reading of a disk begins as the first one did
+pub record IsOneOpening (s z : Sizes) (c : ℕ) (h : Header) (image : List (List ℕ)) (m : Table Pending) (F : Files) : Type 0 where
+  pub sizes : s ≡ z
+  pub gates : c ≡ F.gates
+  pub header : h ≡ header_of z (head_of F)
+  pub image_is : image ≡ F.image
+  pub table : m ≡ table_of F.table
+
+abbrev pub OpensOnce : Type 0
+OpensOnce =
+    (fs : Disk) (s : Sizes) (c : ℕ) (h : Header) (image : List (List ℕ)) (m : Table Pending) (r : Reading) → IsOpened fs s c h image m r
+    → AllByRecursion AreWords image
+    → ((F : Files) × BeginsAt fs s F)
+    × ((z : Sizes) (F : Files) → BeginsAt fs z F → IsOneOpening s z c h image m F)
+
+abbrev pub ReadsOnce : Type 0
+ReadsOnce =
+    (fs : Disk) (o : Outcome) → IsReadAs fs o
+    → ((p : Outcome) → IsReadAs fs p → o ≡ p) × ((file : FileName) (at : ℕ) → IsBadAnywhere fs file at → ⊥) × (IsUnformatted fs.log → ⊥)
+
+pub record IsBadOnce (fs : Disk) : Type 0 where
+  pub file : (f g : FileName) (at bt : ℕ) → IsBadAnywhere fs f at → IsBadAnywhere fs g bt → f ≡ g
+  -- behind the image
+  pub bytes : (s : Sizes) (F : Files) (at bt : ℕ) → IsBadBehind fs.log s F at → IsBadBehind fs.log s F bt → at ≡ bt
+  pub tests : (s : Sizes) (F : Files) (at bt : ℕ) → FailsAt fs.log s F at → FailsAt fs.log s F bt → at ≡ bt
+
+abbrev pub OneBadFile : Type 0
+OneBadFile = (fs : Disk) → IsBadOnce fs
+
+pub record IsGood (fs : Disk) (F : Files) : Type 0 where
+  pub bad : (file : FileName) (at : ℕ) → IsBadAnywhere fs file at → ⊥
+  pub formatted : IsUnformatted fs.log → ⊥
+  pub told : (o : Outcome) → IsReadAs fs o → IsTold F o
+  -- the record of the restart fits a batch
+  pub short : (o : Outcome) → IsReadAs fs o → restart_length o.rolled o.deleted ≤ 2 ^ 30
+
+abbrev pub FoundIsGood : Type 0
+FoundIsGood = (fs : Disk) (F : Files) → Spells fs F → FindsIt F → IsGood fs F

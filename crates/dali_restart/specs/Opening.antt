@@ -2,7 +2,7 @@
 --     first_header s           what stands for the header of an image before the first checkpoint
 --     expected s c n           what the log and the anchor want of the header of image c
 --     BeginsWith fs s          the log begins with the first batch of these sizes
---     StandsAlone, IsImageIn   before the first checkpoint the formatted regions count as the image; else it is read in its file
+--     IsNoImage, IsImageIn   before the first checkpoint the formatted regions count as the image; else it is read in its file
 --     IsOpened fs o            this is found in these files
 --     IsInRange s h image m    what is found of an image of these sizes is in range, whatever a store tells
 --     IsBadLog, IsBadAnchor, IsBadImage     the files are bad here: the log's first batch; the anchor; the current image
@@ -42,7 +42,7 @@ pub record BeginsWith (fs : Disk) (s : Sizes) : Type 0 where
   pub first : IsRun fs.log 0 ((Format s.index s.heap ∷ []) ∷ []) end
 
 -- ---- the current image
-pub record StandsAlone (s : Sizes) (h : Header) (image : List (List ℕ)) (m : Table Pending) : Type 0 where
+pub record IsNoImage (s : Sizes) (h : Header) (image : List (List ℕ)) (m : Table Pending) : Type 0 where
   pub header : h ≡ first_header s
   pub words : image ≡ formatted_image s
   pub table : m ≡ finite.empty
@@ -60,7 +60,7 @@ abbrev pub file_in : Disk → ℕ → List ℕ
 file_in fs c = file_of (image_name (side_of c)) fs
 
 pub record IsFoundIn (fs : Disk) (s : Sizes) (c : ℕ) (h : Header) (image : List (List ℕ)) (m : Table Pending) : Type 0 where
-  pub none : c ≡ 0 → StandsAlone s h image m
+  pub none : c ≡ 0 → IsNoImage s h image m
   pub some : 0 < c → IsImageIn (file_in fs c) (expected s c (length fs.log)) h image m
 
 pub record IsOpened (fs : Disk) (s : Sizes) (c : ℕ) (h : Header) (image : List (List ℕ)) (m : Table Pending) (r : Reading) : Type 0 where
@@ -71,7 +71,7 @@ pub record IsOpened (fs : Disk) (s : Sizes) (c : ℕ) (h : Header) (image : List
 
 pub record IsInRange (s : Sizes) (h : Header) (image : List (List ℕ)) (m : Table Pending) : Type 0 where
   pub geometry : h.geometry ≡ s
-  pub first : h.first < 2 ^ 40
+  pub first : (0 < h.first) × (h.first < 2 ^ 40)
   pub weight : h.weight < 2 ^ 40
   pub next : (0 < h.next) × (h.next < 2 ^ 40)
   pub whole : length image ≡ regions s
@@ -103,7 +103,7 @@ pub record IsBadImage (fs : Disk) (s : Sizes) (c : ℕ) (file : FileName) (at : 
   pub name : file ≡ image_name (side_of c)
   pub bad : BadImageAt (file_in fs c) (expected s c (length fs.log)) at
 
-pub record IsBadBehind (fs : Disk) (file : FileName) (at : ℕ) : Type 0 where
+pub record IsBadCurrent (fs : Disk) (file : FileName) (at : ℕ) : Type 0 where
   pub sizes : Sizes
   pub log : BeginsWith fs sizes
   pub current : ℕ
@@ -111,4 +111,4 @@ pub record IsBadBehind (fs : Disk) (file : FileName) (at : ℕ) : Type 0 where
   pub bad : IsBadImage fs sizes current file at
 
 abbrev pub IsBadStore : Disk → FileName → ℕ → Type 0
-IsBadStore fs file at = IsBadLog fs file at ⊎ IsBadAnchor fs file at ⊎ IsBadBehind fs file at
+IsBadStore fs file at = IsBadLog fs file at ⊎ IsBadAnchor fs file at ⊎ IsBadCurrent fs file at

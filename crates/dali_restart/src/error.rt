@@ -1,11 +1,13 @@
 //! Why no core was made over a store.
 ghost use Rattle.std.specs.Prelude.{◌≡◌};
 ghost use Rattle.dali_restart.specs.declared.error.RestartError.TheVariants as errors;
-ghost use Rattle.dali_restart.specs.Causes.{log_error, image_error};
+ghost use Rattle.dali_restart.specs.Causes.{log_error, image_error, reload_error, renewal_error};
 
 use dali_batch::LogError;
 use dali_bytes::OutOfMemory;
 use dali_image::ImageError;
+use dali_reload::ReloadError;
+use dali_renewal::RenewalError;
 use dali_store::{FileName, Store, StoreFault};
 use std::alloc::AllocError;
 use thiserror::Error;
@@ -25,6 +27,12 @@ pub enum RestartError {
     /// A database was to be made, and the log has one.
     #[error("formatted")]
     Formatted,
+    /// The record of the restart has more bytes than a batch.
+    #[error("lists too long")]
+    TooLong,
+    /// The store gave other bytes when it was read again.
+    #[error("unsteady store")]
+    Unsteady,
     /// Memory was wanted and refused.
     #[error("out of memory")]
     OutOfMemory,
@@ -78,6 +86,35 @@ impl From<ImageError> for RestartError {
             ImageError::Fault => RestartError::Fault,
             ImageError::BadImage { file, at } => RestartError::BadStore { file, at },
             ImageError::OutOfMemory => RestartError::OutOfMemory,
+        }
+    }
+}
+
+impl From<ReloadError> for RestartError {
+    ghost from_gives = { λ error e. e ≡ reload_error error };
+
+    fn from(error: ReloadError) -> Self {
+        match error {
+            ReloadError::Fault => RestartError::Fault,
+            ReloadError::BadLog { at } => RestartError::BadStore {
+                file: FileName::Log,
+                at,
+            },
+            // a pass that scans never tells it
+            ReloadError::Unscanned => RestartError::OutOfMemory,
+            ReloadError::OutOfMemory => RestartError::OutOfMemory,
+        }
+    }
+}
+
+impl From<RenewalError> for RestartError {
+    ghost from_gives = { λ error e. e ≡ renewal_error error };
+
+    fn from(error: RenewalError) -> Self {
+        match error {
+            RenewalError::Fault => RestartError::Fault,
+            RenewalError::TooLong => RestartError::TooLong,
+            RenewalError::OutOfMemory => RestartError::OutOfMemory,
         }
     }
 }

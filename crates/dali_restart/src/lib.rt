@@ -1,4 +1,4 @@
-//! A database is made in the files of a store, as a core over it.
+//! A database is made in the files of a store, as a core over it, and restarted from what a crash left of them.
 #![tactic(auto)]
 
 mod error;
@@ -6,7 +6,9 @@ mod formatting;
 pub mod laws;
 mod opening;
 mod regions;
+mod restarting;
 
 pub use error::{Refused, RestartError};
 pub use formatting::format;
 pub use opening::{Opened, open};
+pub use restarting::{Report, restart};

@@ -17,7 +17,7 @@ ghost use Rattle.dali_image.specs.Laws.{IsHeader};
 ghost use Rattle.dali_image.specs.Reading.{ReadsRegions, end_of};
 ghost use Rattle.dali_image.specs.declared.error.ImageError.TheVariants as images;
 ghost use Rattle.dali_restart.specs.declared.error.RestartError.TheVariants as errors;
-ghost use Rattle.dali_restart.specs.Opening.{BeginsWith, StandsAlone, BadImageAt, IsImageIn, IsInRange, IsBadLog, IsBadAnchor, IsBadImage, IsFoundIn, IsOpened, IsBadStore};
+ghost use Rattle.dali_restart.specs.Opening.{BeginsWith, IsNoImage, BadImageAt, IsImageIn, IsInRange, IsBadLog, IsBadAnchor, IsBadImage, IsFoundIn, IsOpened, IsBadStore};
 
 use crate::error::RestartError;
 use crate::regions;
@@ -88,7 +88,7 @@ struct Image {
 
 // What stands for the image before the first checkpoint.
 fn first_image(alloc: Global, geometry: Geometry) -> Result<Image, AllocError>
-    ensures { IfOk result (λ image. StandsAlone geometry image.header image.regions.items image.table) }
+    ensures { IfOk result (λ image. IsNoImage geometry image.header image.regions.items image.table) }
 {
     let regions = regions::formatted_words(alloc, &geometry)?;
     let header = Header {
@@ -204,6 +204,8 @@ fn current_image<V: Store>(
     ensures in_range { IfOk result (λ image. IsInRange geometry image.header image.regions.items image.table) }
     ensures bad { IfErr result (λ e. (file : Name) (at : ℕ) → e ≡ errors.BadStore file at → IfSome (V.told store.old) (λ fs. IsBadImage fs geometry current file at)) }
     ensures formatted { IsErrOf result errors.Formatted → ⊥ }
+    ensures long { IsErrOf result errors.TooLong → ⊥ }
+    ensures steady { IsErrOf result errors.Unsteady → ⊥ }
     ensures unformatted { IsErrOf result errors.Unformatted → ⊥ }
     ensures reads { OnlyReads V.told V.moment V.left_since V.may_leave store.old store.new }
     ensures later { V.faults store.old ≤ V.faults store.new }
@@ -242,6 +244,8 @@ fn read_first<V: Store>(
     ensures small { IfOk result (λ first. first.2 < 2 ^ 62) }
     ensures bad { IfErr result (λ e. (file : Name) (at : ℕ) → e ≡ errors.BadStore file at → IfSome (V.told store.old) (λ fs. IsBadLog fs file at ⊎ IsBadAnchor fs file at)) }
     ensures formatted { IsErrOf result errors.Formatted → ⊥ }
+    ensures long { IsErrOf result errors.TooLong → ⊥ }
+    ensures steady { IsErrOf result errors.Unsteady → ⊥ }
     ensures unformatted { IsErrOf result errors.Unformatted → IfSome (V.told store.old) (λ fs. IsUnformatted fs.log) }
     ensures reads { OnlyReads V.told V.moment V.left_since V.may_leave store.old store.new }
     ensures later { V.faults store.old ≤ V.faults store.new }
@@ -276,6 +280,8 @@ pub fn open<V: Store>(alloc: Global, store: &mut V) -> Result<Opened, RestartErr
     ensures bad { IfErr result (λ e. (file : Name) (at : ℕ) → e ≡ errors.BadStore file at → IfSome (V.told store.old) (λ fs. IsBadStore fs file at)) }
     ensures unformatted { IsErrOf result errors.Unformatted → IfSome (V.told store.old) (λ fs. IsUnformatted fs.log) }
     ensures formatted { IsErrOf result errors.Formatted → ⊥ }
+    ensures long { IsErrOf result errors.TooLong → ⊥ }
+    ensures steady { IsErrOf result errors.Unsteady → ⊥ }
     ensures reads { OnlyReads V.told V.moment V.left_since V.may_leave store.old store.new }
     ensures later { V.faults store.old ≤ V.faults store.new }
     ensures fault { IsErrOf result errors.Fault → Rose (V.faults store.old) (V.faults store.new) }

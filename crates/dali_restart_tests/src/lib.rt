@@ -2,4 +2,6 @@
 #![tactic(auto)]
 
 #[cfg(test)]
+mod restarts;
+#[cfg(test)]
 mod tests;

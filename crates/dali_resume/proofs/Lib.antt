@@ -26,5 +26,6 @@ pub mod Served
 pub mod Ends
 pub mod Batches
 pub mod Numbers
+pub mod Freed
 pub mod OnTheWay
 pub mod Worked

@@ -9,6 +9,7 @@
 --     hands_on s c             what is handed out where no record follows
 --     verdict_of s F L         of files F with the log L: what is handed out, or the number of the first record that may not stand where it does
 --     FitsFront s K F          the files, with the batches of that time, fit the log K at its last epoch
+--     RestsFree                where the last epoch has no record, its base has been freed already: so that is what a restart of the log makes
 --     IsResumed s L n o        o is what the whole log says: the recovered image, and the lists of the recovered epoch where a record stands behind the
 --                              image's number n, else none
 --     IsRightAtEnd s L F c     so is what is handed out of c at the log's end, where the numbers that are known go on from there
@@ -108,6 +109,10 @@ FitsFront s K F = (bs : List (List Record)) × FitsWhole s (base_of s K) K (reco
 abbrev pub image_now : Sizes → List Record → List Record → List (List ℕ)
 image_now s L [] = freed s (base_of s L)
 image_now s L (r ∷ E) = recovered s L
+
+-- an image that rests has nothing to free, whatever the log
+abbrev pub RestsFree : Type 0
+RestsFree = (s : Sizes) (L : List Record) → (last_epoch L).records ≡ [] → image_now s L [] ≡ recovered s L
 
 pub record IsResumed (s : Sizes) (L : List Record) (n : ℕ) (o : Outcome) : Type 0 where
   pub image : o.image ≡ image_now s L (last_epoch L).records

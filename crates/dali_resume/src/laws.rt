@@ -9,8 +9,8 @@ ghost use Rattle.dali_resume.specs.Rules.{FrontsStand, TestsAreRules, FindsMisfi
 ghost use Rattle.dali_resume.specs.Batches.{FindsMisplaced, FitsInBatches, AnswersOverBatches, FrontAnswersOverBatches};
 ghost use Rattle.dali_resume.specs.Worked.{MiddleRestarts, MisfitsInTheMiddle};
 ghost use Rattle.dali_resume.specs.OnTheWay.{WritesOnTheWay, FindsOnTheWay, EndsAreHistories};
-ghost use Rattle.dali_resume.specs.Numbers.{NumberIsSome};
-ghost use Rattle.dali_resume.specs.Onward.{ResumesThrough, ListsAreTested, KnowsAlike, ResumesHistories, FormatFits, FormatHandsOut, CrashIsAnswered, RestartsOnward, ServesAnyLog, OnePassOnward};
+ghost use Rattle.dali_resume.specs.Numbers.{ImageStandsWithin, NumberIsSome};
+ghost use Rattle.dali_resume.specs.Onward.{ResumesThrough, ListsAreTested, KnowsAlike, ResumesHistories, FormatFits, FormatHandsOut, CrashIsAnswered, RestartsOnward, RestsFree, ServesAnyLog, OnePassOnward};
 
 /// The clean place and the failing regions of an epoch are found in the records behind an image.
 pub fn damage_is_found_behind_an_image()
@@ -201,6 +201,16 @@ pub fn a_restarted_is_first_in_its_batch()
 /// that of the second batch, so no law that asks for a record number above 0 is left to its caller.
 pub fn an_image_stands_behind_a_record()
     ensures { NumberIsSome }
+{}
+
+/// Where the last epoch has a record, the image stands before the last of them: so some of it is read.
+pub fn an_image_stands_before_its_epochs_end()
+    ensures { ImageStandsWithin }
+{}
+
+/// Where the last epoch has no record, what a restart of the log comes to has nothing to free, whatever the log.
+pub fn a_resting_image_is_free()
+    ensures { RestsFree }
 {}
 
 /// Behind any number of restarts behind the image, at the end of the log and wherever an epoch is recovered on the way, what

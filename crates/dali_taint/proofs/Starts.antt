@@ -1,6 +1,6 @@
 -- The tables as an epoch begins, and the list that they give in the end.
 use Rattle.std.proofs.Common.{◌≡◌, ℕ, zero, suc, ◌≤◌, ◌<◌, Bool, true, false, cond, List, [], ◌∷◌, length, refl, ap, sym, subst, ◌∙◌, ⊎_elim, arith, replicate, get_or}
-use Rattle.std.specs.Prelude.{◌&&◌, ◌||◌, ◌==◌, map}
+use Rattle.std.specs.Prelude.{◌&&◌, ◌||◌, ◌==◌, map, nat_lt}
 use Rattle.std.specs.List.{list_any}
 use Rattle.std.specs.List.Sorted.{IsStrictlyIncreasing, IsStrictlySortedBy}
 use Rattle.std.specs.Ordering.{nat_cmp}
@@ -8,7 +8,7 @@ use Rattle.std.specs.BTreeSet.{IsOrdered}
 use Rattle.std.specs.BTreeMap.{is_at}
 use Rattle.std.proofs.lemmas.Bool.Decides.{nat_tests}
 use Rattle.std.specs.Cmp.{nat_cmp_total}
-use Rattle.std.proofs.lemmas.Bool.{or_cases, or_left, or_right, or_from, or_parts, both_ways, false_from_ne_true, and_parts}
+use Rattle.std.proofs.lemmas.Bool.{or_cases, or_left, or_right, or_from, or_parts, both_ways, false_from_ne_true, and_parts, and_from, lt-ltb}
 use Rattle.std.proofs.lemmas.List.{append-nil}
 use Rattle.std.proofs.lemmas.List.Kept.{IsStrictlySortedBy-filter}
 use Rattle.std.proofs.lemmas.Map.Keys.{sorted_from_strictly_increasing, sorted_tail, below_from_sorted}
@@ -20,6 +20,7 @@ use Rattle.dali_att.specs.Table.{Table, undos_at}
 use Rattle.dali_record.specs.declared.operations.Pending.{Pending}
 use Rattle.dali_record.specs.Damage.{Damage, has}
 use Rattle.dali_record.specs.Files.{Row}
+use Rattle.dali_record.specs.Spelling.{ascends}
 use Rattle.dali_record.proofs.Scans.{test_same}
 use Rattle.dali_record.proofs.Chains.{any_get}
 use Rattle.dali_history.proofs.Members.{has-filter, has-filter_from}
@@ -134,6 +135,13 @@ starts s x d k m clean failing words items corrupt undos deleted b = subst (λ c
         as_many (suc n) = ap suc (as_many n)
 
 -- ---- the end
+-- the keys of a map ascend
+pub ascends_from : (xs : List ℕ) → IsStrictlySortedBy nat_cmp xs → ascends xs ≡ true
+ascends_from [] sorted = refl
+ascends_from (x ∷ []) sorted = refl
+ascends_from (x ∷ y ∷ ys) sorted =
+    and_from (nat_lt x y) (ascends (y ∷ ys)) (lt-ltb x y (below_from_sorted (x ∷ y ∷ ys) 0 1 0 sorted (omega arith) (omega arith))) (ascends_from (y ∷ ys) (sorted_tail nat_cmp x (y ∷ ys) sorted))
+
 at_is : (q x : ℕ) → is_at (nat_cmp q) x ≡ (x == q)
 at_is q x = grind (arith, nat_tests)
 

@@ -5,6 +5,7 @@ ghost use Rattle.std.specs.Ordering.{nat_cmp};
 ghost use Rattle.dali_record.specs.declared.records.Record.TheVariants.{Forward};
 ghost use Rattle.dali_geometry.specs.Sizes.{Sizes};
 ghost use Rattle.dali_record.specs.Damage.{Damage, has};
+ghost use Rattle.dali_record.specs.Spelling.{ascends};
 ghost use Rattle.dali_resume.specs.Resumed.{deleted_by};
 ghost use Rattle.dali_resume.specs.Tests.{Known};
 ghost use Rattle.dali_taint.specs.Tables.{has_number, reads_failing, is_reached, is_left_out, Drops, Keeps, Stays};
@@ -227,7 +228,8 @@ impl Taint {
 
     /// The deleted transactions, ascending: those that are corrupt and have a Commit. It takes memory for them.
     pub fn deleted(&self) -> Result<Vec<u64>, AllocError>
-        ensures { (s : Sizes) (d : Damage) (k : Known) → Follows s self.now d k → IfOk result (λ deleted. deleted.items ≡ deleted_by k.table k.seen (scanned d k)) }
+        ensures deleted { (s : Sizes) (d : Damage) (k : Known) → Follows s self.now d k → IfOk result (λ deleted. deleted.items ≡ deleted_by k.table k.seen (scanned d k)) }
+        ensures ascending { IfOk result (λ deleted. ascends deleted.items ≡ true) }
     {
         ascending(self.alloc, &self.deleted)
     }

@@ -1,6 +1,7 @@
 use Rattle.std.proofs.Common.{sym, refl, ◌∙◌}
 use Rattle.std.proofs.lemmas.Result.{err_from_is_err_and}
 use Rattle.dali_recovery.proofs.Making.{makes_scanned, refuses_scanned, wants_scanned}
+use Rattle.dali_recovery.proofs.Ordered.{ordered_judged}
 use Rattle.dali_recovery.proofs.scan.Scan.make.Goals as goal
 
 pub returns-then-misfits-clause-err : goal.returns-then-misfits-clause-err
@@ -18,3 +19,6 @@ returns-in_err-carry_out-clause-err c =
 
 pub returns-clause-ok : goal.returns-clause-ok
 returns-clause-ok c = makes_scanned c.args.redo.now c.carry_out.new.redo c.args.self.now c.judge.new.self c.args.number c.args.logged.now c.in_ok-judgement.judgement c.requires.tested (λ k w. sym (c.misfits.ensures k w) ∙ c.if-misfits.false) c.in_ok-judgement.ensures.ok c.in_ok-carry_out.ensures.ok
+
+pub returns-clause-ordered : goal.returns-clause-ordered
+returns-clause-ordered c = ordered_judged c.args.redo.now c.carry_out.new.redo c.in_ok-judgement.judgement c.args.logged.now c.requires.tested (λ k w. sym (c.misfits.ensures k w) ∙ c.if-misfits.false) c.in_ok-carry_out.ensures.ok

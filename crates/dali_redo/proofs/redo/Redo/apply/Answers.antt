@@ -1,13 +1,13 @@
 use Rattle.std.proofs.Common.{refl, ap, subst, length, ◌∙◌}
 use Rattle.dali_redo.specs.Redoing.{Redoing}
 use Rattle.dali_redo.specs.Steps.{Applies}
-use Rattle.dali_redo.proofs.Whole.{applies, applied_undos, enough, redone_length}
+use Rattle.dali_redo.proofs.Whole.{applies, applied_undos, as_many, redone_length}
 use Rattle.dali_redo.proofs.redo.Redo.apply.Goals as goal
 
 pub invariant_of-self-2 : goal.invariant_of-self-2
 invariant_of-self-2 c = record {
   undos = applied_undos c.self.inside.table c.advance.new.table c.self.inside.left c.end_epoch.new.left c.args.logged.now c.requires c.in_ok-advance.ensures.ok c.end_epoch.ensures c.self.invariant.undos;
-  regions = enough c.self.inside.geometry c.self.inside.image c.redo.new.self c.self.invariant.regions (ap length c.redo.ensures ∙ redone_length c.self.inside.image c.args.logged.now);
+  regions = as_many c.self.inside.geometry c.self.inside.image c.redo.new.self c.self.invariant.regions (ap length c.redo.ensures ∙ redone_length c.self.inside.image c.args.logged.now);
 }
 
 pub returns-clause-ok : goal.returns-clause-ok

@@ -1,0 +1,163 @@
+-- What a restart hands out, and that a run begins with it.
+use Rattle.std.proofs.Common.{◌≡◌, ◌⊎◌, inl, inr, ⊎_elim, ℕ, ◌<◌, ◌≤◌, ◌^◌, Bool, List, [], ◌∷◌, map, Option, Some, None, IfSome, Result, Ok, Err, refl, ap, sym, subst, ◌∙◌, arith}
+use Rattle.std.specs.Prelude.{IsErrOf, is_some}
+use Rattle.dali_record.specs.Files.{Files}
+use Rattle.dali_record.specs.Legal.{Rules}
+use Rattle.dali_record.specs.declared.records.Record.{Record}
+use Rattle.dali_region.specs.declared.Side.{Side}
+use Rattle.dali_region.specs.State.{RegionState, loaded}
+use Rattle.dali_store.specs.Store.{Files as Disk, LeavesOnly, Only}
+use Rattle.dali_store.specs.Calls.{PassesFewer}
+use Rattle.dali_store.proofs.Moments.{if_some_each, joins, weaker}
+use Rattle.dali_batch.proofs.Finds.{if_some_any, if_some_same, if_some_two}
+use Rattle.dali_batch.specs.Reads.{OnlyReads}
+use Rattle.dali_system.specs.Images.{Told}
+use Rattle.dali_core.specs.Served.{Served}
+use Rattle.dali_crash.specs.Checkpoints.{Head}
+use Rattle.dali_crash.specs.Traces.{MayRun, Start, StartsAt}
+use Rattle.dali_traces.specs.Disks.{AllSpell, Spells}
+use Rattle.dali_vault.specs.Vaulted.{Vaulted}
+use Rattle.dali_vault.specs.Stepped.{vault_in}
+use Rattle.dali_vault.proofs.Stepped.{begins_right}
+use Rattle.dali_again.specs.Found.{FindsIt}
+use Rattle.dali_recovery.specs.Laws.{outcome_of}
+use Rattle.dali_recovery.specs.declared.recovery.Recovered.{Recovered}
+use Rattle.dali_rise.specs.Risen.{IsRisen, RunBegins, start_at}
+use Rattle.dali_rise.specs.declared.rising.Resting.{Resting}
+use Rattle.dali_restart.specs.declared.restarting.Found.{Found}
+use Rattle.dali_restart.specs.declared.restarting.Report.{Report}
+use Rattle.dali_restart.specs.Deciding.{IsReadIn, IsSettled, Settles}
+use Rattle.dali_restart.specs.Restarting.{BeginsRun, Gives, IsFresh, IsLeft, IsOnWay, IsReadAs, LeavesAtRest, RunsFrom, SpellsOnWay, StopsAlike, outcome}
+use Rattle.dali_restart.proofs.Telling.{gives_all, reads_as}
+
+-- ---- a result
+pub err_same : {T E : Type 0} (a b : E) → IsErrOf {T = T} {E = E} (Err a) b → a ≡ b
+err_same a b h = let is : a ≡ b = cc in is
+
+-- ---- the words
+words_loaded : (ws : List (List ℕ)) → map (λ (g : RegionState). g.words) (map loaded ws) ≡ ws
+words_loaded [] = refl
+words_loaded (w ∷ ws) = ap (λ (l : List (List ℕ)). w ∷ l) (words_loaded ws)
+
+abbrev pub report_of : Recovered → Report
+report_of o = record { rolled_back = o.rolled_back; deleted = o.deleted }
+
+pub outcome_is : (gs : List RegionState) (o : Recovered) → gs ≡ map loaded o.regions.items → outcome_of o ≡ outcome gs (report_of o)
+outcome_is gs o e =
+    ap (λ (ws : List (List ℕ)). record { image = ws; rolled = o.rolled_back.items; deleted = o.deleted.items }) (sym (ap (map (λ (g : RegionState). g.words)) e ∙ words_loaded o.regions.items))
+
+pub gives_in : (fs : Disk) (may : Disk → Type 0) (x : Found) (gs : List RegionState) → IsReadIn fs may x → gs ≡ map loaded x.reloaded.recovered.regions.items → Gives fs (outcome gs (report_of x.reloaded.recovered))
+gives_in fs may x gs is e = subst (Gives fs) (outcome_is gs x.reloaded.recovered e) (gives_all fs x.reloaded (λ s F begins. (is.reads s F begins).1))
+
+pub reads_in : (fs : Disk) (may : Disk → Type 0) (x : Found) → IsReadIn fs may x → IsReadAs fs (outcome_of x.reloaded.recovered)
+reads_in fs may x is = reads_as fs x.base.geometry is.files x.reloaded is.begins (is.reads x.base.geometry is.files is.begins).1
+
+pub reads_out : (fs : Disk) (may : Disk → Type 0) (x : Found) (gs : List RegionState) → IsReadIn fs may x → gs ≡ map loaded x.reloaded.recovered.regions.items → IsReadAs fs (outcome gs (report_of x.reloaded.recovered))
+reads_out fs may x gs is e = subst (IsReadAs fs) (outcome_is gs x.reloaded.recovered e) (reads_in fs may x is)
+
+-- ---- the core
+pub is_fresh : {V : Type 0} (r : Resting) (words : List (List ℕ)) (limit : ℕ) (store : V) (gs : List RegionState) (y : Served) (v : Vaulted V) → IsRisen r words limit store gs y v → IsFresh limit gs y v
+is_fresh {V = V} r words limit store gs y v risen =
+    let here : store ≡ v.store = sym (ap (λ (w : Vaulted V). w.store) risen.vault) in
+    record { resting = r; words = words; risen = subst (λ (w : V). IsRisen r words limit w gs y v) here risen }
+
+module _ {V : Type 0} (told : V → Option Disk) (may_leave : V → Disk → Type 0) (faults : V → ℕ) (limit : ℕ) (fits : limit ≤ 268435456) (x : Found) (r : Resting) (store : V) (gs : List RegionState) (y : Served) (v : Vaulted V)
+    (risen : IsRisen r x.reloaded.recovered.regions.items limit store gs y v) (begins : RunBegins told may_leave faults r x.reloaded.recovered.regions.items limit gs y.state v) where
+  here : store ≡ v.store
+  here = sym (ap (λ (w : Vaulted V). w.store) risen.vault)
+
+  runs_from : (F : Files) → IsSettled F x r (may_leave store) → RunsFrom told may_leave faults limit F gs y.state v
+  runs_from F s = record {
+    log = s.log;
+    goes_on = s.goes_on;
+    history = s.history;
+    begun = ⊎_elim (λ none. inl (ap (λ (w : Vaulted V). w.current) risen.vault ∙ none)) (λ two. inr two) s.begun;
+    rules = s.rules;
+    allowed = s.at.rules;
+    batches = s.batches;
+    begins = λ words heads synced. begins s.log s.rules s.batches words heads synced s.at (starts words heads synced);
+  }
+    where
+      may_run : MayRun s.log (vault_in faults (faults v.store) v)
+      may_run = subst (λ (w : Vaulted V). MayRun s.log (vault_in faults (faults w.store) w)) (sym risen.vault) (begins_right faults s.log store r.end r.current s.at.short s.at.moved)
+
+      starts : (words : Told) (heads : Side → Head) (synced : Side → Bool)
+          → IfSome (told v.store) (λ _. AllSpell (may_leave v.store) (λ G. StartsAt (start_at told may_leave faults s.log s.rules limit v words heads synced) G × (G.batches ≡ s.batches)))
+      starts words heads synced =
+          if_some_any _ (told v.store)
+          (λ fs c left.
+          let q = s.disks c (subst (λ (w : V). may_leave w c) (sym here) left) in (
+            q.0,
+            q.1,
+            (
+              record {
+                lawful = s.at.lawful;
+                rules = s.at.rules;
+                fits = fits;
+                rests = q.4.rests (vault_in faults (faults v.store) v) may_run (ap (λ (w : Vaulted V). w.end) risen.vault) (ap (λ (w : Vaulted V). w.current) risen.vault);
+              },
+              q.4.batches,
+            ),
+          ))
+
+  pub begins_run : (fs : Disk) (may : Disk → Type 0) → IsReadIn fs may x → Settles fs x r (may_leave store) → BeginsRun told may_leave faults limit fs gs y.state v
+  begins_run fs may is settles F spells finds = runs_from F (settles is.reads F spells finds)
+
+  pub rests_then : (fs : Disk) (may : Disk → Type 0) → IsReadIn fs may x → Settles fs x r (may_leave store) → (c : Disk) → may_leave v.store c → LeavesAtRest fs c
+  rests_then fs may is settles c left F spells finds =
+      let q = (settles is.reads F spells finds).disks c (subst (λ (w : V). may_leave w c) (sym here) left) in (q.0, q.1, q.2, q.3)
+
+-- ---- what is left
+is_on_way : (F : Files) → FindsIt F → IsOnWay F F
+is_on_way F finds = record { finds = finds; log = inl refl; told = refl; history = λ h. h }
+
+comes_same : (o p : Option Disk) → p ≡ o → IfSome o (λ fs. IfSome p (λ gs. (F : Files) → Spells fs F → FindsIt F → SpellsOnWay F gs))
+comes_same None p same = tt
+comes_same (Some fs) p same = subst (λ (q : Option Disk). IfSome q (λ gs. (F : Files) → Spells fs F → FindsIt F → SpellsOnWay F gs)) (sym same) (λ F spells finds. (F, spells, is_on_way F finds))
+
+module _ {V : Type 0} (told : V → Option Disk) (may_leave : V → Disk → Type 0) (moment : V → ℕ) (left_since : V → ℕ → Disk → Type 0) where
+  pub stops_reading : (fs : Disk) (old new : V) → LeavesOnly moment left_since old new (may_leave old) → StopsAlike may_leave moment left_since fs old new
+  stops_reading fs old new reads F spells finds = weaker moment left_since old new (may_leave old) (λ c. may_leave old c ⊎ SpellsOnWay F c) reads (λ c left. inl left)
+
+  pub stops_settling : (fs : Disk) (old mid new : V) → OnlyReads told moment left_since may_leave old mid → StopsAlike may_leave moment left_since fs mid new → StopsAlike may_leave moment left_since fs old new
+  stops_settling fs old mid new reads stops F spells finds =
+      joins moment left_since old mid new (may_leave old) (λ c. may_leave mid c ⊎ SpellsOnWay F c) (λ c. may_leave old c ⊎ SpellsOnWay F c) reads.any_moment (stops F spells finds)
+      (λ c left. inl left) (λ c p. ⊎_elim (λ left. inl (reads.crash c left)) (λ way. inr way) p)
+
+  -- the store that comes back has one of the disks that a crash may leave then
+  comes_settling :
+      (mid new : V) → ((t : ℕ) (c : Disk) → t ≤ moment new → may_leave new c → left_since new t c) → (o p : Option Disk)
+      → IfSome o (λ fs. Only fs (may_leave mid) × StopsAlike may_leave moment left_since fs mid new) → IfSome p (may_leave new)
+      → IfSome o (λ fs. IfSome p (λ gs. (F : Files) → Spells fs F → FindsIt F → SpellsOnWay F gs))
+  comes_settling mid new counts None p stops now = tt
+  comes_settling mid new counts (Some fs) None stops now = tt
+  comes_settling mid new counts (Some fs) (Some gs) stops now = λ F spells finds.
+      let run = stops.1 F spells finds in
+      ⊎_elim (λ left. (F, subst (λ (d : Disk). Spells d F) (sym (stops.0 gs left)) spells, is_on_way F finds)) (λ way. way) (run.each gs (counts (moment mid) gs run.later now))
+
+module _ {V : Type 0} (told : V → Option Disk) (may_leave : V → Disk → Type 0) (moment : V → ℕ) (left_since : V → ℕ → Disk → Type 0) (faults : V → ℕ) (lets_pass : V → Option ℕ) where
+  pub left_reading :
+      (old new : V) → OnlyReads told moment left_since may_leave old new → faults old ≤ faults new → PassesFewer (lets_pass old) (lets_pass new)
+      → IsLeft told may_leave moment left_since faults lets_pass old new
+  left_reading old new reads later passes = record {
+    any_moment = if_some_any _ (told old) (λ fs. stops_reading told may_leave moment left_since fs old new reads.any_moment);
+    comes_back = comes_same (told old) (told new) reads.same;
+    tells = ap is_some reads.same;
+    later = later;
+    passes = passes;
+  }
+
+  pub left_settling :
+      (old mid new : V) → ((t : ℕ) (c : Disk) → t ≤ moment new → may_leave new c → left_since new t c) → IfSome (told new) (may_leave new)
+      → OnlyReads told moment left_since may_leave old mid → (x : Found) → IfSome (told old) (λ fs. IsReadIn fs (may_leave mid) x) → IfSome (told mid) (λ fs. StopsAlike may_leave moment left_since fs mid new) → is_some (told new) ≡ is_some (told mid)
+      → faults old ≤ faults mid → faults mid ≤ faults new → PassesFewer (lets_pass old) (lets_pass mid) → PassesFewer (lets_pass mid) (lets_pass new)
+      → IsLeft told may_leave moment left_since faults lets_pass old new
+  left_settling old mid new counts now reads x is stops tells later then passes goes = record {
+    any_moment = if_some_each _ _ (told old) (if_some_same _ (told old) (told mid) reads.same stops) (λ fs alike. stops_settling told may_leave moment left_since fs old mid new reads alike);
+    comes_back =
+        comes_settling told may_leave moment left_since mid new counts (told old) (told new)
+        (if_some_two _ _ _ (told old) is (if_some_same _ (told old) (told mid) reads.same stops) (λ fs is alike. (is.only, alike))) now;
+    tells = tells ∙ ap is_some reads.same;
+    later = omega (arith, later, then);
+    passes = record { counted = goes.counted ∙ passes.counted; fewer = omega (arith, passes.fewer, goes.fewer) };
+  }

@@ -1,0 +1,76 @@
+use Rattle.std.proofs.Common.{◌≡◌, ◌≤◌, ◌^◌, ◌+◌, ℕ, None, IfSome, refl, sym, ap, subst, ◌∙◌, arith}
+use Rattle.dali_store.proofs.Moments.{if_some_each}
+use Rattle.dali_batch.specs.Batch.{IsClosedAt}
+use Rattle.dali_traces.specs.Anchors.{AreAnchored}
+use Rattle.dali_renewal.specs.Logged.{restart_length}
+use Rattle.dali_renewal.specs.Renewed.{Renews, Stops, end_of}
+use Rattle.dali_restart.specs.Deciding.{at_end}
+use Rattle.dali_restart.proofs.Due.{are_anchored, is_closed, logs_record, moved_to, next_is, not_longer, record_is_small}
+use Rattle.dali_restart.proofs.restarting.log_record.Goals as goal
+
+pub renew-requires-clause-closed : goal.renew-requires-clause-closed
+renew-requires-clause-closed g c =
+    if_some_each _ _ (g.V.Store.told c.args.store.now) c.requires.read
+    (λ fs is d left. subst (λ p. IsClosedAt p.place d.log) (sym c.end_of-whole.ensures) (is_closed fs _ c.args.found.now is d left))
+
+pub renew-requires-clause-anchored : goal.renew-requires-clause-anchored
+renew-requires-clause-anchored g c =
+    if_some_each _ _ (g.V.Store.told c.args.store.now) c.requires.read
+    (λ fs is. subst (λ p. AreAnchored (g.V.Store.may_leave c.args.store.now) p.current) (sym c.end_of-whole.ensures) (are_anchored fs _ c.args.found.now is))
+
+pub overflow_sub-result-in-Ok : goal.overflow_sub-result-in-Ok
+overflow_sub-result-in-Ok g c = omega (arith, c.in-Ok.ensures.end, next_is c.end_of-whole.result.place c.deref.result.now c.deref-2.result.now)
+
+pub overflow_add-result-in-Ok : goal.overflow_add-result-in-Ok
+overflow_add-result-in-Ok g c =
+    let short = not_longer (restart_length c.deref.result.now c.deref-2.result.now) (λ long. let e = c.in-Ok.ensures.long.1 (refl, long) in absurd cc) in
+    let weight = ap (λ p. p.weight) c.end_of-whole.ensures in
+    let is = c.requires.in_order in
+    omega (arith, c.in-Ok.ensures.end, next_is c.end_of-whole.result.place c.deref.result.now c.deref-2.result.now, short, weight, is.room.weight, is.small.bytes, is.small.end)
+
+pub returns-in-Ok-clause-ok : goal.returns-in-Ok-clause-ok
+returns-in-Ok-clause-ok g c =
+    let p = c.end_of-whole.result in
+    let end = c.in-Ok.ensures.end ∙ (ap (λ l. end_of None p l c.deref-2.result.now) c.deref.ensures.value ∙ ap (end_of None p c.args.found.now.reloaded.recovered.rolled_back.items) c.deref-2.ensures.value) in
+    logs_record c.args.found.now p c.rest_at.result c.in-Ok.end c.end_of-whole.ensures c.rest_at.ensures end
+
+pub returns-in-Ok-clause-small : goal.returns-in-Ok-clause-small
+returns-in-Ok-clause-small g c =
+    let p = c.end_of-whole.result in
+    let rs = c.args.found.now.reloaded.recovered.rolled_back.items in
+    let end = c.in-Ok.ensures.end ∙ (ap (λ l. end_of None p l c.deref-2.result.now) c.deref.ensures.value ∙ ap (end_of None p rs) c.deref-2.ensures.value) in
+    let short = not_longer (restart_length c.deref.result.now c.deref-2.result.now) (λ long. let e = c.in-Ok.ensures.long.1 (refl, long) in absurd cc) in
+    let same = ap (λ l. restart_length l c.deref-2.result.now) c.deref.ensures.value ∙ ap (restart_length rs) c.deref-2.ensures.value in
+    record_is_small c.args.found.now _ c.requires.in_order (logs_record c.args.found.now p c.rest_at.result c.in-Ok.end c.end_of-whole.ensures c.rest_at.ensures end) (omega (arith, short, same))
+
+pub returns-in-Ok-clause-written : goal.returns-in-Ok-clause-written
+returns-in-Ok-clause-written g c =
+    let x = c.args.found.now in
+    let s0 = c.args.store.now in
+    let s1 = c.renew.new.store in
+    let told = g.V.Store.told in
+    let may = g.V.Store.may_leave in
+    let moment = g.V.Store.moment in
+    let since = g.V.Store.left_since in
+    let o = x.reloaded.recovered in
+    record {
+      renews =
+          moved_to (λ p m rs ds ws. IfSome (told s0) (λ _. Renews may moment since p m rs ds ws s0 s1)) c.end_of-whole.result (at_end x) None None c.deref.result.now o.rolled_back.items c.deref-2.result.now o.deleted.items
+          c.deref-3.result.now o.regions.items c.end_of-whole.ensures refl c.deref.ensures.value c.deref-2.ensures.value c.deref-3.ensures.value c.in-Ok.ensures.renews;
+      stops =
+          moved_to (λ p m rs ds ws. IfSome (told s0) (λ _. Stops may moment since p m rs ds ws s0 s1)) c.end_of-whole.result (at_end x) None None c.deref.result.now o.rolled_back.items c.deref-2.result.now o.deleted.items
+          c.deref-3.result.now o.regions.items c.end_of-whole.ensures refl c.deref.ensures.value c.deref-2.ensures.value c.deref-3.ensures.value c.in-Ok.ensures.stops;
+    }
+
+pub returns-in-Err-clause-written : goal.returns-in-Err-clause-written
+returns-in-Err-clause-written g c =
+    let x = c.args.found.now in
+    let s0 = c.args.store.now in
+    let s1 = c.renew.new.store in
+    let o = x.reloaded.recovered in
+    record {
+      renews = tt;
+      stops =
+          moved_to (λ p m rs ds ws. IfSome (g.V.Store.told s0) (λ _. Stops g.V.Store.may_leave g.V.Store.moment g.V.Store.left_since p m rs ds ws s0 s1)) c.end_of-whole.result (at_end x) None None c.deref.result.now
+          o.rolled_back.items c.deref-2.result.now o.deleted.items c.deref-3.result.now o.regions.items c.end_of-whole.ensures refl c.deref.ensures.value c.deref-2.ensures.value c.deref-3.ensures.value c.in-Err.ensures.stops;
+    }

@@ -1,0 +1,96 @@
+use Rattle.std.proofs.Common.{Err, map, sym, ap, subst, ◌∙◌}
+use Rattle.dali_store.proofs.Moments.{if_some_each}
+use Rattle.dali_batch.specs.Reads.{OnlyReads}
+use Rattle.dali_batch.proofs.Finds.{if_some_same, if_some_two}
+use Rattle.dali_recovery.specs.Laws.{outcome_of}
+use Rattle.dali_region.specs.State.{loaded}
+use Rattle.dali_rise.specs.Risen.{IsRisen, RunBegins}
+use Rattle.dali_restart.specs.declared.error.RestartError.TheVariants as errors
+use Rattle.dali_restart.specs.Restarting.{IsLeft}
+use Rattle.dali_restart.proofs.Handing.{begins_run, err_same, gives_in, is_fresh, left_reading, left_settling, reads_in, reads_out, rests_then}
+use Rattle.dali_restart.proofs.Idle.{rests_idle}
+use Rattle.dali_restart.proofs.restarting.restart.Goals as goal
+
+-- the log isn't read
+pub returns-in-Err-clause-any_moment : goal.returns-in-Err-clause-any_moment
+returns-in-Err-clause-any_moment g c =
+    left_reading g.V.Store.told g.V.Store.may_leave g.V.Store.moment g.V.Store.left_since g.V.Store.faults g.V.Store.lets_pass c.args.store c.read.new.store c.read.ensures.reads c.read.ensures.later c.read.ensures.passes
+
+-- nothing is written that is due, or not all of it
+pub returns-in-Err-settle-clause-long : goal.returns-in-Err-settle-clause-long
+returns-in-Err-settle-clause-long g c h =
+    if_some_each _ _ (g.V.Store.told c.args.store) c.in-Ok.ensures.ok
+    (λ fs is. (outcome_of c.in-Ok.found.reloaded.recovered, reads_in fs _ c.in-Ok.found is, c.in-Err-settle.ensures.long (ap Err h)))
+
+pub returns-in-Err-settle-clause-reads : goal.returns-in-Err-settle-clause-reads
+returns-in-Err-settle-clause-reads g c no_fault no_memory =
+    subst (OnlyReads g.V.Store.told g.V.Store.moment g.V.Store.left_since g.V.Store.may_leave c.args.store) (sym (c.in-Err-settle.ensures.untouched (λ q. no_fault (err_same c.in-Err-settle.error errors.Fault q)))) c.read.ensures.reads
+
+pub returns-in-Err-settle-clause-any_moment : goal.returns-in-Err-settle-clause-any_moment
+returns-in-Err-settle-clause-any_moment g c =
+    let s = c.settle.new.store in
+    left_settling g.V.Store.told g.V.Store.may_leave g.V.Store.moment g.V.Store.left_since g.V.Store.faults g.V.Store.lets_pass c.args.store c.read.new.store s (g.met.V.Store.counts_now s) (g.met.V.Store.reads_now s)
+    c.read.ensures.reads c.in-Ok.found c.in-Ok.ensures.ok c.settle.ensures.any_moment c.settle.ensures.tells c.read.ensures.later c.settle.ensures.later c.read.ensures.passes c.settle.ensures.passes
+
+-- no memory for a core
+pub returns-clause-any_moment : goal.returns-clause-any_moment
+returns-clause-any_moment g c =
+    let s = c.settle.new.store in
+    subst (IsLeft g.V.Store.told g.V.Store.may_leave g.V.Store.moment g.V.Store.left_since g.V.Store.faults g.V.Store.lets_pass c.args.store) (sym c.in-Err-rise.ensures.refused)
+    (left_settling g.V.Store.told g.V.Store.may_leave g.V.Store.moment g.V.Store.left_since g.V.Store.faults g.V.Store.lets_pass c.args.store c.read.new.store s (g.met.V.Store.counts_now s) (g.met.V.Store.reads_now s)
+    c.read.ensures.reads c.in-Ok.found c.in-Ok.ensures.ok c.settle.ensures.any_moment c.settle.ensures.tells c.read.ensures.later c.settle.ensures.later c.read.ensures.passes c.settle.ensures.passes)
+
+-- the core
+pub returns-in-Ok-rise-clause-gives : goal.returns-in-Ok-rise-clause-gives
+returns-in-Ok-rise-clause-gives g c =
+    let gs = c.in-Ok-rise.core.regions.items in
+    let made = c.in-Ok-rise.ensures.core.regions ∙ ap (map loaded) c.deref.ensures.value in
+    if_some_each _ _ (g.V.Store.told c.args.store) c.in-Ok.ensures.ok (λ fs is. gives_in fs _ c.in-Ok.found gs is made)
+
+pub returns-in-Ok-rise-clause-read : goal.returns-in-Ok-rise-clause-read
+returns-in-Ok-rise-clause-read g c =
+    let gs = c.in-Ok-rise.core.regions.items in
+    let made = c.in-Ok-rise.ensures.core.regions ∙ ap (map loaded) c.deref.ensures.value in
+    if_some_each _ _ (g.V.Store.told c.args.store) c.in-Ok.ensures.ok (λ fs is. reads_out fs _ c.in-Ok.found gs is made)
+
+pub returns-in-Ok-rise-clause-begins : goal.returns-in-Ok-rise-clause-begins
+returns-in-Ok-rise-clause-begins g c =
+    let told = g.V.Store.told in
+    let may = g.V.Store.may_leave in
+    let x = c.in-Ok.found in
+    let r = c.in-Ok-settle.resting in
+    let core = c.in-Ok-rise.core in
+    let gs = core.regions.items in
+    let s = c.settle.new.store in
+    let risen = subst (λ ws. IsRisen r ws c.args.limit s gs core.system core.vault) c.deref.ensures.value c.in-Ok-rise.ensures.core in
+    let begins = subst (λ ws. RunBegins told may g.V.Store.faults r ws c.args.limit gs core.system.state core.vault) c.deref.ensures.value c.in-Ok-rise.ensures.begins in
+    if_some_two _ _ _ (told c.args.store) c.in-Ok.ensures.ok (if_some_same _ _ _ c.read.ensures.reads.same c.in-Ok-settle.ensures.settles)
+    (λ fs is settles. begins_run told may g.V.Store.faults c.args.limit c.requires.limit x r s gs core.system core.vault risen begins fs _ is settles)
+
+pub returns-in-Ok-rise-clause-rests : goal.returns-in-Ok-rise-clause-rests
+returns-in-Ok-rise-clause-rests g c =
+    let told = g.V.Store.told in
+    let may = g.V.Store.may_leave in
+    let x = c.in-Ok.found in
+    let r = c.in-Ok-settle.resting in
+    let core = c.in-Ok-rise.core in
+    let gs = core.regions.items in
+    let s = c.settle.new.store in
+    let risen = subst (λ ws. IsRisen r ws c.args.limit s gs core.system core.vault) c.deref.ensures.value c.in-Ok-rise.ensures.core in
+    let begins = subst (λ ws. RunBegins told may g.V.Store.faults r ws c.args.limit gs core.system.state core.vault) c.deref.ensures.value c.in-Ok-rise.ensures.begins in
+    if_some_two _ _ _ (told c.args.store) c.in-Ok.ensures.ok (if_some_same _ _ _ c.read.ensures.reads.same c.in-Ok-settle.ensures.settles)
+    (λ fs is settles. rests_then told may g.V.Store.faults c.args.limit c.requires.limit x r s gs core.system core.vault risen begins fs _ is settles)
+
+pub returns-in-Ok-rise-clause-any_moment : goal.returns-in-Ok-rise-clause-any_moment
+returns-in-Ok-rise-clause-any_moment g c =
+    let s = c.settle.new.store in
+    subst (IsLeft g.V.Store.told g.V.Store.may_leave g.V.Store.moment g.V.Store.left_since g.V.Store.faults g.V.Store.lets_pass c.args.store) (sym (ap (λ v. v.store) c.in-Ok-rise.ensures.core.vault))
+    (left_settling g.V.Store.told g.V.Store.may_leave g.V.Store.moment g.V.Store.left_since g.V.Store.faults g.V.Store.lets_pass c.args.store c.read.new.store s (g.met.V.Store.counts_now s) (g.met.V.Store.reads_now s)
+    c.read.ensures.reads c.in-Ok.found c.in-Ok.ensures.ok c.settle.ensures.any_moment c.settle.ensures.tells c.read.ensures.later c.settle.ensures.later c.read.ensures.passes c.settle.ensures.passes)
+
+pub returns-in-Ok-rise-clause-idle : goal.returns-in-Ok-rise-clause-idle
+returns-in-Ok-rise-clause-idle g c =
+    if_some_each _ _ (g.V.Store.told c.args.store) c.in-Ok.ensures.ok
+    (λ fs is F spells finds rests.
+    subst (OnlyReads g.V.Store.told g.V.Store.moment g.V.Store.left_since g.V.Store.may_leave c.args.store)
+    (sym (ap (λ v. v.store) c.in-Ok-rise.ensures.core.vault ∙ c.settle.ensures.idle (rests_idle fs F c.in-Ok.found spells finds is.reads rests))) c.read.ensures.reads)

@@ -1,0 +1,164 @@
+-- What a restart answers, and what it leaves.
+--     outcome gs r             the words of a core's regions, with the two lists of its report
+--     BeginsAt fs s F          the disk has these files, of the sizes s, before the first record behind its current image, which is theirs
+--     IsReadAs fs o            the log from that image's place on is one of batches to its end, and this is their answer (verdict_over)
+--     IsBadTail, IsBadAnywhere     the disk is bad at this place: in the log from the image's place on; or before that
+--     told_by F                what the log of the files F says: the recovered words, and the lists of the recovered epoch, if a record stands behind the image
+--     Gives fs o               so the answer is, where the disk spells files that are found (FindsIt); and of a history the words have the survivors' records
+--     IsOnWay F G              the files G come of the restart of F: their log is that of F, or has one record more, that of the restart; they say the same
+--     SpellsOnWay F c          the disk c spells such files
+--     LeavesAtRest fs c        so it does where fs spells files that are found, and no record stands behind their image, or one of a restart alone
+--     StopsAlike fs old new    a crash at any moment leaves what it might have left before, or such a disk, where fs spells files that are found
+--     StaysIdle fs old new     where they have no record behind their image, or one of a restart alone, the store is only read
+--     IsLeft old new           what a crash at any moment leaves, and what else is so whatever is answered
+--     IsFresh                  a core that was just made: no operation, transaction or lock, and a vault that runs
+--     BeginsRun                a run begins with it, over the log of these files or that with the record of the restart
+use Rattle.std.specs.Prelude.{◌≡◌, ◌⊎◌, ◌≤◌, ◌<◌, ℕ, Bool, List, [], ◌∷◌, Option, Some, IfSome, is_some, if◌then◌else◌, nat_lt, drop, length, map}
+use Rattle.std.specs.List.{AllByRecursion}
+use Rattle.dali_geometry.specs.Sizes.{Sizes}
+use Rattle.dali_record.specs.declared.records.Record.{Record}
+use Rattle.dali_record.specs.declared.records.Record.TheVariants.{Restarted}
+use Rattle.dali_record.specs.Blocks.{AreWords}
+use Rattle.dali_record.specs.Damage.{rolled_list, deleted_list}
+use Rattle.dali_record.specs.Epochs.{recovered_epoch}
+use Rattle.dali_record.specs.Files.{Files}
+use Rattle.dali_record.specs.Legal.{Rules, rules_state, sizes_of}
+use Rattle.dali_history.specs.History.{HasExpected, IsHistory}
+use Rattle.dali_history.specs.Recovered.{recovered}
+use Rattle.dali_region.specs.declared.Side.{Side}
+use Rattle.dali_region.specs.State.{RegionState}
+use Rattle.dali_store.specs.declared.store.FileName.{FileName}
+use Rattle.dali_store.specs.declared.store.FileName.TheVariants.{Log}
+use Rattle.dali_store.specs.Store.{Files as Disk, LeavesOnly}
+use Rattle.dali_store.specs.Calls.{PassesFewer}
+use Rattle.dali_batch.specs.Log.{TailOf}
+use Rattle.dali_batch.specs.Reads.{OnlyReads}
+use Rattle.dali_batch.specs.Stream.{Reading}
+use Rattle.dali_system.specs.State.{SystemState}
+use Rattle.dali_system.specs.Images.{Told}
+use Rattle.dali_system.specs.Run.{log_in}
+use Rattle.dali_core.specs.Served.{Served}
+use Rattle.dali_crash.specs.Checkpoints.{Head}
+use Rattle.dali_crash.specs.Traces.{start_point}
+use Rattle.dali_traces.specs.Disks.{Spells, head_of}
+use Rattle.dali_vault.specs.Vaulted.{Vaulted}
+use Rattle.dali_whole.specs.Cores.{IsCoreAt}
+use Rattle.dali_image.specs.Laws.{CanBeTable, header_of, table_of}
+use Rattle.dali_resume.specs.Again.{Outcome, closed_log}
+use Rattle.dali_resume.specs.Batches.{verdict_over}
+use Rattle.dali_resume.specs.Onward.{HandedOut}
+use Rattle.dali_again.specs.Found.{FindsIt}
+use Rattle.dali_reload.specs.Reading.{FailsAt, IsBadBehind}
+use Rattle.dali_rise.specs.declared.rising.Resting.{Resting}
+use Rattle.dali_rise.specs.Risen.{IsRisen, start_at}
+use Rattle.dali_restart.specs.declared.restarting.Report.{Report}
+use Rattle.dali_restart.specs.Opening.{IsBadStore, IsOpened}
+
+abbrev pub outcome : List RegionState → Report → Outcome
+outcome gs r = record { image = map (λ g. g.words) gs; rolled = r.rolled_back.items; deleted = r.deleted.items }
+
+-- ---- any files
+-- whatever their batches are
+pub record BeginsAt (fs : Disk) (s : Sizes) (F : Files) : Type 0 where
+  pub reader : Reading
+  pub opened : IsOpened fs s F.gates (header_of s (head_of F)) F.image (table_of F.table) reader
+  pub rows : CanBeTable s F.next F.table
+  pub words : AllByRecursion AreWords F.image
+
+pub record IsReadAs (fs : Disk) (o : Outcome) : Type 0 where
+  pub sizes : Sizes
+  pub files : Files
+  pub image : BeginsAt fs sizes files
+  pub batches : List (List Record)
+  pub end : ℕ
+  pub log : TailOf fs.log files.place batches end
+  pub verdict : verdict_over sizes files batches ≡ HandedOut o
+
+pub record IsBadTail (fs : Disk) (file : FileName) (at : ℕ) : Type 0 where
+  pub sizes : Sizes
+  pub files : Files
+  pub image : BeginsAt fs sizes files
+  pub name : file ≡ Log
+  pub bad : IsBadBehind fs.log sizes files at ⊎ FailsAt fs.log sizes files at
+
+abbrev pub IsBadAnywhere : Disk → FileName → ℕ → Type 0
+IsBadAnywhere fs file at = IsBadStore fs file at ⊎ IsBadTail fs file at
+
+-- ---- files that are found
+-- where no record is read, no lists are known
+abbrev pub told_list : Files → List ℕ → List ℕ
+told_list F ts = if nat_lt F.first (length (log_in F)) then ts else []
+
+abbrev pub told_by : Files → Outcome
+told_by F = let L = log_in F in record {
+  image = recovered (sizes_of L) L;
+  rolled = told_list F (rolled_list (recovered_epoch L));
+  deleted = told_list F (deleted_list (recovered_epoch L));
+}
+
+pub record IsTold (F : Files) (o : Outcome) : Type 0 where
+  pub told : o ≡ told_by F
+  pub records : IsHistory (log_in F) → HasExpected (log_in F) o.image
+
+abbrev pub Gives : Disk → Outcome → Type 0
+Gives fs o = (F : Files) → Spells fs F → FindsIt F → IsTold F o
+
+-- ---- what is left
+abbrev pub GoesOnFrom : List Record → List Record → Type 0
+GoesOnFrom L M = (M ≡ L) ⊎ (M ≡ closed_log L)
+
+pub record IsOnWay (F G : Files) : Type 0 where
+  pub finds : FindsIt G
+  pub log : GoesOnFrom (log_in F) (log_in G)
+  pub told : told_by G ≡ told_by F
+  pub history : IsHistory (log_in F) → IsHistory (log_in G)
+
+abbrev pub SpellsOnWay : Files → Disk → Type 0
+SpellsOnWay F c = (G : Files) × Spells c G × IsOnWay F G
+
+abbrev pub IsAtRest : Files → Type 0
+IsAtRest G = (drop G.first (log_in G) ≡ []) ⊎ ((rs ds : List ℕ) × (drop G.first (log_in G) ≡ Restarted rs ds ∷ []))
+
+abbrev pub LeavesAtRest : Disk → Disk → Type 0
+LeavesAtRest fs c = (F : Files) → Spells fs F → FindsIt F → (G : Files) × Spells c G × IsOnWay F G × IsAtRest G
+
+module _ {V : Type 0} (may_leave : V → Disk → Type 0) (moment : V → ℕ) (left_since : V → ℕ → Disk → Type 0) where
+  -- what might have been left before, as where a sync is cut short; or what says the same as the files that reads gave
+  abbrev pub StopsAlike : Disk → V → V → Type 0
+  StopsAlike fs old new = (F : Files) → Spells fs F → FindsIt F → LeavesOnly moment left_since old new (λ c. may_leave old c ⊎ SpellsOnWay F c)
+
+module _ {V : Type 0} (told : V → Option Disk) (may_leave : V → Disk → Type 0) (moment : V → ℕ) (left_since : V → ℕ → Disk → Type 0) where
+  abbrev pub StaysIdle : Disk → V → V → Type 0
+  StaysIdle fs old new = (F : Files) → Spells fs F → FindsIt F → IsAtRest F → OnlyReads told moment left_since may_leave old new
+
+module _ {V : Type 0} (told : V → Option Disk) (may_leave : V → Disk → Type 0) (moment : V → ℕ) (left_since : V → ℕ → Disk → Type 0) (faults : V → ℕ) (lets_pass : V → Option ℕ) where
+  pub record IsLeft (old new : V) : Type 0 where
+    pub any_moment : IfSome (told old) (λ fs. StopsAlike may_leave moment left_since fs old new)
+    -- and so reads the store that comes back
+    pub comes_back : IfSome (told old) (λ fs. IfSome (told new) (λ gs. (F : Files) → Spells fs F → FindsIt F → SpellsOnWay F gs))
+    pub tells : is_some (told new) ≡ is_some (told old)
+    pub later : faults old ≤ faults new
+    pub passes : PassesFewer (lets_pass old) (lets_pass new)
+
+-- ---- the core
+pub record IsFresh {V : Type 0} (limit : ℕ) (gs : List RegionState) (y : Served) (v : Vaulted V) : Type 0 where
+  pub resting : Resting
+  pub words : List (List ℕ)
+  pub risen : IsRisen resting words limit v.store gs y v
+
+module _ {V : Type 0} (told : V → Option Disk) (may_leave : V → Disk → Type 0) (faults : V → ℕ) where
+  pub record RunsFrom (limit : ℕ) (F : Files) (gs : List RegionState) (y : SystemState) (v : Vaulted V) : Type 0 where
+    pub log : List Record
+    pub goes_on : GoesOnFrom (log_in F) log
+    pub history : IsHistory (log_in F) → IsHistory log
+    -- no checkpoint was made of a log of the format alone: so each disk's files have their image's place (HasPlace)
+    pub begun : (v.current ≡ 0) ⊎ (1 < length log)
+    pub rules : Rules
+    pub allowed : rules_state (sizes_of log) log ≡ Some rules
+    pub batches : List (List Record)
+    -- whatever it takes the words, heads and syncs of the image files for, which aren't read before a checkpoint
+    pub begins : (words : Told) (heads : Side → Head) (synced : Side → Bool)
+        → let start = start_at told may_leave faults log rules limit v words heads synced in IsCoreAt told may_leave faults start batches (start_point start) gs y v
+
+  abbrev pub BeginsRun : ℕ → Disk → List RegionState → SystemState → Vaulted V → Type 0
+  BeginsRun limit fs gs y v = (F : Files) → Spells fs F → FindsIt F → RunsFrom limit F gs y v
