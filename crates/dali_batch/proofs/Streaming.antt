@@ -10,7 +10,7 @@ use Rattle.dali_batch.specs.Batch.{batch, IsClosedAt}
 use Rattle.dali_batch.specs.Finding.{BatchAt, IsBad}
 use Rattle.dali_batch.specs.Log.{body_bytes, records_in, LogOf, BadAt, IsRun, BadBehind, AreSpelled}
 use Rattle.dali_batch.specs.declared.reader.Placed.{Placed}
-use Rattle.dali_batch.specs.Stream.{Reading, Covers, IsWindow, IsWithin, IsReadFrom, IsReadTo, is_first, HandsOut, GoesOn, EndsAt, IsBadFrom, Stays, Keeps}
+use Rattle.dali_batch.specs.Stream.{Reading, Covers, IsWindow, IsWithin, IsReadFrom, IsReadTo, is_first, place_of, HandsOut, GoesOn, EndsAt, IsBadFrom, Stays, Keeps}
 use Rattle.dali_batch.proofs.Bodies.{spelled_push, bytes_push}
 use Rattle.dali_batch.proofs.Fronts.{empty_run, run_push, front_of_run, format_more, records_push, bad_behind, log_ends}
 
@@ -100,7 +100,13 @@ module _ (log : List ℕ) (r s : Reading) where
 
   -- no batch stands there
   pub bad_batch : (bad : ℕ) → r.at ≡ r.end → IsBad log r.end bad → IsBadFrom log r bad
-  bad_batch bad e is = λ start front done read. record { place = r.end; good = (between_of start front done read e).0; bad = inl is }
+  bad_batch bad e is = λ start front done read.
+      let b = between_of start front done read e in
+      (record { place = r.end; good = b.0; bad = inl is }, omega (arith, at_gate is, b.0.place))
+    where
+      at_gate : IsBad log r.end bad → bad ≤ r.end + 1
+      at_gate (inl p) = omega (arith, p.1)
+      at_gate (inr p) = omega (arith, p.1)
 
   -- one more batch
   pub batch_begun : (body : List ℕ) (size : ℕ) → r.at ≡ r.end → BatchAt log r.end body → length body ≡ size → s.body ≡ r.end + 5 → s.at ≡ r.end + 5 → s.end ≡ r.end + 5 + size → 0 < size → (IsWindow log r → IsWindow log s) → Stays log r s
@@ -178,21 +184,23 @@ module _ (log : List ℕ) (r : Reading) (start : ℕ) (front : List (List Record
       ∙ rest_of log within.body (body_bytes done) within.begins.0 within.place within.batch within.begins.1
 
   -- no record begins there
-  pub bad_record : (part : List ℕ) → part ≡ take (r.end - r.at) (drop (r.at - r.from) r.bytes) → ((x : Record) → Begins part x → ⊥) → BadBehind log start front r.at
+  pub bad_record : (part : List ℕ) → part ≡ take (r.end - r.at) (drop (r.at - r.from) r.bytes) → ((x : Record) → Begins part x → ⊥) → BadBehind log start front r.at × (r.at ≤ place_of start front done)
   bad_record part e none =
       let rest = within.begins.0 in
-      let some : 0 < length rest = omega (arith, rest_long, lt) in
-      record {
-        place = within.place;
-        good = within.good;
-        bad = inr (
-          within.body,
-          length (body_bytes done),
-          within.batch,
-          (done, rest, within.spelled, within.begins.1, refl, some, subst (λ (l : List ℕ). (x : Record) → Begins l x → ⊥) (rest_is part e) none),
-          within.reached,
-        );
-      }
+      let some : 0 < length rest = omega (arith, rest_long, lt) in (
+        record {
+          place = within.place;
+          good = within.good;
+          bad = inr (
+            within.body,
+            length (body_bytes done),
+            within.batch,
+            (done, rest, within.spelled, within.begins.1, refl, some, subst (λ (l : List ℕ). (x : Record) → Begins l x → ⊥) (rest_is part e) none),
+            within.reached,
+          );
+        },
+        omega (arith, within.reached, within.good.place),
+      )
 
   -- whether the next one is the first of its batch
   first_of : (rs : List Record) → done ≡ rs → (b : Bool) → (b ≡ true ↔ r.at ≡ r.body) → b ≡ is_first rs
@@ -283,4 +291,4 @@ read_all log r s ends rs read =
     )
 
 pub read_bad : (log : List ℕ) (r : Reading) (bad : ℕ) → IsBadFrom log r bad → (rs : List Record) → IsReadTo log r rs → BadAt log bad
-read_bad log r bad is rs read = bad_behind log read.front bad read.format (is 0 read.front read.done read.read)
+read_bad log r bad is rs read = bad_behind log read.front bad read.format (is 0 read.front read.done read.read).0

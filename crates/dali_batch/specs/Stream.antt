@@ -9,7 +9,7 @@
 --     HandsOut log start front done given s  it hands out a record with its place, and goes on behind it
 --     GoesOn log r given s    so it does, whatever it has handed out
 --     EndsAt log r s          the log ends there, and the reader may go on at a place
---     IsBadFrom log r bad     the log is bad, and this is the first bad place
+--     IsBadFrom log r bad     the log is bad, this is the first bad place, and no record that wasn't handed out stands before it
 --     Stays log r s           it goes on where it was
 --     IsReadTo log r rs       these are the records that it has handed out, from the first batch of the file on
 --     HasBatch log p size     a batch stands at this place, whose body has this size
@@ -80,7 +80,7 @@ abbrev pub EndsAt : List ℕ → Reading → Reading → Type 0
 EndsAt log r s = (start : ℕ) (front : List (List Record)) (done : List Record) → IsReadFrom log start front done r → (done ≡ []) × TailOf log start front s.at × IsWindow log s
 
 abbrev pub IsBadFrom : List ℕ → Reading → ℕ → Type 0
-IsBadFrom log r bad = (start : ℕ) (front : List (List Record)) (done : List Record) → IsReadFrom log start front done r → BadBehind log start front bad
+IsBadFrom log r bad = (start : ℕ) (front : List (List Record)) (done : List Record) → IsReadFrom log start front done r → BadBehind log start front bad × (bad ≤ place_of start front done)
 
 abbrev pub Stays : List ℕ → Reading → Reading → Type 0
 Stays log r s = (start : ℕ) (front : List (List Record)) (done : List Record) → IsReadFrom log start front done r → IsReadFrom log start front done s

@@ -129,8 +129,8 @@ impl Plan {
         (key_of(&self.call), mode)
     }
 
-    // Whether it takes back.
-    fn is_back(&self) -> bool
+    /// Whether its next operation takes back a change of the call, and doesn't go on with it.
+    pub fn is_back(&self) -> bool
         ensures { result ≡ Plans.is_back self.now }
     {
         match self.phase {

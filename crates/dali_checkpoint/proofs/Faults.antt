@@ -21,10 +21,12 @@ use Rattle.dali_steps.proofs.Steps.{quiet_goes, head_faults, copy_faults, sync_f
 use Rattle.dali_whole.specs.Cores.{IsCoreAt}
 use Rattle.dali_whole.specs.Flushed.{FailsFrame, AllFlushed}
 use Rattle.dali_whole.proofs.Flushing.{flushes_all, flush_fails}
+use Rattle.dali_checkpoint.specs.Kept.{Checkpointed, side_in}
 use Rattle.dali_checkpoint.specs.Done.{IsLost}
+use Rattle.dali_checkpoint.specs.Running.{IsCopying}
 use Rattle.dali_checkpoint.specs.declared.error.CheckpointError.{CheckpointError}
 use Rattle.dali_checkpoint.specs.declared.error.CheckpointError.TheVariants.{Failed, InProgress, Stopped, LogFull, Fault, OutOfMemory}
-use Rattle.dali_checkpoint.specs.Laws.{Ends, StartFaults, CopyFaults, SettleFaults, CertifyFaults, FailureEnds, GivesUp}
+use Rattle.dali_checkpoint.specs.Laws.{Ends, StartFaults, CopyFaults, RunFaults, SettleFaults, CertifyFaults, FailureEnds, GivesUp}
 use Rattle.dali_checkpoint.proofs.Calls.{course_join, untouched_now, flush_ran, start_keeps, KeptAt, side_is_next, copying_flushed, CopyingFlushed, settled_flushed, SettledFlushed, certify_turn, CertifyTurn}
 
 module _ {V : Type 0} (told : V → Option Disk) (may_leave : V → Disk → Type 0) (faults : V → ℕ) where
@@ -153,6 +155,18 @@ module _ {V : Type 0} (told : V → Option Disk) (may_leave : V → Disk → Typ
       (record { at = ap (λ l. slice_get l c.copied) k.at.regions ∙ at; under_way = ap is_some k.is.begun; dirty = subst (λ z. is_dirty g z ≡ true) side dirty; untouched = untouched_now p.log c.copied })
       (subst (λ z. WriteHasFailed told may_leave faults v (image_name z) (place_of c.copied) (length (words_bytes g.back)) w) side said) in
       fault s B p gs y v w (CopyFails c.copied [] (faults w.store)) k.at goes (ap (λ (q : Point). q.core.regions) goes.step.4) (ap (λ (q : Point). q.core.system) goes.step.4) said.vault
+
+  -- a write of any bytes
+  range_faults : (s : Start) (B : List (List Record)) (p : Point) (gs : List RegionState) (y : SystemState) (v w : Vaulted V) (c : Checkpointed) (h : Head) (place n : ℕ) → IsCopying told may_leave faults s B p gs y v c h
+      → WriteHasFailed told may_leave faults v (image_name (side_in c)) place n w → Ends told may_leave faults s p gs y w
+  range_faults s B p gs y v w c h place n k said =
+      let goes = head_faults told may_leave faults s B p v w h place n k.at.vault (ap is_some k.is.begun)
+      (subst (λ side. WriteHasFailed told may_leave faults v (image_name side) place n w) (side_is_next told may_leave faults s B p gs y v c h k.at.vault.run k.is) said) in
+      fault s B p gs y v w (HeadFails h (faults w.store)) k.at goes (ap (λ (q : Point). q.core.regions) goes.step.1) (ap (λ (q : Point). q.core.system) goes.step.1) said.vault
+
+  -- a run
+  pub run_faults_end : RunFaults told may_leave faults
+  run_faults_end s B p gs y v w c h k said = range_faults s B p gs y v w c h _ _ k said
 
   -- ---- a settlement
   pub settle_faults : SettleFaults told may_leave faults

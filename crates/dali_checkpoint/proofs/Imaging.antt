@@ -23,7 +23,8 @@ use Rattle.dali_whole.specs.Cores.{HoldsPlaces}
 use Rattle.dali_whole.specs.Moments.{flush_calls}
 use Rattle.dali_checkpoint.specs.Kept.{Checkpointed, side_in, cause_of}
 use Rattle.dali_checkpoint.specs.Done.{Reaches, IsNoShorter, Writes, FailsToWrite}
-use Rattle.dali_checkpoint.specs.Making.{failing_in, with_audit, dirty_in, hold_on, checkpoint_error, SameTable, SameLog, AuditLeft, AuditRefused, AuditGoes, AuditFails, ImageGoes, HasCopied, HasNotCopied, HasImage, NoImageBy, HasNoImage}
+use Rattle.dali_checkpoint.specs.Runs.{runs_in}
+use Rattle.dali_checkpoint.specs.Making.{failing_in, with_audit, hold_on, checkpoint_error, SameTable, SameLog, AuditLeft, AuditRefused, AuditGoes, AuditFails, ImageGoes, HasCopied, HasNotCopied, HasImage, NoImageBy, HasNoImage}
 use Rattle.dali_checkpoint.specs.declared.error.CheckpointError.{CheckpointError}
 use Rattle.dali_checkpoint.specs.declared.error.CheckpointError.TheVariants.{Fault}
 use Rattle.dali_checkpoint.proofs.Lengths.{places_stay}
@@ -212,7 +213,7 @@ module _ {V : Type 0} (told : V → Option Disk) (may_leave : V → Disk → Typ
         end = omega (arith, grows, copied_end);
         kept = writes_kept told may_leave faults y u w (image_name (side_in d)) (place_of d.copied) d.table said ∙ k.kept;
         tells = said.written.ok.tells ∙ (said.flushed.2.ok.tells ∙ k.tells);
-        calls = calls_then (dirty_in (side_in c) gs) (flush_calls y + 1) (lets_pass v.store) (lets_pass u.store) (lets_pass w.store) k.calls calls;
+        calls = calls_then (runs_in (side_in c) gs) (flush_calls y + 1) (lets_pass v.store) (lets_pass u.store) (lets_pass w.store) k.calls calls;
         room = same_refusal ∙ room;
         places = subst (λ (rs : List RegionState). IfSome (told w.store) (HoldsPlaces rs)) (sym checks) (places_checked (told w.store) ks settled_places);
         goes =

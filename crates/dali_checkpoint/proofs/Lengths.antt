@@ -1,8 +1,8 @@
 -- No image file becomes shorter, so what it reaches it goes on to reach.
-use Rattle.std.proofs.Common.{◌≡◌, ℕ, ◌+◌, ◌≤◌, Bool, true, false, List, length, Option, Some, None, IfSome, refl, ap, sym, subst, ◌∙◌, ⊎_elim, arith, length-append, inl, inr}
+use Rattle.std.proofs.Common.{◌≡◌, ℕ, ◌+◌, ◌-◌, ◌<◌, ◌≤◌, Bool, true, false, List, length, Option, Some, None, IfSome, refl, ap, sym, subst, ◌∙◌, ⊎_elim, arith, length-append, inl, inr}
 use Rattle.std.specs.Prelude.{◌⊎◌, ◌++◌, take, drop, slice_get, slice_set}
-use Rattle.std.proofs.lemmas.List.{length-take-le}
-use Rattle.dali_counts.proofs.Lists.{set_cases}
+use Rattle.std.proofs.lemmas.List.{length-take-le, length-drop}
+use Rattle.dali_counts.proofs.Lists.{set_cases, found}
 use Rattle.dali_region.specs.declared.Side.{Side}
 use Rattle.dali_region.specs.declared.Side.TheVariants.{A, B}
 use Rattle.dali_region.specs.State.{RegionState}
@@ -15,6 +15,9 @@ use Rattle.dali_traces.specs.Places.{place_of}
 use Rattle.dali_vault.specs.Vaulted.{Vaulted}
 use Rattle.dali_whole.specs.Cores.{HoldsPlaces}
 use Rattle.dali_checkpoint.specs.Done.{NoShorter, Reaches}
+use Rattle.dali_checkpoint.specs.Runs.{is_first_dirty, run_of, change}
+use Rattle.dali_checkpoint.proofs.Pieces.{change_cases, run_clean, run_length, run_some}
+use Rattle.dali_checkpoint.proofs.Results.{place_there}
 
 pub same_length : (o p : Option Disk) → p ≡ o → NoShorter o p
 same_length (Some a) (Some b) e = λ side. let one : b ≡ a = cc in subst (λ (z : Disk). length (image_file side a) ≤ length (image_file side z)) (sym one) (omega arith)
@@ -100,6 +103,39 @@ copied_places (Some a) (Some b) gs r side g at long there holds = copied_place g
 copied_places (Some a) None gs r side g at long there holds = tt
 copied_places None (Some b) gs r side g at long there holds = absurd (cc)
 copied_places None None gs r side g at long there holds = tt
+
+-- ---- a run of regions that was copied
+copied_run : (gs : List RegionState) (i n : ℕ) (side : Side) (a b : Disk) → ((s : Side) → length (image_file s a) ≤ length (image_file s b)) → place_of (i + n) ≤ length (image_file side b)
+    → HoldsPlaces gs a → HoldsPlaces (change (cleaned side) i n gs) b
+copied_run gs i n side a b long there holds s r h at clean =
+    let k = change_cases (cleaned side) i n gs r h at in
+    ⊎_elim (λ e. of_side k.0 k.1 e.0 (clean_cases side s k.0 (ap (λ z. is_dirty z s) (sym e.1) ∙ clean)))
+    (λ e. omega (arith, long s, holds s r k.0 k.1 (ap (λ z. is_dirty z s) (sym e) ∙ clean))) k.2
+  where
+    of_side : (g : RegionState) → slice_get gs r ≡ Some g → r < i + n → (s ≡ side) ⊎ (is_dirty g s ≡ false) → place_of (r + 1) ≤ length (image_file s b)
+    of_side g is lt same = ⊎_elim
+        (λ e. let far : place_of (i + n) ≤ length (image_file s b) = subst (λ z. place_of (i + n) ≤ length (image_file z b)) (sym e) there in omega (arith, far, lt))
+        (λ other. omega (arith, long s, holds s r g is other)) same
+
+pub run_places : (o p : Option Disk) (gs : List RegionState) (i n : ℕ) (side : Side) → NoShorter o p → IfSome p (λ fs. place_of (i + n) ≤ length (image_file side fs))
+    → IfSome o (HoldsPlaces gs) → IfSome p (HoldsPlaces (change (cleaned side) i n gs))
+run_places (Some a) (Some b) gs i n side long there holds = copied_run gs i n side a b long there holds
+run_places (Some a) None gs i n side long there holds = tt
+run_places None (Some b) gs i n side long there holds = absurd (cc)
+run_places None None gs i n side long there holds = tt
+
+-- where its flags were clear
+pub clear_reaches : (o : Option Disk) (gs : List RegionState) (i : ℕ) (side : Side) → i < length gs → is_first_dirty side (drop i gs) ≡ false → IfSome o (HoldsPlaces gs)
+    → IfSome o (λ fs. place_of (i + run_of side (drop i gs)) ≤ length (image_file side fs))
+clear_reaches o gs i side lt clean holds =
+    subst (λ n. IfSome o (λ fs. place_of n ≤ length (image_file side fs))) (let e : i + (run_of side (drop i gs) - 1) + 1 ≡ i + run_of side (drop i gs) = omega (arith, some) in e)
+    (place_there o gs side (i + (run_of side (drop i gs) - 1)) last.0 last.1 holds (run_clean side i gs clean (run_of side (drop i gs) - 1) last.0 (omega (arith, some)) last.1))
+  where
+    some : 0 < run_of side (drop i gs)
+    some = run_some side (drop i gs) (omega (arith, length-drop i gs, lt))
+
+    last : (g : RegionState) × (slice_get gs (i + (run_of side (drop i gs) - 1)) ≡ Some g)
+    last = found gs (i + (run_of side (drop i gs) - 1)) (omega (arith, some, run_length side (drop i gs), length-drop i gs, lt))
 
 -- ---- bytes that were written
 held_length : (at : ℕ) (bytes old new : List ℕ) → at ≤ length old → Holds old at bytes new → at + length bytes ≤ length new

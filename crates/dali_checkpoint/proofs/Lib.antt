@@ -6,6 +6,9 @@ pub mod Audited
 pub mod Others
 pub mod Faults
 pub mod Walks
+pub mod Pieces
+pub mod Splits
+pub mod Far
 pub mod Passing
 pub mod Results
 pub mod Joined

@@ -1,7 +1,8 @@
 -- A whole checkpoint: what its start, its image and its end leave, joined.
-use Rattle.std.proofs.Common.{◌≡◌, ℕ, ◌+◌, Bool, true, false, List, [], ◌∷◌, length, map, drop, Option, Some, None, Result, Ok, Err, OnOk, OnErr, IfOk, IfSome, IfErr, IsSome, IsSomeAnd, ◌⊎◌, refl, ap, sym, subst, ◌∙◌, inl, inr, arith, ⊎_elim}
+use Rattle.std.proofs.Common.{◌≡◌, ℕ, ◌+◌, ◌-◌, ◌++◌, Bool, true, false, List, [], ◌∷◌, length, map, drop, Option, Some, None, Result, Ok, Err, OnOk, OnErr, IfOk, IfSome, IfErr, IsSome, IsSomeAnd, ◌⊎◌, refl, ap, sym, subst, ◌∙◌, inl, inr, arith, length-append, ⊎_elim}
 use Rattle.std.specs.Prelude.{IsErrOf}
 use Rattle.std.proofs.lemmas.List.Elements.{Contains-push}
+use Rattle.std.proofs.lemmas.List.{length-drop}
 use Rattle.dali_geometry.specs.Places.{regions}
 use Rattle.dali_record.specs.declared.records.Record.TheVariants.{AuditBegin}
 use Rattle.dali_region.specs.State.{RegionState}
@@ -21,7 +22,8 @@ use Rattle.dali_whole.specs.Cores.{HoldsPlaces, IsWholeCore}
 use Rattle.dali_whole.specs.Moments.{flush_calls}
 use Rattle.dali_checkpoint.specs.Kept.{Checkpointed, side_in, cause_of, given_up, IsEndOf}
 use Rattle.dali_checkpoint.specs.Done.{IsNoShorter, FailsToWrite, HasStarted, HasTurnedTo, FailsToTurn, IsKept, IsLost}
-use Rattle.dali_checkpoint.specs.Making.{failing_in, with_audit, behind_checkpoint, checkpointed, copied_to, dirty_in, checkpoint_calls, hold_on, SameTable, SameLog, BehindFailure, HasRun, HasNotMade, LeadsIdle, HasImage, NoImageBy, HasNoImage, HasMade, HasEndedBy}
+use Rattle.dali_checkpoint.specs.Runs.{runs_in}
+use Rattle.dali_checkpoint.specs.Making.{failing_in, with_audit, behind_checkpoint, checkpointed, copied_to, checkpoint_calls, hold_on, SameTable, SameLog, HasCounted, BehindFailure, HasRun, HasNotMade, LeadsIdle, HasImage, NoImageBy, HasNoImage, HasMade, HasEndedBy}
 use Rattle.dali_checkpoint.specs.declared.error.CheckpointError.{CheckpointError}
 use Rattle.dali_checkpoint.specs.declared.error.CheckpointError.TheVariants.{Failed, InProgress, Stopped, LogFull, Fault, OutOfMemory}
 use Rattle.dali_checkpoint.proofs.Lengths.{places_stay}
@@ -232,8 +234,8 @@ module _ {V : Type 0} (told : V → Option Disk) (may_leave : V → Disk → Typ
         regions = image_regions;
         system = after ∙ ap (λ (a : SystemState). in_checkpoint (taken a) false) (image_system ∙ ap (with_audit (taken (in_checkpoint (taken y) true))) clean);
         room = same_refusal ∙ k.room;
-        calls = calls_then (flush_calls y + 1 + (dirty_in (side_in c) gs + (flush_calls x + 1))) (flush_calls t + 5) (lets_pass v.store) (lets_pass m.store) (lets_pass w.store)
-            (calls_then (flush_calls y + 1) (dirty_in (side_in c) gs + (flush_calls x + 1)) (lets_pass v.store) (lets_pass u.store) (lets_pass m.store) first k.calls) last
+        calls = calls_then (flush_calls y + 1 + (runs_in (side_in c) gs + (flush_calls x + 1))) (flush_calls t + 5) (lets_pass v.store) (lets_pass m.store) (lets_pass w.store)
+            (calls_then (flush_calls y + 1) (runs_in (side_in c) gs + (flush_calls x + 1)) (lets_pass v.store) (lets_pass u.store) (lets_pass m.store) first k.calls) last
             ∙ ap (λ n. fewer n (lets_pass v.store)) all_calls;
         whole = whole_now z w (ap (λ (a : SystemState). a.sizes) after, ap (λ (a : SystemState). a.table) after) on;
         goes = certified_leads told may_leave faults gs hs y x z v u w c started is t m d j.failing k.goes now.0 said after;
@@ -242,9 +244,9 @@ module _ {V : Type 0} (told : V → Option Disk) (may_leave : V → Disk → Typ
           clean : failing_in gs ≡ []
           clean = sym failing_is ∙ now.0
 
-          all_calls : flush_calls y + 1 + (dirty_in (side_in c) gs + (flush_calls x + 1)) + (flush_calls t + 5) ≡ checkpoint_calls y (side_of (v.current + 1)) gs
+          all_calls : flush_calls y + 1 + (runs_in (side_in c) gs + (flush_calls x + 1)) + (flush_calls t + 5) ≡ checkpoint_calls y (side_of (v.current + 1)) gs
           all_calls =
-              let copies : dirty_in (side_in c) gs ≡ dirty_in (side_of (v.current + 1)) gs = ap (λ side. dirty_in side gs) started_side in
+              let copies : runs_in (side_in c) gs ≡ runs_in (side_of (v.current + 1)) gs = ap (λ side. runs_in side gs) started_side in
               let second : flush_calls x ≡ flush_calls (taken y) = ap flush_calls is in
               let third : flush_calls t ≡ flush_calls (with_audit (taken y) []) = ap flush_calls (image_system ∙ ap (with_audit (taken (in_checkpoint (taken y) true))) clean) in
               omega (arith, copies, second, third)
@@ -421,3 +423,14 @@ module _ {V : Type 0} (told : V → Option Disk) (may_leave : V → Disk → Typ
     pub made_stopped : (r : Result ℕ CheckpointError) → IfOk r Made → IfErr r Ended → y.checking ≡ false → IfSome (cause_of y v) (λ cause. r ≡ Err (Stopped cause))
     made_stopped (Ok n) k l idle = none_stops (λ c. ◌≡◌ {A = Result ℕ CheckpointError} (Ok n) (Err (Stopped c))) k.ran
     made_stopped (Err e) k l idle = stopped_is e l.by idle
+
+-- ---- behind a failure nothing waits
+counted_flushed : (y : SystemState) (found : List ℕ) (z : SystemState) → HasCounted y → BehindFailure y found z → z ≡ behind_checkpoint y found
+counted_flushed y found z counted (inl is) = is
+counted_flushed y found z counted (inr said) =
+    absurd (omega (arith, counted, ap length said.0, length-drop (y.records - y.first) ((y.since ++ AuditBegin ∷ []) ++ audit_record y.records found ∷ []), length-append (y.since ++ AuditBegin ∷ []) (audit_record y.records found ∷ []), length-append y.since (AuditBegin ∷ [])))
+
+pub failed_flushed : {V : Type 0} (faults : V → ℕ) (gs hs : List RegionState) (y z : SystemState) (v w : Vaulted V) (r : Result ℕ CheckpointError) → HasCounted y → IfErr r (λ e. HasNotMade faults gs y v e hs z w)
+    → IfErr r (λ e. (found : List ℕ) → e ≡ Failed found → z ≡ behind_checkpoint y found)
+failed_flushed faults gs hs y z v w (Ok number) counted err = tt
+failed_flushed faults gs hs y z v w (Err e) counted err = λ found is. counted_flushed y found z counted (subst (λ f. HasNotMade faults gs y v f hs z w) is err).4

@@ -3,7 +3,6 @@ use Rattle.std.proofs.Common.{◌≡◌, ℕ, ◌+◌, Bool, true, false, List, 
 use Rattle.dali_record.specs.declared.records.Record.{Record}
 use Rattle.dali_record.specs.Files.{Files}
 use Rattle.dali_region.specs.State.{RegionState}
-use Rattle.dali_region.specs.Answers.{is_dirty}
 use Rattle.dali_store.specs.Store.{Files as Disk, LeavesOnly}
 use Rattle.dali_system.specs.State.{SystemState}
 use Rattle.dali_system.specs.Steps.{taken, in_checkpoint}
@@ -20,6 +19,7 @@ use Rattle.dali_checkpoint.specs.Kept.{Checkpointed, side_in}
 use Rattle.dali_checkpoint.specs.Done.{HasStarted}
 use Rattle.dali_checkpoint.specs.Moments.{WriteLeaves, TurnLeaves}
 use Rattle.dali_checkpoint.specs.Running.{IsCopying, IsSettled, IsCertifiedAt}
+use Rattle.dali_checkpoint.specs.Runs.{is_run_dirty}
 use Rattle.dali_checkpoint.specs.Making.{SpellsOnward, StaysRight, CopiesStayRight, ImageStaysRight, HasCopied, HasImage}
 use Rattle.dali_checkpoint.proofs.Calls.{course_join}
 use Rattle.dali_checkpoint.proofs.Copying.{CopiesTo}
@@ -55,14 +55,14 @@ module _ {V : Type 0} (told : V → Option Disk) (may_leave : V → Disk → Typ
           let D = there (told v.store) _ e (crash_is_right told may_leave faults s B p v k.at.vault) d left in
           (D.0, D.1, record { to = p; steps = []; course = refl; same = refl; right = D.2 })
 
-  pub copies_right_next : (c0 : Checkpointed) (init : List RegionState) (v0 : Vaulted V) (i : ℕ) (c : Checkpointed) (gs : List RegionState) (v : Vaulted V) → CopiesTo told may_leave faults lets_pass c0 init v0 i c gs v
-      → (g : RegionState) (w : Vaulted V) (at n : ℕ) → CopiesStayRight told may_leave faults moment left_since init v0 c0 v
-      → (is_dirty g (side_in c) ≡ false → w ≡ v)
-      → (is_dirty g (side_in c) ≡ true → v.stopped ≡ false → LeavesOnly moment left_since v.store w.store (TornFrom (may_leave v.store) (image_name (side_in c)) at n))
+  pub copies_right_next : (c0 : Checkpointed) (init : List RegionState) (v0 : Vaulted V) (c : Checkpointed) (gs : List RegionState) (v : Vaulted V) → CopiesTo told may_leave faults lets_pass c0 init v0 c gs v
+      → (w : Vaulted V) (at n : ℕ) → CopiesStayRight told may_leave faults moment left_since init v0 c0 v
+      → (is_run_dirty c gs ≡ false → w ≡ v)
+      → (is_run_dirty c gs ≡ true → v.stopped ≡ false → LeavesOnly moment left_since v.store w.store (TornFrom (may_leave v.store) (image_name (side_in c)) at n))
       → CopiesStayRight told may_leave faults moment left_since init v0 c0 w
-  copies_right_next c0 init v0 i c gs v k g w at n before clean torn = by_flag (is_dirty g (side_in c)) refl
+  copies_right_next c0 init v0 c gs v k w at n before clean torn = by_flag (is_run_dirty c gs) refl
     where
-      by_flag : (b : Bool) → is_dirty g (side_in c) ≡ b → CopiesStayRight told may_leave faults moment left_since init v0 c0 w
+      by_flag : (b : Bool) → is_run_dirty c gs ≡ b → CopiesStayRight told may_leave faults moment left_since init v0 c0 w
       by_flag false e = subst (λ (x : Vaulted V). CopiesStayRight told may_leave faults moment left_since init v0 c0 x) (sym (clean e)) before
       by_flag true e = λ runs s B p y h is.
           let a = k.goes s B p y h is in

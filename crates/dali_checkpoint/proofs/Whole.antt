@@ -7,10 +7,8 @@ use Rattle.dali_geometry.specs.Places.{regions}
 use Rattle.dali_record.specs.declared.records.Record.{Record}
 use Rattle.dali_record.specs.declared.records.Record.TheVariants.{AuditBegin}
 use Rattle.dali_region.specs.State.{RegionState, checked}
-use Rattle.dali_region.specs.Answers.{is_dirty, cleaned}
 use Rattle.dali_traces.specs.Disks.{image_name}
 use Rattle.dali_traces.specs.Places.{place_of}
-use Rattle.dali_record.specs.Spelling.{words_bytes}
 use Rattle.dali_steps.specs.Said.{HasWritten, WriteHasFailed}
 use Rattle.dali_store.specs.Store.{Files as Disk}
 use Rattle.dali_system.specs.State.{SystemState}
@@ -20,7 +18,7 @@ use Rattle.dali_system.specs.Audits.{IsAuditing}
 use Rattle.dali_system.specs.Passes.{audits_with}
 use Rattle.dali_system.specs.Courses.{Takes, Flushes, AuditBegins, AuditEnds, Passes, IsStepAt, pass_now}
 use Rattle.dali_system.proofs.OpenAudits.{audit_starts}
-use Rattle.dali_crash.specs.Checkpoints.{Head, StoreStep, Does, Starts, Keeps as KeepsAll, Copies, Skips, WritesHead, Syncs, Turns, Finishes, Point, IsPointStep, IsPointCourse, copies_after, moment_of, side_of}
+use Rattle.dali_crash.specs.Checkpoints.{Head, StoreStep, Does, Starts, Keeps as KeepsAll, WritesHead, Syncs, Turns, Finishes, Point, IsPointStep, IsPointCourse, copies_after, moment_of, side_of}
 use Rattle.dali_crash.specs.StoreRuns.{FlagTells}
 use Rattle.dali_crash.specs.Traces.{Start, bases_of}
 use Rattle.dali_vault.specs.Vaulted.{Vaulted}
@@ -32,11 +30,13 @@ use Rattle.dali_audit.proofs.Stepping.{pass_is_step, end_is_step}
 use Rattle.dali_checkpoint.specs.Kept.{Checkpointed, side_in, given_up}
 use Rattle.dali_checkpoint.specs.Running.{IsIdle, IsSettled, IsCertifiedAt, PassesTell}
 use Rattle.dali_checkpoint.specs.Done.{Reaches, Writes, FailsToWrite, HasStarted, HasTurnedTo, FailsToTurn, HasEnded}
-use Rattle.dali_checkpoint.specs.Laws.{Ends, Keeps, Started}
+use Rattle.dali_checkpoint.specs.Runs.{run_at, is_run_dirty, run_bytes, behind_run, cleaned_run}
+use Rattle.dali_checkpoint.specs.Laws.{Ends, Keeps, Started, copy_steps, skip_steps}
 use Rattle.dali_checkpoint.specs.Making.{IdleAgain, LeadsIdle, CopiesGo, CopiesFail, AuditedAll, AuditGoes, AuditFails, ImageMade, ImageGoes, ImageFails, found_in, failing_in}
 use Rattle.dali_checkpoint.proofs.Walks.{walk, walk_get, walk_set, walk_all, map_self, map_none, map_length}
-use Rattle.dali_checkpoint.proofs.Calls.{course_join, runs_on_log, start_goes, copy_goes_on, skip_goes_on, settle_goes_on, certify_goes_on}
-use Rattle.dali_checkpoint.proofs.Faults.{more, nothing, start_faults, copy_faults_end, settle_faults, certify_faults, failure_ends, gives_up}
+use Rattle.dali_checkpoint.proofs.Calls.{course_join, runs_on_log, start_goes, settle_goes_on, certify_goes_on}
+use Rattle.dali_checkpoint.proofs.Far.{run_goes_on, run_skips_on}
+use Rattle.dali_checkpoint.proofs.Faults.{more, nothing, start_faults, run_faults_end, settle_faults, certify_faults, failure_ends, gives_up}
 use Rattle.dali_checkpoint.proofs.Results.{all_found}
 use Rattle.dali_checkpoint.proofs.Idle.{ends_idle, points_tell}
 use Rattle.dali_checkpoint.proofs.Audited.{audits_at}
@@ -215,28 +215,30 @@ module _ {V : Type 0} (told : V → Option Disk) (may_leave : V → Disk → Typ
   pub copies_none : (gs : List RegionState) (v : Vaulted V) (c : Checkpointed) → CopiesGo told may_leave faults gs v c gs v c
   copies_none gs v c s B p y h k = record { to = p; steps = []; course = refl; is = k }
 
-  pub copies_one : (gs hs : List RegionState) (v u w : Vaulted V) (c d : Checkpointed) (g : RegionState) → CopiesGo told may_leave faults gs v c hs u d
-      → slice_get hs d.copied ≡ Some g → is_dirty g (side_in d) ≡ true → HasWritten told may_leave faults u (image_name (side_in d)) (place_of d.copied) (words_bytes g.back) w
-      → CopiesGo told may_leave faults gs v c (slice_set hs d.copied (cleaned (side_in d) g)) w (record d { copied = d.copied + 1 })
-  copies_one gs hs v u w c d g goes at dirty said s B p y h k =
+  pub copies_run : (gs hs : List RegionState) (v u w : Vaulted V) (c d : Checkpointed) → CopiesGo told may_leave faults gs v c hs u d
+      → is_run_dirty d hs ≡ true → HasWritten told may_leave faults u (image_name (side_in d)) (place_of d.copied) (run_bytes d hs) w
+      → CopiesGo told may_leave faults gs v c (cleaned_run d hs) w (behind_run d hs)
+  copies_run gs hs v u w c d goes dirty said s B p y h k =
       let a = goes s B p y h k in
-      let b = copy_goes_on told may_leave faults s B a.to hs y u w d h g a.is at dirty said in
-      record { to = b.to; steps = a.steps ++ Copies d.copied (length a.to.log) ∷ []; course = course_join p a.to b.to a.steps (Copies d.copied (length a.to.log) ∷ []) a.course (b.to, b.step, refl); is = b.is }
+      let b = run_goes_on told may_leave faults s B a.to hs y u w d h a.is dirty said in
+      let steps : List StoreStep = copy_steps d.copied (run_at d hs) (length a.to.log) in
+      record { to = b.to; steps = a.steps ++ steps; course = course_join p a.to b.to a.steps steps a.course b.course; is = b.is }
 
-  pub copies_skip : (gs hs : List RegionState) (v u : Vaulted V) (c d : Checkpointed) (g : RegionState) → CopiesGo told may_leave faults gs v c hs u d
-      → slice_get hs d.copied ≡ Some g → is_dirty g (side_in d) ≡ false → Reaches told (side_in d) (d.copied + 1) u
-      → CopiesGo told may_leave faults gs v c hs u (record d { copied = d.copied + 1 })
-  copies_skip gs hs v u c d g goes at clean reaches s B p y h k =
+  pub copies_skip : (gs hs : List RegionState) (v u : Vaulted V) (c d : Checkpointed) → CopiesGo told may_leave faults gs v c hs u d
+      → is_run_dirty d hs ≡ false → Reaches told (side_in d) (d.copied + run_at d hs) u
+      → CopiesGo told may_leave faults gs v c hs u (behind_run d hs)
+  copies_skip gs hs v u c d goes clean reaches s B p y h k =
       let a = goes s B p y h k in
-      let b = skip_goes_on told may_leave faults s B a.to hs y u d h g a.is at clean reaches in
-      record { to = b.to; steps = a.steps ++ Skips d.copied (length a.to.log) ∷ []; course = course_join p a.to b.to a.steps (Skips d.copied (length a.to.log) ∷ []) a.course (b.to, b.step, refl); is = b.is }
+      let b = run_skips_on told may_leave faults s B a.to hs y u d h a.is clean reaches in
+      let steps : List StoreStep = skip_steps d.copied (run_at d hs) (length a.to.log) in
+      record { to = b.to; steps = a.steps ++ steps; course = course_join p a.to b.to a.steps steps a.course b.course; is = b.is }
 
-  pub copies_fail : (gs hs : List RegionState) (v u w : Vaulted V) (c d : Checkpointed) (g : RegionState) → CopiesGo told may_leave faults gs v c hs u d
-      → slice_get hs d.copied ≡ Some g → is_dirty g (side_in d) ≡ true → WriteHasFailed told may_leave faults u (image_name (side_in d)) (place_of d.copied) (length (words_bytes g.back)) w
+  pub copies_fail : (gs hs : List RegionState) (v u w : Vaulted V) (c d : Checkpointed) → CopiesGo told may_leave faults gs v c hs u d
+      → WriteHasFailed told may_leave faults u (image_name (side_in d)) (place_of d.copied) (length (run_bytes d hs)) w
       → CopiesFail told may_leave faults gs v c hs w
-  copies_fail gs hs v u w c d g goes at dirty said s B p y h k =
+  copies_fail gs hs v u w c d goes said s B p y h k =
       let a = goes s B p y h k in
-      more told may_leave faults s p a.to hs y w a.steps a.course (copy_faults_end told may_leave faults s B a.to hs y u w d h g a.is at dirty said)
+      more told may_leave faults s p a.to hs y w a.steps a.course (run_faults_end told may_leave faults s B a.to hs y u w d h a.is said)
 
   -- ---- the image
   pub image_goes : (gs ks hs : List RegionState) (y x z : SystemState) (v u w : Vaulted V) (c d e : Checkpointed) (found : List ℕ) → CopiesGo told may_leave faults gs v c ks u d

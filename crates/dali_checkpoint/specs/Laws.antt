@@ -1,14 +1,15 @@
 -- The calls of a checkpoint as steps of a run.
 --     StartGoes, CopyGoes, SkipGoes, SettleGoes, CertifyGoes       what each call leaves on Ok is behind steps, and the next call's premise holds there
+--     RunGoes, RunSkips        the same of a run of regions
 --     OthersKeep               between them steps of others keep it, those of an audit too
 --     FlushKeeps               and so does a flush of all records
 --     AuditsTell               an audit that began behind the settlement and ended clean certifies it
---     StartFaults, CopyFaults, SettleFaults, CertifyFaults, FailureEnds, GivesUp   what each leaves otherwise is behind steps too
+--     StartFaults, CopyFaults, RunFaults, SettleFaults, CertifyFaults, FailureEnds, GivesUp   what each leaves otherwise is behind steps too
 --     PointsTell, EndsIdle     at each of these points the flag tells whether a checkpoint is under way, so behind one that ended the next may start
 --     EndIsFar                 the log's end and the number of the current image are small enough for a whole checkpoint
 --     PlacesStay, PlacesGoOn   where the file of a side has the place of each region whose flag for that side is clear, it has so behind each call, and
 --                              behind a copy
-use Rattle.std.specs.Prelude.{◌≡◌, ℕ, ◌+◌, ◌<◌, ◌≤◌, ◌^◌, Bool, true, false, List, [], ◌∷◌, Option, Some, IfSome, length, slice_get, slice_set}
+use Rattle.std.specs.Prelude.{◌≡◌, ℕ, zero, suc, ◌+◌, ◌<◌, ◌≤◌, ◌^◌, Bool, true, false, List, [], ◌∷◌, Option, Some, IfSome, length, slice_get, slice_set}
 use Rattle.dali_geometry.specs.Places.{regions}
 use Rattle.dali_record.specs.declared.records.Record.{Record}
 use Rattle.dali_record.specs.Spelling.{words_bytes}
@@ -31,6 +32,7 @@ use Rattle.dali_whole.specs.Cores.{IsCoreAt, HoldsPlaces}
 use Rattle.dali_whole.specs.Flushed.{FlushesFrame}
 use Rattle.dali_checkpoint.specs.Kept.{Checkpointed, side_in, given_up}
 use Rattle.dali_checkpoint.specs.Done.{Reaches, IsNoShorter, Writes, FailsToWrite, HasStarted, HasTurnedTo, FailsToTurn, HasEnded}
+use Rattle.dali_checkpoint.specs.Runs.{run_at, is_run_dirty, run_bytes, behind_run, cleaned_run}
 use Rattle.dali_checkpoint.specs.Running.{PassesTell, IsCertifiedAt, IsIdle, IsCopying, IsSettled}
 
 -- ---- an audit behind the settlement: before its passes nothing is to be told, and a clean end certifies each copy
@@ -40,6 +42,15 @@ pub record AuditTells (p q : Point) (b : ℕ) : Type 0 where
 
 abbrev pub AuditsTell : Type 0
 AuditsTell = (p q : Point) (b : ℕ) → AuditTells p q b
+
+-- ---- the copies of n regions from r on, which hold the updates of the first k records
+abbrev pub copy_steps : ℕ → ℕ → ℕ → List StoreStep
+copy_steps r zero k = []
+copy_steps r (suc n) k = Copies r k ∷ copy_steps (r + 1) n k
+
+abbrev pub skip_steps : ℕ → ℕ → ℕ → List StoreStep
+skip_steps r zero k = []
+skip_steps r (suc n) k = Skips r k ∷ skip_steps (r + 1) n k
 
 module _ {V : Type 0} (told : V → Option Disk) (may_leave : V → Disk → Type 0) (faults : V → ℕ) where
   -- ---- a start
@@ -78,6 +89,25 @@ module _ {V : Type 0} (told : V → Option Disk) (may_leave : V → Disk → Typ
       → IsCopying told may_leave faults s B p gs y v c h
       → slice_get gs c.copied ≡ Some g → is_dirty g (side_in c) ≡ false → Reaches told (side_in c) (c.copied + 1) v
       → Went s B p (Skips c.copied (length p.log)) gs y v (record c { copied = c.copied + 1 }) h
+
+  -- ---- a run, by one call of the store
+  pub record WentOver (s : Start) (B : List (List Record)) (p : Point) (xs : List StoreStep) (gs : List RegionState) (y : SystemState) (w : Vaulted V) (c : Checkpointed) (h : Head) : Type 0 where
+    pub to : Point
+    pub course : IsPointCourse p xs to
+    pub is : IsCopying told may_leave faults s B to gs y w c h
+
+  abbrev pub RunGoes : Type 0
+  RunGoes =
+      (s : Start) (B : List (List Record)) (p : Point) (gs : List RegionState) (y : SystemState) (v w : Vaulted V) (c : Checkpointed) (h : Head)
+      → IsCopying told may_leave faults s B p gs y v c h → is_run_dirty c gs ≡ true
+      → HasWritten told may_leave faults v (image_name (side_in c)) (place_of c.copied) (run_bytes c gs) w
+      → WentOver s B p (copy_steps c.copied (run_at c gs) (length p.log)) (cleaned_run c gs) y w (behind_run c gs) h
+
+  abbrev pub RunSkips : Type 0
+  RunSkips =
+      (s : Start) (B : List (List Record)) (p : Point) (gs : List RegionState) (y : SystemState) (v : Vaulted V) (c : Checkpointed) (h : Head)
+      → IsCopying told may_leave faults s B p gs y v c h → is_run_dirty c gs ≡ false → Reaches told (side_in c) (c.copied + run_at c gs) v
+      → WentOver s B p (skip_steps c.copied (run_at c gs) (length p.log)) gs y v (behind_run c gs) h
 
   -- ---- a settlement
   pub record HasSettled (s : Start) (p : Point) (gs : List RegionState) (z : SystemState) (w : Vaulted V) (c : Checkpointed) (h : Head) (n : ℕ) : Type 0 where
@@ -161,6 +191,13 @@ module _ {V : Type 0} (told : V → Option Disk) (may_leave : V → Disk → Typ
       (s : Start) (B : List (List Record)) (p : Point) (gs : List RegionState) (y : SystemState) (v w : Vaulted V) (c : Checkpointed) (h : Head) (g : RegionState)
       → IsCopying told may_leave faults s B p gs y v c h → slice_get gs c.copied ≡ Some g → is_dirty g (side_in c) ≡ true
       → WriteHasFailed told may_leave faults v (image_name (side_in c)) (place_of c.copied) (length (words_bytes g.back)) w
+      → Ends s p gs y w
+
+  abbrev pub RunFaults : Type 0
+  RunFaults =
+      (s : Start) (B : List (List Record)) (p : Point) (gs : List RegionState) (y : SystemState) (v w : Vaulted V) (c : Checkpointed) (h : Head)
+      → IsCopying told may_leave faults s B p gs y v c h
+      → WriteHasFailed told may_leave faults v (image_name (side_in c)) (place_of c.copied) (length (run_bytes c gs)) w
       → Ends s p gs y w
 
   abbrev pub SettleFaults : Type 0

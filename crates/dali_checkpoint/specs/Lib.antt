@@ -1,4 +1,5 @@
 pub mod Kept
+pub mod Runs
 pub mod Done
 pub mod Running
 pub mod Laws

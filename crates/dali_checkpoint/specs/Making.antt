@@ -3,20 +3,20 @@
 --     with_audit y found       the log with an audit's begin and end behind what stood there
 --     behind_checkpoint y found    the system behind a checkpoint whose audit found these regions, all records flushed
 --     checkpointed side gs     the regions behind a copy of each to the image of this side, and a check of each
---     dirty_in side gs         how many of them have the flag for it set
 --     checkpoint_calls y side gs   how many calls of the store a checkpoint makes that ends well
+--     HasCounted y             the records of the log are as many as the system counts
 --     SameLog y z              the system z has the log and the table of y
 --     HasNotMade .. e ..       why a checkpoint made no image, and what is left: a line for each error
 --     LeadsIdle gs y v hs z w  where a core stands at a point of a run with no checkpoint under way, steps lead to such a point again
 --     StaysRight gs y v w      there each disk that a crash at any moment from v to w leaves spells files that restart right at a point to which steps lead
 --     HasCopied, HasNotCopied, AuditLeft, HasImage, HasNoImage, HasMade, HasEndedBy   what the parts of one leave
-use Rattle.std.specs.Prelude.{◌≡◌, ◌≤◌, ◌^◌, ◌⊎◌, ℕ, ◌+◌, true, false, if◌then◌else◌, List, [], Option, Some, None, IfSome, IsSome, is_some, map, sum_by, length, drop}
+use Rattle.std.specs.Prelude.{◌≡◌, ◌≤◌, ◌^◌, ◌⊎◌, ℕ, ◌+◌, true, false, List, [], Option, Some, None, IfSome, IsSome, is_some, map, length, drop}
 use Rattle.dali_record.specs.declared.records.Record.{Record}
 use Rattle.dali_record.specs.declared.records.Record.TheVariants.{AuditBegin}
 use Rattle.dali_region.specs.declared.Hold.{Hold}
 use Rattle.dali_region.specs.declared.Side.{Side}
 use Rattle.dali_region.specs.State.{RegionState, checked}
-use Rattle.dali_region.specs.Answers.{is_dirty, cleaned}
+use Rattle.dali_region.specs.Answers.{cleaned}
 use Rattle.dali_store.specs.Store.{Files as Disk}
 use Rattle.dali_store.specs.Calls.{fewer}
 use Rattle.dali_store.specs.Faults.{Rose}
@@ -37,6 +37,7 @@ use Rattle.dali_whole.specs.Cores.{HoldsPlaces, IsWholeCore}
 use Rattle.dali_whole.specs.Moments.{flush_calls, Within}
 use Rattle.dali_checkpoint.specs.Kept.{Checkpointed, side_in, cause_of}
 use Rattle.dali_checkpoint.specs.Done.{Reaches}
+use Rattle.dali_checkpoint.specs.Runs.{runs_in}
 use Rattle.dali_checkpoint.specs.Running.{IsIdle, IsCopying, IsSettled, IsCertifiedAt}
 use Rattle.dali_checkpoint.specs.Laws.{Ends}
 use Rattle.dali_checkpoint.specs.declared.error.CheckpointError.{CheckpointError}
@@ -60,16 +61,17 @@ copied_to side gs = map (cleaned side) gs
 abbrev pub checkpointed : Side → List RegionState → List RegionState
 checkpointed side gs = map checked (copied_to side gs)
 
-abbrev pub dirty_in : Side → List RegionState → ℕ
-dirty_in side gs = sum_by (λ g. if is_dirty g side then 1 else 0) gs
-
 abbrev pub checkpoint_calls : SystemState → Side → List RegionState → ℕ
-checkpoint_calls y side gs = flush_calls y + 1 + dirty_in side gs + (flush_calls (taken y) + 1) + (flush_calls (with_audit (taken y) []) + 5)
+checkpoint_calls y side gs = flush_calls y + 1 + runs_in side gs + (flush_calls (taken y) + 1) + (flush_calls (with_audit (taken y) []) + 5)
 
 abbrev pub checkpoint_error : SystemError → CheckpointError
 checkpoint_error (SystemStopped cause) = Stopped cause
 checkpoint_error (SystemFull end limit) = LogFull end limit
 checkpoint_error SystemMemory = OutOfMemory
+
+-- the records of the log are counted: those before the load, and those since
+abbrev pub HasCounted : SystemState → Type 0
+HasCounted y = y.records ≡ y.first + length y.since
 
 -- what the audit logged is flushed, unless nothing waited
 abbrev pub BehindFailure : SystemState → List ℕ → SystemState → Type 0
@@ -201,7 +203,7 @@ module _ {V : Type 0} (told : V → Option Disk) (may_leave : V → Disk → Typ
     pub tells : is_some (told w.store) ≡ is_some (told v.store)
     pub reaches : Reaches told (side_in c) (length gs) w
     pub places : IfSome (told w.store) (HoldsPlaces hs)
-    pub calls : lets_pass w.store ≡ fewer (dirty_in (side_in c) gs) (lets_pass v.store)
+    pub calls : lets_pass w.store ≡ fewer (runs_in (side_in c) gs) (lets_pass v.store)
     pub goes : CopiesGo told may_leave faults gs v c hs w d
 
   pub record HasImage (gs : List RegionState) (y : SystemState) (v : Vaulted V) (c : Checkpointed) (j : Judged) (hs : List RegionState) (z : SystemState) (w : Vaulted V) (d : Checkpointed) : Type 0 where
@@ -214,7 +216,7 @@ module _ {V : Type 0} (told : V → Option Disk) (may_leave : V → Disk → Typ
     pub end : w.end ≤ v.end + 2 ^ 31
     pub kept : faults w.store ≡ faults v.store
     pub tells : is_some (told w.store) ≡ is_some (told v.store)
-    pub calls : lets_pass w.store ≡ fewer (dirty_in (side_in c) gs + (flush_calls y + 1)) (lets_pass v.store)
+    pub calls : lets_pass w.store ≡ fewer (runs_in (side_in c) gs + (flush_calls y + 1)) (lets_pass v.store)
     pub room : audit_refusal y AuditBegin ≡ None
     pub places : IfSome (told w.store) (HoldsPlaces hs)
     pub goes : ImageGoes told may_leave faults gs y v c hs z w d j.failing

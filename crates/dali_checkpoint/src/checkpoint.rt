@@ -1,5 +1,5 @@
 //! One checkpoint, from its start to the anchor's move.
-ghost use Rattle.std.specs.Prelude.{◌≡◌, ◌≤◌, ◌<◌, ◌+◌, ◌^◌, ◌⊎◌, [], true, false, Ok, Some, None, Err, OnOk, OnErr, IfOk, IfErr, IfSome, IsErrOf, IsSomeAnd, length};
+ghost use Rattle.std.specs.Prelude.{◌≡◌, ◌≤◌, ◌<◌, ◌+◌, ◌^◌, ◌⊎◌, [], true, false, Ok, Some, None, Err, OnOk, OnErr, IfOk, IfErr, IfSome, IsErrOf, IsSomeAnd, length, vec_capacity};
 ghost use Rattle.dali_geometry.specs.Places.{regions as regions_of};
 ghost use Rattle.dali_record.specs.Spelling.{words_bytes};
 ghost use Rattle.dali_region.specs.Answers.{is_dirty, cleaned};
@@ -15,11 +15,13 @@ ghost use Rattle.dali_steps.specs.Said.{TornFrom, HasWritten, WriteHasFailed};
 ghost use Rattle.dali_whole.specs.Moments.{flush_calls, FlushLeaves, Within};
 ghost use Rattle.dali_checkpoint.specs.Kept.{side_in, cause_of, given_up, IsEndOf};
 ghost use Rattle.dali_checkpoint.specs.Done.{Reaches, IsNoShorter, Writes, FailsToWrite, HasStarted, HasTurnedTo, FailsToTurn, IsKept, IsLost};
+ghost use Rattle.dali_whole.specs.Cores.{HoldsPlaces};
 ghost use Rattle.dali_checkpoint.specs.Moments.{WriteLeaves, TurnLeaves};
+ghost use Rattle.dali_checkpoint.specs.Runs.{is_run_dirty, run_bytes, behind_run, cleaned_run};
 ghost use Rattle.dali_checkpoint.specs.declared.error.CheckpointError.TheVariants.{Failed, InProgress, Stopped, Fault, OutOfMemory};
 
 use crate::error::CheckpointError;
-use crate::parts::{self, side_of};
+use crate::parts::{self, REGION, RUN, side_of};
 use dali_audit::Verdict;
 use dali_core::System;
 use dali_image::{Header, header_bytes, table_bytes};
@@ -32,9 +34,9 @@ use std::marker::Model;
 
 /// A checkpoint under way: what its start kept of the log and of the table, and how far it has come.
 ///
-/// After `start` each region is copied, in the order of their numbers, then `settle` ends the image; behind it an audit of all
-/// regions is made, and `certify` moves the anchor to the image where that audit found nothing. Between these calls others may
-/// log records, flush them and change regions. The image is the one that isn't current (ping-pong checkpointing: Bohannon et
+/// After `start` each region is copied, in the order of their numbers, one by one (`copy`) or in runs (`copy_run`), then
+/// `settle` ends the image; behind it an audit of all regions is made, and `certify` moves the anchor to the image where that
+/// audit found nothing. Between these calls others may log records, flush them and change regions. The image is the one that isn't current (ping-pong checkpointing: Bohannon et
 /// al., TKDE 2003; Jagadish et al., VLDB 1994).
 #[derive(Drop)]
 pub struct Checkpoint {
@@ -43,14 +45,19 @@ pub struct Checkpoint {
     copied: u32,
     settled: Option<u64>,
     faulted: bool,
+    // room for the bytes of a run
+    buffer: Vec<u8>,
 }
 
 impl Model for Checkpoint {
+    ghost use Rattle.std.specs.Prelude.{◌≤◌, vec_capacity};
     ghost use Rattle.dali_checkpoint.specs.Kept.{Checkpointed};
 
     ghost Value = { Checkpointed };
 
     ghost view = { λ c. record { header = c.header; table = c.table.items; copied = c.copied; settled = c.settled; faulted = c.faulted } };
+
+    ghost invariant = { λ c. 65536 ≤ vec_capacity c.buffer };
 }
 
 // Flushes all records, keeps what they come to, and writes the header of the image.
@@ -73,7 +80,7 @@ fn begin<V: Store>(
     ensures files { IsNoShorter V.told vault.old vault.new }
     ensures any_moment { vault.old.stopped ≡ false → Within V.told V.moment V.left_since vault.old vault.new
         (WriteLeaves V.told V.may_leave V.faults system.old.state vault.old (image_name (Checkpoints.side_of (vault.old.current + 1))) 0 64) }
-    ensures grows { OnOk result (vault.new.end ≤ vault.old.end + 2 ^ 31) }
+    ensures grows { vault.new.end ≤ vault.old.end + 2 ^ 31 }
     ensures calls { OnOk result (V.lets_pass vault.new.store ≡ fewer (flush_calls system.old.state + 1) (V.lets_pass vault.old.store)) }
     ensures rose { IsErrOf result Fault → Rose (V.faults vault.old.store) (V.faults vault.new.store) }
 {
@@ -81,6 +88,9 @@ fn begin<V: Store>(
         return Err(CheckpointError::Stopped { cause });
     }
     let Ok(table) = table_bytes(alloc, system.table()) else {
+        return Err(CheckpointError::OutOfMemory);
+    };
+    let Ok(buffer) = Vec::with_capacity(alloc, RUN * REGION) else {
         return Err(CheckpointError::OutOfMemory);
     };
     parts::flush(alloc, system, vault)?;
@@ -101,6 +111,7 @@ fn begin<V: Store>(
         copied: 0,
         settled: None,
         faulted: false,
+        buffer,
     })
 }
 
@@ -121,6 +132,7 @@ fn anchor<V: Store>(
     ensures number { IfOk result (λ now. now ≡ vault.old.current + 1) }
     ensures files { IsNoShorter V.told vault.old vault.new }
     ensures any_moment { vault.old.stopped ≡ false → Within V.told V.moment V.left_since vault.old vault.new (TurnLeaves V.told V.may_leave V.faults system.old.state vault.old (Checkpoints.side_of number)) }
+    ensures grows { vault.new.end ≤ vault.old.end + 2 ^ 31 }
     ensures calls { OnOk result (V.lets_pass vault.new.store ≡ fewer (flush_calls system.old.state + 5) (V.lets_pass vault.old.store)) }
     ensures rose { IsErrOf result Fault → Rose (V.faults vault.old.store) (V.faults vault.new.store) }
     ensures promised { system.new.promised ≡ system.old.promised }
@@ -145,6 +157,7 @@ fn keep_failure<V: Store>(
     ensures lost { IfErr result (IsLost V.told V.may_leave V.faults system.old.state vault.old system.new.state vault.new) }
     ensures files { IsNoShorter V.told vault.old vault.new }
     ensures any_moment { vault.old.stopped ≡ false → Within V.told V.moment V.left_since vault.old vault.new (FlushLeaves V.may_leave system.old.state vault.old) }
+    ensures grows { vault.new.end ≤ vault.old.end + 2 ^ 31 }
     ensures calls { OnOk result (V.lets_pass vault.new.store ≡ fewer (flush_calls system.old.state) (V.lets_pass vault.old.store)) }
     ensures rose { IsErrOf result Fault → Rose (V.faults vault.old.store) (V.faults vault.new.store) }
     ensures ends { system.new.state.checking ≡ false }
@@ -163,8 +176,8 @@ fn keep_failure<V: Store>(
 impl Checkpoint {
     /// Starts a checkpoint: all records are flushed, what they come to is kept with the table of running transactions, and the
     /// header is written to the image that isn't the current one. `InProgress` exactly where another checkpoint is under way,
-    /// else `Stopped` exactly where the engine is stopped, with that cause; `OutOfMemory` where memory for the table is
-    /// refused: then nothing changes. `Fault` only where the store's count of faults rose; then vault and engine stop.
+    /// else `Stopped` exactly where the engine is stopped, with that cause; `OutOfMemory` where memory for the table, or for
+    /// the 64 KiB of a run, is refused: then nothing changes. `Fault` only where the store's count of faults rose; then vault and engine stop.
     pub fn start<V: Store>(
         alloc: Global,
         system: &mut System,
@@ -184,7 +197,7 @@ impl Checkpoint {
         ensures files { IsNoShorter V.told vault.old vault.new }
         ensures any_moment { vault.old.stopped ≡ false → Within V.told V.moment V.left_since vault.old vault.new
             (WriteLeaves V.told V.may_leave V.faults system.old.state vault.old (image_name (Checkpoints.side_of (vault.old.current + 1))) 0 64) }
-        ensures grows { OnOk result (vault.new.end ≤ vault.old.end + 2 ^ 31) }
+        ensures grows { vault.new.end ≤ vault.old.end + 2 ^ 31 }
         ensures calls { OnOk result (V.lets_pass vault.new.store ≡ fewer (flush_calls system.old.state + 1) (V.lets_pass vault.old.store)) }
         ensures rose { IsErrOf result Fault → Rose (V.faults vault.old.store) (V.faults vault.new.store) }
         ensures same { (IsErrOf result Fault → ⊥) → OnErr result ((system.new ≡ system.old) × (vault.new ≡ vault.old)) }
@@ -221,6 +234,7 @@ impl Checkpoint {
         ensures clean { is_dirty region.old (side_in self.old) ≡ false → (result ≡ Ok tt) × (region.new ≡ region.old) × (vault.new ≡ vault.old) }
         ensures written { is_dirty region.old (side_in self.old) ≡ true → OnOk result (HasWritten V.told V.may_leave V.faults vault.old (image_name (side_in self.old)) (place_of number) (words_bytes region.old.back) vault.new) }
         ensures stopped { is_dirty region.old (side_in self.old) ≡ true → vault.old.stopped ≡ true → (result ≡ Err (Stopped ByStore)) × (self.new ≡ self.old) × (vault.new ≡ vault.old) }
+        ensures end { vault.new.end ≡ vault.old.end }
         ensures files { IsNoShorter V.told vault.old vault.new }
         ensures any_moment { is_dirty region.old (side_in self.old) ≡ true → vault.old.stopped ≡ false → LeavesOnly V.moment V.left_since vault.old.store vault.new.store
             (TornFrom (V.may_leave vault.old.store) (image_name (side_in self.old)) (place_of number) (length (words_bytes region.old.back))) }
@@ -248,6 +262,63 @@ impl Checkpoint {
         Ok(())
     }
 
+    /// How many regions are copied, or needed no copy.
+    pub fn copied(&self) -> u32
+        ensures { result ≡ self.now.copied }
+    {
+        self.copied
+    }
+
+    /// Copies the next run of these regions, which are all regions of the database, to the image: the next one and those
+    /// behind it whose flag for that image is as its own, 128 at most. Where the flag is set their words are written by one
+    /// call of the store, each region's without the updates of an open operation, and then their flags are cleared; where it
+    /// is clear nothing is written. The steps of others may stand between two such calls. It answers and stops as `copy` does,
+    /// and takes no memory beyond the store's own.
+    pub fn copy_run<V: Store>(
+        &mut self,
+        regions: &mut [Region],
+        vault: &mut Vault<V>,
+    ) -> Result<(), CheckpointError>
+        requires all { length regions.old ≡ regions_of self.old.header.geometry }
+        requires left { self.old.copied < length regions.old }
+        requires reaches { Reaches V.told (side_in self.old) self.old.copied vault.old }
+        requires places { IfSome (V.told vault.old.store) (HoldsPlaces regions.old) }
+        ensures ok { OnOk result ((self.new ≡ behind_run self.old regions.old) × (regions.new ≡ cleaned_run self.old regions.old)) }
+        ensures further { OnOk result ((self.old.copied < self.new.copied) × (self.new.copied ≤ length regions.old)) }
+        ensures reaches { OnOk result (Reaches V.told (side_in self.old) self.new.copied vault.new) }
+        ensures places { IfSome (V.told vault.new.store) (HoldsPlaces regions.new) }
+        ensures clean { is_run_dirty self.old regions.old ≡ false → (result ≡ Ok tt) × (regions.new ≡ regions.old) × (vault.new ≡ vault.old) }
+        ensures written { is_run_dirty self.old regions.old ≡ true → OnOk result
+            (HasWritten V.told V.may_leave V.faults vault.old (image_name (side_in self.old)) (place_of self.old.copied) (run_bytes self.old regions.old) vault.new) }
+        ensures stopped { is_run_dirty self.old regions.old ≡ true → vault.old.stopped ≡ true → (result ≡ Err (Stopped ByStore)) × (self.new ≡ self.old) × (vault.new ≡ vault.old) }
+        ensures end { vault.new.end ≡ vault.old.end }
+        ensures files { IsNoShorter V.told vault.old vault.new }
+        ensures any_moment { is_run_dirty self.old regions.old ≡ true → vault.old.stopped ≡ false → LeavesOnly V.moment V.left_since vault.old.store vault.new.store
+            (TornFrom (V.may_leave vault.old.store) (image_name (side_in self.old)) (place_of self.old.copied) (length (run_bytes self.old regions.old))) }
+        ensures calls { is_run_dirty self.old regions.old ≡ true → vault.old.stopped ≡ false → V.lets_pass vault.new.store ≡ one_less (V.lets_pass vault.old.store) }
+        ensures fault { vault.old.stopped ≡ false → OnErr result ((result ≡ Err Fault) × (self.new ≡ record self.old { faulted = true })) }
+        ensures failed { vault.old.stopped ≡ false → OnErr result
+            (WriteHasFailed V.told V.may_leave V.faults vault.old (image_name (side_in self.old)) (place_of self.old.copied) (length (run_bytes self.old regions.old)) vault.new) }
+        ensures regions { OnErr result (regions.new ≡ regions.old) }
+    {
+        let side = side_of(self.header.number);
+        let _count = self.header.geometry.regions();
+        let from = self.copied as usize;
+        match parts::next_run(vault, side, from, regions, &mut self.buffer) {
+            Ok(until) => {
+                self.copied = until as u32;
+                Ok(())
+            }
+            Err(VaultError::Stopped) => Err(CheckpointError::Stopped {
+                cause: Cause::Store,
+            }),
+            Err(VaultError::Fault) => {
+                self.faulted = true;
+                Err(CheckpointError::Fault)
+            }
+        }
+    }
+
     /// Ends the image, once each region was copied: all records are flushed, and the table is written behind the regions. An
     /// audit that begins behind it may certify the image. `Stopped` exactly where the engine was stopped before, and then
     /// nothing changes; `Fault` only where the store's count of faults rose, and then vault and engine stop. It never fails
@@ -269,7 +340,7 @@ impl Checkpoint {
         ensures files { IsNoShorter V.told vault.old vault.new }
         ensures any_moment { vault.old.stopped ≡ false → Within V.told V.moment V.left_since vault.old vault.new
             (WriteLeaves V.told V.may_leave V.faults system.old.state vault.old (image_name (side_in self.old)) (place_of self.old.copied) (length self.old.table)) }
-        ensures grows { OnOk result (vault.new.end ≤ vault.old.end + 2 ^ 31) }
+        ensures grows { vault.new.end ≤ vault.old.end + 2 ^ 31 }
         ensures calls { OnOk result (V.lets_pass vault.new.store ≡ fewer (flush_calls system.old.state + 1) (V.lets_pass vault.old.store)) }
         ensures rose { IsErrOf result Fault → Rose (V.faults vault.old.store) (V.faults vault.new.store) }
         ensures same { OnErr result (self.new ≡ self.old) }
@@ -319,6 +390,7 @@ impl Checkpoint {
             (TurnLeaves V.told V.may_leave V.faults system.old.state vault.old (side_in self)) }
         ensures failing_moment { (verdict.failing ≡ [] → ⊥) → vault.old.stopped ≡ false → Within V.told V.moment V.left_since vault.old vault.new
             (FlushLeaves V.may_leave system.old.state vault.old) }
+        ensures grows { vault.new.end ≤ vault.old.end + 2 ^ 31 }
         ensures calls { OnOk result (V.lets_pass vault.new.store ≡ fewer (flush_calls system.old.state + 5) (V.lets_pass vault.old.store)) }
         ensures failing_calls { IsErrOf result (Failed verdict.failing) → V.lets_pass vault.new.store ≡ fewer (flush_calls system.old.state) (V.lets_pass vault.old.store) }
         ensures rose { IsErrOf result Fault → Rose (V.faults vault.old.store) (V.faults vault.new.store) }

@@ -1,5 +1,5 @@
 //! Laws of checkpoints over any store, each the contract of a function that does nothing.
-ghost use Rattle.dali_checkpoint.specs.Laws.{StartGoes, CopyGoes, SkipGoes, SettleGoes, OthersKeep, FlushKeeps, AuditsTell, CertifyGoes, StartFaults, CopyFaults, SettleFaults, CertifyFaults, FailureEnds, GivesUp, PointsTell, EndsIdle, EndIsFar, PlacesStay, PlacesGoOn};
+ghost use Rattle.dali_checkpoint.specs.Laws.{StartGoes, CopyGoes, SkipGoes, RunGoes, RunSkips, SettleGoes, OthersKeep, FlushKeeps, AuditsTell, CertifyGoes, StartFaults, CopyFaults, RunFaults, SettleFaults, CertifyFaults, FailureEnds, GivesUp, PointsTell, EndsIdle, EndIsFar, PlacesStay, PlacesGoOn};
 ghost use Rattle.dali_checkpoint.specs.Moments.{StartIsRight, CopyIsRight, SettleIsRight, CertifyIsRight, FailureIsRight};
 
 use dali_store::Store;
@@ -16,6 +16,13 @@ pub fn a_start_makes_steps<V: Store>()
 pub fn a_copy_makes_a_step<V: Store>()
     ensures copied { CopyGoes V.told V.may_leave V.faults }
     ensures skipped { SkipGoes V.told V.may_leave V.faults }
+{}
+
+/// So is a run of regions that one call of the store wrote: each is a copy of its own, with no step of others between them. A
+/// run whose flags are clear was so before.
+pub fn a_run_of_copies_makes_steps<V: Store>()
+    ensures copied { RunGoes V.told V.may_leave V.faults }
+    ensures skipped { RunSkips V.told V.may_leave V.faults }
 {}
 
 /// So is a settlement, once all regions are copied: a taking and a flush, and the write of the table, behind which the whole
@@ -44,6 +51,7 @@ pub fn a_certification_makes_steps<V: Store>()
 pub fn a_checkpoint_that_fails_makes_steps<V: Store>()
     ensures start { StartFaults V.told V.may_leave V.faults }
     ensures copy { CopyFaults V.told V.may_leave V.faults }
+    ensures run { RunFaults V.told V.may_leave V.faults }
     ensures settle { SettleFaults V.told V.may_leave V.faults }
     ensures certify { CertifyFaults V.told V.may_leave V.faults }
     ensures audit { FailureEnds V.told V.may_leave V.faults }

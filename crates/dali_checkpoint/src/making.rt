@@ -1,5 +1,5 @@
 //! A whole checkpoint, by a thread that has a core to itself.
-ghost use Rattle.std.specs.Prelude.{◌≡◌, ◌<◌, ◌≤◌, ◌+◌, ◌^◌, [], true, false, Ok, Some, None, Err, OnOk, OnErr, IfOk, IfErr, IfSome, length, map};
+ghost use Rattle.std.specs.Prelude.{◌≡◌, ◌<◌, ◌≤◌, ◌+◌, ◌*◌, ◌^◌, ℕ, List, [], true, false, Ok, Some, None, Err, OnOk, OnErr, IfOk, IfErr, IfSome, length, map};
 ghost use Rattle.dali_geometry.specs.Places.{regions as regions_of};
 ghost use Rattle.dali_record.specs.declared.records.Record.TheVariants.{AuditBegin};
 ghost use Rattle.dali_region.specs.State.{checked};
@@ -10,8 +10,8 @@ ghost use Rattle.dali_audit.specs.declared.audit.Finding.TheVariants.{Waiting};
 ghost use Rattle.dali_whole.specs.Cores.{HoldsPlaces, IsWholeCore};
 ghost use Rattle.dali_checkpoint.specs.Kept.{side_in, cause_of};
 ghost use Rattle.dali_checkpoint.specs.Done.{Reaches};
-ghost use Rattle.dali_checkpoint.specs.Making.{found_in, failing_in, with_audit, behind_checkpoint, checkpointed, checkpoint_calls, AuditLeft, AuditRefused, HasNotMade, LeadsIdle, StaysRight, CopiesStayRight, ImageStaysRight, HasCopied, HasNotCopied, HasImage, HasNoImage, HasMade, HasEndedBy};
-ghost use Rattle.dali_checkpoint.specs.declared.error.CheckpointError.TheVariants.{InProgress, Stopped, Fault};
+ghost use Rattle.dali_checkpoint.specs.Making.{found_in, failing_in, with_audit, behind_checkpoint, checkpointed, checkpoint_calls, AuditLeft, AuditRefused, HasCounted, HasNotMade, LeadsIdle, StaysRight, CopiesStayRight, ImageStaysRight, HasCopied, HasNotCopied, HasImage, HasNoImage, HasMade, HasEndedBy};
+ghost use Rattle.dali_checkpoint.specs.declared.error.CheckpointError.TheVariants.{InProgress, Stopped, Failed, Fault};
 
 use crate::checkpoint::Checkpoint;
 use crate::error::CheckpointError;
@@ -23,7 +23,7 @@ use dali_vault::Vault;
 use dali_whole::Core;
 use std::alloc::Global;
 
-// Copies all regions, in the order of their numbers.
+// Copies all regions, run by run.
 fn copy_all<V: Store>(
     checkpoint: &mut Checkpoint,
     regions: &mut [Region],
@@ -37,10 +37,11 @@ fn copy_all<V: Store>(
     requires runs { vault.old.stopped ≡ false }
     ensures ok { OnOk result (HasCopied V.told V.may_leave V.faults V.lets_pass checkpoint.old regions.old vault.old checkpoint.new regions.new vault.new) }
     ensures fault { OnErr result ((result ≡ Err Fault) × HasNotCopied V.told V.may_leave V.faults checkpoint.old regions.old vault.old checkpoint.new regions.new vault.new) }
+    ensures end { vault.new.end ≡ vault.old.end }
     ensures any_moment { CopiesStayRight V.told V.may_leave V.faults V.moment V.left_since regions.old vault.old checkpoint.old vault.new }
 {
-    for number in 0..regions.len() {
-        match checkpoint.copy(number as u32, &mut regions[number], vault) {
+    while (checkpoint.copied() as usize) < regions.len() {
+        match checkpoint.copy_run(regions, vault) {
             Ok(()) => {}
             Err(error) => return Err(error),
         }
@@ -106,6 +107,7 @@ fn write_image<V: Store>(
     ensures ok { IfOk result (λ verdict. HasImage V.told V.may_leave V.faults V.lets_pass regions.old system.old.state vault.old checkpoint.old verdict regions.new system.new.state vault.new checkpoint.new) }
     ensures err { IfErr result (λ error. HasNoImage V.told V.may_leave V.faults regions.old system.old.state vault.old checkpoint.old error regions.new system.new.state vault.new checkpoint.new) }
     ensures any_moment { ImageStaysRight V.told V.may_leave V.faults V.moment V.left_since regions.old system.old.state vault.old checkpoint.old vault.new }
+    ensures grows { vault.new.end ≤ vault.old.end + 2 ^ 31 }
     ensures promised { system.new.promised ≡ system.old.promised }
 {
     let _count = system.geometry().regions();
@@ -136,6 +138,7 @@ fn make_apart<V: Store>(
     ensures ok { IfOk result (λ number. HasMade V.told V.may_leave V.faults V.lets_pass regions.old system.old.state vault.old number regions.new system.new.state vault.new) }
     ensures err { IfErr result (λ error. HasEndedBy V.told V.may_leave V.faults regions.old system.old.state vault.old error regions.new system.new.state vault.new) }
     ensures any_moment { StaysRight V.told V.may_leave V.faults V.moment V.left_since regions.old system.old.state vault.old vault.new }
+    ensures grows { vault.new.end ≤ vault.old.end + 3 * 2 ^ 31 }
     ensures promised { system.new.promised ≡ system.old.promised }
 {
     let mut checkpoint = match Checkpoint::start(alloc, system, vault) {
@@ -159,6 +162,7 @@ fn make<V: Store>(alloc: Global, core: &mut Core<V>) -> Result<u64, CheckpointEr
     ensures ok { IfOk result (λ number. HasMade V.told V.may_leave V.faults V.lets_pass core.old.regions.items core.old.system.state core.old.vault number core.new.regions.items core.new.system.state core.new.vault) }
     ensures err { IfErr result (λ error. HasEndedBy V.told V.may_leave V.faults core.old.regions.items core.old.system.state core.old.vault error core.new.regions.items core.new.system.state core.new.vault) }
     ensures any_moment { StaysRight V.told V.may_leave V.faults V.moment V.left_since core.old.regions.items core.old.system.state core.old.vault core.new.vault }
+    ensures grows { core.new.vault.end ≤ core.old.vault.end + 3 * 2 ^ 31 }
     ensures promised { core.new.system.promised ≡ core.old.system.promised }
 {
     make_apart(alloc, &mut core.regions, &mut core.system, &mut core.vault)
@@ -174,7 +178,9 @@ fn make<V: Store>(alloc: Global, core: &mut Core<V>) -> Result<u64, CheckpointEr
 /// and the engine stops for the least of them. `LogFull` where the log has no room for an audit's begin, `OutOfMemory` where
 /// memory for the table or the audit is refused: then the engine runs on. `Fault` only where the store's count of faults
 /// rose, and then vault and engine stop. Behind each of these four the current image is the one that was, and no checkpoint
-/// is under way. A whole core is whole behind every answer.
+/// is under way. A whole core is whole behind every answer, and the log's end is at most 3 * 2^31 bytes further on, so that
+/// who knows where it was knows whether the next checkpoint may be asked for. Behind `Failed` all records are flushed, where
+/// the system has counted those of its log (`HasCounted`), as it has at each point of a run.
 pub fn make_checkpoint<V: Store>(core: &mut Core<V>, alloc: Global) -> Result<u64, CheckpointError>
     requires whole { IsWholeCore V.told core.old.regions.items core.old.system.state core.old.vault }
     requires end { core.old.vault.end < 2 ^ 61 }
@@ -188,6 +194,8 @@ pub fn make_checkpoint<V: Store>(core: &mut Core<V>, alloc: Global) -> Result<u6
     ensures in_progress { core.old.system.state.checking ≡ true → result ≡ Err InProgress }
     ensures stopped { core.old.system.state.checking ≡ false → IfSome (cause_of core.old.system.state core.old.vault) (λ cause. result ≡ Err (Stopped cause)) }
     ensures err { IfErr result (λ error. HasNotMade V.faults core.old.regions.items core.old.system.state core.old.vault error core.new.regions.items core.new.system.state core.new.vault) }
+    ensures flushed { HasCounted core.old.system.state → IfErr result (λ error. (found : List ℕ) → error ≡ Failed found → core.new.system.state ≡ behind_checkpoint core.old.system.state found) }
+    ensures grows { core.new.vault.end ≤ core.old.vault.end + 3 * 2 ^ 31 }
     ensures promised { core.new.system.promised ≡ core.old.system.promised }
     ensures whole { IsWholeCore V.told core.new.regions.items core.new.system.state core.new.vault }
     ensures goes { LeadsIdle V.told V.may_leave V.faults core.old.regions.items core.old.system.state core.old.vault core.new.regions.items core.new.system.state core.new.vault }

@@ -1,5 +1,5 @@
 //! What the calls of a checkpoint are made of.
-ghost use Rattle.std.specs.Prelude.{◌≡◌, ◌≤◌, ◌<◌, ◌+◌, ◌^◌, true, false, Err, OnOk, OnErr, IfSome, length};
+ghost use Rattle.std.specs.Prelude.{◌≡◌, ◌≤◌, ◌<◌, ◌+◌, ◌-◌, ◌*◌, ◌^◌, true, false, Err, OnOk, OnErr, IfSome, IfOk, Ok, length, drop, vec_capacity};
 ghost use Rattle.dali_record.specs.Spelling.{words_bytes};
 ghost use Rattle.dali_region.specs.Answers.{cleaned};
 ghost use Rattle.dali_store.specs.Calls.{fewer, one_less};
@@ -10,14 +10,17 @@ ghost use Rattle.dali_traces.specs.Disks.{image_name};
 ghost use Rattle.dali_traces.specs.Places.{place_of};
 ghost use Rattle.dali_crash.specs.Checkpoints;
 ghost use Rattle.dali_steps.specs.Said.{TornFrom, HasWritten, WriteHasFailed, HasSynced, SyncHasFailed, HasTurned, TurnHasFailed};
+ghost use Rattle.dali_whole.specs.Cores.{HoldsPlaces};
 ghost use Rattle.dali_whole.specs.Flushed.{FlushesFrame, FailsFrame};
 ghost use Rattle.dali_whole.specs.Moments.{flush_calls, FlushLeaves, Within};
 ghost use Rattle.dali_checkpoint.specs.Kept;
 ghost use Rattle.dali_checkpoint.specs.Done.{IsNoShorter, Reaches};
+ghost use Rattle.dali_checkpoint.specs.Runs.{is_first_dirty, run_of, change, bytes_between};
 ghost use Rattle.dali_checkpoint.specs.declared.error.CheckpointError.TheVariants.{Fault};
 ghost use Rattle.dali_vault.specs.declared.error.VaultError.TheVariants.{Fault as StoreFault, Stopped as VaultStopped};
 
 use crate::error::CheckpointError;
+use dali_bytes::put;
 use dali_core::System;
 use dali_image::region_bytes;
 use dali_region::{Region, Side};
@@ -26,6 +29,12 @@ use dali_system::Cause;
 use dali_vault::{Vault, VaultError};
 use dali_whole::{calls, write_out};
 use std::alloc::Global;
+
+// How many regions are written at once, at most: 64 KiB.
+pub const RUN: usize = 128;
+
+// How many bytes the words of a region have.
+pub const REGION: usize = 512;
 
 // The side of the image with this number.
 pub fn side_of(number: u64) -> Side
@@ -57,7 +66,7 @@ pub fn flush<V: Store>(
     ensures fault { OnErr result ((result ≡ Err Fault) × (system.new ≡ record system.old { state = store_stopped (taken system.old.state) }) × FailsFrame V.told V.may_leave V.faults system.old.state vault.old vault.new) }
     ensures files { IsNoShorter V.told vault.old vault.new }
     ensures any_moment { Within V.told V.moment V.left_since vault.old vault.new (FlushLeaves V.may_leave system.old.state vault.old) }
-    ensures grows { OnOk result (vault.new.end ≤ vault.old.end + 2 ^ 31) }
+    ensures grows { vault.new.end ≤ vault.old.end + 2 ^ 31 }
     ensures calls { OnOk result (V.lets_pass vault.new.store ≡ fewer (flush_calls system.old.state) (V.lets_pass vault.old.store)) }
 {
     match write_out(system, vault, alloc) {
@@ -81,6 +90,7 @@ pub fn write<V: Store>(
     requires runs { vault.old.stopped ≡ false }
     ensures ok { OnOk result ((system.new ≡ system.old) × HasWritten V.told V.may_leave V.faults vault.old (image_name side) at bytes.now vault.new) }
     ensures fault { OnErr result ((result ≡ Err Fault) × (system.new ≡ record system.old { state = store_stopped system.old.state }) × WriteHasFailed V.told V.may_leave V.faults vault.old (image_name side) at (length bytes.now) vault.new) }
+    ensures end { vault.new.end ≡ vault.old.end }
     ensures files { IsNoShorter V.told vault.old vault.new }
     ensures any_moment { LeavesOnly V.moment V.left_since vault.old.store vault.new.store (TornFrom (V.may_leave vault.old.store) (image_name side) at (length bytes.now)) }
     ensures calls { V.lets_pass vault.new.store ≡ one_less (V.lets_pass vault.old.store) }
@@ -103,6 +113,7 @@ pub fn sync<V: Store>(
     requires runs { vault.old.stopped ≡ false }
     ensures ok { OnOk result ((system.new ≡ system.old) × HasSynced V.told V.may_leave V.faults vault.old (image_name side) vault.new) }
     ensures fault { OnErr result ((result ≡ Err Fault) × (system.new ≡ record system.old { state = store_stopped system.old.state }) × SyncHasFailed V.told V.may_leave V.faults vault.old vault.new) }
+    ensures end { vault.new.end ≡ vault.old.end }
     ensures files { IsNoShorter V.told vault.old vault.new }
     ensures any_moment { LeavesOnly V.moment V.left_since vault.old.store vault.new.store (V.may_leave vault.old.store) }
     ensures calls { V.lets_pass vault.new.store ≡ one_less (V.lets_pass vault.old.store) }
@@ -122,6 +133,7 @@ pub fn turn<V: Store>(system: &mut System, vault: &mut Vault<V>) -> Result<(), C
     requires runs { vault.old.stopped ≡ false }
     ensures ok { OnOk result ((system.new ≡ system.old) × HasTurned V.told V.may_leave V.faults vault.old vault.new) }
     ensures fault { OnErr result ((result ≡ Err Fault) × (system.new ≡ record system.old { state = store_stopped system.old.state }) × TurnHasFailed V.told V.may_leave V.faults vault.old vault.new) }
+    ensures end { vault.new.end ≡ vault.old.end }
     ensures files { IsNoShorter V.told vault.old vault.new }
     ensures any_moment { Within V.told V.moment V.left_since vault.old vault.new (MayHaveMoved (V.may_leave vault.old.store) vault.old.current) }
     ensures calls { OnOk result (V.lets_pass vault.new.store ≡ fewer 4 (V.lets_pass vault.old.store)) }
@@ -148,6 +160,7 @@ pub fn write_region<V: Store>(
     ensures reaches { OnOk result (Reaches V.told side (number + 1) vault.new) }
     ensures same { OnErr result (region.new ≡ region.old) }
     ensures fault { vault.old.stopped ≡ false → OnErr result ((result ≡ Err StoreFault) × WriteHasFailed V.told V.may_leave V.faults vault.old (image_name side) (place_of number) (length (words_bytes region.old.back)) vault.new) }
+    ensures end { vault.new.end ≡ vault.old.end }
     ensures files { IsNoShorter V.told vault.old vault.new }
     ensures any_moment { vault.old.stopped ≡ false → LeavesOnly V.moment V.left_since vault.old.store vault.new.store (TornFrom (V.may_leave vault.old.store) (image_name side) (place_of number) (length (words_bytes region.old.back))) }
     ensures calls { vault.old.stopped ≡ false → V.lets_pass vault.new.store ≡ one_less (V.lets_pass vault.old.store) }
@@ -162,4 +175,125 @@ pub fn write_region<V: Store>(
     )?;
     region.clear_dirty(side);
     Ok(())
+}
+
+// Where the run of regions ends that begins with the one of this number: they have its flag for this side.
+pub fn run_end(regions: &[Region], from: usize, side: Side) -> usize
+    requires within { from < length regions.now }
+    ensures end { result ≡ from + run_of side (drop from regions.now) }
+    ensures further { from < result }
+    ensures within { result ≤ length regions.now }
+    ensures few { result ≤ from + 128 }
+{
+    let flag = regions[from].dirty(side);
+    let most = (regions.len() - from).min(RUN);
+    for count in 1..most {
+        if regions[from + count].dirty(side) != flag {
+            return from + count;
+        }
+    }
+    from + most
+}
+
+// Fills a buffer that has room for a run with the words of these regions, without the updates of open operations.
+fn gather(regions: &[Region], from: usize, until: usize, buffer: &mut Vec<u8>)
+    requires order { from ≤ until }
+    requires few { until ≤ from + 128 }
+    requires within { until ≤ length regions.now }
+    requires room { 65536 ≤ vec_capacity buffer.old }
+    ensures bytes { buffer.new.items ≡ bytes_between from (until - from) regions.now }
+    ensures size { length buffer.new.items ≡ 512 * (until - from) }
+    ensures room { 65536 ≤ vec_capacity buffer.new }
+{
+    buffer.clear();
+    for number in from..until {
+        let mut words = [0; 64];
+        regions[number].copy_settled(&mut words);
+        put(buffer, &region_bytes(&words)).unwrap();
+    }
+}
+
+// Clears the flags of these regions for this side.
+fn clear_all(regions: &mut [Region], from: usize, until: usize, side: Side)
+    requires order { from ≤ until }
+    requires within { until ≤ length regions.old }
+    ensures { regions.new ≡ change (cleaned side) from (until - from) regions.old }
+{
+    for number in from..until {
+        regions[number].clear_dirty(side);
+    }
+}
+
+// Writes the words of these regions to the image of this side, without the updates of open operations, by one call of the
+// store, and clears their flags.
+pub fn write_run<V: Store>(
+    vault: &mut Vault<V>,
+    side: Side,
+    from: usize,
+    until: usize,
+    regions: &mut [Region],
+    buffer: &mut Vec<u8>,
+) -> Result<(), VaultError>
+    requires order { from ≤ until }
+    requires few { (until ≤ from + 128) × (length regions.old < 2 ^ 32) }
+    requires within { until ≤ length regions.old }
+    requires room { 65536 ≤ vec_capacity buffer.old }
+    requires inside { Reaches V.told side from vault.old }
+    ensures room { 65536 ≤ vec_capacity buffer.new }
+    ensures stopped { vault.old.stopped ≡ true → (result ≡ Err VaultStopped) × (vault.new ≡ vault.old) }
+    ensures ok { OnOk result (regions.new ≡ change (cleaned side) from (until - from) regions.old) }
+    ensures written { OnOk result (HasWritten V.told V.may_leave V.faults vault.old (image_name side) (place_of from) (bytes_between from (until - from) regions.old) vault.new) }
+    ensures reaches { OnOk result (Reaches V.told side until vault.new) }
+    ensures same { OnErr result (regions.new ≡ regions.old) }
+    ensures fault { vault.old.stopped ≡ false → OnErr result ((result ≡ Err StoreFault) × WriteHasFailed V.told V.may_leave V.faults vault.old (image_name side) (place_of from) (length (bytes_between from (until - from) regions.old)) vault.new) }
+    ensures end { vault.new.end ≡ vault.old.end }
+    ensures files { IsNoShorter V.told vault.old vault.new }
+    ensures any_moment { vault.old.stopped ≡ false → LeavesOnly V.moment V.left_since vault.old.store vault.new.store (TornFrom (V.may_leave vault.old.store) (image_name side) (place_of from) (length (bytes_between from (until - from) regions.old))) }
+    ensures calls { vault.old.stopped ≡ false → V.lets_pass vault.new.store ≡ one_less (V.lets_pass vault.old.store) }
+{
+    gather(regions, from, until, buffer);
+    calls::image_write(vault, side, 64 + 512 * from as u64, buffer)?;
+    clear_all(regions, from, until, side);
+    Ok(())
+}
+
+// Copies the run of regions that begins with the one of this number, where its flag is set, and answers where it ends.
+pub fn next_run<V: Store>(
+    vault: &mut Vault<V>,
+    side: Side,
+    from: usize,
+    regions: &mut [Region],
+    buffer: &mut Vec<u8>,
+) -> Result<usize, VaultError>
+    requires few { length regions.old < 2 ^ 32 }
+    requires within { from < length regions.old }
+    requires room { 65536 ≤ vec_capacity buffer.old }
+    requires inside { Reaches V.told side from vault.old }
+    requires places { IfSome (V.told vault.old.store) (HoldsPlaces regions.old) }
+    ensures room { 65536 ≤ vec_capacity buffer.new }
+    ensures until { IfOk result (λ until. until ≡ from + run_of side (drop from regions.old)) }
+    ensures further { IfOk result (λ until. (from < until) × (until ≤ length regions.old)) }
+    ensures ok { OnOk result (regions.new ≡ change (cleaned side) from (run_of side (drop from regions.old)) regions.old) }
+    ensures reaches { IfOk result (λ until. Reaches V.told side until vault.new) }
+    ensures places { IfSome (V.told vault.new.store) (HoldsPlaces regions.new) }
+    ensures clean { is_first_dirty side (drop from regions.old) ≡ false → (regions.new ≡ regions.old) × (vault.new ≡ vault.old) }
+    ensures skips { is_first_dirty side (drop from regions.old) ≡ false → OnErr result ⊥ }
+    ensures written { is_first_dirty side (drop from regions.old) ≡ true → OnOk result
+        (HasWritten V.told V.may_leave V.faults vault.old (image_name side) (place_of from) (bytes_between from (run_of side (drop from regions.old)) regions.old) vault.new) }
+    ensures stopped { is_first_dirty side (drop from regions.old) ≡ true → vault.old.stopped ≡ true → (result ≡ Err VaultStopped) × (vault.new ≡ vault.old) }
+    ensures same { OnErr result (regions.new ≡ regions.old) }
+    ensures fault { vault.old.stopped ≡ false → OnErr result (result ≡ Err StoreFault) }
+    ensures failed { vault.old.stopped ≡ false → OnErr result
+        (WriteHasFailed V.told V.may_leave V.faults vault.old (image_name side) (place_of from) (length (bytes_between from (run_of side (drop from regions.old)) regions.old)) vault.new) }
+    ensures end { vault.new.end ≡ vault.old.end }
+    ensures files { IsNoShorter V.told vault.old vault.new }
+    ensures any_moment { is_first_dirty side (drop from regions.old) ≡ true → vault.old.stopped ≡ false → LeavesOnly V.moment V.left_since vault.old.store vault.new.store
+        (TornFrom (V.may_leave vault.old.store) (image_name side) (place_of from) (length (bytes_between from (run_of side (drop from regions.old)) regions.old))) }
+    ensures calls { is_first_dirty side (drop from regions.old) ≡ true → vault.old.stopped ≡ false → V.lets_pass vault.new.store ≡ one_less (V.lets_pass vault.old.store) }
+{
+    let until = run_end(regions, from, side);
+    if regions[from].dirty(side) {
+        write_run(vault, side, from, until, regions, buffer)?;
+    }
+    Ok(until)
 }

@@ -54,14 +54,9 @@ fn vault_of<V: Store + Drop>(store: V, first: &Frame) -> Option<Vault<V>>
     }
 }
 
-// A database whose store passes so many calls on once it is formatted, with one transaction that has begun. Each word of the
-// index region is 1, and each of the heap region 2.
-fn begun(alloc: Global, passes: u64) -> Option<Small<Fuse<MemoryStore>>>
+// A store in memory that passes so many calls on once it is formatted.
+fn formatted(alloc: Global, passes: u64) -> Option<Vault<Fuse<MemoryStore>>>
     requires few { passes < 1000 }
-    ensures two { IfSome result (λ s. regions_of s.system.state.sizes ≡ 2) }
-    ensures uncopied { IfSome result (λ s. IsUncopied s.index × IsUncopied s.heap) }
-    ensures fresh { IfSome result (λ s. IsFresh s.index × IsFresh s.heap) }
-    ensures begun { IfSome result (λ s. HasBegun s.system.state) }
 {
     let fuse = Fuse::new(
         MemoryStore::new(alloc, Vec::new(alloc)),
@@ -73,7 +68,19 @@ fn begun(alloc: Global, passes: u64) -> Option<Small<Fuse<MemoryStore>>>
     if first.add(&FIRST).is_err() || first.is_empty() {
         return None;
     }
-    let vault = vault_of(fuse, &first)?;
+    vault_of(fuse, &first)
+}
+
+// A database whose store passes so many calls on once it is formatted, with one transaction that has begun. Each word of the
+// index region is 1, and each of the heap region 2.
+fn begun(alloc: Global, passes: u64) -> Option<Small<Fuse<MemoryStore>>>
+    requires few { passes < 1000 }
+    ensures two { IfSome result (λ s. regions_of s.system.state.sizes ≡ 2) }
+    ensures uncopied { IfSome result (λ s. IsUncopied s.index × IsUncopied s.heap) }
+    ensures fresh { IfSome result (λ s. IsFresh s.index × IsFresh s.heap) }
+    ensures begun { IfSome result (λ s. HasBegun s.system.state) }
+{
+    let vault = formatted(alloc, passes)?;
     let Ok(geometry) = Geometry::new(1, 1) else {
         return None;
     };
@@ -456,17 +463,17 @@ fn made(
 fn a_whole_checkpoint_stops_at_each_failing_call(rt: HostRuntime) -> Result<(), Fail> {
     let alloc = rt.alloc();
     let fault = Err(CheckpointError::Fault);
-    for passes in 0..17 {
+    for passes in 0..16 {
         assert_eq!(rt;
             made(alloc, passes, 1, false),
             Some((Err(CheckpointError::Fault), (Some(Cause::Store), true, 0)))
         );
     }
     for (passes, count, answer, left) in [
-        (17, 1, Ok(1), (None, false, 1)),
-        (29, 2, fault, (Some(Cause::Store), true, 1)),
-        (30, 2, Ok(2), (None, false, 2)),
-        (41, 3, Ok(3), (None, false, 3)),
+        (16, 1, Ok(1), (None, false, 1)),
+        (27, 2, fault, (Some(Cause::Store), true, 1)),
+        (28, 2, Ok(2), (None, false, 2)),
+        (39, 3, Ok(3), (None, false, 3)),
     ] {
         assert_eq!(rt; made(alloc, passes, count, false), Some((answer, left)));
     }

@@ -8,6 +8,7 @@ mod undoing;
 
 pub use cleaner::clean;
 pub use error::CleanError;
+pub use undoing::release;
 
 #[cfg(test)]
 mod tests;

@@ -47,9 +47,9 @@ pub(crate) fn undo(
     }
 }
 
-// Takes back the operation in which another client died, so that the region may be latched: its transaction is claimed
-// for that, and dead again behind it.
-pub(crate) fn release(region: &mut Region, system: &mut System)
+/// Takes back the operation in which a client died, if one left it on the region, so that the region may be latched. Its
+/// transaction is claimed for that, and dead again behind it, with no region latched. It takes no memory.
+pub fn release(region: &mut Region, system: &mut System)
     requires dead { IfSome region.old.hold (λ h. h.dead ≡ true) }
     ensures released { Released region.old system.old.state region.new system.new.state }
     ensures unheld { IsUnheld region.new }

@@ -22,7 +22,7 @@ use Rattle.dali_history.proofs.Ascending.{rolled_list_ascends, deleted_list_asce
 use Rattle.dali_history.proofs.Spelled.{AreSpelled-front, AreSpelled-push}
 
 -- ---- each Begin takes 9 bytes, and has room
-abbrev Weighs : ℕ → Option Rules → Type 0
+abbrev pub Weighs : ℕ → Option Rules → Type 0
 Weighs n None = ⊤
 Weighs n (Some g) = (9 * n ≤ g.weight) × (9 * n ≤ room)
 
@@ -35,7 +35,7 @@ weighs_either true n o p h k = h
 weighs_either false n o p h k = k
 
 -- how many transactions begin with the record
-abbrev more_begun : ℕ → Record → ℕ
+abbrev pub more_begun : ℕ → Record → ℕ
 more_begun n r = n + length (begun (r ∷ []))
 
 grows : (n w m : ℕ) → (9 * n ≤ w) × (9 * n ≤ room) → (9 * (n + 0) ≤ w + m) × (9 * (n + 0) ≤ room)
@@ -72,13 +72,13 @@ weighs_next : (s : Sizes) (n : ℕ) (o : Option Rules) (r : Record) → Weighs n
 weighs_next s n None r h = tt
 weighs_next s n (Some g) r h = weighs_either (g.count == 0) (more_begun n r) _ _ (weighs_first s n g r h) (weighs_behind s n g r h)
 
-begun_push : (E : List Record) (r : Record) → length (begun (E ++ r ∷ [])) ≡ more_begun (length (begun E)) r
+pub begun_push : (E : List Record) (r : Record) → length (begun (E ++ r ∷ [])) ≡ more_begun (length (begun E)) r
 begun_push E r = ap length (filter_map-append begin_by E (r ∷ [])) ∙ length-append (begun E) (begun (r ∷ []))
 
-weighs_all : (s : Sizes) (L : List Record) → Weighs (length (begun L)) (rules_state s L)
+pub weighs_all : (s : Sizes) (L : List Record) → Weighs (length (begun L)) (rules_state s L)
 weighs_all s L = by_push (λ M. Weighs (length (begun M)) (rules_state s M)) (omega arith, omega arith) (λ M r h. rw (rules_state_push s M r, begun_push M r) (weighs_next s (length (begun M)) (rules_state s M) r h)) L
 
-few_begun : (n : ℕ) (o : Option Rules) → IsSome o → Weighs n o → 9 * n ≤ room
+pub few_begun : (n : ℕ) (o : Option Rules) → IsSome o → Weighs n o → 9 * n ≤ room
 few_begun n None k h = absurd (cc)
 few_begun n (Some g) k h = h.1
 
@@ -134,7 +134,7 @@ begun_are_64 p (r ∷ E) h = by_record r (h 0 r refl) (begun_are_64 p E (λ i x 
     by_record (Restarted rs ds) k rest = rest
     by_record (Back t b) k rest = rest
 
-fewer : (p : ℕ → Bool) (xs : List ℕ) → length (filter p xs) ≤ length xs
+pub fewer : (p : ℕ → Bool) (xs : List ℕ) → length (filter p xs) ≤ length xs
 fewer p [] = omega arith
 fewer p (x ∷ xs) = by_test (p x) (filter p xs) (fewer p xs)
   where

@@ -262,6 +262,7 @@ fn a_header_is_read_written_and_tested(rt: HostRuntime) -> Result<(), Fail> {
         (3, 14, MANY, MANY, MANY, 24),
         (3, 100, MANY, MANY, MANY, 24),
         (3, 15, MANY, MANY, MANY, 32),
+        (3, 15, 0, MANY, MANY, 32),
         (3, 15, 1, MANY, MANY, 40),
         (3, 15, 1, 10, MANY, 48),
         (3, 15, 1, 10, 0, 48),

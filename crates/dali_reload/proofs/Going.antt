@@ -72,7 +72,8 @@ scanned_behind : (s : Sizes) (F : Files) (Q : List Record) (x y : Recovery) (ds 
 scanned_behind s F Q x y ds b (inl z) = subst (IsBehind s F Q) (sym z.0) b
 scanned_behind s F Q x y ds b (inr z) = (scans_behind s F Q x y z.damage.clean z.damage.failing.items b z.scans).0
 
-abbrev scans_on : (log : List ℕ) (s : Sizes) (F : Files) (r : Reading) (x y : Recovery) (n : Counts) (ds : List Told) → IsOn log s F r x n → ScansKnown x y ds → IsOn log s F r y n
+abbrev scans_on : (log : List ℕ) (s : Sizes) (F : Files) (r : Reading) (x y : Recovery) (n : Counts) (ds : List Told) → IsOn log s F r x n
+    → ScansKnown x y ds → IsOn log s F r y n
 scans_on log s F r x y n ds on z = record {
   front = on.front;
   done = on.done;
@@ -188,7 +189,8 @@ module _ (log : List ℕ) (s : Sizes) (F : Files) (r t : Reading) (x y : Recover
   behind_both = subst (λ Q. IsBehind s F Q x) (records_so_far on.front on.done) on.behind
 
   module _ (at : ℕ) (place : at ≡ g.at) where
-    fails_by : ((rest : List Record) (more : List (List Record)) → verdict_over s F (on.front ++ (on.done ++ g.entry ∷ rest) ∷ more) ≡ NamedMisfit (F.first + length (records_of on.front ++ on.done))) → FailsAt log s F at
+    fails_by : ((rest : List Record) (more : List (List Record)) → verdict_over s F (on.front ++ (on.done ++ g.entry ∷ rest) ∷ more) ≡ NamedMisfit (F.first + length (records_of on.front ++ on.done)))
+        → FailsAt log s F at
     fails_by verdict = record { front = on.front; done = on.done; failing = g.entry; stands = record_stands log F.place on.front on.done g t h; place = place ∙ h.at; verdict = verdict }
 
     pub fails_there : ((is_restarted g.entry ≡ true) × (g.first ≡ false)) ⊎ Fails x y g.entry Misfit → FailsAt log s F at
@@ -244,7 +246,8 @@ module _ (log : List ℕ) (s : Sizes) (F : Files) (r t : Reading) (x : Recovery)
     pub window_end : IsWindow log t
     window_end = w.2
 
-    pub unscanned_end : (goes_through s F (records_on on.front on.done)).known.failed ≡ true → (u : IsUnscanned log s F) × (records_of u.front ≡ records_on on.front on.done)
+    pub unscanned_end : (goes_through s F (records_on on.front on.done)).known.failed ≡ true
+        → (u : IsUnscanned log s F) × (records_of u.front ≡ records_on on.front on.done)
     unscanned_end failed =
         let same : records_on on.front on.done ≡ records_of on.front = ap records_of all_read in (
           record {
@@ -266,7 +269,8 @@ module _ (log : List ℕ) (s : Sizes) (F : Files) (r t : Reading) (x : Recovery)
     here : r.at ≡ t.at
     here = by_place on.read.stands
       where
-        by_place : ((r.at ≡ r.end) × IsRun log F.place on.front r.at × (on.done ≡ [])) ⊎ ((r.at < r.end) × IsWithin log F.place on.front on.done r) → r.at ≡ t.at
+        by_place : ((r.at ≡ r.end) × IsRun log F.place on.front r.at × (on.done ≡ [])) ⊎ ((r.at < r.end) × IsWithin log F.place on.front on.done r)
+            → r.at ≡ t.at
         by_place (inl z) = z.1.place ∙ sym w.1.run.place
         by_place (inr z) = absurd (closed_here log z.1.place t.at z.1.body (z.1.good.place ∙ sym w.1.run.place) w.1.closed z.1.batch)
 
@@ -286,7 +290,8 @@ module _ (log : List ℕ) (s : Sizes) (F : Files) (r t : Reading) (x : Recovery)
   bad_there at is = record {
     front = on.front;
     done = on.done;
-    bad = is F.place on.front on.done on.read;
+    bad = (is F.place on.front on.done on.read).0;
+    reached = (is F.place on.front on.done on.read).1;
     read = done_stands log F.place on.front on.done r on.read;
     passes = record {
       rules = subst (λ Q. IsSome (tests s F.first (known_at F.first F.next F.table) Q)) (records_so_far on.front on.done ∙ sym (records_all on.front on.done)) on.behind.passed;
@@ -305,7 +310,8 @@ pub record IsPassing (log : List ℕ) (s : Sizes) (F : Files) (ds : List Told) (
 abbrev pub IsPass : List ℕ → Sizes → Files → List Told → Reading → Recovery → Counts → Type 0
 IsPass log s F ds r x n = (on : IsOn log s F r x n) × (AreFound log s F ds → IsPassing log s F ds (records_on on.front on.done) x)
 
-pub pass_begins : (log : List ℕ) (s : Sizes) (F : Files) (ds : List Told) (r : Reading) (x : Recovery) → IsAtImage log s F r x → IsPass log s F ds r x nothing_counted
+pub pass_begins : (log : List ℕ) (s : Sizes) (F : Files) (ds : List Told) (r : Reading) (x : Recovery) → IsAtImage log s F r x
+    → IsPass log s F ds r x nothing_counted
 pass_begins log s F ds r x at = (
   begins log s F r x at,
   λ found. record {
@@ -327,7 +333,8 @@ module _ (log : List ℕ) (s : Sizes) (F : Files) (ds : List Told) (r t : Readin
   next : AreFound log s F ds → Past s F ds Q ⊎ (Ends s F ds Q g.entry × AreAmong log s F ds (Q ++ g.entry ∷ []))
   next found = next_is log s F ds Q on.front on.done g.entry (records_so_far on.front on.done) (there log s F r t y z n m g on goes) (pass.1 found).among
 
-  pub pass_on : TakesAt y z g → r.at < t.at → t.at < 2 ^ 62 → CanBeSpelled g.entry → (n.records + 1 < 2 ^ 64 → n.bytes + record_length g.entry < 2 ^ 64 → m ≡ one_more n g) → IsPass log s F ds t z m
+  pub pass_on : TakesAt y z g → r.at < t.at → t.at < 2 ^ 62 → CanBeSpelled g.entry
+      → (n.records + 1 < 2 ^ 64 → n.bytes + record_length g.entry < 2 ^ 64 → m ≡ one_more n g) → IsPass log s F ds t z m
   pass_on takes further small can counts =
       let w = goes_on log s F r t y z n m g on goes takes further small can counts in (
         w.0,
@@ -344,7 +351,8 @@ module _ (log : List ℕ) (s : Sizes) (F : Files) (ds : List Told) (r t : Readin
   window_here = window_there log s F r t y z n m g on goes
 
   -- the damage that the recovery tells then
-  pub pass_finds : (is_restarted g.entry ≡ true → g.first ≡ true) → Fails y z g.entry Unscanned → (d : Told) → TellsDamage z d.first d.clean d.failing.items → AreFound log s F ds
+  pub pass_finds : (is_restarted g.entry ≡ true → g.first ≡ true) → Fails y z g.entry Unscanned → (d : Told)
+      → TellsDamage z d.first d.clean d.failing.items → AreFound log s F ds
       → FindsDamage log s F (map told_of ds) (told_of d)
   pass_finds only f d tells found =
       let end = found_here log s F ds Q g.entry y f.0.0 on.behind (judged found) f.0.1 (⊎_elim (λ past. inl past) (λ more. inr more.0) (next found)) in
@@ -373,10 +381,12 @@ module _ (log : List ℕ) (s : Sizes) (F : Files) (ds : List Told) (r t : Readin
           let failed : (known_by s F all).failed ≡ true = ((tells_unscanned s F all x b).0 ((pass.1 found).scanning.fresh e)).0 bad in
           let good : (known_by s F all).failed ≡ false = sym b.stands.fails ∙ ap (list_any is_audit_fail) none in absurd (cc)
 
-  pub end_finds : is_unscanned x ≡ true → (d : Told) → TellsDamage x d.first d.clean d.failing.items → AreFound log s F ds → FindsDamage log s F (map told_of ds) (told_of d)
+  pub end_finds : is_unscanned x ≡ true → (d : Told) → TellsDamage x d.first d.clean d.failing.items → AreFound log s F ds
+      → FindsDamage log s F (map told_of ds) (told_of d)
   end_finds bad d tells found =
       let w = end_there log s F r t x n pass.0 ends in
-      let end = found_here log s F ds all closing x refl pass.0.behind (judged_end bad found) bad (end_is log s F ds all w.0 t.at w.2 w.1 (pass.1 found).among) in
+      let end =
+      found_here log s F ds all closing x refl pass.0.behind (judged_end bad found) bad (end_is log s F ds all w.0 t.at w.2 w.1 (pass.1 found).among) in
       let u = unscanned_end log s F r t x n pass.0 ends end.1 in
       record {
         unscanned = u.0;

@@ -2,6 +2,7 @@ pub mod Lists
 pub mod Verdicts
 pub mod Runs
 pub mod Tails
+pub mod OnePlace
 pub mod Passes
 pub mod Going
 pub mod Errors

@@ -22,14 +22,16 @@ pub so_far_push : (front : List (List Record)) (done : List Record) (r : Record)
 so_far_push front [] r = refl
 so_far_push front (d ∷ ds) r = refl
 
-pub records_with : (front : List (List Record)) (b : List Record) (more : List (List Record)) → records_of (front ++ b ∷ more) ≡ records_of front ++ (b ++ records_of more)
+pub records_with : (front : List (List Record)) (b : List Record) (more : List (List Record))
+    → records_of (front ++ b ∷ more) ≡ records_of front ++ (b ++ records_of more)
 records_with front b more = flat_map-append (λ z. z) front (b ∷ more)
 
 pub records_so_far : (front : List (List Record)) (done : List Record) → records_of (so_far front done) ≡ records_of front ++ done
 records_so_far front [] = sym (append-nil (records_of front))
 records_so_far front (d ∷ ds) = records_with front (d ∷ ds) [] ∙ ap (λ z. records_of front ++ z) (append-nil (d ∷ ds))
 
-pub records_pushed : (front : List (List Record)) (done : List Record) (r : Record) → records_of (front ++ (done ++ r ∷ []) ∷ []) ≡ records_of (so_far front done) ++ r ∷ []
+pub records_pushed : (front : List (List Record)) (done : List Record) (r : Record)
+    → records_of (front ++ (done ++ r ∷ []) ∷ []) ≡ records_of (so_far front done) ++ r ∷ []
 records_pushed front done r =
     records_with front (done ++ r ∷ []) []
     ∙ (ap (λ z. records_of front ++ z) (append-nil (done ++ r ∷ []))
@@ -37,7 +39,8 @@ records_pushed front done r =
     ∙ ap (λ z. z ++ r ∷ []) (sym (records_so_far front done))))
 
 -- ---- each Restarted is the first of its batch
-pub front_first : (front : List (List Record)) (done : List Record) → list_all is_restarted_first (so_far front done) ≡ true → list_all is_restarted_first front ≡ true
+pub front_first : (front : List (List Record)) (done : List Record) → list_all is_restarted_first (so_far front done) ≡ true
+    → list_all is_restarted_first front ≡ true
 front_first front [] e = e
 front_first front (d ∷ ds) e = and_left (list_all is_restarted_first front) _ (sym (list_all-append is_restarted_first front ((d ∷ ds) ∷ [])) ∙ e)
 
@@ -48,8 +51,10 @@ done_first front (d ∷ ds) e = and_left (is_restarted_first (d ∷ ds)) true (a
 both : (a b : Bool) → a ≡ true → b ≡ true → (a && b) ≡ true
 both a b e f = ap (λ c. c && b) e ∙ f
 
-pub with_batch : (front : List (List Record)) (b : List Record) → list_all is_restarted_first front ≡ true → is_restarted_first b ≡ true → list_all is_restarted_first (front ++ b ∷ []) ≡ true
-with_batch front b e f = list_all-append is_restarted_first front (b ∷ []) ∙ both (list_all is_restarted_first front) _ e (both (is_restarted_first b) true f refl)
+pub with_batch : (front : List (List Record)) (b : List Record) → list_all is_restarted_first front ≡ true → is_restarted_first b ≡ true
+    → list_all is_restarted_first (front ++ b ∷ []) ≡ true
+with_batch front b e f =
+    list_all-append is_restarted_first front (b ∷ []) ∙ both (list_all is_restarted_first front) _ e (both (is_restarted_first b) true f refl)
 
 no_one_left : (a b : Bool) → (a || b) ≡ false → a ≡ false
 no_one_left true b e = absurd (cc)
@@ -62,13 +67,15 @@ not_false false e = refl
 pub none_behind : (d : Record) (ds : List Record) → is_restarted_first (d ∷ ds) ≡ true → list_any is_restarted ds ≡ false
 none_behind d ds e = not_false (list_any is_restarted ds) e
 
-pub pushed_first : (done : List Record) (r : Record) → is_restarted_first done ≡ true → (is_restarted r ≡ true → done ≡ []) → is_restarted_first (done ++ r ∷ []) ≡ true
+pub pushed_first : (done : List Record) (r : Record) → is_restarted_first done ≡ true → (is_restarted r ≡ true → done ≡ [])
+    → is_restarted_first (done ++ r ∷ []) ≡ true
 pushed_first [] r e only = refl
 pushed_first (d ∷ ds) r e only = by_test (is_restarted r) refl
   where
     by_test : (c : Bool) → is_restarted r ≡ c → not (list_any is_restarted (ds ++ r ∷ [])) ≡ true
     by_test true h = absurd (let z : (d ∷ ds) ≡ [] = only h in cc)
-    by_test false h = ap not (list_any-append is_restarted ds (r ∷ []) ∙ (ap (λ c. c || (is_restarted r || false)) (none_behind d ds e) ∙ ap (λ c. c || false) h))
+    by_test false h =
+        ap not (list_any-append is_restarted ds (r ∷ []) ∙ (ap (λ c. c || (is_restarted r || false)) (none_behind d ds e) ∙ ap (λ c. c || false) h))
 
 -- ---- the last record
 pub last_pushed : (rs : List Record) (r : Record) → ends_restarted (last_of (rs ++ r ∷ [])) ≡ is_restarted r

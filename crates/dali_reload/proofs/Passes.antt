@@ -40,7 +40,8 @@ later_in : {X : Type 0} (d : X) (ds : List X) (e : X) → Contains ds e → Cont
 later_in d ds e c = Contains-append_right (d ∷ []) ds e c
 
 cases_in : {X : Type 0} (d : X) (ds : List X) (e : X) → Contains (d ∷ ds) e → (d ≡ e) ⊎ Contains ds e
-cases_in d ds e c = ⊎_elim (λ z. ⊎_elim (λ n. absurd (none_in e n)) (λ q. inl q) (Contains-push_cases [] d e z)) (λ z. inr z) (Contains-append_cases (d ∷ []) ds e c)
+cases_in d ds e c =
+    ⊎_elim (λ z. ⊎_elim (λ n. absurd (none_in e n)) (λ q. inl q) (Contains-push_cases [] d e z)) (λ z. inr z) (Contains-append_cases (d ∷ []) ds e c)
 
 map_in : {X Y : Type 0} (f : X → Y) (xs : List X) (x : X) → Contains xs x → Contains (map f xs) (f x)
 map_in f [] x c = absurd (none_in x c)
@@ -55,17 +56,7 @@ map_from f (x ∷ xs) y c =
 -- ---- kinds of record
 pub is_a_restart : (r : Record) → is_restarted r ≡ true → (rs ds : List ℕ) × (r ≡ Restarted rs ds)
 is_a_restart (Restarted rs ds) e = (rs, ds, refl)
-is_a_restart (Format i h) e = absurd (cc)
-is_a_restart (Begin t) e = absurd (cc)
-is_a_restart (Forward t b) e = absurd (cc)
-is_a_restart (Done t c a) e = absurd (cc)
-is_a_restart (Commit t) e = absurd (cc)
-is_a_restart (Ended t) e = absurd (cc)
-is_a_restart (Solo t p b) e = absurd (cc)
-is_a_restart AuditBegin e = absurd (cc)
-is_a_restart (AuditClean b) e = absurd (cc)
-is_a_restart (AuditFail b rs) e = absurd (cc)
-is_a_restart (Back t b) e = absurd (cc)
+is_a_restart _ e = absurd (cc)
 
 not_none : (n : ℕ) → 0 < n → (n == 0) ≡ true → ⊥
 not_none n some e = omega (arith, some, eqb-true n 0 e)
@@ -73,16 +64,7 @@ not_none n some e = omega (arith, some, eqb-true n 0 e)
 inside : (s : Sizes) (n : ℕ) (k : Known) (r : Record) → 0 < k.number → may_follow s n k r ≡ true → is_restarted r ≡ false → separates r ≡ false
 inside s n k (Restarted rs ds) some e f = absurd (cc)
 inside s n k (Format i h) some e f = absurd (not_none k.number some (and_left (k.number == 0) _ e))
-inside s n k (Begin t) some e f = refl
-inside s n k (Forward t b) some e f = refl
-inside s n k (Done t c a) some e f = refl
-inside s n k (Commit t) some e f = refl
-inside s n k (Ended t) some e f = refl
-inside s n k (Solo t p b) some e f = refl
-inside s n k AuditBegin some e f = refl
-inside s n k (AuditClean b) some e f = refl
-inside s n k (AuditFail b rs) some e f = refl
-inside s n k (Back t b) some e f = refl
+inside s n k _ some e f = refl
 
 abbrev pub closing : Record
 closing = Restarted [] []
@@ -102,7 +84,8 @@ module _ (s : Sizes) (F : Files) where
   push : (Q : List Record) (r : Record) → goes_through s F (Q ++ r ∷ []) ≡ step (goes_through s F Q) r
   push Q r = fold_push (going_next s F.first) (going_at F) Q r
 
-  steps : (c : Going) (r : Record) → c.known.first ≤ c.known.number → (c.known.first ≤ (step c r).known.first) × ((step c r).known.first ≤ (step c r).known.number)
+  steps : (c : Going) (r : Record) → c.known.first ≤ c.known.number
+      → (c.known.first ≤ (step c r).known.first) × ((step c r).known.first ≤ (step c r).known.number)
   steps c r low = by_kind (separates r)
     where
       by_kind : (b : Bool) → (c.known.first ≤ cond b (c.known.number + 1) c.known.first) × (cond b (c.known.number + 1) c.known.first ≤ c.known.number + 1)
@@ -157,7 +140,8 @@ module _ (s : Sizes) (F : Files) where
   between [] Q e c = absurd (none_in e c)
   between (r ∷ Z) Q e c = by_test (λ m. later (between Z (Q ++ r ∷ []) e m)) (is_restarted r && (known_by Q).failed) refl c
     where
-      later : ((known_by (Q ++ r ∷ [])).first ≤ e.first) × (e.first < (known_by ((Q ++ r ∷ []) ++ Z)).first) → ((known_by Q).first ≤ e.first) × (e.first < (known_by (Q ++ r ∷ Z)).first)
+      later : ((known_by (Q ++ r ∷ [])).first ≤ e.first) × (e.first < (known_by ((Q ++ r ∷ []) ++ Z)).first)
+          → ((known_by Q).first ≤ e.first) × (e.first < (known_by (Q ++ r ∷ Z)).first)
       later w = (omega (arith, rises Q (r ∷ []), w.0), subst (λ (q : List Record). e.first < (known_by q).first) (append_assoc Q (r ∷ []) Z) w.1)
 
       here : is_restarted r ≡ true → damage_through s F Q ≡ e → ((known_by Q).first ≤ e.first) × (e.first < (known_by (Q ++ r ∷ Z)).first)
@@ -177,7 +161,8 @@ module _ (s : Sizes) (F : Files) where
   before Q e c = (between Q [] e c).1
 
   -- where the epoch ends at the record w
-  here_is : (Q Y : List Record) (w : Record) (e : Damage) → is_restarted w ≡ true → Contains (damages_through s F Q ++ damages_on s F Q (w ∷ Y)) e → e.first ≡ (known_by Q).first
+  here_is : (Q Y : List Record) (w : Record) (e : Damage) → is_restarted w ≡ true → Contains (damages_through s F Q ++ damages_on s F Q (w ∷ Y)) e
+      → e.first ≡ (known_by Q).first
       → damage_through s F Q ≡ e
   here_is Q Y w e k c same =
       ⊎_elim (λ m. absurd (omega (arith, before Q e m, same))) (λ m. by_test (is_restarted w && (known_by Q).failed) m) (Contains-append_cases (damages_through s F Q) (damages_on s F Q (w ∷ Y)) e c)
@@ -185,11 +170,13 @@ module _ (s : Sizes) (F : Files) where
       none_behind : Contains (damages_on s F (Q ++ w ∷ []) Y) e → ⊥
       none_behind m = omega (arith, same, closes Q w k, (between Y (Q ++ w ∷ []) e m).0)
 
-      by_test : (b : Bool) → Contains (cond b (damage_through s F Q ∷ damages_on s F (Q ++ w ∷ []) Y) (damages_on s F (Q ++ w ∷ []) Y)) e → damage_through s F Q ≡ e
+      by_test : (b : Bool) → Contains (cond b (damage_through s F Q ∷ damages_on s F (Q ++ w ∷ []) Y) (damages_on s F (Q ++ w ∷ []) Y)) e
+          → damage_through s F Q ≡ e
       by_test true m = ⊎_elim (λ z. z) (λ z. absurd (none_behind z)) (cases_in (damage_through s F Q) (damages_on s F (Q ++ w ∷ []) Y) e m)
       by_test false m = absurd (none_behind m)
 
-  has_here : (Q Y : List Record) (w : Record) → is_restarted w ≡ true → (known_by Q).failed ≡ true → Contains (damages_through s F Q ++ damages_on s F Q (w ∷ Y)) (damage_through s F Q)
+  has_here : (Q Y : List Record) (w : Record) → is_restarted w ≡ true → (known_by Q).failed ≡ true
+      → Contains (damages_through s F Q ++ damages_on s F Q (w ∷ Y)) (damage_through s F Q)
   has_here Q Y w k f =
       Contains-append_right (damages_through s F Q) (damages_on s F Q (w ∷ Y)) (damage_through s F Q)
       (subst (λ b. Contains (cond b (damage_through s F Q ∷ damages_on s F (Q ++ w ∷ []) Y) (damages_on s F (Q ++ w ∷ []) Y)) (damage_through s F Q))
@@ -289,7 +276,8 @@ module _ (log : List ℕ) (s : Sizes) (F : Files) (ds : List Told) where
       ∙ ap (λ z. damages_through s F Q' ++ z) (sym (closed_damage s F Q' w k a.found.unscanned.failed))))
 
   module _ (Q : List Record) where
-    further : (a : AreSome log s F told) (g : Record) (Z : List Record) → records_of a.found.unscanned.front ≡ Q ++ g ∷ Z → Ends s F ds Q g × AreAmong log s F ds (Q ++ g ∷ [])
+    further : (a : AreSome log s F told) (g : Record) (Z : List Record) → records_of a.found.unscanned.front ≡ Q ++ g ∷ Z
+        → Ends s F ds Q g × AreAmong log s F ds (Q ++ g ∷ [])
     further a g Z e = (
       record {
         behind = Z ++ closing ∷ [];
@@ -303,16 +291,20 @@ module _ (log : List ℕ) (s : Sizes) (F : Files) (ds : List Told) where
       inr (record { some = a; rest = Z; ahead = e ∙ sym (append_assoc Q (g ∷ []) Z) }),
     )
 
-    just_here : (a : AreSome log s F told) (g : Record) → is_restarted g ≡ true → records_of a.found.unscanned.front ≡ Q → Ends s F ds Q g × AreAmong log s F ds (Q ++ g ∷ [])
+    just_here : (a : AreSome log s F told) (g : Record) → is_restarted g ≡ true → records_of a.found.unscanned.front ≡ Q
+        → Ends s F ds Q g × AreAmong log s F ds (Q ++ g ∷ [])
     just_here a g k e =
-        let same : told ≡ damages_through s F Q ++ damages_on s F Q (g ∷ []) = subst (λ (q : List Record). told ≡ damages_through s F q ++ damages_on s F q (g ∷ [])) e (told_to a g k) in
+        let same : told ≡ damages_through s F Q ++ damages_on s F Q (g ∷ []) =
+        subst (λ (q : List Record). told ≡ damages_through s F q ++ damages_on s F q (g ∷ [])) e (told_to a g k) in
         (record { behind = []; told = same }, inl (same ∙ sym (through_push s F Q g)))
 
-    too_long : (a : AreSome log s F told) (Z : List Record) → records_of a.found.unscanned.front ≡ Q ++ Z → length (records_of a.found.unscanned.front) < length Q → ⊥
+    too_long : (a : AreSome log s F told) (Z : List Record) → records_of a.found.unscanned.front ≡ Q ++ Z
+        → length (records_of a.found.unscanned.front) < length Q → ⊥
     too_long a Z e lt = omega (arith, lt, ap length e, length-append Q Z)
 
     -- the record g is the next one
-    pub next_is : (front : List (List Record)) (done : List Record) (g : Record) → Q ≡ records_of front ++ done → HasRecords log F.place front (done ++ g ∷ []) → AreAmong log s F ds Q
+    pub next_is : (front : List (List Record)) (done : List Record) (g : Record) → Q ≡ records_of front ++ done
+        → HasRecords log F.place front (done ++ g ∷ []) → AreAmong log s F ds Q
         → Past s F ds Q ⊎ (Ends s F ds Q g × AreAmong log s F ds (Q ++ g ∷ []))
     next_is front done g at has (inl past) = inl past
     next_is front done g at has (inr h) = inr (by_end h.some.found.unscanned.ends)
@@ -320,7 +312,8 @@ module _ (log : List ℕ) (s : Sizes) (F : Files) (ds : List Told) where
         front' : List (List Record)
         front' = h.some.found.unscanned.front
 
-        within : (later : List Record) (others : List (List Record)) → front' ≡ front ++ (done ++ g ∷ later) ∷ others → Ends s F ds Q g × AreAmong log s F ds (Q ++ g ∷ [])
+        within : (later : List Record) (others : List (List Record)) → front' ≡ front ++ (done ++ g ∷ later) ∷ others
+            → Ends s F ds Q g × AreAmong log s F ds (Q ++ g ∷ [])
         within later others e =
             further h.some g (later ++ records_of others)
             (ap records_of e
@@ -336,21 +329,24 @@ module _ (log : List ℕ) (s : Sizes) (F : Files) (ds : List Told) where
             (ap records_of e ∙ (sym (append-nil (records_of front)) ∙ (ap (λ z. records_of front ++ z) (sym none) ∙ sym at)))
         by_meeting r k (Behind lt) = absurd (too_long h.some h.rest h.ahead (subst (λ z. length (records_of front') < length z) (sym at) lt))
 
-        by_end : ((e : ℕ) × TailOf log F.place front' e) ⊎ ((r : Record) × (is_restarted r ≡ true) × HasRecords log F.place front' (r ∷ [])) → Ends s F ds Q g × AreAmong log s F ds (Q ++ g ∷ [])
+        by_end : ((e : ℕ) × TailOf log F.place front' e) ⊎ ((r : Record) × (is_restarted r ≡ true) × HasRecords log F.place front' (r ∷ []))
+            → Ends s F ds Q g × AreAmong log s F ds (Q ++ g ∷ [])
         by_end (inl z) =
             let w = has_batch log F.place front front' (done ++ g ∷ []) z.0 has z.1 in
             within w.0 w.1 (w.2 ∙ ap (λ b. front ++ b ∷ w.1) (append_assoc done (g ∷ []) w.0))
         by_end (inr z) = by_meeting z.0 z.1 (meets log F.place front front' done g z.0 has z.2)
 
     -- or the log ends
-    pub end_is : (front : List (List Record)) (e : ℕ) → records_of front ≡ Q → TailOf log F.place front e → AreAmong log s F ds Q → Past s F ds Q ⊎ Ends s F ds Q closing
+    pub end_is : (front : List (List Record)) (e : ℕ) → records_of front ≡ Q → TailOf log F.place front e → AreAmong log s F ds Q
+        → Past s F ds Q ⊎ Ends s F ds Q closing
     end_is front e at tail (inl past) = inl past
     end_is front e at tail (inr h) = by_end h.some.found.unscanned.ends
       where
         front' : List (List Record)
         front' = h.some.found.unscanned.front
 
-        by_end : ((q : ℕ) × TailOf log F.place front' q) ⊎ ((r : Record) × (is_restarted r ≡ true) × HasRecords log F.place front' (r ∷ [])) → Past s F ds Q ⊎ Ends s F ds Q closing
+        by_end : ((q : ℕ) × TailOf log F.place front' q) ⊎ ((r : Record) × (is_restarted r ≡ true) × HasRecords log F.place front' (r ∷ []))
+            → Past s F ds Q ⊎ Ends s F ds Q closing
         by_end (inl z) = inr (just_here h.some closing refl (ap records_of (one_tail log F.place front' front z.0 e z.1 tail).0 ∙ at)).0
         by_end (inr z) =
             let w = has_batch log F.place front' front (z.0 ∷ []) e z.2 tail in
@@ -362,7 +358,8 @@ module _ (log : List ℕ) (s : Sizes) (F : Files) (ds : List Told) where
         let low : a.damage.first < (known_by s F Q).first = before s F Q (told_of a.damage) (subst (λ z. Contains z (told_of a.damage)) past (map_in told_of ds a.damage a.known)) in omega (arith, low, a.first)
 
     -- where it has to be read again, its damage wasn't known, and what was known is that of those before it
-    pub found_here : (w : Record) (x : Recovery) → is_restarted w ≡ true → IsBehind s F Q x → Judges ds (known_by s F Q).first x → is_unscanned x ≡ true → Past s F ds Q ⊎ Ends s F ds Q w
+    pub found_here : (w : Record) (x : Recovery) → is_restarted w ≡ true → IsBehind s F Q x → Judges ds (known_by s F Q).first x
+        → is_unscanned x ≡ true → Past s F ds Q ⊎ Ends s F ds Q w
         → Past s F ds Q × ((known_by s F Q).failed ≡ true)
     found_here w x k b (inl j) bad (inl past) = (past, ((tells_unscanned s F Q x b).0 j.1).0 bad)
     found_here w x k b (inr a) bad (inl past) = absurd (unlike x past a)
@@ -374,8 +371,11 @@ module _ (log : List ℕ) (s : Sizes) (F : Files) (ds : List Told) where
         let good : is_unscanned x ≡ false = (tells_unscanned s F Q x b).1 (subst (λ (d : Damage). IsFor d.clean d.failing x.scan) (sym same) a.assumed) in absurd (cc)
 
     -- where it is taken as it is, none more is to be known
-    pub past_on : (g : Record) (y : Recovery) → IsBehind s F Q y → Judges ds (known_by s F Q).first y → EndsScanned y g → Past s F ds Q → Past s F ds (Q ++ g ∷ [])
-    past_on g y b j scanned past = past ∙ sym (through_push s F Q g ∙ (ap (λ z. damages_through s F Q ++ z) (none_closed (is_restarted g && (known_by s F Q).failed) refl) ∙ append-nil (damages_through s F Q)))
+    pub past_on : (g : Record) (y : Recovery) → IsBehind s F Q y → Judges ds (known_by s F Q).first y → EndsScanned y g → Past s F ds Q
+        → Past s F ds (Q ++ g ∷ [])
+    past_on g y b j scanned past =
+        past
+        ∙ sym (through_push s F Q g ∙ (ap (λ z. damages_through s F Q ++ z) (none_closed (is_restarted g && (known_by s F Q).failed) refl) ∙ append-nil (damages_through s F Q)))
       where
         at_image : y.number ≡ y.image → (known_by s F Q).failed ≡ true → ⊥
         at_image e f =

@@ -21,8 +21,10 @@ split_left P (y ∷ L) x all = let w = split_left P L x all.1 in ((all.0, w.0), 
 batches_pushed : (front : List (List Record)) (b : List Record) → batches (bodies (front ++ b ∷ [])) ≡ batches (bodies front) ++ batch (body_bytes b)
 batches_pushed front b = ap batches (bodies_push front b) ∙ batches_push (bodies front) (body_bytes b)
 
-pub batches_long : (front : List (List Record)) (b : List Record) → length (batches (bodies (front ++ b ∷ []))) ≡ length (batches (bodies front)) + 5 + length (body_bytes b)
-batches_long front b = omega (arith, ap length (batches_pushed front b), length-append (batches (bodies front)) (batch (body_bytes b)), length-batch (body_bytes b))
+pub batches_long : (front : List (List Record)) (b : List Record)
+    → length (batches (bodies (front ++ b ∷ []))) ≡ length (batches (bodies front)) + 5 + length (body_bytes b)
+batches_long front b =
+    omega (arith, ap length (batches_pushed front b), length-append (batches (bodies front)) (batch (body_bytes b)), length-batch (body_bytes b))
 
 abbrev none : List Record
 none = []
@@ -33,7 +35,9 @@ run_pop log p front b q run = record {
   place = p + length old;
   run = record {
     place = refl;
-    spells = ap (take (length old)) whole ∙ (ap (take (length old)) (append_assoc old (batch (body_bytes b)) behind) ∙ take_at old (batch (body_bytes b) ++ behind) (length old) refl);
+    spells =
+        ap (take (length old)) whole
+        ∙ (ap (take (length old)) (append_assoc old (batch (body_bytes b)) behind) ∙ take_at old (batch (body_bytes b) ++ behind) (length old) refl);
     sizes = sizes.0;
     each = each.0;
   };
@@ -72,14 +76,17 @@ no_push : (done : List Record) (r : Record) → done ++ r ∷ [] ≡ [] → ⊥
 no_push [] r e = cc
 no_push (d ∷ ds) r e = cc
 
-pub done_stands : (log : List ℕ) (p : ℕ) (front : List (List Record)) (done : List Record) (r : Reading) → IsReadFrom log p front done r → (done ≡ []) ⊎ HasRecords log p front done
+pub done_stands : (log : List ℕ) (p : ℕ) (front : List (List Record)) (done : List Record) (r : Reading) → IsReadFrom log p front done r
+    → (done ≡ []) ⊎ HasRecords log p front done
 done_stands log p front done r read = by_place read.stands
   where
-    by_place : ((r.at ≡ r.end) × IsRun log p front r.at × (done ≡ [])) ⊎ ((r.at < r.end) × IsWithin log p front done r) → (done ≡ []) ⊎ HasRecords log p front done
+    by_place : ((r.at ≡ r.end) × IsRun log p front r.at × (done ≡ [])) ⊎ ((r.at < r.end) × IsWithin log p front done r)
+        → (done ≡ []) ⊎ HasRecords log p front done
     by_place (inl z) = inl z.2
     by_place (inr z) = inr (within_has log p front done r z.1)
 
-pub record_stands : (log : List ℕ) (p : ℕ) (front : List (List Record)) (done : List Record) (g : Placed) (t : Reading) → HandsOut log p front done g t → HasRecords log p front (done ++ g.entry ∷ [])
+pub record_stands : (log : List ℕ) (p : ℕ) (front : List (List Record)) (done : List Record) (g : Placed) (t : Reading)
+    → HandsOut log p front done g t → HasRecords log p front (done ++ g.entry ∷ [])
 record_stands log p front done g t h = by_sum h.goes
   where
     more : List Record
@@ -89,7 +96,8 @@ record_stands log p front done g t h = by_sum h.goes
     begun (inl z) = absurd (no_push done g.entry z.2)
     begun (inr z) = within_has log p front more t z.1
 
-    ended : ((t.at ≡ t.end) × IsRun log p (front ++ more ∷ []) t.at × (none ≡ [])) ⊎ ((t.at < t.end) × IsWithin log p (front ++ more ∷ []) [] t) → HasRecords log p front more
+    ended : ((t.at ≡ t.end) × IsRun log p (front ++ more ∷ []) t.at × (none ≡ [])) ⊎ ((t.at < t.end) × IsWithin log p (front ++ more ∷ []) [] t)
+        → HasRecords log p front more
     ended (inl z) = run_pop log p front more t.at z.1
     ended (inr z) = run_pop log p front more z.1.place z.1.good
 
@@ -98,7 +106,8 @@ record_stands log p front done g t h = by_sum h.goes
     by_sum (inr z) = ended z.stands
 
 -- ---- the places
-pub before_record : (log : List ℕ) (p : ℕ) (front : List (List Record)) (done : List Record) (r : Reading) → IsReadFrom log p front done r → r.at ≤ place_of p front done
+pub before_record : (log : List ℕ) (p : ℕ) (front : List (List Record)) (done : List Record) (r : Reading) → IsReadFrom log p front done r
+    → r.at ≤ place_of p front done
 before_record log p front done r read = by_place read.stands
   where
     by_place : ((r.at ≡ r.end) × IsRun log p front r.at × (done ≡ [])) ⊎ ((r.at < r.end) × IsWithin log p front done r) → r.at ≤ place_of p front done
@@ -115,7 +124,8 @@ behind_record log p front done g t h = by_sum h.goes
     long : length (body_bytes more) ≡ length (body_bytes done) + length (spelling g.entry)
     long = sym (ap length (bytes_push done g.entry)) ∙ length-append (body_bytes done) (spelling g.entry)
 
-    begun : ((t.at ≡ t.end) × IsRun log p front t.at × (more ≡ [])) ⊎ ((t.at < t.end) × IsWithin log p front more t) → place_of p front done + length (spelling g.entry) ≤ t.at
+    begun : ((t.at ≡ t.end) × IsRun log p front t.at × (more ≡ [])) ⊎ ((t.at < t.end) × IsWithin log p front more t)
+        → place_of p front done + length (spelling g.entry) ≤ t.at
     begun (inl z) = absurd (no_push done g.entry z.2)
     begun (inr z) = omega (arith, z.1.reached, z.1.good.place, long)
 

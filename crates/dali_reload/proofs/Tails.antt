@@ -18,7 +18,7 @@ use Rattle.dali_reload.proofs.Lists.{records_with}
 abbrev Shut : List ℕ → Type 0
 Shut y = (body rest : List ℕ) → IsBody body → y ≡ batch body ++ rest → ⊥
 
-record More (L M : List (List Record)) (x : List ℕ) : Type 0 where
+pub record More (L M : List (List Record)) (x : List ℕ) : Type 0 where
   pub next : List Record
   pub others : List (List Record)
   pub rest : List ℕ
@@ -28,7 +28,8 @@ record More (L M : List (List Record)) (x : List ℕ) : Type 0 where
   pub spelled : AreSpelled next
 
 -- of both all whole batches are the same, or one of them goes on
-both : (L M : List (List Record)) (x y : List ℕ) → AllByRecursion AreSpelled L → AllByRecursion AreSpelled M → AllByRecursion IsBody (bodies L) → AllByRecursion IsBody (bodies M)
+pub both : (L M : List (List Record)) (x y : List ℕ) → AllByRecursion AreSpelled L → AllByRecursion AreSpelled M → AllByRecursion IsBody (bodies L)
+    → AllByRecursion IsBody (bodies M)
     → batches (bodies L) ++ x ≡ batches (bodies M) ++ y → ((L ≡ M) × (x ≡ y)) ⊎ More L M x ⊎ More M L y
 both [] [] x y al am bl bm e = inl (refl, e)
 both [] (m ∷ M) x y al am bl bm e = inr (inl (record { next = m; others = M; rest = batches (bodies M) ++ y; goes = refl; stands = e ∙ append_assoc (batch (body_bytes m)) (batches (bodies M)) y; size = bm.0; spelled = am.0 }))
@@ -42,12 +43,13 @@ both (l ∷ L) (m ∷ M) x y al am bl bm e =
     (λ (w : More M L y). inr (inr (record { next = w.next; others = w.others; rest = w.rest; goes = ap (λ Q. l ∷ Q) w.goes ∙ ap (λ q. q ∷ (M ++ w.next ∷ w.others)) one; stands = w.stands; size = w.size; spelled = w.spelled }))) z)
     (both L M x y al.1 am.1 bl.1 bm.1 same.1)
 
-rows : (L M : List (List Record)) (x y : List ℕ) → AllByRecursion AreSpelled L → AllByRecursion AreSpelled M → AllByRecursion IsBody (bodies L) → AllByRecursion IsBody (bodies M) → Shut y
+rows : (L M : List (List Record)) (x y : List ℕ) → AllByRecursion AreSpelled L → AllByRecursion AreSpelled M → AllByRecursion IsBody (bodies L)
+    → AllByRecursion IsBody (bodies M) → Shut y
     → batches (bodies L) ++ x ≡ batches (bodies M) ++ y → ((L ≡ M) × (x ≡ y)) ⊎ More L M x
 rows L M x y al am bl bm shut e =
     ⊎_elim (λ w. inl w) (λ z. ⊎_elim (λ w. inr w) (λ (w : More M L y). absurd (shut (body_bytes w.next) w.rest w.size w.stands)) z) (both L M x y al am bl bm e)
 
-run_is : (log : List ℕ) (p : ℕ) (L : List (List Record)) (q : ℕ) → IsRun log p L q → drop p log ≡ batches (bodies L) ++ drop q log
+pub run_is : (log : List ℕ) (p : ℕ) (L : List (List Record)) (q : ℕ) → IsRun log p L q → drop p log ≡ batches (bodies L) ++ drop q log
 run_is log p L q run =
     let old = batches (bodies L) in
     sym (take-append-drop (length old) (drop p log))
@@ -75,12 +77,14 @@ closed_here log q e body same shut found = shut.1 (open_of_batch log e body (sub
 
 -- a tail is one row of batches
 pub one_tail : (log : List ℕ) (p : ℕ) (L M : List (List Record)) (q e : ℕ) → TailOf log p L q → TailOf log p M e → (L ≡ M) × (q ≡ e)
-one_tail log p L M q e one two = ⊎_elim (λ w. w) (λ w. absurd (closed_here log q q (body_bytes w.next) refl one.closed w.stands)) (fork log p L M q e one.run two)
+one_tail log p L M q e one two =
+    ⊎_elim (λ w. w) (λ w. absurd (closed_here log q q (body_bytes w.next) refl one.closed w.stands)) (fork log p L M q e one.run two)
 
 -- records that stand there are those of its batch
 pub has_batch : (log : List ℕ) (p : ℕ) (L M : List (List Record)) (rs : List Record) (e : ℕ) → HasRecords log p L rs → TailOf log p M e
     → (later : List Record) × (others : List (List Record)) × (M ≡ L ++ (rs ++ later) ∷ others)
-has_batch log p L M rs e has tail = ⊎_elim (λ w. absurd (closed_here log has.place e _ w.1 tail.closed has.batch)) more (fork log p L M has.place e has.run tail)
+has_batch log p L M rs e has tail =
+    ⊎_elim (λ w. absurd (closed_here log has.place e _ w.1 tail.closed has.batch)) more (fork log p L M has.place e has.run tail)
   where
     more : Goes log L M has.place → (later : List Record) × (others : List (List Record)) × (M ≡ L ++ (rs ++ later) ∷ others)
     more w =
@@ -95,7 +99,8 @@ pub data Meets (L M : List (List Record)) (rs : List Record) (g r : Record) : Ty
   Here : M ≡ L → rs ≡ [] → r ≡ g → Meets L M rs g r
   Behind : length (records_of M) < length (records_of L ++ rs) → Meets L M rs g r
 
-pub meets : (log : List ℕ) (p : ℕ) (L M : List (List Record)) (rs : List Record) (g r : Record) → HasRecords log p L (rs ++ g ∷ []) → HasRecords log p M (r ∷ []) → Meets L M rs g r
+pub meets : (log : List ℕ) (p : ℕ) (L M : List (List Record)) (rs : List Record) (g r : Record) → HasRecords log p L (rs ++ g ∷ [])
+    → HasRecords log p M (r ∷ []) → Meets L M rs g r
 meets log p L M rs g r one two =
     ⊎_elim (λ w. same rs w.0 one.spelled (bodies_same w.1)) (λ z. ⊎_elim ahead behind z)
     (both L M (drop one.place log) (drop two.place log) one.run.each two.run.each one.run.sizes two.run.sizes (sym (run_is log p L one.place one.run) ∙ run_is log p M two.place two.run))
@@ -120,18 +125,23 @@ meets log p L M rs g r one two =
         Behind (omega (arith, ap (λ (z : List (List Record)). length (records_of z)) w.goes, ap length (records_with M w.next w.others), length-append (records_of M) (w.next ++ records_of w.others), length-append w.next (records_of w.others), ap length front.2, length-append (records_of L) rs))
 
 -- ---- no place is bad
-no_batch : (log : List ℕ) (q : ℕ) (body : List ℕ) → BatchAt log q body → NoBatch log q → ⊥
+pub no_batch : (log : List ℕ) (q : ℕ) (body : List ℕ) → BatchAt log q body → NoBatch log q → ⊥
 no_batch log q body found none = none.none body found.1 found.0 (sym (drop-drop 1 q log) ∙ ap (λ (l : List ℕ). drop 1 l) found.2)
 
 pub none_bad : (log : List ℕ) (p : ℕ) (L M : List (List Record)) (e at : ℕ) → BadBehind log p L at → TailOf log p M e → ⊥
 none_bad log p L M e at b tail = ⊎_elim (λ w. ended w.1 b.bad) (λ w. goes w b.bad) (fork log p L M b.place e b.good tail)
   where
-    ended : b.place ≡ e → IsBad log b.place at ⊎ ((body : List ℕ) × (within : ℕ) × BatchAt log b.place body × NoRecordAt body within × (at ≡ b.place + 5 + within)) → ⊥
+    ended : b.place ≡ e
+        → IsBad log b.place at ⊎ ((body : List ℕ) × (within : ℕ) × BatchAt log b.place body × NoRecordAt body within × (at ≡ b.place + 5 + within))
+        → ⊥
     ended same (inl (inl z)) = omega (arith, z.0, same, tail.closed.0)
     ended same (inl (inr z)) = tail.closed.1 (subst (λ n. IsOpenAt n log) same z.0.gate).1
     ended same (inr z) = closed_here log b.place e z.0 same tail.closed z.2
 
-    goes : Goes log L M b.place → IsBad log b.place at ⊎ ((body : List ℕ) × (within : ℕ) × BatchAt log b.place body × NoRecordAt body within × (at ≡ b.place + 5 + within)) → ⊥
+    goes : Goes log L M b.place
+        → IsBad log b.place at ⊎ ((body : List ℕ) × (within : ℕ) × BatchAt log b.place body × NoRecordAt body within × (at ≡ b.place + 5 + within))
+        → ⊥
     goes w (inl (inl z)) = omega (arith, z.0, (open_of_batch log b.place (body_bytes w.next) w.stands).0)
     goes w (inl (inr z)) = no_batch log b.place (body_bytes w.next) w.stands z.0
-    goes w (inr z) = whole_is_good w.next z.0 z.1 w.spelled (same_batch z.0 (body_bytes w.next) z.2.1 w.stands.1 z.2.0 w.stands.0 (sym z.2.2 ∙ w.stands.2)).0 z.3
+    goes w (inr z) =
+        whole_is_good w.next z.0 z.1 w.spelled (same_batch z.0 (body_bytes w.next) z.2.1 w.stands.1 z.2.0 w.stands.0 (sym z.2.2 ∙ w.stands.2)).0 z.3

@@ -23,7 +23,8 @@ use Rattle.dali_recovery.proofs.Whole.{hands_out_verdict, names_misfit}
 use Rattle.dali_reload.proofs.Lists.{behind_some, drop_some, none_behind, records_with}
 
 -- ---- the end
-pub handed : (s : Sizes) (F : Files) (bs : List (List Record)) (x : Recovery) (o : Recovered) → IsBehind s F (records_of bs) x → list_all is_restarted_first bs ≡ true → HandsOn x o
+pub handed : (s : Sizes) (F : Files) (bs : List (List Record)) (x : Recovery) (o : Recovered) → IsBehind s F (records_of bs) x
+    → list_all is_restarted_first bs ≡ true → HandsOn x o
     → (verdict_over s F bs ≡ HandedOut (outcome_of o)) × (o.number ≡ F.first + length (records_of bs)) × (o.next ≡ (goes_through s F (records_of bs)).known.next)
 handed s F bs x o b first h =
     let same : records_of bs ≡ drop F.first (behind_some F.first (records_of bs)) = sym (drop_some F.first (records_of bs)) in
@@ -85,7 +86,8 @@ named n k o (Some i) e = ap (λ z. Some z) (let same : i ≡ k = omega (arith, m
     misfit_same : {a b : ℕ} → NamedMisfit a ≡ NamedMisfit b → a ≡ b
     misfit_same f = cc
 
-bad_here : (s : Sizes) (F : Files) (Q Z : List Record) (x y : Recovery) (r : Record) → IsBehind s F Q x → Fails x y r Misfit → first_bad s F.first (known_at F.first F.next F.table) (Q ++ r ∷ Z) ≡ Some (length Q)
+bad_here : (s : Sizes) (F : Files) (Q Z : List Record) (x y : Recovery) (r : Record) → IsBehind s F Q x → Fails x y r Misfit
+    → first_bad s F.first (known_at F.first F.next F.table) (Q ++ r ∷ Z) ≡ Some (length Q)
 bad_here s F Q Z x y r b f =
     let L = behind_some F.first (Q ++ r ∷ Z) in
     let same : drop F.first L ≡ Q ++ r ∷ Z = drop_some F.first (Q ++ r ∷ Z) in
@@ -97,7 +99,8 @@ any_none : (b : List Record) → list_any is_restarted b ≡ false → first_res
 any_none [] e = refl
 any_none (r ∷ b) e = by_test (is_restarted r) (any_none b) e
   where
-    by_test : (c : Bool) → (list_any is_restarted b ≡ false → first_restarted b ≡ None) → (c || list_any is_restarted b) ≡ false → cond c (Some 0) (one_later (first_restarted b)) ≡ None
+    by_test : (c : Bool) → (list_any is_restarted b ≡ false → first_restarted b ≡ None) → (c || list_any is_restarted b) ≡ false
+        → cond c (Some 0) (one_later (first_restarted b)) ≡ None
     by_test true rest f = absurd (cc)
     by_test false rest f = ap one_later (rest f)
 
@@ -113,7 +116,8 @@ further_twice : (a b : ℕ) (o : Option ℕ) → further a (further b o) ≡ fur
 further_twice a b None = refl
 further_twice a b (Some i) = ap (λ n. Some n) (let same : a + (b + i) ≡ a + b + i = omega arith in same)
 
-front_misplaced : (front more : List (List Record)) → list_all is_restarted_first front ≡ true → misplaced (front ++ more) ≡ further (length (records_of front)) (misplaced more)
+front_misplaced : (front more : List (List Record)) → list_all is_restarted_first front ≡ true
+    → misplaced (front ++ more) ≡ further (length (records_of front)) (misplaced more)
 front_misplaced [] more e = further_zero (misplaced more)
 front_misplaced (b ∷ front) more e =
     ap (λ o. either_place o (further (length b) (misplaced (front ++ more)))) (good_batch b (and_left (is_restarted_first b) _ e))

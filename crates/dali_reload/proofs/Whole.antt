@@ -33,13 +33,16 @@ use Rattle.dali_reload.proofs.Tails.{has_batch, none_bad, one_tail}
 -- ---- the bytes of batches
 body_length : (rs : List Record) → AreSpelled rs → length (body_bytes rs) ≡ sum_by record_length rs
 body_length [] all = refl
-body_length (r ∷ rs) all = length-append (spelling r) (body_bytes rs) ∙ (ap (λ n. n + length (body_bytes rs)) (length-spelling r all.0) ∙ (ap (λ n. record_length r + n) (body_length rs all.1) ∙ sym (sum_by-cons record_length r rs)))
+body_length (r ∷ rs) all =
+    length-append (spelling r) (body_bytes rs)
+    ∙ (ap (λ n. n + length (body_bytes rs)) (length-spelling r all.0) ∙ (ap (λ n. record_length r + n) (body_length rs all.1) ∙ sym (sum_by-cons record_length r rs)))
 
 batches_length : (L : List (List Record)) → AllByRecursion AreSpelled L → length (batches (bodies L)) ≡ sum_by batch_length L
 batches_length [] all = refl
 batches_length (rs ∷ L) all =
     let one : length (batch (body_bytes rs)) ≡ batch_length rs = omega (arith, length-batch (body_bytes rs), body_length rs all.0) in
-    length-append (batch (body_bytes rs)) (batches (bodies L)) ∙ (ap (λ n. n + length (batches (bodies L))) one ∙ (ap (λ n. batch_length rs + n) (batches_length L all.1) ∙ sym (sum_by-cons batch_length rs L)))
+    length-append (batch (body_bytes rs)) (batches (bodies L))
+    ∙ (ap (λ n. n + length (batches (bodies L))) one ∙ (ap (λ n. batch_length rs + n) (batches_length L all.1) ∙ sym (sum_by-cons batch_length rs L)))
 
 all_left : {X : Type 0} (P : X → Type 0) (L M : List X) → AllByRecursion P (L ++ M) → AllByRecursion P L
 all_left P [] M all = tt
@@ -52,7 +55,8 @@ apart o m e = cc
 handed_same : (a b : Outcome) → HandedOut a ≡ HandedOut b → a ≡ b
 handed_same a b e = cc
 
-good_tail : (log : List ℕ) (s : Sizes) (F : Files) (bs : List (List Record)) (end : ℕ) (o : Outcome) → TailOf log F.place bs end → verdict_over s F bs ≡ HandedOut o
+good_tail : (log : List ℕ) (s : Sizes) (F : Files) (bs : List (List Record)) (end : ℕ) (o : Outcome) → TailOf log F.place bs end
+    → verdict_over s F bs ≡ HandedOut o
     → (at : ℕ) → IsBadBehind log s F at ⊎ FailsAt log s F at → ⊥
 good_tail log s F bs end o tail verdict at (inl b) = none_bad log F.place b.front bs end at b.bad tail
 good_tail log s F bs end o tail verdict at (inr b) =
@@ -82,7 +86,9 @@ module _ (log : List ℕ) (s : Sizes) (K : List Record) (F : Files) (more : List
   tail = drop w.0 bs ++ more
 
   records_are : records_of tail ≡ drop F.first L
-  records_are = flat_map-append (λ b. b) (drop w.0 bs) more ∙ (ap (λ X. X ++ records_of more) w.2 ∙ sym (drop-append-le F.first K (records_of more) out.fits.front.1.fits.count))
+  records_are =
+      flat_map-append (λ b. b) (drop w.0 bs) more
+      ∙ (ap (λ X. X ++ records_of more) w.2 ∙ sym (drop-append-le F.first K (records_of more) out.fits.front.1.fits.count))
 
   whole : bs ++ more ≡ take w.0 bs ++ tail
   whole = ap (λ z. z ++ more) (sym (take-append-drop w.0 bs)) ∙ append_assoc (take w.0 bs) (drop w.0 bs) more

@@ -5,6 +5,7 @@
 --     ReadsHistory                   of a history these are exactly the records of the survivors, and the right lists
 --     IsOneReading log s F bs e o    these batches, this end and this answer are the only ones, and the log is nowhere bad behind the image
 --     OneReading                     so it is of each log that is read to an end
+--     OneBadPlace                    behind an image a log is bad at one place, whichever comes first: bytes that spell nothing, or a record that fails
 --     FindsLater                     where the damage of an epoch is found, no earlier epoch's was found before it
 use Rattle.std.specs.Prelude.{◌≡◌, ◌⊎◌, ◌<◌, ◌≤◌, ◌+◌, ℕ, true, List, ◌++◌, Contains, length, sum_by}
 use Rattle.std.specs.List.{list_all}
@@ -58,6 +59,11 @@ abbrev pub OneReading : Type 0
 OneReading =
     (log : List ℕ) (s : Sizes) (F : Files) (bs : List (List Record)) (end : ℕ) (o : Outcome) → TailOf log F.place bs end → verdict_over s F bs ≡ HandedOut o
     → IsOneReading log s F bs end o
+
+abbrev pub OneBadPlace : Type 0
+OneBadPlace =
+    (log : List ℕ) (s : Sizes) (F : Files) (at bt : ℕ) → IsBadBehind log s F at ⊎ FailsAt log s F at → IsBadBehind log s F bt ⊎ FailsAt log s F bt
+    → at ≡ bt
 
 -- ---- passes
 -- so each pass but the last finds a later epoch

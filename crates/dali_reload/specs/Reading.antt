@@ -11,7 +11,7 @@
 --     TakesNext x y n g m        and counts it
 --     RefusesAt x y g e          what the error e tells of it
 --     EndRefuses x e             and what it tells of the end
-use Rattle.std.specs.Prelude.{◌≡◌, ◌⊎◌, ◌<◌, ◌+◌, ◌^◌, ℕ, ⊤, true, false, List, [], ◌∷◌, ◌++◌, None, IsSome, length}
+use Rattle.std.specs.Prelude.{◌≡◌, ◌⊎◌, ◌<◌, ◌≤◌, ◌+◌, ◌^◌, ℕ, ⊤, true, false, List, [], ◌∷◌, ◌++◌, None, IsSome, length}
 use Rattle.std.specs.List.{list_all}
 use Rattle.dali_geometry.specs.Sizes.{Sizes}
 use Rattle.dali_record.specs.declared.records.Record.{Record}
@@ -71,12 +71,15 @@ pub record FailsAt (log : List ℕ) (s : Sizes) (F : Files) (at : ℕ) : Type 0 
   pub failing : Record
   pub stands : HasRecords log F.place front (done ++ failing ∷ [])
   pub place : at ≡ place_of F.place front done
-  pub verdict : (rest : List Record) (more : List (List Record)) → verdict_over s F (front ++ (done ++ failing ∷ rest) ∷ more) ≡ NamedMisfit (F.first + length (records_of front ++ done))
+  pub verdict : (rest : List Record) (more : List (List Record))
+      → verdict_over s F (front ++ (done ++ failing ∷ rest) ∷ more) ≡ NamedMisfit (F.first + length (records_of front ++ done))
 
 pub record IsBadBehind (log : List ℕ) (s : Sizes) (F : Files) (at : ℕ) : Type 0 where
   pub front : List (List Record)
   pub done : List Record
   pub bad : BadBehind log F.place front at
+  -- no record of its batch that wasn't read stands before it
+  pub reached : at ≤ place_of F.place front done
   pub read : (done ≡ []) ⊎ HasRecords log F.place front done
   pub passes : Passes s F (front ++ done ∷ [])
 

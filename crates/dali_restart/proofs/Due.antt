@@ -22,7 +22,8 @@ use Rattle.dali_restart.specs.declared.restarting.Found.{Found}
 use Rattle.dali_restart.specs.Deciding.{IsInOrder, IsReadIn, IsSmallRest, LogsRecord, WritesImage, at_end, before, due_by, due_of, resting_of}
 
 -- what is said of a result where it is Ok, twice
-pub if_ok_both : {T E : Type 0} (P R : T → Type 0) (Q : Type 0) (result : Result T E) → IfOk result P → OnOk result Q → ((x : T) → P x → Q → R x) → IfOk result R
+pub if_ok_both : {T E : Type 0} (P R : T → Type 0) (Q : Type 0) (result : Result T E) → IfOk result P → OnOk result Q → ((x : T) → P x → Q → R x)
+    → IfOk result R
 if_ok_both P R Q (Ok x) p q f = f x p q
 if_ok_both P R Q (Err e) p q f = tt
 
@@ -38,7 +39,8 @@ some_image q p false e = let is : q ≡ p = cc in sym is
 pub due_image : (x : Found) (p : Standing) → due_of x ≡ dues.Image p → (m : BeforeRestart) × (x.reloaded.counts.restarted ≡ Some m) × (p ≡ before x m)
 due_image x p e = by x.reloaded.counts.restarted refl e
   where
-    by : (o : Option BeforeRestart) → x.reloaded.counts.restarted ≡ o → due_by x o ≡ dues.Image p → (m : BeforeRestart) × (x.reloaded.counts.restarted ≡ Some m) × (p ≡ before x m)
+    by : (o : Option BeforeRestart) → x.reloaded.counts.restarted ≡ o → due_by x o ≡ dues.Image p
+        → (m : BeforeRestart) × (x.reloaded.counts.restarted ≡ Some m) × (p ≡ before x m)
     by None same due = absurd (none_image p _ due)
     by (Some m) same due = (m, same, some_image (before x m) p _ due)
 
@@ -59,7 +61,8 @@ same_current x p due = ap (λ (r : Standing). r.current) (due_image x p due).2
 
 -- ---- before it is written
 pub is_closed : (fs : Disk) (may : Disk → Type 0) (x : Found) → IsReadIn fs may x → (c : Disk) → may c → IsClosedAt x.reloaded.end c.log
-is_closed fs may x is c left = subst (λ (d : Disk). IsClosedAt x.reloaded.end d.log) (sym (is.only c left)) (is.reads x.base.geometry is.files is.begins).1.tail.closed
+is_closed fs may x is c left =
+    subst (λ (d : Disk). IsClosedAt x.reloaded.end d.log) (sym (is.only c left)) (is.reads x.base.geometry is.files is.begins).1.tail.closed
 
 pub are_anchored : (fs : Disk) (may : Disk → Type 0) (x : Found) → IsReadIn fs may x → AreAnchored may x.base.current
 are_anchored fs may x is c left =
@@ -126,7 +129,8 @@ rest_is_small x is = record {
   geometry = refl;
 }
 
-pub record_is_small : (x : Found) (r : Resting) → IsInOrder x → LogsRecord x r → restart_length x.reloaded.recovered.rolled_back.items x.reloaded.recovered.deleted.items ≤ 2 ^ 30 → IsSmallRest x r
+pub record_is_small : (x : Found) (r : Resting) → IsInOrder x → LogsRecord x r
+    → restart_length x.reloaded.recovered.rolled_back.items x.reloaded.recovered.deleted.items ≤ 2 ^ 30 → IsSmallRest x r
 record_is_small x r is logs long =
     subst (IsSmallRest x) (sym logs)
     (record {

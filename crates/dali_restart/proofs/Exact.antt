@@ -51,7 +51,8 @@ one_size fs s z is other =
 
 -- the first batch has 15 bytes
 five_more : (log body rest : List ℕ) → log ≡ batch body ++ rest → length body + 5 ≤ length log
-five_more log body rest e = omega (arith, ap length e, length-append (batch body) rest, length-append (number32 (length body)) body, number32_is_4 (length body))
+five_more log body rest e =
+    omega (arith, ap length e, length-append (batch body) rest, length-append (number32 (length body)) body, number32_is_4 (length body))
 
 long_enough : (fs : Disk) (s : Sizes) → BeginsWith fs s → 15 ≤ length fs.log
 long_enough fs s is =
@@ -105,18 +106,21 @@ one_bad_image bytes x at bt (inr a) (inr b) =
     let same = (one_header bytes a.header a.fits a.there).same b.header b.fits b.there in
     one_wrong bytes x a.header at bt a.wrong (subst (λ h. WrongAt bytes x h bt) (sym same) b.wrong)
 
-right_header : (bytes : List ℕ) (x : Expected) (h : Header) (m : Table Pending) (at : ℕ) → bad_header h x ≡ None → ReadsTable bytes h m → WrongAt bytes x h at → ⊥
+right_header : (bytes : List ℕ) (x : Expected) (h : Header) (m : Table Pending) (at : ℕ) → bad_header h x ≡ None → ReadsTable bytes h m
+    → WrongAt bytes x h at → ⊥
 right_header bytes x h m at good reads (inl wrong) = let e = sym good ∙ wrong in absurd cc
 right_header bytes x h m at good reads (inr bad) = table_is_good bytes h m at reads bad.1
 
-image_is_good : (bytes : List ℕ) (x : Expected) (h : Header) (image : List (List ℕ)) (m : Table Pending) (at : ℕ) → IsImageIn bytes x h image m → BadImageAt bytes x at → ⊥
+image_is_good : (bytes : List ℕ) (x : Expected) (h : Header) (image : List (List ℕ)) (m : Table Pending) (at : ℕ) → IsImageIn bytes x h image m
+    → BadImageAt bytes x at → ⊥
 image_is_good bytes x h image m at is (inl none) = (one_header bytes h is.fits is.header).good at none
 image_is_good bytes x h image m at is (inr bad) =
     let same = (one_header bytes h is.fits is.header).same bad.header bad.fits bad.there in
     right_header bytes x h m at is.good is.table (subst (λ k. WrongAt bytes x k at) (sym same) bad.wrong)
 
 -- the log isn't over before its place
-pub place_inside : (fs : Disk) (s : Sizes) (c : ℕ) (h : Header) (image : List (List ℕ)) (m : Table Pending) → BeginsWith fs s → IsFoundIn fs s c h image m → h.place ≤ length fs.log
+pub place_inside : (fs : Disk) (s : Sizes) (c : ℕ) (h : Header) (image : List (List ℕ)) (m : Table Pending) → BeginsWith fs s
+    → IsFoundIn fs s c h image m → h.place ≤ length fs.log
 place_inside fs s zero h image m begins is = let e = ap (λ (k : Header). k.place) (is.none refl).header in omega (arith, e, long_enough fs s begins)
 place_inside fs s (suc c) h image m begins is =
     let found = is.some (omega arith) in
@@ -145,10 +149,12 @@ module _ (fs : Disk) where
   one_bad f g at bt (inr (inr a)) (inr (inl b)) = absurd (anchor_is_good fs.anchor a.current bt a.anchor b.bad)
   one_bad f g at bt (inr (inr a)) (inr (inr b)) = one_behind f g at bt a b
 
-  image_good : (s : Sizes) (c : ℕ) (h : Header) (image : List (List ℕ)) (m : Table Pending) (f : FileName) (at : ℕ) → IsFoundIn fs s c h image m → IsBadImage fs s c f at → ⊥
+  image_good : (s : Sizes) (c : ℕ) (h : Header) (image : List (List ℕ)) (m : Table Pending) (f : FileName) (at : ℕ) → IsFoundIn fs s c h image m
+      → IsBadImage fs s c f at → ⊥
   image_good s c h image m f at is bad = image_is_good (file_in fs c) (expected s c (length fs.log)) h image m at (is.some bad.some) bad.bad
 
-  pub nowhere_bad : (s : Sizes) (c : ℕ) (h : Header) (image : List (List ℕ)) (m : Table Pending) (r : Reading) (f : FileName) (at : ℕ) → IsOpened fs s c h image m r → IsBadStore fs f at → ⊥
+  pub nowhere_bad : (s : Sizes) (c : ℕ) (h : Header) (image : List (List ℕ)) (m : Table Pending) (r : Reading) (f : FileName) (at : ℕ)
+      → IsOpened fs s c h image m r → IsBadStore fs f at → ⊥
   nowhere_bad s c h image m r f at is (inl log) = first_is_good fs s at is.log log.bad
   nowhere_bad s c h image m r f at is (inr (inl anchor)) = anchor_is_good fs.anchor c at is.anchor anchor.bad
   nowhere_bad s c h image m r f at is (inr (inr b)) =

@@ -45,7 +45,8 @@ use Rattle.dali_restart.proofs.Formatted.{image_length}
 begins_at : (log : List ℕ) (front : List (List Record)) (r : Reading) → IsReadFrom log 0 front [] r → (end : ℕ) × IsRun log 0 front end
 begins_at log front r is = ⊎_elim (λ here. (r.at, here.1)) (λ within. (within.1.place, within.1.good)) is.stands
 
-pub begins_with : (fs : Disk) (s : Sizes) (r : Reading) → CanBeSpelled (Format s.index s.heap) → IsReadFrom fs.log 0 ((Format s.index s.heap ∷ []) ∷ []) [] r → BeginsWith fs s
+pub begins_with : (fs : Disk) (s : Sizes) (r : Reading) → CanBeSpelled (Format s.index s.heap)
+    → IsReadFrom fs.log 0 ((Format s.index s.heap ∷ []) ∷ []) [] r → BeginsWith fs s
 begins_with fs s r can is = let b = begins_at fs.log ((Format s.index s.heap ∷ []) ∷ []) r is in record { spelled = can; end = b.0; first = b.1 }
 
 -- ---- an image
@@ -58,11 +59,13 @@ table_bad file x h at o p same fits good header bad =
     (λ fs a b. inr (record { header = h; fits = fits; there = a; wrong = inr (good, b) }))
 
 -- ---- one reading
-pub first_of : (fs : Disk) (s : Sizes) → BeginsWith fs s → fs.log ≡ batch (body_bytes (Format s.index s.heap ∷ [])) ++ ([] ++ drop (length (batches (bodies ((Format s.index s.heap ∷ []) ∷ [])))) fs.log)
+pub first_of : (fs : Disk) (s : Sizes) → BeginsWith fs s
+    → fs.log ≡ batch (body_bytes (Format s.index s.heap ∷ [])) ++ ([] ++ drop (length (batches (bodies ((Format s.index s.heap ∷ []) ∷ [])))) fs.log)
 first_of fs s is =
     let L = (Format s.index s.heap ∷ []) ∷ [] in
     let n = length (batches (bodies L)) in
-    sym (take-append-drop n fs.log) ∙ (ap (λ (l : List ℕ). l ++ drop n fs.log) is.first.spells ∙ append_assoc (batch (body_bytes (Format s.index s.heap ∷ []))) [] (drop n fs.log))
+    sym (take-append-drop n fs.log)
+    ∙ (ap (λ (l : List ℕ). l ++ drop n fs.log) is.first.spells ∙ append_assoc (batch (body_bytes (Format s.index s.heap ∷ []))) [] (drop n fs.log))
 
 formatted_bytes : (log rest body : List ℕ) → log ≡ batch body ++ rest → IsUnformatted log → ⊥
 formatted_bytes [] rest body e un = absurd cc
@@ -81,12 +84,14 @@ same_sizes fs s [] end is log = absurd (no_first log.format)
 same_sizes fs s (b ∷ B) end is log =
     let first = Format s.index s.heap ∷ [] in
     let whole : batch (body_bytes b) ++ (batches (bodies B) ++ drop end fs.log) ≡ batch (body_bytes first) ++ ([] ++ drop (length (batches (bodies (first ∷ [])))) fs.log) =
-    sym (append_assoc (batch (body_bytes b)) (batches (bodies B)) (drop end fs.log)) ∙ (ap (λ (l : List ℕ). l ++ drop end fs.log) (sym log.front.spells) ∙ (take-append-drop end fs.log ∙ first_of fs s is)) in
+    sym (append_assoc (batch (body_bytes b)) (batches (bodies B)) (drop end fs.log))
+    ∙ (ap (λ (l : List ℕ). l ++ drop end fs.log) (sym log.front.spells) ∙ (take-append-drop end fs.log ∙ first_of fs s is)) in
     let bytes = same_batch (body_bytes b) (body_bytes first) _ _ log.front.sizes.0 is.first.sizes.0 whole in
     let same : b ≡ first = same_records b first log.front.each.0 is.first.each.0 bytes.0 in
     ap (λ (c : List Record). sizes_of (c ++ flat_map (λ b. b) B)) same
 
-image_there : (bytes : List ℕ) (x : Expected) (h : Header) (image : List (List ℕ)) (m : Table Pending) → IsImageIn bytes x h image m → (p : IsPassed bytes h m) → AllByRecursion AreWords image → IsImageOf h.geometry bytes p.head image
+image_there : (bytes : List ℕ) (x : Expected) (h : Header) (image : List (List ℕ)) (m : Table Pending) → IsImageIn bytes x h image m
+    → (p : IsPassed bytes h m) → AllByRecursion AreWords image → IsImageOf h.geometry bytes p.head image
 image_there bytes x h image m is p words =
     let s = h.geometry in
     let flat = flat_map words_bytes image in
@@ -161,7 +166,8 @@ what_opens fs s (suc c) h image m r B end is log words =
     (files_in (suc c) p.head image B, behind_one fs s (suc c) h image m B end log (same_sizes fs s B end is.log log) is.anchor (omega arith) found (wanted h x found.good).geometry p words)
 
 -- ---- all of it
-pub first_bad : (file : FileName) (at : ℕ) (o p : Option Disk) → p ≡ o → IfSome p (λ fs. IsBadLog fs file at ⊎ IsBadAnchor fs file at) → IfSome o (λ fs. IsBadStore fs file at)
+pub first_bad : (file : FileName) (at : ℕ) (o p : Option Disk) → p ≡ o → IfSome p (λ fs. IsBadLog fs file at ⊎ IsBadAnchor fs file at)
+    → IfSome o (λ fs. IsBadStore fs file at)
 first_bad file at o p same bad = if_some_each _ _ o (if_some_same _ o p same bad) (λ fs is. ⊎_elim (λ log. inl log) (λ anchor. inr (inl anchor)) is)
 
 pub image_bad :
@@ -197,5 +203,6 @@ stands_in_range s h image m is = record {
 }
 
 -- and so is one that was read
-pub read_in_range : (x : Expected) (h : Header) (image : List (List ℕ)) (m : Table Pending) → IsWanted h x → length image ≡ regions h.geometry → ((t : ℕ) → AreUndos (undos_at m t)) → IsInRange x.geometry h image m
+pub read_in_range : (x : Expected) (h : Header) (image : List (List ℕ)) (m : Table Pending) → IsWanted h x → length image ≡ regions h.geometry
+    → ((t : ℕ) → AreUndos (undos_at m t)) → IsInRange x.geometry h image m
 read_in_range x h image m is whole undos = record { geometry = is.geometry; first = is.first; weight = is.weight; next = is.next; whole = whole ∙ ap regions is.geometry; undos = undos }

@@ -63,19 +63,23 @@ pub image_length : (s : Sizes) → length (formatted_image s) ≡ regions s
 image_length s = parts (replicate 64 0) (1 ∷ replicate 63 0)
   where
     parts : (zeros heads : List ℕ) → length (replicate s.index zeros ++ replicate s.heap heads) ≡ regions s
-    parts zeros heads = omega (arith, length-append (replicate s.index zeros) (replicate s.heap heads), length-replicate s.index zeros, length-replicate s.heap heads)
+    parts zeros heads =
+        omega (arith, length-append (replicate s.index zeros) (replicate s.heap heads), length-replicate s.index zeros, length-replicate s.heap heads)
 
-pub one_words : (s : Sizes) (n : ℕ) (old new : List (List ℕ)) → n < regions s → old ≡ take n (formatted_image s) → new ≡ old ++ formatted s n ∷ [] → new ≡ take (n + 1) (formatted_image s)
+pub one_words : (s : Sizes) (n : ℕ) (old new : List (List ℕ)) → n < regions s → old ≡ take n (formatted_image s) → new ≡ old ++ formatted s n ∷ []
+    → new ≡ take (n + 1) (formatted_image s)
 one_words s n old new lt here is =
     let inside : n < length (formatted_image s) = omega (arith, image_length s, lt) in
     is ∙ (ap (λ (l : List (List ℕ)). l ++ formatted s n ∷ []) here
     ∙ sym (take_more (formatted_image s) n [] inside ∙ ap (λ (ws : List ℕ). take n (formatted_image s) ++ ws ∷ []) (region_is_formatted s n lt)))
 
-pub one_region : (s : Sizes) (n : ℕ) (old new : List RegionState) → n < regions s → old ≡ take n (formatted_regions s) → new ≡ old ++ loaded (formatted s n) ∷ [] → new ≡ take (n + 1) (formatted_regions s)
+pub one_region : (s : Sizes) (n : ℕ) (old new : List RegionState) → n < regions s → old ≡ take n (formatted_regions s)
+    → new ≡ old ++ loaded (formatted s n) ∷ [] → new ≡ take (n + 1) (formatted_regions s)
 one_region s n old new lt here is =
     let many : n < length (formatted_image s) = omega (arith, image_length s, lt) in
     let inside : n < length (formatted_regions s) = omega (arith, length-map (formatted_image s) loaded, many) in
-    let word : get_or (formatted_regions s) n (loaded []) ≡ loaded (formatted s n) = get_or-map loaded (formatted_image s) n [] (loaded []) many ∙ ap loaded (region_is_formatted s n lt) in
+    let word : get_or (formatted_regions s) n (loaded []) ≡ loaded (formatted s n) =
+    get_or-map loaded (formatted_image s) n [] (loaded []) many ∙ ap loaded (region_is_formatted s n lt) in
     is ∙ (ap (λ (l : List RegionState). l ++ loaded (formatted s n) ∷ []) here
     ∙ sym (take_more (formatted_regions s) n (loaded []) inside ∙ ap (λ (g : RegionState). take n (formatted_regions s) ++ g ∷ []) word))
 
@@ -87,7 +91,8 @@ all_regions s n gs le is = is ∙ take_all n (formatted_regions s) (omega (arith
 
 -- ---- the core
 pub is_new :
-    {V : Type 0} (s : Sizes) (limit : ℕ) (gs : List RegionState) (y : Served) (store : V) (end : ℕ) (v : Vaulted V) → gs ≡ formatted_regions s → y ≡ first_system s limit → end ≡ 15
+    {V : Type 0} (s : Sizes) (limit : ℕ) (gs : List RegionState) (y : Served) (store : V) (end : ℕ) (v : Vaulted V) → gs ≡ formatted_regions s
+    → y ≡ first_system s limit → end ≡ 15
     → v ≡ record { store = store; end = end; flushed = 0; current = 0; stopped = false }
     → IsNewCore s limit gs y v
 is_new s limit gs y store end v regions system is made = record {
@@ -212,10 +217,12 @@ module _ {V : Type 0} (told : V → Option Disk) (may_leave : V → Disk → Typ
   pub only_read : (s : Sizes) (old new : V) → OnlyReads told moment left_since may_leave old new → MakesAtAnyMoment told may_leave moment left_since s old new
   only_read s old new reads = among (told old) _ (λ fs. weaker old new (may_leave old) _ (λ c p. inl p) reads.any_moment)
 
-  leaves_on : (s : Sizes) (old mid : V) → OnlyReads told moment left_since may_leave old mid → (c : Disk) → FormatLeaves (may_leave mid) (first_body s) c → FormatLeaves (may_leave old) (first_body s) c
+  leaves_on : (s : Sizes) (old mid : V) → OnlyReads told moment left_since may_leave old mid → (c : Disk)
+      → FormatLeaves (may_leave mid) (first_body s) c → FormatLeaves (may_leave old) (first_body s) c
   leaves_on s old mid reads c p = record { others = (p.others.0, reads.crash p.others.0 p.others.1, p.others.2, p.others.3, p.others.4); log = p.log }
 
-  formatted_on : (s : Sizes) (old mid : V) → OnlyReads told moment left_since may_leave old mid → (c : Disk) → IsFormattedBy (may_leave mid) (first_body s) c → IsFormattedBy (may_leave old) (first_body s) c
+  formatted_on : (s : Sizes) (old mid : V) → OnlyReads told moment left_since may_leave old mid → (c : Disk)
+      → IsFormattedBy (may_leave mid) (first_body s) c → IsFormattedBy (may_leave old) (first_body s) c
   formatted_on s old mid reads c p = record { others = (p.others.0, reads.crash p.others.0 p.others.1, p.others.2, p.others.3, p.others.4); anchor = p.anchor; log = p.log }
 
   pub then_written :

@@ -46,17 +46,20 @@ pub outcome_is : (gs : List RegionState) (o : Recovered) → gs ≡ map loaded o
 outcome_is gs o e =
     ap (λ (ws : List (List ℕ)). record { image = ws; rolled = o.rolled_back.items; deleted = o.deleted.items }) (sym (ap (map (λ (g : RegionState). g.words)) e ∙ words_loaded o.regions.items))
 
-pub gives_in : (fs : Disk) (may : Disk → Type 0) (x : Found) (gs : List RegionState) → IsReadIn fs may x → gs ≡ map loaded x.reloaded.recovered.regions.items → Gives fs (outcome gs (report_of x.reloaded.recovered))
+pub gives_in : (fs : Disk) (may : Disk → Type 0) (x : Found) (gs : List RegionState) → IsReadIn fs may x
+    → gs ≡ map loaded x.reloaded.recovered.regions.items → Gives fs (outcome gs (report_of x.reloaded.recovered))
 gives_in fs may x gs is e = subst (Gives fs) (outcome_is gs x.reloaded.recovered e) (gives_all fs x.reloaded (λ s F begins. (is.reads s F begins).1))
 
 pub reads_in : (fs : Disk) (may : Disk → Type 0) (x : Found) → IsReadIn fs may x → IsReadAs fs (outcome_of x.reloaded.recovered)
 reads_in fs may x is = reads_as fs x.base.geometry is.files x.reloaded is.begins (is.reads x.base.geometry is.files is.begins).1
 
-pub reads_out : (fs : Disk) (may : Disk → Type 0) (x : Found) (gs : List RegionState) → IsReadIn fs may x → gs ≡ map loaded x.reloaded.recovered.regions.items → IsReadAs fs (outcome gs (report_of x.reloaded.recovered))
+pub reads_out : (fs : Disk) (may : Disk → Type 0) (x : Found) (gs : List RegionState) → IsReadIn fs may x
+    → gs ≡ map loaded x.reloaded.recovered.regions.items → IsReadAs fs (outcome gs (report_of x.reloaded.recovered))
 reads_out fs may x gs is e = subst (IsReadAs fs) (outcome_is gs x.reloaded.recovered e) (reads_in fs may x is)
 
 -- ---- the core
-pub is_fresh : {V : Type 0} (r : Resting) (words : List (List ℕ)) (limit : ℕ) (store : V) (gs : List RegionState) (y : Served) (v : Vaulted V) → IsRisen r words limit store gs y v → IsFresh limit gs y v
+pub is_fresh : {V : Type 0} (r : Resting) (words : List (List ℕ)) (limit : ℕ) (store : V) (gs : List RegionState) (y : Served) (v : Vaulted V)
+    → IsRisen r words limit store gs y v → IsFresh limit gs y v
 is_fresh {V = V} r words limit store gs y v risen =
     let here : store ≡ v.store = sym (ap (λ (w : Vaulted V). w.store) risen.vault) in
     record { resting = r; words = words; risen = subst (λ (w : V). IsRisen r words limit w gs y v) here risen }
@@ -100,10 +103,12 @@ module _ {V : Type 0} (told : V → Option Disk) (may_leave : V → Disk → Typ
             ),
           ))
 
-  pub begins_run : (fs : Disk) (may : Disk → Type 0) → IsReadIn fs may x → Settles fs x r (may_leave store) → BeginsRun told may_leave faults limit fs gs y.state v
+  pub begins_run : (fs : Disk) (may : Disk → Type 0) → IsReadIn fs may x → Settles fs x r (may_leave store)
+      → BeginsRun told may_leave faults limit fs gs y.state v
   begins_run fs may is settles F spells finds = runs_from F (settles is.reads F spells finds)
 
-  pub rests_then : (fs : Disk) (may : Disk → Type 0) → IsReadIn fs may x → Settles fs x r (may_leave store) → (c : Disk) → may_leave v.store c → LeavesAtRest fs c
+  pub rests_then : (fs : Disk) (may : Disk → Type 0) → IsReadIn fs may x → Settles fs x r (may_leave store) → (c : Disk) → may_leave v.store c
+      → LeavesAtRest fs c
   rests_then fs may is settles c left F spells finds =
       let q = (settles is.reads F spells finds).disks c (subst (λ (w : V). may_leave w c) (sym here) left) in (q.0, q.1, q.2, q.3)
 
@@ -117,9 +122,11 @@ comes_same (Some fs) p same = subst (λ (q : Option Disk). IfSome q (λ gs. (F :
 
 module _ {V : Type 0} (told : V → Option Disk) (may_leave : V → Disk → Type 0) (moment : V → ℕ) (left_since : V → ℕ → Disk → Type 0) where
   pub stops_reading : (fs : Disk) (old new : V) → LeavesOnly moment left_since old new (may_leave old) → StopsAlike may_leave moment left_since fs old new
-  stops_reading fs old new reads F spells finds = weaker moment left_since old new (may_leave old) (λ c. may_leave old c ⊎ SpellsOnWay F c) reads (λ c left. inl left)
+  stops_reading fs old new reads F spells finds =
+      weaker moment left_since old new (may_leave old) (λ c. may_leave old c ⊎ SpellsOnWay F c) reads (λ c left. inl left)
 
-  pub stops_settling : (fs : Disk) (old mid new : V) → OnlyReads told moment left_since may_leave old mid → StopsAlike may_leave moment left_since fs mid new → StopsAlike may_leave moment left_since fs old new
+  pub stops_settling : (fs : Disk) (old mid new : V) → OnlyReads told moment left_since may_leave old mid
+      → StopsAlike may_leave moment left_since fs mid new → StopsAlike may_leave moment left_since fs old new
   stops_settling fs old mid new reads stops F spells finds =
       joins moment left_since old mid new (may_leave old) (λ c. may_leave mid c ⊎ SpellsOnWay F c) (λ c. may_leave old c ⊎ SpellsOnWay F c) reads.any_moment (stops F spells finds)
       (λ c left. inl left) (λ c p. ⊎_elim (λ left. inl (reads.crash c left)) (λ way. inr way) p)

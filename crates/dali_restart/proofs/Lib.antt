@@ -9,6 +9,7 @@ pub mod Once
 pub mod Beginning
 pub mod Telling
 pub mod BadOnce
+pub mod ByHand
 pub mod Headline
 pub mod Passing
 pub mod Handing

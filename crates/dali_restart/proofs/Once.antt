@@ -213,7 +213,7 @@ with_bare F G = record F { batches = G.batches }
 
 bad_behind_bare : (log : List ℕ) (at : ℕ) (s : Sizes) (F G : Files) → IsBadBehind log s F at → IsBadBehind log s (with_bare F G) at
 bad_behind_bare log at s F G b =
-    record { front = b.front; done = b.done; bad = b.bad; read = b.read; passes = record { rules = b.passes.rules; first = b.passes.first } }
+    record { front = b.front; done = b.done; bad = b.bad; reached = b.reached; read = b.read; passes = record { rules = b.passes.rules; first = b.passes.first } }
 
 fails_bare : (log : List ℕ) (at : ℕ) (s : Sizes) (F G : Files) → FailsAt log s F at → FailsAt log s (with_bare F G) at
 fails_bare log at s F G b = record { front = b.front; done = b.done; failing = b.failing; stands = b.stands; place = b.place; verdict = b.verdict }

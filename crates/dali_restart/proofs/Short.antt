@@ -17,75 +17,11 @@ use Rattle.dali_record.specs.Spelling.{record_length}
 use Rattle.dali_record.proofs.Ends.{by_push}
 use Rattle.dali_record.proofs.EpochRules.{all_push}
 use Rattle.dali_record.proofs.Pushes.{cut_push, rules_state_push}
+use Rattle.dali_history.proofs.SpelledRestart.{begun_push, few_begun, fewer, more_begun, weighs_all}
 use Rattle.dali_system.specs.Run.{log_in}
 use Rattle.dali_again.specs.Found.{FindsIt}
 use Rattle.dali_restart.specs.Restarting.{told_list}
 use Rattle.dali_restart.specs.Short.{IsShortRestart}
-
--- ---- each Begin takes 9 bytes, and has room
-abbrev Weighs : ℕ → Option Rules → Type 0
-Weighs n None = ⊤
-Weighs n (Some g) = (9 * n ≤ g.weight) × (9 * n ≤ room)
-
-weighs_if : (c : Bool) (n : ℕ) (g : Rules) → (c ≡ true → (9 * n ≤ g.weight) × (9 * n ≤ room)) → Weighs n (kept_if c g)
-weighs_if true n g h = h refl
-weighs_if false n g h = tt
-
-weighs_either : (c : Bool) (n : ℕ) (o p : Option Rules) → Weighs n o → Weighs n p → Weighs n (cond c o p)
-weighs_either true n o p h k = h
-weighs_either false n o p h k = k
-
--- how many transactions begin with the record
-abbrev more_begun : ℕ → Record → ℕ
-more_begun n r = n + length (begun (r ∷ []))
-
-grows : (n w m : ℕ) → (9 * n ≤ w) × (9 * n ≤ room) → (9 * (n + 0) ≤ w + m) × (9 * (n + 0) ≤ room)
-grows n w m h = (omega (arith, h.0), omega (arith, h.1))
-
-begins :
-    (n : ℕ) (g : Rules) (t : ℕ) → (9 * n ≤ g.weight) × (9 * n ≤ room) → ((t == g.next) && has_room g (Begin t)) ≡ true
-    → (9 * (n + 1) ≤ g.weight + 9) × (9 * (n + 1) ≤ room)
-begins n g t h e =
-    let fits : g.weight + 9 ≤ room = leb-true (g.weight + 9) room (and_parts (t == g.next) (has_room g (Begin t)) e).1 in
-    (omega (arith, h.0), omega (arith, h.0, fits))
-
-weighs_runs : (s : Sizes) (n : ℕ) (g : Rules) (r : Record) → (9 * n ≤ g.weight) × (9 * n ≤ room) → Weighs (more_begun n r) (runs s g r)
-weighs_runs s n g (Format i k) h = tt
-weighs_runs s n g (Begin t) h = weighs_if ((t == g.next) && has_room g (Begin t)) (n + 1) _ (begins n g t h)
-weighs_runs s n g (Forward t b) h = weighs_if _ (n + 0) (passes g (Forward t b)) (λ e. grows n g.weight (record_length (Forward t b)) h)
-weighs_runs s n g (Back t b) h = weighs_if _ (n + 0) (passes g (Back t b)) (λ e. grows n g.weight (record_length (Back t b)) h)
-weighs_runs s n g (Done t c a) h = weighs_if _ (n + 0) (passes g (Done t c a)) (λ e. grows n g.weight (record_length (Done t c a)) h)
-weighs_runs s n g (Commit t) h = grows n g.weight 9 h
-weighs_runs s n g (Ended t) h = grows n g.weight 9 h
-weighs_runs s n g (Solo t p b) h = weighs_if _ (n + 0) _ (λ e. grows n g.weight (record_length (Solo t p b)) h)
-weighs_runs s n g AuditBegin h = weighs_if _ (n + 0) _ (λ e. grows n g.weight 1 h)
-weighs_runs s n g (AuditClean b) h = weighs_if _ (n + 0) _ (λ e. grows n g.weight 9 h)
-weighs_runs s n g (AuditFail b rs) h = weighs_if _ (n + 0) _ (λ e. grows n g.weight (record_length (AuditFail b rs)) h)
-weighs_runs s n g (Restarted rs ds) h = tt
-
-weighs_first : (s : Sizes) (n : ℕ) (g : Rules) (r : Record) → (9 * n ≤ g.weight) × (9 * n ≤ room) → Weighs (more_begun n r) (rules_first s g r)
-weighs_first s n g (Format i k) h = weighs_if _ (n + 0) (passes g (Format i k)) (λ e. grows n g.weight 10 h)
-weighs_first s n g r h = tt
-
-weighs_behind : (s : Sizes) (n : ℕ) (g : Rules) (r : Record) → (9 * n ≤ g.weight) × (9 * n ≤ room) → Weighs (more_begun n r) (rules_behind s g r)
-weighs_behind s n g (Restarted rs ds) h = weighs_if _ (n + 0) _ (λ e. grows n g.weight (record_length (Restarted rs ds)) h)
-weighs_behind s n g r h = weighs_either g.failed (more_begun n r) None (runs s g r) tt (weighs_runs s n g r h)
-
-weighs_next : (s : Sizes) (n : ℕ) (o : Option Rules) (r : Record) → Weighs n o → Weighs (more_begun n r) (rules_next s o r)
-weighs_next s n None r h = tt
-weighs_next s n (Some g) r h = weighs_either (g.count == 0) (more_begun n r) _ _ (weighs_first s n g r h) (weighs_behind s n g r h)
-
-begun_push : (E : List Record) (r : Record) → length (begun (E ++ r ∷ [])) ≡ more_begun (length (begun E)) r
-begun_push E r = ap length (filter_map-append begin_by E (r ∷ [])) ∙ length-append (begun E) (begun (r ∷ []))
-
-weighs_all : (s : Sizes) (L : List Record) → Weighs (length (begun L)) (rules_state s L)
-weighs_all s L =
-    by_push (λ M. Weighs (length (begun M)) (rules_state s M)) (omega arith, omega arith)
-    (λ M r h. rw (rules_state_push s M r, begun_push M r) (weighs_next s (length (begun M)) (rules_state s M) r h)) L
-
-few_begun : (n : ℕ) (o : Option Rules) → IsSome o → Weighs n o → 9 * n ≤ room
-few_begun n None k h = absurd (cc)
-few_begun n (Some g) k h = h.1
 
 -- ---- the epochs
 -- those that began in an epoch are among the log's
@@ -125,14 +61,6 @@ recovered_few n c [] few = last_few n c.closed c.now few.0 few.1
 recovered_few n c (r ∷ E) few = few.1
 
 -- ---- the lists
-fewer : (p : ℕ → Bool) (xs : List ℕ) → length (filter p xs) ≤ length xs
-fewer p [] = omega arith
-fewer p (x ∷ xs) = by_test (p x) (filter p xs) (fewer p xs)
-  where
-    by_test : (b : Bool) (ys : List ℕ) → length ys ≤ length xs → length (cond b (x ∷ ys) ys) ≤ length (x ∷ xs)
-    by_test true ys h = omega (arith, h)
-    by_test false ys h = omega (arith, h)
-
 rolled_few : (e : Epoch) → length (rolled_list e) ≤ length (begun e.records)
 rolled_few e = fewer (λ t. not (has (committed e.records) t) && not (has (ended e.records) t)) (begun e.records)
 

@@ -64,7 +64,8 @@ module _ {V : Type 0} (told : V → Option Disk) (may_leave : V → Disk → Typ
 
 module _ {V : Type 0} (told : V → Option Disk) (may_leave : V → Disk → Type 0) (faults : V → ℕ) where
   abbrev pub first_at : Sizes → ℕ → Vaulted V → Told → (Side → Head) → (Side → Bool) → Start
-  first_at s limit v words heads synced = first_start s.index s.heap (passes rules_start (first_record s)) limit (vault_in faults (faults v.store) v) words heads synced
+  first_at s limit v words heads synced =
+      first_start s.index s.heap (passes rules_start (first_record s)) limit (vault_in faults (faults v.store) v) words heads synced
 
   abbrev pub RunBegins : Sizes → ℕ → List RegionState → SystemState → Vaulted V → Type 0
   RunBegins s limit gs y v =

@@ -4,29 +4,37 @@
 --     WhatOpensIsSpelled       so it is of each disk whose log is one: what is found is its image, table and numbers
 --     OpensOnce                what is found before the records behind the image is that of one row of files, whatever their batches are
 --     ReadsOnce                a disk is read as one thing at most, and then it is nowhere bad
---     OneBadFile               a disk is bad in one file; behind the image its bytes are bad at one place, and one record is the first that fails a test
+--     IsBadOnce                a disk is bad at one place of one file
 --     FoundIsGood              a disk that spells files that are found is nowhere bad, and isn't unformatted; it is read as what their log says, and the
 --                              record of the restart fits a batch
+--     FitsLawful F             the log of these files is lawful, their image fits it at its last epoch and stands behind a record, and hardly more
+--                              checkpoints were made than records stand before it, none of a log of the format alone
+--     FitIsFound               such files are found, also those that were put together by hand
 --     OneAnswer                a disk has one answer: its log has no batches, or it is bad at one place of one file, or this is found
-use Rattle.std.specs.Prelude.{◌≡◌, ◌≤◌, ◌^◌, ℕ, List}
+use Rattle.std.specs.Prelude.{◌≡◌, ◌⊎◌, ◌<◌, ◌≤◌, ◌+◌, ◌^◌, ℕ, List, length}
 use Rattle.std.specs.List.{AllByRecursion}
 use Rattle.dali_geometry.specs.Sizes.{Sizes}
 use Rattle.dali_att.specs.Table.{Table}
 use Rattle.dali_record.specs.declared.operations.Pending.{Pending}
 use Rattle.dali_record.specs.declared.records.Record.{Record}
 use Rattle.dali_record.specs.Blocks.{AreWords}
+use Rattle.dali_record.specs.Epochs.{last_epoch}
 use Rattle.dali_record.specs.Files.{Files}
+use Rattle.dali_record.specs.Legal.{sizes_of}
+use Rattle.dali_history.specs.Recovered.{base_of}
 use Rattle.dali_store.specs.declared.store.FileName.{FileName}
 use Rattle.dali_store.specs.Store.{Files as Disk}
 use Rattle.dali_batch.specs.Batch.{IsUnformatted}
 use Rattle.dali_batch.specs.Log.{LogOf}
 use Rattle.dali_batch.specs.Stream.{Reading}
+use Rattle.dali_system.specs.Run.{log_in}
+use Rattle.dali_crash.specs.Fitting.{FitsWhole}
+use Rattle.dali_crash.specs.Starts.{IsLawful}
 use Rattle.dali_traces.specs.Disks.{Spells, head_of}
 use Rattle.dali_image.specs.Laws.{header_of, table_of}
 use Rattle.dali_image.specs.declared.header.Header.{Header}
 use Rattle.dali_resume.specs.Again.{Outcome}
 use Rattle.dali_again.specs.Found.{FindsIt}
-use Rattle.dali_reload.specs.Reading.{FailsAt, IsBadBehind}
 use Rattle.dali_renewal.specs.Logged.{restart_length}
 use Rattle.dali_restart.specs.Opening.{IsOpened, IsBadStore}
 use Rattle.dali_restart.specs.Restarting.{BeginsAt, IsBadAnywhere, IsReadAs, IsTold}
@@ -79,14 +87,8 @@ ReadsOnce =
     (fs : Disk) (o : Outcome) → IsReadAs fs o
     → ((p : Outcome) → IsReadAs fs p → o ≡ p) × ((file : FileName) (at : ℕ) → IsBadAnywhere fs file at → ⊥) × (IsUnformatted fs.log → ⊥)
 
-pub record IsBadOnce (fs : Disk) : Type 0 where
-  pub file : (f g : FileName) (at bt : ℕ) → IsBadAnywhere fs f at → IsBadAnywhere fs g bt → f ≡ g
-  -- behind the image
-  pub bytes : (s : Sizes) (F : Files) (at bt : ℕ) → IsBadBehind fs.log s F at → IsBadBehind fs.log s F bt → at ≡ bt
-  pub tests : (s : Sizes) (F : Files) (at bt : ℕ) → FailsAt fs.log s F at → FailsAt fs.log s F bt → at ≡ bt
-
-abbrev pub OneBadFile : Type 0
-OneBadFile = (fs : Disk) → IsBadOnce fs
+abbrev pub IsBadOnce : Type 0
+IsBadOnce = (fs : Disk) (f g : FileName) (at bt : ℕ) → IsBadAnywhere fs f at → IsBadAnywhere fs g bt → (f ≡ g) × (at ≡ bt)
 
 pub record IsGood (fs : Disk) (F : Files) : Type 0 where
   pub bad : (file : FileName) (at : ℕ) → IsBadAnywhere fs file at → ⊥
@@ -97,3 +99,14 @@ pub record IsGood (fs : Disk) (F : Files) : Type 0 where
 
 abbrev pub FoundIsGood : Type 0
 FoundIsGood = (fs : Disk) (F : Files) → Spells fs F → FindsIt F → IsGood fs F
+
+-- ---- files that no run left
+pub record FitsLawful (F : Files) : Type 0 where
+  pub lawful : IsLawful (log_in F)
+  pub fits : FitsWhole (sizes_of (log_in F)) (base_of (sizes_of (log_in F)) (log_in F)) (log_in F) F (last_epoch (log_in F))
+  pub behind : 0 < F.first
+  pub moved : F.gates ≤ F.first + 2 ^ 61
+  pub some : (F.gates ≡ 0) ⊎ (1 < length (log_in F))
+
+abbrev pub FitIsFound : Type 0
+FitIsFound = (F : Files) → FitsLawful F → FindsIt F

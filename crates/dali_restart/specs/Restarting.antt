@@ -158,7 +158,8 @@ module _ {V : Type 0} (told : V → Option Disk) (may_leave : V → Disk → Typ
     pub batches : List (List Record)
     -- whatever it takes the words, heads and syncs of the image files for, which aren't read before a checkpoint
     pub begins : (words : Told) (heads : Side → Head) (synced : Side → Bool)
-        → let start = start_at told may_leave faults log rules limit v words heads synced in IsCoreAt told may_leave faults start batches (start_point start) gs y v
+        → let start =
+        start_at told may_leave faults log rules limit v words heads synced in IsCoreAt told may_leave faults start batches (start_point start) gs y v
 
   abbrev pub BeginsRun : ℕ → Disk → List RegionState → SystemState → Vaulted V → Type 0
   BeginsRun limit fs gs y v = (F : Files) → Spells fs F → FindsIt F → RunsFrom limit F gs y v

@@ -1,6 +1,6 @@
 //! Laws of what `open` finds and what `restart` reads, each the contract of a function that does nothing.
 ghost use Rattle.dali_restart.specs.Headline.{CrashRestartsRight, OnWayGoesOn, UnpokedRestartsRight};
-ghost use Rattle.dali_restart.specs.Laws.{WhatOpensIsSpelled, OneAnswer, OpensOnce, ReadsOnce, OneBadFile, FoundIsGood};
+ghost use Rattle.dali_restart.specs.Laws.{WhatOpensIsSpelled, OneAnswer, OpensOnce, ReadsOnce, IsBadOnce, FoundIsGood, FitIsFound};
 
 /// Where the log is one from its first batch to its end, the disk spells files with just what was found: the sizes, the
 /// current image with its number and its table. So it is of every files that a disk spells, which are one.
@@ -19,11 +19,12 @@ pub fn a_store_opens_the_same()
     ensures { OpensOnce }
 {}
 
-/// A restart of a disk hands out one thing at most, and then the disk is nowhere bad. It is bad in one file. Behind the current
-/// image it may be bad at two places: where the log's bytes are bad, and at the first record that fails a test.
+/// A restart of a disk hands out one thing at most, and then the disk is nowhere bad. It is bad at one place of one file: so the
+/// place that `BadStore` names is the first one, also where a record may not stand where it does and bytes behind it in its batch
+/// spell no record.
 pub fn a_restart_has_one_answer()
     ensures reads { ReadsOnce }
-    ensures bad { OneBadFile }
+    ensures bad { IsBadOnce }
 {}
 
 /// Files that a crash of a run left, or of a restart at any of its calls, are nowhere bad, their log has its first batch, and the
@@ -31,6 +32,13 @@ pub fn a_restart_has_one_answer()
 /// `TooLong`.
 pub fn what_is_found_is_nowhere_bad()
     ensures { FoundIsGood }
+{}
+
+/// Files whose log is lawful and whose image fits it at its last epoch are found, also where no run left them: so what `restart`
+/// says of files that are found it says of each store that spells such. The image is to stand behind a record, and hardly more
+/// checkpoints to have been made than records stand before it, none of a log of the format alone.
+pub fn files_that_fit_are_found()
+    ensures { FitIsFound }
 {}
 
 /// A run with its store may crash anywhere, also within a step, and the restart behind it may be stopped, any number of times:

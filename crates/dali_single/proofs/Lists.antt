@@ -1,5 +1,7 @@
--- One place of a list.
-use Rattle.std.proofs.Common.{◌≡◌, ◌≢◌, ℕ, zero, suc, List, [], ◌∷◌, Some, ◌<◌, length, arith, get_or, refl, ap, sym, slice_get, slice_set}
+-- One place of a list, and lists one behind another.
+use Rattle.std.proofs.Common.{◌≡◌, ◌≢◌, ℕ, zero, suc, List, [], ◌∷◌, ◌++◌, Some, ◌<◌, length, arith, get_or, refl, ap, sym, ◌∙◌, slice_get, slice_set}
+use Rattle.std.specs.List.{AllByRecursion}
+use Rattle.std.proofs.lemmas.List.{append_assoc}
 
 pub set_same : {X : Type 0} (xs : List X) (r : ℕ) (x : X) → slice_get xs r ≡ Some x → slice_set xs r x ≡ xs
 set_same [] r x e = refl
@@ -27,3 +29,10 @@ pub get_here : {X : Type 0} (xs : List X) (r : ℕ) (d : X) → r < length xs �
 get_here [] r d h = absurd (omega (arith, h))
 get_here (x ∷ xs) zero d h = refl
 get_here (x ∷ xs) (suc r) d h = get_here xs r d (omega (arith, h))
+
+pub all_both : {X : Type 0} (P : X → Type 0) (xs ys : List X) → AllByRecursion P xs → AllByRecursion P ys → AllByRecursion P (xs ++ ys)
+all_both P [] ys p q = q
+all_both P (x ∷ xs) ys p q = (p.0, all_both P xs ys p.1 q)
+
+pub logged_on : {X : Type 0} (L M N xs ys : List X) → M ≡ L ++ xs → N ≡ M ++ ys → N ≡ L ++ (xs ++ ys)
+logged_on L M N xs ys p q = q ∙ (ap (λ l. l ++ ys) p ∙ append_assoc L xs ys)

@@ -5,7 +5,7 @@ use Rattle.std.proofs.lemmas.Bool.Decides.{Decides-eqb}
 use Rattle.dali_geometry.specs.Sizes.{Sizes}
 use Rattle.std.specs.List.{AllByRecursion}
 use Rattle.std.specs.FinMap.{insert}
-use Rattle.std.proofs.lemmas.List.{length-set}
+use Rattle.std.proofs.lemmas.List.{length-set, append-nil}
 use Rattle.dali_geometry.specs.Places.{regions}
 use Rattle.dali_record.specs.declared.operations.Op.{Op}
 use Rattle.dali_record.specs.declared.operations.Undo.{Undo}
@@ -42,8 +42,8 @@ use Rattle.dali_single.specs.declared.error.StepError.{StepError}
 use Rattle.dali_single.specs.Refusals.{IsUnfreed, IsStuck}
 use Rattle.dali_facts.specs.Undos.{MayBePerformed}
 use Rattle.dali_single.specs.Single.{OthersStay}
-use Rattle.dali_single.specs.Settling.{settle_room, IsPromised, MayFree, MayCommit, Commits, IsCommitted, IsSettled, IsLeft, left_behind, Freed, AreFreed}
-use Rattle.dali_single.proofs.Lists.{set_same, set_twice, get_set}
+use Rattle.dali_single.specs.Settling.{settle_room, IsPromised, MayFree, IsSoloOf, MayCommit, Commits, IsCommitted, IsSettled, IsLeft, left_behind, Freed, AreFreed}
+use Rattle.dali_single.proofs.Lists.{set_same, set_twice, get_set, all_both, logged_on}
 use Rattle.dali_single.proofs.Leading.{leads_on, one_step, leads_there, steps_on, stays_free, goes_on}
 use Rattle.dali_single.proofs.Writing.{opened_by, held_open}
 use Rattle.dali_single.proofs.Calling.{all_undos}
@@ -136,6 +136,9 @@ freed_led L rs y v t u us b ws g opened xs fits may made_on spelled at goes is r
           (one_step false t L (L ++ Solo y.next t b ∷ []) c new (Frees t b)
           (subst (λ (gs : List RegionState). IsStep L c (Frees t b) (L ++ Solo y.next t b ∷ []) (core gs (solo_logged y t b) v)) (set_twice rs u.region opened (touched opened))
           (subst (λ (n : ℕ). IsStep L c (Frees t b) (L ++ Solo y.next t b ∷ []) (with_touched c (solo_logged y t b) n opened)) region step)) refl refl);
+      own = Solo y.next t b ∷ [];
+      logged = refl;
+      solos = (refl, tt);
       at = record {
         ending = one.left;
         free = stays_free (core rs y v) new t u.region g (touched opened) work.free at refl refl;
@@ -146,7 +149,7 @@ freed_led L rs y v t u us b ws g opened xs fits may made_on spelled at goes is r
     }
 
 pub none_freed : (rs : List RegionState) (y : SystemState) (t : ℕ) (us : List Pending) → length rs ≡ regions y.sizes → AllByRecursion (MayFree y t) us → state_of y t ≡ Some Committed → AreFreed rs y t us us rs y
-none_freed rs y t us whole may state = record { whole = whole; sizes = refl; may = may; state = state; others = λ n e. (refl, λ k. refl); leads = λ L v work. record { log = L; steps = []; leads = (refl, refl); at = work } }
+none_freed rs y t us whole may state = record { whole = whole; sizes = refl; may = may; state = state; others = λ n e. (refl, λ k. refl); leads = λ L v work. record { log = L; steps = []; leads = (refl, refl); own = []; logged = sym (append-nil L); solos = tt; at = work } }
 
 same_may : (y : SystemState) (t u : ℕ) (b : Block) (us : List Pending) → AllByRecursion (MayFree y t) us → AllByRecursion (MayFree (solo_logged y u b) t) us
 same_may y t u b us h = all_undos (MayFree y t) (MayFree (solo_logged y u b) t) us (λ w may. record { removal = may.removal; spelled = may.spelled; kind = may.kind; lock = may.lock }) h
@@ -164,7 +167,15 @@ free_further rs0 rs y0 y z t all us u g h fits goes at o =
       leads = λ L v work.
           let one = goes.leads L v work in
           let two = freed_led one.log rs y v t u us o.block g.words g o.opened o.steps fits goes.may.0 o.made_on o.spelled at o.goes o.is_open o.runs o.fits goes.state one.at in
-          record { log = two.log; steps = one.steps ++ two.steps; leads = leads_on false t L one.log two.log (core rs0 y0 v) (core rs y v) (core (slice_set rs u.region (touched o.opened)) (solo_logged y t o.block) v) one.steps two.steps one.leads two.leads; at = two.at };
+          record {
+            log = two.log;
+            steps = one.steps ++ two.steps;
+            leads = leads_on false t L one.log two.log (core rs0 y0 v) (core rs y v) (core (slice_set rs u.region (touched o.opened)) (solo_logged y t o.block) v) one.steps two.steps one.leads two.leads;
+            own = one.own ++ two.own;
+            logged = logged_on L one.log two.log one.own two.own one.logged two.logged;
+            solos = all_both (IsSoloOf t) one.own two.own one.solos two.solos;
+            at = two.at;
+          };
     }))
 
 pub free_refused : (rs0 rs : List RegionState) (y0 : SystemState) (s z : Served) (t r : ℕ) (all us : List Pending) (g h : RegionState) → AreFreed rs0 y0 t all us rs s.state → slice_get rs r ≡ Some g
@@ -184,6 +195,9 @@ free_refused rs0 rs y0 s z t r all us g h goes at still (inr left) =
             log = one.log;
             steps = one.steps ++ steps_on r left.0;
             leads = leads_on false t L one.log one.log (core rs0 y0 v) (core rs s.state v) (core (slice_set rs r h) s.state v) one.steps (steps_on r left.0) one.leads (leads_there false one.log (core rs s.state v) t r g h left.0 (committed_alive (state_of s.state t) goes.state) at left.1);
+            own = one.own;
+            logged = one.logged;
+            solos = one.solos;
             at = record { ending = one.at.ending; free = stays_free (core rs s.state v) (core (slice_set rs r h) s.state v) t r g h one.at.free at left.2 refl; unbegun = one.at.unbegun };
           };
     })
@@ -210,6 +224,9 @@ settle_ends rs rs' y y1 z t us goes runs is L v work =
       mid = core rs' y1 v;
       steps = one.steps;
       leads = one.leads;
+      own = one.own;
+      logged = one.logged;
+      solos = one.solos;
       ends = subst (λ (x : SystemState). IsStep one.log (core rs' y1 v) (Ends t) (one.log ++ Ended t ∷ []) (core rs' x v)) (sym is) last;
     }
 

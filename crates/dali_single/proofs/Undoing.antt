@@ -3,7 +3,7 @@ use Rattle.std.proofs.Common.{inl, inr, ◌≡◌, ℕ, suc, ◌-◌, ◌<◌, B
 use Rattle.std.specs.Prelude.{◌==◌, ◌^◌, if◌then◌else◌, nat_lt}
 use Rattle.std.specs.FinMap.{get}
 use Rattle.std.specs.List.{AllByRecursion}
-use Rattle.std.proofs.lemmas.List.{length-set}
+use Rattle.std.proofs.lemmas.List.{length-set, append-nil}
 use Rattle.std.proofs.lemmas.Bool.{lt-ltb}
 use Rattle.std.proofs.lemmas.Bool.Decides.{Decides-eqb}
 use Rattle.dali_geometry.specs.Places.{regions}
@@ -38,8 +38,8 @@ use Rattle.dali_single.specs.Stands.{core}
 use Rattle.dali_single.specs.Operated.{IsHeldBy, AreWritten, Goes, IsLeftOf}
 use Rattle.dali_facts.specs.Undos.{MayBePerformed}
 use Rattle.dali_single.specs.Single.{OthersStay, IsGone, AreCovered, Keeps}
-use Rattle.dali_single.specs.Ending.{IsAtWork, IsEnded, IsStillAtWork, Undone, UndoesFrom}
-use Rattle.dali_single.proofs.Lists.{set_same, get_set}
+use Rattle.dali_single.specs.Ending.{IsBackOf, IsAtWork, IsEnded, IsStillAtWork, Undone, UndoesFrom}
+use Rattle.dali_single.proofs.Lists.{set_same, get_set, all_both, logged_on}
 use Rattle.dali_single.proofs.Leading.{leads_on, leads_there, steps_on, stays_free, goes_on}
 use Rattle.dali_single.proofs.Writing.{IsWay, IsSameWay, opened_by, held_open}
 use Rattle.dali_single.proofs.Going.{changes_popped, both_steps, alive, row_apart, row_there}
@@ -172,6 +172,9 @@ one_led L rs y v t u b g opened xs fits lives last may made runs at goes is work
       log = L ++ Back t b ∷ [];
       steps = steps_on u.region xs ++ TakesBack t b ∷ [];
       leads = there;
+      own = Back t b ∷ [];
+      logged = refl;
+      backs = (refl, tt);
       at = record {
         working = by.left;
         at_work = by.at_work;
@@ -187,7 +190,7 @@ nothing_undone rs y t whole lives covered = record {
   lives = lives;
   covered = covered;
   others = λ n e. (refl, λ k. refl);
-  leads = λ L v work. record { log = L; steps = []; leads = (refl, refl); at = work };
+  leads = λ L v work. record { log = L; steps = []; leads = (refl, refl); own = []; logged = sym (append-nil L); backs = tt; at = work };
 }
 
 pub one_undone : (rs : List RegionState) (y z : SystemState) (t r : ℕ) (p q : TakeBack) (u : Pending) (g h : RegionState) → Is64 t → length rs ≡ regions y.sizes → state_of y t ≡ Some Live → AreCovered y t
@@ -229,6 +232,9 @@ none_undone rs y t r g h whole lives covered at (inr left) = record {
     log = L;
     steps = steps_on r left.0;
     leads = leads_there false L (core rs y v) t r g h left.0 (alive (state_of y t) lives) at left.1;
+    own = [];
+    logged = sym (append-nil L);
+    backs = tt;
     at = record { working = work.working; at_work = work.at_work; undos = work.undos; free = stays_free (core rs y v) (core (slice_set rs r h) y v) t r g h work.free at left.2 refl };
   };
 }
@@ -243,7 +249,15 @@ undoes_further rs rs' rs'' y y' y'' t a b = record {
   leads = λ L v work.
       let one = a.leads L v work in
       let two = b.leads one.log v one.at in
-      record { log = two.log; steps = one.steps ++ two.steps; leads = leads_on false t L one.log two.log (core rs y v) (core rs' y' v) (core rs'' y'' v) one.steps two.steps one.leads two.leads; at = two.at };
+      record {
+        log = two.log;
+        steps = one.steps ++ two.steps;
+        leads = leads_on false t L one.log two.log (core rs y v) (core rs' y' v) (core rs'' y'' v) one.steps two.steps one.leads two.leads;
+        own = one.own ++ two.own;
+        logged = logged_on L one.log two.log one.own two.own one.logged two.logged;
+        backs = all_both (IsBackOf t) one.own two.own one.backs two.backs;
+        at = two.at;
+      };
 }
 
 -- ---- the end
@@ -257,6 +271,9 @@ abort_ends rs rs' y y1 z t u none runs is L v work =
       mid = core rs' y1 v;
       steps = led.steps;
       leads = led.leads;
+      own = led.own;
+      logged = led.logged;
+      backs = led.backs;
       ends = subst (λ (x : SystemState). IsStep led.log (core rs' y1 v) (Ends t) (led.log ++ Ended t ∷ []) (core rs' x v)) (sym is) last;
     }
 

@@ -1,13 +1,15 @@
 -- A transaction is taken back, by a thread that has the core alone.
+--     IsBackOf t x             the record x takes an operation of t back
 --     IsAtWork L c t           it has no region latched, and its row has the undos that the log leaves it
---     IsEnded L c t d          it was taken back: behind its undos comes its end
+--     IsEnded L c t d          it was taken back: behind its undos comes its end, and nothing else was logged
 --     IsStillAtWork L c t d    some of its undos were performed, and the others are left
 --     Undone b g y b' h z      its last undo was performed on the region g, and the block logged by the system y
 --     UndoesFrom rs y t rs' z  undos of t were performed, the last ones, and steps of a core led to these regions and this system
 use Rattle.std.specs.Prelude.{◌≡◌, false, ℕ, List, [], ◌∷◌, ◌++◌, Some, None, length}
+use Rattle.std.specs.List.{AllByRecursion}
 use Rattle.dali_record.specs.declared.operations.Block.{Block}
 use Rattle.dali_record.specs.declared.records.Record.{Record}
-use Rattle.dali_record.specs.declared.records.Record.TheVariants.{Ended}
+use Rattle.dali_record.specs.declared.records.Record.TheVariants.{Ended, Back}
 use Rattle.dali_record.specs.Legal.{Working}
 use Rattle.dali_geometry.specs.Places.{regions}
 use Rattle.dali_region.specs.State.{RegionState, touched}
@@ -25,6 +27,10 @@ use Rattle.dali_single.specs.Stands.{core}
 use Rattle.dali_single.specs.Operated.{Goes}
 use Rattle.dali_single.specs.Single.{Leads, OthersStay, AreCovered}
 
+abbrev pub IsBackOf : ℕ → Record → Type 0
+IsBackOf t (Back u b) = u ≡ t
+IsBackOf t x = ⊥
+
 pub record IsAtWork (L : List Record) (c : CoreState) (t : ℕ) : Type 0 where
   pub working : Working
   pub at_work : AtWork c.system.sizes L t working
@@ -36,12 +42,19 @@ pub record IsEnded (L : List Record) (c : CoreState) (t : ℕ) (d : CoreState) :
   pub mid : CoreState
   pub steps : List Step
   pub leads : Leads false t L c steps log mid
+  -- what the undos logged
+  pub own : List Record
+  pub logged : log ≡ L ++ own
+  pub backs : AllByRecursion (IsBackOf t) own
   pub ends : IsStep log mid (Ends t) (log ++ Ended t ∷ []) d
 
 pub record IsStillAtWork (L : List Record) (c : CoreState) (t : ℕ) (d : CoreState) : Type 0 where
   pub log : List Record
   pub steps : List Step
   pub leads : Leads false t L c steps log d
+  pub own : List Record
+  pub logged : log ≡ L ++ own
+  pub backs : AllByRecursion (IsBackOf t) own
   pub at : IsAtWork log d t
 
 pub record Undone (p : TakeBack) (g : RegionState) (y : SystemState) (q : TakeBack) (h : RegionState) (z : SystemState) : Type 0 where

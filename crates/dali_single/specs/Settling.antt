@@ -2,8 +2,9 @@
 --     MayFree y t u            the undo u is a removal's, what frees it is on a region of its kind, and t has its key alone
 --     MayCommit L c t          t may call, and no number from the next one on was given
 --     Commits L c t us d       one step logs its commit, and these removals are left to be freed
+--     IsSoloOf t x             the record x frees something for t
 --     IsCommitted L c t us     the log has t committed with these removals left; it has no region latched, and no number from the next one on was given
---     IsSettled L c t d        they were freed, and behind that comes its end
+--     IsSettled L c t d        they were freed, and behind that comes its end, and nothing else was logged
 --     IsLeft L c t left d      some were freed, and these others are left
 --     left_behind y z us       of the removals us those that are left, when the system y came to z: as many were freed as it gave numbers
 --     settle_room n            for how many bytes memory is to be promised, that n removals are freed and the end logged without more
@@ -16,7 +17,7 @@ use Rattle.dali_geometry.specs.Places.{regions}
 use Rattle.dali_record.specs.declared.operations.Block.{Block}
 use Rattle.dali_record.specs.declared.operations.Pending.{Pending}
 use Rattle.dali_record.specs.declared.records.Record.{Record}
-use Rattle.dali_record.specs.declared.records.Record.TheVariants.{Commit, Ended}
+use Rattle.dali_record.specs.declared.records.Record.TheVariants.{Commit, Ended, Solo}
 use Rattle.dali_record.specs.Blocks.{made}
 use Rattle.dali_record.specs.Legal.{is_removal, freeing_op, on_kind}
 use Rattle.dali_record.specs.Spelling.{IsUndo, IsBlock}
@@ -42,6 +43,10 @@ pub record MayFree (y : SystemState) (t : ℕ) (u : Pending) : Type 0 where
   pub kind : on_kind y.sizes u.region (freeing_op u.undo) ≡ true
   pub lock : covers (lock_of y t u.key) true ≡ true
 
+abbrev pub IsSoloOf : ℕ → Record → Type 0
+IsSoloOf t (Solo n p b) = p ≡ t
+IsSoloOf t x = ⊥
+
 pub record IsCommitted (L : List Record) (c : CoreState) (t : ℕ) (us : List Pending) : Type 0 where
   pub ending : IsEnding c.system.sizes L t us
   pub free : IsFree c t
@@ -61,12 +66,19 @@ pub record IsSettled (L : List Record) (c : CoreState) (t : ℕ) (d : CoreState)
   pub mid : CoreState
   pub steps : List Step
   pub leads : Leads false t L c steps log mid
+  -- what the solos logged
+  pub own : List Record
+  pub logged : log ≡ L ++ own
+  pub solos : AllByRecursion (IsSoloOf t) own
   pub ends : IsStep log mid (Ends t) (log ++ Ended t ∷ []) d
 
 pub record IsLeft (L : List Record) (c : CoreState) (t : ℕ) (left : List Pending) (d : CoreState) : Type 0 where
   pub log : List Record
   pub steps : List Step
   pub leads : Leads false t L c steps log d
+  pub own : List Record
+  pub logged : log ≡ L ++ own
+  pub solos : AllByRecursion (IsSoloOf t) own
   pub at : IsCommitted log d t left
 
 -- each solo takes a number

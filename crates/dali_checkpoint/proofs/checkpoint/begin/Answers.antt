@@ -35,6 +35,11 @@ returns-in_default-table_bytes-clause-any_moment g c runs =
     no_call g.V.Store.told g.V.Store.may_leave g.V.Store.faults g.V.Store.moment g.V.Store.left_since c.args.vault.now c.args.vault.now _ (λ d past. g.met.V.Store.only_now c.args.vault.now.store d past) refl
     (λ d left. inl (none_left g.V.Store.told g.V.Store.may_leave g.V.Store.faults c.args.system.now.state c.args.vault.now d left))
 
+pub returns-in_default-with_capacity-clause-any_moment : goal.returns-in_default-with_capacity-clause-any_moment
+returns-in_default-with_capacity-clause-any_moment g c runs =
+    no_call g.V.Store.told g.V.Store.may_leave g.V.Store.faults g.V.Store.moment g.V.Store.left_since c.args.vault.now c.args.vault.now _ (λ d past. g.met.V.Store.only_now c.args.vault.now.store d past) refl
+    (λ d left. inl (none_left g.V.Store.told g.V.Store.may_leave g.V.Store.faults c.args.system.now.state c.args.vault.now d left))
+
 pub returns-in_err-write-clause-any_moment : goal.returns-in_err-write-clause-any_moment
 returns-in_err-write-clause-any_moment g c runs =
     let torn : LeavesOnly g.V.Store.moment g.V.Store.left_since c.flush.new.vault.store c.write.new.vault.store (TornFrom (g.V.Store.may_leave c.flush.new.vault.store) (image_name (side_of (c.args.vault.now.current + 1))) 0 64) = search rules in

@@ -46,7 +46,8 @@ records-preserved g c =
 pub returns-in-Err-Unscanned-clause-damaged : goal.returns-in-Err-Unscanned-clause-damaged
 returns-in-Err-Unscanned-clause-damaged g c =
     let goes = rw c.in-Some.is at c.in_ok-given.ensures.read in
-    let refused : RefusesAt c.scan_known.new.recovery c.take_next.new.recovery c.in-Some.given Unscanned = rw c.in-Err-Unscanned.field-0-is at c.in-Err-Unscanned.ensures.err in
+    let refused : RefusesAt c.scan_known.new.recovery c.take_next.new.recovery c.in-Some.given Unscanned =
+    rw c.in-Err-Unscanned.field-0-is at c.in-Err-Unscanned.ensures.err in
     if_some_two _ _ _ (g.V.Store.told c.args.store.now) c.records.invariant.read (if_some_same _ _ _ c.records.invariant.reads.same goes)
     (λ fs pass is s F image found.
     pass_finds fs.log s F c.args.known.now c.records.reader c.next.new.self c.records.recovery c.scan_known.new.recovery c.take_next.new.recovery c.records.counts c.records.counts c.in-Some.given (pass s F image)
@@ -64,7 +65,8 @@ pub returns-in-Err-clause-bad : goal.returns-in-Err-clause-bad
 returns-in-Err-clause-bad g c =
     let goes = rw c.in-Some.is at c.in_ok-given.ensures.read in
     λ at e.
-    let refused : RefusesAt c.scan_known.new.recovery c.take_next.new.recovery c.in-Some.given (BadLog at) = subst (RefusesAt c.scan_known.new.recovery c.take_next.new.recovery c.in-Some.given) e c.in-Err.ensures.err in
+    let refused : RefusesAt c.scan_known.new.recovery c.take_next.new.recovery c.in-Some.given (BadLog at) =
+    subst (RefusesAt c.scan_known.new.recovery c.take_next.new.recovery c.in-Some.given) e c.in-Err.ensures.err in
     if_some_two _ _ _ (g.V.Store.told c.args.store.now) c.records.invariant.read (if_some_same _ _ _ c.records.invariant.reads.same goes)
     (λ fs pass is s F image.
     inr (pass_fails fs.log s F c.args.known.now c.records.reader c.next.new.self c.records.recovery c.scan_known.new.recovery c.take_next.new.recovery c.records.counts c.records.counts c.in-Some.given (pass s F image)

@@ -31,7 +31,9 @@ overflow_add-result-in-Ok g c =
 pub returns-in-Ok-clause-ok : goal.returns-in-Ok-clause-ok
 returns-in-Ok-clause-ok g c =
     let p = c.end_of-whole.result in
-    let end = c.in-Ok.ensures.end ∙ (ap (λ l. end_of None p l c.deref-2.result.now) c.deref.ensures.value ∙ ap (end_of None p c.args.found.now.reloaded.recovered.rolled_back.items) c.deref-2.ensures.value) in
+    let end =
+    c.in-Ok.ensures.end
+    ∙ (ap (λ l. end_of None p l c.deref-2.result.now) c.deref.ensures.value ∙ ap (end_of None p c.args.found.now.reloaded.recovered.rolled_back.items) c.deref-2.ensures.value) in
     logs_record c.args.found.now p c.rest_at.result c.in-Ok.end c.end_of-whole.ensures c.rest_at.ensures end
 
 pub returns-in-Ok-clause-small : goal.returns-in-Ok-clause-small

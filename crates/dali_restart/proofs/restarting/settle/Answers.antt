@@ -15,7 +15,8 @@ returns-in-Nothing-clause-ready g c =
     (λ fs is. subst (λ r. AreReady (g.V.Store.may_leave c.args.store.now) r.end r.current) (sym (c.rest_at.ensures ∙ ap resting_of c.end_of.ensures)) (are_ready fs _ c.args.found.now is))
 
 pub returns-in-Nothing-clause-small : goal.returns-in-Nothing-clause-small
-returns-in-Nothing-clause-small g c = subst (IsSmallRest c.args.found.now) (sym (c.rest_at.ensures ∙ ap resting_of c.end_of.ensures)) (rest_is_small c.args.found.now c.requires.in_order)
+returns-in-Nothing-clause-small g c =
+    subst (IsSmallRest c.args.found.now) (sym (c.rest_at.ensures ∙ ap resting_of c.end_of.ensures)) (rest_is_small c.args.found.now c.requires.in_order)
 
 pub returns-in-Nothing-clause-settles : goal.returns-in-Nothing-clause-settles
 returns-in-Nothing-clause-settles g c =

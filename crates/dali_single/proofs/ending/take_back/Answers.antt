@@ -1,9 +1,20 @@
-use Rattle.std.proofs.Common.{ap, ◌∙◌}
+use Rattle.std.proofs.Common.{ap, refl, ◌∙◌}
 use Rattle.dali_core.specs.declared.take_back.TakeBack.{TakeBack}
 use Rattle.dali_single.proofs.Lists.{get_here}
 use Rattle.dali_single.proofs.Refusing.{undo_stuck}
-use Rattle.dali_single.proofs.Undoing.{undo_region, undo_further, undo_fewer, undo_next, none_wanted, undo_refused}
+use Rattle.dali_single.proofs.Undoing.{nothing_undone, undo_region, undo_further, undo_fewer, undo_next, none_wanted, undo_refused}
 use Rattle.dali_single.proofs.ending.take_back.Goals as goal
+
+pub loop-region-init : goal.loop-region-init
+loop-region-init c = record {
+  goes = nothing_undone c.args.regions.now c.args.system.now.state c.args.txn c.requires.whole c.requires.lives c.requires.covered;
+  promised = refl;
+  txn = c.new-back.ensures.fields.0;
+  down = c.new-back.ensures.fields.1;
+  next = c.new-back.ensures.next;
+  undoes = c.new-back.ensures.undoes;
+  closed = c.new-back.ensures.fields.2;
+}
 
 pub bounds-regions-region : goal.bounds-regions-region
 bounds-regions-region c = undo_region c.args.regions.now c.loop-region.regions c.args.system.now.state c.loop-region.system.state c.args.txn c.in-Region.region c.loop-region.back.next c.loop-region.invariant.goes c.loop-region.invariant.next c.in-Region.ensures

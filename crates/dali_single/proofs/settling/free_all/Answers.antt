@@ -1,7 +1,16 @@
+use Rattle.std.proofs.Common.{refl, arith}
 use Rattle.dali_single.proofs.Lists.{get_here}
-use Rattle.dali_single.proofs.Settled.{next_further, those_left, removal_stuck, promised_further, promised_still, promised_one, removal_there, free_there, free_further, free_refused}
+use Rattle.dali_single.proofs.Settled.{none_freed, next_further, those_left, removal_stuck, promised_further, promised_still, promised_one, removal_there, free_there, free_further, free_refused}
 use Rattle.dali_single.proofs.Promising.{promises_further}
 use Rattle.dali_single.proofs.settling.free_all.Goals as goal
+
+pub loop-removal-init : goal.loop-removal-init
+loop-removal-init c = record {
+  goes = none_freed c.args.regions.now c.args.system.now.state c.args.txn c.args.removals.now c.requires.whole c.requires.may c.requires.committed;
+  next = omega arith;
+  promised = λ h. h;
+  promises = λ u e. refl;
+}
 
 pub returns-in-Err-clause-err : goal.returns-in-Err-clause-err
 returns-in-Err-clause-err c =

@@ -1,9 +1,9 @@
-use Rattle.std.proofs.Common.{eqb-true, eq-eqb, ◌≡◌, ◌∙◌, ◌++◌, ◌+◌, ◌-◌, take, drop, arith, sym, ap, length, length-append, length-drop, ℕ, List, subst}
+use Rattle.std.proofs.Common.{eqb-true, eq-eqb, ◌≡◌, ◌∙◌, ◌++◌, ◌+◌, ◌-◌, ◌≤◌, take, drop, arith, sym, ap, length, length-append, length-drop, ℕ, List, subst}
 use Rattle.dali_bytes.specs.Cursor.{Cursor, left}
 use Rattle.dali_record.specs.declared.records.Record.{Record}
 use Rattle.dali_record.specs.Spelling.{spelling, Begins}
 use Rattle.dali_batch.specs.Log.{BadBehind}
-use Rattle.dali_batch.specs.Stream.{Reading, IsWhole, IsWindow}
+use Rattle.dali_batch.specs.Stream.{Reading, IsWhole, IsWindow, place_of}
 use Rattle.dali_batch.proofs.Bodies.{bad_at}
 use Rattle.dali_batch.proofs.Streaming.{bad_record, record_read}
 use Rattle.dali_batch.proofs.reader.LogReader.next_record.Goals as goal
@@ -33,7 +33,7 @@ returns-in-Err-BadRecord-clause-bad c = λ bad e log start front done read.
     let at = ap (λ (r : Reading). r.at) c.self.view_is in
     let here : c.args.self.now.at ≡ bad = cc in
     let none = c.decode.ensures.bad.0 (bad_at c.decode.result c.in-Err-BadRecord.field-0 c.new-reader.result.at c.in-Err-BadRecord.field-0-0 c.in-Err-BadRecord.is c.in-Err-BadRecord.field-0-is c.decode.ensures.errors) in
-    subst (BadBehind log start front) here (bad_record log c.args.self.now start front done c.requires.left (whole.there c.requires.left) read part taken
+    subst (λ (n : ℕ). BadBehind log start front n × (n ≤ place_of start front done)) here (bad_record log c.args.self.now start front done c.requires.left (whole.there c.requires.left) read part taken
     (subst (λ (l : List ℕ). (r : Record) → Begins l r → ⊥) (ap left c.new-reader.ensures) none))
 
 pub returns-in-Ok-clause-spelled : goal.returns-in-Ok-clause-spelled

@@ -1,0 +1,461 @@
+-- An abort and a settling by a thread that has regions and system to itself, as steps of a run.
+use Rattle.std.proofs.Common.{inl, inr, ◌≡◌, ◌≢◌, ℕ, zero, suc, ◌+◌, ◌<◌, ◌≤◌, Bool, true, false, ◌&&◌, List, [], ◌∷◌, ◌++◌, Option, Some, None, IsSomeAnd, Result, Ok, Err, refl, ap, sym, subst, ◌∙◌, arith, length, drop, get_or, slice_get, slice_set}
+use Rattle.std.specs.Prelude.{◌==◌, if◌then◌else◌}
+use Rattle.std.specs.List.{AllByRecursion, list_all}
+use Rattle.std.proofs.lemmas.Bool.{lt-ltb}
+use Rattle.std.proofs.lemmas.Bool.Decides.{Decides-eqb}
+use Rattle.std.proofs.lemmas.List.{append-nil}
+use Rattle.dali_geometry.specs.Places.{regions}
+use Rattle.dali_record.specs.declared.operations.Pending.{Pending}
+use Rattle.dali_record.specs.declared.records.Record.{Record}
+use Rattle.dali_record.specs.declared.records.Record.TheVariants.{Ended}
+use Rattle.std.specs.FinMap.{get}
+use Rattle.dali_record.specs.Legal.{freeing_op, on_kind}
+use Rattle.dali_record.specs.Operations.{undo_op}
+use Rattle.dali_region.specs.declared.Hold.{Hold}
+use Rattle.dali_region.specs.declared.LatchError.{LatchError}
+use Rattle.dali_region.specs.State.{RegionState}
+use Rattle.dali_region.specs.Answers.{latch_answer}
+use Rattle.dali_att.specs.declared.state.State.{State}
+use Rattle.dali_att.specs.declared.state.State.TheVariants.{Live, Committed}
+use Rattle.dali_att.specs.Table.{undos_at, last_of}
+use Rattle.dali_system.specs.State.{SystemState, VaultState, CoreState, row_of, state_of, hold_in}
+use Rattle.dali_system.specs.Run.{Bases, covers}
+use Rattle.dali_system.specs.Regions.{RegionStep, Latch, NoteReads, Update, TakeBack}
+use Rattle.dali_system.specs.Keeps.{IsFree}
+use Rattle.dali_system.specs.Wholes.{latched_in}
+use Rattle.dali_system.specs.Passes.{Audits}
+use Rattle.dali_system.specs.Courses.{Step, Operates, TakesBack, Frees, Ends, Answers, Commits, Locks, OnRegion, IsStep}
+use Rattle.dali_facts.specs.Undos.{MayBePerformed}
+use Rattle.dali_facts.specs.Ends.{IsEnding}
+use Rattle.dali_facts.proofs.Undos.{undos_may_be_performed}
+use Rattle.dali_core.specs.declared.error.SystemError.{SystemError}
+use Rattle.dali_core.specs.declared.error.SystemError.TheVariants.{OutOfMemory as Memory}
+use Rattle.dali_core.specs.Refused.{stop_of}
+use Rattle.dali_core.specs.TakenBack.{next_undo}
+use Rattle.dali_core.specs.Promised.{Promised, promised_to}
+use Rattle.dali_core.specs.Served.{Served}
+use Rattle.dali_single.specs.declared.error.StepError.{StepError}
+use Rattle.dali_single.specs.declared.error.StepError.TheVariants.{Latch as LatchRefused, System as SystemRefused}
+use Rattle.dali_single.specs.Operated.{IsOwn}
+use Rattle.dali_single.specs.Refusals.{IsAnswerTo, IsUnfreed, IsStuck, IsLatched}
+use Rattle.dali_single.specs.Single.{is_end, IsOwnStep, Leads, OthersStay as RowsStay, AreCovered}
+use Rattle.dali_single.specs.Ending.{IsBackOf, IsAtWork, IsEnded, IsStillAtWork}
+use Rattle.dali_single.specs.Settling.{MayFree, IsPromised, IsSoloOf, IsCommitted, IsSettled, IsLeft}
+use Rattle.dali_single.proofs.Lists.{get_here}
+use Rattle.dali_single.proofs.Standing.{own_steps_stand}
+use Rattle.dali_courses.proofs.Making.{own_steps_make, abort_makes, settling_makes}
+use Rattle.dali_clean.specs.Cleaned.{core, moment, AreDead, InRun}
+use Rattle.dali_clean.specs.Others.{HoldStays, OthersStay, PromisesStay, IsGone}
+use Rattle.dali_clean.proofs.Courses.{runs_of, HasWork, work_of, kind_in}
+use Rattle.dali_clean.proofs.Others.{others_further, promises_further}
+use Rattle.dali_ends.specs.Ended.{is_change, is_apart, Walked}
+use Rattle.dali_ends.specs.Left.{held, IsRunning, IsSettling, Left, none_of, Cleared, Settled}
+use Rattle.dali_ends.proofs.Walking.{all_append, Same, same_course, walked_more, walked_on, run_on, walks_on, walks_more, walks_none}
+use Rattle.dali_ends.proofs.Releasing.{none_some, hold_is_dead, dead_on, held_less, held_no_more}
+
+-- ---- steps of a transaction's own
+change_apart : (t : ℕ) (x : RegionStep) (o : Option RegionState) → IsSomeAnd o (IsOwn t x) → is_change x ≡ true
+change_apart t x None own = absurd own
+change_apart t (Latch u) (Some g) own = refl
+change_apart t (NoteReads mask) (Some g) own = refl
+change_apart t (Update word value) (Some g) own = refl
+change_apart t TakeBack (Some g) own = refl
+change_apart t x (Some g) own = absurd own
+
+own_apart : (t : ℕ) (c : CoreState) (x : Step) → IsOwnStep false t c x → is_end x ≡ false → is_apart x ≡ true
+own_apart t c (Operates u b) own e = refl
+own_apart t c (TakesBack u b) own e = refl
+own_apart t c (Frees p b) own e = refl
+own_apart t c (Ends u) own e = refl
+own_apart t c (Locks u k m) own e = refl
+own_apart t c (OnRegion r x) own e = change_apart t x (slice_get c.regions r) own
+own_apart t c (Answers u k a) own e = absurd cc
+own_apart t c (Commits u) own e = absurd cc
+own_apart t c x own e = absurd own
+
+leads_apart : (t : ℕ) (L M : List Record) (c d : CoreState) (xs : List Step) → Leads false t L c xs M d → list_all is_apart xs ≡ true
+leads_apart t L M c d [] leads = refl
+leads_apart t L M c d (x ∷ xs) leads = ap (λ b. b && list_all is_apart xs) (own_apart t c x leads.2.1 leads.2.2) ∙ leads_apart t leads.0 M leads.1 d xs leads.3
+
+-- ---- what a run says of a transaction without a dead hold
+module _ (bases : Bases) (before L : List Record) (gs : List RegionState) (y : SystemState) (v : VaultState) (a : Audits) (run : InRun bases before (moment gs y L v a)) (dead : AreDead gs) (t : ℕ) where
+  pub free_here : (st : State) → state_of y t ≡ Some st → latched_in (Some st) ≡ None → IsFree (core gs y v) t
+  free_here st is none r h there = by_test (h.txn == t) refl
+    where
+      by_test : (b : Bool) → (h.txn == t) ≡ b → (h.txn == t) ≡ false
+      by_test false e = e
+      by_test true e =
+          let names = run.whole.dead r h there (hold_is_dead gs r h dead there) in
+          absurd (none_some r (sym none ∙ (ap latched_in (sym is) ∙ (ap (λ (n : ℕ). latched_in (state_of y n)) (sym ((Decides-eqb h.txn t).0 e)) ∙ names))))
+
+  pub work_here : state_of y t ≡ Some Live → IsAtWork L (core gs y v) t
+  work_here lives =
+      let work : HasWork y.sizes L t (row_of y t) = work_of y.sizes L t (row_of y t) Live ((runs_of bases before (moment gs y L v a) run).table t) lives refl in
+      record { working = work.working; at_work = work.at_work; undos = work.undos; free = free_here Live lives refl }
+
+  pub settling_here : (us : List Pending) → state_of y t ≡ Some Committed → IsEnding y.sizes L t us → IsCommitted L (core gs y v) t us
+  settling_here us state ending =
+      let runs = runs_of bases before (moment gs y L v a) run in
+      record {
+        ending = ending;
+        free = free_here Committed state refl;
+        unbegun = λ n more. runs.counts.fresh n (omega (arith, runs.counts.next, more));
+      }
+
+-- ---- holds
+holds_of : (t : ℕ) (gs hs : List RegionState) (y z : SystemState) (v : VaultState) (L M : List Record) (xs : List Step) → Leads false t L (core gs y v) xs M (core hs z v) → IsFree (core hs z v) t → (r : ℕ) → HoldStays gs hs r
+holds_of t gs hs y z v L M xs leads free r = by_hold (hold_in (slice_get hs r)) refl
+  where
+    by_hold : (o : Option Hold) → hold_in (slice_get hs r) ≡ o → HoldStays gs hs r
+    by_hold None e = inr e
+    by_hold (Some h) e = by_test (t == h.txn) refl
+      where
+        by_test : (b : Bool) → (t == h.txn) ≡ b → HoldStays gs hs r
+        by_test false apart = inl (e ∙ sym (((own_steps_stand false t L M (core gs y v) (core hs z v) xs leads).holds h.txn r h apart refl).1 e))
+        by_test true same =
+            let own : (h.txn == t) ≡ true = (Decides-eqb h.txn t).1 (sym ((Decides-eqb t h.txn).0 same)) in
+            let not : (h.txn == t) ≡ false = free r h e in
+            absurd cc
+
+-- ---- an abort
+abbrev Aborts : ℕ → List RegionState → SystemState → List RegionState → SystemState → Type 0
+Aborts t gs y hs z = (L : List Record) (v : VaultState) → IsAtWork L (core gs y v) t → IsEnded L (core gs y v) t (core hs z v)
+
+abbrev Undoes : ℕ → List RegionState → SystemState → List RegionState → SystemState → Type 0
+Undoes t gs y hs z = (L : List Record) (v : VaultState) → IsAtWork L (core gs y v) t → IsStillAtWork L (core gs y v) t (core hs z v)
+
+pub rows_left : (gs hs : List RegionState) (y z : SystemState) (t : ℕ) → RowsStay y t z → ((r : ℕ) → HoldStays gs hs r) → OthersStay gs y t hs z
+rows_left gs hs y z t stay holds = record { rows = λ u e. inl (stay u e).0; locks = λ u k e. (stay u e).1 k; holds = holds }
+
+pub some_undone : (gs hs : List RegionState) (s z : Served) (t : ℕ) → IsRunning gs s.state → state_of s.state t ≡ Some Live → Undoes t gs s.state hs z.state → RowsStay s.state t z.state → PromisesStay s t z
+    → Left (IsBackOf t) [] t gs s hs z
+some_undone gs hs s z t running lives undoes stay promises =
+    let still = undoes running.log running.vault (work_here running.bases running.before running.log gs s.state running.vault running.audits running.run running.dead t lives) in
+    let holds = holds_of t gs hs s.state z.state running.vault running.log still.log still.steps still.leads still.at.free in
+    record {
+      walks = λ bases before L v a run. walked bases before L v a (undoes L v (work_here bases before L gs s.state v a run running.dead t lives));
+      others = rows_left gs hs s.state z.state t stay holds;
+      promises = promises;
+      dead = dead_on gs hs running.dead holds;
+    }
+  where
+    walked : (bases : Bases) (before L : List Record) (v : VaultState) (a : Audits) → IsStillAtWork L (core gs s.state v) t (core hs z.state v) → Walked (IsBackOf t) [] (moment gs s.state L v a) hs z.state
+    walked bases before L v a still = record {
+      log = still.log;
+      steps = still.steps;
+      apart = leads_apart t L still.log (core gs s.state v) (core hs z.state v) still.steps still.leads;
+      course = (own_steps_make false t L still.log (core gs s.state v) (core hs z.state v) still.steps a still.leads).0;
+      records = still.own;
+      are = still.backs;
+      logged = still.logged ∙ sym (append-nil (L ++ still.own));
+    }
+
+-- the core before the end has the regions of the core behind it
+mid_regions : (t : ℕ) (log M : List Record) (mid : CoreState) (hs : List RegionState) (z : SystemState) (v : VaultState) → IsStep log mid (Ends t) M (core hs z v) → mid ≡ core hs mid.system v
+mid_regions t log M mid hs z v ends =
+    ap (λ (rs : List RegionState). let c : CoreState = record { regions = rs; system = mid.system; vault = mid.vault } in c) (sym (ap (λ (k : CoreState). k.regions) ends.2.1))
+    ∙ ap (λ (u : VaultState). core hs mid.system u) (sym (ap (λ (k : CoreState). k.vault) ends.2.1))
+
+ended_holds : (t : ℕ) (gs hs : List RegionState) (y z : SystemState) (v : VaultState) (L log M : List Record) (mid : CoreState) (xs : List Step) → Leads false t L (core gs y v) xs log mid → IsStep log mid (Ends t) M (core hs z v)
+    → (r : ℕ) → HoldStays gs hs r
+ended_holds t gs hs y z v L log M mid xs leads ends =
+    let same = mid_regions t log M mid hs z v ends in
+    holds_of t gs hs y mid.system v L log xs (subst (λ (c : CoreState). Leads false t L (core gs y v) xs log c) same leads) (subst (λ (c : CoreState). IsFree c t) same ends.1.1)
+
+pub all_undone : (gs hs : List RegionState) (s z : Served) (t : ℕ) → IsRunning gs s.state → state_of s.state t ≡ Some Live → Aborts t gs s.state hs z.state → RowsStay s.state t z.state → PromisesStay s t z
+    → Left (IsBackOf t) (Ended t ∷ []) t gs s hs z
+all_undone gs hs s z t running lives aborts stay promises =
+    let end = aborts running.log running.vault (work_here running.bases running.before running.log gs s.state running.vault running.audits running.run running.dead t lives) in
+    let holds = ended_holds t gs hs s.state z.state running.vault running.log end.log (end.log ++ Ended t ∷ []) end.mid end.steps end.leads end.ends in
+    record {
+      walks = λ bases before L v a run. walked bases before L v a (aborts L v (work_here bases before L gs s.state v a run running.dead t lives));
+      others = rows_left gs hs s.state z.state t stay holds;
+      promises = promises;
+      dead = dead_on gs hs running.dead holds;
+    }
+  where
+    walked : (bases : Bases) (before L : List Record) (v : VaultState) (a : Audits) → IsEnded L (core gs s.state v) t (core hs z.state v) → Walked (IsBackOf t) (Ended t ∷ []) (moment gs s.state L v a) hs z.state
+    walked bases before L v a end = record {
+      log = end.log ++ Ended t ∷ [];
+      steps = end.steps ++ Ends t ∷ [];
+      apart = all_append is_apart end.steps (Ends t ∷ []) (leads_apart t L end.log (core gs s.state v) end.mid end.steps end.leads) refl;
+      course = (abort_makes L (core gs s.state v) (core hs z.state v) t a end).0;
+      records = end.own;
+      are = end.backs;
+      logged = ap (λ (l : List Record). l ++ Ended t ∷ []) end.logged;
+    }
+
+-- ---- a settling
+abbrev Settles : ℕ → List Pending → List RegionState → SystemState → List RegionState → SystemState → Type 0
+Settles t us gs y hs z = (L : List Record) (v : VaultState) → IsCommitted L (core gs y v) t us → IsSettled L (core gs y v) t (core hs z v)
+
+pub all_freed : (gs hs : List RegionState) (s z : Served) (t : ℕ) (us : List Pending) → IsSettling gs s.state t us → state_of s.state t ≡ Some Committed → Settles t us gs s.state hs z.state → RowsStay s.state t z.state → PromisesStay s t z
+    → IsGone z.state t → Settled t us gs s hs z
+all_freed gs hs s z t us settling state settles stay promises gone =
+    let r = settling.running in
+    let end = settles r.log r.vault (settling_here r.bases r.before r.log gs s.state r.vault r.audits r.run r.dead t us state settling.ending) in
+    let holds = ended_holds t gs hs s.state z.state r.vault r.log end.log (end.log ++ Ended t ∷ []) end.mid end.steps end.leads end.ends in
+    record {
+      walks = λ bases before L v a run ending. walked bases before L v a (settles L v (settling_here bases before L gs s.state v a run r.dead t us state ending));
+      others = rows_left gs hs s.state z.state t stay holds;
+      promises = promises;
+      dead = dead_on gs hs r.dead holds;
+      gone = gone;
+    }
+  where
+    walked : (bases : Bases) (before L : List Record) (v : VaultState) (a : Audits) → IsSettled L (core gs s.state v) t (core hs z.state v) → Walked (IsSoloOf t) (Ended t ∷ []) (moment gs s.state L v a) hs z.state
+    walked bases before L v a end = record {
+      log = end.log ++ Ended t ∷ [];
+      steps = end.steps ++ Ends t ∷ [];
+      apart = all_append is_apart end.steps (Ends t ∷ []) (leads_apart t L end.log (core gs s.state v) end.mid end.steps end.leads) refl;
+      course = (settling_makes L (core gs s.state v) (core hs z.state v) t a end).0;
+      records = end.own;
+      are = end.solos;
+      logged = ap (λ (l : List Record). l ++ Ended t ∷ []) end.logged;
+    }
+
+-- ---- one part behind another
+pub running_on : (own : Record → Type 0) (last : List Record) (t : ℕ) (gs hs : List RegionState) (s z : Served) → IsRunning gs s.state → Left own last t gs s hs z → IsRunning hs z.state
+running_on own last t gs hs s z r left =
+    let walk = left.walks r.bases r.before r.log r.vault r.audits r.run in
+    record {
+      bases = r.bases;
+      before = r.before;
+      log = walk.log;
+      vault = r.vault;
+      audits = r.audits;
+      run = run_on own last r.bases r.before r.log r.vault r.audits gs hs s.state z.state r.run walk;
+      dead = left.dead;
+    }
+
+pub left_none : (own : Record → Type 0) (t : ℕ) (gs : List RegionState) (s : Served) → AreDead gs → Left own [] t gs s gs s
+left_none own t gs s dead = record {
+  walks = walks_none own gs s.state;
+  others = record { rows = λ u e. inl refl; locks = λ u k e. refl; holds = λ r. inl refl };
+  promises = λ u e. refl;
+  dead = dead;
+}
+
+pub left_on : (own : Record → Type 0) (last : List Record) (t : ℕ) (gs hs ks : List RegionState) (s m z : Served) → Left own [] t gs s hs m → Left own last t hs m ks z → Left own last t gs s ks z
+left_on own last t gs hs ks s m z a b = record {
+  walks = walks_on own last gs hs ks s.state m.state z.state a.walks b.walks;
+  others = others_further gs hs ks s.state m.state z.state t a.others b.others;
+  promises = promises_further s m z t a.promises b.promises;
+  dead = b.dead;
+}
+
+pub cleared_left : (own : Record → Type 0) (t : ℕ) (gs hs : List RegionState) (s z : Served) → Cleared t gs s hs z → Left own [] t gs s hs z
+cleared_left own t gs hs s z c = record { walks = walks_more none_of own [] gs hs s.state z.state (λ x never. absurd never) c.left.walks; others = c.left.others; promises = c.left.promises; dead = c.left.dead }
+
+pub cleared_none : (t : ℕ) (gs : List RegionState) (s : Served) → AreDead gs → Cleared t gs s gs s
+cleared_none t gs s dead = record { left = left_none none_of t gs s dead; locks = refl; promised = refl; state = refl }
+
+pub cleared_on : (t : ℕ) (gs hs ks : List RegionState) (s m z : Served) → Cleared t gs s hs m → Cleared t hs m ks z → Cleared t gs s ks z
+cleared_on t gs hs ks s m z a b = record { left = left_on none_of [] t gs hs ks s m z a.left b.left; locks = b.locks ∙ a.locks; promised = b.promised ∙ a.promised; state = b.state ∙ a.state }
+
+-- sizes and stop stay
+pub same_left : (own : Record → Type 0) (last : List Record) (t : ℕ) (gs hs : List RegionState) (s z : Served) → IsRunning gs s.state → Left own last t gs s hs z → Same s.state z.state
+same_left own last t gs hs s z r left =
+    let walk = left.walks r.bases r.before r.log r.vault r.audits r.run in
+    same_course (moment gs s.state r.log r.vault r.audits) (moment hs z.state walk.log r.vault r.audits) walk.steps walk.apart walk.course
+
+-- nothing was logged
+none_logged : (L : List Record) (own : List Record) → AllByRecursion none_of own → L ++ own ++ [] ≡ L
+none_logged L [] never = append-nil (L ++ []) ∙ append-nil L
+none_logged L (x ∷ own) never = absurd never.0
+
+ending_on : (bases : Bases) (before L : List Record) (v : VaultState) (a : Audits) (t : ℕ) (us : List Pending) (gs hs : List RegionState) (s z : Served) (run : InRun bases before (moment gs s.state L v a)) (walk : Walked none_of [] (moment gs s.state L v a) hs z.state)
+    → IsEnding s.state.sizes L t us → IsEnding z.state.sizes walk.log t us
+ending_on bases before L v a t us gs hs s z run walk ending =
+    let same = same_course (moment gs s.state L v a) (moment hs z.state walk.log v a) walk.steps walk.apart walk.course in
+    subst (λ (x : List Record). IsEnding z.state.sizes x t us) (sym (walk.logged ∙ none_logged L walk.records walk.are)) (subst (λ x. IsEnding x L t us) (sym same.sizes) ending)
+
+pub settling_on : (t : ℕ) (us : List Pending) (gs hs : List RegionState) (s z : Served) → IsSettling gs s.state t us → Cleared t gs s hs z → IsSettling hs z.state t us
+settling_on t us gs hs s z settling c = record {
+  running = record { bases = r.bases; before = r.before; log = walk.log; vault = r.vault; audits = r.audits; run = run_on none_of [] r.bases r.before r.log r.vault r.audits gs hs s.state z.state r.run walk; dead = c.left.dead };
+  ending = ending_on r.bases r.before r.log r.vault r.audits t us gs hs s z r.run walk settling.ending;
+}
+  where
+    r : IsRunning gs s.state
+    r = settling.running
+
+    walk : Walked none_of [] (moment gs s.state r.log r.vault r.audits) hs z.state
+    walk = c.left.walks r.bases r.before r.log r.vault r.audits r.run
+
+pub settled_on : (t : ℕ) (us : List Pending) (gs hs ks : List RegionState) (s m z : Served) → Cleared t gs s hs m → Settled t us hs m ks z → Settled t us gs s ks z
+settled_on t us gs hs ks s m z c b = record {
+  walks = λ bases before L v a run ending.
+      let first = c.left.walks bases before L v a run in
+      walked_on (IsSoloOf t) (Ended t ∷ []) (moment gs s.state L v a) hs ks m.state z.state (walked_more none_of (IsSoloOf t) [] (moment gs s.state L v a) hs m.state (λ x never. absurd never) first)
+      (b.walks bases before first.log v a (run_on none_of [] bases before L v a gs hs s.state m.state run first) (ending_on bases before L v a t us gs hs s m run first ending));
+  others = others_further gs hs ks s.state m.state z.state t c.left.others b.others;
+  promises = promises_further s m z t c.left.promises b.promises;
+  dead = b.dead;
+  gone = b.gone;
+}
+
+pub may_still : (t : ℕ) (us : List Pending) (gs hs : List RegionState) (s z : Served) → IsRunning gs s.state → Cleared t gs s hs z → AllByRecursion (MayFree s.state t) us → AllByRecursion (MayFree z.state t) us
+may_still t [] gs hs s z r c h = tt
+may_still t (u ∷ us) gs hs s z r c h =
+    let same = same_left none_of [] t gs hs s z r c.left in (
+      record {
+        removal = h.0.removal;
+        spelled = h.0.spelled;
+        kind = ap (λ x. on_kind x u.region (freeing_op u.undo)) same.sizes ∙ h.0.kind;
+        lock = ap (λ l. covers (get l (t, u.key)) true) c.locks ∙ h.0.lock;
+      },
+      may_still t us gs hs s z r c h.1,
+    )
+
+-- ---- who is in the way
+pub all_get : (P : Pending → Type 0) (us : List Pending) (i : ℕ) (u : Pending) → AllByRecursion P us → slice_get us i ≡ Some u → P u
+all_get P [] i u h e = absurd (none_some u e)
+all_get P (v ∷ us) zero u h e = let same : v ≡ u = cc in subst P same h.0
+all_get P (v ∷ us) (suc i) u h e = all_get P us i u h.1 e
+
+next_is_last : (us : List Pending) → next_undo us 0 ≡ last_of us
+next_is_last [] = refl
+next_is_last (u ∷ us) = ap (λ (b : Bool). if b then last_of (u ∷ us) else None) (lt-ltb 0 (length (u ∷ us)) (omega arith))
+
+answer_of_none : (g : RegionState) (e : LatchError) → g.hold ≡ None → Err e ≡ latch_answer false g → ⊥
+answer_of_none g e none is = let free : latch_answer false g ≡ Ok tt = rw none refl in differ (is ∙ free)
+  where
+    differ : (let r : Result (Unit {0}) LatchError = Ok tt in Err e ≡ r) → ⊥
+    differ f = cc
+
+-- the region of the next undo is latched
+pub in_the_way : (hs : List RegionState) (z : SystemState) (u : Pending) (o : Option Pending) (e : LatchError) → o ≡ Some u → IsStuck o hs z (LatchRefused e) → (g : RegionState) × (k : Hold) × (slice_get hs u.region ≡ Some g) × (g.hold ≡ Some k)
+in_the_way hs z u o e is stuck = by_region (slice_get hs u.region) refl (subst (λ (p : Option Pending). IsStuck p hs z (LatchRefused e)) is stuck)
+  where
+    by_region : (p : Option RegionState) → slice_get hs u.region ≡ p → IsSomeAnd p (λ g. IsUnfreed g z (LatchRefused e)) → (g : RegionState) × (k : Hold) × (slice_get hs u.region ≡ Some g) × (g.hold ≡ Some k)
+    by_region None i never = absurd never
+    by_region (Some g) i why = by_hold g.hold refl
+      where
+        by_hold : (q : Option Hold) → g.hold ≡ q → (g : RegionState) × (k : Hold) × (slice_get hs u.region ≡ Some g) × (g.hold ≡ Some k)
+        by_hold None none = absurd (answer_of_none g e none why)
+        by_hold (Some k) there = (g, k, i, there)
+
+pub none_stuck : (hs : List RegionState) (z : SystemState) (us : List Pending) (e : LatchError) → last_of us ≡ None → IsStuck (next_undo us 0) hs z (LatchRefused e) → ⊥
+none_stuck hs z us e none stuck = subst (λ (o : Option Pending). IsStuck o hs z (LatchRefused e)) (next_is_last us ∙ none) stuck
+
+-- while the engine runs memory alone is refused
+unfreed_memory : (g : RegionState) (z : SystemState) (e : SystemError) → z.stop ≡ None → IsUnfreed g z (SystemRefused e) → e ≡ Memory
+unfreed_memory g z e runs why = subst (λ (o : Option SystemError). IsAnswerTo o e) (ap stop_of runs) why.1
+
+stuck_by : (o : Option Pending) (hs : List RegionState) (z : SystemState) (e : SystemError) → z.stop ≡ None → IsStuck o hs z (SystemRefused e) → e ≡ Memory
+stuck_by None hs z e runs stuck = subst (λ (p : Option SystemError). IsAnswerTo p e) (ap stop_of runs) stuck
+stuck_by (Some u) hs z e runs stuck = by_region (slice_get hs u.region) stuck
+  where
+    by_region : (p : Option RegionState) → IsSomeAnd p (λ g. IsUnfreed g z (SystemRefused e)) → e ≡ Memory
+    by_region None never = absurd never
+    by_region (Some g) why = unfreed_memory g z e runs why
+
+pub stuck_memory : (o : Option Pending) (hs : List RegionState) (z : SystemState) (r : StepError) (e : SystemError) → r ≡ SystemRefused e → z.stop ≡ None → IsStuck o hs z r → e ≡ Memory
+stuck_memory o hs z r e is runs stuck = stuck_by o hs z e runs (subst (λ (x : StepError). IsStuck o hs z x) is stuck)
+
+-- ---- regions of undos and removals
+pub undo_within : (gs : List RegionState) (y : SystemState) (t : ℕ) (u : Pending) → IsRunning gs y → last_of (undos_at y.table t) ≡ Some u → u.region < length gs
+undo_within gs y t u r last =
+    let runs = runs_of r.bases r.before (moment gs y r.log r.vault r.audits) r.run in
+    let may = all_get (MayBePerformed y t) (undos_at y.table t) _ u (undos_may_be_performed r.bases r.log (core gs y r.vault) runs t) last in
+    let less = kind_in y.sizes u.region (undo_op u.undo) may.kind in
+    let size : length gs ≡ regions y.sizes = r.run.whole.regions in
+    omega (arith, less, size)
+
+pub removal_within : (gs : List RegionState) (y : SystemState) (t : ℕ) (u : Pending) → IsRunning gs y → MayFree y t u → u.region < length gs
+removal_within gs y t u r may =
+    let less = kind_in y.sizes u.region (freeing_op u.undo) may.kind in
+    let size : length gs ≡ regions y.sizes = r.run.whole.regions in
+    omega (arith, less, size)
+
+-- ---- a settling isn't refused where no removal's region is latched
+drop_get : (us : List Pending) (n : ℕ) → slice_get (drop n us) 0 ≡ slice_get us n
+drop_get [] zero = refl
+drop_get [] (suc n) = refl
+drop_get (u ∷ us) zero = refl
+drop_get (u ∷ us) (suc n) = drop_get us n
+
+abbrev pub AreUnheld : List RegionState → List Pending → Type 0
+AreUnheld gs us = (i : ℕ) (u : Pending) → slice_get us i ≡ Some u → hold_in (slice_get gs u.region) ≡ None
+
+pub not_stuck : (gs hs : List RegionState) (z : SystemState) (us : List Pending) (n : ℕ) (e : StepError) → AreUnheld gs us → ((r : ℕ) → HoldStays gs hs r) → IsStuck (slice_get (drop n us) 0) hs z e → IsLatched e → ⊥
+not_stuck gs hs z us n (SystemRefused e) unheld holds stuck never = never
+not_stuck gs hs z us n (LatchRefused e) unheld holds stuck latched = by_next (slice_get us n) refl (subst (λ (o : Option Pending). IsStuck o hs z (LatchRefused e)) (drop_get us n) stuck)
+  where
+    by_next : (o : Option Pending) → slice_get us n ≡ o → IsStuck o hs z (LatchRefused e) → ⊥
+    by_next None i never = never
+    by_next (Some u) i why =
+        let way = in_the_way hs z u (Some u) e refl why in
+        let there : hold_in (slice_get hs u.region) ≡ Some way.1 = ap hold_in way.2 ∙ way.3 in
+        by_hold there (holds u.region)
+      where
+        by_hold : {k : Hold} → hold_in (slice_get hs u.region) ≡ Some k → HoldStays gs hs u.region → ⊥
+        by_hold {k = k} there (inl same) = none_some k (sym (unheld n u i) ∙ (sym same ∙ there))
+        by_hold {k = k} there (inr none) = none_some k (sym none ∙ there)
+
+-- those that were freed before a refusal
+pub left_holds : (gs hs : List RegionState) (s z : Served) (t : ℕ) (us left : List Pending) → IsSettling gs s.state t us → state_of s.state t ≡ Some Committed
+    → ((L : List Record) (v : VaultState) → IsCommitted L (core gs s.state v) t us → IsLeft L (core gs s.state v) t left (core hs z.state v)) → (r : ℕ) → HoldStays gs hs r
+left_holds gs hs s z t us left settling state leaves =
+    let r = settling.running in
+    let end = leaves r.log r.vault (settling_here r.bases r.before r.log gs s.state r.vault r.audits r.run r.dead t us state settling.ending) in
+    holds_of t gs hs s.state z.state r.vault r.log end.log end.steps end.leads end.at.free
+
+-- ---- for the calls
+pub covered_here : (gs : List RegionState) (y : SystemState) (t : ℕ) → IsRunning gs y → AreCovered y t
+covered_here gs y t r = undos_may_be_performed r.bases r.log (core gs y r.vault) (runs_of r.bases r.before (moment gs y r.log r.vault r.audits) r.run) t
+
+pub whole_here : (gs : List RegionState) (y : SystemState) → IsRunning gs y → length gs ≡ regions y.sizes
+whole_here gs y r = r.run.whole.regions
+
+pub removal_there : (t : ℕ) (us : List Pending) (gs hs : List RegionState) (s z : Served) (i : ℕ) (d : Pending) → IsSettling gs s.state t us → AllByRecursion (MayFree s.state t) us → Cleared t gs s hs z → i < length us → (get_or us i d).region < length hs
+removal_there t us gs hs s z i d settling may c less =
+    let r = running_on none_of [] t gs hs s z settling.running c.left in
+    removal_within hs z.state t (get_or us i d) r (all_get (MayFree z.state t) us i (get_or us i d) (may_still t us gs hs s z settling.running c may) (get_here us i d less))
+
+some_is : (a b : Pending) → (let o : Option Pending = Some b in Some a ≡ o) → a ≡ b
+some_is a b p = cc
+
+pub unheld_on : (gs hs : List RegionState) (us : List Pending) (i : ℕ) (d : Pending) → ((j : ℕ) (u : Pending) → j < i → slice_get us j ≡ Some u → hold_in (slice_get gs u.region) ≡ None) → ((r : ℕ) → HoldStays gs hs r) → i < length us
+    → hold_in (slice_get hs (get_or us i d).region) ≡ None → (j : ℕ) (u : Pending) → j < i + 1 → slice_get us j ≡ Some u → hold_in (slice_get hs u.region) ≡ None
+unheld_on gs hs us i d before holds less now j u within at = by_test (j == i) refl
+  where
+    freed : HoldStays gs hs u.region → hold_in (slice_get gs u.region) ≡ None → hold_in (slice_get hs u.region) ≡ None
+    freed (inl same) none = same ∙ none
+    freed (inr gone) none = gone
+
+    by_test : (b : Bool) → (j == i) ≡ b → hold_in (slice_get hs u.region) ≡ None
+    by_test true e =
+        let same : j ≡ i = (Decides-eqb j i).0 e in
+        let here : get_or us i d ≡ u = some_is (get_or us i d) u (sym (get_here us i d less) ∙ (ap (slice_get us) (sym same) ∙ at)) in
+        subst (λ (w : Pending). hold_in (slice_get hs w.region) ≡ None) here now
+    by_test false e =
+        let apart : j ≢ i = λ same. differs ((Decides-eqb j i).1 same) e in
+        freed (holds u.region) (before j u (omega (arith, within, apart)) at)
+      where
+        differs : {b : Bool} → b ≡ true → b ≡ false → ⊥
+        differs p q = cc
+
+pub promised_on : (t n : ℕ) (gs hs : List RegionState) (s z : Served) → IsRunning gs s.state → Cleared t gs s hs z → IsPromised s t n → IsPromised z t n
+promised_on t n gs hs s z r c h = record {
+  runs = (same_left none_of [] t gs hs s z r c.left).stop ∙ h.runs;
+  enough = subst (λ (m : Promised). n ≤ promised_to m t) (sym c.promised) h.enough;
+}
+
+pub in_bounds : (us : List Pending) (i : ℕ) (u : Pending) → slice_get us i ≡ Some u → i < length us
+in_bounds [] i u e = absurd (none_some u e)
+in_bounds (v ∷ us) zero u e = omega arith
+in_bounds (v ∷ us) (suc i) u e = let rest = in_bounds us i u e in omega (arith, rest)
+
+-- ---- a turn of an abort
+pub latch_held : (hs : List RegionState) (z : SystemState) (us : List Pending) (u : Pending) (e : LatchError) → last_of us ≡ Some u → IsStuck (next_undo us 0) hs z (LatchRefused e) → (g : RegionState) × (k : Hold) × (slice_get hs u.region ≡ Some g) × (g.hold ≡ Some k)
+latch_held hs z us u e last stuck = in_the_way hs z u (next_undo us 0) e (next_is_last us ∙ last) stuck
+
+pub fewer_held : (gs hs : List RegionState) (z : SystemState) (us : List Pending) (u : Pending) (r : StepError) (e : LatchError) (h : RegionState) → r ≡ LatchRefused e → length hs ≡ length gs → ((r : ℕ) → HoldStays gs hs r) → last_of us ≡ Some u → IsStuck (next_undo us 0) hs z r → h.hold ≡ None
+    → held (slice_set hs u.region h) < held gs
+fewer_held gs hs z us u r e h is size holds last stuck none =
+    let way = latch_held hs z us u e last (subst (λ (x : StepError). IsStuck (next_undo us 0) hs z x) is stuck) in
+    let less = held_less hs u.region way.0 h way.1 way.2 way.3 none in
+    let no_more = held_no_more gs hs size holds in
+    omega (arith, less, no_more)

@@ -1,0 +1,5 @@
+mod Walking
+mod Releasing
+mod Alone
+mod Standing
+mod Durable

@@ -1,0 +1,213 @@
+-- What a dead client left open on a region is taken back.
+use Rattle.std.proofs.Common.{inl, inr, ◌≡◌, ℕ, zero, suc, ◌+◌, ◌<◌, ◌≤◌, Bool, true, false, List, [], ◌∷◌, ◌++◌, Option, Some, None, IfSome, is_some, refl, ap, sym, subst, ◌∙◌, arith, length, slice_get, slice_set, option_map}
+use Rattle.std.specs.Prelude.{◌==◌, if◌then◌else◌}
+use Rattle.std.proofs.lemmas.Bool.Decides.{Decides-eqb}
+use Rattle.std.proofs.lemmas.List.{append-nil}
+use Rattle.dali_region.specs.declared.Hold.{Hold}
+use Rattle.dali_region.specs.State.{RegionState, taken_back}
+use Rattle.dali_att.specs.declared.state.State.{State}
+use Rattle.dali_att.specs.declared.state.State.TheVariants.{Live, Dead, Cleaning, Committed}
+use Rattle.dali_att.specs.Table.{with_state}
+use Rattle.dali_system.specs.State.{TxnRow, SystemState, row_of, state_of, state_in, hold_in}
+use Rattle.dali_system.specs.Steps.{in_state}
+use Rattle.dali_system.specs.Regions.{is_alive}
+use Rattle.dali_system.specs.Keeps.{MayRecover, MayGiveBack}
+use Rattle.dali_system.specs.Wholes.{latched_in}
+use Rattle.dali_system.specs.Courses.{Claims, Recovers, GivesBack}
+use Rattle.dali_core.specs.Served.{Served}
+use Rattle.dali_clean.specs.Undone.{IsReclaimed, Released}
+use Rattle.dali_clean.specs.Cleaned.{core, moment, AreDead}
+use Rattle.dali_clean.specs.Others.{HoldStays}
+use Rattle.dali_clean.proofs.Lists.{set_same}
+use Rattle.dali_clean.proofs.Courses.{row_here, row_there, held_of, holder}
+use Rattle.dali_clean.proofs.Cleaning.{if_some_by}
+use Rattle.dali_clean.proofs.Others.{release_others, released_locks, promises_same}
+use Rattle.dali_ends.specs.Ended.{Walks}
+use Rattle.dali_ends.specs.Left.{held, none_of, Cleared}
+use Rattle.dali_ends.proofs.Walking.{walks_none}
+
+-- ---- options
+pub none_some : {A : Type 0} (x : A) → (let n : Option A = None in n ≡ Some x) → ⊥
+none_some x e = cc
+
+same_some : {A : Type 0} (x y : A) → (let o : Option A = Some y in Some x ≡ o) → x ≡ y
+same_some x y e = cc
+
+clash : {b : Bool} → b ≡ false → b ≡ true → ⊥
+clash e f = cc
+
+if_some_at : {A : Type 0} (o : Option A) (P : A → Type 0) (x : A) → o ≡ Some x → IfSome o P → P x
+if_some_at o P x e h = subst (λ z. IfSome z P) e h
+
+-- ---- holds
+-- the hold of a region is dead
+pub hold_is_dead : (gs : List RegionState) (r : ℕ) (h : Hold) → AreDead gs → hold_in (slice_get gs r) ≡ Some h → h.dead ≡ true
+hold_is_dead gs r h dead there = let own = holder (slice_get gs r) h there in if_some_at own.0.hold _ h own.2 (dead r own.0 own.1)
+
+pub dead_on : (gs hs : List RegionState) → AreDead gs → ((r : ℕ) → HoldStays gs hs r) → AreDead hs
+dead_on gs hs dead holds r g at = if_some_by g.hold _ (λ h there. by_hold h (ap hold_in at ∙ there) (holds r))
+  where
+    by_hold : (h : Hold) → hold_in (slice_get hs r) ≡ Some h → HoldStays gs hs r → h.dead ≡ true
+    by_hold h there (inl same) = hold_is_dead gs r h dead (sym same ∙ there)
+    by_hold h there (inr none) = absurd (none_some h (sym none ∙ there))
+
+-- ---- rows
+state_mapped : (st : State) (row : Option TxnRow) (old : State) → state_in row ≡ Some old → state_in (option_map (with_state st) row) ≡ Some st
+state_mapped st None old e = absurd (none_some old e)
+state_mapped st (Some row) old e = refl
+
+-- ---- the steps
+module _ (gs : List RegionState) (y : SystemState) (r : ℕ) (g : RegionState) (k : Hold) (dead : AreDead gs) (at : slice_get gs r ≡ Some g) (there : g.hold ≡ Some k) where
+  abbrev behind : List RegionState
+  behind = slice_set gs r (taken_back g)
+
+  gone : k.dead ≡ true
+  gone = hold_is_dead gs r k dead (ap hold_in at ∙ there)
+
+  -- its transaction is claimed, and dead again
+  claimed_walks : (o : Option ℕ) → state_of y k.txn ≡ Some (Dead o) → Walks none_of [] gs y behind (in_state (in_state y k.txn (Cleaning o)) k.txn (Dead None))
+  claimed_walks o was bases before L v a run = record {
+    log = L;
+    steps = Claims k.txn ∷ Recovers r ∷ GivesBack k.txn None ∷ [];
+    apart = refl;
+    course = (
+      moment gs y1 L v a,
+      ((o, was, (refl, refl)), refl),
+      (
+        moment behind y1 L v a,
+        ((g, at, record { hold = k; at = there; dead = gone; latched = o; claimed = now }, (refl, refl)), refl),
+        (moment behind y2 L v a, ((may, (refl, refl)), refl), refl),
+      ),
+    );
+    records = [];
+    are = tt;
+    logged = sym (append-nil L) ∙ sym (append-nil (L ++ []));
+  }
+    where
+      y1 : SystemState
+      y1 = in_state y k.txn (Cleaning o)
+
+      y2 : SystemState
+      y2 = in_state y1 k.txn (Dead None)
+
+      now : state_of y1 k.txn ≡ Some (Cleaning o)
+      now = ap state_in (row_here y.table k.txn (with_state (Cleaning o))) ∙ state_mapped (Cleaning o) (row_of y k.txn) (Dead o) was
+
+      names : latched_in (state_of y k.txn) ≡ Some r
+      names = run.whole.dead r k (ap hold_in at ∙ there) gone
+
+      may : MayGiveBack (core behind y1 v) k.txn None
+      may = record {
+        was = o;
+        claimed = now;
+        left = record {
+          held = λ q e. absurd (none_some q e);
+          only = λ q h is own late.
+              let before = held_of gs r g (taken_back g) q h at refl is in
+              absurd (before.0 (same_some r q (sym names ∙ (ap (λ (n : ℕ). latched_in (state_of y n)) (sym own) ∙ run.whole.dead q h before.1 late))));
+        };
+        idle = record {
+          held = λ q e. absurd (none_some q e);
+          only = λ q h is own lives. absurd (clash lives (hold_is_dead gs q h dead (held_of gs r g (taken_back g) q h at refl is).1));
+        };
+      }
+
+  -- or who claimed it has it in hand
+  recovered_walks : ((o : Option ℕ) → state_of y k.txn ≡ Some (Dead o) → ⊥) → Walks none_of [] gs y behind y
+  recovered_walks not bases before L v a run = record {
+    log = L;
+    steps = Recovers r ∷ [];
+    apart = refl;
+    course = (moment behind y L v a, ((g, at, may (state_of y k.txn) refl (run.whole.dead r k (ap hold_in at ∙ there) gone), (refl, refl)), refl), refl);
+    records = [];
+    are = tt;
+    logged = sym (append-nil L) ∙ sym (append-nil (L ++ []));
+  }
+    where
+      may : (st : Option State) → state_of y k.txn ≡ st → latched_in st ≡ Some r → MayRecover (core gs y v) g
+      may None e l = absurd (none_some r l)
+      may (Some Live) e l = absurd (none_some r l)
+      may (Some Committed) e l = absurd (none_some r l)
+      may (Some (Dead latched)) e l = absurd (not latched e)
+      may (Some (Cleaning latched)) e l = record { hold = k; at = there; dead = gone; latched = latched; claimed = e }
+
+pub release_walks : (gs : List RegionState) (y z : SystemState) (r : ℕ) (g h : RegionState) → AreDead gs → slice_get gs r ≡ Some g → Released g y h z → Walks none_of [] gs y (slice_set gs r h) z
+release_walks gs y z r g h dead at (inl none) =
+    subst (λ (x : SystemState). Walks none_of [] gs y (slice_set gs r h) x) (sym none.2)
+    (subst (λ (rs : List RegionState). Walks none_of [] gs y rs y) (sym (set_same gs r h (at ∙ ap Some (sym none.1)))) (walks_none none_of gs y))
+release_walks gs y z r g h dead at (inr some) =
+    subst (λ (x : RegionState). Walks none_of [] gs y (slice_set gs r x) z) (sym some.2) (by_claim some.3)
+  where
+    by_claim : IsReclaimed y some.0.txn z → Walks none_of [] gs y (slice_set gs r (taken_back g)) z
+    by_claim (inl was) = subst (λ (x : SystemState). Walks none_of [] gs y (slice_set gs r (taken_back g)) x) (sym was.2) (claimed_walks gs y r g some.0 dead at some.1 was.0 was.1)
+    by_claim (inr not) = subst (λ (x : SystemState). Walks none_of [] gs y (slice_set gs r (taken_back g)) x) (sym not.1) (recovered_walks gs y r g some.0 dead at some.1 not.0)
+
+-- ---- another transaction's state
+apart_state : (y : SystemState) (u t : ℕ) (o : Option ℕ) → is_alive (state_of y t) ≡ true → state_of y u ≡ Some (Dead o) → state_of (in_state (in_state y u (Cleaning o)) u (Dead None)) t ≡ state_of y t
+apart_state y u t o alive was = by_test (u == t) refl
+  where
+    by_test : (b : Bool) → (u == t) ≡ b → state_of (in_state (in_state y u (Cleaning o)) u (Dead None)) t ≡ state_of y t
+    by_test true e =
+        let dead : is_alive (state_of y t) ≡ false = ap (λ (n : ℕ). is_alive (state_of y n)) (sym ((Decides-eqb u t).0 e)) ∙ ap is_alive was in
+        absurd (clash dead alive)
+    by_test false e = ap state_in (row_there (in_state y u (Cleaning o)).table u t (with_state (Dead None)) e ∙ row_there y.table u t (with_state (Cleaning o)) e)
+
+pub released_state : (y z : SystemState) (t : ℕ) (g h : RegionState) → is_alive (state_of y t) ≡ true → Released g y h z → state_of z t ≡ state_of y t
+released_state y z t g h alive (inl none) = ap (λ (x : SystemState). state_of x t) none.2
+released_state y z t g h alive (inr some) = by_claim some.3
+  where
+    by_claim : IsReclaimed y some.0.txn z → state_of z t ≡ state_of y t
+    by_claim (inl was) = ap (λ (x : SystemState). state_of x t) was.2 ∙ apart_state y some.0.txn t was.0 alive was.1
+    by_claim (inr not) = ap (λ (x : SystemState). state_of x t) not.1
+
+pub cleared : (gs : List RegionState) (s z : Served) (t r : ℕ) (g h : RegionState) → AreDead gs → is_alive (state_of s.state t) ≡ true → slice_get gs r ≡ Some g → Released g s.state h z.state → z.promised ≡ s.promised
+    → Cleared t gs s (slice_set gs r h) z
+cleared gs s z t r g h dead alive at released promised =
+    let others = release_others gs s.state z.state t r g h at released in
+    record {
+      left = record {
+        walks = release_walks gs s.state z.state r g h dead at released;
+        others = others;
+        promises = promises_same s z t promised;
+        dead = dead_on gs (slice_set gs r h) dead others.holds;
+      };
+      locks = released_locks g h s.state z.state released;
+      promised = promised;
+      state = released_state s.state z.state t g h alive released;
+    }
+
+-- ---- how many regions are latched
+abbrev count : RegionState → ℕ
+count g = if is_some g.hold then 1 else 0
+
+counted : (g : RegionState) (o : Option Hold) → g.hold ≡ o → count g ≡ (if is_some o then 1 else 0)
+counted g o e = ap (λ (x : Option Hold). let n : ℕ = if is_some x then 1 else 0 in n) e
+
+pub held_less : (gs : List RegionState) (r : ℕ) (g h : RegionState) (k : Hold) → slice_get gs r ≡ Some g → g.hold ≡ Some k → h.hold ≡ None → held (slice_set gs r h) < held gs
+held_less [] r g h k at there none = absurd (none_some g at)
+held_less (x ∷ gs) zero g h k at there none =
+    let one : count x ≡ 1 = counted x (Some k) (ap (λ (o : RegionState). o.hold) (same_some x g at) ∙ there) in
+    let zero_now : count h ≡ 0 = counted h None none in
+    let now : held (h ∷ gs) ≡ count h + held gs = refl in
+    let was : held (x ∷ gs) ≡ count x + held gs = refl in
+    omega (arith, one, zero_now, now, was)
+held_less (x ∷ gs) (suc r) g h k at there none =
+    let rest = held_less gs r g h k at there none in
+    let now : held (x ∷ slice_set gs r h) ≡ count x + held (slice_set gs r h) = refl in
+    let was : held (x ∷ gs) ≡ count x + held gs = refl in
+    omega (arith, rest, now, was)
+
+pub held_no_more : (gs hs : List RegionState) → length hs ≡ length gs → ((r : ℕ) → HoldStays gs hs r) → held hs ≤ held gs
+held_no_more [] [] size holds = omega arith
+held_no_more [] (h ∷ hs) size holds = absurd (omega (arith, size))
+held_no_more (g ∷ gs) [] size holds = absurd (omega (arith, size))
+held_no_more (g ∷ gs) (h ∷ hs) size holds =
+    let rest = held_no_more gs hs (omega (arith, size)) (λ r. holds (suc r)) in
+    let here = one (holds 0) in
+    let now : held (h ∷ hs) ≡ count h + held hs = refl in
+    let was : held (g ∷ gs) ≡ count g + held gs = refl in
+    omega (arith, rest, here, now, was)
+  where
+    one : HoldStays (g ∷ gs) (h ∷ hs) 0 → count h ≤ count g
+    one (inl same) = let e = counted h g.hold same in omega (arith, e)
+    one (inr none) = let e : count h ≡ 0 = counted h None none in omega (arith, e)

@@ -1,0 +1,65 @@
+-- What the parts of an end leave of regions and system.
+--     IsRunning gs y           some run has come to these regions and this system
+--     IsSettling gs y t us     and the rules of its log have t committed, with these removals left to be freed
+--     held gs                  how many regions are latched
+--     Left own last t gs s hs z    an end of t, or a part of it, led from the one to the other, and logged own records and these last ones
+--     Cleared t gs s hs z      what dead clients had left open was taken back, and nothing was logged
+--     Settled t us gs s hs z   what the committed t removed was freed, and its end logged
+use Rattle.std.specs.Prelude.{◌≡◌, ℕ, ◌+◌, if◌then◌else◌, is_some, List, [], ◌∷◌}
+use Rattle.dali_record.specs.declared.operations.Pending.{Pending}
+use Rattle.dali_record.specs.declared.records.Record.{Record}
+use Rattle.dali_record.specs.declared.records.Record.TheVariants.{Ended}
+use Rattle.dali_region.specs.State.{RegionState}
+use Rattle.dali_system.specs.State.{SystemState, VaultState, state_of}
+use Rattle.dali_system.specs.Run.{Bases}
+use Rattle.dali_system.specs.Passes.{Audits}
+use Rattle.dali_facts.specs.Ends.{IsEnding}
+use Rattle.dali_core.specs.Served.{Served}
+use Rattle.dali_single.specs.Settling.{IsSoloOf}
+use Rattle.dali_clean.specs.Cleaned.{moment, AreDead, InRun}
+use Rattle.dali_clean.specs.Others.{OthersStay, PromisesStay, IsGone}
+use Rattle.dali_ends.specs.Ended.{Walked, Walks}
+
+pub record IsRunning (gs : List RegionState) (y : SystemState) : Type 0 where
+  pub bases : Bases
+  pub before : List Record
+  pub log : List Record
+  pub vault : VaultState
+  pub audits : Audits
+  pub run : InRun bases before (moment gs y log vault audits)
+  pub dead : AreDead gs
+
+pub record IsSettling (gs : List RegionState) (y : SystemState) (t : ℕ) (us : List Pending) : Type 0 where
+  pub running : IsRunning gs y
+  pub ending : IsEnding y.sizes running.log t us
+
+abbrev pub held : List RegionState → ℕ
+held [] = 0
+held (g ∷ gs) = (if is_some g.hold then 1 else 0) + held gs
+
+pub record Left (own : Record → Type 0) (last : List Record) (t : ℕ) (gs : List RegionState) (s : Served) (hs : List RegionState) (z : Served) : Type 0 where
+  pub walks : Walks own last gs s.state hs z.state
+  pub others : OthersStay gs s.state t hs z.state
+  pub promises : PromisesStay s t z
+  pub dead : AreDead hs
+
+abbrev pub none_of : Record → Type 0
+none_of x = ⊥
+
+pub record Cleared (t : ℕ) (gs : List RegionState) (s : Served) (hs : List RegionState) (z : Served) : Type 0 where
+  pub left : Left none_of [] t gs s hs z
+  pub locks : z.state.locks ≡ s.state.locks
+  pub promised : z.promised ≡ s.promised
+  pub state : state_of z.state t ≡ state_of s.state t
+
+abbrev pub SettlesIn : ℕ → List Pending → List RegionState → SystemState → List RegionState → SystemState → Type 0
+SettlesIn t us gs y hs z =
+    (bases : Bases) (before L : List Record) (v : VaultState) (a : Audits) → InRun bases before (moment gs y L v a) → IsEnding y.sizes L t us
+    → Walked (IsSoloOf t) (Ended t ∷ []) (moment gs y L v a) hs z
+
+pub record Settled (t : ℕ) (us : List Pending) (gs : List RegionState) (s : Served) (hs : List RegionState) (z : Served) : Type 0 where
+  pub walks : SettlesIn t us gs s.state hs z.state
+  pub others : OthersStay gs s.state t hs z.state
+  pub promises : PromisesStay s t z
+  pub dead : AreDead hs
+  pub gone : IsGone z.state t

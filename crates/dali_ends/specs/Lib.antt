@@ -1,0 +1,5 @@
+pub mod Refused
+pub mod Stands
+pub mod Ended
+pub mod Left
+pub mod Committed

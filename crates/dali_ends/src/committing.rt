@@ -1,0 +1,79 @@
+//! A transaction of a core commits.
+ghost use Rattle.std.specs.Prelude.{◌≡◌, ◌<◌, ◌^◌, [], true, false, Some, None, Err, Ok, IfSome, OnOk, OnErr, IfErr, IsErrOf, IfOk, length};
+ghost use Rattle.std.specs.List.{AllByRecursion};
+ghost use Rattle.dali_att.specs.declared.state.State.TheVariants.{Live, Committed};
+ghost use Rattle.dali_system.specs.State.{state_of};
+ghost use Rattle.dali_system.specs.Steps.{commit_logged};
+ghost use Rattle.dali_system.specs.declared.causes.Cause.TheVariants.{Store as ByStore};
+ghost use Rattle.dali_store.specs.Calls.{fewer};
+ghost use Rattle.dali_store.specs.Faults.{Rose};
+ghost use Rattle.dali_single.specs.Settling.{MayFree, IsPromised, settle_room};
+ghost use Rattle.dali_clean.specs.Others.{OthersStay, PromisesStay, IsGone};
+ghost use Rattle.dali_whole.specs.Moments.{FlushLeaves, Within};
+ghost use Rattle.dali_ends.specs.declared.error.CommitError.TheVariants.{Stopped, OutOfMemory, Fault};
+ghost use Rattle.dali_ends.specs.Stands.{IsUp, IsBetween};
+ghost use Rattle.dali_ends.specs.Left.{IsSettling, Settled};
+ghost use Rattle.dali_ends.specs.Committed.{CommitGoes, CommitFails};
+
+use crate::error::CommitError;
+use crate::parts::free_removals;
+use dali_record::Pending;
+use dali_store::Store;
+use dali_system::Cause;
+use dali_whole::{Core, flush};
+use std::alloc::Global;
+
+// Frees what a committed transaction of a core removed, and logs its end.
+fn settle_core<V: Store>(core: &mut Core<V>, txn: u64, removals: &[Pending])
+    requires settling { IsSettling core.old.regions.items core.old.system.state txn removals.now }
+    requires may { AllByRecursion (MayFree core.old.system.state txn) removals.now }
+    requires committed { state_of core.old.system.state txn ≡ Some Committed }
+    requires promised { IsPromised core.old.system txn (settle_room (length removals.now)) }
+    ensures settled { Settled txn removals.now core.old.regions.items core.old.system core.new.regions.items core.new.system }
+    ensures vault { core.new.vault ≡ core.old.vault }
+{
+    free_removals(&mut core.regions, &mut core.system, txn, removals)
+}
+
+/// Commits a live transaction, makes its commit durable, frees for good what it removed, and logs its end. All memory that
+/// this takes is taken first. Where a dead client has latched the region of a removal, the operation in which that client died
+/// is taken back first, and its transaction stays dead. It makes four calls of the store.
+///
+/// `Stopped` exactly where the engine is stopped, with that cause, or the vault is (cause: the store), and `OutOfMemory`
+/// only where memory is refused: nothing has changed then. `Fault` only where the store's count of faults rose: the commit
+/// is logged and isn't flushed, and vault and engine stop.
+///
+/// On Ok the commit is flushed, so each crash leaves it, and the transaction has no row and no lock any more. Behind the log
+/// stand its commit, its solos in the order of its removals, and its end, and nothing else. Every other transaction keeps its
+/// row, its locks and the memory that it was promised; a dead one whose region was in the way has it latched no more.
+pub fn commit<V: Store>(core: &mut Core<V>, alloc: Global, txn: u64) -> Result<(), CommitError>
+    requires may { IsBetween V.told V.may_leave V.faults core.old.regions.items core.old.system.state core.old.vault txn }
+    requires lives { state_of core.old.system.state txn ≡ Some Live }
+    ensures ok { OnOk result (CommitGoes V.told V.may_leave V.faults core.old.regions.items core.old.system.state core.old.vault txn core.new.regions.items core.new.system.state core.new.vault) }
+    ensures up { IsUp V.told V.may_leave V.faults core.new.regions.items core.new.system.state core.new.vault }
+    ensures gone { OnOk result (IsGone core.new.system.state txn) }
+    ensures stopped { IfSome core.old.system.state.stop (λ cause. result ≡ Err (Stopped cause)) }
+    ensures vault_stopped { core.old.system.state.stop ≡ None → core.old.vault.stopped ≡ true → result ≡ Err (Stopped ByStore) }
+    ensures only { core.old.vault.stopped ≡ true → IfErr result (λ e. e ≡ Fault → ⊥) }
+    ensures fault { IsErrOf result Fault → CommitFails V.told V.may_leave V.faults core.old.regions.items core.old.system.state core.old.vault txn core.new.system.state core.new.vault }
+    ensures faulted { IsErrOf result Fault → Rose (V.faults core.old.vault.store) (V.faults core.new.vault.store) × (core.new.vault.stopped ≡ true) }
+    ensures kept { OnOk result (V.faults core.new.vault.store ≡ V.faults core.old.vault.store) }
+    ensures calls { OnOk result (V.lets_pass core.new.vault.store ≡ fewer 4 (V.lets_pass core.old.vault.store)) }
+    ensures unchanged { IfErr result (λ e. (e ≡ Fault → ⊥) → core.new ≡ core.old) }
+    ensures any_moment { core.old.vault.stopped ≡ false → (IsErrOf result OutOfMemory → ⊥) → core.old.system.state.stop ≡ None
+        → Within V.told V.moment V.left_since core.old.vault core.new.vault (FlushLeaves V.may_leave (commit_logged core.old.system.state txn) core.old.vault) }
+    ensures others { OthersStay core.old.regions.items core.old.system.state txn core.new.regions.items core.new.system.state }
+    ensures promises { PromisesStay core.old.system txn core.new.system }
+{
+    if core.vault.stopped() {
+        let cause = core.system.stopped().unwrap_or(Cause::Store);
+        return Err(CommitError::Stopped { cause });
+    }
+    let removals = dali_single::commit(alloc, &mut core.system, txn)?;
+    match flush(core, alloc) {
+        Ok(()) => {}
+        Err(_) => return Err(CommitError::Fault),
+    }
+    settle_core(core, txn, &removals);
+    Ok(())
+}

@@ -1,0 +1,11 @@
+//! Laws of ends over any store, each the contract of a function that does nothing.
+ghost use Rattle.dali_ends.specs.Committed.{CommitIsRight};
+
+use dali_store::Store;
+
+/// Where a core stands at a point of a run and a transaction may commit, each disk that a crash inside its commit leaves
+/// spells files that restart right: they have what was flushed before, and maybe the records that are flushed now, the commit
+/// among them. An abort calls no store, so a crash inside it leaves what one before it leaves.
+pub fn a_crash_inside_a_commit_is_right<V: Store>()
+    ensures { CommitIsRight V.told V.may_leave V.faults }
+{}

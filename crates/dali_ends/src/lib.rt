@@ -1,0 +1,12 @@
+//! How a transaction ends, by a thread that steps all clients of a core: a commit, and an abort.
+#![tactic(auto)]
+
+mod aborting;
+mod committing;
+mod error;
+pub mod laws;
+mod parts;
+
+pub use aborting::abort;
+pub use committing::commit;
+pub use error::{AbortError, CommitError};

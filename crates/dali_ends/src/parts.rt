@@ -1,0 +1,61 @@
+//! The parts of an end, over regions and system that stand apart: an operation that a dead client left open in the way is
+//! taken back, which takes no memory.
+ghost use Rattle.std.specs.Prelude.{◌≡◌, [], ◌∷◌, Some, None, OnOk, OnErr, IfErr, length};
+ghost use Rattle.std.specs.List.{AllByRecursion};
+ghost use Rattle.dali_record.specs.declared.records.Record.TheVariants.{Ended};
+ghost use Rattle.dali_att.specs.declared.state.State.TheVariants.{Live, Committed};
+ghost use Rattle.dali_system.specs.State.{state_of};
+ghost use Rattle.dali_single.specs.Ending.{IsBackOf};
+ghost use Rattle.dali_single.specs.Settling.{MayFree, IsPromised, settle_room};
+ghost use Rattle.dali_clean.specs.Others.{IsGone};
+ghost use Rattle.dali_ends.specs.declared.error.AbortError.TheVariants.{OutOfMemory};
+ghost use Rattle.dali_ends.specs.Left.{IsRunning, IsSettling, Left, Settled};
+
+use crate::error::AbortError;
+use dali_clean::release;
+use dali_core::System;
+use dali_record::Pending;
+use dali_region::Region;
+use dali_single::{StepError, settle};
+
+/// Takes a live transaction back, while the engine runs.
+pub fn take_back(regions: &mut [Region], system: &mut System, txn: u64) -> Result<(), AbortError>
+    requires running { IsRunning regions.old system.old.state }
+    requires lives { state_of system.old.state txn ≡ Some Live }
+    requires runs { system.old.state.stop ≡ None }
+    ensures ok { OnOk result (Left (IsBackOf txn) (Ended txn ∷ []) txn regions.old system.old regions.new system.new) }
+    ensures left { OnErr result (Left (IsBackOf txn) [] txn regions.old system.old regions.new system.new) }
+    ensures gone { OnOk result (IsGone system.new.state txn) }
+    ensures lives { OnErr result (state_of system.new.state txn ≡ Some Live) }
+    ensures memory { IfErr result (λ e. e ≡ OutOfMemory) }
+{
+    loop {
+        match dali_single::abort(regions, system, txn) {
+            Ok(()) => return Ok(()),
+            Err(StepError::System { cause }) => return Err(AbortError::from(cause)),
+            Err(StepError::Latch { .. }) => {}
+        }
+        // a dead client has the region of the next undo latched
+        let Some(undo) = system.last_undo(txn) else {
+            unreachable!()
+        };
+        release(&mut regions[undo.region as usize], system);
+    }
+}
+
+/// Frees what a committed transaction removed, and logs its end. The memory for that was promised.
+pub fn free_removals(regions: &mut [Region], system: &mut System, txn: u64, removals: &[Pending])
+    requires settling { IsSettling regions.old system.old.state txn removals.now }
+    requires may { AllByRecursion (MayFree system.old.state txn) removals.now }
+    requires committed { state_of system.old.state txn ≡ Some Committed }
+    requires promised { IsPromised system.old txn (settle_room (length removals.now)) }
+    ensures { Settled txn removals.now regions.old system.old regions.new system.new }
+{
+    for removal in removals {
+        release(&mut regions[removal.region as usize], system);
+    }
+    match settle(regions, system, txn, removals) {
+        Ok(()) => {}
+        Err(_) => unreachable!(),
+    }
+}

@@ -1,0 +1,4 @@
+pub mod Opened
+pub mod Stepwise
+pub mod Beside
+pub mod Tested

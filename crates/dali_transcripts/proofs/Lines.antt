@@ -1,0 +1,81 @@
+-- Each line has the record or the cause that the table names.
+use Rattle.std.proofs.Common.{ℕ, List, [], ◌∷◌, ◌++◌, Option, Some, None, refl, sym, subst, arith}
+use Rattle.std.specs.Prelude.{Contains}
+use Rattle.std.proofs.lemmas.List.Concat.{flat_map-cons}
+use Rattle.std.proofs.lemmas.List.Elements.{Contains-append_left, Contains-append_right}
+use Rattle.dali_record.specs.declared.records.Record.TheVariants.{Ended, AuditBegin}
+use Rattle.dali_system.specs.Steps.{audit_record}
+use Rattle.dali_transcripts.specs.Words.{Act, Begins as BeginAct, Calls, Commits as CommitAct, Aborts as AbortAct, Audits as AuditAct, Checkpoints as CheckpointAct, Why, StoreFailed, CommitOk}
+use Rattle.dali_transcripts.specs.World.{Logs, World}
+use Rattle.dali_transcripts.specs.Moves.{Receipt, Spot, Move, Begins, BeginsAgain, IsRefusedBegin, Skips, Rests, Answers, IsRefusedCall, Dies, IsArmed, GivesWay, GivesUp, Commits, CommitFails, IsRefusedCommit, Aborts, IsRefusedAbort, Ends, StaysOpen, Pokes, PokesNothing, Audits, IsRefusedAudit, Checkpoints, FailsCheckpoint, IsRefusedCheckpoint, said, own, to, end_line, end_records, audit_own}
+use Rattle.dali_transcripts.specs.Causes.{MetCause, IsEnd, HasCause}
+use Rattle.dali_transcripts.specs.Transcripts.{IsPath, said_by, own_by}
+use Rattle.dali_transcripts.specs.Table.{TellsRefused, Tells, AllTell}
+use Rattle.dali_transcripts.specs.Laws.{LinesTell, OkIsFlushed}
+use Rattle.dali_transcripts.proofs.Lists.{all_append, all_get, first_in, last_in}
+
+Within : List Receipt → List Receipt → Type 0
+Within xs ys = (y : Receipt) → Contains xs y → Contains ys y
+
+module _ (w : World) (c : ℕ) (did : List Receipt) where
+  refused : (n : ℕ) (act : Act) (o : Option ℕ) (why : Why) → MetCause w c n act o why → TellsRefused w c did act why
+  refused n CommitAct o StoreFailed h = absurd h.cause.0
+  refused n act o why h = (o, n, h)
+
+  ended : (t : ℕ) (work : List Receipt) (end : Option ℕ) → IsEnd w t end → Within (work ++ end_records t end) did → Tells w c did (end_line end)
+  unfolding Within
+  ended t work (Some n) h sub = (t, n, sub _ (last_in work (n, Logs (Ended t))), h)
+  ended t work None h sub = h
+
+  second : (b n : ℕ) (rs : List ℕ) → Within (audit_own b n rs) did → Contains did (n, Logs (audit_record b rs))
+  unfolding Within
+  second b n rs sub = sub _ (last_in ((b, Logs AuditBegin) ∷ []) (n, Logs (audit_record b rs)))
+
+  one_tells : (x : Move) → HasCause w c x → Within (own x) did → AllTell w c did (said x)
+  unfolding Within
+  one_tells (Begins t n rest) h sub = ((n, sub _ (first_in _ [])), tt)
+  one_tells (BeginsAgain t n tries held rest) h sub = ((n, sub _ (first_in _ [])), tt)
+  one_tells (IsRefusedBegin place s n why rest) h sub = (refused n BeginAct None why h.1, tt)
+  one_tells (Skips s act rest) h sub = tt
+  one_tells (Rests t act rest) h sub = tt
+  one_tells (Answers t tries cs d xs n call a rest) h sub = ((t, n, sub _ (last_in xs _)), tt)
+  one_tells (IsRefusedCall t tries cs d s xs n ys call why rest) h sub = (refused n (Calls call) (Some t) why h.2, tt)
+  one_tells (Dies t tries cs d xs n call rest) h sub = ((t, n, sub _ (last_in xs _)), tt)
+  one_tells (IsArmed t tries cs d s count rest) h sub = tt
+  one_tells (GivesWay t tries cs d xs call f end rest) h sub = (ended t xs end h.3 sub, tt)
+  one_tells (GivesUp t tries cs d xs call f end rest) h sub = ((f, h.2.kept, refl), (ended t xs end h.3 sub, tt))
+  one_tells (Commits t tries cs d n xs rest) h sub = ((t, n, sub _ (first_in _ xs), h.0), tt)
+  one_tells (CommitFails t tries cs d n rest) h sub = ((t, n, sub _ (first_in _ []), h.0, h.1), tt)
+  one_tells (IsRefusedCommit t tries cs d s n why rest) h sub = (refused n CommitAct (Some t) why h, tt)
+  one_tells (Aborts t tries cs d xs n rest) h sub = ((t, n, sub _ (last_in xs _), h.1), tt)
+  one_tells (IsRefusedAbort t tries cs d s xs n why rest) h sub = (refused n AbortAct (Some t) why h.1, tt)
+  one_tells (Ends t tries cs d xs n) h sub = ((t, n, sub _ (last_in xs _), h.1), tt)
+  one_tells (StaysOpen t tries cs d s xs) h sub = (h.1, tt)
+  one_tells (Pokes s n r word m rest) h sub = ((n, r, word, m, sub _ (first_in _ [])), tt)
+  one_tells (PokesNothing s r word m rest) h sub = (tt, tt)
+  one_tells (Audits b n rs rest) h sub = ((b, n, second b n rs sub, h), tt)
+  one_tells (IsRefusedAudit s xs n why rest) h sub = (refused n AuditAct None why h.1, tt)
+  one_tells (Checkpoints since b n m until current rest) h sub = ((b, n, m, sub _ (2, omega arith, refl), h, sub _ (3, omega arith, refl)), tt)
+  one_tells (FailsCheckpoint since b n until r rs rest) h sub = ((b, n, sub _ (2, omega arith, refl), h), tt)
+  one_tells (IsRefusedCheckpoint s span xs n why rest) h sub = (refused n CheckpointAct None why h.2, tt)
+
+  all_tell : (p : Spot) (xs : List Move) (q : Spot) → IsPath w c p xs q → Within (own_by xs) did → AllTell w c did (said_by xs)
+  unfolding Within
+  all_tell p [] q path sub = tt
+  all_tell p (x ∷ xs) q path sub =
+      subst (λ l. AllTell w c did l) (sym (flat_map-cons said x xs))
+      (all_append (Tells w c did) (said x) (said_by xs)
+      (one_tells x path.1 (λ y h. sub y (subst (λ l. Contains l y) (sym (flat_map-cons own x xs)) (Contains-append_left (own x) (own_by xs) y h))))
+      (all_tell (to x) xs q path.2 (λ y h. sub y (subst (λ l. Contains l y) (sym (flat_map-cons own x xs)) (Contains-append_right (own x) (own_by xs) y h)))))
+
+pub lines_tell : LinesTell
+unfolding Within
+lines_tell w c acts lines did transcript =
+    let so = transcript.so_far in
+    subst (λ l. AllTell w c did l) (sym so.lines_are)
+    (all_tell w c did _ so.moves _ so.path (λ y h. subst (λ l. Contains l y) (sym so.did_are) (Contains-append_left (own_by so.moves) [] y h)))
+
+pub ok_is_flushed : OkIsFlushed
+ok_is_flushed w c acts lines did transcript ok =
+    let told = all_get (Tells w c did) lines CommitOk (lines_tell w c acts lines did transcript) ok in
+    record { txn = told.0; number = told.1; own = told.2; flushed = told.3 }

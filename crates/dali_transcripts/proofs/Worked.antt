@@ -1,0 +1,197 @@
+-- The worked round.
+use Rattle.std.proofs.Common.{◌≡◌, ℕ, zero, suc, Bool, true, false, List, [], ◌∷◌, Some, None, refl, ap, subst, ◌∙◌, inl, inr, arith}
+use Rattle.std.specs.Prelude.{◌+◌, ◌*◌, ◌^◌, slice_get, ◌==◌, not, ◌&&◌}
+use Rattle.std.specs.List.{list_all}
+use Rattle.dali_counts.proofs.Lists.{self, some_same}
+use Rattle.dali_region.specs.State.{RegionState, loaded}
+use Rattle.dali_index.specs.Entries.{entries}
+use Rattle.dali_heap.specs.Cells.{cells}
+use Rattle.dali_record.specs.declared.operations.Op.TheVariants.{Look, Put, Add, FreeEntry, FreeCell}
+use Rattle.dali_record.specs.Blocks.{made, rewritten}
+use Rattle.dali_record.specs.declared.records.Call.TheVariants.{Get}
+use Rattle.dali_record.specs.declared.records.Answer.TheVariants.{Ok as AnswerOk}
+use Rattle.dali_record.specs.declared.records.Record.{Record}
+use Rattle.dali_record.specs.declared.records.Record.TheVariants.{Forward, Commit, Ended, Back}
+use Rattle.dali_transcripts.specs.Words.{Calls, Arms, Commits as CommitAct}
+use Rattle.dali_transcripts.specs.World.{Logs, HasDied, stray_after, IsUncommitted}
+use Rattle.dali_transcripts.specs.Moves.{Receipt, Outside, Gone, Move, Begins, BeginsAgain, Rests, Answers, Dies, IsArmed, GivesWay, Commits, at}
+use Rattle.dali_transcripts.specs.Transcripts.{IsSoFar, deeds_of, AreTranscripts}
+use Rattle.dali_transcripts.specs.Rounds.{PokesTell, VerdictsTell}
+use Rattle.dali_transcripts.specs.Worked.{look, put, add, look_again, free_entry, free_cell, insert_a, insert_b, happened, log, told_1, told_2, lines_1, lines_2, refusal, world, index_words, heap_words, AreMade, Conflict, blocks, ConflictRuns, receipts_1, receipts_2}
+use Rattle.dali_transcripts.proofs.Lists.{first_in}
+use Rattle.dali_transcripts.proofs.Verdicts.{none_ends}
+
+-- ---- client 1
+moves_1 : List Move
+moves_1 =
+    Begins 1 1 (Calls insert_a ∷ Arms 2 ∷ Calls (Get 5) ∷ CommitAct ∷ [])
+    ∷ Answers 1 0 told_1 None ((3, Logs (Forward 1 look)) ∷ (4, Logs (Forward 1 (put 97 0))) ∷ (5, Logs (Forward 1 (add 0))) ∷ []) 6 insert_a AnswerOk (Arms 2 ∷ Calls (Get 5) ∷ CommitAct ∷ [])
+    ∷ IsArmed 1 0 told_1 None false 2 (Calls (Get 5) ∷ CommitAct ∷ [])
+    ∷ Dies 1 0 told_1 2 ((7, Logs (Forward 1 look_again)) ∷ []) 8 (Get 5) (CommitAct ∷ [])
+    ∷ Rests 1 CommitAct []
+    ∷ []
+
+died_1 : IsSoFar world 1 told_1 lines_1 (deeds_of world 1) [] (at (Gone 1) [])
+unfolding moves_1
+died_1 = record {
+  moves = moves_1;
+  path =
+      (refl, tt, (refl, ((refl, (refl, (refl, tt))), refl), (refl, tt, (refl, ((refl, tt), refl), (refl, tt, refl)))));
+  lines_are = refl;
+  did_are = refl;
+}
+
+-- ---- client 2
+-- no Commit of transaction t
+is_other : ℕ → Record → Bool
+is_other t (Commit u) = not (u == t)
+is_other t x = true
+
+other_of : (t : ℕ) (x : Record) → x ≡ Commit t → is_other t x ≡ false
+unfolding is_other
+other_of t x e = let same : not (t == t) ≡ false = rw (self t) refl in ap (is_other t) e ∙ same
+
+all_first : (a b : Bool) → (a && b) ≡ true → a ≡ true
+all_first true b e = refl
+all_first false b e = absurd (cc)
+
+all_rest : (a b : Bool) → (a && b) ≡ true → b ≡ true
+all_rest true b e = e
+all_rest false b e = absurd (cc)
+
+none_of : (t : ℕ) (L : List Record) (k : ℕ) → list_all (is_other t) L ≡ true → slice_get L k ≡ Some (Commit t) → ⊥
+none_of t [] k h e = absurd (cc)
+none_of t (x ∷ L) zero h e = let same : x ≡ Commit t = cc in let no = other_of t x same in let yes = all_first (is_other t x) (list_all (is_other t) L) h in absurd (cc)
+none_of t (x ∷ L) (suc k) h e = none_of t L k (all_rest (is_other t x) (list_all (is_other t) L) h) e
+
+uncommitted_2 : IsUncommitted world 2 8
+unfolding is_other
+uncommitted_2 = (refl, λ k below e. none_of 2 log k refl e)
+
+work_3 : List Receipt
+work_3 =
+    (10, Logs (Back 1 free_entry)) ∷ (11, Logs (Back 1 free_cell)) ∷ (12, Logs (Ended 1))
+    ∷ (13, Logs (Forward 3 look)) ∷ (14, Logs (Forward 3 (put 98 (97 * 2 ^ 56 + 4)))) ∷ (15, Logs (Forward 3 (add 12))) ∷ []
+
+moves_2 : List Move
+unfolding work_3
+moves_2 =
+    Begins 2 2 (Calls insert_b ∷ CommitAct ∷ [])
+    ∷ GivesWay 2 0 told_2 None [] insert_b refusal (Some 8) (CommitAct ∷ [])
+    ∷ BeginsAgain 3 9 1 1 (Calls insert_b ∷ CommitAct ∷ [])
+    ∷ Answers 3 1 told_2 None work_3 16 insert_b AnswerOk (CommitAct ∷ [])
+    ∷ Commits 3 1 told_2 None 17 ((18, Logs (Ended 3)) ∷ []) []
+    ∷ []
+
+dead_1 : HasDied world 1
+dead_1 = inr (1, (7, omega arith, refl))
+
+told : IsSoFar world 2 told_2 lines_2 (deeds_of world 2) [] (at (Outside false) [])
+unfolding moves_2
+told = record {
+  moves = moves_2;
+  path = (
+    refl,
+    tt,
+    (
+      refl,
+      (tt, refl, record { kept = first_in refusal []; txn = refl; key = refl; mode = refl }, uncommitted_2, omega arith),
+      (
+        refl,
+        inr dead_1,
+        (
+          refl,
+          ((inr (refl, dead_1), (inr (refl, dead_1), ((refl, dead_1), (refl, (refl, (refl, tt)))))), refl),
+          (refl, (omega arith, (inl refl, tt)), refl),
+        ),
+      ),
+    ),
+  );
+  lines_are = refl;
+  did_are = refl;
+}
+
+looks : look ≡ made index_words 5 0 Look
+unfolding entries cells
+looks = refl
+
+puts_a : (put 97 0) ≡ made heap_words 5 1 (Put (97 ∷ []))
+unfolding entries cells
+puts_a = refl
+
+puts_b : (put 98 (97 * 2 ^ 56 + 4)) ≡ made (rewritten free_cell (rewritten (put 97 0) heap_words)) 5 1 (Put (98 ∷ []))
+unfolding entries cells
+puts_b = refl
+
+adds : add 0 ≡ made index_words 5 0 (Add 9)
+unfolding entries cells
+adds = refl
+
+adds_again : add 12 ≡ made (rewritten free_entry (rewritten (add 0) index_words)) 5 0 (Add 9)
+unfolding entries cells
+adds_again = refl
+
+looks_at_last : look ≡ made (rewritten free_entry (rewritten (add 0) index_words)) 5 0 Look
+unfolding entries cells
+looks_at_last = refl
+
+looks_again : look_again ≡ made (rewritten (add 0) index_words) 5 0 Look
+unfolding entries cells
+looks_again = refl
+
+frees_entry : free_entry ≡ made (rewritten (add 0) index_words) 5 0 (FreeEntry 0)
+unfolding entries cells
+frees_entry = refl
+
+frees_cell : free_cell ≡ made (rewritten (put 97 0) heap_words) 5 1 (FreeCell 1)
+unfolding entries cells
+frees_cell = refl
+
+pub are_made : AreMade
+are_made = record { looks = looks; puts_a = puts_a; puts_b = puts_b; adds = adds; adds_again = adds_again; looks_at_last = looks_at_last; looks_again = looks_again; frees_entry = frees_entry; frees_cell = frees_cell }
+
+transcripts : AreTranscripts true world blocks (lines_1 ∷ lines_2 ∷ [])
+transcripts = record {
+  owners = refl;
+  each = (record { place = Gone 1; over = tt; so_far = died_1 }, (record { place = Outside false; over = tt; so_far = told }, tt));
+}
+
+pub conflict : Conflict
+conflict = record {
+  legal_1 = refl;
+  legal_2 = refl;
+  legal_3 = refl;
+  transcripts = transcripts;
+}
+
+-- no one poked
+no_stray : PokesTell world
+no_stray zero g h e f = let a = some_same e in let b = some_same f in subst (λ (z : RegionState). h.stray ≡ stray_after 0 z.stray happened) a (subst (λ (z : RegionState). z.stray ≡ stray_after 0 (loaded index_words).stray happened) b refl)
+no_stray (suc zero) g h e f = let a = some_same e in let b = some_same f in subst (λ (z : RegionState). h.stray ≡ stray_after 1 z.stray happened) a (subst (λ (z : RegionState). z.stray ≡ stray_after 1 (loaded heap_words).stray happened) b refl)
+no_stray (suc (suc r)) g h e f = absurd (cc)
+
+-- no audit ends
+no_verdict : VerdictsTell world
+no_verdict i b c found e = absurd (none_ends happened i b c found refl e)
+
+pub conflict_runs : ConflictRuns
+unfolding transcripts died_1 told moves_1 moves_2
+conflict_runs = record {
+  lines = lines_1 ∷ lines_2 ∷ [];
+  receipts = receipts_1 ∷ receipts_2 ∷ [];
+  round = record {
+    world = world;
+    old_is = refl;
+    before_is = refl;
+    precheck_is = refl;
+    core_is = refl;
+    log = refl;
+    transcripts = transcripts;
+    receipts_are = refl;
+    turns = tt;
+    anchors = refl;
+    pokes = no_stray;
+    verdicts = no_verdict;
+  };
+  printed_is = refl;
+}

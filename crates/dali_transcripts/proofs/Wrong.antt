@@ -1,0 +1,146 @@
+-- Wrong transcripts: none of these is one.
+use Rattle.std.proofs.Common.{◌≡◌, ℕ, zero, suc, ◌≤◌, true, false, List, [], ◌∷◌, ◌++◌, Option, Some, None, ap, sym, subst, ◌∙◌, inl, inr, ⊎_elim, ◌⊎◌, arith}
+use Rattle.std.specs.Prelude.{◌==◌, Contains, bit_xor, filter_map, slice_get, sum_by, take, drop}
+use Rattle.std.specs.Int.Bits.{xor_assoc, xor_self, xor_zero_l, xor_zero_r}
+use Rattle.std.proofs.lemmas.List.{append_assoc, take-append-drop}
+use Rattle.std.proofs.lemmas.List.Elements.{filter_map-append}
+use Rattle.std.proofs.lemmas.List.Sums.{sum_by-append}
+use Rattle.dali_counts.proofs.Lists.{self}
+use Rattle.dali_record.specs.declared.records.Call.{Call}
+use Rattle.dali_record.specs.declared.records.Record.{Record}
+use Rattle.dali_record.specs.declared.records.Record.TheVariants.{Begin, Ended}
+use Rattle.dali_system.specs.declared.causes.Cause.{Cause}
+use Rattle.dali_system.specs.declared.causes.Cause.TheVariants.{Damage}
+use Rattle.dali_system.specs.Run.{failed_first}
+use Rattle.dali_system.specs.declared.refusals.Refusal.{Refusal}
+use Rattle.dali_system.specs.State.{stable}
+use Rattle.dali_transcripts.specs.Words.{Act, Calls, Commits as CommitAct, Checkpoints as CheckpointAct, Why, StoppedBy, Full, Damaged, UnderWay, Said, CommitOk, CheckpointSaid, Aborted, LeftOpen, Died, Busy, Refused}
+use Rattle.dali_record.specs.Epochs.{last_epoch}
+use Rattle.dali_record.specs.Spelling.{record_length}
+use Rattle.dali_transcripts.specs.World.{Logs, Turns, Meets, Happening, World, record_of, logged_by, log_of, log_at}
+use Rattle.dali_transcripts.specs.Moves.{Receipt}
+use Rattle.dali_transcripts.specs.Causes.{IsMet, IsDamaged, MetCause}
+use Rattle.dali_transcripts.specs.Transcripts.{IsTranscript, line_told, lines_of_records}
+use Rattle.dali_transcripts.specs.Table.{Tells, TellsRefused}
+use Rattle.dali_transcripts.specs.Laws.{behind_died}
+use Rattle.dali_transcripts.specs.Wrong.{WrongOnes}
+use Rattle.dali_transcripts.proofs.Lists.{all_get}
+use Rattle.dali_transcripts.proofs.Lines.{lines_tell}
+use Rattle.dali_transcripts.proofs.Matches.{lines_are_records}
+use Rattle.dali_transcripts.proofs.Gone.{nothing_after_died}
+
+module _ (w : World) (c : ℕ) (acts : List Act) where
+  -- the lines and the records that have to agree
+  agree : (said lines : List Said) (did : List Receipt) → said ≡ lines → IsTranscript w c acts said did → filter_map line_told lines ≡ lines_of_records (stable w.core) None did
+  agree said lines did e transcript = ap (λ l. filter_map line_told l) (sym e) ∙ lines_are_records w c acts said did transcript
+
+  tells : (said : List Said) (did : List Receipt) (line : Said) → IsTranscript w c acts said did → Contains said line → Tells w c did line
+  tells said did line transcript has = all_get (Tells w c did) said line (lines_tell w c acts said did transcript) has
+
+  only : (x y : Receipt) → Contains (x ∷ []) y → x ≡ y
+  only x y (zero, below, e) = e
+  only x y (suc k, below, e) = absurd (omega (arith, below))
+
+not_nil : (first : List Said) (line : Said) (later : List Said) → first ++ line ∷ later ≡ [] → ⊥
+not_nil [] line later e = absurd (cc)
+not_nil (x ∷ first) line later e = absurd (cc)
+
+died_behind : (first : List Said) (line : Said) (later : List Said) → behind_died (first ++ Died ∷ line ∷ later) ≡ [] → ⊥
+died_behind [] line later e = absurd (cc)
+died_behind (Died ∷ first) line later e = not_nil first Died (line ∷ later) e
+died_behind (x ∷ first) line later e = died_behind first line later e
+
+-- a stop is told as its cause
+stop_told : (w : World) (c : ℕ) (did : List Receipt) (act : Act) (cause : Cause) → TellsRefused w c did act (StoppedBy cause) → w.core.system.stop ≡ Some cause
+stop_told w c did CommitAct cause h = h.2.cause.1.0
+stop_told w c did act cause h = h.2.cause.1.0
+
+sum_of_part : (xs ys : List Record) → sum_by record_length xs ≤ sum_by record_length (xs ++ ys)
+sum_of_part xs ys = let e = sum_by-append record_length xs ys in omega (arith, e)
+
+-- the log at a place is a first part of the log
+part_of : (w : World) (i : ℕ) → sum_by record_length (log_at w i) ≤ sum_by record_length (log_of w)
+part_of w i =
+    let whole : log_of w ≡ log_at w i ++ logged_by (drop i w.happened) =
+    ap (λ l. w.before ++ logged_by l) (sym (take-append-drop i w.happened))
+    ∙ (ap (λ l. w.before ++ l) (filter_map-append record_of (take i w.happened) (drop i w.happened))
+    ∙ sym (append_assoc w.before (logged_by (take i w.happened)) (logged_by (drop i w.happened)))) in
+    subst (λ l. sum_by record_length (log_at w i) ≤ sum_by record_length l) (sym whole) (sum_of_part (log_at w i) (logged_by (drop i w.happened)))
+
+damage_stops : (w : World) (c : ℕ) (did : List Receipt) (act : Act) (r : ℕ) → TellsRefused w c did act (StoppedBy (Damage r)) → (i : ℕ) × (Some r ≡ failed_first (last_epoch (log_at w i)).records)
+damage_stops w c did CommitAct r h = (h.2.met.place, h.2.cause.1.1)
+damage_stops w c did act r h = (h.2.met.place, h.2.cause.1.1)
+
+full_told : (w : World) (c : ℕ) (did : List Receipt) (act : Act) (end limit : ℕ) → TellsRefused w c did act (Full end limit) → end ≤ sum_by record_length (log_of w)
+full_told w c did CommitAct end limit h = let m = h.2 in let e = m.cause.end_is in let p = part_of w m.met.place in omega (arith, e, p)
+full_told w c did act end limit h = let m = h.2 in let e = m.cause.end_is in let p = part_of w m.met.place in omega (arith, e, p)
+
+full_met : (w : World) (c : ℕ) (did : List Receipt) (act : Act) (end limit : ℕ) → TellsRefused w c did act (Full end limit) → (o : Option ℕ) × (n : ℕ) × MetCause w c n act o (Full end limit)
+full_met w c did CommitAct end limit h = h
+full_met w c did act end limit h = h
+
+no_place : (w : World) (c n : ℕ) (why : Why) → w.happened ≡ [] → IsMet w c n why → ⊥
+no_place w c n why e m = let at : slice_get {X = Happening} [] m.place ≡ Some (Meets why, c) = ap (λ (l : List Happening). slice_get l m.place) (sym e) ∙ m.there in absurd (cc)
+
+damaged_told : (w : World) (c : ℕ) (did : List Receipt) (call : Call) (r codeword found : ℕ) → TellsRefused w c did (Calls call) (Damaged r codeword found)
+    → (i t : ℕ) × IsDamaged w i t call r codeword found
+damaged_told w c did call r codeword found (Some t, n, m) = (m.met.place, t, m.cause)
+damaged_told w c did call r codeword found (None, n, m) = absurd m.cause
+
+xor_same : (a b : ℕ) → bit_xor a b ≡ 0 → a ≡ b
+xor_same a b e = sym (xor_zero_r a) ∙ (ap (bit_xor a) (sym (xor_self b)) ∙ (sym (xor_assoc a b b) ∙ (ap (λ n. bit_xor n b) e ∙ xor_zero_l b)))
+
+two_of : (x y : Receipt) (m k : ℕ) → Contains (x ∷ y ∷ []) (m, Turns k) → (x.1 ≡ Turns k) ⊎ (y.1 ≡ Turns k)
+two_of x y m k (zero, below, e) = inl (ap (λ (z : Receipt). z.1) e)
+two_of x y m k (suc zero, below, e) = inr (ap (λ (z : Receipt). z.1) e)
+two_of x y m k (suc (suc i), below, e) = absurd (omega (arith, below))
+
+none_kept : (fs : List Refusal) (f : Refusal) → fs ≡ [] → Contains fs f → ⊥
+none_kept [] f e (k, below, g) = absurd (omega (arith, below))
+none_kept (x ∷ fs) f e has = absurd (cc)
+
+pub wrong_ones : WrongOnes
+wrong_ones = record {
+  another_number = λ w c acts said says transcript. let e = agree w c acts said _ _ says transcript in absurd (cc);
+  untold = λ w c acts said says transcript. let e = agree w c acts said _ _ says transcript in absurd (cc);
+  told_twice = λ w c acts said says transcript. let e = agree w c acts said _ _ says transcript in absurd (cc);
+  another_answer = λ call w c acts said says transcript. let e = agree w c acts said _ _ says transcript in absurd (cc);
+  not_flushed = λ t n w c acts said says transcript.
+      let told = tells w c acts said _ CommitOk transcript says.1 in
+      let same : n ≡ told.1 = ap (λ (x : Receipt). x.0) (only w c acts _ _ told.2) in
+      omega (arith, says.0, told.3, same);
+  busy_by_itself = λ h did w c acts said says transcript.
+      let told = tells w c acts said did (Busy h) transcript says.1 in none_kept _ told.0 says.0 told.1;
+  stopped_by_itself = λ act cause did w c acts said says transcript.
+      let e = sym says.0 ∙ stop_told w c did act cause (tells w c acts said did _ transcript says.1) in absurd (cc);
+  open_by_itself = λ did w c acts said says transcript.
+      let told = tells w c acts said did LeftOpen transcript says.1 in let e = sym says.0 ∙ told.1 in absurd (cc);
+  not_ended = λ t n w c acts said says transcript.
+      let told = tells w c acts said _ Aborted transcript says in
+      let same : Logs (Begin t) ≡ Logs (Ended told.0) = ap (λ (x : Receipt). x.1) (only w c acts _ _ told.2) in absurd (cc);
+  end_never_had = λ act end limit did w c acts said says transcript.
+      let told = full_told w c did act end limit (tells w c acts said did _ transcript says.1) in omega (arith, says.0, told);
+  stopped_too_early = λ act r did w c acts said says transcript.
+      let told = damage_stops w c did act r (tells w c acts said did _ transcript says.1) in
+      let e = told.1 ∙ says.0 told.0 in absurd (cc);
+  under_way_by_itself = λ did w c acts said says transcript.
+      let told = tells w c acts said did (Refused CheckpointAct UnderWay) transcript says.1 in
+      let e = sym (says.0 told.2.met.place) ∙ told.2.cause.started in absurd (cc);
+  unchecked = λ call r codeword found did w c acts said says transcript.
+      let told = damaged_told w c did call r codeword found (tells w c acts said did _ transcript says.1) in
+      let e = sym says.0 ∙ told.2.compares in absurd (cc);
+  unpoked = λ call r codeword found did w c acts said says transcript.
+      let told = damaged_told w c did call r codeword found (tells w c acts said did _ transcript says.1) in
+      let same : codeword ≡ found = xor_same codeword found (told.2.stray ∙ says.0 told.0 told.2.old told.2.was) in
+      let no : (found == found) ≡ false = ap (λ n. n == found) (sym same) ∙ told.2.differ in
+      let clash : true ≡ false = sym (self found) ∙ no in absurd (cc);
+  not_moved = λ k b n m w c acts said says transcript.
+      let told = tells w c acts said _ (CheckpointSaid k) transcript says in
+      ⊎_elim (λ e. absurd (cc)) (λ e. absurd (cc)) (two_of _ _ told.2 k told.5);
+  never_met = λ act end limit did w c acts said says transcript.
+      let told = full_met w c did act end limit (tells w c acts said did _ transcript says.1) in
+      no_place w c told.1 (Full end limit) says.0 told.2.met;
+  said_after_death = λ first later line did w c acts said says transcript.
+      died_behind first line later (ap behind_died (sym says) ∙ nothing_after_died w c acts said did transcript);
+  of_nobody = λ are. let e = are.owners in absurd (cc);
+}

@@ -1,0 +1,14 @@
+pub mod Words
+pub mod World
+pub mod Moves
+pub mod Causes
+pub mod Transcripts
+pub mod Table
+pub mod Laws
+pub mod Grown
+pub mod Rounds
+pub mod Worked
+pub mod Corners
+pub mod Wrong
+pub mod Faults
+pub mod Tries
