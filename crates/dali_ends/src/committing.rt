@@ -55,6 +55,7 @@ pub fn commit<V: Store>(core: &mut Core<V>, alloc: Global, txn: u64) -> Result<(
     ensures stopped { IfSome core.old.system.state.stop (λ cause. result ≡ Err (Stopped cause)) }
     ensures vault_stopped { core.old.system.state.stop ≡ None → core.old.vault.stopped ≡ true → result ≡ Err (Stopped ByStore) }
     ensures only { core.old.vault.stopped ≡ true → IfErr result (λ e. e ≡ Fault → ⊥) }
+    ensures memory { core.old.system.state.stop ≡ None → core.old.vault.stopped ≡ false → IfErr result (λ e. (e ≡ Fault → ⊥) → e ≡ OutOfMemory) }
     ensures fault { IsErrOf result Fault → CommitFails V.told V.may_leave V.faults core.old.regions.items core.old.system.state core.old.vault txn core.new.system.state core.new.vault }
     ensures faulted { IsErrOf result Fault → Rose (V.faults core.old.vault.store) (V.faults core.new.vault.store) × (core.new.vault.stopped ≡ true) }
     ensures kept { OnOk result (V.faults core.new.vault.store ≡ V.faults core.old.vault.store) }
