@@ -21,7 +21,7 @@ use Rattle.dali_att.specs.declared.state.State.TheVariants.{Live, Dead, Cleaning
 use Rattle.dali_att.specs.Table.{undos_at, with_row, with_state, without_last}
 use Rattle.dali_system.specs.State.{TxnRow, SystemState, VaultState, row_of, state_of, state_in, hold_in, lock_of}
 use Rattle.dali_system.specs.Run.{covers}
-use Rattle.dali_system.specs.Steps.{in_state, back_logged, ended_logged}
+use Rattle.dali_system.specs.Steps.{in_state, back_logged}
 use Rattle.dali_system.specs.Keeps.{with_region, with_touched, may_log_in, moves_to, MayRecover, MayGiveBack, IsFree}
 use Rattle.dali_system.specs.Regions.{RegionStep, IsOpen, is_alive}
 use Rattle.dali_system.specs.Passes.{Audits}
@@ -34,9 +34,11 @@ use Rattle.dali_core.specs.Served.{Served}
 use Rattle.dali_facts.proofs.Ends.{empty_end_is_step}
 use Rattle.dali_calls.proofs.TakingBack.{taking_back_is_step}
 use Rattle.dali_clean.specs.Undone.{Goes, Undone, IsTakenBack, IsReclaimed, Released}
-use Rattle.dali_clean.specs.Cleaned.{core, moment, AreDead, AreQuiet, MayClean, WholeMayClean, InRun, Led, LeadsOn, is_claimed, IsCleaning, IsLeftAt, IsRecovered, Claims, IsEnded, Ends, IsGivenBack, GivesBack}
+use Rattle.dali_clean.specs.Cleaned.{core, moment, AreDead, AreQuiet, MayClean, WholeMayClean, InRun, LeadsBy, LeadsOn, is_claimed, IsCleaning, IsLeftAt, IsRecovered, Claims, IsUndone, Ends, GivesBack}
+use Rattle.dali_clean.specs.Steps.{IsClaim}
 use Rattle.dali_clean.proofs.Lists.{set_same, set_twice, get_set, get_here}
-use Rattle.dali_clean.proofs.Courses.{locked_keys, join, one, both_own, region_own, self_own, in_run_on, leads_further, stays, steps_on, on_region, runs_of, undos_in, HasWork, work_of, row_here, row_there, held_of, holder, kind_in}
+use Rattle.dali_clean.proofs.Steps.{join_back, region_back, leads_further, stays, Cleaned, cleaned_by, end_is_apart, gift_is_apart}
+use Rattle.dali_clean.proofs.Courses.{locked_keys, join, one, in_run_on, steps_on, on_region, runs_of, undos_in, work_of, row_here, row_there, held_of, holder, kind_in}
 use Rattle.dali_clean.proofs.Backward.{next_last, but_last, last_has, fewer, wanted_undo}
 
 -- ---- options
@@ -183,7 +185,7 @@ claimed rs rs' y z t latched cleans dead is back = subst (λ (x : SystemState). 
 
     by_latched : (o : Option ℕ) → state_of y t ≡ Some (Dead o) → IsRecovered rs o rs' → Claims rs y t rs' (now o)
     by_latched None d same = subst (λ (gs : List RegionState). Claims rs y t gs (now None)) (sym same) (record {
-      goes = λ bases before L v a is. record { log = L; steps = ClaimsTxn t ∷ []; own = refl; course = claim_course rs y t None d L v a };
+      goes = λ bases before L v a is. record { log = L; steps = ClaimsTxn t ∷ []; are = ([], refl, tt); course = claim_course rs y t None d L v a };
       is = is_cleaning None rs d refl (λ r g at. if_some_by g.hold _ (λ h held. each None d r h (holds_at rs r g h at held) (none_some r)));
       stop = refl;
     })
@@ -191,7 +193,7 @@ claimed rs rs' y z t latched cleans dead is back = subst (λ (x : SystemState). 
       goes = λ bases before L v a is. record {
         log = L;
         steps = ClaimsTxn t ∷ [] ++ Recovers r ∷ [];
-        own = refl;
+        are = (Recovers r ∷ [], refl, tt);
         course = join (moment rs y L v a) (moment rs (now (Some r)) L v a) (moment (slice_set rs r (taken_back same.0)) (now (Some r)) L v a) (ClaimsTxn t ∷ []) (Recovers r ∷ []) (claim_course rs y t (Some r) d L v a)
             (recover_course rs (now (Some r)) r same.0 same.1 L v a (may v));
       };
@@ -282,7 +284,7 @@ freed rs y z t r g h is at (inr some) = subst (λ (k : RegionState). Freed rs y 
         goes bases before L v a run = record {
           log = L;
           steps = (ClaimsTxn u ∷ [] ++ Recovers r ∷ []) ++ GivesTxnBack u None ∷ [];
-          own = refl;
+          are = (mine.1, refl, refl, tt);
           course = join m0 m2 (moment gs y2 L v a) (ClaimsTxn u ∷ [] ++ Recovers r ∷ []) (GivesTxnBack u None ∷ []) course (one m2 (moment gs y2 L v a) (GivesTxnBack u None) ((may, (refl, refl)), refl));
         }
           where
@@ -322,7 +324,7 @@ freed rs y z t r g h is at (inr some) = subst (λ (k : RegionState). Freed rs y 
                 clash : {b : Bool} → b ≡ false → b ≡ true → ⊥
                 clash e f = cc
     by_claim (inr not) = subst (λ (x : SystemState). Freed rs y t r (taken_back g) x) (sym not.1) (record {
-      goes = λ bases before L v a run. record { log = L; steps = Recovers r ∷ []; own = refl; course = recover_course rs y r g at L v a (may (state_of y u) refl (run.whole.dead r k held mine.0)) };
+      goes = λ bases before L v a run. record { log = L; steps = Recovers r ∷ []; are = tt; course = recover_course rs y r g at L v a (may (state_of y u) refl (run.whole.dead r k held mine.0)) };
       is = record { regions = length-set rs r (taken_back g) ∙ is.regions; kind = is.kind; quiet = still_quiet; claimed = is.claimed };
       stop = refl;
       undos = refl;
@@ -409,7 +411,7 @@ one_back rs y t u b g opened xs fits is last made runs at goes open_now = record
       record {
         log = L ++ Back t b ∷ [];
         steps = steps_on u.region xs ++ TakesBack t b ∷ [];
-        own = both_own t (steps_on u.region xs) (TakesBack t b ∷ []) (region_own t u.region g opened xs goes) (self_own t);
+        are = join_back t (steps_on u.region xs) (TakesBack t b ∷ []) (region_back t u.region g opened xs goes) (refl, tt);
         course = join (moment rs y L v a) (moment (slice_set rs u.region opened) y L v a) (moment (slice_set rs u.region (touched opened)) (back_logged y t b) (L ++ Back t b ∷ []) v a) (steps_on u.region xs) (TakesBack t b ∷ [])
             (on_region rs y L v a t u.region g opened xs (claimed_lives (state_of y t) is.claimed) at goes)
             (one (moment (slice_set rs u.region opened) y L v a) (moment (slice_set rs u.region (touched opened)) (back_logged y t b) (L ++ Back t b ∷ []) v a) (TakesBack t b) (
@@ -457,7 +459,7 @@ undone_next z t p q g h y txn down o = ap (λ (x : TakeBack). x.next) o.next ∙
 -- it was refused, and its words are taken back
 pub back_refused : (rs : List RegionState) (y : SystemState) (t r : ℕ) (g h : RegionState) → IsCleaning rs y t → slice_get rs r ≡ Some g → IsTakenBack t g h → Back1 rs y t r h y
 back_refused rs y t r g h is at back = record {
-  goes = λ bases before L v a run. record { log = L; steps = steps_on r back.0; own = region_own t r g h back.0 back.1; course = on_region rs y L v a t r g h back.0 (claimed_lives (state_of y t) is.claimed) at back.1 };
+  goes = λ bases before L v a run. record { log = L; steps = steps_on r back.0; are = region_back t r g h back.0 back.1; course = on_region rs y L v a t r g h back.0 (claimed_lives (state_of y t) is.claimed) at back.1 };
   is = record { regions = length-set rs r h ∙ is.regions; kind = is.kind; quiet = quiet_set t rs r g h is.quiet at back.2; claimed = is.claimed };
   stop = refl;
 }
@@ -466,72 +468,53 @@ back_refused rs y t r g h is at back = record {
 free_of_quiet : (rs : List RegionState) (y : SystemState) (v : VaultState) (t : ℕ) → AreQuiet t rs → IsFree (core rs y v) t
 free_of_quiet rs y v t quiet r h held = let own = holder (slice_get rs r) h held in (if_some_at own.0.hold _ h own.2 (quiet r own.0 own.1)).1
 
-pub ends_so : (rs rs' : List RegionState) (y y1 z : SystemState) (t : ℕ) → LeadsOn rs y t rs' y1 → IsCleaning rs' y1 t → undos_at y1.table t ≡ [] → y1.stop ≡ None → z ≡ ended_logged y1 t → Ends rs y t rs' z
-ends_so rs rs' y y1 z t goes is none runs end bases before L v a run = subst (λ (x : SystemState). IsEnded bases before (moment rs y L v a) t rs' x) (sym end) (record {
-  log = led.log;
-  steps = led.steps ++ EndsTxn t ∷ [];
-  own = both_own t led.steps (EndsTxn t ∷ []) led.own (self_own t);
-  course = course;
-  run = there.run;
-  whole = there.whole;
-})
+pub ends_so : (rs rs1 rs' : List RegionState) (y y1 z : SystemState) (t : ℕ) → LeadsBy (IsClaim t) rs y rs1 y1 → IsUndone rs1 y1 t rs' z → Ends rs y t rs' z
+ends_so rs rs1 rs' y y1 z t claim o bases before L v a run = record {
+  log = all.log;
+  steps = all.steps;
+  by = all.by;
+  beside = all.beside;
+  course = all.course;
+  run = all.there.run;
+  whole = all.there.whole;
+}
   where
-    led : Led (moment rs y L v a) t rs' y1
-    led = goes bases before L v a run
+    claimed_now : (latched : Option ℕ) × (state_of o.mid t ≡ Some (Cleaning latched))
+    claimed_now = latched_of (state_of o.mid t) o.is.claimed
 
-    mid : Moment
-    mid = moment rs' y1 led.log v a
+    step : (K : List Record) → InRun bases before (moment rs' o.mid K v a) → IsStepAt (moment rs' o.mid K v a) (EndsTxn t) (moment rs' z (K ++ Ended t ∷ []) v a)
+    step K there =
+        let work = work_of o.mid.sizes K t (row_of o.mid t) (Cleaning claimed_now.0) ((runs_of bases before (moment rs' o.mid K v a) there).table t) claimed_now.1 refl in
+        subst (λ (x : SystemState). IsStepAt (moment rs' o.mid K v a) (EndsTxn t) (moment rs' x (K ++ Ended t ∷ []) v a)) (sym o.system)
+        (empty_end_is_step K (core rs' o.mid v) t work.working work.at_work (sym work.undos ∙ o.none) o.runs (free_of_quiet rs' o.mid v t o.is.quiet) (ap (λ s. may_log_in s (Ended t)) claimed_now.1), refl)
 
-    at_mid : InRun bases before mid
-    at_mid = in_run_on bases before (moment rs y L v a) mid led.steps run led.course
-
-    claim : (latched : Option ℕ) × (state_of y1 t ≡ Some (Cleaning latched))
-    claim = latched_of (state_of y1 t) is.claimed
-
-    work : HasWork y1.sizes led.log t (row_of y1 t)
-    work = work_of y1.sizes led.log t (row_of y1 t) (Cleaning claim.0) ((runs_of bases before mid at_mid).table t) claim.1 refl
-
-    last : Moment
-    last = moment rs' (ended_logged y1 t) (led.log ++ Ended t ∷ []) v a
-
-    step : IsStepAt mid (EndsTxn t) last
-    step = (empty_end_is_step led.log (core rs' y1 v) t work.working work.at_work (sym work.undos ∙ none) runs (free_of_quiet rs' y1 v t is.quiet) (ap (λ o. may_log_in o (Ended t)) claim.1), refl)
-
-    course : IsCourse (moment rs y L v a) (led.steps ++ EndsTxn t ∷ []) last
-    course = join (moment rs y L v a) mid last led.steps (EndsTxn t ∷ []) led.course (one mid last (EndsTxn t) step)
-
-    there : InRun bases before last
-    there = in_run_on bases before (moment rs y L v a) last (led.steps ++ EndsTxn t ∷ []) run course
+    all : Cleaned (λ K. K ++ Ended t ∷ []) bases before (moment rs y L v a) t (EndsTxn t) rs' z
+    all = cleaned_by (λ K. K ++ Ended t ∷ []) bases before L v a rs rs1 rs' y y1 o.mid z t (EndsTxn t) run claim o.goes (end_is_apart t) step
 
 -- ---- the claim is given back
-pub given_back : (rs rs1 rs' : List RegionState) (y y1 y2 z : SystemState) (t : ℕ) → LeadsOn rs y t rs1 y1 → LeadsOn rs1 y1 t rs' y2 → IsCleaning rs' y2 t → z ≡ in_state y2 t (Dead None) → GivesBack rs y t rs' z × (state_of z t ≡ Some (Dead None))
-given_back rs rs1 rs' y y1 y2 z t first rest is back = (
-  (λ bases before L v a run. subst (λ (x : SystemState). IsGivenBack bases before (moment rs y L v a) t rs' x) (sym back) (by bases before L v a run)),
-  ap (λ (x : SystemState). state_of x t) back ∙ state_put y2 t (Dead None) (Cleaning claim.0) claim.1,
-)
+pub given_back : (rs rs1 rs' : List RegionState) (y y1 y2 z : SystemState) (t : ℕ) → LeadsBy (IsClaim t) rs y rs1 y1 → LeadsOn rs1 y1 t rs' y2 → IsCleaning rs' y2 t → z ≡ in_state y2 t (Dead None) → GivesBack rs y t rs' z × (state_of z t ≡ Some (Dead None))
+given_back rs rs1 rs' y y1 y2 z t first rest is back = (by, ap (λ (x : SystemState). state_of x t) back ∙ state_put y2 t (Dead None) (Cleaning claim.0) claim.1)
   where
     claim : (latched : Option ℕ) × (state_of y2 t ≡ Some (Cleaning latched))
     claim = latched_of (state_of y2 t) is.claimed
 
-    by : GivesBack rs y t rs' (in_state y2 t (Dead None))
+    apart : {n : ℕ} → (n == t) ≡ false → n ≡ t → ⊥
+    apart {n = n} e f = let is : (n == t) ≡ true = (Decides-eqb n t).1 f in cc
+
+    may : (v : VaultState) → MayGiveBack (core rs' y2 v) t None
+    may v = record {
+      was = claim.0;
+      claimed = claim.1;
+      left = record { held = λ q e. absurd (none_some q e); only = λ q h held own dead. absurd (apart (free_of_quiet rs' y2 v t is.quiet q h held) own) };
+      idle = record { held = λ q e. absurd (none_some q e); only = λ q h held own dead. absurd (apart (free_of_quiet rs' y2 v t is.quiet q h held) own) };
+    }
+
+    by : GivesBack rs y t rs' z
     by bases before L v a run =
-        let led = leads_further rs rs1 rs' y y1 y2 t first rest bases before L v a run in
-        let mid = moment rs' y2 led.log v a in
-        let last = moment rs' (in_state y2 t (Dead None)) led.log v a in
-        let may : MayGiveBack mid.core t None = record {
-          was = claim.0;
-          claimed = claim.1;
-          left = record { held = λ q e. absurd (none_some q e); only = λ q h held own dead. absurd (apart (free_of_quiet rs' y2 v t is.quiet q h held) own) };
-          idle = record { held = λ q e. absurd (none_some q e); only = λ q h held own dead. absurd (apart (free_of_quiet rs' y2 v t is.quiet q h held) own) };
-        } in
-        let course = join (moment rs y L v a) mid last led.steps (GivesTxnBack t None ∷ []) led.course (one mid last (GivesTxnBack t None) ((may, (refl, refl)), refl)) in
-        record {
-          led = record { log = led.log; steps = led.steps ++ GivesTxnBack t None ∷ []; own = both_own t led.steps (GivesTxnBack t None ∷ []) led.own refl; course = course };
-          again = in_run_on bases before (moment rs y L v a) last (led.steps ++ GivesTxnBack t None ∷ []) run course;
-        }
-      where
-        apart : {n : ℕ} → (n == t) ≡ false → n ≡ t → ⊥
-        apart {n = n} e f = let is : (n == t) ≡ true = (Decides-eqb n t).1 f in cc
+        let all : Cleaned (λ K. K) bases before (moment rs y L v a) t (GivesTxnBack t None) rs' z =
+        cleaned_by (λ K. K) bases before L v a rs rs1 rs' y y1 y2 z t (GivesTxnBack t None) run first rest (gift_is_apart t)
+        (λ K there. ((may v, (refl, ap (λ (x : SystemState). core rs' x v) back)), refl)) in
+        record { led = record { log = all.log; steps = all.steps; are = all.by; course = all.course }; beside = all.beside; again = all.there }
 
 -- ---- a turn of the loop
 pub there_still : (rs : List RegionState) (r : ℕ) (h : RegionState) → r < length rs → r < length (slice_set rs r h)
@@ -578,17 +561,3 @@ claimed_may_die o h = subst (λ x. IsSomeAnd x (λ s. moves_to s (Dead None) ≡
 
 pub turned_as : (rs0 : List RegionState) (y0 : SystemState) (t : ℕ) (rs : List RegionState) (s z : Served) → z ≡ s → Turned rs0 y0 t rs s.state → Turned rs0 y0 t rs z.state
 turned_as rs0 y0 t rs s z e turn = subst (λ (x : Served). Turned rs0 y0 t rs x.state) (sym e) turn
-
-pub ends_further : (rs rs1 rs' : List RegionState) (y y1 z : SystemState) (t : ℕ) → LeadsOn rs y t rs1 y1 → Ends rs1 y1 t rs' z → Ends rs y t rs' z
-ends_further rs rs1 rs' y y1 z t first rest bases before L v a run =
-    let led = first bases before L v a run in
-    let mid = moment rs1 y1 led.log v a in
-    let end = rest bases before led.log v a (in_run_on bases before (moment rs y L v a) mid led.steps run led.course) in
-    record {
-      log = end.log;
-      steps = led.steps ++ end.steps;
-      own = both_own t led.steps end.steps led.own end.own;
-      course = join (moment rs y L v a) mid (moment rs' z (end.log ++ Ended t ∷ []) v a) led.steps end.steps led.course end.course;
-      run = end.run;
-      whole = end.whole;
-    }

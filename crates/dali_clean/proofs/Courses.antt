@@ -1,6 +1,6 @@
 -- Steps of a core, one behind another, and what a run says along them.
 use Rattle.std.proofs.Common.{◌≡◌, ◌≢◌, ℕ, ◌<◌, Bool, true, false, ◌&&◌, List, [], ◌∷◌, ◌++◌, Option, Some, None, refl, sym, ap, subst, ◌∙◌, arith, slice_get, slice_set, option_map}
-use Rattle.std.specs.List.{AllByRecursion, list_all}
+use Rattle.std.specs.List.{AllByRecursion}
 use Rattle.std.specs.Prelude.{◌==◌, nat_lt, nat_le, if◌then◌else◌}
 use Rattle.std.specs.Option.{option_map_or}
 use Rattle.std.specs.FinMap.{get}
@@ -30,7 +30,7 @@ use Rattle.dali_facts.specs.Plans.{AtWork}
 use Rattle.dali_facts.specs.Undos.{MayBePerformed}
 use Rattle.dali_facts.proofs.Undos.{all_by, undos_may_be_performed}
 use Rattle.dali_clean.specs.Undone.{IsOwn, Goes}
-use Rattle.dali_clean.specs.Cleaned.{moment, is_own_change, is_own_step, InRun, LeadsOn}
+use Rattle.dali_clean.specs.Cleaned.{moment, InRun}
 use Rattle.dali_clean.proofs.Lists.{set_same, set_twice, get_set, get_apart}
 
 -- ---- lists of steps
@@ -41,34 +41,11 @@ join m k n (x ∷ xs) ys p q = (p.0, p.1, join p.0 k n xs ys p.2 q)
 pub one : (m n : Moment) (x : Step) → IsStepAt m x n → IsCourse m (x ∷ []) n
 one m n x s = (n, s, refl)
 
-both_first : (b r s : Bool) → (b && r) ≡ true → (r ≡ true → s ≡ true) → (b && s) ≡ true
-both_first true r s e f = f e
-both_first false r s e f = absurd cc
-
-pub both_own : (t : ℕ) (xs ys : List Step) → list_all (is_own_step t) xs ≡ true → list_all (is_own_step t) ys ≡ true → list_all (is_own_step t) (xs ++ ys) ≡ true
-both_own t [] ys p q = q
-both_own t (x ∷ xs) ys p q = both_first (is_own_step t x) (list_all (is_own_step t) xs) (list_all (is_own_step t) (xs ++ ys)) p (λ e. both_own t xs ys e q)
-
 pub in_run_on : (bases : Bases) (before : List Record) (m n : Moment) (xs : List Step) → InRun bases before m → IsCourse m xs n → InRun bases before n
 in_run_on bases before m n xs is course = record {
   run = bare_course_keeps bases before m n xs is.run course;
   whole = whole_course_keeps bases before m n xs is.run is.whole course;
 }
-
-pub leads_further : (rs rs' rs'' : List RegionState) (y y' y'' : SystemState) (t : ℕ) → LeadsOn rs y t rs' y' → LeadsOn rs' y' t rs'' y'' → LeadsOn rs y t rs'' y''
-leads_further rs rs' rs'' y y' y'' t p q bases before L v a is =
-    let first = p bases before L v a is in
-    let mid = moment rs' y' first.log v a in
-    let next = q bases before first.log v a (in_run_on bases before (moment rs y L v a) mid first.steps is first.course) in
-    record {
-      log = next.log;
-      steps = first.steps ++ next.steps;
-      own = both_own t first.steps next.steps first.own next.own;
-      course = join (moment rs y L v a) mid (moment rs'' y'' next.log v a) first.steps next.steps first.course next.course;
-    }
-
-pub stays : (rs : List RegionState) (y : SystemState) (t : ℕ) → LeadsOn rs y t rs y
-stays rs y t bases before L v a is = record { log = L; steps = []; own = refl; course = refl }
 
 -- ---- on one region
 alone_of : (y : SystemState) (t : ℕ) (x : RegionStep) (g : RegionState) → is_alive (state_of y t) ≡ true → IsOwn t x g → IsAlone y x g
@@ -95,23 +72,6 @@ on_region rs y L v a t r g h (x ∷ xs) alive at go =
       subst (λ (gs : List RegionState). IsCourse (moment (slice_set rs r next) y L v a) (steps_on r xs) (moment gs y L v a)) (set_twice rs r next h)
           (on_region (slice_set rs r next) y L v a t r next h xs alive (get_set rs r g next at) go.2),
     )
-
-own_change : (t : ℕ) (x : RegionStep) (g : RegionState) → IsOwn t x g → is_own_change t x ≡ true
-own_change t (Latch u) g o = (Decides-eqb u t).1 o
-own_change t (NoteReads mask) g o = refl
-own_change t (Update word value) g o = refl
-own_change t TakeBack g o = refl
-own_change t (Poke word mask) g o = absurd o
-own_change t Check g o = absurd o
-own_change t Die g o = absurd o
-own_change t (Clean side) g o = absurd o
-
-pub region_own : (t r : ℕ) (g h : RegionState) (xs : List RegionStep) → Goes t g xs h → list_all (is_own_step t) (steps_on r xs) ≡ true
-region_own t r g h [] go = refl
-region_own t r g h (x ∷ xs) go = ap (λ b. b && list_all (is_own_step t) (steps_on r xs)) (own_change t x g go.1) ∙ region_own t r (region_after x g) h xs go.2
-
-pub self_own : (t : ℕ) → (t == t && true) ≡ true
-self_own t = ap (λ b. b && true) ((Decides-eqb t t).1 refl)
 
 -- ---- what a run says
 pub runs_of : (bases : Bases) (before : List Record) (m : Moment) → InRun bases before m → RunsOn bases m.log m.core

@@ -1,5 +1,5 @@
--- One place of a list.
-use Rattle.std.proofs.Common.{◌≡◌, ◌≢◌, ℕ, zero, suc, List, [], ◌∷◌, Some, ◌<◌, length, arith, get_or, refl, ap, sym, slice_get, slice_set}
+-- One place of a list, and three lists one behind another.
+use Rattle.std.proofs.Common.{◌≡◌, ◌≢◌, ℕ, zero, suc, List, [], ◌∷◌, ◌++◌, Some, ◌<◌, length, arith, get_or, refl, ap, sym, slice_get, slice_set}
 
 pub set_same : {X : Type 0} (xs : List X) (r : ℕ) (x : X) → slice_get xs r ≡ Some x → slice_set xs r x ≡ xs
 set_same [] r x e = refl
@@ -27,3 +27,7 @@ pub get_here : {X : Type 0} (xs : List X) (r : ℕ) (d : X) → r < length xs �
 get_here [] r d h = absurd (omega (arith, h))
 get_here (x ∷ xs) zero d h = refl
 get_here (x ∷ xs) (suc r) d h = get_here xs r d (omega (arith, h))
+
+pub append_twice : {X : Type 0} (xs ys zs : List X) → xs ++ (ys ++ zs) ≡ (xs ++ ys) ++ zs
+append_twice [] ys zs = refl
+append_twice (x ∷ xs) ys zs = ap (λ l. x ∷ l) (append_twice xs ys zs)

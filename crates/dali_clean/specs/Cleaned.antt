@@ -5,16 +5,16 @@
 --     MayClean rs y t          what a clean-up of t asks of regions and system: a whole core without a live hold has it
 --     WholeMayClean            so it does
 --     InRun bases before m     the core is a run, and whole
---     is_own_step t x          the step x is one of a clean-up of t: nothing is logged but its undos and its end
---     Led m t rs z             such steps of a core lead from the moment m to these regions and this system
---     LeadsOn rs y t rs' z     so they do from each run
+--     Led P m rs z             steps that have P lead from the moment m to these regions and this system
+--     LeadsBy P rs y rs' z     so they do from each run
+--     LeadsOn rs y t rs' z     so do those that perform undos of t
 --     IsCleaning rs y t        t is claimed, has no region latched, and its undos are on regions of their kind
 --     IsDead o                 the state of a dead transaction
 --     IsLeftAt rs r, IsRecovered rs o rs'      some operation is open on the region r; and it was taken back there, if o names one
 --     Claims rs y t rs' z      t was claimed, and the operation in which its client died taken back
---     Ends, IsGivenBack        its undos were performed and its end is logged; or some were, and it is dead again
-use Rattle.std.specs.Prelude.{Bool, ◌≡◌, ◌==◌, ℕ, true, false, ⊤, List, [], ◌∷◌, ◌++◌, Option, Some, None, IfSome, IsSome, IsSomeAnd, length, slice_get, slice_set}
-use Rattle.std.specs.List.{list_all}
+--     IsUndone rs y t rs' z    all undos of t were performed, and the system logged its end
+--     Ends, GivesBack          the steps of a clean-up lead to its end; or to its claim given back, and it is dead again
+use Rattle.std.specs.Prelude.{◌≡◌, ◌==◌, ℕ, true, false, ⊤, List, [], ◌∷◌, ◌++◌, Option, Some, None, IfSome, IsSome, IsSomeAnd, length, slice_get, slice_set}
 use Rattle.dali_geometry.specs.Places.{regions}
 use Rattle.dali_record.specs.declared.records.Record.{Record}
 use Rattle.dali_record.specs.declared.records.Record.TheVariants.{Ended}
@@ -22,12 +22,14 @@ use Rattle.dali_region.specs.declared.Hold.{Hold}
 use Rattle.dali_region.specs.State.{RegionState, taken_back}
 use Rattle.dali_att.specs.declared.state.State.{State}
 use Rattle.dali_att.specs.declared.state.State.TheVariants.{Dead, Cleaning}
+use Rattle.dali_att.specs.Table.{undos_at}
 use Rattle.dali_system.specs.State.{SystemState, VaultState, CoreState, row_of, state_of, hold_in}
 use Rattle.dali_system.specs.Run.{Bases, no_image}
-use Rattle.dali_system.specs.Regions.{RegionStep, Latch, NoteReads, Update, TakeBack}
+use Rattle.dali_system.specs.Steps.{ended_logged}
 use Rattle.dali_system.specs.Passes.{Audits}
 use Rattle.dali_system.specs.Wholes.{IsWhole, AreOfKind, latched_in}
-use Rattle.dali_system.specs.Courses.{Step, Claims as ClaimsTxn, Recovers, GivesBack as GivesTxnBack, TakesBack, Ends as EndsTxn, OnRegion, Moment, IsCourse, RunsAt}
+use Rattle.dali_system.specs.Courses.{Step, GivesBack as GivesTxnBack, Ends as EndsTxn, Moment, IsCourse, RunsAt}
+use Rattle.dali_clean.specs.Steps.{AreBack, IsClaim, IsCleanUp, AreBeside}
 
 abbrev pub core : List RegionState → SystemState → VaultState → CoreState
 core rs y v = record { regions = rs; system = y; vault = v }
@@ -56,31 +58,17 @@ pub record InRun (bases : Bases) (before : List Record) (m : Moment) : Type 0 wh
   pub run : RunsAt bases before no_image m
   pub whole : IsWhole m.core
 
-abbrev pub is_own_change : ℕ → RegionStep → Bool
-is_own_change t (Latch u) = u == t
-is_own_change t (NoteReads mask) = true
-is_own_change t (Update word value) = true
-is_own_change t TakeBack = true
-is_own_change t x = false
-
--- of another dead client an operation is taken back alone, under its claim
-abbrev pub is_own_step : ℕ → Step → Bool
-is_own_step t (TakesBack u b) = u == t
-is_own_step t (EndsTxn u) = u == t
-is_own_step t (ClaimsTxn u) = true
-is_own_step t (Recovers r) = true
-is_own_step t (GivesTxnBack u o) = true
-is_own_step t (OnRegion r x) = is_own_change t x
-is_own_step t x = false
-
-pub record Led (m : Moment) (t : ℕ) (rs : List RegionState) (z : SystemState) : Type 0 where
+pub record Led (P : List Step → Type 0) (m : Moment) (rs : List RegionState) (z : SystemState) : Type 0 where
   pub log : List Record
   pub steps : List Step
-  pub own : list_all (is_own_step t) steps ≡ true
+  pub are : P steps
   pub course : IsCourse m steps (moment rs z log m.core.vault m.audits)
 
+abbrev pub LeadsBy : (List Step → Type 0) → List RegionState → SystemState → List RegionState → SystemState → Type 0
+LeadsBy P rs y rs' z = (bases : Bases) (before L : List Record) (v : VaultState) (a : Audits) → InRun bases before (moment rs y L v a) → Led P (moment rs y L v a) rs' z
+
 abbrev pub LeadsOn : List RegionState → SystemState → ℕ → List RegionState → SystemState → Type 0
-LeadsOn rs y t rs' z = (bases : Bases) (before L : List Record) (v : VaultState) (a : Audits) → InRun bases before (moment rs y L v a) → Led (moment rs y L v a) t rs' z
+LeadsOn rs y t rs' z = LeadsBy (AreBack t) rs y rs' z
 
 abbrev pub is_claimed : State → Type 0
 is_claimed (Cleaning latched) = ⊤
@@ -103,15 +91,24 @@ IsRecovered rs None rs' = rs' ≡ rs
 IsRecovered rs (Some r) rs' = (g : RegionState) × (slice_get rs r ≡ Some g) × (rs' ≡ slice_set rs r (taken_back g))
 
 pub record Claims (rs : List RegionState) (y : SystemState) (t : ℕ) (rs' : List RegionState) (z : SystemState) : Type 0 where
-  pub goes : LeadsOn rs y t rs' z
+  pub goes : LeadsBy (IsClaim t) rs y rs' z
   pub is : IsCleaning rs' z t
   pub stop : z.stop ≡ y.stop
+
+pub record IsUndone (rs : List RegionState) (y : SystemState) (t : ℕ) (rs' : List RegionState) (z : SystemState) : Type 0 where
+  pub mid : SystemState
+  pub goes : LeadsOn rs y t rs' mid
+  pub is : IsCleaning rs' mid t
+  pub none : undos_at mid.table t ≡ []
+  pub runs : mid.stop ≡ None
+  pub system : z ≡ ended_logged mid t
 
 -- the log ends with its end
 pub record IsEnded (bases : Bases) (before : List Record) (m : Moment) (t : ℕ) (rs : List RegionState) (z : SystemState) : Type 0 where
   pub log : List Record
   pub steps : List Step
-  pub own : list_all (is_own_step t) steps ≡ true
+  pub by : IsCleanUp t (EndsTxn t) steps
+  pub beside : AreBeside t m.core.system steps
   pub course : IsCourse m steps (moment rs z (log ++ Ended t ∷ []) m.core.vault m.audits)
   pub run : RunsAt bases before no_image (moment rs z (log ++ Ended t ∷ []) m.core.vault m.audits)
   pub whole : IsWhole (core rs z m.core.vault)
@@ -121,7 +118,8 @@ Ends rs y t rs' z = (bases : Bases) (before L : List Record) (v : VaultState) (a
 
 -- it may be asked for again
 pub record IsGivenBack (bases : Bases) (before : List Record) (m : Moment) (t : ℕ) (rs : List RegionState) (z : SystemState) : Type 0 where
-  pub led : Led m t rs z
+  pub led : Led (IsCleanUp t (GivesTxnBack t None)) m rs z
+  pub beside : AreBeside t m.core.system led.steps
   pub again : InRun bases before (moment rs z led.log m.core.vault m.audits)
 
 abbrev pub GivesBack : List RegionState → SystemState → ℕ → List RegionState → SystemState → Type 0

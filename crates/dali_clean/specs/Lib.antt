@@ -1,4 +1,5 @@
 pub mod Undone
 pub mod Refused
+pub mod Steps
 pub mod Cleaned
 pub mod Others

@@ -6,7 +6,7 @@ ghost use Rattle.dali_system.specs.State.{state_of};
 ghost use Rattle.dali_core.specs.Refused.{stop_refusal};
 ghost use Rattle.dali_core.specs.declared.error.SystemError.TheVariants.{OutOfMemory as Memory};
 ghost use Rattle.dali_clean.specs.declared.error.CleanError.TheVariants.{NotDead as IsNotDead, Stopped, OutOfMemory};
-ghost use Rattle.dali_clean.specs.Cleaned.{AreDead, MayClean, IsDead, IsLeftAt, IsRecovered, IsCleaning, Claims, LeadsOn, Ends, GivesBack};
+ghost use Rattle.dali_clean.specs.Cleaned.{AreDead, MayClean, IsDead, IsLeftAt, IsRecovered, IsCleaning, Claims, LeadsOn, IsUndone, Ends, GivesBack};
 ghost use Rattle.dali_clean.specs.Others.{OthersStay, PromisesStay, IsGone, HasKept};
 
 use crate::error::CleanError;
@@ -68,7 +68,7 @@ fn take_back(regions: &mut [Region], system: &mut System, txn: u64) -> Result<()
 // Performs all undos of the transaction, and logs its end.
 fn finish(regions: &mut [Region], system: &mut System, txn: u64) -> Result<(), SystemError>
     requires { IsCleaning regions.old system.old.state txn }
-    ensures ok { OnOk result (Ends regions.old system.old.state txn regions.new system.new.state) }
+    ensures ok { OnOk result (IsUndone regions.old system.old.state txn regions.new system.new.state) }
     ensures dead { AreDead regions.new }
     ensures goes { OnErr result (LeadsOn regions.old system.old.state txn regions.new system.new.state) }
     ensures is { OnErr result (IsCleaning regions.new system.new.state txn) }

@@ -1,8 +1,8 @@
 -- Behind an abort and behind a clean-up the records are as before.
 use Rattle.std.proofs.Common.{◌≡◌, ℕ, Bool, true, false, ◌&&◌, ◌||◌, List, [], ◌∷◌, ◌++◌, Option, Some, None, refl, ap, sym, subst, ◌∙◌}
-use Rattle.std.specs.Prelude.{◌==◌, filter_map}
+use Rattle.std.specs.Prelude.{◌==◌}
 use Rattle.std.specs.List.{list_any, list_all}
-use Rattle.std.specs.Option.{option_map}
+use Rattle.std.proofs.lemmas.Bool.Decides.{Decides-eqb}
 use Rattle.std.proofs.lemmas.List.{append-nil}
 use Rattle.std.proofs.lemmas.List.Elements.{filter_map-append}
 use Rattle.std.proofs.lemmas.List.Folds.{list_any-append}
@@ -11,18 +11,14 @@ use Rattle.dali_record.specs.declared.records.Record.TheVariants.{Begin, Forward
 use Rattle.dali_record.specs.Log.{commit_by, committed}
 use Rattle.dali_record.specs.Damage.{has}
 use Rattle.dali_record.specs.Epochs.{last_epoch}
-use Rattle.dali_record.specs.Legal.{sizes_of}
 use Rattle.dali_record.proofs.Pushes.{committed_push}
-use Rattle.dali_region.specs.State.{RegionState}
 use Rattle.dali_att.specs.declared.state.State.{State}
 use Rattle.dali_att.specs.declared.state.State.TheVariants.{Live, Dead}
 use Rattle.dali_history.specs.Recovered.{base_of}
-use Rattle.dali_headline.specs.Holds.{IsFront}
 use Rattle.dali_headline.proofs.Running.{front_of}
-use Rattle.dali_system.specs.State.{TxnRow, SystemState, CoreState, row_of, state_of, state_in}
+use Rattle.dali_system.specs.State.{TxnRow, CoreState, row_of, state_of, state_in}
 use Rattle.dali_system.specs.Run.{RunsOn, no_image, is_committed}
 use Rattle.dali_system.specs.Steps.{audit_record}
-use Rattle.dali_system.specs.Wholes.{IsWhole}
 use Rattle.dali_system.specs.Regions.{RegionStep, Latch, NoteReads, Update, TakeBack, Poke, Check, Die, Clean}
 use Rattle.dali_system.specs.Courses.{Step, Begins, Operates, TakesBack, Frees, Answers, Commits, Ends, AuditBegins, AuditEnds, Locks, Refuses, OnRegion, Passes, Dies, Claims, GivesBack as GivesTxnBack, Recovers, Stops, Checkpoints, Takes, Flushes, Faults, ReadFails, Moment, IsStep, IsCourse, RunsAt}
 use Rattle.dali_system.proofs.Courses.{bare_course_keeps}
@@ -33,9 +29,10 @@ use Rattle.dali_crash.proofs.Traces.{core_starts}
 use Rattle.dali_during.specs.During.{image_of, IsTakenBack, CourseIsQuiet}
 use Rattle.dali_during.proofs.UnpokedCourses.{unpoked_courses}
 use Rattle.dali_single.specs.Single.{is_end, Leads}
-use Rattle.dali_single.specs.Ending.{IsEnded}
-use Rattle.dali_clean.specs.Cleaned.{core, is_own_change, is_own_step, IsDead, Ends as CleansUp, IsEnded as IsCleanedUp}
+use Rattle.dali_clean.specs.Steps.{is_own_change, is_own_step}
+use Rattle.dali_clean.specs.Cleaned.{core, IsEnded as IsCleanedUp}
 use Rattle.dali_clean.proofs.Courses.{join}
+use Rattle.dali_clean.proofs.Steps.{own_steps}
 use Rattle.dali_courses.specs.Back.{ComesQuietly, GivesBack, AbortGivesBack, bases_behind, CleanUpGivesBack}
 use Rattle.dali_courses.proofs.Making.{abort_makes}
 
@@ -200,5 +197,5 @@ clean_up_gives_back n t rs z q whole dead ends =
     bare_course_keeps (bases_behind q.log) q.log (core_start q.log q.rules q.limit q.vault) n q.steps
     (core_starts q.log q.rules q.limit q.vault no_image q.history q.rules_are q.none q.fits q.runs q.flushed) q.course in
     let e : IsCleanedUp (bases_behind q.log) q.log n t rs z = ends (bases_behind q.log) q.log n.log n.core.vault n.audits (record { run = there; whole = whole }) in
-    let quiet = all_pokes t e.steps e.own in
+    let quiet = all_pokes t e.steps (own_steps t (Ends t) e.steps e.by ((Decides-eqb t t).1 refl)) in
     (e, behind n (record { log = e.log ++ Ended t ∷ []; core = core rs z n.core.vault; audits = n.audits }) e.steps e.log t (Dead dead.0) q e.course quiet.0 quiet.1 refl dead.1 refl)

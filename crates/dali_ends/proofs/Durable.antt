@@ -53,13 +53,13 @@ use Rattle.dali_ends.proofs.Standing.{moment_here, run_at, come}
 flush_course : (p q : Point) → IsPointCourse p (Does Takes ∷ Does Flushes ∷ []) q → IsCourse (moment_of p) (Takes ∷ Flushes ∷ []) (moment_of q)
 flush_course p q c = (moment_of c.0, c.1.1, (moment_of c.2.0, c.2.1.1, ap moment_of c.2.2))
 
-flush_logs_none : (p q : Point) → IsPointCourse p (Does Takes ∷ Does Flushes ∷ []) q → q.log ≡ p.log
+pub flush_logs_none : (p q : Point) → IsPointCourse p (Does Takes ∷ Does Flushes ∷ []) q → q.log ≡ p.log
 flush_logs_none p q c = ap (λ (x : Point). x.log) (sym c.2.2) ∙ (c.2.1.1.0.1.0 ∙ c.1.1.0.0)
 
 fault_course : (p q : Point) (n : ℕ) → IsPointCourse p (Does Takes ∷ Does (Faults n) ∷ Does Stops ∷ []) q → IsCourse (moment_of p) (Takes ∷ Faults n ∷ Stops ∷ []) (moment_of q)
 fault_course p q n c = (moment_of c.0, c.1.1, (moment_of c.2.0, c.2.1.1, (moment_of c.2.2.0, c.2.2.1.1, ap moment_of c.2.2.2)))
 
-fault_logs_none : (p q : Point) (n : ℕ) → IsPointCourse p (Does Takes ∷ Does (Faults n) ∷ Does Stops ∷ []) q → q.log ≡ p.log
+pub fault_logs_none : (p q : Point) (n : ℕ) → IsPointCourse p (Does Takes ∷ Does (Faults n) ∷ Does Stops ∷ []) q → q.log ≡ p.log
 fault_logs_none p q n c = ap (λ (x : Point). x.log) (sym c.2.2.2) ∙ (c.2.2.1.1.0.1.0 ∙ (c.2.1.1.0.2.0 ∙ c.1.1.0.0))
 
 longer_counts : (v : VaultState) (frame : List Record) → (longer v frame).faults ≡ v.faults
@@ -133,7 +133,7 @@ module _ {V : Type 0} (told : V → Option Disk) (may_leave : V → Disk → Typ
       went = quiet_course told may_leave faults s B p n (CommitsStep t ∷ []) v k.at.vault refl course
 
   -- ---- behind the flush
-  flushed_stands : (s : Start) (B : List (List Record)) (p : Point) (gs : List RegionState) (y z : SystemState) (v w : Vaulted V) → StandsAt told may_leave faults s B p gs y v → (f : AllFlushed told may_leave faults s p gs v z w)
+  pub flushed_stands : (s : Start) (B : List (List Record)) (p : Point) (gs : List RegionState) (y z : SystemState) (v w : Vaulted V) → StandsAt told may_leave faults s B p gs y v → (f : AllFlushed told may_leave faults s p gs v z w)
       → StandsAt told may_leave faults s f.batches f.to gs z w
   flushed_stands s B p gs y z v w k f = record {
     at = f.at;

@@ -1,5 +1,6 @@
-mod Walking
-mod Releasing
-mod Alone
-mod Standing
-mod Durable
+pub mod Walking
+pub mod Releasing
+pub mod Alone
+pub mod Standing
+pub mod Durable
+pub mod Wholes

@@ -5,6 +5,7 @@ ghost use Rattle.dali_att.specs.declared.state.State.TheVariants.{Live};
 ghost use Rattle.dali_system.specs.State.{state_of};
 ghost use Rattle.dali_single.specs.Ending.{IsBackOf};
 ghost use Rattle.dali_clean.specs.Others.{OthersStay, PromisesStay, IsGone};
+ghost use Rattle.dali_whole.specs.Cores.{IsWholeCore};
 ghost use Rattle.dali_ends.specs.declared.error.AbortError.TheVariants.{Stopped, OutOfMemory};
 ghost use Rattle.dali_ends.specs.Stands.{IsUp};
 ghost use Rattle.dali_ends.specs.Ended.{Comes};
@@ -53,6 +54,7 @@ pub fn abort<V: Store>(core: &mut Core<V>, txn: u64) -> Result<(), AbortError>
     ensures vault { core.new.vault ≡ core.old.vault }
     ensures others { OthersStay core.old.regions.items core.old.system.state txn core.new.regions.items core.new.system.state }
     ensures promises { PromisesStay core.old.system txn core.new.system }
+    ensures whole { IsWholeCore V.told core.old.regions.items core.old.system.state core.old.vault → IsWholeCore V.told core.new.regions.items core.new.system.state core.new.vault }
 {
     if let Some(cause) = core.system.stopped() {
         return Err(AbortError::Stopped { cause });

@@ -1,5 +1,5 @@
 //! A transaction of a core commits.
-ghost use Rattle.std.specs.Prelude.{◌≡◌, ◌<◌, ◌^◌, [], true, false, Some, None, Err, Ok, IfSome, OnOk, OnErr, IfErr, IsErrOf, IfOk, length};
+ghost use Rattle.std.specs.Prelude.{◌≡◌, ◌<◌, ◌^◌, [], true, false, Some, None, Err, Ok, IfSome, OnOk, OnErr, IfErr, IsErrOf, IfOk, is_some, length};
 ghost use Rattle.std.specs.List.{AllByRecursion};
 ghost use Rattle.dali_att.specs.declared.state.State.TheVariants.{Live, Committed};
 ghost use Rattle.dali_system.specs.State.{state_of};
@@ -9,6 +9,7 @@ ghost use Rattle.dali_store.specs.Calls.{fewer};
 ghost use Rattle.dali_store.specs.Faults.{Rose};
 ghost use Rattle.dali_single.specs.Settling.{MayFree, IsPromised, settle_room};
 ghost use Rattle.dali_clean.specs.Others.{OthersStay, PromisesStay, IsGone};
+ghost use Rattle.dali_whole.specs.Cores.{IsWholeCore};
 ghost use Rattle.dali_whole.specs.Moments.{FlushLeaves, Within};
 ghost use Rattle.dali_ends.specs.declared.error.CommitError.TheVariants.{Stopped, OutOfMemory, Fault};
 ghost use Rattle.dali_ends.specs.Stands.{IsUp, IsBetween};
@@ -60,11 +61,14 @@ pub fn commit<V: Store>(core: &mut Core<V>, alloc: Global, txn: u64) -> Result<(
     ensures faulted { IsErrOf result Fault → Rose (V.faults core.old.vault.store) (V.faults core.new.vault.store) × (core.new.vault.stopped ≡ true) }
     ensures kept { OnOk result (V.faults core.new.vault.store ≡ V.faults core.old.vault.store) }
     ensures calls { OnOk result (V.lets_pass core.new.vault.store ≡ fewer 4 (V.lets_pass core.old.vault.store)) }
+    ensures regions { OnErr result (core.new.regions.items ≡ core.old.regions.items) }
+    ensures tells { is_some (V.told core.new.vault.store) ≡ is_some (V.told core.old.vault.store) }
     ensures unchanged { IfErr result (λ e. (e ≡ Fault → ⊥) → core.new ≡ core.old) }
     ensures any_moment { core.old.vault.stopped ≡ false → (IsErrOf result OutOfMemory → ⊥) → core.old.system.state.stop ≡ None
         → Within V.told V.moment V.left_since core.old.vault core.new.vault (FlushLeaves V.may_leave (commit_logged core.old.system.state txn) core.old.vault) }
     ensures others { OthersStay core.old.regions.items core.old.system.state txn core.new.regions.items core.new.system.state }
     ensures promises { PromisesStay core.old.system txn core.new.system }
+    ensures whole { IsWholeCore V.told core.old.regions.items core.old.system.state core.old.vault → IsWholeCore V.told core.new.regions.items core.new.system.state core.new.vault }
 {
     if core.vault.stopped() {
         let cause = core.system.stopped().unwrap_or(Cause::Store);

@@ -18,8 +18,8 @@ use dali_calls::Plan;
 use dali_core::{System, SystemError, Want};
 use dali_record::Answer;
 
-/// Logs the answer of a plan that wants nothing else. It takes memory for its record, and uses room; where it is refused
-/// nothing has changed.
+/// Logs the answer of a plan that wants nothing else. Refused where the system has stopped, where the log has no room for the
+/// record, or for want of memory for it; nothing has changed then.
 pub fn answer(plan: &mut Plan, system: &mut System) -> Result<Answer, SystemError>
     requires wants { want_of plan.old ≡ AnswerIsNext }
     ensures given { IfOk result (λ a. answer_of plan.old.geometry plan.old.call plan.old.stage ≡ Some a) }

@@ -91,6 +91,7 @@ fn die_on<G: Gate>(
     requires wants { IsSome (plan_next plan.old) }
     requires closed { plan.old.operation ≡ None }
     ensures dies { IfOk result (DiesOn precheck plan.old region.old region.new) }
+    ensures plan { OnOk result (plan.new ≡ with_operation plan.old plan.new.operation) }
     ensures err { OnErr result ((plan.new ≡ plan.old) × (region.new ≡ region.old)) }
     ensures cause { IfErr result (λ e. Err e ≡ latch_answer (not (is_back plan.old) && precheck) region.old) }
 {
@@ -135,8 +136,9 @@ pub fn operate<G: Gate>(
 }
 
 /// The client of a plan dies in its next operation, behind its last update and the gate: its words stay written, the
-/// region is held by a dead client, and the transaction's row is dead and names the region. No record is logged. Refused as
-/// the region's latch; the client lives then, and nothing has changed. It takes no memory.
+/// region is held by a dead client, and the transaction's row is dead and names the region. No record is logged, and of the
+/// plan only its open operation is another. Refused as the region's latch; the client lives then, and nothing has changed. It
+/// takes no memory.
 pub fn die<G: Gate>(
     plan: &mut Plan,
     regions: &mut [Region],
@@ -149,6 +151,7 @@ pub fn die<G: Gate>(
     requires rest { IsAtRest regions.old system.old.state plan.old }
     requires wants { IsSome (plan_next plan.old) }
     ensures dies { OnOk result (IsDeath precheck plan.old regions.old system.old.state regions.new system.new.state) }
+    ensures plan { OnOk result (plan.new ≡ with_operation plan.old plan.new.operation) }
     ensures err { OnErr result ((plan.new ≡ plan.old) × (regions.new ≡ regions.old) × (system.new ≡ system.old)) }
     ensures cause { IfErr result (λ e. IsRefusal precheck plan.old regions.old system.old.state (ByLatch e)) }
     ensures others { OthersStay system.old.state plan.old.txn system.new.state }

@@ -16,15 +16,16 @@ use dali_words::Value;
 use std::cell::Cell;
 use std::test::*;
 
-// A gate that keeps the client and the point that passed it last.
+// A gate that keeps the client and the point that passed it last, and how often it was passed.
 #[derive(Drop)]
-struct LastPoint<'a> {
-    last: &'a Cell<(u32, u32)>,
+struct Passes<'a> {
+    last: &'a Cell<(u32, u32, u32)>,
 }
 
-impl<'a> Gate for LastPoint<'a> {
+impl<'a> Gate for Passes<'a> {
     fn pass(&self, client: u32, point: u32) {
-        self.last.set((client, point));
+        let (_, _, passes) = self.last.get();
+        self.last.set((client, point, passes.wrapping_add(1)));
     }
 }
 
@@ -56,7 +57,7 @@ fn step(
     system: &mut System,
     txn: u64,
     precheck: bool,
-    gate: &LastPoint,
+    gate: &Passes,
     point: (u32, u32),
 ) -> Stepped
     requires idle { IsIdle plan.old txn system.old.state }
@@ -90,7 +91,7 @@ fn dies(
     regions: &mut [Region],
     system: &mut System,
     txn: u64,
-    gate: &LastPoint,
+    gate: &Passes,
     point: (u32, u32),
 ) -> Option<Result<(), LatchError>>
     requires idle { IsIdle plan.old txn system.old.state }
@@ -149,9 +150,9 @@ fn turn(
     second: &mut Plan,
     regions: &mut [Region],
     system: &mut System,
-    gate: &LastPoint,
+    gate: &Passes,
     point: (u32, u32),
-) -> (Stepped, (u32, u32), u64)
+) -> (Stepped, (u32, u32, u32), u64)
     requires first { IsIdle first.old 1 system.old.state }
     requires second { IsIdle second.old 2 system.old.state }
     ensures first { IsIdle first.new 1 system.new.state }
@@ -170,9 +171,9 @@ fn side_by_side(
     regions: &mut [Region],
     system: &mut System,
     calls: (Call, Call),
-) -> [(Stepped, (u32, u32), u64); 9] {
-    let last = Cell::new((0, 0));
-    let gate = LastPoint { last: &last };
+) -> [(Stepped, (u32, u32, u32), u64); 9] {
+    let last = Cell::new((0, 0, 0));
+    let gate = Passes { last: &last };
     let (mut first, _) = asked(system, 1, calls.0);
     let (mut second, _) = asked(system, 2, calls.1);
     [
@@ -195,16 +196,16 @@ fn two_inserts_side_by_side(rt: HostRuntime) -> Result<()> {
     let seen = side_by_side(&mut regions, &mut system, calls);
     let done = Stepped::Answered { answer: Answer::Ok };
     let wanted = [
-        (Stepped::Made, (1, 1), 4),
-        (Stepped::Made, (2, 1), 5),
-        (Stepped::Made, (2, 2), 6),
-        (Stepped::Made, (1, 2), 7),
-        (Stepped::Made, (1, 3), 8),
+        (Stepped::Made, (1, 1, 1), 4),
+        (Stepped::Made, (2, 1, 2), 5),
+        (Stepped::Made, (2, 2, 3), 6),
+        (Stepped::Made, (1, 2, 4), 7),
+        (Stepped::Made, (1, 3, 5), 8),
         // an answer passes no gate
-        (done, (1, 3), 9),
-        (Stepped::Nothing, (1, 3), 9),
-        (Stepped::Made, (2, 3), 10),
-        (done, (2, 3), 11),
+        (done, (1, 3, 5), 9),
+        (Stepped::Nothing, (1, 3, 5), 9),
+        (Stepped::Made, (2, 3, 6), 10),
+        (done, (2, 3, 6), 11),
     ];
     assert_eq!(rt; seen, wanted);
     // client 2 was the first to put, and client 1 the first to add
@@ -224,10 +225,10 @@ fn a_death(
     u64,
     [Stepped; 2],
     Option<Result<(), LatchError>>,
-    (u32, u32),
+    (u32, u32, u32),
 ) {
-    let last = Cell::new((0, 0));
-    let gate = LastPoint { last: &last };
+    let last = Cell::new((0, 0, 0));
+    let gate = Passes { last: &last };
     let (mut first, _) = asked(system, 1, calls.0);
     let (mut second, _) = asked(system, 2, calls.1);
     let _looked = step(&mut first, regions, system, 1, true, &gate, (1, 1));
@@ -244,7 +245,8 @@ fn a_client_dies_in_a_put(rt: HostRuntime) -> Result<()> {
     let calls = (insert(4)?, insert(5)?);
     let (mut regions, mut system) = begun(&rt, 200_000)?;
     let seen = a_death(&mut regions, &mut system, calls);
-    // no record is logged; another one looks, and then neither puts nor dies where the dead hold stands, and passes no gate
+    // no record is logged, and the gate was passed; another one looks, and then neither puts nor dies where the dead hold
+    // stands, and passes no gate
     let cause = LatchError::DeadHolder { txn: 1 };
     let refused = Stepped::Refused {
         cause: StepError::Latch { cause },
@@ -254,7 +256,7 @@ fn a_client_dies_in_a_put(rt: HostRuntime) -> Result<()> {
         4,
         [Stepped::Made, refused],
         Some(Err(cause)),
-        (2, 1),
+        (2, 1, 3),
     );
     assert_eq!(rt; seen, wanted);
     // the words of the put are written, and the row names its region
@@ -264,22 +266,24 @@ fn a_client_dies_in_a_put(rt: HostRuntime) -> Result<()> {
     Ok(())
 }
 
-// An insert that is refused at its third operation and goes back.
+// An insert that is refused at its third operation and goes back, and what the gate saw behind the refusal and at the end.
 fn a_way_back(
     regions: &mut [Region],
     system: &mut System,
     call: Call,
-) -> ([Stepped; 3], bool, [Stepped; 2]) {
-    let last = Cell::new((0, 0));
-    let gate = LastPoint { last: &last };
+) -> ([Stepped; 3], bool, [Stepped; 2], [(u32, u32, u32); 2]) {
+    let last = Cell::new((0, 0, 0));
+    let gate = Passes { last: &last };
     let (mut plan, _) = asked(system, 1, call);
     let looked = step(&mut plan, regions, system, 1, true, &gate, (1, 1));
     let put = step(&mut plan, regions, system, 1, true, &gate, (1, 2));
     let added = step(&mut plan, regions, system, 1, true, &gate, (1, 3));
+    let refused = last.get();
     let turned = turns(&mut plan);
     let back = step(&mut plan, regions, system, 1, true, &gate, (1, 4));
     let end = step(&mut plan, regions, system, 1, true, &gate, (1, 5));
-    ([looked, put, added], turned, [back, end])
+    let seen = [refused, last.get()];
+    ([looked, put, added], turned, [back, end], seen)
 }
 
 #[test]
@@ -287,7 +291,7 @@ fn a_refused_call_goes_back_step_by_step(rt: HostRuntime) -> Result<()> {
     let call = insert(4)?;
     // a walk and a put are logged, and then the log has no room for the entry
     let (mut regions, mut system) = begun(&rt, 209)?;
-    let (onward, turned, back) = a_way_back(&mut regions, &mut system, call);
+    let (onward, turned, back, seen) = a_way_back(&mut regions, &mut system, call);
     let full = matches!(
         onward,
         [
@@ -305,6 +309,8 @@ fn a_refused_call_goes_back_step_by_step(rt: HostRuntime) -> Result<()> {
         (full, turned, back),
         (true, true, [Stepped::Made, Stepped::Nothing])
     );
+    // the gate is passed before the record: also by the operation whose record is refused
+    assert_eq!(rt; seen, [(1, 3, 3), (1, 4, 4)]);
     let left = (
         system.records(),
         regions[0].words()[2],
@@ -316,8 +322,8 @@ fn a_refused_call_goes_back_step_by_step(rt: HostRuntime) -> Result<()> {
 
 // The first operation of an insert over a damaged index region, with the precheck and without.
 fn over_damage(regions: &mut [Region], system: &mut System, call: Call) -> [Stepped; 2] {
-    let last = Cell::new((0, 0));
-    let gate = LastPoint { last: &last };
+    let last = Cell::new((0, 0, 0));
+    let gate = Passes { last: &last };
     let (mut plan, _) = asked(system, 1, call);
     let checked = step(&mut plan, regions, system, 1, true, &gate, (1, 1));
     [
@@ -330,11 +336,11 @@ fn over_damage(regions: &mut [Region], system: &mut System, call: Call) -> [Step
 fn a_damaged_region_is_refused_with_the_precheck_alone(rt: HostRuntime) -> Result<()> {
     let call = insert(4)?;
     let (mut regions, mut system) = begun(&rt, 200_000)?;
+    // all words of an index region that was just formatted are 0
     regions[0].poke(63, 4);
-    let codeword = regions[0].codeword();
     let cause = LatchError::Damaged {
-        codeword,
-        found: codeword ^ 4,
+        codeword: 0,
+        found: 4,
     };
     let refused = Stepped::Refused {
         cause: StepError::Latch { cause },

@@ -1,19 +1,22 @@
 -- The second worked round.
 use Rattle.std.proofs.Common.{◌≡◌, ◌≢◌, ℕ, zero, suc, ◌<◌, true, false, List, [], ◌∷◌, Some, None, refl, ap, sym, subst, ◌∙◌, arith}
-use Rattle.std.specs.Prelude.{slice_get, take, Contains, ◌↔◌}
+use Rattle.std.specs.Prelude.{◌==◌, fold, length, slice_get, take, Contains, ◌↔◌}
+use Rattle.std.proofs.lemmas.Bool.{ne_eqb}
 use Rattle.dali_counts.proofs.Lists.{some_same}
 use Rattle.dali_record.specs.declared.records.Call.TheVariants.{Get}
 use Rattle.dali_record.specs.declared.records.Record.TheVariants.{Begin, Commit, AuditFail}
-use Rattle.dali_region.specs.State.{RegionState, loaded}
+use Rattle.dali_region.specs.State.{RegionState, IsLive, loaded}
 use Rattle.dali_system.specs.declared.causes.Cause.TheVariants.{Damage}
 use Rattle.dali_transcripts.specs.Words.{Begins as BeginAct, Calls, Commits as CommitAct, Aborts as AbortAct, Audits as AuditAct, Checkpoints as CheckpointAct, StoppedBy, Full}
-use Rattle.dali_transcripts.specs.World.{Logs, log_of, stray_after}
+use Rattle.dali_transcripts.specs.World.{Logs, log_of, log_at, state_step, stray_after}
 use Rattle.dali_transcripts.specs.Moves.{Outside, LeftOut, Move, Begins, IsRefusedBegin, Skips, Aborts, Pokes, Audits, IsRefusedCheckpoint, at}
+use Rattle.dali_transcripts.specs.Causes.{IsFull}
 use Rattle.dali_transcripts.specs.Transcripts.{IsSoFar, deeds_of, AreTranscripts}
-use Rattle.dali_transcripts.specs.Rounds.{PokesTell, VerdictsTell}
+use Rattle.dali_transcripts.specs.Rounds.{PokesTell, VerdictsTell, IsAtRest, IsBetween}
 use Rattle.dali_transcripts.specs.Worked.{index_words, heap_words}
 use Rattle.dali_transcripts.specs.Corners.{happened, told_1, told_2, blocks, lines_1, lines_2, world, CornersRun}
-use Rattle.dali_transcripts.proofs.Verdicts.{ends_at, found_is}
+use Rattle.dali_transcripts.proofs.Verdicts.{begin_is, ends_at, found_is}
+use Rattle.dali_transcripts.proofs.Ends.{grew_from, no_row, all_ended, none_claimed, none_failed, not_live, strays_same}
 
 moves_1 : List Move
 moves_1 =
@@ -22,7 +25,7 @@ moves_1 =
     ∷ IsRefusedBegin (Outside false) false 5 (StoppedBy (Damage 1)) (Calls (Get 5) ∷ CommitAct ∷ CheckpointAct ∷ [])
     ∷ Skips true (Calls (Get 5)) (CommitAct ∷ CheckpointAct ∷ [])
     ∷ Skips true CommitAct (CheckpointAct ∷ [])
-    ∷ IsRefusedCheckpoint true None [] 5 (StoppedBy (Damage 1)) []
+    ∷ IsRefusedCheckpoint true None false [] 5 (StoppedBy (Damage 1)) []
     ∷ []
 
 so_1 : IsSoFar world 1 told_1 lines_1 (deeds_of world 1) [] (at (Outside true) [])
@@ -37,8 +40,8 @@ so_1 = record {
       omega arith,
       (
         refl,
-        (refl, record { met = record { place = 6; there = refl; number = refl }; cause = (tt, (refl, refl)) }),
-        (refl, tt, (refl, tt, (refl, (tt, refl, record { met = record { place = 7; there = refl; number = refl }; cause = (tt, (refl, refl)) }), refl))),
+        (refl, record { met = record { place = 6; there = refl; number = refl }; cause = (tt, refl) }, tt),
+        (refl, tt, (refl, tt, (refl, (tt, refl, record { met = record { place = 7; there = refl; number = refl }; cause = (tt, refl) }), refl))),
       ),
     ),
   );
@@ -59,6 +62,9 @@ moves_2 =
     ∷ Skips false (Calls (Get 5)) []
     ∷ []
 
+full_2 : IsFull world 4 BeginAct None 29 30
+full_2 = record { limit_is = refl; end_is = refl; refused = Begin 2; next = (2, refl, refl); spelled = omega arith; passes = omega arith }
+
 so_2 : IsSoFar world 2 told_2 lines_2 (deeds_of world 2) [] (at (LeftOut false) [])
 unfolding moves_2
 so_2 = record {
@@ -68,15 +74,16 @@ so_2 = record {
     tt,
     (
       refl,
-      (tt, (refl, none_committed), refl),
+      (tt, (refl, none_committed)),
       (
         refl,
         (
           refl,
           record {
             met = record { place = 4; there = refl; number = refl };
-            cause = record { limit_is = refl; end_is = refl; refused = Begin 2; next = (2, refl, refl); spelled = omega arith; passes = omega arith };
+            cause = full_2;
           },
+          tt,
         ),
         (refl, tt, refl),
       ),
@@ -93,8 +100,8 @@ transcripts = record {
 }
 
 strays : PokesTell world
-strays zero g h e f = let a = some_same e in let b = some_same f in subst (λ (z : RegionState). h.stray ≡ stray_after 0 z.stray happened) a (subst (λ (z : RegionState). z.stray ≡ stray_after 0 (loaded index_words).stray happened) b refl)
-strays (suc zero) g h e f = let a = some_same e in let b = some_same f in subst (λ (z : RegionState). h.stray ≡ stray_after 1 z.stray happened) a (subst (λ (z : RegionState). z.stray ≡ stray_after 1 (loaded heap_words).stray happened) b refl)
+strays zero g h e f = let a = some_same e in let b = some_same f in strays_same happened 0 (loaded index_words) _ g h a b (refl, refl)
+strays (suc zero) g h e f = let a = some_same e in let b = some_same f in strays_same happened 1 (loaded heap_words) _ g h a b (refl, refl)
 strays (suc (suc r)) g h e f = absurd (cc)
 
 -- the audit names region 1 alone
@@ -121,10 +128,29 @@ names (suc (suc r)) g e = absurd (cc)
 
 verdict : VerdictsTell world
 unfolding Names
-verdict i b c found e r g was alone =
+verdict i b c found e r g was =
     let here : i ≡ 5 = ends_at 5 happened i b c found refl refl e in
     let named : found ≡ 1 ∷ [] = found_is happened 5 b c found (Logs (AuditFail 3 (1 ∷ [])), 1) refl (ap (λ k. slice_get happened k) (sym here) ∙ e) in
-    rw (here, named) (names r g was)
+    let begun : b ≡ 3 = begin_is happened 5 b c found (Logs (AuditFail 3 (1 ∷ [])), 1) refl (ap (λ k. slice_get happened k) (sym here) ∙ e) in
+    let size : length (log_at world 5) ≡ 4 = refl in
+    rw (here, named, begun) (5, omega arith, omega (arith, size), names r g was)
+
+holds : (r : ℕ) (g : RegionState) → slice_get world.core.regions r ≡ Some g → IsLive g → ⊥
+holds zero g e live = not_live _ g (some_same e) refl live
+holds (suc zero) g e live = not_live _ g (some_same e) refl live
+holds (suc (suc r)) g e live = absurd (cc)
+
+-- all transactions have ended
+ended : (t : ℕ) → fold (state_step t) None happened ≡ None
+ended zero = refl
+ended (suc zero) = refl
+ended (suc (suc t)) = let a : (1 == suc (suc t)) ≡ false = ne_eqb 1 (suc (suc t)) (λ e. absurd (omega (arith, e))) in rw a refl
+
+rests : IsAtRest world.core
+rests = record { stopped = λ e. let no : false ≡ true = e in absurd (cc); holds = holds; flag = refl; free = none_claimed world.core.system refl }
+
+between : IsBetween world.core
+between = record { rests = rests; idle = λ runs t h. absurd (no_row world.core.system refl t h) }
 
 pub corners_run : CornersRun
 unfolding transcripts so_1 so_2 moves_1 moves_2
@@ -137,13 +163,24 @@ corners_run = record {
     before_is = refl;
     precheck_is = refl;
     core_is = refl;
+    grew = grew_from world refl refl refl refl refl (omega arith);
     log = refl;
     transcripts = transcripts;
     receipts_are = refl;
-    turns = tt;
-    anchors = refl;
-    pokes = strays;
-    verdicts = verdict;
+    right = (tt, (tt, (tt, (tt, ((BeginAct, None, full_2), (tt, ((BeginAct, None, (tt, refl)), ((BeginAct, None, (tt, refl)), tt))))))));
+    together = record {
+      spans = tt;
+      anchors = refl;
+      pokes = strays;
+      verdicts = verdict;
+      states = all_ended world refl refl ended;
+      faults = none_failed world refl refl refl refl refl;
+      refusals = refl;
+      room = refl;
+      prechecks = λ yes. let no : false ≡ true = yes in absurd (cc);
+    };
+    rests = rests;
+    between = λ whole. between;
   };
   printed_is = refl;
 }

@@ -1,14 +1,16 @@
 -- Each deed that is no record, and that a line tells, is told by one line, in order.
-use Rattle.std.proofs.Common.{◌≡◌, ℕ, List, [], ◌∷◌, ◌++◌, Option, Some, None, refl, ap, sym, ◌∙◌}
+use Rattle.std.proofs.Common.{◌≡◌, ℕ, Bool, false, true, List, [], ◌∷◌, ◌++◌, Option, Some, None, refl, ap, sym, ◌∙◌}
 use Rattle.std.specs.Prelude.{filter_map}
 use Rattle.std.proofs.lemmas.List.Concat.{flat_map-cons}
 use Rattle.std.proofs.lemmas.List.Elements.{filter_map-append}
 use Rattle.std.proofs.lemmas.List.{append-nil}
-use Rattle.dali_record.specs.declared.records.Record.TheVariants.{Forward, Back, Done, Ended, Solo, AuditBegin, AuditClean, AuditFail}
-use Rattle.dali_transcripts.specs.Words.{Calls, Aborts as AbortAct, Audits as AuditAct, Checkpoints as CheckpointAct, Why, StoppedBy, Full, Damaged, StoreFailed, UnderWay, Said, Answered, AbortOk, Aborted, Died, Busy, Refused}
-use Rattle.dali_transcripts.specs.World.{Logs, Leaves, Stops, Meets, World}
-use Rattle.dali_transcripts.specs.Moves.{Receipt, Spot, Move, Answers, IsRefusedCall, Dies, GivesWay, GivesUp, Commits, Aborts, IsRefusedAbort, Ends, StaysOpen, Audits, IsRefusedAudit, IsRefusedCheckpoint, said, own, to, end_line, end_records, spanned}
-use Rattle.dali_transcripts.specs.Causes.{IsWork, AreWork, IsBehind, AreBehind, IsCutAudit, IsCutBy, HasCause}
+use Rattle.dali_record.specs.declared.records.Call.{Call}
+use Rattle.dali_record.specs.declared.records.Record.TheVariants.{Done, Ended, AuditBegin, AuditClean, AuditFail}
+use Rattle.dali_system.specs.declared.refusals.Refusal.{Refusal}
+use Rattle.dali_transcripts.specs.Words.{Calls, Aborts as AbortAct, Audits as AuditAct, Checkpoints as CheckpointAct, Why, StoppedBy, Full, Damaged, StoreFailed, UnderWay, Said, Answered, AbortOk, Aborted, LeftOpen, Died, Busy, Refused}
+use Rattle.dali_transcripts.specs.World.{Logs, DiesOn, Claims, GivesBack, Yields, FindsDead, EndsCheckpoint, Meets, World}
+use Rattle.dali_transcripts.specs.Moves.{Receipt, Spot, Ending, TakenBack, LeftBehind, Move, Answers, IsRefusedCall, Dies, GivesWay, GivesUp, Commits, CommitFails, Aborts, IsRefusedAbort, Ends, StaysOpen, Audits, IsRefusedAudit, IsRefusedCheckpoint, said, own, to, end_line, end_own, spanned, refused_own}
+use Rattle.dali_transcripts.specs.Causes.{IsCleanUp, IsAside, AreAside, IsAsking, AreAsking, IsWork, AreWork, IsTried, AreTried, IsBehind, AreBehind, IsCutAudit, IsCutBy, HasCause}
 use Rattle.dali_transcripts.specs.Transcripts.{IsPath, said_by, own_by}
 use Rattle.dali_transcripts.specs.Laws.{deed_told, line_of_deed, DeedsAreTold}
 
@@ -28,47 +30,76 @@ unfolding Silent told
 silent_append xs ys e = filter_map-append line_of_deed xs ys ∙ ap (λ l. l ++ filter_map line_of_deed ys) e
 
 module _ (w : World) (c : ℕ) where
-  work_silent : (t : ℕ) (x : Receipt) → IsWork w t x → line_of_deed x ≡ None
-  work_silent t (n, Logs (Forward u b)) h = refl
-  work_silent t (n, Logs (Back u b)) h = refl
-  work_silent t (n, Logs (Ended u)) h = refl
-  work_silent t (n, Meets why) h = refl
-  work_silent t x h = absurd h
+  clean_up_silent : (t : ℕ) (x : Receipt) → IsCleanUp w c t x → line_of_deed x ≡ None
+  clean_up_silent t (n, Logs y) h = refl
+  clean_up_silent t (n, Claims u) h = refl
+  clean_up_silent t (n, GivesBack u latched) h = refl
+  clean_up_silent t x h = absurd h
 
-  works_silent : (t : ℕ) (xs : List Receipt) → AreWork w t xs → Silent xs
+  aside_silent : (t : ℕ) (x : Receipt) → IsAside w c t x → line_of_deed x ≡ None
+  aside_silent t (n, Logs y) h = refl
+  aside_silent t x h = clean_up_silent t x h
+
+  asides_silent : (t : ℕ) (xs : List Receipt) → AreAside w c t xs → Silent xs
   unfolding Silent told
-  works_silent t [] h = refl
-  works_silent t (x ∷ xs) h = one_silent x xs (work_silent t x h.0) (works_silent t xs h.1)
+  asides_silent t [] h = refl
+  asides_silent t (x ∷ xs) h = one_silent x xs (aside_silent t x h.0) (asides_silent t xs h.1)
 
-  behind_silent : (t : ℕ) (x : Receipt) → IsBehind w t x → line_of_deed x ≡ None
-  behind_silent t (n, Logs (Solo u p b)) h = refl
-  behind_silent t (n, Logs (Ended u)) h = refl
-  behind_silent t (n, Logs (Back u b)) h = refl
-  behind_silent t x h = absurd h
+  asking_silent : (t : ℕ) (call : Call) (x : Receipt) → IsAsking w c t call x → line_of_deed x ≡ None
+  asking_silent t call (n, FindsDead f) h = refl
+  asking_silent t call x h = aside_silent t x h
 
-  behinds_silent : (t : ℕ) (xs : List Receipt) → AreBehind w t xs → Silent xs
+  askings_silent : (t : ℕ) (call : Call) (xs : List Receipt) → AreAsking w c t call xs → Silent xs
+  unfolding Silent told
+  askings_silent t call [] h = refl
+  askings_silent t call (x ∷ xs) h = one_silent x xs (asking_silent t call x h.0) (askings_silent t call xs h.1)
+
+  work_silent : (t : ℕ) (call : Call) (x : Receipt) → IsWork w c t call x → line_of_deed x ≡ None
+  work_silent t call (n, Logs y) h = refl
+  work_silent t call x h = asking_silent t call x h
+
+  works_silent : (t : ℕ) (call : Call) (xs : List Receipt) → AreWork w c t call xs → Silent xs
+  unfolding Silent told
+  works_silent t call [] h = refl
+  works_silent t call (x ∷ xs) h = one_silent x xs (work_silent t call x h.0) (works_silent t call xs h.1)
+
+  tried_silent : (t : ℕ) (call : Call) (x : Receipt) → IsTried w c t call x → line_of_deed x ≡ None
+  tried_silent t call (n, Meets why) h = refl
+  tried_silent t call x h = work_silent t call x h
+
+  all_tried_silent : (t : ℕ) (call : Call) (xs : List Receipt) → AreTried w c t call xs → Silent xs
+  unfolding Silent told
+  all_tried_silent t call [] h = refl
+  all_tried_silent t call (x ∷ xs) h = one_silent x xs (tried_silent t call x h.0) (all_tried_silent t call xs h.1)
+
+  behind_silent : (t : ℕ) (x : Receipt) → IsBehind w c t x → line_of_deed x ≡ None
+  behind_silent t (n, Logs y) h = refl
+  behind_silent t x h = clean_up_silent t x h
+
+  behinds_silent : (t : ℕ) (xs : List Receipt) → AreBehind w c t xs → Silent xs
   unfolding Silent told
   behinds_silent t [] h = refl
   behinds_silent t (x ∷ xs) h = one_silent x xs (behind_silent t x h.0) (behinds_silent t xs h.1)
 
-  cut_silent : (xs : List Receipt) → IsCutAudit xs → Silent xs
+  cut_silent : (later : Bool) (xs : List Receipt) → IsCutAudit w later xs → Silent xs
   unfolding Silent told
-  cut_silent [] h = refl
-  cut_silent ((b, Logs AuditBegin) ∷ []) h = refl
-  cut_silent ((b, Logs AuditBegin) ∷ (n, Logs (AuditClean a)) ∷ []) h = refl
-  cut_silent ((b, Logs AuditBegin) ∷ (n, Logs (AuditFail a rs)) ∷ []) h = refl
-  cut_silent xs h = absurd h
+  cut_silent later [] h = refl
+  cut_silent later ((b, Logs AuditBegin) ∷ []) h = refl
+  cut_silent later ((b, Logs AuditBegin) ∷ (n, Logs (AuditClean a)) ∷ []) h = refl
+  cut_silent later ((b, Logs AuditBegin) ∷ (n, Logs (AuditFail a rs)) ∷ []) h = refl
+  cut_silent later xs h = absurd h
 
   none_silent : (xs : List Receipt) → xs ≡ [] → Silent xs
   unfolding Silent told
   none_silent xs e = rw e refl
 
-  cut_by_silent : (why : Why) (xs : List Receipt) → IsCutBy why xs → Silent xs
-  cut_by_silent (StoppedBy z) xs h = cut_silent xs h
-  cut_by_silent StoreFailed xs h = cut_silent xs h
-  cut_by_silent (Full end limit) xs h = none_silent xs h
-  cut_by_silent (Damaged r codeword found) xs h = none_silent xs h
-  cut_by_silent UnderWay xs h = none_silent xs h
+  cut_by_silent : (later : Bool) (why : Why) (xs : List Receipt) → IsCutBy w later why xs → Silent xs
+  cut_by_silent later (StoppedBy z) xs h = cut_silent later xs h
+  cut_by_silent true StoreFailed xs h = cut_silent true xs h
+  cut_by_silent false StoreFailed xs h = cut_silent false xs h.0
+  cut_by_silent later (Full end limit) xs h = none_silent xs h
+  cut_by_silent later (Damaged r codeword found) xs h = none_silent xs h
+  cut_by_silent later UnderWay xs h = none_silent xs h
 
   Agrees : List Said → List Receipt → Type 0
   Agrees lines xs = filter_map deed_told lines ≡ told xs
@@ -78,49 +109,60 @@ module _ (w : World) (c : ℕ) where
   unfolding Agrees Silent
   quietly line xs e silent = rw (e, silent) refl
 
-  behind_work : (t : ℕ) (xs ys : List Receipt) (lines : List Said) → AreWork w t xs → Agrees lines ys → Agrees lines (xs ++ ys)
+  behind_quiet : (xs ys : List Receipt) (lines : List Said) → Silent xs → Agrees lines ys → Agrees lines (xs ++ ys)
   unfolding Agrees
-  behind_work t xs ys lines work agrees = agrees ∙ sym (silent_append xs ys (works_silent t xs work))
+  behind_quiet xs ys lines silent agrees = agrees ∙ sym (silent_append xs ys silent)
 
   span_silent : (span : Option (ℕ × ℕ)) (xs : List Receipt) → Silent xs → Silent (spanned span xs)
   unfolding Silent told
   span_silent None xs e = e
-  span_silent (Some (since, until)) xs e = silent_append xs ((until, Stops) ∷ []) e
+  span_silent (Some (since, until)) xs e = silent_append xs ((until, EndsCheckpoint) ∷ []) e
 
-  gave_way : (t : ℕ) (end : Option ℕ) → Agrees (end_line end ∷ []) (end_records t end)
+  gave_way : (t : ℕ) (end : Ending) → Agrees (end_line end ∷ []) (end_own t end)
   unfolding Agrees told
-  gave_way t (Some n) = refl
-  gave_way t None = refl
+  gave_way t (TakenBack n) = refl
+  gave_way t (LeftBehind n z) = refl
 
-  gave_up : (t h : ℕ) (end : Option ℕ) → Agrees (Busy h ∷ end_line end ∷ []) (end_records t end)
+  gave_up : (t h : ℕ) (end : Ending) → Agrees (Busy h ∷ end_line end ∷ []) (end_own t end)
   unfolding Agrees told
-  gave_up t h (Some n) = refl
-  gave_up t h None = refl
+  gave_up t h (TakenBack n) = refl
+  gave_up t h (LeftBehind n z) = refl
+
+  busy_agrees : (t : ℕ) (call : Call) (xs ys zs : List Receipt) (f : Refusal) (lines : List Said) → AreAsking w c t call xs → AreAside w c t ys → Agrees lines zs → Agrees lines (xs ++ (f.at, Yields f) ∷ ys ++ zs)
+  unfolding Silent told
+  busy_agrees t call xs ys zs f lines work back agrees =
+      let tried : Silent (xs ++ (f.at, Yields f) ∷ ys) = silent_append xs ((f.at, Yields f) ∷ ys) (askings_silent t call xs work) ∙ asides_silent t ys back in
+      behind_quiet (xs ++ (f.at, Yields f) ∷ ys) zs lines tried agrees
 
   met : (xs : List Receipt) (n : ℕ) (why : Why) → Silent xs → Silent (xs ++ (n, Meets why) ∷ [])
   unfolding Silent told
   met xs n why e = silent_append xs ((n, Meets why) ∷ []) e
 
-  met_back : (t : ℕ) (xs : List Receipt) (n : ℕ) (why : Why) (ys : List Receipt) → AreWork w t xs → AreWork w t ys → Silent (xs ++ (n, Meets why) ∷ ys)
+  late_silent : (late : Bool) (span : Option (ℕ × ℕ)) (xs : List Receipt) (n : ℕ) (why : Why) → Silent xs → Silent (refused_own late span xs (n, Meets why))
+  late_silent false span xs n why e = span_silent span (xs ++ (n, Meets why) ∷ []) (met xs n why e)
+  late_silent true span xs n why e = met (spanned span xs) n why (span_silent span xs e)
+
+  met_back : (xs : List Receipt) (n : ℕ) (why : Why) (ys : List Receipt) → Silent xs → Silent ys → Silent (xs ++ (n, Meets why) ∷ ys)
   unfolding Silent told
-  met_back t xs n why ys work back = silent_append xs ((n, Meets why) ∷ ys) (works_silent t xs work) ∙ works_silent t ys back
+  met_back xs n why ys work back = silent_append xs ((n, Meets why) ∷ ys) work ∙ back
 
   one_agrees : (x : Move) → HasCause w c x → Agrees (said x) (own x)
   unfolding Agrees told Silent
-  one_agrees (IsRefusedCall t tries cs d s xs n ys call why rest) h = quietly (Refused (Calls call) why) (xs ++ (n, Meets why) ∷ ys) refl (met_back t xs n why ys h.0 h.3)
-  one_agrees (Answers t tries cs d xs n call a rest) h = behind_work t xs ((n, Logs (Done t call a)) ∷ []) (Answered call a ∷ []) h.0 refl
-  one_agrees (Dies t tries cs d xs n call rest) h = behind_work t xs ((n, Leaves t) ∷ []) (Died ∷ []) h.0 refl
-  one_agrees (GivesWay t tries cs d xs call r end rest) h = behind_work t xs (end_records t end) (end_line end ∷ []) h.0 (gave_way t end)
-  one_agrees (GivesUp t tries cs d xs call r end rest) h = behind_work t xs (end_records t end) (Busy r.holder ∷ end_line end ∷ []) h.0 (gave_up t r.holder end)
+  one_agrees (IsRefusedCall t tries cs d s xs n ys call why rest) h = quietly (Refused (Calls call) why) (xs ++ (n, Meets why) ∷ ys) refl (met_back xs n why ys (all_tried_silent t call xs h.0) (asides_silent t ys h.3))
+  one_agrees (Answers t tries cs d xs n call a rest) h = behind_quiet xs ((n, Logs (Done t call a)) ∷ []) (Answered call a ∷ []) (works_silent t call xs h.0) refl
+  one_agrees (Dies t tries cs d xs n r call rest) h = behind_quiet xs ((n, DiesOn t r) ∷ []) (Died ∷ []) (works_silent t call xs h.0) refl
+  one_agrees (GivesWay t tries cs d xs call f ys end rest) h = busy_agrees t call xs ys (end_own t end) f (end_line end ∷ []) h.0 h.2 (gave_way t end)
+  one_agrees (GivesUp t tries cs d xs call f ys end rest) h = busy_agrees t call xs ys (end_own t end) f (Busy f.holder ∷ end_line end ∷ []) h.0 h.2 (gave_up t f.holder end)
   one_agrees (Commits t tries cs d n xs rest) h = sym (behinds_silent t xs h.1)
-  one_agrees (Aborts t tries cs d xs n rest) h = behind_work t xs ((n, Logs (Ended t)) ∷ []) (AbortOk ∷ []) h.0 refl
-  one_agrees (IsRefusedAbort t tries cs d s xs n why rest) h = quietly (Refused AbortAct why) (xs ++ (n, Meets why) ∷ []) refl (met xs n why (works_silent t xs h.0))
-  one_agrees (Ends t tries cs d xs n) h = behind_work t xs ((n, Logs (Ended t)) ∷ []) (Aborted ∷ []) h.0 refl
-  one_agrees (StaysOpen t tries cs d s xs) h = sym (works_silent t xs h.0)
+  one_agrees (CommitFails t tries cs d n m why rest) h = refl
+  one_agrees (Aborts t tries cs d xs n rest) h = behind_quiet xs ((n, Logs (Ended t)) ∷ []) (AbortOk ∷ []) (asides_silent t xs h.0) refl
+  one_agrees (IsRefusedAbort t tries cs d s xs n why rest) h = quietly (Refused AbortAct why) (xs ++ (n, Meets why) ∷ []) refl (met xs n why (asides_silent t xs h.0))
+  one_agrees (Ends t tries cs d xs n) h = behind_quiet xs ((n, Logs (Ended t)) ∷ []) (Aborted ∷ []) (asides_silent t xs h.0) refl
+  one_agrees (StaysOpen t tries cs d s xs n z) h = quietly LeftOpen (xs ++ (n, Meets (StoppedBy z)) ∷ []) refl (met xs n (StoppedBy z) (asides_silent t xs h.0))
   one_agrees (Audits b n [] rest) h = refl
   one_agrees (Audits b n (r ∷ rs) rest) h = refl
-  one_agrees (IsRefusedAudit s xs n why rest) h = quietly (Refused AuditAct why) (xs ++ (n, Meets why) ∷ []) refl (met xs n why (cut_by_silent why xs h.0))
-  one_agrees (IsRefusedCheckpoint s span xs n why rest) h = quietly (Refused CheckpointAct why) (spanned span (xs ++ (n, Meets why) ∷ [])) refl (span_silent span (xs ++ (n, Meets why) ∷ []) (met xs n why (cut_by_silent why xs h.0)))
+  one_agrees (IsRefusedAudit s xs n why rest) h = quietly (Refused AuditAct why) (xs ++ (n, Meets why) ∷ []) refl (met xs n why (cut_by_silent false why xs h.0))
+  one_agrees (IsRefusedCheckpoint s span late xs n why rest) h = quietly (Refused CheckpointAct why) (refused_own late span xs (n, Meets why)) refl (late_silent late span xs n why (cut_by_silent true why xs h.0))
   one_agrees x h = refl
 
   all_agree : (p : Spot) (xs : List Move) (q : Spot) → IsPath w c p xs q → Agrees (said_by xs) (own_by xs)

@@ -1,18 +1,27 @@
 -- The third worked round.
 use Rattle.std.proofs.Common.{◌≡◌, ◌≢◌, ℕ, zero, suc, true, false, List, [], ◌∷◌, Some, None, refl, ap, sym, subst, ◌∙◌, inl, arith}
-use Rattle.std.specs.Prelude.{slice_get, take, Contains, ◌↔◌}
+use Rattle.std.specs.Prelude.{Bool, if◌then◌else◌, ◌==◌, fold, length, slice_get, take, Contains, ◌↔◌}
+use Rattle.std.specs.FinMap.{empty, insert, get-empty}
+use Rattle.std.specs.Ordering.{nat_cmp}
+use Rattle.dali_att.specs.Table.{fresh_row}
+use Rattle.dali_att.proofs.Changes.{get-added}
+use Rattle.std.proofs.lemmas.Bool.{ne_eqb}
 use Rattle.dali_counts.proofs.Lists.{some_same}
 use Rattle.dali_record.specs.declared.records.Record.TheVariants.{Forward, Ended, AuditClean}
-use Rattle.dali_region.specs.State.{RegionState, loaded}
+use Rattle.dali_region.specs.State.{RegionState, IsLive, loaded}
 use Rattle.dali_system.specs.declared.causes.Cause.TheVariants.{Store}
-use Rattle.dali_transcripts.specs.Words.{Begins as BeginAct, Calls, Commits as CommitAct, Aborts as AbortAct, StoppedBy, Damaged, UnderWay}
-use Rattle.dali_transcripts.specs.World.{Logs, stray_after}
+use Rattle.dali_system.specs.State.{row_of, state_in, state_of}
+use Rattle.dali_transcripts.specs.Words.{Begins as BeginAct, Calls, Commits as CommitAct, Aborts as AbortAct, Checkpoints as CheckpointAct, StoppedBy, Damaged, StoreFailed, UnderWay}
+use Rattle.dali_transcripts.specs.World.{Logs, DiesOn, Meets, Happening, log_at, state_step, is_claimed_in, stray_after}
 use Rattle.dali_transcripts.specs.Moves.{Outside, Move, Begins, IsRefusedBegin, Skips, IsRefusedCall, Commits, CommitFails, StaysOpen, Pokes, Checkpoints, IsRefusedCheckpoint, at}
+use Rattle.dali_transcripts.specs.Causes.{IsDamaged, IsUnderWay}
 use Rattle.dali_transcripts.specs.Transcripts.{IsSoFar, deeds_of, AreTranscripts}
-use Rattle.dali_transcripts.specs.Rounds.{PokesTell, VerdictsTell}
+use Rattle.dali_transcripts.specs.Rounds.{PokesTell, VerdictsTell, FaultsTell, PrecheckTells, IsAtRest, IsBetween}
 use Rattle.dali_transcripts.specs.Worked.{index_words, heap_words, look, put, insert_a}
-use Rattle.dali_transcripts.specs.Faults.{happened, told_1, told_2, told_3, blocks, lines_1, lines_2, lines_3, world, FaultsRun}
-use Rattle.dali_transcripts.proofs.Verdicts.{ends_at, found_is}
+use Rattle.dali_transcripts.specs.Faults.{happened, told_1, told_2, told_3, blocks, lines_1, lines_2, lines_3, committed, world, FaultsRun}
+use Rattle.dali_transcripts.proofs.Worked.{puts_a}
+use Rattle.dali_transcripts.proofs.Verdicts.{begin_is, ends_at, found_is, never, only_at}
+use Rattle.dali_transcripts.proofs.Ends.{fails, grew_from, no_state, not_live, strays_same}
 
 moves_1 : List Move
 moves_1 =
@@ -21,6 +30,12 @@ moves_1 =
     ∷ IsRefusedCall 1 0 (BeginAct ∷ Calls insert_a ∷ CommitAct ∷ []) None false ((6, Logs (Forward 1 look)) ∷ []) 7 [] insert_a (Damaged 1 1 0) (CommitAct ∷ [])
     ∷ Commits 1 0 (BeginAct ∷ Calls insert_a ∷ CommitAct ∷ []) None 7 ((8, Logs (Ended 1)) ∷ []) []
     ∷ []
+
+damaged_1 : IsDamaged world 11 1 insert_a 1 1 0
+damaged_1 = record { compares = refl; next = put 97 0; on_region = refl; goes_on = record { of_call = record { words = heap_words; are_words = (refl, omega arith); of_call = refl; is_made = puts_a }; allowed = refl }; old = loaded heap_words; was = refl; stray = refl; differ = refl }
+
+under_way_1 : IsUnderWay world 1 3
+under_way_1 = record { other = 2; differs = refl; started = refl }
 
 so_1 : IsSoFar world 1 told_1 lines_1 (deeds_of world 1) [] (at (Outside false) [])
 unfolding moves_1
@@ -35,14 +50,13 @@ so_1 = record {
       (
         refl,
         (
-          (refl, tt),
+          ((refl, refl, tt), tt),
           refl,
           record {
             met = record { place = 11; there = refl; number = refl };
-            cause = record { compares = refl; next = put 97 0; on_region = refl; on_key = refl; allowed = refl; old = loaded heap_words; was = refl; stray = refl; differ = refl };
+            cause = damaged_1;
           },
           tt,
-          refl,
         ),
         (refl, (omega arith, (inl refl, tt)), refl),
       ),
@@ -53,22 +67,22 @@ so_1 = record {
 }
 
 moves_2 : List Move
-moves_2 = Checkpoints 1 1 2 3 3 1 (BeginAct ∷ []) ∷ Begins 3 5 [] ∷ StaysOpen 3 0 (BeginAct ∷ []) None false [] ∷ []
+moves_2 = Checkpoints 1 1 2 3 3 1 (BeginAct ∷ []) ∷ Begins 3 5 [] ∷ StaysOpen 3 0 (BeginAct ∷ []) None false [] 10 Store ∷ []
 
 so_2 : IsSoFar world 2 told_2 lines_2 (deeds_of world 2) [] (at (Outside true) [])
 unfolding moves_2
 so_2 = record {
   moves = moves_2;
-  path = (refl, omega arith, (refl, tt, (refl, (tt, (Store, refl), refl), refl)));
+  path = (refl, omega arith, (refl, tt, (refl, (tt, record { met = record { place = 17; there = refl; number = refl }; cause = (tt, refl) }), refl)));
   lines_are = refl;
   did_are = refl;
 }
 
 moves_3 : List Move
 moves_3 =
-    IsRefusedCheckpoint false None [] 1 UnderWay (BeginAct ∷ CommitAct ∷ BeginAct ∷ AbortAct ∷ [])
+    IsRefusedCheckpoint false None false [] 1 UnderWay (BeginAct ∷ CommitAct ∷ BeginAct ∷ AbortAct ∷ [])
     ∷ Begins 2 4 (CommitAct ∷ BeginAct ∷ AbortAct ∷ [])
-    ∷ CommitFails 2 0 (BeginAct ∷ CommitAct ∷ BeginAct ∷ AbortAct ∷ []) None 9 (BeginAct ∷ AbortAct ∷ [])
+    ∷ CommitFails 2 0 (BeginAct ∷ CommitAct ∷ BeginAct ∷ AbortAct ∷ []) None 9 10 StoreFailed (BeginAct ∷ AbortAct ∷ [])
     ∷ IsRefusedBegin (Outside true) true 10 (StoppedBy Store) (AbortAct ∷ [])
     ∷ Skips true AbortAct []
     ∷ []
@@ -79,14 +93,14 @@ so_3 = record {
   moves = moves_3;
   path = (
     refl,
-    (refl, refl, record { met = record { place = 1; there = refl; number = refl }; cause = record { other = 2; differs = refl; started = refl } }),
+    (refl, refl, record { met = record { place = 1; there = refl; number = refl }; cause = under_way_1 }),
     (
       refl,
       tt,
       (
         refl,
-        (refl, omega arith),
-        (refl, (refl, record { met = record { place = 15; there = refl; number = refl }; cause = (tt, (refl, refl)) }), (refl, tt, refl)),
+        ((refl, omega arith), tt),
+        (refl, (refl, record { met = record { place = 16; there = refl; number = refl }; cause = (tt, refl) }, tt), (refl, tt, refl)),
       ),
     ),
   );
@@ -104,8 +118,8 @@ transcripts = record {
 }
 
 strays : PokesTell world
-strays zero g h e f = let a = some_same e in let b = some_same f in subst (λ (z : RegionState). h.stray ≡ stray_after 0 z.stray happened) a (subst (λ (z : RegionState). z.stray ≡ stray_after 0 (loaded index_words).stray happened) b refl)
-strays (suc zero) g h e f = let a = some_same e in let b = some_same f in subst (λ (z : RegionState). h.stray ≡ stray_after 1 z.stray happened) a (subst (λ (z : RegionState). z.stray ≡ stray_after 1 (loaded heap_words).stray happened) b refl)
+strays zero g h e f = let a = some_same e in let b = some_same f in strays_same happened 0 (loaded index_words) _ g h a b (refl, refl)
+strays (suc zero) g h e f = let a = some_same e in let b = some_same f in strays_same happened 1 (loaded heap_words) _ g h a b (refl, refl)
 strays (suc (suc r)) g h e f = absurd (cc)
 
 -- the audit of the checkpoint names no region: the poke came later
@@ -124,10 +138,92 @@ names (suc (suc r)) g e = absurd (cc)
 
 verdict : VerdictsTell world
 unfolding Names
-verdict i b c found e r g was alone =
+verdict i b c found e r g was =
     let here : i ≡ 3 = ends_at 3 happened i b c found refl refl e in
     let named : found ≡ [] = found_is happened 3 b c found (Logs (AuditClean 1), 2) refl (ap (λ k. slice_get happened k) (sym here) ∙ e) in
-    rw (here, named) (names r g was)
+    let begun : b ≡ 1 = begin_is happened 3 b c found (Logs (AuditClean 1), 2) refl (ap (λ k. slice_get happened k) (sym here) ∙ e) in
+    let size : length (log_at world 3) ≡ 2 = refl in
+    rw (here, named, begun) (3, omega arith, omega (arith, size), names r g was)
+
+holds : (r : ℕ) (g : RegionState) → slice_get world.core.regions r ≡ Some g → IsLive g → ⊥
+holds zero g e live = not_live _ g (some_same e) refl live
+holds (suc zero) g e live = not_live _ g (some_same e) refl live
+holds (suc (suc r)) g e live = absurd (cc)
+
+-- ---- the table
+kept : (t : ℕ) → state_in (if 3 == t then Some fresh_row else (if 2 == t then Some committed else None)) ≡ fold (state_step t) None happened
+kept zero = refl
+kept (suc zero) = refl
+kept (suc (suc zero)) = refl
+kept (suc (suc (suc zero))) = refl
+kept (suc (suc (suc (suc t)))) =
+    let a : (1 == suc (suc (suc (suc t)))) ≡ false = ne_eqb 1 (suc (suc (suc (suc t)))) (λ e. absurd (omega (arith, e))) in
+    let b : (2 == suc (suc (suc (suc t)))) ≡ false = ne_eqb 2 (suc (suc (suc (suc t)))) (λ e. absurd (omega (arith, e))) in
+    let d : (3 == suc (suc (suc (suc t)))) ≡ false = ne_eqb 3 (suc (suc (suc (suc t)))) (λ e. absurd (omega (arith, e))) in rw (a, b, d) refl
+
+row_is : (t : ℕ) → row_of world.core.system t ≡ (if 3 == t then Some fresh_row else (if 2 == t then Some committed else None))
+row_is t =
+    get-added (insert empty 2 committed) 3 fresh_row t
+    ∙ ap (λ o. if 3 == t then Some fresh_row else o) (get-added empty 2 committed t ∙ ap (λ o. if 2 == t then Some committed else o) (get-empty nat_cmp t))
+
+none_claimed : (t : ℕ) → is_claimed_in (fold (state_step t) None happened) ≡ false
+none_claimed zero = refl
+none_claimed (suc zero) = refl
+none_claimed (suc (suc zero)) = refl
+none_claimed (suc (suc (suc zero))) = refl
+none_claimed (suc (suc (suc (suc t)))) =
+    let a : (1 == suc (suc (suc (suc t)))) ≡ false = ne_eqb 1 (suc (suc (suc (suc t)))) (λ e. absurd (omega (arith, e))) in
+    let b : (2 == suc (suc (suc (suc t)))) ≡ false = ne_eqb 2 (suc (suc (suc (suc t)))) (λ e. absurd (omega (arith, e))) in
+    let d : (3 == suc (suc (suc (suc t)))) ≡ false = ne_eqb 3 (suc (suc (suc (suc t)))) (λ e. absurd (omega (arith, e))) in rw (a, b, d) refl
+
+state_is : (t : ℕ) → state_of world.core.system t ≡ fold (state_step t) None happened
+state_is t = ap state_in (row_is t) ∙ kept t
+
+-- ---- the store fails at one place
+failed : FaultsTell world
+failed = record {
+  stopped = refl;
+  once = λ i c e. let here : i ≡ 15 = only_at fails 15 happened i (Meets StoreFailed, c) refl refl e refl in rw here refl;
+  none = λ e. let no : true ≡ false = e in absurd (cc);
+  rose = λ e. inl (omega arith);
+}
+
+-- ---- the one operation is on a region that is right
+abbrev is_operation : Happening → Bool
+is_operation (Logs (Forward t b), c) = true
+is_operation x = false
+
+abbrev is_death : Happening → Bool
+is_death (DiesOn t r, c) = true
+is_death x = false
+
+abbrev region_in : Happening → ℕ
+region_in (Logs (Forward t b), c) = b.region
+region_in x = 0
+
+right_at : (r : ℕ) (g : RegionState) → r ≡ 0 → slice_get world.old.regions r ≡ Some g → stray_after r g.stray (take 10 happened) ≡ 0
+right_at zero g z e = subst (λ (y : RegionState). stray_after 0 y.stray (take 10 happened) ≡ 0) (some_same e) refl
+right_at (suc r) g z e = absurd (cc)
+
+prechecks : PrecheckTells world
+prechecks = record {
+  operations = λ i t c b g e was.
+      let here : i ≡ 10 = only_at is_operation 10 happened i (Logs (Forward t b), c) refl refl e refl in
+      let on : b.region ≡ 0 = sym (ap region_in (some_same (sym (ap (λ k. slice_get happened k) here) ∙ e))) in
+      record {
+        place = i;
+        before = omega arith;
+        alone = λ k x from below at. absurd (omega (arith, from, below));
+        right = subst (λ k. stray_after b.region g.stray (take k happened) ≡ 0) (sym here) (right_at b.region g on was);
+      };
+  deaths = λ i t r c g e was. absurd (never is_death happened i (DiesOn t r, c) refl e refl);
+}
+
+rests : IsAtRest world.core
+rests = record { stopped = λ e. (Store, refl); holds = holds; flag = refl; free = λ t. ap is_claimed_in (state_is t) ∙ none_claimed t }
+
+between : IsBetween world.core
+between = record { rests = rests; idle = λ runs. let no : Some Store ≡ None = runs in absurd (cc) }
 
 pub faults_run : FaultsRun
 unfolding transcripts so_1 so_2 so_3 moves_1 moves_2 moves_3
@@ -140,13 +236,24 @@ faults_run = record {
     before_is = refl;
     precheck_is = refl;
     core_is = refl;
+    grew = grew_from world refl refl refl refl refl (omega arith);
     log = refl;
     transcripts = transcripts;
     receipts_are = refl;
-    turns = (refl, (refl, tt));
-    anchors = (refl, refl);
-    pokes = strays;
-    verdicts = verdict;
+    right = (tt, ((CheckpointAct, None, under_way_1), (tt, (tt, (tt, (tt, (tt, (tt, (tt, (tt, (tt, ((Calls insert_a, Some 1, damaged_1), (tt, (tt, (tt, (tt, ((BeginAct, None, (tt, refl)), ((BeginAct, None, (tt, refl)), tt))))))))))))))))));
+    together = record {
+      spans = (refl, (refl, tt));
+      anchors = (refl, refl);
+      pokes = strays;
+      verdicts = verdict;
+      states = λ t. state_is t ∙ sym (ap (λ o. fold (state_step t) o happened) (no_state world.old.system refl t));
+      faults = failed;
+      refusals = refl;
+      room = refl;
+      prechecks = λ yes. prechecks;
+    };
+    rests = rests;
+    between = λ whole. between;
   };
   printed_is = refl;
 }

@@ -1,10 +1,10 @@
 -- After a death nothing is said, and no try follows the thousandth.
-use Rattle.std.proofs.Common.{◌≡◌, ℕ, Bool, true, false, List, [], ◌∷◌, ◌++◌, Option, Some, None, refl, ap, subst, ◌∙◌, arith}
+use Rattle.std.proofs.Common.{◌≡◌, ℕ, Bool, true, false, List, [], ◌∷◌, ◌++◌, refl, ap, subst, ◌∙◌, arith}
 use Rattle.std.specs.Prelude.{if◌then◌else◌}
 use Rattle.std.proofs.lemmas.List.Concat.{flat_map-cons}
 use Rattle.dali_transcripts.specs.Words.{Act, Said, closes}
 use Rattle.dali_transcripts.specs.World.{World}
-use Rattle.dali_transcripts.specs.Moves.{Place, Outside, Again, LeftOut, Gone, Spot, Move, Begins, BeginsAgain, IsRefusedBegin, Skips, Rests, Answers, IsRefusedCall, Dies, IsArmed, GivesWay, GivesUp, Commits, CommitFails, IsRefusedCommit, Aborts, IsRefusedAbort, Ends, StaysOpen, Pokes, PokesNothing, Audits, IsRefusedAudit, Checkpoints, FailsCheckpoint, IsRefusedCheckpoint, from, said, own, to, at, end_line}
+use Rattle.dali_transcripts.specs.Moves.{Place, Outside, Again, LeftOut, Gone, Spot, Ending, TakenBack, LeftBehind, Move, Begins, BeginsAgain, IsRefusedBegin, Skips, Rests, Answers, IsRefusedCall, Dies, IsArmed, GivesWay, GivesUp, Commits, CommitFails, IsRefusedCommit, Aborts, IsRefusedAbort, Ends, StaysOpen, Pokes, PokesNothing, Audits, IsRefusedAudit, Checkpoints, FailsCheckpoint, IsRefusedCheckpoint, from, said, own, to, at, end_line}
 use Rattle.dali_transcripts.specs.Causes.{HasCause, MayBegin}
 use Rattle.dali_transcripts.specs.Transcripts.{IsPath, said_by, own_by}
 use Rattle.dali_transcripts.specs.Laws.{GoneIsSilent, FewTries, TriesAreFew, behind_died, NothingAfterDied}
@@ -49,24 +49,24 @@ few w c (Skips s act rest) h old = skips_few s act (closes act)
 few w c (Rests t act rest) h old = tt
 few w c (Answers t tries cs d xs n call a rest) h old = old
 few w c (IsRefusedCall t tries cs d s xs n ys call why rest) h old = old
-few w c (Dies t tries cs d xs n call rest) h old = tt
+few w c (Dies t tries cs d xs n r call rest) h old = tt
 few w c (IsArmed t tries cs d s count rest) h old = old
-few w c (GivesWay t tries cs d xs call f end rest) h old = h.4
-few w c (GivesUp t tries cs d xs call f end rest) h old = tt
+few w c (GivesWay t tries cs d xs call f ys end rest) h old = h.4
+few w c (GivesUp t tries cs d xs call f ys end rest) h old = tt
 few w c (Commits t tries cs d n xs rest) h old = tt
-few w c (CommitFails t tries cs d n rest) h old = tt
+few w c (CommitFails t tries cs d n m why rest) h old = tt
 few w c (IsRefusedCommit t tries cs d s n why rest) h old = tt
 few w c (Aborts t tries cs d xs n rest) h old = tt
 few w c (IsRefusedAbort t tries cs d s xs n why rest) h old = tt
 few w c (Ends t tries cs d xs n) h old = tt
-few w c (StaysOpen t tries cs d s xs) h old = tt
+few w c (StaysOpen t tries cs d s xs n z) h old = tt
 few w c (Pokes s n r word m rest) h old = tt
 few w c (PokesNothing s r word m rest) h old = tt
 few w c (Audits b n rs rest) h old = tt
 few w c (IsRefusedAudit s xs n why rest) h old = tt
 few w c (Checkpoints since b n m until current rest) h old = tt
 few w c (FailsCheckpoint since b n until r rs rest) h old = tt
-few w c (IsRefusedCheckpoint s span xs n why rest) h old = tt
+few w c (IsRefusedCheckpoint s span late xs n why rest) h old = tt
 
 all_few : (w : World) (c : ℕ) (p : Spot) (xs : List Move) (q : Spot) → FewTries p.place → IsPath w c p xs q → FewTries q.place
 all_few w c p [] q old path = subst (λ (s : Spot). FewTries s.place) path old
@@ -77,25 +77,25 @@ tries_are_few w c acts lines did pending q so = all_few w c _ so.moves q tt so.p
 
 -- ---- lines after a death
 -- the lines behind the first death, of a step that isn't one
-ended_on : (end : Option ℕ) (lines : List Said) → behind_died (end_line end ∷ lines) ≡ behind_died lines
-ended_on (Some n) lines = refl
-ended_on None lines = refl
+ended_on : (end : Ending) (lines : List Said) → behind_died (end_line end ∷ lines) ≡ behind_died lines
+ended_on (TakenBack n) lines = refl
+ended_on (LeftBehind n z) lines = refl
 
 dies : Move → Bool
-dies (Dies t tries cs d xs n call rest) = true
+dies (Dies t tries cs d xs n r call rest) = true
 dies x = false
 
 lives_on : (x : Move) (lines : List Said) → dies x ≡ false → behind_died (said x ++ lines) ≡ behind_died lines
 unfolding dies
-lives_on (GivesWay t tries cs d xs call f end rest) lines e = ended_on end lines
-lives_on (GivesUp t tries cs d xs call f end rest) lines e = ended_on end lines
-lives_on (Dies t tries cs d xs n call rest) lines e = absurd (cc)
+lives_on (GivesWay t tries cs d xs call f ys end rest) lines e = ended_on end lines
+lives_on (GivesUp t tries cs d xs call f ys end rest) lines e = ended_on end lines
+lives_on (Dies t tries cs d xs n r call rest) lines e = absurd (cc)
 lives_on x lines e = refl
 
 one_behind : (w : World) (c : ℕ) (x : Move) (xs : List Move) (q : Spot) (b : Bool) → dies x ≡ b → IsPath w c (to x) xs q → behind_died (said_by xs) ≡ [] → behind_died (said x ++ said_by xs) ≡ []
 unfolding dies
 one_behind w c x xs q false e path later = lives_on x (said_by xs) e ∙ later
-one_behind w c (Dies t tries cs d work n call rest) xs q true e path later = (all_silent w c _ xs q refl path).0
+one_behind w c (Dies t tries cs d work n r call rest) xs q true e path later = (all_silent w c _ xs q refl path).0
 one_behind w c x xs q true e path later = absurd (cc)
 
 none_behind : (w : World) (c : ℕ) (p : Spot) (xs : List Move) (q : Spot) → IsPath w c p xs q → behind_died (said_by xs) ≡ []

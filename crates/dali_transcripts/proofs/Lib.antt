@@ -12,8 +12,11 @@ pub mod Text
 pub mod Deeds
 pub mod Operations
 pub mod Verdicts
+pub mod Ends
 pub mod Worked
 pub mod Corners
 pub mod Faults
 pub mod Tries
+pub mod Together
+pub mod Left
 pub mod Wrong

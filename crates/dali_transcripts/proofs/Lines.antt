@@ -3,11 +3,13 @@ use Rattle.std.proofs.Common.{ℕ, List, [], ◌∷◌, ◌++◌, Option, Some, 
 use Rattle.std.specs.Prelude.{Contains}
 use Rattle.std.proofs.lemmas.List.Concat.{flat_map-cons}
 use Rattle.std.proofs.lemmas.List.Elements.{Contains-append_left, Contains-append_right}
+use Rattle.dali_record.specs.declared.records.Call.{Call}
 use Rattle.dali_record.specs.declared.records.Record.TheVariants.{Ended, AuditBegin}
+use Rattle.dali_system.specs.declared.refusals.Refusal.{Refusal}
 use Rattle.dali_system.specs.Steps.{audit_record}
 use Rattle.dali_transcripts.specs.Words.{Act, Begins as BeginAct, Calls, Commits as CommitAct, Aborts as AbortAct, Audits as AuditAct, Checkpoints as CheckpointAct, Why, StoreFailed, CommitOk}
-use Rattle.dali_transcripts.specs.World.{Logs, World}
-use Rattle.dali_transcripts.specs.Moves.{Receipt, Spot, Move, Begins, BeginsAgain, IsRefusedBegin, Skips, Rests, Answers, IsRefusedCall, Dies, IsArmed, GivesWay, GivesUp, Commits, CommitFails, IsRefusedCommit, Aborts, IsRefusedAbort, Ends, StaysOpen, Pokes, PokesNothing, Audits, IsRefusedAudit, Checkpoints, FailsCheckpoint, IsRefusedCheckpoint, said, own, to, end_line, end_records, audit_own}
+use Rattle.dali_transcripts.specs.World.{Logs, Yields, Meets, World}
+use Rattle.dali_transcripts.specs.Moves.{Receipt, Spot, Ending, TakenBack, LeftBehind, Move, Begins, BeginsAgain, IsRefusedBegin, Skips, Rests, Answers, IsRefusedCall, Dies, IsArmed, GivesWay, GivesUp, Commits, CommitFails, IsRefusedCommit, Aborts, IsRefusedAbort, Ends, StaysOpen, Pokes, PokesNothing, Audits, IsRefusedAudit, Checkpoints, FailsCheckpoint, IsRefusedCheckpoint, said, own, to, end_line, end_own, audit_own}
 use Rattle.dali_transcripts.specs.Causes.{MetCause, IsEnd, HasCause}
 use Rattle.dali_transcripts.specs.Transcripts.{IsPath, said_by, own_by}
 use Rattle.dali_transcripts.specs.Table.{TellsRefused, Tells, AllTell}
@@ -19,13 +21,17 @@ Within xs ys = (y : Receipt) → Contains xs y → Contains ys y
 
 module _ (w : World) (c : ℕ) (did : List Receipt) where
   refused : (n : ℕ) (act : Act) (o : Option ℕ) (why : Why) → MetCause w c n act o why → TellsRefused w c did act why
-  refused n CommitAct o StoreFailed h = absurd h.cause.0
+  refused n CommitAct o StoreFailed h = absurd h.cause
   refused n act o why h = (o, n, h)
 
-  ended : (t : ℕ) (work : List Receipt) (end : Option ℕ) → IsEnd w t end → Within (work ++ end_records t end) did → Tells w c did (end_line end)
+  ended : (t : ℕ) (call : Call) (xs : List Receipt) (end : Ending) → IsEnd w c t call end → Within (xs ++ end_own t end) did → Tells w c did (end_line end)
   unfolding Within
-  ended t work (Some n) h sub = (t, n, sub _ (last_in work (n, Logs (Ended t))), h)
-  ended t work None h sub = h
+  ended t call xs (TakenBack n) h sub = (t, n, sub _ (last_in xs (n, Logs (Ended t))), h)
+  ended t call xs (LeftBehind n z) h sub = (Calls call, Some t, n, z, h)
+
+  -- as the row has it
+  busy_ended : (t : ℕ) (call : Call) (f : Refusal) (xs ys : List Receipt) (end : Ending) → IsEnd w c t call end → Within (xs ++ (f.at, Yields f) ∷ ys ++ end_own t end) did → Tells w c did (end_line end)
+  busy_ended t call f xs ys end h sub = ended t call (xs ++ (f.at, Yields f) ∷ ys) end h sub
 
   second : (b n : ℕ) (rs : List ℕ) → Within (audit_own b n rs) did → Contains did (n, Logs (audit_record b rs))
   unfolding Within
@@ -40,24 +46,24 @@ module _ (w : World) (c : ℕ) (did : List Receipt) where
   one_tells (Rests t act rest) h sub = tt
   one_tells (Answers t tries cs d xs n call a rest) h sub = ((t, n, sub _ (last_in xs _)), tt)
   one_tells (IsRefusedCall t tries cs d s xs n ys call why rest) h sub = (refused n (Calls call) (Some t) why h.2, tt)
-  one_tells (Dies t tries cs d xs n call rest) h sub = ((t, n, sub _ (last_in xs _)), tt)
+  one_tells (Dies t tries cs d xs n r call rest) h sub = ((t, r, n, sub _ (last_in xs _)), tt)
   one_tells (IsArmed t tries cs d s count rest) h sub = tt
-  one_tells (GivesWay t tries cs d xs call f end rest) h sub = (ended t xs end h.3 sub, tt)
-  one_tells (GivesUp t tries cs d xs call f end rest) h sub = ((f, h.2.kept, refl), (ended t xs end h.3 sub, tt))
+  one_tells (GivesWay t tries cs d xs call f ys end rest) h sub = (busy_ended t call f xs ys end h.3 sub, tt)
+  one_tells (GivesUp t tries cs d xs call f ys end rest) h sub = ((t, call, f, h.1, refl), (busy_ended t call f xs ys end h.3 sub, tt))
   one_tells (Commits t tries cs d n xs rest) h sub = ((t, n, sub _ (first_in _ xs), h.0), tt)
-  one_tells (CommitFails t tries cs d n rest) h sub = ((t, n, sub _ (first_in _ []), h.0, h.1), tt)
+  one_tells (CommitFails t tries cs d n m why rest) h sub = ((t, n, sub _ (first_in _ ((m, Meets why) ∷ [])), h.0), tt)
   one_tells (IsRefusedCommit t tries cs d s n why rest) h sub = (refused n CommitAct (Some t) why h, tt)
   one_tells (Aborts t tries cs d xs n rest) h sub = ((t, n, sub _ (last_in xs _), h.1), tt)
   one_tells (IsRefusedAbort t tries cs d s xs n why rest) h sub = (refused n AbortAct (Some t) why h.1, tt)
   one_tells (Ends t tries cs d xs n) h sub = ((t, n, sub _ (last_in xs _), h.1), tt)
-  one_tells (StaysOpen t tries cs d s xs) h sub = (h.1, tt)
+  one_tells (StaysOpen t tries cs d s xs n z) h sub = ((AbortAct, Some t, n, z, h.1), tt)
   one_tells (Pokes s n r word m rest) h sub = ((n, r, word, m, sub _ (first_in _ [])), tt)
   one_tells (PokesNothing s r word m rest) h sub = (tt, tt)
   one_tells (Audits b n rs rest) h sub = ((b, n, second b n rs sub, h), tt)
   one_tells (IsRefusedAudit s xs n why rest) h sub = (refused n AuditAct None why h.1, tt)
   one_tells (Checkpoints since b n m until current rest) h sub = ((b, n, m, sub _ (2, omega arith, refl), h, sub _ (3, omega arith, refl)), tt)
   one_tells (FailsCheckpoint since b n until r rs rest) h sub = ((b, n, sub _ (2, omega arith, refl), h), tt)
-  one_tells (IsRefusedCheckpoint s span xs n why rest) h sub = (refused n CheckpointAct None why h.2, tt)
+  one_tells (IsRefusedCheckpoint s span late xs n why rest) h sub = (refused n CheckpointAct None why h.2, tt)
 
   all_tell : (p : Spot) (xs : List Move) (q : Spot) → IsPath w c p xs q → Within (own_by xs) did → AllTell w c did (said_by xs)
   unfolding Within

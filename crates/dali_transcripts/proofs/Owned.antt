@@ -5,7 +5,7 @@ use Rattle.std.specs.List.{AllByRecursion}
 use Rattle.std.proofs.lemmas.List.{append_assoc}
 use Rattle.dali_counts.proofs.Lists.{self, equal, some_same, length-push}
 use Rattle.dali_record.specs.declared.records.Record.{Record}
-use Rattle.dali_transcripts.specs.World.{Deed, Logs, Strays, Leaves, Starts, Turns, Stops, Meets, Happening, logged_by}
+use Rattle.dali_transcripts.specs.World.{Deed, Logs, Strays, DiesOn, Claims, GivesBack, Yields, FindsDead, StartsCheckpoint, MovesAnchor, EndsCheckpoint, Meets, Happening, logged_by}
 use Rattle.dali_transcripts.specs.Moves.{Receipt}
 use Rattle.dali_transcripts.specs.Transcripts.{count_with, owned_one, owned}
 use Rattle.dali_transcripts.specs.Laws.{EachIsOwned, OwnedByOne, OwnGoesOn, OthersGoOn, AscendFrom, IsIn, OwnAscend}
@@ -18,10 +18,14 @@ one_append false x xs ys = refl
 pub counts : (n : ℕ) (y : Happening) (ys : List Happening) → count_with n y.0 + length (logged_by ys) ≡ n + length (logged_by (y ∷ ys))
 counts n (Logs x, d) ys = omega arith
 counts n (Strays r word mask, d) ys = refl
-counts n (Leaves t, d) ys = refl
-counts n (Starts, d) ys = refl
-counts n (Turns k, d) ys = refl
-counts n (Stops, d) ys = refl
+counts n (DiesOn t r, d) ys = refl
+counts n (Claims u, d) ys = refl
+counts n (GivesBack u o, d) ys = refl
+counts n (Yields f, d) ys = refl
+counts n (FindsDead f, d) ys = refl
+counts n (StartsCheckpoint, d) ys = refl
+counts n (MovesAnchor k, d) ys = refl
+counts n (EndsCheckpoint, d) ys = refl
 counts n (Meets why, d) ys = refl
 
 pub own_goes_on : OwnGoesOn
@@ -38,10 +42,14 @@ others_go_on c d n (y ∷ ys) x other = ap (λ l. owned_one (y.1 == c) (n, y.0) 
 count_above : (n : ℕ) (x : Deed) → n ≤ count_with n x
 count_above n (Logs x) = omega arith
 count_above n (Strays r word mask) = omega arith
-count_above n (Leaves t) = omega arith
-count_above n Starts = omega arith
-count_above n (Turns k) = omega arith
-count_above n Stops = omega arith
+count_above n (DiesOn t r) = omega arith
+count_above n (Claims u) = omega arith
+count_above n (GivesBack u o) = omega arith
+count_above n (Yields f) = omega arith
+count_above n (FindsDead f) = omega arith
+count_above n StartsCheckpoint = omega arith
+count_above n (MovesAnchor k) = omega arith
+count_above n EndsCheckpoint = omega arith
 count_above n (Meets why) = omega arith
 
 one_ascends : (b : Bool) (m n : ℕ) (x : Deed) (xs : List Receipt) → m ≤ n → AscendFrom (count_with n x) xs → AscendFrom m xs → AscendFrom m (owned_one b (n, x) xs)
@@ -80,10 +88,14 @@ are_in c before ((Logs x, d) ∷ ys) =
     let rest : AreIn L (owned c (length before + 1) ys) = subst (λ k. AreIn L (owned c k ys)) (length-push before x) further in
     one_in (d == c) L (length before, Logs x) (owned c (length before + 1) ys) (at_seam before x _) rest
 are_in c before ((Strays r word mask, d) ∷ ys) = one_in (d == c) _ (length before, Strays r word mask) (owned c (length before) ys) tt (are_in c before ys)
-are_in c before ((Leaves t, d) ∷ ys) = one_in (d == c) _ (length before, Leaves t) (owned c (length before) ys) tt (are_in c before ys)
-are_in c before ((Starts, d) ∷ ys) = one_in (d == c) _ (length before, Starts) (owned c (length before) ys) tt (are_in c before ys)
-are_in c before ((Turns k, d) ∷ ys) = one_in (d == c) _ (length before, Turns k) (owned c (length before) ys) tt (are_in c before ys)
-are_in c before ((Stops, d) ∷ ys) = one_in (d == c) _ (length before, Stops) (owned c (length before) ys) tt (are_in c before ys)
+are_in c before ((DiesOn t r, d) ∷ ys) = one_in (d == c) _ (length before, DiesOn t r) (owned c (length before) ys) tt (are_in c before ys)
+are_in c before ((Claims u, d) ∷ ys) = one_in (d == c) _ (length before, Claims u) (owned c (length before) ys) tt (are_in c before ys)
+are_in c before ((GivesBack u o, d) ∷ ys) = one_in (d == c) _ (length before, GivesBack u o) (owned c (length before) ys) tt (are_in c before ys)
+are_in c before ((Yields f, d) ∷ ys) = one_in (d == c) _ (length before, Yields f) (owned c (length before) ys) tt (are_in c before ys)
+are_in c before ((FindsDead f, d) ∷ ys) = one_in (d == c) _ (length before, FindsDead f) (owned c (length before) ys) tt (are_in c before ys)
+are_in c before ((StartsCheckpoint, d) ∷ ys) = one_in (d == c) _ (length before, StartsCheckpoint) (owned c (length before) ys) tt (are_in c before ys)
+are_in c before ((MovesAnchor k, d) ∷ ys) = one_in (d == c) _ (length before, MovesAnchor k) (owned c (length before) ys) tt (are_in c before ys)
+are_in c before ((EndsCheckpoint, d) ∷ ys) = one_in (d == c) _ (length before, EndsCheckpoint) (owned c (length before) ys) tt (are_in c before ys)
 are_in c before ((Meets why, d) ∷ ys) = one_in (d == c) _ (length before, Meets why) (owned c (length before) ys) tt (are_in c before ys)
 
 pub own_ascend : OwnAscend
@@ -142,10 +154,14 @@ unfolding Found record_in
 found c n [] m x (k, below, is) = absurd (omega (arith, below))
 found c n ((Logs z, d) ∷ xs) m x has = one_found (d == c) c n z d xs m x refl (found c (n + 1) xs m x) has
 found c n ((Strays r word mask, d) ∷ xs) m x has = later (d == c) c n (Strays r word mask) xs m x (λ z e. absurd (cc)) (found c n xs m x) has
-found c n ((Leaves t, d) ∷ xs) m x has = later (d == c) c n (Leaves t) xs m x (λ z e. absurd (cc)) (found c n xs m x) has
-found c n ((Starts, d) ∷ xs) m x has = later (d == c) c n Starts xs m x (λ z e. absurd (cc)) (found c n xs m x) has
-found c n ((Turns k, d) ∷ xs) m x has = later (d == c) c n (Turns k) xs m x (λ z e. absurd (cc)) (found c n xs m x) has
-found c n ((Stops, d) ∷ xs) m x has = later (d == c) c n Stops xs m x (λ z e. absurd (cc)) (found c n xs m x) has
+found c n ((DiesOn t r, d) ∷ xs) m x has = later (d == c) c n (DiesOn t r) xs m x (λ z e. absurd (cc)) (found c n xs m x) has
+found c n ((Claims u, d) ∷ xs) m x has = later (d == c) c n (Claims u) xs m x (λ z e. absurd (cc)) (found c n xs m x) has
+found c n ((GivesBack u o, d) ∷ xs) m x has = later (d == c) c n (GivesBack u o) xs m x (λ z e. absurd (cc)) (found c n xs m x) has
+found c n ((Yields f, d) ∷ xs) m x has = later (d == c) c n (Yields f) xs m x (λ z e. absurd (cc)) (found c n xs m x) has
+found c n ((FindsDead f, d) ∷ xs) m x has = later (d == c) c n (FindsDead f) xs m x (λ z e. absurd (cc)) (found c n xs m x) has
+found c n ((StartsCheckpoint, d) ∷ xs) m x has = later (d == c) c n StartsCheckpoint xs m x (λ z e. absurd (cc)) (found c n xs m x) has
+found c n ((MovesAnchor k, d) ∷ xs) m x has = later (d == c) c n (MovesAnchor k) xs m x (λ z e. absurd (cc)) (found c n xs m x) has
+found c n ((EndsCheckpoint, d) ∷ xs) m x has = later (d == c) c n EndsCheckpoint xs m x (λ z e. absurd (cc)) (found c n xs m x) has
 found c n ((Meets why, d) ∷ xs) m x has = later (d == c) c n (Meets why) xs m x (λ z e. absurd (cc)) (found c n xs m x) has
 
 pub owned_by_one : OwnedByOne

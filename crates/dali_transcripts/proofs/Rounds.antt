@@ -4,10 +4,10 @@ use Rattle.std.specs.Prelude.{◌==◌, Contains}
 use Rattle.std.proofs.lemmas.List.{append_assoc, append-nil, length-append}
 use Rattle.dali_counts.proofs.Lists.{self, set_cases}
 use Rattle.dali_transcripts.specs.Words.{Act, Said}
-use Rattle.dali_transcripts.specs.World.{Deed, Logs, Strays, Leaves, Starts, Turns, Stops, Meets, Happening, World, logged_by, log_of, Grows}
+use Rattle.dali_transcripts.specs.World.{Deed, Logs, Strays, DiesOn, Claims, GivesBack, Yields, FindsDead, StartsCheckpoint, MovesAnchor, EndsCheckpoint, Meets, Happening, World, logged_by, log_of, Grows}
 use Rattle.dali_transcripts.specs.Moves.{Receipt, Spot, at, start}
 use Rattle.dali_transcripts.specs.Transcripts.{IsSoFar, IsPath, own_by, count_with, owned_one, owned, deeds_of}
-use Rattle.dali_transcripts.specs.Rounds.{Stands, by, AreMoves, RoundGoesOn, RoundIsDone, RoundIsCut}
+use Rattle.dali_transcripts.specs.Rounds.{Stands, by, AreAnchors, RoundGoesOn, RoundIsDone, RoundIsCut}
 use Rattle.dali_transcripts.specs.Laws.{receipts_from, DeedIsDone, DeedsAreDone, AnchorsRise}
 use Rattle.dali_transcripts.proofs.Owned.{one_append, counts, others_go_on}
 use Rattle.dali_transcripts.proofs.Growing.{world_goes_on}
@@ -98,53 +98,61 @@ round_is_done w (s ∷ ss) all done =
 pub round_is_cut : RoundIsCut
 round_is_cut w [] all lacks = tt
 round_is_cut w (s ∷ ss) all lacks =
-    let here = all 0 s refl in
-    let d = lacks 0 s refl in (
+    let here = all 0 s refl in (
       record {
         spot = s.spot;
-        quiet = d.quiet;
-        last = d.last;
-        none_told = d.none_told;
-        is_last = d.is_last;
-        so_far = subst (λ l. IsSoFar w s.client s.acts s.lines (deeds_of w s.client) l s.spot) d.pending here;
+        pending = s.pending;
+        told = s.lines;
+        part = [];
+        lines_are = sym (append-nil s.lines);
+        so_far = here;
+        under_way = lacks 0 s refl;
       },
       round_is_cut w ss (λ i u e. all (suc i) u e) (λ i u e. lacks (suc i) u e),
     )
 
 -- ---- the anchor
-no_lower : (old new : ℕ) (xs : List Happening) → AreMoves old xs new → old ≤ new
+no_lower : (old new : ℕ) (xs : List Happening) → AreAnchors old xs new → old ≤ new
 no_lower old new [] h = omega (arith, h)
-no_lower old new ((Turns n, c) ∷ xs) h = let more = no_lower n new xs h.1 in omega (arith, h.0, more)
+no_lower old new ((MovesAnchor n, c) ∷ xs) h = let more = no_lower n new xs h.1 in omega (arith, h.0, more)
 no_lower old new ((Logs x, c) ∷ xs) h = no_lower old new xs h
 no_lower old new ((Strays r word mask, c) ∷ xs) h = no_lower old new xs h
-no_lower old new ((Leaves t, c) ∷ xs) h = no_lower old new xs h
-no_lower old new ((Starts, c) ∷ xs) h = no_lower old new xs h
-no_lower old new ((Stops, c) ∷ xs) h = no_lower old new xs h
+no_lower old new ((DiesOn t r, c) ∷ xs) h = no_lower old new xs h
+no_lower old new ((Claims u, c) ∷ xs) h = no_lower old new xs h
+no_lower old new ((GivesBack u o, c) ∷ xs) h = no_lower old new xs h
+no_lower old new ((Yields f, c) ∷ xs) h = no_lower old new xs h
+no_lower old new ((FindsDead f, c) ∷ xs) h = no_lower old new xs h
+no_lower old new ((StartsCheckpoint, c) ∷ xs) h = no_lower old new xs h
+no_lower old new ((EndsCheckpoint, c) ∷ xs) h = no_lower old new xs h
 no_lower old new ((Meets why, c) ∷ xs) h = no_lower old new xs h
 
 Rises : ℕ → ℕ → ℕ → Type 0
 Rises old new n = (old < n) × (n ≤ new)
 
-anchor_in : (old new m d : ℕ) (xs : List Happening) (n c : ℕ) → m ≡ old + 1 → AreMoves m xs new → (Contains xs (Turns n, c) → Rises m new n) → Contains ((Turns m, d) ∷ xs) (Turns n, c) → Rises old new n
+anchor_in : (old new m d : ℕ) (xs : List Happening) (n c : ℕ) → m ≡ old + 1 → AreAnchors m xs new → (Contains xs (MovesAnchor n, c) → Rises m new n) → Contains ((MovesAnchor m, d) ∷ xs) (MovesAnchor n, c) → Rises old new n
 unfolding Rises
 anchor_in old new m d xs n c e moves more (zero, below, is) =
-    let deed : Turns m ≡ Turns n = ap (λ (z : Happening). z.0) is in
+    let deed : MovesAnchor m ≡ MovesAnchor n = ap (λ (z : Happening). z.0) is in
     let same : m ≡ n = cc in
     let up = no_lower m new xs moves in (omega (arith, e, same), omega (arith, up, same))
 anchor_in old new m d xs n c e moves more (suc k, below, is) = let r = more (k, omega (arith, below), is) in (omega (arith, r.0, e), r.1)
 
-passed : (y : Deed) (d : ℕ) (xs : List Happening) (n c : ℕ) → (y ≡ Turns n → ⊥) → Contains ((y, d) ∷ xs) (Turns n, c) → Contains xs (Turns n, c)
+passed : (y : Deed) (d : ℕ) (xs : List Happening) (n c : ℕ) → (y ≡ MovesAnchor n → ⊥) → Contains ((y, d) ∷ xs) (MovesAnchor n, c) → Contains xs (MovesAnchor n, c)
 passed y d xs n c other (zero, below, is) = absurd (other (ap (λ (z : Happening). z.0) is))
 passed y d xs n c other (suc k, below, is) = (k, omega (arith, below), is)
 
-rises : (old new : ℕ) (xs : List Happening) (n c : ℕ) → AreMoves old xs new → Contains xs (Turns n, c) → Rises old new n
+rises : (old new : ℕ) (xs : List Happening) (n c : ℕ) → AreAnchors old xs new → Contains xs (MovesAnchor n, c) → Rises old new n
 rises old new [] n c h (k, below, is) = absurd (omega (arith, below))
-rises old new ((Turns m, d) ∷ xs) n c h has = anchor_in old new m d xs n c h.0 h.1 (rises m new xs n c h.1) has
+rises old new ((MovesAnchor m, d) ∷ xs) n c h has = anchor_in old new m d xs n c h.0 h.1 (rises m new xs n c h.1) has
 rises old new ((Logs x, d) ∷ xs) n c h has = rises old new xs n c h (passed (Logs x) d xs n c (λ e. absurd (cc)) has)
 rises old new ((Strays r word mask, d) ∷ xs) n c h has = rises old new xs n c h (passed (Strays r word mask) d xs n c (λ e. absurd (cc)) has)
-rises old new ((Leaves t, d) ∷ xs) n c h has = rises old new xs n c h (passed (Leaves t) d xs n c (λ e. absurd (cc)) has)
-rises old new ((Starts, d) ∷ xs) n c h has = rises old new xs n c h (passed Starts d xs n c (λ e. absurd (cc)) has)
-rises old new ((Stops, d) ∷ xs) n c h has = rises old new xs n c h (passed Stops d xs n c (λ e. absurd (cc)) has)
+rises old new ((DiesOn t r, d) ∷ xs) n c h has = rises old new xs n c h (passed (DiesOn t r) d xs n c (λ e. absurd (cc)) has)
+rises old new ((Claims u, d) ∷ xs) n c h has = rises old new xs n c h (passed (Claims u) d xs n c (λ e. absurd (cc)) has)
+rises old new ((GivesBack u o, d) ∷ xs) n c h has = rises old new xs n c h (passed (GivesBack u o) d xs n c (λ e. absurd (cc)) has)
+rises old new ((Yields f, d) ∷ xs) n c h has = rises old new xs n c h (passed (Yields f) d xs n c (λ e. absurd (cc)) has)
+rises old new ((FindsDead f, d) ∷ xs) n c h has = rises old new xs n c h (passed (FindsDead f) d xs n c (λ e. absurd (cc)) has)
+rises old new ((StartsCheckpoint, d) ∷ xs) n c h has = rises old new xs n c h (passed StartsCheckpoint d xs n c (λ e. absurd (cc)) has)
+rises old new ((EndsCheckpoint, d) ∷ xs) n c h has = rises old new xs n c h (passed EndsCheckpoint d xs n c (λ e. absurd (cc)) has)
 rises old new ((Meets why, d) ∷ xs) n c h has = rises old new xs n c h (passed (Meets why) d xs n c (λ e. absurd (cc)) has)
 
 pub anchors_rise : AnchorsRise

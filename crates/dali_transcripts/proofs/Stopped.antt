@@ -5,7 +5,7 @@ use Rattle.std.specs.List.{list_all}
 use Rattle.std.proofs.lemmas.List.Concat.{flat_map-cons}
 use Rattle.dali_transcripts.specs.Words.{Act, Begins as BeginAct, Calls, Commits as CommitAct, Aborts as AbortAct, Audits as AuditAct, Checkpoints as CheckpointAct, Why, StoreFailed, Said, Refused, is_stop, closes}
 use Rattle.dali_transcripts.specs.World.{World}
-use Rattle.dali_transcripts.specs.Moves.{Place, Outside, Within, Again, LeftOut, Gone, Spot, Move, IsRefusedBegin, Skips, Rests, IsRefusedCall, IsArmed, GivesWay, GivesUp, CommitFails, IsRefusedCommit, IsRefusedAbort, StaysOpen, Pokes, PokesNothing, IsRefusedAudit, IsRefusedCheckpoint, from, said, to, end_line}
+use Rattle.dali_transcripts.specs.Moves.{Place, Outside, Within, Again, LeftOut, Gone, Spot, Ending, TakenBack, LeftBehind, Move, IsRefusedBegin, Skips, Rests, IsRefusedCall, IsArmed, GivesWay, GivesUp, CommitFails, IsRefusedCommit, IsRefusedAbort, StaysOpen, Pokes, PokesNothing, IsRefusedAudit, IsRefusedCheckpoint, from, said, to, end_line}
 use Rattle.dali_transcripts.specs.Causes.{MayBegin, MetCause, HasCause}
 use Rattle.dali_transcripts.specs.Transcripts.{IsPath, said_by}
 use Rattle.dali_transcripts.specs.Laws.{has_record, behind_stop, NothingAfterStop}
@@ -33,7 +33,7 @@ none_append (x ∷ xs) ys e f = both (not (has_record x)) (none_match xs) (none_
 
 -- a refusal that has a cause matches no record
 no_record : (w : World) (c n : ℕ) (act : Act) (o : Option ℕ) (why : Why) → MetCause w c n act o why → none_match (Refused act why ∷ []) ≡ true
-no_record w c n CommitAct o StoreFailed h = absurd h.cause.0
+no_record w c n CommitAct o StoreFailed h = absurd h.cause
 no_record w c n act o why h = refl
 
 begins_halted : (place : Place) (s : Bool) → MayBegin place s → is_halted place ≡ s
@@ -62,11 +62,11 @@ holds w c (IsRefusedCall t tries cs d s xs n ys call why rest) h e = (no_record 
 holds w c (IsArmed t tries cs d s count rest) h e = (refl, e)
 holds w c (IsRefusedCommit t tries cs d s n why rest) h e = (no_record w c n CommitAct (Some t) why h, refl)
 holds w c (IsRefusedAbort t tries cs d s xs n why rest) h e = (no_record w c n AbortAct (Some t) why h.1, refl)
-holds w c (StaysOpen t tries cs d s xs) h e = (refl, refl)
+holds w c (StaysOpen t tries cs d s xs n z) h e = (refl, refl)
 holds w c (Pokes s n r word m rest) h e = (refl, e)
 holds w c (PokesNothing s r word m rest) h e = (refl, e)
 holds w c (IsRefusedAudit s xs n why rest) h e = (no_record w c n AuditAct None why h.1, or_left s (is_stop why) e)
-holds w c (IsRefusedCheckpoint s span xs n why rest) h e = (no_record w c n CheckpointAct None why h.2, or_left s (is_stop why) e)
+holds w c (IsRefusedCheckpoint s span late xs n why rest) h e = (no_record w c n CheckpointAct None why h.2, or_left s (is_stop why) e)
 holds w c x h e = absurd (cc)
 
 all_hold : (w : World) (c : ℕ) (p : Spot) (xs : List Move) (q : Spot) → is_halted p.place ≡ true → IsPath w c p xs q → none_match (said_by xs) ≡ true
@@ -84,21 +84,21 @@ choose : (b : Bool) (xs ys : List Said) → (b ≡ true → none_match xs ≡ tr
 choose true xs ys f e = f refl
 choose false xs ys f e = e
 
-ended_on : (end : Option ℕ) (lines : List Said) → behind_stop (end_line end ∷ lines) ≡ behind_stop lines
-ended_on (Some n) lines = refl
-ended_on None lines = refl
+ended_on : (end : Ending) (lines : List Said) → behind_stop (end_line end ∷ lines) ≡ behind_stop lines
+ended_on (TakenBack n) lines = refl
+ended_on (LeftBehind n z) lines = refl
 
 owes : (x : Move) (lines : List Said) → Owes x lines
 unfolding Owes
 owes (IsRefusedBegin place s n why rest) lines f e = choose (is_stop why) lines (behind_stop lines) (λ z. f (or_right s (is_stop why) z)) e
 owes (IsRefusedCall t tries cs d s xs n ys call why rest) lines f e = choose (is_stop why) lines (behind_stop lines) (λ z. f (or_right s (is_stop why) z)) e
-owes (CommitFails t tries cs d n rest) lines f e = f refl
+owes (CommitFails t tries cs d n m why rest) lines f e = f refl
 owes (IsRefusedCommit t tries cs d s n why rest) lines f e = choose (is_stop why) lines (behind_stop lines) (λ z. f refl) e
 owes (IsRefusedAbort t tries cs d s xs n why rest) lines f e = choose (is_stop why) lines (behind_stop lines) (λ z. f refl) e
 owes (IsRefusedAudit s xs n why rest) lines f e = choose (is_stop why) lines (behind_stop lines) (λ z. f (or_right s (is_stop why) z)) e
-owes (IsRefusedCheckpoint s span xs n why rest) lines f e = choose (is_stop why) lines (behind_stop lines) (λ z. f (or_right s (is_stop why) z)) e
-owes (GivesWay t tries cs d xs call r end rest) lines f e = ap none_match (ended_on end lines) ∙ e
-owes (GivesUp t tries cs d xs call r end rest) lines f e = ap none_match (ended_on end lines) ∙ e
+owes (IsRefusedCheckpoint s span late xs n why rest) lines f e = choose (is_stop why) lines (behind_stop lines) (λ z. f (or_right s (is_stop why) z)) e
+owes (GivesWay t tries cs d xs call refusal ys end rest) lines f e = ap none_match (ended_on end lines) ∙ e
+owes (GivesUp t tries cs d xs call refusal ys end rest) lines f e = ap none_match (ended_on end lines) ∙ e
 owes x lines f e = e
 
 all_owe : (w : World) (c : ℕ) (p : Spot) (xs : List Move) (q : Spot) → IsPath w c p xs q → none_match (behind_stop (said_by xs)) ≡ true

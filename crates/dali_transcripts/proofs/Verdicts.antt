@@ -15,7 +15,7 @@ is_end x = false
 abbrev pub is_no_end : Happening → Bool
 is_no_end x = not (is_end x)
 
-pub end_is : (b c : ℕ) (found : List ℕ) → is_no_end (Logs (audit_record b found), c) ≡ false
+pub end_is : (b c : ℕ) (found : List ℕ) → is_end (Logs (audit_record b found), c) ≡ true
 end_is b c [] = refl
 end_is b c (r ∷ rs) = refl
 
@@ -27,25 +27,34 @@ rest_of : (a b : Bool) → (a && b) ≡ true → b ≡ true
 rest_of true b e = e
 rest_of false b e = absurd (cc)
 
+-- a deed of a kind that there is none of
+pub never : (p : Happening → Bool) (xs : List Happening) (i : ℕ) (x : Happening) → list_all (λ y. not (p y)) xs ≡ true → slice_get xs i ≡ Some x → p x ≡ true → ⊥
+never p [] i x h e is = absurd (cc)
+never p (y ∷ ys) zero x h e is =
+    let no = first_of (not (p y)) (list_all (λ z. not (p z)) ys) h in
+    let off : not (p y) ≡ false = ap (λ z. not (p z)) (some_same e) ∙ ap not is in
+    let clash : false ≡ true = sym off ∙ no in absurd (cc)
+never p (y ∷ ys) (suc i) x h e is = never p ys i x (rest_of (not (p y)) (list_all (λ z. not (p z)) ys) h) e is
+
+-- a deed of a kind that stands at place n alone
+pub only_at : (p : Happening → Bool) (n : ℕ) (xs : List Happening) (i : ℕ) (x : Happening) → list_all (λ y. not (p y)) (take n xs) ≡ true → list_all (λ y. not (p y)) (drop (suc n) xs) ≡ true
+    → slice_get xs i ≡ Some x → p x ≡ true → i ≡ n
+only_at p n [] i x front behind e is = absurd (cc)
+only_at p zero (y ∷ ys) zero x front behind e is = refl
+only_at p zero (y ∷ ys) (suc i) x front behind e is = absurd (never p ys i x behind e is)
+only_at p (suc n) (y ∷ ys) zero x front behind e is =
+    let no = first_of (not (p y)) (list_all (λ z. not (p z)) (take n ys)) front in
+    let off : not (p y) ≡ false = ap (λ z. not (p z)) (some_same e) ∙ ap not is in
+    let clash : false ≡ true = sym off ∙ no in absurd (cc)
+only_at p (suc n) (y ∷ ys) (suc i) x front behind e is = ap suc (only_at p n ys i x (rest_of (not (p y)) (list_all (λ z. not (p z)) (take n ys)) front) behind e is)
+
 pub none_ends : (xs : List Happening) (i b c : ℕ) (found : List ℕ) → list_all is_no_end xs ≡ true → slice_get xs i ≡ Some (Logs (audit_record b found), c) → ⊥
-none_ends [] i b c found h e = absurd (cc)
-none_ends (x ∷ xs) zero b c found h e =
-    let is : is_no_end x ≡ false = ap is_no_end (some_same e) ∙ end_is b c found in
-    let no = first_of (is_no_end x) (list_all is_no_end xs) h in
-    let clash : false ≡ true = sym is ∙ no in absurd (cc)
-none_ends (x ∷ xs) (suc i) b c found h e = none_ends xs i b c found (rest_of (is_no_end x) (list_all is_no_end xs) h) e
+none_ends xs i b c found h e = never is_end xs i (Logs (audit_record b found), c) h e (end_is b c found)
 
 -- where the deeds around place n don't end an audit, an audit ends at n alone
 pub ends_at : (n : ℕ) (xs : List Happening) (i b c : ℕ) (found : List ℕ) → list_all is_no_end (take n xs) ≡ true → list_all is_no_end (drop (suc n) xs) ≡ true
     → slice_get xs i ≡ Some (Logs (audit_record b found), c) → i ≡ n
-ends_at n [] i b c found front behind e = absurd (cc)
-ends_at zero (x ∷ xs) zero b c found front behind e = refl
-ends_at zero (x ∷ xs) (suc i) b c found front behind e = absurd (none_ends xs i b c found behind e)
-ends_at (suc n) (x ∷ xs) zero b c found front behind e =
-    let is : is_no_end x ≡ false = ap is_no_end (some_same e) ∙ end_is b c found in
-    let no = first_of (is_no_end x) (list_all is_no_end (take n xs)) front in
-    let clash : false ≡ true = sym is ∙ no in absurd (cc)
-ends_at (suc n) (x ∷ xs) (suc i) b c found front behind e = ap suc (ends_at n xs i b c found (rest_of (is_no_end x) (list_all is_no_end (take n xs)) front) behind e)
+ends_at n xs i b c found front behind e = only_at is_end n xs i (Logs (audit_record b found), c) front behind e (end_is b c found)
 
 -- the regions that an audit which ends here names
 abbrev pub named_in : Happening → List ℕ
@@ -55,6 +64,19 @@ named_in x = []
 named_by : (b c : ℕ) (found : List ℕ) → named_in (Logs (audit_record b found), c) ≡ found
 named_by b c [] = refl
 named_by b c (r ∷ rs) = refl
+
+-- the record that began the audit which ends here
+abbrev pub begun_in : Happening → ℕ
+begun_in (Logs (AuditClean b), c) = b
+begun_in (Logs (AuditFail b rs), c) = b
+begun_in x = 0
+
+begun_by : (b c : ℕ) (found : List ℕ) → begun_in (Logs (audit_record b found), c) ≡ b
+begun_by b c [] = refl
+begun_by b c (r ∷ rs) = refl
+
+pub begin_is : (xs : List Happening) (n b c : ℕ) (found : List ℕ) (x : Happening) → slice_get xs n ≡ Some x → slice_get xs n ≡ Some (Logs (audit_record b found), c) → b ≡ begun_in x
+begin_is xs n b c found x is e = sym (begun_by b c found) ∙ ap begun_in (some_same (sym e ∙ is))
 
 pub found_is : (xs : List Happening) (n b c : ℕ) (found : List ℕ) (x : Happening) → slice_get xs n ≡ Some x → slice_get xs n ≡ Some (Logs (audit_record b found), c) → found ≡ named_in x
 found_is xs n b c found x is e = sym (named_by b c found) ∙ ap named_in (some_same (sym e ∙ is))

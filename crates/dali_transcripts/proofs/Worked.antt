@@ -1,25 +1,29 @@
 -- The worked round.
-use Rattle.std.proofs.Common.{◌≡◌, ℕ, zero, suc, Bool, true, false, List, [], ◌∷◌, Some, None, refl, ap, subst, ◌∙◌, inl, inr, arith}
-use Rattle.std.specs.Prelude.{◌+◌, ◌*◌, ◌^◌, slice_get, ◌==◌, not, ◌&&◌}
+use Rattle.std.proofs.Common.{◌≡◌, ℕ, zero, suc, Bool, true, false, List, [], ◌∷◌, Some, None, refl, ap, ◌∙◌, inl, inr, arith}
+use Rattle.std.specs.Prelude.{◌+◌, ◌*◌, ◌^◌, ◌≤◌, ◌++◌, fold, replicate, slice_get, ◌==◌, not, ◌&&◌}
 use Rattle.std.specs.List.{list_all}
+use Rattle.std.proofs.lemmas.Bool.{ne_eqb}
 use Rattle.dali_counts.proofs.Lists.{self, some_same}
-use Rattle.dali_region.specs.State.{RegionState, loaded}
+use Rattle.dali_region.specs.State.{RegionState, IsLive, loaded}
 use Rattle.dali_index.specs.Entries.{entries}
 use Rattle.dali_heap.specs.Cells.{cells}
-use Rattle.dali_record.specs.declared.operations.Op.TheVariants.{Look, Put, Add, FreeEntry, FreeCell}
+use Rattle.dali_record.specs.declared.operations.Block.{Block}
+use Rattle.dali_record.specs.declared.operations.Op.TheVariants.{Look, Put, Add, Read, FreeEntry, FreeCell}
 use Rattle.dali_record.specs.Blocks.{made, rewritten}
 use Rattle.dali_record.specs.declared.records.Call.TheVariants.{Get}
 use Rattle.dali_record.specs.declared.records.Answer.TheVariants.{Ok as AnswerOk}
 use Rattle.dali_record.specs.declared.records.Record.{Record}
 use Rattle.dali_record.specs.declared.records.Record.TheVariants.{Forward, Commit, Ended, Back}
+use Rattle.dali_system.specs.Keeps.{IsNext}
 use Rattle.dali_transcripts.specs.Words.{Calls, Arms, Commits as CommitAct}
-use Rattle.dali_transcripts.specs.World.{Logs, HasDied, stray_after, IsUncommitted}
-use Rattle.dali_transcripts.specs.Moves.{Receipt, Outside, Gone, Move, Begins, BeginsAgain, Rests, Answers, Dies, IsArmed, GivesWay, Commits, at}
+use Rattle.dali_transcripts.specs.World.{Logs, DiesOn, Claims, FindsDead, log_at, HasDone, HasDiedBy, state_step, IsUncommitted}
+use Rattle.dali_transcripts.specs.Moves.{Receipt, Outside, Gone, TakenBack, Move, Begins, BeginsAgain, Rests, Answers, Dies, IsArmed, GivesWay, Commits, at}
+use Rattle.dali_transcripts.specs.Causes.{HasClaimed, HasFoundDead, DiesIn, GetsBusy}
 use Rattle.dali_transcripts.specs.Transcripts.{IsSoFar, deeds_of, AreTranscripts}
-use Rattle.dali_transcripts.specs.Rounds.{PokesTell, VerdictsTell}
-use Rattle.dali_transcripts.specs.Worked.{look, put, add, look_again, free_entry, free_cell, insert_a, insert_b, happened, log, told_1, told_2, lines_1, lines_2, refusal, world, index_words, heap_words, AreMade, Conflict, blocks, ConflictRuns, receipts_1, receipts_2}
-use Rattle.dali_transcripts.proofs.Lists.{first_in}
+use Rattle.dali_transcripts.specs.Rounds.{PokesTell, VerdictsTell, IsAtRest, IsBetween}
+use Rattle.dali_transcripts.specs.Worked.{look, put, add, look_again, free_entry, free_cell, insert_a, insert_b, happened, log, told_1, told_2, lines_1, lines_2, refusal, found_dead, small, world, index_words, heap_words, AreMade, Conflict, blocks, ConflictRuns, receipts_1, receipts_2}
 use Rattle.dali_transcripts.proofs.Verdicts.{none_ends}
+use Rattle.dali_transcripts.proofs.Ends.{grew_from, no_row, all_ended, none_claimed, none_failed, not_live, strays_same}
 
 -- ---- client 1
 moves_1 : List Move
@@ -27,16 +31,40 @@ moves_1 =
     Begins 1 1 (Calls insert_a ∷ Arms 2 ∷ Calls (Get 5) ∷ CommitAct ∷ [])
     ∷ Answers 1 0 told_1 None ((3, Logs (Forward 1 look)) ∷ (4, Logs (Forward 1 (put 97 0))) ∷ (5, Logs (Forward 1 (add 0))) ∷ []) 6 insert_a AnswerOk (Arms 2 ∷ Calls (Get 5) ∷ CommitAct ∷ [])
     ∷ IsArmed 1 0 told_1 None false 2 (Calls (Get 5) ∷ CommitAct ∷ [])
-    ∷ Dies 1 0 told_1 2 ((7, Logs (Forward 1 look_again)) ∷ []) 8 (Get 5) (CommitAct ∷ [])
+    ∷ Dies 1 0 told_1 2 ((7, Logs (Forward 1 look_again)) ∷ []) 8 1 (Get 5) (CommitAct ∷ [])
     ∷ Rests 1 CommitAct []
     ∷ []
+
+-- the operation in which client 1 dies, on the words of the heap then
+read_words : List ℕ
+read_words = 1 ∷ replicate 7 0 ++ 1 ∷ 5 ∷ 1 ∷ 97 * 2 ^ 56 ∷ replicate 52 0
+
+read : Block
+unfolding read_words
+read = made read_words 5 1 (Read 1)
+
+read_next : IsNext small (log_at world 8) 1 (Forward 1 read)
+unfolding read read_words entries cells
+read_next = refl
+
+there_1 : HasDone world 1 8 (DiesOn 1 1)
+there_1 = record { place = 8; there = refl; number = refl }
+
+dies_1 : DiesIn world 1 8 1 1 (Get 5)
+unfolding there_1 read read_words
+dies_1 = record {
+  done = there_1;
+  next = read;
+  on_region = refl;
+  goes_on = record { of_call = record { words = read_words; are_words = (refl, omega arith); of_call = tt; is_made = refl }; allowed = read_next };
+}
 
 died_1 : IsSoFar world 1 told_1 lines_1 (deeds_of world 1) [] (at (Gone 1) [])
 unfolding moves_1
 died_1 = record {
   moves = moves_1;
   path =
-      (refl, tt, (refl, ((refl, (refl, (refl, tt))), refl), (refl, tt, (refl, ((refl, tt), refl), (refl, tt, refl)))));
+      (refl, tt, (refl, (((refl, refl, tt), ((refl, refl, refl), ((refl, refl, tt), tt))), refl), (refl, tt, (refl, (((refl, refl, tt), tt), refl, dies_1), (refl, tt, refl)))));
   lines_are = refl;
   did_are = refl;
 }
@@ -70,21 +98,30 @@ uncommitted_2 = (refl, λ k below e. none_of 2 log k refl e)
 
 work_3 : List Receipt
 work_3 =
-    (10, Logs (Back 1 free_entry)) ∷ (11, Logs (Back 1 free_cell)) ∷ (12, Logs (Ended 1))
+    (10, FindsDead found_dead) ∷ (10, Claims 1) ∷ (10, Logs (Back 1 free_entry)) ∷ (11, Logs (Back 1 free_cell)) ∷ (12, Logs (Ended 1))
     ∷ (13, Logs (Forward 3 look)) ∷ (14, Logs (Forward 3 (put 98 (97 * 2 ^ 56 + 4)))) ∷ (15, Logs (Forward 3 (add 12))) ∷ []
 
 moves_2 : List Move
 unfolding work_3
 moves_2 =
     Begins 2 2 (Calls insert_b ∷ CommitAct ∷ [])
-    ∷ GivesWay 2 0 told_2 None [] insert_b refusal (Some 8) (CommitAct ∷ [])
+    ∷ GivesWay 2 0 told_2 None [] insert_b refusal [] (TakenBack 8) (CommitAct ∷ [])
     ∷ BeginsAgain 3 9 1 1 (Calls insert_b ∷ CommitAct ∷ [])
     ∷ Answers 3 1 told_2 None work_3 16 insert_b AnswerOk (CommitAct ∷ [])
     ∷ Commits 3 1 told_2 None 17 ((18, Logs (Ended 3)) ∷ []) []
     ∷ []
 
-dead_1 : HasDied world 1
-dead_1 = inr (1, (7, omega arith, refl))
+dead_1 : (n : ℕ) → 8 ≤ n → HasDiedBy world 1 n
+dead_1 n h = inr (1, 1, 8, there_1, h)
+
+busy_2 : GetsBusy world 2 2 insert_b refusal
+busy_2 = record { txn = refl; key = refl; mode = refl; done = record { place = 6; there = refl; number = refl }; runs = refl }
+
+found_1 : HasFoundDead world 2 10 3 insert_b found_dead
+found_1 = record { done = record { place = 11; there = refl; number = refl }; txn = refl; key = refl; mode = refl; number = refl; dead = refl }
+
+claimed_1 : HasClaimed world 2 10 1
+claimed_1 = record { done = record { place = 12; there = refl; number = refl }; dead = refl }
 
 told : IsSoFar world 2 told_2 lines_2 (deeds_of world 2) [] (at (Outside false) [])
 unfolding moves_2
@@ -95,13 +132,25 @@ told = record {
     tt,
     (
       refl,
-      (tt, refl, record { kept = first_in refusal []; txn = refl; key = refl; mode = refl }, uncommitted_2, omega arith),
+      (tt, busy_2, tt, uncommitted_2, omega arith),
       (
         refl,
-        inr dead_1,
+        inr (dead_1 9 (omega arith)),
         (
           refl,
-          ((inr (refl, dead_1), (inr (refl, dead_1), ((refl, dead_1), (refl, (refl, (refl, tt)))))), refl),
+          (
+            (
+              found_1,
+              (
+                (refl, claimed_1),
+                (
+                  inr (record { apart = refl; done = record { place = 13; there = refl; number = refl }; claimed = refl }),
+                  (inr (record { apart = refl; done = record { place = 14; there = refl; number = refl }; claimed = refl }), (record { apart = refl; done = record { place = 15; there = refl; number = refl }; claimed = refl }, ((refl, refl, tt), ((refl, refl, refl), ((refl, refl, tt), tt))))),
+                ),
+              ),
+            ),
+            refl,
+          ),
           (refl, (omega arith, (inl refl, tt)), refl),
         ),
       ),
@@ -115,7 +164,7 @@ looks : look ≡ made index_words 5 0 Look
 unfolding entries cells
 looks = refl
 
-puts_a : (put 97 0) ≡ made heap_words 5 1 (Put (97 ∷ []))
+pub puts_a : (put 97 0) ≡ made heap_words 5 1 (Put (97 ∷ []))
 unfolding entries cells
 puts_a = refl
 
@@ -166,13 +215,35 @@ conflict = record {
 
 -- no one poked
 no_stray : PokesTell world
-no_stray zero g h e f = let a = some_same e in let b = some_same f in subst (λ (z : RegionState). h.stray ≡ stray_after 0 z.stray happened) a (subst (λ (z : RegionState). z.stray ≡ stray_after 0 (loaded index_words).stray happened) b refl)
-no_stray (suc zero) g h e f = let a = some_same e in let b = some_same f in subst (λ (z : RegionState). h.stray ≡ stray_after 1 z.stray happened) a (subst (λ (z : RegionState). z.stray ≡ stray_after 1 (loaded heap_words).stray happened) b refl)
+no_stray zero g h e f = let a = some_same e in let b = some_same f in strays_same happened 0 (loaded index_words) _ g h a b (refl, refl)
+no_stray (suc zero) g h e f = let a = some_same e in let b = some_same f in strays_same happened 1 (loaded heap_words) _ g h a b (refl, refl)
 no_stray (suc (suc r)) g h e f = absurd (cc)
 
 -- no audit ends
 no_verdict : VerdictsTell world
 no_verdict i b c found e = absurd (none_ends happened i b c found refl e)
+
+holds : (r : ℕ) (g : RegionState) → slice_get world.core.regions r ≡ Some g → IsLive g → ⊥
+holds zero g e live = not_live _ g (some_same e) refl live
+holds (suc zero) g e live = not_live _ g (some_same e) refl live
+holds (suc (suc r)) g e live = absurd (cc)
+
+-- all transactions have ended
+ended : (t : ℕ) → fold (state_step t) None happened ≡ None
+ended zero = refl
+ended (suc zero) = refl
+ended (suc (suc zero)) = refl
+ended (suc (suc (suc zero))) = refl
+ended (suc (suc (suc (suc t)))) =
+    let a : (1 == suc (suc (suc (suc t)))) ≡ false = ne_eqb 1 (suc (suc (suc (suc t)))) (λ e. absurd (omega (arith, e))) in
+    let b : (2 == suc (suc (suc (suc t)))) ≡ false = ne_eqb 2 (suc (suc (suc (suc t)))) (λ e. absurd (omega (arith, e))) in
+    let d : (3 == suc (suc (suc (suc t)))) ≡ false = ne_eqb 3 (suc (suc (suc (suc t)))) (λ e. absurd (omega (arith, e))) in rw (a, b, d) refl
+
+rests : IsAtRest world.core
+rests = record { stopped = λ e. let no : false ≡ true = e in absurd (cc); holds = holds; flag = refl; free = none_claimed world.core.system refl }
+
+between : IsBetween world.core
+between = record { rests = rests; idle = λ runs t h. absurd (no_row world.core.system refl t h) }
 
 pub conflict_runs : ConflictRuns
 unfolding transcripts died_1 told moves_1 moves_2
@@ -185,13 +256,24 @@ conflict_runs = record {
     before_is = refl;
     precheck_is = refl;
     core_is = refl;
+    grew = grew_from world refl refl refl refl refl (omega arith);
     log = refl;
     transcripts = transcripts;
     receipts_are = refl;
-    turns = tt;
-    anchors = refl;
-    pokes = no_stray;
-    verdicts = no_verdict;
+    right = (tt, (tt, (tt, (tt, (tt, (tt, ((refl, refl), (tt, (tt, (tt, (tt, ((refl, refl), (refl, (tt, (tt, (tt, (tt, (tt, (tt, (tt, (tt, (tt, tt))))))))))))))))))))));
+    together = record {
+      spans = tt;
+      anchors = refl;
+      pokes = no_stray;
+      verdicts = no_verdict;
+      states = all_ended world refl refl ended;
+      faults = none_failed world refl refl refl refl refl;
+      refusals = refl;
+      room = refl;
+      prechecks = λ yes. let no : false ≡ true = yes in absurd (cc);
+    };
+    rests = rests;
+    between = λ whole. between;
   };
   printed_is = refl;
 }

@@ -1,5 +1,5 @@
 -- Wrong transcripts: none of these is one.
-use Rattle.std.proofs.Common.{◌≡◌, ℕ, zero, suc, ◌≤◌, true, false, List, [], ◌∷◌, ◌++◌, Option, Some, None, ap, sym, subst, ◌∙◌, inl, inr, ⊎_elim, ◌⊎◌, arith}
+use Rattle.std.proofs.Common.{◌≡◌, ℕ, zero, suc, ◌≤◌, Bool, true, false, List, [], ◌∷◌, ◌++◌, Option, Some, None, ap, sym, subst, ◌∙◌, inl, inr, ⊎_elim, ◌⊎◌, arith}
 use Rattle.std.specs.Prelude.{◌==◌, Contains, bit_xor, filter_map, slice_get, sum_by, take, drop}
 use Rattle.std.specs.Int.Bits.{xor_assoc, xor_self, xor_zero_l, xor_zero_r}
 use Rattle.std.proofs.lemmas.List.{append_assoc, take-append-drop}
@@ -11,19 +11,18 @@ use Rattle.dali_record.specs.declared.records.Record.{Record}
 use Rattle.dali_record.specs.declared.records.Record.TheVariants.{Begin, Ended}
 use Rattle.dali_system.specs.declared.causes.Cause.{Cause}
 use Rattle.dali_system.specs.declared.causes.Cause.TheVariants.{Damage}
-use Rattle.dali_system.specs.Run.{failed_first}
-use Rattle.dali_system.specs.declared.refusals.Refusal.{Refusal}
+use Rattle.dali_system.specs.Run.{damage_in, failed_first}
 use Rattle.dali_system.specs.State.{stable}
 use Rattle.dali_transcripts.specs.Words.{Act, Calls, Commits as CommitAct, Checkpoints as CheckpointAct, Why, StoppedBy, Full, Damaged, UnderWay, Said, CommitOk, CheckpointSaid, Aborted, LeftOpen, Died, Busy, Refused}
 use Rattle.dali_record.specs.Epochs.{last_epoch}
 use Rattle.dali_record.specs.Spelling.{record_length}
-use Rattle.dali_transcripts.specs.World.{Logs, Turns, Meets, Happening, World, record_of, logged_by, log_of, log_at}
+use Rattle.dali_transcripts.specs.World.{Logs, MovesAnchor, Meets, Happening, World, record_of, logged_by, log_of, log_at, HasDone, state_at, is_dead_in, has_failed, cause_of, stop_at}
 use Rattle.dali_transcripts.specs.Moves.{Receipt}
-use Rattle.dali_transcripts.specs.Causes.{IsMet, IsDamaged, MetCause}
+use Rattle.dali_transcripts.specs.Causes.{IsDamaged, MetCause}
 use Rattle.dali_transcripts.specs.Transcripts.{IsTranscript, line_told, lines_of_records}
 use Rattle.dali_transcripts.specs.Table.{Tells, TellsRefused}
 use Rattle.dali_transcripts.specs.Laws.{behind_died}
-use Rattle.dali_transcripts.specs.Wrong.{WrongOnes}
+use Rattle.dali_transcripts.specs.Wrong.{RunsThroughout, WrongOnes}
 use Rattle.dali_transcripts.proofs.Lists.{all_get}
 use Rattle.dali_transcripts.proofs.Lines.{lines_tell}
 use Rattle.dali_transcripts.proofs.Matches.{lines_are_records}
@@ -50,10 +49,10 @@ died_behind [] line later e = absurd (cc)
 died_behind (Died ∷ first) line later e = not_nil first Died (line ∷ later) e
 died_behind (x ∷ first) line later e = died_behind first line later e
 
--- a stop is told as its cause
-stop_told : (w : World) (c : ℕ) (did : List Receipt) (act : Act) (cause : Cause) → TellsRefused w c did act (StoppedBy cause) → w.core.system.stop ≡ Some cause
-stop_told w c did CommitAct cause h = h.2.cause.1.0
-stop_told w c did act cause h = h.2.cause.1.0
+-- a stop is told at its place
+stop_told : (w : World) (c : ℕ) (did : List Receipt) (act : Act) (cause : Cause) → TellsRefused w c did act (StoppedBy cause) → (i : ℕ) × (stop_at w i ≡ Some cause)
+stop_told w c did CommitAct cause h = (h.2.met.place, h.2.cause.1)
+stop_told w c did act cause h = (h.2.met.place, h.2.cause.1)
 
 sum_of_part : (xs ys : List Record) → sum_by record_length xs ≤ sum_by record_length (xs ++ ys)
 sum_of_part xs ys = let e = sum_by-append record_length xs ys in omega (arith, e)
@@ -67,9 +66,15 @@ part_of w i =
     ∙ sym (append_assoc w.before (logged_by (take i w.happened)) (logged_by (drop i w.happened)))) in
     subst (λ l. sum_by record_length (log_at w i) ≤ sum_by record_length l) (sym whole) (sum_of_part (log_at w i) (logged_by (drop i w.happened)))
 
-damage_stops : (w : World) (c : ℕ) (did : List Receipt) (act : Act) (r : ℕ) → TellsRefused w c did act (StoppedBy (Damage r)) → (i : ℕ) × (Some r ≡ failed_first (last_epoch (log_at w i)).records)
-damage_stops w c did CommitAct r h = (h.2.met.place, h.2.cause.1.1)
-damage_stops w c did act r h = (h.2.met.place, h.2.cause.1.1)
+damage_of : (o : Option ℕ) (failed : Bool) (r : ℕ) → cause_of o failed ≡ Some (Damage r) → o ≡ Some r
+damage_of (Some q) failed r e = ap (λ (z : Option Cause). damage_in z) e
+damage_of None true r e = absurd (cc)
+damage_of None false r e = absurd (cc)
+
+damage_stops : (w : World) (c : ℕ) (did : List Receipt) (act : Act) (r : ℕ) → TellsRefused w c did act (StoppedBy (Damage r)) → (i : ℕ) × (failed_first (last_epoch (log_at w i)).records ≡ Some r)
+damage_stops w c did act r h =
+    let told = stop_told w c did act (Damage r) h in
+    (told.0, damage_of (failed_first (last_epoch (log_at w told.0)).records) (has_failed w.old.vault.stopped (take told.0 w.happened)) r told.1)
 
 full_told : (w : World) (c : ℕ) (did : List Receipt) (act : Act) (end limit : ℕ) → TellsRefused w c did act (Full end limit) → end ≤ sum_by record_length (log_of w)
 full_told w c did CommitAct end limit h = let m = h.2 in let e = m.cause.end_is in let p = part_of w m.met.place in omega (arith, e, p)
@@ -79,7 +84,7 @@ full_met : (w : World) (c : ℕ) (did : List Receipt) (act : Act) (end limit : �
 full_met w c did CommitAct end limit h = h
 full_met w c did act end limit h = h
 
-no_place : (w : World) (c n : ℕ) (why : Why) → w.happened ≡ [] → IsMet w c n why → ⊥
+no_place : (w : World) (c n : ℕ) (why : Why) → w.happened ≡ [] → HasDone w c n (Meets why) → ⊥
 no_place w c n why e m = let at : slice_get {X = Happening} [] m.place ≡ Some (Meets why, c) = ap (λ (l : List Happening). slice_get l m.place) (sym e) ∙ m.there in absurd (cc)
 
 damaged_told : (w : World) (c : ℕ) (did : List Receipt) (call : Call) (r codeword found : ℕ) → TellsRefused w c did (Calls call) (Damaged r codeword found)
@@ -90,14 +95,14 @@ damaged_told w c did call r codeword found (None, n, m) = absurd m.cause
 xor_same : (a b : ℕ) → bit_xor a b ≡ 0 → a ≡ b
 xor_same a b e = sym (xor_zero_r a) ∙ (ap (bit_xor a) (sym (xor_self b)) ∙ (sym (xor_assoc a b b) ∙ (ap (λ n. bit_xor n b) e ∙ xor_zero_l b)))
 
-two_of : (x y : Receipt) (m k : ℕ) → Contains (x ∷ y ∷ []) (m, Turns k) → (x.1 ≡ Turns k) ⊎ (y.1 ≡ Turns k)
+two_of : (x y : Receipt) (m k : ℕ) → Contains (x ∷ y ∷ []) (m, MovesAnchor k) → (x.1 ≡ MovesAnchor k) ⊎ (y.1 ≡ MovesAnchor k)
 two_of x y m k (zero, below, e) = inl (ap (λ (z : Receipt). z.1) e)
 two_of x y m k (suc zero, below, e) = inr (ap (λ (z : Receipt). z.1) e)
 two_of x y m k (suc (suc i), below, e) = absurd (omega (arith, below))
 
-none_kept : (fs : List Refusal) (f : Refusal) → fs ≡ [] → Contains fs f → ⊥
-none_kept [] f e (k, below, g) = absurd (omega (arith, below))
-none_kept (x ∷ fs) f e has = absurd (cc)
+-- a transaction that stays open tells of a stop
+open_stops : (w : World) (c n : ℕ) (act : Act) (o : Option ℕ) (cause : Cause) → RunsThroughout w → MetCause w c n act o (StoppedBy cause) → ⊥
+open_stops w c n act o cause runs h = let e = sym (runs h.met.place) ∙ h.cause.1 in absurd (cc)
 
 pub wrong_ones : WrongOnes
 wrong_ones = record {
@@ -110,11 +115,17 @@ wrong_ones = record {
       let same : n ≡ told.1 = ap (λ (x : Receipt). x.0) (only w c acts _ _ told.2) in
       omega (arith, says.0, told.3, same);
   busy_by_itself = λ h did w c acts said says transcript.
-      let told = tells w c acts said did (Busy h) transcript says.1 in none_kept _ told.0 says.0 told.1;
+      let told = tells w c acts said did (Busy h) transcript says.1 in
+      let done = told.3.done in says.0 done.place c told.2 done.there;
+  busy_of_a_dead_one = λ h did w c acts said says transcript.
+      let told = tells w c acts said did (Busy h) transcript says.1 in
+      let dead : is_dead_in (state_at w told.3.done.place told.2.holder) ≡ true = subst (λ t. is_dead_in (state_at w told.3.done.place t) ≡ true) (sym told.4) (says.0 told.3.done.place) in
+      let clash : true ≡ false = sym dead ∙ told.3.runs in absurd (cc);
   stopped_by_itself = λ act cause did w c acts said says transcript.
-      let e = sym says.0 ∙ stop_told w c did act cause (tells w c acts said did _ transcript says.1) in absurd (cc);
+      let told = stop_told w c did act cause (tells w c acts said did _ transcript says.1) in
+      let e = sym (says.0 told.0) ∙ told.1 in absurd (cc);
   open_by_itself = λ did w c acts said says transcript.
-      let told = tells w c acts said did LeftOpen transcript says.1 in let e = sym says.0 ∙ told.1 in absurd (cc);
+      let told = tells w c acts said did LeftOpen transcript says.1 in open_stops w c told.2 told.0 told.1 told.3 says.0 told.4;
   not_ended = λ t n w c acts said says transcript.
       let told = tells w c acts said _ Aborted transcript says in
       let same : Logs (Begin t) ≡ Logs (Ended told.0) = ap (λ (x : Receipt). x.1) (only w c acts _ _ told.2) in absurd (cc);
@@ -122,7 +133,7 @@ wrong_ones = record {
       let told = full_told w c did act end limit (tells w c acts said did _ transcript says.1) in omega (arith, says.0, told);
   stopped_too_early = λ act r did w c acts said says transcript.
       let told = damage_stops w c did act r (tells w c acts said did _ transcript says.1) in
-      let e = told.1 ∙ says.0 told.0 in absurd (cc);
+      let e = sym told.1 ∙ says.0 told.0 in absurd (cc);
   under_way_by_itself = λ did w c acts said says transcript.
       let told = tells w c acts said did (Refused CheckpointAct UnderWay) transcript says.1 in
       let e = sym (says.0 told.2.met.place) ∙ told.2.cause.started in absurd (cc);

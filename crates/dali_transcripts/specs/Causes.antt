@@ -1,96 +1,74 @@
 -- What must be so for a step of a client.
---     IsWork w t x, AreWork w t xs     a deed of a call, an abort or a clean-up in it, that no line tells
---     IsBehind w t x, AreBehind w t xs a record that a commit logs behind its Commit
---     spares d count           the client doesn't die in so many operations
---     IsMet w c n why          the client c was refused so, when n records stood; and at which place of the round
---     IsRoomFor s L act o x    x is the record that the rules allow next behind L, for this act in the transaction o
+--     IsOpOf call op           an operation of this call
+--     IsBlockOf call b         the block of such an operation, on some words
+--     GoesOn s L t call b      behind L the rules allow it to t next
+--     IsRoomFor s L act o x    x is a record that the rules allow next behind L, for this act in the transaction o
 --     IsFull w i act o end limit       at this place that record passes the limit
 --     IsDamaged w i t call ..  at this place the codeword of the region that the call goes to next differs from its words
 --     IsUnderWay w i c         at this place the checkpoint of another client is under way
---     IsStoppedAt w i cause    the engine is stopped, and the log at this place tells of it
 --     IsCause w c i act o why  why the client c, in the transaction o, is refused at this place
+--     MetCause w c n act o why where n records stood it was refused so, and had cause
+--     IsCleanUp w c t x        a deed of a clean-up, by the client c that is in t
+--     IsAside w c t x          such a deed, or a taking back of t
+--     IsAsking w c t call x    such a deed, or a request for the lock of the call that finds a dead holder
+--     IsWork w c t call x      such a deed, or an operation of the call
+--     IsBehind w c t x         a deed of a commit behind its Commit
+--     IsCutAudit w later xs    an audit that was cut short
+--     spares d count           the client doesn't die in so many operations
+--     DiesIn w c n t r call    it dies in an operation of the call, on region r
+--     GetsBusy w c t call f    its request for the call's lock was refused, and the holder wasn't dead
+--     AreRight w               each deed of the round has what it asks for at its place
+--     AreUnfinished w c place rest xs  the deeds of a step that the end of the round cut short
 --     HasCause w c x           what must be so for the step x of client c
-use Rattle.std.specs.Prelude.{◌≡◌, ℕ, ◌+◌, ◌<◌, ◌≤◌, ◌⊎◌, Bool, true, false, List, [], ◌∷◌, Option, Some, None, bit_xor, length, nat_lt, slice_get, sum_by, take, ◌==◌}
+use Rattle.std.specs.Prelude.{◌≡◌, ℕ, ◌+◌, ◌<◌, ◌⊎◌, Bool, true, false, List, [], ◌∷◌, Option, Some, None, bit_xor, length, nat_lt, slice_get, sum_by, take, ◌==◌, ◌≤◌}
 use Rattle.std.specs.List.{AllByRecursion}
 use Rattle.dali_geometry.specs.Sizes.{Sizes}
 use Rattle.dali_geometry.specs.Places.{regions}
 use Rattle.dali_record.specs.declared.operations.Block.{Block}
+use Rattle.dali_record.specs.declared.operations.Op.{Op}
+use Rattle.dali_record.specs.declared.operations.Op.TheVariants.{Look, Add, KillEntry, Put, Read, Change, KillCell}
 use Rattle.dali_record.specs.declared.records.Call.{Call}
+use Rattle.dali_record.specs.declared.records.Call.TheVariants.{Insert, Update, Delete, Get}
 use Rattle.dali_record.specs.declared.records.Answer.{Answer}
 use Rattle.dali_record.specs.declared.records.Record.{Record}
-use Rattle.dali_record.specs.declared.records.Record.TheVariants.{Begin, Forward, Back, Done, Ended, Solo, AuditBegin, AuditClean, AuditFail}
-use Rattle.dali_record.specs.Epochs.{last_epoch}
+use Rattle.dali_record.specs.declared.records.Record.TheVariants.{Begin, Forward, Back, Done, Commit, Ended, Solo, AuditBegin, AuditClean, AuditFail}
+use Rattle.dali_record.specs.Blocks.{AreWords, made}
 use Rattle.dali_record.specs.Spelling.{record_length, CanBeSpelled}
 use Rattle.dali_region.specs.State.{RegionState}
+use Rattle.dali_att.specs.declared.state.State.TheVariants.{Cleaning}
 use Rattle.dali_system.specs.declared.causes.Cause.{Cause}
-use Rattle.dali_system.specs.State.{stable}
-use Rattle.dali_system.specs.Run.{damage_in, failed_first}
+use Rattle.dali_system.specs.declared.refusals.Refusal.{Refusal}
 use Rattle.dali_system.specs.Keeps.{IsNext}
-use Rattle.dali_transcripts.specs.Words.{Act, Begins as BeginAct, Calls, Arms, Commits as CommitAct, Aborts as AbortAct, Pokes as PokeAct, Audits as AuditAct, Checkpoints as CheckpointAct, Why, StoppedBy, Full, Damaged, StoreFailed, UnderWay, key_of}
-use Rattle.dali_transcripts.specs.World.{Logs, Meets, World, log_at, IsFlushed, IsUncommitted, IsRefused, HasDied, HasEndedBy, IsStopped, stray_after, under_way}
-use Rattle.dali_transcripts.specs.Moves.{Receipt, Place, Outside, Again, Move, Begins, BeginsAgain, IsRefusedBegin, Skips, Rests, Answers, IsRefusedCall, Dies, IsArmed, GivesWay, GivesUp, Commits, CommitFails, IsRefusedCommit, Aborts, IsRefusedAbort, Ends, StaysOpen, Pokes, PokesNothing, Audits, IsRefusedAudit, Checkpoints, FailsCheckpoint, IsRefusedCheckpoint, operations}
+use Rattle.dali_transcripts.specs.Words.{Act, Begins as BeginAct, Calls, Arms, Commits as CommitAct, Aborts as AbortAct, Pokes as PokeAct, Audits as AuditAct, Checkpoints as CheckpointAct, Why, StoppedBy, Full, Damaged, StoreFailed, UnderWay, key_of, mode_of}
+use Rattle.dali_transcripts.specs.World.{Deed, Logs, DiesOn, Claims, GivesBack, Yields, FindsDead, StartsCheckpoint, MovesAnchor, EndsCheckpoint, Meets, Happening, World, log_at, IsFlushed, IsLost, IsUncommitted, HasDone, state_at, is_dead_in, is_claimed_in, HasEndedBy, has_failed, stop_at, stray_after, under_way}
+use Rattle.dali_transcripts.specs.Moves.{Receipt, Place, Outside, Within, Again, Ending, TakenBack, LeftBehind, Move, Begins, BeginsAgain, IsRefusedBegin, Skips, Rests, Answers, IsRefusedCall, Dies, IsArmed, GivesWay, GivesUp, Commits, CommitFails, IsRefusedCommit, Aborts, IsRefusedAbort, Ends, StaysOpen, Pokes, PokesNothing, Audits, IsRefusedAudit, Checkpoints, FailsCheckpoint, IsRefusedCheckpoint, operations}
 
--- ---- what is logged without a line
--- a dead transaction is cleaned up
-abbrev pub IsCleaning : World → ℕ → ℕ → Type 0
-IsCleaning w t u = ((u == t) ≡ false) × HasDied w u
+-- ---- the operations of a call
+abbrev pub IsOpOf : Call → Op → Type 0
+IsOpOf call Look = Unit {0}
+IsOpOf (Get key) (Read cell) = Unit {0}
+IsOpOf (Insert key v) (Put u) = u ≡ v
+IsOpOf (Insert key v) (Add at) = Unit {0}
+IsOpOf (Update key v) (Change cell u) = u ≡ v
+IsOpOf (Delete key) (KillCell cell) = Unit {0}
+IsOpOf (Delete key) (KillEntry entry) = Unit {0}
+IsOpOf call op = ⊥
 
--- an operation of t, or one of its changes that is taken back; a clean-up; or a refusal that another one followed
-abbrev pub IsWork : World → ℕ → Receipt → Type 0
-IsWork w t (n, Logs (Forward u b)) = u ≡ t
-IsWork w t (n, Logs (Back u b)) = (u ≡ t) ⊎ IsCleaning w t u
-IsWork w t (n, Logs (Ended u)) = IsCleaning w t u
-IsWork w t (n, Meets why) = Unit {0}
-IsWork w t x = ⊥
+pub record IsBlockOf (call : Call) (b : Block) : Type 0 where
+  pub words : List ℕ
+  pub are_words : AreWords words
+  pub of_call : IsOpOf call b.op
+  pub is_made : b ≡ made words (key_of call) b.region b.op
 
-abbrev pub AreWork : World → ℕ → List Receipt → Type 0
-AreWork w t xs = AllByRecursion (IsWork w t) xs
-
--- a solo of t, or its Ended; or a clean-up
-abbrev pub IsBehind : World → ℕ → Receipt → Type 0
-IsBehind w t (n, Logs (Solo u p b)) = p ≡ t
-IsBehind w t (n, Logs (Ended u)) = (u ≡ t) ⊎ IsCleaning w t u
-IsBehind w t (n, Logs (Back u b)) = IsCleaning w t u
-IsBehind w t x = ⊥
-
-abbrev pub AreBehind : World → ℕ → List Receipt → Type 0
-AreBehind w t xs = AllByRecursion (IsBehind w t) xs
-
--- an audit that was cut short: its begin alone, or with the record that ends it
-abbrev pub IsCutAudit : List Receipt → Type 0
-IsCutAudit [] = Unit {0}
-IsCutAudit ((b, Logs AuditBegin) ∷ []) = Unit {0}
-IsCutAudit ((b, Logs AuditBegin) ∷ (n, Logs (AuditClean a)) ∷ []) = a ≡ b
-IsCutAudit ((b, Logs AuditBegin) ∷ (n, Logs (AuditFail a rs)) ∷ []) = a ≡ b
-IsCutAudit xs = ⊥
-
--- only where the audit was begun
-abbrev pub IsCutBy : Why → List Receipt → Type 0
-IsCutBy (StoppedBy cause) work = IsCutAudit work
-IsCutBy StoreFailed work = IsCutAudit work
-IsCutBy why work = work ≡ []
-
--- a checkpoint that didn't start has no audit, and one that meets another doesn't start
-abbrev pub MaySpan : Why → Option (ℕ × ℕ) → List Receipt → Type 0
-MaySpan why None work = work ≡ []
-MaySpan UnderWay (Some span) work = ⊥
-MaySpan why (Some span) work = Unit {0}
-
--- ---- deaths
-abbrev pub spares : Option ℕ → ℕ → Bool
-spares None count = true
-spares (Some deadly) count = nat_lt count deadly
+pub record GoesOn (s : Sizes) (L : List Record) (t : ℕ) (call : Call) (b : Block) : Type 0 where
+  pub of_call : IsBlockOf call b
+  pub allowed : IsNext s L t (Forward t b)
 
 -- ---- refusals
-pub record IsMet (w : World) (c n : ℕ) (why : Why) : Type 0 where
-  pub place : ℕ
-  pub there : slice_get w.happened place ≡ Some (Meets why, c)
-  pub number : length (log_at w place) ≡ n
-
 -- the record for which there was no room
 abbrev pub IsRoomFor : Sizes → List Record → Act → Option ℕ → Record → Type 0
 IsRoomFor s L BeginAct o x = (t : ℕ) × (x ≡ Begin t) × IsNext s L t x
-IsRoomFor s L (Calls call) (Some t) x = IsNext s L t x × (((a : Answer) × (x ≡ Done t call a)) ⊎ ((b : Block) × (b.key ≡ key_of call) × (x ≡ Forward t b)))
+IsRoomFor s L (Calls call) (Some t) x = ((a : Answer) × (x ≡ Done t call a) × IsNext s L t x) ⊎ ((b : Block) × (x ≡ Forward t b) × GoesOn s L t call b)
 IsRoomFor s L AuditAct o x = x ≡ AuditBegin
 IsRoomFor s L CheckpointAct o x = x ≡ AuditBegin
 IsRoomFor s L act o x = ⊥
@@ -114,8 +92,7 @@ pub record IsDamaged (w : World) (i t : ℕ) (call : Call) (region codeword foun
   pub compares : w.precheck ≡ true
   pub next : Block
   pub on_region : next.region ≡ region
-  pub on_key : next.key ≡ key_of call
-  pub allowed : IsNext w.core.system.sizes (log_at w i) t (Forward t next)
+  pub goes_on : GoesOn w.core.system.sizes (log_at w i) t call next
   pub old : RegionState
   pub was : slice_get w.old.regions region ≡ Some old
   pub stray : bit_xor codeword found ≡ stray_after region old.stray (take i w.happened)
@@ -144,21 +121,201 @@ abbrev pub IsUnderWayIn : World → ℕ → ℕ → Act → Type 0
 IsUnderWayIn w i c CheckpointAct = IsUnderWay w i c
 IsUnderWayIn w i c act = ⊥
 
--- the cause is the one that the log tells by then: the first region of the epoch's failed audit, or the store, where none failed
-abbrev pub IsStoppedAt : World → ℕ → Cause → Type 0
-IsStoppedAt w i cause = IsStopped w cause × (damage_in (Some cause) ≡ failed_first (last_epoch (log_at w i)).records)
-
+-- StoreFailed is the failure itself
 abbrev pub IsCause : World → (client place : ℕ) → Act → Option ℕ → Why → Type 0
-IsCause w c i act o (StoppedBy cause) = CanStop act × IsStoppedAt w i cause
+IsCause w c i act o (StoppedBy cause) = CanStop act × (stop_at w i ≡ Some cause)
 IsCause w c i act o (Full end limit) = IsFull w i act o end limit
 IsCause w c i act o (Damaged region codeword found) = IsDamagedIn w i act o region codeword found
-IsCause w c i act o StoreFailed = CanFail act × (w.core.vault.stopped ≡ true)
+IsCause w c i act o StoreFailed = CanFail act
 IsCause w c i act o UnderWay = IsUnderWayIn w i c act
 
--- where n records stood the client was refused so, and had cause
 pub record MetCause (w : World) (c n : ℕ) (act : Act) (o : Option ℕ) (why : Why) : Type 0 where
-  pub met : IsMet w c n why
+  pub met : HasDone w c n (Meets why)
   pub cause : IsCause w c met.place act o why
+
+-- ---- what is done without a line
+-- a record of a clean-up: another transaction than t, which is claimed there
+pub record IsCleaning (w : World) (c t n u : ℕ) (x : Deed) : Type 0 where
+  pub apart : (u == t) ≡ false
+  pub done : HasDone w c n x
+  pub claimed : is_claimed_in (state_at w done.place u) ≡ true
+
+pub record HasClaimed (w : World) (c n u : ℕ) : Type 0 where
+  pub done : HasDone w c n (Claims u)
+  pub dead : is_dead_in (state_at w done.place u) ≡ true
+
+-- since c claimed u, up to this place, no change of u was taken back
+abbrev pub IsUntouched : World → (client txn place : ℕ) → Type 0
+IsUntouched w c u i =
+    (k : ℕ) × (k < i) × (slice_get w.happened k ≡ Some (Claims u, c))
+    × ((m d : ℕ) (b : Block) → k < m → m < i → slice_get w.happened m ≡ Some (Logs (Back u b), d) → ⊥)
+
+-- the region of the open operation is latched still, or was released
+pub record LetsGo (w : World) (c n u : ℕ) (latched : Option ℕ) : Type 0 where
+  pub done : HasDone w c n (GivesBack u latched)
+  pub was : Option ℕ
+  pub claimed : state_at w done.place u ≡ Some (Cleaning was)
+  pub left : (latched ≡ was) ⊎ (latched ≡ None)
+
+-- it released that region and did no more, or the engine is stopped
+pub record HasGivenBack (w : World) (c n u : ℕ) (latched : Option ℕ) : Type 0 where
+  pub given : LetsGo w c n u latched
+  pub why : ((r : ℕ) × (given.was ≡ Some r) × (latched ≡ None) × IsUntouched w c u given.done.place) ⊎ ((cause : Cause) × (stop_at w given.done.place ≡ Some cause))
+
+-- its request for the call's lock was refused, and the holder was dead
+pub record HasFoundDead (w : World) (c n t : ℕ) (call : Call) (f : Refusal) : Type 0 where
+  pub done : HasDone w c n (FindsDead f)
+  pub txn : f.txn ≡ t
+  pub key : f.key ≡ key_of call
+  pub mode : f.mode ≡ mode_of call
+  pub number : f.at ≡ n
+  pub dead : is_dead_in (state_at w done.place f.holder) ≡ true
+
+abbrev pub IsCleanUp : World → (client txn : ℕ) → Receipt → Type 0
+IsCleanUp w c t (n, Logs (Back u b)) = IsCleaning w c t n u (Logs (Back u b))
+IsCleanUp w c t (n, Logs (Ended u)) = IsCleaning w c t n u (Logs (Ended u))
+IsCleanUp w c t (n, Claims u) = ((u == t) ≡ false) × HasClaimed w c n u
+IsCleanUp w c t (n, GivesBack u latched) = ((u == t) ≡ false) × HasGivenBack w c n u latched
+IsCleanUp w c t x = ⊥
+
+-- it takes back a change of t, or cleans up
+abbrev pub IsAside : World → (client txn : ℕ) → Receipt → Type 0
+IsAside w c t (n, Logs (Back u b)) = (u ≡ t) ⊎ IsCleaning w c t n u (Logs (Back u b))
+IsAside w c t x = IsCleanUp w c t x
+
+abbrev pub AreAside : World → ℕ → ℕ → List Receipt → Type 0
+AreAside w c t xs = AllByRecursion (IsAside w c t) xs
+
+-- or it finds a dead transaction in the way of its request
+abbrev pub IsAsking : World → (client txn : ℕ) → Call → Receipt → Type 0
+IsAsking w c t call (n, FindsDead f) = HasFoundDead w c n t call f
+IsAsking w c t call x = IsAside w c t x
+
+abbrev pub AreAsking : World → ℕ → ℕ → Call → List Receipt → Type 0
+AreAsking w c t call xs = AllByRecursion (IsAsking w c t call) xs
+
+abbrev pub IsWork : World → (client txn : ℕ) → Call → Receipt → Type 0
+IsWork w c t call (n, Logs (Forward u b)) = (u ≡ t) × (b.key ≡ key_of call) × IsOpOf call b.op
+IsWork w c t call x = IsAsking w c t call x
+
+abbrev pub AreWork : World → ℕ → ℕ → Call → List Receipt → Type 0
+AreWork w c t call xs = AllByRecursion (IsWork w c t call) xs
+
+-- work of a call that was refused, or an earlier refusal of it, in the taking back after which another one came
+abbrev pub IsTried : World → (client txn : ℕ) → Call → Receipt → Type 0
+IsTried w c t call (n, Meets why) = MetCause w c n (Calls call) (Some t) why
+IsTried w c t call x = IsWork w c t call x
+
+abbrev pub AreTried : World → ℕ → ℕ → Call → List Receipt → Type 0
+AreTried w c t call xs = AllByRecursion (IsTried w c t call) xs
+
+-- a solo of t, or its Ended; or a clean-up
+abbrev pub IsBehind : World → (client txn : ℕ) → Receipt → Type 0
+IsBehind w c t (n, Logs (Solo u p b)) = p ≡ t
+IsBehind w c t (n, Logs (Ended u)) = (u ≡ t) ⊎ IsCleaning w c t n u (Logs (Ended u))
+IsBehind w c t x = IsCleanUp w c t x
+
+abbrev pub AreBehind : World → ℕ → ℕ → List Receipt → Type 0
+AreBehind w c t xs = AllByRecursion (IsBehind w c t) xs
+
+-- its begin alone, or with the record that ends it, which the store never got; a checkpoint may fail behind a clean one that is flushed
+abbrev pub IsCutAudit : World → (later : Bool) → List Receipt → Type 0
+IsCutAudit w later [] = Unit {0}
+IsCutAudit w later ((b, Logs AuditBegin) ∷ []) = Unit {0}
+IsCutAudit w later ((b, Logs AuditBegin) ∷ (n, Logs (AuditClean a)) ∷ []) = (a ≡ b) × ((later ≡ true) ⊎ IsLost w n)
+IsCutAudit w later ((b, Logs AuditBegin) ∷ (n, Logs (AuditFail a rs)) ∷ []) = (a ≡ b) × IsLost w n
+IsCutAudit w later xs = ⊥
+
+-- only where the audit was begun; the store fails an audit behind its end
+abbrev pub IsCutBy : World → Bool → Why → List Receipt → Type 0
+IsCutBy w later (StoppedBy cause) work = IsCutAudit w later work
+IsCutBy w true StoreFailed work = IsCutAudit w true work
+IsCutBy w false StoreFailed work = IsCutAudit w false work × (length work ≡ 2)
+IsCutBy w later why work = work ≡ []
+
+-- a checkpoint that didn't start has no audit, and one that meets another doesn't start
+abbrev pub MaySpan : Why → Option (ℕ × ℕ) → List Receipt → Type 0
+MaySpan why None work = work ≡ []
+MaySpan UnderWay (Some span) work = ⊥
+MaySpan why (Some span) work = Unit {0}
+
+-- ---- deaths
+abbrev pub spares : Option ℕ → ℕ → Bool
+spares None count = true
+spares (Some deadly) count = nat_lt count deadly
+
+pub record DiesIn (w : World) (c n t r : ℕ) (call : Call) : Type 0 where
+  pub done : HasDone w c n (DiesOn t r)
+  pub next : Block
+  pub on_region : next.region ≡ r
+  pub goes_on : GoesOn w.core.system.sizes (log_at w done.place) t call next
+
+-- ---- Busy
+pub record GetsBusy (w : World) (c t : ℕ) (call : Call) (f : Refusal) : Type 0 where
+  pub txn : f.txn ≡ t
+  pub key : f.key ≡ key_of call
+  pub mode : f.mode ≡ mode_of call
+  pub done : HasDone w c f.at (Yields f)
+  pub runs : is_dead_in (state_at w done.place f.holder) ≡ false
+
+-- ---- each deed by itself
+-- what must be so where it is done, whichever step it belongs to
+abbrev pub IsRight : World → (client place : ℕ) → Deed → Type 0
+IsRight w c i (Claims u) = is_dead_in (state_at w i u) ≡ true
+IsRight w c i (GivesBack u latched) = (was : Option ℕ) × (state_at w i u ≡ Some (Cleaning was)) × ((latched ≡ was) ⊎ (latched ≡ None))
+IsRight w c i (Yields f) = (f.at ≡ length (log_at w i)) × (is_dead_in (state_at w i f.holder) ≡ false)
+IsRight w c i (FindsDead f) = (f.at ≡ length (log_at w i)) × (is_dead_in (state_at w i f.holder) ≡ true)
+IsRight w c i (Meets StoreFailed) = Unit {0}
+IsRight w c i (Meets why) = (act : Act) × (o : Option ℕ) × IsCause w c i act o why
+IsRight w c i x = Unit {0}
+
+-- from this place on
+abbrev pub AreRightFrom : World → ℕ → List Happening → Type 0
+AreRightFrom w i [] = Unit {0}
+AreRightFrom w i (x ∷ xs) = IsRight w x.1 i x.0 × AreRightFrom w (i + 1) xs
+
+abbrev pub AreRight : World → Type 0
+AreRight w = AreRightFrom w 0 w.happened
+
+-- ---- a step that the end of the round cut short
+-- a record of an audit
+abbrev pub is_of_audit : Record → Bool
+is_of_audit AuditBegin = true
+is_of_audit (AuditClean b) = true
+is_of_audit (AuditFail b rs) = true
+is_of_audit x = false
+
+-- a deed of a command outside a transaction
+abbrev pub IsPiece : World → (client : ℕ) → Act → Receipt → Type 0
+IsPiece w c act (n, Meets why) = MetCause w c n act None why
+IsPiece w c AuditAct (n, Logs x) = is_of_audit x ≡ true
+IsPiece w c CheckpointAct (n, Logs x) = is_of_audit x ≡ true
+IsPiece w c CheckpointAct (n, StartsCheckpoint) = Unit {0}
+IsPiece w c CheckpointAct (n, MovesAnchor number) = Unit {0}
+IsPiece w c CheckpointAct (n, EndsCheckpoint) = Unit {0}
+IsPiece w c act x = ⊥
+
+-- a deed of the command under way, the first of these; behind the last one its transaction is taken back
+abbrev pub IsUnfinished : World → (client : ℕ) → Place → List Act → Receipt → Type 0
+IsUnfinished w c (Within t tries cs d s) (Calls call ∷ rest) (n, Logs (Forward u b)) = IsWork w c t call (n, Logs (Forward u b))
+IsUnfinished w c (Within t tries cs d s) (Calls call ∷ rest) (n, FindsDead f) = HasFoundDead w c n t call f
+IsUnfinished w c (Within t tries cs d s) (Calls call ∷ rest) (n, Yields f) = GetsBusy w c t call f
+IsUnfinished w c (Within t tries cs d s) (act ∷ rest) (n, Meets why) = MetCause w c n act (Some t) why
+IsUnfinished w c (Within t tries cs d s) [] (n, Meets why) = MetCause w c n AbortAct (Some t) why
+IsUnfinished w c (Within t tries cs d s) rest (n, GivesBack u latched) = ((u == t) ≡ false) × LetsGo w c n u latched
+IsUnfinished w c (Within t tries cs d s) rest x = IsAside w c t x
+IsUnfinished w c (Outside s) (act ∷ rest) x = IsPiece w c act x
+IsUnfinished w c (Again tries h s) (act ∷ rest) x = IsPiece w c act x
+IsUnfinished w c place rest x = ⊥
+
+-- a commit may have logged its record, and some of what stands behind it
+abbrev pub IsUnsettled : World → (client txn : ℕ) → Receipt → Type 0
+IsUnsettled w c t (n, GivesBack u latched) = ((u == t) ≡ false) × LetsGo w c n u latched
+IsUnsettled w c t x = IsBehind w c t x
+
+abbrev pub AreUnfinished : World → (client : ℕ) → Place → List Act → List Receipt → Type 0
+AreUnfinished w c (Within t tries cs d s) (CommitAct ∷ rest) ((n, Logs (Commit u)) ∷ behind) = (u ≡ t) × AllByRecursion (IsUnsettled w c t) behind
+AreUnfinished w c place rest xs = AllByRecursion (IsUnfinished w c place rest) xs
 
 -- ---- the steps
 -- a begin stands outside, or comes again
@@ -167,36 +324,48 @@ MayBegin (Outside u) s = u ≡ s
 MayBegin (Again tries h u) s = u ≡ s
 MayBegin place s = ⊥
 
--- how a try that got Busy ended
-abbrev pub IsEnd : World → ℕ → Option ℕ → Type 0
-IsEnd w t (Some n) = IsUncommitted w t n
-IsEnd w t None = (cause : Cause) × IsStopped w cause
+-- it comes again when the holder has ended, or when the engine is stopped, and nobody ends any more
+abbrev pub WaitsNoMore : World → Place → ℕ → Why → Type 0
+WaitsNoMore w place n (StoppedBy cause) = Unit {0}
+WaitsNoMore w (Again tries h u) n why = HasEndedBy w h n
+WaitsNoMore w place n why = Unit {0}
 
--- a call asks for its lock before its first operation, and a taking back has no operation
+-- its own flush fails, or that of another client had failed
+abbrev pub FindsFailure : World → (client number : ℕ) → Why → Type 0
+FindsFailure w c n StoreFailed = Unit {0}
+FindsFailure w c n (StoppedBy cause) = (met : HasDone w c n (Meets (StoppedBy cause))) × (has_failed w.old.vault.stopped (take met.place w.happened) ≡ true)
+FindsFailure w c n why = ⊥
+
+-- how a try that got Busy ended
+abbrev pub IsEnd : World → (client txn : ℕ) → Call → Ending → Type 0
+IsEnd w c t call (TakenBack n) = IsUncommitted w t n
+IsEnd w c t call (LeftBehind n cause) = MetCause w c n (Calls call) (Some t) (StoppedBy cause)
+
+-- a call asks for its lock before its first operation
 abbrev pub HasCause : World → ℕ → Move → Type 0
 HasCause w c (Begins t n rest) = Unit {0}
 HasCause w c (BeginsAgain t n tries h rest) = HasEndedBy w h n
-HasCause w c (IsRefusedBegin place s n why rest) = MayBegin place s × MetCause w c n BeginAct None why
+HasCause w c (IsRefusedBegin place s n why rest) = MayBegin place s × MetCause w c n BeginAct None why × WaitsNoMore w place n why
 HasCause w c (Skips s act rest) = Unit {0}
 HasCause w c (Rests t act rest) = Unit {0}
-HasCause w c (Answers t tries cs d work n call a rest) = AreWork w t work × (spares d (operations t work) ≡ true)
+HasCause w c (Answers t tries cs d work n call a rest) = AreWork w c t call work × (spares d (operations t work) ≡ true)
 HasCause w c (IsRefusedCall t tries cs d s work n back call why rest) =
-    AreWork w t work × (spares d (operations t work) ≡ true) × MetCause w c n (Calls call) (Some t) why × AreWork w t back × (operations t back ≡ 0)
-HasCause w c (Dies t tries cs d work n call rest) = AreWork w t work × (operations t work + 1 ≡ d)
+    AreTried w c t call work × (spares d (operations t work) ≡ true) × MetCause w c n (Calls call) (Some t) why × AreAside w c t back
+HasCause w c (Dies t tries cs d work n r call rest) = AreWork w c t call work × (operations t work + 1 ≡ d) × DiesIn w c n t r call
 HasCause w c (IsArmed t tries cs d s count rest) = Unit {0}
-HasCause w c (GivesWay t tries cs d work call f end rest) = AreWork w t work × (operations t work ≡ 0) × IsRefused w t call f × IsEnd w t end × (tries + 1 < 1000)
-HasCause w c (GivesUp t tries cs d work call f end rest) = AreWork w t work × (operations t work ≡ 0) × IsRefused w t call f × IsEnd w t end × (tries + 1 ≡ 1000)
-HasCause w c (Commits t tries cs d n behind rest) = IsFlushed w n × AreBehind w t behind
-HasCause w c (CommitFails t tries cs d n rest) = (w.core.vault.stopped ≡ true) × (stable w.core ≤ n)
+HasCause w c (GivesWay t tries cs d work call f back end rest) = AreAsking w c t call work × GetsBusy w c t call f × AreAside w c t back × IsEnd w c t call end × (tries + 1 < 1000)
+HasCause w c (GivesUp t tries cs d work call f back end rest) = AreAsking w c t call work × GetsBusy w c t call f × AreAside w c t back × IsEnd w c t call end × (tries + 1 ≡ 1000)
+HasCause w c (Commits t tries cs d n behind rest) = IsFlushed w n × AreBehind w c t behind
+HasCause w c (CommitFails t tries cs d n m why rest) = IsLost w n × FindsFailure w c m why
 HasCause w c (IsRefusedCommit t tries cs d s n why rest) = MetCause w c n CommitAct (Some t) why
-HasCause w c (Aborts t tries cs d work n rest) = AreWork w t work × IsUncommitted w t n × (operations t work ≡ 0)
-HasCause w c (IsRefusedAbort t tries cs d s work n why rest) = AreWork w t work × MetCause w c n AbortAct (Some t) why × (operations t work ≡ 0)
-HasCause w c (Ends t tries cs d work n) = AreWork w t work × IsUncommitted w t n × (operations t work ≡ 0)
-HasCause w c (StaysOpen t tries cs d s work) = AreWork w t work × ((cause : Cause) × IsStopped w cause) × (operations t work ≡ 0)
+HasCause w c (Aborts t tries cs d work n rest) = AreAside w c t work × IsUncommitted w t n
+HasCause w c (IsRefusedAbort t tries cs d s work n why rest) = AreAside w c t work × MetCause w c n AbortAct (Some t) why
+HasCause w c (Ends t tries cs d work n) = AreAside w c t work × IsUncommitted w t n
+HasCause w c (StaysOpen t tries cs d s work n cause) = AreAside w c t work × MetCause w c n AbortAct (Some t) (StoppedBy cause)
 HasCause w c (Pokes s n r word m rest) = r < regions w.core.system.sizes
 HasCause w c (PokesNothing s r word m rest) = regions w.core.system.sizes ≤ r
 HasCause w c (Audits b n rs rest) = IsFlushed w n
-HasCause w c (IsRefusedAudit s work n why rest) = IsCutBy why work × MetCause w c n AuditAct None why
+HasCause w c (IsRefusedAudit s work n why rest) = IsCutBy w false why work × MetCause w c n AuditAct None why
 HasCause w c (Checkpoints since b n m until current rest) = IsFlushed w n
 HasCause w c (FailsCheckpoint since b n until r rs rest) = IsFlushed w n
-HasCause w c (IsRefusedCheckpoint s span work n why rest) = IsCutBy why work × MaySpan why span work × MetCause w c n CheckpointAct None why
+HasCause w c (IsRefusedCheckpoint s span late work n why rest) = IsCutBy w true why work × MaySpan why span work × MetCause w c n CheckpointAct None why

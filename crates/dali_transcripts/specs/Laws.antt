@@ -5,6 +5,7 @@
 --     GrowsOn                  a world goes on from itself, and step by step
 --     OthersGoOn, OwnGoesOn    what a deed of one client does to the lists of all
 --     WorldGoesOn              a transcript stays while the world goes on
+--     RightGoesOn              each deed of the round has what it asks for at its place, also while the world goes on
 --     LinesTell                each line has the record or the cause that the table names
 --     LinesAreRecords          each Begin, Done and Commit, and each Ended of a transaction of the client that isn't committed, is told by one line, in order, and these
 --                              lines are determined
@@ -26,12 +27,12 @@ use Rattle.dali_record.specs.declared.records.Record.{Record}
 use Rattle.dali_record.specs.declared.records.Record.TheVariants.{Forward, Commit}
 use Rattle.dali_system.specs.State.{stable}
 use Rattle.dali_transcripts.specs.Words.{Act, Calls, Commits as CommitAct, Said, Answered, CommitOk, CheckpointSaid, LeftOpen, Died, Busy, PokeOk, PokeOutOfRange, Refused, StoreFailed, is_stop}
-use Rattle.dali_transcripts.specs.World.{Deed, Logs, Strays, Leaves, Turns, Happening, World, logged_by, log_of, IsFlushed, Grows}
+use Rattle.dali_transcripts.specs.World.{Deed, Logs, Strays, DiesOn, MovesAnchor, Happening, World, logged_by, log_of, IsFlushed, Grows}
 use Rattle.dali_transcripts.specs.Moves.{Receipt, Place, Within, Again, Gone, Spot, Move, from, said, own, to, at}
-use Rattle.dali_transcripts.specs.Causes.{HasCause}
+use Rattle.dali_transcripts.specs.Causes.{AreRightFrom, AreRight, HasCause}
 use Rattle.dali_transcripts.specs.Transcripts.{IsPath, said_by, own_by, IsSoFar, IsTranscript, IsCut, line_told, lines_of_records, count_with, owned, deeds_of, Told, lines_of, round_text}
 use Rattle.dali_transcripts.specs.Table.{AllTell}
-use Rattle.dali_transcripts.specs.Rounds.{by, AreMoves}
+use Rattle.dali_transcripts.specs.Rounds.{by, AreAnchors}
 
 -- ---- one step more
 abbrev pub OneMoreDeed : Type 0
@@ -79,6 +80,10 @@ WorldGoesOn =
     (v w : World) (c : ℕ) (acts : List Act) (lines : List Said) (did pending : List Receipt) (q : Spot) → Grows v w
     → IsSoFar v c acts lines did pending q → IsSoFar w c acts lines did pending q
 
+-- each deed has what it asks for, also those that come
+abbrev pub RightGoesOn : Type 0
+RightGoesOn = (v w : World) (g : Grows v w) → AreRight v → AreRightFrom w (length v.happened) g.more → AreRight w
+
 -- ---- lines and records
 abbrev pub LinesTell : Type 0
 LinesTell =
@@ -103,9 +108,9 @@ deed_told Died = Some Died
 deed_told line = None
 
 abbrev pub line_of_deed : Receipt → Option Said
-line_of_deed (n, Turns number) = Some (CheckpointSaid number)
+line_of_deed (n, MovesAnchor number) = Some (CheckpointSaid number)
 line_of_deed (n, Strays r word mask) = Some PokeOk
-line_of_deed (n, Leaves t) = Some Died
+line_of_deed (n, DiesOn t r) = Some Died
 line_of_deed x = None
 
 abbrev pub DeedsAreTold : Type 0
@@ -129,7 +134,7 @@ OperationsAreTold =
     → list_all (λ (y : Receipt). not (is_forward y)) (own x) ≡ true
 
 abbrev pub AnchorsRise : Type 0
-AnchorsRise = (old new : ℕ) (xs : List Happening) (n c : ℕ) → AreMoves old xs new → Contains xs (Turns n, c) → (old < n) × (n ≤ new)
+AnchorsRise = (old new : ℕ) (xs : List Happening) (n c : ℕ) → AreAnchors old xs new → Contains xs (MovesAnchor n, c) → (old < n) × (n ≤ new)
 
 -- ---- each deed is its owner's, and no one else's
 abbrev pub EachIsOwned : Type 0
@@ -208,7 +213,7 @@ abbrev pub TriesAreFew : Type 0
 TriesAreFew = (w : World) (c : ℕ) (acts : List Act) (lines : List Said) (did pending : List Receipt) (q : Spot) → IsSoFar w c acts lines did pending q → FewTries q.place
 
 -- a commit that was answered ok
-pub record IsAcknowledged (w : World) (did : List Receipt) : Type 0 where
+pub record IsOkCommit (w : World) (did : List Receipt) : Type 0 where
   pub txn : ℕ
   pub number : ℕ
   pub own : Contains did (number, Logs (Commit txn))
@@ -217,7 +222,7 @@ pub record IsAcknowledged (w : World) (did : List Receipt) : Type 0 where
 abbrev pub OkIsFlushed : Type 0
 OkIsFlushed =
     (w : World) (c : ℕ) (acts : List Act) (lines : List Said) (did : List Receipt)
-    → IsTranscript w c acts lines did → Contains lines CommitOk → IsAcknowledged w did
+    → IsTranscript w c acts lines did → Contains lines CommitOk → IsOkCommit w did
 
 -- ---- the text
 pub record StandsBefore (text first second : List ℕ) : Type 0 where

@@ -12,3 +12,5 @@ pub mod Corners
 pub mod Wrong
 pub mod Faults
 pub mod Tries
+pub mod Together
+pub mod Left

@@ -4,19 +4,22 @@
 --     IsSoFar w c acts lines did pending q       a client that was told these acts has come to q; it said these lines and did these deeds, of
 --                              which those of pending belong to the step that is under way
 --     IsTranscript w c acts lines did    the client is done
+--     IsBeingSaid ..           the step under way is done, and some of its lines are missing
+--     IsUnderWay ..            so it is, or the step isn't done and said nothing
 --     IsCut ..                 the round ended before the client was done
 --     owned c n xs             of what happened, what c did; n records stood before
 --     deeds_of w c             all that c did
 --     numbers_of xs            the numbers of the records that were logged in these deeds
+--     AreHanded ..             the numbers that the clients were handed
 --     AreTranscripts ..        the transcripts of all clients of a round
 --     round_text ..            the text of a round
-use Rattle.std.specs.Prelude.{◌≡◌, ℕ, zero, suc, ◌+◌, Bool, true, false, List, [], ◌∷◌, ◌++◌, if◌then◌else◌, ◌==◌, Option, Some, None, option_to_list, filter_map, flat_map, length, map, nat_lt}
+use Rattle.std.specs.Prelude.{◌≡◌, ℕ, zero, suc, ◌+◌, ◌⊎◌, Bool, true, false, List, [], ◌∷◌, ◌++◌, if◌then◌else◌, ◌==◌, Option, Some, None, option_to_list, filter_map, flat_map, length, map, nat_lt}
 use Rattle.std.specs.List.{list_all}
 use Rattle.dali_record.specs.declared.records.Record.TheVariants.{Begin, Done, Commit, Ended}
 use Rattle.dali_transcripts.specs.Words.{Act, Said, Begun, Answered, CommitOk, AbortOk, Aborted, Refused, Commits as CommitAct, StoreFailed}
 use Rattle.dali_transcripts.specs.World.{Deed, Logs, Happening, World}
-use Rattle.dali_transcripts.specs.Moves.{Receipt, Place, Outside, Within, LeftOut, Gone, Spot, Move, from, said, own, to, start}
-use Rattle.dali_transcripts.specs.Causes.{AreBehind, HasCause}
+use Rattle.dali_transcripts.specs.Moves.{Receipt, Place, Outside, LeftOut, Gone, Spot, Move, from, said, own, to, start}
+use Rattle.dali_transcripts.specs.Causes.{AreUnfinished, HasCause}
 
 -- ---- one client
 abbrev pub IsPath : World → ℕ → Spot → List Move → Spot → Type 0
@@ -88,24 +91,28 @@ abbrev pub lines_of_records : ℕ → Option ℕ → List Receipt → List Said
 lines_of_records flushed in_txn [] = []
 lines_of_records flushed in_txn (x ∷ xs) = option_to_list (line_of flushed in_txn x) ++ lines_of_records flushed (txn_after in_txn x) xs
 
--- ---- a client that was cut: the step under way may lack its lines, and only its last record, or a commit with what it freed, could have one
-abbrev pub IsLast : World → List Receipt → Type 0
-IsLast w [] = Unit {0}
-IsLast w ((n, Logs (Commit t)) ∷ behind) = AreBehind w t behind
-IsLast w (x ∷ xs) = xs ≡ []
+-- ---- a client that was cut
+-- the step under way is done, and its last lines are missing
+pub record IsBeingSaid (w : World) (c : ℕ) (q : Spot) (pending : List Receipt) (part : List Said) : Type 0 where
+  pub move : Move
+  pub starts : q ≡ from move
+  pub own_is : pending ≡ own move
+  pub cause : HasCause w c move
+  pub lacking : List Said
+  pub said_is : said move ≡ part ++ lacking
 
--- the transaction that the client is in
-abbrev pub txn_at : Place → Option ℕ
-txn_at (Within t tries cs d s) = Some t
-txn_at place = None
+-- the step under way isn't done, or some of its lines are missing; part: what it said of it
+abbrev pub IsUnderWay : World → ℕ → Spot → List Receipt → List Said → Type 0
+IsUnderWay w c q pending part = ((part ≡ []) × AreUnfinished w c q.place q.rest pending) ⊎ IsBeingSaid w c q pending part
 
 pub record IsCut (w : World) (c : ℕ) (acts : List Act) (lines : List Said) (did : List Receipt) : Type 0 where
   pub spot : Spot
-  pub quiet : List Receipt
-  pub last : List Receipt
-  pub none_told : lines_of_records 0 (txn_at spot.place) quiet ≡ []
-  pub is_last : IsLast w last
-  pub so_far : IsSoFar w c acts lines did (quiet ++ last) spot
+  pub pending : List Receipt
+  pub told : List Said
+  pub part : List Said
+  pub lines_are : lines ≡ told ++ part
+  pub so_far : IsSoFar w c acts told did pending spot
+  pub under_way : IsUnderWay w c spot pending part
 
 abbrev pub MayBeCut : (whole : Bool) → World → ℕ → List Act → List Said → List Receipt → Type 0
 MayBeCut true w c acts lines did = IsTranscript w c acts lines did
@@ -144,6 +151,13 @@ numbers_of xs = filter_map number_in xs
 abbrev pub receipts_of : World → List Told → List (List ℕ)
 receipts_of w blocks = map (λ (b : Told). numbers_of (deeds_of w b.client)) blocks
 
+-- all of them, or the first of each client where the round was cut
+abbrev pub AreHanded : (whole : Bool) → (all given : List (List ℕ)) → Type 0
+AreHanded true all given = given ≡ all
+AreHanded false all [] = Unit {0}
+AreHanded false [] (given ∷ others) = ⊥
+AreHanded false (all ∷ more) (given ∷ others) = ((lacking : List ℕ) × (all ≡ given ++ lacking)) × AreHanded false more others
+
 abbrev pub is_among : List Told → ℕ → Bool
 is_among [] c = false
 is_among (b ∷ bs) c = if b.client == c then true else is_among bs c
@@ -151,6 +165,8 @@ is_among (b ∷ bs) c = if b.client == c then true else is_among bs c
 abbrev pub EachTells : Bool → World → List Told → List (List Said) → Type 0
 EachTells whole w [] [] = Unit {0}
 EachTells whole w (b ∷ bs) (lines ∷ more) = MayBeCut whole w b.client b.acts lines (deeds_of w b.client) × EachTells whole w bs more
+-- where the round was cut, clients without a list said nothing
+EachTells false w (b ∷ bs) [] = MayBeCut false w b.client b.acts [] (deeds_of w b.client) × EachTells false w bs []
 EachTells whole w bs more = ⊥
 
 -- whole: the round ended with Done

@@ -29,7 +29,7 @@ use Rattle.dali_system.specs.declared.refusals.Refusal.{Refusal}
 use Rattle.dali_system.specs.State.{CoreState, VaultState}
 use Rattle.dali_system.specs.Loads.{new_system}
 use Rattle.dali_transcripts.specs.Words.{Act, Begins, Calls, Arms, Commits, Said, Begun, Answered, CommitOk, Aborted, Died}
-use Rattle.dali_transcripts.specs.World.{Logs, Leaves, Happening, World, logged_by}
+use Rattle.dali_transcripts.specs.World.{Logs, DiesOn, Claims, Yields, FindsDead, Happening, World, logged_by}
 use Rattle.dali_transcripts.specs.Transcripts.{Told, AreTranscripts}
 use Rattle.dali_transcripts.specs.Rounds.{Rounds}
 
@@ -77,16 +77,23 @@ insert_b = Insert 5 (98 ∷ [])
 abbrev pub before : List Record
 before = Format 1 1 ∷ []
 
+-- client 2 is refused while client 1 runs; later it finds that it is dead
+abbrev pub refusal : Refusal
+refusal = record { txn = 2; key = 5; mode = Exclusive; holder = 1; at = 7 }
+
+abbrev pub found_dead : Refusal
+found_dead = record { txn = 3; key = 5; mode = Exclusive; holder = 1; at = 10 }
+
 -- what happens, each deed with the client that does it
 abbrev pub happened : List Happening
 happened =
     (Logs (Begin 1), 1) ∷ (Logs (Begin 2), 2)
     ∷ (Logs (Forward 1 look), 1) ∷ (Logs (Forward 1 (put 97 0)), 1) ∷ (Logs (Forward 1 (add 0)), 1) ∷ (Logs (Done 1 insert_a AnswerOk), 1)
-    -- client 1 dies in the second operation of its get; client 2 was refused, and ends
-    ∷ (Logs (Forward 1 look_again), 1) ∷ (Leaves 1, 1) ∷ (Logs (Ended 2), 2)
+    -- client 2 is refused; client 1 dies in the second operation of its get; client 2 ends
+    ∷ (Yields refusal, 2) ∷ (Logs (Forward 1 look_again), 1) ∷ (DiesOn 1 1, 1) ∷ (Logs (Ended 2), 2)
     ∷ (Logs (Begin 3), 2)
     -- it meets the dead client's lock, and cleans up
-    ∷ (Logs (Back 1 free_entry), 2) ∷ (Logs (Back 1 free_cell), 2) ∷ (Logs (Ended 1), 2)
+    ∷ (FindsDead found_dead, 2) ∷ (Claims 1, 2) ∷ (Logs (Back 1 free_entry), 2) ∷ (Logs (Back 1 free_cell), 2) ∷ (Logs (Ended 1), 2)
     ∷ (Logs (Forward 3 look), 2) ∷ (Logs (Forward 3 (put 98 (97 * 2 ^ 56 + 4))), 2) ∷ (Logs (Forward 3 (add 12)), 2) ∷ (Logs (Done 3 insert_b AnswerOk), 2)
     ∷ (Logs (Commit 3), 2) ∷ (Logs (Ended 3), 2) ∷ []
 
@@ -116,9 +123,6 @@ abbrev pub receipts_2 : List ℕ
 receipts_2 = 2 ∷ 8 ∷ 9 ∷ 10 ∷ 11 ∷ 12 ∷ 13 ∷ 14 ∷ 15 ∷ 16 ∷ 17 ∷ 18 ∷ []
 
 -- ---- what the round leaves
-abbrev pub refusal : Refusal
-refusal = record { txn = 2; key = 5; mode = Exclusive; holder = 1; at = 7 }
-
 -- all records but the last one are flushed
 abbrev pub flushed : ℕ
 flushed = 17
@@ -133,7 +137,7 @@ old_core = record { regions = map loaded (index_words ∷ heap_words ∷ []); sy
 abbrev pub core : CoreState
 core = record {
   regions = map loaded (index_words ∷ heap_words ∷ []);
-  system = record (new_system small (length log) 4 (sum_by record_length log) 4096) { first = 1; since = logged_by happened; taken = flushed; refusals = refusal ∷ [] };
+  system = record (new_system small (length log) 4 (sum_by record_length log) 4096) { first = 1; since = logged_by happened; taken = flushed; refusals = refusal ∷ found_dead ∷ [] };
   vault = record vault { end = 1000; flushed = flushed };
 }
 

@@ -1,39 +1,52 @@
 -- What a transcript is held against: the core that a round began with, the one that it leaves, and all that its clients did, in order.
---     Deed                     what a client does beside what it says: it logs a record, pokes a region, dies, makes a checkpoint, is refused
+--     Deed                     what a client does beside what it says
 --     World                    the world of a round, which is still under way or done
 --     logged_by xs             the records that were logged in these deeds
 --     log_of w, log_at w i     the log;  the log before the deed at place i
 --     IsLogged w n x           record n is x
---     IsFlushed w n            record n is flushed
+--     IsFlushed, IsLost w n    record n is flushed;  it never will be, since the store has failed
 --     IsUncommitted w t n      record n ends t, and no Commit of t stands before it
---     IsRefused w t call f     the system keeps this refusal of t, on the call's key and in its mode
---     HasDied w t              the client of t died, in this round or before
---     HasEndedBy w t n         t has ended before record n, or its client died
+--     HasDone w c n x          the client c did this deed when n records stood; and at which place of the round
+--     state_after, state_at w i t     the state of t behind the round's deeds;  before the deed at place i
+--     HasDiedBy w t n          the client of t died, in this round or before, when at most n records stood
+--     HasEndedBy w t n         t has ended before record n, or its client died by then
+--     has_failed b xs          a store call has failed behind these deeds, or had before them
+--     stop_at w i              why the engine is stopped before the deed at place i, if it is
 --     stray_after r s xs       the exclusive-or of the stray writes to region r behind these deeds, which was s before them
+--     poked_after r p xs       whether region r was poked by then, which it was or wasn't before them
+--     refused_by xs            the refusals of requests among these deeds
 --     under_way xs             whose checkpoint is under way behind these deeds of a round
 --     Grows v w                the world goes on from v to w
-use Rattle.std.specs.Prelude.{◌≡◌, ℕ, ◌<◌, ◌≤◌, ◌⊎◌, Bool, true, false, List, ◌++◌, if◌then◌else◌, ◌==◌, Option, Some, None, IsSomeAnd, Contains, bit_xor, filter_map, fold, take, slice_get}
-use Rattle.dali_record.specs.declared.records.Call.{Call}
+use Rattle.std.specs.Prelude.{◌≡◌, ℕ, ◌<◌, ◌≤◌, ◌⊎◌, Bool, true, false, List, ◌++◌, if◌then◌else◌, ◌==◌, Option, Some, None, Contains, bit_xor, filter_map, fold, length, take, slice_get}
 use Rattle.dali_record.specs.declared.records.Record.{Record}
-use Rattle.dali_record.specs.declared.records.Record.TheVariants.{Commit, Ended}
+use Rattle.dali_record.specs.declared.records.Record.TheVariants.{Begin, Commit, Ended}
+use Rattle.dali_record.specs.Epochs.{last_epoch}
 use Rattle.dali_att.specs.declared.state.State.{State}
-use Rattle.dali_att.specs.declared.state.State.TheVariants.{Dead}
+use Rattle.dali_att.specs.declared.state.State.TheVariants.{Live, Dead, Cleaning, Committed}
 use Rattle.dali_system.specs.declared.causes.Cause.{Cause}
+use Rattle.dali_system.specs.declared.causes.Cause.TheVariants.{Damage, Store}
 use Rattle.dali_system.specs.declared.refusals.Refusal.{Refusal}
-use Rattle.dali_system.specs.State.{CoreState, TxnRow, row_of, stable}
-use Rattle.dali_transcripts.specs.Words.{Why, key_of, mode_of}
+use Rattle.dali_system.specs.Run.{failed_first}
+use Rattle.dali_system.specs.State.{CoreState, state_of, stable}
+use Rattle.dali_transcripts.specs.Words.{Why, StoreFailed}
 
 pub data Deed : Type 0 where
   Logs : (record_is : Record) → Deed
   -- a word of the region is changed by the mask
   Strays : (region word mask : ℕ) → Deed
-  -- its client dies in this transaction
-  Leaves : (txn : ℕ) → Deed
+  -- its client dies in an operation of this transaction, on this region
+  DiesOn : (txn region : ℕ) → Deed
+  -- it claims a dead transaction; it gives the claim back, where the region of the operation is latched still, or none is
+  Claims : (txn : ℕ) → Deed
+  GivesBack : (txn : ℕ) → (latched : Option ℕ) → Deed
+  -- its request is refused: it gives way to the holder, or finds that its client is dead
+  Yields : (refusal : Refusal) → Deed
+  FindsDead : (refusal : Refusal) → Deed
   -- its checkpoint starts, moves the anchor to this number, and ends
-  Starts : Deed
-  Turns : (number : ℕ) → Deed
-  Stops : Deed
-  -- it is refused
+  StartsCheckpoint : Deed
+  MovesAnchor : (number : ℕ) → Deed
+  EndsCheckpoint : Deed
+  -- it is refused; StoreFailed: a store call of its fails
   Meets : (why : Why) → Deed
 
 -- a deed with the client that did it
@@ -69,32 +82,77 @@ IsLogged w n x = slice_get (log_of w) n ≡ Some x
 abbrev pub IsFlushed : World → ℕ → Type 0
 IsFlushed w n = n < stable w.core
 
+abbrev pub IsLost : World → ℕ → Type 0
+IsLost w n = (w.core.vault.stopped ≡ true) × (stable w.core ≤ n)
+
 abbrev pub IsUncommitted : World → ℕ → ℕ → Type 0
 IsUncommitted w t n = IsLogged w n (Ended t) × ((k : ℕ) → k < n → IsLogged w k (Commit t) → ⊥)
 
-pub record IsRefused (w : World) (t : ℕ) (call : Call) (f : Refusal) : Type 0 where
-  pub kept : Contains w.core.system.refusals f
-  pub txn : f.txn ≡ t
-  pub key : f.key ≡ key_of call
-  pub mode : f.mode ≡ mode_of call
+pub record HasDone (w : World) (c n : ℕ) (x : Deed) : Type 0 where
+  pub place : ℕ
+  pub there : slice_get w.happened place ≡ Some (x, c)
+  pub number : length (log_at w place) ≡ n
 
-abbrev pub is_dead : State → Bool
-is_dead (Dead latched) = true
-is_dead state = false
+-- ---- the table, as the deeds leave it
+abbrev pub claimed : Option State → Option State
+claimed (Some (Dead latched)) = Some (Cleaning latched)
+claimed o = o
+
+abbrev pub given_back : Option ℕ → Option State → Option State
+given_back latched (Some (Cleaning was)) = Some (Dead latched)
+given_back latched o = o
+
+abbrev pub state_step : ℕ → Option State → Happening → Option State
+state_step t o (Logs (Begin u), c) = if u == t then Some Live else o
+state_step t o (Logs (Commit u), c) = if u == t then Some Committed else o
+state_step t o (Logs (Ended u), c) = if u == t then None else o
+state_step t o (DiesOn u r, c) = if u == t then Some (Dead (Some r)) else o
+state_step t o (Claims u, c) = if u == t then claimed o else o
+state_step t o (GivesBack u latched, c) = if u == t then given_back latched o else o
+state_step t o x = o
+
+abbrev pub state_after : World → List Happening → ℕ → Option State
+state_after w xs t = fold (state_step t) (state_of w.old.system t) xs
+
+abbrev pub state_at : World → ℕ → ℕ → Option State
+state_at w i t = state_after w (take i w.happened) t
+
+abbrev pub is_dead_in : Option State → Bool
+is_dead_in (Some (Dead latched)) = true
+is_dead_in o = false
+
+abbrev pub is_claimed_in : Option State → Bool
+is_claimed_in (Some (Cleaning latched)) = true
+is_claimed_in o = false
 
 abbrev pub WasDead : World → ℕ → Type 0
-WasDead w t = IsSomeAnd (row_of w.old.system t) (λ (row : TxnRow). is_dead row.state ≡ true)
+WasDead w t = is_dead_in (state_of w.old.system t) ≡ true
 
-abbrev pub HasDied : World → ℕ → Type 0
-HasDied w t = WasDead w t ⊎ ((c : ℕ) × Contains w.happened (Leaves t, c))
+abbrev pub HasDiedBy : World → ℕ → ℕ → Type 0
+HasDiedBy w t n = WasDead w t ⊎ ((c r m : ℕ) × HasDone w c m (DiesOn t r) × (m ≤ n))
 
 abbrev pub HasEndedBy : World → ℕ → ℕ → Type 0
-HasEndedBy w t n = ((k : ℕ) × (k < n) × IsLogged w k (Ended t)) ⊎ HasDied w t
+HasEndedBy w t n = ((k : ℕ) × (k < n) × IsLogged w k (Ended t)) ⊎ HasDiedBy w t n
 
-abbrev pub IsStopped : World → Cause → Type 0
-IsStopped w cause = w.core.system.stop ≡ Some cause
+-- ---- the stop, as the deeds leave it
+abbrev pub failing : Bool → Happening → Bool
+failing b (Meets StoreFailed, c) = true
+failing b x = b
 
--- ---- what deeds leave
+abbrev pub has_failed : Bool → List Happening → Bool
+has_failed b xs = fold failing b xs
+
+-- no audit can fail once the store has stopped the engine
+abbrev pub cause_of : Option ℕ → Bool → Option Cause
+cause_of (Some r) failed = Some (Damage r)
+cause_of None true = Some Store
+cause_of None false = None
+
+-- the first region of the epoch's failed audit, or the store
+abbrev pub stop_at : World → ℕ → Option Cause
+stop_at w i = cause_of (failed_first (last_epoch (log_at w i)).records) (has_failed w.old.vault.stopped (take i w.happened))
+
+-- ---- what else deeds leave
 abbrev pub stray_step : ℕ → ℕ → Happening → ℕ
 stray_step r s (Strays q word mask, c) = if q == r then bit_xor s mask else s
 stray_step r s x = s
@@ -102,14 +160,29 @@ stray_step r s x = s
 abbrev pub stray_after : ℕ → ℕ → List Happening → ℕ
 stray_after r s xs = fold (stray_step r) s xs
 
-abbrev pub turn_step : Option ℕ → Happening → Option ℕ
-turn_step o (Starts, c) = Some c
-turn_step o (Stops, c) = None
-turn_step o x = o
+abbrev pub poked_step : ℕ → Bool → Happening → Bool
+poked_step r p (Strays q word mask, c) = if q == r then true else p
+poked_step r p x = p
+
+abbrev pub poked_after : ℕ → Bool → List Happening → Bool
+poked_after r p xs = fold (poked_step r) p xs
+
+abbrev pub refusal_of : Happening → Option Refusal
+refusal_of (Yields f, c) = Some f
+refusal_of (FindsDead f, c) = Some f
+refusal_of x = None
+
+abbrev pub refused_by : List Happening → List Refusal
+refused_by xs = filter_map refusal_of xs
+
+abbrev pub span_step : Option ℕ → Happening → Option ℕ
+span_step o (StartsCheckpoint, c) = Some c
+span_step o (EndsCheckpoint, c) = None
+span_step o x = o
 
 -- no checkpoint is under way where a round begins
 abbrev pub under_way : List Happening → Option ℕ
-under_way xs = fold turn_step None xs
+under_way xs = fold span_step None xs
 
 -- ---- a world that goes on
 pub record Grows (v w : World) : Type 0 where
@@ -124,5 +197,5 @@ pub record Grows (v w : World) : Type 0 where
   pub failed : v.core.vault.stopped ≡ true → w.core.vault.stopped ≡ true
   -- nothing is flushed once the store has failed
   pub sealed : v.core.vault.stopped ≡ true → stable w.core ≡ stable v.core
-  pub stopped : (cause : Cause) → IsStopped v cause → IsStopped w cause
+  pub stopped : (cause : Cause) → v.core.system.stop ≡ Some cause → w.core.system.stop ≡ Some cause
   pub refusals : (f : Refusal) → Contains v.core.system.refusals f → Contains w.core.system.refusals f

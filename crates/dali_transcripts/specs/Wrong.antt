@@ -6,12 +6,13 @@ use Rattle.dali_record.specs.declared.records.Record.TheVariants.{Begin, Done, C
 use Rattle.dali_region.specs.State.{RegionState}
 use Rattle.dali_system.specs.declared.causes.Cause.{Cause}
 use Rattle.dali_system.specs.declared.causes.Cause.TheVariants.{Damage}
+use Rattle.dali_system.specs.declared.refusals.Refusal.{Refusal}
 use Rattle.dali_system.specs.Run.{failed_first}
 use Rattle.dali_system.specs.State.{stable}
 use Rattle.dali_transcripts.specs.Words.{Act, Calls, Checkpoints, StoppedBy, Full, Damaged, UnderWay, Said, Begun, Answered, CommitOk, Aborted, LeftOpen, Died, Busy, CheckpointSaid, Refused}
 use Rattle.dali_record.specs.Epochs.{last_epoch}
 use Rattle.dali_record.specs.Spelling.{record_length}
-use Rattle.dali_transcripts.specs.World.{Logs, World, log_of, log_at, stray_after, under_way}
+use Rattle.dali_transcripts.specs.World.{Logs, Yields, World, log_of, log_at, state_at, is_dead_in, stop_at, stray_after, under_way}
 use Rattle.dali_transcripts.specs.Moves.{Receipt}
 use Rattle.dali_transcripts.specs.Transcripts.{IsTranscript, AreTranscripts}
 use Rattle.dali_transcripts.specs.Worked.{world}
@@ -27,6 +28,16 @@ Says lines w said = said ≡ lines
 abbrev pub IsCleanSoFar : World → ℕ → Type 0
 IsCleanSoFar w r = (i : ℕ) (g : RegionState) → slice_get w.old.regions r ≡ Some g → stray_after r g.stray (take i w.happened) ≡ 0
 
+-- no client gives way; this one is dead all the time; nothing stops the engine
+abbrev pub NoneYields : World → Type 0
+NoneYields w = (i c : ℕ) (f : Refusal) → slice_get w.happened i ≡ Some (Yields f, c) → ⊥
+
+abbrev pub IsDeadThroughout : World → ℕ → Type 0
+IsDeadThroughout w t = (i : ℕ) → is_dead_in (state_at w i t) ≡ true
+
+abbrev pub RunsThroughout : World → Type 0
+RunsThroughout w = (i : ℕ) → stop_at w i ≡ None
+
 pub record WrongOnes : Type 0 where
   -- another number
   pub another_number : Never (Says (Begun 2 ∷ [])) ((1, Logs (Begin 1)) ∷ [])
@@ -38,11 +49,12 @@ pub record WrongOnes : Type 0 where
   pub another_answer : (call : Call) → Never (Says (Begun 1 ∷ Answered call AnswerOk ∷ [])) ((1, Logs (Begin 1)) ∷ (2, Logs (Done 1 call Exists)) ∷ [])
   -- a commit that isn't flushed
   pub not_flushed : (t n : ℕ) → Never (λ w said. (stable w.core ≤ n) × Contains said CommitOk) ((n, Logs (Commit t)) ∷ [])
-  -- no refusal is kept
-  pub busy_by_itself : (h : ℕ) (did : List Receipt) → Never (λ w said. (w.core.system.refusals ≡ []) × Contains said (Busy h)) did
+  -- no request is refused, or only where the holder is dead
+  pub busy_by_itself : (h : ℕ) (did : List Receipt) → Never (λ w said. NoneYields w × Contains said (Busy h)) did
+  pub busy_of_a_dead_one : (h : ℕ) (did : List Receipt) → Never (λ w said. IsDeadThroughout w h × Contains said (Busy h)) did
   -- the engine isn't stopped
-  pub stopped_by_itself : (act : Act) (cause : Cause) (did : List Receipt) → Never (λ w said. (w.core.system.stop ≡ None) × Contains said (Refused act (StoppedBy cause))) did
-  pub open_by_itself : (did : List Receipt) → Never (λ w said. (w.core.system.stop ≡ None) × Contains said LeftOpen) did
+  pub stopped_by_itself : (act : Act) (cause : Cause) (did : List Receipt) → Never (λ w said. RunsThroughout w × Contains said (Refused act (StoppedBy cause))) did
+  pub open_by_itself : (did : List Receipt) → Never (λ w said. RunsThroughout w × Contains said LeftOpen) did
   -- nothing was taken back
   pub not_ended : (t n : ℕ) → Never (λ w said. Contains said Aborted) ((n, Logs (Begin t)) ∷ [])
   -- an end that the log never had

@@ -1,8 +1,10 @@
 //! Laws over the definitions, each the contract of a function that does nothing.
 
-ghost use Rattle.dali_transcripts.specs.Laws.{OneMoreDeed, OneMoreStep, DeedIsDone, DeedsAreDone, GrowsOn, OwnGoesOn, OthersGoOn, EachIsOwned, OwnedByOne, OwnAscend, WorldGoesOn, LinesTell, LinesAreRecords, CutLinesAreRecords, DeedsAreTold, OperationsAreTold, AnchorsRise, OkIsFlushed, GoneIsSilent, NothingAfterDied, NothingAfterStop, TriesAreFew, TextAscends};
+ghost use Rattle.dali_transcripts.specs.Laws.{OneMoreDeed, OneMoreStep, DeedIsDone, DeedsAreDone, GrowsOn, OwnGoesOn, OthersGoOn, RightGoesOn, EachIsOwned, OwnedByOne, OwnAscend, WorldGoesOn, LinesTell, LinesAreRecords, CutLinesAreRecords, DeedsAreTold, OperationsAreTold, AnchorsRise, OkIsFlushed, GoneIsSilent, NothingAfterDied, NothingAfterStop, TriesAreFew, TextAscends};
 ghost use Rattle.dali_transcripts.specs.Grown.{StepsGrow, CoursesGrow};
 ghost use Rattle.dali_transcripts.specs.Rounds.{RoundGoesOn, RoundIsDone, RoundIsCut};
+ghost use Rattle.dali_transcripts.specs.Together.{TogetherAtFirst, TogetherByDeed, TogetherByNone};
+ghost use Rattle.dali_transcripts.specs.Left.{LeftHaveDied};
 ghost use Rattle.dali_transcripts.specs.Worked.{AreMade, Conflict, ConflictRuns};
 ghost use Rattle.dali_transcripts.specs.Corners.{CornersRun};
 ghost use Rattle.dali_transcripts.specs.Faults.{FaultsRun};
@@ -182,4 +184,30 @@ pub fn the_faults_run()
 /// A client of which every try gets Busy tries a thousand times.
 pub fn a_thousand_tries()
     ensures { ThousandTries }
+{}
+
+/// Where a round begins, what it says of all its clients holds.
+pub fn all_holds_at_first()
+    ensures { TogetherAtFirst }
+{}
+
+/// It holds behind a deed that does what it owes.
+pub fn all_holds_behind_a_deed()
+    ensures { TogetherByDeed }
+{}
+
+/// It holds where nothing is done.
+pub fn all_holds_without_a_deed()
+    ensures { TogetherByNone }
+{}
+
+/// Where the engine runs behind a round that ended with Done, each transaction that has a row was dead before it, or its client
+/// died in it.
+pub fn who_is_left_has_died()
+    ensures { LeftHaveDied }
+{}
+
+/// Each deed of a round has what it asks for at its place, also while the world goes on.
+pub fn each_deed_stays_right()
+    ensures { RightGoesOn }
 {}

@@ -1,6 +1,7 @@
 -- A clean-up leaves the vault, and what is flushed.
-use Rattle.std.proofs.Common.{◌≡◌, ℕ, length, take, drop, Bool, true, false, ◌&&◌, List, [], ◌∷◌, ◌++◌, Option, Result, Ok, Err, IfErr, refl, ap, sym, subst, ◌∙◌}
+use Rattle.std.proofs.Common.{◌≡◌, ℕ, length, take, drop, Bool, true, false, ◌&&◌, List, [], ◌∷◌, ◌++◌, Option, None, Result, Ok, Err, IfErr, refl, ap, sym, subst, ◌∙◌}
 use Rattle.std.specs.List.{list_all}
+use Rattle.std.proofs.lemmas.Bool.Decides.{Decides-eqb}
 use Rattle.dali_record.specs.declared.records.Record.{Record}
 use Rattle.dali_record.specs.declared.records.Record.TheVariants.{Ended}
 use Rattle.dali_region.specs.State.{RegionState}
@@ -14,7 +15,9 @@ use Rattle.dali_crash.specs.Traces.{bases_of}
 use Rattle.dali_vault.specs.Vaulted.{Vaulted}
 use Rattle.dali_clean.specs.declared.error.CleanError.{CleanError}
 use Rattle.dali_clean.specs.declared.error.CleanError.TheVariants.{NotDead as IsNotDead}
-use Rattle.dali_clean.specs.Cleaned.{moment, is_own_change, is_own_step, InRun, IsEnded, Ends, IsGivenBack, GivesBack as GivesBackTo}
+use Rattle.dali_clean.specs.Steps.{is_own_change, is_own_step}
+use Rattle.dali_clean.specs.Cleaned.{moment, InRun, IsEnded, Ends, IsGivenBack, GivesBack as GivesBackTo}
+use Rattle.dali_clean.proofs.Steps.{own_steps}
 use Rattle.dali_steps.specs.Courses.{is_quiet, WentOn}
 use Rattle.dali_steps.proofs.Courses.{quiet_course}
 use Rattle.dali_whole.specs.Cleaned.{EndsAt, LeavesAt}
@@ -66,11 +69,13 @@ module _ {V : Type 0} (told : V → Option Disk) (may_leave : V → Disk → Typ
     course = went.course;
     log = end.log;
     ends = ap (λ (m : Moment). m.log) went.moment;
+    by = end.by;
+    beside = end.beside;
     at = record {
       regions = ap (λ (m : Moment). m.core.regions) went.moment;
       system = ap (λ (m : Moment). m.core.system) went.moment;
       vault = went.is;
-      none_in_hand = λ runs. at.none_in_hand runs ∙ (ap (λ (x : SystemState). x.taken) (sym at.system) ∙ sym (all_leave_taken t (moment_of p) last end.steps end.own end.course));
+      none_in_hand = λ runs. at.none_in_hand runs ∙ (ap (λ (x : SystemState). x.taken) (sym at.system) ∙ sym (all_leave_taken t (moment_of p) last end.steps own end.course));
     };
     whole = subst (λ (m : Moment). IsWhole m.core) (sym went.moment) end.whole;
     keeps = went.keeps;
@@ -85,22 +90,27 @@ module _ {V : Type 0} (told : V → Option Disk) (may_leave : V → Disk → Typ
       end : IsEnded (bases_of s) s.log (moment_of p) t gs' z
       end = here (bases_of s) s.log p.log p.core.vault p.audits run
 
+      own : list_all (is_own_step t) end.steps ≡ true
+      own = own_steps t (EndsTxn t) end.steps end.by ((Decides-eqb t t).1 refl)
+
       last : Moment
       last = moment gs' z (end.log ++ Ended t ∷ []) p.core.vault p.audits
 
       went : WentOn told may_leave faults s B p last end.steps v
-      went = quiet_course told may_leave faults s B p last end.steps v at.vault (all_quiet t end.steps end.own) end.course
+      went = quiet_course told may_leave faults s B p last end.steps v at.vault (all_quiet t end.steps own) end.course
 
-  pub left_at : (gs gs' : List RegionState) (y z : SystemState) (v : Vaulted V) (t : ℕ) → GivesBackTo gs y t gs' z → LeavesAt told may_leave faults gs y v gs' z
+  pub left_at : (gs gs' : List RegionState) (y z : SystemState) (v : Vaulted V) (t : ℕ) → GivesBackTo gs y t gs' z → LeavesAt told may_leave faults gs y v t gs' z
   left_at gs gs' y z v t back s B p at whole = record {
     to = went.to;
     steps = given.led.steps;
     course = went.course;
+    by = given.led.are;
+    beside = given.beside;
     at = record {
       regions = ap (λ (m : Moment). m.core.regions) went.moment;
       system = ap (λ (m : Moment). m.core.system) went.moment;
       vault = went.is;
-      none_in_hand = λ runs. at.none_in_hand runs ∙ (ap (λ (x : SystemState). x.taken) (sym at.system) ∙ sym (all_leave_taken t (moment_of p) last given.led.steps given.led.own given.led.course));
+      none_in_hand = λ runs. at.none_in_hand runs ∙ (ap (λ (x : SystemState). x.taken) (sym at.system) ∙ sym (all_leave_taken t (moment_of p) last given.led.steps own given.led.course));
     };
     whole = subst (λ (m : Moment). IsWhole m.core) (sym went.moment) given.again.whole;
     keeps = went.keeps;
@@ -112,14 +122,17 @@ module _ {V : Type 0} (told : V → Option Disk) (may_leave : V → Disk → Typ
       given : IsGivenBack (bases_of s) s.log (moment_of p) t gs' z
       given = here (bases_of s) s.log p.log p.core.vault p.audits (record { run = at.vault.run.run; whole = whole })
 
+      own : list_all (is_own_step t) given.led.steps ≡ true
+      own = own_steps t (GivesBack t None) given.led.steps given.led.are refl
+
       last : Moment
       last = moment gs' z given.led.log p.core.vault p.audits
 
       went : WentOn told may_leave faults s B p last given.led.steps v
-      went = quiet_course told may_leave faults s B p last given.led.steps v at.vault (all_quiet t given.led.steps given.led.own) given.led.course
+      went = quiet_course told may_leave faults s B p last given.led.steps v at.vault (all_quiet t given.led.steps own) given.led.course
 
   pub err_left : {X : Type 0} (r : Result X CleanError) (gs gs' : List RegionState) (y z : SystemState) (v : Vaulted V) (t : ℕ) (P : Type 0) → IfErr r (λ e. (e ≡ IsNotDead → ⊥) → GivesBackTo gs y t gs' z × P)
-      → IfErr r (λ e. (e ≡ IsNotDead → ⊥) → LeavesAt told may_leave faults gs y v gs' z)
+      → IfErr r (λ e. (e ≡ IsNotDead → ⊥) → LeavesAt told may_leave faults gs y v t gs' z)
   err_left (Ok x) gs gs' y z v t P h = tt
   err_left (Err e) gs gs' y z v t P h = λ f. left_at gs gs' y z v t (h f).0
 

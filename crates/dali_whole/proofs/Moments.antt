@@ -1,5 +1,5 @@
 -- What a crash at any moment of a flush leaves, and how many calls of the store it makes.
-use Rattle.std.proofs.Common.{◌≡◌, ℕ, zero, suc, ◌+◌, ◌≤◌, ◌^◌, Bool, true, false, List, [], ◌∷◌, ◌++◌, length, drop, Option, Some, None, IfSome, ◌⊎◌, refl, ap, sym, subst, ◌∙◌, inl, inr, ⊎_elim, arith, length-append}
+use Rattle.std.proofs.Common.{◌≡◌, ℕ, ◌+◌, ◌≤◌, ◌^◌, false, List, [], ◌∷◌, length, drop, Option, refl, ap, sym, subst, ◌∙◌, inl, inr, ⊎_elim, arith, length-append}
 use Rattle.std.specs.Prelude.{◌==◌, if◌then◌else◌, Result, Ok, Err, IfOk, OnOk}
 use Rattle.std.proofs.lemmas.Bool.{ne_eqb}
 use Rattle.std.proofs.lemmas.Option.{IfSome_then}
@@ -7,7 +7,6 @@ use Rattle.std.proofs.lemmas.List.{append-nil}
 use Rattle.dali_record.specs.declared.records.Record.{Record}
 use Rattle.dali_record.specs.declared.records.Record.TheVariants.{Format, Begin, Forward, Done, Commit, Ended, Solo, AuditBegin, AuditClean, AuditFail, Restarted, Back}
 use Rattle.dali_record.specs.Spelling.{spelling}
-use Rattle.dali_region.specs.State.{RegionState}
 use Rattle.dali_store.specs.Store.{Files as Disk, LeavesOnly}
 use Rattle.dali_batch.specs.Appending.{SomeAdded, Adds, bodies_of}
 use Rattle.dali_batch.specs.Batch.{Framed, Ends, batch, batches}
@@ -15,13 +14,11 @@ use Rattle.dali_batch.specs.Log.{body_bytes}
 use Rattle.dali_batch.proofs.Bytes.{length-batch}
 use Rattle.dali_system.specs.State.{SystemState}
 use Rattle.dali_system.specs.Courses.{Takes}
-use Rattle.dali_crash.specs.Checkpoints.{Point, Does}
-use Rattle.dali_crash.specs.Traces.{Start}
+use Rattle.dali_crash.specs.Checkpoints.{Does}
 use Rattle.dali_vault.specs.Vaulted.{Vaulted, grown}
 use Rattle.dali_steps.proofs.Steps.{flush_is_right_in}
-use Rattle.dali_whole.specs.Cores.{IsCoreAt}
 use Rattle.dali_whole.specs.Flushed.{IsUntaken}
-use Rattle.dali_whole.specs.Moments.{FlushLeaves, Within, IsRightWithin, FlushIsRight, flush_calls}
+use Rattle.dali_whole.specs.Moments.{FlushIsRight, flush_calls}
 use Rattle.dali_whole.proofs.Flushing.{take_point, takes, took, frame_at}
 
 -- ---- moments, one call behind the other

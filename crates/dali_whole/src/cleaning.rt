@@ -27,7 +27,7 @@ fn clean_up<V: Store>(
     ensures not_dead { IsErrOf result IsNotDead → (system.new ≡ system.old) × (regions.new ≡ regions.old) × (IsDead (state_of system.old.state txn) → ⊥) }
     ensures was { (IsErrOf result IsNotDead → ⊥) → IsDead (state_of system.old.state txn) }
     ensures again { IfErr result (λ e. (e ≡ IsNotDead → ⊥) → GivesBack regions.old system.old.state txn regions.new system.new.state × (state_of system.new.state txn ≡ Some (Dead None))) }
-    ensures left { IfErr result (λ e. (e ≡ IsNotDead → ⊥) → LeavesAt V.told V.may_leave V.faults regions.old system.old.state beside.now regions.new system.new.state) }
+    ensures left { IfErr result (λ e. (e ≡ IsNotDead → ⊥) → LeavesAt V.told V.may_leave V.faults regions.old system.old.state beside.now txn regions.new system.new.state) }
     ensures dead { AreDead regions.new }
     ensures refused { IsDead (state_of system.old.state txn) → IfSome system.old.state.stop (λ cause. result ≡ Err (Stopped cause)) }
     ensures memory { system.old.state.stop ≡ None → IfErr result (λ e. (e ≡ IsNotDead → ⊥) → e ≡ OutOfMemory) }
@@ -53,7 +53,7 @@ pub fn clean<V: Store>(core: &mut Core<V>, txn: u64) -> Result<(), CleanError>
     ensures not_dead { IsErrOf result IsNotDead → (core.new.system ≡ core.old.system) × (core.new.regions.items ≡ core.old.regions.items) × (IsDead (state_of core.old.system.state txn) → ⊥) }
     ensures was { (IsErrOf result IsNotDead → ⊥) → IsDead (state_of core.old.system.state txn) }
     ensures again { IfErr result (λ e. (e ≡ IsNotDead → ⊥) → GivesBack core.old.regions.items core.old.system.state txn core.new.regions.items core.new.system.state × (state_of core.new.system.state txn ≡ Some (Dead None))) }
-    ensures left { IfErr result (λ e. (e ≡ IsNotDead → ⊥) → LeavesAt V.told V.may_leave V.faults core.old.regions.items core.old.system.state core.old.vault core.new.regions.items core.new.system.state) }
+    ensures left { IfErr result (λ e. (e ≡ IsNotDead → ⊥) → LeavesAt V.told V.may_leave V.faults core.old.regions.items core.old.system.state core.old.vault txn core.new.regions.items core.new.system.state) }
     ensures dead { AreDead core.new.regions.items }
     ensures refused { IsDead (state_of core.old.system.state txn) → IfSome core.old.system.state.stop (λ cause. result ≡ Err (Stopped cause)) }
     ensures memory { core.old.system.state.stop ≡ None → IfErr result (λ e. (e ≡ IsNotDead → ⊥) → e ≡ OutOfMemory) }

@@ -1,5 +1,5 @@
 //! What makes the records of a core durable.
-ghost use Rattle.std.specs.Prelude.{◌≡◌, ◌<◌, ◌≤◌, ◌+◌, ◌^◌, ℕ, true, false, Err, OnOk, OnErr, IsErrOf};
+ghost use Rattle.std.specs.Prelude.{◌≡◌, ◌<◌, ◌≤◌, ◌+◌, ◌^◌, ℕ, true, false, is_some, Err, OnOk, OnErr, IsErrOf};
 ghost use Rattle.dali_store.specs.declared.store.FileName.TheVariants.{Log};
 ghost use Rattle.dali_store.specs.Calls.{fewer};
 ghost use Rattle.dali_store.specs.Faults.{Rose};
@@ -62,6 +62,7 @@ pub fn flush<V: Store>(core: &mut Core<V>, alloc: Global) -> Result<(), VaultErr
     ensures stops { IsErrOf result Fault → FlushFails V.told V.may_leave V.faults core.old.regions.items core.old.system.state core.old.vault core.new.system.state core.new.vault }
     ensures any_moment { core.old.vault.stopped ≡ false → Within V.told V.moment V.left_since core.old.vault core.new.vault (FlushLeaves V.may_leave core.old.system.state core.old.vault) }
     ensures calls { OnOk result (V.lets_pass core.new.vault.store ≡ fewer (flush_calls core.old.system.state) (V.lets_pass core.old.vault.store)) }
+    ensures tells { is_some (V.told core.new.vault.store) ≡ is_some (V.told core.old.vault.store) }
     ensures whole { IsWholeCore V.told core.old.regions.items core.old.system.state core.old.vault → IsWholeCore V.told core.new.regions.items core.new.system.state core.new.vault }
 {
     if core.vault.stopped() {

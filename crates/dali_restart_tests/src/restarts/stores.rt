@@ -33,7 +33,7 @@ fn add_digits(digits: &[u8], bytes: &mut Vec<u8>) -> Result<()> {
     Ok(())
 }
 
-/// The bytes of a text: words of digits in base 16, and `*N` for so many zeros.
+// The bytes of a text: words of digits in base 16, and `*N` for so many zeros.
 fn bytes_of(alloc: Global, text: &str) -> Result<Vec<u8>> {
     let mut bytes = Vec::new(alloc);
     for word in text.split_ascii_whitespace() {
@@ -50,12 +50,12 @@ fn bytes_of(alloc: Global, text: &str) -> Result<Vec<u8>> {
 }
 
 /// The two parts of a text beside the first of these marks, the second empty where there is none.
-pub fn parted<'a>(text: &'a str, mark: &str) -> (&'a str, &'a str) {
+pub(crate) fn parted<'a>(text: &'a str, mark: &str) -> (&'a str, &'a str) {
     text.split_once(mark).unwrap_or((text, ""))
 }
 
 /// The store of a text: log, images and anchor, with a stroke behind each. The calls with these numbers fail.
-pub fn store_of(alloc: Global, text: &str, failing: &[u64]) -> Result<MemoryStore> {
+pub(crate) fn store_of(alloc: Global, text: &str, failing: &[u64]) -> Result<MemoryStore> {
     let (log, rest) = parted(text, "/");
     let (image_a, rest) = parted(rest, "/");
     let (image_b, anchor) = parted(rest, "/");
@@ -70,7 +70,7 @@ pub fn store_of(alloc: Global, text: &str, failing: &[u64]) -> Result<MemoryStor
 
 /// Whether a store has these files, as a restart left them of one whose log ended there: the log behind that place, images and
 /// anchor.
-pub fn is_left(
+pub(crate) fn is_left(
     alloc: Global,
     store: &MemoryStore,
     text: &str,
@@ -202,7 +202,7 @@ fn add_text<V: Store>(core: &Core<V>, report: &Report, text: &mut String) -> Res
 }
 
 /// The number of a transaction that begins in the core of a restart, and the store, with its begin flushed.
-pub fn begun_in(alloc: Global, store: MemoryStore) -> Result<Option<(u64, MemoryStore)>> {
+pub(crate) fn begun_in(alloc: Global, store: MemoryStore) -> Result<Option<(u64, MemoryStore)>> {
     let Ok((mut core, _)) = restart(alloc, store, LIMIT) else {
         return Ok(None);
     };
@@ -215,7 +215,7 @@ pub fn begun_in(alloc: Global, store: MemoryStore) -> Result<Option<(u64, Memory
 }
 
 /// What a restart of a store says, and the store that comes back.
-pub fn restarted<V: Store + Drop>(alloc: Global, store: V) -> Result<(V, String)> {
+pub(crate) fn restarted<V: Store + Drop>(alloc: Global, store: V) -> Result<(V, String)> {
     let mut text = String::new(alloc);
     match restart(alloc, store, LIMIT) {
         Ok((core, report)) => {

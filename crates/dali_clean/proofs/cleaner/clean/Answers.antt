@@ -1,12 +1,12 @@
 use Rattle.std.proofs.Common.{ap, None}
 use Rattle.dali_core.specs.Served.{Served}
-use Rattle.dali_clean.proofs.Cleaning.{ends_further, given_back}
+use Rattle.dali_clean.proofs.Cleaning.{ends_so, given_back}
 use Rattle.dali_clean.proofs.Others.{others_further, dead_others, kept_further, kept_in_state, promises_same, promises_further}
 use Rattle.dali_att.specs.declared.state.State.TheVariants.{Dead}
 use Rattle.dali_clean.proofs.cleaner.clean.Goals as goal
 
 pub returns-in-Ok-finish-clause-ok : goal.returns-in-Ok-finish-clause-ok
-returns-in-Ok-finish-clause-ok c = ends_further c.args.regions.now c.claim.new.regions c.finish.new.regions c.args.system.now.state c.claim.new.system.state c.finish.new.system.state c.args.txn c.in-Ok.ensures.ok.goes c.in-Ok-finish.ensures.ok
+returns-in-Ok-finish-clause-ok c = ends_so c.args.regions.now c.claim.new.regions c.finish.new.regions c.args.system.now.state c.claim.new.system.state c.finish.new.system.state c.args.txn c.in-Ok.ensures.ok.goes c.in-Ok-finish.ensures.ok
 
 pub returns-in-Err-finish-clause-again : goal.returns-in-Err-finish-clause-again
 returns-in-Err-finish-clause-again c not =

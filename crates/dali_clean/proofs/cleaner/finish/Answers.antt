@@ -2,14 +2,18 @@ use Rattle.std.proofs.Common.{ap, refl, ◌∙◌}
 use Rattle.dali_core.specs.Served.{Served}
 use Rattle.dali_core.specs.Promised.{Promised}
 use Rattle.std.specs.FinMap.{remove}
-use Rattle.dali_clean.proofs.Cleaning.{ends_so}
 use Rattle.dali_clean.proofs.Others.{others_further, others_same, ended_others, ended_gone, kept_further, kept_same, promises_same, promises_ended}
 use Rattle.dali_clean.proofs.cleaner.finish.Goals as goal
 
 pub returns-in-Ok-ended-clause-ok : goal.returns-in-Ok-ended-clause-ok
-returns-in-Ok-ended-clause-ok c =
-    ends_so c.args.regions.now c.take_back.new.regions c.args.system.now.state c.take_back.new.system.state c.ended.new.self.state c.args.txn c.take_back.ensures.goes c.take_back.ensures.is c.in-Ok.ensures.all c.in-Ok-ended.ensures.runs
-    (ap (λ (s : Served). s.state) c.in-Ok-ended.ensures.ok)
+returns-in-Ok-ended-clause-ok c = record {
+  mid = c.take_back.new.system.state;
+  goes = c.take_back.ensures.goes;
+  is = c.take_back.ensures.is;
+  none = c.in-Ok.ensures.all;
+  runs = c.in-Ok-ended.ensures.runs;
+  system = ap (λ (s : Served). s.state) c.in-Ok-ended.ensures.ok;
+}
 
 pub returns-in-Ok-ended-clause-others : goal.returns-in-Ok-ended-clause-others
 returns-in-Ok-ended-clause-others c = others_further c.args.regions.now c.take_back.new.regions c.take_back.new.regions c.args.system.now.state c.take_back.new.system.state c.ended.new.self.state c.args.txn c.take_back.ensures.others (ended_others c.take_back.new.regions c.take_back.new.system.state c.ended.new.self.state c.args.txn (ap (λ (s : Served). s.state) c.in-Ok-ended.ensures.ok))

@@ -2,7 +2,7 @@ use Rattle.std.proofs.Common.{◌∙◌, ap, refl, slice_set}
 use Rattle.dali_region.specs.State.{RegionState}
 use Rattle.dali_core.specs.declared.take_back.TakeBack.{TakeBack}
 use Rattle.dali_clean.proofs.Lists.{get_here}
-use Rattle.dali_clean.proofs.Courses.{stays}
+use Rattle.dali_clean.proofs.Steps.{stays}
 use Rattle.dali_clean.proofs.Backward.{none_wanted}
 use Rattle.dali_clean.proofs.Cleaning.{region_in, dead_of_quiet, there_still, set_here, turned, turned_as, turn_fewer, refused_turn, undone_next}
 use Rattle.dali_clean.proofs.Others.{others_further, others_same, release_others, undone_others, refused_others, kept_further, kept_same, released_locks, undone_locks}

@@ -1,4 +1,4 @@
-use Rattle.std.proofs.Common.{◌≡◌, ◌∙◌, ◌≤◌, List, length, ap, sym, refl, subst, rules}
+use Rattle.std.proofs.Common.{is_some, ◌≡◌, ◌∙◌, ◌≤◌, List, length, ap, sym, refl, subst, rules}
 use Rattle.dali_record.specs.declared.operations.Pending.{Pending}
 use Rattle.dali_region.specs.State.{RegionState}
 use Rattle.dali_system.specs.Steps.{taken, commit_logged}
@@ -11,6 +11,7 @@ use Rattle.dali_clean.specs.Others.{OthersStay}
 use Rattle.dali_ends.proofs.Standing.{up_runs, small_here}
 use Rattle.dali_ends.proofs.Alone.{covered_here}
 use Rattle.dali_ends.proofs.Durable.{settling, commit_fails, four_calls, faults_kept, runs_still, is_logged, up_committed, up_failed, may_taken, others_taken, commit_done, kept_at, calls_at, within_at, fault_only}
+use Rattle.dali_ends.proofs.Wholes.{whole_logged, whole_committed, whole_over}
 use Rattle.dali_ends.proofs.committing.commit.Goals as goal
 
 pub commit-requires-clause-covered : goal.commit-requires-clause-covered
@@ -93,3 +94,26 @@ returns-clause-others g c =
     let same : c.flush.new.core.regions.items ≡ c.args.core.now.regions.items = search rules in
     let is : c.flush.new.core.system.state ≡ taken c.commit.new.system.state = search rules in
     others_taken c.args.core.now.regions.items c.settle_core.new.core.regions.items c.args.core.now.system.state c.commit.new.system.state c.flush.new.core.system.state c.settle_core.new.core.system.state c.args.txn c.in_ok-removals.ensures.others is (subst (λ (rs : List RegionState). OthersStay rs c.flush.new.core.system.state c.args.txn c.settle_core.new.core.regions.items c.settle_core.new.core.system.state) same c.settle_core.ensures.settled.others)
+
+pub returns-in-Err-clause-whole : goal.returns-in-Err-clause-whole
+returns-in-Err-clause-whole g c = λ whole. c.flush.ensures.whole (whole_logged g.V.Store.told g.V.Store.may_leave g.V.Store.faults c.args.core.now.regions.items c.args.core.now.system.state c.commit.new.system.state c.args.core.now.vault c.args.txn c.in_ok-removals.removals.items c.requires.may c.requires.lives c.in_ok-removals.ensures.ok whole)
+
+pub returns-clause-whole : goal.returns-clause-whole
+returns-clause-whole g c = λ whole.
+    let same : c.flush.new.core.regions.items ≡ c.args.core.now.regions.items = search rules in
+    let sizes : c.flush.new.core.system.state.sizes ≡ c.commit.new.system.state.sizes = search rules in
+    let done = commit_done g.V.Store.told g.V.Store.may_leave g.V.Store.faults c.args.core.now.regions.items c.flush.new.core.regions.items c.settle_core.new.core.regions.items c.args.core.now.system.state c.commit.new.system.state c.flush.new.core.system c.settle_core.new.core.system c.args.core.now.vault c.flush.new.core.vault c.settle_core.new.core.vault c.args.txn c.in_ok-removals.removals.items _ c.requires.lives c.in_ok-removals.ensures.ok c.in-Ok.ensures.durable sizes same c.deref.ensures.value c.settle_core.ensures.vault c.settle_core.ensures.settled in
+    let flushed = c.flush.ensures.whole (whole_logged g.V.Store.told g.V.Store.may_leave g.V.Store.faults c.args.core.now.regions.items c.args.core.now.system.state c.commit.new.system.state c.args.core.now.vault c.args.txn c.in_ok-removals.removals.items c.requires.may c.requires.lives c.in_ok-removals.ensures.ok whole) in
+    whole_committed g.V.Store.told g.V.Store.may_leave g.V.Store.faults c.args.core.now.regions.items c.settle_core.new.core.regions.items c.args.core.now.system.state c.flush.new.core.system.state c.settle_core.new.core.system.state c.args.core.now.vault c.settle_core.new.core.vault c.args.txn c.requires.may done
+    (whole_over g.V.Store.told g.V.Store.may_leave g.V.Store.faults c.args.core.now.regions.items c.flush.new.core.regions.items c.flush.new.core.system.state c.flush.new.core.vault c.settle_core.new.core.vault c.settle_core.ensures.vault same flushed)
+
+pub returns-in-Err-clause-regions : goal.returns-in-Err-clause-regions
+returns-in-Err-clause-regions g c =
+    let only = fault_only c.in-Err.field-0 c.args.core.now.vault.stopped c.in-Err.ensures.runs (sym c.stopped.ensures ∙ c.if-stopped.false) in
+    ap (λ k. k.regions.items) (c.in-Err.ensures.fault only).0
+
+pub returns-in-Err-clause-tells : goal.returns-in-Err-clause-tells
+returns-in-Err-clause-tells g c = c.flush.ensures.tells
+
+pub returns-clause-tells : goal.returns-clause-tells
+returns-clause-tells g c = ap (λ v. is_some (g.V.Store.told v.store)) c.settle_core.ensures.vault ∙ c.flush.ensures.tells

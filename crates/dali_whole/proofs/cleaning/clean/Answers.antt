@@ -18,6 +18,6 @@ returns-clause-again g c =
 pub returns-clause-left : goal.returns-clause-left
 returns-clause-left g c =
     let size : length c.clean_up.new.regions ≡ c.args.core.now.regions.len = search rules in
-    subst (λ (rs : List RegionState). IfErr c.clean_up.result (λ e. (e ≡ IsNotDead → ⊥) → LeavesAt g.V.Store.told g.V.Store.may_leave g.V.Store.faults c.args.core.now.regions.items c.args.core.now.system.state c.args.core.now.vault rs c.clean_up.new.system.state))
+    subst (λ (rs : List RegionState). IfErr c.clean_up.result (λ e. (e ≡ IsNotDead → ⊥) → LeavesAt g.V.Store.told g.V.Store.may_leave g.V.Store.faults c.args.core.now.regions.items c.args.core.now.system.state c.args.core.now.vault c.args.txn rs c.clean_up.new.system.state))
     (sym (put_back c.args.core.now.regions.len c.clean_up.new.regions c.args.core.now.regions.items size))
-    (subst (λ (rs : List RegionState). IfErr c.clean_up.result (λ e. (e ≡ IsNotDead → ⊥) → LeavesAt g.V.Store.told g.V.Store.may_leave g.V.Store.faults rs c.args.core.now.system.state c.args.core.now.vault c.clean_up.new.regions c.clean_up.new.system.state)) c.deref_mut.ensures.value c.clean_up.ensures.left)
+    (subst (λ (rs : List RegionState). IfErr c.clean_up.result (λ e. (e ≡ IsNotDead → ⊥) → LeavesAt g.V.Store.told g.V.Store.may_leave g.V.Store.faults rs c.args.core.now.system.state c.args.core.now.vault c.args.txn c.clean_up.new.regions c.clean_up.new.system.state)) c.deref_mut.ensures.value c.clean_up.ensures.left)

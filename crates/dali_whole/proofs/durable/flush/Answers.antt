@@ -23,3 +23,9 @@ pub returns-in-Err-clause-whole : goal.returns-in-Err-clause-whole
 returns-in-Err-clause-whole g c =
     still_whole g.V.Store.told g.V.Store.may_leave g.V.Store.faults c.args.core.now.regions.items c.args.core.now.system.state c.stop.new.self.state c.args.core.now.vault c.write_out.new.vault c.write_out.ensures.torn.0 c.write_out.ensures.torn.1
     (ap (λ (s : Served). s.state.sizes) c.stop.ensures ∙ ap (λ (s : Served). s.state.sizes) c.write_out.ensures.taken) (ap (λ (s : Served). s.state.table) c.stop.ensures ∙ ap (λ (s : Served). s.state.table) c.write_out.ensures.taken)
+
+pub returns-in-Ok-clause-tells : goal.returns-in-Ok-clause-tells
+returns-in-Ok-clause-tells g c = c.in-Ok.ensures.ok.2.ok.tells
+
+pub returns-in-Err-clause-tells : goal.returns-in-Err-clause-tells
+returns-in-Err-clause-tells g c = c.in-Err.ensures.fault.1.2.tells

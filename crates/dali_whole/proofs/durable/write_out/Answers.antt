@@ -1,4 +1,4 @@
-use Rattle.std.proofs.Common.{◌≡◌, ◌∙◌, ap, drop}
+use Rattle.std.proofs.Common.{◌∙◌, ap, drop}
 use Rattle.std.proofs.lemmas.Result.{on_ok_weaker}
 use Rattle.dali_store.specs.Calls.{fewer}
 use Rattle.dali_batch.specs.Log.{body_bytes}

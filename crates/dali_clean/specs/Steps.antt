@@ -1,0 +1,76 @@
+-- Which steps a clean-up makes, one behind another.
+--     is_own_change t x        the step x on a region is one of an operation of t
+--     AreBack t xs             undos of t are performed, and nobody's claim is left: what another dead client left open in the way is taken back
+--                              under a claim of its transaction that is given back at once
+--     IsClaim t xs             t is claimed, and what its client left open taken back
+--     IsCleanUp t x xs         so it is, then its undos are performed, and the last step is x: its end, or its claim given back
+--     is_own_step t x          the step x is one of a clean-up of t
+--     OwnSteps                 each step of one is: nothing is logged but its undos and its end
+--     is_apart t x             the step x isn't one of t: it is of another transaction, or of none
+--     AreBeside t y xs         no step is one of another transaction that is alive in the system y
+use Rattle.std.specs.Prelude.{◌≡◌, ◌==◌, ⊤, ℕ, Bool, true, false, not, List, [], ◌∷◌, ◌++◌, None}
+use Rattle.std.specs.List.{list_all}
+use Rattle.dali_system.specs.State.{SystemState, state_of}
+use Rattle.dali_system.specs.Regions.{RegionStep, Latch, NoteReads, Update, TakeBack, is_alive}
+use Rattle.dali_system.specs.Courses.{Step, Operates, TakesBack, Frees, Answers, Commits, Ends, Locks, Refuses, OnRegion, Dies, Claims, GivesBack, Recovers}
+
+abbrev pub is_own_change : ℕ → RegionStep → Bool
+is_own_change t (Latch u) = u == t
+is_own_change t (NoteReads mask) = true
+is_own_change t (Update word value) = true
+is_own_change t TakeBack = true
+is_own_change t x = false
+
+-- ---- in order
+abbrev pub AreBack : ℕ → List Step → Type 0
+AreBack t [] = ⊤
+AreBack t (OnRegion r x ∷ xs) = (is_own_change t x ≡ true) × AreBack t xs
+AreBack t (TakesBack u b ∷ xs) = (u ≡ t) × AreBack t xs
+AreBack t (Claims u ∷ Recovers r ∷ GivesBack v o ∷ xs) = ((u == t) ≡ false) × (v ≡ u) × (o ≡ None) × AreBack t xs
+-- of a transaction that stands claimed: t itself, or one that was before
+AreBack t (Recovers r ∷ xs) = AreBack t xs
+AreBack t (x ∷ xs) = ⊥
+
+abbrev pub IsClaim : ℕ → List Step → Type 0
+IsClaim t xs = (back : List Step) × (xs ≡ Claims t ∷ back) × AreBack t back
+
+pub record IsCleanUp (t : ℕ) (x : Step) (xs : List Step) : Type 0 where
+  pub back : List Step
+  pub is : xs ≡ Claims t ∷ back ++ x ∷ []
+  pub undone : AreBack t back
+
+-- ---- each of them
+abbrev pub is_own_step : ℕ → Step → Bool
+is_own_step t (TakesBack u b) = u == t
+is_own_step t (Ends u) = u == t
+is_own_step t (Claims u) = true
+is_own_step t (Recovers r) = true
+is_own_step t (GivesBack u o) = true
+is_own_step t (OnRegion r x) = is_own_change t x
+is_own_step t x = false
+
+abbrev pub OwnSteps : Type 0
+OwnSteps = (t : ℕ) (x : Step) (xs : List Step) → IsCleanUp t x xs → is_own_step t x ≡ true → list_all (is_own_step t) xs ≡ true
+
+-- ---- others
+abbrev pub is_apart_on : ℕ → RegionStep → Bool
+is_apart_on t (Latch u) = not (u == t)
+is_apart_on t x = true
+
+abbrev pub is_apart : ℕ → Step → Bool
+is_apart t (Operates u b) = not (u == t)
+is_apart t (TakesBack u b) = not (u == t)
+is_apart t (Frees u b) = not (u == t)
+is_apart t (Answers u call a) = not (u == t)
+is_apart t (Commits u) = not (u == t)
+is_apart t (Ends u) = not (u == t)
+is_apart t (Locks u k m) = not (u == t)
+is_apart t (Refuses u k m h) = not (u == t)
+is_apart t (Dies u o) = not (u == t)
+is_apart t (Claims u) = not (u == t)
+is_apart t (GivesBack u o) = not (u == t)
+is_apart t (OnRegion r x) = is_apart_on t x
+is_apart t x = true
+
+abbrev pub AreBeside : ℕ → SystemState → List Step → Type 0
+AreBeside t y xs = (u : ℕ) → (t == u) ≡ false → is_alive (state_of y u) ≡ true → list_all (is_apart u) xs ≡ true

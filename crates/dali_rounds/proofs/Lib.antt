@@ -1,0 +1,9 @@
+pub mod Calm
+pub mod Going
+pub mod Beside
+pub mod Calls
+pub mod Cleaning
+pub mod Runs
+pub mod Committing
+pub mod Keeping
+pub mod GivingUp

@@ -1,0 +1,5 @@
+use Rattle.dali_transcripts.proofs.Together.{together_by_deed}
+use Rattle.dali_transcripts.proofs.laws.all_holds_behind_a_deed.Goals as goal
+
+pub returns : goal.returns
+returns c = together_by_deed
