@@ -33,7 +33,7 @@ use Rattle.dali_transcripts.specs.World.{Deed, Logs, World, IsLogged, logged_by,
 use Rattle.dali_transcripts.specs.Rounds.{by, WasRight}
 use Rattle.dali_transcripts.specs.Together.{RoomBy, RightBy, Owes}
 use Rattle.dali_deeds.specs.Deeds.{WereRight, BeganHere}
-use Rattle.dali_deeds.specs.Tells.{after, WasPassed, PassesAreTold, Tells, Goes}
+use Rattle.dali_deeds.specs.Tells.{after, AreRightThen, WasPassed, PassesAreTold, Tells, Goes}
 use Rattle.dali_deeds.proofs.States.{begun_state, ended_state, kept_state, new_state, undone_state}
 use Rattle.dali_deeds.proofs.Strays.{Stays, same_regions, one_region}
 use Rattle.dali_deeds.proofs.Told.{Onward, plain, push_cases, push_before, log_is, passed_on, passes_on, goes_by, by_deed, by_none}
@@ -96,7 +96,7 @@ module _ (w : World) (c : ℕ) (p q : Point) (told : Tells w p) where
   pub told_log : (R : Record) (d : CoreState) → q.core ≡ d → q.log ≡ p.log ++ R ∷ [] → Wrote w c R d → PassesAreTold (after w c (Logs R ∷ []) d) q.audits
       → Goes w c p (Logs R ∷ []) (after w c (Logs R ∷ []) q.core) q
   told_log R d is log h passes =
-      goes_by w c p q told (Logs R ∷ []) d is h.onward log (by_deed w c p q told (Logs R) d h.onward (owes_log R d h)) (h.checking ∙ told.flag) passes
+      goes_by w c p q told (Logs R ∷ []) d is h.onward log (by_deed w c p q told (Logs R) d h.onward (owes_log R d h)) (h.checking ∙ told.flag) passes (tt, tt)
 
   pub told_plain : (R : Record) (d : CoreState) → is_begin R ≡ false → q.core ≡ d → q.log ≡ p.log ++ R ∷ [] → q.audits ≡ p.audits → Wrote w c R d
       → Goes w c p (Logs R ∷ []) (after w c (Logs R ∷ []) q.core) q
@@ -333,7 +333,7 @@ module _ (bases : Bases) (before : List Record) (w0 : World) (c : ℕ) (p q : Po
   unseen d is log on stays states current stopped faults refusals checking passes =
       goes_by w c p q told [] d is on (log ∙ sym (append-nil p.log))
       (by_none w c p q told d on (record { anchor = current; poke = λ r h at. stays.each r h at; states = states; stopped = stopped; faults = faults; refusals = refusals }))
-      (checking ∙ told.flag) passes
+      (checking ∙ told.flag) passes tt
 
   pub unseen_passes : (d : CoreState) → q.audits ≡ p.audits → PassesAreTold (after w c [] d) q.audits
   unseen_passes d audits = subst (λ A. PassesAreTold (after w c [] d) A) (sym audits) (passes_on w c [] d p.audits (none_began d) told.passes)
@@ -350,8 +350,9 @@ module _ (bases : Bases) (before : List Record) (w0 : World) (c : ℕ) (p q : Po
   other_began x d none b at = subst (λ l. slice_get l b ≡ Some AuditBegin) (log_is w c (x ∷ []) d ∙ (ap (λ l. log_of w ++ l) none ∙ append-nil (log_of w))) at
 
   pub seen : (x : Deed) (d : CoreState) → logged_by (by c (x ∷ [])) ≡ [] → q.core ≡ d → q.log ≡ p.log → q.audits ≡ p.audits → Onward p.core d → Owes w (after w c (x ∷ []) d) c x
-      → d.system.checking ≡ is_some (span_step (under_way w0.happened) (x, c))
+      → d.system.checking ≡ is_some (span_step (under_way w0.happened) (x, c)) → AreRightThen w c (x ∷ []) q.core
       → Goes w c p (x ∷ []) (after w c (x ∷ []) q.core) q
-  seen x d none is log audits on owes flag =
+  seen x d none is log audits on owes flag right =
       goes_by w c p q told (x ∷ []) d is on (log ∙ (sym (append-nil p.log) ∙ ap (λ l. p.log ++ l) (sym none))) (by_deed w c p q told x d on owes) flag
       (subst (λ A. PassesAreTold (after w c (x ∷ []) d) A) (sym audits) (passes_on w c (x ∷ []) d p.audits (other_began x d none) told.passes))
+      right

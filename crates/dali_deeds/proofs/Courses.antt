@@ -47,16 +47,16 @@ course_tells bases before w c p q [] ds run told are =
     subst (λ es. Goes w c p es (after w c es q.core) q) (sym are.1) (subst (λ (k : Point). Goes w c p [] (after w c [] k.core) k) are.0 (none_done w c p told))
 course_tells bases before w c p q (x ∷ xs) ds run told are =
     let mid : Point = are.0 in
-    let one = step_tells bases before w c p mid x are.1 run told are.3 are.4 in
-    let rest = course_tells bases before (after w c are.1 mid.core) c mid q xs are.2 (bare_store_course_keeps bases before p mid (x ∷ []) run (mid, are.3, refl)) one.tells are.5 in
+    let one = step_tells bases before w c p mid x are.1 run told are.3 are.4 are.5 in
+    let rest = course_tells bases before (after w c are.1 mid.core) c mid q xs are.2 (bare_store_course_keeps bases before p mid (x ∷ []) run (mid, are.3, refl)) one.tells are.6 in
     let all = goes_on w (after w c are.1 mid.core) (after (after w c are.1 mid.core) c are.2 q.core) c p mid q are.1 are.2 one rest in
-    subst (λ es. Goes w c p es (after w c es q.core) q) (sym are.6)
+    subst (λ es. Goes w c p es (after w c es q.core) q) (sym are.7)
     (subst (λ (v : World). Goes w c p (are.1 ++ are.2) v q) (after_after w c are.1 are.2 mid.core q.core) all)
 
 pub meets_tells : MeetsTells
-meets_tells w c p why told no_fault =
+meets_tells w c p why told no_fault right =
     let same : record w { core = p.core } ≡ w = ap (λ k. record w { core = k }) (sym told.core) in
-    subst (λ (v : World). Goes v c p (Meets why ∷ []) (after w c (Meets why ∷ []) p.core) p) same (meets w c p why (subst (λ (v : World). Tells v p) (sym same) told) no_fault)
+    subst (λ (v : World). Goes v c p (Meets why ∷ []) (after w c (Meets why ∷ []) p.core) p) same (meets w c p why (subst (λ (v : World). Tells v p) (sym same) told) no_fault right)
 
 -- ---- where a round begins
 pub round_tells : RoundTells
@@ -69,6 +69,7 @@ round_tells bases before p precheck run between =
       together = together_at_first w refl refl;
       count = refl;
       flag = between.rests.flag;
+      right = tt;
       passes = λ b i x since is at. absurd (omega (arith, since, slice_get_within (p.log ++ []) b AuditBegin is, length-append p.log []));
     }
 

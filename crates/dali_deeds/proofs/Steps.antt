@@ -35,7 +35,7 @@ use Rattle.dali_transcripts.specs.Rounds.{WasRight}
 use Rattle.dali_transcripts.specs.Together.{SpanFits, AnchorIs, FaultsBy, RoomBy, RightBy, Owes}
 use Rattle.dali_deeds.specs.Deeds.{WereRight, AreOfCore, AreOf, refusal_now}
 use Rattle.dali_deeds.specs.Laws.{StepTells, IsNoFault}
-use Rattle.dali_deeds.specs.Tells.{after, WasPassed, PassesAreTold, Tells, Goes}
+use Rattle.dali_deeds.specs.Tells.{after, AreRightThen, WasPassed, PassesAreTold, Tells, Goes}
 use Rattle.dali_deeds.proofs.States.{new_state, claim_state, release_state}
 use Rattle.dali_deeds.proofs.Strays.{Stays, same_regions, one_region, poked_region}
 use Rattle.dali_deeds.proofs.Told.{Onward, plain, passed_on, passes_on, log_is, goes_by, by_deed}
@@ -98,12 +98,12 @@ module _ (bases : Bases) (before : List Record) (w0 : World) (c : ℕ) (p q : Po
   }
 
   refuses : (t k : ℕ) (m : Mode) (h : ℕ) (x : Deed) → (x ≡ Yields (refusal_now p.core t k m h)) ⊎ (x ≡ FindsDead (refusal_now p.core t k m h))
-      → q.core ≡ with_system p.core (refused p.core.system t k m h) → q.log ≡ p.log → q.audits ≡ p.audits → Goes w c p (x ∷ []) (after w c (x ∷ []) q.core) q
-  refuses t k m h x one is log audits = ⊎_elim
+      → q.core ≡ with_system p.core (refused p.core.system t k m h) → q.log ≡ p.log → q.audits ≡ p.audits → AreRightThen w c (x ∷ []) q.core → Goes w c p (x ∷ []) (after w c (x ∷ []) q.core) q
+  refuses t k m h x one is log audits right = ⊎_elim
       (λ e. subst (λ y. Goes w c p (y ∷ []) (after w c (y ∷ []) q.core) q) (sym e) (seen bases before w0 c p q run told (Yields f) d refl is log audits on
-      (plain_owes (Yields f) d tt refl (λ r g at. (g, at, refl, refl)) (λ b found e'. absurd (cc)) (λ u. refl) (refl, refl) refl tt (λ e'. tt)) told.flag))
+      (plain_owes (Yields f) d tt refl (λ r g at. (g, at, refl, refl)) (λ b found e'. absurd (cc)) (λ u. refl) (refl, refl) refl tt (λ e'. tt)) told.flag (subst (λ y. AreRightThen w c (y ∷ []) q.core) e right)))
       (λ e. subst (λ y. Goes w c p (y ∷ []) (after w c (y ∷ []) q.core) q) (sym e) (seen bases before w0 c p q run told (FindsDead f) d refl is log audits on
-      (plain_owes (FindsDead f) d tt refl (λ r g at. (g, at, refl, refl)) (λ b found e'. absurd (cc)) (λ u. refl) (refl, refl) refl tt (λ e'. tt)) told.flag))
+      (plain_owes (FindsDead f) d tt refl (λ r g at. (g, at, refl, refl)) (λ b found e'. absurd (cc)) (λ u. refl) (refl, refl) refl tt (λ e'. tt)) told.flag (subst (λ y. AreRightThen w c (y ∷ []) q.core) e right)))
       one
     where
       f : Refusal
@@ -128,7 +128,7 @@ module _ (bases : Bases) (before : List Record) (w0 : World) (c : ℕ) (p q : Po
       seen bases before w0 c p q run told (Strays r i mask) (with_region p.core r (region_after (Poke i mask) g)) refl is log audits
       (same _ _ refl refl refl refl refl refl (length-set p.core.regions r (region_after (Poke i mask) g)))
       (plain_owes (Strays r i mask) _ tt refl (λ q' h at'. (poked_region p.core.regions r i mask g at).each q' h at') (λ b found e'. absurd (cc)) (λ u. refl) (refl, refl) (sym (append-nil p.core.system.refusals)) tt (λ e'. tt))
-      told.flag
+      told.flag (tt, tt)
 
   on_region : (r : ℕ) (x : RegionStep) (g : RegionState) (ds : List Deed) → AreOfCore w p (OnRegion r x) ds → clears x ≡ false → slice_get p.core.regions r ≡ Some g
       → q.core ≡ with_region p.core r (region_after x g) → q.log ≡ p.log → q.audits ≡ p.audits → Goes w c p ds (after w c ds q.core) q
@@ -190,7 +190,7 @@ module _ (bases : Bases) (before : List Record) (w0 : World) (c : ℕ) (p q : Po
       seen bases before w0 c p q run told (DiesOn t r) (died p.core t (Some r)) refl is log audits (same _ _ refl refl refl refl refl refl stays.1)
       (plain_owes (DiesOn t r) _ tt refl (λ q' h at. stays.0.each q' h at) (λ b found e'. absurd (cc)) (λ u. new_state p.core.system.table t (with_state (Dead (Some r))) (Dead (Some r)) (λ row. refl) Live may.lives u) (refl, refl) (sym (append-nil p.core.system.refusals)) tt
       (λ e' g0 was. right_here e' g0 was))
-      told.flag
+      told.flag (tt, tt)
     where
       region : (o : Option RegionState) (h : Hold) → hold_in o ≡ Some h → (g : RegionState) × (o ≡ Some g)
       region None h e = absurd (cc)
@@ -202,19 +202,19 @@ module _ (bases : Bases) (before : List Record) (w0 : World) (c : ℕ) (p q : Po
           let g = region (slice_get p.core.regions r) held.0 held.1 in
           right_there bases before w0 c p q run told r g.0 g.1 right e' g0 was
 
-  claims : (t : ℕ) (o : Option ℕ) → state_of p.core.system t ≡ Some (Dead o) → q.core ≡ with_system p.core (in_state p.core.system t (Cleaning o)) → q.log ≡ p.log → q.audits ≡ p.audits
+  claims : (t : ℕ) (o : Option ℕ) → state_of p.core.system t ≡ Some (Dead o) → q.core ≡ with_system p.core (in_state p.core.system t (Cleaning o)) → q.log ≡ p.log → q.audits ≡ p.audits → AreRightThen w c (ClaimsTxn t ∷ []) q.core
       → Goes w c p (ClaimsTxn t ∷ []) (after w c (ClaimsTxn t ∷ []) q.core) q
-  claims t o dead_now is log audits =
+  claims t o dead_now is log audits right =
       seen bases before w0 c p q run told (ClaimsTxn t) (with_system p.core (in_state p.core.system t (Cleaning o))) refl is log audits (same _ _ refl refl refl refl refl refl refl)
       (plain_owes (ClaimsTxn t) _ tt refl (λ r g at. (g, at, refl, refl)) (λ b found e'. absurd (cc)) (λ u. claim_state p.core.system.table t o dead_now u) (refl, refl) (sym (append-nil p.core.system.refusals)) tt (λ e'. tt))
-      told.flag
+      told.flag right
 
-  gives_back : (t : ℕ) (o was : Option ℕ) → state_of p.core.system t ≡ Some (Cleaning was) → q.core ≡ with_system p.core (in_state p.core.system t (Dead o)) → q.log ≡ p.log → q.audits ≡ p.audits
+  gives_back : (t : ℕ) (o was : Option ℕ) → state_of p.core.system t ≡ Some (Cleaning was) → q.core ≡ with_system p.core (in_state p.core.system t (Dead o)) → q.log ≡ p.log → q.audits ≡ p.audits → AreRightThen w c (GivesTxnBack t o ∷ []) q.core
       → Goes w c p (GivesTxnBack t o ∷ []) (after w c (GivesTxnBack t o ∷ []) q.core) q
-  gives_back t o was claimed_now is log audits =
+  gives_back t o was claimed_now is log audits right =
       seen bases before w0 c p q run told (GivesTxnBack t o) (with_system p.core (in_state p.core.system t (Dead o))) refl is log audits (same _ _ refl refl refl refl refl refl refl)
       (plain_owes (GivesTxnBack t o) _ tt refl (λ r g at. (g, at, refl, refl)) (λ b found e'. absurd (cc)) (λ u. release_state p.core.system.table t o was claimed_now u) (refl, refl) (sym (append-nil p.core.system.refusals)) tt (λ e'. tt))
-      told.flag
+      told.flag right
 
   -- ---- flushes
   flushes : q.core ≡ with_vault p.core (longer p.core.vault (frame_of p.log p.core)) → p.core.vault.stopped ≡ false → q.log ≡ p.log → q.audits ≡ p.audits → Goes w c p [] (after w c [] q.core) q
@@ -230,15 +230,15 @@ module _ (bases : Bases) (before : List Record) (w0 : World) (c : ℕ) (p q : Po
       seen bases before w0 c p q run told (Meets StoreFailed) (with_vault p.core (faulted p.core.vault n)) refl (is ∙ whole) log audits
       (record { sizes = refl; limit = refl; flushed = omega arith; failed = λ e. refl; sealed = λ e. refl; stop = λ z e. e; refusals = λ f h. h; count = refl })
       (plain_owes (Meets StoreFailed) _ tt refl (λ r g at. (g, at, refl, refl)) (λ b found e'. absurd (cc)) (λ u. refl) (runs_on, refl, rose) (sym (append-nil p.core.system.refusals)) tt (λ e'. tt))
-      told.flag
+      told.flag (tt, tt)
     where
       whole : d ≡ with_vault p.core (faulted p.core.vault n)
       whole = rw (regions, system, vault) refl
 
 -- ---- a refusal, for which the core makes no step
-pub meets : (w0 : World) (c : ℕ) (p : Point) (why : Why) → Tells (record w0 { core = p.core }) p → IsNoFault why
+pub meets : (w0 : World) (c : ℕ) (p : Point) (why : Why) → Tells (record w0 { core = p.core }) p → IsNoFault why → AreRightThen (record w0 { core = p.core }) c (Meets why ∷ []) p.core
     → Goes (record w0 { core = p.core }) c p (Meets why ∷ []) (after w0 c (Meets why ∷ []) p.core) p
-meets w0 c p why told none =
+meets w0 c p why told none right =
     goes_by (record w0 { core = p.core }) c p p told (Meets why ∷ []) p.core refl on (sym (append-nil p.log))
     (by_deed (record w0 { core = p.core }) c p p told (Meets why) p.core on (record {
       span = tt;
@@ -253,6 +253,7 @@ meets w0 c p why told none =
     }))
     told.flag
     (passes_on (record w0 { core = p.core }) c (Meets why ∷ []) p.core p.audits (λ b at. subst (λ l. slice_get l b ≡ Some AuditBegin) (log_is (record w0 { core = p.core }) c (Meets why ∷ []) p.core ∙ append-nil (log_of w0)) at) told.passes)
+    right
   where
     on : Onward p.core p.core
     on = plain p.core p.core refl refl refl refl refl refl refl
@@ -266,38 +267,38 @@ meets w0 c p why told none =
 
 -- ---- each kind of step
 module _ (bases : Bases) (before : List Record) (w0 : World) (c : ℕ) (p q : Point) (run : StoreRun bases before no_image p) (told : Tells (record w0 { core = p.core }) p) where
-  at_core : (x : Step) (ds : List Deed) → is_of_checkpoint x ≡ false → IsStepAt (moment_of p) x (moment_of q) → AreOfCore (record w0 { core = p.core }) p x ds
+  at_core : (x : Step) (ds : List Deed) → is_of_checkpoint x ≡ false → IsStepAt (moment_of p) x (moment_of q) → AreOfCore (record w0 { core = p.core }) p x ds → AreRightThen (record w0 { core = p.core }) c ds q.core
       → Goes (record w0 { core = p.core }) c p ds (after w0 c ds q.core) q
-  at_core Begins ds other (s, audits) e = subst (λ es. Goes (record w0 { core = p.core }) c p es (after w0 c es q.core) q) (sym e) (begins bases before w0 c p q run told s.0 s.1.1 s.1.0 audits)
-  at_core (Operates t b) ds other (s, audits) e = subst (λ es. Goes (record w0 { core = p.core }) c p es (after w0 c es q.core) q) (sym e.0) (operates bases before w0 c p q run told t b s.0 s.1 s.2.at e.1 s.3.1 s.3.0 audits)
-  at_core (TakesBack t b) ds other (s, audits) e = subst (λ es. Goes (record w0 { core = p.core }) c p es (after w0 c es q.core) q) (sym e) (takes_back bases before w0 c p q run told t b s.0 s.1.at s.2.1 s.2.0 audits)
-  at_core (Frees t b) ds other (s, audits) e = subst (λ es. Goes (record w0 { core = p.core }) c p es (after w0 c es q.core) q) (sym e) (frees bases before w0 c p q run told t b s.0 s.1.at s.2.1 s.2.0 audits)
-  at_core (Answers t k a) ds other (s, audits) e = subst (λ es. Goes (record w0 { core = p.core }) c p es (after w0 c es q.core) q) (sym e) (answers bases before w0 c p q run told t k a s.0 s.3.1 s.3.0 audits)
-  at_core (Commits t) ds other (s, audits) e = subst (λ es. Goes (record w0 { core = p.core }) c p es (after w0 c es q.core) q) (sym e) (commits bases before w0 c p q run told t s.1.by s.2.1 s.2.0 audits)
-  at_core (Ends t) ds other (s, audits) e = subst (λ es. Goes (record w0 { core = p.core }) c p es (after w0 c es q.core) q) (sym e) (ends_txn bases before w0 c p q run told t s.2.1 s.2.0 audits)
-  at_core AuditBegins ds other (s, audits) e = subst (λ es. Goes (record w0 { core = p.core }) c p es (after w0 c es q.core) q) (sym e) (audit_begins bases before w0 c p q run told s.1 s.2.1 s.2.0 audits)
-  at_core (AuditEnds b found) ds other (s, audits) e = subst (λ es. Goes (record w0 { core = p.core }) c p es (after w0 c es q.core) q) (sym e.0) (audit_ends bases before w0 c p q run told b found e.1 (s, audits) s.0.runs s.1.1 s.1.0 audits.1)
-  at_core (Locks t k m) ds other (s, audits) e = subst (λ es. Goes (record w0 { core = p.core }) c p es (after w0 c es q.core) q) (sym e) (quiet bases before w0 c p q run told (with_system p.core (granted p.core.system t k m)) s.2.1 s.2.0 audits (same _ _ refl refl refl refl refl refl refl) (same_regions p.core.regions) (λ u. refl) refl refl refl)
-  at_core (Refuses t k m h) ds other (s, audits) e = ⊎_elim
-      (λ f. subst (λ es. Goes (record w0 { core = p.core }) c p es (after w0 c es q.core) q) (sym f) (refuses bases before w0 c p q run told t k m h _ (inl refl) s.2.1 s.2.0 audits))
-      (λ f. subst (λ es. Goes (record w0 { core = p.core }) c p es (after w0 c es q.core) q) (sym f) (refuses bases before w0 c p q run told t k m h _ (inr refl) s.2.1 s.2.0 audits))
+  at_core Begins ds other (s, audits) e right = subst (λ es. Goes (record w0 { core = p.core }) c p es (after w0 c es q.core) q) (sym e) (begins bases before w0 c p q run told s.0 s.1.1 s.1.0 audits)
+  at_core (Operates t b) ds other (s, audits) e right = subst (λ es. Goes (record w0 { core = p.core }) c p es (after w0 c es q.core) q) (sym e.0) (operates bases before w0 c p q run told t b s.0 s.1 s.2.at e.1 s.3.1 s.3.0 audits)
+  at_core (TakesBack t b) ds other (s, audits) e right = subst (λ es. Goes (record w0 { core = p.core }) c p es (after w0 c es q.core) q) (sym e) (takes_back bases before w0 c p q run told t b s.0 s.1.at s.2.1 s.2.0 audits)
+  at_core (Frees t b) ds other (s, audits) e right = subst (λ es. Goes (record w0 { core = p.core }) c p es (after w0 c es q.core) q) (sym e) (frees bases before w0 c p q run told t b s.0 s.1.at s.2.1 s.2.0 audits)
+  at_core (Answers t k a) ds other (s, audits) e right = subst (λ es. Goes (record w0 { core = p.core }) c p es (after w0 c es q.core) q) (sym e) (answers bases before w0 c p q run told t k a s.0 s.3.1 s.3.0 audits)
+  at_core (Commits t) ds other (s, audits) e right = subst (λ es. Goes (record w0 { core = p.core }) c p es (after w0 c es q.core) q) (sym e) (commits bases before w0 c p q run told t s.1.by s.2.1 s.2.0 audits)
+  at_core (Ends t) ds other (s, audits) e right = subst (λ es. Goes (record w0 { core = p.core }) c p es (after w0 c es q.core) q) (sym e) (ends_txn bases before w0 c p q run told t s.2.1 s.2.0 audits)
+  at_core AuditBegins ds other (s, audits) e right = subst (λ es. Goes (record w0 { core = p.core }) c p es (after w0 c es q.core) q) (sym e) (audit_begins bases before w0 c p q run told s.1 s.2.1 s.2.0 audits)
+  at_core (AuditEnds b found) ds other (s, audits) e right = subst (λ es. Goes (record w0 { core = p.core }) c p es (after w0 c es q.core) q) (sym e.0) (audit_ends bases before w0 c p q run told b found e.1 (s, audits) s.0.runs s.1.1 s.1.0 audits.1)
+  at_core (Locks t k m) ds other (s, audits) e right = subst (λ es. Goes (record w0 { core = p.core }) c p es (after w0 c es q.core) q) (sym e) (quiet bases before w0 c p q run told (with_system p.core (granted p.core.system t k m)) s.2.1 s.2.0 audits (same _ _ refl refl refl refl refl refl refl) (same_regions p.core.regions) (λ u. refl) refl refl refl)
+  at_core (Refuses t k m h) ds other (s, audits) e right = ⊎_elim
+      (λ f. subst (λ es. Goes (record w0 { core = p.core }) c p es (after w0 c es q.core) q) (sym f) (refuses bases before w0 c p q run told t k m h _ (inl refl) s.2.1 s.2.0 audits (subst (λ es. AreRightThen (record w0 { core = p.core }) c es q.core) f right)))
+      (λ f. subst (λ es. Goes (record w0 { core = p.core }) c p es (after w0 c es q.core) q) (sym f) (refuses bases before w0 c p q run told t k m h _ (inr refl) s.2.1 s.2.0 audits (subst (λ es. AreRightThen (record w0 { core = p.core }) c es q.core) f right)))
       e
-  at_core (OnRegion r x) ds other (s, audits) e = on_region bases before w0 c p q run told r x s.0 ds e other s.1 s.3.1 s.3.0 audits
-  at_core (Passes b r) ds other (s, audits) e = subst (λ es. Goes (record w0 { core = p.core }) c p es (after w0 c es q.core) q) (sym e) (passes bases before w0 c p q run told b r s.0 s.1 s.2.1 s.2.0 audits.1)
-  at_core (Dies t None) ds other (s, audits) e = absurd e
-  at_core (Dies t (Some r)) ds other (s, audits) e = subst (λ es. Goes (record w0 { core = p.core }) c p es (after w0 c es q.core) q) (sym e.0) (dies bases before w0 c p q run told t r s.0 e.1 s.1.1 s.1.0 audits)
-  at_core (Claims t) ds other (s, audits) e = subst (λ es. Goes (record w0 { core = p.core }) c p es (after w0 c es q.core) q) (sym e) (claims bases before w0 c p q run told t s.0 s.1 s.2.1 s.2.0 audits)
-  at_core (GivesBack t o) ds other (s, audits) e = subst (λ es. Goes (record w0 { core = p.core }) c p es (after w0 c es q.core) q) (sym e) (gives_back bases before w0 c p q run told t o s.0.was s.0.claimed s.1.1 s.1.0 audits)
-  at_core (Recovers r) ds other (s, audits) e = subst (λ es. Goes (record w0 { core = p.core }) c p es (after w0 c es q.core) q) (sym e) (changed_region bases before w0 c p q run told r s.0 (taken_back s.0) s.1 refl refl s.3.1 s.3.0 audits)
-  at_core Stops ds other (s, audits) e = subst (λ es. Goes (record w0 { core = p.core }) c p es (after w0 c es q.core) q) (sym e)
+  at_core (OnRegion r x) ds other (s, audits) e right = on_region bases before w0 c p q run told r x s.0 ds e other s.1 s.3.1 s.3.0 audits
+  at_core (Passes b r) ds other (s, audits) e right = subst (λ es. Goes (record w0 { core = p.core }) c p es (after w0 c es q.core) q) (sym e) (passes bases before w0 c p q run told b r s.0 s.1 s.2.1 s.2.0 audits.1)
+  at_core (Dies t None) ds other (s, audits) e right = absurd e
+  at_core (Dies t (Some r)) ds other (s, audits) e right = subst (λ es. Goes (record w0 { core = p.core }) c p es (after w0 c es q.core) q) (sym e.0) (dies bases before w0 c p q run told t r s.0 e.1 s.1.1 s.1.0 audits)
+  at_core (Claims t) ds other (s, audits) e right = subst (λ es. Goes (record w0 { core = p.core }) c p es (after w0 c es q.core) q) (sym e) (claims bases before w0 c p q run told t s.0 s.1 s.2.1 s.2.0 audits (subst (λ es. AreRightThen (record w0 { core = p.core }) c es q.core) e right))
+  at_core (GivesBack t o) ds other (s, audits) e right = subst (λ es. Goes (record w0 { core = p.core }) c p es (after w0 c es q.core) q) (sym e) (gives_back bases before w0 c p q run told t o s.0.was s.0.claimed s.1.1 s.1.0 audits (subst (λ es. AreRightThen (record w0 { core = p.core }) c es q.core) e right))
+  at_core (Recovers r) ds other (s, audits) e right = subst (λ es. Goes (record w0 { core = p.core }) c p es (after w0 c es q.core) q) (sym e) (changed_region bases before w0 c p q run told r s.0 (taken_back s.0) s.1 refl refl s.3.1 s.3.0 audits)
+  at_core Stops ds other (s, audits) e right = subst (λ es. Goes (record w0 { core = p.core }) c p es (after w0 c es q.core) q) (sym e)
       (quiet bases before w0 c p q run told (with_system p.core (store_stopped p.core.system)) s.1.1 s.1.0 audits
       (record { sizes = refl; limit = refl; flushed = omega arith; failed = λ f. f; sealed = λ f. refl; stop = λ z f. keeps_stop p.core.system.stop z f; refusals = λ g h. h; count = refl })
       (same_regions p.core.regions) (λ u. refl) refl refl refl)
-  at_core (Checkpoints b) ds other (s, audits) e = absurd (cc)
-  at_core Takes ds other (s, audits) e = subst (λ es. Goes (record w0 { core = p.core }) c p es (after w0 c es q.core) q) (sym e) (quiet bases before w0 c p q run told (with_system p.core (taken p.core.system)) s.1 s.0 audits (same _ _ refl refl refl refl refl refl refl) (same_regions p.core.regions) (λ u. refl) refl refl refl)
-  at_core Flushes ds other (s, audits) e = subst (λ es. Goes (record w0 { core = p.core }) c p es (after w0 c es q.core) q) (sym e) (flushes bases before w0 c p q run told s.1.1 s.0 s.1.0 audits)
-  at_core (Faults n) ds other (s, audits) e = subst (λ es. Goes (record w0 { core = p.core }) c p es (after w0 c es q.core) q) (sym e) (fails bases before w0 c p q run told (with_vault p.core (faulted p.core.vault n)) n refl refl refl s.0 s.1 s.2.1 s.2.0 audits)
-  at_core (ReadFails n) ds other (s, audits) e = absurd e
+  at_core (Checkpoints b) ds other (s, audits) e right = absurd (cc)
+  at_core Takes ds other (s, audits) e right = subst (λ es. Goes (record w0 { core = p.core }) c p es (after w0 c es q.core) q) (sym e) (quiet bases before w0 c p q run told (with_system p.core (taken p.core.system)) s.1 s.0 audits (same _ _ refl refl refl refl refl refl refl) (same_regions p.core.regions) (λ u. refl) refl refl refl)
+  at_core Flushes ds other (s, audits) e right = subst (λ es. Goes (record w0 { core = p.core }) c p es (after w0 c es q.core) q) (sym e) (flushes bases before w0 c p q run told s.1.1 s.0 s.1.0 audits)
+  at_core (Faults n) ds other (s, audits) e right = subst (λ es. Goes (record w0 { core = p.core }) c p es (after w0 c es q.core) q) (sym e) (fails bases before w0 c p q run told (with_vault p.core (faulted p.core.vault n)) n refl refl refl s.0 s.1 s.2.1 s.2.0 audits)
+  at_core (ReadFails n) ds other (s, audits) e right = absurd e
 
   -- ---- with its store: one that leaves the core
   left : (ds : List Deed) → ds ≡ [] → q.core ≡ p.core → q.log ≡ p.log → q.audits ≡ p.audits → Goes (record w0 { core = p.core }) c p ds (after w0 c ds q.core) q
@@ -309,14 +310,14 @@ module _ (bases : Bases) (before : List Record) (w0 : World) (c : ℕ) (p q : Po
   starts off is log audits =
       seen bases before w0 c p q run told StartsCheckpoint (with_flag p.core true) refl is log audits (same _ _ refl refl refl refl refl refl refl)
       (plain_owes bases before w0 c p q run told StartsCheckpoint _ (none_of (under_way w0.happened) (sym told.flag ∙ off)) refl (λ r g at. (g, at, refl, refl)) (λ b found e'. absurd (cc)) (λ u. refl) (refl, refl) (sym (append-nil p.core.system.refusals)) tt (λ e'. tt))
-      refl
+      refl (tt, tt)
 
   finishes : under_way w0.happened ≡ Some c → q.core ≡ with_flag p.core false → q.log ≡ p.log → q.audits ≡ p.audits
       → Goes (record w0 { core = p.core }) c p (EndsCheckpoint ∷ []) (after w0 c (EndsCheckpoint ∷ []) q.core) q
   finishes own is log audits =
       seen bases before w0 c p q run told EndsCheckpoint (with_flag p.core false) refl is log audits (same _ _ refl refl refl refl refl refl refl)
       (plain_owes bases before w0 c p q run told EndsCheckpoint _ own refl (λ r g at. (g, at, refl, refl)) (λ b found e'. absurd (cc)) (λ u. refl) (refl, refl) (sym (append-nil p.core.system.refusals)) tt (λ e'. tt))
-      refl
+      refl (tt, tt)
 
   turns : q.core ≡ with_current p.core → q.log ≡ p.log → q.audits ≡ p.audits
       → Goes (record w0 { core = p.core }) c p (MovesAnchor (p.core.vault.current + 1) ∷ []) (after w0 c (MovesAnchor (p.core.vault.current + 1) ∷ []) q.core) q
@@ -324,32 +325,32 @@ module _ (bases : Bases) (before : List Record) (w0 : World) (c : ℕ) (p q : Po
       seen bases before w0 c p q run told (MovesAnchor (p.core.vault.current + 1)) (with_current p.core) refl is log audits
       (record { sizes = refl; limit = refl; flushed = omega arith; failed = λ e. e; sealed = λ e. refl; stop = λ z e. e; refusals = λ f h. h; count = refl })
       (plain_owes bases before w0 c p q run told (MovesAnchor (p.core.vault.current + 1)) _ tt (refl, refl) (λ r g at. (g, at, refl, refl)) (λ b found e'. absurd (cc)) (λ u. refl) (refl, refl) (sym (append-nil p.core.system.refusals)) tt (λ e'. tt))
-      told.flag
+      told.flag (tt, tt)
 
   faults_in : (ds : List Deed) (n : ℕ) → ds ≡ Meets StoreFailed ∷ [] → IsFault p n → q.core ≡ with_fault p.core n → q.log ≡ p.log → q.audits ≡ p.audits
       → Goes (record w0 { core = p.core }) c p ds (after w0 c ds q.core) q
   faults_in ds n e fault is log audits = subst (λ es. Goes (record w0 { core = p.core }) c p es (after w0 c es q.core) q) (sym e)
       (fails bases before w0 c p q run told (with_fault p.core n) n refl refl refl fault.may.runs fault.rose is log audits)
 
-  at_store : (x : StoreStep) (ds : List Deed) → IsPointStep p x q → AreOf (record w0 { core = p.core }) c p x ds → Goes (record w0 { core = p.core }) c p ds (after w0 c ds q.core) q
-  at_store (Does x) ds h e = at_core x ds h.0 h.1 e
-  at_store Starts ds h e = subst (λ es. Goes (record w0 { core = p.core }) c p es (after w0 c es q.core) q) (sym e) (starts h.0 (ap (λ (k : Point). k.core) h.1) (ap (λ (k : Point). k.log) h.1) (ap (λ (k : Point). k.audits) h.1))
-  at_store Keeps ds h e = left ds e (ap (λ (k : Point). k.core) h.4) (ap (λ (k : Point). k.log) h.4) (ap (λ (k : Point). k.audits) h.4)
-  at_store (Copies r n) ds h e = subst (λ es. Goes (record w0 { core = p.core }) c p es (after w0 c es q.core) q) (sym e)
+  at_store : (x : StoreStep) (ds : List Deed) → IsPointStep p x q → AreOf (record w0 { core = p.core }) c p x ds → AreRightThen (record w0 { core = p.core }) c ds q.core → Goes (record w0 { core = p.core }) c p ds (after w0 c ds q.core) q
+  at_store (Does x) ds h e right = at_core x ds h.0 h.1 e right
+  at_store Starts ds h e right = subst (λ es. Goes (record w0 { core = p.core }) c p es (after w0 c es q.core) q) (sym e) (starts h.0 (ap (λ (k : Point). k.core) h.1) (ap (λ (k : Point). k.log) h.1) (ap (λ (k : Point). k.audits) h.1))
+  at_store Keeps ds h e right = left ds e (ap (λ (k : Point). k.core) h.4) (ap (λ (k : Point). k.log) h.4) (ap (λ (k : Point). k.audits) h.4)
+  at_store (Copies r n) ds h e right = subst (λ es. Goes (record w0 { core = p.core }) c p es (after w0 c es q.core) q) (sym e)
       (let k = cleaned_is (target p) h.0 in changed_region bases before w0 c p q run told r h.0 (cleaned (target p) h.0) h.1 k.0 k.1 (ap (λ (z : Point). z.core) h.5) (ap (λ (z : Point). z.log) h.5) (ap (λ (z : Point). z.audits) h.5))
-  at_store (Skips r n) ds h e = left ds e (ap (λ (k : Point). k.core) h.5) (ap (λ (k : Point). k.log) h.5) (ap (λ (k : Point). k.audits) h.5)
-  at_store (WritesHead head) ds h e = left ds e (ap (λ (k : Point). k.core) h.1) (ap (λ (k : Point). k.log) h.1) (ap (λ (k : Point). k.audits) h.1)
-  at_store Syncs ds h e = left ds e (ap (λ (k : Point). k.core) h.1) (ap (λ (k : Point). k.log) h.1) (ap (λ (k : Point). k.audits) h.1)
-  at_store Turns ds h e = subst (λ es. Goes (record w0 { core = p.core }) c p es (after w0 c es q.core) q) (sym e) (turns (ap (λ (k : Point). k.core) h.5) (ap (λ (k : Point). k.log) h.5) (ap (λ (k : Point). k.audits) h.5))
-  at_store (CopyFails r ws n) ds h e = faults_in ds n e h.3 (ap (λ (k : Point). k.core) h.4) (ap (λ (k : Point). k.log) h.4) (ap (λ (k : Point). k.audits) h.4)
-  at_store (HeadFails head n) ds h e = faults_in ds n e h.0 (ap (λ (k : Point). k.core) h.1) (ap (λ (k : Point). k.log) h.1) (ap (λ (k : Point). k.audits) h.1)
-  at_store (SyncFails n) ds h e = faults_in ds n e h.0 (ap (λ (k : Point). k.core) h.1) (ap (λ (k : Point). k.log) h.1) (ap (λ (k : Point). k.audits) h.1)
-  at_store (TurnFails n) ds h e = faults_in ds n e h.3 (ap (λ (k : Point). k.core) h.5) (ap (λ (k : Point). k.log) h.5) (ap (λ (k : Point). k.audits) h.5)
-  at_store Finishes ds h e = subst (λ es. Goes (record w0 { core = p.core }) c p es (after w0 c es q.core) q) (sym e.0) (finishes e.1 (ap (λ (k : Point). k.core) h.1) (ap (λ (k : Point). k.log) h.1) (ap (λ (k : Point). k.audits) h.1))
+  at_store (Skips r n) ds h e right = left ds e (ap (λ (k : Point). k.core) h.5) (ap (λ (k : Point). k.log) h.5) (ap (λ (k : Point). k.audits) h.5)
+  at_store (WritesHead head) ds h e right = left ds e (ap (λ (k : Point). k.core) h.1) (ap (λ (k : Point). k.log) h.1) (ap (λ (k : Point). k.audits) h.1)
+  at_store Syncs ds h e right = left ds e (ap (λ (k : Point). k.core) h.1) (ap (λ (k : Point). k.log) h.1) (ap (λ (k : Point). k.audits) h.1)
+  at_store Turns ds h e right = subst (λ es. Goes (record w0 { core = p.core }) c p es (after w0 c es q.core) q) (sym e) (turns (ap (λ (k : Point). k.core) h.5) (ap (λ (k : Point). k.log) h.5) (ap (λ (k : Point). k.audits) h.5))
+  at_store (CopyFails r ws n) ds h e right = faults_in ds n e h.3 (ap (λ (k : Point). k.core) h.4) (ap (λ (k : Point). k.log) h.4) (ap (λ (k : Point). k.audits) h.4)
+  at_store (HeadFails head n) ds h e right = faults_in ds n e h.0 (ap (λ (k : Point). k.core) h.1) (ap (λ (k : Point). k.log) h.1) (ap (λ (k : Point). k.audits) h.1)
+  at_store (SyncFails n) ds h e right = faults_in ds n e h.0 (ap (λ (k : Point). k.core) h.1) (ap (λ (k : Point). k.log) h.1) (ap (λ (k : Point). k.audits) h.1)
+  at_store (TurnFails n) ds h e right = faults_in ds n e h.3 (ap (λ (k : Point). k.core) h.5) (ap (λ (k : Point). k.log) h.5) (ap (λ (k : Point). k.audits) h.5)
+  at_store Finishes ds h e right = subst (λ es. Goes (record w0 { core = p.core }) c p es (after w0 c es q.core) q) (sym e.0) (finishes e.1 (ap (λ (k : Point). k.core) h.1) (ap (λ (k : Point). k.log) h.1) (ap (λ (k : Point). k.audits) h.1))
 
 -- for any world that tells of the point
 pub step_tells : StepTells
-step_tells bases before w c p q x ds run told step are =
+step_tells bases before w c p q x ds run told step are right =
     let same_world : record w { core = p.core } ≡ w = ap (λ k. record w { core = k }) (sym told.core) in
     subst (λ (v : World). Goes v c p ds (after w c ds q.core) q) same_world
-    (at_store bases before w c p q run (subst (λ (v : World). Tells v p) (sym same_world) told) x ds step (subst (λ (v : World). AreOf v c p x ds) (sym same_world) are))
+    (at_store bases before w c p q run (subst (λ (v : World). Tells v p) (sym same_world) told) x ds step (subst (λ (v : World). AreOf v c p x ds) (sym same_world) are) right)

@@ -12,11 +12,13 @@ use Rattle.dali_system.specs.State.{CoreState, stable}
 use Rattle.dali_system.specs.Passes.{Pass, Audits}
 use Rattle.dali_crash.specs.Checkpoints.{Point}
 use Rattle.dali_transcripts.specs.World.{Deed, World, IsLogged, record_of, logged_by, log_of, span_step, stray_after, under_way, Grows}
+use Rattle.dali_transcripts.specs.Causes.{AreRightFrom}
 use Rattle.dali_transcripts.specs.Rounds.{by, HoldsTogether}
 use Rattle.dali_transcripts.specs.Together.{Owes, HasKept}
 use Rattle.dali_transcripts.proofs.Together.{together_by_deed, together_by_none}
 use Rattle.dali_transcripts.proofs.Grown.{grows_on}
-use Rattle.dali_deeds.specs.Tells.{after, WasPassed, PassesAreTold, Tells, Goes}
+use Rattle.dali_transcripts.proofs.Growing.{right_goes_on}
+use Rattle.dali_deeds.specs.Tells.{after, AreRightThen, WasPassed, PassesAreTold, Tells, Goes}
 
 -- ---- a core that goes on
 pub record Onward (c d : CoreState) : Type 0 where
@@ -103,9 +105,9 @@ module _ (w : World) (c : ℕ) (ds : List Deed) (d : CoreState) where
 -- ---- what is told at a point
 module _ (w : World) (c : ℕ) (p q : Point) (told : Tells w p) where
   pub goes_by : (ds : List Deed) (d : CoreState) → q.core ≡ d → Onward w.core d → q.log ≡ p.log ++ logged_by (by c ds) → HoldsTogether (after w c ds d)
-      → d.system.checking ≡ is_some (fold span_step (under_way w.happened) (by c ds)) → PassesAreTold (after w c ds d) q.audits
+      → d.system.checking ≡ is_some (fold span_step (under_way w.happened) (by c ds)) → PassesAreTold (after w c ds d) q.audits → AreRightThen w c ds q.core
       → Goes w c p ds (after w c ds q.core) q
-  goes_by ds d is on log together flag passes =
+  goes_by ds d is on log together flag passes right =
       let g = grows w c ds q.core (subst (λ k. Onward w.core k) (sym is) on) in
       record {
         is = refl;
@@ -119,6 +121,7 @@ module _ (w : World) (c : ℕ) (p q : Point) (told : Tells w p) where
           together = subst (λ k. HoldsTogether (after w c ds k)) (sym is) together;
           flag = ap (λ (k : CoreState). k.system.checking) is ∙ (flag ∙ ap is_some (sym (under_is w c ds q.core)));
           passes = subst (λ k. PassesAreTold (after w c ds k) q.audits) (sym is) passes;
+          right = right_goes_on w (after w c ds q.core) g.0 told.right (subst (λ xs. AreRightFrom (after w c ds q.core) (length w.happened) xs) (sym g.1) right);
         };
       }
 

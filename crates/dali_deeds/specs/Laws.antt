@@ -1,7 +1,7 @@
 -- The steps of a core, and the deeds by which the clients of a round tell them.
---     StepTells                each step of a core that a client makes, with the deeds that tell it, keeps what a round says of all its clients together
+--     StepTells                each step of a core that a client makes, with the deeds that tell it, keeps what a round says of all its deeds
 --     MeetsTells               so does a refusal, for which the core makes no step
---     AreOfCourse w c p xs q ds    these deeds tell a list of steps from p to q
+--     AreOfCourse w c p xs q ds    these deeds tell a list of steps from p to q, and have what they ask for
 --     CourseTells              and so does each list of steps
 --     GoesOn                   what was done goes on with what is done next
 --     RoundTells               it holds where a round begins
@@ -15,12 +15,12 @@ use Rattle.dali_transcripts.specs.Words.{Why, StoppedBy, Full, Damaged, UnderWay
 use Rattle.dali_transcripts.specs.World.{Deed, Meets, World, stop_at}
 use Rattle.dali_transcripts.specs.Rounds.{IsBetween}
 use Rattle.dali_deeds.specs.Deeds.{AreOf}
-use Rattle.dali_deeds.specs.Tells.{after, Tells, Goes}
+use Rattle.dali_deeds.specs.Tells.{after, AreRightThen, Tells, Goes}
 
 abbrev pub StepTells : Type 0
 StepTells =
     (bases : Bases) (before : List Record) (w : World) (c : ℕ) (p q : Point) (x : StoreStep) (ds : List Deed)
-    → StoreRun bases before no_image p → Tells w p → IsPointStep p x q → AreOf w c p x ds → Goes w c p ds (after w c ds q.core) q
+    → StoreRun bases before no_image p → Tells w p → IsPointStep p x q → AreOf w c p x ds → AreRightThen w c ds q.core → Goes w c p ds (after w c ds q.core) q
 
 -- the store's own failure is told by the step that fails
 abbrev pub IsNoFault : Why → Type 0
@@ -31,12 +31,12 @@ IsNoFault UnderWay = Unit {0}
 IsNoFault why = ⊥
 
 abbrev pub MeetsTells : Type 0
-MeetsTells = (w : World) (c : ℕ) (p : Point) (why : Why) → Tells w p → IsNoFault why → Goes w c p (Meets why ∷ []) (after w c (Meets why ∷ []) p.core) p
+MeetsTells = (w : World) (c : ℕ) (p : Point) (why : Why) → Tells w p → IsNoFault why → AreRightThen w c (Meets why ∷ []) p.core → Goes w c p (Meets why ∷ []) (after w c (Meets why ∷ []) p.core) p
 
 abbrev pub AreOfCourse : World → (client : ℕ) → Point → List StoreStep → Point → List Deed → Type 0
 AreOfCourse w c p [] q ds = (p ≡ q) × (ds ≡ [])
 AreOfCourse w c p (x ∷ xs) q ds =
-    (mid : Point) × (own more : List Deed) × IsPointStep p x mid × AreOf w c p x own × AreOfCourse (after w c own mid.core) c mid xs q more × (ds ≡ own ++ more)
+    (mid : Point) × (own more : List Deed) × IsPointStep p x mid × AreOf w c p x own × AreRightThen w c own mid.core × AreOfCourse (after w c own mid.core) c mid xs q more × (ds ≡ own ++ more)
 
 abbrev pub CourseTells : Type 0
 CourseTells =

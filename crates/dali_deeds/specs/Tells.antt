@@ -1,5 +1,6 @@
 -- What is so of all deeds of a round while it goes on.
 --     after w c ds d           the world behind these deeds of the client c, which leave the core d
+--     AreRightThen w c ds d    each of these deeds has what it asks for at its place
 --     WasPassed w b x          a pass of the audit from record b gave what stray writes had left at some place of the round
 --     PassesAreTold w audits   so did each pass of an audit of the round
 --     Tells w p                the world w tells of the point p: its log and core, and what a round says of all its clients together
@@ -11,10 +12,14 @@ use Rattle.dali_system.specs.State.{CoreState}
 use Rattle.dali_system.specs.Passes.{Pass, Audits}
 use Rattle.dali_crash.specs.Checkpoints.{Point}
 use Rattle.dali_transcripts.specs.World.{Deed, World, IsLogged, log_of, log_at, stray_after, under_way, Grows}
+use Rattle.dali_transcripts.specs.Causes.{AreRightFrom, AreRight}
 use Rattle.dali_transcripts.specs.Rounds.{by, HoldsTogether}
 
 abbrev pub after : World → (client : ℕ) → List Deed → CoreState → World
 after w c ds d = record w { happened = w.happened ++ by c ds; core = d }
+
+abbrev pub AreRightThen : World → (client : ℕ) → List Deed → CoreState → Type 0
+AreRightThen w c ds d = AreRightFrom (after w c ds d) (length w.happened) (by c ds)
 
 -- ---- the passes of the round's audits
 pub record WasPassed (w : World) (b : ℕ) (x : Pass) : Type 0 where
@@ -36,6 +41,8 @@ pub record Tells (w : World) (p : Point) : Type 0 where
   pub count : length w.core.regions ≡ length w.old.regions
   pub flag : w.core.system.checking ≡ is_some (under_way w.happened)
   pub passes : PassesAreTold w p.audits
+  -- each deed has what it asks for at its place
+  pub right : AreRight w
 
 pub record Goes (w : World) (c : ℕ) (p : Point) (ds : List Deed) (v : World) (q : Point) : Type 0 where
   pub is : v ≡ after w c ds q.core

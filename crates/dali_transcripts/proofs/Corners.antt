@@ -21,7 +21,7 @@ use Rattle.dali_transcripts.proofs.Ends.{grew_from, no_row, all_ended, none_clai
 moves_1 : List Move
 moves_1 =
     Pokes false 2 1 9 1 (AuditAct ∷ BeginAct ∷ Calls (Get 5) ∷ CommitAct ∷ CheckpointAct ∷ [])
-    ∷ Audits 3 4 (1 ∷ []) (BeginAct ∷ Calls (Get 5) ∷ CommitAct ∷ CheckpointAct ∷ [])
+    ∷ Audits 3 4 (1 ∷ []) None (BeginAct ∷ Calls (Get 5) ∷ CommitAct ∷ CheckpointAct ∷ [])
     ∷ IsRefusedBegin (Outside false) false 5 (StoppedBy (Damage 1)) (Calls (Get 5) ∷ CommitAct ∷ CheckpointAct ∷ [])
     ∷ Skips true (Calls (Get 5)) (CommitAct ∷ CheckpointAct ∷ [])
     ∷ Skips true CommitAct (CheckpointAct ∷ [])
@@ -41,7 +41,7 @@ so_1 = record {
       (
         refl,
         (refl, record { met = record { place = 6; there = refl; number = refl }; cause = (tt, refl) }, tt),
-        (refl, tt, (refl, tt, (refl, (tt, refl, record { met = record { place = 7; there = refl; number = refl }; cause = (tt, refl) }), refl))),
+        (refl, tt, (refl, tt, (refl, (tt, refl, (record { met = record { place = 7; there = refl; number = refl }; cause = (tt, refl) }, refl)), refl))),
       ),
     ),
   );
@@ -63,7 +63,7 @@ moves_2 =
     ∷ []
 
 full_2 : IsFull world 4 BeginAct None 29 30
-full_2 = record { limit_is = refl; end_is = refl; refused = Begin 2; next = (2, refl, refl); spelled = omega arith; passes = omega arith }
+full_2 = record { limit_is = refl; end_is = refl; refused = Begin 2; next = (2, refl, refl); spelled = omega arith; passes = omega arith; runs = refl }
 
 so_2 : IsSoFar world 2 told_2 lines_2 (deeds_of world 2) [] (at (LeftOut false) [])
 unfolding moves_2

@@ -9,7 +9,7 @@ use Rattle.dali_record.specs.declared.records.Record.TheVariants.{Done, Ended, A
 use Rattle.dali_system.specs.declared.refusals.Refusal.{Refusal}
 use Rattle.dali_transcripts.specs.Words.{Calls, Aborts as AbortAct, Audits as AuditAct, Checkpoints as CheckpointAct, Why, StoppedBy, Full, Damaged, StoreFailed, UnderWay, Said, Answered, AbortOk, Aborted, LeftOpen, Died, Busy, Refused}
 use Rattle.dali_transcripts.specs.World.{Logs, DiesOn, Claims, GivesBack, Yields, FindsDead, EndsCheckpoint, Meets, World}
-use Rattle.dali_transcripts.specs.Moves.{Receipt, Spot, Ending, TakenBack, LeftBehind, Move, Answers, IsRefusedCall, Dies, GivesWay, GivesUp, Commits, CommitFails, Aborts, IsRefusedAbort, Ends, StaysOpen, Audits, IsRefusedAudit, IsRefusedCheckpoint, said, own, to, end_line, end_own, spanned, refused_own}
+use Rattle.dali_transcripts.specs.Moves.{Receipt, Spot, Ending, TakenBack, LeftBehind, Move, Answers, IsRefusedCall, Dies, GivesWay, GivesUp, Commits, CommitFails, Aborts, IsRefusedAbort, Ends, StaysOpen, Audits, IsRefusedAudit, FailsCheckpoint, IsRefusedCheckpoint, said, own, to, end_line, end_own, spanned, refused_own}
 use Rattle.dali_transcripts.specs.Causes.{IsCleanUp, IsAside, AreAside, IsAsking, AreAsking, IsWork, AreWork, IsTried, AreTried, IsBehind, AreBehind, IsCutAudit, IsCutBy, HasCause}
 use Rattle.dali_transcripts.specs.Transcripts.{IsPath, said_by, own_by}
 use Rattle.dali_transcripts.specs.Laws.{deed_told, line_of_deed, DeedsAreTold}
@@ -74,6 +74,7 @@ module _ (w : World) (c : ℕ) where
 
   behind_silent : (t : ℕ) (x : Receipt) → IsBehind w c t x → line_of_deed x ≡ None
   behind_silent t (n, Logs y) h = refl
+  behind_silent t (n, Meets StoreFailed) h = refl
   behind_silent t x h = clean_up_silent t x h
 
   behinds_silent : (t : ℕ) (xs : List Receipt) → AreBehind w c t xs → Silent xs
@@ -148,7 +149,7 @@ module _ (w : World) (c : ℕ) where
 
   one_agrees : (x : Move) → HasCause w c x → Agrees (said x) (own x)
   unfolding Agrees told Silent
-  one_agrees (IsRefusedCall t tries cs d s xs n ys call why rest) h = quietly (Refused (Calls call) why) (xs ++ (n, Meets why) ∷ ys) refl (met_back xs n why ys (all_tried_silent t call xs h.0) (asides_silent t ys h.3))
+  one_agrees (IsRefusedCall t tries cs d s xs n ys call why rest) h = quietly (Refused (Calls call) why) (xs ++ (n, Meets why) ∷ ys) refl (met_back xs n why ys (all_tried_silent t call xs h.0) (asides_silent t ys h.2))
   one_agrees (Answers t tries cs d xs n call a rest) h = behind_quiet xs ((n, Logs (Done t call a)) ∷ []) (Answered call a ∷ []) (works_silent t call xs h.0) refl
   one_agrees (Dies t tries cs d xs n r call rest) h = behind_quiet xs ((n, DiesOn t r) ∷ []) (Died ∷ []) (works_silent t call xs h.0) refl
   one_agrees (GivesWay t tries cs d xs call f ys end rest) h = busy_agrees t call xs ys (end_own t end) f (end_line end ∷ []) h.0 h.2 (gave_way t end)
@@ -159,8 +160,12 @@ module _ (w : World) (c : ℕ) where
   one_agrees (IsRefusedAbort t tries cs d s xs n why rest) h = quietly (Refused AbortAct why) (xs ++ (n, Meets why) ∷ []) refl (met xs n why (asides_silent t xs h.0))
   one_agrees (Ends t tries cs d xs n) h = behind_quiet xs ((n, Logs (Ended t)) ∷ []) (Aborted ∷ []) (asides_silent t xs h.0) refl
   one_agrees (StaysOpen t tries cs d s xs n z) h = quietly LeftOpen (xs ++ (n, Meets (StoppedBy z)) ∷ []) refl (met xs n (StoppedBy z) (asides_silent t xs h.0))
-  one_agrees (Audits b n [] rest) h = refl
-  one_agrees (Audits b n (r ∷ rs) rest) h = refl
+  one_agrees (Audits b n [] None rest) h = refl
+  one_agrees (Audits b n [] (Some m) rest) h = refl
+  one_agrees (Audits b n (r ∷ rs) None rest) h = refl
+  one_agrees (Audits b n (r ∷ rs) (Some m) rest) h = refl
+  one_agrees (FailsCheckpoint since b n until r rs None rest) h = refl
+  one_agrees (FailsCheckpoint since b n until r rs (Some m) rest) h = refl
   one_agrees (IsRefusedAudit s xs n why rest) h = quietly (Refused AuditAct why) (xs ++ (n, Meets why) ∷ []) refl (met xs n why (cut_by_silent false why xs h.0))
   one_agrees (IsRefusedCheckpoint s span late xs n why rest) h = quietly (Refused CheckpointAct why) (refused_own late span xs (n, Meets why)) refl (late_silent late span xs n why (cut_by_silent true why xs h.0))
   one_agrees x h = refl

@@ -1,6 +1,6 @@
 -- The third worked round.
 use Rattle.std.proofs.Common.{◌≡◌, ◌≢◌, ℕ, zero, suc, true, false, List, [], ◌∷◌, Some, None, refl, ap, sym, subst, ◌∙◌, inl, arith}
-use Rattle.std.specs.Prelude.{Bool, if◌then◌else◌, ◌==◌, fold, length, slice_get, take, Contains, ◌↔◌}
+use Rattle.std.specs.Prelude.{◌++◌, Bool, if◌then◌else◌, ◌==◌, fold, length, slice_get, take, Contains, ◌↔◌}
 use Rattle.std.specs.FinMap.{empty, insert, get-empty}
 use Rattle.std.specs.Ordering.{nat_cmp}
 use Rattle.dali_att.specs.Table.{fresh_row}
@@ -19,6 +19,8 @@ use Rattle.dali_transcripts.specs.Transcripts.{IsSoFar, deeds_of, AreTranscripts
 use Rattle.dali_transcripts.specs.Rounds.{PokesTell, VerdictsTell, FaultsTell, PrecheckTells, IsAtRest, IsBetween}
 use Rattle.dali_transcripts.specs.Worked.{index_words, heap_words, look, put, insert_a}
 use Rattle.dali_transcripts.specs.Faults.{happened, told_1, told_2, told_3, blocks, lines_1, lines_2, lines_3, committed, world, FaultsRun}
+use Rattle.dali_record.specs.Epochs.{last_epoch}
+use Rattle.dali_transcripts.proofs.Locked.{keeps_locks}
 use Rattle.dali_transcripts.proofs.Worked.{puts_a}
 use Rattle.dali_transcripts.proofs.Verdicts.{begin_is, ends_at, found_is, never, only_at}
 use Rattle.dali_transcripts.proofs.Ends.{fails, grew_from, no_state, not_live, strays_same}
@@ -32,7 +34,7 @@ moves_1 =
     ∷ []
 
 damaged_1 : IsDamaged world 11 1 insert_a 1 1 0
-damaged_1 = record { compares = refl; next = put 97 0; on_region = refl; goes_on = record { of_call = record { words = heap_words; are_words = (refl, omega arith); of_call = refl; is_made = puts_a }; allowed = refl }; old = loaded heap_words; was = refl; stray = refl; differ = refl }
+damaged_1 = record { compares = refl; next = put 97 0; on_region = refl; goes_on = record { of_call = record { words = heap_words; are_words = (refl, omega arith); of_call = refl; is_made = puts_a }; allowed = refl; locked = (tt, keeps_locks 1 (last_epoch (log_at world 11 ++ Forward 1 (put 97 0) ∷ [])).records refl) }; old = loaded heap_words; was = refl; stray = refl; differ = refl }
 
 under_way_1 : IsUnderWay world 1 3
 under_way_1 = record { other = 2; differs = refl; started = refl }
@@ -51,11 +53,13 @@ so_1 = record {
         refl,
         (
           ((refl, refl, tt), tt),
-          refl,
-          record {
-            met = record { place = 11; there = refl; number = refl };
-            cause = damaged_1;
-          },
+          (
+            record {
+              met = record { place = 11; there = refl; number = refl };
+              cause = damaged_1;
+            },
+            refl,
+          ),
           tt,
         ),
         (refl, (omega arith, (inl refl, tt)), refl),
@@ -93,7 +97,7 @@ so_3 = record {
   moves = moves_3;
   path = (
     refl,
-    (refl, refl, record { met = record { place = 1; there = refl; number = refl }; cause = under_way_1 }),
+    (refl, refl, (record { met = record { place = 1; there = refl; number = refl }; cause = under_way_1 }, tt)),
     (
       refl,
       tt,

@@ -62,10 +62,10 @@ few w c (Ends t tries cs d xs n) h old = tt
 few w c (StaysOpen t tries cs d s xs n z) h old = tt
 few w c (Pokes s n r word m rest) h old = tt
 few w c (PokesNothing s r word m rest) h old = tt
-few w c (Audits b n rs rest) h old = tt
+few w c (Audits b n rs failed rest) h old = tt
 few w c (IsRefusedAudit s xs n why rest) h old = tt
 few w c (Checkpoints since b n m until current rest) h old = tt
-few w c (FailsCheckpoint since b n until r rs rest) h old = tt
+few w c (FailsCheckpoint since b n until r rs failed rest) h old = tt
 few w c (IsRefusedCheckpoint s span late xs n why rest) h old = tt
 
 all_few : (w : World) (c : ℕ) (p : Spot) (xs : List Move) (q : Spot) → FewTries p.place → IsPath w c p xs q → FewTries q.place

@@ -16,9 +16,9 @@ use Rattle.dali_system.specs.declared.refusals.Refusal.{Refusal}
 use Rattle.dali_system.specs.Run.{failed_first}
 use Rattle.dali_system.specs.State.{CoreState, state_of}
 use Rattle.dali_transcripts.specs.Words.{Act, Begins as BeginAct, Calls, Commits as CommitAct, Aborts as AbortAct, Audits as AuditAct, Checkpoints as CheckpointAct, Why, StoppedBy, Full, Damaged, StoreFailed, UnderWay}
-use Rattle.dali_transcripts.specs.World.{Deed, Logs, DiesOn, Claims, GivesBack, Yields, FindsDead, Meets, Happening, World, record_of, logged_by, log_of, log_at, IsLogged, IsFlushed, IsLost, IsUncommitted, HasDone, state_step, state_after, state_at, is_dead_in, is_claimed_in, HasDiedBy, HasEndedBy, has_failed, cause_of, stop_at, under_way, stray_after, Grows}
-use Rattle.dali_transcripts.specs.Moves.{Receipt, Place, Again, Spot, Ending, TakenBack, LeftBehind, Move, Begins, BeginsAgain, IsRefusedBegin, Skips, Rests, Answers, IsRefusedCall, Dies, IsArmed, GivesWay, GivesUp, Commits, CommitFails, IsRefusedCommit, Aborts, IsRefusedAbort, Ends, StaysOpen, Pokes, PokesNothing, Audits, IsRefusedAudit, Checkpoints, FailsCheckpoint, IsRefusedCheckpoint, to}
-use Rattle.dali_transcripts.specs.Causes.{GoesOn, IsRoomFor, limit_of, IsFull, IsDamaged, IsDamagedIn, IsUnderWayIn, IsCause, MetCause, IsCleaning, IsUntouched, HasClaimed, LetsGo, HasGivenBack, HasFoundDead, IsCleanUp, IsAside, AreAside, IsAsking, AreAsking, IsWork, AreWork, IsTried, AreTried, IsBehind, AreBehind, IsCutAudit, IsCutBy, DiesIn, GetsBusy, WaitsNoMore, FindsFailure, IsEnd, HasCause, IsRight, AreRightFrom}
+use Rattle.dali_transcripts.specs.World.{Deed, Logs, DiesOn, Claims, GivesBack, Yields, FindsDead, Meets, Happening, World, record_of, logged_by, log_of, log_at, IsLogged, IsFlushed, IsLost, IsUncommitted, HasDone, state_step, state_after, state_at, is_dead_in, is_claimed_in, HasDiedBy, HasEndedBy, has_failed, cause_of, claimer_step, claimer_at, failed_at, stop_at, under_way, stray_after, Grows}
+use Rattle.dali_transcripts.specs.Moves.{Receipt, Place, Again, Spot, Ending, TakenBack, LeftBehind, operations, Move, Begins, BeginsAgain, IsRefusedBegin, Skips, Rests, Answers, IsRefusedCall, Dies, IsArmed, GivesWay, GivesUp, Commits, CommitFails, IsRefusedCommit, Aborts, IsRefusedAbort, Ends, StaysOpen, Pokes, PokesNothing, Audits, IsRefusedAudit, Checkpoints, FailsCheckpoint, IsRefusedCheckpoint, to}
+use Rattle.dali_transcripts.specs.Causes.{GoesOn, IsRoomFor, limit_of, IsFull, IsDamaged, IsDamagedIn, IsUnderWayIn, IsCause, MetCause, IsCleaning, IsUntouched, HasClaimed, LetsGo, HasGivenBack, HasFoundDead, IsCleanUp, IsAside, AreAside, IsAsking, AreAsking, IsWork, AreWork, IsTried, AreTried, IsBehind, AreBehind, IsCutAudit, IsCutBy, IsAlone, Survives, DiesIn, GetsBusy, WaitsNoMore, FindsFailure, IsEnd, HasCause, IsRight, AreRightFrom}
 use Rattle.dali_transcripts.specs.Transcripts.{IsPath}
 use Rattle.dali_transcripts.specs.Laws.{RightGoesOn, WorldGoesOn}
 use Rattle.dali_transcripts.proofs.Lists.{all_map}
@@ -81,6 +81,12 @@ module _ (v w : World) (g : Grows v w) where
   pub states : (i : ℕ) (x : Happening) (t : ℕ) → slice_get v.happened i ≡ Some x → state_at w i t ≡ state_at v i t
   states i x t e = ap (λ l. state_after w l t) (taken i x e) ∙ ap (λ o. fold (state_step t) o (take i v.happened)) (old_state t)
 
+  pub claimers : (i : ℕ) (x : Happening) (t : ℕ) → slice_get v.happened i ≡ Some x → claimer_at w i t ≡ claimer_at v i t
+  claimers i x t e = ap (fold (claimer_step t) None) (taken i x e)
+
+  pub failures : (i : ℕ) (x : Happening) → slice_get v.happened i ≡ Some x → failed_at w i ≡ failed_at v i
+  failures i x e = ap (λ l. failed_first (last_epoch l).records) (log_at_is i x e)
+
   pub stops : (i : ℕ) (x : Happening) → slice_get v.happened i ≡ Some x → stop_at w i ≡ stop_at v i
   stops i x e =
       ap (λ l. cause_of (failed_first (last_epoch l).records) (has_failed w.old.vault.stopped (take i w.happened))) (log_at_is i x e)
@@ -99,7 +105,7 @@ module _ (v w : World) (g : Grows v w) where
   lost n h = (g.failed h.0, omega (arith, h.1, g.sealed h.0))
 
   pub cleaning : (c t n u : ℕ) (x : Deed) → IsCleaning v c t n u x → IsCleaning w c t n u x
-  cleaning c t n u x h = record { apart = h.apart; done = done c n x h.done; claimed = ap is_claimed_in (states h.done.place _ u h.done.there) ∙ h.claimed }
+  cleaning c t n u x h = record { apart = h.apart; done = done c n x h.done; claimed = ap is_claimed_in (states h.done.place _ u h.done.there) ∙ h.claimed; own = claimers h.done.place _ u h.done.there ∙ h.own }
 
   pub placed_back : (i : ℕ) (x : Happening) → i < length v.happened → slice_get w.happened i ≡ Some x → slice_get v.happened i ≡ Some x
   placed_back i x within e = get_back v.happened g.more i x within (subst (λ l. slice_get l i ≡ Some x) g.happened e)
@@ -111,7 +117,7 @@ module _ (v w : World) (g : Grows v w) where
   has_claimed c n u h = record { done = done c n (Claims u) h.done; dead = ap is_dead_in (states h.done.place _ u h.done.there) ∙ h.dead }
 
   abbrev pub lets_go : (c n u : ℕ) (latched : Option ℕ) → LetsGo v c n u latched → LetsGo w c n u latched
-  lets_go c n u latched h = record { done = done c n (GivesBack u latched) h.done; was = h.was; claimed = states h.done.place _ u h.done.there ∙ h.claimed; left = h.left }
+  lets_go c n u latched h = record { done = done c n (GivesBack u latched) h.done; was = h.was; claimed = states h.done.place _ u h.done.there ∙ h.claimed; own = claimers h.done.place _ u h.done.there ∙ h.own; left = h.left }
 
   pub given_back : (c n u : ℕ) (latched : Option ℕ) → HasGivenBack v c n u latched → HasGivenBack w c n u latched
   given_back c n u latched h =
@@ -161,6 +167,7 @@ module _ (v w : World) (g : Grows v w) where
   works c t call xs h = all_map (IsWork v c t call) (IsWork w c t call) (work c t call) xs h
 
   pub behind : (c t : ℕ) (x : Receipt) → IsBehind v c t x → IsBehind w c t x
+  behind c t (n, Meets StoreFailed) h = tt
   behind c t (n, Logs (Solo u p b)) h = h
   behind c t (n, Logs (Ended u)) (inl e) = inl e
   behind c t (n, Logs (Ended u)) (inr h) = inr (cleaning c t n u (Logs (Ended u)) h)
@@ -191,14 +198,15 @@ module _ (v w : World) (g : Grows v w) where
   pub room : (L M : List Record) (act : Act) (o : Option ℕ) (x : Record) → M ≡ L → IsRoomFor v.core.system.sizes L act o x → IsRoomFor w.core.system.sizes M act o x
   room L M act o x e h = subst (λ l. IsRoomFor w.core.system.sizes l act o x) (sym e) (subst (λ s. IsRoomFor s L act o x) (sym g.sizes) h)
 
-  pub full : (i : ℕ) (act : Act) (o : Option ℕ) (end limit : ℕ) → log_at w i ≡ log_at v i → IsFull v i act o end limit → IsFull w i act o end limit
-  full i act o end limit e h = record {
+  pub full : (i : ℕ) (act : Act) (o : Option ℕ) (end limit : ℕ) (x : Happening) → slice_get v.happened i ≡ Some x → IsFull v i act o end limit → IsFull w i act o end limit
+  full i act o end limit x at h = let e = log_at_is i x at in record {
     limit_is = h.limit_is ∙ sym (limits act);
     end_is = h.end_is ∙ ap (λ l. sum_by record_length l) (sym e);
     refused = h.refused;
     next = room (log_at v i) (log_at w i) act o h.refused e h.next;
     spelled = h.spelled;
     passes = h.passes;
+    runs = failures i x at ∙ h.runs;
   }
 
   pub goes_on : (L M : List Record) (t : ℕ) (call : Call) (b : Block) → M ≡ L → GoesOn v.core.system.sizes L t call b → GoesOn w.core.system.sizes M t call b
@@ -228,13 +236,26 @@ module _ (v w : World) (g : Grows v w) where
 
   pub cause : (c i : ℕ) (act : Act) (o : Option ℕ) (why : Why) (x : Happening) → slice_get v.happened i ≡ Some x → IsCause v c i act o why → IsCause w c i act o why
   cause c i act o (StoppedBy z) x e h = (h.0, stops i x e ∙ h.1)
-  cause c i act o (Full end limit) x e h = full i act o end limit (log_at_is i x e) h
+  cause c i act o (Full end limit) x e h = full i act o end limit x e h
   cause c i act o (Damaged r codeword found) x e h = damaged_in i act o r codeword found (log_at_is i x e) (taken i x e) h
   cause c i act o StoreFailed x e h = h
   cause c i act o UnderWay x e h = under i c act (taken i x e) h
 
-  pub met : (c n : ℕ) (act : Act) (o : Option ℕ) (why : Why) → MetCause v c n act o why → MetCause w c n act o why
+  abbrev pub met : (c n : ℕ) (act : Act) (o : Option ℕ) (why : Why) → MetCause v c n act o why → MetCause w c n act o why
   met c n act o why h = record { met = done c n (Meets why) h.met; cause = cause c h.met.place act o why _ h.met.there h.cause }
+
+  pub survives : (c n t : ℕ) (call : Call) (d : Option ℕ) (count : ℕ) (why : Why) (m : MetCause v c n (Calls call) (Some t) why) → Survives v c n t call d count why m → Survives w c n t call d count why (met c n (Calls call) (Some t) why m)
+  unfolding cause full
+  survives c n t call d count (Full end limit) m h = h
+  survives c n t call d count (StoppedBy z) m h = h
+  survives c n t call d count (Damaged r codeword found) m h = h
+  survives c n t call d count StoreFailed m h = h
+  survives c n t call d count UnderWay m h = h
+
+  pub alone : (why : Why) (span : Option (ℕ × ℕ)) (i : ℕ) (x : Happening) → slice_get v.happened i ≡ Some x → IsAlone v why span i → IsAlone w why span i
+  alone UnderWay None i x e h = tt
+  alone why None i x e h = ap under_way (taken i x e) ∙ h
+  alone why (Some span) i x e h = tt
 
   pub tried : (c t : ℕ) (call : Call) (x : Receipt) → IsTried v c t call x → IsTried w c t call x
   tried c t call (n, Meets why) h = met c n (Calls call) (Some t) why h
@@ -282,7 +303,7 @@ module _ (v w : World) (g : Grows v w) where
   has_cause c (Skips s act rest) h = tt
   has_cause c (Rests t act rest) h = tt
   has_cause c (Answers t tries cs d xs n call a rest) h = (works c t call xs h.0, h.1)
-  has_cause c (IsRefusedCall t tries cs d s xs n ys call why rest) h = (all_tried c t call xs h.0, h.1, met c n (Calls call) (Some t) why h.2, asides c t ys h.3)
+  has_cause c (IsRefusedCall t tries cs d s xs n ys call why rest) h = (all_tried c t call xs h.0, (met c n (Calls call) (Some t) why h.1.0, survives c n t call d (operations t xs) why h.1.0 h.1.1), asides c t ys h.2)
   has_cause c (Dies t tries cs d xs n r call rest) h = (works c t call xs h.0, h.1, dies c n t r call h.2)
   has_cause c (IsArmed t tries cs d s count rest) h = tt
   has_cause c (GivesWay t tries cs d xs call f ys end rest) h = (askings c t call xs h.0, busy c t call f h.1, asides c t ys h.2, end_is c t call end h.3, h.4)
@@ -296,18 +317,18 @@ module _ (v w : World) (g : Grows v w) where
   has_cause c (StaysOpen t tries cs d s xs n z) h = (asides c t xs h.0, met c n AbortAct (Some t) (StoppedBy z) h.1)
   has_cause c (Pokes s n r word m rest) h = subst (λ z. r < regions z) (sym g.sizes) h
   has_cause c (PokesNothing s r word m rest) h = subst (λ z. regions z ≤ r) (sym g.sizes) h
-  has_cause c (Audits b n rs rest) h = flushed n h
+  has_cause c (Audits b n rs failed rest) h = flushed n h
   has_cause c (IsRefusedAudit s xs n why rest) h = (cut_by false why xs h.0, met c n AuditAct None why h.1)
   has_cause c (Checkpoints since b n m until current rest) h = flushed n h
-  has_cause c (FailsCheckpoint since b n until r rs rest) h = flushed n h
-  has_cause c (IsRefusedCheckpoint s span late xs n why rest) h = (cut_by true why xs h.0, h.1, met c n CheckpointAct None why h.2)
+  has_cause c (FailsCheckpoint since b n until r rs failed rest) h = flushed n h
+  has_cause c (IsRefusedCheckpoint s span late xs n why rest) h = (cut_by true why xs h.0, h.1, (met c n CheckpointAct None why h.2.0, alone why span h.2.0.met.place _ h.2.0.met.there h.2.1))
 
   -- each deed by itself
   pub right : (c i : ℕ) (x : Deed) → slice_get v.happened i ≡ Some (x, c) → IsRight v c i x → IsRight w c i x
   right c i (Claims u) e h = ap is_dead_in (states i _ u e) ∙ h
-  right c i (GivesBack u latched) e h = (h.0, states i _ u e ∙ h.1, h.2)
-  right c i (Yields f) e h = (h.0 ∙ ap length (sym (log_at_is i _ e)), ap is_dead_in (states i _ f.holder e) ∙ h.1)
-  right c i (FindsDead f) e h = (h.0 ∙ ap length (sym (log_at_is i _ e)), ap is_dead_in (states i _ f.holder e) ∙ h.1)
+  right c i (GivesBack u latched) e h = (h.0, states i _ u e ∙ h.1, h.2, claimers i _ u e ∙ h.3)
+  right c i (Yields f) e h = (h.0 ∙ ap length (sym (log_at_is i _ e)), ap is_dead_in (states i _ f.holder e) ∙ h.1, failures i _ e ∙ h.2)
+  right c i (FindsDead f) e h = (h.0 ∙ ap length (sym (log_at_is i _ e)), ap is_dead_in (states i _ f.holder e) ∙ h.1, failures i _ e ∙ h.2)
   right c i (Meets StoreFailed) e h = tt
   right c i (Meets why) e h = (h.0, h.1, cause c i h.0 h.1 why _ e h.2)
   right c i x e h = h

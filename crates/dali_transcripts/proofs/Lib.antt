@@ -13,6 +13,7 @@ pub mod Deeds
 pub mod Operations
 pub mod Verdicts
 pub mod Ends
+pub mod Locked
 pub mod Worked
 pub mod Corners
 pub mod Faults

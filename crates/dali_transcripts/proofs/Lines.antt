@@ -4,12 +4,11 @@ use Rattle.std.specs.Prelude.{Contains}
 use Rattle.std.proofs.lemmas.List.Concat.{flat_map-cons}
 use Rattle.std.proofs.lemmas.List.Elements.{Contains-append_left, Contains-append_right}
 use Rattle.dali_record.specs.declared.records.Call.{Call}
-use Rattle.dali_record.specs.declared.records.Record.TheVariants.{Ended, AuditBegin}
+use Rattle.dali_record.specs.declared.records.Record.TheVariants.{Ended}
 use Rattle.dali_system.specs.declared.refusals.Refusal.{Refusal}
-use Rattle.dali_system.specs.Steps.{audit_record}
 use Rattle.dali_transcripts.specs.Words.{Act, Begins as BeginAct, Calls, Commits as CommitAct, Aborts as AbortAct, Audits as AuditAct, Checkpoints as CheckpointAct, Why, StoreFailed, CommitOk}
 use Rattle.dali_transcripts.specs.World.{Logs, Yields, Meets, World}
-use Rattle.dali_transcripts.specs.Moves.{Receipt, Spot, Ending, TakenBack, LeftBehind, Move, Begins, BeginsAgain, IsRefusedBegin, Skips, Rests, Answers, IsRefusedCall, Dies, IsArmed, GivesWay, GivesUp, Commits, CommitFails, IsRefusedCommit, Aborts, IsRefusedAbort, Ends, StaysOpen, Pokes, PokesNothing, Audits, IsRefusedAudit, Checkpoints, FailsCheckpoint, IsRefusedCheckpoint, said, own, to, end_line, end_own, audit_own}
+use Rattle.dali_transcripts.specs.Moves.{Receipt, Spot, Ending, TakenBack, LeftBehind, Move, Begins, BeginsAgain, IsRefusedBegin, Skips, Rests, Answers, IsRefusedCall, Dies, IsArmed, GivesWay, GivesUp, Commits, CommitFails, IsRefusedCommit, Aborts, IsRefusedAbort, Ends, StaysOpen, Pokes, PokesNothing, Audits, IsRefusedAudit, Checkpoints, FailsCheckpoint, IsRefusedCheckpoint, said, own, to, end_line, end_own}
 use Rattle.dali_transcripts.specs.Causes.{MetCause, IsEnd, HasCause}
 use Rattle.dali_transcripts.specs.Transcripts.{IsPath, said_by, own_by}
 use Rattle.dali_transcripts.specs.Table.{TellsRefused, Tells, AllTell}
@@ -33,10 +32,6 @@ module _ (w : World) (c : ℕ) (did : List Receipt) where
   busy_ended : (t : ℕ) (call : Call) (f : Refusal) (xs ys : List Receipt) (end : Ending) → IsEnd w c t call end → Within (xs ++ (f.at, Yields f) ∷ ys ++ end_own t end) did → Tells w c did (end_line end)
   busy_ended t call f xs ys end h sub = ended t call (xs ++ (f.at, Yields f) ∷ ys) end h sub
 
-  second : (b n : ℕ) (rs : List ℕ) → Within (audit_own b n rs) did → Contains did (n, Logs (audit_record b rs))
-  unfolding Within
-  second b n rs sub = sub _ (last_in ((b, Logs AuditBegin) ∷ []) (n, Logs (audit_record b rs)))
-
   one_tells : (x : Move) → HasCause w c x → Within (own x) did → AllTell w c did (said x)
   unfolding Within
   one_tells (Begins t n rest) h sub = ((n, sub _ (first_in _ [])), tt)
@@ -45,7 +40,7 @@ module _ (w : World) (c : ℕ) (did : List Receipt) where
   one_tells (Skips s act rest) h sub = tt
   one_tells (Rests t act rest) h sub = tt
   one_tells (Answers t tries cs d xs n call a rest) h sub = ((t, n, sub _ (last_in xs _)), tt)
-  one_tells (IsRefusedCall t tries cs d s xs n ys call why rest) h sub = (refused n (Calls call) (Some t) why h.2, tt)
+  one_tells (IsRefusedCall t tries cs d s xs n ys call why rest) h sub = (refused n (Calls call) (Some t) why h.1.0, tt)
   one_tells (Dies t tries cs d xs n r call rest) h sub = ((t, r, n, sub _ (last_in xs _)), tt)
   one_tells (IsArmed t tries cs d s count rest) h sub = tt
   one_tells (GivesWay t tries cs d xs call f ys end rest) h sub = (busy_ended t call f xs ys end h.3 sub, tt)
@@ -59,11 +54,13 @@ module _ (w : World) (c : ℕ) (did : List Receipt) where
   one_tells (StaysOpen t tries cs d s xs n z) h sub = ((AbortAct, Some t, n, z, h.1), tt)
   one_tells (Pokes s n r word m rest) h sub = ((n, r, word, m, sub _ (first_in _ [])), tt)
   one_tells (PokesNothing s r word m rest) h sub = (tt, tt)
-  one_tells (Audits b n rs rest) h sub = ((b, n, second b n rs sub, h), tt)
+  one_tells (Audits b n rs None rest) h sub = ((b, n, sub _ (1, omega arith, refl), h), tt)
+  one_tells (Audits b n rs (Some m) rest) h sub = ((b, n, sub _ (1, omega arith, refl), h), tt)
   one_tells (IsRefusedAudit s xs n why rest) h sub = (refused n AuditAct None why h.1, tt)
   one_tells (Checkpoints since b n m until current rest) h sub = ((b, n, m, sub _ (2, omega arith, refl), h, sub _ (3, omega arith, refl)), tt)
-  one_tells (FailsCheckpoint since b n until r rs rest) h sub = ((b, n, sub _ (2, omega arith, refl), h), tt)
-  one_tells (IsRefusedCheckpoint s span late xs n why rest) h sub = (refused n CheckpointAct None why h.2, tt)
+  one_tells (FailsCheckpoint since b n until r rs None rest) h sub = ((b, n, sub _ (2, omega arith, refl), h), tt)
+  one_tells (FailsCheckpoint since b n until r rs (Some m) rest) h sub = ((b, n, sub _ (2, omega arith, refl), h), tt)
+  one_tells (IsRefusedCheckpoint s span late xs n why rest) h sub = (refused n CheckpointAct None why h.2.0, tt)
 
   all_tell : (p : Spot) (xs : List Move) (q : Spot) → IsPath w c p xs q → Within (own_by xs) did → AllTell w c did (said_by xs)
   unfolding Within

@@ -13,7 +13,7 @@ use Rattle.dali_system.specs.declared.refusals.Refusal.{Refusal}
 use Rattle.dali_system.specs.State.{stable}
 use Rattle.dali_transcripts.specs.Words.{Act, Begins as BeginAct, Calls, Commits as CommitAct, Aborts as AbortAct, Audits as AuditAct, Checkpoints as CheckpointAct, Why, StoppedBy, Full, Damaged, StoreFailed, UnderWay, Said, Answered, AbortOk, Aborted, LeftOpen, Died, Busy, AuditSaid, CheckpointSaid, CheckpointFailed, Refused, closes, is_stop}
 use Rattle.dali_transcripts.specs.World.{Logs, DiesOn, Claims, GivesBack, Yields, FindsDead, MovesAnchor, EndsCheckpoint, Meets, World}
-use Rattle.dali_transcripts.specs.Moves.{Receipt, Place, Outside, Within, Again, LeftOut, Gone, Spot, Ending, TakenBack, LeftBehind, Move, Begins, BeginsAgain, IsRefusedBegin, Skips, Rests, Answers, IsRefusedCall, Dies, IsArmed, GivesWay, GivesUp, Commits, CommitFails, IsRefusedCommit, Aborts, IsRefusedAbort, Ends, StaysOpen, Pokes, PokesNothing, Audits, IsRefusedAudit, Checkpoints, FailsCheckpoint, IsRefusedCheckpoint, from, said, own, to, end_line, end_own, is_open, left, operations, audit_own, spanned, refused_own}
+use Rattle.dali_transcripts.specs.Moves.{Receipt, Place, Outside, Within, Again, LeftOut, Gone, Spot, Ending, TakenBack, LeftBehind, Move, Begins, BeginsAgain, IsRefusedBegin, Skips, Rests, Answers, IsRefusedCall, Dies, IsArmed, GivesWay, GivesUp, Commits, CommitFails, IsRefusedCommit, Aborts, IsRefusedAbort, Ends, StaysOpen, Pokes, PokesNothing, Audits, IsRefusedAudit, Checkpoints, FailsCheckpoint, IsRefusedCheckpoint, from, said, own, to, end_line, end_own, is_open, left, operations, audit_own, failure_own, spanned, refused_own}
 use Rattle.dali_transcripts.specs.Causes.{IsCleanUp, IsAside, AreAside, IsAsking, AreAsking, IsWork, AreWork, IsTried, AreTried, IsBehind, AreBehind, IsCutAudit, IsCutBy, MetCause, HasCause}
 use Rattle.dali_transcripts.specs.Transcripts.{IsPath, IsSoFar, IsBeingSaid, said_by, own_by, line_told, is_own, line_of, txn_after, txn_behind, lines_of_records}
 use Rattle.dali_transcripts.specs.Laws.{LinesAreRecords, CutLinesAreRecords}
@@ -116,11 +116,13 @@ module _ (w : World) (c : ℕ) where
   tried_quiet t call (x ∷ xs) h = one_quiet (Some t) x (tried_told t call x h.0) (tried_in t call x h.0) xs (tried_quiet t call xs h.1)
 
   behind_told : (t : ℕ) (x : Receipt) → IsBehind w c t x → line_of (stable w.core) None x ≡ None
+  behind_told t (n, Meets StoreFailed) h = refl
   behind_told t (n, Logs (Solo u p b)) h = refl
   behind_told t (n, Logs (Ended u)) h = refl
   behind_told t x h = clean_up_told None t x (λ u e. refl) h
 
   behind_in : (t : ℕ) (x : Receipt) → IsBehind w c t x → txn_after None x ≡ None
+  behind_in t (n, Meets StoreFailed) h = refl
   behind_in t (n, Logs (Solo u p b)) h = refl
   behind_in t (n, Logs (Ended u)) h = refl
   behind_in t x h = clean_up_in None t x h
@@ -150,6 +152,10 @@ module _ (w : World) (c : ℕ) where
   audited : (in_txn : Option ℕ) (b n : ℕ) (rs : List ℕ) → AreQuiet w in_txn (audit_own b n rs)
   audited in_txn b n [] = (refl, refl)
   audited in_txn b n (r ∷ rs) = (refl, refl)
+
+  failed_quiet : (in_txn : Option ℕ) (failed : Option ℕ) → AreQuiet w in_txn (failure_own failed)
+  failed_quiet in_txn None = (refl, refl)
+  failed_quiet in_txn (Some m) = (refl, refl)
 
   quiet_append : (in_txn : Option ℕ) (xs ys : List Receipt) → AreQuiet w in_txn xs → AreQuiet w in_txn ys → AreQuiet w in_txn (xs ++ ys)
   quiet_append in_txn [] ys a b = b
@@ -233,7 +239,7 @@ module _ (w : World) (c : ℕ) where
   one_owes (Skips s act rest) o h i = (refl, skipped_in s (closes act) o)
   one_owes (Rests t act rest) o h i = (refl, tt)
   one_owes (Answers t tries cs d xs n call a rest) o h i = rw i (behind_quiet t xs ((n, Logs (Done t call a)) ∷ []) (Answered call a ∷ []) (Within t tries cs (left d (operations t xs)) false) (works_quiet t call xs h.0) (refl, refl))
-  one_owes (IsRefusedCall t tries cs d s xs n ys call why rest) o h i = rw i (quietly (Some t) (Refused (Calls call) why) (xs ++ (n, Meets why) ∷ ys) (Within t tries cs (left d (operations t xs)) (s || is_stop why)) (untold n (Calls call) (Some t) why h.2) (met_quiet (Some t) n why xs ys (tried_quiet t call xs h.0) (asides_quiet t ys h.3)) refl)
+  one_owes (IsRefusedCall t tries cs d s xs n ys call why rest) o h i = rw i (quietly (Some t) (Refused (Calls call) why) (xs ++ (n, Meets why) ∷ ys) (Within t tries cs (left d (operations t xs)) (s || is_stop why)) (untold n (Calls call) (Some t) why h.1.0) (met_quiet (Some t) n why xs ys (tried_quiet t call xs h.0) (asides_quiet t ys h.2)) refl)
   one_owes (Dies t tries cs d xs n r call rest) o h i = rw i (quietly (Some t) Died (xs ++ (n, DiesOn t r) ∷ []) (Gone t) refl (quiet_append (Some t) xs ((n, DiesOn t r) ∷ []) (works_quiet t call xs h.0) (refl, refl)) tt)
   one_owes (IsArmed t tries cs d s count rest) o h i = (refl, i)
   one_owes (GivesWay t tries cs d xs call f ys end rest) o h i = rw i (busy_owes t call xs ys (end_own t end) f (end_line end ∷ []) (Again (tries + 1) f.holder (is_open end)) h.0 h.2 (gave_way t end (Again (tries + 1) f.holder (is_open end)) anywhere))
@@ -247,11 +253,13 @@ module _ (w : World) (c : ℕ) where
   one_owes (StaysOpen t tries cs d s xs n z) o h i = rw i (quietly (Some t) LeftOpen (xs ++ (n, Meets (StoppedBy z)) ∷ []) (Outside true) refl (met_quiet (Some t) n (StoppedBy z) xs [] (asides_quiet t xs h.0) (refl, refl)) tt)
   one_owes (Pokes s n r word m rest) o h i = (refl, tt)
   one_owes (PokesNothing s r word m rest) o h i = (refl, tt)
-  one_owes (Audits b n rs rest) o h i = quietly o (AuditSaid rs) (audit_own b n rs) (Outside false) refl (audited o b n rs) tt
+  one_owes (Audits b n rs failed rest) o h i = quietly o (AuditSaid rs) (audit_own b n rs ++ failure_own failed) (Outside false) refl (quiet_append o (audit_own b n rs) (failure_own failed) (audited o b n rs) (failed_quiet o failed)) tt
   one_owes (IsRefusedAudit s xs n why rest) o h i = quietly o (Refused AuditAct why) (xs ++ (n, Meets why) ∷ []) (Outside (s || is_stop why)) (untold n AuditAct None why h.1) (met_quiet o n why xs [] (cut_by_quiet false o why xs h.0) (refl, refl)) tt
   one_owes (Checkpoints since b n m until current rest) o h i = quietly o (CheckpointSaid current) (spanned (Some (since, until)) (audit_own b n [] ++ (m, MovesAnchor current) ∷ [])) (Outside false) refl (refl, refl) tt
-  one_owes (FailsCheckpoint since b n until r rs rest) o h i = quietly o (CheckpointFailed (r ∷ rs)) (spanned (Some (since, until)) (audit_own b n (r ∷ rs))) (Outside false) refl (refl, refl) tt
-  one_owes (IsRefusedCheckpoint s span late xs n why rest) o h i = quietly o (Refused CheckpointAct why) (refused_own late span xs (n, Meets why)) (Outside (s || is_stop why)) (untold n CheckpointAct None why h.2) (late_quiet o late span xs n why (cut_by_quiet true o why xs h.0)) tt
+  one_owes (FailsCheckpoint since b n until r rs failed rest) o h i =
+      let audit : AreQuiet w o (audit_own b n (r ∷ rs) ++ failure_own failed) = quiet_append o (audit_own b n (r ∷ rs)) (failure_own failed) (audited o b n (r ∷ rs)) (failed_quiet o failed) in
+      quietly o (CheckpointFailed (r ∷ rs)) (spanned (Some (since, until)) (audit_own b n (r ∷ rs) ++ failure_own failed)) (Outside false) refl (span_quiet o (Some (since, until)) (audit_own b n (r ∷ rs) ++ failure_own failed) audit) tt
+  one_owes (IsRefusedCheckpoint s span late xs n why rest) o h i = quietly o (Refused CheckpointAct why) (refused_own late span xs (n, Meets why)) (Outside (s || is_stop why)) (untold n CheckpointAct None why h.2.0) (late_quiet o late span xs n why (cut_by_quiet true o why xs h.0)) tt
 
   all_agree : (p : Spot) (xs : List Move) (q : Spot) (o : Option ℕ) → IsIn p.place o → IsPath w c p xs q → Agree w o (said_by xs) (own_by xs)
   unfolding Owes

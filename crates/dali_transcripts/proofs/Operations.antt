@@ -7,7 +7,7 @@ use Rattle.dali_record.specs.declared.records.Record.TheVariants.{Back, Ended, S
 use Rattle.dali_system.specs.declared.refusals.Refusal.{Refusal}
 use Rattle.dali_transcripts.specs.Words.{Why, StoppedBy, Full, Damaged, StoreFailed, UnderWay}
 use Rattle.dali_transcripts.specs.World.{Logs, Claims, GivesBack, Yields, FindsDead, EndsCheckpoint, Meets, World}
-use Rattle.dali_transcripts.specs.Moves.{Receipt, Ending, TakenBack, LeftBehind, IsRefusedCall, Answers, Dies, GivesWay, GivesUp, Commits, CommitFails, Aborts, IsRefusedAbort, Ends, StaysOpen, Audits, IsRefusedAudit, IsRefusedCheckpoint, end_own, spanned, refused_own}
+use Rattle.dali_transcripts.specs.Moves.{Receipt, Ending, TakenBack, LeftBehind, IsRefusedCall, Answers, Dies, GivesWay, GivesUp, Commits, CommitFails, Aborts, IsRefusedAbort, Ends, StaysOpen, Audits, IsRefusedAudit, FailsCheckpoint, IsRefusedCheckpoint, end_own, spanned, refused_own}
 use Rattle.dali_transcripts.specs.Causes.{IsAside, AreAside, IsAsking, AreAsking, IsBehind, AreBehind, IsCutAudit, IsCutBy}
 use Rattle.dali_transcripts.specs.Laws.{is_forward, OperationsAreTold}
 
@@ -34,6 +34,7 @@ asking_none w c t call (n, FindsDead f) h = refl
 asking_none w c t call x h = aside_none w c t x h
 
 behind_none : (w : World) (c t : ℕ) (x : Receipt) → IsBehind w c t x → not (is_forward x) ≡ true
+behind_none w c t (n, Meets StoreFailed) h = refl
 behind_none w c t (n, Logs (Solo u p b)) h = refl
 behind_none w c t (n, Logs (Ended u)) h = refl
 behind_none w c t (n, Logs (Back u b)) h = refl
@@ -102,8 +103,12 @@ operations_are_told w c (Aborts t tries cs d xs n rest) h e = none_append xs ((n
 operations_are_told w c (IsRefusedAbort t tries cs d s xs n why rest) h e = none_append xs ((n, Meets why) ∷ []) (asides_none w c t xs h.0) refl
 operations_are_told w c (Ends t tries cs d xs n) h e = none_append xs ((n, Logs (Ended t)) ∷ []) (asides_none w c t xs h.0) refl
 operations_are_told w c (StaysOpen t tries cs d s xs n z) h e = none_append xs ((n, Meets (StoppedBy z)) ∷ []) (asides_none w c t xs h.0) refl
-operations_are_told w c (Audits b n [] rest) h e = refl
-operations_are_told w c (Audits b n (r ∷ rs) rest) h e = refl
+operations_are_told w c (Audits b n [] None rest) h e = refl
+operations_are_told w c (Audits b n [] (Some m) rest) h e = refl
+operations_are_told w c (Audits b n (r ∷ rs) None rest) h e = refl
+operations_are_told w c (Audits b n (r ∷ rs) (Some m) rest) h e = refl
+operations_are_told w c (FailsCheckpoint since b n until r rs None rest) h e = refl
+operations_are_told w c (FailsCheckpoint since b n until r rs (Some m) rest) h e = refl
 operations_are_told w c (IsRefusedAudit s xs n why rest) h e = none_append xs ((n, Meets why) ∷ []) (cut_by_none w false why xs h.0) refl
 operations_are_told w c (IsRefusedCheckpoint s span late xs n why rest) h e = late_none late span xs n why (cut_by_none w true why xs h.0)
 operations_are_told w c x h e = refl

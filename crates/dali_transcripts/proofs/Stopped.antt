@@ -58,7 +58,7 @@ unfolding Holds
 holds w c (IsRefusedBegin place s n why rest) h e = (no_record w c n BeginAct None why h.1, or_left s (is_stop why) (sym (begins_halted place s h.0) ∙ e))
 holds w c (Skips s act rest) h e = (refl, skipped_halted s (closes act) e)
 holds w c (Rests t act rest) h e = (refl, refl)
-holds w c (IsRefusedCall t tries cs d s xs n ys call why rest) h e = (no_record w c n (Calls call) (Some t) why h.2, or_left s (is_stop why) e)
+holds w c (IsRefusedCall t tries cs d s xs n ys call why rest) h e = (no_record w c n (Calls call) (Some t) why h.1.0, or_left s (is_stop why) e)
 holds w c (IsArmed t tries cs d s count rest) h e = (refl, e)
 holds w c (IsRefusedCommit t tries cs d s n why rest) h e = (no_record w c n CommitAct (Some t) why h, refl)
 holds w c (IsRefusedAbort t tries cs d s xs n why rest) h e = (no_record w c n AbortAct (Some t) why h.1, refl)
@@ -66,7 +66,7 @@ holds w c (StaysOpen t tries cs d s xs n z) h e = (refl, refl)
 holds w c (Pokes s n r word m rest) h e = (refl, e)
 holds w c (PokesNothing s r word m rest) h e = (refl, e)
 holds w c (IsRefusedAudit s xs n why rest) h e = (no_record w c n AuditAct None why h.1, or_left s (is_stop why) e)
-holds w c (IsRefusedCheckpoint s span late xs n why rest) h e = (no_record w c n CheckpointAct None why h.2, or_left s (is_stop why) e)
+holds w c (IsRefusedCheckpoint s span late xs n why rest) h e = (no_record w c n CheckpointAct None why h.2.0, or_left s (is_stop why) e)
 holds w c x h e = absurd (cc)
 
 all_hold : (w : World) (c : ℕ) (p : Spot) (xs : List Move) (q : Spot) → is_halted p.place ≡ true → IsPath w c p xs q → none_match (said_by xs) ≡ true

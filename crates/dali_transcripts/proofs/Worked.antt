@@ -14,6 +14,7 @@ use Rattle.dali_record.specs.declared.records.Call.TheVariants.{Get}
 use Rattle.dali_record.specs.declared.records.Answer.TheVariants.{Ok as AnswerOk}
 use Rattle.dali_record.specs.declared.records.Record.{Record}
 use Rattle.dali_record.specs.declared.records.Record.TheVariants.{Forward, Commit, Ended, Back}
+use Rattle.dali_record.specs.Epochs.{last_epoch}
 use Rattle.dali_system.specs.Keeps.{IsNext}
 use Rattle.dali_transcripts.specs.Words.{Calls, Arms, Commits as CommitAct}
 use Rattle.dali_transcripts.specs.World.{Logs, DiesOn, Claims, FindsDead, log_at, HasDone, HasDiedBy, state_step, IsUncommitted}
@@ -23,6 +24,7 @@ use Rattle.dali_transcripts.specs.Transcripts.{IsSoFar, deeds_of, AreTranscripts
 use Rattle.dali_transcripts.specs.Rounds.{PokesTell, VerdictsTell, IsAtRest, IsBetween}
 use Rattle.dali_transcripts.specs.Worked.{look, put, add, look_again, free_entry, free_cell, insert_a, insert_b, happened, log, told_1, told_2, lines_1, lines_2, refusal, found_dead, small, world, index_words, heap_words, AreMade, Conflict, blocks, ConflictRuns, receipts_1, receipts_2}
 use Rattle.dali_transcripts.proofs.Verdicts.{none_ends}
+use Rattle.dali_transcripts.proofs.Locked.{keeps_locks}
 use Rattle.dali_transcripts.proofs.Ends.{grew_from, no_row, all_ended, none_claimed, none_failed, not_live, strays_same}
 
 -- ---- client 1
@@ -56,7 +58,7 @@ dies_1 = record {
   done = there_1;
   next = read;
   on_region = refl;
-  goes_on = record { of_call = record { words = read_words; are_words = (refl, omega arith); of_call = tt; is_made = refl }; allowed = read_next };
+  goes_on = record { of_call = record { words = read_words; are_words = (refl, omega arith); of_call = tt; is_made = refl }; allowed = read_next; locked = (tt, keeps_locks 1 (last_epoch (log_at world 8 ++ Forward 1 read ∷ [])).records refl) };
 }
 
 died_1 : IsSoFar world 1 told_1 lines_1 (deeds_of world 1) [] (at (Gone 1) [])
@@ -144,8 +146,8 @@ told = record {
               (
                 (refl, claimed_1),
                 (
-                  inr (record { apart = refl; done = record { place = 13; there = refl; number = refl }; claimed = refl }),
-                  (inr (record { apart = refl; done = record { place = 14; there = refl; number = refl }; claimed = refl }), (record { apart = refl; done = record { place = 15; there = refl; number = refl }; claimed = refl }, ((refl, refl, tt), ((refl, refl, refl), ((refl, refl, tt), tt))))),
+                  inr (record { apart = refl; done = record { place = 13; there = refl; number = refl }; claimed = refl; own = refl }),
+                  (inr (record { apart = refl; done = record { place = 14; there = refl; number = refl }; claimed = refl; own = refl }), (record { apart = refl; done = record { place = 15; there = refl; number = refl }; claimed = refl; own = refl }, ((refl, refl, tt), ((refl, refl, refl), ((refl, refl, tt), tt))))),
                 ),
               ),
             ),
@@ -260,7 +262,7 @@ conflict_runs = record {
     log = refl;
     transcripts = transcripts;
     receipts_are = refl;
-    right = (tt, (tt, (tt, (tt, (tt, (tt, ((refl, refl), (tt, (tt, (tt, (tt, ((refl, refl), (refl, (tt, (tt, (tt, (tt, (tt, (tt, (tt, (tt, (tt, tt))))))))))))))))))))));
+    right = (tt, (tt, (tt, (tt, (tt, (tt, ((refl, refl, refl), (tt, (tt, (tt, (tt, ((refl, refl, refl), (refl, (tt, (tt, (tt, (tt, (tt, (tt, (tt, (tt, (tt, tt))))))))))))))))))))));
     together = record {
       spans = tt;
       anchors = refl;

@@ -1,26 +1,29 @@
 -- Wrong transcripts: none of these is one.
-use Rattle.std.proofs.Common.{◌≡◌, ℕ, zero, suc, ◌≤◌, Bool, true, false, List, [], ◌∷◌, ◌++◌, Option, Some, None, ap, sym, subst, ◌∙◌, inl, inr, ⊎_elim, ◌⊎◌, arith}
+use Rattle.std.proofs.Common.{◌≡◌, ℕ, zero, suc, ◌+◌, ◌≤◌, Bool, true, false, List, [], ◌∷◌, ◌++◌, Option, Some, None, ap, sym, subst, ◌∙◌, inl, inr, ⊎_elim, ◌⊎◌, arith}
 use Rattle.std.specs.Prelude.{◌==◌, Contains, bit_xor, filter_map, slice_get, sum_by, take, drop}
 use Rattle.std.specs.Int.Bits.{xor_assoc, xor_self, xor_zero_l, xor_zero_r}
-use Rattle.std.proofs.lemmas.List.{append_assoc, take-append-drop}
+use Rattle.std.proofs.lemmas.List.{append_assoc, append-nil, take-append-drop}
 use Rattle.std.proofs.lemmas.List.Elements.{filter_map-append}
 use Rattle.std.proofs.lemmas.List.Sums.{sum_by-append}
-use Rattle.dali_counts.proofs.Lists.{self}
+use Rattle.dali_counts.proofs.Lists.{self, some_same}
 use Rattle.dali_record.specs.declared.records.Call.{Call}
 use Rattle.dali_record.specs.declared.records.Record.{Record}
 use Rattle.dali_record.specs.declared.records.Record.TheVariants.{Begin, Ended}
 use Rattle.dali_system.specs.declared.causes.Cause.{Cause}
 use Rattle.dali_system.specs.declared.causes.Cause.TheVariants.{Damage}
 use Rattle.dali_system.specs.Run.{damage_in, failed_first}
-use Rattle.dali_system.specs.State.{stable}
+use Rattle.dali_region.specs.State.{RegionState}
+use Rattle.dali_system.specs.State.{CoreState, state_of, stable}
+use Rattle.dali_system.specs.Steps.{audit_record}
 use Rattle.dali_transcripts.specs.Words.{Act, Calls, Commits as CommitAct, Checkpoints as CheckpointAct, Why, StoppedBy, Full, Damaged, UnderWay, Said, CommitOk, CheckpointSaid, Aborted, LeftOpen, Died, Busy, Refused}
 use Rattle.dali_record.specs.Epochs.{last_epoch}
 use Rattle.dali_record.specs.Spelling.{record_length}
-use Rattle.dali_transcripts.specs.World.{Logs, MovesAnchor, Meets, Happening, World, record_of, logged_by, log_of, log_at, HasDone, state_at, is_dead_in, has_failed, cause_of, stop_at}
+use Rattle.dali_transcripts.specs.World.{Deed, Logs, Claims, GivesBack, Yields, MovesAnchor, Meets, Happening, World, record_of, logged_by, log_of, log_at, HasDone, state_after, state_at, is_dead_in, has_failed, cause_of, stop_at, stray_after, refused_by}
 use Rattle.dali_transcripts.specs.Moves.{Receipt}
-use Rattle.dali_transcripts.specs.Causes.{IsDamaged, MetCause}
+use Rattle.dali_transcripts.specs.Causes.{IsDamaged, MetCause, IsRight, AreRightFrom, AreRight}
 use Rattle.dali_transcripts.specs.Transcripts.{IsTranscript, line_told, lines_of_records}
 use Rattle.dali_transcripts.specs.Table.{Tells, TellsRefused}
+use Rattle.dali_transcripts.specs.Rounds.{AreAnchors, VerdictsTell}
 use Rattle.dali_transcripts.specs.Laws.{behind_died}
 use Rattle.dali_transcripts.specs.Wrong.{RunsThroughout, WrongOnes}
 use Rattle.dali_transcripts.proofs.Lists.{all_get}
@@ -104,6 +107,23 @@ two_of x y m k (suc (suc i), below, e) = absurd (omega (arith, below))
 open_stops : (w : World) (c n : ℕ) (act : Act) (o : Option ℕ) (cause : Cause) → RunsThroughout w → MetCause w c n act o (StoppedBy cause) → ⊥
 open_stops w c n act o cause runs h = let e = sym (runs h.met.place) ∙ h.cause.1 in absurd (cc)
 
+-- each deed of a round has what it asks for
+right_from : (w : World) (n : ℕ) (xs : List Happening) (i c : ℕ) (x : Deed) → AreRightFrom w n xs → slice_get xs i ≡ Some (x, c) → IsRight w c (i + n) x
+right_from w n [] i c x h e = absurd (cc)
+right_from w n (y ∷ ys) zero c x h e = let same : n ≡ 0 + n = omega arith in subst (λ k. IsRight w c k x) same (subst (λ (z : Happening). IsRight w z.1 n z.0) (some_same e) h.0)
+right_from w n (y ∷ ys) (suc i) c x h e =
+    let same : i + (n + 1) ≡ suc i + n = omega arith in
+    subst (λ k. IsRight w c k x) same (right_from w (n + 1) ys i c x h.1 e)
+
+right_at : (w : World) (i c : ℕ) (x : Deed) → AreRight w → slice_get w.happened i ≡ Some (x, c) → IsRight w c i x
+right_at w i c x h e = let same : i + 0 ≡ i = omega arith in subst (λ k. IsRight w c k x) same (right_from w 0 w.happened i c x h e)
+
+-- an audit names a region only where some stray writes were left
+named : (w : World) (i b c r : ℕ) (found : List ℕ) (g : RegionState) → VerdictsTell w → slice_get w.happened i ≡ Some (Logs (audit_record b found), c) → slice_get w.old.regions r ≡ Some g
+    → ((j : ℕ) → stray_after r g.stray (take j w.happened) ≡ 0) → Contains found r → ⊥
+named w i b c r found g told e was clean has =
+    let at = told i b c found e r g was in (at.3.0 has) (clean at.0)
+
 pub wrong_ones : WrongOnes
 wrong_ones = record {
   another_number = λ w c acts said says transcript. let e = agree w c acts said _ _ says transcript in absurd (cc);
@@ -153,5 +173,30 @@ wrong_ones = record {
       no_place w c told.1 (Full end limit) says.0 told.2.met;
   said_after_death = λ first later line did w c acts said says transcript.
       died_behind first line later (ap behind_died (sym says) ∙ nothing_after_died w c acts said did transcript);
+  dropped = λ w b told. absurd told;
+  left_under_way = λ precheck whole before old new blocks lines receipts round under. let e = sym under ∙ round.rests.flag in absurd (cc);
+  left_held = λ r g precheck whole before old new blocks lines receipts round h. round.rests.holds r g h.0 h.1;
+  left_claimed = λ t precheck whole before old new blocks lines receipts round claimed. let e = sym claimed ∙ round.rests.free t in absurd (cc);
+  left_running = λ precheck whole before old new blocks lines receipts round h.
+      let stop = round.rests.stopped h.0 in
+      let e = sym h.1 ∙ stop.1 in absurd (cc);
+  live_claimed = λ i c t precheck whole before old new blocks lines receipts round h. let e = sym (right_at round.world i c (Claims t) round.right h.0) ∙ h.1 in absurd (cc);
+  given_back_by_another = λ i c t latched precheck whole before old new blocks lines receipts round h. h.1 (right_at round.world i c (GivesBack t latched) round.right h.0).3;
+  refused_behind_a_stop = λ i c f precheck whole before old new blocks lines receipts round h. h.1 (right_at round.world i c (Yields f) round.right h.0).2;
+  poked_by_nobody = λ r g h precheck whole before old new blocks lines receipts round wrong.
+      let now : slice_get round.world.core.regions r ≡ Some h = ap (λ (k : CoreState). slice_get k.regions r) round.core_is ∙ wrong.2 in
+      wrong.3 ((round.together.pokes r g h wrong.1 now).0 ∙ ap (λ (xs : List Happening). stray_after r g.stray xs) wrong.0);
+  failed_by_nobody = λ precheck whole before old new blocks lines receipts round wrong.
+      wrong.1 (sym (ap (λ (k : CoreState). k.vault.faults) round.core_is) ∙ round.together.faults.none (ap (λ (xs : List Happening). has_failed false xs) wrong.0));
+  refused_by_nobody = λ precheck whole before old new blocks lines receipts round wrong.
+      wrong.1 (sym (ap (λ (k : CoreState). k.system.refusals) round.core_is) ∙ (round.together.refusals ∙ (ap (λ (xs : List Happening). round.world.old.system.refusals ++ refused_by xs) wrong.0 ∙ append-nil round.world.old.system.refusals)));
+  begun_by_nobody = λ t precheck whole before old new blocks lines receipts round wrong.
+      wrong.1 (sym (ap (λ (k : CoreState). state_of k.system t) round.core_is) ∙ (round.together.states t ∙ ap (λ (xs : List Happening). state_after round.world xs t) wrong.0));
+  moved_by_nobody = λ precheck whole before old new blocks lines receipts round wrong.
+      let anchors : AreAnchors round.world.old.vault.current [] round.world.core.vault.current =
+      subst (λ (xs : List Happening). AreAnchors round.world.old.vault.current xs round.world.core.vault.current) wrong.0 round.together.anchors in
+      wrong.1 (sym (ap (λ (k : CoreState). k.vault.current) round.core_is) ∙ anchors);
+  clean_one_named = λ i b c r found g precheck whole before old new blocks lines receipts round wrong.
+      named round.world i b c r found g round.together.verdicts wrong.0 wrong.1 (λ j. wrong.2 j g wrong.1) wrong.3;
   of_nobody = λ are. let e = are.owners in absurd (cc);
 }

@@ -1,7 +1,7 @@
 -- What must be so for a step of a client.
 --     IsOpOf call op           an operation of this call
 --     IsBlockOf call b         the block of such an operation, on some words
---     GoesOn s L t call b      behind L the rules allow it to t next
+--     GoesOn s L t call b      behind L the rules allow it to t next, and the locks do
 --     IsRoomFor s L act o x    x is a record that the rules allow next behind L, for this act in the transaction o
 --     IsFull w i act o end limit       at this place that record passes the limit
 --     IsDamaged w i t call ..  at this place the codeword of the region that the call goes to next differs from its words
@@ -15,12 +15,14 @@
 --     IsBehind w c t x         a deed of a commit behind its Commit
 --     IsCutAudit w later xs    an audit that was cut short
 --     spares d count           the client doesn't die in so many operations
+--     Survives ..              a call that is refused isn't the one in which its client dies
+--     IsAlone w why span i     a checkpoint that is refused before it starts meets no other
 --     DiesIn w c n t r call    it dies in an operation of the call, on region r
 --     GetsBusy w c t call f    its request for the call's lock was refused, and the holder wasn't dead
 --     AreRight w               each deed of the round has what it asks for at its place
 --     AreUnfinished w c place rest xs  the deeds of a step that the end of the round cut short
 --     HasCause w c x           what must be so for the step x of client c
-use Rattle.std.specs.Prelude.{◌≡◌, ℕ, ◌+◌, ◌<◌, ◌⊎◌, Bool, true, false, List, [], ◌∷◌, Option, Some, None, bit_xor, length, nat_lt, slice_get, sum_by, take, ◌==◌, ◌≤◌}
+use Rattle.std.specs.Prelude.{◌≡◌, ℕ, ◌+◌, ◌<◌, ◌⊎◌, Bool, true, false, List, [], ◌∷◌, ◌++◌, Option, Some, None, bit_xor, length, nat_lt, slice_get, sum_by, take, ◌==◌, ◌≤◌}
 use Rattle.std.specs.List.{AllByRecursion}
 use Rattle.dali_geometry.specs.Sizes.{Sizes}
 use Rattle.dali_geometry.specs.Places.{regions}
@@ -34,13 +36,14 @@ use Rattle.dali_record.specs.declared.records.Record.{Record}
 use Rattle.dali_record.specs.declared.records.Record.TheVariants.{Begin, Forward, Back, Done, Commit, Ended, Solo, AuditBegin, AuditClean, AuditFail}
 use Rattle.dali_record.specs.Blocks.{AreWords, made}
 use Rattle.dali_record.specs.Spelling.{record_length, CanBeSpelled}
+use Rattle.dali_record.specs.Locks.{IsLockLegal}
 use Rattle.dali_region.specs.State.{RegionState}
 use Rattle.dali_att.specs.declared.state.State.TheVariants.{Cleaning}
 use Rattle.dali_system.specs.declared.causes.Cause.{Cause}
 use Rattle.dali_system.specs.declared.refusals.Refusal.{Refusal}
 use Rattle.dali_system.specs.Keeps.{IsNext}
 use Rattle.dali_transcripts.specs.Words.{Act, Begins as BeginAct, Calls, Arms, Commits as CommitAct, Aborts as AbortAct, Pokes as PokeAct, Audits as AuditAct, Checkpoints as CheckpointAct, Why, StoppedBy, Full, Damaged, StoreFailed, UnderWay, key_of, mode_of}
-use Rattle.dali_transcripts.specs.World.{Deed, Logs, DiesOn, Claims, GivesBack, Yields, FindsDead, StartsCheckpoint, MovesAnchor, EndsCheckpoint, Meets, Happening, World, log_at, IsFlushed, IsLost, IsUncommitted, HasDone, state_at, is_dead_in, is_claimed_in, HasEndedBy, has_failed, stop_at, stray_after, under_way}
+use Rattle.dali_transcripts.specs.World.{Deed, Logs, DiesOn, Claims, GivesBack, Yields, FindsDead, StartsCheckpoint, MovesAnchor, EndsCheckpoint, Meets, Happening, World, log_at, IsFlushed, IsLost, IsUncommitted, HasDone, state_at, is_dead_in, is_claimed_in, claimer_at, HasEndedBy, has_failed, failed_at, stop_at, stray_after, under_way}
 use Rattle.dali_transcripts.specs.Moves.{Receipt, Place, Outside, Within, Again, Ending, TakenBack, LeftBehind, Move, Begins, BeginsAgain, IsRefusedBegin, Skips, Rests, Answers, IsRefusedCall, Dies, IsArmed, GivesWay, GivesUp, Commits, CommitFails, IsRefusedCommit, Aborts, IsRefusedAbort, Ends, StaysOpen, Pokes, PokesNothing, Audits, IsRefusedAudit, Checkpoints, FailsCheckpoint, IsRefusedCheckpoint, operations}
 
 -- ---- the operations of a call
@@ -63,6 +66,8 @@ pub record IsBlockOf (call : Call) (b : Block) : Type 0 where
 pub record GoesOn (s : Sizes) (L : List Record) (t : ℕ) (call : Call) (b : Block) : Type 0 where
   pub of_call : IsBlockOf call b
   pub allowed : IsNext s L t (Forward t b)
+  -- it has the lock
+  pub locked : IsLockLegal (L ++ Forward t b ∷ [])
 
 -- ---- refusals
 -- the record for which there was no room
@@ -86,6 +91,8 @@ pub record IsFull (w : World) (i : ℕ) (act : Act) (o : Option ℕ) (end limit 
   pub next : IsRoomFor w.core.system.sizes (log_at w i) act o refused
   pub spelled : CanBeSpelled refused
   pub passes : limit < end + record_length refused
+  -- a stop comes first
+  pub runs : failed_at w i ≡ None
 
 -- the exclusive-or of the two values is that of the stray writes to the region so far
 pub record IsDamaged (w : World) (i t : ℕ) (call : Call) (region codeword found : ℕ) : Type 0 where
@@ -134,11 +141,12 @@ pub record MetCause (w : World) (c n : ℕ) (act : Act) (o : Option ℕ) (why : 
   pub cause : IsCause w c met.place act o why
 
 -- ---- what is done without a line
--- a record of a clean-up: another transaction than t, which is claimed there
+-- a record of a clean-up: another transaction than t, which is claimed there, by this client
 pub record IsCleaning (w : World) (c t n u : ℕ) (x : Deed) : Type 0 where
   pub apart : (u == t) ≡ false
   pub done : HasDone w c n x
   pub claimed : is_claimed_in (state_at w done.place u) ≡ true
+  pub own : claimer_at w done.place u ≡ Some c
 
 pub record HasClaimed (w : World) (c n u : ℕ) : Type 0 where
   pub done : HasDone w c n (Claims u)
@@ -155,6 +163,7 @@ pub record LetsGo (w : World) (c n u : ℕ) (latched : Option ℕ) : Type 0 wher
   pub done : HasDone w c n (GivesBack u latched)
   pub was : Option ℕ
   pub claimed : state_at w done.place u ≡ Some (Cleaning was)
+  pub own : claimer_at w done.place u ≡ Some c
   pub left : (latched ≡ was) ⊎ (latched ≡ None)
 
 -- it released that region and did no more, or the engine is stopped
@@ -209,8 +218,9 @@ IsTried w c t call x = IsWork w c t call x
 abbrev pub AreTried : World → ℕ → ℕ → Call → List Receipt → Type 0
 AreTried w c t call xs = AllByRecursion (IsTried w c t call) xs
 
--- a solo of t, or its Ended; or a clean-up
+-- a solo of t, or its Ended; or a clean-up; or its own flush fails, where that of another client had its Commit
 abbrev pub IsBehind : World → (client txn : ℕ) → Receipt → Type 0
+IsBehind w c t (n, Meets StoreFailed) = Unit {0}
 IsBehind w c t (n, Logs (Solo u p b)) = p ≡ t
 IsBehind w c t (n, Logs (Ended u)) = (u ≡ t) ⊎ IsCleaning w c t n u (Logs (Ended u))
 IsBehind w c t x = IsCleanUp w c t x
@@ -239,10 +249,25 @@ MaySpan why None work = work ≡ []
 MaySpan UnderWay (Some span) work = ⊥
 MaySpan why (Some span) work = Unit {0}
 
+-- before a checkpoint starts, another one under way comes first
+abbrev pub IsAlone : World → Why → Option (ℕ × ℕ) → (place : ℕ) → Type 0
+IsAlone w UnderWay None i = Unit {0}
+IsAlone w why None i = under_way (take i w.happened) ≡ None
+IsAlone w why (Some span) i = Unit {0}
+
 -- ---- deaths
 abbrev pub spares : Option ℕ → ℕ → Bool
 spares None count = true
 spares (Some deadly) count = nat_lt count deadly
+
+-- behind so many operations a record was refused: death comes before the room for an operation
+abbrev pub spares_without : Option ℕ → ℕ → Record → Bool
+spares_without d count (Forward t b) = spares d (count + 1)
+spares_without d count x = spares d count
+
+abbrev pub Survives : (w : World) (c n t : ℕ) (call : Call) (d : Option ℕ) (count : ℕ) (why : Why) → MetCause w c n (Calls call) (Some t) why → Type 0
+Survives w c n t call d count (Full end limit) met = spares_without d count met.cause.refused ≡ true
+Survives w c n t call d count why met = spares d count ≡ true
 
 pub record DiesIn (w : World) (c n t r : ℕ) (call : Call) : Type 0 where
   pub done : HasDone w c n (DiesOn t r)
@@ -259,12 +284,12 @@ pub record GetsBusy (w : World) (c t : ℕ) (call : Call) (f : Refusal) : Type 0
   pub runs : is_dead_in (state_at w done.place f.holder) ≡ false
 
 -- ---- each deed by itself
--- what must be so where it is done, whichever step it belongs to
+-- what must be so where it is done, whichever step it belongs to; a stop for damage comes before each refusal of a request
 abbrev pub IsRight : World → (client place : ℕ) → Deed → Type 0
 IsRight w c i (Claims u) = is_dead_in (state_at w i u) ≡ true
-IsRight w c i (GivesBack u latched) = (was : Option ℕ) × (state_at w i u ≡ Some (Cleaning was)) × ((latched ≡ was) ⊎ (latched ≡ None))
-IsRight w c i (Yields f) = (f.at ≡ length (log_at w i)) × (is_dead_in (state_at w i f.holder) ≡ false)
-IsRight w c i (FindsDead f) = (f.at ≡ length (log_at w i)) × (is_dead_in (state_at w i f.holder) ≡ true)
+IsRight w c i (GivesBack u latched) = (was : Option ℕ) × (state_at w i u ≡ Some (Cleaning was)) × ((latched ≡ was) ⊎ (latched ≡ None)) × (claimer_at w i u ≡ Some c)
+IsRight w c i (Yields f) = (f.at ≡ length (log_at w i)) × (is_dead_in (state_at w i f.holder) ≡ false) × (failed_at w i ≡ None)
+IsRight w c i (FindsDead f) = (f.at ≡ length (log_at w i)) × (is_dead_in (state_at w i f.holder) ≡ true) × (failed_at w i ≡ None)
 IsRight w c i (Meets StoreFailed) = Unit {0}
 IsRight w c i (Meets why) = (act : Act) × (o : Option ℕ) × IsCause w c i act o why
 IsRight w c i x = Unit {0}
@@ -350,7 +375,7 @@ HasCause w c (Skips s act rest) = Unit {0}
 HasCause w c (Rests t act rest) = Unit {0}
 HasCause w c (Answers t tries cs d work n call a rest) = AreWork w c t call work × (spares d (operations t work) ≡ true)
 HasCause w c (IsRefusedCall t tries cs d s work n back call why rest) =
-    AreTried w c t call work × (spares d (operations t work) ≡ true) × MetCause w c n (Calls call) (Some t) why × AreAside w c t back
+    AreTried w c t call work × ((met : MetCause w c n (Calls call) (Some t) why) × Survives w c n t call d (operations t work) why met) × AreAside w c t back
 HasCause w c (Dies t tries cs d work n r call rest) = AreWork w c t call work × (operations t work + 1 ≡ d) × DiesIn w c n t r call
 HasCause w c (IsArmed t tries cs d s count rest) = Unit {0}
 HasCause w c (GivesWay t tries cs d work call f back end rest) = AreAsking w c t call work × GetsBusy w c t call f × AreAside w c t back × IsEnd w c t call end × (tries + 1 < 1000)
@@ -364,8 +389,8 @@ HasCause w c (Ends t tries cs d work n) = AreAside w c t work × IsUncommitted w
 HasCause w c (StaysOpen t tries cs d s work n cause) = AreAside w c t work × MetCause w c n AbortAct (Some t) (StoppedBy cause)
 HasCause w c (Pokes s n r word m rest) = r < regions w.core.system.sizes
 HasCause w c (PokesNothing s r word m rest) = regions w.core.system.sizes ≤ r
-HasCause w c (Audits b n rs rest) = IsFlushed w n
+HasCause w c (Audits b n rs failed rest) = IsFlushed w n
 HasCause w c (IsRefusedAudit s work n why rest) = IsCutBy w false why work × MetCause w c n AuditAct None why
 HasCause w c (Checkpoints since b n m until current rest) = IsFlushed w n
-HasCause w c (FailsCheckpoint since b n until r rs rest) = IsFlushed w n
-HasCause w c (IsRefusedCheckpoint s span late work n why rest) = IsCutBy w true why work × MaySpan why span work × MetCause w c n CheckpointAct None why
+HasCause w c (FailsCheckpoint since b n until r rs failed rest) = IsFlushed w n
+HasCause w c (IsRefusedCheckpoint s span late work n why rest) = IsCutBy w true why work × MaySpan why span work × ((met : MetCause w c n CheckpointAct None why) × IsAlone w why span met.met.place)

@@ -72,11 +72,12 @@ pub data Move : Type 0 where
   StaysOpen : (txn tries : ℕ) → (commands : List Act) → (deadly : Option ℕ) → (stopped : Bool) → (work : List Receipt) → (at : ℕ) → (cause : Cause) → Move
   Pokes : (stopped : Bool) → (at region word mask : ℕ) → (rest : List Act) → Move
   PokesNothing : (stopped : Bool) → (region word mask : ℕ) → (rest : List Act) → Move
-  Audits : (begin number : ℕ) → (regions : List ℕ) → (rest : List Act) → Move
+  -- failed: its own flush fails, where that of another client had its end
+  Audits : (begin number : ℕ) → (regions : List ℕ) → (failed : Option ℕ) → (rest : List Act) → Move
   IsRefusedAudit : (stopped : Bool) → (work : List Receipt) → (at : ℕ) → (why : Why) → (rest : List Act) → Move
   -- how many records stood when it started, when the anchor moved, and when it ended
   Checkpoints : (since begin number turned until current : ℕ) → (rest : List Act) → Move
-  FailsCheckpoint : (since begin number until region : ℕ) → (regions : List ℕ) → (rest : List Act) → Move
+  FailsCheckpoint : (since begin number until region : ℕ) → (regions : List ℕ) → (failed : Option ℕ) → (rest : List Act) → Move
   -- span: where it started and ended, if it started; late: it was refused behind its end
   IsRefusedCheckpoint : (stopped : Bool) → (span : Option (ℕ × ℕ)) → (late : Bool) → (work : List Receipt) → (at : ℕ) → (why : Why) → (rest : List Act) → Move
 
@@ -117,6 +118,11 @@ skipped stopped act = if closes act then Outside stopped else LeftOut stopped
 
 abbrev pub audit_own : ℕ → ℕ → List ℕ → List Receipt
 audit_own begin n regions = (begin, Logs AuditBegin) ∷ (n, Logs (audit_record begin regions)) ∷ []
+
+-- its own flush fails when so many records stand
+abbrev pub failure_own : Option ℕ → List Receipt
+failure_own None = []
+failure_own (Some n) = (n, Meets StoreFailed) ∷ []
 
 -- a checkpoint from its start to its end
 abbrev pub spanned : Option (ℕ × ℕ) → List Receipt → List Receipt
@@ -178,14 +184,14 @@ row (Pokes s n r w m rest) =
     gives (at (Outside s) (PokeAct r w m ∷ rest)) (PokeOk ∷ []) ((n, Strays r w m) ∷ []) (at (Outside s) rest)
 row (PokesNothing s r w m rest) =
     gives (at (Outside s) (PokeAct r w m ∷ rest)) (PokeOutOfRange ∷ []) [] (at (Outside s) rest)
-row (Audits b n rs rest) =
-    gives (at (Outside false) (AuditAct ∷ rest)) (AuditSaid rs ∷ []) (audit_own b n rs) (at (Outside false) rest)
+row (Audits b n rs failed rest) =
+    gives (at (Outside false) (AuditAct ∷ rest)) (AuditSaid rs ∷ []) (audit_own b n rs ++ failure_own failed) (at (Outside false) rest)
 row (IsRefusedAudit s work n why rest) =
     gives (at (Outside s) (AuditAct ∷ rest)) (Refused AuditAct why ∷ []) (work ++ (n, Meets why) ∷ []) (at (Outside (s || is_stop why)) rest)
 row (Checkpoints since b n m until current rest) =
     gives (at (Outside false) (CheckpointAct ∷ rest)) (CheckpointSaid current ∷ []) (spanned (Some (since, until)) (audit_own b n [] ++ (m, MovesAnchor current) ∷ [])) (at (Outside false) rest)
-row (FailsCheckpoint since b n until r rs rest) =
-    gives (at (Outside false) (CheckpointAct ∷ rest)) (CheckpointFailed (r ∷ rs) ∷ []) (spanned (Some (since, until)) (audit_own b n (r ∷ rs))) (at (Outside false) rest)
+row (FailsCheckpoint since b n until r rs failed rest) =
+    gives (at (Outside false) (CheckpointAct ∷ rest)) (CheckpointFailed (r ∷ rs) ∷ []) (spanned (Some (since, until)) (audit_own b n (r ∷ rs) ++ failure_own failed)) (at (Outside false) rest)
 row (IsRefusedCheckpoint s span late work n why rest) =
     gives (at (Outside s) (CheckpointAct ∷ rest)) (Refused CheckpointAct why ∷ []) (refused_own late span work (n, Meets why)) (at (Outside (s || is_stop why)) rest)
 

@@ -11,6 +11,8 @@
 --     HasDiedBy w t n          the client of t died, in this round or before, when at most n records stood
 --     HasEndedBy w t n         t has ended before record n, or its client died by then
 --     has_failed b xs          a store call has failed behind these deeds, or had before them
+--     claimer_at w i t         who claimed t last, before the deed at place i
+--     failed_at w i            the first region of the epoch's failed audit before the deed at place i, if one has failed
 --     stop_at w i              why the engine is stopped before the deed at place i, if it is
 --     stray_after r s xs       the exclusive-or of the stray writes to region r behind these deeds, which was s before them
 --     poked_after r p xs       whether region r was poked by then, which it was or wasn't before them
@@ -125,6 +127,13 @@ abbrev pub is_claimed_in : Option State → Bool
 is_claimed_in (Some (Cleaning latched)) = true
 is_claimed_in o = false
 
+abbrev pub claimer_step : ℕ → Option ℕ → Happening → Option ℕ
+claimer_step t o (Claims u, c) = if u == t then Some c else o
+claimer_step t o x = o
+
+abbrev pub claimer_at : World → ℕ → ℕ → Option ℕ
+claimer_at w i t = fold (claimer_step t) None (take i w.happened)
+
 abbrev pub WasDead : World → ℕ → Type 0
 WasDead w t = is_dead_in (state_of w.old.system t) ≡ true
 
@@ -148,9 +157,12 @@ cause_of (Some r) failed = Some (Damage r)
 cause_of None true = Some Store
 cause_of None false = None
 
+abbrev pub failed_at : World → ℕ → Option ℕ
+failed_at w i = failed_first (last_epoch (log_at w i)).records
+
 -- the first region of the epoch's failed audit, or the store
 abbrev pub stop_at : World → ℕ → Option Cause
-stop_at w i = cause_of (failed_first (last_epoch (log_at w i)).records) (has_failed w.old.vault.stopped (take i w.happened))
+stop_at w i = cause_of (failed_at w i) (has_failed w.old.vault.stopped (take i w.happened))
 
 -- ---- what else deeds leave
 abbrev pub stray_step : ℕ → ℕ → Happening → ℕ

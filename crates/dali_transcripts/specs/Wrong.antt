@@ -1,20 +1,23 @@
--- Wrong transcripts: none of these is one.
-use Rattle.std.specs.Prelude.{◌≡◌, ℕ, ◌<◌, ◌≤◌, true, false, List, [], ◌∷◌, ◌++◌, Some, None, Contains, slice_get, sum_by, take}
+-- Wrong transcripts and wrong rounds: none of these is one.
+use Rattle.std.specs.Prelude.{◌≡◌, ◌≢◌, ℕ, ◌<◌, ◌≤◌, Bool, true, false, List, [], ◌∷◌, ◌++◌, Option, Some, None, Contains, slice_get, sum_by, take}
 use Rattle.dali_record.specs.declared.records.Call.{Call}
 use Rattle.dali_record.specs.declared.records.Answer.TheVariants.{Ok as AnswerOk, Exists}
+use Rattle.dali_record.specs.declared.records.Record.{Record}
 use Rattle.dali_record.specs.declared.records.Record.TheVariants.{Begin, Done, Commit, AuditBegin, AuditClean}
-use Rattle.dali_region.specs.State.{RegionState}
+use Rattle.dali_region.specs.State.{RegionState, IsLive}
 use Rattle.dali_system.specs.declared.causes.Cause.{Cause}
 use Rattle.dali_system.specs.declared.causes.Cause.TheVariants.{Damage}
 use Rattle.dali_system.specs.declared.refusals.Refusal.{Refusal}
 use Rattle.dali_system.specs.Run.{failed_first}
-use Rattle.dali_system.specs.State.{stable}
+use Rattle.dali_system.specs.State.{CoreState, state_of, stable}
+use Rattle.dali_system.specs.Steps.{audit_record}
 use Rattle.dali_transcripts.specs.Words.{Act, Calls, Checkpoints, StoppedBy, Full, Damaged, UnderWay, Said, Begun, Answered, CommitOk, Aborted, LeftOpen, Died, Busy, CheckpointSaid, Refused}
 use Rattle.dali_record.specs.Epochs.{last_epoch}
 use Rattle.dali_record.specs.Spelling.{record_length}
-use Rattle.dali_transcripts.specs.World.{Logs, Yields, World, log_of, log_at, state_at, is_dead_in, stop_at, stray_after, under_way}
+use Rattle.dali_transcripts.specs.World.{Logs, Claims, GivesBack, Yields, World, log_of, log_at, state_at, is_dead_in, is_claimed_in, claimer_at, failed_at, stop_at, stray_after, under_way}
 use Rattle.dali_transcripts.specs.Moves.{Receipt}
-use Rattle.dali_transcripts.specs.Transcripts.{IsTranscript, AreTranscripts}
+use Rattle.dali_transcripts.specs.Transcripts.{IsTranscript, Told, EachTells, AreTranscripts}
+use Rattle.dali_transcripts.specs.Rounds.{IsRound}
 use Rattle.dali_transcripts.specs.Worked.{world}
 
 -- whatever the world is, and whatever the client was told
@@ -37,6 +40,16 @@ IsDeadThroughout w t = (i : ℕ) → is_dead_in (state_at w i t) ≡ true
 
 abbrev pub RunsThroughout : World → Type 0
 RunsThroughout w = (i : ℕ) → stop_at w i ≡ None
+
+-- nothing is done in it
+abbrev pub IsIdle : World → Type 0
+IsIdle w = w.happened ≡ []
+
+-- whatever the round is, however it ends
+abbrev pub NoRound : (World → CoreState → Type 0) → Type 0
+NoRound fails =
+    (precheck whole : Bool) (before : List Record) (old new : CoreState) (blocks : List Told) (lines : List (List Said)) (receipts : List (List ℕ))
+    → (round : IsRound precheck whole before old new blocks lines receipts) → fails round.world new → ⊥
 
 pub record WrongOnes : Type 0 where
   -- another number
@@ -72,5 +85,25 @@ pub record WrongOnes : Type 0 where
   pub never_met : (act : Act) (end limit : ℕ) (did : List Receipt) → Never (λ w said. (w.happened ≡ []) × Contains said (Refused act (Full end limit))) did
   -- a line after a death
   pub said_after_death : (first later : List Said) (line : Said) (did : List Receipt) → Never (Says (first ++ Died ∷ line ∷ later)) did
+  -- a client that nothing is said of
+  pub dropped : (w : World) (b : Told) → EachTells true w (b ∷ []) [] → ⊥
+  -- a checkpoint under way, a live hold, a claimed transaction, a store that failed while the engine runs: behind a round that was cut too
+  pub left_under_way : NoRound (λ w new. new.system.checking ≡ true)
+  pub left_held : (r : ℕ) (g : RegionState) → NoRound (λ w new. (slice_get new.regions r ≡ Some g) × IsLive g)
+  pub left_claimed : (t : ℕ) → NoRound (λ w new. is_claimed_in (state_of new.system t) ≡ true)
+  pub left_running : NoRound (λ w new. (new.vault.stopped ≡ true) × (new.system.stop ≡ None))
+  -- a claim of a transaction that isn't dead; a claim that another client gives back; a request that is refused behind an audit that failed
+  pub live_claimed : (i c t : ℕ) → NoRound (λ w new. (slice_get w.happened i ≡ Some (Claims t, c)) × (is_dead_in (state_at w i t) ≡ false))
+  pub given_back_by_another : (i c t : ℕ) (latched : Option ℕ) → NoRound (λ w new. (slice_get w.happened i ≡ Some (GivesBack t latched, c)) × (claimer_at w i t ≢ Some c))
+  pub refused_behind_a_stop : (i c : ℕ) (f : Refusal) → NoRound (λ w new. (slice_get w.happened i ≡ Some (Yields f, c)) × (failed_at w i ≢ None))
+  -- a stray write, a failure of the store, a refusal, a transaction or a new image of nobody
+  pub poked_by_nobody : (r : ℕ) (g h : RegionState) → NoRound (λ w new. IsIdle w × (slice_get w.old.regions r ≡ Some g) × (slice_get new.regions r ≡ Some h) × (h.stray ≢ g.stray))
+  pub failed_by_nobody : NoRound (λ w new. IsIdle w × (new.vault.faults ≢ w.old.vault.faults))
+  pub refused_by_nobody : NoRound (λ w new. IsIdle w × (new.system.refusals ≢ w.old.system.refusals))
+  pub begun_by_nobody : (t : ℕ) → NoRound (λ w new. IsIdle w × (state_of new.system t ≢ state_of w.old.system t))
+  pub moved_by_nobody : NoRound (λ w new. IsIdle w × (new.vault.current ≢ w.old.vault.current))
+  -- an audit that names a region whose stray writes always cancel
+  pub clean_one_named : (i b c r : ℕ) (found : List ℕ) (g : RegionState)
+      → NoRound (λ w new. (slice_get w.happened i ≡ Some (Logs (audit_record b found), c)) × (slice_get w.old.regions r ≡ Some g) × IsCleanSoFar w r × Contains found r)
   -- a record of the round that none of its clients did
   pub of_nobody : AreTranscripts true (record world { happened = (Logs (Begin 1), 1) ∷ [] }) [] [] → ⊥

@@ -111,7 +111,7 @@ pub fn nothing_follows_a_death()
     ensures { NothingAfterDied }
 {}
 
-/// Twelve kinds of wrong transcripts are none.
+/// Wrong transcripts are none, and wrong rounds are none.
 pub fn wrong_transcripts_are_none()
     ensures { WrongOnes }
 {}
