@@ -31,24 +31,27 @@ fn time(words: &[&str]) -> Option<Timing> {
         ["tens", count] => calls::run_tens(count.parse().ok()?),
         ["uncoded", count] => calls::run_uncoded(count.parse().ok()?),
         ["audit", count] => regions::read(count.parse().ok()?),
+        ["apart", count] => regions::read_apart(count.parse().ok()?),
         ["checkpoint", count, folder] => files::image(count.parse().ok()?, Path::new(folder)),
-        ["clean", count, folder] => files::settle(count.parse().ok()?, Path::new(folder)),
+        ["clean", count, folder] => files::settle(count.parse().ok()?, &[], Path::new(folder)),
+        ["dirty", count, folder] => files::settle(count.parse().ok()?, &[0], Path::new(folder)),
         ["commit", count, folder] => files::commit(count.parse().ok()?, Path::new(folder)),
         ["restart", folder] => files::read(Path::new(folder)),
+        ["recover", folder] => files::read_behind(Path::new(folder)),
         _ => None,
     }
 }
 
-const USAGE: &str = "usage: bench codec|locks|update|check|parse|claims|notes|insert|get|change|delete|tens|uncoded|audit COUNT, \
-    bench commit|checkpoint|clean COUNT FOLDER, bench restart FOLDER, or bench table PROGRAM FOLDER";
+const USAGE: &str = "usage: bench codec|locks|update|check|parse|claims|notes|insert|get|change|delete|tens|uncoded|audit|apart COUNT, \
+    bench commit|checkpoint|clean|dirty COUNT FOLDER, bench restart|recover FOLDER, or bench table PROGRAM FOLDER [ROW..]";
 
 fn main() -> ExitCode {
     let words: Vec<String> = std::env::args().skip(1).collect();
     let words: Vec<&str> = words.iter().map(String::as_str).collect();
     let outcome = match words.as_slice() {
         [] => Err(USAGE.to_string()),
-        ["table", program, folder] => {
-            table::print(Path::new(program), Path::new(folder)).map_err(|error| error.to_string())
+        ["table", program, folder, names @ ..] => {
+            table::print(Path::new(program), Path::new(folder), names).map_err(|error| error.to_string())
         }
         [name, ..] => match time(&words) {
             Some(timing) => {

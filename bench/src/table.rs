@@ -41,12 +41,17 @@ enum Files {
     New,
     /// The log that was written for all runs.
     Log,
+    /// A copy for each run of the files of a database with so many updates behind its image, and with an audit that failed behind
+    /// them where it is damaged.
+    Database { updates: u64, damaged: bool },
 }
 
 struct Row {
     name: &'static str,
     /// How often both sides do it, where they are told.
     count: Option<u64>,
+    /// With which counts it is done too, to show how it grows. No goal is set for these.
+    others: &'static [u64],
     files: Files,
     /// How often each side is run.
     turns: usize,
@@ -56,10 +61,11 @@ struct Row {
     goal: Goal,
 }
 
-const ROWS: [Row; 17] = [
+const ROWS: [Row; 25] = [
     Row {
         name: "codec",
         count: Some(1_000_000),
+        others: &[],
         files: Files::Absent,
         turns: TURNS,
         dali: "encode and decode a million block records of three-byte values",
@@ -70,6 +76,7 @@ const ROWS: [Row; 17] = [
     Row {
         name: "locks",
         count: Some(1_000_000),
+        others: &[],
         files: Files::Absent,
         turns: TURNS,
         dali: "a million lock requests and their releases, 64 transactions, 100,000 keys",
@@ -80,6 +87,7 @@ const ROWS: [Row; 17] = [
     Row {
         name: "update",
         count: Some(1_000_000),
+        others: &[],
         files: Files::Absent,
         turns: TURNS,
         dali: "update and touch one word of a region, a million times over 64 MiB of regions",
@@ -90,6 +98,7 @@ const ROWS: [Row; 17] = [
     Row {
         name: "check",
         count: Some(10),
+        others: &[],
         files: Files::Absent,
         turns: TURNS,
         dali: "check every region of 64 MiB, ten times",
@@ -100,6 +109,7 @@ const ROWS: [Row; 17] = [
     Row {
         name: "parse",
         count: Some(20),
+        others: &[],
         files: Files::Absent,
         turns: TURNS,
         dali: "parse a script of 1 MiB, twenty times",
@@ -110,6 +120,7 @@ const ROWS: [Row; 17] = [
     Row {
         name: "claims",
         count: Some(10_000_000),
+        others: &[],
         files: Files::Absent,
         turns: TURNS,
         dali: "draw ten million numbers, each once",
@@ -120,6 +131,7 @@ const ROWS: [Row; 17] = [
     Row {
         name: "notes",
         count: Some(10_000_000),
+        others: &[],
         files: Files::Absent,
         turns: TURNS,
         dali: "add ten million entries to a history, and let another note meet each",
@@ -130,6 +142,7 @@ const ROWS: [Row; 17] = [
     Row {
         name: "insert",
         count: Some(100_000),
+        others: &[],
         files: Files::Absent,
         turns: TURNS,
         dali: "insert 100,000 records by calls, five a transaction, one thread, in memory",
@@ -140,6 +153,7 @@ const ROWS: [Row; 17] = [
     Row {
         name: "get",
         count: Some(100_000),
+        others: &[],
         files: Files::Absent,
         turns: TURNS,
         dali: "get each of 100,000 records by calls, five a transaction",
@@ -150,6 +164,7 @@ const ROWS: [Row; 17] = [
     Row {
         name: "change",
         count: Some(100_000),
+        others: &[],
         files: Files::Absent,
         turns: TURNS,
         dali: "update each of 100,000 records by calls, five a transaction",
@@ -160,6 +175,7 @@ const ROWS: [Row; 17] = [
     Row {
         name: "delete",
         count: Some(100_000),
+        others: &[],
         files: Files::Absent,
         turns: TURNS,
         dali: "delete each of 100,000 records by calls, five a transaction",
@@ -170,6 +186,7 @@ const ROWS: [Row; 17] = [
     Row {
         name: "tens",
         count: Some(5_000),
+        others: &[],
         files: Files::Absent,
         turns: TURNS,
         dali: "insert 5,000 records by calls, ten a transaction",
@@ -180,6 +197,7 @@ const ROWS: [Row; 17] = [
     Row {
         name: "audit",
         count: Some(19_203),
+        others: &REGIONS,
         files: Files::Absent,
         turns: TURNS,
         dali: "audit 19,203 regions ten times",
@@ -188,8 +206,20 @@ const ROWS: [Row; 17] = [
         goal: Goal::Times(2.0),
     },
     Row {
+        name: "apart",
+        count: Some(19_203),
+        others: &REGIONS,
+        files: Files::Absent,
+        turns: TURNS,
+        dali: "audit 19,203 regions ten times",
+        beside: "reading their words, which lie at every 1,120 bytes as dali's do",
+        unit: "regions",
+        goal: Goal::Unset,
+    },
+    Row {
         name: "checkpoint",
         count: Some(19_203),
+        others: &REGIONS,
         files: Files::New,
         turns: SHORT_TURNS,
         dali: "the first checkpoint of 19,203 regions, with its audit, real files",
@@ -200,6 +230,7 @@ const ROWS: [Row; 17] = [
     Row {
         name: "clean",
         count: Some(19_203),
+        others: &REGIONS,
         files: Files::New,
         turns: SHORT_TURNS,
         dali: "ten checkpoints of 19,203 regions that no image lacks, with their audits, real files",
@@ -208,8 +239,20 @@ const ROWS: [Row; 17] = [
         goal: Goal::Unset,
     },
     Row {
+        name: "dirty",
+        count: Some(19_203),
+        others: &REGIONS,
+        files: Files::New,
+        turns: SHORT_TURNS,
+        dali: "ten checkpoints of 19,203 regions, one of them written before each, with their audits, real files",
+        beside: "the same store calls, and reading the words once for each",
+        unit: "checkpoints",
+        goal: Goal::Unset,
+    },
+    Row {
         name: "commit",
         count: Some(500),
+        others: &[],
         files: Files::New,
         turns: SHORT_TURNS,
         dali: "500 durable commits of one insert, one client, real files",
@@ -220,6 +263,7 @@ const ROWS: [Row; 17] = [
     Row {
         name: "restart",
         count: None,
+        others: &[],
         files: Files::Log,
         turns: TURNS,
         dali: "restart over a log of 60 MiB, which the system has cached",
@@ -227,10 +271,107 @@ const ROWS: [Row; 17] = [
         unit: "bytes",
         goal: Goal::Times(4.0),
     },
+    Row {
+        name: "recover",
+        count: None,
+        others: &[],
+        files: Files::Database {
+            updates: 4_230,
+            damaged: false,
+        },
+        turns: TURNS,
+        dali: "restart a database of 100,000 records with 1 MB of log behind its image",
+        beside: "reading image and log behind it once",
+        unit: "bytes",
+        goal: Goal::Times(4.0),
+    },
+    Row {
+        name: "recover",
+        count: None,
+        others: &[],
+        files: Files::Database {
+            updates: 4_230,
+            damaged: true,
+        },
+        turns: TURNS,
+        dali: "restart a database of 100,000 records with 1 MB of log behind its image, and an audit there that failed",
+        beside: "reading image and log behind it once",
+        unit: "bytes",
+        goal: Goal::Times(9.0),
+    },
+    Row {
+        name: "recover",
+        count: None,
+        others: &[],
+        files: Files::Database {
+            updates: 42_300,
+            damaged: false,
+        },
+        turns: TURNS,
+        dali: "restart a database of 100,000 records with 10 MB of log behind its image",
+        beside: "reading image and log behind it once",
+        unit: "bytes",
+        goal: Goal::Times(4.0),
+    },
+    Row {
+        name: "recover",
+        count: None,
+        others: &[],
+        files: Files::Database {
+            updates: 42_300,
+            damaged: true,
+        },
+        turns: TURNS,
+        dali: "restart a database of 100,000 records with 10 MB of log behind its image, and an audit there that failed",
+        beside: "reading image and log behind it once",
+        unit: "bytes",
+        goal: Goal::Times(9.0),
+    },
+    Row {
+        name: "recover",
+        count: None,
+        others: &[],
+        files: Files::Database {
+            updates: 253_800,
+            damaged: false,
+        },
+        turns: TURNS,
+        dali: "restart a database of 100,000 records with 60 MB of log behind its image",
+        beside: "reading image and log behind it once",
+        unit: "bytes",
+        goal: Goal::Times(4.0),
+    },
+    Row {
+        name: "recover",
+        count: None,
+        others: &[],
+        files: Files::Database {
+            updates: 253_800,
+            damaged: true,
+        },
+        turns: TURNS,
+        dali: "restart a database of 100,000 records with 60 MB of log behind its image, and an audit there that failed",
+        beside: "reading image and log behind it once",
+        unit: "bytes",
+        goal: Goal::Times(9.0),
+    },
 ];
+
+impl Row {
+    /// What dali's program calls it: the other side has two answers to an audit.
+    fn task(&self) -> &'static str {
+        match self.name {
+            "apart" => "audit",
+            name => name,
+        }
+    }
+}
 
 /// The transactions of ten inserts in the log of the restart.
 const LOGGED: u64 = 240_132;
+
+/// How many regions are audited and checkpointed beside those of the goals.
+const REGIONS: [u64; 2] = [2_001, 98_304];
 
 const GROWTH: [u64; 3] = [1_000, 10_000, 100_000];
 
@@ -360,32 +501,30 @@ fn mebibytes(run: Run) -> String {
 }
 
 /// Prints a row of runs that did the same work, of which the two of one turn stand at one place.
-fn print_row(row: &Row, dali_runs: &[Run], beside_runs: &[Run]) {
+fn print_row(what: &str, goal: &Goal, row: &Row, dali_runs: &[Run], beside_runs: &[Run]) {
     let dali = median(dali_runs);
     let beside = median(beside_runs);
-    let ratio = ratio_of(&row.goal, dali.rate, beside.rate);
-    let (ratio, goal, met) = match row.goal {
+    let ratio = ratio_of(goal, dali.rate, beside.rate);
+    let half = middle_half(goal, dali_runs, beside_runs);
+    let (ratio, goal, met) = match goal {
         Goal::Times(most) => (
             format!("{ratio:.2} times"),
             format!("at most {most} times"),
-            if ratio <= most { "yes" } else { "no" },
+            if ratio <= *most { "yes" } else { "no" },
         ),
         Goal::Share(least) => (
             format!("{ratio:.2} of its rate"),
             format!("at least {least} of its rate"),
-            if ratio >= least { "yes" } else { "no" },
+            if ratio >= *least { "yes" } else { "no" },
         ),
         Goal::Unset => (format!("{ratio:.2} times"), "none".to_string(), ""),
     };
     println!(
-        "| {} | {} | {} {} | {} | {ratio} | {} | {goal} | {} | {} | {} |",
-        row.dali,
+        "| {what} | {} | {} {} | {} | {ratio} | {half} | {goal} | {met} | {} | {} |",
         row.beside,
         in_threes(dali.rate),
         row.unit,
         in_threes(beside.rate),
-        middle_half(&row.goal, dali_runs, beside_runs),
-        met,
         mebibytes(dali),
         mebibytes(beside),
     );
@@ -450,7 +589,7 @@ fn print_machine(folder: &Path) -> io::Result<()> {
         .find_map(|line| line.strip_prefix("model name")?.split_once(": "))
         .map_or("an unknown processor", |(_, model)| model);
     println!("{cores} cores of {model}; files on {}.", disk_of(folder)?);
-    println!("Medians of {TURNS} runs each, of commits and growth {SHORT_TURNS}. `half of the turns` says between which two ratios");
+    println!("Medians of {TURNS} runs each, of commits, checkpoints and growth {SHORT_TURNS}. `half of the turns` says between which two ratios");
     println!("half of them lie.");
     println!("Rates are a second.");
     println!("Memory is the most that was resident, in MiB (2^20 bytes). Near 2 or 3 MiB it says nothing, since what this");
@@ -488,29 +627,71 @@ impl Drop for OwnFolder {
     }
 }
 
+/// Makes a folder anew.
+fn make_anew(folder: &Path) -> io::Result<()> {
+    match fs::remove_dir_all(folder) {
+        Err(error) if error.kind() != io::ErrorKind::NotFound => Err(error),
+        _ => fs::create_dir(folder),
+    }
+}
+
 /// Both programs, and the folders of their files.
 struct Sides<'a> {
     dali: &'a Path,
     beside: PathBuf,
     /// Where runs make files and remove them.
-    commits: PathBuf,
-    /// Where the log is.
-    log: PathBuf,
+    new: PathBuf,
+    /// Where the files are that were made for all runs of a row.
+    made: PathBuf,
+    /// Where each run finds its copy of them.
+    copy: PathBuf,
 }
 
 impl Sides<'_> {
     fn folder_of(&self, row: &Row) -> Option<&Path> {
         match row.files {
             Files::Absent => None,
-            Files::New => Some(&self.commits),
-            Files::Log => Some(&self.log),
+            Files::New => Some(&self.new),
+            Files::Log => Some(&self.made),
+            Files::Database { .. } => Some(&self.copy),
         }
     }
 
-    fn dali(&self, row: &Row) -> io::Result<Run> {
+    /// Makes the files for all runs of a row.
+    fn make_files(&self, row: &Row) -> io::Result<()> {
+        let (name, count) = match row.files {
+            Files::Absent | Files::New => return Ok(()),
+            Files::Log => ("log", LOGGED),
+            Files::Database { updates, damaged: false } => ("fill", updates),
+            Files::Database { updates, damaged: true } => ("damage", updates),
+        };
+        make_anew(&self.made)?;
         let mut command = Command::new(self.dali);
-        command.arg(row.name);
-        if let Some(count) = row.count {
+        command.arg(name).arg("--count").arg(count.to_string());
+        output(command.arg("--folder").arg(&self.made))?;
+        Ok(())
+    }
+
+    /// Copies them for one run, where a run changes them.
+    fn copy_files(&self, row: &Row) -> io::Result<()> {
+        if !matches!(row.files, Files::Database { .. }) {
+            return Ok(());
+        }
+        make_anew(&self.copy)?;
+        for file in fs::read_dir(&self.made)? {
+            let file = file?;
+            let to = self.copy.join(file.file_name());
+            fs::copy(file.path(), &to)?;
+            fs::File::open(to)?.sync_all()?;
+        }
+        Ok(())
+    }
+
+    fn dali(&self, row: &Row, count: Option<u64>) -> io::Result<Run> {
+        self.copy_files(row)?;
+        let mut command = Command::new(self.dali);
+        command.arg(row.task());
+        if let Some(count) = count {
             command.arg("--count").arg(count.to_string());
         }
         if let Some(folder) = self.folder_of(row) {
@@ -519,19 +700,13 @@ impl Sides<'_> {
         run(&mut command)
     }
 
-    fn beside(&self, row: &Row) -> io::Result<Run> {
+    fn beside(&self, row: &Row, count: Option<u64>) -> io::Result<Run> {
+        self.copy_files(row)?;
         let mut command = Command::new(&self.beside);
         command.arg(row.name);
-        command.args(row.count.map(|count| count.to_string()));
+        command.args(count.map(|count| count.to_string()));
         command.args(self.folder_of(row));
         run(&mut command)
-    }
-
-    fn write_log(&self) -> io::Result<()> {
-        let mut command = Command::new(self.dali);
-        command.arg("log").arg("--count").arg(LOGGED.to_string());
-        output(command.arg("--folder").arg(&self.log))?;
-        Ok(())
     }
 
     fn share(&self, name: &str) -> io::Result<Run> {
@@ -547,22 +722,33 @@ impl Sides<'_> {
     }
 }
 
-fn print_rows(sides: &Sides) -> io::Result<()> {
-    for row in &ROWS {
-        let mut dali = Vec::new();
-        let mut beside = Vec::new();
-        for turn in 0..row.turns {
-            // Each side begins every other turn, so that what one run leaves to the next falls on both.
-            if turn % 2 == 0 {
-                dali.push(sides.dali(row)?);
-                beside.push(sides.beside(row)?);
-            } else {
-                beside.push(sides.beside(row)?);
-                dali.push(sides.dali(row)?);
-            }
+fn print_count(sides: &Sides, what: &str, goal: &Goal, row: &Row, count: Option<u64>) -> io::Result<()> {
+    let mut dali = Vec::new();
+    let mut beside = Vec::new();
+    for turn in 0..row.turns {
+        // Each side begins every other turn, so that what one run leaves to the next falls on both.
+        if turn % 2 == 0 {
+            dali.push(sides.dali(row, count)?);
+            beside.push(sides.beside(row, count)?);
+        } else {
+            beside.push(sides.beside(row, count)?);
+            dali.push(sides.dali(row, count)?);
         }
-        compare(row.name, dali.iter().chain(&beside))?;
-        print_row(row, &dali, &beside);
+    }
+    compare(row.name, dali.iter().chain(&beside))?;
+    print_row(what, goal, row, &dali, &beside);
+    Ok(())
+}
+
+/// Prints the rows with these names.
+fn print_rows(sides: &Sides, names: &[&str]) -> io::Result<()> {
+    for row in ROWS.iter().filter(|row| names.contains(&row.name)) {
+        sides.make_files(row)?;
+        print_count(sides, row.dali, &row.goal, row, row.count)?;
+        for count in row.others {
+            let what = format!("the same with {}", in_threes(*count));
+            print_count(sides, &what, &Goal::Unset, row, Some(*count))?;
+        }
     }
     Ok(())
 }
@@ -602,21 +788,24 @@ fn print_growths(sides: &Sides) -> io::Result<()> {
     Ok(())
 }
 
-/// Runs `program` and this one in turn, with files in a new folder within this one, and prints the table.
-pub fn print(program: &Path, folder: &Path) -> io::Result<()> {
+/// Runs `program` and this one in turn, with files in a new folder within this one, and prints the table, or the rows with these
+/// names alone.
+pub fn print(program: &Path, folder: &Path, names: &[&str]) -> io::Result<()> {
     let own = OwnFolder::make(folder)?;
     let sides = Sides {
         dali: program,
         beside: std::env::current_exe()?,
-        commits: own.path.join("commit"),
-        log: own.path.join("restart"),
+        new: own.path.join("new"),
+        made: own.path.join("made"),
+        copy: own.path.join("copy"),
     };
-    fs::create_dir(&sides.commits)?;
-    fs::create_dir(&sides.log)?;
+    fs::create_dir(&sides.new)?;
     print_machine(&own.path)?;
     println!("{HEAD}");
-    sides.write_log()?;
-    print_rows(&sides)?;
+    if !names.is_empty() {
+        return print_rows(&sides, names);
+    }
+    print_rows(&sides, &ROWS.each_ref().map(|row| row.name))?;
     print_codewords(&sides)?;
     print_growths(&sides)
 }

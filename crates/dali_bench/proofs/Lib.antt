@@ -6,3 +6,4 @@ pub mod Holding
 pub mod Reading
 pub mod Requested
 pub mod Restoring
+pub mod Written

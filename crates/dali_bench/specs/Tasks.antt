@@ -4,7 +4,7 @@
 --     has_folder task      whether it has files
 use Rattle.std.specs.Prelude.{ℕ, Bool, true, false, List, codes}
 use Rattle.dali_bench.specs.declared.arguments.Task.{Task}
-use Rattle.dali_bench.specs.declared.arguments.Task.TheVariants.{Codec, Locks, Update, Check, Parse, Claims, Notes, Commit, Log, Restart, Growth, Insert, Get, Change, Delete, Tens, Audit, Checkpoint, Clean, Small}
+use Rattle.dali_bench.specs.declared.arguments.Task.TheVariants.{Codec, Locks, Update, Check, Parse, Claims, Notes, Commit, Log, Restart, Growth, Insert, Get, Change, Delete, Tens, Audit, Checkpoint, Clean, Dirty, Fill, Damage, Recover, Small}
 
 abbrev pub name_of : Task → List ℕ
 name_of Codec = codes "codec"
@@ -26,10 +26,15 @@ name_of Tens = codes "tens"
 name_of Audit = codes "audit"
 name_of Checkpoint = codes "checkpoint"
 name_of Clean = codes "clean"
+name_of Dirty = codes "dirty"
+name_of Fill = codes "fill"
+name_of Damage = codes "damage"
+name_of Recover = codes "recover"
 name_of Small = codes "small"
 
 abbrev pub has_count : Task → Bool
 has_count Restart = false
+has_count Recover = false
 has_count Small = false
 has_count _ = true
 
@@ -39,5 +44,9 @@ has_folder Log = true
 has_folder Restart = true
 has_folder Checkpoint = true
 has_folder Clean = true
+has_folder Dirty = true
+has_folder Fill = true
+has_folder Damage = true
+has_folder Recover = true
 has_folder Small = true
 has_folder _ = false

@@ -47,11 +47,19 @@ pub enum Task {
     Checkpoint,
     /// Makes checkpoints of regions that no image lacks, in a new folder within a folder.
     Clean,
+    /// Makes checkpoints of regions of which the images lack one, in a new folder within a folder.
+    Dirty,
+    /// Makes the files of a database with updates behind its image, in a folder.
+    Fill,
+    /// The same, with an audit that fails behind them.
+    Damage,
+    /// Restarts the database in a folder.
+    Recover,
     /// Does a little of each, in a new folder within a folder.
     Small,
 }
 
-const TASKS: [Task; 20] = [
+const TASKS: [Task; 24] = [
     Task::Codec,
     Task::Locks,
     Task::Update,
@@ -71,6 +79,10 @@ const TASKS: [Task; 20] = [
     Task::Audit,
     Task::Checkpoint,
     Task::Clean,
+    Task::Dirty,
+    Task::Fill,
+    Task::Damage,
+    Task::Recover,
     Task::Small,
 ];
 
@@ -98,6 +110,10 @@ impl Task {
             Task::Audit => "audit",
             Task::Checkpoint => "checkpoint",
             Task::Clean => "clean",
+            Task::Dirty => "dirty",
+            Task::Fill => "fill",
+            Task::Damage => "damage",
+            Task::Recover => "recover",
             Task::Small => "small",
         }
     }
@@ -127,6 +143,12 @@ impl Task {
                 "Makes the first checkpoint of COUNT regions, in a folder within FOLDER",
             Task::Clean =>
                 "Makes ten checkpoints of COUNT regions that no image lacks, in a folder within FOLDER",
+            Task::Dirty =>
+                "Makes ten checkpoints of COUNT regions, one of them written before each, in a folder within FOLDER",
+            Task::Fill =>
+                "Makes the files of 100,000 records and COUNT updates behind their image, in FOLDER",
+            Task::Damage => "The same, with an audit that fails behind the updates",
+            Task::Recover => "Restarts the database in FOLDER",
             Task::Small => "Does a little of each, in a folder within FOLDER, and prints ok",
         }
     }
@@ -134,7 +156,7 @@ impl Task {
     fn has_count(self) -> bool
         ensures { result ≡ has_count self }
     {
-        !matches!(self, Task::Restart | Task::Small)
+        !matches!(self, Task::Restart | Task::Recover | Task::Small)
     }
 
     fn has_folder(self) -> bool
@@ -142,7 +164,16 @@ impl Task {
     {
         matches!(
             self,
-            Task::Commit | Task::Log | Task::Restart | Task::Checkpoint | Task::Clean | Task::Small
+            Task::Commit
+                | Task::Log
+                | Task::Restart
+                | Task::Checkpoint
+                | Task::Clean
+                | Task::Dirty
+                | Task::Fill
+                | Task::Damage
+                | Task::Recover
+                | Task::Small
         )
     }
 }

@@ -8,7 +8,7 @@ ghost use Rattle.dali_bench.specs.Amounts.{Counts};
 
 use crate::timing::Timing;
 use anyhow::{Result, ensure};
-use dali_audit::Audit;
+use dali_audit::{Audit, Verdict};
 use dali_core::System;
 use dali_geometry::Geometry;
 use dali_region::Region;
@@ -52,15 +52,24 @@ fn pass_all(audit: &mut Audit, regions: &mut [Region])
     }
 }
 
-// An audit of all regions, which finds no damage.
-fn audit_once(alloc: Global, regions: &mut [Region], system: &mut System) -> Result<()>
+/// An audit of all regions.
+pub fn audit_all(alloc: Global, regions: &mut [Region], system: &mut System) -> Result<Verdict>
     requires whole { length regions.old ≡ regions_of system.old.state.sizes }
     requires few { length regions.old < 2 ^ 32 }
     ensures { OnOk result ((length regions.new ≡ length regions.old) × (system.new.state.sizes ≡ system.old.state.sizes)) }
 {
     let mut audit = Audit::begin(alloc, system)?;
     pass_all(&mut audit, regions);
-    let verdict = audit.end(system)?;
+    Ok(audit.end(system)?)
+}
+
+// One that finds no damage.
+fn audit_once(alloc: Global, regions: &mut [Region], system: &mut System) -> Result<()>
+    requires whole { length regions.old ≡ regions_of system.old.state.sizes }
+    requires few { length regions.old < 2 ^ 32 }
+    ensures { OnOk result ((length regions.new ≡ length regions.old) × (system.new.state.sizes ≡ system.old.state.sizes)) }
+{
+    let verdict = audit_all(alloc, regions, system)?;
     ensure!(verdict.failing().is_empty(), "a region is damaged");
     system.flushed();
     Ok(())

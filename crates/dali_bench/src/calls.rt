@@ -18,10 +18,10 @@ use std::rt::Clock;
 use std::time::Instant;
 
 /// The greatest limit of a log, in bytes.
-const LIMIT: u64 = 268_435_456;
+pub const LIMIT: u64 = 268_435_456;
 
 /// How many calls a transaction makes, where it isn't said.
-const CALLS: u32 = 5;
+pub const CALLS: u32 = 5;
 
 /// What is done with each key.
 #[derive(Clone, Copy, Debug, PartialEq, Eq)]
@@ -46,6 +46,19 @@ fn unit<'a>(kind: Kind) -> &'a str
         Kind::Update => "updates",
         Kind::Delete => "deletes",
     }
+}
+
+/// Sizes for so many records, five in a heap region and ten in an index region.
+pub fn sizes_for(records: u32) -> Result<Geometry> {
+    Ok(Geometry::new(records / 10 + 1, records / 5 + 1)?)
+}
+
+/// The value of an inserted record, and that of an updated one.
+pub fn values() -> Result<[Value; 2]> {
+    Ok([
+        Value::from_bytes(b"abc").context("no value")?,
+        Value::from_bytes(b"xyz").context("no value")?,
+    ])
 }
 
 // The regions of a new database.
@@ -99,9 +112,9 @@ fn call_all(
     Ok(())
 }
 
-// A whole transaction.
+/// A whole transaction, which makes so many calls on the keys from this place on. Its records are left in the system's frame.
 #[tactic(auto, using(dali_single::proofs::Guards::begun_lives, dali_single::proofs::Guards::begun_covered))]
-fn run_transaction(
+pub fn run_transaction(
     alloc: Global,
     regions: &mut [Region],
     system: &mut System,
@@ -118,7 +131,6 @@ fn run_transaction(
     call_all(regions, system, txn, kind, first, calls, values)?;
     let removals = commit(alloc, system, txn)?;
     settle(regions, system, txn, &removals)?;
-    system.flushed();
     Ok(())
 }
 
@@ -131,13 +143,11 @@ fn run_transactions(
     transactions: u32,
     calls: u32,
 ) -> Result<()> {
-    let values = [
-        Value::from_bytes(b"abc").context("no value")?,
-        Value::from_bytes(b"xyz").context("no value")?,
-    ];
+    let values = values()?;
     for number in 0..transactions as u64 {
         let first = number.wrapping_mul(calls as u64);
         run_transaction(alloc, regions, system, kind, first, calls, &values)?;
+        system.flushed();
     }
     Ok(())
 }
@@ -148,7 +158,7 @@ fn run_in(clock: &impl Clock, alloc: Global, kind: Kind, count: u32, calls: u32)
     requires { 0 < calls }
     ensures counts { IfOk result (Counts (count / calls * calls) (unit_of kind)) }
 {
-    let geometry = Geometry::new(count / 10 + 1, count / 5 + 1)?;
+    let geometry = sizes_for(count)?;
     let mut regions = load(alloc, &geometry)?;
     let mut system = System::new(alloc, geometry, 1, 1, 10, LIMIT)?;
     if kind != Kind::Insert {

@@ -1,13 +1,15 @@
 //! Checkpoints of databases whose regions are as they were formatted.
 ghost use Rattle.std.specs.Prelude.{◌≡◌, codes, OnOk, IfOk};
 ghost use Rattle.dali_bench.specs.Amounts.{Counts};
-ghost use Rattle.dali_bench.specs.Checkpoints.{MayCheckpoint};
+ghost use Rattle.dali_bench.specs.Checkpoints.{MayCheckpoint, FirstWritten};
 
 use crate::audits::sizes_for;
+use crate::regions::update_word;
 use crate::timing::Timing;
 use anyhow::{Result, ensure};
 use dali_checkpoint::make_checkpoint;
 use dali_geometry::Geometry;
+use dali_region::Region;
 use dali_restart::format;
 use dali_store::{FileName, Store};
 use dali_whole::Core;
@@ -18,7 +20,7 @@ use std::time::Instant;
 /// The greatest limit of a log, in bytes.
 const LIMIT: u64 = 268_435_456;
 
-/// How many checkpoints are made of regions that no image lacks.
+/// How many checkpoints are made of regions that no image lacks, or all but one.
 const CHECKPOINTS: u32 = 10;
 
 // The core of a new database of these sizes.
@@ -48,6 +50,36 @@ fn checkpoint_times<V: Store>(alloc: Global, core: &mut Core<V>, times: u32) -> 
     ensures { OnOk result (MayCheckpoint V.told core.new.regions.items core.new.system.state core.new.vault) }
 {
     for _ in 0..times {
+        checkpoint(alloc, core)?;
+    }
+    Ok(())
+}
+
+// Writes a word of the first of these regions.
+fn write_first(regions: &mut [Region]) -> Result<()>
+    ensures { OnOk result (FirstWritten regions.old regions.new) }
+{
+    ensure!(!regions.is_empty(), "no regions");
+    update_word(&mut regions[0], 1, 0)?;
+    Ok(())
+}
+
+// Writes a word of the first region.
+fn write_one<V: Store>(core: &mut Core<V>) -> Result<()>
+    requires { MayCheckpoint V.told core.old.regions.items core.old.system.state core.old.vault }
+    ensures { OnOk result (MayCheckpoint V.told core.new.regions.items core.new.system.state core.new.vault) }
+{
+    write_first(&mut core.regions)?;
+    Ok(())
+}
+
+// So many checkpoints, with a write of one region before each.
+fn write_and_checkpoint<V: Store>(alloc: Global, core: &mut Core<V>, times: u32) -> Result<()>
+    requires { MayCheckpoint V.told core.old.regions.items core.old.system.state core.old.vault }
+    ensures { OnOk result (MayCheckpoint V.told core.new.regions.items core.new.system.state core.new.vault) }
+{
+    for _ in 0..times {
+        write_one(core)?;
         checkpoint(alloc, core)?;
     }
     Ok(())
@@ -90,6 +122,24 @@ pub fn run_clean<V: Store + Drop>(
     checkpoint_times(alloc, &mut core, 2)?;
     let start = Instant::now(clock)?;
     checkpoint_times(alloc, &mut core, CHECKPOINTS)?;
+    let timing = Timing::since(clock, start, CHECKPOINTS as u64, "checkpoints")?;
+    Ok(timing.checked(length(core)?))
+}
+
+/// Ten checkpoints of a database with so many regions, one of which is written before each, so that the images lack it. The check
+/// number is the length of the first image's file.
+pub fn run_dirty<V: Store + Drop>(
+    clock: &impl Clock,
+    alloc: Global,
+    store: V,
+    regions: u32,
+) -> Result<Timing>
+    ensures { IfOk result (Counts 10 (codes "checkpoints")) }
+{
+    let mut core = make(alloc, store, sizes_for(regions)?)?;
+    checkpoint_times(alloc, &mut core, 2)?;
+    let start = Instant::now(clock)?;
+    write_and_checkpoint(alloc, &mut core, CHECKPOINTS)?;
     let timing = Timing::since(clock, start, CHECKPOINTS as u64, "checkpoints")?;
     Ok(timing.checked(length(core)?))
 }

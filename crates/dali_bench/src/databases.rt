@@ -210,13 +210,25 @@ pub fn grow(clock: &impl Clock, alloc: Global, count: u32) -> Result<Timing>
     Ok(Timing::new(records, "inserts", elapsed).checked(bytes))
 }
 
-/// Writes the log of so many transactions of ten inserts to a new file, and syncs it.
-pub fn make_log<R: Clock + Files>(rt: &R, alloc: Global, count: u32, path: &str) -> Result<()> {
-    let (store, _) = fill_memory(rt, alloc, count)?;
-    let mut log = File::create_new(rt, path)?;
-    log.write_all(store.file(FileName::Log))?;
-    log.sync_all()?;
+/// Writes a file of a store in memory to a new file of a folder, and syncs it.
+pub fn write_file<R: Files>(
+    rt: &R,
+    alloc: Global,
+    store: &MemoryStore,
+    file: FileName,
+    folder: &str,
+) -> Result<()> {
+    let path = format!(in alloc; "{folder}/dali.{file}")?;
+    let mut to = File::create_new(rt, path.as_str())?;
+    to.write_all(store.file(file))?;
+    to.sync_all()?;
     Ok(())
+}
+
+/// Writes the log of so many transactions of ten inserts to a new file of a folder, and syncs it.
+pub fn make_log<R: Clock + Files>(rt: &R, alloc: Global, count: u32, folder: &str) -> Result<()> {
+    let (store, _) = fill_memory(rt, alloc, count)?;
+    write_file(rt, alloc, &store, FileName::Log, folder)
 }
 
 // Refuses unfinished transactions.

@@ -9,6 +9,7 @@ mod codec;
 mod databases;
 mod keys;
 mod locks;
+mod recoveries;
 mod regions;
 mod scripts;
 mod shared;
@@ -18,6 +19,7 @@ use anyhow::{Context, Result, bail};
 use arguments::{Job, Task};
 use calls::Kind;
 use dali_filestore::FileStore;
+use dali_store::FileName;
 use std::io::ErrorKind;
 use std::process::ExitCode;
 use std::{env, fs};
@@ -45,8 +47,15 @@ fn run_small(rt: &HostRuntime, folder: &str) -> Result<()> {
     time_clean(rt, 6, clean.as_str())?;
     let commits = make_folder(rt, folder)?;
     time_commits(rt, 3, commits.as_str())?;
-    make_log(rt, 5, folder)?;
+    let dirty = make_folder(rt, folder)?;
+    time_dirty(rt, 6, dirty.as_str())?;
+    databases::make_log(rt, alloc, 5, folder)?;
     time_restart(rt, folder)?;
+    for damaged in [false, true] {
+        let files = make_folder(rt, folder)?;
+        make_files(rt, 20, 50, damaged, files.as_str())?;
+        time_recovery(rt, files.as_str())?;
+    }
     Ok(())
 }
 
@@ -84,9 +93,33 @@ fn time_clean(rt: &HostRuntime, count: u32, folder: &str) -> Result<Timing> {
     checkpoints::run_clean(rt, rt.alloc(), FileStore::in_folder(rt, folder), count)
 }
 
-fn make_log(rt: &HostRuntime, count: u32, folder: &str) -> Result<()> {
-    let path = format!(in rt.alloc(); "{folder}/dali.log")?;
-    databases::make_log(rt, rt.alloc(), count, path.as_str())
+fn time_dirty(rt: &HostRuntime, count: u32, folder: &str) -> Result<Timing> {
+    checkpoints::run_dirty(rt, rt.alloc(), FileStore::in_folder(rt, folder), count)
+}
+
+// The four files of a database.
+fn make_files(
+    rt: &HostRuntime,
+    records: u32,
+    updates: u32,
+    damaged: bool,
+    folder: &str,
+) -> Result<()> {
+    let alloc = rt.alloc();
+    let store = recoveries::fill(alloc, records, updates, damaged)?;
+    for file in [
+        FileName::Log,
+        FileName::ImageA,
+        FileName::ImageB,
+        FileName::Anchor,
+    ] {
+        databases::write_file(rt, alloc, &store, file, folder)?;
+    }
+    Ok(())
+}
+
+fn time_recovery(rt: &HostRuntime, folder: &str) -> Result<Timing> {
+    recoveries::recover(rt, rt.alloc(), FileStore::in_folder(rt, folder))
 }
 
 fn time_restart(rt: &HostRuntime, folder: &str) -> Result<Timing> {
@@ -127,8 +160,16 @@ fn run_job(rt: &HostRuntime, job: &Job) -> Result<()> {
             let timing = time_clean(rt, count, folder.as_str());
             remove(rt, folder.as_str(), timing)?
         }
+        Task::Dirty => {
+            let folder = make_folder(rt, job.folder)?;
+            let timing = time_dirty(rt, count, folder.as_str());
+            remove(rt, folder.as_str(), timing)?
+        }
         Task::Restart => time_restart(rt, job.folder)?,
-        Task::Log => return make_log(rt, count, job.folder),
+        Task::Recover => time_recovery(rt, job.folder)?,
+        Task::Log => return databases::make_log(rt, alloc, count, job.folder),
+        Task::Fill => return make_files(rt, recoveries::RECORDS, count, false, job.folder),
+        Task::Damage => return make_files(rt, recoveries::RECORDS, count, true, job.folder),
         Task::Small => {
             let folder = make_folder(rt, job.folder)?;
             let small = run_small(rt, folder.as_str());

@@ -1,5 +1,5 @@
 //! Regions that are updated and checked.
-ghost use Rattle.std.specs.Prelude.{◌≡◌, ◌^◌, ◌*◌, ◌-◌, ◌<◌, ◌≤◌, fold, length, map, min, codes, OnOk, IfOk};
+ghost use Rattle.std.specs.Prelude.{◌≡◌, ◌^◌, ◌*◌, ◌-◌, ◌<◌, ◌≤◌, fold, length, map, min, codes, None, OnOk, IfOk};
 ghost use Rattle.dali_region.specs.State.{checked};
 ghost use Rattle.dali_bench.specs.Amounts.{Tells};
 ghost use Rattle.dali_bench.specs.Keys.{mixed};
@@ -62,10 +62,11 @@ fn words_check(regions: &[Region]) -> u64
     check
 }
 
-// An operation of a transaction that writes one word.
-fn update_word(region: &mut Region, txn: u64, word: u8) -> Result<(), LatchError>
+/// An operation of a transaction that writes one word.
+pub fn update_word(region: &mut Region, txn: u64, word: u8) -> Result<(), LatchError>
     requires { word < 64 }
-    ensures { OnOk result (region.new ≡ worked txn word region.old) }
+    ensures done { OnOk result (region.new ≡ worked txn word region.old) }
+    ensures free { OnOk result (region.old.hold ≡ None) }
 {
     region.latch(txn, false)?;
     region.note_reads(bit(word));

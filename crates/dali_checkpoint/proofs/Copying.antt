@@ -1,7 +1,7 @@
 -- The copies of a whole checkpoint, one run after another.
-use Rattle.std.proofs.Common.{◌≡◌, ℕ, ◌+◌, ◌<◌, ◌≤◌, Bool, true, false, List, length, map, drop, Option, Some, IfSome, refl, ap, sym, subst, ◌∙◌, arith}
+use Rattle.std.proofs.Common.{◌≡◌, ℕ, ◌+◌, ◌≤◌, Bool, true, false, List, length, map, drop, Option, IfSome, refl, ap, sym, subst, ◌∙◌, arith}
 use Rattle.std.specs.Prelude.{is_some}
-use Rattle.std.proofs.lemmas.List.{drop-drop, drop_all, length-drop}
+use Rattle.std.proofs.lemmas.List.{drop-drop, drop_all}
 use Rattle.dali_region.specs.declared.Side.{Side}
 use Rattle.dali_region.specs.State.{RegionState}
 use Rattle.dali_region.specs.Answers.{cleaned}
@@ -18,7 +18,7 @@ use Rattle.dali_checkpoint.specs.Done.{Reaches, IsNoShorter}
 use Rattle.dali_checkpoint.specs.Runs.{is_first_dirty, run_of, runs_in, change, run_at, is_run_dirty, run_bytes, behind_run, cleaned_run}
 use Rattle.dali_checkpoint.specs.Making.{hold_on, CopiesGo, CopiesFail, HasCopied, HasNotCopied}
 use Rattle.dali_checkpoint.proofs.Lengths.{places_stay}
-use Rattle.dali_checkpoint.proofs.Pieces.{one_if, change_none, change_length, change_then, change_all, change_map, drop_changed, runs_step, run_length}
+use Rattle.dali_checkpoint.proofs.Pieces.{one_if, change_none, change_length, change_then, change_all, change_map, drop_changed, runs_step}
 use Rattle.dali_checkpoint.proofs.Results.{hold_cleaned}
 use Rattle.dali_checkpoint.proofs.Walks.{no_calls, calls_then, one_call}
 use Rattle.dali_checkpoint.proofs.Whole.{copies_none, copies_run, copies_skip, copies_fail}

@@ -1,5 +1,5 @@
 -- A run of regions that one call of the store wrote is behind steps of a run, one a region: between two of them stands a store of its own.
-use Rattle.std.proofs.Common.{◌≡◌, ◌≢◌, ℕ, zero, suc, ◌+◌, ◌<◌, ◌≤◌, Bool, true, false, List, [], ◌∷◌, ◌++◌, length, take, drop, Option, Some, None, IfSome, refl, ap, sym, subst, ◌∙◌, arith, length-append}
+use Rattle.std.proofs.Common.{◌≡◌, ◌≢◌, ℕ, zero, suc, ◌+◌, ◌<◌, ◌≤◌, true, false, List, [], ◌∷◌, ◌++◌, length, take, drop, Option, Some, None, IfSome, refl, ap, sym, subst, ◌∙◌, arith, length-append}
 use Rattle.std.specs.Prelude.{is_some, flat_map, slice_get, slice_set}
 use Rattle.std.proofs.lemmas.List.{append-nil, length-take-le}
 use Rattle.std.proofs.lemmas.List.Concat.{flat_map-cons}
@@ -12,20 +12,19 @@ use Rattle.dali_region.specs.declared.Side.{Side}
 use Rattle.dali_region.specs.State.{RegionState}
 use Rattle.dali_region.specs.Answers.{is_dirty, cleaned}
 use Rattle.dali_store.specs.declared.store.FileName.{FileName}
-use Rattle.dali_store.specs.Store.{Files as Disk, file_of, HoldsIn, TornIn}
+use Rattle.dali_store.specs.Store.{Files as Disk, TornIn}
 use Rattle.dali_system.specs.State.{SystemState}
-use Rattle.dali_crash.specs.Checkpoints.{Head, Copies, Skips, Point, IsPointCourse}
+use Rattle.dali_crash.specs.Checkpoints.{Head, Point, IsPointCourse}
 use Rattle.dali_crash.specs.Traces.{Start}
 use Rattle.dali_traces.specs.Disks.{image_file, image_name}
 use Rattle.dali_traces.specs.Places.{place_of}
 use Rattle.dali_vault.specs.Vaulted.{Vaulted}
 use Rattle.dali_steps.specs.Said.{TornFrom, HasWritten}
-use Rattle.dali_whole.specs.Cores.{IsCoreAt}
 use Rattle.dali_checkpoint.specs.Kept.{Checkpointed, side_in}
 use Rattle.dali_checkpoint.specs.Done.{Reaches}
 use Rattle.dali_checkpoint.specs.Running.{IsCopying}
-use Rattle.dali_checkpoint.specs.Runs.{is_first_dirty, run_of, run_at, is_run_dirty, change}
-use Rattle.dali_checkpoint.specs.Laws.{Went, WentOver, copy_steps, skip_steps, RunGoes, RunSkips}
+use Rattle.dali_checkpoint.specs.Runs.{is_first_dirty, run_at, change}
+use Rattle.dali_checkpoint.specs.Laws.{WentOver, copy_steps, skip_steps, RunGoes, RunSkips}
 use Rattle.dali_checkpoint.proofs.Calls.{runs_on_log, copy_goes_on, skip_goes_on}
 use Rattle.dali_checkpoint.proofs.Pieces.{AreNext, change_none, change_first, run_next, run_length, run_some, run_clean}
 use Rattle.dali_checkpoint.proofs.Splits.{held_between, held_first, held_rest, held_inside, torn_between, torn_in_split}

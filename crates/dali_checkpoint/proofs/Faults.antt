@@ -1,6 +1,6 @@
 -- What the calls of a checkpoint leave where one is refused or meets a fault is behind steps of a run too.
 use Rattle.std.proofs.Common.{◌≡◌, ℕ, ◌+◌, true, false, List, [], ◌∷◌, ◌++◌, length, Option, None, is_some, refl, ap, sym, subst, ◌∙◌, inl, inr}
-use Rattle.std.specs.Prelude.{slice_get}
+use Rattle.std.specs.Prelude.{Bool, slice_get}
 use Rattle.dali_record.specs.declared.records.Record.{Record}
 use Rattle.dali_record.specs.Spelling.{words_bytes}
 use Rattle.dali_region.specs.State.{RegionState}
@@ -21,25 +21,32 @@ use Rattle.dali_steps.proofs.Steps.{quiet_goes, head_faults, copy_faults, sync_f
 use Rattle.dali_whole.specs.Cores.{IsCoreAt}
 use Rattle.dali_whole.specs.Flushed.{FailsFrame, AllFlushed}
 use Rattle.dali_whole.proofs.Flushing.{flushes_all, flush_fails}
-use Rattle.dali_checkpoint.specs.Kept.{Checkpointed, side_in}
+use Rattle.dali_checkpoint.specs.Kept.{Checkpointed, side_in, given_up}
 use Rattle.dali_checkpoint.specs.Done.{IsLost}
 use Rattle.dali_checkpoint.specs.Running.{IsCopying}
 use Rattle.dali_checkpoint.specs.declared.error.CheckpointError.{CheckpointError}
 use Rattle.dali_checkpoint.specs.declared.error.CheckpointError.TheVariants.{Failed, InProgress, Stopped, LogFull, Fault, OutOfMemory}
-use Rattle.dali_checkpoint.specs.Laws.{Ends, StartFaults, CopyFaults, RunFaults, SettleFaults, CertifyFaults, FailureEnds, GivesUp}
+use Rattle.dali_checkpoint.specs.Laws.{lost_end, giving_up, Ends, EndsBy, StartFaults, CopyFaults, RunFaults, SettleFaults, CertifyFaults, FailureEnds, GivesUp}
 use Rattle.dali_checkpoint.proofs.Calls.{course_join, untouched_now, flush_ran, start_keeps, KeptAt, side_is_next, copying_flushed, CopyingFlushed, settled_flushed, SettledFlushed, certify_turn, CertifyTurn}
 
 module _ {V : Type 0} (told : V → Option Disk) (may_leave : V → Disk → Type 0) (faults : V → ℕ) where
-  -- ---- steps behind others
+  -- ---- steps that needn't be named
+  pub ended : (s : Start) (p : Point) (xs : List StoreStep) (gs : List RegionState) (z : SystemState) (w : Vaulted V) → EndsBy told may_leave faults s p xs gs z w → Ends told may_leave faults s p gs z w
+  ended s p xs gs z w e = record { to = e.to; batches = e.batches; steps = xs; course = e.course; at = e.at }
+
   pub more : (s : Start) (p q : Point) (gs : List RegionState) (z : SystemState) (w : Vaulted V) (xs : List StoreStep) → IsPointCourse p xs q → Ends told may_leave faults s q gs z w → Ends told may_leave faults s p gs z w
   more s p q gs z w xs course e = record { to = e.to; batches = e.batches; steps = xs ++ e.steps; course = course_join p q e.to xs e.steps course e.course; at = e.at }
 
-  stop : (s : Start) (p : Point) (gs : List RegionState) (z : SystemState) (w : Vaulted V) → w.stopped ≡ true → Ends told may_leave faults s p gs z w → Ends told may_leave faults s p gs (store_stopped z) w
-  stop s p gs z w stopped e = record {
+  -- ---- steps behind others
+  behind : (s : Start) (p q : Point) (gs : List RegionState) (z : SystemState) (w : Vaulted V) (xs ys : List StoreStep) → IsPointCourse p xs q → EndsBy told may_leave faults s q ys gs z w → EndsBy told may_leave faults s p (xs ++ ys) gs z w
+  behind s p q gs z w xs ys course e = record { to = e.to; batches = e.batches; course = course_join p q e.to xs ys course e.course; at = e.at }
+
+  stop : (s : Start) (p : Point) (xs : List StoreStep) (gs : List RegionState) (z : SystemState) (w : Vaulted V) → w.stopped ≡ true → EndsBy told may_leave faults s p xs gs z w
+      → EndsBy told may_leave faults s p (xs ++ Does Stops ∷ []) gs (store_stopped z) w
+  stop s p xs gs z w stopped e = record {
     to = q;
     batches = e.batches;
-    steps = e.steps ++ Does Stops ∷ [];
-    course = course_join p e.to q e.steps (Does Stops ∷ []) e.course (q, stops, refl);
+    course = course_join p e.to q xs (Does Stops ∷ []) e.course (q, stops, refl);
     at = record {
       regions = e.at.regions;
       system = ap store_stopped e.at.system;
@@ -54,12 +61,12 @@ module _ {V : Type 0} (told : V → Option Disk) (may_leave : V → Disk → Typ
       stops : IsPointStep e.to (Does Stops) q
       stops = (refl, ((e.at.vault.vault.stopped ∙ stopped, (refl, refl)), refl), refl)
 
-  finish : (s : Start) (p : Point) (gs : List RegionState) (z : SystemState) (w : Vaulted V) → z.checking ≡ true → Ends told may_leave faults s p gs z w → Ends told may_leave faults s p gs (in_checkpoint z false) w
-  finish s p gs z w checking e = record {
+  finish : (s : Start) (p : Point) (xs : List StoreStep) (gs : List RegionState) (z : SystemState) (w : Vaulted V) → z.checking ≡ true → EndsBy told may_leave faults s p xs gs z w
+      → EndsBy told may_leave faults s p (xs ++ Finishes ∷ []) gs (in_checkpoint z false) w
+  finish s p xs gs z w checking e = record {
     to = q;
     batches = e.batches;
-    steps = e.steps ++ Finishes ∷ [];
-    course = course_join p e.to q e.steps (Finishes ∷ []) e.course (q, finishes, refl);
+    course = course_join p e.to q xs (Finishes ∷ []) e.course (q, finishes, refl);
     at = record {
       regions = e.at.regions;
       system = ap (λ (x : SystemState). in_checkpoint x false) e.at.system;
@@ -74,17 +81,19 @@ module _ {V : Type 0} (told : V → Option Disk) (may_leave : V → Disk → Typ
       finishes : IsPointStep e.to Finishes q
       finishes = (ap (λ (x : SystemState). x.checking) e.at.system ∙ checking, refl)
 
+  nothing_by : (s : Start) (B : List (List Record)) (p : Point) (gs : List RegionState) (y : SystemState) (v : Vaulted V) → IsCoreAt told may_leave faults s B p gs y v → EndsBy told may_leave faults s p [] gs y v
+  nothing_by s B p gs y v at = record { to = p; batches = B; course = refl; at = at }
+
   pub nothing : (s : Start) (B : List (List Record)) (p : Point) (gs : List RegionState) (y : SystemState) (v : Vaulted V) → IsCoreAt told may_leave faults s B p gs y v → Ends told may_leave faults s p gs y v
-  nothing s B p gs y v at = record { to = p; batches = B; steps = []; course = refl; at = at }
+  nothing s B p gs y v at = ended s p [] gs y v (nothing_by s B p gs y v at)
 
   -- a step that met a fault: the vault stopped, and the rest of the core is as it was
   fault : (s : Start) (B : List (List Record)) (p : Point) (gs : List RegionState) (y : SystemState) (v w : Vaulted V) (x : StoreStep) → IsCoreAt told may_leave faults s B p gs y v
       → (goes : Goes told may_leave faults s p x B w) → goes.to.core.regions ≡ p.core.regions → goes.to.core.system ≡ p.core.system → w ≡ faulted v w.store
-      → Ends told may_leave faults s p gs y w
+      → EndsBy told may_leave faults s p (x ∷ []) gs y w
   fault s B p gs y v w x at goes regions system vault = record {
     to = goes.to;
     batches = B;
-    steps = x ∷ [];
     course = (goes.to, goes.step, refl);
     at = record {
       regions = regions ∙ at.regions;
@@ -101,23 +110,28 @@ module _ {V : Type 0} (told : V → Option Disk) (may_leave : V → Disk → Typ
   has_stopped v w vault = ap (λ (z : Vaulted V). z.stopped) vault
 
   flush_fault : (s : Start) (B : List (List Record)) (p : Point) (gs : List RegionState) (y : SystemState) (v w : Vaulted V) → IsCoreAt told may_leave faults s B p gs y v → FailsFrame told may_leave faults y v w
-      → Ends told may_leave faults s p gs (store_stopped (taken y)) w
+      → EndsBy told may_leave faults s p (Does Takes ∷ Does (Faults (faults w.store)) ∷ Does Stops ∷ []) gs (store_stopped (taken y)) w
   flush_fault s B p gs y v w at said =
       let f = flush_fails told may_leave faults gs y (store_stopped (taken y)) v w said refl s B p at in
-      record { to = f.to; batches = B; steps = Does Takes ∷ Does (Faults (faults w.store)) ∷ Does Stops ∷ []; course = f.course; at = f.at }
+      record { to = f.to; batches = B; course = f.course; at = f.at }
 
   -- a write of the head, while a checkpoint keeps something
   head_fault : (s : Start) (B : List (List Record)) (p : Point) (gs : List RegionState) (y : SystemState) (v w : Vaulted V) (h : Head) (at n : ℕ) → IsCoreAt told may_leave faults s B p gs y v
       → is_some p.begun ≡ true → WriteHasFailed told may_leave faults v (image_name (target p)) at n w
-      → Ends told may_leave faults s p gs (store_stopped y) w
+      → EndsBy told may_leave faults s p (HeadFails h (faults w.store) ∷ Does Stops ∷ []) gs (store_stopped y) w
   head_fault s B p gs y v w h place n at begun said =
       let goes = head_faults told may_leave faults s B p v w h place n at.vault begun said in
-      stop s p gs y w (has_stopped v w said.vault) (fault s B p gs y v w (HeadFails h (faults w.store)) at goes (ap (λ (q : Point). q.core.regions) goes.step.1) (ap (λ (q : Point). q.core.system) goes.step.1) said.vault)
+      stop s p (HeadFails h (faults w.store) ∷ []) gs y w (has_stopped v w said.vault)
+      (fault s B p gs y v w (HeadFails h (faults w.store)) at goes (ap (λ (q : Point). q.core.regions) goes.step.1) (ap (λ (q : Point). q.core.system) goes.step.1) said.vault)
 
   -- ---- a start
   pub start_faults : StartFaults told may_leave faults
-  start_faults s B p gs y v w idle (inl said) = subst (λ z. Ends told may_leave faults s p gs z w) (ap (in_checkpoint (store_stopped (taken y))) (sym idle.flag))
-      (finish s p gs (store_stopped (taken y1)) w refl (more s p p1 gs (store_stopped (taken y1)) w (Starts ∷ []) (p1, starts, refl) (flush_fault s B p1 gs y1 v w at1 frame)))
+  start_faults s B p gs y v w idle (inl said) = (
+    head_now p.log p.core,
+    subst (λ z. EndsBy told may_leave faults s p (Starts ∷ Does Takes ∷ Does (Faults (faults w.store)) ∷ Does Stops ∷ Finishes ∷ []) gs z w) (ap (in_checkpoint (store_stopped (taken y))) (sym idle.flag))
+        (finish s p (Starts ∷ Does Takes ∷ Does (Faults (faults w.store)) ∷ Does Stops ∷ []) gs (store_stopped (taken y1)) w refl
+        (behind s p p1 gs (store_stopped (taken y1)) w (Starts ∷ []) (Does Takes ∷ Does (Faults (faults w.store)) ∷ Does Stops ∷ []) (p1, starts, refl) (flush_fault s B p1 gs y1 v w at1 frame))),
+  )
     where
       y1 : SystemState
       y1 = in_checkpoint y true
@@ -138,14 +152,20 @@ module _ {V : Type 0} (told : V → Option Disk) (may_leave : V → Disk → Typ
 
       frame : FailsFrame told may_leave faults y1 v w
       frame = (said.0, record { body = said.1.body; records = said.1.records }, said.2)
-  start_faults s B p gs y v w idle (inr said) = subst (λ z. Ends told may_leave faults s p gs z w) (ap (in_checkpoint (store_stopped (taken y))) (sym idle.flag))
-      (finish s p gs (store_stopped (in_checkpoint (taken y) true)) w refl
-      (more s p k.to gs (store_stopped (in_checkpoint (taken y) true)) w (Starts ∷ Does Takes ∷ Does Flushes ∷ Keeps ∷ []) k.course
-      (head_fault s k.batches k.to gs (in_checkpoint (taken y) true) said.mid w (head_now k.to.log k.to.core) 0 64 k.at (ap is_some k.begun)
-      (subst (λ n. WriteHasFailed told may_leave faults said.mid (image_name (side_of (n + 1))) 0 64 w) (sym (k.at.vault.vault.current ∙ ap (λ (z : Vaulted V). z.current) said.flushed.2.vault)) said.failed))))
+  start_faults s B p gs y v w idle (inr said) = (
+    h,
+    subst (λ z. EndsBy told may_leave faults s p (Starts ∷ Does Takes ∷ Does Flushes ∷ Keeps ∷ HeadFails h (faults w.store) ∷ Does Stops ∷ Finishes ∷ []) gs z w) (ap (in_checkpoint (store_stopped (taken y))) (sym idle.flag))
+        (finish s p (Starts ∷ Does Takes ∷ Does Flushes ∷ Keeps ∷ HeadFails h (faults w.store) ∷ Does Stops ∷ []) gs (store_stopped (in_checkpoint (taken y) true)) w refl
+        (behind s p k.to gs (store_stopped (in_checkpoint (taken y) true)) w (Starts ∷ Does Takes ∷ Does Flushes ∷ Keeps ∷ []) (HeadFails h (faults w.store) ∷ Does Stops ∷ []) k.course
+        (head_fault s k.batches k.to gs (in_checkpoint (taken y) true) said.mid w h 0 64 k.at (ap is_some k.begun)
+        (subst (λ n. WriteHasFailed told may_leave faults said.mid (image_name (side_of (n + 1))) 0 64 w) (sym (k.at.vault.vault.current ∙ ap (λ (z : Vaulted V). z.current) said.flushed.2.vault)) said.failed)))),
+  )
     where
       k : KeptAt told may_leave faults s p gs (in_checkpoint (taken y) true) said.mid
       k = start_keeps told may_leave faults s B p gs y v said.mid idle said.flushed
+
+      h : Head
+      h = head_now k.to.log k.to.core
 
   -- ---- a copy
   pub copy_faults_end : CopyFaults told may_leave faults
@@ -158,7 +178,7 @@ module _ {V : Type 0} (told : V → Option Disk) (may_leave : V → Disk → Typ
 
   -- a write of any bytes
   range_faults : (s : Start) (B : List (List Record)) (p : Point) (gs : List RegionState) (y : SystemState) (v w : Vaulted V) (c : Checkpointed) (h : Head) (place n : ℕ) → IsCopying told may_leave faults s B p gs y v c h
-      → WriteHasFailed told may_leave faults v (image_name (side_in c)) place n w → Ends told may_leave faults s p gs y w
+      → WriteHasFailed told may_leave faults v (image_name (side_in c)) place n w → EndsBy told may_leave faults s p (HeadFails h (faults w.store) ∷ []) gs y w
   range_faults s B p gs y v w c h place n k said =
       let goes = head_faults told may_leave faults s B p v w h place n k.at.vault (ap is_some k.is.begun)
       (subst (λ side. WriteHasFailed told may_leave faults v (image_name side) place n w) (side_is_next told may_leave faults s B p gs y v c h k.at.vault.run k.is) said) in
@@ -172,7 +192,7 @@ module _ {V : Type 0} (told : V → Option Disk) (may_leave : V → Disk → Typ
   pub settle_faults : SettleFaults told may_leave faults
   settle_faults s B p gs y v w c h at n k (inl said) = flush_fault s B p gs y v w k.at said
   settle_faults s B p gs y v w c h at n k (inr said) =
-      more s p f.to gs (store_stopped (taken y)) w (Does Takes ∷ Does Flushes ∷ []) f.course
+      behind s p f.to gs (store_stopped (taken y)) w (Does Takes ∷ Does Flushes ∷ []) (HeadFails h (faults w.store) ∷ Does Stops ∷ []) f.course
       (head_fault s f.batches f.to gs (taken y) said.mid w h at n f.is.at (ap is_some f.is.is.begun)
       (subst (λ side. WriteHasFailed told may_leave faults said.mid (image_name side) at n w) (side_is_next told may_leave faults s f.batches f.to gs (taken y) said.mid c h f.is.at.vault.run f.is.is) said.failed))
     where
@@ -180,35 +200,46 @@ module _ {V : Type 0} (told : V → Option Disk) (may_leave : V → Disk → Typ
       f = copying_flushed told may_leave faults s B p gs y (taken y) v said.mid c h k said.flushed refl
 
   -- ---- an audit that failed
+  nothing_waits : (s : Start) (B : List (List Record)) (p : Point) (gs : List RegionState) (y z : SystemState) (v w : Vaulted V) → IsCoreAt told may_leave faults s B p gs y v → y.checking ≡ true → w ≡ v → z ≡ in_checkpoint y false
+      → EndsBy told may_leave faults s p (Finishes ∷ []) gs z w
+  nothing_waits s B p gs y z v w at checking same is =
+      subst (λ x. EndsBy told may_leave faults s p (Finishes ∷ []) gs x w) (sym is) (subst (λ x. EndsBy told may_leave faults s p (Finishes ∷ []) gs (in_checkpoint y false) x) (sym same) (finish s p [] gs y v checking (nothing_by s B p gs y v at)))
+
   pub failure_ends : FailureEnds told may_leave faults
-  failure_ends s B p gs y z v w at checking (inl (inl said)) = subst (λ x. Ends told may_leave faults s p gs x w) (sym said.2) (subst (λ x. Ends told may_leave faults s p gs (in_checkpoint y false) x) (sym said.1) (finish s p gs y v checking (nothing s B p gs y v at)))
-  failure_ends s B p gs y z v w at checking (inl (inr said)) = subst (λ x. Ends told may_leave faults s p gs x w) (sym said.2)
-      (finish s p gs (taken y) w checking (record { to = f.to; batches = f.batches; steps = Does Takes ∷ Does Flushes ∷ []; course = f.course; at = f.at }))
+  failure_ends s B p gs y z v w at checking (inl (inl said)) = nothing_waits s B p gs y z v w at checking said.1 said.2
+  failure_ends s B p gs y z v w at checking (inl (inr said)) = subst (λ x. EndsBy told may_leave faults s p (Does Takes ∷ Does Flushes ∷ Finishes ∷ []) gs x w) (sym said.2)
+      (finish s p (Does Takes ∷ Does Flushes ∷ []) gs (taken y) w checking (record { to = f.to; batches = f.batches; course = f.course; at = f.at }))
     where
       f : AllFlushed told may_leave faults s p gs v (taken y) w
       f = flushes_all told may_leave faults gs y (taken y) v w (flush_ran told may_leave faults y v w said.1) said.1 refl s B p at
   failure_ends s B p gs y z v w at checking (inr said) = by_error said.0 said.1
     where
-      by_error : (e : CheckpointError) → IsLost told may_leave faults y v z w e → Ends told may_leave faults s p gs z w
-      by_error (Stopped cause) lost = subst (λ x. Ends told may_leave faults s p gs x w) (sym lost.3) (subst (λ x. Ends told may_leave faults s p gs (in_checkpoint y false) x) (sym lost.2) (finish s p gs y v checking (nothing s B p gs y v at)))
-      by_error Fault lost = subst (λ x. Ends told may_leave faults s p gs x w) (sym lost.2) (finish s p gs (store_stopped (taken y)) w checking (flush_fault s B p gs y v w at lost.1))
+      by_error : (e : CheckpointError) → IsLost told may_leave faults y v z w e → EndsBy told may_leave faults s p (lost_end (faults w.store) e) gs z w
+      by_error (Stopped cause) lost = nothing_waits s B p gs y z v w at checking lost.2 lost.3
+      by_error Fault lost = subst (λ x. EndsBy told may_leave faults s p (Does Takes ∷ Does (Faults (faults w.store)) ∷ Does Stops ∷ Finishes ∷ []) gs x w) (sym lost.2)
+          (finish s p (Does Takes ∷ Does (Faults (faults w.store)) ∷ Does Stops ∷ []) gs (store_stopped (taken y)) w checking (flush_fault s B p gs y v w at lost.1))
       by_error (Failed regions) lost = absurd lost
       by_error InProgress lost = absurd lost
       by_error (LogFull end limit) lost = absurd lost
       by_error OutOfMemory lost = absurd lost
 
   -- ---- a checkpoint that is given up
-  pub gives_up : GivesUp told may_leave faults
-  gives_up s B p gs y v true at checking stopped = finish s p gs (store_stopped y) v checking (stop s p gs y v (stopped refl) (nothing s B p gs y v at))
-  gives_up s B p gs y v false at checking stopped = finish s p gs y v checking (nothing s B p gs y v at)
+  pub gave_up : GivesUp told may_leave faults
+  gave_up s B p gs y v true at checking stopped = finish s p (Does Stops ∷ []) gs (store_stopped y) v checking (stop s p [] gs y v (stopped refl) (nothing_by s B p gs y v at))
+  gave_up s B p gs y v false at checking stopped = finish s p [] gs y v checking (nothing_by s B p gs y v at)
+
+  pub gives_up : (s : Start) (B : List (List Record)) (p : Point) (gs : List RegionState) (y : SystemState) (v : Vaulted V) (failed : Bool) → IsCoreAt told may_leave faults s B p gs y v → y.checking ≡ true → (failed ≡ true → v.stopped ≡ true)
+      → Ends told may_leave faults s p gs (given_up failed y) v
+  gives_up s B p gs y v failed at checking stopped = ended s p (giving_up failed) gs (given_up failed y) v (gave_up s B p gs y v failed at checking stopped)
 
   -- ---- the anchor
   pub certify_faults : CertifyFaults told may_leave faults
-  certify_faults s B p gs y v w c h n b k certified (inl said) = finish s p gs (store_stopped (taken y)) w k.flag (flush_fault s B p gs y v w k.at said)
+  certify_faults s B p gs y v w c h n b k certified (inl said) =
+      finish s p (Does Takes ∷ Does (Faults (faults w.store)) ∷ Does Stops ∷ []) gs (store_stopped (taken y)) w k.flag (flush_fault s B p gs y v w k.at said)
   certify_faults s B p gs y v w c h n b k certified (inr (inl said)) =
-      finish s p gs (store_stopped (taken y)) w k.flag
-      (more s p f.to gs (store_stopped (taken y)) w (Does Takes ∷ Does Flushes ∷ []) f.course
-      (stop s f.to gs (taken y) w (has_stopped said.mid w said.failed.vault)
+      finish s p (Does Takes ∷ Does Flushes ∷ SyncFails (faults w.store) ∷ Does Stops ∷ []) gs (store_stopped (taken y)) w k.flag
+      (behind s p f.to gs (store_stopped (taken y)) w (Does Takes ∷ Does Flushes ∷ []) (SyncFails (faults w.store) ∷ Does Stops ∷ []) f.course
+      (stop s f.to (SyncFails (faults w.store) ∷ []) gs (taken y) w (has_stopped said.mid w said.failed.vault)
       (fault s f.batches f.to gs (taken y) said.mid w (SyncFails (faults w.store)) f.is.at goes (ap (λ (q : Point). q.core.regions) goes.step.1) (ap (λ (q : Point). q.core.system) goes.step.1) said.failed.vault)))
     where
       f : SettledFlushed told may_leave faults s p gs (taken y) said.mid c h n
@@ -217,9 +248,9 @@ module _ {V : Type 0} (told : V → Option Disk) (may_leave : V → Disk → Typ
       goes : Goes told may_leave faults s f.to (SyncFails (faults w.store)) f.batches w
       goes = sync_faults told may_leave faults s f.batches f.to said.mid w f.is.at.vault (ap is_some f.is.is.begun) said.failed
   certify_faults s B p gs y v w c h n b k certified (inr (inr said)) =
-      finish s p gs (store_stopped (taken y)) w k.flag
-      (more s p t.to gs (store_stopped (taken y)) w (Does Takes ∷ Does Flushes ∷ Syncs ∷ []) t.course
-      (stop s t.to gs (taken y) w (has_stopped said.late w said.failed.vault)
+      finish s p (Does Takes ∷ Does Flushes ∷ Syncs ∷ TurnFails (faults w.store) ∷ Does Stops ∷ []) gs (store_stopped (taken y)) w k.flag
+      (behind s p t.to gs (store_stopped (taken y)) w (Does Takes ∷ Does Flushes ∷ Syncs ∷ []) (TurnFails (faults w.store) ∷ Does Stops ∷ []) t.course
+      (stop s t.to (TurnFails (faults w.store) ∷ []) gs (taken y) w (has_stopped said.late w said.failed.vault)
       (fault s t.batches t.to gs (taken y) said.late w (TurnFails (faults w.store)) t.at goes (ap (λ (q : Point). q.core.regions) goes.step.5) (ap (λ (q : Point). q.core.system) goes.step.5) said.failed.vault)))
     where
       t : CertifyTurn told may_leave faults s p gs (taken y) said.late h b

@@ -1,6 +1,6 @@
 -- No image file becomes shorter, so what it reaches it goes on to reach.
 use Rattle.std.proofs.Common.{◌≡◌, ℕ, ◌+◌, ◌-◌, ◌<◌, ◌≤◌, Bool, true, false, List, length, Option, Some, None, IfSome, refl, ap, sym, subst, ◌∙◌, ⊎_elim, arith, length-append, inl, inr}
-use Rattle.std.specs.Prelude.{◌⊎◌, ◌++◌, take, drop, slice_get, slice_set}
+use Rattle.std.specs.Prelude.{◌⊎◌, is_some, ◌++◌, take, drop, slice_get, slice_set}
 use Rattle.std.proofs.lemmas.List.{length-take-le, length-drop}
 use Rattle.dali_counts.proofs.Lists.{set_cases, found}
 use Rattle.dali_region.specs.declared.Side.{Side}
@@ -18,6 +18,12 @@ use Rattle.dali_checkpoint.specs.Done.{NoShorter, Reaches}
 use Rattle.dali_checkpoint.specs.Runs.{is_first_dirty, run_of, change}
 use Rattle.dali_checkpoint.proofs.Pieces.{change_cases, run_clean, run_length, run_some}
 use Rattle.dali_checkpoint.proofs.Results.{place_there}
+
+-- the store tells its files just where it did
+pub no_shorter_tells : (o p : Option Disk) → NoShorter o p → is_some p ≡ is_some o
+no_shorter_tells (Some a) (Some b) h = refl
+no_shorter_tells (Some a) None h = absurd h
+no_shorter_tells None p h = ap is_some h
 
 pub same_length : (o p : Option Disk) → p ≡ o → NoShorter o p
 same_length (Some a) (Some b) e = λ side. let one : b ≡ a = cc in subst (λ (z : Disk). length (image_file side a) ≤ length (image_file side z)) (sym one) (omega arith)

@@ -23,7 +23,7 @@ use Rattle.dali_whole.specs.Moments.{flush_calls}
 use Rattle.dali_checkpoint.specs.Kept.{Checkpointed, side_in, cause_of, given_up, IsEndOf}
 use Rattle.dali_checkpoint.specs.Done.{IsNoShorter, FailsToWrite, HasStarted, HasTurnedTo, FailsToTurn, IsKept, IsLost}
 use Rattle.dali_checkpoint.specs.Runs.{runs_in}
-use Rattle.dali_checkpoint.specs.Making.{failing_in, with_audit, behind_checkpoint, checkpointed, copied_to, checkpoint_calls, hold_on, SameTable, SameLog, HasCounted, BehindFailure, HasRun, HasNotMade, LeadsIdle, HasImage, NoImageBy, HasNoImage, HasMade, HasEndedBy}
+use Rattle.dali_checkpoint.specs.Making.{failing_in, with_audit, behind_checkpoint, checkpointed, copied_to, checkpoint_calls, hold_on, SameTable, SameLog, HasRun, HasNotMade, LeadsIdle, HasImage, NoImageBy, HasNoImage, HasMade, HasEndedBy}
 use Rattle.dali_checkpoint.specs.declared.error.CheckpointError.{CheckpointError}
 use Rattle.dali_checkpoint.specs.declared.error.CheckpointError.TheVariants.{Failed, InProgress, Stopped, LogFull, Fault, OutOfMemory}
 use Rattle.dali_checkpoint.proofs.Lengths.{places_stay}
@@ -68,6 +68,11 @@ is_end_of y z j found is judged =
     subst (λ (x : SystemState). IsEndOf x y.records j) (sym is)
     (subst (λ (i : Judged). IsEndOf (with_audit (taken y) found) y.records i) (sym judged)
     (record { behind = omega arith; logged = Contains-push (audit_begun (taken y)).since (audit_record y.records found) }))
+
+-- what an audit logged waits to be flushed
+audit_waits : (y : SystemState) (found : List ℕ) → y.records ≡ y.first + length y.since → drop (taken y).taken (with_audit y found).since ≡ [] → ⊥
+audit_waits y found counted none =
+    omega (arith, counted, ap length none, length-drop (y.records - y.first) ((y.since ++ AuditBegin ∷ []) ++ audit_record y.records found ∷ []), length-append (y.since ++ AuditBegin ∷ []) (audit_record y.records found ∷ []), length-append y.since (AuditBegin ∷ []))
 
 module _ {V : Type 0} (told : V → Option Disk) (may_leave : V → Disk → Type 0) (faults : V → ℕ) (lets_pass : V → Option ℕ) where
   -- ---- a start that fails
@@ -252,24 +257,20 @@ module _ {V : Type 0} (told : V → Option Disk) (may_leave : V → Disk → Typ
               omega (arith, copies, second, third)
 
       -- ---- or isn't
-      pub not_certified : (z : SystemState) (w : Vaulted V) (e : CheckpointError)
+      pub not_certified : (z : SystemState) (w : Vaulted V) (e : CheckpointError) → y.records ≡ y.first + length y.since
           → (e ≡ Failed j.failing → IsKept told may_leave faults t m z w)
           → ((j.failing ≡ [] → ⊥) → (e ≡ Failed j.failing) ⊎ IsLost told may_leave faults t m z w e)
           → (j.failing ≡ [] → cause_of t m ≡ None → (e ≡ Fault) × (z ≡ in_checkpoint (store_stopped (taken t)) false) × FailsToTurn told may_leave faults t m (side_in d) w)
           → z.checking ≡ false → IsNoShorter told m w
           → HasEndedBy told may_leave faults gs y v e hs z w
-      not_certified z w e kept failed fault ends on = by_found j.failing refl
+      not_certified z w e counted kept failed fault ends on = by_found j.failing refl
         where
-          table_kept : IsKept told may_leave faults t m z w → (SameTable t z) × (w.current ≡ m.current) × BehindFailure y (failing_in gs) z
-          table_kept (inl s) = (
-            (ap (λ (a : SystemState). a.sizes) s.2, ap (λ (a : SystemState). a.table) s.2),
-            ap (λ (a : Vaulted V). a.current) s.1,
-            inr (subst (λ (a : SystemState). drop a.taken a.since ≡ []) image_system s.0, s.2 ∙ ap (λ (a : SystemState). in_checkpoint a false) image_system),
-          )
+          table_kept : IsKept told may_leave faults t m z w → (SameTable t z) × (w.current ≡ m.current) × (z ≡ behind_checkpoint y (failing_in gs))
+          table_kept (inl s) = absurd (audit_waits y (failing_in gs) counted (subst (λ (a : SystemState). drop a.taken a.since ≡ []) image_system s.0))
           table_kept (inr s) = (
             (ap (λ (a : SystemState). a.sizes) s.2, ap (λ (a : SystemState). a.table) s.2),
             ap (λ (a : Vaulted V). a.current) s.1.2.vault,
-            inl (s.2 ∙ ap (λ (a : SystemState). in_checkpoint (taken a) false) image_system),
+            s.2 ∙ ap (λ (a : SystemState). in_checkpoint (taken a) false) image_system,
           )
 
           still_runs : IsKept told may_leave faults t m z w → w.stopped ≡ false
@@ -281,7 +282,7 @@ module _ {V : Type 0} (told : V → Option Disk) (may_leave : V → Disk → Typ
           by_kept some said =
               let left = table_kept said in
               record {
-                by = (has_run z w ends left.1, same_refusal ∙ k.room, failing_is, some, subst (λ found. BehindFailure y found z) (sym failing_is) left.2, image_regions, still_runs said);
+                by = (has_run z w ends left.1, same_refusal ∙ k.room, failing_is, some, subst (λ found. z ≡ behind_checkpoint y found) (sym failing_is) left.2, image_regions, still_runs said);
                 whole = whole_now z w left.0 on;
                 goes = failure_leads told may_leave faults gs hs y x z v u w c started is t m d j.failing k.goes (inl said) ends;
               }
@@ -339,14 +340,14 @@ module _ {V : Type 0} (told : V → Option Disk) (may_leave : V → Disk → Typ
       made_by (Ok number) T Z w is_state now said after on last first = made_one Z.state w number now said (ap (λ (s : Served). s.state) after ∙ ap (λ (a : SystemState). in_checkpoint (taken a) false) (sym is_state)) on last first
       made_by (Err e) T Z w is_state now said after on last first = tt
 
-      pub ended_by : (r : Result ℕ CheckpointError) (T Z : Served) (w : Vaulted V) → t ≡ T.state → (IsErrOf r (Failed j.failing) → IsKept told may_leave faults t m Z.state w)
+      pub ended_by : (r : Result ℕ CheckpointError) (T Z : Served) (w : Vaulted V) → y.records ≡ y.first + length y.since → t ≡ T.state → (IsErrOf r (Failed j.failing) → IsKept told may_leave faults t m Z.state w)
           → IfErr r (λ e. (j.failing ≡ [] → ⊥) → (e ≡ Failed j.failing) ⊎ IsLost told may_leave faults t m Z.state w e)
           → (j.failing ≡ [] → cause_of t m ≡ None → OnErr r ((r ≡ Err Fault) × (Z ≡ record T { state = in_checkpoint (store_stopped (taken T.state)) false }) × FailsToTurn told may_leave faults t m (side_in d) w))
           → Z.state.checking ≡ false → IsNoShorter told m w
           → IfErr r (λ e. HasEndedBy told may_leave faults gs y v e hs Z.state w)
-      ended_by (Ok number) T Z w is_state kept failed fault ends on = tt
-      ended_by (Err e) T Z w is_state kept failed fault ends on =
-          not_certified Z.state w e (λ now. kept (same_err now)) failed
+      ended_by (Ok number) T Z w counted is_state kept failed fault ends on = tt
+      ended_by (Err e) T Z w counted is_state kept failed fault ends on =
+          not_certified Z.state w e counted (λ now. kept (same_err now)) failed
           (λ none runs. let said = fault none runs in (err_same said.0, ap (λ (s : Served). s.state) said.1 ∙ ap (λ (a : SystemState). in_checkpoint (store_stopped (taken a)) false) (sym is_state), said.2))
           ends on
 
@@ -423,14 +424,3 @@ module _ {V : Type 0} (told : V → Option Disk) (may_leave : V → Disk → Typ
     pub made_stopped : (r : Result ℕ CheckpointError) → IfOk r Made → IfErr r Ended → y.checking ≡ false → IfSome (cause_of y v) (λ cause. r ≡ Err (Stopped cause))
     made_stopped (Ok n) k l idle = none_stops (λ c. ◌≡◌ {A = Result ℕ CheckpointError} (Ok n) (Err (Stopped c))) k.ran
     made_stopped (Err e) k l idle = stopped_is e l.by idle
-
--- ---- behind a failure nothing waits
-counted_flushed : (y : SystemState) (found : List ℕ) (z : SystemState) → HasCounted y → BehindFailure y found z → z ≡ behind_checkpoint y found
-counted_flushed y found z counted (inl is) = is
-counted_flushed y found z counted (inr said) =
-    absurd (omega (arith, counted, ap length said.0, length-drop (y.records - y.first) ((y.since ++ AuditBegin ∷ []) ++ audit_record y.records found ∷ []), length-append (y.since ++ AuditBegin ∷ []) (audit_record y.records found ∷ []), length-append y.since (AuditBegin ∷ [])))
-
-pub failed_flushed : {V : Type 0} (faults : V → ℕ) (gs hs : List RegionState) (y z : SystemState) (v w : Vaulted V) (r : Result ℕ CheckpointError) → HasCounted y → IfErr r (λ e. HasNotMade faults gs y v e hs z w)
-    → IfErr r (λ e. (found : List ℕ) → e ≡ Failed found → z ≡ behind_checkpoint y found)
-failed_flushed faults gs hs y z v w (Ok number) counted err = tt
-failed_flushed faults gs hs y z v w (Err e) counted err = λ found is. counted_flushed y found z counted (subst (λ f. HasNotMade faults gs y v f hs z w) is err).4

@@ -36,7 +36,7 @@ use Rattle.dali_checkpoint.specs.Making.{IdleAgain, LeadsIdle, CopiesGo, CopiesF
 use Rattle.dali_checkpoint.proofs.Walks.{walk, walk_get, walk_set, walk_all, map_self, map_none, map_length}
 use Rattle.dali_checkpoint.proofs.Calls.{course_join, runs_on_log, start_goes, settle_goes_on, certify_goes_on}
 use Rattle.dali_checkpoint.proofs.Far.{run_goes_on, run_skips_on}
-use Rattle.dali_checkpoint.proofs.Faults.{more, nothing, start_faults, run_faults_end, settle_faults, certify_faults, failure_ends, gives_up}
+use Rattle.dali_checkpoint.proofs.Faults.{ended, more, nothing, start_faults, run_faults_end, settle_faults, certify_faults, failure_ends, gives_up}
 use Rattle.dali_checkpoint.proofs.Results.{all_found}
 use Rattle.dali_checkpoint.proofs.Idle.{ends_idle, points_tell}
 use Rattle.dali_checkpoint.proofs.Audited.{audits_at}
@@ -238,7 +238,7 @@ module _ {V : Type 0} (told : V → Option Disk) (may_leave : V → Disk → Typ
       → CopiesFail told may_leave faults gs v c hs w
   copies_fail gs hs v u w c d goes said s B p y h k =
       let a = goes s B p y h k in
-      more told may_leave faults s p a.to hs y w a.steps a.course (run_faults_end told may_leave faults s B a.to hs y u w d h a.is said)
+      more told may_leave faults s p a.to hs y w a.steps a.course (ended told may_leave faults s a.to _ hs y w (run_faults_end told may_leave faults s B a.to hs y u w d h a.is said))
 
   -- ---- the image
   pub image_goes : (gs ks hs : List RegionState) (y x z : SystemState) (v u w : Vaulted V) (c d e : Checkpointed) (found : List ℕ) → CopiesGo told may_leave faults gs v c ks u d
@@ -263,7 +263,7 @@ module _ {V : Type 0} (told : V → Option Disk) (may_leave : V → Disk → Typ
       → ImageFails told may_leave faults gs y v c ks z w
   settle_fails gs ks y z v u w c d at n copies said is s B p h k =
       let a = copies s B p y h k in
-      subst (λ i. Ends told may_leave faults s p ks i w) (sym is) (more told may_leave faults s p a.to ks (store_stopped (taken y)) w a.steps a.course (settle_faults told may_leave faults s B a.to ks y u w d h at n a.is said))
+      subst (λ i. Ends told may_leave faults s p ks i w) (sym is) (more told may_leave faults s p a.to ks (store_stopped (taken y)) w a.steps a.course (ended told may_leave faults s a.to _ ks (store_stopped (taken y)) w (settle_faults told may_leave faults s B a.to ks y u w d h at n a.is said)))
 
   pub audit_fails : (gs ks hs : List RegionState) (y x z : SystemState) (v u w : Vaulted V) (c d e : Checkpointed) → CopiesGo told may_leave faults gs v c ks u d
       → d.copied ≡ regions d.header.geometry → Writes told may_leave faults y u (image_name (side_in d)) (place_of d.copied) d.table w
@@ -286,7 +286,7 @@ module _ {V : Type 0} (told : V → Option Disk) (may_leave : V → Disk → Typ
       → LeadsIdle told may_leave faults gs y v gs z w
   start_fails gs y z v w said is s B p k =
       idle_by s p gs z w ((points_tell told may_leave faults s B p gs y v).idle k) (ap (λ (t : SystemState). t.checking) is ∙ k.flag)
-      (subst (λ i. Ends told may_leave faults s p gs i w) (sym is) (start_faults told may_leave faults s B p gs y v w k said))
+      (subst (λ i. Ends told may_leave faults s p gs i w) (sym is) (ended told may_leave faults s p _ gs (store_stopped (taken y)) w (start_faults told may_leave faults s B p gs y v w k said).1))
 
   module _ (gs hs : List RegionState) (y x z : SystemState) (v u w : Vaulted V) (c : Checkpointed) (started : HasStarted told may_leave faults y v c u) (is : x ≡ in_checkpoint (taken y) true) where
     pub start_of : (s : Start) (B : List (List Record)) (p : Point) → IsIdle told may_leave faults s B p gs y v → Started told may_leave faults s p gs y x u c
@@ -323,7 +323,7 @@ module _ {V : Type 0} (told : V → Option Disk) (may_leave : V → Disk → Typ
       certify_fault_leads none said now s B p k =
           let a = start_of s B p k in
           let b = image_of s B p k in
-          let e = certify_faults told may_leave faults s b.batches b.to hs t m w d a.head x.records x.records b.is (b.certified none) said in
+          let e = ended told may_leave faults s b.to _ hs (in_checkpoint (store_stopped (taken t)) false) w (certify_faults told may_leave faults s b.batches b.to hs t m w d a.head x.records x.records b.is (b.certified none) said) in
           behind s p a hs z w (idle_by s a.to hs z w ((points_tell told may_leave faults s a.batches a.to gs x u).copying c a.head a.is) (ap (λ (i : SystemState). i.checking) now)
           (subst (λ i. Ends told may_leave faults s a.to hs i w) (sym now) (more told may_leave faults s a.to b.to hs (in_checkpoint (store_stopped (taken t)) false) w b.steps b.course e)))
 
@@ -331,5 +331,5 @@ module _ {V : Type 0} (told : V → Option Disk) (may_leave : V → Disk → Typ
       failure_leads said flag s B p k =
           let a = start_of s B p k in
           let b = image_of s B p k in
-          let e = failure_ends told may_leave faults s b.batches b.to hs t z m w b.is.at b.is.flag said in
+          let e = ended told may_leave faults s b.to _ hs z w (failure_ends told may_leave faults s b.batches b.to hs t z m w b.is.at b.is.flag said) in
           behind s p a hs z w (idle_by s a.to hs z w ((points_tell told may_leave faults s a.batches a.to gs x u).copying c a.head a.is) flag (more told may_leave faults s a.to b.to hs z w b.steps b.course e))

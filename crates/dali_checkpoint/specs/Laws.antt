@@ -4,12 +4,14 @@
 --     OthersKeep               between them steps of others keep it, those of an audit too
 --     FlushKeeps               and so does a flush of all records
 --     AuditsTell               an audit that began behind the settlement and ended clean certifies it
---     StartFaults, CopyFaults, RunFaults, SettleFaults, CertifyFaults, FailureEnds, GivesUp   what each leaves otherwise is behind steps too
+--     StartFaults, CopyFaults, RunFaults, SettleFaults, CertifyFaults, FailureEnds, GivesUp   what each leaves otherwise is behind steps too, which they name
+--     failed_start, failed_settlement, failed_certification, failure_end, giving_up           the steps, by what the call says
 --     PointsTell, EndsIdle     at each of these points the flag tells whether a checkpoint is under way, so behind one that ended the next may start
 --     EndIsFar                 the log's end and the number of the current image are small enough for a whole checkpoint
 --     PlacesStay, PlacesGoOn   where the file of a side has the place of each region whose flag for that side is clear, it has so behind each call, and
 --                              behind a copy
-use Rattle.std.specs.Prelude.{◌≡◌, ℕ, zero, suc, ◌+◌, ◌<◌, ◌≤◌, ◌^◌, Bool, true, false, List, [], ◌∷◌, Option, Some, IfSome, length, slice_get, slice_set}
+use Rattle.std.proofs.Common.{inl, inr}
+use Rattle.std.specs.Prelude.{◌≡◌, ℕ, zero, suc, ◌+◌, ◌<◌, ◌≤◌, ◌^◌, ◌⊎◌, Bool, true, false, List, [], ◌∷◌, Option, Some, IfSome, length, slice_get, slice_set}
 use Rattle.dali_geometry.specs.Places.{regions}
 use Rattle.dali_record.specs.declared.records.Record.{Record}
 use Rattle.dali_record.specs.Spelling.{words_bytes}
@@ -19,8 +21,8 @@ use Rattle.dali_region.specs.Answers.{is_dirty, cleaned}
 use Rattle.dali_store.specs.Store.{Files as Disk}
 use Rattle.dali_system.specs.State.{SystemState, stable}
 use Rattle.dali_system.specs.Steps.{taken, store_stopped, in_checkpoint}
-use Rattle.dali_system.specs.Courses.{Step, Takes, Flushes, AuditBegins, AuditEnds}
-use Rattle.dali_crash.specs.Checkpoints.{Head, StoreStep, Does, Starts, Keeps as KeepsAll, Copies, Skips, WritesHead, Syncs, Turns, Finishes, Point, IsPointStep, IsPointCourse, side_of}
+use Rattle.dali_system.specs.Courses.{Step, Takes, Flushes, Faults, Stops, AuditBegins, AuditEnds}
+use Rattle.dali_crash.specs.Checkpoints.{Head, StoreStep, Does, Starts, Keeps as KeepsAll, Copies, Skips, WritesHead, Syncs, Turns, CopyFails, HeadFails, SyncFails, TurnFails, Finishes, Point, IsPointStep, IsPointCourse, side_of}
 use Rattle.dali_crash.specs.StoreRuns.{FlagTells}
 use Rattle.dali_crash.specs.Traces.{Start}
 use Rattle.dali_traces.specs.Disks.{image_name}
@@ -34,6 +36,8 @@ use Rattle.dali_checkpoint.specs.Kept.{Checkpointed, side_in, given_up}
 use Rattle.dali_checkpoint.specs.Done.{Reaches, IsNoShorter, Writes, FailsToWrite, HasStarted, HasTurnedTo, FailsToTurn, HasEnded}
 use Rattle.dali_checkpoint.specs.Runs.{run_at, is_run_dirty, run_bytes, behind_run, cleaned_run}
 use Rattle.dali_checkpoint.specs.Running.{PassesTell, IsCertifiedAt, IsIdle, IsCopying, IsSettled}
+use Rattle.dali_checkpoint.specs.declared.error.CheckpointError.{CheckpointError}
+use Rattle.dali_checkpoint.specs.declared.error.CheckpointError.TheVariants.{Fault}
 
 -- ---- an audit behind the settlement: before its passes nothing is to be told, and a clean end certifies each copy
 pub record AuditTells (p q : Point) (b : ℕ) : Type 0 where
@@ -51,6 +55,34 @@ copy_steps r (suc n) k = Copies r k ∷ copy_steps (r + 1) n k
 abbrev pub skip_steps : ℕ → ℕ → ℕ → List StoreStep
 skip_steps r zero k = []
 skip_steps r (suc n) k = Skips r k ∷ skip_steps (r + 1) n k
+
+-- ---- the steps of a call that fails, where the store's count of faults is f behind it: in its flush, or in what it does then
+abbrev pub failed_start : {X Y : Type 0} → Head → ℕ → X ⊎ Y → List StoreStep
+failed_start h f (inl flush) = Starts ∷ Does Takes ∷ Does (Faults f) ∷ Does Stops ∷ Finishes ∷ []
+failed_start h f (inr write) = Starts ∷ Does Takes ∷ Does Flushes ∷ KeepsAll ∷ HeadFails h f ∷ Does Stops ∷ Finishes ∷ []
+
+abbrev pub failed_settlement : {X Y : Type 0} → Head → ℕ → X ⊎ Y → List StoreStep
+failed_settlement h f (inl flush) = Does Takes ∷ Does (Faults f) ∷ Does Stops ∷ []
+failed_settlement h f (inr write) = Does Takes ∷ Does Flushes ∷ HeadFails h f ∷ Does Stops ∷ []
+
+abbrev pub failed_certification : {X Y Z : Type 0} → ℕ → X ⊎ (Y ⊎ Z) → List StoreStep
+failed_certification f (inl flush) = Does Takes ∷ Does (Faults f) ∷ Does Stops ∷ Finishes ∷ []
+failed_certification f (inr (inl sync)) = Does Takes ∷ Does Flushes ∷ SyncFails f ∷ Does Stops ∷ Finishes ∷ []
+failed_certification f (inr (inr turn)) = Does Takes ∷ Does Flushes ∷ Syncs ∷ TurnFails f ∷ Does Stops ∷ Finishes ∷ []
+
+-- ---- those of an end without an image: behind an audit that failed, and of a checkpoint that is given up
+abbrev pub lost_end : ℕ → CheckpointError → List StoreStep
+lost_end f Fault = Does Takes ∷ Does (Faults f) ∷ Does Stops ∷ Finishes ∷ []
+lost_end f e = Finishes ∷ []
+
+abbrev pub failure_end : {X Y : Type 0} {P : CheckpointError → Type 0} → ℕ → (X ⊎ Y) ⊎ ((e : CheckpointError) × P e) → List StoreStep
+failure_end f (inl (inl none)) = Finishes ∷ []
+failure_end f (inl (inr flush)) = Does Takes ∷ Does Flushes ∷ Finishes ∷ []
+failure_end f (inr lost) = lost_end f lost.0
+
+abbrev pub giving_up : Bool → List StoreStep
+giving_up true = Does Stops ∷ Finishes ∷ []
+giving_up false = Finishes ∷ []
 
 module _ {V : Type 0} (told : V → Option Disk) (may_leave : V → Disk → Type 0) (faults : V → ℕ) where
   -- ---- a start
@@ -180,51 +212,59 @@ module _ {V : Type 0} (told : V → Option Disk) (may_leave : V → Disk → Typ
     pub course : IsPointCourse p steps to
     pub at : IsCoreAt told may_leave faults s batches to gs z w
 
+  -- behind these
+  pub record EndsBy (s : Start) (p : Point) (xs : List StoreStep) (gs : List RegionState) (z : SystemState) (w : Vaulted V) : Type 0 where
+    pub to : Point
+    pub batches : List (List Record)
+    pub course : IsPointCourse p xs to
+    pub at : IsCoreAt told may_leave faults s batches to gs z w
+
   abbrev pub StartFaults : Type 0
   StartFaults =
       (s : Start) (B : List (List Record)) (p : Point) (gs : List RegionState) (y : SystemState) (v w : Vaulted V) → IsIdle told may_leave faults s B p gs y v
-      → FailsToWrite told may_leave faults y v (image_name (side_of (v.current + 1))) 0 64 w
-      → Ends s p gs (store_stopped (taken y)) w
+      → (said : FailsToWrite told may_leave faults y v (image_name (side_of (v.current + 1))) 0 64 w)
+      → (h : Head) × EndsBy s p (failed_start h (faults w.store) said) gs (store_stopped (taken y)) w
 
   abbrev pub CopyFaults : Type 0
   CopyFaults =
       (s : Start) (B : List (List Record)) (p : Point) (gs : List RegionState) (y : SystemState) (v w : Vaulted V) (c : Checkpointed) (h : Head) (g : RegionState)
       → IsCopying told may_leave faults s B p gs y v c h → slice_get gs c.copied ≡ Some g → is_dirty g (side_in c) ≡ true
       → WriteHasFailed told may_leave faults v (image_name (side_in c)) (place_of c.copied) (length (words_bytes g.back)) w
-      → Ends s p gs y w
+      → EndsBy s p (CopyFails c.copied [] (faults w.store) ∷ []) gs y w
 
+  -- a run: the whole file may hold anything, as behind a write of its header that fails
   abbrev pub RunFaults : Type 0
   RunFaults =
       (s : Start) (B : List (List Record)) (p : Point) (gs : List RegionState) (y : SystemState) (v w : Vaulted V) (c : Checkpointed) (h : Head)
       → IsCopying told may_leave faults s B p gs y v c h
       → WriteHasFailed told may_leave faults v (image_name (side_in c)) (place_of c.copied) (length (run_bytes c gs)) w
-      → Ends s p gs y w
+      → EndsBy s p (HeadFails h (faults w.store) ∷ []) gs y w
 
   abbrev pub SettleFaults : Type 0
   SettleFaults =
       (s : Start) (B : List (List Record)) (p : Point) (gs : List RegionState) (y : SystemState) (v w : Vaulted V) (c : Checkpointed) (h : Head) (at n : ℕ)
-      → IsCopying told may_leave faults s B p gs y v c h → FailsToWrite told may_leave faults y v (image_name (side_in c)) at n w
-      → Ends s p gs (store_stopped (taken y)) w
+      → IsCopying told may_leave faults s B p gs y v c h → (said : FailsToWrite told may_leave faults y v (image_name (side_in c)) at n w)
+      → EndsBy s p (failed_settlement h (faults w.store) said) gs (store_stopped (taken y)) w
 
   abbrev pub CertifyFaults : Type 0
   CertifyFaults =
       (s : Start) (B : List (List Record)) (p : Point) (gs : List RegionState) (y : SystemState) (v w : Vaulted V) (c : Checkpointed) (h : Head) (n b : ℕ)
-      → IsSettled told may_leave faults s B p gs y v c h n → IsCertifiedAt p n b → FailsToTurn told may_leave faults y v (side_in c) w
-      → Ends s p gs (in_checkpoint (store_stopped (taken y)) false) w
+      → IsSettled told may_leave faults s B p gs y v c h n → IsCertifiedAt p n b → (said : FailsToTurn told may_leave faults y v (side_in c) w)
+      → EndsBy s p (failed_certification (faults w.store) said) gs (in_checkpoint (store_stopped (taken y)) false) w
 
   -- behind an audit that failed
   abbrev pub FailureEnds : Type 0
   FailureEnds =
       (s : Start) (B : List (List Record)) (p : Point) (gs : List RegionState) (y z : SystemState) (v w : Vaulted V) → IsCoreAt told may_leave faults s B p gs y v
-      → y.checking ≡ true → HasEnded told may_leave faults y v z w
-      → Ends s p gs z w
+      → y.checking ≡ true → (said : HasEnded told may_leave faults y v z w)
+      → EndsBy s p (failure_end (faults w.store) said) gs z w
 
   -- a call of the store has failed, where the checkpoint says so
   abbrev pub GivesUp : Type 0
   GivesUp =
       (s : Start) (B : List (List Record)) (p : Point) (gs : List RegionState) (y : SystemState) (v : Vaulted V) (failed : Bool) → IsCoreAt told may_leave faults s B p gs y v
       → y.checking ≡ true → (failed ≡ true → v.stopped ≡ true)
-      → Ends s p gs (given_up failed y) v
+      → EndsBy s p (giving_up failed) gs (given_up failed y) v
 
   -- ---- at each of these points the flag tells whether a checkpoint is under way
   pub record PointTells (s : Start) (B : List (List Record)) (p : Point) (gs : List RegionState) (y : SystemState) (v : Vaulted V) : Type 0 where

@@ -4,13 +4,12 @@
 --     behind_checkpoint y found    the system behind a checkpoint whose audit found these regions, all records flushed
 --     checkpointed side gs     the regions behind a copy of each to the image of this side, and a check of each
 --     checkpoint_calls y side gs   how many calls of the store a checkpoint makes that ends well
---     HasCounted y             the records of the log are as many as the system counts
 --     SameLog y z              the system z has the log and the table of y
 --     HasNotMade .. e ..       why a checkpoint made no image, and what is left: a line for each error
 --     LeadsIdle gs y v hs z w  where a core stands at a point of a run with no checkpoint under way, steps lead to such a point again
 --     StaysRight gs y v w      there each disk that a crash at any moment from v to w leaves spells files that restart right at a point to which steps lead
 --     HasCopied, HasNotCopied, AuditLeft, HasImage, HasNoImage, HasMade, HasEndedBy   what the parts of one leave
-use Rattle.std.specs.Prelude.{◌≡◌, ◌≤◌, ◌^◌, ◌⊎◌, ℕ, ◌+◌, true, false, List, [], Option, Some, None, IfSome, IsSome, is_some, map, length, drop}
+use Rattle.std.specs.Prelude.{◌≡◌, ◌≤◌, ◌^◌, ◌⊎◌, ℕ, ◌+◌, true, false, List, [], Option, Some, None, IfSome, IsSome, is_some, map, length}
 use Rattle.dali_record.specs.declared.records.Record.{Record}
 use Rattle.dali_record.specs.declared.records.Record.TheVariants.{AuditBegin}
 use Rattle.dali_region.specs.declared.Hold.{Hold}
@@ -69,14 +68,6 @@ checkpoint_error (SystemStopped cause) = Stopped cause
 checkpoint_error (SystemFull end limit) = LogFull end limit
 checkpoint_error SystemMemory = OutOfMemory
 
--- the records of the log are counted: those before the load, and those since
-abbrev pub HasCounted : SystemState → Type 0
-HasCounted y = y.records ≡ y.first + length y.since
-
--- what the audit logged is flushed, unless nothing waited
-abbrev pub BehindFailure : SystemState → List ℕ → SystemState → Type 0
-BehindFailure y found z = (z ≡ behind_checkpoint y found) ⊎ ((drop (taken y).taken (with_audit y found).since ≡ []) × (z ≡ in_checkpoint (with_audit (taken y) found) false))
-
 -- the log, the table and all else of the first; what is flushed, the stop and the flag may differ
 abbrev pub SameLog : SystemState → SystemState → Type 0
 SameLog y z = z ≡ record y { taken = z.taken; stop = z.stop; checking = z.checking }
@@ -93,7 +84,7 @@ module _ {V : Type 0} (faults : V → ℕ) (gs : List RegionState) (y : SystemSt
   abbrev pub HasNotMade : CheckpointError → List RegionState → SystemState → Vaulted V → Type 0
   HasNotMade InProgress hs z w = (y.checking ≡ true) × IsUnchanged hs z w
   HasNotMade (Stopped cause) hs z w = (y.checking ≡ false) × (cause_of y v ≡ Some cause) × IsUnchanged hs z w
-  HasNotMade (Failed found) hs z w = HasRun z w × (audit_refusal y AuditBegin ≡ None) × (found ≡ failing_in gs) × (found ≡ [] → ⊥) × BehindFailure y found z × (hs ≡ checkpointed (side_of (v.current + 1)) gs) × (w.stopped ≡ false)
+  HasNotMade (Failed found) hs z w = HasRun z w × (audit_refusal y AuditBegin ≡ None) × (found ≡ failing_in gs) × (found ≡ [] → ⊥) × (z ≡ behind_checkpoint y found) × (hs ≡ checkpointed (side_of (v.current + 1)) gs) × (w.stopped ≡ false)
   HasNotMade (LogFull end limit) hs z w = HasRun z w × (audit_refusal y AuditBegin ≡ Some (SystemFull end limit)) × (cause_of z w ≡ None) × SameLog y z
   HasNotMade OutOfMemory hs z w = HasRun z w × (cause_of z w ≡ None) × (SameLog y z ⊎ SameLog (audit_begun y) z)
   HasNotMade Fault hs z w = HasRun z w × (w.stopped ≡ true) × IsSome z.stop × Rose (faults v.store) (faults w.store) × (SameLog y z ⊎ SameLog (with_audit y (failing_in gs)) z)

@@ -1,5 +1,5 @@
 //! A whole checkpoint, by a thread that has a core to itself.
-ghost use Rattle.std.specs.Prelude.{◌≡◌, ◌<◌, ◌≤◌, ◌+◌, ◌*◌, ◌^◌, ℕ, List, [], true, false, Ok, Some, None, Err, OnOk, OnErr, IfOk, IfErr, IfSome, length, map};
+ghost use Rattle.std.specs.Prelude.{◌≡◌, ◌<◌, ◌≤◌, ◌+◌, ◌*◌, ◌^◌, [], true, false, is_some, Ok, Some, None, Err, OnOk, OnErr, IfOk, IfErr, IfSome, length, map};
 ghost use Rattle.dali_geometry.specs.Places.{regions as regions_of};
 ghost use Rattle.dali_record.specs.declared.records.Record.TheVariants.{AuditBegin};
 ghost use Rattle.dali_region.specs.State.{checked};
@@ -10,7 +10,7 @@ ghost use Rattle.dali_audit.specs.declared.audit.Finding.TheVariants.{Waiting};
 ghost use Rattle.dali_whole.specs.Cores.{HoldsPlaces, IsWholeCore};
 ghost use Rattle.dali_checkpoint.specs.Kept.{side_in, cause_of};
 ghost use Rattle.dali_checkpoint.specs.Done.{Reaches};
-ghost use Rattle.dali_checkpoint.specs.Making.{found_in, failing_in, with_audit, behind_checkpoint, checkpointed, checkpoint_calls, AuditLeft, AuditRefused, HasCounted, HasNotMade, LeadsIdle, StaysRight, CopiesStayRight, ImageStaysRight, HasCopied, HasNotCopied, HasImage, HasNoImage, HasMade, HasEndedBy};
+ghost use Rattle.dali_checkpoint.specs.Making.{found_in, failing_in, with_audit, behind_checkpoint, checkpointed, checkpoint_calls, AuditLeft, AuditRefused, HasNotMade, LeadsIdle, StaysRight, CopiesStayRight, ImageStaysRight, HasCopied, HasNotCopied, HasImage, HasNoImage, HasMade, HasEndedBy};
 ghost use Rattle.dali_checkpoint.specs.declared.error.CheckpointError.TheVariants.{InProgress, Stopped, Failed, Fault};
 
 use crate::checkpoint::Checkpoint;
@@ -38,6 +38,7 @@ fn copy_all<V: Store>(
     ensures ok { OnOk result (HasCopied V.told V.may_leave V.faults V.lets_pass checkpoint.old regions.old vault.old checkpoint.new regions.new vault.new) }
     ensures fault { OnErr result ((result ≡ Err Fault) × HasNotCopied V.told V.may_leave V.faults checkpoint.old regions.old vault.old checkpoint.new regions.new vault.new) }
     ensures end { vault.new.end ≡ vault.old.end }
+    ensures tells { is_some (V.told vault.new.store) ≡ is_some (V.told vault.old.store) }
     ensures any_moment { CopiesStayRight V.told V.may_leave V.faults V.moment V.left_since regions.old vault.old checkpoint.old vault.new }
 {
     while (checkpoint.copied() as usize) < regions.len() {
@@ -106,6 +107,7 @@ fn write_image<V: Store>(
     requires end { vault.old.end < 2 ^ 62 }
     ensures ok { IfOk result (λ verdict. HasImage V.told V.may_leave V.faults V.lets_pass regions.old system.old.state vault.old checkpoint.old verdict regions.new system.new.state vault.new checkpoint.new) }
     ensures err { IfErr result (λ error. HasNoImage V.told V.may_leave V.faults regions.old system.old.state vault.old checkpoint.old error regions.new system.new.state vault.new checkpoint.new) }
+    ensures tells { is_some (V.told vault.new.store) ≡ is_some (V.told vault.old.store) }
     ensures any_moment { ImageStaysRight V.told V.may_leave V.faults V.moment V.left_since regions.old system.old.state vault.old checkpoint.old vault.new }
     ensures grows { vault.new.end ≤ vault.old.end + 2 ^ 31 }
     ensures promised { system.new.promised ≡ system.old.promised }
@@ -137,10 +139,12 @@ fn make_apart<V: Store>(
     requires current { vault.old.current < 2 ^ 62 }
     ensures ok { IfOk result (λ number. HasMade V.told V.may_leave V.faults V.lets_pass regions.old system.old.state vault.old number regions.new system.new.state vault.new) }
     ensures err { IfErr result (λ error. HasEndedBy V.told V.may_leave V.faults regions.old system.old.state vault.old error regions.new system.new.state vault.new) }
+    ensures tells { is_some (V.told vault.new.store) ≡ is_some (V.told vault.old.store) }
     ensures any_moment { StaysRight V.told V.may_leave V.faults V.moment V.left_since regions.old system.old.state vault.old vault.new }
     ensures grows { vault.new.end ≤ vault.old.end + 3 * 2 ^ 31 }
     ensures promised { system.new.promised ≡ system.old.promised }
 {
+    let _first = system.first();
     let mut checkpoint = match Checkpoint::start(alloc, system, vault) {
         Ok(checkpoint) => checkpoint,
         Err(error) => return Err(error),
@@ -161,6 +165,7 @@ fn make<V: Store>(alloc: Global, core: &mut Core<V>) -> Result<u64, CheckpointEr
     requires current { core.old.vault.current < 2 ^ 62 }
     ensures ok { IfOk result (λ number. HasMade V.told V.may_leave V.faults V.lets_pass core.old.regions.items core.old.system.state core.old.vault number core.new.regions.items core.new.system.state core.new.vault) }
     ensures err { IfErr result (λ error. HasEndedBy V.told V.may_leave V.faults core.old.regions.items core.old.system.state core.old.vault error core.new.regions.items core.new.system.state core.new.vault) }
+    ensures tells { is_some (V.told core.new.vault.store) ≡ is_some (V.told core.old.vault.store) }
     ensures any_moment { StaysRight V.told V.may_leave V.faults V.moment V.left_since core.old.regions.items core.old.system.state core.old.vault core.new.vault }
     ensures grows { core.new.vault.end ≤ core.old.vault.end + 3 * 2 ^ 31 }
     ensures promised { core.new.system.promised ≡ core.old.system.promised }
@@ -179,8 +184,8 @@ fn make<V: Store>(alloc: Global, core: &mut Core<V>) -> Result<u64, CheckpointEr
 /// memory for the table or the audit is refused: then the engine runs on. `Fault` only where the store's count of faults
 /// rose, and then vault and engine stop. Behind each of these four the current image is the one that was, and no checkpoint
 /// is under way. A whole core is whole behind every answer, and the log's end is at most 3 * 2^31 bytes further on, so that
-/// who knows where it was knows whether the next checkpoint may be asked for. Behind `Failed` all records are flushed, where
-/// the system has counted those of its log (`HasCounted`), as it has at each point of a run.
+/// who knows where it was knows whether the next checkpoint may be asked for. Behind `Failed` all records are flushed, those
+/// of the audit among them.
 pub fn make_checkpoint<V: Store>(core: &mut Core<V>, alloc: Global) -> Result<u64, CheckpointError>
     requires whole { IsWholeCore V.told core.old.regions.items core.old.system.state core.old.vault }
     requires end { core.old.vault.end < 2 ^ 61 }
@@ -194,11 +199,11 @@ pub fn make_checkpoint<V: Store>(core: &mut Core<V>, alloc: Global) -> Result<u6
     ensures in_progress { core.old.system.state.checking ≡ true → result ≡ Err InProgress }
     ensures stopped { core.old.system.state.checking ≡ false → IfSome (cause_of core.old.system.state core.old.vault) (λ cause. result ≡ Err (Stopped cause)) }
     ensures err { IfErr result (λ error. HasNotMade V.faults core.old.regions.items core.old.system.state core.old.vault error core.new.regions.items core.new.system.state core.new.vault) }
-    ensures flushed { HasCounted core.old.system.state → IfErr result (λ error. (found : List ℕ) → error ≡ Failed found → core.new.system.state ≡ behind_checkpoint core.old.system.state found) }
     ensures grows { core.new.vault.end ≤ core.old.vault.end + 3 * 2 ^ 31 }
     ensures promised { core.new.system.promised ≡ core.old.system.promised }
     ensures whole { IsWholeCore V.told core.new.regions.items core.new.system.state core.new.vault }
     ensures goes { LeadsIdle V.told V.may_leave V.faults core.old.regions.items core.old.system.state core.old.vault core.new.regions.items core.new.system.state core.new.vault }
+    ensures tells { is_some (V.told core.new.vault.store) ≡ is_some (V.told core.old.vault.store) }
     ensures any_moment { StaysRight V.told V.may_leave V.faults V.moment V.left_since core.old.regions.items core.old.system.state core.old.vault core.new.vault }
 {
     make(alloc, core)

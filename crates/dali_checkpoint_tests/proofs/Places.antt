@@ -1,5 +1,5 @@
 -- The places of two regions in the image files.
-use Rattle.std.proofs.Common.{◌≡◌, refl, ℕ, zero, suc, ◌+◌, ◌≤◌, false, List, [], ◌∷◌, length, Option, Some, None, IfSome, sym, subst, ap, ◌∙◌}
+use Rattle.std.proofs.Common.{◌≡◌, refl, ℕ, zero, suc, ◌+◌, ◌≤◌, false, List, [], ◌∷◌, length, Option, Some, None, IfSome, sym, subst, ap, ◌∙◌, ◌++◌}
 use Rattle.std.specs.Prelude.{slice_get, Result, Ok, Err, OnOk}
 use Rattle.dali_counts.proofs.Lists.{some_same}
 use Rattle.dali_region.specs.declared.Side.{Side}
@@ -12,7 +12,7 @@ use Rattle.dali_traces.specs.Places.{place_of}
 use Rattle.dali_whole.specs.Cores.{HoldsPlaces}
 use Rattle.dali_checkpoint.specs.Done.{NoShorter}
 use Rattle.dali_checkpoint.proofs.Lengths.{places_stay, copied_places, then_length}
-use Rattle.dali_checkpoint_tests.specs.Flags.{IsUncopied}
+use Rattle.dali_checkpoint_tests.specs.Flags.{IsUncopied, AreUncopied}
 
 -- ---- regions that no image has
 never_clean : (g : RegionState) (side : Side) → IsUncopied g → is_dirty g side ≡ false → ⊥
@@ -27,6 +27,16 @@ uncopied_one g h eg eh fs side (suc (suc n)) k e clean = absurd (cc)
 pub uncopied_places : (o : Option Disk) (g h : RegionState) → IsUncopied g → IsUncopied h → IfSome o (HoldsPlaces (g ∷ h ∷ []))
 uncopied_places (Some fs) g h eg eh = uncopied_one g h eg eh fs
 uncopied_places None g h eg eh = tt
+
+pub all_uncopied : (o : Option Disk) (gs : List RegionState) → AreUncopied gs → IfSome o (HoldsPlaces gs)
+all_uncopied (Some fs) gs each = λ side r g at clean. absurd (never_clean g side (each r g at) clean)
+all_uncopied None gs each = tt
+
+pub uncopied_more : (gs : List RegionState) (g : RegionState) → AreUncopied gs → IsUncopied g → AreUncopied (gs ++ g ∷ [])
+uncopied_more [] g each one zero h e = subst IsUncopied (some_same e) one
+uncopied_more [] g each one (suc r) h e = absurd (cc)
+uncopied_more (x ∷ xs) g each one zero h e = each 0 h e
+uncopied_more (x ∷ xs) g each one (suc r) h e = uncopied_more xs g (λ q. each (suc q)) one r h e
 
 -- ---- where a flag is clear, its place is there
 pub place_there : (o : Option Disk) (gs : List RegionState) (side : Side) (r : ℕ) (g : RegionState) → slice_get gs r ≡ Some g → IfSome o (HoldsPlaces gs) → is_dirty g side ≡ false → IfSome o (λ fs. place_of (r + 1) ≤ length (image_file side fs))

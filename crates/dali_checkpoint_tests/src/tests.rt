@@ -1,13 +1,13 @@
 //! What no clause says: that a checkpoint is made with ample memory, what it leaves in the files, and what is left where each
 //! call of the store fails.
-ghost use Rattle.std.specs.Prelude.{◌≡◌, ◌<◌, [], ◌∷◌, length, IfOk, OnOk, IfSome, Contains};
+ghost use Rattle.std.specs.Prelude.{◌≡◌, ◌<◌, ◌≤◌, [], ◌∷◌, length, IfOk, OnOk, OnSome, IfSome, Contains};
 ghost use Rattle.dali_geometry.specs.Places.{regions as regions_of};
 ghost use Rattle.dali_region.specs.State.{checked};
 ghost use Rattle.dali_system.specs.Steps.{audit_record};
 ghost use Rattle.dali_whole.specs.Cores.{HoldsPlaces, IsWholeCore};
 ghost use Rattle.dali_checkpoint.specs.Kept.{side_in};
 ghost use Rattle.dali_checkpoint.specs.Done.{Reaches};
-ghost use Rattle.dali_checkpoint_tests.specs.Flags.{IsUncopied, IsFresh, HasBegun};
+ghost use Rattle.dali_checkpoint_tests.specs.Flags.{IsUncopied, AreUncopied, IsFresh, HasBegun};
 
 use dali_audit::{Audit, Verdict};
 use dali_batch::{Frame, format, is_formatted};
@@ -521,5 +521,154 @@ fn writes_both(alloc: Global) -> Option<[bool; 4]> {
 #[test]
 fn two_whole_checkpoints_write_both_images(rt: HostRuntime) -> Result<(), Fail> {
     assert_eq!(rt; writes_both(rt.alloc()), Some([true; 4]));
+    Ok(())
+}
+
+// ---- runs of regions
+
+// Regions that no image has.
+fn load_all(alloc: Global, count: u32) -> Option<Vec<Region>>
+    ensures count { IfSome result (λ regions. length regions.items ≡ count) }
+    ensures uncopied { IfSome result (λ regions. AreUncopied regions.items) }
+{
+    let mut regions = Vec::new(alloc);
+    for _ in 0..count {
+        match regions.push(Region::load([1; 64])) {
+            Ok(()) => {}
+            Err(_) => return None,
+        }
+    }
+    Some(regions)
+}
+
+// Copies all regions, and answers where each run ended.
+fn copy_runs<V: Store>(
+    alloc: Global,
+    checkpoint: &mut Checkpoint,
+    regions: &mut [Region],
+    vault: &mut Vault<V>,
+) -> Option<Vec<u32>>
+    requires all { length regions.old ≡ regions_of checkpoint.old.header.geometry }
+    requires reaches { Reaches V.told (side_in checkpoint.old) checkpoint.old.copied vault.old }
+    requires places { IfSome (V.told vault.old.store) (HoldsPlaces regions.old) }
+    ensures places { IfSome (V.told vault.new.store) (HoldsPlaces regions.new) }
+    ensures count { length regions.new ≡ length regions.old }
+{
+    let mut ends = Vec::new(alloc);
+    while (checkpoint.copied() as usize) < regions.len() {
+        checkpoint.copy_run(regions, vault).ok()?;
+        ends.push(checkpoint.copied()).ok()?;
+    }
+    Some(ends)
+}
+
+// Makes these regions differ from what the images have of them.
+fn load_again<V: Store>(regions: &mut [Region], vault: &Vault<V>, dirty: &[usize]) -> Option<()>
+    requires places { IfSome (V.told vault.now.store) (HoldsPlaces regions.old) }
+    ensures places { IfSome (V.told vault.now.store) (HoldsPlaces regions.new) }
+    ensures count { length regions.new ≡ length regions.old }
+{
+    for &number in dirty {
+        if number >= regions.len() {
+            return None;
+        }
+        regions[number] = Region::load([2; 64]);
+    }
+    Some(())
+}
+
+// Where the runs of a checkpoint end that is given up behind its copies. None where the log or the anchor is too long.
+fn runs<V: Store>(
+    alloc: Global,
+    system: &mut System,
+    regions: &mut [Region],
+    vault: &mut Vault<V>,
+) -> Option<Vec<u32>>
+    requires all { length regions.old ≡ regions_of system.old.state.sizes }
+    requires places { IfSome (V.told vault.old.store) (HoldsPlaces regions.old) }
+    ensures places { OnSome result (IfSome (V.told vault.new.store) (HoldsPlaces regions.new)) }
+    ensures count { OnSome result (length regions.new ≡ length regions.old) }
+    ensures sizes { OnSome result (system.new.state.sizes ≡ system.old.state.sizes) }
+{
+    if vault.end() >= 1 << 62 || vault.current() >= 1 << 62 {
+        return None;
+    }
+    let Ok(mut checkpoint) = Checkpoint::start(alloc, system, vault) else {
+        return None;
+    };
+    let ends = copy_runs(alloc, &mut checkpoint, regions, vault);
+    checkpoint.give_up(system);
+    ends
+}
+
+// A system of so many regions.
+fn system_of(alloc: Global, count: u32) -> Option<System>
+    requires { 2 ≤ count }
+    ensures { IfSome result (λ system. regions_of system.state.sizes ≡ count) }
+{
+    let Ok(geometry) = Geometry::new(1, count - 1) else {
+        return None;
+    };
+    let Ok(system) = System::new(alloc, geometry, 1, 1, 10, 1000) else {
+        return None;
+    };
+    Some(system)
+}
+
+// The same of two checkpoints of one image, between which these regions changed.
+fn runs_between<V: Store>(
+    alloc: Global,
+    system: &mut System,
+    regions: &mut [Region],
+    vault: &mut Vault<V>,
+    dirty: &[usize],
+) -> Option<[Vec<u32>; 2]>
+    requires all { length regions.old ≡ regions_of system.old.state.sizes }
+    requires places { IfSome (V.told vault.old.store) (HoldsPlaces regions.old) }
+{
+    let all = runs(alloc, system, regions, vault)?;
+    load_again(regions, vault, dirty)?;
+    let changed = runs(alloc, system, regions, vault)?;
+    Some([all, changed])
+}
+
+// The same of so many regions that no image has.
+#[tactic(auto, using(crate::proofs::Places::all_uncopied))]
+fn runs_of(alloc: Global, count: u32, dirty: &[usize]) -> Option<[Vec<u32>; 2]>
+    requires { 2 ≤ count }
+{
+    let mut vault = formatted(alloc, 900)?;
+    let mut system = system_of(alloc, count)?;
+    let mut regions = load_all(alloc, count)?;
+    runs_between(alloc, &mut system, &mut regions, &mut vault, dirty)
+}
+
+// Whether the runs of so many regions end so: first of all of them, and then where these changed.
+fn runs_end(alloc: Global, count: u32, dirty: &[usize], all: &[u32], changed: &[u32]) -> bool
+    requires { 2 ≤ count }
+{
+    match runs_of(alloc, count, dirty) {
+        Some([first, second]) => first.as_slice() == all && second.as_slice() == changed,
+        None => false,
+    }
+}
+
+#[test]
+fn a_run_ends_at_128_regions_or_where_the_flag_differs(rt: HostRuntime) -> Result<(), Fail> {
+    let alloc = rt.alloc();
+    let whole = [128, 256, 300];
+    let ends = [
+        runs_end(alloc, 300, &[], &whole, &whole),
+        runs_end(alloc, 300, &[5], &whole, &[5, 6, 134, 262, 300]),
+        runs_end(
+            alloc,
+            130,
+            &[0, 1, 2, 128],
+            &[128, 130],
+            &[3, 128, 129, 130],
+        ),
+        runs_end(alloc, 2, &[1], &[2], &[1, 2]),
+    ];
+    assert_eq!(rt; ends, [true; 4]);
     Ok(())
 }

@@ -185,7 +185,7 @@ claimed rs rs' y z t latched cleans dead is back = subst (λ (x : SystemState). 
 
     by_latched : (o : Option ℕ) → state_of y t ≡ Some (Dead o) → IsRecovered rs o rs' → Claims rs y t rs' (now o)
     by_latched None d same = subst (λ (gs : List RegionState). Claims rs y t gs (now None)) (sym same) (record {
-      goes = λ bases before L v a is. record { log = L; steps = ClaimsTxn t ∷ []; are = ([], refl, tt); course = claim_course rs y t None d L v a };
+      goes = λ bases before L v a is. record { log = L; steps = ClaimsTxn t ∷ []; are = (None, d, refl); course = claim_course rs y t None d L v a };
       is = is_cleaning None rs d refl (λ r g at. if_some_by g.hold _ (λ h held. each None d r h (holds_at rs r g h at held) (none_some r)));
       stop = refl;
     })
@@ -193,7 +193,7 @@ claimed rs rs' y z t latched cleans dead is back = subst (λ (x : SystemState). 
       goes = λ bases before L v a is. record {
         log = L;
         steps = ClaimsTxn t ∷ [] ++ Recovers r ∷ [];
-        are = (Recovers r ∷ [], refl, tt);
+        are = (Some r, d, refl);
         course = join (moment rs y L v a) (moment rs (now (Some r)) L v a) (moment (slice_set rs r (taken_back same.0)) (now (Some r)) L v a) (ClaimsTxn t ∷ []) (Recovers r ∷ []) (claim_course rs y t (Some r) d L v a)
             (recover_course rs (now (Some r)) r same.0 same.1 L v a (may v));
       };
@@ -468,7 +468,7 @@ back_refused rs y t r g h is at back = record {
 free_of_quiet : (rs : List RegionState) (y : SystemState) (v : VaultState) (t : ℕ) → AreQuiet t rs → IsFree (core rs y v) t
 free_of_quiet rs y v t quiet r h held = let own = holder (slice_get rs r) h held in (if_some_at own.0.hold _ h own.2 (quiet r own.0 own.1)).1
 
-pub ends_so : (rs rs1 rs' : List RegionState) (y y1 z : SystemState) (t : ℕ) → LeadsBy (IsClaim t) rs y rs1 y1 → IsUndone rs1 y1 t rs' z → Ends rs y t rs' z
+pub ends_so : (rs rs1 rs' : List RegionState) (y y1 z : SystemState) (t : ℕ) → LeadsBy (IsClaim y t) rs y rs1 y1 → IsUndone rs1 y1 t rs' z → Ends rs y t rs' z
 ends_so rs rs1 rs' y y1 z t claim o bases before L v a run = record {
   log = all.log;
   steps = all.steps;
@@ -492,7 +492,7 @@ ends_so rs rs1 rs' y y1 z t claim o bases before L v a run = record {
     all = cleaned_by (λ K. K ++ Ended t ∷ []) bases before L v a rs rs1 rs' y y1 o.mid z t (EndsTxn t) run claim o.goes (end_is_apart t) step
 
 -- ---- the claim is given back
-pub given_back : (rs rs1 rs' : List RegionState) (y y1 y2 z : SystemState) (t : ℕ) → LeadsBy (IsClaim t) rs y rs1 y1 → LeadsOn rs1 y1 t rs' y2 → IsCleaning rs' y2 t → z ≡ in_state y2 t (Dead None) → GivesBack rs y t rs' z × (state_of z t ≡ Some (Dead None))
+pub given_back : (rs rs1 rs' : List RegionState) (y y1 y2 z : SystemState) (t : ℕ) → LeadsBy (IsClaim y t) rs y rs1 y1 → LeadsOn rs1 y1 t rs' y2 → IsCleaning rs' y2 t → z ≡ in_state y2 t (Dead None) → GivesBack rs y t rs' z × (state_of z t ≡ Some (Dead None))
 given_back rs rs1 rs' y y1 y2 z t first rest is back = (by, ap (λ (x : SystemState). state_of x t) back ∙ state_put y2 t (Dead None) (Cleaning claim.0) claim.1)
   where
     claim : (latched : Option ℕ) × (state_of y2 t ≡ Some (Cleaning latched))

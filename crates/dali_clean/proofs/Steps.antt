@@ -13,7 +13,7 @@ use Rattle.dali_system.specs.Run.{Bases}
 use Rattle.dali_system.specs.Passes.{Audits}
 use Rattle.dali_system.specs.Regions.{RegionStep, Latch, NoteReads, Update, TakeBack, Poke, Check, Die, Clean, region_after, is_alive}
 use Rattle.dali_system.specs.Courses.{Step, TakesBack, Ends, OnRegion, Claims, GivesBack, Recovers, Moment, IsStepAt, IsStep, IsCourse}
-use Rattle.dali_clean.specs.Steps.{is_own_change, AreBack, IsClaim, IsCleanUp, is_own_step, OwnSteps, is_apart_on, is_apart, AreBeside}
+use Rattle.dali_clean.specs.Steps.{is_own_change, AreBack, recovers, IsClaim, IsCleanUp, is_own_step, OwnSteps, is_apart_on, is_apart, AreBeside}
 use Rattle.dali_clean.specs.Undone.{IsOwn, Goes}
 use Rattle.dali_clean.specs.Cleaned.{moment, InRun, Led, LeadsBy, LeadsOn}
 use Rattle.dali_clean.proofs.Lists.{append_twice}
@@ -28,8 +28,20 @@ join_back t (Claims u ∷ Recovers r ∷ GivesBack v o ∷ xs) ys p q = (p.0, p.
 join_back t (Recovers r ∷ xs) ys p q = join_back t xs ys p q
 join_back t (x ∷ xs) ys p q = absurd p
 
+recovered_back : (t : ℕ) (latched : Option ℕ) → AreBack t (recovers latched)
+recovered_back t None = tt
+recovered_back t (Some r) = tt
+
+-- what its client left open, and the undos
+all_back : (y : SystemState) (t : ℕ) (x : Step) (xs : List Step) → IsCleanUp y t x xs → (back : List Step) × (xs ≡ Claims t ∷ (back ++ x ∷ [])) × AreBack t back
+all_back y t x xs is = (
+  recovers is.latched ++ is.back,
+  is.is ∙ ap (λ l. Claims t ∷ l) (append_twice (recovers is.latched) is.back (x ∷ [])),
+  join_back t (recovers is.latched) is.back (recovered_back t is.latched) is.undone,
+)
+
 -- ---- each is its own
-first_too : (b c : Bool) → b ≡ true → c ≡ true → (b && c) ≡ true
+pub first_too : (b c : Bool) → b ≡ true → c ≡ true → (b && c) ≡ true
 first_too b c e f = ap (λ x. x && c) e ∙ f
 
 same_test : (u t : ℕ) → u ≡ t → (u == t) ≡ true
@@ -44,13 +56,13 @@ back_own t x (Recovers r ∷ xs) p own = back_own t x xs p own
 back_own t x (y ∷ xs) p own = absurd p
 
 pub own_steps : OwnSteps
-own_steps t x xs is own = subst (λ ys. list_all (is_own_step t) ys ≡ true) (sym is.is) (back_own t x is.back is.undone own)
+own_steps y t x xs is own = let all = all_back y t x xs is in subst (λ ys. list_all (is_own_step t) ys ≡ true) (sym all.1) (back_own t x all.0 all.2 own)
 
 -- ---- and apart from who is alive
-not_of : (b : Bool) → b ≡ false → not b ≡ true
+pub not_of : (b : Bool) → b ≡ false → not b ≡ true
 not_of b e = ap not e
 
-apart_change : (t u : ℕ) (c : RegionStep) → (t == u) ≡ false → is_own_change t c ≡ true → is_apart_on u c ≡ true
+pub apart_change : (t u : ℕ) (c : RegionStep) → (t == u) ≡ false → is_own_change t c ≡ true → is_apart_on u c ≡ true
 apart_change t u (Latch v) apart own = let same : v ≡ t = (Decides-eqb v t).0 own in not_of (v == u) (ap (λ (n : ℕ). n == u) same ∙ apart)
 apart_change t u (NoteReads mask) apart own = refl
 apart_change t u (Update word value) apart own = refl
@@ -61,7 +73,7 @@ apart_change t u Die apart own = refl
 apart_change t u (Clean side) apart own = refl
 
 -- who is dead isn't who is alive
-dead_apart : (y : SystemState) (v u : ℕ) (o : Option ℕ) → state_of y v ≡ Some (Dead o) → is_alive (state_of y u) ≡ true → (v == u) ≡ false
+pub dead_apart : (y : SystemState) (v u : ℕ) (o : Option ℕ) → state_of y v ≡ Some (Dead o) → is_alive (state_of y u) ≡ true → (v == u) ≡ false
 dead_apart y v u o dead alive = by_test (v == u) refl
   where
     by_test : (b : Bool) → (v == u) ≡ b → (v == u) ≡ false
@@ -73,19 +85,19 @@ dead_apart y v u o dead alive = by_test (v == u) refl
 
 -- what a step leaves to the state of u
 module _ (u : ℕ) (L M : List Record) (c d : CoreState) where
-  region_leaves : (r : ℕ) (x : RegionStep) → IsStep L c (OnRegion r x) M d → state_of d.system u ≡ state_of c.system u
+  pub region_leaves : (r : ℕ) (x : RegionStep) → IsStep L c (OnRegion r x) M d → state_of d.system u ≡ state_of c.system u
   region_leaves r x s = ap (λ (k : CoreState). state_of k.system u) s.3.1
 
-  recover_leaves : (r : ℕ) → IsStep L c (Recovers r) M d → state_of d.system u ≡ state_of c.system u
+  pub recover_leaves : (r : ℕ) → IsStep L c (Recovers r) M d → state_of d.system u ≡ state_of c.system u
   recover_leaves r s = ap (λ (k : CoreState). state_of k.system u) s.3.1
 
-  back_leaves : (v : ℕ) (b : Block) → (v == u) ≡ false → IsStep L c (TakesBack v b) M d → state_of d.system u ≡ state_of c.system u
+  pub back_leaves : (v : ℕ) (b : Block) → (v == u) ≡ false → IsStep L c (TakesBack v b) M d → state_of d.system u ≡ state_of c.system u
   back_leaves v b apart s = ap (λ (k : CoreState). state_of k.system u) s.2.1 ∙ ap state_in (row_there c.system.table v u without_last apart)
 
-  claim_leaves : (v : ℕ) → (v == u) ≡ false → IsStep L c (Claims v) M d → state_of d.system u ≡ state_of c.system u
+  pub claim_leaves : (v : ℕ) → (v == u) ≡ false → IsStep L c (Claims v) M d → state_of d.system u ≡ state_of c.system u
   claim_leaves v apart s = ap (λ (k : CoreState). state_of k.system u) s.2.1 ∙ ap state_in (row_there c.system.table v u (with_state (Cleaning s.0)) apart)
 
-  give_leaves : (v : ℕ) (o : Option ℕ) → (v == u) ≡ false → IsStep L c (GivesBack v o) M d → state_of d.system u ≡ state_of c.system u
+  pub give_leaves : (v : ℕ) (o : Option ℕ) → (v == u) ≡ false → IsStep L c (GivesBack v o) M d → state_of d.system u ≡ state_of c.system u
   give_leaves v o apart s = ap (λ (k : CoreState). state_of k.system u) s.1.1 ∙ ap state_in (row_there c.system.table v u (with_state (Dead o)) apart)
 
 back_apart : (t u : ℕ) (x : Step) (m n : Moment) (xs : List Step) → (t == u) ≡ false → is_apart u x ≡ true → is_alive (state_of m.core.system u) ≡ true → AreBack t xs → IsCourse m (xs ++ x ∷ []) n
@@ -112,14 +124,17 @@ back_apart t u x m n (Recovers r ∷ xs) apart last alive p course =
     back_apart t u x course.0 n xs apart last (ap is_alive (recover_leaves u m.log course.0.log m.core course.0.core r course.1.0) ∙ alive) p course.2
 back_apart t u x m n (y ∷ xs) apart last alive p course = absurd p
 
-pub are_beside : (t : ℕ) (x : Step) (m n : Moment) (xs : List Step) → ((u : ℕ) → (t == u) ≡ false → is_apart u x ≡ true) → IsCleanUp t x xs → IsCourse m xs n → AreBeside t m.core.system xs
-are_beside t x m n xs last is course u apart alive =
-    subst (λ ys. list_all (is_apart u) ys ≡ true) (sym is.is)
+pub are_beside : (y : SystemState) (t : ℕ) (x : Step) (m n : Moment) (xs : List Step) → ((u : ℕ) → (t == u) ≡ false → is_apart u x ≡ true) → IsCleanUp y t x xs → IsCourse m xs n → AreBeside t m.core.system xs
+are_beside y t x m n xs last is course u apart alive =
+    subst (λ ys. list_all (is_apart u) ys ≡ true) (sym behind.1)
     (first_too (not (t == u)) _ (not_of (t == u) apart)
-    (back_apart t u x all.0 n is.back apart (last u apart) (ap is_alive (claim_leaves u m.log all.0.log m.core all.0.core t apart all.1.0) ∙ alive) is.undone all.2))
+    (back_apart t u x all.0 n behind.0 apart (last u apart) (ap is_alive (claim_leaves u m.log all.0.log m.core all.0.core t apart all.1.0) ∙ alive) behind.2 all.2))
   where
-    all : IsCourse m (Claims t ∷ is.back ++ x ∷ []) n
-    all = subst (λ ys. IsCourse m ys n) is.is course
+    behind : (back : List Step) × (xs ≡ Claims t ∷ (back ++ x ∷ [])) × AreBack t back
+    behind = all_back y t x xs is
+
+    all : IsCourse m (Claims t ∷ (behind.0 ++ x ∷ [])) n
+    all = subst (λ ys. IsCourse m ys n) behind.1 course
 
 pub end_is_apart : (t u : ℕ) → (t == u) ≡ false → is_apart u (Ends t) ≡ true
 end_is_apart t u apart = not_of (t == u) apart
@@ -158,30 +173,26 @@ pub stays : (rs : List RegionState) (y : SystemState) (t : ℕ) → LeadsOn rs y
 stays rs y t bases before L v a is = record { log = L; steps = []; are = tt; course = refl }
 
 -- the claim, what is taken back behind it, and the last step
-claimed_first : (t : ℕ) (x : Step) (xs ys : List Step) → IsClaim t xs → AreBack t ys → IsCleanUp t x (xs ++ (ys ++ x ∷ []))
-claimed_first t x xs ys claim back = record {
-  back = claim.0 ++ ys;
-  is = ap (λ l. l ++ (ys ++ x ∷ [])) claim.1 ∙ ap (λ l. Claims t ∷ l) (append_twice claim.0 ys (x ∷ []));
-  undone = join_back t claim.0 ys claim.2 back;
-}
+claimed_first : (y : SystemState) (t : ℕ) (x : Step) (xs ys : List Step) → IsClaim y t xs → AreBack t ys → IsCleanUp y t x (xs ++ (ys ++ x ∷ []))
+claimed_first y t x xs ys claim back = record { latched = claim.0; was = claim.1; back = ys; is = ap (λ l. l ++ (ys ++ x ∷ [])) claim.2; undone = back }
 
 -- a whole clean-up, by its last step
 pub record Cleaned (f : List Record → List Record) (bases : Bases) (before : List Record) (m : Moment) (t : ℕ) (x : Step) (rs : List RegionState) (z : SystemState) : Type 0 where
   pub log : List Record
   pub steps : List Step
-  pub by : IsCleanUp t x steps
+  pub by : IsCleanUp m.core.system t x steps
   pub beside : AreBeside t m.core.system steps
   pub course : IsCourse m steps (moment rs z (f log) m.core.vault m.audits)
   pub there : InRun bases before (moment rs z (f log) m.core.vault m.audits)
 
 pub cleaned_by : (f : List Record → List Record) (bases : Bases) (before L : List Record) (v : VaultState) (a : Audits) (rs rs1 rs' : List RegionState) (y y1 y2 z : SystemState) (t : ℕ) (x : Step)
-    → InRun bases before (moment rs y L v a) → LeadsBy (IsClaim t) rs y rs1 y1 → LeadsOn rs1 y1 t rs' y2 → ((u : ℕ) → (t == u) ≡ false → is_apart u x ≡ true)
+    → InRun bases before (moment rs y L v a) → LeadsBy (IsClaim y t) rs y rs1 y1 → LeadsOn rs1 y1 t rs' y2 → ((u : ℕ) → (t == u) ≡ false → is_apart u x ≡ true)
     → ((K : List Record) → InRun bases before (moment rs' y2 K v a) → IsStepAt (moment rs' y2 K v a) x (moment rs' z (f K) v a)) → Cleaned f bases before (moment rs y L v a) t x rs' z
 cleaned_by f bases before L v a rs rs1 rs' y y1 y2 z t x run claim rest apart end = record {
   log = led.log;
   steps = steps;
   by = by;
-  beside = are_beside t x m n steps apart by course;
+  beside = are_beside y t x m n steps apart by course;
   course = course;
   there = in_run_on bases before m n steps run course;
 }
@@ -189,7 +200,7 @@ cleaned_by f bases before L v a rs rs1 rs' y y1 y2 z t x run claim rest apart en
     m : Moment
     m = moment rs y L v a
 
-    first : Led (IsClaim t) m rs1 y1
+    first : Led (IsClaim y t) m rs1 y1
     first = claim bases before L v a run
 
     m1 : Moment
@@ -210,8 +221,8 @@ cleaned_by f bases before L v a rs rs1 rs' y y1 y2 z t x run claim rest apart en
     steps : List Step
     steps = first.steps ++ (led.steps ++ x ∷ [])
 
-    by : IsCleanUp t x steps
-    by = claimed_first t x first.steps led.steps first.are led.are
+    by : IsCleanUp y t x steps
+    by = claimed_first y t x first.steps led.steps first.are led.are
 
     last : IsCourse m2 (x ∷ []) n
     last = one m2 n x (end led.log (in_run_on bases before m1 m2 led.steps run1 led.course))

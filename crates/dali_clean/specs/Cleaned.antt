@@ -91,7 +91,7 @@ IsRecovered rs None rs' = rs' ≡ rs
 IsRecovered rs (Some r) rs' = (g : RegionState) × (slice_get rs r ≡ Some g) × (rs' ≡ slice_set rs r (taken_back g))
 
 pub record Claims (rs : List RegionState) (y : SystemState) (t : ℕ) (rs' : List RegionState) (z : SystemState) : Type 0 where
-  pub goes : LeadsBy (IsClaim t) rs y rs' z
+  pub goes : LeadsBy (IsClaim y t) rs y rs' z
   pub is : IsCleaning rs' z t
   pub stop : z.stop ≡ y.stop
 
@@ -107,7 +107,7 @@ pub record IsUndone (rs : List RegionState) (y : SystemState) (t : ℕ) (rs' : L
 pub record IsEnded (bases : Bases) (before : List Record) (m : Moment) (t : ℕ) (rs : List RegionState) (z : SystemState) : Type 0 where
   pub log : List Record
   pub steps : List Step
-  pub by : IsCleanUp t (EndsTxn t) steps
+  pub by : IsCleanUp m.core.system t (EndsTxn t) steps
   pub beside : AreBeside t m.core.system steps
   pub course : IsCourse m steps (moment rs z (log ++ Ended t ∷ []) m.core.vault m.audits)
   pub run : RunsAt bases before no_image (moment rs z (log ++ Ended t ∷ []) m.core.vault m.audits)
@@ -118,7 +118,7 @@ Ends rs y t rs' z = (bases : Bases) (before L : List Record) (v : VaultState) (a
 
 -- it may be asked for again
 pub record IsGivenBack (bases : Bases) (before : List Record) (m : Moment) (t : ℕ) (rs : List RegionState) (z : SystemState) : Type 0 where
-  pub led : Led (IsCleanUp t (GivesTxnBack t None)) m rs z
+  pub led : Led (IsCleanUp m.core.system t (GivesTxnBack t None)) m rs z
   pub beside : AreBeside t m.core.system led.steps
   pub again : InRun bases before (moment rs z led.log m.core.vault m.audits)
 

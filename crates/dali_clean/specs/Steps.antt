@@ -1,15 +1,17 @@
 -- Which steps a clean-up makes, one behind another.
 --     is_own_change t x        the step x on a region is one of an operation of t
 --     AreBack t xs             undos of t are performed, and nobody's claim is left: what another dead client left open in the way is taken back
---                              under a claim of its transaction that is given back at once
---     IsClaim t xs             t is claimed, and what its client left open taken back
---     IsCleanUp t x xs         so it is, then its undos are performed, and the last step is x: its end, or its claim given back
+--                              under a claim of its transaction that is given back at once, or under the claim that another thread has on it
+--     recovers latched         what was left open on this region is taken back, if a region is named
+--     IsClaim y t xs           t, dead in the system y, is claimed, and right behind that what its client left open is taken back
+--     IsCleanUp y t x xs       so it is, then its undos are performed, and the last step is x: its end, or its claim given back
 --     is_own_step t x          the step x is one of a clean-up of t
 --     OwnSteps                 each step of one is: nothing is logged but its undos and its end
 --     is_apart t x             the step x isn't one of t: it is of another transaction, or of none
 --     AreBeside t y xs         no step is one of another transaction that is alive in the system y
-use Rattle.std.specs.Prelude.{◌≡◌, ◌==◌, ⊤, ℕ, Bool, true, false, not, List, [], ◌∷◌, ◌++◌, None}
+use Rattle.std.specs.Prelude.{◌≡◌, ◌==◌, ⊤, ℕ, Bool, true, false, not, List, [], ◌∷◌, ◌++◌, Option, Some, None}
 use Rattle.std.specs.List.{list_all}
+use Rattle.dali_att.specs.declared.state.State.TheVariants.{Dead}
 use Rattle.dali_system.specs.State.{SystemState, state_of}
 use Rattle.dali_system.specs.Regions.{RegionStep, Latch, NoteReads, Update, TakeBack, is_alive}
 use Rattle.dali_system.specs.Courses.{Step, Operates, TakesBack, Frees, Answers, Commits, Ends, Locks, Refuses, OnRegion, Dies, Claims, GivesBack, Recovers}
@@ -27,16 +29,22 @@ AreBack t [] = ⊤
 AreBack t (OnRegion r x ∷ xs) = (is_own_change t x ≡ true) × AreBack t xs
 AreBack t (TakesBack u b ∷ xs) = (u ≡ t) × AreBack t xs
 AreBack t (Claims u ∷ Recovers r ∷ GivesBack v o ∷ xs) = ((u == t) ≡ false) × (v ≡ u) × (o ≡ None) × AreBack t xs
--- of a transaction that stands claimed: t itself, or one that was before
+-- of a transaction that was claimed before
 AreBack t (Recovers r ∷ xs) = AreBack t xs
 AreBack t (x ∷ xs) = ⊥
 
-abbrev pub IsClaim : ℕ → List Step → Type 0
-IsClaim t xs = (back : List Step) × (xs ≡ Claims t ∷ back) × AreBack t back
+abbrev pub recovers : Option ℕ → List Step
+recovers None = []
+recovers (Some r) = Recovers r ∷ []
 
-pub record IsCleanUp (t : ℕ) (x : Step) (xs : List Step) : Type 0 where
+abbrev pub IsClaim : SystemState → ℕ → List Step → Type 0
+IsClaim y t xs = (latched : Option ℕ) × (state_of y t ≡ Some (Dead latched)) × (xs ≡ Claims t ∷ recovers latched)
+
+pub record IsCleanUp (y : SystemState) (t : ℕ) (x : Step) (xs : List Step) : Type 0 where
+  pub latched : Option ℕ
+  pub was : state_of y t ≡ Some (Dead latched)
   pub back : List Step
-  pub is : xs ≡ Claims t ∷ back ++ x ∷ []
+  pub is : xs ≡ Claims t ∷ (recovers latched ++ (back ++ x ∷ []))
   pub undone : AreBack t back
 
 -- ---- each of them
@@ -50,7 +58,7 @@ is_own_step t (OnRegion r x) = is_own_change t x
 is_own_step t x = false
 
 abbrev pub OwnSteps : Type 0
-OwnSteps = (t : ℕ) (x : Step) (xs : List Step) → IsCleanUp t x xs → is_own_step t x ≡ true → list_all (is_own_step t) xs ≡ true
+OwnSteps = (y : SystemState) (t : ℕ) (x : Step) (xs : List Step) → IsCleanUp y t x xs → is_own_step t x ≡ true → list_all (is_own_step t) xs ≡ true
 
 -- ---- others
 abbrev pub is_apart_on : ℕ → RegionStep → Bool

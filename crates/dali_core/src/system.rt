@@ -162,9 +162,10 @@ impl System {
         self.first + self.journal.len()
     }
 
-    /// How many records the log had when the system was made.
+    /// How many records the log had when the system was made. With those since it has as many as it counts.
     pub fn first(&self) -> u64
-        ensures { result ≡ self.now.state.first }
+        ensures first { result ≡ self.now.state.first }
+        ensures counted { self.now.state.records ≡ self.now.state.first + length self.now.state.since }
     {
         self.first
     }

@@ -197,5 +197,5 @@ clean_up_gives_back n t rs z q whole dead ends =
     bare_course_keeps (bases_behind q.log) q.log (core_start q.log q.rules q.limit q.vault) n q.steps
     (core_starts q.log q.rules q.limit q.vault no_image q.history q.rules_are q.none q.fits q.runs q.flushed) q.course in
     let e : IsCleanedUp (bases_behind q.log) q.log n t rs z = ends (bases_behind q.log) q.log n.log n.core.vault n.audits (record { run = there; whole = whole }) in
-    let quiet = all_pokes t e.steps (own_steps t (Ends t) e.steps e.by ((Decides-eqb t t).1 refl)) in
+    let quiet = all_pokes t e.steps (own_steps n.core.system t (Ends t) e.steps e.by ((Decides-eqb t t).1 refl)) in
     (e, behind n (record { log = e.log ++ Ended t ∷ []; core = core rs z n.core.vault; audits = n.audits }) e.steps e.log t (Dead dead.0) q e.course quiet.0 quiet.1 refl dead.1 refl)

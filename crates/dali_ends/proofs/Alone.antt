@@ -1,16 +1,20 @@
 -- An abort and a settling by a thread that has regions and system to itself, as steps of a run.
-use Rattle.std.proofs.Common.{inl, inr, ◌≡◌, ◌≢◌, ℕ, zero, suc, ◌+◌, ◌<◌, ◌≤◌, Bool, true, false, ◌&&◌, List, [], ◌∷◌, ◌++◌, Option, Some, None, IsSomeAnd, Result, Ok, Err, refl, ap, sym, subst, ◌∙◌, arith, length, drop, get_or, slice_get, slice_set}
-use Rattle.std.specs.Prelude.{◌==◌, if◌then◌else◌}
-use Rattle.std.specs.List.{AllByRecursion, list_all}
+use Rattle.std.proofs.Common.{inl, inr, ◌≡◌, ◌≢◌, ℕ, zero, suc, ◌+◌, ◌<◌, ◌≤◌, Bool, true, false, ◌&&◌, ◌||◌, List, [], ◌∷◌, ◌++◌, Option, Some, None, IsSomeAnd, Result, Ok, Err, refl, ap, sym, subst, ◌∙◌, arith, length, drop, get_or, slice_get, slice_set}
+use Rattle.std.specs.Prelude.{◌==◌, ◌⊎◌, ◌↔◌, if◌then◌else◌}
+use Rattle.std.specs.List.{AllByRecursion, list_any, fold}
 use Rattle.std.proofs.lemmas.Bool.{lt-ltb}
 use Rattle.std.proofs.lemmas.Bool.Decides.{Decides-eqb}
 use Rattle.std.proofs.lemmas.List.{append-nil}
+use Rattle.std.proofs.lemmas.List.Sums.{fold-append}
+use Rattle.dali_geometry.specs.Sizes.{Sizes}
 use Rattle.dali_geometry.specs.Places.{regions}
+use Rattle.dali_record.specs.declared.operations.Block.{Block}
 use Rattle.dali_record.specs.declared.operations.Pending.{Pending}
 use Rattle.dali_record.specs.declared.records.Record.{Record}
-use Rattle.dali_record.specs.declared.records.Record.TheVariants.{Ended}
+use Rattle.dali_record.specs.declared.records.Record.TheVariants.{Back, Ended}
 use Rattle.std.specs.FinMap.{get}
-use Rattle.dali_record.specs.Legal.{freeing_op, on_kind}
+use Rattle.dali_record.specs.Legal.{freeing_op, on_kind, Working, TxnState, Unbegun, Active, txn_next, txn_state, allowed, is_of, back, way_back}
+use Rattle.dali_record.specs.Log.{last_of as pop_of, drop_last}
 use Rattle.dali_record.specs.Operations.{undo_op}
 use Rattle.dali_region.specs.declared.Hold.{Hold}
 use Rattle.dali_region.specs.declared.LatchError.{LatchError}
@@ -47,36 +51,38 @@ use Rattle.dali_single.proofs.Standing.{own_steps_stand}
 use Rattle.dali_courses.proofs.Making.{own_steps_make, abort_makes, settling_makes}
 use Rattle.dali_clean.specs.Cleaned.{core, moment, AreDead, InRun}
 use Rattle.dali_clean.specs.Others.{HoldStays, OthersStay, PromisesStay, IsGone}
+use Rattle.dali_clean.proofs.Lists.{get_apart}
 use Rattle.dali_clean.proofs.Courses.{runs_of, HasWork, work_of, kind_in}
 use Rattle.dali_clean.proofs.Others.{others_further, promises_further}
-use Rattle.dali_ends.specs.Ended.{is_change, is_apart, Walked}
-use Rattle.dali_ends.specs.Left.{held, IsRunning, IsSettling, Left, none_of, Cleared, Settled}
-use Rattle.dali_ends.proofs.Walking.{all_append, Same, same_course, walked_more, walked_on, run_on, walks_on, walks_more, walks_none}
+use Rattle.dali_clean.specs.Steps.{is_own_change}
+use Rattle.dali_ends.specs.Ended.{AreOfEnd, Walked}
+use Rattle.dali_ends.specs.Left.{held, is_on, HoldsStay, IsRunning, IsSettling, Left, none_of, Cleared, Settled}
+use Rattle.dali_ends.proofs.Walking.{Same, same_course, walked_of_end, walked_more, walked_on, run_on, walks_on, walks_more, walks_none}
 use Rattle.dali_ends.proofs.Releasing.{none_some, hold_is_dead, dead_on, held_less, held_no_more}
 
 -- ---- steps of a transaction's own
-change_apart : (t : ℕ) (x : RegionStep) (o : Option RegionState) → IsSomeAnd o (IsOwn t x) → is_change x ≡ true
-change_apart t x None own = absurd own
-change_apart t (Latch u) (Some g) own = refl
-change_apart t (NoteReads mask) (Some g) own = refl
-change_apart t (Update word value) (Some g) own = refl
-change_apart t TakeBack (Some g) own = refl
-change_apart t x (Some g) own = absurd own
+change_own : (t : ℕ) (x : RegionStep) (o : Option RegionState) → IsSomeAnd o (IsOwn t x) → is_own_change t x ≡ true
+change_own t x None own = absurd own
+change_own t (Latch u) (Some g) own = (Decides-eqb u t).1 own
+change_own t (NoteReads mask) (Some g) own = refl
+change_own t (Update word value) (Some g) own = refl
+change_own t TakeBack (Some g) own = refl
+change_own t x (Some g) own = absurd own
 
-own_apart : (t : ℕ) (c : CoreState) (x : Step) → IsOwnStep false t c x → is_end x ≡ false → is_apart x ≡ true
-own_apart t c (Operates u b) own e = refl
-own_apart t c (TakesBack u b) own e = refl
-own_apart t c (Frees p b) own e = refl
-own_apart t c (Ends u) own e = refl
-own_apart t c (Locks u k m) own e = refl
-own_apart t c (OnRegion r x) own e = change_apart t x (slice_get c.regions r) own
-own_apart t c (Answers u k a) own e = absurd cc
-own_apart t c (Commits u) own e = absurd cc
-own_apart t c x own e = absurd own
+own_front : (t : ℕ) (c : CoreState) (x : Step) (xs : List Step) → IsOwnStep false t c x → is_end x ≡ false → AreOfEnd t xs → AreOfEnd t (x ∷ xs)
+own_front t c (Operates u b) xs own e rest = (own.0, rest)
+own_front t c (TakesBack u b) xs own e rest = (own, rest)
+own_front t c (Frees p b) xs own e rest = (own, rest)
+own_front t c (Locks u k m) xs own e rest = (own, rest)
+own_front t c (OnRegion r x) xs own e rest = (change_own t x (slice_get c.regions r) own, rest)
+own_front t c (Ends u) xs own e rest = absurd cc
+own_front t c (Answers u k a) xs own e rest = absurd cc
+own_front t c (Commits u) xs own e rest = absurd cc
+own_front t c x xs own e rest = absurd own
 
-leads_apart : (t : ℕ) (L M : List Record) (c d : CoreState) (xs : List Step) → Leads false t L c xs M d → list_all is_apart xs ≡ true
-leads_apart t L M c d [] leads = refl
-leads_apart t L M c d (x ∷ xs) leads = ap (λ b. b && list_all is_apart xs) (own_apart t c x leads.2.1 leads.2.2) ∙ leads_apart t leads.0 M leads.1 d xs leads.3
+leads_front : (t : ℕ) (L M : List Record) (c d : CoreState) (xs : List Step) → Leads false t L c xs M d → AreOfEnd t xs
+leads_front t L M c d [] leads = tt
+leads_front t L M c d (x ∷ xs) leads = own_front t c x xs leads.2.1 leads.2.2 (leads_front t leads.0 M leads.1 d xs leads.3)
 
 -- ---- what a run says of a transaction without a dead hold
 module _ (bases : Bases) (before L : List Record) (gs : List RegionState) (y : SystemState) (v : VaultState) (a : Audits) (run : InRun bases before (moment gs y L v a)) (dead : AreDead gs) (t : ℕ) where
@@ -118,6 +124,29 @@ holds_of t gs hs y z v L M xs leads free r = by_hold (hold_in (slice_get hs r)) 
             let not : (h.txn == t) ≡ false = free r h e in
             absurd cc
 
+-- a thread's own steps leave the holds of the others
+holds_same : (t : ℕ) (gs hs : List RegionState) (y z : SystemState) (v : VaultState) (L M : List Record) (xs : List Step) → Leads false t L (core gs y v) xs M (core hs z v) → IsFree (core gs y v) t → IsFree (core hs z v) t → (r : ℕ)
+    → hold_in (slice_get hs r) ≡ hold_in (slice_get gs r)
+holds_same t gs hs y z v L M xs leads before behind r = by_hold (hold_in (slice_get hs r)) refl
+  where
+    stand : (h : Hold) → (t == h.txn) ≡ false → (hold_in (slice_get gs r) ≡ Some h) ↔ (hold_in (slice_get hs r) ≡ Some h)
+    stand h apart = (own_steps_stand false t L M (core gs y v) (core hs z v) xs leads).holds h.txn r h apart refl
+
+    other_way : (h : Hold) → (h.txn == t) ≡ false → (t == h.txn) ≡ false
+    other_way h e = by_test (t == h.txn) refl
+      where
+        by_test : (b : Bool) → (t == h.txn) ≡ b → (t == h.txn) ≡ false
+        by_test false f = f
+        by_test true f = let own : (h.txn == t) ≡ true = (Decides-eqb h.txn t).1 (sym ((Decides-eqb t h.txn).0 f)) in absurd cc
+
+    by_hold : (o : Option Hold) → hold_in (slice_get hs r) ≡ o → hold_in (slice_get hs r) ≡ hold_in (slice_get gs r)
+    by_hold (Some h) e = e ∙ sym ((stand h (other_way h (behind r h e))).1 e)
+    by_hold None e = by_first (hold_in (slice_get gs r)) refl
+      where
+        by_first : (o : Option Hold) → hold_in (slice_get gs r) ≡ o → hold_in (slice_get hs r) ≡ hold_in (slice_get gs r)
+        by_first None f = e ∙ sym f
+        by_first (Some h) f = absurd (none_some h (sym e ∙ (stand h (other_way h (before r h f))).0 f))
+
 -- ---- an abort
 abbrev Aborts : ℕ → List RegionState → SystemState → List RegionState → SystemState → Type 0
 Aborts t gs y hs z = (L : List Record) (v : VaultState) → IsAtWork L (core gs y v) t → IsEnded L (core gs y v) t (core hs z v)
@@ -140,11 +169,13 @@ some_undone gs hs s z t running lives undoes stay promises =
       dead = dead_on gs hs running.dead holds;
     }
   where
-    walked : (bases : Bases) (before L : List Record) (v : VaultState) (a : Audits) → IsStillAtWork L (core gs s.state v) t (core hs z.state v) → Walked (IsBackOf t) [] (moment gs s.state L v a) hs z.state
+    walked : (bases : Bases) (before L : List Record) (v : VaultState) (a : Audits) → IsStillAtWork L (core gs s.state v) t (core hs z.state v) → Walked t (IsBackOf t) [] (moment gs s.state L v a) hs z.state
     walked bases before L v a still = record {
       log = still.log;
+      front = still.steps;
+      by = leads_front t L still.log (core gs s.state v) (core hs z.state v) still.steps still.leads;
       steps = still.steps;
-      apart = leads_apart t L still.log (core gs s.state v) (core hs z.state v) still.steps still.leads;
+      is = sym (append-nil still.steps);
       course = (own_steps_make false t L still.log (core gs s.state v) (core hs z.state v) still.steps a still.leads).0;
       records = still.own;
       are = still.backs;
@@ -175,26 +206,123 @@ all_undone gs hs s z t running lives aborts stay promises =
       dead = dead_on gs hs running.dead holds;
     }
   where
-    walked : (bases : Bases) (before L : List Record) (v : VaultState) (a : Audits) → IsEnded L (core gs s.state v) t (core hs z.state v) → Walked (IsBackOf t) (Ended t ∷ []) (moment gs s.state L v a) hs z.state
+    walked : (bases : Bases) (before L : List Record) (v : VaultState) (a : Audits) → IsEnded L (core gs s.state v) t (core hs z.state v) → Walked t (IsBackOf t) (Ended t ∷ []) (moment gs s.state L v a) hs z.state
     walked bases before L v a end = record {
       log = end.log ++ Ended t ∷ [];
+      front = end.steps;
+      by = leads_front t L end.log (core gs s.state v) end.mid end.steps end.leads;
       steps = end.steps ++ Ends t ∷ [];
-      apart = all_append is_apart end.steps (Ends t ∷ []) (leads_apart t L end.log (core gs s.state v) end.mid end.steps end.leads) refl;
+      is = refl;
       course = (abort_makes L (core gs s.state v) (core hs z.state v) t a end).0;
       records = end.own;
       are = end.backs;
       logged = ap (λ (l : List Record). l ++ Ended t ∷ []) end.logged;
     }
 
+ended_same : (t : ℕ) (gs hs : List RegionState) (y z : SystemState) (v : VaultState) (L log M : List Record) (mid : CoreState) (xs : List Step) → Leads false t L (core gs y v) xs log mid → IsStep log mid (Ends t) M (core hs z v) → IsFree (core gs y v) t
+    → (r : ℕ) → hold_in (slice_get hs r) ≡ hold_in (slice_get gs r)
+ended_same t gs hs y z v L log M mid xs leads ends before =
+    let same = mid_regions t log M mid hs z v ends in
+    holds_same t gs hs y mid.system v L log xs (subst (λ (c : CoreState). Leads false t L (core gs y v) xs log c) same leads) before (subst (λ (c : CoreState). IsFree c t) same ends.1.1)
+
+-- ---- which holds an abort leaves
+pub all_kept : (gs hs : List RegionState) (y z : SystemState) (t : ℕ) → IsRunning gs y → state_of y t ≡ Some Live → Aborts t gs y hs z → (r : ℕ) → hold_in (slice_get hs r) ≡ hold_in (slice_get gs r)
+all_kept gs hs y z t running lives aborts =
+    let at = work_here running.bases running.before running.log gs y running.vault running.audits running.run running.dead t lives in
+    let end = aborts running.log running.vault at in
+    ended_same t gs hs y z running.vault running.log end.log (end.log ++ Ended t ∷ []) end.mid end.steps end.leads end.ends at.free
+
+pub some_kept : (gs hs : List RegionState) (y z : SystemState) (t : ℕ) → IsRunning gs y → state_of y t ≡ Some Live → Undoes t gs y hs z → (r : ℕ) → hold_in (slice_get hs r) ≡ hold_in (slice_get gs r)
+some_kept gs hs y z t running lives undoes =
+    let at = work_here running.bases running.before running.log gs y running.vault running.audits running.run running.dead t lives in
+    let still = undoes running.log running.vault at in
+    holds_same t gs hs y z running.vault running.log still.log still.steps still.leads at.free still.at.free
+
+-- its undos are some of those that it had
+either : (a b : Bool) → (a || b) ≡ false → (a ≡ false) × (b ≡ false)
+either true b e = absurd cc
+either false b e = (refl, e)
+
+less_any : (p : Pending → Bool) (us : List Pending) → list_any p us ≡ false → list_any p (drop_last us) ≡ false
+less_any p [] e = refl
+less_any p (u ∷ []) e = refl
+less_any p (u ∷ v ∷ us) e =
+    let both = either (p u) (list_any p (v ∷ us)) e in
+    ap (λ b. b || list_any p (drop_last (v ∷ us))) both.0 ∙ less_any p (v ∷ us) both.1
+
+stuck_none : (s : Sizes) (t : ℕ) (xs : List Record) → fold (txn_next s t) None xs ≡ None
+stuck_none s t [] = refl
+stuck_none s t (x ∷ xs) = stuck_none s t xs
+
+abbrev popped : Working → Working
+popped w = record { undos = drop_last w.undos; mark = w.mark; progress = w.progress; way = way_back w }
+
+goes_back : (w : Working) (b : Block) (o : Option Pending) → (back w b o ≡ None) ⊎ (back w b o ≡ Some (Active (popped w)))
+goes_back w b None = inl refl
+goes_back w b (Some u) = by_test (is_of (undo_op u.undo) u b) refl
+  where
+    by_test : (c : Bool) → is_of (undo_op u.undo) u b ≡ c → (back w b (Some u) ≡ None) ⊎ (back w b (Some u) ≡ Some (Active (popped w)))
+    by_test true e = inr (ap (λ c. allowed c (Some (Active (popped w)))) e)
+    by_test false e = inl (ap (λ c. allowed c (Some (Active (popped w)))) e)
+
+back_next : (s : Sizes) (t u : ℕ) (w : Working) (b : Block) → u ≡ t → (txn_next s t (Some (Active w)) (Back u b) ≡ None) ⊎ (txn_next s t (Some (Active w)) (Back u b) ≡ Some (Active (popped w)))
+back_next s t u w b own = by_last (goes_back w b (pop_of w.undos))
+  where
+    same : txn_next s t (Some (Active w)) (Back u b) ≡ back w b (pop_of w.undos)
+    same = ap (λ c. if c then back w b (pop_of w.undos) else Some (Active w)) ((Decides-eqb u t).1 own)
+
+    by_last : (back w b (pop_of w.undos) ≡ None) ⊎ (back w b (pop_of w.undos) ≡ Some (Active (popped w))) → (txn_next s t (Some (Active w)) (Back u b) ≡ None) ⊎ (txn_next s t (Some (Active w)) (Back u b) ≡ Some (Active (popped w)))
+    by_last (inl e) = inl (same ∙ e)
+    by_last (inr e) = inr (same ∙ e)
+
+one_working : (a b : Working) → (let o : Option TxnState = Some (Active a) in o ≡ Some (Active b)) → a ≡ b
+one_working a b e = cc
+
+never_active : (w : Working) → (let n : Option TxnState = None in n ≡ Some (Active w)) → ⊥
+never_active w e = cc
+
+backs_one : (s : Sizes) (t u : ℕ) (p : Pending → Bool) (w x : Working) (b : Block) (own : List Record) → (txn_next s t (Some (Active w)) (Back u b) ≡ None) ⊎ (txn_next s t (Some (Active w)) (Back u b) ≡ Some (Active (popped w)))
+    → fold (txn_next s t) (txn_next s t (Some (Active w)) (Back u b)) own ≡ Some (Active x) → (fold (txn_next s t) (Some (Active (popped w))) own ≡ Some (Active x) → list_any p x.undos ≡ false) → list_any p x.undos ≡ false
+backs_one s t u p w x b own (inl i) e rest = absurd (never_active x (sym (ap (λ (o : Option TxnState). fold (txn_next s t) o own) i ∙ stuck_none s t own) ∙ e))
+backs_one s t u p w x b own (inr i) e rest = rest (sym (ap (λ (o : Option TxnState). fold (txn_next s t) o own) i) ∙ e)
+
+backs_any : (s : Sizes) (t : ℕ) (p : Pending → Bool) (w x : Working) (own : List Record) → AllByRecursion (IsBackOf t) own → fold (txn_next s t) (Some (Active w)) own ≡ Some (Active x) → list_any p w.undos ≡ false → list_any p x.undos ≡ false
+backs_any s t p w x [] are e none = subst (λ (k : Working). list_any p k.undos ≡ false) (one_working w x e) none
+backs_any s t p w x (Back u b ∷ own) are e none = backs_one s t u p w x b own (back_next s t u w b are.0) e (λ f. backs_any s t p (popped w) x own are.1 f (less_any p w.undos none))
+backs_any s t p w x (r ∷ own) are e none = absurd are.0
+
+pub undos_fewer : (gs hs : List RegionState) (y z : SystemState) (t : ℕ) (p : Pending → Bool) → IsRunning gs y → state_of y t ≡ Some Live → Undoes t gs y hs z → z.sizes ≡ y.sizes → list_any p (undos_at y.table t) ≡ false → list_any p (undos_at z.table t) ≡ false
+undos_fewer gs hs y z t p running lives undoes sizes none =
+    let at = work_here running.bases running.before running.log gs y running.vault running.audits running.run running.dead t lives in
+    let still = undoes running.log running.vault at in
+    let there : txn_state y.sizes t (running.log ++ still.own) ≡ Some (Active still.at.working) = subst (λ x. txn_state y.sizes t x ≡ Some (Active still.at.working)) still.logged (subst (λ x. txn_state x t still.log ≡ Some (Active still.at.working)) sizes still.at.at_work) in
+    let rest : fold (txn_next y.sizes t) (Some (Active at.working)) still.own ≡ Some (Active still.at.working) =
+    sym (ap (λ (o : Option TxnState). fold (txn_next y.sizes t) o still.own) at.at_work) ∙ (sym (fold-append (txn_next y.sizes t) (Some Unbegun) running.log still.own) ∙ there) in
+    ap (list_any p) still.at.undos ∙ backs_any y.sizes t p at.working still.at.working still.own still.backs rest (ap (list_any p) (sym at.undos) ∙ none)
+
+-- ---- a region that has no undo on it
+any_of : (p : Pending → Bool) (us : List Pending) (i : ℕ) (u : Pending) → list_any p us ≡ false → slice_get us i ≡ Some u → p u ≡ false
+any_of p [] i u e at = absurd (none_some u at)
+any_of p (v ∷ us) zero u e at = let same : v ≡ u = cc in ap p (sym same) ∙ (either (p v) (list_any p us) e).0
+any_of p (v ∷ us) (suc i) u e at = any_of p us i u (either (p v) (list_any p us) e).1 at
+
+-- one region more is freed
+pub kept_but : (us vs : List Pending) (i : ℕ) (u : Pending) (gs hs : List RegionState) (h : RegionState) → HoldsStay us gs hs → ((r : ℕ) → list_any (is_on r) us ≡ false → list_any (is_on r) vs ≡ false) → slice_get vs i ≡ Some u → HoldsStay us gs (slice_set hs u.region h)
+kept_but us vs i u gs hs h stay fewer at r none =
+    let off : (u.region == r) ≡ false = any_of (is_on r) vs i u (fewer r none) at in
+    let apart : u.region ≢ r = λ e. let on : (u.region == r) ≡ true = (Decides-eqb u.region r).1 e in cc in
+    ap hold_in (get_apart hs u.region h r apart) ∙ stay r none
+
 -- ---- a settling
 abbrev Settles : ℕ → List Pending → List RegionState → SystemState → List RegionState → SystemState → Type 0
 Settles t us gs y hs z = (L : List Record) (v : VaultState) → IsCommitted L (core gs y v) t us → IsSettled L (core gs y v) t (core hs z v)
 
 pub all_freed : (gs hs : List RegionState) (s z : Served) (t : ℕ) (us : List Pending) → IsSettling gs s.state t us → state_of s.state t ≡ Some Committed → Settles t us gs s.state hs z.state → RowsStay s.state t z.state → PromisesStay s t z
-    → IsGone z.state t → Settled t us gs s hs z
-all_freed gs hs s z t us settling state settles stay promises gone =
+    → IsGone z.state t → promised_to z.promised t ≡ 0 → Settled t us gs s hs z
+all_freed gs hs s z t us settling state settles stay promises gone released =
     let r = settling.running in
-    let end = settles r.log r.vault (settling_here r.bases r.before r.log gs s.state r.vault r.audits r.run r.dead t us state settling.ending) in
+    let at = settling_here r.bases r.before r.log gs s.state r.vault r.audits r.run r.dead t us state settling.ending in
+    let end = settles r.log r.vault at in
     let holds = ended_holds t gs hs s.state z.state r.vault r.log end.log (end.log ++ Ended t ∷ []) end.mid end.steps end.leads end.ends in
     record {
       walks = λ bases before L v a run ending. walked bases before L v a (settles L v (settling_here bases before L gs s.state v a run r.dead t us state ending));
@@ -202,13 +330,17 @@ all_freed gs hs s z t us settling state settles stay promises gone =
       promises = promises;
       dead = dead_on gs hs r.dead holds;
       gone = gone;
+      released = released;
+      holds = λ q none. ended_same t gs hs s.state z.state r.vault r.log end.log (end.log ++ Ended t ∷ []) end.mid end.steps end.leads end.ends at.free q;
     }
   where
-    walked : (bases : Bases) (before L : List Record) (v : VaultState) (a : Audits) → IsSettled L (core gs s.state v) t (core hs z.state v) → Walked (IsSoloOf t) (Ended t ∷ []) (moment gs s.state L v a) hs z.state
+    walked : (bases : Bases) (before L : List Record) (v : VaultState) (a : Audits) → IsSettled L (core gs s.state v) t (core hs z.state v) → Walked t (IsSoloOf t) (Ended t ∷ []) (moment gs s.state L v a) hs z.state
     walked bases before L v a end = record {
       log = end.log ++ Ended t ∷ [];
+      front = end.steps;
+      by = leads_front t L end.log (core gs s.state v) end.mid end.steps end.leads;
       steps = end.steps ++ Ends t ∷ [];
-      apart = all_append is_apart end.steps (Ends t ∷ []) (leads_apart t L end.log (core gs s.state v) end.mid end.steps end.leads) refl;
+      is = refl;
       course = (settling_makes L (core gs s.state v) (core hs z.state v) t a end).0;
       records = end.own;
       are = end.solos;
@@ -225,13 +357,13 @@ running_on own last t gs hs s z r left =
       log = walk.log;
       vault = r.vault;
       audits = r.audits;
-      run = run_on own last r.bases r.before r.log r.vault r.audits gs hs s.state z.state r.run walk;
+      run = run_on t own last r.bases r.before r.log r.vault r.audits gs hs s.state z.state r.run walk;
       dead = left.dead;
     }
 
 pub left_none : (own : Record → Type 0) (t : ℕ) (gs : List RegionState) (s : Served) → AreDead gs → Left own [] t gs s gs s
 left_none own t gs s dead = record {
-  walks = walks_none own gs s.state;
+  walks = walks_none t own gs s.state;
   others = record { rows = λ u e. inl refl; locks = λ u k e. refl; holds = λ r. inl refl };
   promises = λ u e. refl;
   dead = dead;
@@ -239,14 +371,14 @@ left_none own t gs s dead = record {
 
 pub left_on : (own : Record → Type 0) (last : List Record) (t : ℕ) (gs hs ks : List RegionState) (s m z : Served) → Left own [] t gs s hs m → Left own last t hs m ks z → Left own last t gs s ks z
 left_on own last t gs hs ks s m z a b = record {
-  walks = walks_on own last gs hs ks s.state m.state z.state a.walks b.walks;
+  walks = walks_on t own last gs hs ks s.state m.state z.state a.walks b.walks;
   others = others_further gs hs ks s.state m.state z.state t a.others b.others;
   promises = promises_further s m z t a.promises b.promises;
   dead = b.dead;
 }
 
 pub cleared_left : (own : Record → Type 0) (t : ℕ) (gs hs : List RegionState) (s z : Served) → Cleared t gs s hs z → Left own [] t gs s hs z
-cleared_left own t gs hs s z c = record { walks = walks_more none_of own [] gs hs s.state z.state (λ x never. absurd never) c.left.walks; others = c.left.others; promises = c.left.promises; dead = c.left.dead }
+cleared_left own t gs hs s z c = record { walks = walks_more t none_of own [] gs hs s.state z.state (λ x never. absurd never) c.left.walks; others = c.left.others; promises = c.left.promises; dead = c.left.dead }
 
 pub cleared_none : (t : ℕ) (gs : List RegionState) (s : Served) → AreDead gs → Cleared t gs s gs s
 cleared_none t gs s dead = record { left = left_none none_of t gs s dead; locks = refl; promised = refl; state = refl }
@@ -258,41 +390,43 @@ cleared_on t gs hs ks s m z a b = record { left = left_on none_of [] t gs hs ks 
 pub same_left : (own : Record → Type 0) (last : List Record) (t : ℕ) (gs hs : List RegionState) (s z : Served) → IsRunning gs s.state → Left own last t gs s hs z → Same s.state z.state
 same_left own last t gs hs s z r left =
     let walk = left.walks r.bases r.before r.log r.vault r.audits r.run in
-    same_course (moment gs s.state r.log r.vault r.audits) (moment hs z.state walk.log r.vault r.audits) walk.steps walk.apart walk.course
+    same_course (moment gs s.state r.log r.vault r.audits) (moment hs z.state walk.log r.vault r.audits) walk.steps (walked_of_end t own last (moment gs s.state r.log r.vault r.audits) hs z.state walk) walk.course
 
 -- nothing was logged
 none_logged : (L : List Record) (own : List Record) → AllByRecursion none_of own → L ++ own ++ [] ≡ L
 none_logged L [] never = append-nil (L ++ []) ∙ append-nil L
 none_logged L (x ∷ own) never = absurd never.0
 
-ending_on : (bases : Bases) (before L : List Record) (v : VaultState) (a : Audits) (t : ℕ) (us : List Pending) (gs hs : List RegionState) (s z : Served) (run : InRun bases before (moment gs s.state L v a)) (walk : Walked none_of [] (moment gs s.state L v a) hs z.state)
+ending_on : (bases : Bases) (before L : List Record) (v : VaultState) (a : Audits) (t : ℕ) (us : List Pending) (gs hs : List RegionState) (s z : Served) (run : InRun bases before (moment gs s.state L v a)) (walk : Walked t none_of [] (moment gs s.state L v a) hs z.state)
     → IsEnding s.state.sizes L t us → IsEnding z.state.sizes walk.log t us
 ending_on bases before L v a t us gs hs s z run walk ending =
-    let same = same_course (moment gs s.state L v a) (moment hs z.state walk.log v a) walk.steps walk.apart walk.course in
+    let same = same_course (moment gs s.state L v a) (moment hs z.state walk.log v a) walk.steps (walked_of_end t none_of [] (moment gs s.state L v a) hs z.state walk) walk.course in
     subst (λ (x : List Record). IsEnding z.state.sizes x t us) (sym (walk.logged ∙ none_logged L walk.records walk.are)) (subst (λ x. IsEnding x L t us) (sym same.sizes) ending)
 
 pub settling_on : (t : ℕ) (us : List Pending) (gs hs : List RegionState) (s z : Served) → IsSettling gs s.state t us → Cleared t gs s hs z → IsSettling hs z.state t us
 settling_on t us gs hs s z settling c = record {
-  running = record { bases = r.bases; before = r.before; log = walk.log; vault = r.vault; audits = r.audits; run = run_on none_of [] r.bases r.before r.log r.vault r.audits gs hs s.state z.state r.run walk; dead = c.left.dead };
+  running = record { bases = r.bases; before = r.before; log = walk.log; vault = r.vault; audits = r.audits; run = run_on t none_of [] r.bases r.before r.log r.vault r.audits gs hs s.state z.state r.run walk; dead = c.left.dead };
   ending = ending_on r.bases r.before r.log r.vault r.audits t us gs hs s z r.run walk settling.ending;
 }
   where
     r : IsRunning gs s.state
     r = settling.running
 
-    walk : Walked none_of [] (moment gs s.state r.log r.vault r.audits) hs z.state
+    walk : Walked t none_of [] (moment gs s.state r.log r.vault r.audits) hs z.state
     walk = c.left.walks r.bases r.before r.log r.vault r.audits r.run
 
-pub settled_on : (t : ℕ) (us : List Pending) (gs hs ks : List RegionState) (s m z : Served) → Cleared t gs s hs m → Settled t us hs m ks z → Settled t us gs s ks z
-settled_on t us gs hs ks s m z c b = record {
+pub settled_on : (t : ℕ) (us : List Pending) (gs hs ks : List RegionState) (s m z : Served) → Cleared t gs s hs m → HoldsStay us gs hs → Settled t us hs m ks z → Settled t us gs s ks z
+settled_on t us gs hs ks s m z c stay b = record {
   walks = λ bases before L v a run ending.
       let first = c.left.walks bases before L v a run in
-      walked_on (IsSoloOf t) (Ended t ∷ []) (moment gs s.state L v a) hs ks m.state z.state (walked_more none_of (IsSoloOf t) [] (moment gs s.state L v a) hs m.state (λ x never. absurd never) first)
-      (b.walks bases before first.log v a (run_on none_of [] bases before L v a gs hs s.state m.state run first) (ending_on bases before L v a t us gs hs s m run first ending));
+      walked_on t (IsSoloOf t) (Ended t ∷ []) (moment gs s.state L v a) hs ks m.state z.state (walked_more t none_of (IsSoloOf t) [] (moment gs s.state L v a) hs m.state (λ x never. absurd never) first)
+      (b.walks bases before first.log v a (run_on t none_of [] bases before L v a gs hs s.state m.state run first) (ending_on bases before L v a t us gs hs s m run first ending));
   others = others_further gs hs ks s.state m.state z.state t c.left.others b.others;
   promises = promises_further s m z t c.left.promises b.promises;
   dead = b.dead;
   gone = b.gone;
+  released = b.released;
+  holds = λ r none. b.holds r none ∙ stay r none;
 }
 
 pub may_still : (t : ℕ) (us : List Pending) (gs hs : List RegionState) (s z : Served) → IsRunning gs s.state → Cleared t gs s hs z → AllByRecursion (MayFree s.state t) us → AllByRecursion (MayFree z.state t) us

@@ -1,5 +1,5 @@
 -- A commit as steps of a run.
-use Rattle.std.proofs.Common.{inl, ◌≡◌, ℕ, ◌+◌, ◌≤◌, Bool, true, false, List, [], ◌∷◌, ◌++◌, length, drop, Option, Some, None, refl, ap, sym, subst, ◌∙◌, arith, length-append}
+use Rattle.std.proofs.Common.{inl, ◌≡◌, ℕ, ◌+◌, ◌≤◌, Bool, true, false, List, [], ◌∷◌, ◌++◌, length, drop, Option, Some, None, refl, ap, sym, subst, ◌∙◌, arith, length-append, slice_get}
 use Rattle.std.specs.List.{AllByRecursion}
 use Rattle.std.specs.Prelude.{◌==◌, if◌then◌else◌, Err, IsErrOf}
 use Rattle.std.proofs.lemmas.Bool.{ne_eqb}
@@ -8,11 +8,12 @@ use Rattle.std.proofs.lemmas.Option.{IfSome_then}
 use Rattle.dali_record.specs.declared.operations.Pending.{Pending}
 use Rattle.dali_record.specs.declared.records.Record.{Record}
 use Rattle.dali_record.specs.declared.records.Record.TheVariants.{Commit, Ended}
-use Rattle.dali_record.specs.Legal.{Working, TxnState, Active}
+use Rattle.dali_record.specs.Legal.{Working, TxnState, Active, Committed, dead_of}
 use Rattle.dali_region.specs.State.{RegionState}
 use Rattle.dali_att.specs.declared.state.State.TheVariants.{Live}
+use Rattle.dali_att.specs.Table.{undos_at}
 use Rattle.dali_store.specs.Store.{Files as Disk}
-use Rattle.dali_system.specs.State.{SystemState, VaultState, CoreState, row_of, state_of, stable, log_after}
+use Rattle.dali_system.specs.State.{SystemState, VaultState, CoreState, row_of, state_of, hold_in, stable, log_after}
 use Rattle.dali_system.specs.Run.{IsRow, RunsOn, no_image}
 use Rattle.dali_system.specs.Steps.{commit_logged, taken}
 use Rattle.dali_system.specs.Keeps.{with_system}
@@ -21,7 +22,7 @@ use Rattle.dali_system.specs.Wholes.{IsWhole}
 use Rattle.dali_system.specs.Courses.{Commits as CommitsStep, Takes, Flushes, Faults, Stops, Moment, IsStep, IsCourse, RunsAt}
 use Rattle.dali_system.proofs.WholeSteps.{whole_course_keeps}
 use Rattle.dali_facts.specs.Ends.{IsEnding}
-use Rattle.dali_facts.proofs.Ends.{commit_is_step}
+use Rattle.dali_facts.proofs.Ends.{commit_follows, commit_is_step}
 use Rattle.dali_crash.specs.Checkpoints.{Point, Does, IsPointCourse, moment_of}
 use Rattle.dali_crash.specs.Traces.{Start, bases_of}
 use Rattle.dali_vault.specs.Vaulted.{Vaulted}
@@ -43,9 +44,9 @@ use Rattle.dali_whole.specs.Moments.{FlushLeaves, Within, flush_calls}
 use Rattle.dali_whole.proofs.Moments.{flush_right}
 use Rattle.dali_ends.specs.Stands.{StandsAt, IsUp, IsBetween}
 use Rattle.dali_ends.specs.Ended.{Walked, HasCome}
-use Rattle.dali_ends.specs.Left.{IsSettling, SettlesIn, Settled}
+use Rattle.dali_ends.specs.Left.{HoldsStay, IsSettling, SettlesIn, Settled}
 use Rattle.dali_ends.specs.Committed.{IsLogged, CommitGoes, CommitFails, CommitIsRight}
-use Rattle.dali_ends.proofs.Walking.{Same, same_course, all_more}
+use Rattle.dali_ends.proofs.Walking.{Same, same_course, walked_of_end, all_more}
 use Rattle.dali_ends.proofs.Alone.{rows_left}
 use Rattle.dali_ends.proofs.Standing.{moment_here, run_at, come}
 
@@ -80,6 +81,12 @@ Leaves y y1 t us = (L : List Record) (rs : List RegionState) (u : VaultState) �
 
 same_working : (a b : Working) → (let o : Option TxnState = Some (Active a) in o ≡ Some (Active b)) → a ≡ b
 same_working a b e = cc
+
+same_left : (us vs : List Pending) → (let o : Option TxnState = Some (Committed us) in o ≡ Some (Committed vs)) → us ≡ vs
+same_left us vs e = cc
+
+pub holds_stand : (us : List Pending) (gs hs : List RegionState) → hs ≡ gs → HoldsStay us gs hs
+holds_stand us gs hs same r none = ap (λ (rs : List RegionState). hold_in (slice_get rs r)) same
 
 module _ {V : Type 0} (told : V → Option Disk) (may_leave : V → Disk → Type 0) (faults : V → ℕ) where
   call_here : (s : Start) (B : List (List Record)) (p : Point) (gs : List RegionState) (y : SystemState) (v : Vaulted V) (t : ℕ) → StandsAt told may_leave faults s B p gs y v → MayCall p.log p.core t → MayCall p.log (core gs y p.core.vault) t
@@ -147,6 +154,16 @@ module _ {V : Type 0} (told : V → Option Disk) (may_leave : V → Disk → Typ
       let one = leaves p.log gs p.core.vault (may_commit s B p gs y v t k may) in
       (one.step.0, ap (λ (c : CoreState). c.system) one.step.2.1, one.is.ending)
 
+  -- which removals these are
+  removals_are : (s : Start) (B : List (List Record)) (p : Point) (gs : List RegionState) (y y1 : SystemState) (v : Vaulted V) (t : ℕ) (us : List Pending) → StandsAt told may_leave faults s B p gs y v → MayCall p.log p.core t → Leaves y y1 t us
+      → us ≡ dead_of (undos_at y.table t)
+  removals_are s B p gs y y1 v t us k may leaves =
+      let mine = may_commit s B p gs y v t k may in
+      let found = logged_as s B p gs y y1 v t us k may leaves in
+      let here : IsEnding y.sizes (p.log ++ Commit t ∷ []) t us = subst (λ x. IsEnding x (p.log ++ Commit t ∷ []) t us) (ap (λ (x : SystemState). x.sizes) found.1) found.2 in
+      let follows : IsEnding y.sizes (p.log ++ Commit t ∷ []) t (dead_of mine.may.working.undos) = commit_follows y.sizes p.log t mine.may.working mine.may.at_work mine.may.level in
+      same_left us (dead_of mine.may.working.undos) (sym here ∙ follows) ∙ ap dead_of (sym mine.undos)
+
   settle_here : (s : Start) (B : List (List Record)) (p : Point) (gs : List RegionState) (y y1 z : SystemState) (v w : Vaulted V) (t : ℕ) (us : List Pending) (k : StandsAt told may_leave faults s B p gs y v) (may : MayCall p.log p.core t)
       → state_of y t ≡ Some Live → Leaves y y1 t us → FlushesAll told may_leave faults gs y1 v z w → z.sizes ≡ y1.sizes
       → (l : IsLogged told may_leave faults s B p gs y v t) × (f : AllFlushed told may_leave faults s l.to gs v z w) × StandsAt told may_leave faults s f.batches f.to gs z w × IsEnding z.sizes f.to.log t us
@@ -193,14 +210,14 @@ module _ {V : Type 0} (told : V → Option Disk) (may_leave : V → Disk → Typ
       here : (l : IsLogged told may_leave faults s B p gs y v t) × (f : AllFlushed told may_leave faults s l.to gs v z w) × StandsAt told may_leave faults s f.batches f.to gs z w × IsEnding z.sizes f.to.log t us
       here = settle_here s B p gs y y1 z v w t us k may lives leaves flushes sizes
 
-      walk : Walked (IsSoloOf t) (Ended t ∷ []) (moment gs z here.1.to.log here.1.to.core.vault here.1.to.audits) hs z'
+      walk : Walked t (IsSoloOf t) (Ended t ∷ []) (moment gs z here.1.to.log here.1.to.core.vault here.1.to.audits) hs z'
       walk = settles (bases_of s) s.log here.1.to.log here.1.to.core.vault here.1.to.audits (run_at told may_leave faults s here.1.batches here.1.to gs z w here.2) here.3
 
-      settled : HasCome told may_leave faults (IsSoloOf t) (Ended t ∷ []) s here.1.batches here.1.to w hs z'
-      settled = come told may_leave faults (IsSoloOf t) (Ended t ∷ []) s here.1.batches here.1.to gs hs z z' w here.2 walk dead
+      settled : HasCome told may_leave faults t (IsSoloOf t) (Ended t ∷ []) s here.1.batches here.1.to w hs z'
+      settled = come told may_leave faults t (IsSoloOf t) (Ended t ∷ []) s here.1.batches here.1.to gs hs z z' w here.2 walk dead
 
       same : Same z z'
-      same = same_course (moment gs z here.1.to.log here.1.to.core.vault here.1.to.audits) (moment hs z' walk.log here.1.to.core.vault here.1.to.audits) walk.steps walk.apart walk.course
+      same = same_course (moment gs z here.1.to.log here.1.to.core.vault here.1.to.audits) (moment hs z' walk.log here.1.to.core.vault here.1.to.audits) walk.steps (walked_of_end t (IsSoloOf t) (Ended t ∷ []) (moment gs z here.1.to.log here.1.to.core.vault here.1.to.audits) hs z' walk) walk.course
 
       all : stable here.1.to.core ≡ length here.1.to.log
       all = here.1.all
@@ -330,6 +347,13 @@ module _ {V : Type 0} (told : V → Option Disk) (may_leave : V → Disk → Typ
       subst (λ (u : Vaulted V). CommitGoes told may_leave faults gs y v t hs s2.state u) (sym vault)
       (commit_goes gs hs y y1 s1.state s2.state v w t us lives leaves flushes sizes
       (subst (λ (rs : List RegionState). SettlesIn t us rs s1.state hs s2.state) same (subst (λ (ps : List Pending). SettlesIn t ps gs1 s1.state hs s2.state) removals settled.walks)) settled.dead)
+
+  pub commit_kept : (gs gs1 hs : List RegionState) (y y1 : SystemState) (v : Vaulted V) (t : ℕ) (us us1 : List Pending) → IsBetween told may_leave faults gs y v t → Leaves y y1 t us → gs1 ≡ gs → us1 ≡ us → HoldsStay us1 gs1 hs
+      → HoldsStay (dead_of (undos_at y.table t)) gs hs
+  commit_kept gs gs1 hs y y1 v t us us1 between leaves same removals stay =
+      let up = between.up in
+      let are = removals_are up.start up.batches up.point gs y y1 v t us up.stands between.may leaves in
+      subst (λ (ps : List Pending). HoldsStay ps gs hs) are (subst (λ (ps : List Pending). HoldsStay ps gs hs) removals (subst (λ (rs : List RegionState). HoldsStay us1 rs hs) same stay))
 
   pub kept_at : (v w w1 : Vaulted V) → w1 ≡ w → faults w.store ≡ faults v.store → faults w1.store ≡ faults v.store
   kept_at v w w1 same kept = ap (λ (u : Vaulted V). faults u.store) same ∙ kept

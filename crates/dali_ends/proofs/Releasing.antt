@@ -1,6 +1,7 @@
 -- What a dead client left open on a region is taken back.
 use Rattle.std.proofs.Common.{inl, inr, ◌≡◌, ℕ, zero, suc, ◌+◌, ◌<◌, ◌≤◌, Bool, true, false, List, [], ◌∷◌, ◌++◌, Option, Some, None, IfSome, is_some, refl, ap, sym, subst, ◌∙◌, arith, length, slice_get, slice_set, option_map}
-use Rattle.std.specs.Prelude.{◌==◌, if◌then◌else◌}
+use Rattle.std.specs.Prelude.{◌==◌, ◌⊎◌, if◌then◌else◌}
+use Rattle.std.specs.List.{list_all}
 use Rattle.std.proofs.lemmas.Bool.Decides.{Decides-eqb}
 use Rattle.std.proofs.lemmas.List.{append-nil}
 use Rattle.dali_region.specs.declared.Hold.{Hold}
@@ -8,23 +9,27 @@ use Rattle.dali_region.specs.State.{RegionState, taken_back}
 use Rattle.dali_att.specs.declared.state.State.{State}
 use Rattle.dali_att.specs.declared.state.State.TheVariants.{Live, Dead, Cleaning, Committed}
 use Rattle.dali_att.specs.Table.{with_state}
-use Rattle.dali_system.specs.State.{TxnRow, SystemState, row_of, state_of, state_in, hold_in}
+use Rattle.dali_record.specs.declared.records.Record.{Record}
+use Rattle.dali_system.specs.State.{TxnRow, SystemState, VaultState, row_of, state_of, state_in, hold_in}
+use Rattle.dali_system.specs.Run.{Bases}
+use Rattle.dali_system.specs.Passes.{Audits}
 use Rattle.dali_system.specs.Steps.{in_state}
 use Rattle.dali_system.specs.Regions.{is_alive}
 use Rattle.dali_system.specs.Keeps.{MayRecover, MayGiveBack}
 use Rattle.dali_system.specs.Wholes.{latched_in}
-use Rattle.dali_system.specs.Courses.{Claims, Recovers, GivesBack}
+use Rattle.dali_system.specs.Courses.{Step, Claims, Recovers, GivesBack, Moment, IsCourse}
 use Rattle.dali_core.specs.Served.{Served}
 use Rattle.dali_clean.specs.Undone.{IsReclaimed, Released}
-use Rattle.dali_clean.specs.Cleaned.{core, moment, AreDead}
+use Rattle.dali_clean.specs.Cleaned.{core, moment, AreDead, InRun}
 use Rattle.dali_clean.specs.Others.{HoldStays}
 use Rattle.dali_clean.proofs.Lists.{set_same}
 use Rattle.dali_clean.proofs.Courses.{row_here, row_there, held_of, holder}
 use Rattle.dali_clean.proofs.Cleaning.{if_some_by}
+use Rattle.dali_clean.proofs.Steps.{dead_apart}
 use Rattle.dali_clean.proofs.Others.{release_others, released_locks, promises_same}
-use Rattle.dali_ends.specs.Ended.{Walks}
+use Rattle.dali_ends.specs.Ended.{AreOfEnd, Walks}
 use Rattle.dali_ends.specs.Left.{held, none_of, Cleared}
-use Rattle.dali_ends.proofs.Walking.{walks_none}
+use Rattle.dali_ends.proofs.Walking.{is_of_end}
 
 -- ---- options
 pub none_some : {A : Type 0} (x : A) → (let n : Option A = None in n ≡ Some x) → ⊥
@@ -65,24 +70,17 @@ module _ (gs : List RegionState) (y : SystemState) (r : ℕ) (g : RegionState) (
   gone = hold_is_dead gs r k dead (ap hold_in at ∙ there)
 
   -- its transaction is claimed, and dead again
-  claimed_walks : (o : Option ℕ) → state_of y k.txn ≡ Some (Dead o) → Walks none_of [] gs y behind (in_state (in_state y k.txn (Cleaning o)) k.txn (Dead None))
-  claimed_walks o was bases before L v a run = record {
-    log = L;
-    steps = Claims k.txn ∷ Recovers r ∷ GivesBack k.txn None ∷ [];
-    apart = refl;
-    course = (
-      moment gs y1 L v a,
-      ((o, was, (refl, refl)), refl),
-      (
-        moment behind y1 L v a,
-        ((g, at, record { hold = k; at = there; dead = gone; latched = o; claimed = now }, (refl, refl)), refl),
-        (moment behind y2 L v a, ((may, (refl, refl)), refl), refl),
-      ),
-    );
-    records = [];
-    are = tt;
-    logged = sym (append-nil L) ∙ sym (append-nil (L ++ []));
-  }
+  claimed_course : (o : Option ℕ) → state_of y k.txn ≡ Some (Dead o) → (bases : Bases) (before L : List Record) (v : VaultState) (a : Audits) → InRun bases before (moment gs y L v a)
+      → IsCourse (moment gs y L v a) (Claims k.txn ∷ Recovers r ∷ GivesBack k.txn None ∷ []) (moment behind (in_state (in_state y k.txn (Cleaning o)) k.txn (Dead None)) L v a)
+  claimed_course o was bases before L v a run = (
+    moment gs y1 L v a,
+    ((o, was, (refl, refl)), refl),
+    (
+      moment behind y1 L v a,
+      ((g, at, record { hold = k; at = there; dead = gone; latched = o; claimed = now }, (refl, refl)), refl),
+      (moment behind y2 L v a, ((may, (refl, refl)), refl), refl),
+    ),
+  )
     where
       y1 : SystemState
       y1 = in_state y k.txn (Cleaning o)
@@ -113,16 +111,9 @@ module _ (gs : List RegionState) (y : SystemState) (r : ℕ) (g : RegionState) (
       }
 
   -- or who claimed it has it in hand
-  recovered_walks : ((o : Option ℕ) → state_of y k.txn ≡ Some (Dead o) → ⊥) → Walks none_of [] gs y behind y
-  recovered_walks not bases before L v a run = record {
-    log = L;
-    steps = Recovers r ∷ [];
-    apart = refl;
-    course = (moment behind y L v a, ((g, at, may (state_of y k.txn) refl (run.whole.dead r k (ap hold_in at ∙ there) gone), (refl, refl)), refl), refl);
-    records = [];
-    are = tt;
-    logged = sym (append-nil L) ∙ sym (append-nil (L ++ []));
-  }
+  recovered_course : ((o : Option ℕ) → state_of y k.txn ≡ Some (Dead o) → ⊥) → (bases : Bases) (before L : List Record) (v : VaultState) (a : Audits) → InRun bases before (moment gs y L v a)
+      → IsCourse (moment gs y L v a) (Recovers r ∷ []) (moment behind y L v a)
+  recovered_course not bases before L v a run = (moment behind y L v a, ((g, at, may (state_of y k.txn) refl (run.whole.dead r k (ap hold_in at ∙ there) gone), (refl, refl)), refl), refl)
     where
       may : (st : Option State) → state_of y k.txn ≡ st → latched_in st ≡ Some r → MayRecover (core gs y v) g
       may None e l = absurd (none_some r l)
@@ -131,34 +122,82 @@ module _ (gs : List RegionState) (y : SystemState) (r : ℕ) (g : RegionState) (
       may (Some (Dead latched)) e l = absurd (not latched e)
       may (Some (Cleaning latched)) e l = record { hold = k; at = there; dead = gone; latched = latched; claimed = e }
 
-pub release_walks : (gs : List RegionState) (y z : SystemState) (r : ℕ) (g h : RegionState) → AreDead gs → slice_get gs r ≡ Some g → Released g y h z → Walks none_of [] gs y (slice_set gs r h) z
-release_walks gs y z r g h dead at (inl none) =
-    subst (λ (x : SystemState). Walks none_of [] gs y (slice_set gs r h) x) (sym none.2)
-    (subst (λ (rs : List RegionState). Walks none_of [] gs y rs y) (sym (set_same gs r h (at ∙ ap Some (sym none.1)))) (walks_none none_of gs y))
-release_walks gs y z r g h dead at (inr some) =
-    subst (λ (x : RegionState). Walks none_of [] gs y (slice_set gs r x) z) (sym some.2) (by_claim some.3)
+-- no step, three, or one alone
+abbrev pub AreOfRelease : SystemState → ℕ → Option Hold → List Step → Type 0
+AreOfRelease y r None xs = xs ≡ []
+AreOfRelease y r (Some k) xs = ((o : Option ℕ) × (state_of y k.txn ≡ Some (Dead o)) × (xs ≡ Claims k.txn ∷ Recovers r ∷ GivesBack k.txn None ∷ [])) ⊎ (xs ≡ Recovers r ∷ [])
+
+pub record HasReleased (m : Moment) (r : ℕ) (o : Option Hold) (hs : List RegionState) (z : SystemState) : Type 0 where
+  pub steps : List Step
+  pub are : AreOfRelease m.core.system r o steps
+  pub course : IsCourse m steps (moment hs z m.log m.core.vault m.audits)
+
+pub release_leads : (gs : List RegionState) (y z : SystemState) (r : ℕ) (g h : RegionState) → AreDead gs → slice_get gs r ≡ Some g → Released g y h z → (bases : Bases) (before L : List Record) (v : VaultState) (a : Audits) → InRun bases before (moment gs y L v a)
+    → HasReleased (moment gs y L v a) r g.hold (slice_set gs r h) z
+release_leads gs y z r g h dead at (inl none) bases before L v a run = record {
+  steps = [];
+  are = subst (λ (o : Option Hold). AreOfRelease y r o []) (sym none.0) refl;
+  course = ap (λ (rs : List RegionState). moment rs y L v a) (sym (set_same gs r h (at ∙ ap Some (sym none.1)))) ∙ ap (λ (x : SystemState). moment (slice_set gs r h) x L v a) (sym none.2);
+}
+release_leads gs y z r g h dead at (inr some) bases before L v a run = subst (λ (x : RegionState). HasReleased (moment gs y L v a) r g.hold (slice_set gs r x) z) (sym some.2) (by_claim some.3)
   where
-    by_claim : IsReclaimed y some.0.txn z → Walks none_of [] gs y (slice_set gs r (taken_back g)) z
-    by_claim (inl was) = subst (λ (x : SystemState). Walks none_of [] gs y (slice_set gs r (taken_back g)) x) (sym was.2) (claimed_walks gs y r g some.0 dead at some.1 was.0 was.1)
-    by_claim (inr not) = subst (λ (x : SystemState). Walks none_of [] gs y (slice_set gs r (taken_back g)) x) (sym not.1) (recovered_walks gs y r g some.0 dead at some.1 not.0)
+    by_claim : IsReclaimed y some.0.txn z → HasReleased (moment gs y L v a) r g.hold (slice_set gs r (taken_back g)) z
+    by_claim (inl was) = subst (λ (x : SystemState). HasReleased (moment gs y L v a) r g.hold (slice_set gs r (taken_back g)) x) (sym was.2) (record {
+      steps = Claims some.0.txn ∷ Recovers r ∷ GivesBack some.0.txn None ∷ [];
+      are = subst (λ (o : Option Hold). AreOfRelease y r o (Claims some.0.txn ∷ Recovers r ∷ GivesBack some.0.txn None ∷ [])) (sym some.1) (inl (was.0, was.1, refl));
+      course = claimed_course gs y r g some.0 dead at some.1 was.0 was.1 bases before L v a run;
+    })
+    by_claim (inr not) = subst (λ (x : SystemState). HasReleased (moment gs y L v a) r g.hold (slice_set gs r (taken_back g)) x) (sym not.1) (record {
+      steps = Recovers r ∷ [];
+      are = subst (λ (o : Option Hold). AreOfRelease y r o (Recovers r ∷ [])) (sym some.1) (inr refl);
+      course = recovered_course gs y r g some.0 dead at some.1 not.0 bases before L v a run;
+    })
+
+release_front : (y : SystemState) (t r : ℕ) (o : Option Hold) (xs : List Step) → is_alive (state_of y t) ≡ true → AreOfRelease y r o xs → AreOfEnd t xs
+release_front y t r None xs alive are = subst (AreOfEnd t) (sym are) tt
+release_front y t r (Some k) xs alive (inl all) = subst (AreOfEnd t) (sym all.2) (dead_apart y k.txn t all.0 all.1 alive, refl, refl, tt)
+release_front y t r (Some k) xs alive (inr one) = subst (AreOfEnd t) (sym one) tt
+
+pub release_of_end : (y : SystemState) (r : ℕ) (o : Option Hold) (xs : List Step) → AreOfRelease y r o xs → list_all is_of_end xs ≡ true
+release_of_end y r None xs are = ap (list_all is_of_end) are
+release_of_end y r (Some k) xs (inl all) = ap (list_all is_of_end) all.2
+release_of_end y r (Some k) xs (inr one) = ap (list_all is_of_end) one
+
+release_walks : (t : ℕ) (gs : List RegionState) (y z : SystemState) (r : ℕ) (g h : RegionState) → AreDead gs → is_alive (state_of y t) ≡ true → slice_get gs r ≡ Some g → Released g y h z → Walks t none_of [] gs y (slice_set gs r h) z
+release_walks t gs y z r g h dead alive at released bases before L v a run =
+    let led = release_leads gs y z r g h dead at released bases before L v a run in
+    record {
+      log = L;
+      front = led.steps;
+      by = release_front y t r g.hold led.steps alive led.are;
+      steps = led.steps;
+      is = sym (append-nil led.steps);
+      course = led.course;
+      records = [];
+      are = tt;
+      logged = sym (append-nil L) ∙ sym (append-nil (L ++ []));
+    }
 
 -- ---- another transaction's state
-apart_state : (y : SystemState) (u t : ℕ) (o : Option ℕ) → is_alive (state_of y t) ≡ true → state_of y u ≡ Some (Dead o) → state_of (in_state (in_state y u (Cleaning o)) u (Dead None)) t ≡ state_of y t
-apart_state y u t o alive was = by_test (u == t) refl
+apart_row : (y : SystemState) (u t : ℕ) (o : Option ℕ) → is_alive (state_of y t) ≡ true → state_of y u ≡ Some (Dead o) → row_of (in_state (in_state y u (Cleaning o)) u (Dead None)) t ≡ row_of y t
+apart_row y u t o alive was = by_test (u == t) refl
   where
-    by_test : (b : Bool) → (u == t) ≡ b → state_of (in_state (in_state y u (Cleaning o)) u (Dead None)) t ≡ state_of y t
+    by_test : (b : Bool) → (u == t) ≡ b → row_of (in_state (in_state y u (Cleaning o)) u (Dead None)) t ≡ row_of y t
     by_test true e =
         let dead : is_alive (state_of y t) ≡ false = ap (λ (n : ℕ). is_alive (state_of y n)) (sym ((Decides-eqb u t).0 e)) ∙ ap is_alive was in
         absurd (clash dead alive)
-    by_test false e = ap state_in (row_there (in_state y u (Cleaning o)).table u t (with_state (Dead None)) e ∙ row_there y.table u t (with_state (Cleaning o)) e)
+    by_test false e = row_there (in_state y u (Cleaning o)).table u t (with_state (Dead None)) e ∙ row_there y.table u t (with_state (Cleaning o)) e
+
+pub released_row : (y z : SystemState) (t : ℕ) (g h : RegionState) → is_alive (state_of y t) ≡ true → Released g y h z → row_of z t ≡ row_of y t
+released_row y z t g h alive (inl none) = ap (λ (x : SystemState). row_of x t) none.2
+released_row y z t g h alive (inr some) = by_claim some.3
+  where
+    by_claim : IsReclaimed y some.0.txn z → row_of z t ≡ row_of y t
+    by_claim (inl was) = ap (λ (x : SystemState). row_of x t) was.2 ∙ apart_row y some.0.txn t was.0 alive was.1
+    by_claim (inr not) = ap (λ (x : SystemState). row_of x t) not.1
 
 pub released_state : (y z : SystemState) (t : ℕ) (g h : RegionState) → is_alive (state_of y t) ≡ true → Released g y h z → state_of z t ≡ state_of y t
-released_state y z t g h alive (inl none) = ap (λ (x : SystemState). state_of x t) none.2
-released_state y z t g h alive (inr some) = by_claim some.3
-  where
-    by_claim : IsReclaimed y some.0.txn z → state_of z t ≡ state_of y t
-    by_claim (inl was) = ap (λ (x : SystemState). state_of x t) was.2 ∙ apart_state y some.0.txn t was.0 alive was.1
-    by_claim (inr not) = ap (λ (x : SystemState). state_of x t) not.1
+released_state y z t g h alive released = ap state_in (released_row y z t g h alive released)
 
 pub cleared : (gs : List RegionState) (s z : Served) (t r : ℕ) (g h : RegionState) → AreDead gs → is_alive (state_of s.state t) ≡ true → slice_get gs r ≡ Some g → Released g s.state h z.state → z.promised ≡ s.promised
     → Cleared t gs s (slice_set gs r h) z
@@ -166,7 +205,7 @@ cleared gs s z t r g h dead alive at released promised =
     let others = release_others gs s.state z.state t r g h at released in
     record {
       left = record {
-        walks = release_walks gs s.state z.state r g h dead at released;
+        walks = release_walks t gs s.state z.state r g h dead alive at released;
         others = others;
         promises = promises_same s z t promised;
         dead = dead_on gs (slice_set gs r h) dead others.holds;

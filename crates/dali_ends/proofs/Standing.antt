@@ -1,23 +1,27 @@
 -- From a run's moments to a core's points.
-use Rattle.std.proofs.Common.{◌≡◌, ◌<◌, ◌^◌, ℕ, List, [], Option, Result, Ok, Err, OnOk, OnErr, ap, sym, subst, ◌∙◌}
+use Rattle.std.proofs.Common.{◌≡◌, ◌<◌, ◌^◌, ℕ, true, List, [], Option, Result, Ok, Err, OnOk, OnErr, map, refl, ap, sym, subst, ◌∙◌}
+use Rattle.std.specs.List.{list_all}
 use Rattle.dali_record.specs.declared.records.Record.{Record}
 use Rattle.dali_region.specs.State.{RegionState}
 use Rattle.dali_store.specs.Store.{Files as Disk}
 use Rattle.dali_system.specs.State.{SystemState}
 use Rattle.dali_system.specs.Wholes.{IsWhole}
-use Rattle.dali_system.specs.Courses.{Moment, IsCourse}
-use Rattle.dali_crash.specs.Checkpoints.{Point, moment_of}
+use Rattle.dali_system.specs.Courses.{Step, Moment, IsCourse}
+use Rattle.dali_crash.specs.Checkpoints.{Point, Does, IsPointCourse, moment_of}
 use Rattle.dali_crash.specs.Traces.{Start, bases_of}
 use Rattle.dali_vault.specs.Vaulted.{Vaulted}
+use Rattle.dali_steps.specs.Called.{KeepsImage}
 use Rattle.dali_steps.specs.Courses.{WentOn}
 use Rattle.dali_steps.proofs.Courses.{quiet_course}
 use Rattle.dali_steps.proofs.Steps.{places_are_small}
 use Rattle.dali_core.specs.Served.{Served}
 use Rattle.dali_clean.specs.Cleaned.{moment, AreDead, InRun}
+use Rattle.dali_clean.specs.Steps.{AreBeside}
+use Rattle.dali_clean.proofs.Courses.{in_run_on}
 use Rattle.dali_ends.specs.Stands.{StandsAt, IsUp}
 use Rattle.dali_ends.specs.Ended.{Walked, Walks, HasCome, Comes}
 use Rattle.dali_ends.specs.Left.{IsRunning, Left}
-use Rattle.dali_ends.proofs.Walking.{quiet_steps, Same, same_course, run_on, walks_none}
+use Rattle.dali_ends.proofs.Walking.{is_of_end, all_of_end, quiet_steps, walked_of_end, Same, same_course, are_beside, walks_none}
 
 module _ {V : Type 0} (told : V → Option Disk) (may_leave : V → Disk → Type 0) (faults : V → ℕ) where
   -- the moment of a point where the core stands
@@ -40,16 +44,20 @@ module _ {V : Type 0} (told : V → Option Disk) (may_leave : V → Disk → Typ
     dead = up.stands.dead;
   }
 
-  pub come : (own : Record → Type 0) (last : List Record) (s : Start) (B : List (List Record)) (p : Point) (gs hs : List RegionState) (y z : SystemState) (v : Vaulted V) → StandsAt told may_leave faults s B p gs y v
-      → Walked own last (moment gs y p.log p.core.vault p.audits) hs z → AreDead hs → HasCome told may_leave faults own last s B p v hs z
-  come own last s B p gs hs y z v k walk dead = record {
+  -- steps of an end and of a clean-up alike
+  pub record Arrived (s : Start) (B : List (List Record)) (p : Point) (v : Vaulted V) (steps : List Step) (log : List Record) (hs : List RegionState) (z : SystemState) : Type 0 where
+    pub to : Point
+    pub course : IsPointCourse p (map Does steps) to
+    pub log_is : to.log ≡ log
+    pub stands : StandsAt told may_leave faults s B to hs z v
+    pub keeps : KeepsImage told may_leave faults p to v.store v.store
+
+  pub arrive : (s : Start) (B : List (List Record)) (p : Point) (gs hs : List RegionState) (y z : SystemState) (v : Vaulted V) (steps : List Step) (log : List Record) → StandsAt told may_leave faults s B p gs y v → list_all is_of_end steps ≡ true
+      → IsCourse (moment gs y p.log p.core.vault p.audits) steps (moment hs z log p.core.vault p.audits) → AreDead hs → Arrived s B p v steps log hs z
+  arrive s B p gs hs y z v steps log k kind course dead = record {
     to = went.to;
-    steps = walk.steps;
-    apart = walk.apart;
     course = went.course;
-    records = walk.records;
-    are = walk.are;
-    log = ap (λ (m : Moment). m.log) went.moment ∙ walk.logged;
+    log_is = ap (λ (m : Moment). m.log) went.moment;
     stands = record {
       at = record {
         regions = ap (λ (m : Moment). m.core.regions) went.moment;
@@ -57,26 +65,55 @@ module _ {V : Type 0} (told : V → Option Disk) (may_leave : V → Disk → Typ
         vault = went.is;
         none_in_hand = λ runs. k.at.none_in_hand runs ∙ sym same.taken;
       };
-      whole = subst (λ (m : Moment). IsWhole m.core) (sym went.moment) (run_on own last (bases_of s) s.log p.log p.core.vault p.audits gs hs y z (run_at s B p gs y v k) walk).whole;
+      whole = subst (λ (m : Moment). IsWhole m.core) (sym went.moment) (in_run_on (bases_of s) s.log (moment gs y p.log p.core.vault p.audits) to steps (run_at s B p gs y v k) course).whole;
       dead = dead;
     };
     keeps = went.keeps;
   }
     where
       to : Moment
-      to = moment hs z walk.log p.core.vault p.audits
+      to = moment hs z log p.core.vault p.audits
 
       same : Same y z
-      same = same_course (moment gs y p.log p.core.vault p.audits) to walk.steps walk.apart walk.course
+      same = same_course (moment gs y p.log p.core.vault p.audits) to steps kind course
 
-      went : WentOn told may_leave faults s B p to walk.steps v
-      went = quiet_course told may_leave faults s B p to walk.steps v k.at.vault (quiet_steps walk.steps walk.apart) (subst (λ (m : Moment). IsCourse m walk.steps to) (moment_here s B p gs y v k) walk.course)
+      went : WentOn told may_leave faults s B p to steps v
+      went = quiet_course told may_leave faults s B p to steps v k.at.vault (quiet_steps steps kind) (subst (λ (m : Moment). IsCourse m steps to) (moment_here s B p gs y v k) course)
 
-  pub comes : (own : Record → Type 0) (last : List Record) (gs hs : List RegionState) (y z : SystemState) (v : Vaulted V) → Walks own last gs y hs z → AreDead hs → Comes told may_leave faults own last gs y v hs z
-  comes own last gs hs y z v walks dead s B p k = come own last s B p gs hs y z v k (walks (bases_of s) s.log p.log p.core.vault p.audits (run_at s B p gs y v k)) dead
+  abbrev pub arrived_of : (t : ℕ) (own : Record → Type 0) (last : List Record) (s : Start) (B : List (List Record)) (p : Point) (v : Vaulted V) (hs : List RegionState) (z : SystemState) (e : HasCome told may_leave faults t own last s B p v hs z) → Arrived s B p v e.steps e.to.log hs z
+  arrived_of t own last s B p v hs z e = record { to = e.to; course = e.course; log_is = refl; stands = e.stands; keeps = e.keeps }
 
-  pub up_on : (own : Record → Type 0) (last : List Record) (gs hs : List RegionState) (y z : SystemState) (v : Vaulted V) → IsUp told may_leave faults gs y v → Comes told may_leave faults own last gs y v hs z → IsUp told may_leave faults hs z v
-  up_on own last gs hs y z v up comes =
+  pub come_of_end : (t : ℕ) (own : Record → Type 0) (last : List Record) (s : Start) (B : List (List Record)) (p : Point) (v : Vaulted V) (hs : List RegionState) (z : SystemState) (e : HasCome told may_leave faults t own last s B p v hs z) → list_all is_of_end e.steps ≡ true
+  come_of_end t own last s B p v hs z e = all_of_end t last e.front e.steps e.by e.is
+
+  pub come : (t : ℕ) (own : Record → Type 0) (last : List Record) (s : Start) (B : List (List Record)) (p : Point) (gs hs : List RegionState) (y z : SystemState) (v : Vaulted V) → StandsAt told may_leave faults s B p gs y v
+      → Walked t own last (moment gs y p.log p.core.vault p.audits) hs z → AreDead hs → HasCome told may_leave faults t own last s B p v hs z
+  come t own last s B p gs hs y z v k walk dead = record {
+    to = there.to;
+    front = walk.front;
+    by = walk.by;
+    steps = walk.steps;
+    is = walk.is;
+    beside = subst (λ (x : SystemState). AreBeside t x walk.steps) (sym k.at.system) (are_beside t last here (moment hs z walk.log p.core.vault p.audits) walk.front walk.steps walk.by walk.is walk.course);
+    course = there.course;
+    records = walk.records;
+    are = walk.are;
+    log = there.log_is ∙ walk.logged;
+    stands = there.stands;
+    keeps = there.keeps;
+  }
+    where
+      here : Moment
+      here = moment gs y p.log p.core.vault p.audits
+
+      there : Arrived s B p v walk.steps walk.log hs z
+      there = arrive s B p gs hs y z v walk.steps walk.log k (walked_of_end t own last here hs z walk) walk.course dead
+
+  pub comes : (t : ℕ) (own : Record → Type 0) (last : List Record) (gs hs : List RegionState) (y z : SystemState) (v : Vaulted V) → Walks t own last gs y hs z → AreDead hs → Comes told may_leave faults t own last gs y v hs z
+  comes t own last gs hs y z v walks dead s B p k = come t own last s B p gs hs y z v k (walks (bases_of s) s.log p.log p.core.vault p.audits (run_at s B p gs y v k)) dead
+
+  pub up_on : (t : ℕ) (own : Record → Type 0) (last : List Record) (gs hs : List RegionState) (y z : SystemState) (v : Vaulted V) → IsUp told may_leave faults gs y v → Comes told may_leave faults t own last gs y v hs z → IsUp told may_leave faults hs z v
+  up_on t own last gs hs y z v up comes =
       let come = comes up.start up.batches up.point up.stands in
       record { start = up.start; batches = up.batches; point = come.to; stands = come.stands }
 
@@ -84,21 +121,21 @@ module _ {V : Type 0} (told : V → Option Disk) (may_leave : V → Disk → Typ
   small_here gs y v up = (places_are_small told may_leave faults up.start up.batches up.point v up.stands.at.vault).0
 
   -- ---- for the call
-  pub comes_none : (own : Record → Type 0) (gs : List RegionState) (y : SystemState) (v : Vaulted V) → IsUp told may_leave faults gs y v → Comes told may_leave faults own [] gs y v gs y
-  comes_none own gs y v up = comes own [] gs gs y y v (walks_none own gs y) up.stands.dead
+  pub comes_none : (t : ℕ) (own : Record → Type 0) (gs : List RegionState) (y : SystemState) (v : Vaulted V) → IsUp told may_leave faults gs y v → Comes told may_leave faults t own [] gs y v gs y
+  comes_none t own gs y v up = comes t own [] gs gs y y v (walks_none t own gs y) up.stands.dead
 
-  pub comes_left : (own : Record → Type 0) (last : List Record) (t : ℕ) (gs hs : List RegionState) (s z : Served) (v : Vaulted V) → Left own last t gs s hs z → Comes told may_leave faults own last gs s.state v hs z.state
-  comes_left own last t gs hs s z v left = comes own last gs hs s.state z.state v left.walks left.dead
+  pub comes_left : (own : Record → Type 0) (last : List Record) (t : ℕ) (gs hs : List RegionState) (s z : Served) (v : Vaulted V) → Left own last t gs s hs z → Comes told may_leave faults t own last gs s.state v hs z.state
+  comes_left own last t gs hs s z v left = comes t own last gs hs s.state z.state v left.walks left.dead
 
-  pub comes_ok : {T E : Type 0} (r : Result T E) (own : Record → Type 0) (last : List Record) (t : ℕ) (gs hs : List RegionState) (s z : Served) (v : Vaulted V) → OnOk r (Left own last t gs s hs z) → OnOk r (Comes told may_leave faults own last gs s.state v hs z.state)
+  pub comes_ok : {T E : Type 0} (r : Result T E) (own : Record → Type 0) (last : List Record) (t : ℕ) (gs hs : List RegionState) (s z : Served) (v : Vaulted V) → OnOk r (Left own last t gs s hs z) → OnOk r (Comes told may_leave faults t own last gs s.state v hs z.state)
   comes_ok (Ok x) own last t gs hs s z v left = comes_left own last t gs hs s z v left
   comes_ok (Err e) own last t gs hs s z v left = tt
 
-  pub comes_err : {T E : Type 0} (r : Result T E) (own : Record → Type 0) (last : List Record) (t : ℕ) (gs hs : List RegionState) (s z : Served) (v : Vaulted V) → OnErr r (Left own last t gs s hs z) → OnErr r (Comes told may_leave faults own last gs s.state v hs z.state)
+  pub comes_err : {T E : Type 0} (r : Result T E) (own : Record → Type 0) (last : List Record) (t : ℕ) (gs hs : List RegionState) (s z : Served) (v : Vaulted V) → OnErr r (Left own last t gs s hs z) → OnErr r (Comes told may_leave faults t own last gs s.state v hs z.state)
   comes_err (Ok x) own last t gs hs s z v left = tt
   comes_err (Err e) own last t gs hs s z v left = comes_left own last t gs hs s z v left
 
   pub up_ended : {T E : Type 0} (r : Result T E) (own : Record → Type 0) (last : List Record) (t : ℕ) (gs hs : List RegionState) (s z : Served) (v w : Vaulted V) → w ≡ v → IsUp told may_leave faults gs s.state v → OnOk r (Left own last t gs s hs z) → OnErr r (Left own [] t gs s hs z)
       → IsUp told may_leave faults hs z.state w
-  up_ended (Ok x) own last t gs hs s z v w same up ok err = subst (λ (u : Vaulted V). IsUp told may_leave faults hs z.state u) (sym same) (up_on own last gs hs s.state z.state v up (comes_left own last t gs hs s z v ok))
-  up_ended (Err e) own last t gs hs s z v w same up ok err = subst (λ (u : Vaulted V). IsUp told may_leave faults hs z.state u) (sym same) (up_on own [] gs hs s.state z.state v up (comes_left own [] t gs hs s z v err))
+  up_ended (Ok x) own last t gs hs s z v w same up ok err = subst (λ (u : Vaulted V). IsUp told may_leave faults hs z.state u) (sym same) (up_on t own last gs hs s.state z.state v up (comes_left own last t gs hs s z v ok))
+  up_ended (Err e) own last t gs hs s z v w same up ok err = subst (λ (u : Vaulted V). IsUp told may_leave faults hs z.state u) (sym same) (up_on t own [] gs hs s.state z.state v up (comes_left own [] t gs hs s z v err))

@@ -31,8 +31,8 @@ use Rattle.dali_ends.specs.Stands.{StandsAt, IsUp, IsBetween}
 use Rattle.dali_ends.specs.Ended.{HasCome}
 use Rattle.dali_ends.specs.Left.{Left}
 use Rattle.dali_ends.specs.Committed.{CommitGoes}
-use Rattle.dali_ends.proofs.Walking.{and_true, quiet_steps}
-use Rattle.dali_ends.proofs.Standing.{run_at, comes_left}
+use Rattle.dali_ends.proofs.Walking.{and_true, is_of_end, quiet_steps}
+use Rattle.dali_ends.proofs.Standing.{run_at, Arrived, arrived_of, come_of_end, comes_left}
 use Rattle.dali_ends.proofs.Durable.{Leaves, logged, logged_as, flushed_stands}
 
 -- ---- a flag that is clear now was clear
@@ -161,21 +161,26 @@ module _ {V : Type 0} (told : V → Option Disk) (may_leave : V → Disk → Typ
   pub whole_here : (s : Start) (B : List (List Record)) (p : Point) (gs : List RegionState) (y : SystemState) (v : Vaulted V) → StandsAt told may_leave faults s B p gs y v → IfSome (told v.store) (HoldsPlaces gs) → IsWholeCore told gs y v
   whole_here s B p gs y v k files = record { parts = λ u. any_vault gs y p.core.vault u (run_at told may_leave faults s B p gs y v k).whole; files = files }
 
-  pub come_no_cleaner : (own : Record → Type 0) (last : List Record) (s : Start) (B : List (List Record)) (p : Point) (gs hs : List RegionState) (y z : SystemState) (v : Vaulted V) → StandsAt told may_leave faults s B p gs y v
-      → HasCome told may_leave faults own last s B p v hs z → AreNoCleaner gs hs
-  come_no_cleaner own last s B p gs hs y z v k come =
+  pub arrived_no_cleaner : (s : Start) (B : List (List Record)) (p : Point) (gs hs : List RegionState) (y z : SystemState) (v : Vaulted V) (steps : List Step) (log : List Record) → StandsAt told may_leave faults s B p gs y v → list_all is_of_end steps ≡ true
+      → Arrived told may_leave faults s B p v steps log hs z → AreNoCleaner gs hs
+  arrived_no_cleaner s B p gs hs y z v steps log k kind a =
       subst (λ (rs : List RegionState). AreNoCleaner rs hs) k.at.regions
-      (subst (λ (rs : List RegionState). AreNoCleaner p.core.regions rs) come.stands.at.regions
-      (course_no_cleaner (moment_of p) (moment_of come.to) come.steps (quiet_steps come.steps come.apart) (core_course p come.to come.steps come.course)))
+      (subst (λ (rs : List RegionState). AreNoCleaner p.core.regions rs) a.stands.at.regions
+      (course_no_cleaner (moment_of p) (moment_of a.to) steps (quiet_steps steps kind) (core_course p a.to steps a.course)))
 
-  whole_come : (own : Record → Type 0) (last : List Record) (s : Start) (B : List (List Record)) (p : Point) (gs hs : List RegionState) (y z : SystemState) (v : Vaulted V) → StandsAt told may_leave faults s B p gs y v
-      → HasCome told may_leave faults own last s B p v hs z → IfSome (told v.store) (HoldsPlaces gs) → IsWholeCore told hs z v
-  whole_come own last s B p gs hs y z v k come files =
-      whole_here s B come.to hs z v come.stands (places_told (told v.store) gs hs (come_no_cleaner own last s B p gs hs y z v k come) files)
+  come_no_cleaner : (t : ℕ) (own : Record → Type 0) (last : List Record) (s : Start) (B : List (List Record)) (p : Point) (gs hs : List RegionState) (y z : SystemState) (v : Vaulted V) → StandsAt told may_leave faults s B p gs y v
+      → HasCome told may_leave faults t own last s B p v hs z → AreNoCleaner gs hs
+  come_no_cleaner t own last s B p gs hs y z v k e =
+      arrived_no_cleaner s B p gs hs y z v e.steps e.to.log k (come_of_end told may_leave faults t own last s B p v hs z e) (arrived_of told may_leave faults t own last s B p v hs z e)
+
+  whole_come : (t : ℕ) (own : Record → Type 0) (last : List Record) (s : Start) (B : List (List Record)) (p : Point) (gs hs : List RegionState) (y z : SystemState) (v : Vaulted V) → StandsAt told may_leave faults s B p gs y v
+      → HasCome told may_leave faults t own last s B p v hs z → IfSome (told v.store) (HoldsPlaces gs) → IsWholeCore told hs z v
+  whole_come t own last s B p gs hs y z v k come files =
+      whole_here s B come.to hs z v come.stands (places_told (told v.store) gs hs (come_no_cleaner t own last s B p gs hs y z v k come) files)
 
   whole_left : (own : Record → Type 0) (last : List Record) (t : ℕ) (gs hs : List RegionState) (s z : Served) (v : Vaulted V) → IsUp told may_leave faults gs s.state v → Left own last t gs s hs z → IsWholeCore told gs s.state v → IsWholeCore told hs z.state v
   whole_left own last t gs hs s z v up left whole =
-      whole_come own last up.start up.batches up.point gs hs s.state z.state v up.stands (comes_left told may_leave faults own last t gs hs s z v left up.start up.batches up.point up.stands) whole.files
+      whole_come t own last up.start up.batches up.point gs hs s.state z.state v up.stands (comes_left told may_leave faults own last t gs hs s z v left up.start up.batches up.point up.stands) whole.files
 
   -- ---- for the calls
   pub whole_ended : {T E : Type 0} (r : Result T E) (own : Record → Type 0) (last : List Record) (t : ℕ) (gs hs : List RegionState) (s z : Served) (v w : Vaulted V) → w ≡ v → IsUp told may_leave faults gs s.state v → OnOk r (Left own last t gs s hs z) → OnErr r (Left own [] t gs s hs z)
@@ -197,7 +202,7 @@ module _ {V : Type 0} (told : V → Option Disk) (may_leave : V → Disk → Typ
       let is = goes up.start up.batches up.point up.stands between.may in
       let flushed = is.flushed in
       let stands : StandsAt told may_leave faults up.start flushed.batches flushed.to gs is.between w = flushed_stands told may_leave faults up.start up.batches is.logged.to gs (commit_logged y t) is.between v w is.logged.stands flushed in
-      whole_come (IsSoloOf t) (Ended t ∷ []) up.start flushed.batches flushed.to gs hs is.between z w stands is.settled whole.files
+      whole_come t (IsSoloOf t) (Ended t ∷ []) up.start flushed.batches flushed.to gs hs is.between z w stands is.settled whole.files
 
   pub whole_over : (gs gs1 : List RegionState) (y : SystemState) (w w1 : Vaulted V) → w1 ≡ w → gs1 ≡ gs → IsWholeCore told gs1 y w → IsWholeCore told gs y w1
   whole_over gs gs1 y w w1 same regions whole = subst (λ (u : Vaulted V). IsWholeCore told gs y u) (sym same) (subst (λ (rs : List RegionState). IsWholeCore told rs y w) regions whole)

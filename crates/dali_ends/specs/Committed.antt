@@ -40,7 +40,7 @@ module _ {V : Type 0} (told : V → Option Disk) (may_leave : V → Disk → Typ
     -- the system behind the flush
     pub between : SystemState
     pub flushed : AllFlushed told may_leave faults s logged.to gs v between w
-    pub settled : HasCome told may_leave faults (IsSoloOf t) (Ended t ∷ []) s flushed.batches flushed.to w hs z
+    pub settled : HasCome told may_leave faults t (IsSoloOf t) (Ended t ∷ []) s flushed.batches flushed.to w hs z
     -- the commit is among the flushed records
     pub durable : length p.log < stable settled.to.core
 

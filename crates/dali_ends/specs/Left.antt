@@ -2,18 +2,22 @@
 --     IsRunning gs y           some run has come to these regions and this system
 --     IsSettling gs y t us     and the rules of its log have t committed, with these removals left to be freed
 --     held gs                  how many regions are latched
+--     is_on r u                the undo u is on the region r
+--     HoldsStay us gs hs       each region on which none of these undos is has the hold that it had
 --     Left own last t gs s hs z    an end of t, or a part of it, led from the one to the other, and logged own records and these last ones
 --     Cleared t gs s hs z      what dead clients had left open was taken back, and nothing was logged
 --     Settled t us gs s hs z   what the committed t removed was freed, and its end logged
-use Rattle.std.specs.Prelude.{◌≡◌, ℕ, ◌+◌, if◌then◌else◌, is_some, List, [], ◌∷◌}
+use Rattle.std.specs.Prelude.{◌≡◌, ◌==◌, ℕ, ◌+◌, Bool, false, if◌then◌else◌, is_some, List, [], ◌∷◌, slice_get}
+use Rattle.std.specs.List.{list_any}
 use Rattle.dali_record.specs.declared.operations.Pending.{Pending}
 use Rattle.dali_record.specs.declared.records.Record.{Record}
 use Rattle.dali_record.specs.declared.records.Record.TheVariants.{Ended}
 use Rattle.dali_region.specs.State.{RegionState}
-use Rattle.dali_system.specs.State.{SystemState, VaultState, state_of}
+use Rattle.dali_system.specs.State.{SystemState, VaultState, state_of, hold_in}
 use Rattle.dali_system.specs.Run.{Bases}
 use Rattle.dali_system.specs.Passes.{Audits}
 use Rattle.dali_facts.specs.Ends.{IsEnding}
+use Rattle.dali_core.specs.Promised.{promised_to}
 use Rattle.dali_core.specs.Served.{Served}
 use Rattle.dali_single.specs.Settling.{IsSoloOf}
 use Rattle.dali_clean.specs.Cleaned.{moment, AreDead, InRun}
@@ -33,12 +37,18 @@ pub record IsSettling (gs : List RegionState) (y : SystemState) (t : ℕ) (us : 
   pub running : IsRunning gs y
   pub ending : IsEnding y.sizes running.log t us
 
+abbrev pub is_on : ℕ → Pending → Bool
+is_on r u = u.region == r
+
+abbrev pub HoldsStay : List Pending → List RegionState → List RegionState → Type 0
+HoldsStay us gs hs = (r : ℕ) → list_any (is_on r) us ≡ false → hold_in (slice_get hs r) ≡ hold_in (slice_get gs r)
+
 abbrev pub held : List RegionState → ℕ
 held [] = 0
 held (g ∷ gs) = (if is_some g.hold then 1 else 0) + held gs
 
 pub record Left (own : Record → Type 0) (last : List Record) (t : ℕ) (gs : List RegionState) (s : Served) (hs : List RegionState) (z : Served) : Type 0 where
-  pub walks : Walks own last gs s.state hs z.state
+  pub walks : Walks t own last gs s.state hs z.state
   pub others : OthersStay gs s.state t hs z.state
   pub promises : PromisesStay s t z
   pub dead : AreDead hs
@@ -55,7 +65,7 @@ pub record Cleared (t : ℕ) (gs : List RegionState) (s : Served) (hs : List Reg
 abbrev pub SettlesIn : ℕ → List Pending → List RegionState → SystemState → List RegionState → SystemState → Type 0
 SettlesIn t us gs y hs z =
     (bases : Bases) (before L : List Record) (v : VaultState) (a : Audits) → InRun bases before (moment gs y L v a) → IsEnding y.sizes L t us
-    → Walked (IsSoloOf t) (Ended t ∷ []) (moment gs y L v a) hs z
+    → Walked t (IsSoloOf t) (Ended t ∷ []) (moment gs y L v a) hs z
 
 pub record Settled (t : ℕ) (us : List Pending) (gs : List RegionState) (s : Served) (hs : List RegionState) (z : Served) : Type 0 where
   pub walks : SettlesIn t us gs s.state hs z.state
@@ -63,3 +73,5 @@ pub record Settled (t : ℕ) (us : List Pending) (gs : List RegionState) (s : Se
   pub promises : PromisesStay s t z
   pub dead : AreDead hs
   pub gone : IsGone z.state t
+  pub released : promised_to z.promised t ≡ 0
+  pub holds : HoldsStay us gs hs

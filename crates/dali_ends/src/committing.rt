@@ -1,22 +1,25 @@
 //! A transaction of a core commits.
 ghost use Rattle.std.specs.Prelude.{◌≡◌, ◌<◌, ◌^◌, [], true, false, Some, None, Err, Ok, IfSome, OnOk, OnErr, IfErr, IsErrOf, IfOk, is_some, length};
 ghost use Rattle.std.specs.List.{AllByRecursion};
+ghost use Rattle.dali_record.specs.Legal.{dead_of};
+ghost use Rattle.dali_att.specs.Table.{undos_at};
 ghost use Rattle.dali_att.specs.declared.state.State.TheVariants.{Live, Committed};
 ghost use Rattle.dali_system.specs.State.{state_of};
 ghost use Rattle.dali_system.specs.Steps.{commit_logged};
 ghost use Rattle.dali_system.specs.declared.causes.Cause.TheVariants.{Store as ByStore};
 ghost use Rattle.dali_store.specs.Calls.{fewer};
 ghost use Rattle.dali_store.specs.Faults.{Rose};
+ghost use Rattle.dali_core.specs.Promised.{promised_to};
 ghost use Rattle.dali_single.specs.Settling.{MayFree, IsPromised, settle_room};
 ghost use Rattle.dali_clean.specs.Others.{OthersStay, PromisesStay, IsGone};
 ghost use Rattle.dali_whole.specs.Cores.{IsWholeCore};
 ghost use Rattle.dali_whole.specs.Moments.{FlushLeaves, Within};
 ghost use Rattle.dali_ends.specs.declared.error.CommitError.TheVariants.{Stopped, OutOfMemory, Fault};
 ghost use Rattle.dali_ends.specs.Stands.{IsUp, IsBetween};
-ghost use Rattle.dali_ends.specs.Left.{IsSettling, Settled};
+ghost use Rattle.dali_ends.specs.Left.{HoldsStay, IsSettling, Settled};
 ghost use Rattle.dali_ends.specs.Committed.{CommitGoes, CommitFails};
 
-use crate::error::CommitError;
+use crate::error::{CommitError, commit_refused};
 use crate::parts::free_removals;
 use dali_record::Pending;
 use dali_store::Store;
@@ -44,18 +47,19 @@ fn settle_core<V: Store>(core: &mut Core<V>, txn: u64, removals: &[Pending])
 /// only where memory is refused: nothing has changed then. `Fault` only where the store's count of faults rose: the commit
 /// is logged and isn't flushed, and vault and engine stop.
 ///
-/// On Ok the commit is flushed, so each crash leaves it, and the transaction has no row and no lock any more. Behind the log
-/// stand its commit, its solos in the order of its removals, and its end, and nothing else. Every other transaction keeps its
-/// row, its locks and the memory that it was promised; a dead one whose region was in the way has it latched no more.
+/// On Ok the commit is flushed, so each crash leaves it, and the transaction has no row, no lock and no memory promised any
+/// more. Behind the log stand its commit, its solos in the order of its removals, and its end, and nothing else. Every other
+/// transaction keeps its row, its locks and the memory that it was promised; a dead one whose region was in the way, that is
+/// the region of a removal, has it latched no more.
 pub fn commit<V: Store>(core: &mut Core<V>, alloc: Global, txn: u64) -> Result<(), CommitError>
     requires may { IsBetween V.told V.may_leave V.faults core.old.regions.items core.old.system.state core.old.vault txn }
     requires lives { state_of core.old.system.state txn ≡ Some Live }
     ensures ok { OnOk result (CommitGoes V.told V.may_leave V.faults core.old.regions.items core.old.system.state core.old.vault txn core.new.regions.items core.new.system.state core.new.vault) }
     ensures up { IsUp V.told V.may_leave V.faults core.new.regions.items core.new.system.state core.new.vault }
     ensures gone { OnOk result (IsGone core.new.system.state txn) }
+    ensures released { OnOk result (promised_to core.new.system.promised txn ≡ 0) }
     ensures stopped { IfSome core.old.system.state.stop (λ cause. result ≡ Err (Stopped cause)) }
     ensures vault_stopped { core.old.system.state.stop ≡ None → core.old.vault.stopped ≡ true → result ≡ Err (Stopped ByStore) }
-    ensures only { core.old.vault.stopped ≡ true → IfErr result (λ e. e ≡ Fault → ⊥) }
     ensures memory { core.old.system.state.stop ≡ None → core.old.vault.stopped ≡ false → IfErr result (λ e. (e ≡ Fault → ⊥) → e ≡ OutOfMemory) }
     ensures fault { IsErrOf result Fault → CommitFails V.told V.may_leave V.faults core.old.regions.items core.old.system.state core.old.vault txn core.new.system.state core.new.vault }
     ensures faulted { IsErrOf result Fault → Rose (V.faults core.old.vault.store) (V.faults core.new.vault.store) × (core.new.vault.stopped ≡ true) }
@@ -67,6 +71,7 @@ pub fn commit<V: Store>(core: &mut Core<V>, alloc: Global, txn: u64) -> Result<(
     ensures any_moment { core.old.vault.stopped ≡ false → (IsErrOf result OutOfMemory → ⊥) → core.old.system.state.stop ≡ None
         → Within V.told V.moment V.left_since core.old.vault core.new.vault (FlushLeaves V.may_leave (commit_logged core.old.system.state txn) core.old.vault) }
     ensures others { OthersStay core.old.regions.items core.old.system.state txn core.new.regions.items core.new.system.state }
+    ensures in_the_way { HoldsStay (dead_of (undos_at core.old.system.state.table txn)) core.old.regions.items core.new.regions.items }
     ensures promises { PromisesStay core.old.system txn core.new.system }
     ensures whole { IsWholeCore V.told core.old.regions.items core.old.system.state core.old.vault → IsWholeCore V.told core.new.regions.items core.new.system.state core.new.vault }
 {
@@ -74,7 +79,10 @@ pub fn commit<V: Store>(core: &mut Core<V>, alloc: Global, txn: u64) -> Result<(
         let cause = core.system.stopped().unwrap_or(Cause::Store);
         return Err(CommitError::Stopped { cause });
     }
-    let removals = dali_single::commit(alloc, &mut core.system, txn)?;
+    let removals = match dali_single::commit(alloc, &mut core.system, txn) {
+        Ok(removals) => removals,
+        Err(error) => return Err(commit_refused(error)),
+    };
     match flush(core, alloc) {
         Ok(()) => {}
         Err(_) => return Err(CommitError::Fault),

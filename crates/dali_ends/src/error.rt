@@ -1,6 +1,7 @@
 //! Why a transaction didn't end.
+ghost use Rattle.std.specs.Prelude.{◌≡◌};
+ghost use Rattle.dali_ends.specs.Refused.{commit_error, abort_error};
 
-use dali_clean::CleanError;
 use dali_core::SystemError;
 use dali_system::Cause;
 use thiserror::Error;
@@ -19,18 +20,14 @@ pub enum CommitError {
     Fault,
 }
 
-impl From<SystemError> for CommitError {
-    ghost use Rattle.std.specs.Prelude.{◌≡◌};
-    ghost use Rattle.dali_ends.specs.Refused.{commit_error};
-
-    ghost from_gives = { λ error e. e ≡ commit_error error };
-
-    fn from(error: SystemError) -> CommitError {
-        match error {
-            SystemError::Stopped { cause } => CommitError::Stopped { cause },
-            // a commit uses no room in the log, so it is never full for it
-            SystemError::LogFull { .. } | SystemError::OutOfMemory => CommitError::OutOfMemory,
-        }
+// Why the record of a commit is refused.
+pub(crate) fn commit_refused(error: SystemError) -> CommitError
+    ensures { result ≡ commit_error error }
+{
+    match error {
+        SystemError::Stopped { cause } => CommitError::Stopped { cause },
+        // a commit uses no room in the log, so it is never full for it
+        SystemError::LogFull { .. } | SystemError::OutOfMemory => CommitError::OutOfMemory,
     }
 }
 
@@ -45,17 +42,13 @@ pub enum AbortError {
     OutOfMemory,
 }
 
-impl From<SystemError> for AbortError {
-    ghost use Rattle.std.specs.Prelude.{◌≡◌};
-    ghost use Rattle.dali_ends.specs.Refused.{abort_error};
-
-    ghost from_gives = { λ error e. e ≡ abort_error error };
-
-    fn from(error: SystemError) -> AbortError {
-        match error {
-            SystemError::Stopped { cause } => AbortError::Stopped { cause },
-            // what takes back uses no room in the log, so it is never full for it
-            SystemError::LogFull { .. } | SystemError::OutOfMemory => AbortError::OutOfMemory,
-        }
+// Why the record of a taking back or of an end is refused.
+pub(crate) fn abort_refused(error: SystemError) -> AbortError
+    ensures { result ≡ abort_error error }
+{
+    match error {
+        SystemError::Stopped { cause } => AbortError::Stopped { cause },
+        // what takes back uses no room in the log, so it is never full for it
+        SystemError::LogFull { .. } | SystemError::OutOfMemory => AbortError::OutOfMemory,
     }
 }

@@ -5,13 +5,15 @@ ghost use Rattle.std.specs.List.{AllByRecursion};
 ghost use Rattle.dali_record.specs.declared.records.Record.TheVariants.{Ended};
 ghost use Rattle.dali_att.specs.declared.state.State.TheVariants.{Live, Committed};
 ghost use Rattle.dali_system.specs.State.{state_of};
+ghost use Rattle.dali_core.specs.Promised.{promised_to};
 ghost use Rattle.dali_single.specs.Ending.{IsBackOf};
 ghost use Rattle.dali_single.specs.Settling.{MayFree, IsPromised, settle_room};
 ghost use Rattle.dali_clean.specs.Others.{IsGone};
 ghost use Rattle.dali_ends.specs.declared.error.AbortError.TheVariants.{OutOfMemory};
-ghost use Rattle.dali_ends.specs.Left.{IsRunning, IsSettling, Left, Settled};
+ghost use Rattle.dali_att.specs.Table.{undos_at};
+ghost use Rattle.dali_ends.specs.Left.{HoldsStay, IsRunning, IsSettling, Left, Settled};
 
-use crate::error::AbortError;
+use crate::error::{AbortError, abort_refused};
 use dali_clean::release;
 use dali_core::System;
 use dali_record::Pending;
@@ -28,11 +30,13 @@ pub fn take_back(regions: &mut [Region], system: &mut System, txn: u64) -> Resul
     ensures gone { OnOk result (IsGone system.new.state txn) }
     ensures lives { OnErr result (state_of system.new.state txn ≡ Some Live) }
     ensures memory { IfErr result (λ e. e ≡ OutOfMemory) }
+    ensures released { OnOk result (promised_to system.new.promised txn ≡ 0) }
+    ensures in_the_way { HoldsStay (undos_at system.old.state.table txn) regions.old regions.new }
 {
     loop {
         match dali_single::abort(regions, system, txn) {
             Ok(()) => return Ok(()),
-            Err(StepError::System { cause }) => return Err(AbortError::from(cause)),
+            Err(StepError::System { cause }) => return Err(abort_refused(cause)),
             Err(StepError::Latch { .. }) => {}
         }
         // a dead client has the region of the next undo latched

@@ -1,13 +1,15 @@
 -- What a call makes of a redo.
 --     Advances m n r           the table n has come behind the record r, where m stood before it
+--     IsCleared m              who is committed has no undos in the table m
 --     Applies x y r            y is x behind a record whose block was written
 --     Skips x y r              y is x behind one that was skipped
 --     Performs o m im jm       jm is im with the undos of both tables performed, each list from its last, the transactions ascending
 --     RollsBack x y            y is x with its undos performed, and empty tables
-use Rattle.std.specs.Prelude.{◌≡◌, ℕ, true, false, not, ◌&&◌, ◌||◌, List, [], fold}
+use Rattle.std.specs.Prelude.{◌≡◌, ℕ, true, false, not, ◌&&◌, ◌||◌, List, [], Some, fold}
 use Rattle.std.specs.FinMap as map
 use Rattle.std.specs.List.Sorted.{IsStrictlyIncreasing}
-use Rattle.dali_att.specs.Table.{Table}
+use Rattle.dali_att.specs.declared.state.State.TheVariants.{Committed}
+use Rattle.dali_att.specs.Table.{Table, state_at, undos_at}
 use Rattle.dali_record.specs.declared.operations.Pending.{Pending}
 use Rattle.dali_record.specs.declared.records.Record.{Record}
 use Rattle.dali_record.specs.Damage.{has}
@@ -19,6 +21,9 @@ use Rattle.dali_redo.specs.Redoing.{Redoing, Knows, status_at, is_left, performe
 
 abbrev pub Advances : Table Pending → Table Pending → Record → Type 0
 Advances m n r = (t : ℕ) → status_at n t ≡ status_next t (status_at m t) r
+
+abbrev pub IsCleared : Table Pending → Type 0
+IsCleared m = (t : ℕ) → state_at m t ≡ Some Committed → undos_at m t ≡ []
 
 pub record Applies (x y : Redoing) (r : Record) : Type 0 where
   pub sizes : y.sizes ≡ x.sizes

@@ -7,7 +7,7 @@ ghost use Rattle.dali_history.specs.Recovered.{freed};
 ghost use Rattle.dali_resume.specs.Tests.{Known, is_running, next_behind as number_behind};
 ghost use Rattle.dali_redo.specs.declared.error.RedoError.TheVariants.{Misfit};
 ghost use Rattle.dali_redo.specs.Redoing.{Knows, AreUndos, status_at, performed_in, breaks, MayUndo};
-ghost use Rattle.dali_redo.specs.Steps.{Applies, Skips, Performs, RollsBack};
+ghost use Rattle.dali_redo.specs.Steps.{Applies, Skips, Performs, RollsBack, IsCleared};
 
 use crate::error::RedoError;
 use crate::image::Image;
@@ -123,6 +123,7 @@ impl Redo {
         requires { MayUndo logged.now }
         ensures misfit { (k : Known) → Knows self.old k → (IsErrOf result Misfit ↔ (breaks self.old.sizes k logged.now ≡ true)) }
         ensures ok { OnOk result (Applies self.old self.new logged.now) }
+        ensures cleared { OnOk result (IsCleared self.old.table → IsCleared self.new.table) }
         ensures err { OnErr result (self.new ≡ self.old) }
     {
         if rules::breaks(self.geometry, &self.table, self.next, logged) {
@@ -142,6 +143,7 @@ impl Redo {
         requires { MayUndo logged.now }
         ensures misfit { (k : Known) → Knows self.old k → (IsErrOf result Misfit ↔ (breaks self.old.sizes k logged.now ≡ true)) }
         ensures ok { OnOk result (Skips self.old self.new logged.now) }
+        ensures cleared { OnOk result (IsCleared self.old.table → IsCleared self.new.table) }
         ensures err { OnErr result (self.new ≡ self.old) }
     {
         if rules::breaks(self.geometry, &self.table, self.next, logged) {

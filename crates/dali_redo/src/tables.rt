@@ -6,7 +6,7 @@ ghost use Rattle.dali_record.specs.Files.{is_restarted};
 ghost use Rattle.dali_record.specs.Log.{txn_of as txn_of_record};
 ghost use Rattle.dali_resume.specs.Tests.{is_running};
 ghost use Rattle.dali_redo.specs.Redoing.{status_at, performed_in};
-ghost use Rattle.dali_redo.specs.Steps.{Advances};
+ghost use Rattle.dali_redo.specs.Steps.{Advances, IsCleared};
 ghost use Rattle.dali_redo.specs.Tables.{AddsAll, IsCopied, IsHeld, Holds, IsLeast};
 
 use crate::rules::{is_active, undos_at_work};
@@ -17,6 +17,7 @@ use std::alloc::{AllocError, Global};
 // The transaction begins, if it hasn't.
 fn begin(table: &mut Att<Pending>, txn: u64) -> Result<(), AllocError>
     ensures ok { OnOk result (Advances table.old table.new (Begin txn)) }
+    ensures cleared { OnOk result (IsCleared table.old → IsCleared table.new) }
     ensures err { OnErr result (table.new ≡ table.old) }
 {
     match table.state(txn) {
@@ -28,6 +29,7 @@ fn begin(table: &mut Att<Pending>, txn: u64) -> Result<(), AllocError>
 // Adds the block's undo, if it has one, to those of its transaction, if that is at work.
 fn add_undo(table: &mut Att<Pending>, txn: u64, block: &Block) -> Result<(), AllocError>
     ensures ok { OnOk result (Advances table.old table.new (Forward txn block.now)) }
+    ensures cleared { OnOk result (IsCleared table.old → IsCleared table.new) }
     ensures err { OnErr result (table.new ≡ table.old) }
 {
     if !is_active(table, txn) {
@@ -48,14 +50,16 @@ fn add_undo(table: &mut Att<Pending>, txn: u64, block: &Block) -> Result<(), All
 
 // Removes the last undo of the transaction.
 fn remove_undo(table: &mut Att<Pending>, txn: u64, block: &Block)
-    ensures { Advances table.old table.new (Back txn block.now) }
+    ensures advances { Advances table.old table.new (Back txn block.now) }
+    ensures cleared { IsCleared table.old → IsCleared table.new }
 {
     let _ = table.pop(txn);
 }
 
 // The transaction is committed, if it has begun.
 fn commit(table: &mut Att<Pending>, txn: u64)
-    ensures { Advances table.old table.new (Commit txn) }
+    ensures advances { Advances table.old table.new (Commit txn) }
+    ensures cleared { IsCleared table.old → IsCleared table.new }
 {
     match table.state(txn) {
         Some(_) => {
@@ -68,7 +72,8 @@ fn commit(table: &mut Att<Pending>, txn: u64)
 
 // The transaction has ended.
 fn end(table: &mut Att<Pending>, txn: u64)
-    ensures { Advances table.old table.new (Ended txn) }
+    ensures advances { Advances table.old table.new (Ended txn) }
+    ensures cleared { IsCleared table.old → IsCleared table.new }
 {
     table.end(txn);
 }
@@ -76,6 +81,7 @@ fn end(table: &mut Att<Pending>, txn: u64)
 /// The table behind the record. Where memory is wanting it is as it was.
 pub fn advance(alloc: Global, table: &mut Att<Pending>, logged: &Record) -> Result<(), AllocError>
     ensures ok { OnOk result (Advances table.old table.new logged.now) }
+    ensures cleared { OnOk result (IsCleared table.old → IsCleared table.new) }
     ensures err { OnErr result (table.new ≡ table.old) }
 {
     match logged {
@@ -194,6 +200,7 @@ pub fn skip(
     logged: &Record,
 ) -> Result<(), AllocError>
     ensures table { OnOk result (Advances table.old table.new logged.now) }
+    ensures cleared { OnOk result (IsCleared table.old → IsCleared table.new) }
     ensures left { OnOk result (Holds left.old table.old logged.now left.new) }
     ensures err { OnErr result ((left.new ≡ left.old) × (table.new ≡ table.old)) }
 {

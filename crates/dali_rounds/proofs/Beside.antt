@@ -22,8 +22,7 @@ use Rattle.dali_vault.specs.Vaulted.{Vaulted}
 use Rattle.dali_clean.specs.Others.{RowStays, HoldStays, OthersStay}
 use Rattle.dali_stepwise.specs.Beside.{LeavesBe}
 use Rattle.dali_ends.specs.Stands.{StandsAt}
-use Rattle.dali_ends.specs.Ended.{is_apart}
-use Rattle.dali_ends.proofs.Walking.{and_true}
+use Rattle.dali_ends.proofs.Walking.{is_of_end, and_true}
 use Rattle.dali_rounds.specs.Calls.{IsOfEnd}
 use Rattle.dali_rounds.proofs.Going.{runs_here}
 
@@ -96,7 +95,7 @@ Onward y z = (z.sizes ≡ y.sizes) × (y.next ≤ z.next)
 by_core : (c d e : CoreState) → d ≡ e → Onward c.system e.system → Onward c.system d.system
 by_core c d e is onward = subst (λ (k : CoreState). Onward c.system k.system) (sym is) onward
 
-step_onward : (L M : List Record) (c d : CoreState) (x : Step) → is_apart x ≡ true → IsStep L c x M d → Onward c.system d.system
+step_onward : (L M : List Record) (c d : CoreState) (x : Step) → is_of_end x ≡ true → IsStep L c x M d → Onward c.system d.system
 step_onward L M c d (Operates t b) e s = by_core c d _ s.3.1 (refl, omega arith)
 step_onward L M c d (TakesBack t b) e s = by_core c d _ s.2.1 (refl, omega arith)
 step_onward L M c d (Frees t b) e s = by_core c d _ s.2.1 (refl, omega arith)
@@ -111,10 +110,10 @@ step_onward L M c d x e s = absurd cc
 pub onward_on : (x y z : SystemState) → Onward x y → Onward y z → Onward x z
 onward_on x y z a b = let one = a.1 in let two = b.1 in (b.0 ∙ a.0, omega (arith, one, two))
 
-pub course_onward : (m n : Moment) (xs : List Step) → list_all is_apart xs ≡ true → IsCourse m xs n → Onward m.core.system n.core.system
+pub course_onward : (m n : Moment) (xs : List Step) → list_all is_of_end xs ≡ true → IsCourse m xs n → Onward m.core.system n.core.system
 course_onward m n [] e course = subst (λ (k : Moment). Onward m.core.system k.core.system) course (refl, omega arith)
 course_onward m n (x ∷ xs) e course =
-    let both = and_true (is_apart x) (list_all is_apart xs) e in
+    let both = and_true (is_of_end x) (list_all is_of_end xs) e in
     onward_on m.core.system course.0.core.system n.core.system (step_onward m.log course.0.log m.core course.0.core x both.0 course.1.0) (course_onward course.0 n xs both.1 course.2)
 
 -- ---- what is left of a live transaction

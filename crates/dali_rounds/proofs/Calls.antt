@@ -44,13 +44,11 @@ use Rattle.dali_stepwise.proofs.Waiting.{own_apart}
 use Rattle.dali_stepwise.proofs.Growing.{led_grows}
 use Rattle.dali_att.specs.Table.{with_state}
 use Rattle.dali_ends.specs.Stands.{StandsAt}
-use Rattle.dali_ends.specs.Ended.{is_change, HasCome}
-use Rattle.dali_ends.specs.Ended as ended
-use Rattle.dali_ends.specs.Left.{none_of}
-use Rattle.dali_ends.proofs.Walking.{and_true, all_append}
-use Rattle.dali_ends.proofs.Releasing.{hold_is_dead, dead_on, release_walks}
-use Rattle.dali_ends.proofs.Standing.{run_at, come}
-use Rattle.dali_ends.proofs.Wholes.{core_course, places_told, whole_here, come_no_cleaner}
+use Rattle.dali_ends.specs.Ended.{HasCome}
+use Rattle.dali_ends.proofs.Walking.{is_change, is_of_end, and_true, all_append}
+use Rattle.dali_ends.proofs.Releasing.{hold_is_dead, dead_on, release_leads, release_of_end}
+use Rattle.dali_ends.proofs.Standing.{run_at, Arrived, arrived_of, come_of_end, arrive}
+use Rattle.dali_ends.proofs.Wholes.{AreNoCleaner, core_course, places_told, whole_here, arrived_no_cleaner}
 use Rattle.dali_rounds.specs.Went.{is_calm, Went}
 use Rattle.dali_rounds.specs.Calls.{IsOfEnd, IsLetGo, BeginGoes, AskGoes, OperateGoes, DieGoes, AnswerGoes, PerformGoes, ReleaseGoes, ReleaseTells}
 use Rattle.dali_rounds.proofs.Going.{may_at, plan_at, dead_set, from_here, course_goes}
@@ -111,7 +109,7 @@ calm_change r (Update word value) e = refl
 calm_change r TakeBack e = refl
 calm_change r x e = absurd cc
 
-calm_one : (x : Step) → ended.is_apart x ≡ true → is_calm x ≡ true
+calm_one : (x : Step) → is_of_end x ≡ true → is_calm x ≡ true
 calm_one (Operates t b) e = refl
 calm_one (TakesBack t b) e = refl
 calm_one (Frees t b) e = refl
@@ -123,13 +121,9 @@ calm_one (GivesBack t o) e = refl
 calm_one (Recovers r) e = refl
 calm_one x e = absurd cc
 
-calm_apart : (xs : List Step) → list_all ended.is_apart xs ≡ true → list_all is_calm xs ≡ true
+calm_apart : (xs : List Step) → list_all is_of_end xs ≡ true → list_all is_calm xs ≡ true
 calm_apart [] e = refl
-calm_apart (x ∷ xs) e = let both = and_true (ended.is_apart x) (list_all ended.is_apart xs) e in ap (λ b. b && list_all is_calm xs) (calm_one x both.0) ∙ calm_apart xs both.1
-
-none_there : (xs : List Record) → AllByRecursion none_of xs → xs ++ [] ≡ []
-none_there [] are = refl
-none_there (x ∷ xs) are = absurd are.0
+calm_apart (x ∷ xs) e = let both = and_true (is_of_end x) (list_all is_of_end xs) e in ap (λ b. b && list_all is_calm xs) (calm_one x both.0) ∙ calm_apart xs both.1
 
 module _ {V : Type 0} (told : V → Option Disk) (may_leave : V → Disk → Type 0) (faults : V → ℕ) where
   behind_may : (t u : ℕ) (own : List Record) (s : Start) (B : List (List Record)) (p : Point) (gs hs : List RegionState) (z : SystemState) (v : Vaulted V) (w : Went told may_leave faults t own s B p gs hs z v)
@@ -312,42 +306,51 @@ module _ {V : Type 0} (told : V → Option Disk) (may_leave : V → Disk → Typ
 
   -- ---- an end, or a part of it
   -- with these records
-  pub end_with : (own : Record → Type 0) (last records : List Record) (s : Start) (B : List (List Record)) (p : Point) (gs hs : List RegionState) (y z : SystemState) (v : Vaulted V) (t : ℕ) → StandsAt told may_leave faults s B p gs y v
-      → (e : HasCome told may_leave faults own last s B p v hs z) → e.to.log ≡ p.log ++ records → AllByRecursion (IsOfEnd t) records → OthersStay gs y t hs z → Went told may_leave faults t records s B p gs hs z v
-  end_with own last records s B p gs hs y z v t k e log are others = record {
-    to = e.to;
-    steps = e.steps;
-    calm = calm_apart e.steps e.apart;
-    course = e.course;
-    log = log;
-    stands = e.stands;
-    keeps = e.keeps;
-    others = left_be told may_leave faults t records s B B p e.to gs hs y z v v k e.stands log are onward others;
-    places = places_told (told v.store) gs hs (come_no_cleaner told may_leave faults own last s B p gs hs y z v k e);
-    whole = λ is. whole_here told may_leave faults s B e.to hs z v e.stands (places_told (told v.store) gs hs (come_no_cleaner told may_leave faults own last s B p gs hs y z v k e) is.files);
-  }
+  pub end_with : (records : List Record) (s : Start) (B : List (List Record)) (p : Point) (gs hs : List RegionState) (y z : SystemState) (v : Vaulted V) (t : ℕ) (steps : List Step) (log : List Record) → StandsAt told may_leave faults s B p gs y v
+      → list_all is_of_end steps ≡ true → (a : Arrived told may_leave faults s B p v steps log hs z) → log ≡ p.log ++ records → AllByRecursion (IsOfEnd t) records → OthersStay gs y t hs z
+      → (w : Went told may_leave faults t records s B p gs hs z v) × (w.to ≡ a.to) × (w.steps ≡ steps)
+  end_with records s B p gs hs y z v t steps log k kind a is are others = (
+    record {
+      to = a.to;
+      steps = steps;
+      calm = calm_apart steps kind;
+      course = a.course;
+      log = a.log_is ∙ is;
+      stands = a.stands;
+      keeps = a.keeps;
+      others = left_be told may_leave faults t records s B B p a.to gs hs y z v v k a.stands (a.log_is ∙ is) are onward others;
+      places = places_told (told v.store) gs hs no_cleaner;
+      whole = λ whole. whole_here told may_leave faults s B a.to hs z v a.stands (places_told (told v.store) gs hs no_cleaner whole.files);
+    },
+    refl,
+    refl,
+  )
     where
+      no_cleaner : AreNoCleaner gs hs
+      no_cleaner = arrived_no_cleaner told may_leave faults s B p gs hs y z v steps log k kind a
+
       onward : (z.sizes ≡ y.sizes) × (y.next ≤ z.next)
       onward =
-          let is = course_onward (moment_of p) (moment_of e.to) e.steps e.apart (core_course p e.to e.steps e.course) in
+          let is = course_onward (moment_of p) (moment_of a.to) steps kind (core_course p a.to steps a.course) in
           let less = is.1 in
           let here = ap (λ (x : SystemState). x.next) k.at.system in
-          let there = ap (λ (x : SystemState). x.next) e.stands.at.system in
-          (ap (λ (x : SystemState). x.sizes) (sym e.stands.at.system) ∙ (is.0 ∙ ap (λ (x : SystemState). x.sizes) k.at.system), omega (arith, less, here, there))
+          let there = ap (λ (x : SystemState). x.next) a.stands.at.system in
+          (ap (λ (x : SystemState). x.sizes) (sym a.stands.at.system) ∙ (is.0 ∙ ap (λ (x : SystemState). x.sizes) k.at.system), omega (arith, less, here, there))
 
   pub end_goes : (own : Record → Type 0) (last : List Record) (s : Start) (B : List (List Record)) (p : Point) (gs hs : List RegionState) (y z : SystemState) (v : Vaulted V) (t : ℕ) → StandsAt told may_leave faults s B p gs y v
-      → (e : HasCome told may_leave faults own last s B p v hs z) → AllByRecursion (IsOfEnd t) (e.records ++ last) → OthersStay gs y t hs z → Went told may_leave faults t (e.records ++ last) s B p gs hs z v
-  end_goes own last s B p gs hs y z v t k e are others = end_with own last (e.records ++ last) s B p gs hs y z v t k e (e.log ∙ append_assoc p.log e.records last) are others
+      → (e : HasCome told may_leave faults t own last s B p v hs z) → AllByRecursion (IsOfEnd t) (e.records ++ last) → OthersStay gs y t hs z
+      → (w : Went told may_leave faults t (e.records ++ last) s B p gs hs z v) × (w.to ≡ e.to) × (w.steps ≡ e.steps)
+  end_goes own last s B p gs hs y z v t k e are others =
+      end_with (e.records ++ last) s B p gs hs y z v t e.steps e.to.log k (come_of_end told may_leave faults t own last s B p v hs z e) (arrived_of told may_leave faults t own last s B p v hs z e) (e.log ∙ append_assoc p.log e.records last) are others
 
   -- ---- what a dead client left
   pub release_goes : ReleaseGoes told may_leave faults
   release_goes s B p gs y z v r g h k at released t =
       let others = release_others gs y z t r g h at released in
-      let walk = release_walks gs y z r g h k.dead at released (bases_of s) s.log p.log p.core.vault p.audits (run_at told may_leave faults s B p gs y v k) in
-      let e = come told may_leave faults none_of [] s B p gs (slice_set gs r h) y z v k walk (dead_on gs (slice_set gs r h) k.dead others.holds) in
-      let none : e.records ++ [] ≡ [] = none_there e.records e.are in
-      subst (λ (own : List Record). Went told may_leave faults t own s B p gs (slice_set gs r h) z v) none
-      (end_goes none_of [] s B p gs (slice_set gs r h) y z v t k e (subst (λ (own : List Record). AllByRecursion (IsOfEnd t) own) (sym none) tt) others)
+      let led = release_leads gs y z r g h k.dead at released (bases_of s) s.log p.log p.core.vault p.audits (run_at told may_leave faults s B p gs y v k) in
+      let kind = release_of_end y r g.hold led.steps led.are in
+      let a = arrive told may_leave faults s B p gs (slice_set gs r h) y z v led.steps p.log k kind led.course (dead_on gs (slice_set gs r h) k.dead others.holds) in
+      (end_with [] s B p gs (slice_set gs r h) y z v t led.steps p.log k kind a (sym (append-nil p.log)) tt others).0
 
   pub release_tells : ReleaseTells told may_leave faults
   release_tells s B p gs y z v r g h o k at there (inl none) = absurd (none_some o (sym none.0 ∙ there))

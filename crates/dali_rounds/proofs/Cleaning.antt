@@ -23,39 +23,31 @@ use Rattle.dali_vault.specs.Vaulted.{Vaulted}
 use Rattle.dali_single.specs.Ending.{IsBackOf}
 use Rattle.dali_single.proofs.Lists.{all_both}
 use Rattle.dali_single.proofs.Undoing.{ended_gone}
-use Rattle.dali_clean.specs.Steps.{is_own_change, is_own_step, IsCleanUp}
+use Rattle.dali_clean.specs.Steps.{is_own_step, IsCleanUp, AreBeside}
 use Rattle.dali_clean.specs.Cleaned.{moment, AreDead, IsEnded, IsGivenBack, Led}
 use Rattle.dali_clean.proofs.Steps.{own_steps}
 use Rattle.dali_clean.specs.Others.{OthersStay}
-use Rattle.dali_clean.proofs.Courses.{in_run_on, row_here, row_there}
+use Rattle.dali_clean.proofs.Courses.{row_here, row_there}
 use Rattle.dali_ends.specs.Stands.{StandsAt}
-use Rattle.dali_ends.specs.Ended.{is_change, is_apart, Walked}
-use Rattle.dali_ends.proofs.Walking.{and_true}
-use Rattle.dali_ends.proofs.Standing.{run_at, come}
+use Rattle.dali_ends.proofs.Walking.{is_of_end, own_change, and_true}
+use Rattle.dali_ends.proofs.Standing.{run_at, arrive}
 use Rattle.dali_rounds.specs.Went.{Went}
 use Rattle.dali_rounds.specs.Calls.{IsOfEnd, CleanGoes, LeftGoes}
 use Rattle.dali_rounds.proofs.Calls.{end_with}
 
 -- ---- the steps
-change_of : (t : ℕ) (x : RegionStep) → is_own_change t x ≡ true → is_change x ≡ true
-change_of t (Latch u) e = refl
-change_of t (NoteReads mask) e = refl
-change_of t (Update word value) e = refl
-change_of t TakeBack e = refl
-change_of t x e = absurd cc
+of_end_one : (t : ℕ) (x : Step) → is_own_step t x ≡ true → is_of_end x ≡ true
+of_end_one t (TakesBack u b) e = refl
+of_end_one t (Ends u) e = refl
+of_end_one t (Claims u) e = refl
+of_end_one t (Recovers r) e = refl
+of_end_one t (GivesBack u o) e = refl
+of_end_one t (OnRegion r x) e = own_change t x e
+of_end_one t x e = absurd cc
 
-apart_one : (t : ℕ) (x : Step) → is_own_step t x ≡ true → is_apart x ≡ true
-apart_one t (TakesBack u b) e = refl
-apart_one t (Ends u) e = refl
-apart_one t (Claims u) e = refl
-apart_one t (Recovers r) e = refl
-apart_one t (GivesBack u o) e = refl
-apart_one t (OnRegion r x) e = change_of t x e
-apart_one t x e = absurd cc
-
-apart_all : (t : ℕ) (xs : List Step) → list_all (is_own_step t) xs ≡ true → list_all is_apart xs ≡ true
-apart_all t [] e = refl
-apart_all t (x ∷ xs) e = let both = and_true (is_own_step t x) (list_all (is_own_step t) xs) e in ap (λ b. b && list_all is_apart xs) (apart_one t x both.0) ∙ apart_all t xs both.1
+of_end_all : (t : ℕ) (xs : List Step) → list_all (is_own_step t) xs ≡ true → list_all is_of_end xs ≡ true
+of_end_all t [] e = refl
+of_end_all t (x ∷ xs) e = let both = and_true (is_own_step t x) (list_all (is_own_step t) xs) e in ap (λ b. b && list_all is_of_end xs) (of_end_one t x both.0) ∙ of_end_all t xs both.1
 
 -- ---- the row
 abbrev pub is_there : SystemState → ℕ → Bool
@@ -174,15 +166,13 @@ alive_there (Some row) st e = refl
 
 module _ {V : Type 0} (told : V → Option Disk) (may_leave : V → Disk → Type 0) (faults : V → ℕ) where
   -- these records, from these steps
-  walked_goes : (last : List Record) (backs : List Record) (s : Start) (B : List (List Record)) (p : Point) (gs hs : List RegionState) (y z : SystemState) (v : Vaulted V) (t : ℕ) (log : List Record) (steps : List Step) → StandsAt told may_leave faults s B p gs y v
-      → AreDead hs → list_all (is_own_step t) steps ≡ true → IsCourse (moment gs y p.log p.core.vault p.audits) steps (moment hs z log p.core.vault p.audits) → log ≡ p.log ++ (backs ++ last)
-      → AllByRecursion (IsBackOf t) backs → AllByRecursion (IsOfEnd t) last → OthersStay gs y t hs z → Went told may_leave faults t (backs ++ last) s B p gs hs z v
-  walked_goes last backs s B p gs hs y z v t log steps k dead own course is are ends others =
-      let walk : Walked (IsBackOf t) last (moment gs y p.log p.core.vault p.audits) hs z = record { log = log; steps = steps; apart = apart_all t steps own; course = course; records = backs; are = are; logged = is ∙ sym (append_assoc p.log backs last) } in
-      let e = come told may_leave faults (IsBackOf t) last s B p gs hs y z v k walk dead in
-      let there : e.to.log ≡ log_after s.log z = e.stands.at.vault.run.run.log ∙ ap (λ (x : SystemState). log_after s.log x) e.stands.at.system in
-      let here : log ≡ log_after s.log z = (in_run_on (bases_of s) s.log (moment gs y p.log p.core.vault p.audits) (moment hs z log p.core.vault p.audits) steps (run_at told may_leave faults s B p gs y v k) course).run.log in
-      end_with told may_leave faults (IsBackOf t) last (backs ++ last) s B p gs hs y z v t k e (there ∙ (sym here ∙ is)) (all_both (IsOfEnd t) backs last (backs_of t backs are) ends) others
+  steps_go : (records : List Record) (s : Start) (B : List (List Record)) (p : Point) (gs hs : List RegionState) (y z : SystemState) (v : Vaulted V) (t : ℕ) (log : List Record) (steps : List Step) → StandsAt told may_leave faults s B p gs y v
+      → AreDead hs → list_all (is_own_step t) steps ≡ true → IsCourse (moment gs y p.log p.core.vault p.audits) steps (moment hs z log p.core.vault p.audits) → log ≡ p.log ++ records
+      → AllByRecursion (IsOfEnd t) records → OthersStay gs y t hs z → (w : Went told may_leave faults t records s B p gs hs z v) × (w.steps ≡ steps)
+  steps_go records s B p gs hs y z v t log steps k dead own course is are others =
+      let kind = of_end_all t steps own in
+      let all = end_with told may_leave faults records s B p gs hs y z v t steps log k kind (arrive told may_leave faults s B p gs hs y z v steps log k kind course dead) is are others in
+      (all.0, all.2)
 
   pub clean_goes : CleanGoes told may_leave faults
   clean_goes s B p gs hs y z v t k dead cleans others was gone = by_logged (logged t m n e.steps own e.course (alive_there (row_of y t) (Dead was.0) was.1))
@@ -194,14 +184,16 @@ module _ {V : Type 0} (told : V → Option Disk) (may_leave : V → Disk → Typ
       e = cleans (bases_of s) s.log p.log p.core.vault p.audits (run_at told may_leave faults s B p gs y v k)
 
       own : list_all (is_own_step t) e.steps ≡ true
-      own = own_steps t (Ends t) e.steps e.by ((Decides-eqb t t).1 refl)
+      own = own_steps y t (Ends t) e.steps e.by ((Decides-eqb t t).1 refl)
 
       n : Moment
       n = moment hs z (e.log ++ Ended t ∷ []) p.core.vault p.audits
 
-      by_logged : Logged t m n → (backs : List Record) × AllByRecursion (IsBackOf t) backs × Went told may_leave faults t (backs ++ Ended t ∷ []) s B p gs hs z v
+      by_logged : Logged t m n → (backs : List Record) × AllByRecursion (IsBackOf t) backs × (w : Went told may_leave faults t (backs ++ Ended t ∷ []) s B p gs hs z v) × IsCleanUp y t (Ends t) w.steps × AreBeside t y w.steps
       by_logged (backs, are, inl l) = absurd (clash l.1 (ap is_some gone.0))
-      by_logged (backs, are, inr l) = (backs, are, walked_goes (Ended t ∷ []) backs s B p gs hs y z v t (e.log ++ Ended t ∷ []) e.steps k dead own e.course l.0 are (refl, tt) others)
+      by_logged (backs, are, inr l) =
+          let w = steps_go (backs ++ Ended t ∷ []) s B p gs hs y z v t (e.log ++ Ended t ∷ []) e.steps k dead own e.course l.0 (all_both (IsOfEnd t) backs (Ended t ∷ []) (backs_of t backs are) (refl, tt)) others in
+          (backs, are, w.0, subst (λ (xs : List Step). IsCleanUp y t (Ends t) xs) (sym w.1) e.by, subst (λ (xs : List Step). AreBeside t y xs) (sym w.1) e.beside)
 
   pub left_goes : LeftGoes told may_leave faults
   left_goes s B p gs hs y z v t k dead left others was again = by_logged (logged t m n e.steps own e.course (alive_there (row_of y t) (Dead was.0) was.1))
@@ -212,20 +204,17 @@ module _ {V : Type 0} (told : V → Option Disk) (may_leave : V → Disk → Typ
       g : IsGivenBack (bases_of s) s.log m t hs z
       g = left (bases_of s) s.log p.log p.core.vault p.audits (run_at told may_leave faults s B p gs y v k)
 
-      e : Led (IsCleanUp t (GivesBack t None)) m hs z
+      e : Led (IsCleanUp y t (GivesBack t None)) m hs z
       e = g.led
 
       own : list_all (is_own_step t) e.steps ≡ true
-      own = own_steps t (GivesBack t None) e.steps e.are refl
+      own = own_steps y t (GivesBack t None) e.steps e.are refl
 
       n : Moment
       n = moment hs z e.log p.core.vault p.audits
 
-      by_logged : Logged t m n → (backs : List Record) × AllByRecursion (IsBackOf t) backs × Went told may_leave faults t backs s B p gs hs z v
+      by_logged : Logged t m n → (backs : List Record) × AllByRecursion (IsBackOf t) backs × (w : Went told may_leave faults t backs s B p gs hs z v) × IsCleanUp y t (GivesBack t None) w.steps × AreBeside t y w.steps
       by_logged (backs, are, inr l) = absurd (clash (alive_there (row_of z t) (Dead None) again) l.1)
-      by_logged (backs, are, inl l) = (
-        backs,
-        are,
-        subst (λ (own : List Record). Went told may_leave faults t own s B p gs hs z v) (append-nil backs)
-            (walked_goes [] backs s B p gs hs y z v t e.log e.steps k dead own e.course (l.0 ∙ ap (λ (xs : List Record). p.log ++ xs) (sym (append-nil backs))) are tt others),
-      )
+      by_logged (backs, are, inl l) =
+          let w = steps_go backs s B p gs hs y z v t e.log e.steps k dead own e.course l.0 (backs_of t backs are) others in
+          (backs, are, w.0, subst (λ (xs : List Step). IsCleanUp y t (GivesBack t None) xs) (sym w.1) e.are, subst (λ (xs : List Step). AreBeside t y xs) (sym w.1) g.beside)

@@ -25,6 +25,7 @@ use Rattle.dali_stepwise.specs.Beside.{LeavesBe}
 use Rattle.dali_stepwise.proofs.Waiting.{call_waits}
 use Rattle.dali_ends.specs.Stands.{StandsAt}
 use Rattle.dali_ends.proofs.Durable.{flush_logs_none}
+use Rattle.dali_ends.proofs.Standing.{come_of_end}
 use Rattle.dali_ends.proofs.Wholes.{core_course}
 use Rattle.dali_rounds.specs.Went.{AreBetween}
 use Rattle.dali_rounds.specs.Calls.{IsOfEnd, EndGoes, CommitLeaves, FailureLeaves}
@@ -98,7 +99,7 @@ module _ {V : Type 0} (told : V → Option Disk) (may_leave : V → Disk → Typ
       onward =
           let first : Onward y c.logged.to.core.system = subst (λ (x : SystemState). Onward y x) (sym c.logged.stands.at.system) (refl, omega arith) in
           let then = flush_onward c.logged.to c.flushed.to c.flushed.course in
-          let last = course_onward (moment_of c.flushed.to) (moment_of c.settled.to) c.settled.steps c.settled.apart (core_course c.flushed.to c.settled.to c.settled.steps c.settled.course) in
+          let last = course_onward (moment_of c.flushed.to) (moment_of c.settled.to) c.settled.steps (come_of_end told may_leave faults t (IsSoloOf t) (Ended t ∷ []) s c.flushed.batches c.flushed.to w hs z c.settled) (core_course c.flushed.to c.settled.to c.settled.steps c.settled.course) in
           subst (λ (x : SystemState). Onward y x) c.settled.stands.at.system
           (onward_on y c.logged.to.core.system c.settled.to.core.system first (onward_on c.logged.to.core.system c.flushed.to.core.system c.settled.to.core.system then last))
 
@@ -133,7 +134,7 @@ module _ {V : Type 0} (told : V → Option Disk) (may_leave : V → Disk → Typ
   pub end_keeps : EndKeeps told may_leave faults
   end_keeps gs hs y z v t b comes others gone =
       let e = comes b.up.start b.up.batches b.up.point b.up.stands in
-      let w = end_goes told may_leave faults (IsBackOf t) (Ended t ∷ []) b.up.start b.up.batches b.up.point gs hs y z v t b.up.stands e (all_both (IsOfEnd t) e.records (Ended t ∷ []) (backs_of t e.records e.are) (refl, tt)) others in
+      let w = (end_goes told may_leave faults (IsBackOf t) (Ended t ∷ []) b.up.start b.up.batches b.up.point gs hs y z v t b.up.stands e (all_both (IsOfEnd t) e.records (Ended t ∷ []) (backs_of t e.records e.are) (refl, tt)) others).0 in
       others_between t gs hs y z v v b b.up.batches w.to w.stands w.others others (gone_is_dead z t gone.0)
 
   pub commit_keeps : CommitKeeps told may_leave faults

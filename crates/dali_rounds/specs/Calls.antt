@@ -23,6 +23,7 @@ use Rattle.dali_store.specs.Store.{Files as Disk}
 use Rattle.dali_system.specs.State.{SystemState, row_of, state_of}
 use Rattle.dali_system.specs.Steps.{begun}
 use Rattle.dali_system.specs.Keeps.{HasRoom, IsFree}
+use Rattle.dali_system.specs.Courses.{Ends as EndsTxn, GivesBack as GivesTxnBack}
 use Rattle.dali_crash.specs.Checkpoints.{Point}
 use Rattle.dali_crash.specs.Traces.{Start}
 use Rattle.dali_vault.specs.Vaulted.{Vaulted}
@@ -33,6 +34,7 @@ use Rattle.dali_single.specs.Ending.{IsBackOf}
 use Rattle.dali_clean.specs.Undone.{Released}
 use Rattle.dali_clean.specs.Cleaned.{AreDead, IsDead, Ends, GivesBack}
 use Rattle.dali_clean.specs.Others.{OthersStay, IsGone}
+use Rattle.dali_clean.specs.Steps.{IsCleanUp, AreBeside}
 use Rattle.dali_stepwise.specs.Beside.{LeavesBe}
 use Rattle.dali_stepwise.specs.Opened.{record_on}
 use Rattle.dali_stepwise.specs.Stepwise.{IsAsked, OneFurther, IsDeath, AnswersNow}
@@ -114,20 +116,22 @@ module _ {V : Type 0} (told : V → Option Disk) (may_leave : V → Disk → Typ
   CleanGoes =
       (s : Start) (B : List (List Record)) (p : Point) (gs hs : List RegionState) (y z : SystemState) (v : Vaulted V) (t : ℕ) → StandsAt told may_leave faults s B p gs y v
       → AreDead hs → Ends gs y t hs z → OthersStay gs y t hs z → IsDead (state_of y t) → IsGone z t
-      → (backs : List Record) × AllByRecursion (IsBackOf t) backs × Went told may_leave faults t (backs ++ Ended t ∷ []) s B p gs hs z v
+      → (backs : List Record) × AllByRecursion (IsBackOf t) backs × (w : Went told may_leave faults t (backs ++ Ended t ∷ []) s B p gs hs z v)
+      × IsCleanUp y t (EndsTxn t) w.steps × AreBeside t y w.steps
 
   abbrev pub LeftGoes : Type 0
   LeftGoes =
       (s : Start) (B : List (List Record)) (p : Point) (gs hs : List RegionState) (y z : SystemState) (v : Vaulted V) (t : ℕ) → StandsAt told may_leave faults s B p gs y v
       → AreDead hs → GivesBack gs y t hs z → OthersStay gs y t hs z → IsDead (state_of y t) → state_of z t ≡ Some (Dead None)
-      → (backs : List Record) × AllByRecursion (IsBackOf t) backs × Went told may_leave faults t backs s B p gs hs z v
+      → (backs : List Record) × AllByRecursion (IsBackOf t) backs × (w : Went told may_leave faults t backs s B p gs hs z v)
+      × IsCleanUp y t (GivesTxnBack t None) w.steps × AreBeside t y w.steps
 
   -- ---- ends
   abbrev pub EndGoes : Type 0
   EndGoes =
       (last : List Record) (s : Start) (B : List (List Record)) (p : Point) (gs hs : List RegionState) (y z : SystemState) (v : Vaulted V) (t : ℕ) → StandsAt told may_leave faults s B p gs y v
-      → (e : HasCome told may_leave faults (IsBackOf t) last s B p v hs z) → AllByRecursion (IsOfEnd t) last → OthersStay gs y t hs z
-      → Went told may_leave faults t (e.records ++ last) s B p gs hs z v
+      → (e : HasCome told may_leave faults t (IsBackOf t) last s B p v hs z) → AllByRecursion (IsOfEnd t) last → OthersStay gs y t hs z
+      → (w : Went told may_leave faults t (e.records ++ last) s B p gs hs z v) × (w.to ≡ e.to) × (w.steps ≡ e.steps)
 
   -- each other live transaction is where it was
   abbrev pub LeavesOthers : ℕ → Point → Point → Type 0

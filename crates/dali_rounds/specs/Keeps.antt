@@ -51,7 +51,7 @@ module _ {V : Type 0} (told : V → Option Disk) (may_leave : V → Disk → Typ
   abbrev pub EndKeeps : Type 0
   EndKeeps =
       (gs hs : List RegionState) (y z : SystemState) (v : Vaulted V) (t : ℕ) → AreBetween told may_leave faults gs y v
-      → Comes told may_leave faults (IsBackOf t) (Ended t ∷ []) gs y v hs z → OthersStay gs y t hs z → IsGone z t
+      → Comes told may_leave faults t (IsBackOf t) (Ended t ∷ []) gs y v hs z → OthersStay gs y t hs z → IsGone z t
       → AreBetween told may_leave faults hs z v
 
   abbrev pub CommitKeeps : Type 0

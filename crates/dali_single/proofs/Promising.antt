@@ -35,6 +35,10 @@ promises_put s z t n e u apart = ap (λ (m : Promised). promised_to m u) e ∙ (
 pub promises_ended : (s z : Served) (t : ℕ) → z.promised ≡ remove s.promised t → PromisesStay s t z
 promises_ended s z t e u apart = ap (λ (m : Promised). promised_to m u) e ∙ (others_stay s.promised t u 0 apart).2
 
+-- who has ended is promised nothing
+pub released : (s z : Served) (t : ℕ) → z.promised ≡ remove s.promised t → promised_to z.promised t ≡ 0
+released s z t e = ap (λ (m : Promised). promised_to m t) e ∙ (own_changes s.promised t 0).2
+
 pub begun_promises : (s z : Served) (t : ℕ) → z ≡ record s { state = begun s.state } → PromisesStay s t z
 begun_promises s z t e = promises_same s z t (ap (λ (x : Served). x.promised) e)
 

@@ -7,6 +7,7 @@ ghost use Rattle.dali_att.specs.declared.state.State.TheVariants.{Live};
 ghost use Rattle.dali_att.specs.Table.{undos_at};
 ghost use Rattle.dali_system.specs.State.{VaultState, state_of};
 ghost use Rattle.dali_system.specs.Regions.{IsOpen};
+ghost use Rattle.dali_core.specs.Promised.{promised_to};
 ghost use Rattle.dali_core.specs.TakenBack.{next_undo};
 ghost use Rattle.dali_core.specs.UnderWay.{IsUnderWay};
 ghost use Rattle.dali_single.specs.Stands.{core};
@@ -87,6 +88,7 @@ pub fn abort(regions: &mut [Region], system: &mut System, txn: u64) -> Result<()
     ensures others { OthersStay system.old.state txn system.new.state }
     ensures again { OnErr result (Keeps system.old.state txn system.new.state) }
     ensures promised { OnErr result (system.new.promised ≡ system.old.promised) }
+    ensures released { OnOk result (promised_to system.new.promised txn ≡ 0) }
     ensures promises { PromisesStay system.old txn system.new }
 {
     match take_back(regions, system, txn) {

@@ -162,6 +162,7 @@ pub fn settle(
         → OnErr result (IsPromised system.new txn (settle_room (length (left_behind system.old.state system.new.state removals.now)))) }
     ensures sizes { system.new.state.sizes ≡ system.old.state.sizes }
     ensures gone { OnOk result (IsGone system.new.state txn) }
+    ensures released { OnOk result (promised_to system.new.promised txn ≡ 0) }
     ensures others { OthersStay system.old.state txn system.new.state }
     ensures promises { PromisesStay system.old txn system.new }
 {

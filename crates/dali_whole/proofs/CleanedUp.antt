@@ -91,7 +91,7 @@ module _ {V : Type 0} (told : V → Option Disk) (may_leave : V → Disk → Typ
       end = here (bases_of s) s.log p.log p.core.vault p.audits run
 
       own : list_all (is_own_step t) end.steps ≡ true
-      own = own_steps t (EndsTxn t) end.steps end.by ((Decides-eqb t t).1 refl)
+      own = own_steps p.core.system t (EndsTxn t) end.steps end.by ((Decides-eqb t t).1 refl)
 
       last : Moment
       last = moment gs' z (end.log ++ Ended t ∷ []) p.core.vault p.audits
@@ -123,7 +123,7 @@ module _ {V : Type 0} (told : V → Option Disk) (may_leave : V → Disk → Typ
       given = here (bases_of s) s.log p.log p.core.vault p.audits (record { run = at.vault.run.run; whole = whole })
 
       own : list_all (is_own_step t) given.led.steps ≡ true
-      own = own_steps t (GivesBack t None) given.led.steps given.led.are refl
+      own = own_steps p.core.system t (GivesBack t None) given.led.steps given.led.are refl
 
       last : Moment
       last = moment gs' z given.led.log p.core.vault p.audits

@@ -24,7 +24,7 @@ module _ {V : Type 0} (told : V → Option Disk) (may_leave : V → Disk → Typ
     pub course : IsPointCourse p (map Does steps) to
     pub log : List Record
     pub ends : to.log ≡ log ++ Ended t ∷ []
-    pub by : IsCleanUp t (EndsTxn t) steps
+    pub by : IsCleanUp p.core.system t (EndsTxn t) steps
     pub beside : AreBeside t p.core.system steps
     pub at : IsCoreAt told may_leave faults s B to gs z v
     pub whole : IsWhole to.core
@@ -37,7 +37,7 @@ module _ {V : Type 0} (told : V → Option Disk) (may_leave : V → Disk → Typ
     pub to : Point
     pub steps : List Step
     pub course : IsPointCourse p (map Does steps) to
-    pub by : IsCleanUp t (GivesTxnBack t None) steps
+    pub by : IsCleanUp p.core.system t (GivesTxnBack t None) steps
     pub beside : AreBeside t p.core.system steps
     pub at : IsCoreAt told may_leave faults s B to gs z v
     pub whole : IsWhole to.core

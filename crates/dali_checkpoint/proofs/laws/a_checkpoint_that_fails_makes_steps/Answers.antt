@@ -1,4 +1,4 @@
-use Rattle.dali_checkpoint.proofs.Faults.{start_faults, copy_faults_end, run_faults_end, settle_faults, certify_faults, failure_ends, gives_up}
+use Rattle.dali_checkpoint.proofs.Faults.{start_faults, copy_faults_end, run_faults_end, settle_faults, certify_faults, failure_ends, gave_up}
 use Rattle.dali_checkpoint.proofs.laws.a_checkpoint_that_fails_makes_steps.Goals as goal
 
 pub returns : goal.returns
@@ -9,5 +9,5 @@ returns g c = record {
   settle = settle_faults g.V.Store.told g.V.Store.may_leave g.V.Store.faults;
   certify = certify_faults g.V.Store.told g.V.Store.may_leave g.V.Store.faults;
   audit = failure_ends g.V.Store.told g.V.Store.may_leave g.V.Store.faults;
-  given_up = gives_up g.V.Store.told g.V.Store.may_leave g.V.Store.faults;
+  given_up = gave_up g.V.Store.told g.V.Store.may_leave g.V.Store.faults;
 }

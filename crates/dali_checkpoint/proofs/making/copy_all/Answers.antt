@@ -1,4 +1,4 @@
-use Rattle.std.proofs.Common.{◌≡◌, ◌≤◌, rules, length, true, ap, sym, subst, ◌∙◌}
+use Rattle.std.proofs.Common.{◌≤◌, rules, length, ap, sym, subst, ◌∙◌}
 use Rattle.dali_geometry.specs.Places.{regions}
 use Rattle.dali_traces.specs.Places.{place_of}
 use Rattle.dali_checkpoint.specs.Kept.{Checkpointed, side_in}
@@ -7,6 +7,7 @@ use Rattle.dali_checkpoint.specs.Runs.{run_bytes}
 use Rattle.dali_checkpoint.proofs.Copying.{copies_begin, copies_count, copies_next, copies_stop, copies_end}
 use Rattle.dali_checkpoint.proofs.Onward.{copies_right_none, copies_right_next}
 use Rattle.dali_checkpoint.proofs.Results.{still_runs}
+use Rattle.dali_checkpoint.proofs.Lengths.{no_shorter_tells}
 use Rattle.dali_checkpoint.proofs.making.copy_all.Goals as goal
 
 pub loop-regions-init : goal.loop-regions-init
@@ -57,3 +58,9 @@ returns-in-Err-clause-any_moment g c =
 
 pub returns-clause-any_moment : goal.returns-clause-any_moment
 returns-clause-any_moment g c = c.loop-regions.invariant.right
+
+pub returns-in-Err-clause-tells : goal.returns-in-Err-clause-tells
+returns-in-Err-clause-tells g c = no_shorter_tells (g.V.Store.told c.loop-regions.vault.store) (g.V.Store.told c.copy_run.new.vault.store) c.in-Err.ensures.files ∙ c.loop-regions.invariant.copies.tells
+
+pub returns-clause-tells : goal.returns-clause-tells
+returns-clause-tells g c = c.loop-regions.invariant.copies.tells

@@ -1,8 +1,9 @@
-use Rattle.std.proofs.Common.{ap, refl}
+use Rattle.std.proofs.Common.{ap, refl, ◌∙◌}
 use Rattle.dali_core.specs.Served.{Served}
 use Rattle.dali_checkpoint.proofs.Made.{start_refused, started_count, made_none, image_audited, made_by, ended_by}
 use Rattle.dali_checkpoint.proofs.Onward.{start_stays_right, image_stays_right, end_stays_right}
 use Rattle.dali_checkpoint.proofs.Results.{err_same, same_err, stopped_same, none_of_ok}
+use Rattle.dali_checkpoint.proofs.Lengths.{no_shorter_tells}
 use Rattle.dali_checkpoint.proofs.making.make_apart.Goals as goal
 
 pub returns-in-Err-clause-err : goal.returns-in-Err-clause-err
@@ -40,7 +41,7 @@ returns-in-Ok-write_image-clause-err g c =
     ended_by g.V.Store.told g.V.Store.may_leave g.V.Store.faults g.V.Store.lets_pass c.args.regions.now c.args.system.now.state c.start.new.system.state c.args.vault.now c.start.new.vault c.in-Ok.checkpoint
     c.requires.whole c.in-Ok.ensures.flag.0 (none_of_ok _ c.in-Ok.checkpoint (c.in-Ok.ensures.stopped c.in-Ok.ensures.flag.0)) c.in-Ok.ensures.ok (ap (λ (s : Served). s.state) c.in-Ok.ensures.flag.1) c.in-Ok.ensures.files
     c.write_image.new.regions c.write_image.new.system.state c.write_image.new.vault c.write_image.new.checkpoint c.in-Ok-write_image.verdict c.in-Ok-write_image.ensures.ok
-    c.certify.result c.write_image.new.system c.certify.new.system c.certify.new.vault refl c.certify.ensures.kept c.certify.ensures.failed c.certify.ensures.fault c.certify.ensures.ends c.certify.ensures.files
+    c.certify.result c.write_image.new.system c.certify.new.system c.certify.new.vault c.first-first.ensures.counted refl c.certify.ensures.kept c.certify.ensures.failed c.certify.ensures.fault c.certify.ensures.ends c.certify.ensures.files
 
 pub returns-in-Err-write_image-clause-err : goal.returns-in-Err-write_image-clause-err
 returns-in-Err-write_image-clause-err g c =
@@ -63,3 +64,14 @@ pub returns-in-Err-write_image-clause-any_moment : goal.returns-in-Err-write_ima
 returns-in-Err-write_image-clause-any_moment g c = image_stays_right g.V.Store.told g.V.Store.may_leave g.V.Store.faults g.V.Store.lets_pass g.V.Store.moment g.V.Store.left_since c.args.regions.now c.args.system.now.state c.start.new.system.state c.args.vault.now c.start.new.vault c.in-Ok.checkpoint c.in-Ok.ensures.ok (ap (λ (s : Served). s.state) c.in-Ok.ensures.flag.1)
     (start_stays_right g.V.Store.told g.V.Store.may_leave g.V.Store.faults g.V.Store.lets_pass g.V.Store.moment g.V.Store.left_since c.args.regions.now c.args.system.now.state c.args.vault.now c.start.new.vault c.start.ensures.any_moment)
     c.write_image.new.vault c.write_image.ensures.any_moment
+
+pub returns-in-Err-clause-tells : goal.returns-in-Err-clause-tells
+returns-in-Err-clause-tells g c = no_shorter_tells (g.V.Store.told c.args.vault.now.store) (g.V.Store.told c.start.new.vault.store) c.in-Err.ensures.files
+
+pub returns-in-Ok-write_image-clause-tells : goal.returns-in-Ok-write_image-clause-tells
+returns-in-Ok-write_image-clause-tells g c =
+    no_shorter_tells (g.V.Store.told c.write_image.new.vault.store) (g.V.Store.told c.certify.new.vault.store) c.certify.ensures.files
+    ∙ (c.write_image.ensures.tells ∙ no_shorter_tells (g.V.Store.told c.args.vault.now.store) (g.V.Store.told c.start.new.vault.store) c.in-Ok.ensures.files)
+
+pub returns-in-Err-write_image-clause-tells : goal.returns-in-Err-write_image-clause-tells
+returns-in-Err-write_image-clause-tells g c = c.write_image.ensures.tells ∙ no_shorter_tells (g.V.Store.told c.args.vault.now.store) (g.V.Store.told c.start.new.vault.store) c.in-Ok.ensures.files

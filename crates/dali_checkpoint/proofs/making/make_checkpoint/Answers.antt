@@ -1,4 +1,4 @@
-use Rattle.dali_checkpoint.proofs.Made.{made_ok, made_clean, made_regions, made_logged, made_room, made_calls, made_in_progress, made_stopped, made_err, made_whole, made_goes, failed_flushed}
+use Rattle.dali_checkpoint.proofs.Made.{made_ok, made_clean, made_regions, made_logged, made_room, made_calls, made_in_progress, made_stopped, made_err, made_whole, made_goes}
 use Rattle.dali_checkpoint.proofs.making.make_checkpoint.Goals as goal
 
 pub returns-clause-ok : goal.returns-clause-ok
@@ -55,9 +55,3 @@ pub returns-clause-goes : goal.returns-clause-goes
 returns-clause-goes g c =
     made_goes g.V.Store.told g.V.Store.may_leave g.V.Store.faults g.V.Store.lets_pass c.args.core.now.regions.items c.make.new.core.regions.items c.args.core.now.system.state c.make.new.core.system.state c.args.core.now.vault c.make.new.core.vault
     c.make.result c.make.ensures.ok c.make.ensures.err
-
-pub returns-clause-flushed : goal.returns-clause-flushed
-returns-clause-flushed g c = λ counted.
-    failed_flushed g.V.Store.faults c.args.core.now.regions.items c.make.new.core.regions.items c.args.core.now.system.state c.make.new.core.system.state c.args.core.now.vault c.make.new.core.vault c.make.result counted
-    (made_err g.V.Store.told g.V.Store.may_leave g.V.Store.faults g.V.Store.lets_pass c.args.core.now.regions.items c.make.new.core.regions.items c.args.core.now.system.state c.make.new.core.system.state c.args.core.now.vault c.make.new.core.vault
-    c.make.result c.make.ensures.err)

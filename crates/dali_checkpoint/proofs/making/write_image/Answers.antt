@@ -1,10 +1,11 @@
-use Rattle.std.proofs.Common.{◌<◌, ◌^◌, rules, sym, subst, ap, length}
+use Rattle.std.proofs.Common.{◌<◌, ◌^◌, rules, sym, subst, ap, length, ◌∙◌}
 use Rattle.dali_core.specs.Served.{Served}
 use Rattle.dali_traces.specs.Places.{place_of}
 use Rattle.dali_checkpoint.specs.Making.{HasNoImage}
 use Rattle.dali_checkpoint.proofs.Imaging.{copied_cause, image_not_settled, image_not_audited, image_made}
 use Rattle.dali_checkpoint.proofs.Onward.{image_right}
 use Rattle.dali_checkpoint.proofs.Results.{err_same, no_cause}
+use Rattle.dali_checkpoint.proofs.Lengths.{no_shorter_tells}
 use Rattle.dali_checkpoint.proofs.making.write_image.Goals as goal
 
 pub returns-in-Err-settle-clause-err : goal.returns-in-Err-settle-clause-err
@@ -53,3 +54,12 @@ returns-in-Err-audit_all-clause-any_moment g c =
 
 pub returns-in-Err-clause-any_moment : goal.returns-in-Err-clause-any_moment
 returns-in-Err-clause-any_moment g c = λ runs s B p h is. c.copy_all.ensures.any_moment runs s B p c.args.system.now.state h is
+
+pub returns-in-Err-settle-clause-tells : goal.returns-in-Err-settle-clause-tells
+returns-in-Err-settle-clause-tells g c = no_shorter_tells (g.V.Store.told c.copy_all.new.vault.store) (g.V.Store.told c.settle.new.vault.store) c.in-Err-settle.ensures.files ∙ c.copy_all.ensures.tells
+
+pub returns-in-Ok-audit_all-clause-tells : goal.returns-in-Ok-audit_all-clause-tells
+returns-in-Ok-audit_all-clause-tells g c = no_shorter_tells (g.V.Store.told c.copy_all.new.vault.store) (g.V.Store.told c.settle.new.vault.store) c.in-Ok-settle.ensures.files ∙ c.copy_all.ensures.tells
+
+pub returns-in-Err-audit_all-clause-tells : goal.returns-in-Err-audit_all-clause-tells
+returns-in-Err-audit_all-clause-tells g c = no_shorter_tells (g.V.Store.told c.copy_all.new.vault.store) (g.V.Store.told c.settle.new.vault.store) c.in-Ok-settle.ensures.files ∙ c.copy_all.ensures.tells

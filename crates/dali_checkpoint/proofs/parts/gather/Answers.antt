@@ -1,4 +1,4 @@
-use Rattle.std.proofs.Common.{◌≡◌, ◌≤◌, ◌<◌, ◌+◌, ◌-◌, ◌++◌, rules, ap, length, ◌∙◌, slice_index_or, arith, length-append}
+use Rattle.std.proofs.Common.{◌≡◌, ◌≤◌, ◌<◌, ◌++◌, rules, ap, length, ◌∙◌, slice_index_or, arith, length-append}
 use Rattle.dali_record.specs.Spelling.{words_bytes}
 use Rattle.dali_checkpoint.proofs.Pieces.{gathers_next}
 use Rattle.dali_checkpoint.proofs.parts.gather.Goals as goal

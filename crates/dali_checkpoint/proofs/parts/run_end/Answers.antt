@@ -1,6 +1,4 @@
-use Rattle.std.proofs.Common.{◌≡◌, ◌<◌, ◌≤◌, ◌+◌, rules, ap, length, arith}
-use Rattle.std.specs.Prelude.{slice_index_or}
-use Rattle.dali_region.specs.Answers.{is_dirty}
+use Rattle.std.proofs.Common.{◌<◌, ◌≤◌, ◌+◌, rules, ap, length}
 use Rattle.dali_checkpoint.proofs.Pieces.{run_stops, run_fills}
 use Rattle.dali_checkpoint.proofs.parts.run_end.Goals as goal
 

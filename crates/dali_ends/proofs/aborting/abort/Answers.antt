@@ -6,7 +6,7 @@ use Rattle.dali_ends.proofs.Wholes.{whole_ended}
 use Rattle.dali_ends.proofs.aborting.abort.Goals as goal
 
 pub returns-in-Some-clause-left : goal.returns-in-Some-clause-left
-returns-in-Some-clause-left g c = comes_none g.V.Store.told g.V.Store.may_leave g.V.Store.faults (IsBackOf c.args.txn) c.args.core.now.regions.items c.args.core.now.system.state c.args.core.now.vault c.requires.up
+returns-in-Some-clause-left g c = comes_none g.V.Store.told g.V.Store.may_leave g.V.Store.faults c.args.txn (IsBackOf c.args.txn) c.args.core.now.regions.items c.args.core.now.system.state c.args.core.now.vault c.requires.up
 
 pub abort_running-requires-clause-running : goal.abort_running-requires-clause-running
 abort_running-requires-clause-running g c = up_runs g.V.Store.told g.V.Store.may_leave g.V.Store.faults c.args.core.now.regions.items c.args.core.now.system.state c.args.core.now.vault c.requires.up

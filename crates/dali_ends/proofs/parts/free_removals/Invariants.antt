@@ -1,11 +1,12 @@
 use Rattle.std.proofs.Common.{◌≡◌, ◌<◌, ℕ, Some, None, slice_get}
 use Rattle.dali_record.specs.declared.operations.Pending.{Pending}
 use Rattle.dali_system.specs.State.{hold_in}
-use Rattle.dali_ends.specs.Left.{Cleared}
+use Rattle.dali_ends.specs.Left.{HoldsStay, Cleared}
 use Rattle.dali_ends.proofs.parts.free_removals.Given as goal
 
 abbrev pub invariant-loop-removal : goal.invariant-loop-removal
 invariant-loop-removal l = record {
   cleared : Cleared l.txn l.initial.regions l.initial.system l.regions l.system;
+  holds : HoldsStay l.removals l.initial.regions l.regions;
   unheld : (i : ℕ) (u : Pending) → i < l.removal-index → slice_get l.removals i ≡ Some u → hold_in (slice_get l.regions u.region) ≡ None;
 }

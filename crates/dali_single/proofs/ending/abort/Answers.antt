@@ -2,7 +2,7 @@ use Rattle.std.proofs.Common.{ap, ◌∙◌}
 use Rattle.dali_core.specs.Served.{Served}
 use Rattle.dali_single.proofs.Undoing.{abort_ends, ended_gone, ended_others, others_further}
 use Rattle.dali_single.proofs.Refusing.{end_stuck, none_next}
-use Rattle.dali_single.proofs.Promising.{promises_same, promises_further, promises_ended}
+use Rattle.dali_single.proofs.Promising.{promises_same, promises_further, promises_ended, released}
 use Rattle.dali_single.proofs.ending.abort.Goals as goal
 
 pub returns-in-Ok-ended-clause-ok : goal.returns-in-Ok-ended-clause-ok
@@ -31,6 +31,9 @@ returns-in-Err-clause-sizes c = c.take_back.ensures.goes.sizes
 pub returns-in-Ok-ended-clause-promises : goal.returns-in-Ok-ended-clause-promises
 returns-in-Ok-ended-clause-promises c =
     promises_further c.args.system.now c.take_back.new.system c.ended.new.self c.args.txn (promises_same c.args.system.now c.take_back.new.system c.args.txn c.take_back.ensures.promised) (promises_ended c.take_back.new.system c.ended.new.self c.args.txn (ap (λ (s : Served). s.promised) c.in-Ok-ended.ensures.ok))
+
+pub returns-in-Ok-ended-clause-released : goal.returns-in-Ok-ended-clause-released
+returns-in-Ok-ended-clause-released c = released c.take_back.new.system c.ended.new.self c.args.txn (ap (λ (s : Served). s.promised) c.in-Ok-ended.ensures.ok)
 
 pub returns-in-Err-ended-clause-promises : goal.returns-in-Err-ended-clause-promises
 returns-in-Err-ended-clause-promises c = promises_same c.args.system.now c.ended.new.self c.args.txn (ap (λ (s : Served). s.promised) c.in-Err-ended.ensures.err ∙ c.take_back.ensures.promised)

@@ -5,7 +5,7 @@ use Rattle.dali_core.specs.Served.{Served}
 use Rattle.dali_single.proofs.Undoing.{ended_gone}
 use Rattle.dali_single.proofs.Settled.{none_behind, settle_ends, settle_refused, settled_others, none_left_again}
 use Rattle.dali_single.proofs.Refusing.{end_stuck}
-use Rattle.dali_single.proofs.Promising.{promises_same, promises_further, promises_ended}
+use Rattle.dali_single.proofs.Promising.{promises_same, promises_further, promises_ended, released}
 use Rattle.dali_single.proofs.settling.settle.Goals as goal
 
 pub returns-in-Err-ended-clause-err : goal.returns-in-Err-ended-clause-err
@@ -56,6 +56,9 @@ returns-in-Err-clause-sizes c = c.in-Err.ensures.err.sizes
 pub returns-in-Ok-ended-clause-promises : goal.returns-in-Ok-ended-clause-promises
 returns-in-Ok-ended-clause-promises c =
     promises_further c.args.system.now c.free_all.new.system c.ended.new.self c.args.txn c.free_all.ensures.promises (promises_ended c.free_all.new.system c.ended.new.self c.args.txn (ap (λ (s : Served). s.promised) c.in-Ok-ended.ensures.ok))
+
+pub returns-in-Ok-ended-clause-released : goal.returns-in-Ok-ended-clause-released
+returns-in-Ok-ended-clause-released c = released c.free_all.new.system c.ended.new.self c.args.txn (ap (λ (s : Served). s.promised) c.in-Ok-ended.ensures.ok)
 
 pub returns-in-Err-ended-clause-promises : goal.returns-in-Err-ended-clause-promises
 returns-in-Err-ended-clause-promises c =

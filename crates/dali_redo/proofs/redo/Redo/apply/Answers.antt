@@ -1,6 +1,6 @@
 use Rattle.std.proofs.Common.{refl, ap, subst, length, ◌∙◌}
 use Rattle.dali_redo.specs.Redoing.{Redoing}
-use Rattle.dali_redo.specs.Steps.{Applies}
+use Rattle.dali_redo.specs.Steps.{Applies, IsCleared}
 use Rattle.dali_redo.proofs.Whole.{applies, applied_undos, as_many, redone_length}
 use Rattle.dali_redo.proofs.redo.Redo.apply.Goals as goal
 
@@ -15,3 +15,6 @@ returns-clause-ok c =
     let y : Redoing = record { sizes = c.self.inside.geometry; image = c.redo.new.self; table = c.advance.new.table; left = c.end_epoch.new.left; next = c.next_behind-self-inside.result } in
     let x : Redoing = record { sizes = c.self.inside.geometry; image = c.self.inside.image; table = c.self.inside.table; left = c.self.inside.left; next = c.self.inside.next } in
     subst (λ z. Applies z y c.args.logged.now) c.self.view_is (applies x y c.args.logged.now refl c.redo.ensures c.in_ok-advance.ensures.ok c.end_epoch.ensures c.next_behind-self-inside.ensures)
+
+pub returns-clause-cleared : goal.returns-clause-cleared
+returns-clause-cleared c = subst (λ (z : Redoing). IsCleared z.table → IsCleared c.advance.new.table) c.self.view_is c.in_ok-advance.ensures.cleared

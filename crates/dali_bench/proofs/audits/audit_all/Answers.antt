@@ -1,5 +1,5 @@
 use Rattle.dali_checkpoint.proofs.Passing.{none_passed, end_passed}
-use Rattle.dali_bench.proofs.audits.audit_once.Goals as goal
+use Rattle.dali_bench.proofs.audits.audit_all.Goals as goal
 
 pub pass_all-requires-clause-all : goal.pass_all-requires-clause-all
 pass_all-requires-clause-all c = none_passed c.args.regions.now _ _ _ c.in_ok-audit.ensures.audit c.requires.whole

@@ -1,0 +1,5 @@
+use Rattle.dali_bench.specs.Checkpoints.{MayCheckpoint}
+use Rattle.dali_bench.proofs.checkpoints.write_and_checkpoint.Given as goal
+
+abbrev pub invariant-loop : goal.invariant-loop
+invariant-loop g l = MayCheckpoint g.V.Store.told l.core.regions.items l.core.system.state l.core.vault
