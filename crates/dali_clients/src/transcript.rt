@@ -6,6 +6,7 @@ use crate::line::Line;
 use dali_bytes::OutOfMemory;
 use std::alloc::Global;
 use std::marker::Model;
+use std::mem;
 
 /// What a client said in a round, and which records of the log are its own.
 #[derive(Drop)]
@@ -77,6 +78,14 @@ impl Transcript {
             return Err(OutOfMemory);
         }
         Ok(())
+    }
+
+    /// Takes the numbers of its records out, and puts these in their place.
+    pub fn replace_receipts(&mut self, receipts: Vec<u64>) -> Vec<u64>
+        ensures taken { result.items ≡ self.old.receipts }
+        ensures put { self.new ≡ record self.old { receipts = receipts.items } }
+    {
+        mem::replace(&mut self.receipts, receipts)
     }
 
     /// The records from `first` to `behind`, without the latter, are its own too; where memory is refused, the first of them.

@@ -1,0 +1,11 @@
+mod Unfinished
+mod Marks
+mod Begun
+mod Lists
+mod Places
+mod Seats
+mod Starts
+mod Outcomes
+mod Made
+mod Playing
+mod Whole

@@ -1,0 +1,256 @@
+-- A round goes on by a step of one of its clients.
+use Rattle.std.proofs.Common.{◌≡◌, ℕ, zero, suc, Bool, true, false, List, [], ◌∷◌, ◌++◌, length, map, Option, Some, None, is_some, refl, ap, sym, subst, ◌∙◌, ◌⊎◌, inl, inr, ⊎_elim}
+use Rattle.std.specs.Prelude.{◌==◌, IsSome, slice_get, slice_set}
+use Rattle.std.specs.List.{list_all}
+use Rattle.std.proofs.lemmas.List.{append_assoc, append-nil}
+use Rattle.dali_counts.proofs.Lists.{self, equal, set_cases, some_same}
+use Rattle.dali_record.specs.declared.records.Record.{Record}
+use Rattle.dali_record.specs.Legal.{Rules, rules_state}
+use Rattle.dali_region.specs.State.{RegionState}
+use Rattle.dali_att.specs.declared.state.State.TheVariants.{Live}
+use Rattle.dali_store.specs.Store.{Files as Disk}
+use Rattle.dali_system.specs.declared.causes.Cause.{Cause}
+use Rattle.dali_system.specs.State.{SystemState, CoreState, state_of}
+use Rattle.dali_crash.specs.Checkpoints.{StoreStep, Point, IsPointCourse}
+use Rattle.dali_crash.specs.Traces.{Start, bases_of}
+use Rattle.dali_vault.specs.Vaulted.{Vaulted}
+use Rattle.dali_checkpoint.proofs.Calls.{course_join}
+use Rattle.dali_transcripts.specs.World.{Deed, Happening, World, log_of, Grows}
+use Rattle.dali_transcripts.specs.Moves.{Receipt}
+use Rattle.dali_transcripts.specs.Transcripts.{IsSoFar, owned, deeds_of, numbers_of, Told, is_among}
+use Rattle.dali_transcripts.specs.Rounds.{Standing, Stands, by, AreBlocks, told_of}
+use Rattle.dali_transcripts.proofs.Growing.{world_goes_on}
+use Rattle.dali_transcripts.proofs.Owned.{others_go_on}
+use Rattle.dali_deeds.specs.Tells.{after, Goes}
+use Rattle.dali_turns.specs.declared.client.Client.{Client}
+use Rattle.dali_turns.specs.declared.client.State.{State}
+use Rattle.dali_turns.specs.Stood.{Stood}
+use Rattle.dali_turns.specs.Fits.{rest_of, IsOf, Owns, Fits}
+use Rattle.dali_turns.specs.Others.{LeavesOthers}
+use Rattle.dali_turns.specs.Goes.{Came, RowsTell, Went, MayStep}
+use Rattle.dali_turns.specs.Turns.{own_numbers, AreReceipts, Turned, TurnGoes, MayTurn}
+use Rattle.dali_turns.proofs.Refusals.{runs_on_log}
+use Rattle.dali_turns.proofs.Staying.{others_fit}
+use Rattle.dali_turns.proofs.Cutting.{fits_under_way}
+use Rattle.dali_round.specs.Played.{EachIsOwned, IsSeated, Played, PlayGoes, MayPlay}
+use Rattle.dali_round.proofs.Lists.{get_map, map_set, length_set, get_set, get_set_other, with_length, all_append}
+use Rattle.dali_round.proofs.Begun.{in_one}
+use Rattle.dali_round.proofs.Places.{at_spot, owns_within}
+
+-- ---- the deeds of another client
+not_same : (m n : ℕ) → (m ≡ n → ⊥) → (m == n) ≡ false
+not_same m n other = by_test (m == n) refl
+  where
+    by_test : (b : Bool) → (m == n) ≡ b → (m == n) ≡ false
+    by_test true e = absurd (other (equal m n e))
+    by_test false e = e
+
+others_stay : (c d n : ℕ) (xs : List Happening) (ds : List Deed) → (d == c) ≡ false → owned c n (xs ++ by d ds) ≡ owned c n xs
+others_stay c d n xs [] other = ap (owned c n) (append-nil xs)
+others_stay c d n xs (x ∷ ds) other = ap (owned c n) (sym (append_assoc xs ((x, d) ∷ []) (by d ds))) ∙ (others_stay c d n (xs ++ (x, d) ∷ []) ds other ∙ others_go_on c d n xs x other)
+
+pub deeds_same : (w x : World) (c d : ℕ) (ds : List Deed) → (g : Grows w x) → g.more ≡ by d ds → (d ≡ c → ⊥) → deeds_of x c ≡ deeds_of w c
+deeds_same w x c d ds g more other =
+    ap (λ (b : List Record). owned c (length b) x.happened) g.before
+    ∙ (ap (owned c (length w.before)) (g.happened ∙ ap (λ l. w.happened ++ l) more) ∙ others_stay c d (length w.before) w.happened ds (not_same d c other))
+
+-- ---- whose they are
+among_later : (z : Told) (bs : List Told) (c : ℕ) → is_among bs c ≡ true → is_among (z ∷ bs) c ≡ true
+among_later z bs c e = by_test (z.client == c) refl
+  where
+    by_test : (t : Bool) → (z.client == c) ≡ t → is_among (z ∷ bs) c ≡ true
+    by_test true f = rw f refl
+    by_test false f = rw f e
+
+among_first : (z : Told) (bs : List Told) → is_among (z ∷ bs) z.client ≡ true
+among_first z bs = rw (self z.client) refl
+
+is_in : (bs : List Told) (i : ℕ) (b : Told) → slice_get bs i ≡ Some b → is_among bs b.client ≡ true
+is_in [] i b e = absurd (cc)
+is_in (z ∷ bs) zero b e = subst (λ (c : Told). is_among (z ∷ bs) c.client ≡ true) (some_same e) (among_first z bs)
+is_in (z ∷ bs) (suc i) b e = among_later z bs b.client (is_in bs i b e)
+
+pub all_by : (bs : List Told) (c : ℕ) (ds : List Deed) → is_among bs c ≡ true → list_all (λ (x : Happening). is_among bs x.1) (by c ds) ≡ true
+all_by bs c [] e = refl
+all_by bs c (x ∷ ds) e = rw e (all_by bs c ds e)
+
+module _ {V : Type 0} (told : V → Option Disk) (may_leave : V → Disk → Type 0) (faults : V → ℕ) where
+  -- ---- a client where the round is cut
+  pub cut_seat : (ok : Bool) (s : Start) (B : List (List Record)) (p : Point) (w : World) (gs : List RegionState) (y : SystemState) (v : Vaulted V) (a : Standing) (k : Client)
+      → IsSeated told may_leave faults true s B p w gs y v a k → IsSeated told may_leave faults ok s B p w gs y v a k
+  cut_seat true s B p w gs y v a k seat = seat
+  cut_seat false s B p w gs y v a k seat = record {
+    is = seat.is;
+    came = fits_under_way told may_leave faults s B p w gs y v a (rest_of k) k.state seat.came;
+    receipts = ([], sym seat.receipts ∙ sym (append-nil k.transcript.receipts));
+  }
+
+  pub cut_play : (precheck : Bool) (s : Start) (p : Point) (bs : List Told) (ks : List Client) (gs : List RegionState) (y : SystemState) (v : Vaulted V)
+      → Played told may_leave faults true precheck s p bs ks gs y v → Played told may_leave faults false precheck s p bs ks gs y v
+  cut_play precheck s p bs ks gs y v f = record {
+    are = f.are;
+    log = f.log;
+    to = f.to;
+    batches = f.batches;
+    steps = f.steps;
+    course = f.course;
+    world = f.world;
+    old_is = f.old_is;
+    before_is = f.before_is;
+    stood = f.stood;
+    owners = f.owners;
+    standings = f.standings;
+    blocks = f.blocks;
+    count = f.count;
+    seats = λ i a k at_a at_k. cut_seat false s f.batches f.to f.world gs y v a k (f.seats i a k at_a at_k);
+    owned = λ e. absurd (cc);
+  }
+
+  -- ---- from one world to the next, by deeds of one client
+  module _ (precheck : Bool) (s : Start) (p : Point) (bs : List Told) (ks : List Client) (gs : List RegionState) (y : SystemState) (v : Vaulted V) (was ok : Bool) (f : Played told may_leave faults was precheck s p bs ks gs y v)
+      (i : ℕ) (a : Standing) (k : Client) (at_a : slice_get f.standings i ≡ Some a) (at_k : slice_get ks i ≡ Some k)
+      (C : List (List Record)) (q : Point) (steps : List StoreStep) (course : IsPointCourse f.to steps q) (ds : List Deed) (x : World) (goes : Goes f.world a.client f.to ds x q) (hs : List RegionState) (z : SystemState) (u : Vaulted V)
+      (late : Stood told may_leave faults s C q x precheck hs z u) where
+    among : is_among bs a.client ≡ true
+    among = is_in bs i (told_of a) (subst (λ l. slice_get l i ≡ Some (told_of a)) f.blocks (get_map told_of f.standings i a at_a))
+
+    -- clients at other places are others
+    pub other_client : (n : ℕ) (b : Standing) → slice_get f.standings n ≡ Some b → (n ≡ i → ⊥) → a.client ≡ b.client → ⊥
+    other_client n b at_b apart same =
+        let one : slice_get bs i ≡ Some (told_of a) = subst (λ l. slice_get l i ≡ Some (told_of a)) f.blocks (get_map told_of f.standings i a at_a) in
+        let two : slice_get bs n ≡ Some (told_of b) = subst (λ l. slice_get l n ≡ Some (told_of b)) f.blocks (get_map told_of f.standings n b at_b) in
+        apart (sym (f.are.apart i n (told_of a) (told_of b) one two same))
+
+    pub is_on : (b : Standing) (l : Client) → (a.client ≡ b.client → ⊥) → IsOf f.world b l → IsOf x b l
+    is_on b l other is = record {
+      client = is.client;
+      lines = is.lines;
+      stands = subst (λ did. IsSoFar x b.client b.acts b.lines did b.pending b.spot) (sym (deeds_same f.world x b.client a.client ds goes.grows goes.more other))
+          (world_goes_on f.world x b.client b.acts b.lines (deeds_of f.world b.client) b.pending b.spot goes.grows is.stands);
+    }
+
+    pub numbers_on : (b : Standing) (l : Client) → (a.client ≡ b.client → ⊥) → IsOf f.world b l → own_numbers x l ≡ own_numbers f.world l
+    numbers_on b l other is = ap numbers_of (deeds_same f.world x l.transcript.client a.client ds goes.grows goes.more (λ e. other (e ∙ sym is.client)))
+
+    pub played_by : (b : Standing) (j : Client) → b.client ≡ a.client → b.acts ≡ a.acts → IsSeated told may_leave faults ok s C q x hs z u b j
+        → ((n : ℕ) (c : Standing) (l : Client) → slice_get f.standings n ≡ Some c → slice_get ks n ≡ Some l → (n ≡ i → ⊥) → IsSeated told may_leave faults ok s C q x hs z u c l)
+        → (ok ≡ true → EachIsOwned (slice_set ks i j) z)
+        → Played told may_leave faults ok precheck s p bs (slice_set ks i j) hs z u
+    played_by b j client acts seat others rows = record {
+      are = f.are;
+      log = f.log;
+      to = q;
+      batches = C;
+      steps = f.steps ++ steps;
+      course = course_join p f.to q f.steps steps f.course course;
+      world = x;
+      old_is = goes.grows.old ∙ f.old_is;
+      before_is = goes.grows.before ∙ f.before_is;
+      stood = late;
+      owners = subst (λ l. list_all (λ (h : Happening). is_among bs h.1) l ≡ true) (sym (goes.grows.happened ∙ ap (λ l. f.world.happened ++ l) goes.more))
+          (all_append (λ (h : Happening). is_among bs h.1) f.world.happened (by a.client ds) f.owners (all_by bs a.client ds among));
+      standings = slice_set f.standings i b;
+      blocks = map_set told_of f.standings i a b at_a same ∙ f.blocks;
+      count = length_set ks i j ∙ (f.count ∙ sym (length_set f.standings i b));
+      seats = λ n c l at_c at_l.
+          ⊎_elim
+          (λ here. ⊎_elim
+          (λ also. subst (λ m. IsSeated told may_leave faults ok s C q x hs z u c m) (sym also.1) (subst (λ d. IsSeated told may_leave faults ok s C q x hs z u d j) (sym here.1) seat))
+          (λ away. absurd (away.0 (sym here.0)))
+          (set_cases ks i j n l at_l))
+          (λ away. ⊎_elim
+          (λ here. absurd (away.0 (sym here.0)))
+          (λ also. others n c l away.1 also.1 (λ e. away.0 (sym e)))
+          (set_cases ks i j n l at_l))
+          (set_cases f.standings i b n c at_c);
+      owned = rows;
+    }
+      where
+        same : told_of b ≡ told_of a
+        same = ap (λ c. record { client = c; acts = b.acts }) client ∙ ap (λ l. record { client = a.client; acts = l }) acts
+
+  -- ---- a step of a client
+  module _ (precheck : Bool) (s : Start) (p : Point) (bs : List Told) (ks : List Client) (gs : List RegionState) (y : SystemState) (v : Vaulted V) (f : Played told may_leave faults true precheck s p bs ks gs y v)
+      (i : ℕ) (k : Client) (at_k : slice_get ks i ≡ Some k) where
+    there : (a : Standing) × (slice_get f.standings i ≡ Some a)
+    there = with_length f.standings ks i k f.count at_k
+
+    seat : IsSeated told may_leave faults true s f.batches f.to f.world gs y v there.0 k
+    seat = f.seats i there.0 k there.1 at_k
+
+    may_step : MayStep told may_leave faults k.state k gs y v
+    may_step = record {
+      start = s;
+      batches = f.batches;
+      point = f.to;
+      world = f.world;
+      standing = there.0;
+      precheck = precheck;
+      stood = f.stood;
+      is = seat.is;
+      fits = seat.came;
+    }
+
+    pub may_turn : MayTurn told may_leave faults precheck k gs y v
+    unfolding may_step
+    may_turn = (may_step, refl)
+
+    module _ (ok : Bool) (j : Client) (hs : List RegionState) (z : SystemState) (u : Vaulted V) (turn : TurnGoes told may_leave faults precheck k gs y v ok j hs z u) where
+      abbrev t : Turned told may_leave faults precheck s f.batches f.to f.world there.0 k gs y v ok j hs z u
+      t = turn s f.batches f.to f.world there.0 f.stood seat.is seat.came seat.receipts
+
+      abbrev g : Went told may_leave faults precheck s f.batches f.to f.world there.0 k.state gs y v ok j hs z u
+      g = t.went
+
+      legal : (w : World) (r : Point) (B : List (List Record)) (rs : List RegionState) (m : SystemState) (t : Vaulted V) → Stood told may_leave faults s B r w precheck rs m t → IsSome (rules_state r.core.system.sizes (log_of w))
+      legal w r B rs m t stood = subst (λ (L : List Record). IsSome (rules_state r.core.system.sizes L)) stood.tells.log (runs_on_log (bases_of s) s.log r stood.stands.at.vault.run).log.legal.rules
+
+      ran_before : z.stop ≡ None → y.stop ≡ None
+      ran_before up = by_stop y.stop refl
+        where
+          there_too : (cause : Cause) → y.stop ≡ Some cause → z.stop ≡ Some cause
+          there_too cause e =
+              ap (λ (m : SystemState). m.stop) (sym g.stood.stands.at.system)
+              ∙ (ap (λ (c : CoreState). c.system.stop) (sym g.stood.tells.core)
+              ∙ g.goes.grows.stopped cause (ap (λ (c : CoreState). c.system.stop) f.stood.tells.core ∙ (ap (λ (m : SystemState). m.stop) f.stood.stands.at.system ∙ e)))
+
+          by_stop : (o : Option Cause) → y.stop ≡ o → y.stop ≡ None
+          by_stop None e = e
+          by_stop (Some cause) e = let no_way : None ≡ Some cause = sym up ∙ there_too cause e in absurd (cc)
+
+      other_seat : (n : ℕ) (b : Standing) (l : Client) → slice_get f.standings n ≡ Some b → slice_get ks n ≡ Some l → (n ≡ i → ⊥) → IsSeated told may_leave faults true s g.batches g.to g.world hs z u b l
+      other_seat n b l at_b at_l apart = record {
+        is = is_now;
+        came =
+            others_fit told may_leave faults l.state k.state s f.batches g.batches f.to g.to f.world g.world gs hs y z v u precheck b there.0 (rest_of l) g.deeds f.stood g.stood old.is.stands seat.is.stands old.came
+            (at_spot told may_leave faults s f.batches f.to f.world gs y v there.0 (rest_of k) k.state seat.came) (λ e. other (sym e)) (λ t mine yours. other (sym (in_one _ f.world b there.0 t
+            (legal f.world f.to f.batches gs y v f.stood) old.is.stands seat.is.stands
+            (owns_within told may_leave faults s f.batches f.to f.world gs y v b (rest_of l) l.state t old.came mine)
+            (owns_within told may_leave faults s f.batches f.to f.world gs y v there.0 (rest_of k) k.state t seat.came yours)))) g.goes g.others;
+        receipts = old.receipts ∙ sym (numbers_on precheck s p bs ks gs y v true ok f i there.0 k there.1 at_k g.batches g.to g.steps g.course g.deeds g.world g.goes hs z u g.stood b l other old.is);
+      }
+        where
+          old : IsSeated told may_leave faults true s f.batches f.to f.world gs y v b l
+          old = f.seats n b l at_b at_l
+
+          other : there.0.client ≡ b.client → ⊥
+          other = other_client precheck s p bs ks gs y v true ok f i there.0 k there.1 at_k g.batches g.to g.steps g.course g.deeds g.world g.goes hs z u g.stood n b at_b apart
+
+          is_now : IsOf g.world b l
+          is_now = is_on precheck s p bs ks gs y v true ok f i there.0 k there.1 at_k g.batches g.to g.steps g.course g.deeds g.world g.goes hs z u g.stood b l other old.is
+
+      still_owned : ok ≡ true → EachIsOwned (slice_set ks i j) z
+      still_owned e up t lives =
+          ⊎_elim
+          (λ owns. (i, j, get_set ks i k j at_k, owns))
+          (λ was.
+          let h = f.owned refl (ran_before up) t was.0 in
+          (h.0, h.1, get_set_other ks i h.0 h.1 j (λ same. was.1 (subst (λ (c : Client). Owns c.state t) (some_same (sym h.2 ∙ (ap (slice_get ks) same ∙ at_k))) h.3)) h.2, h.3))
+          (g.rows e up t lives)
+
+      pub turn_played : Played told may_leave faults ok precheck s p bs (slice_set ks i j) hs z u
+      turn_played =
+          played_by precheck s p bs ks gs y v true ok f i there.0 k there.1 at_k g.batches g.to g.steps g.course g.deeds g.world g.goes hs z u g.stood g.standing j g.client g.acts
+          (record { is = g.is; came = g.came; receipts = t.receipts })
+          (λ n b l at_b at_l apart. cut_seat ok s g.batches g.to g.world hs z u b l (other_seat n b l at_b at_l apart))
+          still_owned

@@ -1,0 +1,108 @@
+-- A whole round, from the core that was handed in.
+use Rattle.std.proofs.Common.{◌≡◌, ℕ, Bool, true, false, List, [], ◌∷◌, map, Option, refl, ap, sym, subst, ◌∙◌}
+use Rattle.dali_record.specs.declared.records.Record.{Record}
+use Rattle.dali_region.specs.State.{RegionState}
+use Rattle.dali_store.specs.Store.{Files as Disk}
+use Rattle.dali_system.specs.State.{SystemState}
+use Rattle.dali_crash.specs.Checkpoints.{Point}
+use Rattle.dali_crash.specs.Traces.{Start}
+use Rattle.dali_vault.specs.Vaulted.{Vaulted}
+use Rattle.dali_transcripts.specs.World.{World}
+use Rattle.dali_transcripts.specs.Moves.{start}
+use Rattle.dali_transcripts.specs.Transcripts.{Told, EachTells, deeds_of, receipts_of, AreHanded}
+use Rattle.dali_transcripts.specs.Rounds.{AreBlocks}
+use Rattle.dali_clients.specs.declared.command.Block.{Block}
+use Rattle.dali_clients.specs.Said.{Transcribed}
+use Rattle.dali_clients.specs.Told.{told_of}
+use Rattle.dali_turns.specs.declared.client.Client.{Client}
+use Rattle.dali_turns.specs.Fits.{lines_of}
+use Rattle.dali_turns.proofs.Commands.{none_under_way}
+use Rattle.dali_round.specs.Leads.{lines_in, BeginsAt, MayBegin, RoundLeads}
+use Rattle.dali_round.specs.Played.{AreNew, MayPlay}
+use Rattle.dali_round.specs.Ends.{EndGoes}
+use Rattle.dali_round.proofs.Starts.{world, stood, start_played}
+
+lines_same : (ks : List Client) → map lines_in (map (λ (k : Client). k.transcript) ks) ≡ map lines_of ks
+lines_same [] = refl
+lines_same (k ∷ ks) = ap (λ l. lines_of k ∷ l) (lines_same ks)
+
+receipts_same : (ks : List Client) → map (λ (t : Transcribed). t.receipts) (map (λ (k : Client). k.transcript) ks) ≡ map (λ (k : Client). k.transcript.receipts) ks
+receipts_same [] = refl
+receipts_same (k ∷ ks) = ap (λ l. k.transcript.receipts ∷ l) (receipts_same ks)
+
+numbers_same : (ks : List Client) → map (λ (t : Transcribed). t.client) (map (λ (k : Client). k.transcript) ks) ≡ map (λ (k : Client). k.transcript.client) ks
+numbers_same [] = refl
+numbers_same (k ∷ ks) = ap (λ l. k.transcript.client ∷ l) (numbers_same ks)
+
+blocks_same : (bs : List Block) → map (λ (b : Told). b.client) (map told_of bs) ≡ map (λ (b : Block). b.client) bs
+blocks_same [] = refl
+blocks_same (b ∷ bs) = ap (λ l. b.client ∷ l) (blocks_same bs)
+
+-- a round of which nothing was done or said
+none_tell : (w : World) (bs : List Told) → w.happened ≡ [] → EachTells false w bs []
+none_tell w [] e = tt
+none_tell w (b ∷ bs) e = (
+  record {
+    spot = start b.acts;
+    pending = [];
+    told = [];
+    part = [];
+    lines_are = refl;
+    so_far = record { moves = []; path = refl; lines_are = refl; did_are = none };
+    under_way = none_under_way w b.client (start b.acts) [] refl;
+  },
+  none_tell w bs e,
+)
+  where
+    none : deeds_of w b.client ≡ []
+    none = rw e refl
+
+module _ {V : Type 0} (told : V → Option Disk) (may_leave : V → Disk → Type 0) (faults : V → ℕ) (precheck : Bool) where
+  pub none_leads : (s : Start) (B : List (List Record)) (p : Point) (gs : List RegionState) (y : SystemState) (v : Vaulted V) (bs : List Told) → BeginsAt told may_leave faults s B p gs y v → RoundLeads told may_leave faults precheck false s p bs [] [] gs y v
+  none_leads s B p gs y v bs b =
+      let now = stood told may_leave faults precheck s B p gs y v b in
+      record {
+        to = p;
+        batches = B;
+        steps = [];
+        course = refl;
+        stands = b.stands;
+        files = b.files;
+        keeps = b.keeps;
+        round = record {
+          world = world told may_leave faults precheck s B p gs y v b;
+          old_is = refl;
+          before_is = b.stands.at.vault.run.run.log;
+          precheck_is = refl;
+          core_is = refl;
+          grew = now.tells.grew;
+          log = sym b.stands.at.vault.run.run.log ∙ now.tells.log;
+          transcripts = record { owners = refl; each = none_tell (world told may_leave faults precheck s B p gs y v b) bs refl };
+          receipts_are = handed bs;
+          right = now.tells.right;
+          together = now.tells.together;
+          rests = b.between.rests;
+          between = λ e. absurd (cc);
+        };
+      }
+    where
+      handed : (bs : List Told) → AreHanded false (receipts_of (world told may_leave faults precheck s B p gs y v b) bs) []
+      handed [] = tt
+      handed (c ∷ bs) = tt
+
+  pub may_start : (gs : List RegionState) (y : SystemState) (v : Vaulted V) (bs : List Block) (ks : List Client) → MayBegin told may_leave faults gs y v → AreBlocks (map told_of bs) → AreNew bs ks → MayPlay told may_leave faults precheck ks gs y v
+  may_start gs y v bs ks m are new = record { start = m.start; point = m.point; blocks = map told_of bs; played = start_played told may_leave faults precheck m.start m.batches m.point gs y v m.begins bs ks are new }
+
+  module _ (gs hs : List RegionState) (y z : SystemState) (v u : Vaulted V) (whole : Bool) (bs : List Block) (ks js : List Client) (ts : List Transcribed) (are : AreBlocks (map told_of bs)) (new : AreNew bs ks)
+      (goes : EndGoes told may_leave faults precheck ks gs y v whole js hs z u) (is : ts ≡ map (λ (k : Client). k.transcript) js) where
+    pub round_leads : (s : Start) (B : List (List Record)) (p : Point) → BeginsAt told may_leave faults s B p gs y v → RoundLeads told may_leave faults precheck whole s p (map told_of bs) (map lines_in ts) (map (λ (t : Transcribed). t.receipts) ts) hs z u
+    round_leads s B p b =
+        subst (λ (l : List Transcribed). RoundLeads told may_leave faults precheck whole s p (map told_of bs) (map lines_in l) (map (λ (t : Transcribed). t.receipts) l) hs z u) (sym is)
+        (subst (λ l. RoundLeads told may_leave faults precheck whole s p (map told_of bs) l (map (λ (t : Transcribed). t.receipts) (map (λ (k : Client). k.transcript) js)) hs z u) (sym (lines_same js))
+        (subst (λ l. RoundLeads told may_leave faults precheck whole s p (map told_of bs) (map lines_of js) l hs z u) (sym (receipts_same js))
+        (goes s p (map told_of bs) (start_played told may_leave faults precheck s B p gs y v b bs ks are new)).0))
+
+    pub round_numbers : MayBegin told may_leave faults gs y v → map (λ (t : Transcribed). t.client) ts ≡ map (λ (b : Block). b.client) bs
+    round_numbers m =
+        ap (map (λ (t : Transcribed). t.client)) is
+        ∙ (numbers_same js ∙ ((goes m.start m.point (map told_of bs) (start_played told may_leave faults precheck m.start m.batches m.point gs y v m.begins bs ks are new)).1 ∙ blocks_same bs))

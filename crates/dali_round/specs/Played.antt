@@ -1,0 +1,80 @@
+-- How far a round has come, or where it was cut.
+--     IsNew b k                the client of a block at its begin
+--     AreNew bs ks             the clients of blocks
+--     AreOver ks               each client is done
+--     IsSeated ok ..           a client stands between two steps, or, where memory was wanted, in one that was cut short
+--     Played ok ..             the round of these blocks has come from the point p to where the core stands, with these clients
+--     PlayGoes ok ..           it goes on from wherever it began
+--     MayPlay ..               it began somewhere
+use Rattle.std.specs.Prelude.{◌≡◌, ℕ, Bool, true, false, ◌==◌, List, [], Option, Some, None, length, map, slice_get}
+use Rattle.std.specs.List.{list_all}
+use Rattle.dali_record.specs.declared.records.Record.{Record}
+use Rattle.dali_region.specs.State.{RegionState}
+use Rattle.dali_att.specs.declared.state.State.TheVariants.{Live}
+use Rattle.dali_store.specs.Store.{Files as Disk}
+use Rattle.dali_system.specs.State.{SystemState, state_of, log_after}
+use Rattle.dali_crash.specs.Checkpoints.{StoreStep, Point, IsPointCourse}
+use Rattle.dali_crash.specs.Traces.{Start}
+use Rattle.dali_vault.specs.Vaulted.{Vaulted}
+use Rattle.dali_transcripts.specs.World.{Happening, World}
+use Rattle.dali_transcripts.specs.Transcripts.{Told, is_among}
+use Rattle.dali_transcripts.specs.Rounds.{Standing, AreBlocks, told_of}
+use Rattle.dali_clients.specs.declared.command.Block.{Block}
+use Rattle.dali_clients.specs.Said.{silent}
+use Rattle.dali_turns.specs.declared.client.Client.{Client}
+use Rattle.dali_turns.specs.declared.client.State.TheVariants.{Outside}
+use Rattle.dali_turns.specs.Clients.{is_over}
+use Rattle.dali_turns.specs.Stood.{Stood}
+use Rattle.dali_turns.specs.Fits.{IsOf, Owns}
+use Rattle.dali_turns.specs.Goes.{Came}
+use Rattle.dali_turns.specs.Turns.{AreReceipts}
+
+pub record IsNew (b : Block) (k : Client) : Type 0 where
+  pub rest : k.rest.now ≡ b.commands.items
+  pub state : k.state ≡ Outside
+  pub transcript : k.transcript ≡ silent b.client
+
+pub record AreNew (bs : List Block) (ks : List Client) : Type 0 where
+  pub count : length ks ≡ length bs
+  pub each : (i : ℕ) (b : Block) (k : Client) → slice_get bs i ≡ Some b → slice_get ks i ≡ Some k → IsNew b k
+
+abbrev pub AreOver : List Client → Type 0
+AreOver ks = (i : ℕ) (k : Client) → slice_get ks i ≡ Some k → is_over k.state (length k.rest.now == 0) ≡ true
+
+-- while the engine runs each live transaction is a client's
+abbrev pub EachIsOwned : List Client → SystemState → Type 0
+EachIsOwned ks y = y.stop ≡ None → (t : ℕ) → state_of y t ≡ Some Live → (i : ℕ) × (k : Client) × (slice_get ks i ≡ Some k) × Owns k.state t
+
+module _ {V : Type 0} (told : V → Option Disk) (may_leave : V → Disk → Type 0) (faults : V → ℕ) where
+  pub record IsSeated (ok : Bool) (s : Start) (B : List (List Record)) (p : Point) (w : World) (gs : List RegionState) (y : SystemState) (v : Vaulted V) (a : Standing) (k : Client) : Type 0 where
+    pub is : IsOf w a k
+    pub came : Came told may_leave faults ok s B p w gs y v a k
+    pub receipts : AreReceipts ok w k
+
+  pub record Played (ok precheck : Bool) (s : Start) (p : Point) (bs : List Told) (ks : List Client) (gs : List RegionState) (y : SystemState) (v : Vaulted V) : Type 0 where
+    pub are : AreBlocks bs
+    pub log : p.log ≡ log_after s.log p.core.system
+    pub to : Point
+    pub batches : List (List Record)
+    pub steps : List StoreStep
+    pub course : IsPointCourse p steps to
+    pub world : World
+    pub old_is : world.old ≡ p.core
+    pub before_is : world.before ≡ p.log
+    pub stood : Stood told may_leave faults s batches to world precheck gs y v
+    -- nothing is done but by these clients
+    pub owners : list_all (λ (x : Happening). is_among bs x.1) world.happened ≡ true
+    pub standings : List Standing
+    pub blocks : map told_of standings ≡ bs
+    pub count : length ks ≡ length standings
+    pub seats : (i : ℕ) (a : Standing) (k : Client) → slice_get standings i ≡ Some a → slice_get ks i ≡ Some k → IsSeated ok s batches to world gs y v a k
+    pub owned : ok ≡ true → EachIsOwned ks y
+
+  abbrev pub PlayGoes : Bool → List Client → List RegionState → SystemState → Vaulted V → Bool → List Client → List RegionState → SystemState → Vaulted V → Type 0
+  PlayGoes precheck ks gs y v ok js hs z u = (s : Start) (p : Point) (bs : List Told) → Played true precheck s p bs ks gs y v → Played ok precheck s p bs js hs z u
+
+  pub record MayPlay (precheck : Bool) (ks : List Client) (gs : List RegionState) (y : SystemState) (v : Vaulted V) : Type 0 where
+    pub start : Start
+    pub point : Point
+    pub blocks : List Told
+    pub played : Played true precheck start point blocks ks gs y v

@@ -1,0 +1,291 @@
+-- A transaction that is taken back as its client is told, at the end of its block, or since an older one holds the key of its call.
+use Rattle.std.proofs.Common.{◌≡◌, ℕ, ◌+◌, ◌<◌, ◌≤◌, Bool, true, false, List, [], ◌∷◌, ◌++◌, length, map, Option, Some, None, is_some, refl, ap, sym, subst, ◌∙◌, inl, inr, arith}
+use Rattle.std.specs.List.{AllByRecursion}
+use Rattle.std.proofs.lemmas.List.{append_assoc}
+use Rattle.dali_record.specs.declared.records.Call.{Call}
+use Rattle.dali_record.specs.declared.records.Record.{Record}
+use Rattle.dali_record.specs.declared.records.Record.TheVariants.{Ended, Forward}
+use Rattle.dali_region.specs.State.{RegionState}
+use Rattle.dali_att.specs.declared.state.State.TheVariants.{Live}
+use Rattle.dali_store.specs.Store.{Files as Disk}
+use Rattle.dali_system.specs.State.{SystemState, state_of}
+use Rattle.dali_crash.specs.Checkpoints.{Point}
+use Rattle.dali_crash.specs.Traces.{Start}
+use Rattle.dali_vault.specs.Vaulted.{Vaulted}
+use Rattle.dali_transcripts.specs.Words.{Act, Calls, Arms, Commits as CommitAct, Aborts as AbortAct, Said, AbortOk, Aborted, Busy as IsBusy}
+use Rattle.dali_transcripts.specs.World.{Deed, Logs, GivesBack as GivesTxnBack, Yields, FindsDead, Meets, World, log_of}
+use Rattle.dali_transcripts.specs.Moves.{Receipt, Place, Outside as IsOutside, Within as IsWithin, Again, Spot, at, TakenBack, Move, Aborts, Ends, GivesWay, GivesUp, behind_close, from, said, own, to}
+use Rattle.dali_transcripts.specs.Causes.{IsAside, AreAside, IsAsking, AreAsking, GetsBusy, IsUnfinished, AreUnfinished, HasCause}
+use Rattle.dali_transcripts.specs.Laws.{receipts_from}
+use Rattle.dali_transcripts.specs.Rounds.{Standing, IsPlaced}
+use Rattle.dali_transcripts.proofs.Growing.{askings, busy}
+use Rattle.dali_clients.specs.Told.{act_of}
+use Rattle.dali_deeds.specs.Tells.{after}
+use Rattle.dali_single.proofs.Lists.{all_both}
+use Rattle.dali_transcripts.proofs.Lists.{all_map}
+use Rattle.dali_turns.specs.declared.client.Client.{Client}
+use Rattle.dali_turns.specs.declared.client.State.{State}
+use Rattle.dali_turns.specs.declared.client.State.TheVariants.{Outside, Within, Waiting}
+use Rattle.dali_turns.specs.declared.client.Transaction.{Transaction}
+use Rattle.dali_turns.specs.Stood.{HadRow, Stood}
+use Rattle.dali_turns.specs.Outside.{MaySay, FitsOutside, FitsWaiting}
+use Rattle.dali_turns.specs.Within.{AreSoFar, FitsWithin, FitsYielding}
+use Rattle.dali_turns.specs.Fits.{rest_of, lines_of, IsOf, Fits}
+use Rattle.dali_turns.specs.Goes.{RowsTell, Went}
+use Rattle.dali_turns.proofs.Rows.{had_row}
+use Rattle.dali_turns.proofs.Doing.{behind, ended, went_on, went_by, went_silent}
+use Rattle.dali_turns.proofs.Closing.{GoesBack, GoesAway}
+
+-- what a taking back did, where the round ended in its midst
+unfinished_abort : (w : World) (c t tries : ℕ) (cs : List Act) (d : Option ℕ) (s : Bool) (rest : List Act) (x : Receipt) → IsAside w c t x → IsUnfinished w c (IsWithin t tries cs d s) (AbortAct ∷ rest) x
+unfinished_abort w c t tries cs d s rest (n, GivesTxnBack u o) h = (h.0, h.1.given)
+unfinished_abort w c t tries cs d s rest (n, Meets why) h = absurd h
+unfinished_abort w c t tries cs d s rest x h = h
+
+unfinished_end : (w : World) (c t tries : ℕ) (cs : List Act) (d : Option ℕ) (s : Bool) (x : Receipt) → IsAside w c t x → IsUnfinished w c (IsWithin t tries cs d s) [] x
+unfinished_end w c t tries cs d s (n, GivesTxnBack u o) h = (h.0, h.1.given)
+unfinished_end w c t tries cs d s (n, Meets why) h = absurd h
+unfinished_end w c t tries cs d s x h = h
+
+pub unfinished_call : (w : World) (c t tries : ℕ) (cs : List Act) (d : Option ℕ) (s : Bool) (call : Call) (rest : List Act) (x : Receipt) → IsAsking w c t call x → IsUnfinished w c (IsWithin t tries cs d s) (Calls call ∷ rest) x
+unfinished_call w c t tries cs d s call rest (n, GivesTxnBack u o) h = (h.0, h.1.given)
+unfinished_call w c t tries cs d s call rest (n, Meets why) h = absurd h
+unfinished_call w c t tries cs d s call rest (n, Yields f) h = absurd h
+unfinished_call w c t tries cs d s call rest (n, FindsDead f) h = h
+unfinished_call w c t tries cs d s call rest (n, Logs (Forward u b)) h = absurd h
+unfinished_call w c t tries cs d s call rest x h = h
+
+pub asking_of : (w : World) (c t : ℕ) (call : Call) (x : Receipt) → IsAside w c t x → IsAsking w c t call x
+asking_of w c t call (n, FindsDead f) h = absurd h
+asking_of w c t call x h = h
+
+-- behind the end of the open transaction
+placed_behind : (acts : List Act) → IsPlaced true acts → IsPlaced false (behind_close acts)
+placed_behind [] h = tt
+placed_behind (Calls call ∷ acts) h = placed_behind acts h.1
+placed_behind (Arms count ∷ acts) h = placed_behind acts h.1
+placed_behind (CommitAct ∷ acts) h = h
+placed_behind (AbortAct ∷ acts) h = h
+placed_behind (act ∷ acts) h = absurd h
+
+module _ {V : Type 0} (told : V → Option Disk) (may_leave : V → Disk → Type 0) (faults : V → ℕ)
+    (precheck : Bool) (s : Start) (B : List (List Record)) (p : Point) (w : World) (a : Standing) (gs : List RegionState) (y : SystemState) (v : Vaulted V) (k j : Client) (x : Transaction)
+    (stood : Stood told may_leave faults s B p w precheck gs y v) (is : IsOf w a k) (q : Point) (hs : List RegionState) (z : SystemState) where
+  abbrev number : ℕ
+  number = length (log_of w)
+
+  -- ---- in the transaction
+  module _ (fits : FitsWithin p w a (rest_of k) x) where
+    -- it has said nothing of a stop
+    module _ (runs : y.stop ≡ None) where
+      not_said : fits.said ≡ false
+      not_said = by_said fits.said fits.may
+        where
+          by_said : (b : Bool) → MaySay p.core.system b → b ≡ false
+          by_said false may = refl
+          by_said true may = let some : is_some p.core.system.stop ≡ true = may refl in let none : is_some p.core.system.stop ≡ false = ap (λ (m : SystemState). is_some m.stop) stood.stands.at.system ∙ ap is_some runs in let no : true ≡ false = sym some ∙ none in absurd (cc)
+
+      spot_is : (rest : List Act) → rest_of k ≡ rest → a.spot ≡ at (IsWithin x.txn x.tries (map act_of x.commands.now) x.deadly false) rest
+      spot_is rest next = fits.spot ∙ (ap (λ b. at (IsWithin x.txn x.tries (map act_of x.commands.now) x.deadly b) (rest_of k)) not_said ∙ ap (at (IsWithin x.txn x.tries (map act_of x.commands.now) x.deadly false)) next)
+
+      -- ---- as a whole
+      module _ (away : GoesAway told may_leave faults precheck s B p w gs y v a.client (Within x) x.txn q hs z) (rows : (u : ℕ) → state_of z u ≡ Some Live → (state_of y u ≡ Some Live) × (x.txn ≡ u → ⊥)) where
+        abbrev deeds : List Deed
+        deeds = away.back ++ Logs (Ended x.txn) ∷ []
+
+        abbrev late : World
+        late = after w a.client deeds q.core
+
+        abbrev work : List Receipt
+        work = receipts_from number away.back
+
+        module _ (m : Move) (more : List Act) (starts : a.spot ≡ from m) (own_is : own m ≡ work ++ (away.number, Logs (Ended x.txn)) ∷ []) (none : a.pending ≡ []) (caused : HasCause late a.client m)
+            (ends : to m ≡ at (IsOutside false) more) (placed : IsPlaced false more) where
+          own_was : a.pending ++ receipts_from number deeds ≡ own m
+          own_was = ap (λ xs. xs ++ receipts_from number deeds) none ∙ (away.receipts ∙ sym own_is)
+
+          closed : j.transcript.client ≡ k.transcript.client → lines_of j ≡ lines_of k ++ said m → rest_of j ≡ more → j.state ≡ Outside → Went told may_leave faults precheck s B p w a (Within x) gs y v true j hs z v
+          closed client lines rest state =
+              went_by told may_leave faults precheck s B B p q w a (Within x) gs hs y z v v deeds k j is away.did m starts own_was caused client lines
+              (subst (λ (n : State). Fits told may_leave faults s B q late hs z v (ended a m) (rest_of j) n) (sym state) (record {
+                said = false;
+                may = λ e. absurd (cc);
+                spot = ends ∙ ap (at (IsOutside false)) (sym rest);
+                none = refl;
+                placed = subst (IsPlaced false) (sym rest) placed;
+              }))
+              (λ up u lives. inr (rows u lives))
+
+          closed_unsaid : j.transcript ≡ k.transcript → Went told may_leave faults precheck s B p w a (Within x) gs y v false j hs z v
+          closed_unsaid same = went_silent told may_leave faults precheck s B B p q w a (Within x) gs hs y z v v deeds k j is away.did m starts own_was caused same
+
+        -- as it is told
+        module _ (more : List Act) (next : rest_of k ≡ AbortAct ∷ more) where
+          abbrev abort_move : Move
+          abort_move = Aborts x.txn x.tries (map act_of x.commands.now) x.deadly work away.number more
+
+          none_abort : a.pending ≡ []
+          none_abort = subst (λ acts. AreSoFar w a.client x.txn acts a.pending) next fits.so_far
+
+          placed_abort : IsPlaced false more
+          placed_abort = subst (IsPlaced true) next fits.placed
+
+          pub aborted : j.transcript.client ≡ k.transcript.client → lines_of j ≡ lines_of k ++ AbortOk ∷ [] → rest_of j ≡ more → j.state ≡ Outside → Went told may_leave faults precheck s B p w a (Within x) gs y v true j hs z v
+          aborted = closed abort_move more (spot_is (AbortAct ∷ more) next) refl none_abort (away.aside, away.uncommitted) refl placed_abort
+
+          pub aborted_unsaid : j.transcript ≡ k.transcript → Went told may_leave faults precheck s B p w a (Within x) gs y v false j hs z v
+          aborted_unsaid = closed_unsaid abort_move more (spot_is (AbortAct ∷ more) next) refl none_abort (away.aside, away.uncommitted) refl placed_abort
+
+        -- at the end of the block
+        module _ (next : rest_of k ≡ []) where
+          abbrev end_move : Move
+          end_move = Ends x.txn x.tries (map act_of x.commands.now) x.deadly work away.number
+
+          none_end : a.pending ≡ []
+          none_end = subst (λ acts. AreSoFar w a.client x.txn acts a.pending) next fits.so_far
+
+          pub ended_block : j.transcript.client ≡ k.transcript.client → lines_of j ≡ lines_of k ++ Aborted ∷ [] → rest_of j ≡ [] → j.state ≡ Outside → Went told may_leave faults precheck s B p w a (Within x) gs y v true j hs z v
+          ended_block = closed end_move [] (spot_is [] next) refl none_end (away.aside, away.uncommitted) refl tt
+
+          pub ended_unsaid : j.transcript ≡ k.transcript → Went told may_leave faults precheck s B p w a (Within x) gs y v false j hs z v
+          ended_unsaid = closed_unsaid end_move [] (spot_is [] next) refl none_end (away.aside, away.uncommitted) refl tt
+
+    -- ---- in part, since memory was refused
+    module _ (part : GoesBack told may_leave faults precheck s B p w gs y v a.client (Within x) x.txn q hs z) (same : j.transcript ≡ k.transcript) where
+      abbrev midway : World
+      midway = after w a.client part.back q.core
+
+      left_there : (rest : List Act) → rest_of k ≡ rest → AreUnfinished midway a.client (IsWithin x.txn x.tries (map act_of x.commands.now) x.deadly fits.said) rest (a.pending ++ receipts_from number part.back)
+          → Went told may_leave faults precheck s B p w a (Within x) gs y v false j hs z v
+      left_there rest next h =
+          went_on told may_leave faults precheck s B B p q w a (Within x) gs hs y z v v part.back k j is part.did false same
+          (inl (refl, subst (λ (n : Spot). AreUnfinished midway a.client n.place n.rest (a.pending ++ receipts_from number part.back)) (sym (fits.spot ∙ ap (at (IsWithin x.txn x.tries (map act_of x.commands.now) x.deadly fits.said)) next)) h))
+          (λ e. absurd (cc))
+
+      pub abort_left : (more : List Act) → rest_of k ≡ AbortAct ∷ more → Went told may_leave faults precheck s B p w a (Within x) gs y v false j hs z v
+      abort_left more next =
+          let none : a.pending ≡ [] = subst (λ acts. AreSoFar w a.client x.txn acts a.pending) next fits.so_far in
+          left_there (AbortAct ∷ more) next
+          (subst (λ xs. AreUnfinished midway a.client (IsWithin x.txn x.tries (map act_of x.commands.now) x.deadly fits.said) (AbortAct ∷ more) (xs ++ receipts_from number part.back)) (sym none)
+          (all_map (IsAside midway a.client x.txn) (IsUnfinished midway a.client (IsWithin x.txn x.tries (map act_of x.commands.now) x.deadly fits.said) (AbortAct ∷ more))
+          (unfinished_abort midway a.client x.txn x.tries (map act_of x.commands.now) x.deadly fits.said more) (receipts_from number part.back) part.aside))
+
+      pub end_left : rest_of k ≡ [] → Went told may_leave faults precheck s B p w a (Within x) gs y v false j hs z v
+      end_left next =
+          let none : a.pending ≡ [] = subst (λ acts. AreSoFar w a.client x.txn acts a.pending) next fits.so_far in
+          left_there [] next
+          (subst (λ xs. AreUnfinished midway a.client (IsWithin x.txn x.tries (map act_of x.commands.now) x.deadly fits.said) [] (xs ++ receipts_from number part.back)) (sym none)
+          (all_map (IsAside midway a.client x.txn) (IsUnfinished midway a.client (IsWithin x.txn x.tries (map act_of x.commands.now) x.deadly fits.said) [])
+          (unfinished_end midway a.client x.txn x.tries (map act_of x.commands.now) x.deadly fits.said) (receipts_from number part.back) part.aside))
+
+  -- ---- where an older transaction holds the key of its call
+  module _ (holder : ℕ) (fits : FitsYielding p w a (rest_of k) x holder) where
+    abbrev commands : List Act
+    commands = map act_of x.commands.now
+
+    yield_spot : a.spot ≡ at (IsWithin x.txn x.tries commands x.deadly false) (Calls fits.call ∷ fits.more)
+    yield_spot = fits.spot ∙ ap (at (IsWithin x.txn x.tries commands x.deadly false)) fits.calls
+
+    module _ (away : GoesAway told may_leave faults precheck s B p w gs y v a.client (Within x) x.txn q hs z) (rows : (u : ℕ) → state_of z u ≡ Some Live → (state_of y u ≡ Some Live) × (x.txn ≡ u → ⊥)) where
+      abbrev given : List Deed
+      given = away.back ++ Logs (Ended x.txn) ∷ []
+
+      abbrev behind_it : World
+      behind_it = after w a.client given q.core
+
+      abbrev back : List Receipt
+      back = receipts_from number away.back
+
+      yield_own : a.pending ++ receipts_from number given ≡ (fits.work ++ (fits.refusal.at, Yields fits.refusal) ∷ back) ++ (away.number, Logs (Ended x.txn)) ∷ []
+      yield_own =
+          ap (λ xs. xs ++ receipts_from number given) fits.pending
+          ∙ (ap (λ xs. (fits.work ++ (fits.refusal.at, Yields fits.refusal) ∷ []) ++ xs) away.receipts
+          ∙ (append_assoc fits.work ((fits.refusal.at, Yields fits.refusal) ∷ []) (back ++ (away.number, Logs (Ended x.txn)) ∷ [])
+          ∙ sym (append_assoc fits.work ((fits.refusal.at, Yields fits.refusal) ∷ back) ((away.number, Logs (Ended x.txn)) ∷ []))))
+
+      asking_late : AreAsking behind_it a.client x.txn fits.call fits.work
+      asking_late = askings w behind_it away.did.goes.grows a.client x.txn fits.call fits.work fits.asking
+
+      busy_late : GetsBusy behind_it a.client x.txn fits.call fits.refusal
+      busy_late = busy w behind_it away.did.goes.grows a.client x.txn fits.call fits.refusal fits.busy
+
+      -- it is tried again
+      module _ (again : x.tries + 1 < 1000) where
+        abbrev way : Move
+        way = GivesWay x.txn x.tries commands x.deadly fits.work fits.call fits.refusal back (TakenBack away.number) fits.more
+
+        way_cause : HasCause behind_it a.client way
+        way_cause = (asking_late, busy_late, away.aside, away.uncommitted, again)
+
+        pub gives_way : j.transcript.client ≡ k.transcript.client → lines_of j ≡ lines_of k ++ Aborted ∷ [] → rest_of j ≡ commands → j.state ≡ Waiting (x.tries + 1) holder
+            → Went told may_leave faults precheck s B p w a (Within x) gs y v true j hs z v
+        gives_way client lines rest state =
+            went_by told may_leave faults precheck s B B p q w a (Within x) gs hs y z v v given k j is away.did way yield_spot yield_own way_cause client lines
+            (subst (λ (n : State). Fits told may_leave faults s B q behind_it hs z v (ended a way) (rest_of j) n) (sym state) (record {
+              said = false;
+              may = λ e. absurd (cc);
+              spot = ap (λ n. at (Again (x.tries + 1) n false) commands) fits.holder_is ∙ ap (at (Again (x.tries + 1) holder false)) (sym rest);
+              none = refl;
+              more = fits.again.more;
+              begins = rest ∙ fits.again.begins;
+              placed = subst (IsPlaced false) (sym rest) fits.again.placed;
+              few = again;
+              had = had_row w behind_it a.client p q given stood.tells away.did.goes holder fits.had;
+            }))
+            (λ up u lives. inr (rows u lives))
+
+        pub gives_way_unsaid : j.transcript ≡ k.transcript → Went told may_leave faults precheck s B p w a (Within x) gs y v false j hs z v
+        gives_way_unsaid same = went_silent told may_leave faults precheck s B B p q w a (Within x) gs hs y z v v given k j is away.did way yield_spot yield_own way_cause same
+
+      -- or not
+      module _ (last : x.tries + 1 ≡ 1000) where
+        abbrev up : Move
+        up = GivesUp x.txn x.tries commands x.deadly fits.work fits.call fits.refusal back (TakenBack away.number) fits.more
+
+        up_cause : HasCause behind_it a.client up
+        up_cause = (asking_late, busy_late, away.aside, away.uncommitted, last)
+
+        pub gives_up : j.transcript.client ≡ k.transcript.client → lines_of j ≡ lines_of k ++ IsBusy holder ∷ Aborted ∷ [] → rest_of j ≡ behind_close (rest_of k) → j.state ≡ Outside
+            → Went told may_leave faults precheck s B p w a (Within x) gs y v true j hs z v
+        gives_up client lines rest state =
+            went_by told may_leave faults precheck s B B p q w a (Within x) gs hs y z v v given k j is away.did up yield_spot yield_own up_cause client (lines ∙ ap (λ n. lines_of k ++ IsBusy n ∷ Aborted ∷ []) (sym fits.holder_is))
+            (subst (λ (n : State). Fits told may_leave faults s B q behind_it hs z v (ended a up) (rest_of j) n) (sym state) (record {
+              said = false;
+              may = λ e. absurd (cc);
+              spot = ap (at (IsOutside false)) (sym rest_is);
+              none = refl;
+              placed = subst (IsPlaced false) (sym rest_is) (placed_behind fits.more (subst (IsPlaced true) fits.calls fits.placed).1);
+            }))
+            (λ up u lives. inr (rows u lives))
+          where
+            rest_is : rest_of j ≡ behind_close fits.more
+            rest_is = rest ∙ ap behind_close fits.calls
+
+        pub gives_up_unsaid : j.transcript ≡ k.transcript → Went told may_leave faults precheck s B p w a (Within x) gs y v false j hs z v
+        gives_up_unsaid same = went_silent told may_leave faults precheck s B B p q w a (Within x) gs hs y z v v given k j is away.did up yield_spot yield_own up_cause same
+
+    -- ---- memory was refused
+    module _ (part : GoesBack told may_leave faults precheck s B p w gs y v a.client (Within x) x.txn q hs z) (same : j.transcript ≡ k.transcript) where
+      abbrev halfway : World
+      halfway = after w a.client part.back q.core
+
+      unfinished : AreUnfinished halfway a.client (IsWithin x.txn x.tries commands x.deadly false) (Calls fits.call ∷ fits.more) ((fits.work ++ (fits.refusal.at, Yields fits.refusal) ∷ []) ++ receipts_from number part.back)
+      unfinished =
+          all_both P (fits.work ++ (fits.refusal.at, Yields fits.refusal) ∷ []) (receipts_from number part.back)
+          (all_both P fits.work ((fits.refusal.at, Yields fits.refusal) ∷ [])
+          (all_map (IsAsking halfway a.client x.txn fits.call) P (unfinished_call halfway a.client x.txn x.tries commands x.deadly false fits.call fits.more) fits.work (askings w halfway part.did.goes.grows a.client x.txn fits.call fits.work fits.asking))
+          (busy w halfway part.did.goes.grows a.client x.txn fits.call fits.refusal fits.busy, tt))
+          (all_map (IsAside halfway a.client x.txn) P (λ r h. unfinished_call halfway a.client x.txn x.tries commands x.deadly false fits.call fits.more r (asking_of halfway a.client x.txn fits.call r h)) (receipts_from number part.back) part.aside)
+        where
+          P : Receipt → Type 0
+          P r = IsUnfinished halfway a.client (IsWithin x.txn x.tries commands x.deadly false) (Calls fits.call ∷ fits.more) r
+
+      pub yield_left : Went told may_leave faults precheck s B p w a (Within x) gs y v false j hs z v
+      yield_left =
+          went_on told may_leave faults precheck s B B p q w a (Within x) gs hs y z v v part.back k j is part.did false same
+          (inl (
+            refl,
+            subst (λ (n : Spot). AreUnfinished halfway a.client n.place n.rest (a.pending ++ receipts_from number part.back)) (sym yield_spot)
+                (subst (λ xs. AreUnfinished halfway a.client (IsWithin x.txn x.tries commands x.deadly false) (Calls fits.call ∷ fits.more) (xs ++ receipts_from number part.back)) (sym fits.pending) unfinished),
+          ))
+          (λ e. absurd (cc))

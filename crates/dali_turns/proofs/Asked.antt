@@ -1,0 +1,140 @@
+-- A request for the lock of a call that is granted.
+use Rattle.std.proofs.Common.{◌≡◌, ℕ, ◌-◌, ◌<◌, Bool, true, false, not, List, [], ◌∷◌, ◌++◌, length, map, Option, Some, None, is_some, refl, ap, sym, subst, ◌∙◌, ◌⊎◌, inl, inr, arith}
+use Rattle.std.specs.Prelude.{◌==◌, if◌then◌else◌, filter}
+use Rattle.std.specs.List.{AllByRecursion}
+use Rattle.std.proofs.lemmas.List.{append-nil}
+use Rattle.dali_counts.proofs.Lists.{equal, same_number}
+use Rattle.dali_record.specs.declared.records.Call.{Call}
+use Rattle.dali_record.specs.declared.records.Record.{Record}
+use Rattle.dali_record.specs.declared.records.Record.TheVariants.{Forward}
+use Rattle.dali_region.specs.State.{RegionState}
+use Rattle.dali_locks.specs.declared.mode.LockAnswer.TheVariants.{Granted}
+use Rattle.dali_att.specs.declared.state.State.TheVariants.{Live}
+use Rattle.dali_store.specs.Store.{Files as Disk}
+use Rattle.dali_system.specs.State.{SystemState, VaultState, CoreState, state_of}
+use Rattle.dali_system.specs.Steps.{granted}
+use Rattle.dali_system.specs.Courses.{Step, Locks}
+use Rattle.dali_crash.specs.Checkpoints.{Does, Point, IsPointStep}
+use Rattle.dali_crash.specs.Traces.{Start}
+use Rattle.dali_vault.specs.Vaulted.{Vaulted}
+use Rattle.dali_calls.specs.declared.plan.Phase.TheVariants.{Calling as IsCalling}
+use Rattle.dali_calls.specs.Steps.{call_key}
+use Rattle.dali_calls.specs.Plans.{Planned, mode_of}
+use Rattle.dali_single.specs.Stands.{core, IsAtRest, AtPlan}
+use Rattle.dali_single.specs.Single.{MayCall}
+use Rattle.dali_stepwise.specs.Stepwise.{IsNew, IsAsked}
+use Rattle.dali_transcripts.specs.Words.{Act, Calls}
+use Rattle.dali_transcripts.specs.World.{Deed, Logs, FindsDead, World}
+use Rattle.dali_transcripts.specs.Moves.{Receipt, Within as IsWithin, at, is_operation, operations, left}
+use Rattle.dali_transcripts.specs.Causes.{IsAsking, IsWork, AreAsking, AreWork, spares}
+use Rattle.dali_transcripts.specs.Rounds.{Standing, IsPlaced}
+use Rattle.dali_transcripts.proofs.Lists.{all_map}
+use Rattle.dali_transcripts.proofs.Growing.{askings}
+use Rattle.dali_deeds.specs.Tells.{after}
+use Rattle.dali_clients.specs.Told.{act_of}
+use Rattle.dali_turns.specs.declared.client.Client.{Client}
+use Rattle.dali_turns.specs.declared.client.State.{State}
+use Rattle.dali_turns.specs.declared.client.State.TheVariants.{Within, Calling}
+use Rattle.dali_turns.specs.declared.client.Transaction.{Transaction}
+use Rattle.dali_turns.specs.Clients.{Stays}
+use Rattle.dali_turns.specs.Stood.{IsQuiet, Stood}
+use Rattle.dali_turns.specs.Within.{AreSoFar, FitsWithin, FitsCalling}
+use Rattle.dali_turns.specs.Fits.{rest_of, IsOf, Owns, Fits}
+use Rattle.dali_turns.specs.Goes.{RowsTell, Went}
+use Rattle.dali_turns.proofs.Doing.{Did, did_quietly, behind, went_on}
+use Rattle.dali_turns.proofs.Walking.{point_behind}
+
+-- ---- what was done before the lock was granted is work of the call, and none of its operations
+pub work_of : (w : World) (c t : ℕ) (call : Call) (x : Receipt) → IsAsking w c t call x → IsWork w c t call x
+work_of w c t call (n, Logs (Forward u b)) h = absurd h
+work_of w c t call x h = h
+
+pub works_of : (w : World) (c t : ℕ) (call : Call) (xs : List Receipt) → AreAsking w c t call xs → AreWork w c t call xs
+works_of w c t call xs h = all_map (IsAsking w c t call) (IsWork w c t call) (work_of w c t call) xs h
+
+no_operation : (w : World) (c t : ℕ) (call : Call) (x : Receipt) → IsAsking w c t call x → is_operation t x ≡ false
+no_operation w c t call (n, Logs (Forward u b)) h = absurd h
+no_operation w c t call x h = refl
+
+pub none_yet : (w : World) (c t : ℕ) (call : Call) (xs : List Receipt) → AreAsking w c t call xs → operations t xs ≡ 0
+none_yet w c t call [] h = refl
+none_yet w c t call (x ∷ xs) h = ap (λ (k : Bool). length (if k then x ∷ filter (is_operation t) xs else filter (is_operation t) xs)) (no_operation w c t call x h.0) ∙ none_yet w c t call xs h.1
+
+pub left_none : (d : Option ℕ) → left d 0 ≡ d
+left_none None = refl
+left_none (Some d) = ap Some (omega arith)
+
+module _ {V : Type 0} (told : V → Option Disk) (may_leave : V → Disk → Type 0) (faults : V → ℕ)
+    (precheck : Bool) (s : Start) (B : List (List Record)) (p : Point) (w : World) (a : Standing) (gs : List RegionState) (y z : SystemState) (v : Vaulted V) (k j : Client)
+    (x : Transaction) (plan : Planned) (call : Call) (more : List Act) (stood : Stood told may_leave faults s B p w precheck gs y v) (is : IsOf w a k) (fits : FitsWithin p w a (rest_of k) x)
+    (next : rest_of k ≡ Calls call ∷ more) (of_txn : plan.txn ≡ x.txn) (of_call : plan.call ≡ call) (calling : plan.phase ≡ IsCalling)
+    (asked : IsAsked Granted p.log p.core plan (core p.core.regions z p.core.vault)) (system : z ≡ granted y plan.txn (call_key plan.call) (mode_of plan.call)) (runs : y.stop ≡ None) where
+  abbrev q : Point
+  q = point_behind p (Locks plan.txn (call_key plan.call) (mode_of plan.call)) p.log (core p.core.regions z p.core.vault)
+
+  apart_from : (m n : ℕ) → (m ≡ n → ⊥) → not (m == n) ≡ true
+  apart_from m n differ = by_test (m == n) refl
+    where
+      by_test : (b : Bool) → (m == n) ≡ b → not (m == n) ≡ true
+      by_test true e = absurd (differ (equal m n e))
+      by_test false e = ap not e
+
+  did : Did told may_leave faults precheck s B p w a.client (Within x) gs y v [] B q gs z v
+  did = did_quietly told may_leave faults precheck s B p w gs y v stood a.client (Within x) q (Locks plan.txn (call_key plan.call) (mode_of plan.call)) [] z gs refl (refl, (asked.0, refl), refl) refl tt refl stood.stands.at.regions
+      (ap (λ (m : SystemState). m.taken) system) stood.stands.dead (λ fs held. held)
+      (subst IsQuiet (sym system) (record { unclaimed = stood.quiet.unclaimed; settled = stood.quiet.settled })) (λ e. ap (λ (m : SystemState). is_some m.stop) system ∙ e)
+      (λ t lives other. apart_from plan.txn t (λ e. other (sym of_txn ∙ e))) (λ b other. refl)
+
+  -- it has said nothing of a stop, since the engine runs
+  unsaid : fits.said ≡ false
+  unsaid = by_said fits.said refl
+    where
+      by_said : (b : Bool) → fits.said ≡ b → fits.said ≡ false
+      by_said true e =
+          let some : is_some p.core.system.stop ≡ true = fits.may e in
+          let none : is_some p.core.system.stop ≡ false = ap (λ (m : SystemState). is_some m.stop) stood.stands.at.system ∙ ap is_some runs in
+          let no : true ≡ false = sym some ∙ none in absurd (cc)
+      by_said false e = e
+
+  asking : AreAsking w a.client x.txn call a.pending
+  asking = subst (λ rest. AreSoFar w a.client x.txn rest a.pending) next fits.so_far
+
+  pub granted_on : Stays k (Calling x plan) j → Went told may_leave faults precheck s B p w a (Within x) gs y v true j gs z v
+  granted_on f =
+      went_on told may_leave faults precheck s B B p q w a (Within x) gs gs y z v v [] k j is did true f.transcript
+      (subst (λ (n : State). Fits told may_leave faults s B q (after w a.client [] q.core) gs z v (behind a w []) (rest_of j) n) (sym f.stands) fitting)
+      (λ e. rows)
+    where
+      same_rest : rest_of j ≡ rest_of k
+      same_rest = ap (map act_of) f.rest
+
+      now_asking : AreAsking (after w a.client [] q.core) a.client x.txn call (a.pending ++ [])
+      now_asking = subst (AreAsking (after w a.client [] q.core) a.client x.txn call) (sym (append-nil a.pending)) (askings w (after w a.client [] q.core) did.goes.grows a.client x.txn call a.pending asking)
+
+      fitting : FitsCalling q (after w a.client [] q.core) (behind a w []) (rest_of j) x plan
+      fitting = record {
+        call = call;
+        more = more;
+        calls = same_rest ∙ next;
+        deadly = x.deadly;
+        spot = fits.spot ∙ (ap (λ b. at (IsWithin x.txn x.tries (map act_of x.commands.now) x.deadly b) (rest_of k)) unsaid ∙ ap (at (IsWithin x.txn x.tries (map act_of x.commands.now) x.deadly false)) (sym same_rest));
+        work = works_of (after w a.client [] q.core) a.client x.txn call (a.pending ++ []) now_asking;
+        nearer = sym (ap (left x.deadly) (none_yet (after w a.client [] q.core) a.client x.txn call (a.pending ++ []) now_asking) ∙ left_none x.deadly);
+        spared = ap (spares x.deadly) (none_yet (after w a.client [] q.core) a.client x.txn call (a.pending ++ []) now_asking) ∙ fits.due;
+        placed = subst (IsPlaced true) (sym same_rest) fits.placed;
+        again = fits.again;
+        plan_is = record {
+          txn = of_txn;
+          call_is = of_call;
+          phase_is = calling;
+          rest = asked.2;
+          stands = asked.1;
+        };
+      }
+
+      rows : RowsTell (Within x) y j.state z
+      rows e t lives = by_test (x.txn == t) refl
+        where
+          by_test : (b : Bool) → (x.txn == t) ≡ b → Owns j.state t ⊎ ((state_of y t ≡ Some Live) × (Owns (Within x) t → ⊥))
+          by_test true g = inl (subst (λ (n : State). Owns n t) (sym f.stands) (equal x.txn t g))
+          by_test false g = inr (ap (λ (m : SystemState). state_of m t) (sym system) ∙ lives, λ one. let yes : (x.txn == t) ≡ true = same_number x.txn t one in let no : true ≡ false = sym yes ∙ g in absurd (cc))

@@ -1,0 +1,326 @@
+-- The steps of a call, by what their functions call.
+use Rattle.std.proofs.Common.{◌≡◌, ℕ, Bool, true, false, not, List, [], ◌∷◌, length, map, Option, Some, None, IsSome, is_some, IfSome, IfErr, Result, Ok, Err, OnErr, is_ok, refl, ap, sym, subst, ◌∙◌, ◌⊎◌, inl, inr}
+use Rattle.std.specs.Prelude.{◌&&◌, slice_get}
+use Rattle.dali_bytes.specs.declared.error.OutOfMemory.{OutOfMemory as NoMemory}
+use Rattle.dali_counts.proofs.Lists.{some_same}
+use Rattle.dali_record.specs.declared.operations.Op.{Op}
+use Rattle.dali_record.specs.declared.records.Answer.{Answer}
+use Rattle.dali_record.specs.declared.records.Call.{Call}
+use Rattle.dali_record.specs.declared.records.Record.{Record}
+use Rattle.dali_record.specs.declared.records.Record.TheVariants.{Forward}
+use Rattle.dali_record.specs.Spelling.{IsCall as MayBeCalled, record_length}
+use Rattle.dali_region.specs.State.{RegionState}
+use Rattle.dali_region.specs.declared.LatchError.TheVariants.{Latched, Damaged as LatchDamaged}
+use Rattle.dali_locks.specs.declared.mode.LockAnswer.TheVariants.{Granted}
+use Rattle.dali_store.specs.Store.{Files as Disk}
+use Rattle.dali_system.specs.declared.causes.Cause.{Cause}
+use Rattle.dali_system.specs.State.{SystemState, VaultState}
+use Rattle.dali_system.specs.Steps.{done_logged, granted}
+use Rattle.dali_vault.specs.Vaulted.{Vaulted}
+use Rattle.dali_core.specs.Refused.{stop_of, stop_refusal}
+use Rattle.dali_core.specs.declared.error.SystemError.{SystemError}
+use Rattle.dali_core.specs.declared.error.SystemError.TheVariants.{Stopped, LogFull, OutOfMemory}
+use Rattle.dali_core.specs.declared.want.Want.TheVariants.{Region, Done as AnswerIsNext, Nothing}
+use Rattle.dali_calls.specs.Steps.{call_key, answer_of}
+use Rattle.dali_calls.specs.declared.plan.Phase.{Phase}
+use Rattle.dali_calls.specs.declared.plan.Phase.TheVariants.{Refused as GoesBack}
+use Rattle.dali_calls.specs.Plans.{Planned, is_answered, is_back, is_back_in, commit_refusal, mode_of, plan_next, want_in, want_of, IsWhole}
+use Rattle.dali_single.specs.declared.error.StepError.{StepError}
+use Rattle.dali_single.specs.declared.error.StepError.TheVariants.{Latch, System}
+use Rattle.dali_single.specs.Refusals.{IsAnswerTo, IsLatched, IsUnanswered, IsRefusedIn, IsRefusal}
+use Rattle.dali_single.specs.Single.{MayCall}
+use Rattle.dali_single.proofs.Reaching.{wanted}
+use Rattle.dali_single.specs.Stands.{core, IsAtRest, AtPlan}
+use Rattle.dali_stepwise.specs.Stepwise.{IsNew, IsAsked, OneFurther, IsDeath, AnswersNow}
+use Rattle.dali_clients.specs.Said.{said as with_lines}
+use Rattle.dali_clients.specs.declared.command.Command.TheVariants.{Call as IsCall}
+use Rattle.dali_clients.specs.declared.line.Line.TheVariants.{Answered, Died as DiedLine, Refused as RefusedLine}
+use Rattle.dali_clients.specs.declared.line.Why.{Why}
+use Rattle.dali_clients.specs.declared.line.Why.TheVariants.{Stopped as IsStopped, LogFull as IsFull, Damaged as IsDamaged}
+use Rattle.dali_transcripts.specs.Words.{Calls}
+use Rattle.dali_transcripts.specs.Rounds.{IsPlaced}
+use Rattle.dali_turns.specs.declared.client.Client.{Client}
+use Rattle.dali_turns.specs.declared.client.State.{State}
+use Rattle.dali_turns.specs.declared.client.State.TheVariants.{Within, Calling, TakingBack, Gone}
+use Rattle.dali_turns.specs.declared.client.Transaction.{Transaction}
+use Rattle.dali_turns.specs.Clients.{next_of, Passes, Finishes, RefusesCall, Stays}
+use Rattle.dali_turns.specs.Calls.{TurnsBack, IsRefusedBy, IsDeadly, IsFurther, call_in}
+use Rattle.dali_clients.specs.Told.{act_of, said_of}
+use Rattle.dali_turns.specs.Fits.{rest_of, Fits}
+use Rattle.dali_turns.specs.Goes.{Went, StepGoes, MayStep}
+use Rattle.dali_turns.specs.Whys.{why_in}
+use Rattle.dali_turns.proofs.Commands.{next_act, behind_next}
+use Rattle.dali_turns.proofs.Calling.{answer_said, answer_unsaid}
+use Rattle.dali_turns.proofs.Operating.{operate_on, back_on}
+use Rattle.dali_turns.proofs.Asking.{new_plan, ask_nowhere, waits_on, unasked_said, unasked_unsaid, grants_on}
+use Rattle.dali_turns.proofs.Dying.{dies_said, dies_unsaid}
+use Rattle.dali_turns.proofs.Hindered.{call_nowhere, operation_goes, answer_goes, damaged_goes}
+use Rattle.dali_turns.proofs.Reasons.{StopSays, stop_cases, refused_on, damaged_latch, never_latched, command_is}
+use Rattle.dali_turns.proofs.Turned.{next_command, back_nowhere, ended_said, ended_unsaid, stuck_said, stuck_unsaid}
+
+pub back_way : (onward back : Bool) → onward ≡ not back → not onward ≡ back
+back_way onward true e = ap not e
+back_way onward false e = ap not e
+
+pub onward_now : (onward back : Bool) → onward ≡ not back → back ≡ false → onward ≡ true
+onward_now onward back e f = e ∙ ap not f
+
+-- why a record that uses no room is refused
+pub stop_why : (o : Option Cause) (e : SystemError) (why : Why) → StopSays o e → why_in e ≡ Some why → (stop : Cause) × (why ≡ IsStopped stop) × (o ≡ Some stop)
+stop_why o e why (inl (stop, same, up)) given = (stop, some_why (sym (ap why_in same) ∙ given), up)
+  where
+    some_why : Some (IsStopped stop) ≡ Some why → why ≡ IsStopped stop
+    some_why f = cc
+stop_why o e why (inr same) given = let both : None ≡ Some why = sym (ap why_in same) ∙ given in absurd (cc)
+
+-- a request that is refused
+pub asked_says : {T : Type 0} (y : SystemState) (r : Result T SystemError) (e : SystemError) → r ≡ Err e → IfSome (stop_refusal y) (λ f. r ≡ Err f) → (stop_refusal y ≡ None → IfErr r (λ f. f ≡ OutOfMemory)) → StopSays y.stop e
+asked_says {T} y r e is some none = by_stop y.stop refl
+  where
+    same : (f : SystemError) → r ≡ Err f → e ≡ f
+    same f g = let both : Err e ≡ Err f = sym is ∙ g in cc
+
+    by_stop : (o : Option Cause) → y.stop ≡ o → StopSays y.stop e
+    by_stop (Some stop) up = inl (stop, same (Stopped stop) (subst (λ (m : Option Cause). IfSome (stop_of m) (λ f. r ≡ Err f)) up some), up)
+    by_stop None up = inr (subst (λ (q : Result T SystemError). IfErr q (λ f. f ≡ OutOfMemory)) is (none (ap stop_of up)))
+
+-- and one that is answered
+pub ran_there : {T : Type 0} (y : SystemState) (r : Result T SystemError) (a : T) → r ≡ Ok a → IfSome (stop_refusal y) (λ f. r ≡ Err f) → y.stop ≡ None
+ran_there {T} y r a is some = by_stop y.stop refl
+  where
+    never : (f : SystemError) → r ≡ Err f → ⊥
+    never f g = let both : Ok a ≡ Err f = sym is ∙ g in absurd (cc)
+
+    by_stop : (o : Option Cause) → y.stop ≡ o → y.stop ≡ None
+    by_stop (Some stop) up = absurd (never (Stopped stop) (subst (λ (m : Option Cause). IfSome (stop_of m) (λ f. r ≡ Err f)) up some))
+    by_stop None up = up
+
+module _ {V : Type 0} (told : V → Option Disk) (may_leave : V → Disk → Type 0) (faults : V → ℕ) (precheck : Bool) (gs : List RegionState) (y : SystemState) (v : Vaulted V) (k j : Client) (x : Transaction) where
+  -- ---- a call that has its lock
+  module _ (plan : Planned) where
+    abbrev Answering : Answer → SystemState → Type 0
+    Answering given z = (L : List Record) (rs : List RegionState) (o : VaultState) → IsAtRest rs y plan → AtPlan L (core rs y o) plan → AnswersNow L (core rs y o) plan given (core rs z o)
+
+    pub answered_goes : (call : Call) (given : Answer) (z : SystemState) → call_in (next_of k) ≡ Some call → z ≡ done_logged y plan.txn plan.call given → Answering given z → Finishes k (Within x) (Answered call given) j
+        → StepGoes told may_leave faults precheck (Calling x plan) k gs y v true j gs z v
+    answered_goes call given z next logged answers f s B p w a stood is fits =
+        answer_said told may_leave faults precheck s B p w a gs y v k j x plan stood is fits given z logged answers
+        (subst (λ c. Finishes k (Within x) (Answered c given) j) (some_same (sym next ∙ ap call_in (command_is k.rest.now fits.call fits.more fits.calls))) f)
+
+    pub answered_silently : (given : Answer) (z : SystemState) (ok : Bool) → ok ≡ false → z ≡ done_logged y plan.txn plan.call given → Answering given z → Passes k (Within x) j
+        → StepGoes told may_leave faults precheck (Calling x plan) k gs y v ok j gs z v
+    answered_silently given z ok no_line logged answers f s B p w a stood is fits =
+        subst (λ b. Went told may_leave faults precheck s B p w a (Calling x plan) gs y v b j gs z v) (sym no_line)
+        (answer_unsaid told may_leave faults precheck s B p w a gs y v k j x plan stood is fits given z logged answers f)
+
+    pub unanswered_goes : (q : Planned) (z : SystemState) (e : SystemError) (r : Result Bool NoMemory) → q ≡ plan → z ≡ y → IsWhole plan → want_of plan ≡ AnswerIsNext → IsUnanswered plan y (System e) → IsRefusedBy e k x q r j
+        → StepGoes told may_leave faults precheck (Calling x plan) k gs y v (is_ok r) j gs z v
+    unanswered_goes q z e r same still whole want why h s B p w a stood is fits =
+        subst (λ m. Went told may_leave faults precheck s B p w a (Calling x plan) gs y v (is_ok r) j gs m v) (sym still)
+        (answer_goes told may_leave faults precheck s B p w a gs y v k j x plan stood is fits whole e r want why (subst (λ m. IsRefusedBy e k x m r j) same h))
+
+    pub operated_goes : (hs : List RegionState) (z : SystemState) (q : Planned) (x' : Transaction) (onward : Bool) → IsWhole plan → OneFurther precheck plan gs y q hs z → onward ≡ not (is_back plan) → (onward ≡ true → IsDeadly x → ⊥) → IsFurther x (not onward) x'
+        → j.transcript ≡ k.transcript → j.rest.now ≡ k.rest.now → j.state ≡ Calling x' q → StepGoes told may_leave faults precheck (Calling x plan) k gs y v true j hs z v
+    operated_goes hs z q x' onward whole further way lives f transcript rest state s B p w a stood is fits =
+        operate_on told may_leave faults precheck s B p w a gs hs y z v k j x x' plan q stood is fits whole further
+        (subst (λ b. IsFurther x b x') (back_way onward (is_back plan) way) f) (λ back deadly. lives (onward_now onward (is_back plan) way back) deadly) transcript rest state
+
+    pub dies_goes : (hs : List RegionState) (z : SystemState) → IsWhole plan → is_back plan ≡ false → IsDeadly x → IsDeath precheck plan gs y hs z → j.transcript ≡ with_lines k.transcript (DiedLine ∷ []) → j.state ≡ Gone
+        → StepGoes told may_leave faults precheck (Calling x plan) k gs y v true j hs z v
+    dies_goes hs z whole way deadly death line state s B p w a stood is fits =
+        dies_said told may_leave faults precheck s B p w a gs hs y z v k j x plan stood is fits whole way deadly death line state
+
+    pub dies_silently : (hs : List RegionState) (z : SystemState) (ok : Bool) → ok ≡ false → IsWhole plan → is_back plan ≡ false → IsDeadly x → IsDeath precheck plan gs y hs z → j.transcript ≡ k.transcript
+        → StepGoes told may_leave faults precheck (Calling x plan) k gs y v ok j hs z v
+    dies_silently hs z ok no_line whole way deadly death line s B p w a stood is fits =
+        subst (λ b. Went told may_leave faults precheck s B p w a (Calling x plan) gs y v b j hs z v) (sym no_line)
+        (dies_unsaid told may_leave faults precheck s B p w a gs hs y z v k j x plan stood is fits whole way deadly death line)
+
+    -- its next operation is refused
+    pub system_refuses : (region : ℕ) (e : SystemError) (r : Result Bool NoMemory) → IsWhole plan → want_of plan ≡ Region region → IsRefusal precheck plan gs y (System e) → (is_back plan ≡ false → IsDeadly x → IsLatched (System e)) → IsRefusedBy e k x plan r j
+        → StepGoes told may_leave faults precheck (Calling x plan) k gs y v (is_ok r) j gs y v
+    system_refuses region e r whole want why lives h s B p w a stood is fits = operation_goes told may_leave faults precheck s B p w a gs y v k j x plan stood is fits whole region e r want why lives h
+
+    pub damage_refuses : (region codeword found : ℕ) → IsWhole plan → want_of plan ≡ Region region → IsRefusal precheck plan gs y (Latch (LatchDamaged codeword found)) → TurnsBack k x plan (IsDamaged region codeword found) j
+        → StepGoes told may_leave faults precheck (Calling x plan) k gs y v true j gs y v
+    damage_refuses region codeword found whole want why h s B p w a stood is fits = damaged_goes told may_leave faults precheck s B p w a gs y v k j x plan stood is fits whole region codeword found want why h
+
+  -- ---- a call that goes back
+  module _ (plan : Planned) (why : Why) where
+    pub ends_back : IsWhole plan → want_of plan ≡ Nothing → RefusesCall k x why j → StepGoes told may_leave faults precheck (TakingBack x plan why) k gs y v true j gs y v
+    ends_back whole none f s B p w a stood is fits =
+        ended_said told may_leave faults precheck s B p w a gs y v k j x plan why stood is fits whole none
+        (f (IsCall fits.call) (next_command told may_leave faults precheck s B p w a gs y v k j x plan why stood is fits))
+
+    pub ends_back_silently : (ok : Bool) → ok ≡ false → j.transcript ≡ k.transcript → StepGoes told may_leave faults precheck (TakingBack x plan why) k gs y v ok j gs y v
+    ends_back_silently ok no_line same s B p w a stood is fits =
+        subst (λ b. Went told may_leave faults precheck s B p w a (TakingBack x plan why) gs y v b j gs y v) (sym no_line)
+        (ended_unsaid told may_leave faults precheck s B p w a gs y v k j x plan why stood is fits same)
+
+    pub goes_back : (hs : List RegionState) (z : SystemState) (q : Planned) → OneFurther precheck plan gs y q hs z → j.transcript ≡ k.transcript → j.rest.now ≡ k.rest.now → j.state ≡ TakingBack x q why
+        → StepGoes told may_leave faults precheck (TakingBack x plan why) k gs y v true j hs z v
+    goes_back hs z q further transcript rest state s B p w a stood is fits =
+        back_on told may_leave faults precheck s B p w a gs hs y z v k j x plan q why stood is fits further transcript rest state
+
+    -- a stop in between
+    pub stuck_goes : (stop : Cause) → y.stop ≡ Some stop → RefusesCall k x (IsStopped stop) j → StepGoes told may_leave faults precheck (TakingBack x plan why) k gs y v true j gs y v
+    stuck_goes stop up f s B p w a stood is fits =
+        stuck_said told may_leave faults precheck s B p w a gs y v k j x plan why stood is fits stop up
+        (f (IsCall fits.call) (next_command told may_leave faults precheck s B p w a gs y v k j x plan why stood is fits))
+
+    pub stuck_silently : (ok : Bool) (stop : Cause) → ok ≡ false → y.stop ≡ Some stop → j.transcript ≡ k.transcript → StepGoes told may_leave faults precheck (TakingBack x plan why) k gs y v ok j gs y v
+    stuck_silently ok stop no_line up same s B p w a stood is fits =
+        subst (λ b. Went told may_leave faults precheck s B p w a (TakingBack x plan why) gs y v b j gs y v) (sym no_line)
+        (stuck_unsaid told may_leave faults precheck s B p w a gs y v k j x plan why stood is fits stop up same)
+
+    pub stuck_nowhere : (ok : Bool) → ok ≡ false → j.transcript ≡ k.transcript → StepGoes told may_leave faults precheck (TakingBack x plan why) k gs y v ok j gs y v
+    stuck_nowhere ok no_line same s B p w a stood is fits =
+        subst (λ b. Went told may_leave faults precheck s B p w a (TakingBack x plan why) gs y v b j gs y v) (sym no_line)
+        (back_nowhere told may_leave faults precheck s B p w a gs y v k j x plan why stood is fits same)
+
+  -- ---- a request
+  module _ (call : Call) (next : next_of k ≡ Some (IsCall call)) where
+    pub granted_goes : (z : SystemState) (plan : Planned) → plan ≡ new_plan y.sizes x.txn call
+        → ((L : List Record) (rs : List RegionState) (o : VaultState) → IsNew plan → IsAtRest rs y plan → MayCall L (core rs y o) x.txn → IsAsked Granted L (core rs y o) plan (core rs z o))
+        → z ≡ granted y x.txn (call_key call) (mode_of call) → y.stop ≡ None → Stays k (Calling x plan) j → StepGoes told may_leave faults precheck (Within x) k gs y v true j gs z v
+    granted_goes z plan same asks system runs f s B p w a stood is fits =
+        grants_on told may_leave faults precheck s B p w a gs y v k j x call (behind_next k) stood is fits (next_act k (IsCall call) next) z
+        (subst (λ (m : Planned). (L : List Record) (rs : List RegionState) (o : VaultState) → IsNew m → IsAtRest rs y m → MayCall L (core rs y o) x.txn → IsAsked Granted L (core rs y o) m (core rs z o)) same asks) system runs (subst (λ m. Stays k (Calling x m) j) same f)
+
+    pub waits_goes : (z : SystemState) → z ≡ y → Stays k (Within x) j → StepGoes told may_leave faults precheck (Within x) k gs y v true j gs z v
+    waits_goes z same f s B p w a stood is fits =
+        subst (λ m. Went told may_leave faults precheck s B p w a (Within x) gs y v true j gs m v) (sym same)
+        (waits_on told may_leave faults precheck s B p w a gs y v k j x call (behind_next k) stood is fits (next_act k (IsCall call) next) f)
+
+    pub unasked_goes : (z : SystemState) (stop : Cause) → z ≡ y → y.stop ≡ Some stop → RefusesCall k x (IsStopped stop) j → StepGoes told may_leave faults precheck (Within x) k gs y v true j gs z v
+    unasked_goes z stop same up f s B p w a stood is fits =
+        subst (λ m. Went told may_leave faults precheck s B p w a (Within x) gs y v true j gs m v) (sym same)
+        (unasked_said told may_leave faults precheck s B p w a gs y v k j x call (behind_next k) stood is fits (next_act k (IsCall call) next) stop up (f (IsCall call) next))
+
+    pub unasked_silently : (z : SystemState) (ok : Bool) (stop : Cause) → z ≡ y → ok ≡ false → y.stop ≡ Some stop → j.transcript ≡ k.transcript → StepGoes told may_leave faults precheck (Within x) k gs y v ok j gs z v
+    unasked_silently z ok stop still no_line up same s B p w a stood is fits =
+        subst (λ m. Went told may_leave faults precheck s B p w a (Within x) gs y v ok j gs m v) (sym still)
+        (subst (λ b. Went told may_leave faults precheck s B p w a (Within x) gs y v b j gs y v) (sym no_line)
+        (unasked_unsaid told may_leave faults precheck s B p w a gs y v k j x call (behind_next k) stood is fits (next_act k (IsCall call) next) stop up same))
+
+    pub unasked_nowhere : (z : SystemState) (ok : Bool) → z ≡ y → ok ≡ false → j.transcript ≡ k.transcript → StepGoes told may_leave faults precheck (Within x) k gs y v ok j gs z v
+    unasked_nowhere z ok still no_line same s B p w a stood is fits =
+        subst (λ m. Went told may_leave faults precheck s B p w a (Within x) gs y v ok j gs m v) (sym still)
+        (subst (λ b. Went told may_leave faults precheck s B p w a (Within x) gs y v b j gs y v) (sym no_line)
+        (ask_nowhere told may_leave faults precheck s B p w a gs y v k j x call (behind_next k) stood is fits (next_act k (IsCall call) next) same))
+
+-- ---- what the calls in it ask for
+module _ {V : Type 0} (told : V → Option Disk) (may_leave : V → Disk → Type 0) (faults : V → ℕ) (gs : List RegionState) (y : SystemState) (v : Vaulted V) (k : Client) (x : Transaction) where
+  -- the call may be spelled
+  pub may_call : (call : Call) → next_of k ≡ Some (IsCall call) → MayStep told may_leave faults (Within x) k gs y v → MayBeCalled call
+  may_call call next may = by_rest (next_act k (IsCall call) next) may.fits.placed
+    where
+      by_rest : rest_of k ≡ Calls call ∷ behind_next k → IsPlaced true (rest_of k) → MayBeCalled call
+      by_rest e h = (subst (IsPlaced true) e h).0
+
+  module _ (plan : Planned) where
+    pub at_rest : MayStep told may_leave faults (Calling x plan) k gs y v → IsAtRest gs y plan
+    at_rest may =
+        subst (λ rs. IsAtRest rs y plan) may.stood.stands.at.regions (subst (λ m. IsAtRest may.point.core.regions m plan) may.stood.stands.at.system may.fits.plan_is.rest)
+
+    pub command_there : MayStep told may_leave faults (Calling x plan) k gs y v → (call : Call) × (next_of k ≡ Some (IsCall call))
+    command_there may = (may.fits.call, command_is k.rest.now may.fits.call may.fits.more may.fits.calls)
+
+    pub not_answered : MayStep told may_leave faults (Calling x plan) k gs y v → is_answered plan.phase ≡ false
+    not_answered may = ap is_answered may.fits.plan_is.phase_is
+
+    pub not_held : MayStep told may_leave faults (Calling x plan) k gs y v → (precheck : Bool) (region t : ℕ) → want_of plan ≡ Region region → IsRefusal precheck plan gs y (Latch (Latched t)) → ⊥
+    not_held may precheck region t want why =
+        let on = refused_on precheck plan gs y (Latch (Latched t)) region want why in never_latched _ on.0 t (may.stood.stands.dead region on.0 on.1) on.2
+
+  module _ (plan : Planned) (why : Why) where
+    pub back_at_rest : MayStep told may_leave faults (TakingBack x plan why) k gs y v → IsAtRest gs y plan
+    back_at_rest may =
+        subst (λ rs. IsAtRest rs y plan) may.stood.stands.at.regions (subst (λ m. IsAtRest may.point.core.regions m plan) may.stood.stands.at.system may.fits.plan_is.rest)
+
+    pub back_command : MayStep told may_leave faults (TakingBack x plan why) k gs y v → (call : Call) × (next_of k ≡ Some (IsCall call))
+    back_command may = (may.fits.call, command_is k.rest.now may.fits.call may.fits.more may.fits.calls)
+
+  -- the plan wants an operation
+  pub some_next : (plan : Planned) (region : ℕ) → want_of plan ≡ Region region → is_some (plan_next plan) ≡ true
+  some_next plan region want = ap is_some (wanted plan region (sym want)).1
+
+-- a plan that goes back wants an operation, or nothing
+pub back_wants : (plan : Planned) → plan.phase ≡ GoesBack → (want_of plan ≡ Nothing) ⊎ ((r : ℕ) × (want_of plan ≡ Region r))
+back_wants plan phase = by_next (plan_next plan) (ap (λ (f : Phase). want_in f (plan_next plan)) phase)
+  where
+    by_next : (o : Option (ℕ × Op)) → want_of plan ≡ want_in GoesBack o → (want_of plan ≡ Nothing) ⊎ ((r : ℕ) × (want_of plan ≡ Region r))
+    by_next None e = inl e
+    by_next (Some n) e = inr (n.0, e)
+
+pub on_err : {T E : Type 0} (r : Result T E) (P Q : Type 0) → (P → Q) → OnErr r P → OnErr r Q
+on_err (Ok t) P Q f h = tt
+on_err (Err e) P Q f h = f h
+
+-- ---- where a call left plan and core as they were
+module _ {V : Type 0} (told : V → Option Disk) (may_leave : V → Disk → Type 0) (faults : V → ℕ) (k : Client) (gs rs : List RegionState) (y m : SystemState) (v u : Vaulted V) (regions : rs ≡ gs) (system : m ≡ y) (vault : u ≡ v) where
+  pub may_still : (state : State) → MayStep told may_leave faults state k gs y v → MayStep told may_leave faults state k rs m u
+  may_still state may =
+      subst (λ l. MayStep told may_leave faults state k l m u) (sym regions) (subst (λ n. MayStep told may_leave faults state k gs n u) (sym system) (subst (λ o. MayStep told may_leave faults state k gs y o) (sym vault) may))
+
+  pub goes_still : (precheck : Bool) (state : State) (ok : Bool) (j : Client) (hs : List RegionState) (z : SystemState) (o : Vaulted V) → StepGoes told may_leave faults precheck state k rs m u ok j hs z o → StepGoes told may_leave faults precheck state k gs y v ok j hs z o
+  goes_still precheck state ok j hs z o goes =
+      subst (λ l. StepGoes told may_leave faults precheck state k l y v ok j hs z o) regions (subst (λ n. StepGoes told may_leave faults precheck state k rs n v ok j hs z o) system (subst (λ n. StepGoes told may_leave faults precheck state k rs m n ok j hs z o) vault goes))
+
+module _ {V : Type 0} (told : V → Option Disk) (may_leave : V → Disk → Type 0) (faults : V → ℕ) (precheck : Bool) (state : State) (k j : Client) (gs hs : List RegionState) (y z : SystemState) (v u : Vaulted V) (ok : Bool) (vault : u ≡ v) where
+  -- the vault is as it was
+  pub vault_still : StepGoes told may_leave faults precheck state k gs y v ok j hs z v → StepGoes told may_leave faults precheck state k gs y v ok j hs z u
+  vault_still goes = subst (λ o. StepGoes told may_leave faults precheck state k gs y v ok j hs z o) (sym vault) goes
+
+module _ {V : Type 0} (told : V → Option Disk) (may_leave : V → Disk → Type 0) (faults : V → ℕ) (precheck : Bool) (state : State) (k m j : Client) (gs hs : List RegionState) (y z : SystemState) (v u : Vaulted V) (ok : Bool) where
+  -- of a client that differs in its points alone
+  pub by_lines : m.transcript ≡ k.transcript → m.rest.now ≡ k.rest.now → StepGoes told may_leave faults precheck state m gs y v ok j hs z u → StepGoes told may_leave faults precheck state k gs y v ok j hs z u
+  by_lines same rest goes s B p w a stood is fits =
+      goes s B p w a stood (record { client = is.client ∙ ap (λ t. t.client) (sym same); lines = is.lines ∙ ap (λ t. map said_of t.lines) (sym same); stands = is.stands })
+      (subst (λ r. Fits told may_leave faults s B p w gs y v a r state) (ap (map act_of) (sym rest)) fits)
+
+-- the system refuses what takes back for a stop alone
+pub back_says : (precheck : Bool) (plan : Planned) (gs : List RegionState) (y : SystemState) (e : SystemError) → plan.phase ≡ GoesBack → is_some (plan_next plan) ≡ true → IsRefusal precheck plan gs y (System e) → StopSays y.stop e
+back_says precheck plan gs y e phase next why = by_wants (back_wants plan phase)
+  where
+    back : is_back plan ≡ true
+    back = ap (λ f. is_back_in f (answer_of plan.geometry plan.call plan.stage) plan.changes) phase
+
+    by_wants : (want_of plan ≡ Nothing) ⊎ ((r : ℕ) × (want_of plan ≡ Region r)) → StopSays y.stop e
+    by_wants (inl none) = absurd (subst (λ m. IsRefusedIn m precheck plan gs y (System e)) none why)
+    by_wants (inr (r, want)) =
+        let on = refused_on precheck plan gs y (System e) r want why in
+        stop_cases y.stop e (subst (λ b. IsAnswerTo (commit_refusal b y (record_length (Forward plan.txn on.2.1))) e) back on.2.4)
+
+-- and compares nothing
+pub back_clean : (precheck : Bool) (plan : Planned) (gs : List RegionState) (y : SystemState) (codeword found : ℕ) → plan.phase ≡ GoesBack → IsRefusal precheck plan gs y (Latch (LatchDamaged codeword found)) → ⊥
+back_clean precheck plan gs y codeword found phase why = by_wants (back_wants plan phase)
+  where
+    back : is_back plan ≡ true
+    back = ap (λ f. is_back_in f (answer_of plan.geometry plan.call plan.stage) plan.changes) phase
+
+    by_wants : (want_of plan ≡ Nothing) ⊎ ((r : ℕ) × (want_of plan ≡ Region r)) → ⊥
+    by_wants (inl none) = subst (λ m. IsRefusedIn m precheck plan gs y (Latch (LatchDamaged codeword found))) none why
+    by_wants (inr (r, want)) =
+        let on = refused_on precheck plan gs y (Latch (LatchDamaged codeword found)) r want why in
+        let checks = (damaged_latch (not (is_back plan) && precheck) on.0 codeword found on.2).checks in
+        let none : (not (is_back plan) && precheck) ≡ false = ap (λ b. not b && precheck) back in
+        let both : true ≡ false = sym checks ∙ none in absurd (cc)
+
+module _ {V : Type 0} (told : V → Option Disk) (may_leave : V → Disk → Type 0) (faults : V → ℕ) (gs : List RegionState) (y : SystemState) (v : Vaulted V) (k : Client) (x : Transaction) (plan : Planned) (why : Why) (may : MayStep told may_leave faults (TakingBack x plan why) k gs y v) where
+  pub goes_back_now : plan.phase ≡ GoesBack
+  goes_back_now = may.fits.plan_is.phase_is
+
+  pub back_not_held : (precheck : Bool) (t : ℕ) → IsRefusal precheck plan gs y (Latch (Latched t)) → ⊥
+  back_not_held precheck t refused = by_wants (back_wants plan may.fits.plan_is.phase_is)
+    where
+      by_wants : (want_of plan ≡ Nothing) ⊎ ((r : ℕ) × (want_of plan ≡ Region r)) → ⊥
+      by_wants (inl none) = subst (λ m. IsRefusedIn m precheck plan gs y (Latch (Latched t))) none refused
+      by_wants (inr (r, want)) = let on = refused_on precheck plan gs y (Latch (Latched t)) r want refused in never_latched _ on.0 t (may.stood.stands.dead r on.0 on.1) on.2
+
+  pub never_done : want_of plan ≡ AnswerIsNext → ⊥
+  never_done done = by_wants (back_wants plan may.fits.plan_is.phase_is)
+    where
+      by_wants : (want_of plan ≡ Nothing) ⊎ ((r : ℕ) × (want_of plan ≡ Region r)) → ⊥
+      by_wants (inl none) = let both : Nothing ≡ AnswerIsNext = sym none ∙ done in absurd (cc)
+      by_wants (inr (r, want)) = let both : Region r ≡ AnswerIsNext = sym want ∙ done in absurd (cc)

@@ -1,0 +1,157 @@
+-- A call of a client is refused, and taken back, or told at once.
+use Rattle.std.proofs.Common.{◌≡◌, ℕ, Bool, true, false, List, [], ◌∷◌, ◌++◌, length, map, Option, Some, None, is_some, refl, ap, sym, subst, ◌∙◌, inl, inr}
+use Rattle.std.specs.Prelude.{◌==◌, ◌⊎◌}
+use Rattle.std.proofs.lemmas.List.{map-append}
+use Rattle.dali_counts.proofs.Lists.{equal, same_number}
+use Rattle.dali_record.specs.declared.records.Call.{Call}
+use Rattle.dali_record.specs.declared.records.Record.{Record}
+use Rattle.dali_record.specs.declared.records.Record.TheVariants.{Forward}
+use Rattle.dali_region.specs.State.{RegionState}
+use Rattle.dali_att.specs.declared.state.State.TheVariants.{Live}
+use Rattle.dali_store.specs.Store.{Files as Disk}
+use Rattle.dali_system.specs.declared.causes.Cause.{Cause}
+use Rattle.dali_system.specs.State.{SystemState, state_of}
+use Rattle.dali_system.specs.Keeps.{IsFree}
+use Rattle.dali_crash.specs.Checkpoints.{Point}
+use Rattle.dali_crash.specs.Traces.{Start, bases_of}
+use Rattle.dali_vault.specs.Vaulted.{Vaulted}
+use Rattle.dali_calls.specs.declared.plan.Phase.TheVariants.{Calling as IsCalling, Refused as IsRefused}
+use Rattle.dali_calls.specs.Plans.{Planned, refused, is_answered}
+use Rattle.dali_single.specs.Stands.{IsAtRest, AtPlan}
+use Rattle.dali_stepwise.proofs.Turning.{plan_turns}
+use Rattle.dali_transcripts.specs.Words.{Act, Calls, is_stop}
+use Rattle.dali_transcripts.specs.World.{Deed, Logs, Yields, FindsDead, Meets, World, log_of}
+use Rattle.dali_transcripts.specs.Moves.{Receipt, Within as IsWithin, at, Move, IsRefusedCall, operations, left}
+use Rattle.dali_transcripts.specs.Causes.{IsWork, IsTried, AreWork, AreTried, Survives, HasCause, spares}
+use Rattle.dali_transcripts.specs.Rounds.{Standing, IsPlaced}
+use Rattle.dali_transcripts.proofs.Lists.{all_map}
+use Rattle.dali_transcripts.proofs.Growing.{works}
+use Rattle.dali_deeds.specs.Tells.{after}
+use Rattle.dali_deeds.specs.Laws.{IsNoFault}
+use Rattle.dali_clients.specs.declared.command.Command.{Command}
+use Rattle.dali_clients.specs.declared.command.Command.TheVariants.{Call as IsCall}
+use Rattle.dali_clients.specs.declared.line.Line.TheVariants.{Refused as RefusedLine}
+use Rattle.dali_clients.specs.declared.line.Why.{Why}
+use Rattle.dali_clients.specs.declared.line.Why.TheVariants.{Stopped}
+use Rattle.dali_clients.specs.Told.{act_of, reason_of, said_of}
+use Rattle.dali_turns.specs.declared.client.Client.{Client}
+use Rattle.dali_turns.specs.declared.client.State.{State}
+use Rattle.dali_turns.specs.declared.client.State.TheVariants.{Within, Calling, TakingBack}
+use Rattle.dali_turns.specs.declared.client.Transaction.{Transaction}
+use Rattle.dali_turns.specs.Clients.{next_of, Passes, Finishes, Stays}
+use Rattle.dali_turns.specs.Stood.{Stood}
+use Rattle.dali_turns.specs.Within.{FitsWithin, FitsCalling, FitsTakingBack}
+use Rattle.dali_turns.specs.Fits.{rest_of, lines_of, IsOf, Owns, Fits}
+use Rattle.dali_turns.specs.Goes.{RowsTell, Went}
+use Rattle.dali_turns.proofs.Refusals.{HasCauseNow, met_now, right_now}
+use Rattle.dali_turns.proofs.Doing.{Did, did_meet, behind, ended, went_on, went_by, went_silent}
+use Rattle.dali_turns.proofs.Calling.{behind_one, none_so_far, due_left}
+
+-- ---- the work of a call, once it is refused
+pub tried_of : (w : World) (c t : ℕ) (call : Call) (x : Receipt) → IsWork w c t call x → IsTried w c t call x
+tried_of w c t call (n, Meets why) h = absurd h
+tried_of w c t call (n, Logs y) h = h
+tried_of w c t call (n, FindsDead f) h = h
+tried_of w c t call x h = h
+
+pub all_tried_of : (w : World) (c t : ℕ) (call : Call) (xs : List Receipt) → AreWork w c t call xs → AreTried w c t call xs
+all_tried_of w c t call xs h = all_map (IsWork w c t call) (IsTried w c t call) (tried_of w c t call) xs h
+
+module _ {V : Type 0} (told : V → Option Disk) (may_leave : V → Disk → Type 0) (faults : V → ℕ)
+    (precheck : Bool) (s : Start) (B : List (List Record)) (p : Point) (w : World) (a : Standing) (gs : List RegionState) (y : SystemState) (v : Vaulted V) (k j : Client)
+    (x : Transaction) (plan : Planned) (stood : Stood told may_leave faults s B p w precheck gs y v) (is : IsOf w a k) (fits : FitsCalling p w a (rest_of k) x plan)
+    (why : Why) (no_fault : IsNoFault (reason_of why)) where
+  abbrev now : World
+  now = after w a.client (Meets (reason_of why) ∷ []) p.core
+
+  module _ (cause : HasCauseNow w a.client p.core (Calls fits.call) (Some x.txn) (reason_of why))
+      (lives : Survives now a.client (length (log_of w)) x.txn fits.call fits.deadly (operations x.txn a.pending) (reason_of why) (met_now w a.client p.core (Calls fits.call) (Some x.txn) (reason_of why) cause)) where
+    did : Did told may_leave faults precheck s B p w a.client (Calling x plan) gs y v (Meets (reason_of why) ∷ []) B p gs y v
+    did = did_meet told may_leave faults precheck s B p w gs y v stood a.client (Calling x plan) (reason_of why) no_fault (right_now w a.client p.core (Calls fits.call) (Some x.txn) (reason_of why) cause)
+
+    tried : AreTried now a.client x.txn fits.call a.pending
+    tried = all_tried_of now a.client x.txn fits.call a.pending (works w now did.goes.grows a.client x.txn fits.call a.pending fits.work)
+
+    -- ---- its changes are taken back from here on
+    pub turned_back : is_stop (reason_of why) ≡ false → Stays k (TakingBack x (refused plan) why) j → Went told may_leave faults precheck s B p w a (Calling x plan) gs y v true j gs y v
+    turned_back no_stop f =
+        went_on told may_leave faults precheck s B B p p w a (Calling x plan) gs gs y y v v (Meets (reason_of why) ∷ []) k j is did true f.transcript
+        (subst (λ (n : State). Fits told may_leave faults s B p now gs y v (behind a w (Meets (reason_of why) ∷ [])) (rest_of j) n) (sym f.stands) fitting)
+        (λ e. rows)
+      where
+        same_rest : rest_of j ≡ rest_of k
+        same_rest = ap (map act_of) f.rest
+
+        fitting : FitsTakingBack p now (behind a w (Meets (reason_of why) ∷ [])) (rest_of j) x (refused plan) why
+        fitting = record {
+          call = fits.call;
+          more = fits.more;
+          calls = same_rest ∙ fits.calls;
+          deadly = fits.deadly;
+          spot = fits.spot ∙ ap (at (IsWithin x.txn x.tries (map act_of x.commands.now) fits.deadly false)) (sym same_rest);
+          work = a.pending;
+          met = length (log_of w);
+          back = [];
+          pending = refl;
+          tried = tried;
+          cause = met_now w a.client p.core (Calls fits.call) (Some x.txn) (reason_of why) cause;
+          survives = lives;
+          no_stop = no_stop;
+          aside = tt;
+          nearer = fits.nearer;
+          spared = fits.spared;
+          placed = subst (IsPlaced true) (sym same_rest) fits.placed;
+          again = fits.again;
+          plan_is = record {
+            txn = fits.plan_is.txn;
+            call_is = fits.plan_is.call_is;
+            phase_is = refl;
+            rest = record { sizes = fits.plan_is.rest.sizes; whole = fits.plan_is.rest.whole; lives = fits.plan_is.rest.lives; closed = fits.plan_is.rest.closed };
+            stands = plan_turns p.log p.core plan (ap is_answered fits.plan_is.phase_is) fits.plan_is.stands;
+          };
+        }
+
+        rows : RowsTell (Calling x plan) y j.state y
+        rows e t lives = by_test (x.txn == t) refl
+          where
+            by_test : (b : Bool) → (x.txn == t) ≡ b → Owns j.state t ⊎ ((state_of y t ≡ Some Live) × (Owns (Calling x plan) t → ⊥))
+            by_test true g = inl (subst (λ (n : State). Owns n t) (sym f.stands) (equal x.txn t g))
+            by_test false g = inr (lives, λ one. let yes : (x.txn == t) ≡ true = same_number x.txn t one in let no : true ≡ false = sym yes ∙ g in absurd (cc))
+
+    -- ---- it is told at once, since the engine is stopped
+    module _ (stopped : is_some y.stop ≡ true) (stops : is_stop (reason_of why) ≡ true) where
+      abbrev move : Move
+      move = IsRefusedCall x.txn x.tries (map act_of x.commands.now) fits.deadly false a.pending (length (log_of w)) [] fits.call (reason_of why) fits.more
+
+      spot : a.spot ≡ at (IsWithin x.txn x.tries (map act_of x.commands.now) fits.deadly false) (Calls fits.call ∷ fits.more)
+      spot = fits.spot ∙ ap (at (IsWithin x.txn x.tries (map act_of x.commands.now) fits.deadly false)) fits.calls
+
+      has_cause : HasCause now a.client move
+      has_cause = (tried, (met_now w a.client p.core (Calls fits.call) (Some x.txn) (reason_of why) cause, lives), tt)
+
+      fits_behind : (rest : List Act) → rest ≡ fits.more → FitsWithin p now (ended a move) rest x
+      fits_behind rest same = record {
+        said = is_stop (reason_of why);
+        may = λ e. ap (λ (m : SystemState). is_some m.stop) stood.stands.at.system ∙ stopped;
+        spot = ap (λ d. at (IsWithin x.txn x.tries (map act_of x.commands.now) d (is_stop (reason_of why))) fits.more) (sym fits.nearer) ∙ ap (at (IsWithin x.txn x.tries (map act_of x.commands.now) x.deadly (is_stop (reason_of why)))) (sym same);
+        so_far = none_so_far _ a.client x.txn rest;
+        placed = subst (IsPlaced true) (sym same) (subst (IsPlaced true) fits.calls fits.placed).1;
+        again = fits.again;
+        due = ap (λ d. spares d 0) fits.nearer ∙ due_left fits.deadly (operations x.txn a.pending) fits.spared;
+        lives = subst (λ t. state_of p.core.system t ≡ Some Live) fits.plan_is.txn fits.plan_is.rest.lives;
+        free = subst (IsFree p.core) fits.plan_is.txn fits.plan_is.stands.free;
+        may_call = λ e. let none : is_some p.core.system.stop ≡ false = ap is_some e in let some : is_some p.core.system.stop ≡ true = ap (λ (m : SystemState). is_some m.stop) stood.stands.at.system ∙ stopped in let no : true ≡ false = sym some ∙ none in absurd (cc);
+      }
+
+      rows_within : (new : State) → new ≡ Within x → RowsTell (Calling x plan) y new y
+      rows_within new is_new e t lives = let none : is_some y.stop ≡ false = ap is_some e in let no : true ≡ false = sym stopped ∙ none in absurd (cc)
+
+      pub refused_said : Finishes k (Within x) (RefusedLine (IsCall fits.call) why) j → Went told may_leave faults precheck s B p w a (Calling x plan) gs y v true j gs y v
+      refused_said f =
+          went_by told may_leave faults precheck s B B p p w a (Calling x plan) gs gs y y v v (Meets (reason_of why) ∷ []) k j is did move spot refl has_cause
+          (ap (λ t. t.client) f.transcript) (ap (λ t. map said_of t.lines) f.transcript ∙ map-append said_of k.transcript.lines (RefusedLine (IsCall fits.call) why ∷ []))
+          (subst (λ (n : State). Fits told may_leave faults s B p now gs y v (ended a move) (rest_of j) n) (sym f.stands) (fits_behind (rest_of j) (behind_one k.rest.now j.rest.now _ fits.more fits.calls f.rest)))
+          (rows_within j.state f.stands)
+
+      pub refused_unsaid : Passes k (Within x) j → Went told may_leave faults precheck s B p w a (Calling x plan) gs y v false j gs y v
+      refused_unsaid f = went_silent told may_leave faults precheck s B B p p w a (Calling x plan) gs gs y y v v (Meets (reason_of why) ∷ []) k j is did move spot refl has_cause f.transcript

@@ -1,0 +1,236 @@
+-- Steps of a transaction's own that call no store, in the midst of a step of its client, and the deeds that tell them: those of the records that they log.
+use Rattle.std.proofs.Common.{◌≡◌, ℕ, ◌+◌, ◌<◌, ◌≤◌, Bool, true, false, not, List, [], ◌∷◌, ◌++◌, length, map, Option, Some, None, IfSome, is_some, refl, ap, sym, subst, ◌∙◌, arith}
+use Rattle.std.specs.Prelude.{◌==◌, ◌&&◌, IsSomeAnd, slice_get}
+use Rattle.std.specs.List.{list_all}
+use Rattle.std.proofs.lemmas.List.{append-nil, append_assoc, map-append}
+use Rattle.dali_counts.proofs.Lists.{equal}
+use Rattle.dali_record.specs.declared.records.Record.{Record}
+use Rattle.dali_record.specs.declared.records.Record.TheVariants.{Forward, Back, Solo}
+use Rattle.dali_region.specs.State.{RegionState}
+use Rattle.dali_store.specs.Store.{Files as Disk}
+use Rattle.dali_system.specs.State.{SystemState, CoreState}
+use Rattle.dali_system.specs.Regions.{RegionStep, Latch, NoteReads, Update, TakeBack, Poke, Check, Die, Clean}
+use Rattle.dali_system.specs.Passes.{Audits as PassAudits}
+use Rattle.dali_system.specs.Flushes.{frame_of}
+use Rattle.dali_system.specs.Courses.{Step, Begins, Operates, TakesBack, Frees, Answers, Commits, Ends, AuditBegins, AuditEnds, Locks, Refuses, OnRegion, Passes, Dies, Claims, GivesBack, Recovers, Stops, Checkpoints, Takes, Flushes, Faults, ReadFails, IsStep, AuditsBy}
+use Rattle.dali_parts.proofs.Vaults.{step_has_vault}
+use Rattle.dali_crash.specs.Checkpoints.{StoreStep, Does, Point, IsPointStep, IsPointCourse, is_of_checkpoint, copies_after}
+use Rattle.dali_crash.specs.Traces.{Start}
+use Rattle.dali_vault.specs.Vaulted.{Vaulted}
+use Rattle.dali_single.specs.Operated.{IsOwn}
+use Rattle.dali_single.specs.Single.{IsOwnStep, Leads, is_end}
+use Rattle.dali_stepwise.specs.Beside.{is_apart}
+use Rattle.dali_stepwise.proofs.Waiting.{own_apart}
+use Rattle.dali_steps.specs.Courses.{is_quiet, calls_none}
+use Rattle.dali_steps.proofs.Courses.{came_same, vault_same, both_true}
+use Rattle.dali_steps.proofs.Steps.{quiet_goes}
+use Rattle.dali_clean.specs.Cleaned.{AreDead}
+use Rattle.dali_whole.specs.Cores.{IsCoreAt, HoldsPlaces}
+use Rattle.dali_transcripts.specs.World.{Deed, Logs, World}
+use Rattle.dali_transcripts.specs.Causes.{AreRightFrom}
+use Rattle.dali_transcripts.specs.Rounds.{by}
+use Rattle.dali_deeds.specs.Deeds.{AreOf}
+use Rattle.dali_deeds.specs.Tells.{after}
+use Rattle.dali_deeds.specs.Laws.{AreOfCourse}
+use Rattle.dali_turns.specs.declared.client.State.{State}
+use Rattle.dali_turns.specs.Stood.{IsQuiet, Stood}
+use Rattle.dali_turns.specs.Fits.{Owns}
+use Rattle.dali_turns.specs.Others.{ImageStays}
+use Rattle.dali_turns.proofs.Beside.{is_in_audit, is_beside, is_out_of, step_image, image_still, image_then}
+use Rattle.dali_turns.proofs.Doing.{Did}
+use Rattle.dali_turns.proofs.Coursing.{did_course}
+
+-- the point behind a step that passes no region
+abbrev pub point_behind : Point → Step → List Record → CoreState → Point
+point_behind p x K e = record p { log = K; core = e; copies = copies_after p.core x p.copies }
+
+-- ---- steps of a transaction's own
+-- one that logs a record is told by it, every other one by none
+abbrev own_deeds : SystemState → Step → List Deed
+own_deeds y (Operates t b) = Logs (Forward t b) ∷ []
+own_deeds y (TakesBack t b) = Logs (Back t b) ∷ []
+own_deeds y (Frees t b) = Logs (Solo y.next t b) ∷ []
+own_deeds y x = []
+
+abbrev logged_of : SystemState → Step → List Record
+logged_of y (Operates t b) = Forward t b ∷ []
+logged_of y (TakesBack t b) = Back t b ∷ []
+logged_of y (Frees t b) = Solo y.next t b ∷ []
+logged_of y x = []
+
+pub record OwnStep (L : List Record) (c : CoreState) (x : Step) (M : List Record) (d : CoreState) : Type 0 where
+  pub quiet : is_quiet x ≡ true
+  pub log : M ≡ L ++ logged_of c.system x
+  pub taken : d.system.taken ≡ c.system.taken
+  pub out : (b : ℕ) → is_in_audit b x ≡ false
+
+no_region : (o : Option RegionState) → IsSomeAnd o (λ g. ⊥) → ⊥
+no_region None h = absurd h
+no_region (Some g) h = h
+
+-- none is a stray write, an audit's or a checkpoint's
+on_own : (t r : ℕ) (x : RegionStep) (L : List Record) (c : CoreState) (M : List Record) (d : CoreState) → IsStep L c (OnRegion r x) M d → IsSomeAnd (slice_get c.regions r) (IsOwn t x) → OwnStep L c (OnRegion r x) M d
+on_own t r (Latch u) L c M d st own = record { quiet = refl; log = st.3.0 ∙ sym (append-nil L); taken = ap (λ (k : CoreState). k.system.taken) st.3.1; out = λ b. refl }
+on_own t r (NoteReads mask) L c M d st own = record { quiet = refl; log = st.3.0 ∙ sym (append-nil L); taken = ap (λ (k : CoreState). k.system.taken) st.3.1; out = λ b. refl }
+on_own t r (Update word value) L c M d st own = record { quiet = refl; log = st.3.0 ∙ sym (append-nil L); taken = ap (λ (k : CoreState). k.system.taken) st.3.1; out = λ b. refl }
+on_own t r TakeBack L c M d st own = record { quiet = refl; log = st.3.0 ∙ sym (append-nil L); taken = ap (λ (k : CoreState). k.system.taken) st.3.1; out = λ b. refl }
+on_own t r (Poke word mask) L c M d st own = absurd (no_region (slice_get c.regions r) own)
+on_own t r Check L c M d st own = absurd (no_region (slice_get c.regions r) own)
+on_own t r Die L c M d st own = absurd (no_region (slice_get c.regions r) own)
+on_own t r (Clean side) L c M d st own = absurd (no_region (slice_get c.regions r) own)
+
+own_step : (precheck : Bool) (t : ℕ) (L : List Record) (c : CoreState) (x : Step) (M : List Record) (d : CoreState) → IsStep L c x M d → IsOwnStep precheck t c x → is_end x ≡ false → OwnStep L c x M d
+own_step precheck t L c (Operates u b) M d st own e = record { quiet = refl; log = st.3.0; taken = ap (λ (k : CoreState). k.system.taken) st.3.1; out = λ b. refl }
+own_step precheck t L c (TakesBack u b) M d st own e = record { quiet = refl; log = st.2.0; taken = ap (λ (k : CoreState). k.system.taken) st.2.1; out = λ b. refl }
+own_step precheck t L c (Frees u b) M d st own e = record { quiet = refl; log = st.2.0; taken = ap (λ (k : CoreState). k.system.taken) st.2.1; out = λ b. refl }
+own_step precheck t L c (Locks u k m) M d st own e = record { quiet = refl; log = st.2.0 ∙ sym (append-nil L); taken = ap (λ (z : CoreState). z.system.taken) st.2.1; out = λ b. refl }
+own_step precheck t L c (OnRegion r x) M d st own e = on_own t r x L c M d st own
+own_step precheck t L c (Answers u k a) M d st own e = absurd (cc)
+own_step precheck t L c (Commits u) M d st own e = absurd (cc)
+own_step precheck t L c (Ends u) M d st own e = absurd (cc)
+own_step precheck t L c x M d st own e = absurd own
+
+-- the deeds that tell it
+on_told : (t r : ℕ) (x : RegionStep) (w : World) (c : ℕ) (p : Point) → IsSomeAnd (slice_get p.core.regions r) (IsOwn t x) → AreOf w c p (Does (OnRegion r x)) []
+on_told t r (Latch u) w c p own = refl
+on_told t r (NoteReads mask) w c p own = refl
+on_told t r (Update word value) w c p own = refl
+on_told t r TakeBack w c p own = refl
+on_told t r (Poke word mask) w c p own = absurd (no_region (slice_get p.core.regions r) own)
+on_told t r Check w c p own = refl
+on_told t r Die w c p own = refl
+on_told t r (Clean side) w c p own = refl
+
+own_told : (precheck : Bool) (t : ℕ) (x : Step) (w : World) (c : ℕ) (p : Point) → w.precheck ≡ precheck → IsOwnStep precheck t p.core x → is_end x ≡ false → AreOf w c p (Does x) (map Logs (logged_of p.core.system x))
+own_told precheck t (Operates u b) w c p same own e = (refl, λ on. own.1 (sym same ∙ on))
+own_told precheck t (TakesBack u b) w c p same own e = refl
+own_told precheck t (Frees u b) w c p same own e = refl
+own_told precheck t (Locks u k m) w c p same own e = refl
+own_told precheck t (OnRegion r x) w c p same own e = on_told t r x w c p own
+own_told precheck t (Answers u k a) w c p same own e = absurd (cc)
+own_told precheck t (Commits u) w c p same own e = absurd (cc)
+own_told precheck t (Ends u) w c p same own e = absurd (cc)
+own_told precheck t x w c p same own e = absurd own
+
+audits_same : (precheck : Bool) (t : ℕ) (A : PassAudits) (L : List Record) (c : CoreState) (x : Step) → IsOwnStep precheck t c x → AuditsBy A A L c x
+audits_same precheck t A L c (Operates u b) own = refl
+audits_same precheck t A L c (TakesBack u b) own = refl
+audits_same precheck t A L c (Frees u b) own = refl
+audits_same precheck t A L c (Locks u k m) own = refl
+audits_same precheck t A L c (OnRegion r x) own = refl
+audits_same precheck t A L c (Answers u k a) own = refl
+audits_same precheck t A L c (Commits u) own = refl
+audits_same precheck t A L c (Ends u) own = refl
+audits_same precheck t A L c x own = absurd own
+
+both_yes : (a b : Bool) → a ≡ true → b ≡ true → (a && b) ≡ true
+both_yes true true e f = refl
+both_yes true false e f = f
+both_yes false b e f = absurd (cc)
+
+other_of : (t u : ℕ) (state : State) → ((n : ℕ) → t ≡ n → Owns state n) → (Owns state u → ⊥) → (t == u) ≡ false
+other_of t u state owns other = by_test (t == u) refl
+  where
+    by_test : (b : Bool) → (t == u) ≡ b → (t == u) ≡ false
+    by_test true e = absurd (other (owns u (equal t u e)))
+    by_test false e = e
+
+-- a record asks for nothing at its place
+pub records_right : (w : World) (c : ℕ) (xs : List Record) (i : ℕ) → AreRightFrom w i (by c (map Logs xs))
+records_right w c [] i = tt
+records_right w c (x ∷ xs) i = (tt, records_right w c xs (i + 1))
+
+-- ---- lists of them
+module _ {V : Type 0} (told : V → Option Disk) (may_leave : V → Disk → Type 0) (faults : V → ℕ) where
+  -- they lead from the point p to where log and core are these, and are told by the records that they log
+  pub record Led (t : ℕ) (s : Start) (B : List (List Record)) (p : Point) (w : World) (c : ℕ) (gs : List RegionState) (y : SystemState) (v : Vaulted V) (M : List Record) (d : CoreState) : Type 0 where
+    pub own : List Record
+    pub log : M ≡ p.log ++ own
+    pub to : Point
+    pub log_there : to.log ≡ M
+    pub core_there : to.core ≡ d
+    pub steps : List StoreStep
+    pub course : IsPointCourse p steps to
+    pub are : AreOfCourse w c p steps to (map Logs own)
+    pub at : IsCoreAt told may_leave faults s B to d.regions d.system v
+    pub image : ImageStays told may_leave faults s B p gs y v B to d.regions d.system v
+    pub beside : (u : ℕ) → (t == u) ≡ false → list_all (is_beside u) steps ≡ true
+    pub out : (b : ℕ) → list_all (is_out_of b) steps ≡ true
+
+  module _ (precheck : Bool) (t c : ℕ) (s : Start) (B : List (List Record)) (v : Vaulted V) where
+    module _ (x : Step) (p : Point) (w : World) (gs : List RegionState) (y : SystemState) (K : List Record) (e : CoreState) (here : IsCoreAt told may_leave faults s B p gs y v) (same : w.precheck ≡ precheck)
+        (step : IsStep p.log p.core x K e) (own : IsOwnStep precheck t p.core x) (not_end : is_end x ≡ false) where
+      abbrev these : List Deed
+      these = map Logs (logged_of p.core.system x)
+
+      is : OwnStep p.log p.core x K e
+      is = own_step precheck t p.log p.core x K e step own not_end
+
+      calm : (is_of_checkpoint x ≡ false) × (calls_none x ≡ true)
+      calm = both_true (is_of_checkpoint x) (calls_none x) is.quiet
+
+      point_step : IsPointStep p (Does x) (point_behind p x K e)
+      point_step = (calm.0, (step, audits_same precheck t p.audits p.log p.core x own), refl)
+
+      at_behind : IsCoreAt told may_leave faults s B (point_behind p x K e) e.regions e.system v
+      at_behind = record {
+        regions = refl;
+        system = refl;
+        vault = quiet_goes told may_leave faults s B p (point_behind p x K e) (Does x) v here.vault point_step refl (came_same p.log p.core x calm.1)
+            (vault_same (frame_of p.log p.core) p.core.vault e.vault x calm.1 (step_has_vault p.log K p.core e x step));
+        none_in_hand = λ up. here.none_in_hand up ∙ (ap (λ (z : SystemState). z.taken) (sym here.system) ∙ sym is.taken);
+      }
+
+      led_more : (M : List Record) (d : CoreState) → Led t s B (point_behind p x K e) (after w c these e) c e.regions e.system v M d → Led t s B p w c gs y v M d
+      led_more M d rest = record {
+        own = logged_of p.core.system x ++ rest.own;
+        log = rest.log ∙ (ap (λ l. l ++ rest.own) is.log ∙ append_assoc p.log (logged_of p.core.system x) rest.own);
+        to = rest.to;
+        log_there = rest.log_there;
+        core_there = rest.core_there;
+        steps = Does x ∷ rest.steps;
+        course = (point_behind p x K e, point_step, rest.course);
+        are = (point_behind p x K e, these, map Logs rest.own, point_step, own_told precheck t x w c p same own not_end, records_right (after w c these e) c (logged_of p.core.system x) (length w.happened), rest.are, map-append Logs (logged_of p.core.system x) rest.own);
+        at = rest.at;
+        image = image_then told may_leave faults s B B B p (point_behind p x K e) rest.to gs e.regions d.regions y e.system d.system v v v (λ r. r)
+            (step_image told may_leave faults s B p (point_behind p x K e) x gs y v is.quiet point_step is.taken here.system) rest.image;
+        beside = λ u other. both_yes (is_apart u x) (list_all (is_beside u) rest.steps) (own_apart precheck u t p.core x other own) (rest.beside u other);
+        out = λ b. both_yes (not (is_in_audit b x)) (list_all (is_out_of b) rest.steps) (ap not (is.out b)) (rest.out b);
+      }
+
+    pub led : (xs : List Step) (p : Point) (w : World) (gs : List RegionState) (y : SystemState) (M : List Record) (d : CoreState) → IsCoreAt told may_leave faults s B p gs y v → w.precheck ≡ precheck → Leads precheck t p.log p.core xs M d
+        → Led t s B p w c gs y v M d
+    led [] p w gs y M d here same leads = record {
+      own = [];
+      log = sym leads.0 ∙ sym (append-nil p.log);
+      to = p;
+      log_there = leads.0;
+      core_there = leads.1;
+      steps = [];
+      course = refl;
+      are = (refl, refl);
+      at = record {
+        regions = ap (λ (k : CoreState). k.regions) leads.1;
+        system = ap (λ (k : CoreState). k.system) leads.1;
+        vault = here.vault;
+        none_in_hand = λ up. here.none_in_hand up ∙ ap (λ (z : SystemState). z.taken) (sym here.system ∙ ap (λ (k : CoreState). k.system) leads.1);
+      };
+      image = subst (λ (k : CoreState). ImageStays told may_leave faults s B p gs y v B p k.regions k.system v) leads.1
+          (subst (λ (rs : List RegionState). ImageStays told may_leave faults s B p gs y v B p rs p.core.system v) (sym here.regions)
+          (subst (λ (z : SystemState). ImageStays told may_leave faults s B p gs y v B p gs z v) (sym here.system) (image_still told may_leave faults s B p gs y v)));
+      beside = λ u other. refl;
+      out = λ b. refl;
+    }
+    led (x ∷ xs) p w gs y M d here same (K, e, (step, own, not_end), leads) =
+        led_more x p w gs y K e here same step own not_end M d
+        (led xs (point_behind p x K e) (after w c (map Logs (logged_of p.core.system x)) e) e.regions e.system M d (at_behind x p w gs y K e here same step own not_end) same leads)
+
+  -- ---- a step of the client that ends there
+  module _ (precheck : Bool) (t : ℕ) (state : State) (owns : (n : ℕ) → t ≡ n → Owns state n) (s : Start) (B : List (List Record)) (p : Point) (w : World) (c : ℕ) (gs : List RegionState) (y : SystemState) (v : Vaulted V)
+      (stood : Stood told may_leave faults s B p w precheck gs y v) where
+    pub did_led : (ds : List Deed) (M : List Record) (d : CoreState) → (l : Led t s B p w c gs y v M d) → map Logs l.own ≡ ds → AreDead d.regions → IfSome (told v.store) (HoldsPlaces d.regions)
+        → IsQuiet d.system → (is_some y.stop ≡ true → is_some d.system.stop ≡ true) → Did told may_leave faults precheck s B p w c state gs y v ds B l.to d.regions d.system v
+    did_led ds M d l same dead places quiet stop =
+        did_course told may_leave faults precheck s B p w gs y v stood c state l.steps ds B l.to d.regions d.system v l.course (subst (λ es. AreOfCourse w c p l.steps l.to es) same l.are) l.at dead
+        places quiet (λ e. stop (stood.stops e))
+        (λ u lives other. l.beside u (other_of t u state owns other)) (λ b other. l.out b) (λ flag other. l.image)

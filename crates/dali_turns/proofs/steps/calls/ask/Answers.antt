@@ -1,0 +1,50 @@
+use Rattle.std.proofs.Common.{◌≡◌, ℕ, false, Some, is_some, is_ok, ap, refl, sym, subst, ◌∙◌}
+use Rattle.dali_calls.specs.Plans.{Planned}
+use Rattle.dali_core.specs.Served.{Served}
+use Rattle.dali_clients.specs.declared.line.Why.{Why}
+use Rattle.dali_system.specs.State.{SystemState}
+use Rattle.dali_turns.specs.Clients.{RefusesCall}
+use Rattle.dali_turns.specs.declared.client.State.TheVariants.{Within as IsWithin}
+use Rattle.dali_turns.proofs.Commands.{err_false}
+use Rattle.dali_turns.proofs.Asking.{new_plan}
+use Rattle.dali_turns.proofs.CallSteps.{may_call, ran_there, asked_says, stop_why, unasked_goes, unasked_silently, unasked_nowhere}
+use Rattle.dali_turns.proofs.Requests.{dead_in, granted_then, waits_then, must_wait, waits_there, may_clean_then, clean_then, may_yield_then, yield_then, may_clean_behind, clean_behind}
+use Rattle.dali_turns.proofs.steps.calls.ask.Goals as goal
+
+pub returns-in-Granted-clause-goes : goal.returns-in-Granted-clause-goes
+returns-in-Granted-clause-goes g c = λ precheck.
+    granted_then g.V.Store.told g.V.Store.may_leave g.V.Store.faults c.args.core.now.regions.items c.args.core.now.system.state c.ask.new.system.state c.args.core.now.vault c.args.client.now c.args.transaction c.args.call c.requires.next c.new-plan.result (c.new-plan.ensures ∙ ap (λ n. new_plan n c.args.transaction.txn c.args.call) c.geometry.ensures) c.in-Ok.answer c.in-Ok.ensures.answer (ap (λ (m : Served). m.state) c.in-Ok.ensures.ok) c.in-Ok.ensures.asked (ran_there c.args.core.now.system.state c.ask.result c.in-Ok.answer c.in-Ok.is c.ask.ensures.refused) c.in-Granted.is precheck _ (record { rest = refl; stands = refl; points = refl; transcript = refl })
+
+pub returns-else-is_dead-clause-goes : goal.returns-else-is_dead-clause-goes
+returns-else-is_dead-clause-goes g c = λ precheck.
+    waits_then g.V.Store.told g.V.Store.may_leave g.V.Store.faults c.args.core.now.regions.items c.args.core.now.system.state c.ask.new.system.state c.args.core.now.vault c.args.client.now c.args.transaction c.args.call c.requires.next c.new-plan.result (c.new-plan.ensures ∙ ap (λ n. new_plan n c.args.transaction.txn c.args.call) c.geometry.ensures) c.in-Ok.answer c.in-Ok.ensures.answer (ap (λ (m : Served). m.state) c.in-Ok.ensures.ok) c.in-Ok.ensures.asked (ran_there c.args.core.now.system.state c.ask.result c.in-Ok.answer c.in-Ok.is c.ask.ensures.refused) c.in-Wait.holder c.in-Wait.is precheck _ (record { rest = refl; stands = refl; points = refl; transcript = refl })
+
+pub clean_holder-requires-then-is_dead-2-clause-may : goal.clean_holder-requires-then-is_dead-2-clause-may
+clean_holder-requires-then-is_dead-2-clause-may g c =
+    may_clean_behind g.V.Store.told g.V.Store.may_leave g.V.Store.faults c.args.core.now.regions.items c.args.core.now.system.state c.ask.new.system.state c.args.core.now.vault c.args.client.now c.args.transaction c.args.call c.requires.next c.new-plan.result (c.new-plan.ensures ∙ ap (λ n. new_plan n c.args.transaction.txn c.args.call) c.geometry.ensures) c.in-Ok.answer c.in-Ok.ensures.answer (ap (λ (m : Served). m.state) c.in-Ok.ensures.ok) c.in-Ok.ensures.asked (ran_there c.args.core.now.system.state c.ask.result c.in-Ok.answer c.in-Ok.is c.ask.ensures.refused) c.in-Busy.holder c.in-Busy.is (sym c.is_dead-in-Busy.ensures ∙ c.if-is_dead-2.true) c.requires.may
+
+pub returns-then-is_dead-2-clause-goes : goal.returns-then-is_dead-2-clause-goes
+returns-then-is_dead-2-clause-goes g c = λ precheck.
+    clean_behind g.V.Store.told g.V.Store.may_leave g.V.Store.faults c.args.core.now.regions.items c.args.core.now.system.state c.ask.new.system.state c.args.core.now.vault c.args.client.now c.args.transaction c.args.call c.requires.next c.new-plan.result (c.new-plan.ensures ∙ ap (λ n. new_plan n c.args.transaction.txn c.args.call) c.geometry.ensures) c.in-Ok.answer c.in-Ok.ensures.answer (ap (λ (m : Served). m.state) c.in-Ok.ensures.ok) c.in-Ok.ensures.asked (ran_there c.args.core.now.system.state c.ask.result c.in-Ok.answer c.in-Ok.is c.ask.ensures.refused) c.in-Busy.holder c.in-Busy.is (sym c.is_dead-in-Busy.ensures ∙ c.if-is_dead-2.true) precheck (is_ok c.clean_holder-then-is_dead-2.result) c.clean_holder-then-is_dead-2.new.client c.clean_holder-then-is_dead-2.new.core.regions.items c.clean_holder-then-is_dead-2.new.core.system.state c.clean_holder-then-is_dead-2.new.core.vault (c.clean_holder-then-is_dead-2.ensures.goes precheck)
+
+pub give_way-requires : goal.give_way-requires
+give_way-requires g c =
+    record { may = may_yield_then g.V.Store.told g.V.Store.may_leave g.V.Store.faults c.args.core.now.regions.items c.args.core.now.system.state c.ask.new.system.state c.args.core.now.vault c.args.client.now c.args.transaction c.args.call c.requires.next c.new-plan.result (c.new-plan.ensures ∙ ap (λ n. new_plan n c.args.transaction.txn c.args.call) c.geometry.ensures) c.in-Ok.answer c.in-Ok.ensures.answer (ap (λ (m : Served). m.state) c.in-Ok.ensures.ok) c.in-Ok.ensures.asked (ran_there c.args.core.now.system.state c.ask.result c.in-Ok.answer c.in-Ok.is c.ask.ensures.refused) c.in-Busy.holder c.in-Busy.is (sym c.is_dead-in-Busy.ensures ∙ c.if-is_dead-2.false) c.requires.may }
+
+pub returns-else-is_dead-2-clause-goes : goal.returns-else-is_dead-2-clause-goes
+returns-else-is_dead-2-clause-goes g c = λ precheck.
+    yield_then g.V.Store.told g.V.Store.may_leave g.V.Store.faults c.args.core.now.regions.items c.args.core.now.system.state c.ask.new.system.state c.args.core.now.vault c.args.client.now c.args.transaction c.args.call c.requires.next c.new-plan.result (c.new-plan.ensures ∙ ap (λ n. new_plan n c.args.transaction.txn c.args.call) c.geometry.ensures) c.in-Ok.answer c.in-Ok.ensures.answer (ap (λ (m : Served). m.state) c.in-Ok.ensures.ok) c.in-Ok.ensures.asked (ran_there c.args.core.now.system.state c.ask.result c.in-Ok.answer c.in-Ok.is c.ask.ensures.refused) c.in-Busy.holder c.in-Busy.is (sym c.is_dead-in-Busy.ensures ∙ c.if-is_dead-2.false) precheck (is_ok c.give_way.result) c.give_way.new.client c.give_way.new.core.regions.items c.give_way.new.core.system.state c.give_way.new.core.vault (c.give_way.ensures.goes precheck)
+
+pub returns-in_err-why_of-in-Err-clause-goes : goal.returns-in_err-why_of-in-Err-clause-goes
+returns-in_err-why_of-in-Err-clause-goes g c = λ precheck.
+    unasked_nowhere g.V.Store.told g.V.Store.may_leave g.V.Store.faults precheck c.args.core.now.regions.items c.args.core.now.system.state c.args.core.now.vault c.args.client.now c.args.client.now c.args.transaction c.args.call c.requires.next c.ask.new.system.state _ (ap (λ (m : Served). m.state) c.in-Err.ensures.err) (err_false c.from_residual.result c.from_residual.ensures.0) refl
+
+pub returns-in_err-refuse_call-in-Err-clause-goes : goal.returns-in_err-refuse_call-in-Err-clause-goes
+returns-in_err-refuse_call-in-Err-clause-goes g c = λ precheck.
+    let stop = stop_why c.args.core.now.system.state.stop c.in-Err.error c.in_ok-why_of-in-Err.field-0 (asked_says c.args.core.now.system.state c.ask.result c.in-Err.error c.in-Err.is c.ask.ensures.refused c.ask.ensures.memory) c.in_ok-why_of-in-Err.ensures.given in
+    unasked_silently g.V.Store.told g.V.Store.may_leave g.V.Store.faults precheck c.args.core.now.regions.items c.args.core.now.system.state c.args.core.now.vault c.args.client.now c.refuse_call.new.self c.args.transaction c.args.call c.requires.next c.ask.new.system.state _ stop.0 (ap (λ (m : Served). m.state) c.in-Err.ensures.err) (err_false c.from_residual-in_err-refuse_call-in-Err.result c.from_residual-in_err-refuse_call-in-Err.ensures.0) stop.2 c.in_err-refuse_call-in-Err.ensures.err.transcript
+
+pub returns-in_ok-refuse_call-in-Err-clause-goes : goal.returns-in_ok-refuse_call-in-Err-clause-goes
+returns-in_ok-refuse_call-in-Err-clause-goes g c = λ precheck.
+    let stop = stop_why c.args.core.now.system.state.stop c.in-Err.error c.in_ok-why_of-in-Err.field-0 (asked_says c.args.core.now.system.state c.ask.result c.in-Err.error c.in-Err.is c.ask.ensures.refused c.ask.ensures.memory) c.in_ok-why_of-in-Err.ensures.given in
+    unasked_goes g.V.Store.told g.V.Store.may_leave g.V.Store.faults precheck c.args.core.now.regions.items c.args.core.now.system.state c.args.core.now.vault c.args.client.now c.refuse_call.new.self c.args.transaction c.args.call c.requires.next c.ask.new.system.state stop.0 (ap (λ (m : Served). m.state) c.in-Err.ensures.err) stop.2 (subst (λ (o : Why). RefusesCall c.args.client.now c.args.transaction o c.refuse_call.new.self) stop.1 c.in_ok-refuse_call-in-Err.ensures.ok)

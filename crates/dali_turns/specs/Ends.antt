@@ -1,0 +1,81 @@
+-- What the ends of a transaction leave of the core, and the lines that tell it.
+--     IsTakenBack, IsHalfBack  all undos of t were performed, and its end logged; or some were, and it is live
+--     IsCommitted, IsUncommitted   its commit was flushed and settled; or the store failed in its flush
+--     IsCleanedUp, IsLeftDead  a dead transaction was cleaned up; or it was refused, and is dead again
+--     abort_line, end_line     the lines, by the cause of the stop, if the engine is stopped
+--     SaysAlso k rest state lines j    the client goes on with these commands, stands in this state, and has said these lines
+--     GoesSilent k j           it has said nothing
+use Rattle.std.specs.Prelude.{◌≡◌, ℕ, Bool, true, List, [], ◌∷◌, Option, Some, None, IfSome, is_some}
+use Rattle.dali_record.specs.declared.records.Record.TheVariants.{Ended}
+use Rattle.dali_region.specs.State.{RegionState}
+use Rattle.dali_att.specs.declared.state.State.TheVariants.{Live, Dead}
+use Rattle.dali_store.specs.Store.{Files as Disk}
+use Rattle.dali_system.specs.declared.causes.Cause.{Cause}
+use Rattle.dali_system.specs.State.{SystemState, state_of}
+use Rattle.dali_vault.specs.Vaulted.{Vaulted}
+use Rattle.dali_single.specs.Ending.{IsBackOf}
+use Rattle.dali_clean.specs.Cleaned.{AreDead, Ends, GivesBack}
+use Rattle.dali_clean.specs.Others.{OthersStay, IsGone}
+use Rattle.dali_whole.specs.Cores.{IsWholeCore}
+use Rattle.dali_ends.specs.Ended.{Comes}
+use Rattle.dali_ends.specs.Committed.{CommitGoes, CommitFails}
+use Rattle.dali_clients.specs.declared.command.Command.{Command}
+use Rattle.dali_clients.specs.declared.command.Command.TheVariants.{Abort}
+use Rattle.dali_clients.specs.declared.line.Line.{Line}
+use Rattle.dali_clients.specs.declared.line.Line.TheVariants.{AbortOk, Aborted, LeftOpen, Refused}
+use Rattle.dali_clients.specs.declared.line.Why.TheVariants.{Stopped}
+use Rattle.dali_clients.specs.Said.{said}
+use Rattle.dali_turns.specs.declared.client.Client.{Client}
+use Rattle.dali_turns.specs.declared.client.State.{State}
+
+module _ {V : Type 0} (told : V → Option Disk) (may_leave : V → Disk → Type 0) (faults : V → ℕ) where
+  pub record IsTakenBack (t : ℕ) (gs : List RegionState) (y : SystemState) (v : Vaulted V) (hs : List RegionState) (z : SystemState) : Type 0 where
+    pub comes : Comes told may_leave faults t (IsBackOf t) (Ended t ∷ []) gs y v hs z
+    pub gone : IsGone z t
+    pub others : OthersStay gs y t hs z
+
+  pub record IsHalfBack (t : ℕ) (gs : List RegionState) (y : SystemState) (v : Vaulted V) (hs : List RegionState) (z : SystemState) : Type 0 where
+    pub comes : Comes told may_leave faults t (IsBackOf t) [] gs y v hs z
+    pub lives : state_of z t ≡ Some Live
+    pub others : OthersStay gs y t hs z
+
+  pub record IsCommitted (t : ℕ) (gs : List RegionState) (y : SystemState) (v : Vaulted V) (hs : List RegionState) (z : SystemState) (u : Vaulted V) : Type 0 where
+    pub goes : CommitGoes told may_leave faults gs y v t hs z u
+    pub gone : IsGone z t
+    pub others : OthersStay gs y t hs z
+    pub whole : IsWholeCore told gs y v → IsWholeCore told hs z u
+
+  pub record IsUncommitted (t : ℕ) (gs : List RegionState) (y : SystemState) (v : Vaulted V) (hs : List RegionState) (z : SystemState) (u : Vaulted V) : Type 0 where
+    pub fails : CommitFails told may_leave faults gs y v t z u
+    pub regions : hs ≡ gs
+    pub stopped : u.stopped ≡ true
+    pub others : OthersStay gs y t hs z
+    pub whole : IsWholeCore told gs y v → IsWholeCore told hs z u
+
+pub record IsCleanedUp (t : ℕ) (gs : List RegionState) (y : SystemState) (hs : List RegionState) (z : SystemState) : Type 0 where
+  pub ends : Ends gs y t hs z
+  pub gone : IsGone z t
+  pub dead : AreDead hs
+  pub others : OthersStay gs y t hs z
+
+pub record IsLeftDead (t : ℕ) (gs : List RegionState) (y : SystemState) (hs : List RegionState) (z : SystemState) : Type 0 where
+  pub left : GivesBack gs y t hs z
+  pub again : state_of z t ≡ Some (Dead None)
+  pub dead : AreDead hs
+  pub others : OthersStay gs y t hs z
+
+abbrev pub abort_line : Option Cause → Line
+abort_line None = AbortOk
+abort_line (Some cause) = Refused Abort (Stopped cause)
+
+abbrev pub end_line : Option Cause → Line
+end_line None = Aborted
+end_line (Some cause) = LeftOpen
+
+pub record SaysAlso (k : Client) (rest : List Command) (state : State) (lines : List Line) (j : Client) : Type 0 where
+  pub rest_is : j.rest.now ≡ rest
+  pub stands : j.state ≡ state
+  pub transcript : j.transcript ≡ said k.transcript lines
+
+pub record GoesSilent (k j : Client) : Type 0 where
+  pub transcript : j.transcript ≡ k.transcript

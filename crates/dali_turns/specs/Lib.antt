@@ -1,0 +1,14 @@
+pub mod Whys
+pub mod Clients
+pub mod Endings
+pub mod Stood
+pub mod Outside
+pub mod Within
+pub mod Audits
+pub mod Checkpoints
+pub mod Fits
+pub mod Others
+pub mod Goes
+pub mod Calls
+pub mod Ends
+pub mod Turns

@@ -1,0 +1,144 @@
+//! The steps of a client, one function a kind.
+
+mod audits;
+mod calls;
+mod checkpoints;
+mod cleaning;
+mod outside;
+mod transactions;
+
+ghost use Rattle.std.specs.Prelude.{◌≡◌, is_ok};
+ghost use Rattle.dali_turns.specs.declared.client.State.TheVariants.{Outside as IsOutside, Within as IsWithin};
+ghost use Rattle.dali_turns.specs.Goes.{MayStep, StepGoes};
+ghost use Rattle.dali_turns.specs.Turns.{TurnGoes, MayTurn};
+
+use crate::client::{Client, State, Transaction};
+pub(crate) use cleaning::clean_up;
+use dali_bytes::OutOfMemory;
+use dali_clients::Command;
+use dali_stepwise::Gate;
+use dali_store::Store;
+use dali_whole::Core;
+use std::alloc::Global;
+use std::mem;
+
+/// What all clients of a round have in common.
+#[derive(Drop)]
+pub struct Setting<'a, G: Gate> {
+    pub alloc: Global,
+    /// Whether a latch compares the region's codeword with its words.
+    pub precheck: bool,
+    pub gate: &'a G,
+}
+
+/// One step of a client; its records are noted as its own. Answers whether it went on: not where it is done, where its
+/// lock is held by a younger transaction, or where it waits for a holder's end. Then nothing has changed.
+pub fn turn<V: Store, G: Gate>(
+    client: &mut Client<'_>,
+    core: &mut Core<V>,
+    setting: &Setting<'_, G>,
+) -> Result<bool, OutOfMemory>
+    requires { MayTurn V.told V.may_leave V.faults setting.now.precheck client.old core.old.regions.items core.old.system.state core.old.vault }
+    ensures { TurnGoes V.told V.may_leave V.faults setting.now.precheck client.old core.old.regions.items core.old.system.state core.old.vault (is_ok result) client.new core.new.regions.items core.new.system.state core.new.vault }
+{
+    let first = core.system.records();
+    // no step sees the receipts
+    let receipts = client.transcript.replace_receipts(Vec::new(setting.alloc));
+    let stepped = step(client, core, setting);
+    client.transcript.replace_receipts(receipts);
+    client.transcript.log(first, core.system.records())?;
+    stepped
+}
+
+// The step of a client by where it stands.
+fn step<V: Store, G: Gate>(
+    client: &mut Client<'_>,
+    core: &mut Core<V>,
+    setting: &Setting<'_, G>,
+) -> Result<bool, OutOfMemory>
+    requires { MayStep V.told V.may_leave V.faults client.old.state client.old core.old.regions.items core.old.system.state core.old.vault }
+    ensures { StepGoes V.told V.may_leave V.faults setting.now.precheck client.old.state client.old core.old.regions.items core.old.system.state core.old.vault (is_ok result) client.new core.new.regions.items core.new.system.state core.new.vault }
+{
+    match mem::replace(&mut client.state, State::Outside) {
+        State::Outside => next(client, core, setting),
+        State::LeftOut => outside::left_out(client),
+        State::Within { transaction } => within(client, transaction, core, setting),
+        State::Calling { transaction, plan } => {
+            calls::call(client, transaction, plan, core, setting)
+        }
+        State::TakingBack {
+            transaction,
+            plan,
+            why,
+        } => calls::take_back(client, transaction, plan, why, core, setting),
+        State::Waiting { tries, holder } => outside::wait(client, tries, holder, core),
+        State::Auditing { audit, next } => audits::audit(client, audit, next, setting.alloc, core),
+        State::Copying { checkpoint, next } => {
+            checkpoints::copy(client, checkpoint, next, setting.alloc, core)
+        }
+        State::Certifying {
+            checkpoint,
+            audit,
+            next,
+        } => checkpoints::certify(client, checkpoint, audit, next, setting.alloc, core),
+        State::Gone => {
+            client.state = State::Gone;
+            Ok(false)
+        }
+    }
+}
+
+// The next command outside a transaction.
+fn next<V: Store, G: Gate>(
+    client: &mut Client<'_>,
+    core: &mut Core<V>,
+    setting: &Setting<'_, G>,
+) -> Result<bool, OutOfMemory>
+    requires may { MayStep V.told V.may_leave V.faults IsOutside client.old core.old.regions.items core.old.system.state core.old.vault }
+    requires stands { client.old.state ≡ IsOutside }
+    ensures { StepGoes V.told V.may_leave V.faults setting.now.precheck IsOutside client.old core.old.regions.items core.old.system.state core.old.vault (is_ok result) client.new core.new.regions.items core.new.system.state core.new.vault }
+{
+    match client.command() {
+        None => Ok(false),
+        Some(command) => match command {
+            Command::Begin => outside::begin(client, 0, core),
+            Command::Poke { region, word, mask } => outside::poke(client, region, word, mask, core),
+            Command::Audit => audits::start(client, setting.alloc, core),
+            Command::Checkpoint => checkpoints::start(client, setting.alloc, core),
+            // no block has another command here
+            _ => unreachable!(),
+        },
+    }
+}
+
+// The next command in a transaction, or its end with the block.
+fn within<'a, V: Store, G: Gate>(
+    client: &mut Client<'a>,
+    transaction: Transaction<'a>,
+    core: &mut Core<V>,
+    setting: &Setting<'_, G>,
+) -> Result<bool, OutOfMemory>
+    requires { MayStep V.told V.may_leave V.faults (IsWithin transaction) client.old core.old.regions.items core.old.system.state core.old.vault }
+    ensures { StepGoes V.told V.may_leave V.faults setting.now.precheck (IsWithin transaction.entry) client.old core.old.regions.items core.old.system.state core.old.vault (is_ok result) client.new core.new.regions.items core.new.system.state core.new.vault }
+{
+    match client.command() {
+        None => transactions::end(client, transaction, core),
+        Some(command) => match command {
+            Command::Call { call } => calls::ask(client, transaction, call, core),
+            Command::Die { operation } => {
+                client.pass_command();
+                client.state = State::Within {
+                    transaction: Transaction {
+                        deadly: Some(operation),
+                        ..transaction
+                    },
+                };
+                Ok(true)
+            }
+            Command::Commit => transactions::commit(client, transaction, core, setting),
+            Command::Abort => transactions::abort(client, transaction, core),
+            // no block has another command here
+            _ => unreachable!(),
+        },
+    }
+}

@@ -1,0 +1,479 @@
+//! The steps of a call.
+ghost use Rattle.std.specs.Prelude.{◌≡◌, Bool, true, false, not, Some, None, IsSome, OnOk, OnErr, IfOk, IfErr, is_ok};
+ghost use Rattle.dali_record.specs.declared.records.Call.{Call as Called};
+ghost use Rattle.dali_core.specs.declared.want.Want.TheVariants.{Region as WantsRegion, Done as AnswerIsNext};
+ghost use Rattle.dali_calls.specs.Plans.{want_of, plan_next, is_back, is_answered, IsWhole};
+ghost use Rattle.dali_single.specs.Refusals.{IsRefusal, IsLatched};
+ghost use Rattle.dali_single.specs.Stands.{IsAtRest};
+ghost use Rattle.dali_single.specs.declared.error.StepError.TheVariants.{Latch as ByLatch};
+ghost use Rattle.dali_stepwise.specs.Stepwise.{OneFurther, IsDeath};
+ghost use Rattle.dali_system.specs.State.{state_of};
+ghost use Rattle.dali_clean.specs.Cleaned.{IsDead};
+ghost use Rattle.dali_transcripts.specs.World.{is_dead_in};
+ghost use Rattle.dali_clients.specs.declared.command.Command.TheVariants.{Call as IsCall};
+ghost use Rattle.dali_turns.specs.declared.client.State.TheVariants.{Within as IsWithin, Calling as IsCalling, TakingBack as IsTakingBack};
+ghost use Rattle.dali_turns.specs.Clients.{next_of, Stays};
+ghost use Rattle.dali_turns.specs.Calls.{TurnsBack, IsRefusedBy, IsDeadly, IsFurther, MustWait, call_in};
+ghost use Rattle.dali_turns.specs.Goes.{MayStep, StepGoes};
+
+use crate::client::{Client, State, Transaction};
+use crate::steps::{Setting, clean_up, transactions};
+use crate::why::why_of;
+use dali_att::State as TxnState;
+use dali_bytes::OutOfMemory;
+use dali_calls::Plan;
+use dali_clients::{Command, Line, Why};
+use dali_core::{SystemError, Want};
+use dali_locks::LockAnswer;
+use dali_record::Call;
+use dali_region::LatchError;
+use dali_single::StepError;
+use dali_stepwise::Gate;
+use dali_store::Store;
+use dali_whole::Core;
+
+/// Asks for the lock of the call. Where a dead transaction holds it, that one is cleaned up, and the call asks again.
+pub(crate) fn ask<'a, V: Store>(
+    client: &mut Client<'a>,
+    transaction: Transaction<'a>,
+    call: Call,
+    core: &mut Core<V>,
+) -> Result<bool, OutOfMemory>
+    requires may { MayStep V.told V.may_leave V.faults (IsWithin transaction) client.old core.old.regions.items core.old.system.state core.old.vault }
+    requires next { next_of client.old ≡ Some (IsCall call) }
+    ensures goes { (precheck : Bool) → StepGoes V.told V.may_leave V.faults precheck (IsWithin transaction.entry) client.old core.old.regions.items core.old.system.state core.old.vault (is_ok result) client.new core.new.regions.items core.new.system.state core.new.vault }
+    ensures waits { IfOk result (λ went. went ≡ false → Stays client.old (IsWithin transaction.entry) client.new × (core.new ≡ core.old) × MustWait core.old.system.state transaction.entry.txn call) }
+{
+    let plan = Plan::new(core.system.geometry(), transaction.txn, call);
+    match dali_stepwise::ask(&plan, &mut core.system, transaction.txn) {
+        Ok(answer) => match answer {
+            LockAnswer::Granted => {
+                client.state = State::Calling { transaction, plan };
+                Ok(true)
+            }
+            LockAnswer::Wait { holder } => {
+                if is_dead(core, holder) {
+                    return clean_holder(client, transaction, holder, core);
+                }
+                client.state = State::Within { transaction };
+                Ok(false)
+            }
+            LockAnswer::Busy { holder } => {
+                if is_dead(core, holder) {
+                    return clean_holder(client, transaction, holder, core);
+                }
+                transactions::give_way(client, transaction, holder, core)
+            }
+        },
+        Err(error) => {
+            client.refuse_call(transaction, why_of(error)?)?;
+            Ok(true)
+        }
+    }
+}
+
+// Whether the client of a transaction died.
+fn is_dead<V: Store>(core: &Core<V>, txn: u64) -> bool
+    ensures { result ≡ is_dead_in (state_of core.now.system.state txn) }
+{
+    matches!(core.system.state(txn), Some(TxnState::Dead { .. }))
+}
+
+// Cleans up the dead holder of a call's lock.
+fn clean_holder<'a, V: Store>(
+    client: &mut Client<'a>,
+    transaction: Transaction<'a>,
+    holder: u64,
+    core: &mut Core<V>,
+) -> Result<bool, OutOfMemory>
+    requires may { MayStep V.told V.may_leave V.faults (IsWithin transaction) client.old core.old.regions.items core.old.system.state core.old.vault }
+    requires next { (call : Called) × (next_of client.old ≡ Some (IsCall call)) }
+    requires dead { IsDead (state_of core.old.system.state holder) }
+    ensures goes { (precheck : Bool) → StepGoes V.told V.may_leave V.faults precheck (IsWithin transaction.entry) client.old core.old.regions.items core.old.system.state core.old.vault (is_ok result) client.new core.new.regions.items core.new.system.state core.new.vault }
+    ensures on { IfOk result (λ went. went ≡ true) }
+{
+    match clean_up(core, holder)? {
+        None => {
+            client.state = State::Within { transaction };
+            Ok(true)
+        }
+        Some(why) => {
+            client.refuse_call(transaction, why)?;
+            Ok(true)
+        }
+    }
+}
+
+/// The next step of a call that has its lock: an operation, the one in which the client dies, or the answer.
+pub(crate) fn call<'a, V: Store, G: Gate>(
+    client: &mut Client<'a>,
+    transaction: Transaction<'a>,
+    plan: Plan,
+    core: &mut Core<V>,
+    setting: &Setting<'_, G>,
+) -> Result<bool, OutOfMemory>
+    requires may { MayStep V.told V.may_leave V.faults (IsCalling transaction plan) client.old core.old.regions.items core.old.system.state core.old.vault }
+    ensures goes { StepGoes V.told V.may_leave V.faults setting.now.precheck (IsCalling transaction.entry plan) client.old core.old.regions.items core.old.system.state core.old.vault (is_ok result) client.new core.new.regions.items core.new.system.state core.new.vault }
+    ensures on { IfOk result (λ went. went ≡ true) }
+{
+    let Want::Region { region } = plan.wants() else {
+        return answer(client, transaction, plan, core);
+    };
+    let onward = !plan.is_back();
+    if onward && transaction.deadly == Some(1) {
+        return die(client, transaction, plan, region, core, setting);
+    }
+    operate(client, transaction, plan, region, onward, core, setting)
+}
+
+// Makes the next operation of a plan over the core.
+fn make_next<V: Store, G: Gate>(
+    plan: &mut Plan,
+    core: &mut Core<V>,
+    client: &Client<'_>,
+    setting: &Setting<'_, G>,
+) -> Result<(), StepError>
+    requires rest { IsAtRest core.old.regions.items core.old.system.state plan.old }
+    requires wants { IsSome (plan_next plan.old) }
+    ensures further { OnOk result (OneFurther setting.now.precheck plan.old core.old.regions.items core.old.system.state plan.new core.new.regions.items core.new.system.state) }
+    ensures err { OnErr result ((plan.new ≡ plan.old) × (core.new.regions.items ≡ core.old.regions.items) × (core.new.system.state ≡ core.old.system.state)) }
+    ensures cause { IfErr result (IsRefusal setting.now.precheck plan.old core.old.regions.items core.old.system.state) }
+    ensures vault { core.new.vault ≡ core.old.vault }
+{
+    dali_stepwise::operate(
+        plan,
+        &mut core.regions,
+        &mut core.system,
+        setting.precheck,
+        setting.gate,
+        client.transcript.client(),
+        client.point(),
+    )
+}
+
+// The client dies in the next operation of a plan over the core.
+fn die_next<V: Store, G: Gate>(
+    plan: &mut Plan,
+    core: &mut Core<V>,
+    client: &Client<'_>,
+    setting: &Setting<'_, G>,
+) -> Result<(), LatchError>
+    requires rest { IsAtRest core.old.regions.items core.old.system.state plan.old }
+    requires wants { IsSome (plan_next plan.old) }
+    ensures dies { OnOk result (IsDeath setting.now.precheck plan.old core.old.regions.items core.old.system.state core.new.regions.items core.new.system.state) }
+    ensures err { OnErr result ((plan.new ≡ plan.old) × (core.new.regions.items ≡ core.old.regions.items) × (core.new.system.state ≡ core.old.system.state)) }
+    ensures cause { IfErr result (λ e. IsRefusal setting.now.precheck plan.old core.old.regions.items core.old.system.state (ByLatch e)) }
+    ensures vault { core.new.vault ≡ core.old.vault }
+{
+    dali_stepwise::die(
+        plan,
+        &mut core.regions,
+        &mut core.system,
+        setting.precheck,
+        setting.gate,
+        client.transcript.client(),
+        client.point(),
+    )
+}
+
+// An operation of a call. One that goes on with it brings the client's death nearer.
+fn operate<'a, V: Store, G: Gate>(
+    client: &mut Client<'a>,
+    transaction: Transaction<'a>,
+    plan: Plan,
+    region: u32,
+    onward: bool,
+    core: &mut Core<V>,
+    setting: &Setting<'_, G>,
+) -> Result<bool, OutOfMemory>
+    requires may { MayStep V.told V.may_leave V.faults (IsCalling transaction plan) client.old core.old.regions.items core.old.system.state core.old.vault }
+    requires wants { want_of plan ≡ WantsRegion region }
+    requires whole { IsWhole plan }
+    requires way { onward ≡ not (is_back plan) }
+    requires lives { onward ≡ true → IsDeadly transaction → ⊥ }
+    ensures goes { StepGoes V.told V.may_leave V.faults setting.now.precheck (IsCalling transaction.entry plan) client.old core.old.regions.items core.old.system.state core.old.vault (is_ok result) client.new core.new.regions.items core.new.system.state core.new.vault }
+    ensures on { IfOk result (λ went. went ≡ true) }
+{
+    let mut plan = plan;
+    match make_next(&mut plan, core, client, setting) {
+        Ok(()) => {
+            client.points = client.point();
+            let transaction = further(transaction, onward);
+            client.state = State::Calling { transaction, plan };
+            Ok(true)
+        }
+        Err(error) => hindered(client, transaction, plan, region, error, core),
+    }
+}
+
+// The transaction behind an operation.
+fn further(transaction: Transaction<'_>, onward: bool) -> Transaction<'_>
+    ensures { IsFurther transaction.entry (not onward) result }
+{
+    if !onward {
+        return transaction;
+    }
+    Transaction {
+        deadly: transaction.deadly.map(|left| left.saturating_sub(1)),
+        ..transaction
+    }
+}
+
+// The operation in which the client dies: it keeps its latch, and nothing of it is logged.
+fn die<'a, V: Store, G: Gate>(
+    client: &mut Client<'a>,
+    transaction: Transaction<'a>,
+    plan: Plan,
+    region: u32,
+    core: &mut Core<V>,
+    setting: &Setting<'_, G>,
+) -> Result<bool, OutOfMemory>
+    requires may { MayStep V.told V.may_leave V.faults (IsCalling transaction plan) client.old core.old.regions.items core.old.system.state core.old.vault }
+    requires wants { want_of plan ≡ WantsRegion region }
+    requires whole { IsWhole plan }
+    requires way { is_back plan ≡ false }
+    requires deadly { IsDeadly transaction }
+    ensures goes { StepGoes V.told V.may_leave V.faults setting.now.precheck (IsCalling transaction.entry plan) client.old core.old.regions.items core.old.system.state core.old.vault (is_ok result) client.new core.new.regions.items core.new.system.state core.new.vault }
+    ensures on { IfOk result (λ went. went ≡ true) }
+{
+    let mut plan = plan;
+    match die_next(&mut plan, core, client, setting) {
+        Ok(()) => {
+            client.state = State::Gone;
+            client.transcript.say(Line::Died)?;
+            Ok(true)
+        }
+        Err(cause) => hindered(
+            client,
+            transaction,
+            plan,
+            region,
+            StepError::Latch { cause },
+            core,
+        ),
+    }
+}
+
+// The call that is under way.
+fn called(client: &Client<'_>) -> Option<Call>
+    ensures { result ≡ call_in (next_of client.now) }
+{
+    match client.command() {
+        Some(Command::Call { call }) => Some(call),
+        _ => None,
+    }
+}
+
+// The answer of a call whose operations are made.
+fn answer<'a, V: Store>(
+    client: &mut Client<'a>,
+    transaction: Transaction<'a>,
+    plan: Plan,
+    core: &mut Core<V>,
+) -> Result<bool, OutOfMemory>
+    requires may { MayStep V.told V.may_leave V.faults (IsCalling transaction plan) client.old core.old.regions.items core.old.system.state core.old.vault }
+    requires wants { want_of plan ≡ AnswerIsNext }
+    requires whole { IsWhole plan }
+    ensures goes { (precheck : Bool) → StepGoes V.told V.may_leave V.faults precheck (IsCalling transaction.entry plan) client.old core.old.regions.items core.old.system.state core.old.vault (is_ok result) client.new core.new.regions.items core.new.system.state core.new.vault }
+    ensures on { IfOk result (λ went. went ≡ true) }
+{
+    let mut plan = plan;
+    let Some(call) = called(client) else {
+        unreachable!() // a call is under way
+    };
+    match dali_stepwise::answer(&mut plan, &mut core.system) {
+        Ok(answer) => {
+            let state = State::Within { transaction };
+            client.finish(state, Line::Answered { call, answer })?;
+            Ok(true)
+        }
+        Err(error) => refused(client, transaction, plan, error),
+    }
+}
+
+// An operation of a call wasn't made. A dead transaction that has the region latched is cleaned up, and the operation is
+// tried again; else the call is refused.
+fn hindered<'a, V: Store>(
+    client: &mut Client<'a>,
+    transaction: Transaction<'a>,
+    plan: Plan,
+    region: u32,
+    error: StepError,
+    core: &mut Core<V>,
+) -> Result<bool, OutOfMemory>
+    requires may { MayStep V.told V.may_leave V.faults (IsCalling transaction plan) client.old core.old.regions.items core.old.system.state core.old.vault }
+    requires wants { want_of plan ≡ WantsRegion region }
+    requires whole { IsWhole plan }
+    requires cause { (precheck : Bool) × IsRefusal precheck plan core.old.regions.items core.old.system.state error }
+    requires lives { is_back plan ≡ false → IsDeadly transaction → IsLatched error }
+    ensures goes { (precheck : Bool) → IsRefusal precheck plan core.old.regions.items core.old.system.state error → StepGoes V.told V.may_leave V.faults precheck (IsCalling transaction.entry plan) client.old core.old.regions.items core.old.system.state core.old.vault (is_ok result) client.new core.new.regions.items core.new.system.state core.new.vault }
+    ensures on { IfOk result (λ went. went ≡ true) }
+{
+    match error {
+        StepError::Latch { cause } => match cause {
+            LatchError::DeadHolder { txn } => match clean_up(core, txn)? {
+                None => {
+                    client.state = State::Calling { transaction, plan };
+                    Ok(true)
+                }
+                Some(why) => {
+                    client.refuse_call(transaction, why)?;
+                    Ok(true)
+                }
+            },
+            LatchError::Damaged { codeword, found } => {
+                let why = Why::Damaged {
+                    region,
+                    codeword,
+                    found,
+                };
+                turn_back(client, transaction, plan, why);
+                Ok(true)
+            }
+            // between two steps no live client has a region latched
+            LatchError::Latched { .. } => unreachable!(),
+        },
+        StepError::System { cause } => {
+            client.points = client.point();
+            refused(client, transaction, plan, cause)
+        }
+    }
+}
+
+// The system took no record of a call: a full log has what was changed taken back, and where the engine is stopped it stays.
+fn refused<'a>(
+    client: &mut Client<'a>,
+    transaction: Transaction<'a>,
+    plan: Plan,
+    error: SystemError,
+) -> Result<bool, OutOfMemory>
+    requires next { IsSome (next_of client.old) }
+    requires closed { plan.operation ≡ None }
+    requires before { is_answered plan.phase ≡ false }
+    ensures { IsRefusedBy error client.old transaction.entry plan result client.new }
+{
+    match error {
+        SystemError::Stopped { cause } => {
+            client.refuse_call(transaction, Why::Stopped { cause })?;
+            Ok(true)
+        }
+        SystemError::LogFull { end, limit } => {
+            turn_back(client, transaction, plan, Why::LogFull { end, limit });
+            Ok(true)
+        }
+        SystemError::OutOfMemory => Err(OutOfMemory),
+    }
+}
+
+// The call is refused, and its changes are taken back from here on.
+fn turn_back<'a>(client: &mut Client<'a>, transaction: Transaction<'a>, plan: Plan, why: Why)
+    requires closed { plan.operation ≡ None }
+    requires before { is_answered plan.phase ≡ false }
+    ensures { TurnsBack client.old transaction.entry plan why client.new }
+{
+    let mut plan = plan;
+    plan.refuse();
+    client.state = State::TakingBack {
+        transaction,
+        plan,
+        why,
+    };
+}
+
+/// Takes back the last change of a refused call; where none is left the call says why it was refused. A stop in between is
+/// why, and then what is left stays.
+pub(crate) fn take_back<'a, V: Store, G: Gate>(
+    client: &mut Client<'a>,
+    transaction: Transaction<'a>,
+    plan: Plan,
+    why: Why,
+    core: &mut Core<V>,
+    setting: &Setting<'_, G>,
+) -> Result<bool, OutOfMemory>
+    requires may { MayStep V.told V.may_leave V.faults (IsTakingBack transaction plan why) client.old core.old.regions.items core.old.system.state core.old.vault }
+    ensures goes { StepGoes V.told V.may_leave V.faults setting.now.precheck (IsTakingBack transaction.entry plan why) client.old core.old.regions.items core.old.system.state core.old.vault (is_ok result) client.new core.new.regions.items core.new.system.state core.new.vault }
+    ensures on { IfOk result (λ went. went ≡ true) }
+{
+    match plan.wants() {
+        Want::Region { .. } => go_back(client, transaction, plan, why, core, setting),
+        Want::Nothing => {
+            client.refuse_call(transaction, why)?;
+            Ok(true)
+        }
+        // a refused call has no answer
+        Want::Done => unreachable!(),
+    }
+}
+
+// Takes back the last change.
+fn go_back<'a, V: Store, G: Gate>(
+    client: &mut Client<'a>,
+    transaction: Transaction<'a>,
+    plan: Plan,
+    why: Why,
+    core: &mut Core<V>,
+    setting: &Setting<'_, G>,
+) -> Result<bool, OutOfMemory>
+    requires may { MayStep V.told V.may_leave V.faults (IsTakingBack transaction plan why) client.old core.old.regions.items core.old.system.state core.old.vault }
+    requires wants { IsSome (plan_next plan) }
+    ensures goes { StepGoes V.told V.may_leave V.faults setting.now.precheck (IsTakingBack transaction.entry plan why) client.old core.old.regions.items core.old.system.state core.old.vault (is_ok result) client.new core.new.regions.items core.new.system.state core.new.vault }
+    ensures on { IfOk result (λ went. went ≡ true) }
+{
+    let mut plan = plan;
+    match make_next(&mut plan, core, client, setting) {
+        Ok(()) => {
+            client.points = client.point();
+            client.state = State::TakingBack {
+                transaction,
+                plan,
+                why,
+            };
+            Ok(true)
+        }
+        Err(error) => stuck(client, transaction, plan, why, error, core),
+    }
+}
+
+// A change of a refused call wasn't taken back. A dead transaction that has the region latched is cleaned up, and it is
+// tried again; a stop is why the call is refused then.
+fn stuck<'a, V: Store>(
+    client: &mut Client<'a>,
+    transaction: Transaction<'a>,
+    plan: Plan,
+    why: Why,
+    error: StepError,
+    core: &mut Core<V>,
+) -> Result<bool, OutOfMemory>
+    requires may { MayStep V.told V.may_leave V.faults (IsTakingBack transaction plan why) client.old core.old.regions.items core.old.system.state core.old.vault }
+    requires wants { IsSome (plan_next plan) }
+    requires cause { (precheck : Bool) × IsRefusal precheck plan core.old.regions.items core.old.system.state error }
+    ensures goes { (precheck : Bool) → IsRefusal precheck plan core.old.regions.items core.old.system.state error → StepGoes V.told V.may_leave V.faults precheck (IsTakingBack transaction.entry plan why) client.old core.old.regions.items core.old.system.state core.old.vault (is_ok result) client.new core.new.regions.items core.new.system.state core.new.vault }
+    ensures on { IfOk result (λ went. went ≡ true) }
+{
+    match error {
+        StepError::Latch { cause } => match cause {
+            LatchError::DeadHolder { txn } => match clean_up(core, txn)? {
+                None => {
+                    client.state = State::TakingBack {
+                        transaction,
+                        plan,
+                        why,
+                    };
+                    Ok(true)
+                }
+                Some(why) => {
+                    client.refuse_call(transaction, why)?;
+                    Ok(true)
+                }
+            },
+            // no live client has it latched
+            LatchError::Latched { .. } => unreachable!(),
+            // what takes back compares nothing
+            LatchError::Damaged { .. } => unreachable!(),
+        },
+        StepError::System { cause } => {
+            client.refuse_call(transaction, why_of(cause)?)?;
+            Ok(true)
+        }
+    }
+}

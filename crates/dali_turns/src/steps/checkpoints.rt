@@ -1,0 +1,215 @@
+//! The steps of a checkpoint.
+ghost use Rattle.std.specs.Prelude.{◌≡◌, ◌≤◌, Bool, true, Some, None, Err, is_ok, IfOk, OnOk, OnErr, length};
+ghost use Rattle.dali_checkpoint.specs.Kept.{given_up};
+ghost use Rattle.dali_clients.specs.declared.command.Command.TheVariants.{Checkpoint as IsCheckpoint};
+ghost use Rattle.dali_turns.specs.declared.client.State.TheVariants.{Outside as IsOutside, Copying as IsCopying, Certifying as IsCertifying};
+ghost use Rattle.dali_turns.specs.Endings.{line_in, SaysEnd, Unsaid};
+ghost use Rattle.dali_turns.specs.Clients.{next_of};
+ghost use Rattle.dali_turns.specs.Goes.{MayStep, StepGoes};
+
+use crate::client::{Client, State};
+use crate::steps::audits;
+use dali_audit::Audit;
+use dali_bytes::OutOfMemory;
+use dali_checkpoint::{Checkpoint, CheckpointError};
+use dali_clients::{Command, Line, Why};
+use dali_store::Store;
+use dali_whole::Core;
+use std::alloc::Global;
+
+// The line of a checkpoint that has ended so.
+fn line_of(made: Result<u64, CheckpointError>) -> Result<Line, OutOfMemory>
+    ensures given { IfOk result (λ line. line_in made ≡ Some line) }
+    ensures memory { OnErr result (line_in made ≡ None) }
+{
+    let why = match made {
+        Ok(number) => return Ok(Line::Checkpointed { number }),
+        Err(CheckpointError::Failed { regions }) => {
+            return Ok(Line::CheckpointFailed { failing: regions });
+        }
+        Err(CheckpointError::InProgress) => Why::InProgress,
+        Err(CheckpointError::Stopped { cause }) => Why::Stopped { cause },
+        Err(CheckpointError::LogFull { end, limit }) => Why::LogFull { end, limit },
+        Err(CheckpointError::Fault) => Why::StoreStopped,
+        Err(CheckpointError::OutOfMemory) => return Err(OutOfMemory),
+    };
+    Ok(Line::Refused {
+        command: Command::Checkpoint,
+        why,
+    })
+}
+
+// The end of the checkpoint that was under way.
+fn end(client: &mut Client<'_>, made: Result<u64, CheckpointError>) -> Result<(), OutOfMemory>
+    ensures ok { OnOk result (SaysEnd client.old made client.new) }
+    ensures err { OnErr result (Unsaid client.old made client.new) }
+{
+    let line = line_of(made)?;
+    client.finish(State::Outside, line)?;
+    Ok(())
+}
+
+// The checkpoint that was under way makes no image.
+fn give_up<V: Store>(
+    client: &mut Client<'_>,
+    checkpoint: Checkpoint,
+    error: CheckpointError,
+    core: &mut Core<V>,
+) -> Result<(), OutOfMemory>
+    ensures system { core.new ≡ record core.old { system = record core.old.system { state = given_up checkpoint.faulted core.old.system.state } } }
+    ensures ok { OnOk result (SaysEnd client.old (Err error) client.new) }
+    ensures err { OnErr result (Unsaid client.old (Err error) client.new) }
+{
+    checkpoint.give_up(&mut core.system);
+    end(client, Err(error))?;
+    Ok(())
+}
+
+/// Starts a checkpoint.
+pub(crate) fn start<V: Store>(
+    client: &mut Client<'_>,
+    alloc: Global,
+    core: &mut Core<V>,
+) -> Result<bool, OutOfMemory>
+    requires next { next_of client.old ≡ Some IsCheckpoint }
+    requires may { MayStep V.told V.may_leave V.faults IsOutside client.old core.old.regions.items core.old.system.state core.old.vault }
+    ensures goes { (precheck : Bool) → StepGoes V.told V.may_leave V.faults precheck IsOutside client.old core.old.regions.items core.old.system.state core.old.vault (is_ok result) client.new core.new.regions.items core.new.system.state core.new.vault }
+{
+    match Checkpoint::start(alloc, &mut core.system, &mut core.vault) {
+        Ok(checkpoint) => {
+            client.state = State::Copying {
+                checkpoint,
+                next: 0,
+            };
+            Ok(true)
+        }
+        Err(error) => {
+            end(client, Err(error))?;
+            Ok(true)
+        }
+    }
+}
+
+/// Copies the next region, or ends the image where each was copied. Where the engine was stopped in between, that is why
+/// there is no image.
+pub(crate) fn copy<V: Store>(
+    client: &mut Client<'_>,
+    checkpoint: Checkpoint,
+    next: u32,
+    alloc: Global,
+    core: &mut Core<V>,
+) -> Result<bool, OutOfMemory>
+    requires { MayStep V.told V.may_leave V.faults (IsCopying checkpoint next) client.old core.old.regions.items core.old.system.state core.old.vault }
+    ensures goes { (precheck : Bool) → StepGoes V.told V.may_leave V.faults precheck (IsCopying checkpoint next) client.old core.old.regions.items core.old.system.state core.old.vault (is_ok result) client.new core.new.regions.items core.new.system.state core.new.vault }
+{
+    if let Some(cause) = core.system.stopped() {
+        give_up(client, checkpoint, CheckpointError::Stopped { cause }, core)?;
+        return Ok(true);
+    }
+    if (next as usize) < core.regions.len() {
+        let mut checkpoint = checkpoint;
+        match checkpoint.copy(next, &mut core.regions[next as usize], &mut core.vault) {
+            Ok(()) => {
+                client.state = State::Copying {
+                    checkpoint,
+                    next: next + 1,
+                };
+                return Ok(true);
+            }
+            Err(error) => {
+                give_up(client, checkpoint, error, core)?;
+                return Ok(true);
+            }
+        }
+    }
+    settle(client, checkpoint, next, alloc, core)
+}
+
+// Ends the image, and begins its audit.
+fn settle<V: Store>(
+    client: &mut Client<'_>,
+    checkpoint: Checkpoint,
+    next: u32,
+    alloc: Global,
+    core: &mut Core<V>,
+) -> Result<bool, OutOfMemory>
+    requires may { MayStep V.told V.may_leave V.faults (IsCopying checkpoint next) client.old core.old.regions.items core.old.system.state core.old.vault }
+    requires runs { core.old.system.state.stop ≡ None }
+    requires all { length core.old.regions.items ≤ next }
+    ensures goes { (precheck : Bool) → StepGoes V.told V.may_leave V.faults precheck (IsCopying checkpoint next) client.old core.old.regions.items core.old.system.state core.old.vault (is_ok result) client.new core.new.regions.items core.new.system.state core.new.vault }
+{
+    let mut checkpoint = checkpoint;
+    match checkpoint.settle(alloc, &mut core.system, &mut core.vault) {
+        Ok(()) => {}
+        Err(error) => {
+            give_up(client, checkpoint, error, core)?;
+            return Ok(true);
+        }
+    }
+    match audits::begin(alloc, &mut core.system) {
+        Ok(audit) => {
+            client.state = State::Certifying {
+                checkpoint,
+                audit,
+                next: 0,
+            };
+            Ok(true)
+        }
+        Err(error) => {
+            give_up(client, checkpoint, error.into(), core)?;
+            Ok(true)
+        }
+    }
+}
+
+/// Passes the next region in the checkpoint's audit; where each was passed the audit ends, and where it is clean the image
+/// becomes the current one.
+pub(crate) fn certify<V: Store>(
+    client: &mut Client<'_>,
+    checkpoint: Checkpoint,
+    audit: Audit,
+    next: u32,
+    alloc: Global,
+    core: &mut Core<V>,
+) -> Result<bool, OutOfMemory>
+    requires { MayStep V.told V.may_leave V.faults (IsCertifying checkpoint audit next) client.old core.old.regions.items core.old.system.state core.old.vault }
+    ensures goes { (precheck : Bool) → StepGoes V.told V.may_leave V.faults precheck (IsCertifying checkpoint audit next) client.old core.old.regions.items core.old.system.state core.old.vault (is_ok result) client.new core.new.regions.items core.new.system.state core.new.vault }
+{
+    if (next as usize) < core.regions.len() {
+        let mut audit = audit;
+        audit.pass(next, &mut core.regions[next as usize]);
+        client.state = State::Certifying {
+            checkpoint,
+            audit,
+            next: next + 1,
+        };
+        return Ok(true);
+    }
+    finish_audit(client, checkpoint, audit, next, alloc, core)
+}
+
+// Ends the checkpoint's audit, and the checkpoint.
+fn finish_audit<V: Store>(
+    client: &mut Client<'_>,
+    checkpoint: Checkpoint,
+    audit: Audit,
+    next: u32,
+    alloc: Global,
+    core: &mut Core<V>,
+) -> Result<bool, OutOfMemory>
+    requires may { MayStep V.told V.may_leave V.faults (IsCertifying checkpoint audit next) client.old core.old.regions.items core.old.system.state core.old.vault }
+    requires all { length core.old.regions.items ≤ next }
+    ensures goes { (precheck : Bool) → StepGoes V.told V.may_leave V.faults precheck (IsCertifying checkpoint audit next) client.old core.old.regions.items core.old.system.state core.old.vault (is_ok result) client.new core.new.regions.items core.new.system.state core.new.vault }
+{
+    match audit.end(&mut core.system) {
+        Ok(verdict) => {
+            let made = checkpoint.certify(alloc, verdict, &mut core.system, &mut core.vault);
+            end(client, made)?;
+            Ok(true)
+        }
+        Err(error) => {
+            give_up(client, checkpoint, error.into(), core)?;
+            Ok(true)
+        }
+    }
+}

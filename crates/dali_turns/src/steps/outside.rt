@@ -1,0 +1,120 @@
+//! The steps of a client outside a transaction that are no audit's and no checkpoint's.
+ghost use Rattle.std.specs.Prelude.{◌≡◌, Bool, true, false, Some, None, Ok, is_ok};
+ghost use Rattle.dali_clients.specs.declared.command.Command.{Command as Order};
+ghost use Rattle.dali_clients.specs.declared.command.Command.TheVariants.{Begin as IsBegin, Poke as IsPoke};
+ghost use Rattle.dali_turns.specs.declared.client.State.{State as Place};
+ghost use Rattle.dali_turns.specs.declared.client.State.TheVariants.{Outside as IsOutside, LeftOut as IsLeftOut, Waiting as IsWaiting};
+ghost use Rattle.dali_turns.specs.Clients.{next_of, Passes, Stays, left_behind};
+ghost use Rattle.dali_turns.specs.Outside.{HasGone, BeginsFrom};
+ghost use Rattle.dali_turns.specs.Goes.{MayStep, StepGoes};
+
+use crate::client::{Client, State, Transaction};
+use crate::why::why_of;
+use dali_att::State as TxnState;
+use dali_bytes::OutOfMemory;
+use dali_clients::{Command, Line};
+use dali_core::System;
+use dali_store::Store;
+use dali_whole::Core;
+
+/// Begins a transaction of which so many tries got Busy. A begin that is refused leaves its transaction out.
+pub(crate) fn begin<V: Store>(
+    client: &mut Client<'_>,
+    tries: u32,
+    core: &mut Core<V>,
+) -> Result<bool, OutOfMemory>
+    requires { next_of client.old ≡ Some IsBegin }
+    ensures goes { (precheck : Bool) (state : Place) → BeginsFrom core.old.system.state tries state
+        → StepGoes V.told V.may_leave V.faults precheck state client.old core.old.regions.items core.old.system.state core.old.vault (is_ok result) client.new core.new.regions.items core.new.system.state core.new.vault }
+{
+    let commands = client.rest;
+    match core.system.begin() {
+        Ok((txn, _)) => {
+            let transaction = Transaction {
+                txn,
+                tries,
+                commands,
+                deadly: None,
+            };
+            client.finish(State::Within { transaction }, Line::Begun { txn })?;
+            Ok(true)
+        }
+        Err(error) => {
+            let why = why_of(error)?;
+            let command = Command::Begin;
+            client.finish(State::LeftOut, Line::Refused { command, why })?;
+            Ok(true)
+        }
+    }
+}
+
+/// Begins again, where the holder for which the last try gave way has ended or is dead, or where the engine is stopped and
+/// nobody ends any more.
+pub(crate) fn wait<V: Store>(
+    client: &mut Client<'_>,
+    tries: u32,
+    holder: u64,
+    core: &mut Core<V>,
+) -> Result<bool, OutOfMemory>
+    requires { next_of client.old ≡ Some IsBegin }
+    ensures goes { (precheck : Bool) → StepGoes V.told V.may_leave V.faults precheck (IsWaiting tries holder) client.old core.old.regions.items core.old.system.state core.old.vault (is_ok result) client.new core.new.regions.items core.new.system.state core.new.vault }
+{
+    if has_gone(&core.system, holder) {
+        return begin(client, tries, core);
+    }
+    if core.system.stopped().is_some() {
+        return begin(client, tries, core);
+    }
+    client.state = State::Waiting { tries, holder };
+    Ok(false)
+}
+
+// Whether a transaction has ended, or its client died.
+fn has_gone(system: &System, txn: u64) -> bool
+    ensures { result ≡ true → HasGone system.now.state txn }
+{
+    matches!(system.state(txn), None | Some(TxnState::Dead { .. }))
+}
+
+/// The next command behind a begin that was refused: it is left out.
+pub(crate) fn left_out(client: &mut Client<'_>) -> Result<bool, OutOfMemory>
+    ensures done { next_of client.old ≡ None → (result ≡ Ok false) × Stays client.old IsLeftOut client.new }
+    ensures passed { (command : Order) → next_of client.old ≡ Some command → (result ≡ Ok true) × Passes client.old (left_behind command) client.new }
+{
+    let Some(command) = client.command() else {
+        client.state = State::LeftOut;
+        return Ok(false);
+    };
+    client.pass_command();
+    if command.closes() {
+        client.state = State::Outside;
+        return Ok(true);
+    }
+    client.state = State::LeftOut;
+    Ok(true)
+}
+
+/// A stray write. Its line comes first, for which memory may be refused.
+pub(crate) fn poke<V: Store>(
+    client: &mut Client<'_>,
+    region: u32,
+    word: u8,
+    mask: u64,
+    core: &mut Core<V>,
+) -> Result<bool, OutOfMemory>
+    requires may { MayStep V.told V.may_leave V.faults IsOutside client.old core.old.regions.items core.old.system.state core.old.vault }
+    requires next { next_of client.old ≡ Some (IsPoke region word mask) }
+    ensures goes { (precheck : Bool) → StepGoes V.told V.may_leave V.faults precheck IsOutside client.old core.old.regions.items core.old.system.state core.old.vault (is_ok result) client.new core.new.regions.items core.new.system.state core.new.vault }
+{
+    match core.regions.get_mut(region as usize) {
+        Some(region) => {
+            client.finish(State::Outside, Line::PokeOk)?;
+            region.poke(word, mask);
+            Ok(true)
+        }
+        None => {
+            client.finish(State::Outside, Line::PokeOutOfRange)?;
+            Ok(true)
+        }
+    }
+}

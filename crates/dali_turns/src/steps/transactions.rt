@@ -1,0 +1,204 @@
+//! How transactions end.
+ghost use Rattle.std.specs.Prelude.{◌≡◌, ◌+◌, ◌<◌, [], ◌∷◌, Bool, true, false, Some, None, Ok, Err, IsErr, is_ok, map, OnOk, OnErr, IfOk, IfErr, IfSome};
+ghost use Rattle.dali_att.specs.declared.state.State.TheVariants.{Live};
+ghost use Rattle.dali_system.specs.State.{state_of};
+ghost use Rattle.dali_ends.specs.Stands.{IsUp, IsBetween};
+ghost use Rattle.dali_clients.specs.declared.command.Command.TheVariants.{Commit as IsCommit, Abort as IsAbort};
+ghost use Rattle.dali_clients.specs.declared.line.Why.TheVariants.{Stopped as IsStopped, StoreStopped as IsStoreStopped};
+ghost use Rattle.dali_clients.specs.declared.line.Line.TheVariants.{Busy as IsBusy};
+ghost use Rattle.dali_clients.specs.Told.{act_of};
+ghost use Rattle.dali_transcripts.specs.Moves.{behind_close as acts_behind};
+ghost use Rattle.dali_turns.specs.declared.client.State.TheVariants.{Outside as IsOutside, Within as IsWithin, Waiting as IsWaiting};
+ghost use Rattle.dali_turns.specs.Clients.{next_of};
+ghost use Rattle.dali_turns.specs.Ends.{IsTakenBack, IsHalfBack, IsCommitted, IsUncommitted, abort_line, end_line as line_of, SaysAlso, GoesSilent};
+ghost use Rattle.dali_turns.specs.Goes.{MayStep, StepGoes, MayYield, YieldGoes};
+
+use crate::client::{Client, State, Transaction};
+use crate::steps::Setting;
+use dali_bytes::OutOfMemory;
+use dali_clients::{Command, Line, Why};
+use dali_ends::{AbortError, CommitError};
+use dali_stepwise::Gate;
+use dali_store::Store;
+use dali_system::Cause;
+use dali_whole::Core;
+use std::alloc::Global;
+
+// How often a transaction is tried that gets Busy.
+const MAX_TRIES: u32 = 1000;
+
+// Commits a transaction of a core. Answers why not: a transaction whose call was cut by a stop can't commit any more, so the
+// engine is asked first.
+fn commit_in<V: Store>(
+    core: &mut Core<V>,
+    alloc: Global,
+    txn: u64,
+) -> Result<Option<Why>, OutOfMemory>
+    requires may { core.old.system.state.stop ≡ None → IsBetween V.told V.may_leave V.faults core.old.regions.items core.old.system.state core.old.vault txn }
+    requires lives { state_of core.old.system.state txn ≡ Some Live }
+    requires runs { core.old.system.state.stop ≡ None → core.old.vault.stopped ≡ false }
+    ensures stopped { IfSome core.old.system.state.stop (λ cause. (result ≡ Ok (Some (IsStopped cause))) × (core.new ≡ core.old)) }
+    ensures ok { core.old.system.state.stop ≡ None → result ≡ Ok None → IsCommitted V.told V.may_leave V.faults txn core.old.regions.items core.old.system.state core.old.vault core.new.regions.items core.new.system.state core.new.vault }
+    ensures fault { core.old.system.state.stop ≡ None → IfOk result (λ o. IfSome o (λ why. (why ≡ IsStoreStopped) × IsUncommitted V.told V.may_leave V.faults txn core.old.regions.items core.old.system.state core.old.vault core.new.regions.items core.new.system.state core.new.vault)) }
+    ensures memory { OnErr result (core.new ≡ core.old) }
+{
+    if let Some(cause) = core.system.stopped() {
+        return Ok(Some(Why::Stopped { cause }));
+    }
+    match dali_ends::commit(core, alloc, txn) {
+        Ok(()) => Ok(None),
+        Err(CommitError::Stopped { .. }) => unreachable!(), // the vault runs with the engine
+        Err(CommitError::Fault) => Ok(Some(Why::StoreStopped)),
+        Err(CommitError::OutOfMemory) => Err(OutOfMemory),
+    }
+}
+
+/// Commits the transaction: its record is flushed where the line is `commit ok`.
+pub(crate) fn commit<V: Store, G: Gate>(
+    client: &mut Client<'_>,
+    transaction: Transaction<'_>,
+    core: &mut Core<V>,
+    setting: &Setting<'_, G>,
+) -> Result<bool, OutOfMemory>
+    requires may { MayStep V.told V.may_leave V.faults (IsWithin transaction) client.old core.old.regions.items core.old.system.state core.old.vault }
+    requires next { next_of client.old ≡ Some IsCommit }
+    ensures goes { StepGoes V.told V.may_leave V.faults setting.now.precheck (IsWithin transaction.entry) client.old core.old.regions.items core.old.system.state core.old.vault (is_ok result) client.new core.new.regions.items core.new.system.state core.new.vault }
+{
+    let command = Command::Commit;
+    match commit_in(core, setting.alloc, transaction.txn)? {
+        None => client.finish(State::Outside, Line::CommitOk)?,
+        Some(why) => client.finish(State::Outside, Line::Refused { command, why })?,
+    }
+    Ok(true)
+}
+
+// Takes a transaction of a core back. Answers why not, where the engine is stopped.
+fn take_back<V: Store>(core: &mut Core<V>, txn: u64) -> Result<Option<Cause>, OutOfMemory>
+    requires up { IsUp V.told V.may_leave V.faults core.old.regions.items core.old.system.state core.old.vault }
+    requires lives { state_of core.old.system.state txn ≡ Some Live }
+    ensures vault { core.new.vault ≡ core.old.vault }
+    ensures stopped { IfSome core.old.system.state.stop (λ cause. core.new ≡ core.old) }
+    ensures known { IfOk result (λ o. o ≡ core.old.system.state.stop) }
+    ensures away { core.old.system.state.stop ≡ None → OnOk result (IsTakenBack V.told V.may_leave V.faults txn core.old.regions.items core.old.system.state core.old.vault core.new.regions.items core.new.system.state) }
+    ensures half { OnErr result ((core.old.system.state.stop ≡ None) × IsHalfBack V.told V.may_leave V.faults txn core.old.regions.items core.old.system.state core.old.vault core.new.regions.items core.new.system.state) }
+{
+    match dali_ends::abort(core, txn) {
+        Ok(()) => Ok(None),
+        Err(AbortError::Stopped { cause }) => Ok(Some(cause)),
+        Err(AbortError::OutOfMemory) => Err(OutOfMemory),
+    }
+}
+
+fn told_line(left: Option<Cause>) -> Line
+    ensures { result ≡ abort_line left }
+{
+    match left {
+        None => Line::AbortOk,
+        Some(cause) => Line::Refused {
+            command: Command::Abort,
+            why: Why::Stopped { cause },
+        },
+    }
+}
+
+fn end_line(left: Option<Cause>) -> Line
+    ensures { result ≡ line_of left }
+{
+    match left {
+        None => Line::Aborted,
+        Some(_) => Line::LeftOpen,
+    }
+}
+
+/// Takes the transaction back, as it is told.
+pub(crate) fn abort<V: Store>(
+    client: &mut Client<'_>,
+    transaction: Transaction<'_>,
+    core: &mut Core<V>,
+) -> Result<bool, OutOfMemory>
+    requires may { MayStep V.told V.may_leave V.faults (IsWithin transaction) client.old core.old.regions.items core.old.system.state core.old.vault }
+    requires next { next_of client.old ≡ Some IsAbort }
+    ensures goes { (precheck : Bool) → StepGoes V.told V.may_leave V.faults precheck (IsWithin transaction.entry) client.old core.old.regions.items core.old.system.state core.old.vault (is_ok result) client.new core.new.regions.items core.new.system.state core.new.vault }
+{
+    let left = take_back(core, transaction.txn)?;
+    client.finish(State::Outside, told_line(left))?;
+    Ok(true)
+}
+
+/// The block ends in the transaction, which is taken back.
+pub(crate) fn end<V: Store>(
+    client: &mut Client<'_>,
+    transaction: Transaction<'_>,
+    core: &mut Core<V>,
+) -> Result<bool, OutOfMemory>
+    requires may { MayStep V.told V.may_leave V.faults (IsWithin transaction) client.old core.old.regions.items core.old.system.state core.old.vault }
+    requires next { next_of client.old ≡ None }
+    ensures goes { (precheck : Bool) → StepGoes V.told V.may_leave V.faults precheck (IsWithin transaction.entry) client.old core.old.regions.items core.old.system.state core.old.vault (is_ok result) client.new core.new.regions.items core.new.system.state core.new.vault }
+{
+    let left = take_back(core, transaction.txn)?;
+    client.finish(State::Outside, end_line(left))?;
+    Ok(true)
+}
+
+// The client waits for the holder, to try the transaction again.
+fn wait_for<'a>(
+    client: &mut Client<'a>,
+    commands: &'a [Command],
+    tries: u32,
+    holder: u64,
+    line: Line,
+) -> Result<(), OutOfMemory>
+    ensures ok { OnOk result (SaysAlso client.old commands.now (IsWaiting tries holder) (line ∷ []) client.new) }
+    ensures err { OnErr result (GoesSilent client.old client.new) }
+{
+    client.rest = commands;
+    client.state = State::Waiting { tries, holder };
+    client.transcript.say(line)
+}
+
+// Behind the last try it goes on with the command behind the transaction's end.
+fn leave<'a>(client: &mut Client<'a>, holder: u64, line: Line) -> Result<(), OutOfMemory>
+    ensures rest { OnOk result (map act_of client.new.rest.now ≡ acts_behind (map act_of client.old.rest.now)) }
+    ensures ok { OnOk result (SaysAlso client.old client.new.rest.now IsOutside (IsBusy holder ∷ line ∷ []) client.new) }
+    ensures err { OnErr result (GoesSilent client.old client.new) }
+{
+    client.rest = behind_close(client.rest);
+    client.state = State::Outside;
+    client.transcript.say_both(Line::Busy { holder }, line)
+}
+
+/// An older transaction holds the key of the call: this one is taken back, and tried again when that holder has ended. Behind
+/// the last try the client goes on with the command behind the transaction's end.
+pub(crate) fn give_way<'a, V: Store>(
+    client: &mut Client<'a>,
+    transaction: Transaction<'a>,
+    holder: u64,
+    core: &mut Core<V>,
+) -> Result<bool, OutOfMemory>
+    requires may { MayYield V.told V.may_leave V.faults transaction holder client.old core.old.regions.items core.old.system.state core.old.vault }
+    ensures on { IfOk result (λ went. went ≡ true) }
+    ensures goes { (precheck : Bool) → YieldGoes V.told V.may_leave V.faults precheck transaction.entry holder client.old core.old.regions.items core.old.system.state core.old.vault (is_ok result) client.new core.new.regions.items core.new.system.state core.new.vault }
+{
+    let line = end_line(take_back(core, transaction.txn)?);
+    let tries = transaction.tries + 1;
+    if tries < MAX_TRIES {
+        wait_for(client, transaction.commands, tries, holder, line)?;
+        return Ok(true);
+    }
+    leave(client, holder, line)?;
+    Ok(true)
+}
+
+// The commands behind the end of the transaction that is open in front of these.
+fn behind_close<'a>(commands: &'a [Command]) -> &'a [Command]
+    ensures { map act_of result.now ≡ acts_behind (map act_of commands.now) }
+{
+    let mut rest = commands;
+    while let Some((command, behind)) = rest.split_first() {
+        if command.closes() {
+            return behind;
+        }
+        rest = behind;
+    }
+    rest
+}
