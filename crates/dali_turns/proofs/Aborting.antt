@@ -1,6 +1,5 @@
 -- A transaction that is taken back as its client is told, at the end of its block, or since an older one holds the key of its call.
-use Rattle.std.proofs.Common.{◌≡◌, ℕ, ◌+◌, ◌<◌, ◌≤◌, Bool, true, false, List, [], ◌∷◌, ◌++◌, length, map, Option, Some, None, is_some, refl, ap, sym, subst, ◌∙◌, inl, inr, arith}
-use Rattle.std.specs.List.{AllByRecursion}
+use Rattle.std.proofs.Common.{◌≡◌, ℕ, ◌+◌, ◌<◌, Bool, true, false, List, [], ◌∷◌, ◌++◌, length, map, Option, Some, None, is_some, refl, ap, sym, subst, ◌∙◌, inl, inr}
 use Rattle.std.proofs.lemmas.List.{append_assoc}
 use Rattle.dali_record.specs.declared.records.Call.{Call}
 use Rattle.dali_record.specs.declared.records.Record.{Record}
@@ -12,10 +11,10 @@ use Rattle.dali_system.specs.State.{SystemState, state_of}
 use Rattle.dali_crash.specs.Checkpoints.{Point}
 use Rattle.dali_crash.specs.Traces.{Start}
 use Rattle.dali_vault.specs.Vaulted.{Vaulted}
-use Rattle.dali_transcripts.specs.Words.{Act, Calls, Arms, Commits as CommitAct, Aborts as AbortAct, Said, AbortOk, Aborted, Busy as IsBusy}
+use Rattle.dali_transcripts.specs.Words.{Act, Calls, Arms, Commits as CommitAct, Aborts as AbortAct, AbortOk, Aborted, Busy as IsBusy}
 use Rattle.dali_transcripts.specs.World.{Deed, Logs, GivesBack as GivesTxnBack, Yields, FindsDead, Meets, World, log_of}
-use Rattle.dali_transcripts.specs.Moves.{Receipt, Place, Outside as IsOutside, Within as IsWithin, Again, Spot, at, TakenBack, Move, Aborts, Ends, GivesWay, GivesUp, behind_close, from, said, own, to}
-use Rattle.dali_transcripts.specs.Causes.{IsAside, AreAside, IsAsking, AreAsking, GetsBusy, IsUnfinished, AreUnfinished, HasCause}
+use Rattle.dali_transcripts.specs.Moves.{Receipt, Outside as IsOutside, Within as IsWithin, Again, Spot, at, TakenBack, Move, Aborts, Ends, GivesWay, GivesUp, behind_close, from, said, own, to}
+use Rattle.dali_transcripts.specs.Causes.{IsAside, IsAsking, AreAsking, GetsBusy, IsUnfinished, AreUnfinished, HasCause}
 use Rattle.dali_transcripts.specs.Laws.{receipts_from}
 use Rattle.dali_transcripts.specs.Rounds.{Standing, IsPlaced}
 use Rattle.dali_transcripts.proofs.Growing.{askings, busy}
@@ -27,13 +26,13 @@ use Rattle.dali_turns.specs.declared.client.Client.{Client}
 use Rattle.dali_turns.specs.declared.client.State.{State}
 use Rattle.dali_turns.specs.declared.client.State.TheVariants.{Outside, Within, Waiting}
 use Rattle.dali_turns.specs.declared.client.Transaction.{Transaction}
-use Rattle.dali_turns.specs.Stood.{HadRow, Stood}
-use Rattle.dali_turns.specs.Outside.{MaySay, FitsOutside, FitsWaiting}
+use Rattle.dali_turns.specs.Stood.{Stood}
+use Rattle.dali_turns.specs.Outside.{MaySay}
 use Rattle.dali_turns.specs.Within.{AreSoFar, FitsWithin, FitsYielding}
 use Rattle.dali_turns.specs.Fits.{rest_of, lines_of, IsOf, Fits}
-use Rattle.dali_turns.specs.Goes.{RowsTell, Went}
+use Rattle.dali_turns.specs.Goes.{Went}
 use Rattle.dali_turns.proofs.Rows.{had_row}
-use Rattle.dali_turns.proofs.Doing.{behind, ended, went_on, went_by, went_silent}
+use Rattle.dali_turns.proofs.Doing.{ended, went_on, went_by, went_silent}
 use Rattle.dali_turns.proofs.Closing.{GoesBack, GoesAway}
 
 -- what a taking back did, where the round ended in its midst

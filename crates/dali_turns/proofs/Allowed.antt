@@ -1,5 +1,5 @@
 -- What the rules of the log and the locks allow a plan next.
-use Rattle.std.proofs.Common.{◌≡◌, ℕ, ◌+◌, ◌^◌, ◌<◌, Bool, true, false, not, List, [], ◌∷◌, ◌++◌, length, Option, Some, None, is_some, if◌then◌else◌, refl, ap, sym, subst, ◌∙◌, arith}
+use Rattle.std.proofs.Common.{◌≡◌, ℕ, ◌+◌, ◌^◌, ◌<◌, Bool, true, false, not, List, [], ◌∷◌, ◌++◌, Option, Some, None, refl, ap, sym, subst, ◌∙◌, arith}
 use Rattle.std.specs.Prelude.{slice_get}
 use Rattle.std.proofs.lemmas.List.Elements.{recursion_from_All}
 use Rattle.std.proofs.lemmas.Option.{slice_get_within}
@@ -12,8 +12,7 @@ use Rattle.dali_record.specs.declared.records.Call.{Call}
 use Rattle.dali_record.specs.declared.records.Call.TheVariants.{Insert, Update, Delete, Get}
 use Rattle.dali_record.specs.declared.records.Record.{Record}
 use Rattle.dali_record.specs.declared.records.Record.TheVariants.{Forward, Done}
-use Rattle.dali_record.specs.Blocks.{AreWords, IsSoundOn, made, changes_item}
-use Rattle.dali_record.specs.Legal.{Working, txn_state}
+use Rattle.dali_record.specs.Blocks.{AreWords, made, changes_item}
 use Rattle.dali_record.specs.Locks.{IsLockLegal}
 use Rattle.dali_record.specs.Log.{Touch, touch_of}
 use Rattle.dali_record.specs.Spelling.{Is64, IsCall, CanBeSpelled, record_length}
@@ -27,10 +26,9 @@ use Rattle.dali_system.specs.Keeps.{IsNext, with_system}
 use Rattle.dali_system.proofs.Logging.{no_conflict}
 use Rattle.dali_facts.specs.Plans.{AtWork}
 use Rattle.dali_crash.specs.Checkpoints.{Point}
-use Rattle.dali_calls.specs.declared.plan.Phase.{Phase}
 use Rattle.dali_calls.specs.declared.plan.Phase.TheVariants.{Calling as IsCalling}
-use Rattle.dali_calls.specs.Steps.{call_key, is_get, answer_of, next_op, IsBlockOf, IsNextBlock}
-use Rattle.dali_calls.specs.Plans.{Planned, is_back, plan_next, onward_next, undo_next, want_of, GoesOn, IsWhole}
+use Rattle.dali_calls.specs.Steps.{call_key, is_get, answer_of, IsBlockOf, IsNextBlock}
+use Rattle.dali_calls.specs.Plans.{Planned, is_back, plan_next, want_of, GoesOn, IsWhole}
 use Rattle.dali_calls.specs.Followed.{HoldsCall, Follows}
 use Rattle.dali_calls.proofs.Nexts.{next_spelled}
 use Rattle.dali_calls.proofs.Stepping.{state_there, covers_all, done_is_step}

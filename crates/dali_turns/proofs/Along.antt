@@ -1,6 +1,6 @@
 -- Calm steps, which call no store and take no frame, made by a client of a round.
-use Rattle.std.proofs.Common.{◌≡◌, ℕ, Bool, true, false, not, ◌&&◌, List, [], ◌∷◌, ◌++◌, length, map, Option, Some, None, IfSome, is_some, refl, ap, sym, subst, ◌∙◌}
-use Rattle.std.specs.Prelude.{⊤, ◌==◌}
+use Rattle.std.proofs.Common.{◌≡◌, ℕ, Bool, true, false, ◌&&◌, List, [], ◌∷◌, ◌++◌, map, Option, Some, None, is_some, refl, ap, sym, subst, ◌∙◌}
+use Rattle.std.specs.Prelude.{◌==◌}
 use Rattle.std.specs.List.{list_all}
 use Rattle.dali_record.specs.declared.records.Record.{Record}
 use Rattle.dali_region.specs.State.{RegionState}
@@ -9,8 +9,8 @@ use Rattle.dali_store.specs.Store.{Files as Disk}
 use Rattle.dali_system.specs.declared.causes.Cause.{Cause}
 use Rattle.dali_system.specs.State.{SystemState, CoreState, state_of}
 use Rattle.dali_system.specs.Regions.{RegionStep, Latch, NoteReads, Update, TakeBack}
-use Rattle.dali_system.specs.Courses.{Step, Operates, TakesBack, Frees, Ends, Locks, OnRegion, Claims, GivesBack, Recovers}
-use Rattle.dali_crash.specs.Checkpoints.{StoreStep, Does, Point, IsPointStep, IsPointCourse, moment_of}
+use Rattle.dali_system.specs.Courses.{Step, Operates, TakesBack, Frees, Locks, OnRegion, Claims, GivesBack, Recovers}
+use Rattle.dali_crash.specs.Checkpoints.{StoreStep, Does, Point, IsPointCourse, moment_of}
 use Rattle.dali_crash.specs.Traces.{Start, bases_of}
 use Rattle.dali_vault.specs.Vaulted.{Vaulted}
 use Rattle.dali_steps.specs.Courses.{is_quiet}
@@ -22,8 +22,8 @@ use Rattle.dali_transcripts.specs.World.{Deed, World, is_claimed_in}
 use Rattle.dali_deeds.specs.Tells.{after, Goes}
 use Rattle.dali_deeds.specs.Laws.{AreOfCourse}
 use Rattle.dali_turns.specs.declared.client.State.{State}
-use Rattle.dali_turns.specs.Stood.{IsQuiet, Stood}
-use Rattle.dali_turns.specs.Fits.{Owns, Audits, Makes}
+use Rattle.dali_turns.specs.Stood.{Stood}
+use Rattle.dali_turns.specs.Fits.{Owns}
 use Rattle.dali_turns.specs.Others.{ImageStays}
 use Rattle.dali_turns.proofs.Deeds.{course_tells}
 use Rattle.dali_turns.proofs.Beside.{is_out_of, course_audit, step_image, image_still, image_then}

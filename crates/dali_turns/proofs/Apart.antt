@@ -1,5 +1,5 @@
 -- What a step of another client leaves of one that is in an audit or makes a checkpoint.
-use Rattle.std.proofs.Common.{◌≡◌, ℕ, zero, suc, ◌+◌, ◌<◌, ◌≤◌, Bool, true, false, List, [], ◌∷◌, ◌++◌, length, fold, Option, Some, None, is_some, refl, ap, sym, subst, ◌∙◌, arith}
+use Rattle.std.proofs.Common.{◌≡◌, ℕ, zero, suc, ◌<◌, Bool, true, false, List, [], ◌∷◌, ◌++◌, length, fold, Option, Some, None, refl, ap, sym, subst, ◌∙◌, arith}
 use Rattle.std.specs.Prelude.{Contains, slice_get}
 use Rattle.std.proofs.lemmas.List.{append_assoc}
 use Rattle.std.proofs.lemmas.List.Elements.{Contains-append_right, filter_map-append}
@@ -30,7 +30,7 @@ use Rattle.dali_turns.specs.Stood.{Stood}
 use Rattle.dali_turns.specs.Audits.{IsPassing, FitsAuditing}
 use Rattle.dali_turns.specs.Checkpoints.{IsMaking, FitsCopying, FitsCertifying}
 use Rattle.dali_turns.specs.Fits.{Audits, Makes, Fits}
-use Rattle.dali_turns.specs.Others.{AuditStays, ImageStays, LeavesOthers}
+use Rattle.dali_turns.specs.Others.{ImageStays, LeavesOthers}
 use Rattle.dali_turns.proofs.Passing.{still_passing}
 
 -- ---- one checkpoint at a time

@@ -1,7 +1,6 @@
 -- A request for the lock of a call that is granted.
-use Rattle.std.proofs.Common.{◌≡◌, ℕ, ◌-◌, ◌<◌, Bool, true, false, not, List, [], ◌∷◌, ◌++◌, length, map, Option, Some, None, is_some, refl, ap, sym, subst, ◌∙◌, ◌⊎◌, inl, inr, arith}
+use Rattle.std.proofs.Common.{◌≡◌, ℕ, Bool, true, false, not, List, [], ◌∷◌, ◌++◌, length, map, Option, Some, None, is_some, refl, ap, sym, subst, ◌∙◌, ◌⊎◌, inl, inr, arith}
 use Rattle.std.specs.Prelude.{◌==◌, if◌then◌else◌, filter}
-use Rattle.std.specs.List.{AllByRecursion}
 use Rattle.std.proofs.lemmas.List.{append-nil}
 use Rattle.dali_counts.proofs.Lists.{equal, same_number}
 use Rattle.dali_record.specs.declared.records.Call.{Call}
@@ -11,20 +10,19 @@ use Rattle.dali_region.specs.State.{RegionState}
 use Rattle.dali_locks.specs.declared.mode.LockAnswer.TheVariants.{Granted}
 use Rattle.dali_att.specs.declared.state.State.TheVariants.{Live}
 use Rattle.dali_store.specs.Store.{Files as Disk}
-use Rattle.dali_system.specs.State.{SystemState, VaultState, CoreState, state_of}
+use Rattle.dali_system.specs.State.{SystemState, state_of}
 use Rattle.dali_system.specs.Steps.{granted}
-use Rattle.dali_system.specs.Courses.{Step, Locks}
-use Rattle.dali_crash.specs.Checkpoints.{Does, Point, IsPointStep}
+use Rattle.dali_system.specs.Courses.{Locks}
+use Rattle.dali_crash.specs.Checkpoints.{Point}
 use Rattle.dali_crash.specs.Traces.{Start}
 use Rattle.dali_vault.specs.Vaulted.{Vaulted}
 use Rattle.dali_calls.specs.declared.plan.Phase.TheVariants.{Calling as IsCalling}
 use Rattle.dali_calls.specs.Steps.{call_key}
 use Rattle.dali_calls.specs.Plans.{Planned, mode_of}
-use Rattle.dali_single.specs.Stands.{core, IsAtRest, AtPlan}
-use Rattle.dali_single.specs.Single.{MayCall}
-use Rattle.dali_stepwise.specs.Stepwise.{IsNew, IsAsked}
+use Rattle.dali_single.specs.Stands.{core}
+use Rattle.dali_stepwise.specs.Stepwise.{IsAsked}
 use Rattle.dali_transcripts.specs.Words.{Act, Calls}
-use Rattle.dali_transcripts.specs.World.{Deed, Logs, FindsDead, World}
+use Rattle.dali_transcripts.specs.World.{Logs, World}
 use Rattle.dali_transcripts.specs.Moves.{Receipt, Within as IsWithin, at, is_operation, operations, left}
 use Rattle.dali_transcripts.specs.Causes.{IsAsking, IsWork, AreAsking, AreWork, spares}
 use Rattle.dali_transcripts.specs.Rounds.{Standing, IsPlaced}

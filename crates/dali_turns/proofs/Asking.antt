@@ -1,5 +1,5 @@
 -- A client in a transaction asks for the lock of its next call: it is granted, it must wait, or the engine is stopped.
-use Rattle.std.proofs.Common.{◌≡◌, ℕ, Bool, true, false, not, List, [], ◌∷◌, ◌++◌, length, map, Option, Some, None, is_some, refl, ap, sym, subst, ◌∙◌, ◌⊎◌, inl, inr}
+use Rattle.std.proofs.Common.{◌≡◌, ℕ, Bool, true, false, List, [], ◌∷◌, ◌++◌, length, map, Option, Some, None, is_some, refl, ap, sym, subst, ◌∙◌, ◌⊎◌, inl, inr}
 use Rattle.std.specs.Prelude.{◌==◌, ◌||◌}
 use Rattle.std.proofs.lemmas.List.{append-nil, map-append}
 use Rattle.dali_counts.proofs.Lists.{equal, same_number}
@@ -7,7 +7,6 @@ use Rattle.dali_geometry.specs.Sizes.{Sizes}
 use Rattle.dali_geometry.specs.Places.{regions}
 use Rattle.dali_record.specs.declared.records.Call.{Call}
 use Rattle.dali_record.specs.declared.records.Record.{Record}
-use Rattle.dali_record.specs.declared.records.Record.TheVariants.{Forward}
 use Rattle.dali_region.specs.State.{RegionState}
 use Rattle.dali_locks.specs.declared.mode.LockAnswer.TheVariants.{Granted}
 use Rattle.dali_att.specs.declared.state.State.TheVariants.{Live}
@@ -25,10 +24,10 @@ use Rattle.dali_calls.specs.Plans.{Planned, mode_of}
 use Rattle.dali_single.specs.Stands.{core, IsAtRest}
 use Rattle.dali_single.specs.Single.{MayCall}
 use Rattle.dali_stepwise.specs.Stepwise.{IsNew, IsAsked}
-use Rattle.dali_transcripts.specs.Words.{Act, Calls, StoppedBy, is_stop}
-use Rattle.dali_transcripts.specs.World.{Logs, FindsDead, Meets, World, log_of}
-use Rattle.dali_transcripts.specs.Moves.{Receipt, Within as IsWithin, at, Move, IsRefusedCall, operations, left}
-use Rattle.dali_transcripts.specs.Causes.{IsAsking, AreAsking, IsTried, AreTried, HasCause, AreUnfinished, spares}
+use Rattle.dali_transcripts.specs.Words.{Act, Calls, StoppedBy}
+use Rattle.dali_transcripts.specs.World.{Meets, World, log_of}
+use Rattle.dali_transcripts.specs.Moves.{Within as IsWithin, at, Move, IsRefusedCall, left}
+use Rattle.dali_transcripts.specs.Causes.{AreAsking, AreTried, HasCause, AreUnfinished, spares}
 use Rattle.dali_transcripts.specs.Rounds.{Standing, IsPlaced}
 use Rattle.dali_transcripts.proofs.Growing.{askings}
 use Rattle.dali_deeds.specs.Tells.{after}
@@ -40,12 +39,11 @@ use Rattle.dali_turns.specs.declared.client.Client.{Client}
 use Rattle.dali_turns.specs.declared.client.State.{State}
 use Rattle.dali_turns.specs.declared.client.State.TheVariants.{Within, Calling}
 use Rattle.dali_turns.specs.declared.client.Transaction.{Transaction}
-use Rattle.dali_turns.specs.Clients.{next_of, Passes, Finishes, Stays}
+use Rattle.dali_turns.specs.Clients.{Finishes, Stays}
 use Rattle.dali_turns.specs.Stood.{Stood}
 use Rattle.dali_turns.specs.Within.{AreSoFar, FitsWithin}
-use Rattle.dali_turns.specs.Fits.{rest_of, lines_of, IsOf, Owns, Fits}
-use Rattle.dali_turns.specs.Goes.{RowsTell, Went, StepGoes}
-use Rattle.dali_turns.proofs.Commands.{next_act, behind_next}
+use Rattle.dali_turns.specs.Fits.{rest_of, IsOf, Owns, Fits}
+use Rattle.dali_turns.specs.Goes.{RowsTell, Went}
 use Rattle.dali_turns.proofs.Refusals.{HasCauseNow, met_now, right_now, stop_now}
 use Rattle.dali_turns.proofs.Doing.{Did, did_nothing, did_meet, behind, ended, went_on, went_by, went_silent, vault_stops}
 use Rattle.dali_turns.proofs.Calling.{behind_one, none_so_far}

@@ -1,13 +1,12 @@
 -- A begin of a client, its first try or a later one.
-use Rattle.std.proofs.Common.{◌≡◌, ℕ, ◌+◌, ◌<◌, ◌≤◌, ◌^◌, Bool, true, false, List, [], ◌∷◌, ◌++◌, length, map, sum_by, Option, Some, None, is_some, IfSome, Result, Ok, Err, IfErr, refl, ap, sym, subst, ◌∙◌, ◌⊎◌, inl, inr, ⊎_elim, arith}
+use Rattle.std.proofs.Common.{◌≡◌, ℕ, ◌+◌, ◌<◌, Bool, true, false, List, [], ◌∷◌, ◌++◌, length, map, sum_by, Option, Some, None, is_some, IfSome, Result, Err, IfErr, refl, ap, sym, subst, ◌∙◌, ◌⊎◌, inl, inr, arith}
 use Rattle.std.specs.Prelude.{◌==◌, ◌||◌, if◌then◌else◌, IsSome, nat_lt}
 use Rattle.std.proofs.lemmas.Bool.{ne_eqb, ltb-true}
 use Rattle.dali_counts.proofs.Lists.{self, equal}
 use Rattle.dali_counts.proofs.SmallLogs.{next_is_small}
-use Rattle.dali_geometry.specs.Sizes.{Sizes}
 use Rattle.dali_record.specs.declared.records.Record.{Record}
 use Rattle.dali_record.specs.declared.records.Record.TheVariants.{Begin as BeginRecord}
-use Rattle.dali_record.specs.Spelling.{record_length, CanBeSpelled}
+use Rattle.dali_record.specs.Spelling.{record_length}
 use Rattle.dali_region.specs.declared.Hold.{Hold}
 use Rattle.dali_region.specs.State.{RegionState}
 use Rattle.dali_att.specs.declared.state.State.{State as RowState}
@@ -38,11 +37,11 @@ use Rattle.dali_clients.specs.declared.line.Why.TheVariants.{Stopped as IsStoppe
 use Rattle.dali_clients.specs.declared.line.Line.TheVariants.{Begun, Refused}
 use Rattle.dali_clients.specs.Told.{act_of, reason_of}
 use Rattle.dali_transcripts.specs.Words.{Act, Begins as BeginAct, Calls, Why as Reason, StoppedBy, Full, is_stop, Said, Begun as SaidBegun}
-use Rattle.dali_transcripts.specs.World.{Deed, Logs, Meets, World, log_of, log_at, is_claimed_in, HasEndedBy}
+use Rattle.dali_transcripts.specs.World.{Deed, Logs, Meets, World, log_of, is_claimed_in, HasEndedBy}
 use Rattle.dali_transcripts.specs.Moves.{Receipt, Place, Outside as IsOutside, Within as IsWithin, Again, LeftOut as IsLeftOut, Move, Begins, BeginsAgain, IsRefusedBegin, from, to, own, said, at}
 use Rattle.dali_transcripts.specs.Causes.{MayBegin, WaitsNoMore, HasCause, spares}
 use Rattle.dali_transcripts.specs.Rounds.{Standing, IsPlaced}
-use Rattle.dali_deeds.specs.Tells.{after, Tells}
+use Rattle.dali_deeds.specs.Tells.{after}
 use Rattle.dali_deeds.specs.Laws.{IsNoFault}
 use Rattle.dali_deeds.proofs.States.{begun_state}
 use Rattle.dali_turns.specs.declared.client.Client.{Client}
@@ -52,7 +51,7 @@ use Rattle.dali_turns.specs.declared.client.State.TheVariants.{Outside, LeftOut,
 use Rattle.dali_turns.specs.Clients.{next_of, Passes, Finishes}
 use Rattle.dali_turns.specs.Whys.{why_in}
 use Rattle.dali_turns.specs.Stood.{HadRow, IsQuiet, Stood}
-use Rattle.dali_turns.specs.Outside.{MaySay, FitsOutside, FitsLeftOut, FitsWaiting, HasGone, BeginsFrom}
+use Rattle.dali_turns.specs.Outside.{MaySay, FitsOutside, FitsWaiting, HasGone, BeginsFrom}
 use Rattle.dali_turns.specs.Within.{AreSoFar, FitsWithin}
 use Rattle.dali_turns.specs.Fits.{rest_of, lines_of, IsOf, Owns, Fits}
 use Rattle.dali_turns.specs.Goes.{RowsTell, Went, StepGoes}

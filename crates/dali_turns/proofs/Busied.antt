@@ -1,23 +1,19 @@
 -- An older transaction holds the key of a client's next call: its request is refused, and the refusal is kept.
-use Rattle.std.proofs.Common.{◌≡◌, ℕ, ◌<◌, Bool, true, false, not, List, [], ◌∷◌, ◌++◌, length, map, Option, Some, None, IsSome, is_some, refl, ap, sym, subst, ◌∙◌, ◌⊎◌, inl, inr}
-use Rattle.std.specs.Prelude.{◌==◌, fold, take}
-use Rattle.std.specs.Option.{option_map}
+use Rattle.std.proofs.Common.{◌≡◌, ℕ, Bool, true, false, not, List, [], ◌∷◌, ◌++◌, length, map, Option, Some, None, is_some, refl, ap, sym, subst, ◌∙◌, inl, inr}
+use Rattle.std.specs.Prelude.{◌==◌, fold}
 use Rattle.dali_counts.proofs.Lists.{equal}
-use Rattle.dali_geometry.specs.Places.{regions}
 use Rattle.dali_record.specs.declared.records.Call.{Call}
 use Rattle.dali_record.specs.declared.records.Call.TheVariants.{Insert, Update, Delete, Get}
 use Rattle.dali_record.specs.declared.records.Record.{Record}
 use Rattle.dali_region.specs.State.{RegionState}
-use Rattle.dali_locks.specs.declared.mode.Mode.{Mode}
 use Rattle.dali_locks.specs.declared.mode.LockAnswer.TheVariants.{Busy}
 use Rattle.dali_locks.specs.Locks.{IsAnswer}
-use Rattle.dali_att.specs.declared.state.State.TheVariants.{Live}
 use Rattle.dali_store.specs.Store.{Files as Disk}
 use Rattle.dali_system.specs.declared.refusals.Refusal.{Refusal}
 use Rattle.dali_system.specs.State.{SystemState, VaultState, CoreState, TxnRow, row_of, lock_of, state_in, state_of}
 use Rattle.dali_system.specs.Steps.{refused}
 use Rattle.dali_system.specs.Courses.{Step, Refuses}
-use Rattle.dali_crash.specs.Checkpoints.{Does, Point, IsPointStep}
+use Rattle.dali_crash.specs.Checkpoints.{Does, Point}
 use Rattle.dali_crash.specs.Traces.{Start, bases_of}
 use Rattle.dali_vault.specs.Vaulted.{Vaulted}
 use Rattle.dali_calls.specs.Steps.{call_key}
@@ -28,20 +24,20 @@ use Rattle.dali_stepwise.specs.Stepwise.{IsNew, IsAsked}
 use Rattle.dali_transcripts.specs.Words.{Act, Calls, key_of}
 use Rattle.dali_transcripts.specs.Words as words
 use Rattle.dali_transcripts.specs.World.{Deed, Yields, FindsDead, Happening, World, log_of, log_at, state_step, state_at, failed_at, is_dead_in}
-use Rattle.dali_transcripts.specs.Moves.{Receipt, Within as IsWithin, at}
+use Rattle.dali_transcripts.specs.Moves.{Within as IsWithin, at}
 use Rattle.dali_transcripts.specs.Causes.{IsAsking, AreAsking, IsRight, HasFoundDead, GetsBusy}
-use Rattle.dali_transcripts.specs.Rounds.{Standing, IsPlaced}
+use Rattle.dali_transcripts.specs.Rounds.{Standing}
 use Rattle.dali_transcripts.proofs.Lists.{all_append}
 use Rattle.dali_transcripts.proofs.Growing.{askings}
 use Rattle.dali_deeds.specs.Deeds.{AreOf, refusal_now}
-use Rattle.dali_deeds.specs.Tells.{after, AreRightThen}
+use Rattle.dali_deeds.specs.Tells.{after}
 use Rattle.dali_clients.specs.Told.{act_of}
 use Rattle.dali_clients.specs.declared.command.Command.TheVariants.{Call as IsCall}
 use Rattle.dali_turns.specs.declared.client.Client.{Client}
 use Rattle.dali_turns.specs.declared.client.State.TheVariants.{Within}
 use Rattle.dali_turns.specs.declared.client.Transaction.{Transaction}
 use Rattle.dali_turns.specs.Clients.{next_of}
-use Rattle.dali_turns.specs.Stood.{HadRow, IsQuiet, Stood}
+use Rattle.dali_turns.specs.Stood.{HadRow, Stood}
 use Rattle.dali_turns.specs.Within.{AreSoFar, FitsWithin, FitsYielding}
 use Rattle.dali_turns.specs.Fits.{rest_of, IsOf, Owns}
 use Rattle.dali_turns.specs.Goes.{Went, StepGoes, MayStep, YieldGoes, MayYield}

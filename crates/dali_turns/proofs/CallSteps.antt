@@ -1,6 +1,6 @@
 -- The steps of a call, by what their functions call.
-use Rattle.std.proofs.Common.{◌≡◌, ℕ, Bool, true, false, not, List, [], ◌∷◌, length, map, Option, Some, None, IsSome, is_some, IfSome, IfErr, Result, Ok, Err, OnErr, is_ok, refl, ap, sym, subst, ◌∙◌, ◌⊎◌, inl, inr}
-use Rattle.std.specs.Prelude.{◌&&◌, slice_get}
+use Rattle.std.proofs.Common.{◌≡◌, ℕ, Bool, true, false, not, List, [], ◌∷◌, map, Option, Some, None, is_some, IfSome, IfErr, Result, Ok, Err, OnErr, is_ok, refl, ap, sym, subst, ◌∙◌, ◌⊎◌, inl, inr}
+use Rattle.std.specs.Prelude.{◌&&◌}
 use Rattle.dali_bytes.specs.declared.error.OutOfMemory.{OutOfMemory as NoMemory}
 use Rattle.dali_counts.proofs.Lists.{some_same}
 use Rattle.dali_record.specs.declared.operations.Op.{Op}
@@ -19,13 +19,12 @@ use Rattle.dali_system.specs.Steps.{done_logged, granted}
 use Rattle.dali_vault.specs.Vaulted.{Vaulted}
 use Rattle.dali_core.specs.Refused.{stop_of, stop_refusal}
 use Rattle.dali_core.specs.declared.error.SystemError.{SystemError}
-use Rattle.dali_core.specs.declared.error.SystemError.TheVariants.{Stopped, LogFull, OutOfMemory}
+use Rattle.dali_core.specs.declared.error.SystemError.TheVariants.{Stopped, OutOfMemory}
 use Rattle.dali_core.specs.declared.want.Want.TheVariants.{Region, Done as AnswerIsNext, Nothing}
 use Rattle.dali_calls.specs.Steps.{call_key, answer_of}
 use Rattle.dali_calls.specs.declared.plan.Phase.{Phase}
 use Rattle.dali_calls.specs.declared.plan.Phase.TheVariants.{Refused as GoesBack}
 use Rattle.dali_calls.specs.Plans.{Planned, is_answered, is_back, is_back_in, commit_refusal, mode_of, plan_next, want_in, want_of, IsWhole}
-use Rattle.dali_single.specs.declared.error.StepError.{StepError}
 use Rattle.dali_single.specs.declared.error.StepError.TheVariants.{Latch, System}
 use Rattle.dali_single.specs.Refusals.{IsAnswerTo, IsLatched, IsUnanswered, IsRefusedIn, IsRefusal}
 use Rattle.dali_single.specs.Single.{MayCall}
@@ -34,9 +33,9 @@ use Rattle.dali_single.specs.Stands.{core, IsAtRest, AtPlan}
 use Rattle.dali_stepwise.specs.Stepwise.{IsNew, IsAsked, OneFurther, IsDeath, AnswersNow}
 use Rattle.dali_clients.specs.Said.{said as with_lines}
 use Rattle.dali_clients.specs.declared.command.Command.TheVariants.{Call as IsCall}
-use Rattle.dali_clients.specs.declared.line.Line.TheVariants.{Answered, Died as DiedLine, Refused as RefusedLine}
+use Rattle.dali_clients.specs.declared.line.Line.TheVariants.{Answered, Died as DiedLine}
 use Rattle.dali_clients.specs.declared.line.Why.{Why}
-use Rattle.dali_clients.specs.declared.line.Why.TheVariants.{Stopped as IsStopped, LogFull as IsFull, Damaged as IsDamaged}
+use Rattle.dali_clients.specs.declared.line.Why.TheVariants.{Stopped as IsStopped, Damaged as IsDamaged}
 use Rattle.dali_transcripts.specs.Words.{Calls}
 use Rattle.dali_transcripts.specs.Rounds.{IsPlaced}
 use Rattle.dali_turns.specs.declared.client.Client.{Client}
@@ -54,7 +53,7 @@ use Rattle.dali_turns.proofs.Calling.{answer_said, answer_unsaid}
 use Rattle.dali_turns.proofs.Operating.{operate_on, back_on}
 use Rattle.dali_turns.proofs.Asking.{new_plan, ask_nowhere, waits_on, unasked_said, unasked_unsaid, grants_on}
 use Rattle.dali_turns.proofs.Dying.{dies_said, dies_unsaid}
-use Rattle.dali_turns.proofs.Hindered.{call_nowhere, operation_goes, answer_goes, damaged_goes}
+use Rattle.dali_turns.proofs.Hindered.{operation_goes, answer_goes, damaged_goes}
 use Rattle.dali_turns.proofs.Reasons.{StopSays, stop_cases, refused_on, damaged_latch, never_latched, command_is}
 use Rattle.dali_turns.proofs.Turned.{next_command, back_nowhere, ended_said, ended_unsaid, stuck_said, stuck_unsaid}
 

@@ -1,23 +1,20 @@
 -- The steps of a call of a client that has its lock.
-use Rattle.std.proofs.Common.{◌≡◌, ℕ, ◌+◌, ◌-◌, ◌<◌, ◌≤◌, Bool, true, false, not, List, [], ◌∷◌, ◌++◌, length, map, Option, Some, None, is_some, refl, ap, sym, subst, ◌∙◌, ◌⊎◌, inl, inr, arith}
-use Rattle.std.specs.Prelude.{◌==◌, ◌||◌, drop}
-use Rattle.std.specs.FinMap as maps
+use Rattle.std.proofs.Common.{◌≡◌, ℕ, ◌-◌, Bool, true, false, not, List, [], ◌∷◌, ◌++◌, length, map, Option, Some, None, is_some, refl, ap, sym, subst, ◌∙◌, ◌⊎◌, inl, inr, arith}
+use Rattle.std.specs.Prelude.{◌==◌, drop}
 use Rattle.std.proofs.lemmas.Bool.{ltb-true, lt-ltb}
-use Rattle.std.proofs.lemmas.List.{append-nil, map-append}
+use Rattle.std.proofs.lemmas.List.{map-append}
 use Rattle.dali_counts.proofs.Lists.{equal, self}
-use Rattle.dali_record.specs.declared.records.Call.{Call}
 use Rattle.dali_record.specs.declared.records.Answer.{Answer}
 use Rattle.dali_record.specs.declared.records.Record.{Record}
 use Rattle.dali_record.specs.declared.records.Record.TheVariants.{Done}
 use Rattle.dali_region.specs.State.{RegionState}
 use Rattle.dali_att.specs.declared.state.State.TheVariants.{Live}
 use Rattle.dali_store.specs.Store.{Files as Disk}
-use Rattle.dali_system.specs.State.{SystemState, VaultState, CoreState, state_in, state_of}
+use Rattle.dali_system.specs.State.{SystemState, VaultState, CoreState, state_of}
 use Rattle.dali_system.specs.Steps.{done_logged}
-use Rattle.dali_system.specs.Keeps.{IsFree}
 use Rattle.dali_system.specs.Courses.{Step, Answers as AnswersStep}
-use Rattle.dali_crash.specs.Checkpoints.{Does, Point, IsPointStep, copies_after}
-use Rattle.dali_crash.specs.Traces.{Start, bases_of}
+use Rattle.dali_crash.specs.Checkpoints.{Point, copies_after}
+use Rattle.dali_crash.specs.Traces.{Start}
 use Rattle.dali_vault.specs.Vaulted.{Vaulted}
 use Rattle.dali_calls.specs.Plans.{Planned}
 use Rattle.dali_single.specs.Stands.{core, IsAtRest, AtPlan}
@@ -25,9 +22,8 @@ use Rattle.dali_single.specs.Single.{MayCall}
 use Rattle.dali_stepwise.specs.Stepwise.{AnswersNow}
 use Rattle.dali_transcripts.specs.Words.{Act, Begins, Calls, Arms, Commits, Aborts, Pokes, Audits, Checkpoints}
 use Rattle.dali_transcripts.specs.World.{Deed, Logs, World, logged_by, log_of}
-use Rattle.dali_transcripts.specs.Moves.{Within as IsWithin, at, Move, Answers, operations, left, from, said, own, to}
+use Rattle.dali_transcripts.specs.Moves.{Within as IsWithin, at, Move, Answers, operations, left}
 use Rattle.dali_transcripts.specs.Causes.{HasCause, spares}
-use Rattle.dali_transcripts.specs.Laws.{receipts_from}
 use Rattle.dali_transcripts.specs.Rounds.{Standing, IsPlaced, by}
 use Rattle.dali_transcripts.proofs.Growing.{works}
 use Rattle.dali_deeds.specs.Tells.{after}
@@ -42,9 +38,9 @@ use Rattle.dali_turns.specs.declared.client.Transaction.{Transaction}
 use Rattle.dali_turns.specs.Clients.{Passes, Finishes}
 use Rattle.dali_turns.specs.Stood.{IsQuiet, Stood}
 use Rattle.dali_turns.specs.Within.{AreSoFar, FitsWithin, FitsCalling}
-use Rattle.dali_turns.specs.Fits.{rest_of, lines_of, IsOf, Owns, Fits}
+use Rattle.dali_turns.specs.Fits.{rest_of, IsOf, Owns, Fits}
 use Rattle.dali_turns.specs.Goes.{RowsTell, Went}
-use Rattle.dali_turns.proofs.Doing.{Did, did_quietly, behind, ended, went_by, went_silent}
+use Rattle.dali_turns.proofs.Doing.{Did, did_quietly, ended, went_by, went_silent}
 
 -- ---- a transaction may call, and a plan stands, by the log, the sizes and the regions
 pub may_at : (L M : List Record) (c d : CoreState) (t : ℕ) → d.regions ≡ c.regions → d.system ≡ c.system → M ≡ L → MayCall L c t → MayCall M d t

@@ -1,5 +1,5 @@
 -- The step functions of a checkpoint, by what the calls in them say.
-use Rattle.std.proofs.Common.{◌≡◌, ℕ, ◌+◌, ◌<◌, ◌≤◌, ◌^◌, Bool, true, false, List, ◌∷◌, ◌++◌, Option, Some, None, is_some, Result, Ok, Err, IfErr, IfSome, IsErrOf, refl, ap, sym, subst, ◌∙◌, ◌⊎◌, inl, inr}
+use Rattle.std.proofs.Common.{◌≡◌, ℕ, ◌+◌, ◌<◌, ◌^◌, Bool, true, false, List, Option, Some, None, is_some, Result, Ok, Err, IfErr, IfSome, IsErrOf, refl, ap, sym, subst, ◌∙◌, ◌⊎◌, inl, inr}
 use Rattle.dali_region.specs.State.{RegionState}
 use Rattle.dali_store.specs.Store.{Files as Disk}
 use Rattle.dali_system.specs.declared.causes.Cause.{Cause}

@@ -1,11 +1,10 @@
 -- The steps of a call in whose way a transaction stands whose client died, by what its clean-up says.
-use Rattle.std.proofs.Common.{◌≡◌, ℕ, Bool, true, false, not, List, [], ◌∷◌, length, map, Option, Some, None, IfSome, IsSome, is_some, Result, Ok, Err, is_ok, refl, ap, sym, subst, ◌∙◌, ◌⊎◌, inl, inr, ⊎_elim}
+use Rattle.std.proofs.Common.{◌≡◌, ℕ, Bool, true, false, not, List, map, Option, Some, None, IfSome, refl, ap, sym, subst, ◌∙◌, ◌⊎◌, inl, inr}
 use Rattle.std.specs.Prelude.{◌==◌, ◌&&◌, slice_get}
 use Rattle.std.specs.Option.{option_map}
 use Rattle.dali_att.specs.Table.{with_state}
 use Rattle.dali_counts.proofs.Lists.{equal}
 use Rattle.dali_record.specs.declared.records.Call.{Call}
-use Rattle.dali_record.specs.declared.records.Record.{Record}
 use Rattle.dali_region.specs.State.{RegionState}
 use Rattle.dali_att.specs.declared.state.State.{State as RowState}
 use Rattle.dali_att.specs.declared.state.State.TheVariants.{Live, Dead, Cleaning, Committed}
@@ -17,8 +16,6 @@ use Rattle.dali_system.specs.Wholes.{IsWhole, latched_in}
 use Rattle.dali_core.specs.declared.want.Want.TheVariants.{Region, Nothing}
 use Rattle.dali_single.specs.declared.error.StepError.TheVariants.{Latch}
 use Rattle.dali_single.specs.Refusals.{IsRefusedIn, IsRefusal}
-use Rattle.dali_crash.specs.Checkpoints.{Point}
-use Rattle.dali_crash.specs.Traces.{Start}
 use Rattle.dali_vault.specs.Vaulted.{Vaulted}
 use Rattle.dali_clean.specs.Cleaned.{core, MayClean, IsDead}
 use Rattle.dali_clean.proofs.Cleaning.{whole_may_clean}
@@ -28,22 +25,17 @@ use Rattle.dali_clients.specs.Told.{act_of}
 use Rattle.dali_clients.specs.declared.command.Command.TheVariants.{Call as IsCall}
 use Rattle.dali_clients.specs.declared.line.Why.{Why}
 use Rattle.dali_clients.specs.declared.line.Why.TheVariants.{Stopped as IsStopped}
-use Rattle.dali_transcripts.specs.Words.{Calls}
-use Rattle.dali_transcripts.specs.World.{World, is_claimed_in}
+use Rattle.dali_transcripts.specs.World.{is_claimed_in}
 use Rattle.dali_transcripts.specs.Moves.{Within as IsWithin, at}
-use Rattle.dali_transcripts.specs.Rounds.{Standing}
 use Rattle.dali_turns.specs.declared.client.Client.{Client}
 use Rattle.dali_turns.specs.declared.client.State.{State}
 use Rattle.dali_turns.specs.declared.client.State.TheVariants.{Within, Calling, TakingBack}
 use Rattle.dali_turns.specs.declared.client.Transaction.{Transaction}
 use Rattle.dali_turns.specs.Clients.{next_of, Passes, RefusesCall, Stays}
 use Rattle.dali_turns.specs.Ends.{IsCleanedUp, IsLeftDead}
-use Rattle.dali_turns.specs.Stood.{Stood}
-use Rattle.dali_turns.specs.Within.{FitsWithin, FitsCalling, FitsTakingBack}
-use Rattle.dali_turns.specs.Fits.{rest_of, IsOf}
 use Rattle.dali_turns.specs.Goes.{Went, StepGoes, MayStep}
 use Rattle.dali_turns.proofs.Commands.{next_act, behind_next}
-use Rattle.dali_turns.proofs.CleanUps.{CleansUp, cleaned, cut_short, fallen_short}
+use Rattle.dali_turns.proofs.CleanUps.{cleaned, cut_short, fallen_short}
 use Rattle.dali_turns.proofs.Cleaning.{stop_there, within_behind, calling_behind, back_behind, cleaned_on, cleaned_then, half_goes}
 use Rattle.dali_turns.proofs.CallSteps.{back_wants, unasked_goes, unasked_silently, stuck_goes, stuck_silently}
 use Rattle.dali_turns.proofs.Asked.{works_of}

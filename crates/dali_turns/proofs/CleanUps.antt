@@ -1,8 +1,8 @@
 -- A client takes back a transaction whose client died, in the midst of its own one.
-use Rattle.std.proofs.Common.{◌≡◌, ◌≢◌, ℕ, ◌+◌, ◌<◌, ◌≤◌, Bool, true, false, not, ◌&&◌, List, [], ◌∷◌, ◌++◌, length, map, fold, Option, Some, None, is_some, refl, ap, sym, subst, ◌∙◌, ◌⊎◌, inl, inr, ⊎_elim, arith}
+use Rattle.std.proofs.Common.{◌≡◌, ℕ, ◌+◌, Bool, true, false, ◌&&◌, List, [], ◌∷◌, ◌++◌, length, map, fold, Option, Some, None, is_some, refl, ap, sym, subst, ◌∙◌, inr, ⊎_elim}
 use Rattle.std.specs.Prelude.{◌==◌, if◌then◌else◌, slice_get}
 use Rattle.std.specs.List.{AllByRecursion, list_all}
-use Rattle.std.proofs.lemmas.List.{append-nil, append_assoc, append_cancel_right, length-append, map-append}
+use Rattle.std.proofs.lemmas.List.{append_assoc, append_cancel_right, length-append, map-append}
 use Rattle.dali_counts.proofs.Lists.{equal, self}
 use Rattle.dali_record.specs.declared.records.Call.{Call}
 use Rattle.dali_record.specs.declared.records.Record.{Record}
@@ -16,11 +16,10 @@ use Rattle.dali_system.specs.State.{SystemState, CoreState, row_of, state_in, st
 use Rattle.dali_system.specs.Keeps.{MayGiveBack}
 use Rattle.dali_system.specs.Wholes.{latched_in}
 use Rattle.dali_system.specs.Courses.{Step, TakesBack, Ends, OnRegion, Claims, GivesBack, Recovers}
-use Rattle.dali_crash.specs.Checkpoints.{StoreStep, Does, Point, IsPointStep, IsPointCourse}
+use Rattle.dali_crash.specs.Checkpoints.{Does, Point, IsPointStep, IsPointCourse}
 use Rattle.dali_crash.specs.Traces.{Start, bases_of}
 use Rattle.dali_vault.specs.Vaulted.{Vaulted}
 use Rattle.dali_single.proofs.Lists.{all_both}
-use Rattle.dali_single.specs.Ending.{IsBackOf}
 use Rattle.dali_clean.specs.Steps.{AreBack, recovers}
 use Rattle.dali_clean.specs.Cleaned.{AreDead, IsDead, Ends as EndsTxn, GivesBack as LeavesTxn}
 use Rattle.dali_clean.specs.Others.{OthersStay, IsGone}
@@ -30,9 +29,9 @@ use Rattle.dali_ends.specs.Ended.{AreOfEnd}
 use Rattle.dali_rounds.specs.Went.{Went as GoneOn}
 use Rattle.dali_rounds.proofs.Cleaning.{clean_goes, left_goes}
 use Rattle.dali_transcripts.specs.Words.{Act, Calls}
-use Rattle.dali_transcripts.specs.World.{Deed, Logs, Claims as ClaimsTxn, GivesBack as GivesTxnBack, World, logged_by, log_of, claimed, state_step, is_dead_in, is_claimed_in, claimer_step, claimer_at, state_at, stop_at}
+use Rattle.dali_transcripts.specs.World.{Deed, Logs, Claims as ClaimsTxn, GivesBack as GivesTxnBack, World, logged_by, log_of, claimed, is_dead_in, is_claimed_in, claimer_step, state_at, stop_at}
 use Rattle.dali_transcripts.specs.Moves.{Receipt, Within as IsWithin}
-use Rattle.dali_transcripts.specs.Causes.{IsCleaning, LetsGo, HasGivenBack, IsAside, AreAside, IsUnfinished}
+use Rattle.dali_transcripts.specs.Causes.{LetsGo, IsAside, AreAside, IsUnfinished}
 use Rattle.dali_transcripts.specs.Laws.{receipts_from}
 use Rattle.dali_transcripts.specs.Rounds.{by}
 use Rattle.dali_transcripts.proofs.Lists.{all_map}
@@ -43,7 +42,6 @@ use Rattle.dali_deeds.specs.Laws.{AreOfCourse}
 use Rattle.dali_deeds.proofs.Told.{log_is}
 use Rattle.dali_turns.specs.declared.client.State.{State}
 use Rattle.dali_turns.specs.Stood.{Stood}
-use Rattle.dali_turns.specs.Fits.{Owns}
 use Rattle.dali_turns.proofs.Deeds.{course_tells, stop_is_told}
 use Rattle.dali_turns.proofs.Beside.{is_out_of}
 use Rattle.dali_turns.proofs.Doing.{Did}

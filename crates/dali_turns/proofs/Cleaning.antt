@@ -1,12 +1,10 @@
 -- A client meets a transaction whose client died, in the way of its call: it is cleaned up, and the call goes on, or the engine is stopped.
-use Rattle.std.proofs.Common.{◌≡◌, ℕ, ◌+◌, Bool, true, false, not, List, [], ◌∷◌, ◌++◌, length, map, Option, Some, None, IfSome, is_some, refl, ap, sym, subst, ◌∙◌, ◌⊎◌, inl, inr, ⊎_elim}
+use Rattle.std.proofs.Common.{◌≡◌, ℕ, Bool, true, false, List, ◌∷◌, ◌++◌, length, map, Option, Some, None, is_some, refl, ap, sym, subst, ◌∙◌, ◌⊎◌, inl, inr}
 use Rattle.std.specs.Prelude.{◌==◌}
-use Rattle.std.specs.List.{AllByRecursion}
 use Rattle.std.proofs.lemmas.List.{append_assoc}
 use Rattle.dali_counts.proofs.Lists.{equal, same_number}
 use Rattle.dali_record.specs.declared.records.Call.{Call}
 use Rattle.dali_record.specs.declared.records.Record.{Record}
-use Rattle.dali_record.specs.declared.records.Record.TheVariants.{Forward}
 use Rattle.dali_region.specs.State.{RegionState}
 use Rattle.dali_att.specs.declared.state.State.TheVariants.{Live}
 use Rattle.dali_store.specs.Store.{Files as Disk}
@@ -21,11 +19,11 @@ use Rattle.dali_calls.specs.Plans.{Planned}
 use Rattle.dali_stepwise.specs.Beside.{LeavesBe}
 use Rattle.dali_stepwise.proofs.Waiting.{plan_waits, call_waits, rest_waits}
 use Rattle.dali_transcripts.specs.Words.{Act, Calls}
-use Rattle.dali_transcripts.specs.World.{Deed, Logs, FindsDead, Meets, World, log_of}
+use Rattle.dali_transcripts.specs.World.{FindsDead, Meets, World, log_of}
 use Rattle.dali_transcripts.specs.Moves.{Receipt, Within as IsWithin, at, operations, left}
-use Rattle.dali_transcripts.specs.Causes.{IsAside, AreAside, IsAsking, AreAsking, IsWork, AreWork, IsTried, AreTried, IsUnfinished, AreUnfinished, spares}
+use Rattle.dali_transcripts.specs.Causes.{IsAside, IsAsking, IsWork, IsTried, AreTried, IsUnfinished, AreUnfinished, spares}
 use Rattle.dali_transcripts.specs.Laws.{receipts_from}
-use Rattle.dali_transcripts.specs.Rounds.{Standing, IsPlaced}
+use Rattle.dali_transcripts.specs.Rounds.{Standing}
 use Rattle.dali_transcripts.proofs.Lists.{all_append, all_map}
 use Rattle.dali_transcripts.proofs.Growing.{askings, works, asides, all_tried, met, survives}
 use Rattle.dali_deeds.specs.Tells.{after}
@@ -33,7 +31,6 @@ use Rattle.dali_clients.specs.Told.{act_of, reason_of}
 use Rattle.dali_clients.specs.declared.line.Why.{Why}
 use Rattle.dali_turns.specs.declared.client.Client.{Client}
 use Rattle.dali_turns.specs.declared.client.State.{State}
-use Rattle.dali_turns.specs.declared.client.State.TheVariants.{Within, Calling, TakingBack}
 use Rattle.dali_turns.specs.declared.client.Transaction.{Transaction}
 use Rattle.dali_turns.specs.Clients.{Stays}
 use Rattle.dali_turns.specs.Outside.{MaySay}
@@ -41,11 +38,11 @@ use Rattle.dali_turns.specs.Stood.{Stood}
 use Rattle.dali_turns.specs.Within.{AreSoFar, FitsWithin, IsAtCall, FitsCalling, FitsTakingBack}
 use Rattle.dali_turns.specs.Fits.{rest_of, IsOf, Owns, Fits}
 use Rattle.dali_turns.specs.Goes.{RowsTell, Went, StepGoes}
-use Rattle.dali_turns.proofs.Doing.{Did, did_went_live, still_ran, behind, so_far, went_on}
+use Rattle.dali_turns.proofs.Doing.{did_went_live, still_ran, behind, so_far, went_on}
 use Rattle.dali_turns.proofs.CleanUps.{CleansUp, CleansHalf}
 use Rattle.dali_turns.proofs.Reasons.{unfinished_one}
 use Rattle.dali_turns.proofs.Asked.{work_of}
-use Rattle.dali_turns.proofs.Turned.{aside_tried, asides_none, more_none}
+use Rattle.dali_turns.proofs.Turned.{asides_none, more_none}
 
 -- ---- what was cleaned up is part of whatever the call did
 aside_asking : (w : World) (c t : ℕ) (call : Call) (x : Receipt) → IsAside w c t x → IsAsking w c t call x

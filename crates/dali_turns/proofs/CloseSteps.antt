@@ -1,12 +1,12 @@
 -- The ends of a transaction by their functions: an abort, the end of the block, and giving way.
-use Rattle.std.proofs.Common.{◌≡◌, ℕ, ◌+◌, ◌<◌, ◌≤◌, Bool, true, false, List, [], ◌∷◌, ◌++◌, length, map, drop, Option, Some, None, IfSome, is_some, refl, ap, sym, subst, ◌∙◌, arith}
+use Rattle.std.proofs.Common.{◌≡◌, ℕ, ◌+◌, ◌<◌, Bool, true, false, List, [], ◌∷◌, ◌++◌, map, drop, Option, Some, None, IfSome, refl, ap, sym, subst, ◌∙◌, arith}
 use Rattle.std.proofs.lemmas.List.{map-append}
 use Rattle.dali_record.specs.declared.records.Record.{Record}
 use Rattle.dali_region.specs.State.{RegionState}
 use Rattle.dali_att.specs.declared.state.State.TheVariants.{Live}
 use Rattle.dali_store.specs.Store.{Files as Disk}
 use Rattle.dali_system.specs.declared.causes.Cause.{Cause}
-use Rattle.dali_system.specs.State.{SystemState, row_of, state_in, state_of}
+use Rattle.dali_system.specs.State.{SystemState, state_in, state_of}
 use Rattle.dali_crash.specs.Checkpoints.{Point}
 use Rattle.dali_crash.specs.Traces.{Start}
 use Rattle.dali_vault.specs.Vaulted.{Vaulted}
@@ -16,7 +16,6 @@ use Rattle.dali_clients.specs.declared.line.Line.{Line}
 use Rattle.dali_clients.specs.declared.line.Line.TheVariants.{Busy}
 use Rattle.dali_clients.specs.Said.{Transcribed}
 use Rattle.dali_clients.specs.Told.{act_of, said_of}
-use Rattle.dali_transcripts.specs.Words.{Act, Aborts as AbortAct}
 use Rattle.dali_transcripts.specs.World.{World}
 use Rattle.dali_transcripts.specs.Moves.{behind_close}
 use Rattle.dali_transcripts.specs.Rounds.{Standing}
@@ -27,8 +26,7 @@ use Rattle.dali_turns.specs.declared.client.Transaction.{Transaction}
 use Rattle.dali_turns.specs.Clients.{next_of, Passes, Finishes}
 use Rattle.dali_turns.specs.Ends.{IsTakenBack, IsHalfBack, abort_line, end_line, SaysAlso, GoesSilent}
 use Rattle.dali_turns.specs.Stood.{Stood}
-use Rattle.dali_turns.specs.Within.{FitsWithin, FitsYielding}
-use Rattle.dali_turns.specs.Fits.{rest_of, lines_of, IsOf}
+use Rattle.dali_turns.specs.Fits.{rest_of, lines_of}
 use Rattle.dali_turns.specs.Goes.{Went, StepGoes, YieldGoes}
 use Rattle.dali_turns.proofs.Commands.{none_of, next_act, behind_next, finished_rest, finished_lines, finished_client}
 use Rattle.dali_turns.proofs.Closing.{GoesBack, GoesAway, lived}

@@ -1,23 +1,21 @@
 -- A transaction of a client is taken back, as a whole or in part: what the client does by that.
-use Rattle.std.proofs.Common.{◌≡◌, ℕ, zero, suc, ◌+◌, ◌<◌, ◌≤◌, Bool, true, false, not, ◌&&◌, List, [], ◌∷◌, ◌++◌, length, map, Option, Some, None, is_some, refl, ap, sym, subst, ◌∙◌, ◌⊎◌, inl, inr, ⊎_elim, arith, option_map}
+use Rattle.std.proofs.Common.{◌≡◌, ℕ, zero, suc, ◌+◌, Bool, true, false, List, [], ◌∷◌, ◌++◌, length, map, Option, Some, None, refl, ap, sym, subst, ◌∙◌, ◌⊎◌, inl, inr, ⊎_elim, arith, option_map}
 use Rattle.std.specs.Prelude.{◌==◌, Contains, slice_get}
 use Rattle.std.specs.List.{AllByRecursion, list_all}
-use Rattle.std.proofs.lemmas.List.{append-nil, append_assoc, append_cancel_right, length-append, map-append}
+use Rattle.std.proofs.lemmas.List.{append_assoc, append_cancel_right, length-append, map-append}
 use Rattle.std.proofs.lemmas.List.Elements.{Contains-get_or}
 use Rattle.std.proofs.lemmas.Option.{slice_get_within, get_or_from_slice_get}
 use Rattle.dali_counts.proofs.Lists.{equal}
 use Rattle.dali_record.specs.declared.records.Record.{Record}
 use Rattle.dali_record.specs.declared.records.Record.TheVariants.{Ended, Commit}
-use Rattle.dali_region.specs.declared.Hold.{Hold}
 use Rattle.dali_region.specs.State.{RegionState}
-use Rattle.dali_att.specs.declared.state.State.{State as RowState}
 use Rattle.dali_att.specs.declared.state.State.TheVariants.{Live, Dead, Committed}
 use Rattle.dali_att.specs.Table.{with_state}
 use Rattle.dali_store.specs.Store.{Files as Disk}
-use Rattle.dali_system.specs.State.{TxnRow, SystemState, CoreState, row_of, state_in, state_of}
+use Rattle.dali_system.specs.State.{TxnRow, SystemState, row_of, state_in, state_of}
 use Rattle.dali_system.specs.Wholes.{latched_in}
 use Rattle.dali_system.specs.Courses.{Step, Ends}
-use Rattle.dali_crash.specs.Checkpoints.{StoreStep, Does, Point, IsPointStep, IsPointCourse}
+use Rattle.dali_crash.specs.Checkpoints.{Does, Point, IsPointStep, IsPointCourse}
 use Rattle.dali_crash.specs.Traces.{Start, bases_of}
 use Rattle.dali_vault.specs.Vaulted.{Vaulted}
 use Rattle.dali_single.specs.Ending.{IsBackOf}
@@ -38,7 +36,7 @@ use Rattle.dali_turns.specs.Fits.{Owns}
 use Rattle.dali_turns.proofs.Beside.{is_out_of}
 use Rattle.dali_turns.proofs.Doing.{Did}
 use Rattle.dali_turns.proofs.Refusals.{get_last, runs_on_log}
-use Rattle.dali_turns.proofs.Sides.{At, InHand, Sided, AreSideDeeds, AreBacks, sided, one_goes, receipts_then, after_both, course_split, courses_told, logged_is, backs_sides, asides_of}
+use Rattle.dali_turns.proofs.Sides.{At, InHand, Sided, AreBacks, sided, one_goes, receipts_then, after_both, course_split, courses_told, logged_is, backs_sides, asides_of}
 use Rattle.dali_turns.proofs.Along.{end_out, out_both, did_calm}
 
 -- ---- lists

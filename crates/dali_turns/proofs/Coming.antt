@@ -13,7 +13,6 @@ use Rattle.dali_vault.specs.Vaulted.{Vaulted}
 use Rattle.dali_single.specs.Ending.{IsBackOf}
 use Rattle.dali_clean.specs.Others.{OthersStay}
 use Rattle.dali_ends.specs.Ended.{HasCome}
-use Rattle.dali_rounds.specs.Went.{Went as GoneOn}
 use Rattle.dali_rounds.proofs.Committing.{backs_go}
 use Rattle.dali_transcripts.specs.World.{World}
 use Rattle.dali_turns.specs.declared.client.State.{State}

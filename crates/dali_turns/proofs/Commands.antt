@@ -1,5 +1,5 @@
 -- The commands of a client, and its lines.
-use Rattle.std.proofs.Common.{◌≡◌, ℕ, ◌<◌, Bool, true, false, List, [], ◌∷◌, ◌++◌, length, get_or, set, map, drop, Option, Some, None, Result, Ok, Err, IsErr, is_ok, refl, ap, sym, subst, ◌∙◌, inl}
+use Rattle.std.proofs.Common.{◌≡◌, ℕ, ◌<◌, Bool, false, List, [], ◌∷◌, ◌++◌, length, get_or, set, map, drop, Option, Some, None, Result, Ok, Err, IsErr, is_ok, refl, ap, sym, subst, ◌∙◌, inl}
 use Rattle.std.specs.Prelude.{slice_get}
 use Rattle.std.proofs.lemmas.List.{map-append, set-get_or}
 use Rattle.std.proofs.lemmas.Option.{slice_get-get_or}
@@ -18,7 +18,7 @@ use Rattle.dali_transcripts.specs.Causes.{AreUnfinished}
 use Rattle.dali_transcripts.specs.Transcripts.{IsUnderWay}
 use Rattle.dali_turns.specs.declared.client.Client.{Client}
 use Rattle.dali_turns.specs.declared.client.State.{State}
-use Rattle.dali_turns.specs.Clients.{next_of, Passes, Finishes}
+use Rattle.dali_turns.specs.Clients.{next_of, Finishes}
 use Rattle.dali_turns.specs.Fits.{rest_of, lines_of}
 use Rattle.dali_turns.specs.Goes.{StepGoes}
 

@@ -1,5 +1,5 @@
 -- A commit by its function.
-use Rattle.std.proofs.Common.{◌≡◌, ℕ, Bool, true, false, List, [], ◌∷◌, ◌++◌, map, Option, Some, None, Result, Ok, IfSome, IfOk, refl, ap, sym, subst, ◌∙◌}
+use Rattle.std.proofs.Common.{◌≡◌, ℕ, Bool, true, false, List, Option, Some, None, Result, Ok, IfSome, IfOk, refl, ap, sym, subst, ◌∙◌}
 use Rattle.dali_record.specs.declared.records.Record.{Record}
 use Rattle.dali_region.specs.State.{RegionState}
 use Rattle.dali_store.specs.Store.{Files as Disk}
@@ -13,19 +13,15 @@ use Rattle.dali_clients.specs.declared.command.Command.TheVariants.{Commit}
 use Rattle.dali_clients.specs.declared.line.Line.TheVariants.{CommitOk, Refused}
 use Rattle.dali_clients.specs.declared.line.Why.{Why}
 use Rattle.dali_clients.specs.declared.line.Why.TheVariants.{Stopped, StoreStopped}
-use Rattle.dali_clients.specs.Told.{act_of, said_of}
-use Rattle.dali_transcripts.specs.Words.{Act, Commits as CommitAct}
 use Rattle.dali_transcripts.specs.World.{World}
 use Rattle.dali_transcripts.specs.Rounds.{Standing}
 use Rattle.dali_turns.specs.declared.client.Client.{Client}
-use Rattle.dali_turns.specs.declared.client.State.{State}
 use Rattle.dali_turns.specs.declared.client.State.TheVariants.{Outside, Within}
 use Rattle.dali_turns.specs.declared.client.Transaction.{Transaction}
 use Rattle.dali_turns.specs.Clients.{next_of, Passes, Finishes}
 use Rattle.dali_turns.specs.Ends.{IsCommitted, IsUncommitted}
-use Rattle.dali_turns.specs.Stood.{Stood}
 use Rattle.dali_turns.specs.Within.{AreSoFar, FitsWithin}
-use Rattle.dali_turns.specs.Fits.{rest_of, lines_of, IsOf}
+use Rattle.dali_turns.specs.Fits.{rest_of}
 use Rattle.dali_turns.specs.Goes.{Went, StepGoes}
 use Rattle.dali_turns.proofs.Commands.{next_act, behind_next, finished_rest, finished_lines, finished_client}
 use Rattle.dali_turns.proofs.Poking.{went_nowhere}

@@ -1,17 +1,16 @@
 -- A client commits its transaction, or the store fails in that.
-use Rattle.std.proofs.Common.{◌≡◌, ℕ, ◌+◌, ◌<◌, ◌≤◌, Bool, true, false, not, ◌&&◌, List, [], ◌∷◌, ◌++◌, length, map, fold, Option, Some, None, is_some, refl, ap, sym, subst, ◌∙◌, ◌⊎◌, inl, inr, ⊎_elim, arith}
-use Rattle.std.specs.Prelude.{◌==◌, if◌then◌else◌, slice_get}
-use Rattle.std.specs.List.{AllByRecursion, list_all}
-use Rattle.std.proofs.lemmas.List.{append-nil, append_assoc, append_cancel_right, length-append, map-append}
+use Rattle.std.proofs.Common.{◌≡◌, ℕ, ◌+◌, Bool, true, false, ◌&&◌, List, [], ◌∷◌, ◌++◌, length, map, Option, Some, None, is_some, refl, ap, sym, subst, ◌∙◌, inl, inr, arith}
+use Rattle.std.specs.Prelude.{◌==◌, if◌then◌else◌}
+use Rattle.std.specs.List.{list_all}
+use Rattle.std.proofs.lemmas.List.{append_cancel_right, length-append, map-append}
 use Rattle.dali_counts.proofs.Lists.{equal, self}
 use Rattle.dali_record.specs.declared.records.Record.{Record}
 use Rattle.dali_record.specs.declared.records.Record.TheVariants.{Ended, Commit}
-use Rattle.dali_region.specs.declared.Hold.{Hold}
 use Rattle.dali_region.specs.State.{RegionState}
 use Rattle.dali_att.specs.declared.state.State.{State as RowState}
 use Rattle.dali_att.specs.declared.state.State.TheVariants.{Live, Committed}
 use Rattle.dali_store.specs.Store.{Files as Disk}
-use Rattle.dali_system.specs.State.{SystemState, VaultState, CoreState, row_of, state_in, state_of, stable}
+use Rattle.dali_system.specs.State.{SystemState, VaultState, CoreState, row_of, state_in, state_of}
 use Rattle.dali_system.specs.Steps.{commit_logged, taken}
 use Rattle.dali_system.specs.Flushes.{longer, frame_of}
 use Rattle.dali_system.specs.Wholes.{latched_in}
@@ -20,7 +19,6 @@ use Rattle.dali_crash.specs.Checkpoints.{StoreStep, Does, Point, IsPointStep, Is
 use Rattle.dali_crash.specs.Traces.{Start, bases_of}
 use Rattle.dali_crash.proofs.Flags.{flag_changes}
 use Rattle.dali_vault.specs.Vaulted.{Vaulted}
-use Rattle.dali_single.specs.Settling.{IsSoloOf}
 use Rattle.dali_single.proofs.Lists.{all_both}
 use Rattle.dali_clean.specs.Others.{OthersStay}
 use Rattle.dali_whole.specs.Cores.{IsWholeCore}
@@ -28,9 +26,9 @@ use Rattle.dali_ends.specs.Ended.{AreOfEnd}
 use Rattle.dali_ends.specs.Committed.{HasCommitted, HasFailed}
 use Rattle.dali_rounds.specs.Went.{is_calm}
 use Rattle.dali_rounds.proofs.Committing.{commit_leaves, failure_leaves}
-use Rattle.dali_transcripts.specs.Words.{Act, Commits as CommitAct, Said, CommitOk, Refused, StoreFailed}
-use Rattle.dali_transcripts.specs.World.{Deed, Logs, Meets, World, logged_by, log_of, IsFlushed, IsLost, is_dead_in, is_claimed_in, state_step}
-use Rattle.dali_transcripts.specs.Moves.{Receipt, Outside as IsOutside, Within as IsWithin, at, Move, Commits as CommitsMove, CommitFails, from, said, own, to}
+use Rattle.dali_transcripts.specs.Words.{Act, Commits as CommitAct, CommitOk, Refused, StoreFailed}
+use Rattle.dali_transcripts.specs.World.{Deed, Logs, Meets, World, logged_by, log_of, IsFlushed, is_dead_in, is_claimed_in}
+use Rattle.dali_transcripts.specs.Moves.{Outside as IsOutside, Within as IsWithin, at, Move, Commits as CommitsMove, CommitFails, own}
 use Rattle.dali_transcripts.specs.Causes.{IsBehind, AreBehind, HasCause}
 use Rattle.dali_transcripts.specs.Laws.{receipts_from}
 use Rattle.dali_transcripts.specs.Rounds.{Standing, IsPlaced, by}
@@ -43,18 +41,18 @@ use Rattle.dali_turns.specs.declared.client.Client.{Client}
 use Rattle.dali_turns.specs.declared.client.State.{State}
 use Rattle.dali_turns.specs.declared.client.State.TheVariants.{Outside, Within}
 use Rattle.dali_turns.specs.declared.client.Transaction.{Transaction}
-use Rattle.dali_turns.specs.Stood.{IsQuiet, Stood}
+use Rattle.dali_turns.specs.Stood.{Stood}
 use Rattle.dali_turns.specs.Outside.{MaySay}
 use Rattle.dali_turns.specs.Within.{AreSoFar, FitsWithin}
-use Rattle.dali_turns.specs.Fits.{rest_of, lines_of, IsOf, Owns, Audits, Makes, Fits}
+use Rattle.dali_turns.specs.Fits.{rest_of, lines_of, IsOf, Owns, Fits}
 use Rattle.dali_turns.specs.Others.{ImageStays}
-use Rattle.dali_turns.specs.Goes.{RowsTell, Went}
+use Rattle.dali_turns.specs.Goes.{Went}
 use Rattle.dali_turns.proofs.Deeds.{course_tells}
 use Rattle.dali_turns.proofs.Beside.{is_out_of, course_audit, step_image, image_then}
 use Rattle.dali_turns.proofs.Coursing.{course_flag}
 use Rattle.dali_turns.proofs.Doing.{Did, ended, went_by, went_silent}
 use Rattle.dali_turns.proofs.Flushing.{flush_image, whole_now, has_stop}
-use Rattle.dali_turns.proofs.Sides.{At, InHand, Sided, AreSolos, HasNoDead, sided, one_goes, at_next, state_then, receipts_then, after_both, course_split, courses_told, logged_is, solos_sides, behinds_of}
+use Rattle.dali_turns.proofs.Sides.{At, InHand, Sided, AreSolos, sided, one_goes, at_next, state_then, receipts_then, after_both, course_split, courses_told, logged_is, solos_sides, behinds_of}
 use Rattle.dali_turns.proofs.Along.{end_out, end_calm, out_both, calm_image, both_yes}
 use Rattle.dali_turns.proofs.Closing.{unclaimed_then, settled_then, lived}
 

@@ -1,5 +1,5 @@
 -- A region is copied for a checkpoint of a client, or the store fails in it.
-use Rattle.std.proofs.Common.{◌≡◌, ℕ, ◌+◌, ◌<◌, ◌≤◌, Bool, true, false, List, [], ◌∷◌, ◌++◌, length, Option, Some, None, IfSome, is_some, refl, ap, sym, subst, ◌∙◌, ⊎_elim, arith}
+use Rattle.std.proofs.Common.{◌≡◌, ℕ, ◌+◌, Bool, true, false, List, [], ◌∷◌, ◌++◌, length, Option, Some, None, IfSome, is_some, refl, ap, sym, subst, ◌∙◌, ⊎_elim, arith}
 use Rattle.std.specs.Prelude.{◌&&◌, slice_get, slice_set}
 use Rattle.std.proofs.lemmas.List.{length-set}
 use Rattle.std.proofs.lemmas.Option.{slice_get_within}
@@ -14,8 +14,8 @@ use Rattle.dali_region.specs.Answers.{is_dirty, cleaned}
 use Rattle.dali_store.specs.Store.{Files as Disk}
 use Rattle.dali_system.specs.State.{SystemState}
 use Rattle.dali_system.specs.Steps.{store_stopped, stopped_by, in_checkpoint}
-use Rattle.dali_crash.specs.Checkpoints.{Head, StoreStep, Does, Copies as CopiesRegion, Skips as SkipsRegion, CopyFails, Finishes, Point, target}
-use Rattle.dali_crash.specs.Traces.{Start, bases_of}
+use Rattle.dali_crash.specs.Checkpoints.{StoreStep, Does, Copies as CopiesRegion, Skips as SkipsRegion, CopyFails, Finishes, Point, target}
+use Rattle.dali_crash.specs.Traces.{Start}
 use Rattle.dali_system.specs.Courses.{Stops}
 use Rattle.dali_traces.specs.Disks.{image_name}
 use Rattle.dali_traces.specs.Places.{place_of}
@@ -33,7 +33,7 @@ use Rattle.dali_checkpoint.proofs.Calls.{untouched_now, side_is_next, copy_goes_
 use Rattle.dali_checkpoint.proofs.Lengths.{places_stay, copied_places}
 use Rattle.dali_transcripts.specs.Words.{Act, Checkpoints as CheckpointAct, StoreFailed, Refused}
 use Rattle.dali_transcripts.specs.World.{Deed, Meets, EndsCheckpoint, World, log_of, under_way}
-use Rattle.dali_transcripts.specs.Moves.{Receipt, Outside as IsOutside, at, Move, IsRefusedCheckpoint, spanned, own}
+use Rattle.dali_transcripts.specs.Moves.{Receipt, Outside as IsOutside, at, Move, IsRefusedCheckpoint, spanned}
 use Rattle.dali_transcripts.specs.Causes.{IsCutAudit, MetCause}
 use Rattle.dali_transcripts.specs.Laws.{receipts_from}
 use Rattle.dali_transcripts.specs.Rounds.{Standing, IsPlaced}

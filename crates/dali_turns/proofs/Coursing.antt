@@ -1,12 +1,12 @@
 -- A list of steps of a core with its store, made by a client of a round.
-use Rattle.std.proofs.Common.{◌≡◌, ℕ, ◌+◌, ◌<◌, ◌≤◌, Bool, true, false, List, [], ◌∷◌, ◌++◌, length, fold, Option, Some, None, IfSome, is_some, refl, ap, sym, subst, ◌∙◌, arith}
+use Rattle.std.proofs.Common.{◌≡◌, ℕ, Bool, true, List, [], ◌∷◌, Option, Some, IfSome, is_some, subst}
 use Rattle.std.specs.List.{list_all}
 use Rattle.dali_record.specs.declared.records.Record.{Record}
 use Rattle.dali_region.specs.State.{RegionState}
 use Rattle.dali_att.specs.declared.state.State.TheVariants.{Live}
 use Rattle.dali_store.specs.Store.{Files as Disk}
 use Rattle.dali_system.specs.State.{SystemState, state_of}
-use Rattle.dali_crash.specs.Checkpoints.{StoreStep, Point, IsPointCourse, IsPointStep}
+use Rattle.dali_crash.specs.Checkpoints.{StoreStep, Point, IsPointCourse}
 use Rattle.dali_crash.specs.StoreRuns.{FlagTells}
 use Rattle.dali_crash.specs.Traces.{Start, bases_of}
 use Rattle.dali_crash.proofs.Flags.{flag_stays}

@@ -2,7 +2,7 @@
 use Rattle.std.proofs.Common.{◌≡◌, ℕ, Bool, false, List, [], ◌∷◌, ◌++◌, map, Option, refl, sym, subst, inl}
 use Rattle.std.specs.List.{AllByRecursion}
 use Rattle.dali_record.specs.declared.records.Record.{Record}
-use Rattle.dali_record.specs.declared.records.Record.TheVariants.{Forward, Back, AuditBegin}
+use Rattle.dali_record.specs.declared.records.Record.TheVariants.{Forward, AuditBegin}
 use Rattle.dali_record.specs.declared.records.Call.{Call}
 use Rattle.dali_region.specs.State.{RegionState}
 use Rattle.dali_store.specs.Store.{Files as Disk}
@@ -13,13 +13,13 @@ use Rattle.dali_vault.specs.Vaulted.{Vaulted}
 use Rattle.dali_transcripts.specs.Words.{Act, Calls, Audits as AuditAct, Checkpoints as CheckpointAct}
 use Rattle.dali_transcripts.specs.World.{Logs, Claims, GivesBack, FindsDead, StartsCheckpoint, Meets, World}
 use Rattle.dali_transcripts.specs.Moves.{Receipt, Place, Outside as IsOutside, Within as IsWithin, Spot, at}
-use Rattle.dali_transcripts.specs.Causes.{IsAside, IsAsking, AreAsking, IsWork, AreWork, IsTried, AreTried, AreAside, MetCause, IsUnfinished, AreUnfinished}
+use Rattle.dali_transcripts.specs.Causes.{IsAside, IsAsking, IsWork, IsTried, IsUnfinished, AreUnfinished}
 use Rattle.dali_transcripts.specs.Transcripts.{IsUnderWay}
 use Rattle.dali_transcripts.specs.Rounds.{Standing}
 use Rattle.dali_clients.specs.Told.{act_of, reason_of}
 use Rattle.dali_turns.specs.declared.client.State.{State}
 use Rattle.dali_turns.specs.declared.client.State.TheVariants.{Outside, LeftOut, Within, Calling, TakingBack, Waiting, Auditing, Copying, Certifying, Gone}
-use Rattle.dali_turns.specs.Within.{AreSoFar, FitsTakingBack}
+use Rattle.dali_turns.specs.Within.{AreSoFar}
 use Rattle.dali_turns.specs.Fits.{Fits}
 use Rattle.dali_turns.proofs.Commands.{none_under_way}
 

@@ -1,5 +1,5 @@
 -- What a client does in a step: deeds, which tell steps of the core, and then a line or none.
-use Rattle.std.proofs.Common.{◌≡◌, ℕ, ◌+◌, ◌<◌, ◌≤◌, Bool, true, false, List, [], ◌∷◌, ◌++◌, length, map, Option, Some, IfSome, is_some, refl, ap, sym, subst, ◌∙◌, inl, inr, ⊎_elim, arith}
+use Rattle.std.proofs.Common.{◌≡◌, ℕ, ◌<◌, ◌≤◌, Bool, true, false, List, [], ◌∷◌, ◌++◌, length, map, Option, Some, is_some, refl, ap, sym, subst, ◌∙◌, inl, inr, ⊎_elim, arith}
 use Rattle.dali_record.specs.declared.records.Record.{Record}
 use Rattle.dali_region.specs.State.{RegionState}
 use Rattle.dali_att.specs.declared.state.State.TheVariants.{Live}
@@ -10,7 +10,7 @@ use Rattle.dali_system.specs.Courses.{Step}
 use Rattle.dali_crash.specs.Checkpoints.{StoreStep, Does, Point, IsPointStep, IsPointCourse}
 use Rattle.dali_crash.specs.Traces.{Start, bases_of}
 use Rattle.dali_vault.specs.Vaulted.{Vaulted}
-use Rattle.dali_stepwise.specs.Beside.{LeavesBe, is_apart}
+use Rattle.dali_stepwise.specs.Beside.{is_apart}
 use Rattle.dali_steps.specs.Courses.{is_quiet}
 use Rattle.dali_clean.specs.Cleaned.{AreDead}
 use Rattle.dali_whole.specs.Cores.{HoldsPlaces}

@@ -1,15 +1,11 @@
 -- A client dies in an operation of its call.
-use Rattle.std.proofs.Common.{◌≡◌, ℕ, ◌+◌, ◌-◌, ◌<◌, Bool, true, false, not, List, [], ◌∷◌, ◌++◌, length, map, Option, Some, None, IfSome, IsSome, is_some, if◌then◌else◌, refl, ap, sym, subst, ◌∙◌, ◌⊎◌, inl, inr, arith}
+use Rattle.std.proofs.Common.{◌≡◌, ℕ, ◌+◌, ◌-◌, Bool, true, false, not, List, [], ◌∷◌, ◌++◌, length, map, Option, Some, None, IfSome, is_some, if◌then◌else◌, refl, ap, sym, subst, ◌∙◌, ◌⊎◌, inr, arith}
 use Rattle.std.specs.Prelude.{◌==◌, ◌&&◌, slice_get, slice_set}
 use Rattle.std.specs.List.{list_all}
 use Rattle.std.specs.Option.{option_map_or}
 use Rattle.std.proofs.lemmas.List.{append-nil, append_assoc, map-append, append_cancel_left}
-use Rattle.std.proofs.lemmas.Bool.{ltb-true}
 use Rattle.dali_counts.proofs.Lists.{equal, same_number, some_same}
-use Rattle.dali_record.specs.declared.operations.Block.{Block}
-use Rattle.dali_record.specs.declared.records.Call.{Call}
 use Rattle.dali_record.specs.declared.records.Record.{Record}
-use Rattle.dali_record.specs.Blocks.{made}
 use Rattle.dali_region.specs.State.{RegionState, dead}
 use Rattle.dali_att.specs.declared.state.State.{State as RowState}
 use Rattle.dali_att.specs.declared.state.State.TheVariants.{Live, Dead, Committed}
@@ -17,35 +13,30 @@ use Rattle.dali_att.specs.Table.{with_state}
 use Rattle.dali_store.specs.Store.{Files as Disk}
 use Rattle.dali_system.specs.State.{SystemState, VaultState, CoreState, state_of}
 use Rattle.dali_system.specs.Run.{RunsOn}
-use Rattle.dali_system.specs.Steps.{in_state}
 use Rattle.dali_system.specs.Keeps.{IsFree}
 use Rattle.dali_system.specs.Flushes.{frame_of}
 use Rattle.dali_system.specs.Courses.{Step, Dies as DiesStep, IsStep}
 use Rattle.dali_parts.proofs.Vaults.{step_has_vault}
-use Rattle.dali_crash.specs.Checkpoints.{StoreStep, Does, Point, IsPointStep, IsPointCourse}
+use Rattle.dali_crash.specs.Checkpoints.{StoreStep, Does, Point, IsPointStep}
 use Rattle.dali_crash.specs.Traces.{Start, bases_of}
 use Rattle.dali_vault.specs.Vaulted.{Vaulted}
-use Rattle.dali_calls.specs.declared.plan.Phase.TheVariants.{Calling as IsCalling}
 use Rattle.dali_calls.specs.Plans.{Planned, is_back, IsWhole}
 use Rattle.dali_single.specs.Stands.{core}
 use Rattle.dali_single.proofs.Lists.{get_set}
 use Rattle.dali_stepwise.specs.Stepwise.{IsDeath, DiesIn as DiesNow}
 use Rattle.dali_stepwise.proofs.Opening.{kept_by}
-use Rattle.dali_steps.specs.Courses.{is_quiet}
 use Rattle.dali_steps.proofs.Courses.{came_same, vault_same}
 use Rattle.dali_steps.proofs.Steps.{quiet_goes}
-use Rattle.dali_clean.specs.Cleaned.{AreDead}
-use Rattle.dali_whole.specs.Cores.{IsCoreAt, HoldsPlaces}
+use Rattle.dali_whole.specs.Cores.{IsCoreAt}
 use Rattle.dali_checkpoint.proofs.Calls.{course_join}
 use Rattle.dali_rounds.specs.Went.{Went as RoundsWent}
 use Rattle.dali_rounds.proofs.Calls.{die_goes}
-use Rattle.dali_transcripts.specs.Words.{Calls, Died}
+use Rattle.dali_transcripts.specs.Words.{Calls}
 use Rattle.dali_transcripts.specs.World.{Deed, Logs, DiesOn, World, log_of, log_at, is_claimed_in}
-use Rattle.dali_transcripts.specs.Moves.{Within as IsWithin, Gone as IsGone, at, Move, Dies, operations, left}
-use Rattle.dali_transcripts.specs.Causes.{GoesOn as MayGoOn, DiesIn, HasCause, spares}
+use Rattle.dali_transcripts.specs.Moves.{Within as IsWithin, at, Move, Dies, operations, left}
+use Rattle.dali_transcripts.specs.Causes.{GoesOn as MayGoOn, HasCause}
 use Rattle.dali_transcripts.specs.Rounds.{Standing}
 use Rattle.dali_transcripts.proofs.Growing.{works}
-use Rattle.dali_deeds.specs.Deeds.{WereRight}
 use Rattle.dali_deeds.specs.Tells.{after}
 use Rattle.dali_deeds.specs.Laws.{AreOfCourse}
 use Rattle.dali_deeds.proofs.States.{new_state}
@@ -59,10 +50,9 @@ use Rattle.dali_turns.specs.declared.client.Transaction.{Transaction}
 use Rattle.dali_turns.specs.Calls.{IsDeadly}
 use Rattle.dali_turns.specs.Stood.{IsQuiet, Stood}
 use Rattle.dali_turns.specs.Within.{FitsCalling}
-use Rattle.dali_turns.specs.Fits.{rest_of, lines_of, IsOf, Owns, Fits}
+use Rattle.dali_turns.specs.Fits.{rest_of, IsOf, Owns, Fits}
 use Rattle.dali_turns.specs.Goes.{RowsTell, Went}
-use Rattle.dali_turns.specs.Others.{ImageStays}
-use Rattle.dali_turns.proofs.Beside.{is_in_audit, is_beside, is_out_of, step_image, image_then}
+use Rattle.dali_turns.proofs.Beside.{is_beside, is_out_of, step_image, image_then}
 use Rattle.dali_turns.proofs.Refusals.{runs_on_log, log_there, done_last}
 use Rattle.dali_turns.proofs.Doing.{Did, ended, went_by, went_silent}
 use Rattle.dali_turns.proofs.Coursing.{did_course}

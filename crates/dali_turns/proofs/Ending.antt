@@ -1,6 +1,5 @@
 -- The end of an audit of a client: its verdict is logged and flushed, or it is refused.
-use Rattle.std.proofs.Common.{◌≡◌, ℕ, ◌+◌, ◌<◌, ◌≤◌, Bool, true, false, List, [], ◌∷◌, ◌++◌, length, Option, Some, None, is_some, refl, ap, sym, subst, ◌∙◌, ◌⊎◌, inl, inr, arith, length-append}
-use Rattle.std.specs.Prelude.{◌||◌, ◌==◌}
+use Rattle.std.proofs.Common.{◌≡◌, ℕ, ◌+◌, ◌<◌, ◌≤◌, Bool, true, false, List, [], ◌∷◌, ◌++◌, length, Option, Some, None, is_some, refl, ap, sym, subst, ◌∙◌, inl, inr, arith, length-append}
 use Rattle.std.proofs.lemmas.Bool.{ne_eqb}
 use Rattle.std.proofs.lemmas.List.{append_assoc}
 use Rattle.dali_geometry.specs.Places.{regions}
@@ -18,12 +17,12 @@ use Rattle.dali_crash.specs.Traces.{Start, bases_of}
 use Rattle.dali_vault.specs.Vaulted.{Vaulted}
 use Rattle.dali_whole.specs.Cores.{IsWholeCore}
 use Rattle.dali_whole.specs.Flushed.{AllFlushed, FlushesAll, HasStopped, FlushFails}
-use Rattle.dali_audit.specs.Findings.{Audited, damaged, AllPassed}
+use Rattle.dali_audit.specs.Findings.{Audited, damaged}
 use Rattle.dali_audit.proofs.Stepping.{end_is_step}
-use Rattle.dali_transcripts.specs.Words.{Act, Audits as AuditAct, StoppedBy, StoreFailed, AuditSaid, Refused}
-use Rattle.dali_transcripts.specs.World.{Deed, Logs, Meets, World, log_of, HasDone, IsLost}
-use Rattle.dali_transcripts.specs.Moves.{Receipt, Outside as IsOutside, Spot, at, Move, Audits as IsAudit, IsRefusedAudit, from, own}
-use Rattle.dali_transcripts.specs.Causes.{IsCutAudit, IsCutBy, MetCause, AreUnfinished}
+use Rattle.dali_transcripts.specs.Words.{Audits as AuditAct, StoppedBy, StoreFailed, AuditSaid, Refused}
+use Rattle.dali_transcripts.specs.World.{Deed, Logs, Meets, World, log_of, IsLost}
+use Rattle.dali_transcripts.specs.Moves.{Receipt, Outside as IsOutside, Spot, at, Move, Audits as IsAudit, IsRefusedAudit, own}
+use Rattle.dali_transcripts.specs.Causes.{IsCutAudit, MetCause, AreUnfinished}
 use Rattle.dali_transcripts.specs.Laws.{receipts_from}
 use Rattle.dali_transcripts.specs.Rounds.{Standing, IsPlaced, by}
 use Rattle.dali_deeds.specs.Tells.{after}
@@ -39,7 +38,7 @@ use Rattle.dali_turns.proofs.Beside.{course_longer}
 use Rattle.dali_turns.proofs.Passing.{all_passed}
 use Rattle.dali_turns.proofs.Auditing.{rows_same}
 use Rattle.dali_turns.proofs.Flushing.{did_flush, did_fault}
-use Rattle.dali_turns.proofs.Doing.{vault_stops, Did, did_nothing, did_meet, did_quietly, did_then, behind, ended, went_on, went_by, went_silent}
+use Rattle.dali_turns.proofs.Doing.{vault_stops, Did, did_nothing, did_meet, did_quietly, did_then, ended, went_on, went_by, went_silent}
 
 -- deeds, one behind others
 pub one_then : (w : World) (c : ℕ) (x : Deed) (es : List Deed) (d e : CoreState) → after (after w c (x ∷ []) d) c es e ≡ after w c (x ∷ es) e

@@ -1,5 +1,5 @@
 -- A checkpoint of a client ends without an image.
-use Rattle.std.proofs.Common.{◌≡◌, ℕ, zero, suc, ◌+◌, ◌<◌, ◌≤◌, Bool, true, false, List, [], ◌∷◌, ◌++◌, length, take, Option, Some, None, IfSome, is_some, refl, ap, sym, subst, ◌∙◌, inl, arith}
+use Rattle.std.proofs.Common.{◌≡◌, ℕ, zero, suc, ◌+◌, ◌<◌, Bool, true, false, List, [], ◌∷◌, ◌++◌, length, take, Option, Some, None, is_some, refl, ap, sym, subst, ◌∙◌, inl, arith}
 use Rattle.std.specs.Prelude.{slice_get}
 use Rattle.std.specs.List.{AllByRecursion}
 use Rattle.std.proofs.lemmas.List.{append_assoc}
@@ -19,7 +19,7 @@ use Rattle.dali_steps.specs.At.{Goes}
 use Rattle.dali_steps.proofs.Steps.{quiet_goes}
 use Rattle.dali_whole.specs.Cores.{IsCoreAt}
 use Rattle.dali_transcripts.specs.Words.{Checkpoints as CheckpointAct, Why as Reason, StoppedBy, Full, Refused, is_stop}
-use Rattle.dali_transcripts.specs.World.{Deed, Meets, StartsCheckpoint, EndsCheckpoint, Happening, World, logged_by, log_of, log_at, HasDone, under_way}
+use Rattle.dali_transcripts.specs.World.{Deed, Meets, StartsCheckpoint, EndsCheckpoint, Happening, World, logged_by, log_of, HasDone, under_way}
 use Rattle.dali_transcripts.specs.Moves.{Receipt, Outside as IsOutside, Spot, at, Move, IsRefusedCheckpoint, own}
 use Rattle.dali_transcripts.specs.Causes.{IsCutAudit, IsCutBy, MaySpan, MetCause, IsPiece, AreUnfinished}
 use Rattle.dali_transcripts.specs.Laws.{receipts_from}
@@ -29,7 +29,7 @@ use Rattle.dali_deeds.specs.Laws.{IsNoFault}
 use Rattle.dali_turns.specs.declared.client.Client.{Client}
 use Rattle.dali_turns.specs.declared.client.State.{State}
 use Rattle.dali_turns.specs.declared.client.State.TheVariants.{Outside}
-use Rattle.dali_turns.specs.Stood.{IsQuiet, Stood}
+use Rattle.dali_turns.specs.Stood.{Stood}
 use Rattle.dali_turns.specs.Checkpoints.{IsMaking}
 use Rattle.dali_turns.specs.Fits.{rest_of, lines_of, IsOf, Owns, Makes, Fits}
 use Rattle.dali_turns.specs.Goes.{Went}

@@ -1,6 +1,5 @@
 -- A flush of all records, made by a client of a round.
-use Rattle.std.proofs.Common.{◌≡◌, ℕ, ◌+◌, ◌<◌, ◌≤◌, Bool, true, false, not, List, [], ◌∷◌, ◌++◌, length, Option, Some, None, IfSome, is_some, refl, ap, sym, subst, ◌∙◌, arith}
-use Rattle.std.specs.Prelude.{◌==◌}
+use Rattle.std.proofs.Common.{◌≡◌, ℕ, Bool, true, false, List, [], ◌∷◌, length, Option, Some, None, is_some, refl, ap, sym, subst, ◌∙◌, arith}
 use Rattle.dali_geometry.specs.Sizes.{Sizes}
 use Rattle.dali_geometry.specs.Places.{regions}
 use Rattle.dali_record.specs.declared.records.Record.{Record}
@@ -16,8 +15,7 @@ use Rattle.dali_crash.specs.Traces.{Start}
 use Rattle.dali_vault.specs.Vaulted.{Vaulted}
 use Rattle.dali_whole.specs.Cores.{IsWholeCore}
 use Rattle.dali_whole.specs.Flushed.{AllFlushed, HasStopped}
-use Rattle.dali_checkpoint.specs.Kept.{Checkpointed}
-use Rattle.dali_checkpoint.specs.Running.{AreCopied, PassesTell, IsCopying, IsSettled}
+use Rattle.dali_checkpoint.specs.Running.{AreCopied, PassesTell}
 use Rattle.dali_checkpoint.proofs.Audited.{passes_go_on}
 use Rattle.dali_checkpoint.proofs.Stays.{Stays, takes_stays, flushes_stays, both_stay, all_copied_on, is_of_on, same_target}
 use Rattle.dali_transcripts.specs.Words.{StoreFailed}

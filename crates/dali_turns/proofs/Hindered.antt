@@ -1,13 +1,11 @@
 -- A call of a client that has its lock is refused: by a stop, by a log without room, by damage, or for want of memory.
-use Rattle.std.proofs.Common.{◌≡◌, ℕ, zero, suc, ◌+◌, ◌<◌, Bool, true, false, not, List, [], ◌∷◌, ◌++◌, length, map, Option, Some, None, IfSome, is_some, Result, Ok, Err, OnOk, OnErr, IfOk, is_ok, refl, ap, sym, subst, ◌∙◌, inl, inr, arith}
-use Rattle.std.specs.Prelude.{◌==◌, ◌&&◌, bit_xor, slice_get, sum_by, take}
+use Rattle.std.proofs.Common.{◌≡◌, ℕ, zero, suc, ◌+◌, ◌<◌, Bool, true, false, not, List, [], ◌∷◌, ◌++◌, length, map, Option, Some, None, is_some, Result, Ok, Err, is_ok, refl, ap, sym, subst, ◌∙◌, inl, inr, arith}
+use Rattle.std.specs.Prelude.{◌==◌, ◌&&◌, bit_xor, slice_get}
 use Rattle.std.proofs.lemmas.List.{append-nil}
-use Rattle.dali_words.specs.Words.{parity_of}
 use Rattle.dali_counts.proofs.Lists.{some_same}
 use Rattle.dali_bytes.specs.declared.error.OutOfMemory.{OutOfMemory as NoMemory}
 use Rattle.dali_record.specs.declared.operations.Block.{Block}
 use Rattle.dali_record.specs.declared.operations.Op.{Op}
-use Rattle.dali_record.specs.declared.records.Answer.{Answer}
 use Rattle.dali_record.specs.declared.records.Record.{Record}
 use Rattle.dali_record.specs.declared.records.Record.TheVariants.{Forward, Done}
 use Rattle.dali_record.specs.Blocks.{AreWords, IsSoundOn, made}
@@ -26,10 +24,10 @@ use Rattle.dali_crash.specs.Traces.{Start, bases_of}
 use Rattle.dali_vault.specs.Vaulted.{Vaulted}
 use Rattle.dali_core.specs.declared.error.SystemError.{SystemError}
 use Rattle.dali_core.specs.declared.error.SystemError.TheVariants.{Stopped, LogFull, OutOfMemory}
-use Rattle.dali_core.specs.Refused.{refusal, stop_refusal}
+use Rattle.dali_core.specs.Refused.{refusal}
 use Rattle.dali_core.specs.declared.want.Want.TheVariants.{Region, Done as AnswerIsNext}
 use Rattle.dali_calls.specs.Steps.{call_key, answer_of, IsBlockOf}
-use Rattle.dali_calls.specs.Plans.{Planned, refused, is_back, plan_next, want_of, commit_refusal, IsWhole}
+use Rattle.dali_calls.specs.Plans.{Planned, is_back, plan_next, want_of, commit_refusal, IsWhole}
 use Rattle.dali_calls.proofs.Answering.{done_follows}
 use Rattle.dali_calls.proofs.Stepping.{state_there}
 use Rattle.dali_single.specs.declared.error.StepError.TheVariants.{Latch, System}
@@ -37,12 +35,11 @@ use Rattle.dali_single.specs.Refusals.{IsAnswerTo, IsUnanswered, IsRefusal}
 use Rattle.dali_single.proofs.Reaching.{wanted}
 use Rattle.dali_clients.specs.Told.{act_of}
 use Rattle.dali_clients.specs.declared.command.Command.TheVariants.{Call as IsCall}
-use Rattle.dali_clients.specs.declared.line.Line.TheVariants.{Refused as RefusedLine}
 use Rattle.dali_clients.specs.declared.line.Why.TheVariants.{Stopped as IsStopped, LogFull as IsFull, Damaged as IsDamaged}
-use Rattle.dali_transcripts.specs.Words.{Act, Calls, StoppedBy, Full, Damaged}
-use Rattle.dali_transcripts.specs.World.{Meets, World, log_of, stray_after}
+use Rattle.dali_transcripts.specs.Words.{Calls, StoppedBy, Full, Damaged}
+use Rattle.dali_transcripts.specs.World.{Meets, World, stray_after}
 use Rattle.dali_transcripts.specs.Moves.{Within as IsWithin, at, operations}
-use Rattle.dali_transcripts.specs.Causes.{GoesOn as MayGoOn, IsRoomFor, AreUnfinished, spares, spares_without}
+use Rattle.dali_transcripts.specs.Causes.{GoesOn as MayGoOn, IsRoomFor, AreUnfinished, spares_without}
 use Rattle.dali_transcripts.specs.Rounds.{Standing}
 use Rattle.dali_transcripts.proofs.Growing.{works}
 use Rattle.dali_deeds.specs.Tells.{after}
@@ -54,9 +51,9 @@ use Rattle.dali_turns.specs.Calls.{TurnsBack, IsRefusedBy, IsDeadly}
 use Rattle.dali_turns.specs.Stood.{Stood}
 use Rattle.dali_turns.specs.Within.{FitsCalling}
 use Rattle.dali_turns.specs.Fits.{rest_of, IsOf}
-use Rattle.dali_turns.specs.Goes.{Came, Went}
-use Rattle.dali_turns.proofs.Refusals.{runs_on_log, front, log_there, HasCauseNow, met_now, stop_now, none_failed_there, end_there}
-use Rattle.dali_turns.proofs.Doing.{Did, did_nothing, behind, went_on, vault_stops}
+use Rattle.dali_turns.specs.Goes.{Went}
+use Rattle.dali_turns.proofs.Refusals.{runs_on_log, front, log_there, HasCauseNow, stop_now, none_failed_there, end_there}
+use Rattle.dali_turns.proofs.Doing.{Did, did_nothing, went_on, vault_stops}
 use Rattle.dali_turns.proofs.Operating.{spared_one}
 use Rattle.dali_turns.proofs.Refusing.{all_tried_of, turned_back, refused_said, refused_unsaid}
 use Rattle.dali_turns.proofs.Allowed.{words_are, may_go_on, made_there, small_region, block_fits, answer_fits}

@@ -1,9 +1,9 @@
 -- What the calls of dali_ends ask for, where a client stands in its transaction.
-use Rattle.std.proofs.Common.{◌≡◌, ℕ, ◌+◌, ◌<◌, ◌^◌, Bool, true, false, List, Option, Some, None, is_some, refl, ap, sym, subst, ◌∙◌, arith}
+use Rattle.std.proofs.Common.{◌≡◌, ℕ, ◌<◌, Bool, true, false, List, Option, Some, None, is_some, refl, ap, sym, ◌∙◌}
 use Rattle.dali_region.specs.State.{RegionState}
 use Rattle.dali_att.specs.declared.state.State.TheVariants.{Live}
 use Rattle.dali_store.specs.Store.{Files as Disk}
-use Rattle.dali_system.specs.State.{SystemState, VaultState, state_of}
+use Rattle.dali_system.specs.State.{SystemState, state_of}
 use Rattle.dali_vault.specs.Vaulted.{Vaulted}
 use Rattle.dali_ends.specs.Stands.{IsUp, IsBetween}
 use Rattle.dali_turns.specs.declared.client.Client.{Client}

@@ -1,13 +1,13 @@
 -- Each block of a plan's next operation leads on to some plan.
-use Rattle.std.proofs.Common.{◌≡◌, ℕ, ◌+◌, ◌<◌, Bool, true, false, ◌&&◌, List, [], ◌∷◌, ◌++◌, Option, Some, None, if◌then◌else◌, refl, ap, sym, subst, ◌∙◌}
+use Rattle.std.proofs.Common.{◌≡◌, ℕ, ◌+◌, Bool, true, false, ◌&&◌, List, ◌++◌, Option, Some, None, if◌then◌else◌, refl, ap, sym, ◌∙◌}
 use Rattle.std.specs.Prelude.{◌==◌, nat_lt, bytes_eq}
 use Rattle.std.proofs.lemmas.Bool.{eq-eqb}
 use Rattle.std.proofs.lemmas.Slice.Eq.{bytes_eq-Decides}
 use Rattle.dali_geometry.specs.Sizes.{Sizes}
-use Rattle.dali_geometry.specs.Places.{home, next_index, heap_start, next_heap, is_place, region_at, cell_at, place}
+use Rattle.dali_geometry.specs.Places.{home, next_index, heap_start, next_heap, place}
 use Rattle.dali_record.specs.declared.operations.Block.{Block}
 use Rattle.dali_record.specs.declared.operations.Op.{Op}
-use Rattle.dali_record.specs.declared.operations.Op.TheVariants.{Look, Add, KillEntry, Put, Read, Change, KillCell}
+use Rattle.dali_record.specs.declared.operations.Op.TheVariants.{Look, Add, KillEntry, Put}
 use Rattle.dali_record.specs.declared.operations.Outcome.{Outcome}
 use Rattle.dali_record.specs.declared.operations.Outcome.TheVariants.{Found, Absent, Added, NoEntry, Killed, Put as PutIn, NoCell, Value, Changed, NotLive, OtherKey, OddLength}
 use Rattle.dali_record.specs.declared.records.Call.{Call}
@@ -15,14 +15,14 @@ use Rattle.dali_record.specs.declared.records.Call.TheVariants.{Insert, Update, 
 use Rattle.dali_record.specs.declared.records.Answer.TheVariants.{Ok as AnswerOk, Got, FullHeap, FullIndex, Odd}
 use Rattle.dali_record.specs.Calls.{Progress, when, on_item, look_next, put_next, store_next, add_next, after_look, after_put, after_add, after_read, after_change, after_kill_cell, after_kill_entry, follow}
 use Rattle.dali_record.specs.Log.{undo_added}
-use Rattle.dali_record.specs.Spelling.{is_look_outcome, is_put_outcome, is_add_outcome, is_read_outcome, is_change_outcome, is_kill_cell_outcome, is_kill_entry_outcome, is_outcome_of}
+use Rattle.dali_record.specs.Spelling.{is_look_outcome, is_put_outcome, is_add_outcome, is_read_outcome, is_change_outcome, is_kill_cell_outcome, is_kill_entry_outcome}
 use Rattle.dali_calls.specs.declared.stage.Stage.{Stage}
 use Rattle.dali_calls.specs.declared.stage.Stage.TheVariants.{Fresh, Walking, Nowhere, Somewhere, Storing, Adding, Removing, Finished}
 use Rattle.dali_calls.specs.declared.plan.Phase.{Phase}
 use Rattle.dali_calls.specs.declared.plan.Phase.TheVariants.{Calling, Refused, Answered}
-use Rattle.dali_calls.specs.Steps.{call_key, call_value, progress_of, next_op, put_of, after_cell, is_cell_outcome, is_insert, is_delete, is_fresh, IsAt, IsBlockOf, IsNextBlock}
+use Rattle.dali_calls.specs.Steps.{call_key, progress_of, next_op, after_cell, is_cell_outcome, is_fresh, IsAt, IsBlockOf, IsNextBlock}
 use Rattle.dali_calls.specs.Plans.{Planned, is_back, plan_next, onward_next, GoesOn, IsWhole}
-use Rattle.dali_calls.proofs.Follows.{Facts, facts, somewhere_outcome, somewhere_follows, removing_follows}
+use Rattle.dali_calls.proofs.Follows.{facts, somewhere_outcome, somewhere_follows, removing_follows}
 use Rattle.dali_calls.proofs.Wholes.{onward_of}
 
 -- the stage behind a block

@@ -1,7 +1,7 @@
 -- An operation of a call of a client, made.
-use Rattle.std.proofs.Common.{◌≡◌, ℕ, suc, ◌+◌, ◌-◌, ◌<◌, ◌≤◌, Bool, true, false, not, List, [], ◌∷◌, ◌++◌, length, map, Option, Some, None, is_some, if◌then◌else◌, refl, ap, sym, subst, ◌∙◌, ◌⊎◌, inl, inr, ⊎_elim, arith}
-use Rattle.std.specs.Prelude.{◌==◌, ◌≢◌, ◌||◌, filter, slice_get, slice_set, nat_lt, IfSome}
-use Rattle.std.proofs.lemmas.Bool.{ltb-true, lt-ltb, ne_eqb, eq-eqb}
+use Rattle.std.proofs.Common.{◌≡◌, ℕ, ◌+◌, ◌-◌, ◌<◌, Bool, true, false, List, [], ◌∷◌, ◌++◌, length, map, Option, Some, None, is_some, if◌then◌else◌, refl, ap, sym, subst, ◌∙◌, ◌⊎◌, inl, inr, arith}
+use Rattle.std.specs.Prelude.{◌==◌, ◌≢◌, filter}
+use Rattle.std.proofs.lemmas.Bool.{ltb-true, lt-ltb}
 use Rattle.std.proofs.lemmas.List.{append-nil, append_assoc, append_cancel_left, length-append}
 use Rattle.std.proofs.lemmas.List.Elements.{filter-append}
 use Rattle.dali_counts.proofs.Lists.{equal, self, same_number, some_same}
@@ -9,13 +9,13 @@ use Rattle.dali_geometry.specs.Sizes.{Sizes}
 use Rattle.dali_geometry.specs.Places.{is_place, region_at, cell_at}
 use Rattle.dali_record.specs.declared.operations.Block.{Block}
 use Rattle.dali_record.specs.declared.operations.Op.{Op}
-use Rattle.dali_record.specs.declared.operations.Op.TheVariants.{Look, Add, KillEntry, Put, Read, Change, KillCell}
+use Rattle.dali_record.specs.declared.operations.Op.TheVariants.{Look, Add, KillEntry}
 use Rattle.dali_record.specs.declared.records.Call.{Call}
 use Rattle.dali_record.specs.declared.records.Call.TheVariants.{Insert, Update, Delete, Get}
 use Rattle.dali_record.specs.declared.records.Record.{Record}
 use Rattle.dali_record.specs.declared.records.Record.TheVariants.{Forward, Back}
 use Rattle.dali_record.specs.Log.{last_of}
-use Rattle.dali_region.specs.State.{RegionState, touched}
+use Rattle.dali_region.specs.State.{RegionState}
 use Rattle.dali_att.specs.declared.state.State.TheVariants.{Live}
 use Rattle.dali_calls.specs.declared.stage.Stage.{Stage}
 use Rattle.dali_calls.specs.declared.stage.Stage.TheVariants.{Fresh, Walking, Nowhere, Somewhere, Storing, Adding, Removing, Finished}

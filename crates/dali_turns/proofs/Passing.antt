@@ -22,8 +22,7 @@ use Rattle.dali_system.specs.Audits.{IsAuditing}
 use Rattle.dali_crash.specs.Checkpoints.{Point}
 use Rattle.dali_clean.specs.Cleaned.{AreDead}
 use Rattle.dali_whole.specs.Cores.{HoldsPlaces}
-use Rattle.dali_audit.specs.declared.audit.Finding.{Finding}
-use Rattle.dali_audit.specs.declared.audit.Finding.TheVariants.{Waiting, Clean, Damaged}
+use Rattle.dali_audit.specs.declared.audit.Finding.TheVariants.{Clean, Damaged}
 use Rattle.dali_audit.specs.Findings.{Audited, finding_of, is_passed, AllPassed}
 use Rattle.dali_audit.specs.Stepped.{AreFindings}
 use Rattle.dali_transcripts.specs.World.{World, log_of, IsLogged}

@@ -14,7 +14,7 @@ use Rattle.dali_store.specs.Store.{Files as Disk}
 use Rattle.dali_system.specs.State.{SystemState}
 use Rattle.dali_system.specs.Keeps.{with_region}
 use Rattle.dali_system.specs.Regions.{Poke as PokeStep}
-use Rattle.dali_system.specs.Courses.{Step, OnRegion}
+use Rattle.dali_system.specs.Courses.{OnRegion}
 use Rattle.dali_crash.specs.Checkpoints.{Does, Point, IsPointStep, copies_after}
 use Rattle.dali_crash.specs.Traces.{Start}
 use Rattle.dali_vault.specs.Vaulted.{Vaulted}
@@ -24,8 +24,8 @@ use Rattle.dali_traces.specs.Disks.{image_file}
 use Rattle.dali_traces.specs.Places.{place_of}
 use Rattle.dali_clients.specs.declared.command.Command.TheVariants.{Poke}
 use Rattle.dali_clients.specs.declared.line.Line.TheVariants.{PokeOk, PokeOutOfRange}
-use Rattle.dali_transcripts.specs.Words.{Act, Pokes as PokeAct}
-use Rattle.dali_transcripts.specs.World.{Deed, Strays, World, log_of}
+use Rattle.dali_transcripts.specs.Words.{Pokes as PokeAct}
+use Rattle.dali_transcripts.specs.World.{Strays, World, log_of}
 use Rattle.dali_transcripts.specs.Moves.{Receipt, Outside as IsOutside, Pokes, PokesNothing, at}
 use Rattle.dali_transcripts.specs.Rounds.{Standing, IsPlaced}
 use Rattle.dali_deeds.specs.Tells.{after}
@@ -38,7 +38,7 @@ use Rattle.dali_turns.specs.Outside.{FitsOutside}
 use Rattle.dali_turns.specs.Fits.{rest_of, IsOf, Fits}
 use Rattle.dali_turns.specs.Goes.{RowsTell, Went, StepGoes, MayStep}
 use Rattle.dali_turns.proofs.Commands.{next_act, behind_next, finished_rest, finished_lines, finished_client, none_under_way}
-use Rattle.dali_turns.proofs.Doing.{behind, ended, Did, did_nothing, did_quietly, went_on, went_by}
+use Rattle.dali_turns.proofs.Doing.{ended, Did, did_nothing, did_quietly, went_on, went_by}
 
 -- ---- what the write leaves of the regions
 same_flag : (word mask : ℕ) (g : RegionState) (side : Side) → is_dirty (poked word mask g) side ≡ is_dirty g side

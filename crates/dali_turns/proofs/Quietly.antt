@@ -1,5 +1,5 @@
 -- A step of a core that calls no store and takes no frame, made by a client of a round.
-use Rattle.std.proofs.Common.{◌≡◌, ℕ, ◌<◌, Bool, true, false, List, [], ◌∷◌, length, Option, Some, None, IfSome, is_some, refl, ap, sym, subst, ◌∙◌}
+use Rattle.std.proofs.Common.{◌≡◌, ℕ, ◌<◌, Bool, true, false, List, Option, Some, None, is_some, refl, ap, sym, subst, ◌∙◌}
 use Rattle.std.proofs.lemmas.Option.{IfSome_then}
 use Rattle.dali_record.specs.declared.records.Record.{Record}
 use Rattle.dali_region.specs.State.{RegionState}
@@ -13,12 +13,12 @@ use Rattle.dali_system.specs.Courses.{Step}
 use Rattle.dali_system.proofs.WholeSteps.{whole_keeps}
 use Rattle.dali_facts.proofs.OlderRows.{rows_are_older}
 use Rattle.dali_parts.proofs.Vaults.{step_has_vault}
-use Rattle.dali_crash.specs.Checkpoints.{StoreStep, Does, Point, IsPointStep, IsPointCourse, is_of_checkpoint}
+use Rattle.dali_crash.specs.Checkpoints.{Does, Point, IsPointStep, is_of_checkpoint}
 use Rattle.dali_crash.specs.StoreRuns.{StoreRun}
 use Rattle.dali_crash.specs.Traces.{Start, bases_of}
 use Rattle.dali_crash.proofs.Flags.{flag_stays}
 use Rattle.dali_vault.specs.Vaulted.{Vaulted}
-use Rattle.dali_stepwise.specs.Beside.{is_apart, LeavesBe}
+use Rattle.dali_stepwise.specs.Beside.{is_apart}
 use Rattle.dali_steps.specs.Courses.{calls_none, is_quiet}
 use Rattle.dali_steps.proofs.Courses.{came_same, vault_same, both_true}
 use Rattle.dali_steps.proofs.Steps.{quiet_goes}
@@ -30,8 +30,8 @@ use Rattle.dali_deeds.specs.Tells.{after, AreRightThen, Goes}
 use Rattle.dali_turns.proofs.Deeds.{step_tells}
 use Rattle.dali_turns.specs.declared.client.State.{State}
 use Rattle.dali_turns.specs.Stood.{IsQuiet, Stood}
-use Rattle.dali_turns.specs.Fits.{Owns, Audits, Makes}
-use Rattle.dali_turns.specs.Others.{AuditStays, ImageStays, LeavesOthers}
+use Rattle.dali_turns.specs.Fits.{Owns, Audits}
+use Rattle.dali_turns.specs.Others.{LeavesOthers}
 use Rattle.dali_turns.proofs.Beside.{is_in_audit, step_audit, step_leaves, step_image}
 
 has_row : (o : Option TxnRow) (s : RowState) → state_in o ≡ Some s → is_some o ≡ true

@@ -1,47 +1,41 @@
 -- A call of a client is refused, and taken back, or told at once.
-use Rattle.std.proofs.Common.{◌≡◌, ℕ, Bool, true, false, List, [], ◌∷◌, ◌++◌, length, map, Option, Some, None, is_some, refl, ap, sym, subst, ◌∙◌, inl, inr}
+use Rattle.std.proofs.Common.{◌≡◌, ℕ, Bool, true, false, List, [], ◌∷◌, length, map, Option, Some, is_some, refl, ap, sym, subst, ◌∙◌, inl, inr}
 use Rattle.std.specs.Prelude.{◌==◌, ◌⊎◌}
 use Rattle.std.proofs.lemmas.List.{map-append}
 use Rattle.dali_counts.proofs.Lists.{equal, same_number}
 use Rattle.dali_record.specs.declared.records.Call.{Call}
 use Rattle.dali_record.specs.declared.records.Record.{Record}
-use Rattle.dali_record.specs.declared.records.Record.TheVariants.{Forward}
 use Rattle.dali_region.specs.State.{RegionState}
 use Rattle.dali_att.specs.declared.state.State.TheVariants.{Live}
 use Rattle.dali_store.specs.Store.{Files as Disk}
-use Rattle.dali_system.specs.declared.causes.Cause.{Cause}
 use Rattle.dali_system.specs.State.{SystemState, state_of}
 use Rattle.dali_system.specs.Keeps.{IsFree}
 use Rattle.dali_crash.specs.Checkpoints.{Point}
-use Rattle.dali_crash.specs.Traces.{Start, bases_of}
+use Rattle.dali_crash.specs.Traces.{Start}
 use Rattle.dali_vault.specs.Vaulted.{Vaulted}
-use Rattle.dali_calls.specs.declared.plan.Phase.TheVariants.{Calling as IsCalling, Refused as IsRefused}
 use Rattle.dali_calls.specs.Plans.{Planned, refused, is_answered}
-use Rattle.dali_single.specs.Stands.{IsAtRest, AtPlan}
 use Rattle.dali_stepwise.proofs.Turning.{plan_turns}
 use Rattle.dali_transcripts.specs.Words.{Act, Calls, is_stop}
-use Rattle.dali_transcripts.specs.World.{Deed, Logs, Yields, FindsDead, Meets, World, log_of}
-use Rattle.dali_transcripts.specs.Moves.{Receipt, Within as IsWithin, at, Move, IsRefusedCall, operations, left}
+use Rattle.dali_transcripts.specs.World.{Logs, FindsDead, Meets, World, log_of}
+use Rattle.dali_transcripts.specs.Moves.{Receipt, Within as IsWithin, at, Move, IsRefusedCall, operations}
 use Rattle.dali_transcripts.specs.Causes.{IsWork, IsTried, AreWork, AreTried, Survives, HasCause, spares}
 use Rattle.dali_transcripts.specs.Rounds.{Standing, IsPlaced}
 use Rattle.dali_transcripts.proofs.Lists.{all_map}
 use Rattle.dali_transcripts.proofs.Growing.{works}
 use Rattle.dali_deeds.specs.Tells.{after}
 use Rattle.dali_deeds.specs.Laws.{IsNoFault}
-use Rattle.dali_clients.specs.declared.command.Command.{Command}
 use Rattle.dali_clients.specs.declared.command.Command.TheVariants.{Call as IsCall}
 use Rattle.dali_clients.specs.declared.line.Line.TheVariants.{Refused as RefusedLine}
 use Rattle.dali_clients.specs.declared.line.Why.{Why}
-use Rattle.dali_clients.specs.declared.line.Why.TheVariants.{Stopped}
 use Rattle.dali_clients.specs.Told.{act_of, reason_of, said_of}
 use Rattle.dali_turns.specs.declared.client.Client.{Client}
 use Rattle.dali_turns.specs.declared.client.State.{State}
 use Rattle.dali_turns.specs.declared.client.State.TheVariants.{Within, Calling, TakingBack}
 use Rattle.dali_turns.specs.declared.client.Transaction.{Transaction}
-use Rattle.dali_turns.specs.Clients.{next_of, Passes, Finishes, Stays}
+use Rattle.dali_turns.specs.Clients.{Passes, Finishes, Stays}
 use Rattle.dali_turns.specs.Stood.{Stood}
 use Rattle.dali_turns.specs.Within.{FitsWithin, FitsCalling, FitsTakingBack}
-use Rattle.dali_turns.specs.Fits.{rest_of, lines_of, IsOf, Owns, Fits}
+use Rattle.dali_turns.specs.Fits.{rest_of, IsOf, Owns, Fits}
 use Rattle.dali_turns.specs.Goes.{RowsTell, Went}
 use Rattle.dali_turns.proofs.Refusals.{HasCauseNow, met_now, right_now}
 use Rattle.dali_turns.proofs.Doing.{Did, did_meet, behind, ended, went_on, went_by, went_silent}

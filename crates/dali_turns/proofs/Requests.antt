@@ -10,7 +10,6 @@ use Rattle.dali_att.specs.declared.state.State.{State as RowState}
 use Rattle.dali_att.specs.declared.state.State.TheVariants.{Live, Committed, Dead, Cleaning}
 use Rattle.dali_store.specs.Store.{Files as Disk}
 use Rattle.dali_system.specs.State.{SystemState, VaultState, state_of}
-use Rattle.dali_system.specs.Steps.{granted, refused}
 use Rattle.dali_vault.specs.Vaulted.{Vaulted}
 use Rattle.dali_clean.specs.Cleaned.{IsDead}
 use Rattle.dali_core.specs.Asked.{after_request}

@@ -1,5 +1,5 @@
 -- What deeds leave of the row of a transaction, and what is known of one that has none any more.
-use Rattle.std.proofs.Common.{◌≡◌, ℕ, zero, suc, ◌+◌, ◌<◌, ◌≤◌, Bool, true, false, List, [], ◌∷◌, ◌++◌, length, take, Option, Some, None, is_some, refl, ap, sym, subst, ◌∙◌, ◌⊎◌, inl, inr, ⊎_elim, arith, length-append}
+use Rattle.std.proofs.Common.{◌≡◌, ℕ, zero, suc, ◌≤◌, Bool, true, false, List, [], ◌∷◌, ◌++◌, length, take, Option, Some, None, is_some, refl, ap, sym, subst, ◌∙◌, ◌⊎◌, inl, inr, ⊎_elim, arith, length-append}
 use Rattle.std.specs.Prelude.{◌==◌, if◌then◌else◌, fold, slice_get}
 use Rattle.std.proofs.lemmas.List.{append_assoc, take-append-le}
 use Rattle.std.proofs.lemmas.List.Elements.{filter_map-append}
@@ -11,9 +11,9 @@ use Rattle.dali_record.specs.declared.records.Record.TheVariants.{Begin, Commit,
 use Rattle.dali_att.specs.declared.state.State.{State}
 use Rattle.dali_att.specs.declared.state.State.TheVariants.{Live, Dead, Cleaning, Committed}
 use Rattle.dali_system.specs.declared.causes.Cause.{Cause}
-use Rattle.dali_system.specs.State.{SystemState, CoreState, TxnRow, row_of, state_in, state_of}
+use Rattle.dali_system.specs.State.{CoreState, TxnRow, row_of, state_in, state_of}
 use Rattle.dali_crash.specs.Checkpoints.{Point}
-use Rattle.dali_transcripts.specs.World.{Deed, Logs, DiesOn, Claims, GivesBack, Happening, World, record_of, logged_by, log_of, log_at, IsLogged, claimed, given_back, state_step, state_after, is_dead_in, WasDead, HasDone, HasDiedBy, HasEndedBy, Grows}
+use Rattle.dali_transcripts.specs.World.{Deed, Logs, DiesOn, Claims, GivesBack, Happening, World, record_of, logged_by, log_of, log_at, IsLogged, claimed, given_back, state_step, is_dead_in, HasDiedBy, HasEndedBy}
 use Rattle.dali_transcripts.specs.Rounds.{by, IsBetween}
 use Rattle.dali_deeds.specs.Tells.{after, Tells, Goes}
 use Rattle.dali_turns.specs.Stood.{HadRow}

@@ -1,8 +1,7 @@
 -- Steps by which a client ends a transaction, or takes back what dead clients left: the deeds that tell them, each right at its place.
-use Rattle.std.proofs.Common.{◌≡◌, ℕ, ◌+◌, ◌<◌, ◌≤◌, Bool, true, false, not, ◌&&◌, List, [], ◌∷◌, ◌++◌, length, map, fold, take, Option, Some, None, refl, ap, sym, subst, ◌∙◌, ◌⊎◌, inl, inr, ⊎_elim, arith}
-use Rattle.std.specs.Prelude.{⊤, ◌==◌, slice_get, slice_set, if◌then◌else◌}
-use Rattle.std.specs.List.{AllByRecursion, list_all}
-use Rattle.std.proofs.lemmas.Bool.Decides.{Decides-eqb}
+use Rattle.std.proofs.Common.{◌≡◌, ℕ, ◌+◌, Bool, true, false, not, ◌&&◌, List, [], ◌∷◌, ◌++◌, length, map, fold, Option, Some, None, refl, ap, sym, subst, ◌∙◌, ◌⊎◌, inl, inr, ⊎_elim, arith}
+use Rattle.std.specs.Prelude.{◌==◌, slice_get, slice_set, if◌then◌else◌}
+use Rattle.std.specs.List.{AllByRecursion}
 use Rattle.std.proofs.lemmas.List.{append-nil, append_assoc, append_cancel_left, length-append}
 use Rattle.std.proofs.lemmas.List.Sums.{fold-append}
 use Rattle.dali_counts.proofs.Lists.{equal, self}
@@ -13,13 +12,12 @@ use Rattle.dali_region.specs.declared.Hold.{Hold}
 use Rattle.dali_region.specs.State.{RegionState, map_hold, reading, writing, touched, taken_back}
 use Rattle.dali_att.specs.declared.state.State.{State as RowState}
 use Rattle.dali_att.specs.declared.state.State.TheVariants.{Live, Dead, Cleaning, Committed}
-use Rattle.dali_system.specs.State.{CoreState, SystemState, state_of, hold_in, hold_of}
+use Rattle.dali_system.specs.State.{CoreState, state_of, hold_in, hold_of}
 use Rattle.dali_system.specs.Run.{Bases, no_image}
 use Rattle.dali_system.specs.Keeps.{may_log_in, MayRecover}
-use Rattle.dali_system.specs.Regions.{RegionStep, Latch, NoteReads, Update, TakeBack, Poke, Check, Die, Clean, region_after}
+use Rattle.dali_system.specs.Regions.{RegionStep, Latch, NoteReads, Update, TakeBack, region_after}
 use Rattle.dali_system.specs.Wholes.{IsWhole, latched_in}
-use Rattle.dali_system.specs.Courses.{Step, Operates, TakesBack, Frees, Locks, OnRegion, Claims, GivesBack, Recovers, IsStep}
-use Rattle.dali_system.proofs.OneMore.{is_inside}
+use Rattle.dali_system.specs.Courses.{Step, Operates, TakesBack, Frees, Locks, OnRegion, Claims, GivesBack, Recovers}
 use Rattle.dali_system.proofs.Courses.{step_goes}
 use Rattle.dali_system.proofs.WholeSteps.{whole_keeps}
 use Rattle.dali_crash.specs.Checkpoints.{StoreStep, Does, Point, IsPointStep, IsPointCourse, moment_of}
@@ -31,9 +29,9 @@ use Rattle.dali_single.specs.Ending.{IsBackOf}
 use Rattle.dali_single.specs.Settling.{IsSoloOf}
 use Rattle.dali_single.proofs.Lists.{all_both}
 use Rattle.dali_ends.specs.Ended.{AreOfEnd}
-use Rattle.dali_transcripts.specs.World.{Deed, Logs, Claims as ClaimsTxn, GivesBack as GivesTxnBack, Happening, World, logged_by, log_of, HasDone, claimed, given_back, state_step, state_after, state_at, is_dead_in, is_claimed_in, claimer_step, claimer_at, Grows}
+use Rattle.dali_transcripts.specs.World.{Deed, Logs, Claims as ClaimsTxn, GivesBack as GivesTxnBack, World, logged_by, log_of, claimed, given_back, state_step, state_after, state_at, is_dead_in, is_claimed_in, claimer_step, claimer_at, Grows}
 use Rattle.dali_transcripts.specs.Moves.{Receipt}
-use Rattle.dali_transcripts.specs.Causes.{IsCleaning, HasClaimed, HasGivenBack, IsUntouched, IsAside, AreAside, IsBehind, AreBehind}
+use Rattle.dali_transcripts.specs.Causes.{IsCleaning, HasClaimed, HasGivenBack, IsUntouched, AreAside, AreBehind}
 use Rattle.dali_transcripts.specs.Transcripts.{count_with}
 use Rattle.dali_transcripts.specs.Laws.{receipts_from}
 use Rattle.dali_transcripts.specs.Rounds.{by}

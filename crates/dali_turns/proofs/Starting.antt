@@ -1,6 +1,6 @@
 -- A checkpoint of a client starts, or is refused.
-use Rattle.std.proofs.Common.{◌≡◌, ℕ, ◌+◌, ◌<◌, ◌≤◌, Bool, true, false, List, [], ◌∷◌, ◌++◌, length, fold, Option, Some, None, IfSome, is_some, refl, ap, sym, subst, ◌∙◌, ◌⊎◌, inl, inr, arith}
-use Rattle.std.specs.Prelude.{◌||◌, ◌==◌}
+use Rattle.std.proofs.Common.{◌≡◌, ℕ, Bool, true, false, List, [], ◌∷◌, ◌++◌, length, fold, Option, Some, None, is_some, refl, ap, sym, subst, ◌∙◌, inl, arith}
+use Rattle.std.specs.Prelude.{◌||◌}
 use Rattle.std.proofs.lemmas.Bool.{ne_eqb}
 use Rattle.std.proofs.lemmas.List.Sums.{fold-append}
 use Rattle.dali_record.specs.declared.records.Record.{Record}
@@ -8,13 +8,12 @@ use Rattle.dali_region.specs.State.{RegionState}
 use Rattle.dali_store.specs.Store.{Files as Disk}
 use Rattle.dali_system.specs.declared.causes.Cause.{Cause}
 use Rattle.dali_system.specs.State.{SystemState, CoreState}
-use Rattle.dali_system.specs.Steps.{taken, store_stopped, in_checkpoint}
+use Rattle.dali_system.specs.Steps.{taken, in_checkpoint}
 use Rattle.dali_system.specs.Courses.{Takes, Flushes}
-use Rattle.dali_crash.specs.Checkpoints.{Head, Does, Starts, Keeps as KeepsAll, WritesHead, Point}
+use Rattle.dali_crash.specs.Checkpoints.{Does, Starts, Keeps as KeepsAll, WritesHead, Point}
 use Rattle.dali_crash.specs.Traces.{Start, bases_of}
 use Rattle.dali_vault.specs.Vaulted.{Vaulted}
-use Rattle.dali_whole.specs.Cores.{HoldsPlaces}
-use Rattle.dali_checkpoint.specs.Kept.{Checkpointed, cause_of}
+use Rattle.dali_checkpoint.specs.Kept.{Checkpointed}
 use Rattle.dali_checkpoint.specs.Done.{IsNoShorter, HasStarted}
 use Rattle.dali_checkpoint.specs.Running.{IsIdle}
 use Rattle.dali_checkpoint.specs.Laws.{Started}
@@ -22,7 +21,7 @@ use Rattle.dali_checkpoint.proofs.Calls.{start_goes}
 use Rattle.dali_checkpoint.proofs.Lengths.{places_stay}
 use Rattle.dali_transcripts.specs.Words.{Act, Checkpoints as CheckpointAct, Why as Reason, StoppedBy, UnderWay, Refused, is_stop}
 use Rattle.dali_transcripts.specs.World.{Deed, Meets, StartsCheckpoint, World, log_of, span_step, under_way}
-use Rattle.dali_transcripts.specs.Moves.{Receipt, Outside as IsOutside, Spot, at, Move, IsRefusedCheckpoint, from, own}
+use Rattle.dali_transcripts.specs.Moves.{Receipt, Outside as IsOutside, Spot, at, Move, IsRefusedCheckpoint, own}
 use Rattle.dali_transcripts.specs.Causes.{IsCutBy, IsAlone, AreUnfinished}
 use Rattle.dali_transcripts.specs.Laws.{receipts_from}
 use Rattle.dali_transcripts.specs.Rounds.{Standing, IsPlaced, by}
@@ -31,7 +30,7 @@ use Rattle.dali_deeds.specs.Laws.{IsNoFault}
 use Rattle.dali_turns.specs.declared.client.Client.{Client}
 use Rattle.dali_turns.specs.declared.client.State.{State}
 use Rattle.dali_turns.specs.declared.client.State.TheVariants.{Outside, Copying}
-use Rattle.dali_turns.specs.Stood.{IsQuiet, Stood}
+use Rattle.dali_turns.specs.Stood.{Stood}
 use Rattle.dali_turns.specs.Outside.{FitsOutside}
 use Rattle.dali_turns.specs.Fits.{rest_of, lines_of, IsOf, Fits}
 use Rattle.dali_turns.specs.Goes.{Went}

@@ -1,17 +1,14 @@
 -- The step of a client by where it stands, and the commands for which nothing is asked of the core.
-use Rattle.std.proofs.Common.{◌≡◌, ℕ, zero, suc, ◌<◌, ◌≤◌, Bool, true, false, List, [], ◌∷◌, ◌++◌, length, map, Option, Some, None, Result, Ok, is_ok, refl, ap, sym, subst, ◌∙◌, ◌⊎◌, inl, inr, arith}
+use Rattle.std.proofs.Common.{◌≡◌, ℕ, ◌≤◌, Bool, true, false, List, [], ◌∷◌, ◌++◌, map, Option, Some, None, Result, Ok, is_ok, refl, ap, sym, subst, ◌∙◌, ◌⊎◌, inl, inr, arith}
 use Rattle.std.specs.Prelude.{◌==◌, slice_get}
 use Rattle.dali_counts.proofs.Lists.{equal, same_number}
 use Rattle.std.proofs.lemmas.List.{append-nil}
 use Rattle.std.proofs.lemmas.Bool.{lt-ltb}
-use Rattle.dali_record.specs.declared.records.Record.{Record}
 use Rattle.dali_record.specs.declared.records.Call.{Call as Called}
 use Rattle.dali_region.specs.State.{RegionState}
 use Rattle.dali_store.specs.Store.{Files as Disk}
 use Rattle.dali_att.specs.declared.state.State.TheVariants.{Live}
 use Rattle.dali_system.specs.State.{SystemState, state_of}
-use Rattle.dali_crash.specs.Checkpoints.{Point}
-use Rattle.dali_crash.specs.Traces.{Start}
 use Rattle.dali_vault.specs.Vaulted.{Vaulted}
 use Rattle.dali_clients.specs.declared.command.Command.{Command}
 use Rattle.dali_clients.specs.declared.command.Command.TheVariants.{Begin, Call, Die, Commit, Abort, Poke, Audit, Checkpoint}
@@ -28,8 +25,7 @@ use Rattle.dali_turns.specs.declared.client.State.{State}
 use Rattle.dali_turns.specs.declared.client.State.TheVariants.{Outside, LeftOut, Within, Waiting, Gone}
 use Rattle.dali_turns.specs.declared.client.Transaction.{Transaction}
 use Rattle.dali_turns.specs.Clients.{next_of, Passes, Stays, left_behind}
-use Rattle.dali_turns.specs.Stood.{Stood}
-use Rattle.dali_turns.specs.Within.{AreSoFar, FitsWithin}
+use Rattle.dali_turns.specs.Within.{AreSoFar}
 use Rattle.dali_turns.specs.Fits.{rest_of, lines_of, IsOf, Owns, Fits}
 use Rattle.dali_turns.specs.Goes.{RowsTell, Went, StepGoes, MayStep}
 use Rattle.dali_bytes.specs.declared.error.OutOfMemory.{OutOfMemory}

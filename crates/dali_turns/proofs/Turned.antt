@@ -1,7 +1,6 @@
 -- A refused call of a client has gone all its way back, or is stopped on it.
-use Rattle.std.proofs.Common.{◌≡◌, ℕ, ◌+◌, Bool, true, false, not, List, [], ◌∷◌, ◌++◌, length, map, Option, Some, None, is_some, if◌then◌else◌, refl, ap, sym, subst, ◌∙◌, ◌⊎◌, inl, inr, arith}
-use Rattle.std.specs.Prelude.{◌==◌, ◌||◌, filter}
-use Rattle.std.specs.List.{AllByRecursion}
+use Rattle.std.proofs.Common.{◌≡◌, ℕ, ◌+◌, Bool, true, false, List, [], ◌∷◌, ◌++◌, length, map, Option, Some, None, is_some, if◌then◌else◌, refl, ap, sym, subst, ◌∙◌, ◌⊎◌, inl, inr, arith}
+use Rattle.std.specs.Prelude.{◌==◌, filter}
 use Rattle.std.proofs.lemmas.List.{append-nil, map-append, length-append}
 use Rattle.std.proofs.lemmas.List.Elements.{filter-append}
 use Rattle.dali_counts.proofs.Lists.{equal, same_number}
@@ -22,7 +21,7 @@ use Rattle.dali_calls.specs.Plans.{Planned, want_of, IsWhole}
 use Rattle.dali_single.specs.Single.{MayCall}
 use Rattle.dali_stepwise.proofs.Turning.{turned_ends}
 use Rattle.dali_transcripts.specs.Words.{Act, Calls, StoppedBy, is_stop}
-use Rattle.dali_transcripts.specs.World.{Deed, Logs, FindsDead, Meets, World, log_of}
+use Rattle.dali_transcripts.specs.World.{Logs, FindsDead, Meets, World, log_of}
 use Rattle.dali_transcripts.specs.Moves.{Receipt, Within as IsWithin, at, Move, IsRefusedCall, is_operation, operations, left}
 use Rattle.dali_transcripts.specs.Causes.{IsAside, AreAside, IsTried, AreTried, HasCause, AreUnfinished, spares}
 use Rattle.dali_transcripts.specs.Rounds.{Standing, IsPlaced}
@@ -38,14 +37,13 @@ use Rattle.dali_turns.specs.declared.client.Client.{Client}
 use Rattle.dali_turns.specs.declared.client.State.{State}
 use Rattle.dali_turns.specs.declared.client.State.TheVariants.{Within, TakingBack}
 use Rattle.dali_turns.specs.declared.client.Transaction.{Transaction}
-use Rattle.dali_turns.specs.Clients.{next_of, Passes, Finishes, RefusesCall}
+use Rattle.dali_turns.specs.Clients.{next_of, Finishes}
 use Rattle.dali_turns.specs.Stood.{Stood}
-use Rattle.dali_turns.specs.Outside.{MaySay}
 use Rattle.dali_turns.specs.Within.{FitsWithin, FitsTakingBack}
-use Rattle.dali_turns.specs.Fits.{rest_of, lines_of, IsOf, Owns, Fits}
+use Rattle.dali_turns.specs.Fits.{rest_of, IsOf, Owns, Fits}
 use Rattle.dali_turns.specs.Goes.{RowsTell, Went}
 use Rattle.dali_turns.proofs.Refusals.{HasCauseNow, met_now, right_now, stop_now}
-use Rattle.dali_turns.proofs.Doing.{Did, did_nothing, did_meet, behind, ended, went_on, went_by, went_silent, vault_stops}
+use Rattle.dali_turns.proofs.Doing.{Did, did_nothing, did_meet, ended, went_on, went_by, went_silent, vault_stops}
 use Rattle.dali_turns.proofs.Calling.{behind_one, none_so_far, due_left}
 use Rattle.dali_turns.proofs.Reasons.{command_is, unfinished}
 

@@ -1,6 +1,5 @@
 -- A step of a client with the receipts of what it logged.
-use Rattle.std.proofs.Common.{◌≡◌, ℕ, zero, suc, ◌+◌, ◌-◌, ◌<◌, ◌≤◌, Bool, true, false, List, [], ◌∷◌, ◌++◌, length, map, Option, Some, None, refl, ap, sym, subst, ◌∙◌, arith}
-use Rattle.std.specs.Prelude.{filter_map}
+use Rattle.std.proofs.Common.{◌≡◌, ℕ, zero, suc, ◌+◌, ◌-◌, ◌≤◌, Bool, true, false, List, [], ◌∷◌, ◌++◌, length, map, Option, refl, ap, sym, subst, ◌∙◌, arith}
 use Rattle.std.specs.List.{range_with_len}
 use Rattle.std.proofs.lemmas.List.{append-nil, append_assoc, length-append}
 use Rattle.std.proofs.lemmas.List.Elements.{filter_map-append}
@@ -12,20 +11,18 @@ use Rattle.dali_crash.specs.Checkpoints.{Point}
 use Rattle.dali_crash.specs.Traces.{Start, bases_of}
 use Rattle.dali_vault.specs.Vaulted.{Vaulted}
 use Rattle.dali_transcripts.specs.World.{Deed, Logs, Strays, DiesOn, Claims, GivesBack, Yields, FindsDead, StartsCheckpoint, MovesAnchor, EndsCheckpoint, Meets, Happening, World, record_of, logged_by, log_of, Grows}
-use Rattle.dali_transcripts.specs.Moves.{Receipt}
 use Rattle.dali_transcripts.specs.Transcripts.{count_with, owned, deeds_of, number_in, numbers_of}
 use Rattle.dali_transcripts.specs.Rounds.{Standing, by}
 use Rattle.dali_transcripts.specs.Laws.{receipts_from}
 use Rattle.dali_transcripts.proofs.Owned.{own_goes_on}
-use Rattle.dali_deeds.specs.Tells.{after, Goes}
 use Rattle.dali_clients.specs.Said.{Transcribed, logged}
 use Rattle.dali_clients.specs.Told.{said_of, act_of}
 use Rattle.dali_turns.specs.declared.client.Client.{Client}
 use Rattle.dali_turns.specs.declared.client.State.{State}
 use Rattle.dali_turns.specs.Stood.{Stood}
-use Rattle.dali_turns.specs.Fits.{rest_of, lines_of, IsOf, Fits}
+use Rattle.dali_turns.specs.Fits.{rest_of, IsOf, Fits}
 use Rattle.dali_turns.specs.Goes.{Came, RowsTell, Went, StepGoes, MayStep}
-use Rattle.dali_turns.specs.Turns.{own_numbers, AreReceipts, Turned, TurnGoes, MayTurn}
+use Rattle.dali_turns.specs.Turns.{own_numbers, AreReceipts, TurnGoes, MayTurn}
 use Rattle.dali_turns.proofs.Refusals.{records_are}
 use Rattle.dali_turns.proofs.Cutting.{fits_under_way}
 

@@ -6,7 +6,7 @@
 --     Stays k state j          it goes on with no command, and stands in this state
 --     left_behind command      where it stands behind a command that was left out
 --     is_over state none       it is done, where it has no command left, or has died
-use Rattle.std.specs.Prelude.{◌≡◌, Bool, true, false, if◌then◌else◌, List, [], ◌∷◌, Option, Some, drop, slice_get}
+use Rattle.std.specs.Prelude.{◌≡◌, Bool, true, false, if◌then◌else◌, [], ◌∷◌, Option, Some, drop, slice_get}
 use Rattle.dali_clients.specs.declared.command.Command.{Command}
 use Rattle.dali_clients.specs.declared.line.Line.{Line}
 use Rattle.dali_clients.specs.declared.line.Line.TheVariants.{Refused}

@@ -5,7 +5,7 @@
 --     abort_line, end_line     the lines, by the cause of the stop, if the engine is stopped
 --     SaysAlso k rest state lines j    the client goes on with these commands, stands in this state, and has said these lines
 --     GoesSilent k j           it has said nothing
-use Rattle.std.specs.Prelude.{◌≡◌, ℕ, Bool, true, List, [], ◌∷◌, Option, Some, None, IfSome, is_some}
+use Rattle.std.specs.Prelude.{◌≡◌, ℕ, true, List, [], ◌∷◌, Option, Some, None}
 use Rattle.dali_record.specs.declared.records.Record.TheVariants.{Ended}
 use Rattle.dali_region.specs.State.{RegionState}
 use Rattle.dali_att.specs.declared.state.State.TheVariants.{Live, Dead}

@@ -16,7 +16,7 @@ use Rattle.dali_crash.specs.Traces.{Start}
 use Rattle.dali_vault.specs.Vaulted.{Vaulted}
 use Rattle.dali_transcripts.specs.World.{Deed, World}
 use Rattle.dali_transcripts.specs.Transcripts.{IsUnderWay}
-use Rattle.dali_transcripts.specs.Rounds.{Standing, Stands}
+use Rattle.dali_transcripts.specs.Rounds.{Standing}
 use Rattle.dali_deeds.specs.Tells.{Goes}
 use Rattle.dali_turns.specs.declared.client.Client.{Client}
 use Rattle.dali_turns.specs.declared.client.State.{State}

@@ -5,11 +5,11 @@
 --     FitsCalling x plan       its call has its lock
 --     FitsTakingBack x plan why    its call is refused, and is taken back
 --     FitsYielding x holder    an older transaction holds the key of its call
-use Rattle.std.specs.Prelude.{◌≡◌, ◌⊎◌, ℕ, ◌<◌, Bool, true, false, List, [], ◌∷◌, ◌++◌, Option, Some, None, map}
+use Rattle.std.specs.Prelude.{◌≡◌, ℕ, ◌<◌, Bool, true, false, List, [], ◌∷◌, ◌++◌, Option, Some, None, map}
 use Rattle.dali_record.specs.declared.records.Call.{Call}
 use Rattle.dali_att.specs.declared.state.State.TheVariants.{Live}
 use Rattle.dali_system.specs.declared.refusals.Refusal.{Refusal}
-use Rattle.dali_system.specs.State.{SystemState, state_of}
+use Rattle.dali_system.specs.State.{state_of}
 use Rattle.dali_system.specs.Keeps.{IsFree}
 use Rattle.dali_crash.specs.Checkpoints.{Point}
 use Rattle.dali_calls.specs.declared.plan.Phase.{Phase}

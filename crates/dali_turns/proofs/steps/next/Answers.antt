@@ -1,5 +1,4 @@
-use Rattle.std.proofs.Common.{◌≡◌, ◌∙◌, Some, refl, sym}
-use Rattle.dali_turns.specs.Clients.{next_of}
+use Rattle.std.proofs.Common.{◌∙◌, refl, sym}
 use Rattle.dali_turns.proofs.Commands.{behind_next}
 use Rattle.dali_turns.proofs.Stepping.{none_goes, not_outside, outside_placed}
 use Rattle.dali_turns.proofs.steps.next.Goals as goal

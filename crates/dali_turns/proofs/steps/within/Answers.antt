@@ -1,4 +1,4 @@
-use Rattle.std.proofs.Common.{◌≡◌, ◌∙◌, Some, refl, ap, sym}
+use Rattle.std.proofs.Common.{◌∙◌, Some, refl, ap, sym}
 use Rattle.dali_turns.proofs.Commands.{behind_next}
 use Rattle.dali_turns.proofs.Stepping.{armed_goes, not_within, within_placed}
 use Rattle.dali_turns.proofs.steps.within.Goals as goal

@@ -1,4 +1,4 @@
-use Rattle.std.proofs.Common.{◌≡◌, refl, ap, subst}
+use Rattle.std.proofs.Common.{refl, ap, subst}
 use Rattle.dali_core.specs.Served.{Served}
 use Rattle.dali_clients.specs.declared.line.Line.{Line}
 use Rattle.dali_turns.specs.declared.client.State.TheVariants.{Outside as IsOutside}

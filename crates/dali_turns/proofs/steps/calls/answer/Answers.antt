@@ -1,4 +1,4 @@
-use Rattle.std.proofs.Common.{◌≡◌, Some, None, refl, ap, sym, ◌∙◌}
+use Rattle.std.proofs.Common.{◌≡◌, Some, None, ap, sym, ◌∙◌}
 use Rattle.dali_core.specs.Served.{Served}
 use Rattle.dali_turns.specs.Calls.{call_in}
 use Rattle.dali_turns.proofs.Commands.{err_false}

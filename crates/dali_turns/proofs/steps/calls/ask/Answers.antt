@@ -1,14 +1,11 @@
-use Rattle.std.proofs.Common.{◌≡◌, ℕ, false, Some, is_some, is_ok, ap, refl, sym, subst, ◌∙◌}
-use Rattle.dali_calls.specs.Plans.{Planned}
+use Rattle.std.proofs.Common.{is_ok, ap, refl, sym, subst, ◌∙◌}
 use Rattle.dali_core.specs.Served.{Served}
 use Rattle.dali_clients.specs.declared.line.Why.{Why}
-use Rattle.dali_system.specs.State.{SystemState}
 use Rattle.dali_turns.specs.Clients.{RefusesCall}
-use Rattle.dali_turns.specs.declared.client.State.TheVariants.{Within as IsWithin}
 use Rattle.dali_turns.proofs.Commands.{err_false}
 use Rattle.dali_turns.proofs.Asking.{new_plan}
-use Rattle.dali_turns.proofs.CallSteps.{may_call, ran_there, asked_says, stop_why, unasked_goes, unasked_silently, unasked_nowhere}
-use Rattle.dali_turns.proofs.Requests.{dead_in, granted_then, waits_then, must_wait, waits_there, may_clean_then, clean_then, may_yield_then, yield_then, may_clean_behind, clean_behind}
+use Rattle.dali_turns.proofs.CallSteps.{ran_there, asked_says, stop_why, unasked_goes, unasked_silently, unasked_nowhere}
+use Rattle.dali_turns.proofs.Requests.{granted_then, waits_then, may_yield_then, yield_then, may_clean_behind, clean_behind}
 use Rattle.dali_turns.proofs.steps.calls.ask.Goals as goal
 
 pub returns-in-Granted-clause-goes : goal.returns-in-Granted-clause-goes

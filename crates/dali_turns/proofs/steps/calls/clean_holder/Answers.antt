@@ -1,4 +1,4 @@
-use Rattle.std.proofs.Common.{◌≡◌, Some, Ok, is_some, ap, refl, subst, sym, ◌∙◌}
+use Rattle.std.proofs.Common.{◌≡◌, Some, Ok, ap, refl, subst}
 use Rattle.dali_system.specs.declared.causes.Cause.{Cause as IsCause}
 use Rattle.dali_clients.specs.declared.line.Why.{Why}
 use Rattle.dali_clients.specs.declared.line.Why.TheVariants.{Stopped as IsStopped}

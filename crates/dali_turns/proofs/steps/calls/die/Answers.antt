@@ -1,5 +1,5 @@
-use Rattle.std.proofs.Common.{◌≡◌, Bool, not, is_ok, ap, refl, sym, subst, ◌∙◌}
-use Rattle.dali_calls.specs.Plans.{Planned, IsWhole, is_back, want_of}
+use Rattle.std.proofs.Common.{is_ok, ap, refl, sym, subst, ◌∙◌}
+use Rattle.dali_calls.specs.Plans.{Planned, IsWhole, want_of}
 use Rattle.dali_single.specs.Refusals.{IsRefusal}
 use Rattle.dali_single.specs.declared.error.StepError.TheVariants.{Latch}
 use Rattle.dali_turns.specs.Goes.{MayStep, StepGoes}

@@ -1,4 +1,4 @@
-use Rattle.std.proofs.Common.{◌≡◌, is_some, is_ok, ap, refl, sym, subst, ◌∙◌}
+use Rattle.std.proofs.Common.{is_some, is_ok, ap, refl, sym, subst, ◌∙◌}
 use Rattle.dali_calls.specs.Plans.{Planned, plan_next}
 use Rattle.dali_single.specs.Refusals.{IsRefusal}
 use Rattle.dali_turns.specs.Goes.{MayStep, StepGoes}

@@ -1,10 +1,10 @@
-use Rattle.std.proofs.Common.{◌≡◌, Some, Ok, is_some, ap, refl, subst, sym, ◌∙◌}
+use Rattle.std.proofs.Common.{◌≡◌, Some, Ok, is_some, ap, refl, subst, ◌∙◌}
 use Rattle.dali_system.specs.declared.causes.Cause.{Cause as IsCause}
 use Rattle.dali_clients.specs.declared.line.Why.{Why}
 use Rattle.dali_clients.specs.declared.line.Why.TheVariants.{Stopped as IsStopped}
 use Rattle.dali_turns.specs.Clients.{RefusesCall}
 use Rattle.dali_turns.specs.Ends.{IsLeftDead}
-use Rattle.dali_single.specs.declared.error.StepError.TheVariants.{Latch, System}
+use Rattle.dali_single.specs.declared.error.StepError.TheVariants.{Latch}
 use Rattle.dali_single.specs.Refusals.{IsLatched, IsRefusal}
 use Rattle.dali_turns.specs.declared.client.State.TheVariants.{Calling as IsCalling}
 use Rattle.dali_turns.proofs.Commands.{err_false}

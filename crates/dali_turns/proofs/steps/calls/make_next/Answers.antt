@@ -1,4 +1,4 @@
-use Rattle.std.proofs.Common.{◌≡◌, ◌∙◌, List, OnOk, OnErr, length, ap, sym, subst, rules}
+use Rattle.std.proofs.Common.{◌≡◌, ◌∙◌, List, OnOk, length, ap, sym, subst, rules}
 use Rattle.dali_core.specs.Served.{Served}
 use Rattle.dali_region.specs.State.{RegionState}
 use Rattle.dali_stepwise.specs.Stepwise.{OneFurther}

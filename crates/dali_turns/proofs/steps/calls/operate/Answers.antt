@@ -1,4 +1,4 @@
-use Rattle.std.proofs.Common.{◌≡◌, Bool, not, is_ok, ap, refl, sym, subst, ◌∙◌}
+use Rattle.std.proofs.Common.{not, is_ok, ap, refl, sym, subst, ◌∙◌}
 use Rattle.dali_calls.specs.Plans.{Planned, IsWhole, is_back, want_of}
 use Rattle.dali_single.specs.Refusals.{IsRefusal}
 use Rattle.dali_turns.specs.Goes.{MayStep, StepGoes}

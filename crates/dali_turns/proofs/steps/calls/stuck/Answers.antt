@@ -1,10 +1,10 @@
-use Rattle.std.proofs.Common.{◌≡◌, Some, Ok, is_some, ap, refl, subst, sym, ◌∙◌}
+use Rattle.std.proofs.Common.{◌≡◌, Some, Ok, is_some, ap, refl, subst, ◌∙◌}
 use Rattle.dali_system.specs.declared.causes.Cause.{Cause as IsCause}
 use Rattle.dali_clients.specs.declared.line.Why.{Why}
 use Rattle.dali_clients.specs.declared.line.Why.TheVariants.{Stopped as IsStopped}
 use Rattle.dali_turns.specs.Clients.{RefusesCall}
 use Rattle.dali_turns.specs.Ends.{IsLeftDead}
-use Rattle.dali_single.specs.declared.error.StepError.TheVariants.{Latch, System}
+use Rattle.dali_single.specs.declared.error.StepError.TheVariants.{Latch}
 use Rattle.dali_single.specs.Refusals.{IsRefusal}
 use Rattle.dali_turns.proofs.Commands.{err_false}
 use Rattle.dali_turns.proofs.CallSteps.{back_command, back_not_held, back_clean, back_says, goes_back_now, stop_why, stuck_goes, stuck_silently, stuck_nowhere, vault_still}

@@ -1,4 +1,4 @@
-use Rattle.std.proofs.Common.{◌≡◌, is_some, ap, refl, sym, ◌∙◌}
+use Rattle.std.proofs.Common.{is_some, ap, sym, ◌∙◌}
 use Rattle.dali_turns.proofs.Commands.{err_false}
 use Rattle.dali_turns.proofs.CallSteps.{back_command, never_done, ends_back, ends_back_silently}
 use Rattle.dali_turns.proofs.steps.calls.take_back.Goals as goal

@@ -1,4 +1,4 @@
-use Rattle.std.proofs.Common.{◌≡◌, ◌∙◌, ◌<◌, ◌≤◌, true, length, None, Err, refl, ap, sym, rules}
+use Rattle.std.proofs.Common.{◌≡◌, ◌∙◌, ◌<◌, true, length, None, refl, ap, sym, rules}
 use Rattle.dali_checkpoint.specs.declared.error.CheckpointError.TheVariants.{Fault}
 use Rattle.dali_turns.specs.declared.client.State.TheVariants.{Copying as IsCopying}
 use Rattle.dali_turns.proofs.Commands.{lent_there, err_false, so_left}

@@ -1,6 +1,5 @@
-use Rattle.std.proofs.Common.{◌≡◌, ◌∙◌, true, None, Err, refl, ap, sym, subst}
+use Rattle.std.proofs.Common.{◌≡◌, true, None, Err, refl, ap, subst}
 use Rattle.dali_core.specs.Served.{Served}
-use Rattle.dali_system.specs.State.{SystemState}
 use Rattle.dali_checkpoint.specs.Kept.{Checkpointed, side_in, cause_of, given_up}
 use Rattle.dali_checkpoint.specs.Done.{Reaches}
 use Rattle.dali_checkpoint.specs.declared.error.CheckpointError.{CheckpointError}

@@ -3,9 +3,6 @@ use Rattle.dali_core.specs.Served.{Served}
 use Rattle.dali_turns.specs.declared.client.State.TheVariants.{Outside as IsOutside}
 use Rattle.dali_turns.proofs.Commands.{err_false}
 use Rattle.dali_turns.proofs.CheckpointSteps.{may_small, starts_goes, refused_start_goes, unsaid_start_goes}
-use Rattle.dali_turns.proofs.CopySteps.{may_next}
-use Rattle.dali_turns.proofs.SettleSteps.{may_settle}
-use Rattle.dali_turns.proofs.CertifySteps.{may_finish}
 use Rattle.dali_turns.proofs.steps.checkpoints.start.Goals as goal
 
 pub start-requires-clause-end : goal.start-requires-clause-end
