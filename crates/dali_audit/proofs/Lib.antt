@@ -1,3 +1,4 @@
 pub mod Collected
+pub mod Passed
 pub mod Stepping
 pub mod Three

@@ -1,5 +1,6 @@
 //! One audit, from its begin to its verdict.
-ghost use Rattle.std.specs.Prelude.{◌≡◌, ◌<◌, ◌≤◌, ◌+◌, ◌^◌, ◌++◌, ℕ, List, [], ◌∷◌, Some, None, Err, OnOk, OnErr, IfOk, IfErr, IfSome, length, take, replicate, slice_get, slice_set};
+ghost use Rattle.std.specs.List.{list_all};
+ghost use Rattle.std.specs.Prelude.{◌≡◌, ◌<◌, ◌≤◌, ◌+◌, ◌^◌, ◌++◌, ℕ, List, [], ◌∷◌, Some, None, Err, OnOk, OnErr, IfOk, IfErr, IfSome, length, take, replicate, slice_get, slice_set, true};
 ghost use Rattle.dali_geometry.specs.Places.{regions as regions_of};
 ghost use Rattle.dali_record.specs.declared.records.Record.TheVariants.{AuditBegin, AuditFail};
 ghost use Rattle.dali_record.specs.Spelling.{CanBeSpelled};
@@ -9,6 +10,7 @@ ghost use Rattle.dali_core.specs.Audits.{audit_refusal};
 ghost use Rattle.dali_core.specs.Refused.{stop_refusal};
 ghost use Rattle.dali_core.specs.declared.error.SystemError.TheVariants.{OutOfMemory as Memory};
 ghost use Rattle.dali_audit.specs.declared.audit.Finding.TheVariants.{Waiting};
+ghost use Rattle.dali_audit.specs.Findings;
 ghost use Rattle.dali_audit.specs.Findings.{finding_of, damaged, damaged_from, AllPassed};
 
 use dali_core::{System, SystemError};
@@ -90,6 +92,23 @@ impl Verdict {
     {
         Regions::new(self.failing)
     }
+}
+
+// Whether the region of this finding was passed.
+fn is_passed(finding: Finding) -> bool
+    ensures { result ≡ Findings.is_passed finding }
+{
+    match finding {
+        Finding::Waiting => false,
+        Finding::Clean | Finding::Damaged => true,
+    }
+}
+
+// Whether each region of these findings was passed.
+fn are_passed(findings: &[Finding]) -> bool
+    ensures { result ≡ list_all Findings.is_passed findings.now }
+{
+    findings.iter().all(|finding| is_passed(*finding))
 }
 
 // The memory of an audit of so many regions.
@@ -240,6 +259,30 @@ impl Audit {
             failing,
             spare: Regions::new(Vec::new(alloc)),
         })
+    }
+
+    /// The number of the record with which it began.
+    pub fn number(&self) -> u64
+        ensures { result ≡ self.now.begin }
+    {
+        self.begin
+    }
+
+    /// Whether the region with this number is one of its regions and wasn't passed yet.
+    pub fn waits(&self, number: u32) -> bool
+        ensures waits { result ≡ true → slice_get self.now.findings number ≡ Some Waiting }
+        ensures told { slice_get self.now.findings number ≡ Some Waiting → result ≡ true }
+        ensures few { length self.now.findings < 2 ^ 32 }
+    {
+        matches!(self.findings.get(number as usize), Some(Finding::Waiting))
+    }
+
+    /// Whether each region was passed.
+    pub fn has_passed_all(&self) -> bool
+        ensures all { result ≡ true → AllPassed self.now.findings }
+        ensures told { AllPassed self.now.findings → result ≡ true }
+    {
+        are_passed(&self.findings)
     }
 
     /// Compares the words of the region with this number with its codeword. It takes no memory.

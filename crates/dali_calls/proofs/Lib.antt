@@ -7,3 +7,4 @@ pub mod Following
 pub mod Answering
 pub mod Stepping
 pub mod TakingBack
+pub mod Flags

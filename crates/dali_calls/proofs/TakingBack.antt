@@ -1,15 +1,13 @@
 -- A commit of a taking back is a step of a core.
-use Rattle.std.proofs.Common.{◌≡◌, ℕ, Bool, true, Option, Some, None, sym, ap, subst, refl, ◌∙◌, is_some}
-use Rattle.std.specs.Prelude.{slice_get, IsSome}
+use Rattle.std.proofs.Common.{◌≡◌, ℕ, true, ap, refl, ◌∙◌}
+use Rattle.std.specs.Prelude.{slice_get}
 use Rattle.dali_record.specs.declared.operations.Block.{Block}
-use Rattle.dali_record.specs.declared.operations.Op.{Op}
 use Rattle.dali_record.specs.declared.operations.Undo.{Undo}
 use Rattle.dali_record.specs.declared.operations.Undo.TheVariants.{FreeCell, ReviveCell, Restore, FreeEntry, ReviveEntry}
 use Rattle.dali_record.specs.Operations.{undo_op}
 use Rattle.dali_record.specs.Blocks.{changes_item}
 use Rattle.dali_record.specs.Legal.{on_kind}
 use Rattle.dali_record.specs.Spelling.{is_back}
-use Rattle.dali_region.specs.State.{RegionState}
 use Rattle.dali_system.specs.State.{lock_of}
 use Rattle.dali_system.specs.Run.{covers}
 use Rattle.dali_facts.proofs.Plans.{take_back_goes_on}

@@ -4,3 +4,4 @@ pub mod Plans
 pub mod Fields
 pub mod Followed
 pub mod TakingBack
+pub mod Flags

@@ -1,5 +1,5 @@
 //! The plan of one call.
-ghost use Rattle.std.specs.Prelude.{◌≡◌, ◌≤◌, ◌+◌, ◌&&◌, [], ◌++◌, not, ◌==◌, Some, None, Ok, Err, OnOk, OnErr, IfOk, IfErr, IfSome, IsSome, IsSomeAnd, true, false, length};
+ghost use Rattle.std.specs.Prelude.{◌≡◌, ◌≤◌, ◌+◌, ◌&&◌, [], ◌++◌, not, ◌==◌, Some, None, Ok, Err, OnOk, OnErr, IfOk, IfErr, IfSome, IsSome, IsSomeAnd, true, false, is_some, length};
 ghost use Rattle.dali_record.specs.declared.records.Record.TheVariants.{Forward, Done};
 ghost use Rattle.dali_record.specs.Calls.{follow};
 ghost use Rattle.dali_record.specs.Calls;
@@ -116,6 +116,27 @@ impl Plan {
             changes: Changes::new(),
             operation: None,
         }
+    }
+
+    /// The sizes of the database whose regions it names.
+    pub fn geometry(&self) -> Geometry
+        ensures { result ≡ self.now.geometry }
+    {
+        self.geometry
+    }
+
+    /// Its transaction.
+    pub fn txn(&self) -> u64
+        ensures { result ≡ self.now.txn }
+    {
+        self.txn
+    }
+
+    /// Whether an operation is open.
+    pub fn is_open(&self) -> bool
+        ensures { result ≡ is_some self.now.operation }
+    {
+        self.operation.is_some()
     }
 
     /// The key of its call, and the mode in which the transaction is to hold it: alone, unless the call is a get.

@@ -14,7 +14,8 @@ use Rattle.dali_vault.specs.Vaulted.{Vaulted, with_store}
 use Rattle.dali_steps.specs.Said.{HasWritten, WriteHasFailed}
 use Rattle.dali_whole.specs.Cores.{HoldsPlaces}
 use Rattle.dali_checkpoint.specs.Kept.{Checkpointed, side_in}
-use Rattle.dali_checkpoint.specs.Done.{Reaches, IsNoShorter}
+use Rattle.dali_checkpoint.specs.Done.{Reaches}
+use Rattle.dali_whole.specs.Cores.{IsNoShorter}
 use Rattle.dali_checkpoint.specs.Runs.{is_first_dirty, run_of, runs_in, change, run_at, is_run_dirty, run_bytes, behind_run, cleaned_run}
 use Rattle.dali_checkpoint.specs.Making.{hold_on, CopiesGo, CopiesFail, HasCopied, HasNotCopied}
 use Rattle.dali_checkpoint.proofs.Lengths.{places_stay}

@@ -22,7 +22,8 @@ use Rattle.dali_vault.specs.Vaulted.{Vaulted}
 use Rattle.dali_whole.specs.Cores.{HoldsPlaces}
 use Rattle.dali_whole.specs.Moments.{flush_calls}
 use Rattle.dali_checkpoint.specs.Kept.{Checkpointed, side_in, cause_of}
-use Rattle.dali_checkpoint.specs.Done.{Reaches, IsNoShorter, Writes, FailsToWrite}
+use Rattle.dali_checkpoint.specs.Done.{Reaches, Writes, FailsToWrite}
+use Rattle.dali_whole.specs.Cores.{IsNoShorter}
 use Rattle.dali_checkpoint.specs.Runs.{runs_in}
 use Rattle.dali_checkpoint.specs.Making.{failing_in, with_audit, hold_on, checkpoint_error, SameTable, SameLog, AuditLeft, AuditRefused, AuditGoes, AuditFails, ImageGoes, HasCopied, HasNotCopied, HasImage, NoImageBy, HasNoImage}
 use Rattle.dali_checkpoint.specs.declared.error.CheckpointError.{CheckpointError}

@@ -14,7 +14,8 @@ use Rattle.dali_traces.specs.Disks.{image_file, image_name}
 use Rattle.dali_traces.specs.Places.{place_of}
 use Rattle.dali_vault.specs.Vaulted.{Vaulted}
 use Rattle.dali_whole.specs.Cores.{HoldsPlaces}
-use Rattle.dali_checkpoint.specs.Done.{NoShorter, Reaches}
+use Rattle.dali_checkpoint.specs.Done.{Reaches}
+use Rattle.dali_whole.specs.Cores.{NoShorter}
 use Rattle.dali_checkpoint.specs.Runs.{is_first_dirty, run_of, change}
 use Rattle.dali_checkpoint.proofs.Pieces.{change_cases, run_clean, run_length, run_some}
 use Rattle.dali_checkpoint.proofs.Results.{place_there}

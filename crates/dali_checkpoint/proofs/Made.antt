@@ -21,7 +21,8 @@ use Rattle.dali_vault.specs.Vaulted.{Vaulted}
 use Rattle.dali_whole.specs.Cores.{HoldsPlaces, IsWholeCore}
 use Rattle.dali_whole.specs.Moments.{flush_calls}
 use Rattle.dali_checkpoint.specs.Kept.{Checkpointed, side_in, cause_of, given_up, IsEndOf}
-use Rattle.dali_checkpoint.specs.Done.{IsNoShorter, FailsToWrite, HasStarted, HasTurnedTo, FailsToTurn, IsKept, IsLost}
+use Rattle.dali_checkpoint.specs.Done.{FailsToWrite, HasStarted, HasTurnedTo, FailsToTurn, IsKept, IsLost}
+use Rattle.dali_whole.specs.Cores.{IsNoShorter}
 use Rattle.dali_checkpoint.specs.Runs.{runs_in}
 use Rattle.dali_checkpoint.specs.Making.{failing_in, with_audit, behind_checkpoint, checkpointed, copied_to, checkpoint_calls, hold_on, SameTable, SameLog, HasRun, HasNotMade, LeadsIdle, HasImage, NoImageBy, HasNoImage, HasMade, HasEndedBy}
 use Rattle.dali_checkpoint.specs.declared.error.CheckpointError.{CheckpointError}

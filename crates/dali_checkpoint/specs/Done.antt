@@ -1,6 +1,5 @@
 -- What the calls of a checkpoint do with the store, in the words of the vault's calls.
 --     Reaches told side n v    the file of this side's image, where the store tells it, is long enough for the place of region n
---     IsNoShorter told v w     where the store tells its files, it still does, and no image file became shorter
 --     Writes, FailsToWrite     all records are flushed and these bytes written to a file, or one of the two met a fault
 --     HasStarted y v c w       a checkpoint c started
 --     HasTurnedTo, FailsToTurn all records are flushed, the image is synced and the anchor moved, or one of the three met a fault
@@ -26,14 +25,6 @@ use Rattle.dali_checkpoint.specs.declared.error.CheckpointError.TheVariants.{Sto
 
 abbrev pub Reaches : {V : Type 0} → (V → Option Disk) → Side → ℕ → Vaulted V → Type 0
 Reaches told side n v = IfSome (told v.store) (λ fs. place_of n ≤ length (image_file side fs))
-
-abbrev pub NoShorter : Option Disk → Option Disk → Type 0
-NoShorter (Some a) (Some b) = (side : Side) → length (image_file side a) ≤ length (image_file side b)
-NoShorter (Some a) None = ⊥
-NoShorter None new = new ≡ None
-
-abbrev pub IsNoShorter : {V : Type 0} → (V → Option Disk) → Vaulted V → Vaulted V → Type 0
-IsNoShorter told v w = NoShorter (told v.store) (told w.store)
 
 module _ {V : Type 0} (told : V → Option Disk) (may_leave : V → Disk → Type 0) (faults : V → ℕ) where
   -- ---- a flush and a write

@@ -33,7 +33,8 @@ use Rattle.dali_steps.specs.Courses.{is_quiet}
 use Rattle.dali_whole.specs.Cores.{IsCoreAt, HoldsPlaces}
 use Rattle.dali_whole.specs.Flushed.{FlushesFrame}
 use Rattle.dali_checkpoint.specs.Kept.{Checkpointed, side_in, given_up}
-use Rattle.dali_checkpoint.specs.Done.{Reaches, IsNoShorter, Writes, FailsToWrite, HasStarted, HasTurnedTo, FailsToTurn, HasEnded}
+use Rattle.dali_checkpoint.specs.Done.{Reaches, Writes, FailsToWrite, HasStarted, HasTurnedTo, FailsToTurn, HasEnded}
+use Rattle.dali_whole.specs.Cores.{IsNoShorter}
 use Rattle.dali_checkpoint.specs.Runs.{run_at, is_run_dirty, run_bytes, behind_run, cleaned_run}
 use Rattle.dali_checkpoint.specs.Running.{PassesTell, IsCertifiedAt, IsIdle, IsCopying, IsSettled}
 use Rattle.dali_checkpoint.specs.declared.error.CheckpointError.{CheckpointError}

@@ -14,7 +14,8 @@ ghost use Rattle.dali_traces.specs.Places.{place_of};
 ghost use Rattle.dali_steps.specs.Said.{TornFrom, HasWritten, WriteHasFailed};
 ghost use Rattle.dali_whole.specs.Moments.{flush_calls, FlushLeaves, Within};
 ghost use Rattle.dali_checkpoint.specs.Kept.{side_in, cause_of, given_up, IsEndOf};
-ghost use Rattle.dali_checkpoint.specs.Done.{Reaches, IsNoShorter, Writes, FailsToWrite, HasStarted, HasTurnedTo, FailsToTurn, IsKept, IsLost};
+ghost use Rattle.dali_checkpoint.specs.Done.{Reaches, Writes, FailsToWrite, HasStarted, HasTurnedTo, FailsToTurn, IsKept, IsLost};
+ghost use Rattle.dali_whole.specs.Cores.{IsNoShorter};
 ghost use Rattle.dali_whole.specs.Cores.{HoldsPlaces};
 ghost use Rattle.dali_checkpoint.specs.Moments.{WriteLeaves, TurnLeaves};
 ghost use Rattle.dali_checkpoint.specs.Runs.{is_run_dirty, run_bytes, behind_run, cleaned_run};
@@ -267,6 +268,20 @@ impl Checkpoint {
         ensures { result ≡ self.now.copied }
     {
         self.copied
+    }
+
+    /// How many regions it copies.
+    pub fn regions(&self) -> u32
+        ensures { result ≡ regions_of self.now.header.geometry }
+    {
+        self.header.geometry.regions()
+    }
+
+    /// How many records the log had when it settled, if it has.
+    pub fn settled(&self) -> Option<u64>
+        ensures { result ≡ self.now.settled }
+    {
+        self.settled
     }
 
     /// Copies the next run of these regions, which are all regions of the database, to the image: the next one and those

@@ -10,7 +10,7 @@ use Rattle.dali_store.specs.Store.{Files as Disk}
 use Rattle.dali_traces.specs.Disks.{image_file}
 use Rattle.dali_traces.specs.Places.{place_of}
 use Rattle.dali_whole.specs.Cores.{HoldsPlaces}
-use Rattle.dali_checkpoint.specs.Done.{NoShorter}
+use Rattle.dali_whole.specs.Cores.{NoShorter}
 use Rattle.dali_checkpoint.proofs.Lengths.{places_stay, copied_places, then_length}
 use Rattle.dali_checkpoint_tests.specs.Flags.{IsUncopied, AreUncopied}
 

@@ -46,7 +46,7 @@ pub if_some_by : {A : Type 0} (o : Option A) (P : A → Type 0) → ((x : A) →
 if_some_by None P f = tt
 if_some_by (Some x) P f = f x refl
 
-if_some_at : {A : Type 0} (o : Option A) (P : A → Type 0) (x : A) → o ≡ Some x → IfSome o P → P x
+pub if_some_at : {A : Type 0} (o : Option A) (P : A → Type 0) (x : A) → o ≡ Some x → IfSome o P → P x
 if_some_at o P x e h = subst (λ z. IfSome z P) e h
 
 pub if_some_then : {A : Type 0} (o : Option A) (P Q : A → Type 0) → IfSome o P → ((x : A) → P x → Q x) → IfSome o Q

@@ -6,3 +6,5 @@ pub mod Steps
 pub mod Cleaning
 pub mod Others
 pub mod Guards
+pub mod Flags
+pub mod Fitting

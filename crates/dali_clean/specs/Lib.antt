@@ -3,3 +3,4 @@ pub mod Refused
 pub mod Steps
 pub mod Cleaned
 pub mod Others
+pub mod Fit

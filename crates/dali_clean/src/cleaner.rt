@@ -5,6 +5,7 @@ ghost use Rattle.dali_att.specs.declared.state.State.TheVariants.{Dead};
 ghost use Rattle.dali_system.specs.State.{state_of};
 ghost use Rattle.dali_core.specs.Refused.{stop_refusal};
 ghost use Rattle.dali_core.specs.declared.error.SystemError.TheVariants.{OutOfMemory as Memory};
+ghost use Rattle.dali_calls.specs.Flags.{FlagsStay};
 ghost use Rattle.dali_clean.specs.declared.error.CleanError.TheVariants.{NotDead as IsNotDead, Stopped, OutOfMemory};
 ghost use Rattle.dali_clean.specs.Cleaned.{AreDead, MayClean, IsDead, IsLeftAt, IsRecovered, IsCleaning, Claims, LeadsOn, IsUndone, Ends, GivesBack};
 ghost use Rattle.dali_clean.specs.Others.{OthersStay, PromisesStay, IsGone, HasKept};
@@ -32,6 +33,7 @@ fn claim(regions: &mut [Region], system: &mut System, txn: u64) -> Result<(), No
     ensures err { OnErr result ((system.new ≡ system.old) × (regions.new ≡ regions.old) × (IsDead (state_of system.old.state txn) → ⊥)) }
     ensures others { OthersStay regions.old system.old.state txn regions.new system.new.state }
     ensures kept { HasKept system.old system.new }
+    ensures flags { FlagsStay regions.old regions.new }
 {
     match system.claim(txn) {
         Ok(latched) => {
@@ -53,6 +55,7 @@ fn take_back(regions: &mut [Region], system: &mut System, txn: u64) -> Result<()
     ensures memory { stop_refusal system.old.state ≡ None → IfErr result (λ e. e ≡ Memory) }
     ensures others { OthersStay regions.old system.old.state txn regions.new system.new.state }
     ensures kept { HasKept system.old system.new }
+    ensures flags { FlagsStay regions.old regions.new }
 {
     let mut back = TakeBack::new(system, txn, 0);
     while let Want::Region { region } = back.wants() {
@@ -78,6 +81,7 @@ fn finish(regions: &mut [Region], system: &mut System, txn: u64) -> Result<(), S
     ensures promises { PromisesStay system.old txn system.new }
     ensures gone { OnOk result (IsGone system.new.state txn) }
     ensures kept { OnErr result (HasKept system.old system.new) }
+    ensures flags { FlagsStay regions.old regions.new }
 {
     match take_back(regions, system, txn) {
         Ok(()) => {}
@@ -109,6 +113,7 @@ pub fn clean(regions: &mut [Region], system: &mut System, txn: u64) -> Result<()
     ensures promises { PromisesStay system.old txn system.new }
     ensures gone { OnOk result (IsGone system.new.state txn) }
     ensures kept { OnErr result (HasKept system.old system.new) }
+    ensures flags { FlagsStay regions.old regions.new }
 {
     match claim(regions, system, txn) {
         Ok(()) => {}

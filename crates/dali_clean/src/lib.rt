@@ -3,11 +3,13 @@
 
 mod cleaner;
 mod error;
+mod fit;
 pub mod laws;
 mod undoing;
 
 pub use cleaner::clean;
 pub use error::CleanError;
+pub use fit::{is_of_kind, may_clean};
 pub use undoing::release;
 
 #[cfg(test)]

@@ -5,6 +5,7 @@ ghost use Rattle.dali_system.specs.Regions.{IsOpen};
 ghost use Rattle.dali_core.specs.Refused.{stop_refusal};
 ghost use Rattle.dali_core.specs.UnderWay.{IsUnderWay};
 ghost use Rattle.dali_core.specs.declared.error.SystemError.TheVariants.{OutOfMemory as Memory};
+ghost use Rattle.dali_calls.specs.Flags.{FlagStays};
 ghost use Rattle.dali_clean.specs.Undone.{AreWritten, Undone, Released, IsUnheld, IsTakenBack};
 
 use dali_core::{System, SystemError, TakeBack};
@@ -54,6 +55,7 @@ pub fn release(region: &mut Region, system: &mut System)
     ensures released { Released region.old system.old.state region.new system.new.state }
     ensures unheld { IsUnheld region.new }
     ensures promised { system.new.promised ≡ system.old.promised }
+    ensures flags { FlagStays region.old region.new }
 {
     let Some(hold) = region.hold() else {
         return;

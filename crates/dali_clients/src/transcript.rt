@@ -43,6 +43,13 @@ impl Transcript {
         self.client
     }
 
+    /// The same, as that of the client with this number.
+    pub fn with_client(self, client: u32) -> Self
+        ensures { result ≡ record self { client = client } }
+    {
+        Transcript { client, ..self }
+    }
+
     /// Its lines in order.
     pub fn lines(&self) -> &[Line]
         ensures { result.now ≡ self.now.lines }

@@ -8,7 +8,7 @@ ghost use Rattle.dali_region.specs.State.{touched};
 ghost use Rattle.dali_att.specs.Table.{undos_at, last_of};
 ghost use Rattle.dali_locks.specs.Locks.{IsAnswer};
 ghost use Rattle.dali_locks.specs.declared.mode.LockAnswer.{LockAnswer as AnswerOf};
-ghost use Rattle.dali_system.specs.State.{row_of, state_of};
+ghost use Rattle.dali_system.specs.State.{row_of, state_of, lock_of};
 ghost use Rattle.dali_att.specs.declared.state.State.TheVariants.{Dead, Cleaning, Committed};
 ghost use Rattle.dali_system.specs.Loads.{new_system};
 ghost use Rattle.dali_system.specs.Steps.{begun, op_logged, back_logged, solo_logged, done_logged, commit_logged, ended_logged, taken, store_stopped, in_checkpoint, in_state};
@@ -489,6 +489,13 @@ impl System {
         ensures { result ≡ state_of self.now.state txn }
     {
         self.table.state(txn)
+    }
+
+    /// The mode in which a transaction holds a key, if it does.
+    pub fn lock(&self, txn: u64, key: u64) -> Option<Mode>
+        ensures { result ≡ lock_of self.now.state txn key }
+    {
+        self.locks.holds(txn, key)
     }
 
     /// The requests that were refused since the load.

@@ -1,7 +1,7 @@
 -- An abort and a settling by a thread that has regions and system to itself, as steps of a run.
-use Rattle.std.proofs.Common.{inl, inr, ◌≡◌, ◌≢◌, ℕ, zero, suc, ◌+◌, ◌<◌, ◌≤◌, Bool, true, false, ◌&&◌, ◌||◌, List, [], ◌∷◌, ◌++◌, Option, Some, None, IsSomeAnd, Result, Ok, Err, refl, ap, sym, subst, ◌∙◌, arith, length, drop, get_or, slice_get, slice_set}
+use Rattle.std.proofs.Common.{inl, inr, ◌≡◌, ◌≢◌, ℕ, zero, suc, ◌+◌, ◌<◌, ◌≤◌, Bool, true, false, ◌||◌, List, [], ◌∷◌, ◌++◌, Option, Some, None, IfSome, IsSomeAnd, Result, Ok, Err, refl, ap, sym, subst, ◌∙◌, arith, length, drop, get_or, slice_get, slice_set}
 use Rattle.std.specs.Prelude.{◌==◌, ◌⊎◌, ◌↔◌, if◌then◌else◌}
-use Rattle.std.specs.List.{AllByRecursion, list_any, fold}
+use Rattle.std.specs.List.{AllByRecursion, list_all, list_any, fold}
 use Rattle.std.proofs.lemmas.Bool.{lt-ltb}
 use Rattle.std.proofs.lemmas.Bool.Decides.{Decides-eqb}
 use Rattle.std.proofs.lemmas.List.{append-nil}
@@ -45,19 +45,21 @@ use Rattle.dali_single.specs.Operated.{IsOwn}
 use Rattle.dali_single.specs.Refusals.{IsAnswerTo, IsUnfreed, IsStuck, IsLatched}
 use Rattle.dali_single.specs.Single.{is_end, IsOwnStep, Leads, OthersStay as RowsStay, AreCovered}
 use Rattle.dali_single.specs.Ending.{IsBackOf, IsAtWork, IsEnded, IsStillAtWork}
-use Rattle.dali_single.specs.Settling.{MayFree, IsPromised, IsSoloOf, IsCommitted, IsSettled, IsLeft}
+use Rattle.dali_single.specs.Settling.{MayFree, IsPromised, IsSoloOf, IsCommitted, IsSettled}
 use Rattle.dali_single.proofs.Lists.{get_here}
 use Rattle.dali_single.proofs.Standing.{own_steps_stand}
 use Rattle.dali_courses.proofs.Making.{own_steps_make, abort_makes, settling_makes}
 use Rattle.dali_clean.specs.Cleaned.{core, moment, AreDead, InRun}
 use Rattle.dali_clean.specs.Others.{HoldStays, OthersStay, PromisesStay, IsGone}
 use Rattle.dali_clean.proofs.Lists.{get_apart}
-use Rattle.dali_clean.proofs.Courses.{runs_of, HasWork, work_of, kind_in}
+use Rattle.dali_clean.proofs.Courses.{runs_of, HasWork, work_of, kind_in, undos_in}
 use Rattle.dali_clean.proofs.Others.{others_further, promises_further}
 use Rattle.dali_clean.specs.Steps.{is_own_change}
 use Rattle.dali_ends.specs.Ended.{AreOfEnd, Walked}
 use Rattle.dali_ends.specs.Left.{held, is_on, HoldsStay, IsRunning, IsSettling, Left, none_of, Cleared, Settled}
-use Rattle.dali_ends.proofs.Walking.{Same, same_course, walked_of_end, walked_more, walked_on, run_on, walks_on, walks_more, walks_none}
+use Rattle.dali_ends.specs.Guards.{is_releasable, is_releasable_on}
+use Rattle.dali_ends.proofs.Walking.{and_true, walked_more, walked_on, run_on, walks_on, walks_more, walks_none}
+use Rattle.dali_ends.proofs.Guarding.{releasable_dead}
 use Rattle.dali_ends.proofs.Releasing.{none_some, hold_is_dead, dead_on, held_less, held_no_more}
 
 -- ---- steps of a transaction's own
@@ -110,20 +112,6 @@ module _ (bases : Bases) (before L : List Record) (gs : List RegionState) (y : S
       }
 
 -- ---- holds
-holds_of : (t : ℕ) (gs hs : List RegionState) (y z : SystemState) (v : VaultState) (L M : List Record) (xs : List Step) → Leads false t L (core gs y v) xs M (core hs z v) → IsFree (core hs z v) t → (r : ℕ) → HoldStays gs hs r
-holds_of t gs hs y z v L M xs leads free r = by_hold (hold_in (slice_get hs r)) refl
-  where
-    by_hold : (o : Option Hold) → hold_in (slice_get hs r) ≡ o → HoldStays gs hs r
-    by_hold None e = inr e
-    by_hold (Some h) e = by_test (t == h.txn) refl
-      where
-        by_test : (b : Bool) → (t == h.txn) ≡ b → HoldStays gs hs r
-        by_test false apart = inl (e ∙ sym (((own_steps_stand false t L M (core gs y v) (core hs z v) xs leads).holds h.txn r h apart refl).1 e))
-        by_test true same =
-            let own : (h.txn == t) ≡ true = (Decides-eqb h.txn t).1 (sym ((Decides-eqb t h.txn).0 same)) in
-            let not : (h.txn == t) ≡ false = free r h e in
-            absurd cc
-
 -- a thread's own steps leave the holds of the others
 holds_same : (t : ℕ) (gs hs : List RegionState) (y z : SystemState) (v : VaultState) (L M : List Record) (xs : List Step) → Leads false t L (core gs y v) xs M (core hs z v) → IsFree (core gs y v) t → IsFree (core hs z v) t → (r : ℕ)
     → hold_in (slice_get hs r) ≡ hold_in (slice_get gs r)
@@ -157,17 +145,13 @@ Undoes t gs y hs z = (L : List Record) (v : VaultState) → IsAtWork L (core gs 
 pub rows_left : (gs hs : List RegionState) (y z : SystemState) (t : ℕ) → RowsStay y t z → ((r : ℕ) → HoldStays gs hs r) → OthersStay gs y t hs z
 rows_left gs hs y z t stay holds = record { rows = λ u e. inl (stay u e).0; locks = λ u k e. (stay u e).1 k; holds = holds }
 
-pub some_undone : (gs hs : List RegionState) (s z : Served) (t : ℕ) → IsRunning gs s.state → state_of s.state t ≡ Some Live → Undoes t gs s.state hs z.state → RowsStay s.state t z.state → PromisesStay s t z
+pub some_undone : (gs hs : List RegionState) (s z : Served) (t : ℕ) → state_of s.state t ≡ Some Live → Undoes t gs s.state hs z.state → RowsStay s.state t z.state → PromisesStay s t z → ((r : ℕ) → HoldStays gs hs r)
     → Left (IsBackOf t) [] t gs s hs z
-some_undone gs hs s z t running lives undoes stay promises =
-    let still = undoes running.log running.vault (work_here running.bases running.before running.log gs s.state running.vault running.audits running.run running.dead t lives) in
-    let holds = holds_of t gs hs s.state z.state running.vault running.log still.log still.steps still.leads still.at.free in
-    record {
-      walks = λ bases before L v a run. walked bases before L v a (undoes L v (work_here bases before L gs s.state v a run running.dead t lives));
-      others = rows_left gs hs s.state z.state t stay holds;
-      promises = promises;
-      dead = dead_on gs hs running.dead holds;
-    }
+some_undone gs hs s z t lives undoes stay promises holds = record {
+  walks = λ bases before L v a run dead. walked bases before L v a (undoes L v (work_here bases before L gs s.state v a run dead t lives));
+  others = rows_left gs hs s.state z.state t stay holds;
+  promises = promises;
+}
   where
     walked : (bases : Bases) (before L : List Record) (v : VaultState) (a : Audits) → IsStillAtWork L (core gs s.state v) t (core hs z.state v) → Walked t (IsBackOf t) [] (moment gs s.state L v a) hs z.state
     walked bases before L v a still = record {
@@ -188,23 +172,13 @@ mid_regions t log M mid hs z v ends =
     ap (λ (rs : List RegionState). let c : CoreState = record { regions = rs; system = mid.system; vault = mid.vault } in c) (sym (ap (λ (k : CoreState). k.regions) ends.2.1))
     ∙ ap (λ (u : VaultState). core hs mid.system u) (sym (ap (λ (k : CoreState). k.vault) ends.2.1))
 
-ended_holds : (t : ℕ) (gs hs : List RegionState) (y z : SystemState) (v : VaultState) (L log M : List Record) (mid : CoreState) (xs : List Step) → Leads false t L (core gs y v) xs log mid → IsStep log mid (Ends t) M (core hs z v)
-    → (r : ℕ) → HoldStays gs hs r
-ended_holds t gs hs y z v L log M mid xs leads ends =
-    let same = mid_regions t log M mid hs z v ends in
-    holds_of t gs hs y mid.system v L log xs (subst (λ (c : CoreState). Leads false t L (core gs y v) xs log c) same leads) (subst (λ (c : CoreState). IsFree c t) same ends.1.1)
-
-pub all_undone : (gs hs : List RegionState) (s z : Served) (t : ℕ) → IsRunning gs s.state → state_of s.state t ≡ Some Live → Aborts t gs s.state hs z.state → RowsStay s.state t z.state → PromisesStay s t z
+pub all_undone : (gs hs : List RegionState) (s z : Served) (t : ℕ) → state_of s.state t ≡ Some Live → Aborts t gs s.state hs z.state → RowsStay s.state t z.state → PromisesStay s t z → ((r : ℕ) → HoldStays gs hs r)
     → Left (IsBackOf t) (Ended t ∷ []) t gs s hs z
-all_undone gs hs s z t running lives aborts stay promises =
-    let end = aborts running.log running.vault (work_here running.bases running.before running.log gs s.state running.vault running.audits running.run running.dead t lives) in
-    let holds = ended_holds t gs hs s.state z.state running.vault running.log end.log (end.log ++ Ended t ∷ []) end.mid end.steps end.leads end.ends in
-    record {
-      walks = λ bases before L v a run. walked bases before L v a (aborts L v (work_here bases before L gs s.state v a run running.dead t lives));
-      others = rows_left gs hs s.state z.state t stay holds;
-      promises = promises;
-      dead = dead_on gs hs running.dead holds;
-    }
+all_undone gs hs s z t lives aborts stay promises holds = record {
+  walks = λ bases before L v a run dead. walked bases before L v a (aborts L v (work_here bases before L gs s.state v a run dead t lives));
+  others = rows_left gs hs s.state z.state t stay holds;
+  promises = promises;
+}
   where
     walked : (bases : Bases) (before L : List Record) (v : VaultState) (a : Audits) → IsEnded L (core gs s.state v) t (core hs z.state v) → Walked t (IsBackOf t) (Ended t ∷ []) (moment gs s.state L v a) hs z.state
     walked bases before L v a end = record {
@@ -317,22 +291,16 @@ kept_but us vs i u gs hs h stay fewer at r none =
 abbrev Settles : ℕ → List Pending → List RegionState → SystemState → List RegionState → SystemState → Type 0
 Settles t us gs y hs z = (L : List Record) (v : VaultState) → IsCommitted L (core gs y v) t us → IsSettled L (core gs y v) t (core hs z v)
 
-pub all_freed : (gs hs : List RegionState) (s z : Served) (t : ℕ) (us : List Pending) → IsSettling gs s.state t us → state_of s.state t ≡ Some Committed → Settles t us gs s.state hs z.state → RowsStay s.state t z.state → PromisesStay s t z
+pub all_freed : (gs hs : List RegionState) (s z : Served) (t : ℕ) (us : List Pending) → state_of s.state t ≡ Some Committed → Settles t us gs s.state hs z.state → RowsStay s.state t z.state → PromisesStay s t z → ((r : ℕ) → HoldStays gs hs r)
     → IsGone z.state t → promised_to z.promised t ≡ 0 → Settled t us gs s hs z
-all_freed gs hs s z t us settling state settles stay promises gone released =
-    let r = settling.running in
-    let at = settling_here r.bases r.before r.log gs s.state r.vault r.audits r.run r.dead t us state settling.ending in
-    let end = settles r.log r.vault at in
-    let holds = ended_holds t gs hs s.state z.state r.vault r.log end.log (end.log ++ Ended t ∷ []) end.mid end.steps end.leads end.ends in
-    record {
-      walks = λ bases before L v a run ending. walked bases before L v a (settles L v (settling_here bases before L gs s.state v a run r.dead t us state ending));
-      others = rows_left gs hs s.state z.state t stay holds;
-      promises = promises;
-      dead = dead_on gs hs r.dead holds;
-      gone = gone;
-      released = released;
-      holds = λ q none. ended_same t gs hs s.state z.state r.vault r.log end.log (end.log ++ Ended t ∷ []) end.mid end.steps end.leads end.ends at.free q;
-    }
+all_freed gs hs s z t us state settles stay promises holds gone released = record {
+  walks = λ bases before L v a run dead ending. walked bases before L v a (settles L v (settling_here bases before L gs s.state v a run dead t us state ending));
+  others = rows_left gs hs s.state z.state t stay holds;
+  promises = promises;
+  gone = gone;
+  released = released;
+  holds = λ settling q none. same settling q;
+}
   where
     walked : (bases : Bases) (before L : List Record) (v : VaultState) (a : Audits) → IsSettled L (core gs s.state v) t (core hs z.state v) → Walked t (IsSoloOf t) (Ended t ∷ []) (moment gs s.state L v a) hs z.state
     walked bases before L v a end = record {
@@ -347,10 +315,21 @@ all_freed gs hs s z t us settling state settles stay promises gone released =
       logged = ap (λ (l : List Record). l ++ Ended t ∷ []) end.logged;
     }
 
+    same : IsSettling gs s.state t us → (r : ℕ) → hold_in (slice_get hs r) ≡ hold_in (slice_get gs r)
+    same settling =
+        let r = settling.running in
+        let at = settling_here r.bases r.before r.log gs s.state r.vault r.audits r.run r.dead t us state settling.ending in
+        let end = settles r.log r.vault at in
+        ended_same t gs hs s.state z.state r.vault r.log end.log (end.log ++ Ended t ∷ []) end.mid end.steps end.leads end.ends at.free
+
 -- ---- one part behind another
+-- no live hold is left
+pub dead_still : (t : ℕ) (gs hs : List RegionState) (y z : SystemState) → OthersStay gs y t hs z → AreDead gs → AreDead hs
+dead_still t gs hs y z others dead = dead_on gs hs dead others.holds
+
 pub running_on : (own : Record → Type 0) (last : List Record) (t : ℕ) (gs hs : List RegionState) (s z : Served) → IsRunning gs s.state → Left own last t gs s hs z → IsRunning hs z.state
 running_on own last t gs hs s z r left =
-    let walk = left.walks r.bases r.before r.log r.vault r.audits r.run in
+    let walk = left.walks r.bases r.before r.log r.vault r.audits r.run r.dead in
     record {
       bases = r.bases;
       before = r.before;
@@ -358,89 +337,107 @@ running_on own last t gs hs s z r left =
       vault = r.vault;
       audits = r.audits;
       run = run_on t own last r.bases r.before r.log r.vault r.audits gs hs s.state z.state r.run walk;
-      dead = left.dead;
+      dead = dead_still t gs hs s.state z.state left.others r.dead;
     }
 
-pub left_none : (own : Record → Type 0) (t : ℕ) (gs : List RegionState) (s : Served) → AreDead gs → Left own [] t gs s gs s
-left_none own t gs s dead = record {
+pub left_none : (own : Record → Type 0) (t : ℕ) (gs : List RegionState) (s : Served) → Left own [] t gs s gs s
+left_none own t gs s = record {
   walks = walks_none t own gs s.state;
   others = record { rows = λ u e. inl refl; locks = λ u k e. refl; holds = λ r. inl refl };
   promises = λ u e. refl;
-  dead = dead;
 }
 
 pub left_on : (own : Record → Type 0) (last : List Record) (t : ℕ) (gs hs ks : List RegionState) (s m z : Served) → Left own [] t gs s hs m → Left own last t hs m ks z → Left own last t gs s ks z
 left_on own last t gs hs ks s m z a b = record {
-  walks = walks_on t own last gs hs ks s.state m.state z.state a.walks b.walks;
+  walks = walks_on t own last gs hs ks s.state m.state z.state (dead_still t gs hs s.state m.state a.others) a.walks b.walks;
   others = others_further gs hs ks s.state m.state z.state t a.others b.others;
   promises = promises_further s m z t a.promises b.promises;
-  dead = b.dead;
 }
 
 pub cleared_left : (own : Record → Type 0) (t : ℕ) (gs hs : List RegionState) (s z : Served) → Cleared t gs s hs z → Left own [] t gs s hs z
-cleared_left own t gs hs s z c = record { walks = walks_more t none_of own [] gs hs s.state z.state (λ x never. absurd never) c.left.walks; others = c.left.others; promises = c.left.promises; dead = c.left.dead }
+cleared_left own t gs hs s z c = record { walks = walks_more t none_of own [] gs hs s.state z.state (λ x never. absurd never) c.left.walks; others = c.left.others; promises = c.left.promises }
 
-pub cleared_none : (t : ℕ) (gs : List RegionState) (s : Served) → AreDead gs → Cleared t gs s gs s
-cleared_none t gs s dead = record { left = left_none none_of t gs s dead; locks = refl; promised = refl; state = refl }
+pub cleared_none : (t : ℕ) (gs : List RegionState) (s : Served) → Cleared t gs s gs s
+cleared_none t gs s = record { left = left_none none_of t gs s; sizes = refl; stop = refl; locks = refl; promised = refl; row = refl }
 
 pub cleared_on : (t : ℕ) (gs hs ks : List RegionState) (s m z : Served) → Cleared t gs s hs m → Cleared t hs m ks z → Cleared t gs s ks z
-cleared_on t gs hs ks s m z a b = record { left = left_on none_of [] t gs hs ks s m z a.left b.left; locks = b.locks ∙ a.locks; promised = b.promised ∙ a.promised; state = b.state ∙ a.state }
-
--- sizes and stop stay
-pub same_left : (own : Record → Type 0) (last : List Record) (t : ℕ) (gs hs : List RegionState) (s z : Served) → IsRunning gs s.state → Left own last t gs s hs z → Same s.state z.state
-same_left own last t gs hs s z r left =
-    let walk = left.walks r.bases r.before r.log r.vault r.audits r.run in
-    same_course (moment gs s.state r.log r.vault r.audits) (moment hs z.state walk.log r.vault r.audits) walk.steps (walked_of_end t own last (moment gs s.state r.log r.vault r.audits) hs z.state walk) walk.course
+cleared_on t gs hs ks s m z a b = record {
+  left = left_on none_of [] t gs hs ks s m z a.left b.left;
+  sizes = b.sizes ∙ a.sizes;
+  stop = b.stop ∙ a.stop;
+  locks = b.locks ∙ a.locks;
+  promised = b.promised ∙ a.promised;
+  row = b.row ∙ a.row;
+}
 
 -- nothing was logged
 none_logged : (L : List Record) (own : List Record) → AllByRecursion none_of own → L ++ own ++ [] ≡ L
 none_logged L [] never = append-nil (L ++ []) ∙ append-nil L
 none_logged L (x ∷ own) never = absurd never.0
 
-ending_on : (bases : Bases) (before L : List Record) (v : VaultState) (a : Audits) (t : ℕ) (us : List Pending) (gs hs : List RegionState) (s z : Served) (run : InRun bases before (moment gs s.state L v a)) (walk : Walked t none_of [] (moment gs s.state L v a) hs z.state)
-    → IsEnding s.state.sizes L t us → IsEnding z.state.sizes walk.log t us
-ending_on bases before L v a t us gs hs s z run walk ending =
-    let same = same_course (moment gs s.state L v a) (moment hs z.state walk.log v a) walk.steps (walked_of_end t none_of [] (moment gs s.state L v a) hs z.state walk) walk.course in
-    subst (λ (x : List Record). IsEnding z.state.sizes x t us) (sym (walk.logged ∙ none_logged L walk.records walk.are)) (subst (λ x. IsEnding x L t us) (sym same.sizes) ending)
+ending_on : (L M : List Record) (own : List Record) (t : ℕ) (us : List Pending) (y z : SystemState) → AllByRecursion none_of own → M ≡ L ++ own ++ [] → z.sizes ≡ y.sizes → IsEnding y.sizes L t us → IsEnding z.sizes M t us
+ending_on L M own t us y z never logged sizes ending =
+    subst (λ (x : List Record). IsEnding z.sizes x t us) (sym (logged ∙ none_logged L own never)) (subst (λ x. IsEnding x L t us) (sym sizes) ending)
 
-pub settling_on : (t : ℕ) (us : List Pending) (gs hs : List RegionState) (s z : Served) → IsSettling gs s.state t us → Cleared t gs s hs z → IsSettling hs z.state t us
-settling_on t us gs hs s z settling c = record {
-  running = record { bases = r.bases; before = r.before; log = walk.log; vault = r.vault; audits = r.audits; run = run_on t none_of [] r.bases r.before r.log r.vault r.audits gs hs s.state z.state r.run walk; dead = c.left.dead };
-  ending = ending_on r.bases r.before r.log r.vault r.audits t us gs hs s z r.run walk settling.ending;
+settling_on : (t : ℕ) (us : List Pending) (gs hs : List RegionState) (s z : Served) → Cleared t gs s hs z → IsSettling gs s.state t us → IsSettling hs z.state t us
+settling_on t us gs hs s z c settling = record {
+  running = record {
+    bases = r.bases;
+    before = r.before;
+    log = walk.log;
+    vault = r.vault;
+    audits = r.audits;
+    run = run_on t none_of [] r.bases r.before r.log r.vault r.audits gs hs s.state z.state r.run walk;
+    dead = dead_still t gs hs s.state z.state c.left.others r.dead;
+  };
+  ending = ending_on r.log walk.log walk.records t us s.state z.state walk.are walk.logged c.sizes settling.ending;
 }
   where
     r : IsRunning gs s.state
     r = settling.running
 
     walk : Walked t none_of [] (moment gs s.state r.log r.vault r.audits) hs z.state
-    walk = c.left.walks r.bases r.before r.log r.vault r.audits r.run
+    walk = c.left.walks r.bases r.before r.log r.vault r.audits r.run r.dead
 
 pub settled_on : (t : ℕ) (us : List Pending) (gs hs ks : List RegionState) (s m z : Served) → Cleared t gs s hs m → HoldsStay us gs hs → Settled t us hs m ks z → Settled t us gs s ks z
 settled_on t us gs hs ks s m z c stay b = record {
-  walks = λ bases before L v a run ending.
-      let first = c.left.walks bases before L v a run in
+  walks = λ bases before L v a run dead ending.
+      let first = c.left.walks bases before L v a run dead in
       walked_on t (IsSoloOf t) (Ended t ∷ []) (moment gs s.state L v a) hs ks m.state z.state (walked_more t none_of (IsSoloOf t) [] (moment gs s.state L v a) hs m.state (λ x never. absurd never) first)
-      (b.walks bases before first.log v a (run_on t none_of [] bases before L v a gs hs s.state m.state run first) (ending_on bases before L v a t us gs hs s m run first ending));
+      (b.walks bases before first.log v a (run_on t none_of [] bases before L v a gs hs s.state m.state run first) (dead_still t gs hs s.state m.state c.left.others dead) (ending_on L first.log first.records t us s.state m.state first.are first.logged c.sizes ending));
   others = others_further gs hs ks s.state m.state z.state t c.left.others b.others;
   promises = promises_further s m z t c.left.promises b.promises;
-  dead = b.dead;
   gone = b.gone;
   released = b.released;
-  holds = λ r none. b.holds r none ∙ stay r none;
+  holds = λ settling r none. b.holds (settling_on t us gs hs s m c settling) r none ∙ stay r none;
 }
 
-pub may_still : (t : ℕ) (us : List Pending) (gs hs : List RegionState) (s z : Served) → IsRunning gs s.state → Cleared t gs s hs z → AllByRecursion (MayFree s.state t) us → AllByRecursion (MayFree z.state t) us
-may_still t [] gs hs s z r c h = tt
-may_still t (u ∷ us) gs hs s z r c h =
-    let same = same_left none_of [] t gs hs s z r c.left in (
-      record {
-        removal = h.0.removal;
-        spelled = h.0.spelled;
-        kind = ap (λ x. on_kind x u.region (freeing_op u.undo)) same.sizes ∙ h.0.kind;
-        lock = ap (λ l. covers (get l (t, u.key)) true) c.locks ∙ h.0.lock;
-      },
-      may_still t us gs hs s z r c h.1,
-    )
+pub may_still : (t : ℕ) (us : List Pending) (gs hs : List RegionState) (s z : Served) → Cleared t gs s hs z → AllByRecursion (MayFree s.state t) us → AllByRecursion (MayFree z.state t) us
+may_still t [] gs hs s z c h = tt
+may_still t (u ∷ us) gs hs s z c h = (
+  record {
+    removal = h.0.removal;
+    spelled = h.0.spelled;
+    kind = ap (λ x. on_kind x u.region (freeing_op u.undo)) c.sizes ∙ h.0.kind;
+    lock = ap (λ l. covers (get l (t, u.key)) true) c.locks ∙ h.0.lock;
+  },
+  may_still t us gs hs s z c h.1,
+)
+
+-- what t's undos need
+covered_all : (y z : SystemState) (t : ℕ) (us : List Pending) → z.sizes ≡ y.sizes → z.locks ≡ y.locks → AllByRecursion (MayBePerformed y t) us → AllByRecursion (MayBePerformed z t) us
+covered_all y z t [] sizes locks h = tt
+covered_all y z t (u ∷ us) sizes locks h = (
+  record {
+    spelled = h.0.spelled;
+    kind = ap (λ x. on_kind x u.region (undo_op u.undo)) sizes ∙ h.0.kind;
+    lock = ap (λ l. covers (get l (t, u.key)) true) locks ∙ h.0.lock;
+  },
+  covered_all y z t us sizes locks h.1,
+)
+
+pub covered_on : (t : ℕ) (gs hs : List RegionState) (s z : Served) → Cleared t gs s hs z → AreCovered s.state t → AreCovered z.state t
+covered_on t gs hs s z c covered = subst (AllByRecursion (MayBePerformed z.state t)) (sym (ap undos_in c.row)) (covered_all s.state z.state t (undos_at s.state.table t) c.sizes c.locks covered)
 
 -- ---- who is in the way
 pub all_get : (P : Pending → Type 0) (us : List Pending) (i : ℕ) (u : Pending) → AllByRecursion P us → slice_get us i ≡ Some u → P u
@@ -470,9 +467,6 @@ in_the_way hs z u o e is stuck = by_region (slice_get hs u.region) refl (subst (
         by_hold None none = absurd (answer_of_none g e none why)
         by_hold (Some k) there = (g, k, i, there)
 
-pub none_stuck : (hs : List RegionState) (z : SystemState) (us : List Pending) (e : LatchError) → last_of us ≡ None → IsStuck (next_undo us 0) hs z (LatchRefused e) → ⊥
-none_stuck hs z us e none stuck = subst (λ (o : Option Pending). IsStuck o hs z (LatchRefused e)) (next_is_last us ∙ none) stuck
-
 -- while the engine runs memory alone is refused
 unfreed_memory : (g : RegionState) (z : SystemState) (e : SystemError) → z.stop ≡ None → IsUnfreed g z (SystemRefused e) → e ≡ Memory
 unfreed_memory g z e runs why = subst (λ (o : Option SystemError). IsAnswerTo o e) (ap stop_of runs) why.1
@@ -489,19 +483,16 @@ pub stuck_memory : (o : Option Pending) (hs : List RegionState) (z : SystemState
 stuck_memory o hs z r e is runs stuck = stuck_by o hs z e runs (subst (λ (x : StepError). IsStuck o hs z x) is stuck)
 
 -- ---- regions of undos and removals
-pub undo_within : (gs : List RegionState) (y : SystemState) (t : ℕ) (u : Pending) → IsRunning gs y → last_of (undos_at y.table t) ≡ Some u → u.region < length gs
-undo_within gs y t u r last =
-    let runs = runs_of r.bases r.before (moment gs y r.log r.vault r.audits) r.run in
-    let may = all_get (MayBePerformed y t) (undos_at y.table t) _ u (undos_may_be_performed r.bases r.log (core gs y r.vault) runs t) last in
+pub undo_within : (gs : List RegionState) (y : SystemState) (t : ℕ) (u : Pending) → length gs ≡ regions y.sizes → AreCovered y t → last_of (undos_at y.table t) ≡ Some u → u.region < length gs
+undo_within gs y t u whole covered last =
+    let may = all_get (MayBePerformed y t) (undos_at y.table t) _ u covered last in
     let less = kind_in y.sizes u.region (undo_op u.undo) may.kind in
-    let size : length gs ≡ regions y.sizes = r.run.whole.regions in
-    omega (arith, less, size)
+    omega (arith, less, whole)
 
-pub removal_within : (gs : List RegionState) (y : SystemState) (t : ℕ) (u : Pending) → IsRunning gs y → MayFree y t u → u.region < length gs
-removal_within gs y t u r may =
+removal_within : (gs : List RegionState) (y : SystemState) (t : ℕ) (u : Pending) → length gs ≡ regions y.sizes → MayFree y t u → u.region < length gs
+removal_within gs y t u whole may =
     let less = kind_in y.sizes u.region (freeing_op u.undo) may.kind in
-    let size : length gs ≡ regions y.sizes = r.run.whole.regions in
-    omega (arith, less, size)
+    omega (arith, less, whole)
 
 -- ---- a settling isn't refused where no removal's region is latched
 drop_get : (us : List Pending) (n : ℕ) → slice_get (drop n us) 0 ≡ slice_get us n
@@ -528,14 +519,6 @@ not_stuck gs hs z us n (LatchRefused e) unheld holds stuck latched = by_next (sl
         by_hold {k = k} there (inl same) = none_some k (sym (unheld n u i) ∙ (sym same ∙ there))
         by_hold {k = k} there (inr none) = none_some k (sym none ∙ there)
 
--- those that were freed before a refusal
-pub left_holds : (gs hs : List RegionState) (s z : Served) (t : ℕ) (us left : List Pending) → IsSettling gs s.state t us → state_of s.state t ≡ Some Committed
-    → ((L : List Record) (v : VaultState) → IsCommitted L (core gs s.state v) t us → IsLeft L (core gs s.state v) t left (core hs z.state v)) → (r : ℕ) → HoldStays gs hs r
-left_holds gs hs s z t us left settling state leaves =
-    let r = settling.running in
-    let end = leaves r.log r.vault (settling_here r.bases r.before r.log gs s.state r.vault r.audits r.run r.dead t us state settling.ending) in
-    holds_of t gs hs s.state z.state r.vault r.log end.log end.steps end.leads end.at.free
-
 -- ---- for the calls
 pub covered_here : (gs : List RegionState) (y : SystemState) (t : ℕ) → IsRunning gs y → AreCovered y t
 covered_here gs y t r = undos_may_be_performed r.bases r.log (core gs y r.vault) (runs_of r.bases r.before (moment gs y r.log r.vault r.audits) r.run) t
@@ -543,10 +526,22 @@ covered_here gs y t r = undos_may_be_performed r.bases r.log (core gs y r.vault)
 pub whole_here : (gs : List RegionState) (y : SystemState) → IsRunning gs y → length gs ≡ regions y.sizes
 whole_here gs y r = r.run.whole.regions
 
-pub removal_there : (t : ℕ) (us : List Pending) (gs hs : List RegionState) (s z : Served) (i : ℕ) (d : Pending) → IsSettling gs s.state t us → AllByRecursion (MayFree s.state t) us → Cleared t gs s hs z → i < length us → (get_or us i d).region < length hs
-removal_there t us gs hs s z i d settling may c less =
-    let r = running_on none_of [] t gs hs s z settling.running c.left in
-    removal_within hs z.state t (get_or us i d) r (all_get (MayFree z.state t) us i (get_or us i d) (may_still t us gs hs s z settling.running c may) (get_here us i d less))
+pub removal_there : (t : ℕ) (us : List Pending) (gs hs : List RegionState) (s z : Served) (i : ℕ) (d : Pending) → length hs ≡ regions z.state.sizes → AllByRecursion (MayFree s.state t) us → Cleared t gs s hs z → i < length us → (get_or us i d).region < length hs
+removal_there t us gs hs s z i d whole may c less =
+    removal_within hs z.state t (get_or us i d) whole (all_get (MayFree z.state t) us i (get_or us i d) (may_still t us gs hs s z c may) (get_here us i d less))
+
+-- the hold on a removal's region is dead, if there is one
+pub releasable_there : (us : List Pending) (gs hs : List RegionState) (i : ℕ) (u : Pending) (g : RegionState) → list_all (is_releasable_on gs) us ≡ true → ((r : ℕ) → HoldStays gs hs r) → slice_get us i ≡ Some u → slice_get hs u.region ≡ Some g → IfSome g.hold (λ h. h.dead ≡ true)
+releasable_there us gs hs i u g all holds at there = by_hold (holds u.region) (each us i all at)
+  where
+    each : (vs : List Pending) (j : ℕ) → list_all (is_releasable_on gs) vs ≡ true → slice_get vs j ≡ Some u → is_releasable_on gs u ≡ true
+    each [] j e f = absurd (none_some u f)
+    each (v ∷ vs) zero e f = let same : v ≡ u = cc in ap (is_releasable_on gs) (sym same) ∙ (and_true (is_releasable_on gs v) (list_all (is_releasable_on gs) vs) e).0
+    each (v ∷ vs) (suc j) e f = each vs j (and_true (is_releasable_on gs v) (list_all (is_releasable_on gs) vs) e).1 f
+
+    by_hold : HoldStays gs hs u.region → is_releasable_on gs u ≡ true → IfSome g.hold (λ h. h.dead ≡ true)
+    by_hold (inl same) e = releasable_dead g.hold (ap is_releasable (sym (ap hold_in there)) ∙ (ap is_releasable same ∙ e))
+    by_hold (inr none) e = subst (λ (o : Option Hold). IfSome o (λ h. h.dead ≡ true)) (sym none ∙ ap hold_in there) tt
 
 some_is : (a b : Pending) → (let o : Option Pending = Some b in Some a ≡ o) → a ≡ b
 some_is a b p = cc
@@ -571,9 +566,9 @@ unheld_on gs hs us i d before holds less now j u within at = by_test (j == i) re
         differs : {b : Bool} → b ≡ true → b ≡ false → ⊥
         differs p q = cc
 
-pub promised_on : (t n : ℕ) (gs hs : List RegionState) (s z : Served) → IsRunning gs s.state → Cleared t gs s hs z → IsPromised s t n → IsPromised z t n
-promised_on t n gs hs s z r c h = record {
-  runs = (same_left none_of [] t gs hs s z r c.left).stop ∙ h.runs;
+pub promised_on : (t n : ℕ) (gs hs : List RegionState) (s z : Served) → Cleared t gs s hs z → IsPromised s t n → IsPromised z t n
+promised_on t n gs hs s z c h = record {
+  runs = c.stop ∙ h.runs;
   enough = subst (λ (m : Promised). n ≤ promised_to m t) (sym c.promised) h.enough;
 }
 

@@ -47,7 +47,7 @@ use Rattle.dali_ends.specs.Ended.{Walked, HasCome}
 use Rattle.dali_ends.specs.Left.{HoldsStay, IsSettling, SettlesIn, Settled}
 use Rattle.dali_ends.specs.Committed.{IsLogged, CommitGoes, CommitFails, CommitIsRight}
 use Rattle.dali_ends.proofs.Walking.{Same, same_course, walked_of_end, all_more}
-use Rattle.dali_ends.proofs.Alone.{rows_left}
+use Rattle.dali_ends.proofs.Alone.{rows_left, dead_still}
 use Rattle.dali_ends.proofs.Standing.{moment_here, run_at, come}
 
 -- ---- courses of points that flush
@@ -198,8 +198,8 @@ module _ {V : Type 0} (told : V → Option Disk) (may_leave : V → Disk → Typ
       }
 
   pub commit_goes : (gs hs : List RegionState) (y y1 z z' : SystemState) (v w : Vaulted V) (t : ℕ) (us : List Pending) → state_of y t ≡ Some Live → Leaves y y1 t us → FlushesAll told may_leave faults gs y1 v z w
-      → z.sizes ≡ y1.sizes → SettlesIn t us gs z hs z' → AreDead hs → CommitGoes told may_leave faults gs y v t hs z' w
-  commit_goes gs hs y y1 z z' v w t us lives leaves flushes sizes settles dead s B p k may = record {
+      → z.sizes ≡ y1.sizes → SettlesIn t us gs z hs z' → (AreDead gs → AreDead hs) → CommitGoes told may_leave faults gs y v t hs z' w
+  commit_goes gs hs y y1 z z' v w t us lives leaves flushes sizes settles still s B p k may = record {
     logged = here.0;
     between = z;
     flushed = here.1;
@@ -211,10 +211,10 @@ module _ {V : Type 0} (told : V → Option Disk) (may_leave : V → Disk → Typ
       here = settle_here s B p gs y y1 z v w t us k may lives leaves flushes sizes
 
       walk : Walked t (IsSoloOf t) (Ended t ∷ []) (moment gs z here.1.to.log here.1.to.core.vault here.1.to.audits) hs z'
-      walk = settles (bases_of s) s.log here.1.to.log here.1.to.core.vault here.1.to.audits (run_at told may_leave faults s here.1.batches here.1.to gs z w here.2) here.3
+      walk = settles (bases_of s) s.log here.1.to.log here.1.to.core.vault here.1.to.audits (run_at told may_leave faults s here.1.batches here.1.to gs z w here.2) here.2.dead here.3
 
       settled : HasCome told may_leave faults t (IsSoloOf t) (Ended t ∷ []) s here.1.batches here.1.to w hs z'
-      settled = come told may_leave faults t (IsSoloOf t) (Ended t ∷ []) s here.1.batches here.1.to gs hs z z' w here.2 walk dead
+      settled = come told may_leave faults t (IsSoloOf t) (Ended t ∷ []) s here.1.batches here.1.to gs hs z z' w here.2 walk (still here.2.dead)
 
       same : Same z z'
       same = same_course (moment gs z here.1.to.log here.1.to.core.vault here.1.to.audits) (moment hs z' walk.log here.1.to.core.vault here.1.to.audits) walk.steps (walked_of_end t (IsSoloOf t) (Ended t ∷ []) (moment gs z here.1.to.log here.1.to.core.vault here.1.to.audits) hs z' walk) walk.course
@@ -321,14 +321,6 @@ module _ {V : Type 0} (told : V → Option Disk) (may_leave : V → Disk → Typ
       (λ fs right c left. let D = right c left in (D.0, D.1, record { logged = l.to; course = l.course; right = D.2 }))
 
   -- ---- for the call
-  pub runs_still : (gs : List RegionState) (y y1 : SystemState) (v : Vaulted V) (t : ℕ) (us : List Pending) → IsBetween told may_leave faults gs y v t → Leaves y y1 t us → y1.stop ≡ None
-  runs_still gs y y1 v t us between leaves =
-      let found = logged_as between.up.start between.up.batches between.up.point gs y y1 v t us between.up.stands between.may leaves in
-      ap (λ (x : SystemState). x.stop) found.1 ∙ found.0
-
-  pub is_logged : (gs : List RegionState) (y y1 : SystemState) (v : Vaulted V) (t : ℕ) (us : List Pending) → IsBetween told may_leave faults gs y v t → Leaves y y1 t us → y1 ≡ commit_logged y t
-  is_logged gs y y1 v t us between leaves = (logged_as between.up.start between.up.batches between.up.point gs y y1 v t us between.up.stands between.may leaves).1
-
   pub up_committed : (gs hs : List RegionState) (y z : SystemState) (v w : Vaulted V) (t : ℕ) → IsBetween told may_leave faults gs y v t → CommitGoes told may_leave faults gs y v t hs z w → IsUp told may_leave faults hs z w
   up_committed gs hs y z v w t between goes =
       let up = between.up in
@@ -346,14 +338,17 @@ module _ {V : Type 0} (told : V → Option Disk) (may_leave : V → Disk → Typ
   commit_done gs gs1 hs y y1 s1 s2 v w w1 t us us1 lives leaves flushes sizes same removals vault settled =
       subst (λ (u : Vaulted V). CommitGoes told may_leave faults gs y v t hs s2.state u) (sym vault)
       (commit_goes gs hs y y1 s1.state s2.state v w t us lives leaves flushes sizes
-      (subst (λ (rs : List RegionState). SettlesIn t us rs s1.state hs s2.state) same (subst (λ (ps : List Pending). SettlesIn t ps gs1 s1.state hs s2.state) removals settled.walks)) settled.dead)
+      (subst (λ (rs : List RegionState). SettlesIn t us rs s1.state hs s2.state) same (subst (λ (ps : List Pending). SettlesIn t ps gs1 s1.state hs s2.state) removals settled.walks))
+      (λ dead. dead_still t gs1 hs s1.state s2.state settled.others (subst (λ (rs : List RegionState). AreDead rs) (sym same) dead)))
 
-  pub commit_kept : (gs gs1 hs : List RegionState) (y y1 : SystemState) (v : Vaulted V) (t : ℕ) (us us1 : List Pending) → IsBetween told may_leave faults gs y v t → Leaves y y1 t us → gs1 ≡ gs → us1 ≡ us → HoldsStay us1 gs1 hs
-      → HoldsStay (dead_of (undos_at y.table t)) gs hs
-  commit_kept gs gs1 hs y y1 v t us us1 between leaves same removals stay =
+  pub commit_kept : (gs gs1 hs : List RegionState) (y y1 : SystemState) (s1 s2 : Served) (v w : Vaulted V) (t : ℕ) (us us1 : List Pending) → state_of y t ≡ Some Live → Leaves y y1 t us → FlushesAll told may_leave faults gs y1 v s1.state w
+      → s1.state.sizes ≡ y1.sizes → gs1 ≡ gs → us1 ≡ us → Settled t us1 gs1 s1 hs s2 → IsBetween told may_leave faults gs y v t → HoldsStay (dead_of (undos_at y.table t)) gs hs
+  commit_kept gs gs1 hs y y1 s1 s2 v w t us us1 lives leaves flushes sizes same removals settled between =
       let up = between.up in
       let are = removals_are up.start up.batches up.point gs y y1 v t us up.stands between.may leaves in
-      subst (λ (ps : List Pending). HoldsStay ps gs hs) are (subst (λ (ps : List Pending). HoldsStay ps gs hs) removals (subst (λ (rs : List RegionState). HoldsStay us1 rs hs) same stay))
+      let here = settling gs y y1 s1.state v w t us between lives leaves flushes sizes in
+      let there : IsSettling gs1 s1.state t us1 = subst (λ (rs : List RegionState). IsSettling rs s1.state t us1) (sym same) (subst (λ (ps : List Pending). IsSettling gs s1.state t ps) (sym removals) here) in
+      subst (λ (ps : List Pending). HoldsStay ps gs hs) are (subst (λ (ps : List Pending). HoldsStay ps gs hs) removals (subst (λ (rs : List RegionState). HoldsStay us1 rs hs) same (settled.holds there)))
 
   pub kept_at : (v w w1 : Vaulted V) → w1 ≡ w → faults w.store ≡ faults v.store → faults w1.store ≡ faults v.store
   kept_at v w w1 same kept = ap (λ (u : Vaulted V). faults u.store) same ∙ kept

@@ -1,4 +1,5 @@
 pub mod Walking
+pub mod Guarding
 pub mod Releasing
 pub mod Alone
 pub mod Standing

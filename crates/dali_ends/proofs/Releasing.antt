@@ -29,6 +29,7 @@ use Rattle.dali_clean.proofs.Steps.{dead_apart}
 use Rattle.dali_clean.proofs.Others.{release_others, released_locks, promises_same}
 use Rattle.dali_ends.specs.Ended.{AreOfEnd, Walks}
 use Rattle.dali_ends.specs.Left.{held, none_of, Cleared}
+use Rattle.dali_ends.proofs.Guarding.{clash}
 use Rattle.dali_ends.proofs.Walking.{is_of_end}
 
 -- ---- options
@@ -37,9 +38,6 @@ none_some x e = cc
 
 same_some : {A : Type 0} (x y : A) → (let o : Option A = Some y in Some x ≡ o) → x ≡ y
 same_some x y e = cc
-
-clash : {b : Bool} → b ≡ false → b ≡ true → ⊥
-clash e f = cc
 
 if_some_at : {A : Type 0} (o : Option A) (P : A → Type 0) (x : A) → o ≡ Some x → IfSome o P → P x
 if_some_at o P x e h = subst (λ z. IfSome z P) e h
@@ -163,8 +161,8 @@ release_of_end y r None xs are = ap (list_all is_of_end) are
 release_of_end y r (Some k) xs (inl all) = ap (list_all is_of_end) all.2
 release_of_end y r (Some k) xs (inr one) = ap (list_all is_of_end) one
 
-release_walks : (t : ℕ) (gs : List RegionState) (y z : SystemState) (r : ℕ) (g h : RegionState) → AreDead gs → is_alive (state_of y t) ≡ true → slice_get gs r ≡ Some g → Released g y h z → Walks t none_of [] gs y (slice_set gs r h) z
-release_walks t gs y z r g h dead alive at released bases before L v a run =
+release_walks : (t : ℕ) (gs : List RegionState) (y z : SystemState) (r : ℕ) (g h : RegionState) → is_alive (state_of y t) ≡ true → slice_get gs r ≡ Some g → Released g y h z → Walks t none_of [] gs y (slice_set gs r h) z
+release_walks t gs y z r g h alive at released bases before L v a run dead =
     let led = release_leads gs y z r g h dead at released bases before L v a run in
     record {
       log = L;
@@ -196,24 +194,36 @@ released_row y z t g h alive (inr some) = by_claim some.3
     by_claim (inl was) = ap (λ (x : SystemState). row_of x t) was.2 ∙ apart_row y some.0.txn t was.0 alive was.1
     by_claim (inr not) = ap (λ (x : SystemState). row_of x t) not.1
 
-pub released_state : (y z : SystemState) (t : ℕ) (g h : RegionState) → is_alive (state_of y t) ≡ true → Released g y h z → state_of z t ≡ state_of y t
-released_state y z t g h alive released = ap state_in (released_row y z t g h alive released)
+released_sizes : (g h : RegionState) (y z : SystemState) → Released g y h z → z.sizes ≡ y.sizes
+released_sizes g h y z (inl none) = ap (λ (x : SystemState). x.sizes) none.2
+released_sizes g h y z (inr some) = by_claim some.3
+  where
+    by_claim : IsReclaimed y some.0.txn z → z.sizes ≡ y.sizes
+    by_claim (inl was) = ap (λ (x : SystemState). x.sizes) was.2
+    by_claim (inr not) = ap (λ (x : SystemState). x.sizes) not.1
 
-pub cleared : (gs : List RegionState) (s z : Served) (t r : ℕ) (g h : RegionState) → AreDead gs → is_alive (state_of s.state t) ≡ true → slice_get gs r ≡ Some g → Released g s.state h z.state → z.promised ≡ s.promised
+released_stop : (g h : RegionState) (y z : SystemState) → Released g y h z → z.stop ≡ y.stop
+released_stop g h y z (inl none) = ap (λ (x : SystemState). x.stop) none.2
+released_stop g h y z (inr some) = by_claim some.3
+  where
+    by_claim : IsReclaimed y some.0.txn z → z.stop ≡ y.stop
+    by_claim (inl was) = ap (λ (x : SystemState). x.stop) was.2
+    by_claim (inr not) = ap (λ (x : SystemState). x.stop) not.1
+
+pub cleared : (gs : List RegionState) (s z : Served) (t r : ℕ) (g h : RegionState) → is_alive (state_of s.state t) ≡ true → slice_get gs r ≡ Some g → Released g s.state h z.state → z.promised ≡ s.promised
     → Cleared t gs s (slice_set gs r h) z
-cleared gs s z t r g h dead alive at released promised =
-    let others = release_others gs s.state z.state t r g h at released in
-    record {
-      left = record {
-        walks = release_walks t gs s.state z.state r g h dead alive at released;
-        others = others;
-        promises = promises_same s z t promised;
-        dead = dead_on gs (slice_set gs r h) dead others.holds;
-      };
-      locks = released_locks g h s.state z.state released;
-      promised = promised;
-      state = released_state s.state z.state t g h alive released;
-    }
+cleared gs s z t r g h alive at released promised = record {
+  left = record {
+    walks = release_walks t gs s.state z.state r g h alive at released;
+    others = release_others gs s.state z.state t r g h at released;
+    promises = promises_same s z t promised;
+  };
+  sizes = released_sizes g h s.state z.state released;
+  stop = released_stop g h s.state z.state released;
+  locks = released_locks g h s.state z.state released;
+  promised = promised;
+  row = released_row s.state z.state t g h alive released;
+}
 
 -- ---- how many regions are latched
 abbrev count : RegionState → ℕ

@@ -1,10 +1,12 @@
 -- From a run's moments to a core's points.
-use Rattle.std.proofs.Common.{◌≡◌, ◌<◌, ◌^◌, ℕ, true, List, [], Option, Result, Ok, Err, OnOk, OnErr, map, refl, ap, sym, subst, ◌∙◌}
+use Rattle.std.proofs.Common.{◌≡◌, ◌<◌, ◌^◌, ℕ, true, List, [], Option, Some, Result, Ok, Err, OnOk, OnErr, map, refl, ap, sym, subst, ◌∙◌}
 use Rattle.std.specs.List.{list_all}
 use Rattle.dali_record.specs.declared.records.Record.{Record}
 use Rattle.dali_region.specs.State.{RegionState}
+use Rattle.dali_att.specs.declared.state.State.TheVariants.{Live}
+use Rattle.dali_att.specs.Table.{undos_at}
 use Rattle.dali_store.specs.Store.{Files as Disk}
-use Rattle.dali_system.specs.State.{SystemState}
+use Rattle.dali_system.specs.State.{SystemState, state_of}
 use Rattle.dali_system.specs.Wholes.{IsWhole}
 use Rattle.dali_system.specs.Courses.{Step, Moment, IsCourse}
 use Rattle.dali_crash.specs.Checkpoints.{Point, Does, IsPointCourse, moment_of}
@@ -21,6 +23,9 @@ use Rattle.dali_clean.proofs.Courses.{in_run_on}
 use Rattle.dali_ends.specs.Stands.{StandsAt, IsUp}
 use Rattle.dali_ends.specs.Ended.{Walked, Walks, HasCome, Comes}
 use Rattle.dali_ends.specs.Left.{IsRunning, Left}
+use Rattle.dali_ends.specs.Guards.{UpMayEnd}
+use Rattle.dali_ends.proofs.Alone.{covered_here, whole_here, dead_still}
+use Rattle.dali_ends.proofs.Guarding.{none_alive}
 use Rattle.dali_ends.proofs.Walking.{is_of_end, all_of_end, quiet_steps, walked_of_end, Same, same_course, are_beside, walks_none}
 
 module _ {V : Type 0} (told : V → Option Disk) (may_leave : V → Disk → Type 0) (faults : V → ℕ) where
@@ -109,8 +114,8 @@ module _ {V : Type 0} (told : V → Option Disk) (may_leave : V → Disk → Typ
       there : Arrived s B p v walk.steps walk.log hs z
       there = arrive s B p gs hs y z v walk.steps walk.log k (walked_of_end t own last here hs z walk) walk.course dead
 
-  pub comes : (t : ℕ) (own : Record → Type 0) (last : List Record) (gs hs : List RegionState) (y z : SystemState) (v : Vaulted V) → Walks t own last gs y hs z → AreDead hs → Comes told may_leave faults t own last gs y v hs z
-  comes t own last gs hs y z v walks dead s B p k = come t own last s B p gs hs y z v k (walks (bases_of s) s.log p.log p.core.vault p.audits (run_at s B p gs y v k)) dead
+  pub comes : (t : ℕ) (own : Record → Type 0) (last : List Record) (gs hs : List RegionState) (y z : SystemState) (v : Vaulted V) → Walks t own last gs y hs z → (AreDead gs → AreDead hs) → Comes told may_leave faults t own last gs y v hs z
+  comes t own last gs hs y z v walks still s B p k = come t own last s B p gs hs y z v k (walks (bases_of s) s.log p.log p.core.vault p.audits (run_at s B p gs y v k) k.dead) (still k.dead)
 
   pub up_on : (t : ℕ) (own : Record → Type 0) (last : List Record) (gs hs : List RegionState) (y z : SystemState) (v : Vaulted V) → IsUp told may_leave faults gs y v → Comes told may_leave faults t own last gs y v hs z → IsUp told may_leave faults hs z v
   up_on t own last gs hs y z v up comes =
@@ -121,11 +126,11 @@ module _ {V : Type 0} (told : V → Option Disk) (may_leave : V → Disk → Typ
   small_here gs y v up = (places_are_small told may_leave faults up.start up.batches up.point v up.stands.at.vault).0
 
   -- ---- for the call
-  pub comes_none : (t : ℕ) (own : Record → Type 0) (gs : List RegionState) (y : SystemState) (v : Vaulted V) → IsUp told may_leave faults gs y v → Comes told may_leave faults t own [] gs y v gs y
-  comes_none t own gs y v up = comes t own [] gs gs y y v (walks_none t own gs y) up.stands.dead
+  pub comes_none : (t : ℕ) (own : Record → Type 0) (gs : List RegionState) (y : SystemState) (v : Vaulted V) → Comes told may_leave faults t own [] gs y v gs y
+  comes_none t own gs y v = comes t own [] gs gs y y v (walks_none t own gs y) (λ dead. dead)
 
   pub comes_left : (own : Record → Type 0) (last : List Record) (t : ℕ) (gs hs : List RegionState) (s z : Served) (v : Vaulted V) → Left own last t gs s hs z → Comes told may_leave faults t own last gs s.state v hs z.state
-  comes_left own last t gs hs s z v left = comes t own last gs hs s.state z.state v left.walks left.dead
+  comes_left own last t gs hs s z v left = comes t own last gs hs s.state z.state v left.walks (dead_still t gs hs s.state z.state left.others)
 
   pub comes_ok : {T E : Type 0} (r : Result T E) (own : Record → Type 0) (last : List Record) (t : ℕ) (gs hs : List RegionState) (s z : Served) (v : Vaulted V) → OnOk r (Left own last t gs s hs z) → OnOk r (Comes told may_leave faults t own last gs s.state v hs z.state)
   comes_ok (Ok x) own last t gs hs s z v left = comes_left own last t gs hs s z v left
@@ -139,3 +144,21 @@ module _ {V : Type 0} (told : V → Option Disk) (may_leave : V → Disk → Typ
       → IsUp told may_leave faults hs z.state w
   up_ended (Ok x) own last t gs hs s z v w same up ok err = subst (λ (u : Vaulted V). IsUp told may_leave faults hs z.state u) (sym same) (up_on t own last gs hs s.state z.state v up (comes_left own last t gs hs s z v ok))
   up_ended (Err e) own last t gs hs s z v w same up ok err = subst (λ (u : Vaulted V). IsUp told may_leave faults hs z.state u) (sym same) (up_on t own [] gs hs s.state z.state v up (comes_left own [] t gs hs s z v err))
+
+  -- what the guards look at
+  pub up_may_end : UpMayEnd told may_leave faults
+  up_may_end gs y v up = (
+    λ t lives. record {
+      whole = whole_here gs y (up_runs gs y v up);
+      lives = lives;
+      covered = covered_here gs y t (up_runs gs y v up);
+      releasable = none_alive gs (undos_at y.table t) up.stands.dead;
+    },
+    up.stands.dead,
+    small_here gs y v up,
+  )
+
+-- an abort that was refused leaves the transaction live
+pub still_live : {T E : Type 0} (r : Result T E) (y z : SystemState) (t : ℕ) → state_of y t ≡ Some Live → OnErr r (state_of z t ≡ Some Live) → OnErr r (state_of z t ≡ state_of y t)
+still_live (Ok x) y z t was now = tt
+still_live (Err e) y z t was now = now ∙ sym was

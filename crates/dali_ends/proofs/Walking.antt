@@ -18,7 +18,7 @@ use Rattle.dali_system.specs.Passes.{Audits}
 use Rattle.dali_system.specs.Courses.{Step, Operates, TakesBack, Frees, Ends, Locks, OnRegion, Claims, GivesBack, Recovers, Moment, IsStep, IsCourse}
 use Rattle.dali_steps.specs.Courses.{is_quiet}
 use Rattle.dali_single.proofs.Lists.{all_both}
-use Rattle.dali_clean.specs.Cleaned.{moment, InRun}
+use Rattle.dali_clean.specs.Cleaned.{moment, AreDead, InRun}
 use Rattle.dali_clean.specs.Steps.{is_own_change, is_apart, is_apart_on, AreBeside}
 use Rattle.dali_clean.proofs.Lists.{append_twice}
 use Rattle.dali_clean.proofs.Courses.{join, in_run_on, row_there}
@@ -236,13 +236,13 @@ pub run_on : (t : ℕ) (own : Record → Type 0) (last : List Record) (bases : B
     → (a : Walked t own last (moment gs y L v au) hs z) → InRun bases before (moment hs z a.log v au)
 run_on t own last bases before L v au gs hs y z run a = in_run_on bases before (moment gs y L v au) (moment hs z a.log v au) a.steps run a.course
 
-pub walks_on : (t : ℕ) (own : Record → Type 0) (last : List Record) (gs hs ks : List RegionState) (y m z : SystemState) → Walks t own [] gs y hs m → Walks t own last hs m ks z → Walks t own last gs y ks z
-walks_on t own last gs hs ks y m z p q bases before L v a run =
-    let first = p bases before L v a run in
-    walked_on t own last (moment gs y L v a) hs ks m z first (q bases before first.log v a (run_on t own [] bases before L v a gs hs y m run first))
+pub walks_on : (t : ℕ) (own : Record → Type 0) (last : List Record) (gs hs ks : List RegionState) (y m z : SystemState) → (AreDead gs → AreDead hs) → Walks t own [] gs y hs m → Walks t own last hs m ks z → Walks t own last gs y ks z
+walks_on t own last gs hs ks y m z still p q bases before L v a run dead =
+    let first = p bases before L v a run dead in
+    walked_on t own last (moment gs y L v a) hs ks m z first (q bases before first.log v a (run_on t own [] bases before L v a gs hs y m run first) (still dead))
 
 pub walks_more : (t : ℕ) (P Q : Record → Type 0) (last : List Record) (gs hs : List RegionState) (y z : SystemState) → ((x : Record) → P x → Q x) → Walks t P last gs y hs z → Walks t Q last gs y hs z
-walks_more t P Q last gs hs y z f p bases before L v a run = walked_more t P Q last (moment gs y L v a) hs z f (p bases before L v a run)
+walks_more t P Q last gs hs y z f p bases before L v a run dead = walked_more t P Q last (moment gs y L v a) hs z f (p bases before L v a run dead)
 
 pub walks_none : (t : ℕ) (own : Record → Type 0) (gs : List RegionState) (y : SystemState) → Walks t own [] gs y gs y
-walks_none t own gs y bases before L v a run = record { log = L; front = []; by = tt; steps = []; is = refl; course = refl; records = []; are = tt; logged = sym (append-nil L) ∙ sym (append-nil (L ++ [])) }
+walks_none t own gs y bases before L v a run dead = record { log = L; front = []; by = tt; steps = []; is = refl; course = refl; records = []; are = tt; logged = sym (append-nil L) ∙ sym (append-nil (L ++ [])) }

@@ -4,7 +4,7 @@
 --     ends_of t last           the step that logs the end of t, where a last record is logged
 --     Walked t own last m hs z     such steps, and t's end behind them where it is logged, lead from the moment m to these regions and this system; behind
 --                              its log stand own records, and then these last ones
---     Walks t own last gs y hs z   so they do from each run that has come to these regions and this system
+--     Walks t own last gs y hs z   so they do from each run that has come to these regions, of which none is latched for a client that is alive, and this system
 --     HasCome t own last s B p v gs z      with a store they lead from the point p to one where the core stands with these regions and this system, and the
 --                              vault as it was; none of them is one of another transaction that is alive
 --     Comes t own last gs y v hs z         so they do wherever the core gs y v stands in a run
@@ -21,7 +21,7 @@ use Rattle.dali_crash.specs.Checkpoints.{Point, Does, IsPointCourse}
 use Rattle.dali_crash.specs.Traces.{Start}
 use Rattle.dali_vault.specs.Vaulted.{Vaulted}
 use Rattle.dali_steps.specs.Called.{KeepsImage}
-use Rattle.dali_clean.specs.Cleaned.{moment, InRun}
+use Rattle.dali_clean.specs.Cleaned.{moment, AreDead, InRun}
 use Rattle.dali_clean.specs.Steps.{is_own_change, AreBeside}
 use Rattle.dali_ends.specs.Stands.{StandsAt}
 
@@ -53,7 +53,7 @@ pub record Walked (t : ℕ) (own : Record → Type 0) (last : List Record) (m : 
   pub logged : log ≡ m.log ++ records ++ last
 
 abbrev pub Walks : ℕ → (Record → Type 0) → List Record → List RegionState → SystemState → List RegionState → SystemState → Type 0
-Walks t own last gs y hs z = (bases : Bases) (before L : List Record) (v : VaultState) (a : Audits) → InRun bases before (moment gs y L v a) → Walked t own last (moment gs y L v a) hs z
+Walks t own last gs y hs z = (bases : Bases) (before L : List Record) (v : VaultState) (a : Audits) → InRun bases before (moment gs y L v a) → AreDead gs → Walked t own last (moment gs y L v a) hs z
 
 module _ {V : Type 0} (told : V → Option Disk) (may_leave : V → Disk → Type 0) (faults : V → ℕ) where
   pub record HasCome (t : ℕ) (own : Record → Type 0) (last : List Record) (s : Start) (B : List (List Record)) (p : Point) (v : Vaulted V) (gs : List RegionState) (z : SystemState) : Type 0 where

@@ -1,5 +1,5 @@
 -- What the parts of an end leave of regions and system.
---     IsRunning gs y           some run has come to these regions and this system
+--     IsRunning gs y           some run has come to these regions, of which none is latched for a client that is alive, and this system
 --     IsSettling gs y t us     and the rules of its log have t committed, with these removals left to be freed
 --     held gs                  how many regions are latched
 --     is_on r u                the undo u is on the region r
@@ -13,7 +13,7 @@ use Rattle.dali_record.specs.declared.operations.Pending.{Pending}
 use Rattle.dali_record.specs.declared.records.Record.{Record}
 use Rattle.dali_record.specs.declared.records.Record.TheVariants.{Ended}
 use Rattle.dali_region.specs.State.{RegionState}
-use Rattle.dali_system.specs.State.{SystemState, VaultState, state_of, hold_in}
+use Rattle.dali_system.specs.State.{SystemState, VaultState, row_of, hold_in}
 use Rattle.dali_system.specs.Run.{Bases}
 use Rattle.dali_system.specs.Passes.{Audits}
 use Rattle.dali_facts.specs.Ends.{IsEnding}
@@ -51,27 +51,27 @@ pub record Left (own : Record → Type 0) (last : List Record) (t : ℕ) (gs : L
   pub walks : Walks t own last gs s.state hs z.state
   pub others : OthersStay gs s.state t hs z.state
   pub promises : PromisesStay s t z
-  pub dead : AreDead hs
 
 abbrev pub none_of : Record → Type 0
 none_of x = ⊥
 
 pub record Cleared (t : ℕ) (gs : List RegionState) (s : Served) (hs : List RegionState) (z : Served) : Type 0 where
   pub left : Left none_of [] t gs s hs z
+  pub sizes : z.state.sizes ≡ s.state.sizes
+  pub stop : z.state.stop ≡ s.state.stop
   pub locks : z.state.locks ≡ s.state.locks
   pub promised : z.promised ≡ s.promised
-  pub state : state_of z.state t ≡ state_of s.state t
+  pub row : row_of z.state t ≡ row_of s.state t
 
 abbrev pub SettlesIn : ℕ → List Pending → List RegionState → SystemState → List RegionState → SystemState → Type 0
 SettlesIn t us gs y hs z =
-    (bases : Bases) (before L : List Record) (v : VaultState) (a : Audits) → InRun bases before (moment gs y L v a) → IsEnding y.sizes L t us
+    (bases : Bases) (before L : List Record) (v : VaultState) (a : Audits) → InRun bases before (moment gs y L v a) → AreDead gs → IsEnding y.sizes L t us
     → Walked t (IsSoloOf t) (Ended t ∷ []) (moment gs y L v a) hs z
 
 pub record Settled (t : ℕ) (us : List Pending) (gs : List RegionState) (s : Served) (hs : List RegionState) (z : Served) : Type 0 where
   pub walks : SettlesIn t us gs s.state hs z.state
   pub others : OthersStay gs s.state t hs z.state
   pub promises : PromisesStay s t z
-  pub dead : AreDead hs
   pub gone : IsGone z.state t
   pub released : promised_to z.promised t ≡ 0
-  pub holds : HoldsStay us gs hs
+  pub holds : IsSettling gs s.state t us → HoldsStay us gs hs

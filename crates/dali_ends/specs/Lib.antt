@@ -3,3 +3,4 @@ pub mod Stands
 pub mod Ended
 pub mod Left
 pub mod Committed
+pub mod Guards

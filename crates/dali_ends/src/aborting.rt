@@ -5,6 +5,7 @@ ghost use Rattle.dali_att.specs.Table.{undos_at};
 ghost use Rattle.dali_att.specs.declared.state.State.TheVariants.{Live};
 ghost use Rattle.dali_system.specs.State.{state_of};
 ghost use Rattle.dali_core.specs.Promised.{promised_to};
+ghost use Rattle.dali_calls.specs.Flags.{FlagsStay};
 ghost use Rattle.dali_single.specs.Ending.{IsBackOf};
 ghost use Rattle.dali_clean.specs.Others.{OthersStay, PromisesStay, IsGone};
 ghost use Rattle.dali_whole.specs.Cores.{IsWholeCore};
@@ -12,16 +13,17 @@ ghost use Rattle.dali_ends.specs.declared.error.AbortError.TheVariants.{Stopped,
 ghost use Rattle.dali_ends.specs.Stands.{IsUp};
 ghost use Rattle.dali_ends.specs.Ended.{Comes};
 ghost use Rattle.dali_ends.specs.Left.{HoldsStay, IsRunning, Left};
+ghost use Rattle.dali_ends.specs.Guards.{MayEnd};
 
 use crate::error::AbortError;
+use crate::guards::may_end;
 use crate::parts::take_back;
 use dali_store::Store;
 use dali_whole::Core;
 
-// Takes a live transaction of a running core back.
+// Takes a transaction of a running core back that may be ended.
 fn abort_running<V: Store>(core: &mut Core<V>, txn: u64) -> Result<(), AbortError>
-    requires running { IsRunning core.old.regions.items core.old.system.state }
-    requires lives { state_of core.old.system.state txn ≡ Some Live }
+    requires may { MayEnd core.old.regions.items core.old.system.state txn }
     requires runs { core.old.system.state.stop ≡ None }
     ensures ok { OnOk result (Left (IsBackOf txn) (Ended txn ∷ []) txn core.old.regions.items core.old.system core.new.regions.items core.new.system) }
     ensures left { OnErr result (Left (IsBackOf txn) [] txn core.old.regions.items core.old.system core.new.regions.items core.new.system) }
@@ -29,7 +31,8 @@ fn abort_running<V: Store>(core: &mut Core<V>, txn: u64) -> Result<(), AbortErro
     ensures lives { OnErr result (state_of core.new.system.state txn ≡ Some Live) }
     ensures memory { IfErr result (λ e. e ≡ OutOfMemory) }
     ensures released { OnOk result (promised_to core.new.system.promised txn ≡ 0) }
-    ensures in_the_way { HoldsStay (undos_at core.old.system.state.table txn) core.old.regions.items core.new.regions.items }
+    ensures in_the_way { IsRunning core.old.regions.items core.old.system.state → HoldsStay (undos_at core.old.system.state.table txn) core.old.regions.items core.new.regions.items }
+    ensures flags { FlagsStay core.old.regions.items core.new.regions.items }
     ensures vault { core.new.vault ≡ core.old.vault }
 {
     take_back(&mut core.regions, &mut core.system, txn)
@@ -39,31 +42,35 @@ fn abort_running<V: Store>(core: &mut Core<V>, txn: u64) -> Result<(), AbortErro
 /// the region of an undo, the operation in which that client died is taken back first, and its transaction stays dead. No call
 /// of the store is made.
 ///
-/// `Stopped` exactly where the engine is stopped, with that cause, and nothing changes then. `OutOfMemory` only where memory
-/// for a record is refused: what was taken back stays so, the transaction is live, and it may be asked for again.
+/// `Stopped` exactly where the engine is stopped, with that cause, and nothing changes then. Else `OutOfMemory` where memory
+/// for a record is refused: what was taken back stays so, the transaction is live, and it may be asked for again. It asks for
+/// nothing: where the transaction isn't live, or regions and system haven't what each point of a run has of a live one, it is
+/// refused as where memory is wanting.
 ///
 /// On Ok the transaction has no row, no lock and no memory promised any more. Behind the log stand its takings back, and then
 /// its end, and nothing else. Every other transaction keeps its row, its locks and the memory that it was promised; a dead one
 /// whose region was in the way, that is the region of an undo, has it latched no more.
 pub fn abort<V: Store>(core: &mut Core<V>, txn: u64) -> Result<(), AbortError>
-    requires up { IsUp V.told V.may_leave V.faults core.old.regions.items core.old.system.state core.old.vault }
-    requires lives { state_of core.old.system.state txn ≡ Some Live }
     ensures ok { OnOk result (Comes V.told V.may_leave V.faults txn (IsBackOf txn) (Ended txn ∷ []) core.old.regions.items core.old.system.state core.old.vault core.new.regions.items core.new.system.state) }
     ensures left { OnErr result (Comes V.told V.may_leave V.faults txn (IsBackOf txn) [] core.old.regions.items core.old.system.state core.old.vault core.new.regions.items core.new.system.state) }
-    ensures up { IsUp V.told V.may_leave V.faults core.new.regions.items core.new.system.state core.new.vault }
+    ensures up { IsUp V.told V.may_leave V.faults core.old.regions.items core.old.system.state core.old.vault → IsUp V.told V.may_leave V.faults core.new.regions.items core.new.system.state core.new.vault }
     ensures gone { OnOk result (IsGone core.new.system.state txn) }
     ensures released { OnOk result (promised_to core.new.system.promised txn ≡ 0) }
-    ensures lives { OnErr result (state_of core.new.system.state txn ≡ Some Live) }
+    ensures lives { OnErr result (state_of core.new.system.state txn ≡ state_of core.old.system.state txn) }
     ensures stopped { IfSome core.old.system.state.stop (λ cause. (result ≡ Err (Stopped cause)) × (core.new ≡ core.old)) }
     ensures memory { core.old.system.state.stop ≡ None → IfErr result (λ e. e ≡ OutOfMemory) }
     ensures vault { core.new.vault ≡ core.old.vault }
     ensures others { OthersStay core.old.regions.items core.old.system.state txn core.new.regions.items core.new.system.state }
-    ensures in_the_way { HoldsStay (undos_at core.old.system.state.table txn) core.old.regions.items core.new.regions.items }
+    ensures in_the_way { IsUp V.told V.may_leave V.faults core.old.regions.items core.old.system.state core.old.vault → HoldsStay (undos_at core.old.system.state.table txn) core.old.regions.items core.new.regions.items }
     ensures promises { PromisesStay core.old.system txn core.new.system }
-    ensures whole { IsWholeCore V.told core.old.regions.items core.old.system.state core.old.vault → IsWholeCore V.told core.new.regions.items core.new.system.state core.new.vault }
+    ensures flags { FlagsStay core.old.regions.items core.new.regions.items }
+    ensures whole { IsUp V.told V.may_leave V.faults core.old.regions.items core.old.system.state core.old.vault → IsWholeCore V.told core.old.regions.items core.old.system.state core.old.vault → IsWholeCore V.told core.new.regions.items core.new.system.state core.new.vault }
 {
     if let Some(cause) = core.system.stopped() {
         return Err(AbortError::Stopped { cause });
+    }
+    if !may_end(&core.regions, &core.system, txn) {
+        return Err(AbortError::OutOfMemory);
     }
     abort_running(core, txn)
 }

@@ -1,5 +1,6 @@
 //! Laws of ends over any store, each the contract of a function that does nothing.
 ghost use Rattle.dali_ends.specs.Committed.{CommitIsRight};
+ghost use Rattle.dali_ends.specs.Guards.{UpMayEnd};
 
 use dali_store::Store;
 
@@ -8,4 +9,10 @@ use dali_store::Store;
 /// among them. An abort calls no store, so a crash inside it leaves what one before it leaves.
 pub fn a_crash_inside_a_commit_is_right<V: Store>()
     ensures { CommitIsRight V.told V.may_leave V.faults }
+{}
+
+/// Wherever a core stands in a run, each live transaction may be ended: a commit or an abort of it is refused for want of
+/// memory alone.
+pub fn a_live_transaction_may_be_ended<V: Store>()
+    ensures { UpMayEnd V.told V.may_leave V.faults }
 {}

@@ -4,6 +4,7 @@
 mod aborting;
 mod committing;
 mod error;
+mod guards;
 pub mod laws;
 mod parts;
 

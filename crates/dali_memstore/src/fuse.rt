@@ -34,8 +34,8 @@ impl<V: Store> Fuse<V> {
         }
     }
 
-    // How many calls it failed since it last forgot them.
-    fn failed(&self) -> u64
+    /// How many calls it failed since it last forgot them; none while it has no number.
+    pub fn failed(&self) -> u64
         ensures { result ≡ failed_of self.now }
     {
         match self.passes {

@@ -9,3 +9,7 @@ mod Outcomes
 mod Made
 mod Playing
 mod Whole
+mod Keeping
+mod Handing
+mod Passing
+mod GoingOn

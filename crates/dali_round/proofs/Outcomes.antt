@@ -84,10 +84,6 @@ handed_cut w [] (k ∷ ks) e each = absurd (omega (arith, e))
 handed_cut w (a ∷ ss) [] e each = absurd (omega (arith, e))
 handed_cut w (a ∷ ss) (k ∷ ks) e each = (each zero a k refl refl, handed_cut w ss ks (omega (arith, e)) (λ i b l at_b at_l. each (suc i) b l at_b at_l))
 
-numbers_told : (ss : List Standing) → map (λ (a : Standing). a.client) ss ≡ map (λ (b : Told). b.client) (map told_of ss)
-numbers_told [] = refl
-numbers_told (a ∷ ss) = ap (λ l. a.client ∷ l) (numbers_told ss)
-
 -- ---- cores
 no_live : (gs : List RegionState) → AreDead gs → (r : ℕ) (g : RegionState) → slice_get gs r ≡ Some g → IsLive g → ⊥
 no_live gs dead r g e live = by_hold g.hold (dead r g e) live
@@ -318,7 +314,7 @@ module _ {V : Type 0} (told : V → Option Disk) (may_leave : V → Disk → Typ
         (played_by told may_leave faults precheck s p bs ks gs y v false false f m.place a m.client m.there m.at_client f.batches q (Finishes ∷ []) course ds x goes gs (in_checkpoint y false) v late (behind a f.world ds) m.client refl refl
         own_seat other_seat (λ e. absurd (cc)))
 
-  pub cut_leads : (precheck : Bool) (s : Start) (p : Point) (bs : List Told) (ks : List Client) (gs : List RegionState) (y : SystemState) (v : Vaulted V) → Played told may_leave faults false precheck s p bs ks gs y v
+  cut_leads : (precheck : Bool) (s : Start) (p : Point) (bs : List Told) (ks : List Client) (gs : List RegionState) (y : SystemState) (v : Vaulted V) → Played told may_leave faults false precheck s p bs ks gs y v
       → RoundLeads told may_leave faults precheck false s p bs (map lines_of ks) (map (λ (k : Client). k.transcript.receipts) ks) gs (in_checkpoint y false) v
   cut_leads precheck s p bs ks gs y v f = by_flag y.checking refl
     where
@@ -328,20 +324,7 @@ module _ {V : Type 0} (told : V → Option Disk) (may_leave : V → Disk → Typ
           let same : y ≡ in_checkpoint y false = ap (in_checkpoint y) e in
           subst (λ (z : SystemState). RoundLeads told may_leave faults precheck false s p bs (map lines_of ks) (map (λ (k : Client). k.transcript.receipts) ks) gs z v) same (cut_clear precheck s p bs ks gs y v f e)
 
-  -- ---- with the numbers of its clients
-  numbers_are : (ok precheck : Bool) (s : Start) (p : Point) (bs : List Told) (ks : List Client) (gs : List RegionState) (y : SystemState) (v : Vaulted V) → Played told may_leave faults ok precheck s p bs ks gs y v
-      → map (λ (k : Client). k.transcript.client) ks ≡ map (λ (b : Told). b.client) bs
-  numbers_are ok precheck s p bs ks gs y v f =
-      same_map (λ (a : Standing). a.client) (λ (k : Client). k.transcript.client) f.standings ks f.count (λ i a k at_a at_k. sym (f.seats i a k at_a at_k).is.client)
-      ∙ (numbers_told f.standings ∙ ap (map (λ (b : Told). b.client)) f.blocks)
-
-  pub end_done : (precheck : Bool) (s : Start) (p : Point) (bs : List Told) (ks : List Client) (gs : List RegionState) (y : SystemState) (v : Vaulted V) → Played told may_leave faults true precheck s p bs ks gs y v → AreOver ks
-      → RoundLeads told may_leave faults precheck true s p bs (map lines_of ks) (map (λ (k : Client). k.transcript.receipts) ks) gs y v × (map (λ (k : Client). k.transcript.client) ks ≡ map (λ (b : Told). b.client) bs)
-  end_done precheck s p bs ks gs y v f over = (done_leads precheck s p bs ks gs y v f over, numbers_are true precheck s p bs ks gs y v f)
-
   pub end_cut : (precheck : Bool) (s : Start) (p : Point) (bs : List Told) (ks : List Client) (gs : List RegionState) (y : SystemState) (v : Vaulted V) (z : SystemState) → z ≡ in_checkpoint y false → Played told may_leave faults false precheck s p bs ks gs y v
-      → RoundLeads told may_leave faults precheck false s p bs (map lines_of ks) (map (λ (k : Client). k.transcript.receipts) ks) gs z v × (map (λ (k : Client). k.transcript.client) ks ≡ map (λ (b : Told). b.client) bs)
-  end_cut precheck s p bs ks gs y v z e f = (
-    subst (λ (x : SystemState). RoundLeads told may_leave faults precheck false s p bs (map lines_of ks) (map (λ (k : Client). k.transcript.receipts) ks) gs x v) (sym e) (cut_leads precheck s p bs ks gs y v f),
-    numbers_are false precheck s p bs ks gs y v f,
-  )
+      → RoundLeads told may_leave faults precheck false s p bs (map lines_of ks) (map (λ (k : Client). k.transcript.receipts) ks) gs z v
+  end_cut precheck s p bs ks gs y v z e f =
+      subst (λ (x : SystemState). RoundLeads told may_leave faults precheck false s p bs (map lines_of ks) (map (λ (k : Client). k.transcript.receipts) ks) gs x v) (sym e) (cut_leads precheck s p bs ks gs y v f)

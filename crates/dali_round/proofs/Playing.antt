@@ -5,19 +5,21 @@ use Rattle.dali_store.specs.Store.{Files as Disk}
 use Rattle.dali_system.specs.State.{SystemState}
 use Rattle.dali_vault.specs.Vaulted.{Vaulted}
 use Rattle.dali_turns.specs.declared.client.Client.{Client}
-use Rattle.dali_round.specs.Played.{PlayGoes, MayPlay}
+use Rattle.dali_round.specs.Played.{PlayGoes}
 use Rattle.dali_round.proofs.Seats.{cut_play}
 
 module _ {V : Type 0} (told : V → Option Disk) (may_leave : V → Disk → Type 0) (faults : V → ℕ) (precheck : Bool) where
-  pub may_on : (ks js : List Client) (gs hs : List RegionState) (y z : SystemState) (v u : Vaulted V) → MayPlay told may_leave faults precheck ks gs y v → PlayGoes told may_leave faults precheck ks gs y v true js hs z u → MayPlay told may_leave faults precheck js hs z u
-  may_on ks js gs hs y z v u m goes = record { start = m.start; point = m.point; blocks = m.blocks; played = goes m.start m.point m.blocks m.played }
-
   pub goes_on : (ks js ls : List Client) (gs hs is : List RegionState) (y z x : SystemState) (v u t : Vaulted V) (ok : Bool) → PlayGoes told may_leave faults precheck ks gs y v true js hs z u → PlayGoes told may_leave faults precheck js hs z u ok ls is x t
       → PlayGoes told may_leave faults precheck ks gs y v ok ls is x t
   goes_on ks js ls gs hs is y z x v u t ok one two s p bs f = two s p bs (one s p bs f)
 
   pub goes_cut : (ks js : List Client) (gs hs : List RegionState) (y z : SystemState) (v u : Vaulted V) → PlayGoes told may_leave faults precheck ks gs y v true js hs z u → PlayGoes told may_leave faults precheck ks gs y v false js hs z u
   goes_cut ks js gs hs y z v u goes s p bs f = cut_play told may_leave faults precheck s p bs js hs z u (goes s p bs f)
+
+  -- whether it goes on or was cut, it may be cut here
+  pub goes_either : (ks js : List Client) (gs hs : List RegionState) (y z : SystemState) (v u : Vaulted V) (ok : Bool) → PlayGoes told may_leave faults precheck ks gs y v ok js hs z u → PlayGoes told may_leave faults precheck ks gs y v false js hs z u
+  goes_either ks js gs hs y z v u true goes = goes_cut ks js gs hs y z v u goes
+  goes_either ks js gs hs y z v u false goes = goes
 
   pub goes_as : (ks js : List Client) (gs hs : List RegionState) (y z : SystemState) (v u : Vaulted V) (ok is : Bool) → is ≡ ok → PlayGoes told may_leave faults precheck ks gs y v ok js hs z u → PlayGoes told may_leave faults precheck ks gs y v is js hs z u
   goes_as ks js gs hs y z v u ok is e goes = subst (λ (b : Bool). PlayGoes told may_leave faults precheck ks gs y v b js hs z u) (sym e) goes

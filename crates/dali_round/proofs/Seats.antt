@@ -27,12 +27,12 @@ use Rattle.dali_turns.specs.declared.client.State.{State}
 use Rattle.dali_turns.specs.Stood.{Stood}
 use Rattle.dali_turns.specs.Fits.{rest_of, IsOf, Owns, Fits}
 use Rattle.dali_turns.specs.Others.{LeavesOthers}
-use Rattle.dali_turns.specs.Goes.{Came, RowsTell, Went, MayStep}
-use Rattle.dali_turns.specs.Turns.{own_numbers, AreReceipts, Turned, TurnGoes, MayTurn}
+use Rattle.dali_turns.specs.Goes.{Came, RowsTell, Went}
+use Rattle.dali_turns.specs.Turns.{own_numbers, AreReceipts, Turned, TurnGoes}
 use Rattle.dali_turns.proofs.Refusals.{runs_on_log}
 use Rattle.dali_turns.proofs.Staying.{others_fit}
 use Rattle.dali_turns.proofs.Cutting.{fits_under_way}
-use Rattle.dali_round.specs.Played.{EachIsOwned, IsSeated, Played, PlayGoes, MayPlay}
+use Rattle.dali_round.specs.Played.{EachIsOwned, IsSeated, Played, PlayGoes}
 use Rattle.dali_round.proofs.Lists.{get_map, map_set, length_set, get_set, get_set_other, with_length, all_append}
 use Rattle.dali_round.proofs.Begun.{in_one}
 use Rattle.dali_round.proofs.Places.{at_spot, owns_within}
@@ -177,23 +177,6 @@ module _ {V : Type 0} (told : V → Option Disk) (may_leave : V → Disk → Typ
 
     seat : IsSeated told may_leave faults true s f.batches f.to f.world gs y v there.0 k
     seat = f.seats i there.0 k there.1 at_k
-
-    may_step : MayStep told may_leave faults k.state k gs y v
-    may_step = record {
-      start = s;
-      batches = f.batches;
-      point = f.to;
-      world = f.world;
-      standing = there.0;
-      precheck = precheck;
-      stood = f.stood;
-      is = seat.is;
-      fits = seat.came;
-    }
-
-    pub may_turn : MayTurn told may_leave faults precheck k gs y v
-    unfolding may_step
-    may_turn = (may_step, refl)
 
     module _ (ok : Bool) (j : Client) (hs : List RegionState) (z : SystemState) (u : Vaulted V) (turn : TurnGoes told may_leave faults precheck k gs y v ok j hs z u) where
       abbrev t : Turned told may_leave faults precheck s f.batches f.to f.world there.0 k gs y v ok j hs z u

@@ -1,5 +1,5 @@
 -- A whole round, from the core that was handed in.
-use Rattle.std.proofs.Common.{◌≡◌, ℕ, Bool, true, false, List, [], ◌∷◌, map, Option, refl, ap, sym, subst, ◌∙◌}
+use Rattle.std.proofs.Common.{◌≡◌, ℕ, ◌+◌, Bool, true, false, List, [], ◌∷◌, length, map, Option, refl, ap, sym, subst, ◌∙◌, arith}
 use Rattle.dali_record.specs.declared.records.Record.{Record}
 use Rattle.dali_region.specs.State.{RegionState}
 use Rattle.dali_store.specs.Store.{Files as Disk}
@@ -17,26 +17,35 @@ use Rattle.dali_clients.specs.Told.{told_of}
 use Rattle.dali_turns.specs.declared.client.Client.{Client}
 use Rattle.dali_turns.specs.Fits.{lines_of}
 use Rattle.dali_turns.proofs.Commands.{none_under_way}
-use Rattle.dali_round.specs.Leads.{lines_in, BeginsAt, MayBegin, RoundLeads}
-use Rattle.dali_round.specs.Played.{AreNew, MayPlay}
-use Rattle.dali_round.specs.Ends.{EndGoes}
+use Rattle.dali_round.specs.Leads.{lines_in, BeginsAt, RoundLeads}
+use Rattle.dali_round.specs.Played.{AreNew}
+use Rattle.dali_round.specs.Ends.{EndGoes, named}
 use Rattle.dali_round.proofs.Starts.{world, stood, start_played}
 
-lines_same : (ks : List Client) → map lines_in (map (λ (k : Client). k.transcript) ks) ≡ map lines_of ks
-lines_same [] = refl
-lines_same (k ∷ ks) = ap (λ l. lines_of k ∷ l) (lines_same ks)
+-- ---- under the numbers of the blocks
+lines_same : (bs : List Block) (ks : List Client) → length ks ≡ length bs → map lines_in (named bs ks) ≡ map lines_of ks
+lines_same [] [] e = refl
+lines_same [] (k ∷ ks) e = absurd (omega (arith, e))
+lines_same (b ∷ bs) [] e = absurd (omega (arith, e))
+lines_same (b ∷ bs) (k ∷ ks) e = ap (λ l. lines_of k ∷ l) (lines_same bs ks (omega (arith, e)))
 
-receipts_same : (ks : List Client) → map (λ (t : Transcribed). t.receipts) (map (λ (k : Client). k.transcript) ks) ≡ map (λ (k : Client). k.transcript.receipts) ks
-receipts_same [] = refl
-receipts_same (k ∷ ks) = ap (λ l. k.transcript.receipts ∷ l) (receipts_same ks)
+receipts_same : (bs : List Block) (ks : List Client) → length ks ≡ length bs → map (λ (t : Transcribed). t.receipts) (named bs ks) ≡ map (λ (k : Client). k.transcript.receipts) ks
+receipts_same [] [] e = refl
+receipts_same [] (k ∷ ks) e = absurd (omega (arith, e))
+receipts_same (b ∷ bs) [] e = absurd (omega (arith, e))
+receipts_same (b ∷ bs) (k ∷ ks) e = ap (λ l. k.transcript.receipts ∷ l) (receipts_same bs ks (omega (arith, e)))
 
-numbers_same : (ks : List Client) → map (λ (t : Transcribed). t.client) (map (λ (k : Client). k.transcript) ks) ≡ map (λ (k : Client). k.transcript.client) ks
-numbers_same [] = refl
-numbers_same (k ∷ ks) = ap (λ l. k.transcript.client ∷ l) (numbers_same ks)
+pub many_named : (bs : List Block) (ks : List Client) → length ks ≡ length bs → length (named bs ks) ≡ length bs
+many_named [] [] e = refl
+many_named [] (k ∷ ks) e = absurd (omega (arith, e))
+many_named (b ∷ bs) [] e = absurd (omega (arith, e))
+many_named (b ∷ bs) (k ∷ ks) e = let more = many_named bs ks (omega (arith, e)) in omega (arith, more)
 
-blocks_same : (bs : List Block) → map (λ (b : Told). b.client) (map told_of bs) ≡ map (λ (b : Block). b.client) bs
-blocks_same [] = refl
-blocks_same (b ∷ bs) = ap (λ l. b.client ∷ l) (blocks_same bs)
+pub numbers_same : (bs : List Block) (ks : List Client) → length ks ≡ length bs → map (λ (t : Transcribed). t.client) (named bs ks) ≡ map (λ (b : Block). b.client) bs
+numbers_same [] [] e = refl
+numbers_same [] (k ∷ ks) e = absurd (omega (arith, e))
+numbers_same (b ∷ bs) [] e = absurd (omega (arith, e))
+numbers_same (b ∷ bs) (k ∷ ks) e = ap (λ l. b.client ∷ l) (numbers_same bs ks (omega (arith, e)))
 
 -- a round of which nothing was done or said
 none_tell : (w : World) (bs : List Told) → w.happened ≡ [] → EachTells false w bs []
@@ -90,19 +99,11 @@ module _ {V : Type 0} (told : V → Option Disk) (may_leave : V → Disk → Typ
       handed [] = tt
       handed (c ∷ bs) = tt
 
-  pub may_start : (gs : List RegionState) (y : SystemState) (v : Vaulted V) (bs : List Block) (ks : List Client) → MayBegin told may_leave faults gs y v → AreBlocks (map told_of bs) → AreNew bs ks → MayPlay told may_leave faults precheck ks gs y v
-  may_start gs y v bs ks m are new = record { start = m.start; point = m.point; blocks = map told_of bs; played = start_played told may_leave faults precheck m.start m.batches m.point gs y v m.begins bs ks are new }
-
   module _ (gs hs : List RegionState) (y z : SystemState) (v u : Vaulted V) (whole : Bool) (bs : List Block) (ks js : List Client) (ts : List Transcribed) (are : AreBlocks (map told_of bs)) (new : AreNew bs ks)
-      (goes : EndGoes told may_leave faults precheck ks gs y v whole js hs z u) (is : ts ≡ map (λ (k : Client). k.transcript) js) where
+      (goes : EndGoes told may_leave faults precheck ks gs y v whole js hs z u) (size : length js ≡ length bs) (is : ts ≡ named bs js) where
     pub round_leads : (s : Start) (B : List (List Record)) (p : Point) → BeginsAt told may_leave faults s B p gs y v → RoundLeads told may_leave faults precheck whole s p (map told_of bs) (map lines_in ts) (map (λ (t : Transcribed). t.receipts) ts) hs z u
     round_leads s B p b =
         subst (λ (l : List Transcribed). RoundLeads told may_leave faults precheck whole s p (map told_of bs) (map lines_in l) (map (λ (t : Transcribed). t.receipts) l) hs z u) (sym is)
-        (subst (λ l. RoundLeads told may_leave faults precheck whole s p (map told_of bs) l (map (λ (t : Transcribed). t.receipts) (map (λ (k : Client). k.transcript) js)) hs z u) (sym (lines_same js))
-        (subst (λ l. RoundLeads told may_leave faults precheck whole s p (map told_of bs) (map lines_of js) l hs z u) (sym (receipts_same js))
-        (goes s p (map told_of bs) (start_played told may_leave faults precheck s B p gs y v b bs ks are new)).0))
-
-    pub round_numbers : MayBegin told may_leave faults gs y v → map (λ (t : Transcribed). t.client) ts ≡ map (λ (b : Block). b.client) bs
-    round_numbers m =
-        ap (map (λ (t : Transcribed). t.client)) is
-        ∙ (numbers_same js ∙ ((goes m.start m.point (map told_of bs) (start_played told may_leave faults precheck m.start m.batches m.point gs y v m.begins bs ks are new)).1 ∙ blocks_same bs))
+        (subst (λ l. RoundLeads told may_leave faults precheck whole s p (map told_of bs) l (map (λ (t : Transcribed). t.receipts) (named bs js)) hs z u) (sym (lines_same bs js size))
+        (subst (λ l. RoundLeads told may_leave faults precheck whole s p (map told_of bs) (map lines_of js) l hs z u) (sym (receipts_same bs js size))
+        (goes s p (map told_of bs) (start_played told may_leave faults precheck s B p gs y v b bs ks are new))))

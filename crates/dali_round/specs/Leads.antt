@@ -1,6 +1,5 @@
--- What a round asks of its core, and what it promises.
+-- What a round promises of its core.
 --     BeginsAt s B p gs y v    a run from the start s has come to the point p, where the core stands with its image files, and a round may begin
---     MayBegin gs y v          there is such a run
 --     RoundLeads ..            the run goes on from p, by just what the round's deeds tell, to a point where the core stands
 --     RoundGoes ..             so it does from each such point
 use Rattle.std.specs.Prelude.{◌≡◌, ℕ, Bool, true, false, List, Option, IfSome, map}
@@ -36,12 +35,6 @@ module _ {V : Type 0} (told : V → Option Disk) (may_leave : V → Disk → Typ
     pub files : IfSome (told v.store) (HoldsPlaces gs)
     pub keeps : FlagTells p
     pub between : IsBetween p.core
-
-  pub record MayBegin (gs : List RegionState) (y : SystemState) (v : Vaulted V) : Type 0 where
-    pub start : Start
-    pub batches : List (List Record)
-    pub point : Point
-    pub begins : BeginsAt start batches point gs y v
 
   pub record RoundLeads (precheck whole : Bool) (s : Start) (p : Point) (blocks : List Told) (lines : List (List Said)) (receipts : List (List ℕ))
       (hs : List RegionState) (z : SystemState) (u : Vaulted V) : Type 0 where

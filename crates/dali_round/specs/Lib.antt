@@ -1,3 +1,4 @@
 pub mod Leads
 pub mod Played
 pub mod Ends
+pub mod Idle

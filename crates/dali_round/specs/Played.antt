@@ -5,8 +5,8 @@
 --     IsSeated ok ..           a client stands between two steps, or, where memory was wanted, in one that was cut short
 --     Played ok ..             the round of these blocks has come from the point p to where the core stands, with these clients
 --     PlayGoes ok ..           it goes on from wherever it began
---     MayPlay ..               it began somewhere
-use Rattle.std.specs.Prelude.{◌≡◌, ℕ, Bool, true, false, ◌==◌, List, [], Option, Some, None, length, map, slice_get}
+--     HavePlaces ks gs v       of each client and the image files is so what a step asks for, whatever log there is
+use Rattle.std.specs.Prelude.{◌≡◌, ℕ, Bool, true, false, ◌==◌, List, [], Option, Some, None, length, map, slice_get, IfSome}
 use Rattle.std.specs.List.{list_all}
 use Rattle.dali_record.specs.declared.records.Record.{Record}
 use Rattle.dali_region.specs.State.{RegionState}
@@ -16,6 +16,7 @@ use Rattle.dali_system.specs.State.{SystemState, state_of, log_after}
 use Rattle.dali_crash.specs.Checkpoints.{StoreStep, Point, IsPointCourse}
 use Rattle.dali_crash.specs.Traces.{Start}
 use Rattle.dali_vault.specs.Vaulted.{Vaulted}
+use Rattle.dali_whole.specs.Cores.{HoldsPlaces}
 use Rattle.dali_transcripts.specs.World.{Happening, World}
 use Rattle.dali_transcripts.specs.Transcripts.{Told, is_among}
 use Rattle.dali_transcripts.specs.Rounds.{Standing, AreBlocks, told_of}
@@ -28,6 +29,7 @@ use Rattle.dali_turns.specs.Stood.{Stood}
 use Rattle.dali_turns.specs.Fits.{IsOf, Owns}
 use Rattle.dali_turns.specs.Goes.{Came}
 use Rattle.dali_turns.specs.Turns.{AreReceipts}
+use Rattle.dali_turns.specs.Places.{ReachesNext}
 
 pub record IsNew (b : Block) (k : Client) : Type 0 where
   pub rest : k.rest.now ≡ b.commands.items
@@ -40,6 +42,10 @@ pub record AreNew (bs : List Block) (ks : List Client) : Type 0 where
 
 abbrev pub AreOver : List Client → Type 0
 AreOver ks = (i : ℕ) (k : Client) → slice_get ks i ≡ Some k → is_over k.state (length k.rest.now == 0) ≡ true
+
+pub record HavePlaces {V : Type 0} (told : V → Option Disk) (ks : List Client) (gs : List RegionState) (v : Vaulted V) : Type 0 where
+  pub files : IfSome (told v.store) (HoldsPlaces gs)
+  pub next : (i : ℕ) (k : Client) → slice_get ks i ≡ Some k → ReachesNext told k.state v
 
 -- while the engine runs each live transaction is a client's
 abbrev pub EachIsOwned : List Client → SystemState → Type 0
@@ -72,9 +78,3 @@ module _ {V : Type 0} (told : V → Option Disk) (may_leave : V → Disk → Typ
 
   abbrev pub PlayGoes : Bool → List Client → List RegionState → SystemState → Vaulted V → Bool → List Client → List RegionState → SystemState → Vaulted V → Type 0
   PlayGoes precheck ks gs y v ok js hs z u = (s : Start) (p : Point) (bs : List Told) → Played true precheck s p bs ks gs y v → Played ok precheck s p bs js hs z u
-
-  pub record MayPlay (precheck : Bool) (ks : List Client) (gs : List RegionState) (y : SystemState) (v : Vaulted V) : Type 0 where
-    pub start : Start
-    pub point : Point
-    pub blocks : List Told
-    pub played : Played true precheck start point blocks ks gs y v

@@ -1,10 +1,13 @@
 //! A whole round.
-ghost use Rattle.std.specs.Prelude.{◌≡◌, ◌<◌, ◌⊎◌, [], false, true, map, length, vec_capacity, vec_len, is_ok, IfOk, IfSome, OnOk};
+ghost use Rattle.std.specs.Prelude.{◌≡◌, ◌<◌, ◌⊎◌, ℕ, [], false, true, Ok, Some, None, map, slice_get, length, vec_capacity, vec_len, is_ok, IfOk, IfSome, OnOk};
 ghost use Rattle.dali_transcripts.specs.Rounds.{AreBlocks};
 ghost use Rattle.dali_clients.specs.Told.{told_of};
-ghost use Rattle.dali_round.specs.Leads.{is_done, MayBegin, RoundGoes};
-ghost use Rattle.dali_round.specs.Played.{AreNew, AreOver, MayPlay, PlayGoes};
-ghost use Rattle.dali_round.specs.Ends.{EndGoes};
+ghost use Rattle.dali_whole.specs.Cores.{HoldsPlaces};
+ghost use Rattle.dali_round.specs.Leads.{is_done, RoundGoes};
+ghost use Rattle.dali_round.specs.Played.{AreNew, AreOver, HavePlaces, PlayGoes};
+ghost use Rattle.dali_round.specs.Ends.{EndGoes, named};
+ghost use Rattle.dali_round.specs.Idle.{IsFirst, IsPassed, AreIdle, NoneHasCome};
+ghost use Rattle.dali_turns.specs.declared.client.Client.{Client as ClientOf};
 
 use dali_bytes::OutOfMemory;
 use dali_clients::{Block, Transcript};
@@ -49,8 +52,10 @@ fn make_turn<V: Store, G: Gate>(
     core: &mut Core<V>,
     setting: &Setting<'_, G>,
 ) -> Result<bool, OutOfMemory>
-    requires { MayPlay V.told V.may_leave V.faults setting.now.precheck clients.old core.old.regions.items core.old.system.state core.old.vault }
-    ensures { PlayGoes V.told V.may_leave V.faults setting.now.precheck clients.old core.old.regions.items core.old.system.state core.old.vault (is_ok result) clients.new core.new.regions.items core.new.system.state core.new.vault }
+    requires { HavePlaces V.told clients.old core.old.regions.items core.old.vault }
+    ensures goes { PlayGoes V.told V.may_leave V.faults setting.now.precheck clients.old core.old.regions.items core.old.system.state core.old.vault (is_ok result) clients.new core.new.regions.items core.new.system.state core.new.vault }
+    ensures places { HavePlaces V.told clients.new core.new.regions.items core.new.vault }
+    ensures idle { result ≡ Ok false → IsPassed core.old.system.state clients.old clients.new number × (core.new ≡ core.old) }
 {
     let Some(place) = place_of(clients, number) else {
         return Ok(false);
@@ -58,9 +63,11 @@ fn make_turn<V: Store, G: Gate>(
     turn(&mut clients[place], core, setting)
 }
 
-// Where the client with this number stands.
+// Where the client with this number stands, the first one if there are several.
 fn place_of(clients: &[Client<'_>], number: u32) -> Option<usize>
-    ensures { IfSome result (λ place. place < length clients.now) }
+    ensures within { IfSome result (λ place. place < length clients.now) }
+    ensures first { IfSome result (λ place. (i : ℕ) (k : ClientOf) → IsFirst clients.now number i k → i ≡ place) }
+    ensures none { result ≡ None → (i : ℕ) (k : ClientOf) → IsFirst clients.now number i k → ⊥ }
 {
     clients.iter().position(|client| client.number() == number)
 }
@@ -71,8 +78,10 @@ fn make_turns<V: Store, G: Gate>(
     core: &mut Core<V>,
     setting: &Setting<'_, G>,
 ) -> Result<bool, OutOfMemory>
-    requires { MayPlay V.told V.may_leave V.faults setting.now.precheck clients.old core.old.regions.items core.old.system.state core.old.vault }
-    ensures { PlayGoes V.told V.may_leave V.faults setting.now.precheck clients.old core.old.regions.items core.old.system.state core.old.vault (is_ok result) clients.new core.new.regions.items core.new.system.state core.new.vault }
+    requires { HavePlaces V.told clients.old core.old.regions.items core.old.vault }
+    ensures goes { PlayGoes V.told V.may_leave V.faults setting.now.precheck clients.old core.old.regions.items core.old.system.state core.old.vault (is_ok result) clients.new core.new.regions.items core.new.system.state core.new.vault }
+    ensures places { HavePlaces V.told clients.new core.new.regions.items core.new.vault }
+    ensures idle { result ≡ Ok false → AreIdle core.new.system.state clients.new 65 }
 {
     let mut went_on = false;
     for number in 1..=MAX_CLIENT {
@@ -84,7 +93,8 @@ fn make_turns<V: Store, G: Gate>(
 
 // Whether each client is done.
 fn are_over(clients: &[Client<'_>]) -> bool
-    ensures { result ≡ true → AreOver clients.now }
+    ensures is { result ≡ true → AreOver clients.now }
+    ensures always { AreOver clients.now → result ≡ true }
 {
     for client in clients {
         if !client.is_over() {
@@ -94,22 +104,22 @@ fn are_over(clients: &[Client<'_>]) -> bool
     true
 }
 
-// Lets the clients make their turns until each is done.
+// Lets the clients make their turns until nobody goes on. Answers whether each is done then: so it is wherever a run has come,
+// since a request waits for younger transactions alone, and each live one is a client's.
 fn run<V: Store, G: Gate>(
     clients: &mut [Client<'_>],
     core: &mut Core<V>,
     setting: &Setting<'_, G>,
-) -> Result<(), OutOfMemory>
-    requires { MayPlay V.told V.may_leave V.faults setting.now.precheck clients.old core.old.regions.items core.old.system.state core.old.vault }
+) -> Result<bool, OutOfMemory>
+    requires { HavePlaces V.told clients.old core.old.regions.items core.old.vault }
     ensures goes { PlayGoes V.told V.may_leave V.faults setting.now.precheck clients.old core.old.regions.items core.old.system.state core.old.vault (is_ok result) clients.new core.new.regions.items core.new.system.state core.new.vault }
-    ensures over { OnOk result (AreOver clients.new) }
+    ensures places { HavePlaces V.told clients.new core.new.regions.items core.new.vault }
+    ensures over { result ≡ Ok true → AreOver clients.new }
+    ensures stuck { result ≡ Ok false → NoneHasCome V.told V.may_leave V.faults setting.now.precheck clients.old core.old.regions.items core.old.system.state core.old.vault }
 {
     for _ in 0..u64::MAX {
-        if are_over(clients) {
-            return Ok(());
-        }
         if !make_turns(clients, core, setting)? {
-            break; // each client that isn't done waits for a transaction that no client of the round has
+            return Ok(are_over(clients));
         }
     }
     Err(OutOfMemory)
@@ -121,27 +131,38 @@ fn play<V: Store, G: Gate>(
     core: &mut Core<V>,
     setting: &Setting<'_, G>,
 ) -> RoundEnd
-    requires { MayPlay V.told V.may_leave V.faults setting.now.precheck clients.old core.old.regions.items core.old.system.state core.old.vault }
-    ensures { EndGoes V.told V.may_leave V.faults setting.now.precheck clients.old core.old.regions.items core.old.system.state core.old.vault (is_done result) clients.new core.new.regions.items core.new.system.state core.new.vault }
+    requires { HavePlaces V.told clients.old core.old.regions.items core.old.vault }
+    ensures goes { EndGoes V.told V.may_leave V.faults setting.now.precheck clients.old core.old.regions.items core.old.system.state core.old.vault (is_done result) clients.new core.new.regions.items core.new.system.state core.new.vault }
+    ensures places { IfSome (V.told core.new.vault.store) (HoldsPlaces core.new.regions.items) }
 {
     match run(clients, core, setting) {
-        Ok(()) => RoundEnd::Done,
-        Err(_) => {
+        Ok(true) => RoundEnd::Done,
+        Ok(false) | Err(_) => {
             core.system.end_copy();
             RoundEnd::OutOfMemory
         }
     }
 }
 
-// The transcripts of these clients, in the room that was made for them.
-fn transcripts_of(clients: Vec<Client<'_>>, room: Vec<Transcript>) -> Vec<Transcript>
+// The transcripts of the clients of these blocks, in the room that was made for them, each under its block's number: that no
+// step changes it follows from a run alone.
+fn transcripts_of(
+    clients: Vec<Client<'_>>,
+    blocks: &[Block],
+    room: Vec<Transcript>,
+) -> Vec<Transcript>
     requires none { room.items ≡ [] }
     requires room { length clients.items ≡ vec_capacity room }
-    ensures { result.items ≡ map (λ k. k.transcript) clients.entry.items }
+    requires blocks { length clients.items ≡ length blocks.now }
+    ensures { result.items ≡ named blocks.now clients.entry.items }
 {
     let mut transcripts = room;
     for client in clients {
-        if transcripts.push(client.into_transcript()).is_err() {
+        let number = blocks[transcripts.len()].client;
+        if transcripts
+            .push(client.into_transcript().with_client(number))
+            .is_err()
+        {
             unreachable!() // there is room
         }
     }
@@ -157,8 +178,9 @@ fn transcripts_of(clients: Vec<Client<'_>>, room: Vec<Transcript>) -> Vec<Transc
 /// again from its begin under a new number when that holder has ended, up to 1,000 times. A dead transaction whose lock or
 /// latch is in the way is cleaned up. Where the engine stops each client goes on, and its commands are refused.
 ///
-/// `OutOfMemory` where memory for a step, a line or a client was refused: where it was for the clients, there are no
-/// transcripts, and nothing was done.
+/// It takes any core, whatever log it has: what is promised of a run is so where one has come to it, as behind a format, a
+/// restart, or a round that ended with `Done`. `OutOfMemory` where memory for a step, a line or a client was refused, or where
+/// a core that no run has come to has no step: where it was for the clients, there are no transcripts, and nothing was done.
 pub fn round<V: Store, G: Gate>(
     alloc: Global,
     core: Core<V>,
@@ -167,10 +189,11 @@ pub fn round<V: Store, G: Gate>(
     gate: &G,
 ) -> (Core<V>, Vec<Transcript>, RoundEnd)
     requires placed { AreBlocks (map told_of blocks.now) }
-    requires core { MayBegin V.told V.may_leave V.faults core.regions.items core.system.state core.vault }
+    requires files { IfSome (V.told core.vault.store) (HoldsPlaces core.regions.items) }
     ensures leads { RoundGoes V.told V.may_leave V.faults precheck blocks.now core.regions.items core.system.state core.vault result.2 result.1.items result.0.regions.items result.0.system.state result.0.vault }
     ensures clients { (map (λ t. t.client) result.1.items ≡ map (λ b. b.client) blocks.now) ⊎ (result.1.items ≡ []) }
     ensures nothing { length result.1.items < length blocks.now → result.0 ≡ core }
+    ensures files { IfSome (V.told result.0.vault.store) (HoldsPlaces result.0.regions.items) }
 {
     let mut core = core;
     let Ok((mut clients, room)) = clients_of(alloc, blocks) else {
@@ -182,5 +205,5 @@ pub fn round<V: Store, G: Gate>(
         gate,
     };
     let end = play(&mut clients, &mut core, &setting);
-    (core, transcripts_of(clients, room), end)
+    (core, transcripts_of(clients, blocks, room), end)
 }

@@ -1,4 +1,5 @@
 pub mod Lists
+pub mod Holding
 pub mod Leading
 pub mod Measure
 pub mod Writing
@@ -12,3 +13,4 @@ pub mod Settled
 pub mod Promising
 pub mod Guards
 pub mod Standing
+pub mod Flags

@@ -43,6 +43,7 @@ use Rattle.dali_single.specs.Refusals.{IsUnfreed, IsStuck}
 use Rattle.dali_facts.specs.Undos.{MayBePerformed}
 use Rattle.dali_single.specs.Single.{OthersStay}
 use Rattle.dali_single.specs.Settling.{settle_room, IsPromised, MayFree, IsSoloOf, MayCommit, Commits, IsCommitted, IsSettled, IsLeft, left_behind, Freed, AreFreed}
+use Rattle.dali_single.proofs.Holding.{holds_put, holds_further}
 use Rattle.dali_single.proofs.Lists.{set_same, set_twice, get_set, all_both, logged_on}
 use Rattle.dali_single.proofs.Leading.{leads_on, one_step, leads_there, steps_on, stays_free, goes_on}
 use Rattle.dali_single.proofs.Writing.{opened_by, held_open}
@@ -149,7 +150,7 @@ freed_led L rs y v t u us b ws g opened xs fits may made_on spelled at goes is r
     }
 
 pub none_freed : (rs : List RegionState) (y : SystemState) (t : ℕ) (us : List Pending) → length rs ≡ regions y.sizes → AllByRecursion (MayFree y t) us → state_of y t ≡ Some Committed → AreFreed rs y t us us rs y
-none_freed rs y t us whole may state = record { whole = whole; sizes = refl; may = may; state = state; others = λ n e. (refl, λ k. refl); leads = λ L v work. record { log = L; steps = []; leads = (refl, refl); own = []; logged = sym (append-nil L); solos = tt; at = work } }
+none_freed rs y t us whole may state = record { whole = whole; sizes = refl; may = may; state = state; others = λ n e. (refl, λ k. refl); holds = λ q. inl refl; leads = λ L v work. record { log = L; steps = []; leads = (refl, refl); own = []; logged = sym (append-nil L); solos = tt; at = work } }
 
 same_may : (y : SystemState) (t u : ℕ) (b : Block) (us : List Pending) → AllByRecursion (MayFree y t) us → AllByRecursion (MayFree (solo_logged y u b) t) us
 same_may y t u b us h = all_undos (MayFree y t) (MayFree (solo_logged y u b) t) us (λ w may. record { removal = may.removal; spelled = may.spelled; kind = may.kind; lock = may.lock }) h
@@ -164,6 +165,7 @@ free_further rs0 rs y0 y z t all us u g h fits goes at o =
       may = same_may y t t o.block us goes.may.1;
       state = goes.state;
       others = goes.others;
+      holds = holds_further rs0 rs (slice_set rs u.region (touched o.opened)) goes.holds (holds_put rs u.region g (touched o.opened) at refl);
       leads = λ L v work.
           let one = goes.leads L v work in
           let two = freed_led one.log rs y v t u us o.block g.words g o.opened o.steps fits goes.may.0 o.made_on o.spelled at o.goes o.is_open o.runs o.fits goes.state one.at in
@@ -189,6 +191,7 @@ free_refused rs0 rs y0 s z t r all us g h goes at still (inr left) =
       may = goes.may;
       state = goes.state;
       others = goes.others;
+      holds = holds_further rs0 rs (slice_set rs r h) goes.holds (holds_put rs r g h at left.2);
       leads = λ L v work.
           let one = goes.leads L v work in
           record {

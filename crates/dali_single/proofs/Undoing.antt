@@ -39,6 +39,7 @@ use Rattle.dali_single.specs.Operated.{IsHeldBy, AreWritten, Goes, IsLeftOf}
 use Rattle.dali_facts.specs.Undos.{MayBePerformed}
 use Rattle.dali_single.specs.Single.{OthersStay, IsGone, AreCovered, Keeps}
 use Rattle.dali_single.specs.Ending.{IsBackOf, IsAtWork, IsEnded, IsStillAtWork, Undone, UndoesFrom}
+use Rattle.dali_single.proofs.Holding.{holds_put, holds_further}
 use Rattle.dali_single.proofs.Lists.{set_same, get_set, all_both, logged_on}
 use Rattle.dali_single.proofs.Leading.{leads_on, leads_there, steps_on, stays_free, goes_on}
 use Rattle.dali_single.proofs.Writing.{IsWay, IsSameWay, opened_by, held_open}
@@ -190,6 +191,8 @@ nothing_undone rs y t whole lives covered = record {
   lives = lives;
   covered = covered;
   others = λ n e. (refl, λ k. refl);
+  stop = refl;
+  holds = λ q. inl refl;
   leads = λ L v work. record { log = L; steps = []; leads = (refl, refl); own = []; logged = sym (append-nil L); backs = tt; at = work };
 }
 
@@ -213,6 +216,8 @@ one_undone rs y z t r p q u g h fits whole lives covered txn next region is at o
       sizes = refl;
       lives = (changes_popped y.table t []).state ∙ lives;
       others = λ n e. (row_apart y.table t n without_last e, λ k. refl);
+      stop = refl;
+      holds = holds_put rs u.region g (touched o.opened) (ap (slice_get rs) region ∙ at) refl;
       covered = subst (AllByRecursion (MayBePerformed (back_logged y t o.block) t)) (sym popped) (all_undos (MayBePerformed y t) (MayBePerformed (back_logged y t o.block) t) (drop_last (undos_at y.table t)) (λ w may. record { spelled = may.spelled; kind = may.kind; lock = may.lock }) (dropped (MayBePerformed y t) (undos_at y.table t) covered));
       leads = λ L v work.
           one_led L rs y v t u o.block g o.opened o.steps fits lives last (last_all (MayBePerformed y t) (undos_at y.table t) u covered last) (subst (λ (n : Option Pending). IsUndoBlock n o.block) next o.of) o.runs
@@ -228,6 +233,8 @@ none_undone rs y t r g h whole lives covered at (inr left) = record {
   lives = lives;
   covered = covered;
   others = λ n e. (refl, λ k. refl);
+  stop = refl;
+  holds = holds_put rs r g h at left.2;
   leads = λ L v work. record {
     log = L;
     steps = steps_on r left.0;
@@ -246,6 +253,8 @@ undoes_further rs rs' rs'' y y' y'' t a b = record {
   lives = b.lives;
   covered = b.covered;
   others = λ n e. ((b.others n e).0 ∙ (a.others n e).0, λ k. (b.others n e).1 k ∙ (a.others n e).1 k);
+  stop = b.stop ∙ a.stop;
+  holds = holds_further rs rs' rs'' a.holds b.holds;
   leads = λ L v work.
       let one = a.leads L v work in
       let two = b.leads one.log v one.at in

@@ -25,7 +25,7 @@ use Rattle.dali_core.specs.declared.take_back.TakeBack.{TakeBack}
 use Rattle.dali_core.specs.TakenBack.{next_undo, IsUndoBlock, IsUndoOn}
 use Rattle.dali_single.specs.Stands.{core}
 use Rattle.dali_single.specs.Operated.{Goes}
-use Rattle.dali_single.specs.Single.{Leads, OthersStay, AreCovered}
+use Rattle.dali_single.specs.Single.{Leads, OthersStay, HoldsClear, AreCovered}
 
 abbrev pub IsBackOf : ℕ → Record → Type 0
 IsBackOf t (Back u b) = u ≡ t
@@ -78,4 +78,6 @@ pub record UndoesFrom (rs : List RegionState) (y : SystemState) (t : ℕ) (rs' :
   pub lives : state_of z t ≡ Some Live
   pub covered : AreCovered z t
   pub others : OthersStay y t z
+  pub stop : z.stop ≡ y.stop
+  pub holds : HoldsClear rs rs'
   pub leads : (L : List Record) (v : VaultState) → IsAtWork L (core rs y v) t → IsStillAtWork L (core rs y v) t (core rs' z v)

@@ -35,7 +35,7 @@ use Rattle.dali_core.specs.Served.{Served, solo_room}
 use Rattle.dali_facts.specs.Ends.{IsUnbegun, IsEnding}
 use Rattle.dali_single.specs.Stands.{core}
 use Rattle.dali_single.specs.Operated.{Goes}
-use Rattle.dali_single.specs.Single.{Leads, OthersStay, MayCall}
+use Rattle.dali_single.specs.Single.{Leads, OthersStay, HoldsClear, MayCall}
 
 pub record MayFree (y : SystemState) (t : ℕ) (u : Pending) : Type 0 where
   pub removal : is_removal u.undo ≡ true
@@ -113,4 +113,5 @@ pub record AreFreed (rs : List RegionState) (y : SystemState) (t : ℕ) (us left
   pub may : AllByRecursion (MayFree z t) left
   pub state : state_of z t ≡ Some Committed
   pub others : OthersStay y t z
+  pub holds : HoldsClear rs rs'
   pub leads : (L : List Record) (v : VaultState) → IsCommitted L (core rs y v) t us → IsLeft L (core rs y v) t left (core rs' z v)

@@ -5,6 +5,7 @@
 --     Leads precheck t L c xs M d      these steps of t, none of which is such an end, lead from the log L and the core c to the log M and the core d
 --     OthersStay y t z         each other transaction has the row and the locks that it had
 --     HoldsStay t c d          it has the regions latched that it had
+--     HoldsClear rs rs'        each region has the hold that it had, or none
 --     PromisesStay s t z       it has the memory promised that it had
 --     IsGone y t               t has no row, so nothing to take back, and no lock
 --     StandAside t L c M d     so it is, and the rules of the log have it where they had it
@@ -25,10 +26,11 @@ use Rattle.dali_record.specs.declared.records.Record.{Record}
 use Rattle.dali_record.specs.declared.records.Record.TheVariants.{Done}
 use Rattle.dali_record.specs.Legal.{Working, is_level, txn_state}
 use Rattle.dali_region.specs.declared.Hold.{Hold}
+use Rattle.dali_region.specs.State.{RegionState}
 use Rattle.dali_locks.specs.declared.mode.LockAnswer.TheVariants.{Wait as LockWait, Busy as LockBusy}
 use Rattle.dali_locks.specs.Locks.{IsAnswer}
 use Rattle.dali_att.specs.Table.{undos_at}
-use Rattle.dali_system.specs.State.{SystemState, CoreState, row_of, state_of, hold_of, lock_of}
+use Rattle.dali_system.specs.State.{SystemState, CoreState, row_of, state_of, hold_of, hold_in, lock_of}
 use Rattle.dali_system.specs.Run.{Bases, RunsOn}
 use Rattle.dali_system.specs.Keeps.{IsFree, with_system}
 use Rattle.dali_system.specs.Steps.{refused}
@@ -81,6 +83,9 @@ IsGone y t = (row_of y t ≡ None) × ((k : ℕ) → lock_of y t k ≡ None)
 
 abbrev pub HoldsStay : ℕ → CoreState → CoreState → Type 0
 HoldsStay t c d = (u r : ℕ) (h : Hold) → (t == u) ≡ false → h.txn ≡ u → (hold_of c r ≡ Some h) ↔ (hold_of d r ≡ Some h)
+
+abbrev pub HoldsClear : List RegionState → List RegionState → Type 0
+HoldsClear rs rs' = (r : ℕ) → (hold_in (slice_get rs' r) ≡ hold_in (slice_get rs r)) ⊎ (hold_in (slice_get rs' r) ≡ None)
 
 pub record StandAside (t : ℕ) (L : List Record) (c : CoreState) (M : List Record) (d : CoreState) : Type 0 where
   pub sizes : d.system.sizes ≡ c.system.sizes

@@ -10,10 +10,11 @@ ghost use Rattle.dali_system.specs.Regions.{IsOpen};
 ghost use Rattle.dali_core.specs.Promised.{promised_to};
 ghost use Rattle.dali_core.specs.TakenBack.{next_undo};
 ghost use Rattle.dali_core.specs.UnderWay.{IsUnderWay};
+ghost use Rattle.dali_calls.specs.Flags.{FlagsStay};
 ghost use Rattle.dali_single.specs.Stands.{core};
 ghost use Rattle.dali_single.specs.Operated.{AreWritten, IsLeftOf};
 ghost use Rattle.dali_single.specs.Refusals.{IsUnfreed, IsStuck};
-ghost use Rattle.dali_single.specs.Single.{AreCovered, Keeps, OthersStay, PromisesStay, IsGone};
+ghost use Rattle.dali_single.specs.Single.{AreCovered, Keeps, OthersStay, HoldsClear, PromisesStay, IsGone};
 ghost use Rattle.dali_single.specs.Ending.{IsAtWork, IsEnded, IsStillAtWork, Undone, UndoesFrom};
 
 use crate::error::StepError;
@@ -61,6 +62,7 @@ fn take_back(regions: &mut [Region], system: &mut System, txn: u64) -> Result<()
     ensures all { OnOk result (undos_at system.new.state.table txn ≡ []) }
     ensures cause { IfErr result (IsStuck (next_undo (undos_at system.new.state.table txn) 0) regions.new system.new.state) }
     ensures promised { system.new.promised ≡ system.old.promised }
+    ensures flags { FlagsStay regions.old regions.new }
 {
     let mut back = TakeBack::new(system, txn, 0);
     while let Want::Region { region } = back.wants() {
@@ -85,11 +87,14 @@ pub fn abort(regions: &mut [Region], system: &mut System, txn: u64) -> Result<()
     ensures cause { IfErr result (IsStuck (next_undo (undos_at system.new.state.table txn) 0) regions.new system.new.state) }
     ensures gone { OnOk result (IsGone system.new.state txn) }
     ensures sizes { system.new.state.sizes ≡ system.old.state.sizes }
+    ensures stop { system.new.state.stop ≡ system.old.state.stop }
+    ensures holds { HoldsClear regions.old regions.new }
     ensures others { OthersStay system.old.state txn system.new.state }
     ensures again { OnErr result (Keeps system.old.state txn system.new.state) }
     ensures promised { OnErr result (system.new.promised ≡ system.old.promised) }
     ensures released { OnOk result (promised_to system.new.promised txn ≡ 0) }
     ensures promises { PromisesStay system.old txn system.new }
+    ensures flags { FlagsStay regions.old regions.new }
 {
     match take_back(regions, system, txn) {
         Ok(()) => {}

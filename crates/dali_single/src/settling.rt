@@ -3,20 +3,23 @@ ghost use Rattle.std.specs.Prelude.{◌≡◌, List, [], Some, None, Err, IfSome
 ghost use Rattle.std.specs.List.{AllByRecursion};
 ghost use Rattle.dali_geometry.specs.Places.{regions as regions_of};
 ghost use Rattle.dali_record.specs.declared.records.Record.{Record};
-ghost use Rattle.dali_record.specs.Legal.{freeing_op};
+ghost use Rattle.dali_record.specs.Legal.{freeing_op, dead_of};
 ghost use Rattle.dali_region.specs.State.{RegionState};
+ghost use Rattle.dali_att.specs.Table.{undos_at};
 ghost use Rattle.dali_att.specs.declared.state.State.TheVariants.{Live, Committed};
 ghost use Rattle.dali_system.specs.State.{VaultState, state_of};
+ghost use Rattle.dali_system.specs.Steps.{commit_logged};
 ghost use Rattle.dali_system.specs.Regions.{IsOpen};
 ghost use Rattle.dali_core.specs.Refused.{stop_refusal};
 ghost use Rattle.dali_core.specs.Promised.{promised_to};
 ghost use Rattle.dali_core.specs.Served.{solo_room};
 ghost use Rattle.dali_core.specs.UnderWay.{IsUnderWay};
 ghost use Rattle.dali_core.specs.declared.error.SystemError.TheVariants.{OutOfMemory as Memory};
+ghost use Rattle.dali_calls.specs.Flags.{FlagsStay};
 ghost use Rattle.dali_single.specs.Stands.{core};
 ghost use Rattle.dali_single.specs.Operated.{AreWritten, IsLeftOf};
 ghost use Rattle.dali_single.specs.Refusals.{IsUnfreed, IsStuck, IsLatched};
-ghost use Rattle.dali_single.specs.Single.{AreCovered, OthersStay, PromisesStay, IsGone};
+ghost use Rattle.dali_single.specs.Single.{AreCovered, OthersStay, HoldsClear, PromisesStay, IsGone};
 ghost use Rattle.dali_single.specs.Settling.{MayFree, Freed, MayCommit, Commits, IsCommitted, AreFreed, IsSettled, IsLeft, left_behind, settle_room, IsPromised};
 
 use crate::error::StepError;
@@ -104,6 +107,7 @@ fn free_all(
         → OnErr result (IsPromised system.new txn (settle_room (length (left_behind system.old.state system.new.state removals.now)))) }
     ensures kept { OnOk result (IsPromised system.old txn (settle_room (length removals.now)) → IsPromised system.new txn (settle_room 0)) }
     ensures promises { PromisesStay system.old txn system.new }
+    ensures flags { FlagsStay regions.old regions.new }
 {
     for removal in removals {
         match free(removal, &mut regions[removal.region as usize], system, txn) {
@@ -124,6 +128,8 @@ pub fn commit(alloc: Global, system: &mut System, txn: u64) -> Result<Vec<Pendin
     ensures may { IfOk result (λ removals. AllByRecursion (MayFree system.new.state txn) removals.items) }
     ensures ok { IfOk result (λ removals. (L : List Record) (rs : List RegionState) (v : VaultState) → MayCommit L (core rs system.old.state v) txn
         → Commits L (core rs system.old.state v) txn removals.items (core rs system.new.state v)) }
+    ensures removals { IfOk result (λ removals. removals.items ≡ dead_of (undos_at system.old.state.table txn)) }
+    ensures logged { OnOk result (system.new.state ≡ commit_logged system.old.state txn) }
     ensures committed { OnOk result (state_of system.new.state txn ≡ Some Committed) }
     ensures promised { IfOk result (λ removals. settle_room (length removals.items) ≤ promised_to system.new.promised txn) }
     ensures others { OthersStay system.old.state txn system.new.state }
@@ -163,8 +169,10 @@ pub fn settle(
     ensures sizes { system.new.state.sizes ≡ system.old.state.sizes }
     ensures gone { OnOk result (IsGone system.new.state txn) }
     ensures released { OnOk result (promised_to system.new.promised txn ≡ 0) }
+    ensures holds { HoldsClear regions.old regions.new }
     ensures others { OthersStay system.old.state txn system.new.state }
     ensures promises { PromisesStay system.old txn system.new }
+    ensures flags { FlagsStay regions.old regions.new }
 {
     match free_all(regions, system, txn, removals) {
         Ok(()) => {}

@@ -13,7 +13,6 @@ use Rattle.dali_core.specs.declared.error.SystemError.TheVariants.{Stopped, OutO
 use Rattle.dali_core.specs.Refused.{stop_of}
 use Rattle.dali_core.specs.Audits.{audit_refusal}
 use Rattle.dali_vault.specs.Vaulted.{Vaulted}
-use Rattle.dali_steps.proofs.Steps.{places_are_small}
 use Rattle.dali_whole.specs.Cores.{IsWholeCore}
 use Rattle.dali_whole.specs.Flushed.{FlushesAll, FlushFails}
 use Rattle.dali_audit.specs.declared.audit.Finding.TheVariants.{Waiting}
@@ -31,11 +30,12 @@ use Rattle.dali_turns.specs.declared.client.State.TheVariants.{Outside, Auditing
 use Rattle.dali_turns.specs.Whys.{why_in}
 use Rattle.dali_turns.specs.Clients.{next_of, Passes, Finishes}
 use Rattle.dali_turns.specs.Fits.{rest_of}
-use Rattle.dali_turns.specs.Goes.{MayStep, Went, StepGoes}
+use Rattle.dali_turns.specs.Goes.{Went, StepGoes}
 use Rattle.dali_turns.proofs.Commands.{unsaid_goes, behind_next, next_act, finished_rest, finished_lines, finished_client}
+use Rattle.dali_turns.proofs.Guarding.{Always}
 use Rattle.dali_turns.proofs.Passing.{all_passed}
 use Rattle.dali_turns.proofs.Auditing.{has_room, RefusesAudit, audit_why, begins, refusal, refused_begin, silent_begin, no_begin, passes}
-use Rattle.dali_turns.proofs.Ending.{vault_runs, ends, ends_silent, fails_end, fails_silent, stops_end, stops_silent, no_end}
+use Rattle.dali_turns.proofs.Ending.{ends, ends_silent, fails_end, fails_silent, stops_end, stops_silent, no_end}
 
 -- an error is the one that is told
 some_error : (a b : SystemError) → Some a ≡ Some b → a ≡ b
@@ -108,11 +108,8 @@ module _ {V : Type 0} (told : V → Option Disk) (may_leave : V → Disk → Typ
 
   -- ---- a pass, and the end
   module _ (audit : Audited) (next : ℕ) where
-    pub may_pass : MayStep told may_leave faults (Auditing audit next) k gs y v → next < length gs → slice_get audit.findings next ≡ Some Waiting
-    may_pass may less = may.fits.passing.waits next (omega arith) (omega (arith, less, may.fits.passing.count, may.stood.stands.whole.regions, ap length may.stood.stands.at.regions))
-
-    pub may_count : MayStep told may_leave faults (Auditing audit next) k gs y v → next < length gs → next + 1 < 2 ^ 32
-    may_count may less = omega (arith, less, may.fits.passing.count, may.stood.stands.whole.regions, ap length may.stood.stands.at.regions, may.fits.passing.few)
+    pub may_pass : next < length gs → Always told may_leave faults precheck (Auditing audit next) k gs y v (slice_get audit.findings next ≡ Some Waiting)
+    may_pass less s B p w a stood of fits = fits.passing.waits next (omega arith) (omega (arith, less, fits.passing.count, stood.stands.whole.regions, ap length stood.stands.at.regions))
 
     pub passes_goes : (g h : RegionState) → slice_get gs next ≡ Some g → h ≡ checked g → (later : Audited) → later ≡ record audit { findings = slice_set audit.findings next (finding_of g.stray) } → j ≡ record k { state = Auditing later (next + 1) }
         → (hs : List RegionState) → hs ≡ slice_set gs next h → StepGoes told may_leave faults precheck (Auditing audit next) k gs y v true j hs y v
@@ -121,11 +118,8 @@ module _ {V : Type 0} (told : V → Option Disk) (may_leave : V → Disk → Typ
         (passes told may_leave faults precheck s B p w a gs y v k j stood of audit next fits g at (ap (λ (x : Client). x.transcript) now) (ap rest_of now)
         (ap (λ (x : Client). x.state) now ∙ ap (λ (x : Audited). Auditing x (next + 1)) passes_is))
 
-    pub may_end : MayStep told may_leave faults (Auditing audit next) k gs y v → length gs ≤ next → AllPassed audit.findings
-    may_end may all = all_passed may.point may.world audit next may.fits.passing (omega (arith, all, may.stood.stands.whole.regions, ap length may.stood.stands.at.regions))
-
-    pub may_flush : MayStep told may_leave faults (Auditing audit next) k gs y v → v.end < 2 ^ 62
-    may_flush may = (places_are_small told may_leave faults may.start may.batches may.point v may.stood.stands.at.vault).0
+    pub may_end : length gs ≤ next → Always told may_leave faults precheck (Auditing audit next) k gs y v (AllPassed audit.findings)
+    may_end all s B p w a stood of fits = all_passed p w audit next fits.passing (omega (arith, all, stood.stands.whole.regions, ap length stood.stands.at.regions))
 
     module _ (all : length gs ≤ next) (hs : List RegionState) (left : hs ≡ gs) (x z : SystemState) (u : Vaulted V) (runs : y.stop ≡ None) (logs : z ≡ audit_ended y audit.begin (damaged audit.findings)) (whole : IsWholeCore told gs z v → IsWholeCore told hs x u) where
       abbrev ending : SystemState
@@ -170,10 +164,6 @@ module _ {V : Type 0} (told : V → Option Disk) (may_leave : V → Disk → Typ
 
         pub fails_silent_goes : (ok : Bool) → ok ≡ false → Passes k Outside j → StepGoes told may_leave faults precheck (Auditing audit next) k gs y v ok j hs x u
         fails_silent_goes ok err f = unsaid_goes told may_leave faults precheck (Auditing audit next) k j gs hs y x v u ok err (to_regions false (fails_silent_there f))
-
-    -- the vault that stopped before has stopped the engine
-    pub runs_still : MayStep told may_leave faults (Auditing audit next) k gs y v → y.stop ≡ None → v.stopped ≡ false
-    runs_still may runs = vault_runs v.stopped (is_some y.stop) may.stood.stops (ap is_some runs)
 
     -- the end is refused
     module _ {T : Type 0} (z : SystemState) (r : Result T SystemError) (e : SystemError) (is : r ≡ Err e) (memory : y.stop ≡ None → IfErr r (λ f. f ≡ OutOfMemory)) (told_is : IfSome (stop_of y.stop) (λ f. r ≡ Err f)) (left : z ≡ y) where

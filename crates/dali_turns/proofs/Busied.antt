@@ -40,7 +40,7 @@ use Rattle.dali_turns.specs.Clients.{next_of}
 use Rattle.dali_turns.specs.Stood.{HadRow, Stood}
 use Rattle.dali_turns.specs.Within.{AreSoFar, FitsWithin, FitsYielding}
 use Rattle.dali_turns.specs.Fits.{rest_of, IsOf, Owns}
-use Rattle.dali_turns.specs.Goes.{Went, StepGoes, MayStep, YieldGoes, MayYield}
+use Rattle.dali_turns.specs.Goes.{Went, StepGoes, YieldGoes}
 use Rattle.dali_turns.proofs.Commands.{next_act, behind_next}
 use Rattle.dali_turns.proofs.Refusals.{runs_on_log, records_are, front, log_there, done_last, none_failed_there}
 use Rattle.dali_turns.proofs.Doing.{Did, did_quietly, did_went, still_ran, behind, so_far, vault_stops}
@@ -253,34 +253,6 @@ module _ {V : Type 0} (told : V → Option Disk) (may_leave : V → Disk → Typ
   asks_there =
       subst (λ (m : SystemState). (L : List Record) (rs : List RegionState) (o : VaultState) → IsNew (new_plan y.sizes x.txn call) → IsAtRest rs y (new_plan y.sizes x.txn call) → MayCall L (core rs y o) x.txn → IsAsked (Busy holder) L (core rs y o) (new_plan y.sizes x.txn call) (core rs m o)) system
       (subst (λ (m : Planned). (L : List Record) (rs : List RegionState) (o : VaultState) → IsNew m → IsAtRest rs y m → MayCall L (core rs y o) x.txn → IsAsked (Busy holder) L (core rs y o) m (core rs z o)) same asks)
-
-  pub may_yield : is_dead_in (state_of y holder) ≡ false → MayStep told may_leave faults (Within x) k gs y v → MayYield told may_leave faults x holder k gs z v
-  may_yield alive may =
-      subst (λ (m : SystemState). MayYield told may_leave faults x holder k gs m v) (sym system) (record {
-        start = may.start;
-        batches = may.batches;
-        point = _;
-        world = _;
-        standing = _;
-        precheck = may.precheck;
-        stood = yield_stood told may_leave faults may.precheck may.start may.batches may.point may.world may.standing gs y v k x call (behind_next k) may.stood may.is may.fits (next_act k (IsCall call) next) holder answer runs asks_there alive;
-        is = yield_of told may_leave faults may.precheck may.start may.batches may.point may.world may.standing gs y v k x call (behind_next k) may.stood may.is may.fits (next_act k (IsCall call) next) holder answer runs asks_there alive;
-        fits = yield_fits told may_leave faults may.precheck may.start may.batches may.point may.world may.standing gs y v k x call (behind_next k) may.stood may.is may.fits (next_act k (IsCall call) next) holder answer runs asks_there alive;
-      })
-
-  pub may_clean : is_dead_in (state_of y holder) ≡ true → MayStep told may_leave faults (Within x) k gs y v → MayStep told may_leave faults (Within x) k gs z v
-  may_clean died may =
-      subst (λ (m : SystemState). MayStep told may_leave faults (Within x) k gs m v) (sym system) (record {
-        start = may.start;
-        batches = may.batches;
-        point = _;
-        world = _;
-        standing = _;
-        precheck = may.precheck;
-        stood = find_stood told may_leave faults may.precheck may.start may.batches may.point may.world may.standing gs y v k x call (behind_next k) may.stood may.is may.fits (next_act k (IsCall call) next) holder answer runs asks_there died;
-        is = find_of told may_leave faults may.precheck may.start may.batches may.point may.world may.standing gs y v k x call (behind_next k) may.stood may.is may.fits (next_act k (IsCall call) next) holder answer runs asks_there died;
-        fits = find_fits told may_leave faults may.precheck may.start may.batches may.point may.world may.standing gs y v k x call (behind_next k) may.stood may.is may.fits (next_act k (IsCall call) next) holder answer runs asks_there died;
-      })
 
   pub yield_goes : is_dead_in (state_of y holder) ≡ false → (precheck : Bool) (ok : Bool) (j : Client) (hs : List RegionState) (m : SystemState) (t : Vaulted V) → YieldGoes told may_leave faults precheck x holder k gs z v ok j hs m t
       → StepGoes told may_leave faults precheck (Within x) k gs y v ok j hs m t

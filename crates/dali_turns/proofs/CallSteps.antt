@@ -1,6 +1,6 @@
 -- The steps of a call, by what their functions call.
 use Rattle.std.proofs.Common.{◌≡◌, ℕ, Bool, true, false, not, List, [], ◌∷◌, map, Option, Some, None, is_some, IfSome, IfErr, Result, Ok, Err, OnErr, is_ok, refl, ap, sym, subst, ◌∙◌, ◌⊎◌, inl, inr}
-use Rattle.std.specs.Prelude.{◌&&◌}
+use Rattle.std.specs.Prelude.{◌&&◌, if◌then◌else◌}
 use Rattle.dali_bytes.specs.declared.error.OutOfMemory.{OutOfMemory as NoMemory}
 use Rattle.dali_counts.proofs.Lists.{some_same}
 use Rattle.dali_record.specs.declared.operations.Op.{Op}
@@ -8,7 +8,8 @@ use Rattle.dali_record.specs.declared.records.Answer.{Answer}
 use Rattle.dali_record.specs.declared.records.Call.{Call}
 use Rattle.dali_record.specs.declared.records.Record.{Record}
 use Rattle.dali_record.specs.declared.records.Record.TheVariants.{Forward}
-use Rattle.dali_record.specs.Spelling.{IsCall as MayBeCalled, record_length}
+use Rattle.dali_record.specs.Log.{last_of}
+use Rattle.dali_record.specs.Spelling.{record_length}
 use Rattle.dali_region.specs.State.{RegionState}
 use Rattle.dali_region.specs.declared.LatchError.TheVariants.{Latched, Damaged as LatchDamaged}
 use Rattle.dali_locks.specs.declared.mode.LockAnswer.TheVariants.{Granted}
@@ -21,10 +22,10 @@ use Rattle.dali_core.specs.Refused.{stop_of, stop_refusal}
 use Rattle.dali_core.specs.declared.error.SystemError.{SystemError}
 use Rattle.dali_core.specs.declared.error.SystemError.TheVariants.{Stopped, OutOfMemory}
 use Rattle.dali_core.specs.declared.want.Want.TheVariants.{Region, Done as AnswerIsNext, Nothing}
-use Rattle.dali_calls.specs.Steps.{call_key, answer_of}
+use Rattle.dali_calls.specs.Steps.{call_key, answer_of, next_op}
 use Rattle.dali_calls.specs.declared.plan.Phase.{Phase}
-use Rattle.dali_calls.specs.declared.plan.Phase.TheVariants.{Refused as GoesBack}
-use Rattle.dali_calls.specs.Plans.{Planned, is_answered, is_back, is_back_in, commit_refusal, mode_of, plan_next, want_in, want_of, IsWhole}
+use Rattle.dali_calls.specs.declared.plan.Phase.TheVariants.{Calling as GoesOn, Refused as GoesBack, Answered}
+use Rattle.dali_calls.specs.Plans.{Planned, is_answered, is_back, is_back_in, undo_next, onward_next, commit_refusal, mode_of, plan_next, want_in, want_of, IsWhole}
 use Rattle.dali_single.specs.declared.error.StepError.TheVariants.{Latch, System}
 use Rattle.dali_single.specs.Refusals.{IsAnswerTo, IsLatched, IsUnanswered, IsRefusedIn, IsRefusal}
 use Rattle.dali_single.specs.Single.{MayCall}
@@ -32,12 +33,11 @@ use Rattle.dali_single.proofs.Reaching.{wanted}
 use Rattle.dali_single.specs.Stands.{core, IsAtRest, AtPlan}
 use Rattle.dali_stepwise.specs.Stepwise.{IsNew, IsAsked, OneFurther, IsDeath, AnswersNow}
 use Rattle.dali_clients.specs.Said.{said as with_lines}
+use Rattle.dali_clients.specs.declared.command.Command.{Command}
 use Rattle.dali_clients.specs.declared.command.Command.TheVariants.{Call as IsCall}
 use Rattle.dali_clients.specs.declared.line.Line.TheVariants.{Answered, Died as DiedLine}
 use Rattle.dali_clients.specs.declared.line.Why.{Why}
 use Rattle.dali_clients.specs.declared.line.Why.TheVariants.{Stopped as IsStopped, Damaged as IsDamaged}
-use Rattle.dali_transcripts.specs.Words.{Calls}
-use Rattle.dali_transcripts.specs.Rounds.{IsPlaced}
 use Rattle.dali_turns.specs.declared.client.Client.{Client}
 use Rattle.dali_turns.specs.declared.client.State.{State}
 use Rattle.dali_turns.specs.declared.client.State.TheVariants.{Within, Calling, TakingBack, Gone}
@@ -46,8 +46,9 @@ use Rattle.dali_turns.specs.Clients.{next_of, Passes, Finishes, RefusesCall, Sta
 use Rattle.dali_turns.specs.Calls.{TurnsBack, IsRefusedBy, IsDeadly, IsFurther, call_in}
 use Rattle.dali_clients.specs.Told.{act_of, said_of}
 use Rattle.dali_turns.specs.Fits.{rest_of, Fits}
-use Rattle.dali_turns.specs.Goes.{Went, StepGoes, MayStep}
+use Rattle.dali_turns.specs.Goes.{Went, StepGoes}
 use Rattle.dali_turns.specs.Whys.{why_in}
+use Rattle.dali_turns.proofs.Here.{MayStep}
 use Rattle.dali_turns.proofs.Commands.{next_act, behind_next}
 use Rattle.dali_turns.proofs.Calling.{answer_said, answer_unsaid}
 use Rattle.dali_turns.proofs.Operating.{operate_on, back_on}
@@ -208,15 +209,8 @@ module _ {V : Type 0} (told : V → Option Disk) (may_leave : V → Disk → Typ
         (subst (λ b. Went told may_leave faults precheck s B p w a (Within x) gs y v b j gs y v) (sym no_line)
         (ask_nowhere told may_leave faults precheck s B p w a gs y v k j x call (behind_next k) stood is fits (next_act k (IsCall call) next) same))
 
--- ---- what the calls in it ask for
+-- ---- what they ask for, as a run has it
 module _ {V : Type 0} (told : V → Option Disk) (may_leave : V → Disk → Type 0) (faults : V → ℕ) (gs : List RegionState) (y : SystemState) (v : Vaulted V) (k : Client) (x : Transaction) where
-  -- the call may be spelled
-  pub may_call : (call : Call) → next_of k ≡ Some (IsCall call) → MayStep told may_leave faults (Within x) k gs y v → MayBeCalled call
-  may_call call next may = by_rest (next_act k (IsCall call) next) may.fits.placed
-    where
-      by_rest : rest_of k ≡ Calls call ∷ behind_next k → IsPlaced true (rest_of k) → MayBeCalled call
-      by_rest e h = (subst (IsPlaced true) e h).0
-
   module _ (plan : Planned) where
     pub at_rest : MayStep told may_leave faults (Calling x plan) k gs y v → IsAtRest gs y plan
     at_rest may =
@@ -224,9 +218,6 @@ module _ {V : Type 0} (told : V → Option Disk) (may_leave : V → Disk → Typ
 
     pub command_there : MayStep told may_leave faults (Calling x plan) k gs y v → (call : Call) × (next_of k ≡ Some (IsCall call))
     command_there may = (may.fits.call, command_is k.rest.now may.fits.call may.fits.more may.fits.calls)
-
-    pub not_answered : MayStep told may_leave faults (Calling x plan) k gs y v → is_answered plan.phase ≡ false
-    not_answered may = ap is_answered may.fits.plan_is.phase_is
 
     pub not_held : MayStep told may_leave faults (Calling x plan) k gs y v → (precheck : Bool) (region t : ℕ) → want_of plan ≡ Region region → IsRefusal precheck plan gs y (Latch (Latched t)) → ⊥
     not_held may precheck region t want why =
@@ -244,6 +235,44 @@ module _ {V : Type 0} (told : V → Option Disk) (may_leave : V → Disk → Typ
   pub some_next : (plan : Planned) (region : ℕ) → want_of plan ≡ Region region → is_some (plan_next plan) ≡ true
   some_next plan region want = ap is_some (wanted plan region (sym want)).1
 
+-- a plan whose answer is logged wants nothing
+answered_wants : (plan : Planned) → plan.phase ≡ Answered → want_of plan ≡ Nothing
+answered_wants plan e =
+    let onward : is_back plan ≡ false = ap (λ (f : Phase). is_back_in f (answer_of plan.geometry plan.call plan.stage) plan.changes) e in
+    let none : plan_next plan ≡ None = ap (λ (b : Bool). if b then undo_next (last_of plan.changes) else onward_next plan.phase (next_op plan.geometry plan.txn plan.call plan.stage)) onward
+    ∙ ap (λ (f : Phase). onward_next f (next_op plan.geometry plan.txn plan.call plan.stage)) e in
+    ap (λ (f : Phase). want_in f (plan_next plan)) e ∙ ap (want_in Answered) none
+
+pub wants_more : (plan : Planned) → (want_of plan ≡ Nothing → ⊥) → is_answered plan.phase ≡ false
+wants_more plan more = by_phase plan.phase refl
+  where
+    by_phase : (f : Phase) → plan.phase ≡ f → is_answered plan.phase ≡ false
+    by_phase Answered e = absurd (more (answered_wants plan e))
+    by_phase GoesOn e = ap is_answered e
+    by_phase GoesBack e = ap is_answered e
+
+pub before_operation : (plan : Planned) (r : ℕ) → want_of plan ≡ Region r → is_answered plan.phase ≡ false
+before_operation plan r want = wants_more plan (λ e. let both : Region r ≡ Nothing = sym want ∙ e in absurd (cc))
+
+pub before_answer : (plan : Planned) → want_of plan ≡ AnswerIsNext → is_answered plan.phase ≡ false
+before_answer plan want = wants_more plan (λ e. let both : AnswerIsNext ≡ Nothing = sym want ∙ e in absurd (cc))
+
+-- a call is a command
+pub some_command : (o : Option Command) → is_some (call_in o) ≡ true → is_some o ≡ true
+some_command (Some command) e = refl
+some_command None e = absurd (cc)
+
+pub command_of_call : (o : Option Command) (call : Call) → call_in o ≡ Some call → is_some o ≡ true
+command_of_call o call e = some_command o (ap is_some e)
+
+-- one that makes its call wants an operation, or its answer
+pub calling_more : (plan : Planned) → plan.phase ≡ GoesOn → want_of plan ≡ Nothing → ⊥
+calling_more plan phase none = by_next (plan_next plan) (sym none ∙ ap (λ (f : Phase). want_in f (plan_next plan)) phase)
+  where
+    by_next : (o : Option (ℕ × Op)) → Nothing ≡ want_in GoesOn o → ⊥
+    by_next (Some n) e = absurd (cc)
+    by_next None e = absurd (cc)
+
 -- a plan that goes back wants an operation, or nothing
 pub back_wants : (plan : Planned) → plan.phase ≡ GoesBack → (want_of plan ≡ Nothing) ⊎ ((r : ℕ) × (want_of plan ≡ Region r))
 back_wants plan phase = by_next (plan_next plan) (ap (λ (f : Phase). want_in f (plan_next plan)) phase)
@@ -258,9 +287,8 @@ on_err (Err e) P Q f h = f h
 
 -- ---- where a call left plan and core as they were
 module _ {V : Type 0} (told : V → Option Disk) (may_leave : V → Disk → Type 0) (faults : V → ℕ) (k : Client) (gs rs : List RegionState) (y m : SystemState) (v u : Vaulted V) (regions : rs ≡ gs) (system : m ≡ y) (vault : u ≡ v) where
-  pub may_still : (state : State) → MayStep told may_leave faults state k gs y v → MayStep told may_leave faults state k rs m u
-  may_still state may =
-      subst (λ l. MayStep told may_leave faults state k l m u) (sym regions) (subst (λ n. MayStep told may_leave faults state k gs n u) (sym system) (subst (λ o. MayStep told may_leave faults state k gs y o) (sym vault) may))
+  pub rest_still : (plan q : Planned) → q ≡ plan → IsAtRest gs y plan → IsAtRest rs m q
+  rest_still plan q same rest = subst (λ (p : Planned). IsAtRest rs m p) (sym same) (subst (λ (l : List RegionState). IsAtRest l m plan) (sym regions) (subst (λ (n : SystemState). IsAtRest gs n plan) (sym system) rest))
 
   pub goes_still : (precheck : Bool) (state : State) (ok : Bool) (j : Client) (hs : List RegionState) (z : SystemState) (o : Vaulted V) → StepGoes told may_leave faults precheck state k rs m u ok j hs z o → StepGoes told may_leave faults precheck state k gs y v ok j hs z o
   goes_still precheck state ok j hs z o goes =

@@ -20,7 +20,8 @@ use Rattle.dali_audit.specs.Findings.{Audited, finding_of, damaged}
 use Rattle.dali_audit.specs.Stepped.{AreFindings, behind_pass}
 use Rattle.dali_audit.proofs.Stepping.{pass_is_step}
 use Rattle.dali_checkpoint.specs.Kept.{Checkpointed, side_in}
-use Rattle.dali_checkpoint.specs.Done.{IsNoShorter, HasTurnedTo}
+use Rattle.dali_checkpoint.specs.Done.{HasTurnedTo}
+use Rattle.dali_whole.specs.Cores.{IsNoShorter}
 use Rattle.dali_checkpoint.specs.Running.{IsSettled, IsCertifiedAt}
 use Rattle.dali_checkpoint.specs.Laws.{HasMoved}
 use Rattle.dali_checkpoint.proofs.Audited.{audits_at, ends_clean}

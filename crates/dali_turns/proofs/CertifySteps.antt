@@ -20,7 +20,8 @@ use Rattle.dali_whole.specs.Flushed.{FlushesFrame, FailsFrame}
 use Rattle.dali_audit.specs.declared.audit.Finding.TheVariants.{Waiting}
 use Rattle.dali_audit.specs.Findings.{Audited, Judged, finding_of, damaged, AllPassed}
 use Rattle.dali_checkpoint.specs.Kept.{Checkpointed, side_in, cause_in, cause_of, given_up, IsEndOf}
-use Rattle.dali_checkpoint.specs.Done.{IsNoShorter, HasTurnedTo, SyncFails, TurnFails, FailsToTurn, IsKept, IsLost}
+use Rattle.dali_checkpoint.specs.Done.{HasTurnedTo, SyncFails, TurnFails, FailsToTurn, IsKept, IsLost}
+use Rattle.dali_whole.specs.Cores.{IsNoShorter}
 use Rattle.dali_checkpoint.specs.Making.{checkpoint_error}
 use Rattle.dali_checkpoint.specs.declared.error.CheckpointError.{CheckpointError}
 use Rattle.dali_checkpoint.specs.declared.error.CheckpointError.TheVariants.{Failed, InProgress, Stopped, LogFull, Fault, OutOfMemory}
@@ -38,9 +39,10 @@ use Rattle.dali_turns.specs.Stood.{Stood}
 use Rattle.dali_turns.specs.Clients.{Finishes}
 use Rattle.dali_turns.specs.Endings.{line_in, SaysEnd, Unsaid}
 use Rattle.dali_turns.specs.Fits.{rest_of}
-use Rattle.dali_turns.specs.Goes.{MayStep, Went, StepGoes}
+use Rattle.dali_turns.specs.Goes.{Went, StepGoes}
 use Rattle.dali_turns.proofs.Commands.{unsaid_goes, finished_rest, finished_lines, finished_client}
 use Rattle.dali_turns.proofs.AuditSteps.{behind_is, of_told, in_err}
+use Rattle.dali_turns.proofs.Guarding.{Always}
 use Rattle.dali_turns.proofs.Passing.{all_passed}
 use Rattle.dali_turns.proofs.Ending.{vault_runs}
 use Rattle.dali_turns.proofs.CopySteps.{same_line}
@@ -83,14 +85,22 @@ certifies_made told may_leave faults c failing found S T v u made same ok turned
     on_err (Ok n) e = tt
     on_err (Err f) e = (e.0, ap (λ (x : Served). x.state) e.1, e.2)
 
+-- what it asks for, of the audit that has just ended
+pub certify_asks : (o : Option ℕ) (audit : Audited) (y m : SystemState) (verdict : Judged) → IsSomeAnd o (λ n. n ≤ audit.begin) → m ≡ audit_ended y audit.begin (damaged audit.findings) → verdict ≡ record { begin = audit.begin; failing = damaged audit.findings }
+    → IsSomeAnd o (λ n. IsEndOf m n verdict)
+certify_asks (Some n) audit y m verdict behind logs is =
+    subst (λ (x : Judged). IsEndOf m n x) (sym is) (subst (λ (x : SystemState). IsEndOf x n (record { begin = audit.begin; failing = damaged audit.findings })) (sym logs)
+    (record { behind = behind; logged = Contains-push y.since (audit_record audit.begin (damaged audit.findings)) }))
+certify_asks None audit y m verdict behind logs is = absurd behind
+
 same_error : (a b : CheckpointError) → (let r : Result ℕ CheckpointError = Err a in r ≡ Err b) → a ≡ b
 same_error a b e = cc
 
 module _ {V : Type 0} (told : V → Option Disk) (may_leave : V → Disk → Type 0) (faults : V → ℕ) (precheck : Bool) (k j : Client) (gs : List RegionState) (y : SystemState) (v : Vaulted V)
     (c : Checkpointed) (audit : Audited) (next : ℕ) where
   -- ---- a pass
-  pub may_pass_on : MayStep told may_leave faults (Certifying c audit next) k gs y v → next < length gs → slice_get audit.findings next ≡ Some Waiting
-  may_pass_on may less = may.fits.passing.waits next (omega arith) (omega (arith, less, may.fits.passing.count, may.stood.stands.whole.regions, ap length may.stood.stands.at.regions))
+  pub may_pass_on : next < length gs → Always told may_leave faults precheck (Certifying c audit next) k gs y v (slice_get audit.findings next ≡ Some Waiting)
+  may_pass_on less s B p w a stood of fits = fits.passing.waits next (omega arith) (omega (arith, less, fits.passing.count, stood.stands.whole.regions, ap length stood.stands.at.regions))
 
   pub certify_passes_goes : (g h : RegionState) → slice_get gs next ≡ Some g → h ≡ checked g → (later : Audited) → later ≡ record audit { findings = slice_set audit.findings next (finding_of g.stray) } → j ≡ record k { state = Certifying c later (next + 1) }
       → (hs : List RegionState) → hs ≡ slice_set gs next h → StepGoes told may_leave faults precheck (Certifying c audit next) k gs y v true j hs y v
@@ -100,15 +110,11 @@ module _ {V : Type 0} (told : V → Option Disk) (may_leave : V → Disk → Typ
       (ap (λ (x : Client). x.state) now ∙ ap (λ (x : Audited). Certifying c x (next + 1)) passes_is))
 
   -- ---- the end
-  pub may_finish : MayStep told may_leave faults (Certifying c audit next) k gs y v → length gs ≤ next → AllPassed audit.findings
-  may_finish may all = all_passed may.point may.world audit next may.fits.passing (omega (arith, all, may.stood.stands.whole.regions, ap length may.stood.stands.at.regions))
+  pub may_finish : length gs ≤ next → Always told may_leave faults precheck (Certifying c audit next) k gs y v (AllPassed audit.findings)
+  may_finish all s B p w a stood of fits = all_passed p w audit next fits.passing (omega (arith, all, stood.stands.whole.regions, ap length stood.stands.at.regions))
 
-  pub may_certify : MayStep told may_leave faults (Certifying c audit next) k gs y v → (m : SystemState) (verdict : Judged) → m ≡ audit_ended y audit.begin (damaged audit.findings) → verdict ≡ record { begin = audit.begin; failing = damaged audit.findings }
-      → IsSomeAnd c.settled (λ n. IsEndOf m n verdict)
-  may_certify may m verdict logs is =
-      subst (λ (o : Option ℕ). IsSomeAnd o (λ n. IsEndOf m n verdict)) (sym may.fits.settled_at)
-      (subst (λ (x : Judged). IsEndOf m may.fits.number x) (sym is) (subst (λ (x : SystemState). IsEndOf x may.fits.number (record { begin = audit.begin; failing = damaged audit.findings })) (sym logs)
-      (record { behind = may.fits.behind; logged = Contains-push y.since (audit_record audit.begin (damaged audit.findings)) })))
+  pub may_certify : Always told may_leave faults precheck (Certifying c audit next) k gs y v (IsSomeAnd c.settled (λ n. n ≤ audit.begin))
+  may_certify s B p w a stood of fits = subst (λ (o : Option ℕ). IsSomeAnd o (λ n. n ≤ audit.begin)) (sym fits.settled_at) fits.behind
 
   module _ (all : length gs ≤ next) (runs : y.stop ≡ None) (m z : SystemState) (u : Vaulted V) (made : Result ℕ CheckpointError) (logs : m ≡ audit_ended y audit.begin (damaged audit.findings))
       (says : Certifies told may_leave faults c (damaged audit.findings) m v made z u) where

@@ -8,9 +8,9 @@ use Rattle.dali_system.specs.Steps.{taken, store_stopped, in_checkpoint}
 use Rattle.dali_crash.specs.Checkpoints.{side_of}
 use Rattle.dali_traces.specs.Disks.{image_name}
 use Rattle.dali_vault.specs.Vaulted.{Vaulted}
-use Rattle.dali_steps.proofs.Steps.{places_are_small}
 use Rattle.dali_checkpoint.specs.Kept.{Checkpointed, cause_of, cause_in}
-use Rattle.dali_checkpoint.specs.Done.{IsNoShorter, FailsToWrite, HasStarted}
+use Rattle.dali_checkpoint.specs.Done.{FailsToWrite, HasStarted}
+use Rattle.dali_whole.specs.Cores.{IsNoShorter}
 use Rattle.dali_checkpoint.specs.declared.error.CheckpointError.{CheckpointError}
 use Rattle.dali_checkpoint.specs.declared.error.CheckpointError.TheVariants.{InProgress, Stopped, Fault, OutOfMemory}
 use Rattle.dali_clients.specs.declared.command.Command.TheVariants.{Checkpoint as IsCheckpoint}
@@ -24,7 +24,7 @@ use Rattle.dali_turns.specs.declared.client.State.TheVariants.{Outside, Copying}
 use Rattle.dali_turns.specs.Clients.{next_of, Finishes}
 use Rattle.dali_turns.specs.Endings.{line_in, SaysEnd, Unsaid}
 use Rattle.dali_turns.specs.Fits.{rest_of}
-use Rattle.dali_turns.specs.Goes.{MayStep, Went, StepGoes}
+use Rattle.dali_turns.specs.Goes.{Went, StepGoes}
 use Rattle.dali_turns.proofs.Commands.{unsaid_goes, behind_next, next_act, finished_rest, finished_lines, finished_client}
 use Rattle.dali_turns.proofs.Ending.{vault_runs}
 use Rattle.dali_turns.proofs.Starting.{starts, refusal_stop, refusal_under_way, refused_start, silent_start, no_start}
@@ -57,9 +57,6 @@ if_err P (Err f) e is h = subst P (err_is (Err f) f e refl is) h
 if_err P (Ok x) e is h = absurd (cc)
 
 module _ {V : Type 0} (told : V → Option Disk) (may_leave : V → Disk → Type 0) (faults : V → ℕ) (precheck : Bool) (k j : Client) (gs : List RegionState) (y : SystemState) (v : Vaulted V) where
-  pub may_small : (state : State) → MayStep told may_leave faults state k gs y v → (v.end < 2 ^ 62) × (v.current < 2 ^ 62)
-  may_small state may = places_are_small told may_leave faults may.start may.batches may.point v may.stood.stands.at.vault
-
   -- ---- a start
   module _ (next : next_of k ≡ Some IsCheckpoint) where
     pub starts_goes : {T : Type 0} (r : Result T CheckpointError) (x : T) → r ≡ Ok x → (c : Checkpointed) (z : SystemState) (u : Vaulted V) → HasStarted told may_leave faults y v c u → IsNoShorter told v u → y.checking ≡ false

@@ -33,11 +33,12 @@ use Rattle.dali_turns.specs.declared.client.State.TheVariants.{Within, Calling, 
 use Rattle.dali_turns.specs.declared.client.Transaction.{Transaction}
 use Rattle.dali_turns.specs.Clients.{next_of, Passes, RefusesCall, Stays}
 use Rattle.dali_turns.specs.Ends.{IsCleanedUp, IsLeftDead}
-use Rattle.dali_turns.specs.Goes.{Went, StepGoes, MayStep}
+use Rattle.dali_turns.specs.Goes.{Went, StepGoes}
+use Rattle.dali_turns.proofs.Here.{MayStep, in_a_run}
 use Rattle.dali_turns.proofs.Commands.{next_act, behind_next}
 use Rattle.dali_turns.proofs.CleanUps.{cleaned, cut_short, fallen_short}
 use Rattle.dali_turns.proofs.Cleaning.{stop_there, within_behind, calling_behind, back_behind, cleaned_on, cleaned_then, half_goes}
-use Rattle.dali_turns.proofs.CallSteps.{back_wants, unasked_goes, unasked_silently, stuck_goes, stuck_silently}
+use Rattle.dali_turns.proofs.CallSteps.{vault_still, back_wants, unasked_goes, unasked_silently, stuck_goes, stuck_silently}
 use Rattle.dali_turns.proofs.Asked.{works_of}
 use Rattle.dali_turns.proofs.Asking.{asking}
 use Rattle.dali_turns.proofs.Hindered.{stopped_said, stopped_unsaid}
@@ -70,21 +71,21 @@ module _ {V : Type 0} (told : V → Option Disk) (may_leave : V → Disk → Typ
     pub call_again : (call : Call) → next_of k ≡ Some (IsCall call) → Stays k (Within x) j → StepGoes told may_leave faults precheck (Within x) k gs y v true j hs z v
     call_again call next f s B p w a stood is fits =
         let lives = ap (λ (m : SystemState). state_of m x.txn) (sym stood.stands.at.system) ∙ fits.lives in
-        let (to, cleans) = cleaned told may_leave faults precheck s B p w gs y v stood a.client (Within x) x.txn lives t hs z up.dead up.others was up.ends up.gone in
+        let (to, cleans) = cleaned told may_leave faults precheck s B p w gs y v stood a.client (Within x) x.txn lives t hs z (up.dead stood.stands.dead) up.others was up.ends up.gone in
         cleaned_on told may_leave faults precheck s B p w a gs y v k x (Within x) stood is lives to hs z cleans gone_lived j f
         (within_behind told may_leave faults precheck s B p w a gs y v k x (Within x) stood is lives to hs z cleans call (behind_next k) (next_act k (IsCall call) next) fits) (λ n e. e) (λ n e. e)
 
     pub operate_again : (plan : Planned) → Stays k (Calling x plan) j → StepGoes told may_leave faults precheck (Calling x plan) k gs y v true j hs z v
     operate_again plan f s B p w a stood is fits =
         let lives = ap (λ (m : SystemState). state_of m x.txn) (sym stood.stands.at.system) ∙ subst (λ n. state_of p.core.system n ≡ Some Live) fits.plan_is.txn fits.plan_is.rest.lives in
-        let (to, cleans) = cleaned told may_leave faults precheck s B p w gs y v stood a.client (Calling x plan) x.txn lives t hs z up.dead up.others was up.ends up.gone in
+        let (to, cleans) = cleaned told may_leave faults precheck s B p w gs y v stood a.client (Calling x plan) x.txn lives t hs z (up.dead stood.stands.dead) up.others was up.ends up.gone in
         cleaned_on told may_leave faults precheck s B p w a gs y v k x (Calling x plan) stood is lives to hs z cleans gone_lived j f
         (calling_behind told may_leave faults precheck s B p w a gs y v k x (Calling x plan) stood is lives to hs z cleans plan fits) (λ n e. e) (λ n e. e)
 
     pub back_again : (plan : Planned) (why : Why) → Stays k (TakingBack x plan why) j → StepGoes told may_leave faults precheck (TakingBack x plan why) k gs y v true j hs z v
     back_again plan why f s B p w a stood is fits =
         let lives = ap (λ (m : SystemState). state_of m x.txn) (sym stood.stands.at.system) ∙ subst (λ n. state_of p.core.system n ≡ Some Live) fits.plan_is.txn fits.plan_is.rest.lives in
-        let (to, cleans) = cleaned told may_leave faults precheck s B p w gs y v stood a.client (TakingBack x plan why) x.txn lives t hs z up.dead up.others was up.ends up.gone in
+        let (to, cleans) = cleaned told may_leave faults precheck s B p w gs y v stood a.client (TakingBack x plan why) x.txn lives t hs z (up.dead stood.stands.dead) up.others was up.ends up.gone in
         cleaned_on told may_leave faults precheck s B p w a gs y v k x (TakingBack x plan why) stood is lives to hs z cleans gone_lived j f
         (back_behind told may_leave faults precheck s B p w a gs y v k x (TakingBack x plan why) stood is lives to hs z cleans plan why fits) (λ n e. e) (λ n e. e)
 
@@ -99,7 +100,7 @@ module _ {V : Type 0} (told : V → Option Disk) (may_leave : V → Disk → Typ
         within_then : (ok : Bool) → (z.stop ≡ Some stop → StepGoes told may_leave faults precheck (Within x) k hs z v ok j hs z v) → StepGoes told may_leave faults precheck (Within x) k gs y v ok j hs z v
         within_then ok goes s B p w a stood is fits =
             let lives = ap (λ (m : SystemState). state_of m x.txn) (sym stood.stands.at.system) ∙ fits.lives in
-            let (to, cleans) = cut_short told may_leave faults precheck s B p w gs y v stood a.client (Within x) x.txn lives t hs z left.dead left.others was left.left left.again stop stopped in
+            let (to, cleans) = cut_short told may_leave faults precheck s B p w gs y v stood a.client (Within x) x.txn lives t hs z (left.dead stood.stands.dead) left.others was left.left left.again stop stopped in
             let still : z.stop ≡ Some stop = ap (λ (m : SystemState). m.stop) (sym cleans.did.stood.stands.at.system) ∙ stop_there told may_leave faults precheck s B p w a gs y v k x (Within x) stood is lives to hs z cleans stop (ap (λ (m : SystemState). m.stop) stood.stands.at.system ∙ stopped) in
             cleaned_then told may_leave faults precheck s B p w a gs y v k x (Within x) stood is lives to hs z cleans left_lived j hs z v ok
             (within_behind told may_leave faults precheck s B p w a gs y v k x (Within x) stood is lives to hs z cleans call (behind_next k) (next_act k (IsCall call) next) fits) (goes still)
@@ -114,7 +115,7 @@ module _ {V : Type 0} (told : V → Option Disk) (may_leave : V → Disk → Typ
         calling_then : (ok : Bool) → (z.stop ≡ Some stop → StepGoes told may_leave faults precheck (Calling x plan) k hs z v ok j hs z v) → StepGoes told may_leave faults precheck (Calling x plan) k gs y v ok j hs z v
         calling_then ok goes s B p w a stood is fits =
             let lives = ap (λ (m : SystemState). state_of m x.txn) (sym stood.stands.at.system) ∙ subst (λ n. state_of p.core.system n ≡ Some Live) fits.plan_is.txn fits.plan_is.rest.lives in
-            let (to, cleans) = cut_short told may_leave faults precheck s B p w gs y v stood a.client (Calling x plan) x.txn lives t hs z left.dead left.others was left.left left.again stop stopped in
+            let (to, cleans) = cut_short told may_leave faults precheck s B p w gs y v stood a.client (Calling x plan) x.txn lives t hs z (left.dead stood.stands.dead) left.others was left.left left.again stop stopped in
             let still : z.stop ≡ Some stop = ap (λ (m : SystemState). m.stop) (sym cleans.did.stood.stands.at.system) ∙ stop_there told may_leave faults precheck s B p w a gs y v k x (Calling x plan) stood is lives to hs z cleans stop (ap (λ (m : SystemState). m.stop) stood.stands.at.system ∙ stopped) in
             cleaned_then told may_leave faults precheck s B p w a gs y v k x (Calling x plan) stood is lives to hs z cleans left_lived j hs z v ok
             (calling_behind told may_leave faults precheck s B p w a gs y v k x (Calling x plan) stood is lives to hs z cleans plan fits) (goes still)
@@ -131,7 +132,7 @@ module _ {V : Type 0} (told : V → Option Disk) (may_leave : V → Disk → Typ
         back_then : (ok : Bool) → (z.stop ≡ Some stop → StepGoes told may_leave faults precheck (TakingBack x plan why) k hs z v ok j hs z v) → StepGoes told may_leave faults precheck (TakingBack x plan why) k gs y v ok j hs z v
         back_then ok goes s B p w a stood is fits =
             let lives = ap (λ (m : SystemState). state_of m x.txn) (sym stood.stands.at.system) ∙ subst (λ n. state_of p.core.system n ≡ Some Live) fits.plan_is.txn fits.plan_is.rest.lives in
-            let (to, cleans) = cut_short told may_leave faults precheck s B p w gs y v stood a.client (TakingBack x plan why) x.txn lives t hs z left.dead left.others was left.left left.again stop stopped in
+            let (to, cleans) = cut_short told may_leave faults precheck s B p w gs y v stood a.client (TakingBack x plan why) x.txn lives t hs z (left.dead stood.stands.dead) left.others was left.left left.again stop stopped in
             let still : z.stop ≡ Some stop = ap (λ (m : SystemState). m.stop) (sym cleans.did.stood.stands.at.system) ∙ stop_there told may_leave faults precheck s B p w a gs y v k x (TakingBack x plan why) stood is lives to hs z cleans stop (ap (λ (m : SystemState). m.stop) stood.stands.at.system ∙ stopped) in
             cleaned_then told may_leave faults precheck s B p w a gs y v k x (TakingBack x plan why) stood is lives to hs z cleans left_lived j hs z v ok
             (back_behind told may_leave faults precheck s B p w a gs y v k x (TakingBack x plan why) stood is lives to hs z cleans plan why fits) (goes still)
@@ -147,7 +148,7 @@ module _ {V : Type 0} (told : V → Option Disk) (may_leave : V → Disk → Typ
       pub call_half : (call : Call) → next_of k ≡ Some (IsCall call) → (ok : Bool) → ok ≡ false → StepGoes told may_leave faults precheck (Within x) k gs y v ok j hs z v
       call_half call next ok no_line s B p w a stood is fits =
           let lives = ap (λ (m : SystemState). state_of m x.txn) (sym stood.stands.at.system) ∙ fits.lives in
-          let (to, half) = fallen_short told may_leave faults precheck s B p w gs y v stood a.client (Within x) x.txn lives t hs z left.dead left.others was left.left left.again in
+          let (to, half) = fallen_short told may_leave faults precheck s B p w gs y v stood a.client (Within x) x.txn lives t hs z (left.dead stood.stands.dead) left.others was left.left left.again in
           let more = next_act k (IsCall call) next in
           subst (λ b. Went told may_leave faults precheck s B p w a (Within x) gs y v b j hs z v) (sym no_line)
           (half_goes told may_leave faults precheck s B p w a gs y v k x (Within x) is to hs z half call (behind_next k) x.tries (map act_of x.commands.now) x.deadly fits.said
@@ -157,7 +158,7 @@ module _ {V : Type 0} (told : V → Option Disk) (may_leave : V → Disk → Typ
       pub operate_half : (plan : Planned) (ok : Bool) → ok ≡ false → StepGoes told may_leave faults precheck (Calling x plan) k gs y v ok j hs z v
       operate_half plan ok no_line s B p w a stood is fits =
           let lives = ap (λ (m : SystemState). state_of m x.txn) (sym stood.stands.at.system) ∙ subst (λ n. state_of p.core.system n ≡ Some Live) fits.plan_is.txn fits.plan_is.rest.lives in
-          let (to, half) = fallen_short told may_leave faults precheck s B p w gs y v stood a.client (Calling x plan) x.txn lives t hs z left.dead left.others was left.left left.again in
+          let (to, half) = fallen_short told may_leave faults precheck s B p w gs y v stood a.client (Calling x plan) x.txn lives t hs z (left.dead stood.stands.dead) left.others was left.left left.again in
           subst (λ b. Went told may_leave faults precheck s B p w a (Calling x plan) gs y v b j hs z v) (sym no_line)
           (half_goes told may_leave faults precheck s B p w a gs y v k x (Calling x plan) is to hs z half fits.call fits.more x.tries (map act_of x.commands.now) fits.deadly false
           (fits.spot ∙ ap (at (IsWithin x.txn x.tries (map act_of x.commands.now) fits.deadly false)) fits.calls) (all_tried_of w a.client x.txn fits.call a.pending fits.work) j same)
@@ -165,7 +166,7 @@ module _ {V : Type 0} (told : V → Option Disk) (may_leave : V → Disk → Typ
       pub back_half : (plan : Planned) (why : Why) (ok : Bool) → ok ≡ false → StepGoes told may_leave faults precheck (TakingBack x plan why) k gs y v ok j hs z v
       back_half plan why ok no_line s B p w a stood is fits =
           let lives = ap (λ (m : SystemState). state_of m x.txn) (sym stood.stands.at.system) ∙ subst (λ n. state_of p.core.system n ≡ Some Live) fits.plan_is.txn fits.plan_is.rest.lives in
-          let (to, half) = fallen_short told may_leave faults precheck s B p w gs y v stood a.client (TakingBack x plan why) x.txn lives t hs z left.dead left.others was left.left left.again in
+          let (to, half) = fallen_short told may_leave faults precheck s B p w gs y v stood a.client (TakingBack x plan why) x.txn lives t hs z (left.dead stood.stands.dead) left.others was left.left left.again in
           subst (λ b. Went told may_leave faults precheck s B p w a (TakingBack x plan why) gs y v b j hs z v) (sym no_line)
           (half_goes told may_leave faults precheck s B p w a gs y v k x (TakingBack x plan why) is to hs z half fits.call fits.more x.tries (map act_of x.commands.now) fits.deadly false
           (fits.spot ∙ ap (at (IsWithin x.txn x.tries (map act_of x.commands.now) fits.deadly false)) fits.calls) (tried told may_leave faults precheck s B p w a gs y v k k x plan why stood is fits) j same)
@@ -182,7 +183,7 @@ dead_there (Some Committed) r e h = absurd (cc)
 dead_there None r e h = absurd (cc)
 
 module _ {V : Type 0} (told : V → Option Disk) (may_leave : V → Disk → Type 0) (faults : V → ℕ) (state : State) (k : Client) (gs : List RegionState) (y : SystemState) (v : Vaulted V) (may : MayStep told may_leave faults state k gs y v) where
-  pub may_be_cleaned : (t : ℕ) → MayClean gs y t
+  may_be_cleaned : (t : ℕ) → MayClean gs y t
   may_be_cleaned t =
       whole_may_clean gs y may.point.core.vault t
       (subst (λ rs. IsWhole (core rs y may.point.core.vault)) may.stood.stands.at.regions (subst (λ m. IsWhole (core may.point.core.regions m may.point.core.vault)) may.stood.stands.at.system may.stood.stands.whole)) may.stood.stands.dead
@@ -195,6 +196,14 @@ module _ {V : Type 0} (told : V → Option Disk) (may_leave : V → Disk → Typ
       let at : hold_of may.point.core r ≡ Some held.0 = ap (λ rs. hold_in (slice_get rs r)) may.stood.stands.at.regions ∙ (ap hold_in on.1 ∙ held.1) in
       let names : latched_in (state_of y held.0.txn) ≡ Some r = ap (λ (m : SystemState). latched_in (state_of m held.0.txn)) (sym may.stood.stands.at.system) ∙ may.stood.stands.whole.dead r held.0 at held.2 in
       subst (λ n. IsDead (state_of y n)) held.3 (dead_there (state_of y held.0.txn) r names (may.stood.quiet.unclaimed held.0.txn))
+
+module _ {V : Type 0} (told : V → Option Disk) (may_leave : V → Disk → Type 0) (faults : V → ℕ) (precheck : Bool) (state : State) (k j : Client) (gs hs : List RegionState) (y z : SystemState) (v u : Vaulted V) (ok : Bool) (t : ℕ) (vault : u ≡ v) where
+  -- in a run it has what it asks for
+  pub cleans_in : (MayStep told may_leave faults state k gs y v → IsDead (state_of y t)) → (MayClean gs y t → IsDead (state_of y t) → StepGoes told may_leave faults precheck state k gs y v ok j hs z v)
+      → StepGoes told may_leave faults precheck state k gs y v ok j hs z u
+  cleans_in dead goes =
+      in_a_run told may_leave faults precheck k gs y v ok j hs z u state
+      (λ may. vault_still told may_leave faults precheck state k j gs hs y z v u ok vault (goes (may_be_cleaned told may_leave faults state k gs y v may t) (dead may)))
 
 module _ {V : Type 0} (told : V → Option Disk) (may_leave : V → Disk → Type 0) (faults : V → ℕ) (k : Client) (gs : List RegionState) (y : SystemState) (v : Vaulted V) (x : Transaction) (plan : Planned) (why : Why) (may : MayStep told may_leave faults (TakingBack x plan why) k gs y v) where
   pub back_holder_is_dead : (precheck : Bool) (t : ℕ) → IsRefusal precheck plan gs y (Latch (DeadHolder t)) → IsDead (state_of y t)

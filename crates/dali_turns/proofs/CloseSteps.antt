@@ -69,7 +69,7 @@ module _ {V : Type 0} (told : V → Option Disk) (may_leave : V → Disk → Typ
       whole t = away_of told may_leave faults precheck s B p w gs y v stood a.client (Within x) x.txn (lives_now p stood.stands.at.system lives) (λ n e. e) hs z t.others (t.comes s B p stood.stands) t.gone.0
 
       half : IsHalfBack told may_leave faults x.txn gs y v hs z → (to : Point) × GoesBack told may_leave faults precheck s B p w gs y v a.client (Within x) x.txn to hs z
-      half t = back_of told may_leave faults precheck s B p w gs y v stood a.client (Within x) x.txn (lives_now p stood.stands.at.system lives) (λ n e. e) hs z t.others (t.comes s B p stood.stands) t.lives
+      half t = back_of told may_leave faults precheck s B p w gs y v stood a.client (Within x) x.txn (lives_now p stood.stands.at.system lives) (λ n e. e) hs z t.others (t.comes s B p stood.stands) (t.lives ∙ lives_now p stood.stands.at.system lives)
 
     -- ---- an abort
     module _ (next : next_of k ≡ Some Abort) (away : y.stop ≡ None → IsTakenBack told may_leave faults x.txn gs y v hs z) (stays : StaysWhere gs y hs z) where

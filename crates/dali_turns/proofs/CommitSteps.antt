@@ -9,6 +9,7 @@ use Rattle.dali_crash.specs.Checkpoints.{Point}
 use Rattle.dali_crash.specs.Traces.{Start}
 use Rattle.dali_vault.specs.Vaulted.{Vaulted}
 use Rattle.dali_single.specs.Single.{MayCall}
+use Rattle.dali_ends.specs.Stands.{IsBetween}
 use Rattle.dali_clients.specs.declared.command.Command.TheVariants.{Commit}
 use Rattle.dali_clients.specs.declared.line.Line.TheVariants.{CommitOk, Refused}
 use Rattle.dali_clients.specs.declared.line.Why.{Why}
@@ -19,6 +20,7 @@ use Rattle.dali_turns.specs.declared.client.Client.{Client}
 use Rattle.dali_turns.specs.declared.client.State.TheVariants.{Outside, Within}
 use Rattle.dali_turns.specs.declared.client.Transaction.{Transaction}
 use Rattle.dali_turns.specs.Clients.{next_of, Passes, Finishes}
+use Rattle.dali_turns.specs.Stood.{Stood}
 use Rattle.dali_turns.specs.Ends.{IsCommitted, IsUncommitted}
 use Rattle.dali_turns.specs.Within.{AreSoFar, FitsWithin}
 use Rattle.dali_turns.specs.Fits.{rest_of}
@@ -34,18 +36,21 @@ module _ {V : Type 0} (told : V → Option Disk) (may_leave : V → Disk → Typ
   may_call : (p : Point) (w : World) (a : Standing) → p.core.system ≡ y → FitsWithin p w a (rest_of k) x → y.stop ≡ None → MayCall p.log p.core x.txn
   may_call p w a same fits runs = fits.may_call (ap (λ (m : SystemState). m.stop) same ∙ runs)
 
+  between : (s : Start) (B : List (List Record)) (p : Point) (w : World) (a : Standing) → Stood told may_leave faults s B p w precheck gs y v → FitsWithin p w a (rest_of k) x → y.stop ≡ None → IsBetween told may_leave faults gs y v x.txn
+  between s B p w a stood fits runs = record { up = record { start = s; batches = B; point = p; stands = stood.stands }; may = may_call p w a stood.stands.at.system fits runs }
+
   -- ---- committed
   module _ (runs : y.stop ≡ None) (hs : List RegionState) (z : SystemState) (u : Vaulted V) (done : IsCommitted told may_leave faults x.txn gs y v hs z u) where
     pub commit_goes : Finishes k Outside CommitOk j → StepGoes told may_leave faults precheck (Within x) k gs y v true j hs z u
     commit_goes f s B p w a stood is fits =
         commits_said told may_leave faults precheck s B p w a gs y v k j x stood is fits runs (behind_next k) (next_act k Commit next) hs z u
-        (done.goes s B p stood.stands (may_call p w a stood.stands.at.system fits runs)) done.others done.gone.0 done.whole
+        (done.goes s B p stood.stands (may_call p w a stood.stands.at.system fits runs)) done.others done.gone.0 (done.whole (between s B p w a stood fits runs))
         (finished_client k j Outside CommitOk f) (finished_lines k j Outside CommitOk f) (finished_rest k j Outside CommitOk f) f.stands
 
     pub commit_silent_goes : Passes k Outside j → StepGoes told may_leave faults precheck (Within x) k gs y v false j hs z u
     commit_silent_goes f s B p w a stood is fits =
         commits_unsaid told may_leave faults precheck s B p w a gs y v k j x stood is fits runs (behind_next k) (next_act k Commit next) hs z u
-        (done.goes s B p stood.stands (may_call p w a stood.stands.at.system fits runs)) done.others done.gone.0 done.whole f.transcript
+        (done.goes s B p stood.stands (may_call p w a stood.stands.at.system fits runs)) done.others done.gone.0 (done.whole (between s B p w a stood fits runs)) f.transcript
 
   -- ---- the store failed
   module _ (runs : y.stop ≡ None) (hs : List RegionState) (z : SystemState) (u : Vaulted V) (lost : IsUncommitted told may_leave faults x.txn gs y v hs z u) where
@@ -58,13 +63,13 @@ module _ {V : Type 0} (told : V → Option Disk) (may_leave : V → Disk → Typ
     pub fault_goes : Finishes k Outside (Refused Commit StoreStopped) j → StepGoes told may_leave faults precheck (Within x) k gs y v true j hs z u
     fault_goes f s B p w a stood is fits = on_regions (λ here.
         commit_fails told may_leave faults precheck s B p w a gs y v k j x stood is fits runs (behind_next k) (next_act k Commit next) z u
-        (here.fails s B p stood.stands (may_call p w a stood.stands.at.system fits runs)) here.stopped here.others here.whole
+        (here.fails s B p stood.stands (may_call p w a stood.stands.at.system fits runs)) here.stopped here.others (here.whole (between s B p w a stood fits runs))
         (finished_client k j Outside (Refused Commit StoreStopped) f) (finished_lines k j Outside (Refused Commit StoreStopped) f) (finished_rest k j Outside (Refused Commit StoreStopped) f) f.stands)
 
     pub fault_silent_goes : Passes k Outside j → StepGoes told may_leave faults precheck (Within x) k gs y v false j hs z u
     fault_silent_goes f s B p w a stood is fits = on_regions (λ here.
         commit_fails_unsaid told may_leave faults precheck s B p w a gs y v k j x stood is fits runs (behind_next k) (next_act k Commit next) z u
-        (here.fails s B p stood.stands (may_call p w a stood.stands.at.system fits runs)) here.stopped here.others here.whole f.transcript)
+        (here.fails s B p stood.stands (may_call p w a stood.stands.at.system fits runs)) here.stopped here.others (here.whole (between s B p w a stood fits runs)) f.transcript)
 
   -- ---- the engine is stopped
   module _ (cause : Cause) (stop : y.stop ≡ Some cause) where

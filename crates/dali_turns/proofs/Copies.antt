@@ -26,7 +26,8 @@ use Rattle.dali_steps.proofs.Steps.{copy_faults}
 use Rattle.dali_clean.specs.Cleaned.{AreDead}
 use Rattle.dali_whole.specs.Cores.{IsCoreAt, HoldsPlaces}
 use Rattle.dali_checkpoint.specs.Kept.{Checkpointed, side_in}
-use Rattle.dali_checkpoint.specs.Done.{Reaches, IsNoShorter}
+use Rattle.dali_checkpoint.specs.Done.{Reaches}
+use Rattle.dali_whole.specs.Cores.{IsNoShorter}
 use Rattle.dali_checkpoint.specs.Running.{IsCopying}
 use Rattle.dali_checkpoint.specs.Laws.{Went as Further}
 use Rattle.dali_checkpoint.proofs.Calls.{untouched_now, side_is_next, copy_goes_on, skip_goes_on}

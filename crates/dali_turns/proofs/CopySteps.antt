@@ -20,7 +20,8 @@ use Rattle.dali_vault.specs.Vaulted.{Vaulted}
 use Rattle.dali_steps.specs.Said.{HasWritten, WriteHasFailed}
 use Rattle.dali_image.specs.declared.header.Header.{Header}
 use Rattle.dali_checkpoint.specs.Kept.{Checkpointed, side_in, given_up}
-use Rattle.dali_checkpoint.specs.Done.{Reaches, IsNoShorter}
+use Rattle.dali_checkpoint.specs.Done.{Reaches}
+use Rattle.dali_whole.specs.Cores.{IsNoShorter}
 use Rattle.dali_checkpoint.specs.Running.{IsCopying}
 use Rattle.dali_checkpoint.specs.declared.error.CheckpointError.{CheckpointError}
 use Rattle.dali_checkpoint.specs.declared.error.CheckpointError.TheVariants.{Stopped, Fault}
@@ -37,9 +38,10 @@ use Rattle.dali_turns.specs.declared.client.State.TheVariants.{Outside, Copying}
 use Rattle.dali_turns.specs.Clients.{Finishes}
 use Rattle.dali_turns.specs.Endings.{line_in, SaysEnd, Unsaid}
 use Rattle.dali_turns.specs.Fits.{rest_of}
-use Rattle.dali_turns.specs.Goes.{MayStep, Went, StepGoes}
+use Rattle.dali_turns.specs.Goes.{Went, StepGoes}
 use Rattle.dali_turns.proofs.Commands.{unsaid_goes, finished_rest, finished_lines, finished_client}
 use Rattle.dali_turns.proofs.AuditSteps.{behind_is}
+use Rattle.dali_turns.proofs.Guarding.{Always}
 use Rattle.dali_turns.proofs.Ending.{vault_runs}
 use Rattle.dali_turns.proofs.Finishing.{refusal_stop, given_up as gives_up, given_up_silent}
 use Rattle.dali_turns.proofs.Copies.{copies, skips, copy_fails, copy_fails_silent}
@@ -51,7 +53,7 @@ same_line a b e = cc
 pub never_ok : {T E : Type 0} (e : E) (x : T) → (let r : Result T E = Err e in r ≡ Ok x) → ⊥
 never_ok e x is = cc
 
-set_self : (gs : List RegionState) (r : ℕ) (g : RegionState) → slice_get gs r ≡ Some g → slice_set gs r g ≡ gs
+pub set_self : (gs : List RegionState) (r : ℕ) (g : RegionState) → slice_get gs r ≡ Some g → slice_set gs r g ≡ gs
 set_self [] r g at = refl
 set_self (x ∷ gs) zero g at = let same : x ≡ g = cc in ap (λ z. z ∷ gs) (sym same)
 set_self (x ∷ gs) (suc r) g at = ap (λ l. x ∷ l) (set_self gs r g at)
@@ -59,27 +61,10 @@ set_self (x ∷ gs) (suc r) g at = ap (λ l. x ∷ l) (set_self gs r g at)
 module _ {V : Type 0} (told : V → Option Disk) (may_leave : V → Disk → Type 0) (faults : V → ℕ) (precheck : Bool) (k j : Client) (gs : List RegionState) (y : SystemState) (v : Vaulted V)
     (c : Checkpointed) (next : ℕ) where
   -- ---- what a copy asks for
-  module _ (may : MayStep told may_leave faults (Copying c next) k gs y v) (stop : y.stop ≡ None) where
-    pub runs : v.stopped ≡ false
-    runs = vault_runs v.stopped (is_some y.stop) may.stood.stops (ap is_some stop)
-
-    copying : IsCopying told may_leave faults may.start may.batches may.point gs y v c may.fits.head
-    copying = may.fits.copying runs
-
-    side : side_in c ≡ target may.point
-    side = side_is_next told may_leave faults may.start may.batches may.point gs y v c may.fits.head may.stood.stands.at.vault.run copying.is
-
-    pub may_next : next ≡ c.copied
-    may_next = sym may.fits.copied
-
-    pub may_within : next < length gs → next < regions c.header.geometry
-    may_within less = omega (arith, less, may.stood.stands.whole.regions, ap length may.stood.stands.at.regions, ap (λ (h : Header). regions h.geometry) copying.is.header)
-
-    pub may_reach : Reaches told (side_in c) next v
-    may_reach = IfSome_then (told v.store) copying.under_way (λ fs a. subst (λ (n : ℕ). place_of n ≤ length (image_file (side_in c) fs)) may.fits.copied (subst (λ (x : Side). place_of c.copied ≤ length (image_file x fs)) (sym side) a.long))
-
-    pub may_hold : (g : RegionState) → slice_get gs next ≡ Some g → is_dirty g (side_in c) ≡ false → Reaches told (side_in c) (next + 1) v
-    may_hold g at clean = IfSome_then (told v.store) may.stood.files (λ fs places. places (side_in c) next g at clean)
+  pub may_copy : y.stop ≡ None → next < length gs → Always told may_leave faults precheck (Copying c next) k gs y v ((next ≡ c.copied) × (next < regions c.header.geometry))
+  may_copy stop less s B p w a stood of fits =
+      let runs : v.stopped ≡ false = vault_runs v.stopped (is_some y.stop) stood.stops (ap is_some stop) in
+      (sym fits.copied, omega (arith, less, stood.stands.whole.regions, ap length stood.stands.at.regions, ap (λ (h : Header). regions h.geometry) (fits.copying runs).is.header))
 
   -- ---- Ok
   module _ (g h : RegionState) (there : slice_get gs next ≡ Some g) (stop : y.stop ≡ None) (hs : List RegionState) (left : hs ≡ slice_set gs next h) where

@@ -1,5 +1,9 @@
 pub mod Deeds
 pub mod Commands
+pub mod Here
+pub mod Flags
+pub mod Placed
+pub mod Putting
 pub mod Beside
 pub mod Quietly
 pub mod Doing
@@ -10,6 +14,7 @@ pub mod Passing
 pub mod Auditing
 pub mod Poking
 pub mod Ending
+pub mod Guarding
 pub mod AuditSteps
 pub mod Apart
 pub mod Walking
@@ -40,6 +45,7 @@ pub mod Certified
 pub mod Uncertified
 pub mod CheckpointSteps
 pub mod CopySteps
+pub mod Placing
 pub mod SettleSteps
 pub mod CertifySteps
 pub mod Staying
@@ -58,5 +64,4 @@ pub mod CleanSteps
 pub mod Closing
 pub mod CloseSteps
 pub mod CommitSteps
-pub mod MayClose
 pub mod Requests

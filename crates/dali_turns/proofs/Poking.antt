@@ -36,7 +36,8 @@ use Rattle.dali_turns.specs.Clients.{next_of, Passes, Finishes}
 use Rattle.dali_turns.specs.Stood.{Stood}
 use Rattle.dali_turns.specs.Outside.{FitsOutside}
 use Rattle.dali_turns.specs.Fits.{rest_of, IsOf, Fits}
-use Rattle.dali_turns.specs.Goes.{RowsTell, Went, StepGoes, MayStep}
+use Rattle.dali_turns.specs.Goes.{RowsTell, Went, StepGoes}
+use Rattle.dali_turns.proofs.Here.{MayStep}
 use Rattle.dali_turns.proofs.Commands.{next_act, behind_next, finished_rest, finished_lines, finished_client, none_under_way}
 use Rattle.dali_turns.proofs.Doing.{ended, Did, did_nothing, did_quietly, went_on, went_by}
 

@@ -17,6 +17,8 @@ use Rattle.dali_core.specs.declared.error.SystemError.{SystemError}
 use Rattle.dali_core.specs.declared.error.SystemError.TheVariants.{Stopped, LogFull, OutOfMemory}
 use Rattle.dali_core.specs.declared.want.Want.{Want}
 use Rattle.dali_core.specs.declared.want.Want.TheVariants.{Region}
+use Rattle.dali_clean.specs.declared.error.CleanError.{CleanError}
+use Rattle.dali_clean.specs.declared.error.CleanError.TheVariants.{Stopped as CleanStopped, OutOfMemory as CleanMemory}
 use Rattle.dali_calls.specs.Plans.{Planned, want_of}
 use Rattle.dali_single.specs.declared.error.StepError.{StepError}
 use Rattle.dali_single.specs.Refusals.{IsAnswerTo, IsRefusedOn, IsRefusedIn, IsRefusal}
@@ -147,3 +149,8 @@ unfinished_one w c t tries cs d s call more x h = h
 
 pub unfinished : (w : World) (c t tries : ℕ) (cs : List Act) (d : Option ℕ) (s : Bool) (call : Call) (more : List Act) (xs : List Receipt) → AreTried w c t call xs → AreUnfinished w c (IsWithin t tries cs d s) (Calls call ∷ more) xs
 unfinished w c t tries cs d s call more xs h = all_map (IsTried w c t call) (IsUnfinished w c (IsWithin t tries cs d s) (Calls call ∷ more)) (unfinished_one w c t tries cs d s call more) xs h
+
+-- why a clean-up is refused
+pub clean_stop : {T : Type 0} (o : Option Cause) (r : Result T CleanError) (e : CleanError) (cause : Cause) → r ≡ Err e → e ≡ CleanStopped cause → IfSome o (λ c. r ≡ Err (CleanStopped c)) → (o ≡ None → e ≡ CleanMemory) → o ≡ Some cause
+clean_stop {T} (Some c) r e cause is stopped same memory = let both : Err (CleanStopped c) ≡ Err e = sym same ∙ is in let one : CleanStopped c ≡ CleanStopped cause = cc in let two : c ≡ cause = cc in ap Some two
+clean_stop {T} None r e cause is stopped same memory = let both : CleanStopped cause ≡ CleanMemory = sym stopped ∙ memory refl in absurd (cc)

@@ -25,10 +25,10 @@ use Rattle.dali_turns.specs.declared.client.State.TheVariants.{Within, Calling}
 use Rattle.dali_turns.specs.declared.client.Transaction.{Transaction}
 use Rattle.dali_turns.specs.Calls.{MustWait}
 use Rattle.dali_turns.specs.Clients.{next_of, Stays}
-use Rattle.dali_turns.specs.Goes.{StepGoes, MayStep, YieldGoes, MayYield}
+use Rattle.dali_turns.specs.Goes.{StepGoes, YieldGoes}
 use Rattle.dali_turns.proofs.Asking.{new_plan}
 use Rattle.dali_turns.proofs.CallSteps.{granted_goes, waits_goes}
-use Rattle.dali_turns.proofs.Busied.{may_yield, may_clean, yield_goes, clean_goes}
+use Rattle.dali_turns.proofs.Busied.{yield_goes, clean_goes}
 
 -- a row is a dead one's where its test says so
 pub dead_in : (o : Option RowState) → is_dead_in o ≡ true → IsDead o
@@ -68,9 +68,6 @@ module _ {V : Type 0} (told : V → Option Disk) (may_leave : V → Disk → Typ
     pub waits_then : a ≡ Wait holder → (precheck : Bool) (j : Client) → Stays k (Within x) j → StepGoes told may_leave faults precheck (Within x) k gs y v true j gs z v
     waits_then is precheck j f = waits_goes told may_leave faults precheck gs y v k j x call next z (waits_there is) f
 
-    pub may_clean_then : a ≡ Wait holder → MayStep told may_leave faults (Within x) k gs y v → MayStep told may_leave faults (Within x) k gs z v
-    may_clean_then is may = subst (λ (m : SystemState). MayStep told may_leave faults (Within x) k gs m v) (sym (waits_there is)) may
-
     pub clean_then : a ≡ Wait holder → (precheck ok : Bool) (j : Client) (hs : List RegionState) (m : SystemState) (u : Vaulted V) → StepGoes told may_leave faults precheck (Within x) k gs z v ok j hs m u → StepGoes told may_leave faults precheck (Within x) k gs y v ok j hs m u
     clean_then is precheck ok j hs m u goes = subst (λ (n : SystemState). StepGoes told may_leave faults precheck (Within x) k gs n v ok j hs m u) (waits_there is) goes
 
@@ -84,18 +81,10 @@ module _ {V : Type 0} (told : V → Option Disk) (may_leave : V → Disk → Typ
     died : a ≡ Busy holder → is_dead_in (state_of z holder) ≡ true → is_dead_in (state_of y holder) ≡ true
     died is dead = ap is_dead_in (as_before is) ∙ dead
 
-    pub may_yield_then : a ≡ Busy holder → is_dead_in (state_of z holder) ≡ false → MayStep told may_leave faults (Within x) k gs y v → MayYield told may_leave faults x holder k gs z v
-    may_yield_then is alive may =
-        may_yield told may_leave faults gs y v k x call next plan same holder (answered (Busy holder) is) runs z (stated (Busy holder) is) (asked (Busy holder) is) (lives is alive) may
-
     pub yield_then : a ≡ Busy holder → is_dead_in (state_of z holder) ≡ false → (precheck ok : Bool) (j : Client) (hs : List RegionState) (m : SystemState) (u : Vaulted V) → YieldGoes told may_leave faults precheck x holder k gs z v ok j hs m u
         → StepGoes told may_leave faults precheck (Within x) k gs y v ok j hs m u
     yield_then is alive precheck ok j hs m u goes =
         yield_goes told may_leave faults gs y v k x call next plan same holder (answered (Busy holder) is) runs z (stated (Busy holder) is) (asked (Busy holder) is) (lives is alive) precheck ok j hs m u goes
-
-    pub may_clean_behind : a ≡ Busy holder → is_dead_in (state_of z holder) ≡ true → MayStep told may_leave faults (Within x) k gs y v → MayStep told may_leave faults (Within x) k gs z v
-    may_clean_behind is dead may =
-        may_clean told may_leave faults gs y v k x call next plan same holder (answered (Busy holder) is) runs z (stated (Busy holder) is) (asked (Busy holder) is) (died is dead) may
 
     pub clean_behind : a ≡ Busy holder → is_dead_in (state_of z holder) ≡ true → (precheck ok : Bool) (j : Client) (hs : List RegionState) (m : SystemState) (u : Vaulted V) → StepGoes told may_leave faults precheck (Within x) k gs z v ok j hs m u
         → StepGoes told may_leave faults precheck (Within x) k gs y v ok j hs m u

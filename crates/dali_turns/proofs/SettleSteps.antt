@@ -23,7 +23,8 @@ use Rattle.dali_image.specs.declared.header.Header.{Header}
 use Rattle.dali_audit.specs.declared.audit.Finding.TheVariants.{Waiting}
 use Rattle.dali_audit.specs.Findings.{Audited}
 use Rattle.dali_checkpoint.specs.Kept.{Checkpointed, side_in, given_up}
-use Rattle.dali_checkpoint.specs.Done.{IsNoShorter, Writes, FailsToWrite}
+use Rattle.dali_checkpoint.specs.Done.{Writes, FailsToWrite}
+use Rattle.dali_whole.specs.Cores.{IsNoShorter}
 use Rattle.dali_checkpoint.specs.Making.{checkpoint_error}
 use Rattle.dali_checkpoint.specs.declared.error.CheckpointError.{CheckpointError}
 use Rattle.dali_checkpoint.specs.declared.error.CheckpointError.TheVariants.{Fault}
@@ -39,10 +40,11 @@ use Rattle.dali_turns.specs.Stood.{Stood}
 use Rattle.dali_turns.specs.Clients.{Finishes}
 use Rattle.dali_turns.specs.Endings.{line_in, SaysEnd, Unsaid}
 use Rattle.dali_turns.specs.Fits.{rest_of}
-use Rattle.dali_turns.specs.Goes.{MayStep, Went, StepGoes}
+use Rattle.dali_turns.specs.Goes.{Went, StepGoes}
 use Rattle.dali_turns.proofs.Commands.{unsaid_goes, finished_rest, finished_lines, finished_client}
 use Rattle.dali_turns.proofs.AuditSteps.{behind_is, of_told, in_err}
 use Rattle.dali_turns.proofs.Auditing.{has_room}
+use Rattle.dali_turns.proofs.Guarding.{Always}
 use Rattle.dali_turns.proofs.Ending.{vault_runs}
 use Rattle.dali_turns.proofs.CopySteps.{same_line}
 use Rattle.dali_turns.proofs.Settling.{full_settle, full_silent, no_audit, certifies, flush_fails_settle, flush_fails_silent, table_fails_settle, table_fails_silent}
@@ -50,10 +52,12 @@ use Rattle.dali_turns.proofs.Settling.{full_settle, full_silent, no_audit, certi
 module _ {V : Type 0} (told : V → Option Disk) (may_leave : V → Disk → Type 0) (faults : V → ℕ) (precheck : Bool) (k j : Client) (gs : List RegionState) (y : SystemState) (v : Vaulted V)
     (c : Checkpointed) (next : ℕ) (stop : y.stop ≡ None) where
   -- ---- what a settlement asks for
-  pub may_settle : MayStep told may_leave faults (Copying c next) k gs y v → length gs ≤ next → c.copied ≡ regions c.header.geometry
-  may_settle may all =
-      let runs : v.stopped ≡ false = vault_runs v.stopped (is_some y.stop) may.stood.stops (ap is_some stop) in
-      omega (arith, all, may.fits.copied, may.fits.upto, may.stood.stands.whole.regions, ap length may.stood.stands.at.regions, ap (λ (h : Header). regions h.geometry) (may.fits.copying runs).is.header)
+  pub may_settle : length gs ≤ next → Always told may_leave faults precheck (Copying c next) k gs y v ((next ≡ c.copied) × (next ≡ regions c.header.geometry))
+  may_settle all s B p w a stood of fits =
+      let runs : v.stopped ≡ false = vault_runs v.stopped (is_some y.stop) stood.stops (ap is_some stop) in (
+        sym fits.copied,
+        omega (arith, all, fits.upto, stood.stands.whole.regions, ap length stood.stands.at.regions, ap (λ (h : Header). regions h.geometry) (fits.copying runs).is.header),
+      )
 
   runs_here : (s : Start) (B : List (List Record)) (p : Point) (w : World) → Stood told may_leave faults s B p w precheck gs y v → v.stopped ≡ false
   runs_here s B p w stood = vault_runs v.stopped (is_some y.stop) stood.stops (ap is_some stop)

@@ -24,7 +24,8 @@ use Rattle.dali_whole.proofs.Flushing.{flush_fails}
 use Rattle.dali_audit.specs.declared.audit.Finding.TheVariants.{Waiting}
 use Rattle.dali_audit.specs.Findings.{Audited}
 use Rattle.dali_checkpoint.specs.Kept.{Checkpointed, side_in}
-use Rattle.dali_checkpoint.specs.Done.{IsNoShorter, Writes, WriteFails}
+use Rattle.dali_checkpoint.specs.Done.{Writes, WriteFails}
+use Rattle.dali_whole.specs.Cores.{IsNoShorter}
 use Rattle.dali_checkpoint.specs.Running.{PassesTell, IsCopying, IsSettled}
 use Rattle.dali_checkpoint.specs.Laws.{HasSettled}
 use Rattle.dali_checkpoint.proofs.Audited.{begins_telling}

@@ -14,7 +14,8 @@ use Rattle.dali_crash.specs.Checkpoints.{Does, Starts, Keeps as KeepsAll, Writes
 use Rattle.dali_crash.specs.Traces.{Start, bases_of}
 use Rattle.dali_vault.specs.Vaulted.{Vaulted}
 use Rattle.dali_checkpoint.specs.Kept.{Checkpointed}
-use Rattle.dali_checkpoint.specs.Done.{IsNoShorter, HasStarted}
+use Rattle.dali_checkpoint.specs.Done.{HasStarted}
+use Rattle.dali_whole.specs.Cores.{IsNoShorter}
 use Rattle.dali_checkpoint.specs.Running.{IsIdle}
 use Rattle.dali_checkpoint.specs.Laws.{Started}
 use Rattle.dali_checkpoint.proofs.Calls.{start_goes}

@@ -27,7 +27,8 @@ use Rattle.dali_turns.specs.declared.client.Transaction.{Transaction}
 use Rattle.dali_turns.specs.Clients.{next_of, Passes, Stays, left_behind}
 use Rattle.dali_turns.specs.Within.{AreSoFar}
 use Rattle.dali_turns.specs.Fits.{rest_of, lines_of, IsOf, Owns, Fits}
-use Rattle.dali_turns.specs.Goes.{RowsTell, Went, StepGoes, MayStep}
+use Rattle.dali_turns.specs.Goes.{RowsTell, Went, StepGoes}
+use Rattle.dali_turns.proofs.Here.{MayStep}
 use Rattle.dali_bytes.specs.declared.error.OutOfMemory.{OutOfMemory}
 use Rattle.dali_turns.proofs.Commands.{next_act, behind_next}
 use Rattle.dali_turns.proofs.Leaving.{rests_goes, skips_goes}
@@ -69,19 +70,6 @@ not_within command rest h a b c d = absurd h
 module _ {V : Type 0} (told : V → Option Disk) (may_leave : V → Disk → Type 0) (faults : V → ℕ) where
   is_told : (w : World) (a : Standing) (k j : Client) → TellsSame k j → IsOf w a k → IsOf w a j
   is_told w a k j same is = record { client = is.client ∙ sym same.client; lines = is.lines ∙ ap (map said_of) (sym same.lines); stands = is.stands }
-
-  pub may_stepped : (gs : List RegionState) (y : SystemState) (v : Vaulted V) (k j : Client) (state : State) → k.state ≡ state → TellsSame k j → MayStep told may_leave faults k.state k gs y v → MayStep told may_leave faults state j gs y v
-  may_stepped gs y v k j state e same m = record {
-    start = m.start;
-    batches = m.batches;
-    point = m.point;
-    world = m.world;
-    standing = m.standing;
-    precheck = m.precheck;
-    stood = m.stood;
-    is = is_told m.world m.standing k j same m.is;
-    fits = subst (λ l. Fits told may_leave faults m.start m.batches m.point m.world gs y v m.standing l state) (sym (ap (map act_of) same.rest)) (subst (λ (st : State). Fits told may_leave faults m.start m.batches m.point m.world gs y v m.standing (rest_of k) st) e m.fits);
-  }
 
   pub stepped : (precheck ok : Bool) (gs hs : List RegionState) (y z : SystemState) (v u : Vaulted V) (k j n : Client) (state : State) → k.state ≡ state → TellsSame k j → StepGoes told may_leave faults precheck state j gs y v ok n hs z u
       → StepGoes told may_leave faults precheck k.state k gs y v ok n hs z u

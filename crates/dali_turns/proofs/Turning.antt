@@ -1,5 +1,5 @@
 -- A step of a client with the receipts of what it logged.
-use Rattle.std.proofs.Common.{◌≡◌, ℕ, zero, suc, ◌+◌, ◌-◌, ◌≤◌, Bool, true, false, List, [], ◌∷◌, ◌++◌, length, map, Option, refl, ap, sym, subst, ◌∙◌, arith}
+use Rattle.std.proofs.Common.{◌≡◌, ℕ, zero, suc, ◌+◌, ◌-◌, ◌<◌, ◌≤◌, Bool, true, false, List, [], ◌∷◌, ◌++◌, length, map, Option, refl, ap, sym, subst, ◌∙◌, arith}
 use Rattle.std.specs.List.{range_with_len}
 use Rattle.std.proofs.lemmas.List.{append-nil, append_assoc, length-append}
 use Rattle.std.proofs.lemmas.List.Elements.{filter_map-append}
@@ -21,8 +21,8 @@ use Rattle.dali_turns.specs.declared.client.Client.{Client}
 use Rattle.dali_turns.specs.declared.client.State.{State}
 use Rattle.dali_turns.specs.Stood.{Stood}
 use Rattle.dali_turns.specs.Fits.{rest_of, IsOf, Fits}
-use Rattle.dali_turns.specs.Goes.{Came, RowsTell, Went, StepGoes, MayStep}
-use Rattle.dali_turns.specs.Turns.{own_numbers, AreReceipts, TurnGoes, MayTurn}
+use Rattle.dali_turns.specs.Goes.{Came, RowsTell, Went, StepGoes}
+use Rattle.dali_turns.specs.Turns.{own_numbers, AreReceipts, TurnGoes}
 use Rattle.dali_turns.proofs.Refusals.{records_are}
 use Rattle.dali_turns.proofs.Cutting.{fits_under_way}
 
@@ -123,31 +123,20 @@ module _ {V : Type 0} (told : V → Option Disk) (may_leave : V → Disk → Typ
   came_cut false true s B p w gs y v a k less came = let no_way : false ≡ true = less refl in absurd (cc)
   came_cut false false s B p w gs y v a k less came = came
 
-  pub may_same : (k j : Client) (gs : List RegionState) (y : SystemState) (v : Vaulted V) → LooksSame k j → MayStep told may_leave faults k.state k gs y v → MayStep told may_leave faults j.state j gs y v
-  may_same k j gs y v same m = record {
-    start = m.start;
-    batches = m.batches;
-    point = m.point;
-    world = m.world;
-    standing = m.standing;
-    precheck = m.precheck;
-    stood = m.stood;
-    is = is_same m.world m.standing k j same m.is;
-    fits = fits_same m.start m.batches m.point m.world gs y v m.standing k j same m.fits;
-  }
-
   -- the log grows
-  pub records_grow : (precheck : Bool) (k before behind : Client) (gs hs : List RegionState) (y z : SystemState) (v u : Vaulted V) (ok : Bool) → LooksSame k before → MayTurn told may_leave faults precheck k gs y v
-      → StepGoes told may_leave faults precheck before.state before gs y v ok behind hs z u → y.records ≤ z.records
-  records_grow precheck k before behind gs hs y z v u ok same may goes =
-      let m = may.0 in
-      let stood : Stood told may_leave faults m.start m.batches m.point m.world precheck gs y v = subst (λ (b : Bool). Stood told may_leave faults m.start m.batches m.point m.world b gs y v) may.1 m.stood in
-      let went : Went told may_leave faults precheck m.start m.batches m.point m.world m.standing before.state gs y v ok behind hs z u =
-      goes m.start m.batches m.point m.world m.standing stood (is_same m.world m.standing k before same m.is) (fits_same m.start m.batches m.point m.world gs y v m.standing k before same m.fits) in
-      let first : y.records ≡ length (log_of m.world) = ap (λ (x : SystemState). x.records) (sym stood.stands.at.system) ∙ records_are (bases_of m.start) m.start.log m.world m.point stood.stands.at.vault.run stood.tells in
+  records_grow : (precheck : Bool) (k before behind : Client) (gs hs : List RegionState) (y z : SystemState) (v u : Vaulted V) (ok : Bool) → LooksSame k before → StepGoes told may_leave faults precheck before.state before gs y v ok behind hs z u
+      → (s : Start) (B : List (List Record)) (p : Point) (w : World) (a : Standing) → Stood told may_leave faults s B p w precheck gs y v → IsOf w a k → Fits told may_leave faults s B p w gs y v a (rest_of k) k.state → y.records ≤ z.records
+  records_grow precheck k before behind gs hs y z v u ok same goes s B p w a stood is fits =
+      let went : Went told may_leave faults precheck s B p w a before.state gs y v ok behind hs z u = goes s B p w a stood (is_same w a k before same is) (fits_same s B p w gs y v a k before same fits) in
+      let first : y.records ≡ length (log_of w) = ap (λ (x : SystemState). x.records) (sym stood.stands.at.system) ∙ records_are (bases_of s) s.log w p stood.stands.at.vault.run stood.tells in
       let last : z.records ≡ length (log_of went.world) =
-      ap (λ (x : SystemState). x.records) (sym went.stood.stands.at.system) ∙ records_are (bases_of m.start) m.start.log went.world went.to went.stood.stands.at.vault.run went.stood.tells in
-      omega (arith, first, last, log_grown m.world went.world m.standing.client went.deeds went.goes.grows went.goes.more)
+      ap (λ (x : SystemState). x.records) (sym went.stood.stands.at.system) ∙ records_are (bases_of s) s.log went.world went.to went.stood.stands.at.vault.run went.stood.tells in
+      omega (arith, first, last, log_grown w went.world a.client went.deeds went.goes.grows went.goes.more)
+
+  pub never_shrinks : (precheck : Bool) (k before behind j : Client) (gs hs : List RegionState) (y z : SystemState) (v u : Vaulted V) (ok cut : Bool) → LooksSame k before → StepGoes told may_leave faults precheck before.state before gs y v ok behind hs z u
+      → z.records < y.records → TurnGoes told may_leave faults precheck k gs y v cut j hs z u
+  never_shrinks precheck k before behind j gs hs y z v u ok cut same goes less s B p w a stood is fits handed =
+      let grows : y.records ≤ z.records = records_grow precheck k before behind gs hs y z v u ok same goes s B p w a stood is fits in absurd (omega (arith, grows, less))
 
   module _ (precheck : Bool) (k before behind j : Client) (gs hs : List RegionState) (y z : SystemState) (v u : Vaulted V) (ok cut : Bool)
       (same : LooksSame k before) (goes : StepGoes told may_leave faults precheck before.state before gs y v ok behind hs z u) (also : LooksSame behind j) (less : cut ≡ true → ok ≡ true)

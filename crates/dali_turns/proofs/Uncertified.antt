@@ -18,7 +18,8 @@ use Rattle.dali_whole.specs.Flushed.{FlushesFrame, FailsFrame, AllFlushed, HasSt
 use Rattle.dali_whole.proofs.Flushing.{flushes_all, flush_fails}
 use Rattle.dali_audit.specs.Findings.{Audited, damaged}
 use Rattle.dali_checkpoint.specs.Kept.{Checkpointed, side_in}
-use Rattle.dali_checkpoint.specs.Done.{IsNoShorter, SyncFails as FailsToSync, TurnFails as FailsToMove}
+use Rattle.dali_checkpoint.specs.Done.{SyncFails as FailsToSync, TurnFails as FailsToMove}
+use Rattle.dali_whole.specs.Cores.{IsNoShorter}
 use Rattle.dali_checkpoint.specs.Running.{IsSettled, IsCertifiedAt}
 use Rattle.dali_checkpoint.proofs.Calls.{settled_flushed, SettledFlushed, certify_turn, CertifyTurn}
 use Rattle.dali_checkpoint.proofs.Lengths.{places_stay}

@@ -17,7 +17,8 @@ use Rattle.dali_steps.proofs.Steps.{quiet_goes, head_faults}
 use Rattle.dali_whole.specs.Cores.{IsCoreAt}
 use Rattle.dali_whole.specs.Flushed.{FailsFrame, HasStopped}
 use Rattle.dali_whole.proofs.Flushing.{flush_fails}
-use Rattle.dali_checkpoint.specs.Done.{IsNoShorter, WriteFails}
+use Rattle.dali_checkpoint.specs.Done.{WriteFails}
+use Rattle.dali_whole.specs.Cores.{IsNoShorter}
 use Rattle.dali_checkpoint.proofs.Calls.{start_keeps, KeptAt}
 use Rattle.dali_checkpoint.proofs.Lengths.{places_stay}
 use Rattle.dali_transcripts.specs.Words.{Act, Checkpoints as CheckpointAct, StoreFailed, Refused}

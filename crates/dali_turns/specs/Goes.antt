@@ -3,8 +3,7 @@
 --     Came ok ..               it stands where its state says, or, where memory was wanted, in a step that was cut short
 --     Went ..                  steps of the core lead from the one world to the other, told by deeds of the client
 --     StepGoes ..              so they do from each run, world and standing
---     MayStep ..               there is a run, a world and a standing, in which the client stands so
---     YieldGoes, MayYield      the same where it gives way to an older transaction, in the midst of a step
+--     YieldGoes                the same where it gives way to an older transaction, in the midst of a step
 use Rattle.std.specs.Prelude.{◌≡◌, ◌⊎◌, ℕ, Bool, true, false, List, [], Option, Some, None}
 use Rattle.dali_record.specs.declared.records.Record.{Record}
 use Rattle.dali_region.specs.State.{RegionState}
@@ -60,31 +59,9 @@ module _ {V : Type 0} (told : V → Option Disk) (may_leave : V → Disk → Typ
       → Stood told may_leave faults s B p w precheck gs y v → IsOf w a k → Fits told may_leave faults s B p w gs y v a (rest_of k) state
       → Went precheck s B p w a state gs y v ok k' hs z u
 
-  pub record MayStep (state : State) (k : Client) (gs : List RegionState) (y : SystemState) (v : Vaulted V) : Type 0 where
-    pub start : Start
-    pub batches : List (List Record)
-    pub point : Point
-    pub world : World
-    pub standing : Standing
-    pub precheck : Bool
-    pub stood : Stood told may_leave faults start batches point world precheck gs y v
-    pub is : IsOf world standing k
-    pub fits : Fits told may_leave faults start batches point world gs y v standing (rest_of k) state
-
   -- ---- in the midst of a step
   abbrev pub YieldGoes : Bool → Transaction → ℕ → Client → List RegionState → SystemState → Vaulted V → Bool → Client → List RegionState → SystemState → Vaulted V → Type 0
   YieldGoes precheck x holder k gs y v ok k' hs z u =
       (s : Start) (B : List (List Record)) (p : Point) (w : World) (a : Standing)
       → Stood told may_leave faults s B p w precheck gs y v → IsOf w a k → FitsYielding p w a (rest_of k) x holder
       → Went precheck s B p w a (Within x) gs y v ok k' hs z u
-
-  pub record MayYield (x : Transaction) (holder : ℕ) (k : Client) (gs : List RegionState) (y : SystemState) (v : Vaulted V) : Type 0 where
-    pub start : Start
-    pub batches : List (List Record)
-    pub point : Point
-    pub world : World
-    pub standing : Standing
-    pub precheck : Bool
-    pub stood : Stood told may_leave faults start batches point world precheck gs y v
-    pub is : IsOf world standing k
-    pub fits : FitsYielding point world standing (rest_of k) x holder

@@ -12,3 +12,5 @@ pub mod Goes
 pub mod Calls
 pub mod Ends
 pub mod Turns
+pub mod Places
+pub mod Waits

@@ -3,7 +3,6 @@
 --     AreReceipts ok w k       its receipts are these, or the first of them where memory was wanted
 --     Turned ..                a step, behind which they are so
 --     TurnGoes ..              so it is from each run, world and standing, where they were all before
---     MayTurn ..               there is a run, a world and a standing, in which the client stands so
 use Rattle.std.specs.Prelude.{◌≡◌, ℕ, Bool, true, false, List, ◌++◌, Option}
 use Rattle.dali_record.specs.declared.records.Record.{Record}
 use Rattle.dali_region.specs.State.{RegionState}
@@ -18,7 +17,7 @@ use Rattle.dali_transcripts.specs.Rounds.{Standing}
 use Rattle.dali_turns.specs.declared.client.Client.{Client}
 use Rattle.dali_turns.specs.Stood.{Stood}
 use Rattle.dali_turns.specs.Fits.{rest_of, IsOf, Fits}
-use Rattle.dali_turns.specs.Goes.{Went, MayStep}
+use Rattle.dali_turns.specs.Goes.{Went}
 
 abbrev pub own_numbers : World → Client → List ℕ
 own_numbers w k = numbers_of (deeds_of w k.transcript.client)
@@ -38,6 +37,3 @@ module _ {V : Type 0} (told : V → Option Disk) (may_leave : V → Disk → Typ
       (s : Start) (B : List (List Record)) (p : Point) (w : World) (a : Standing)
       → Stood told may_leave faults s B p w precheck gs y v → IsOf w a k → Fits told may_leave faults s B p w gs y v a (rest_of k) k.state → AreReceipts true w k
       → Turned precheck s B p w a k gs y v ok j hs z u
-
-  abbrev pub MayTurn : Bool → Client → List RegionState → SystemState → Vaulted V → Type 0
-  MayTurn precheck k gs y v = (may : MayStep told may_leave faults k.state k gs y v) × (may.precheck ≡ precheck)

@@ -7,6 +7,7 @@
 
 mod client;
 pub mod laws;
+mod run;
 mod steps;
 mod why;
 

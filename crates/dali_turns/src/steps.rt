@@ -7,12 +7,15 @@ mod cleaning;
 mod outside;
 mod transactions;
 
-ghost use Rattle.std.specs.Prelude.{◌≡◌, is_ok};
+ghost use Rattle.std.specs.Prelude.{◌≡◌, false, Ok, is_ok};
 ghost use Rattle.dali_turns.specs.declared.client.State.TheVariants.{Outside as IsOutside, Within as IsWithin};
-ghost use Rattle.dali_turns.specs.Goes.{MayStep, StepGoes};
-ghost use Rattle.dali_turns.specs.Turns.{TurnGoes, MayTurn};
+ghost use Rattle.dali_turns.specs.Goes.{StepGoes};
+ghost use Rattle.dali_turns.specs.Turns.{TurnGoes};
+ghost use Rattle.dali_turns.specs.Places.{HasPlaces, PlacesGo};
+ghost use Rattle.dali_turns.specs.Waits.{StaysPut};
 
 use crate::client::{Client, State, Transaction};
+use crate::run::no_run;
 pub(crate) use cleaning::clean_up;
 use dali_bytes::OutOfMemory;
 use dali_clients::Command;
@@ -38,15 +41,21 @@ pub fn turn<V: Store, G: Gate>(
     core: &mut Core<V>,
     setting: &Setting<'_, G>,
 ) -> Result<bool, OutOfMemory>
-    requires { MayTurn V.told V.may_leave V.faults setting.now.precheck client.old core.old.regions.items core.old.system.state core.old.vault }
-    ensures { TurnGoes V.told V.may_leave V.faults setting.now.precheck client.old core.old.regions.items core.old.system.state core.old.vault (is_ok result) client.new core.new.regions.items core.new.system.state core.new.vault }
+    requires { HasPlaces V.told client.old.state core.old.regions.items core.old.vault }
+    ensures goes { TurnGoes V.told V.may_leave V.faults setting.now.precheck client.old core.old.regions.items core.old.system.state core.old.vault (is_ok result) client.new core.new.regions.items core.new.system.state core.new.vault }
+    ensures places { PlacesGo V.told client.old.state core.old.regions.items core.old.vault client.new.state core.new.regions.items core.new.vault }
+    ensures idle { result ≡ Ok false → StaysPut core.old.system.state client.old.state client.old client.new × (core.new ≡ core.old) }
 {
     let first = core.system.records();
     // no step sees the receipts
     let receipts = client.transcript.replace_receipts(Vec::new(setting.alloc));
     let stepped = step(client, core, setting);
     client.transcript.replace_receipts(receipts);
-    client.transcript.log(first, core.system.records())?;
+    let behind = core.system.records();
+    if behind < first {
+        return no_run(); // a log grows
+    }
+    client.transcript.log(first, behind)?;
     stepped
 }
 
@@ -56,8 +65,10 @@ fn step<V: Store, G: Gate>(
     core: &mut Core<V>,
     setting: &Setting<'_, G>,
 ) -> Result<bool, OutOfMemory>
-    requires { MayStep V.told V.may_leave V.faults client.old.state client.old core.old.regions.items core.old.system.state core.old.vault }
-    ensures { StepGoes V.told V.may_leave V.faults setting.now.precheck client.old.state client.old core.old.regions.items core.old.system.state core.old.vault (is_ok result) client.new core.new.regions.items core.new.system.state core.new.vault }
+    requires { HasPlaces V.told client.old.state core.old.regions.items core.old.vault }
+    ensures goes { StepGoes V.told V.may_leave V.faults setting.now.precheck client.old.state client.old core.old.regions.items core.old.system.state core.old.vault (is_ok result) client.new core.new.regions.items core.new.system.state core.new.vault }
+    ensures places { PlacesGo V.told client.old.state core.old.regions.items core.old.vault client.new.state core.new.regions.items core.new.vault }
+    ensures idle { result ≡ Ok false → StaysPut core.old.system.state client.old.state client.old client.new × (core.new ≡ core.old) }
 {
     match mem::replace(&mut client.state, State::Outside) {
         State::Outside => next(client, core, setting),
@@ -94,9 +105,10 @@ fn next<V: Store, G: Gate>(
     core: &mut Core<V>,
     setting: &Setting<'_, G>,
 ) -> Result<bool, OutOfMemory>
-    requires may { MayStep V.told V.may_leave V.faults IsOutside client.old core.old.regions.items core.old.system.state core.old.vault }
     requires stands { client.old.state ≡ IsOutside }
-    ensures { StepGoes V.told V.may_leave V.faults setting.now.precheck IsOutside client.old core.old.regions.items core.old.system.state core.old.vault (is_ok result) client.new core.new.regions.items core.new.system.state core.new.vault }
+    ensures goes { StepGoes V.told V.may_leave V.faults setting.now.precheck IsOutside client.old core.old.regions.items core.old.system.state core.old.vault (is_ok result) client.new core.new.regions.items core.new.system.state core.new.vault }
+    ensures places { PlacesGo V.told IsOutside core.old.regions.items core.old.vault client.new.state core.new.regions.items core.new.vault }
+    ensures idle { result ≡ Ok false → StaysPut core.old.system.state IsOutside client.old client.new × (core.new ≡ core.old) }
 {
     match client.command() {
         None => Ok(false),
@@ -106,7 +118,7 @@ fn next<V: Store, G: Gate>(
             Command::Audit => audits::start(client, setting.alloc, core),
             Command::Checkpoint => checkpoints::start(client, setting.alloc, core),
             // no block has another command here
-            _ => unreachable!(),
+            _ => no_run(),
         },
     }
 }
@@ -118,8 +130,10 @@ fn within<'a, V: Store, G: Gate>(
     core: &mut Core<V>,
     setting: &Setting<'_, G>,
 ) -> Result<bool, OutOfMemory>
-    requires { MayStep V.told V.may_leave V.faults (IsWithin transaction) client.old core.old.regions.items core.old.system.state core.old.vault }
-    ensures { StepGoes V.told V.may_leave V.faults setting.now.precheck (IsWithin transaction.entry) client.old core.old.regions.items core.old.system.state core.old.vault (is_ok result) client.new core.new.regions.items core.new.system.state core.new.vault }
+    requires stands { client.old.state ≡ IsOutside }
+    ensures goes { StepGoes V.told V.may_leave V.faults setting.now.precheck (IsWithin transaction.entry) client.old core.old.regions.items core.old.system.state core.old.vault (is_ok result) client.new core.new.regions.items core.new.system.state core.new.vault }
+    ensures places { PlacesGo V.told (IsWithin transaction.entry) core.old.regions.items core.old.vault client.new.state core.new.regions.items core.new.vault }
+    ensures idle { result ≡ Ok false → StaysPut core.old.system.state (IsWithin transaction.entry) client.old client.new × (core.new ≡ core.old) }
 {
     match client.command() {
         None => transactions::end(client, transaction, core),
@@ -138,7 +152,7 @@ fn within<'a, V: Store, G: Gate>(
             Command::Commit => transactions::commit(client, transaction, core, setting),
             Command::Abort => transactions::abort(client, transaction, core),
             // no block has another command here
-            _ => unreachable!(),
+            _ => no_run(),
         },
     }
 }

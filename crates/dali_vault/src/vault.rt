@@ -9,6 +9,7 @@ ghost use Rattle.dali_batch.specs.Appending.{bodies_of, SomeAdded, AllAdded};
 ghost use Rattle.dali_batch.specs.Finding.{IsFound, IsBad, IsFurther};
 ghost use Rattle.dali_batch.specs.Reads.{OnlyReads};
 ghost use Rattle.dali_batch.specs.declared.error.BatchError.TheVariants.{BadLog, Fault as BatchFault};
+ghost use Rattle.dali_memstore.specs.Fuse.{inner, passes_of, failed_of, failed_by};
 ghost use Rattle.dali_traces.specs.Disks.{image_name};
 ghost use Rattle.dali_traces.specs.Anchors.{HasMoved, MayHaveMoved, AreAnchored};
 ghost use Rattle.dali_vault.specs.Vaulted.{with_store, grown, moved, faulted};
@@ -16,6 +17,7 @@ ghost use Rattle.dali_vault.specs.declared.error.VaultError.TheVariants.{Fault, 
 
 use crate::error::VaultError;
 use dali_batch::{BatchError, Found, Frame};
+use dali_memstore::Fuse;
 use dali_region::Side;
 use dali_store::{FileName, Store, StoreFault};
 use std::alloc::Global;
@@ -43,6 +45,25 @@ impl<V: Store> Model for Vault<V> {
     ghost view = { λ v. record { store = v.store; end = v.end; flushed = v.flushed; current = v.current; stopped = v.stopped } };
 
     ghost invariant = { λ v. IsServing V.told V.may_leave (record { store = v.store; end = v.end; flushed = v.flushed; current = v.current; stopped = v.stopped }) };
+}
+
+impl<V: Store> Vault<Fuse<V>> {
+    /// Lets the fuse over the store pass so many calls on from now on: `Fuse::set` of a store that is in use.
+    pub fn set_fuse(&mut self, passes: Option<u64>)
+        ensures same { self.new ≡ with_store self.old self.new.store }
+        ensures inner { inner self.new.store ≡ inner self.old.store }
+        ensures passes { passes_of self.new.store ≡ passes }
+        ensures failed { failed_of self.new.store ≡ failed_by passes (failed_of self.old.store) }
+    {
+        self.store.set(passes);
+    }
+
+    /// How many calls the fuse over the store has failed since it last forgot them.
+    pub fn failed(&self) -> u64
+        ensures { result ≡ failed_of self.now.store }
+    {
+        self.store.failed()
+    }
 }
 
 impl<V: Store> Vault<V> {

@@ -143,3 +143,7 @@ put_back n xs ys size = subst (λ k. take k (xs ++ drop (length xs) ys) ≡ xs) 
     take_at : (us vs : List RegionState) → take (length us) (us ++ vs) ≡ us
     take_at [] vs = refl
     take_at (u ∷ us) vs = ap (λ l. u ∷ l) (take_at us vs)
+
+-- what is so of the slice is so of its vector
+pub of_vector : (P : List RegionState → List RegionState → Type 0) (n : ℕ) (old now new : List RegionState) → length new ≡ n → now ≡ old → P now new → P old (take n (new ++ drop (length new) old))
+of_vector P n old now new size same h = subst (λ (rs : List RegionState). P old rs) (sym (put_back n new old size)) (subst (λ (rs : List RegionState). P rs new) same h)

@@ -1,3 +1,4 @@
 pub mod Flushing
 pub mod CleanedUp
 pub mod Moments
+pub mod Lengths

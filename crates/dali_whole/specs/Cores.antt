@@ -3,7 +3,8 @@
 --                              runs, no frame is in hand: what was taken is flushed
 --     HoldsPlaces gs fs        where a region's flag for a side is clear, the file of that side has its place
 --     IsWholeCore told gs y v  the core is whole, and so are its image files, where the store tells them
-use Rattle.std.specs.Prelude.{◌≡◌, ℕ, ◌+◌, ◌≤◌, false, List, Some, Option, IfSome, length, slice_get}
+--     IsNoShorter told v w     where the store tells its files, it still does, and no image file became shorter
+use Rattle.std.specs.Prelude.{◌≡◌, ℕ, ◌+◌, ◌≤◌, false, List, Some, None, Option, IfSome, length, slice_get}
 use Rattle.dali_record.specs.declared.records.Record.{Record}
 use Rattle.dali_region.specs.declared.Side.{Side}
 use Rattle.dali_region.specs.State.{RegionState}
@@ -25,6 +26,14 @@ pub record IsWholeCore {V : Type 0} (told : V → Option Disk) (gs : List Region
   -- whatever a run says of the vault
   pub parts : (u : VaultState) → IsWhole (record { regions = gs; system = y; vault = u })
   pub files : IfSome (told v.store) (HoldsPlaces gs)
+
+abbrev pub NoShorter : Option Disk → Option Disk → Type 0
+NoShorter (Some a) (Some b) = (side : Side) → length (image_file side a) ≤ length (image_file side b)
+NoShorter (Some a) None = ⊥
+NoShorter None new = new ≡ None
+
+abbrev pub IsNoShorter : {V : Type 0} → (V → Option Disk) → Vaulted V → Vaulted V → Type 0
+IsNoShorter told v w = NoShorter (told v.store) (told w.store)
 
 module _ {V : Type 0} (told : V → Option Disk) (may_leave : V → Disk → Type 0) (faults : V → ℕ) where
   pub record IsCoreAt (s : Start) (B : List (List Record)) (p : Point) (gs : List RegionState) (y : SystemState) (v : Vaulted V) : Type 0 where

@@ -8,7 +8,7 @@ ghost use Rattle.dali_system.specs.Steps.{taken, store_stopped};
 ghost use Rattle.dali_vault.specs.Vaulted.{faulted};
 ghost use Rattle.dali_vault.specs.declared.error.VaultError.TheVariants.{Fault, Stopped};
 ghost use Rattle.dali_whole.specs.Flushed.{Grows, FlushesFrame, FailsFrame, FlushesAll, FlushFails};
-ghost use Rattle.dali_whole.specs.Cores.{IsWholeCore};
+ghost use Rattle.dali_whole.specs.Cores.{IsWholeCore, IsNoShorter};
 ghost use Rattle.dali_whole.specs.Moments.{flush_calls, FlushLeaves, Within};
 
 use crate::calls;
@@ -36,6 +36,7 @@ pub fn write_out<V: Store>(
     ensures any_moment { Within V.told V.moment V.left_since vault.old vault.new (FlushLeaves V.may_leave system.old.state vault.old) }
     ensures grows { OnOk result (vault.new.end ≤ vault.old.end + 2 ^ 31) }
     ensures calls { OnOk result (V.lets_pass vault.new.store ≡ fewer (flush_calls system.old.state) (V.lets_pass vault.old.store)) }
+    ensures files { IsNoShorter V.told vault.old vault.new }
 {
     match system.take_frame(alloc) {
         Ok(frame) => calls::flush(vault, &frame),
@@ -64,6 +65,7 @@ pub fn flush<V: Store>(core: &mut Core<V>, alloc: Global) -> Result<(), VaultErr
     ensures calls { OnOk result (V.lets_pass core.new.vault.store ≡ fewer (flush_calls core.old.system.state) (V.lets_pass core.old.vault.store)) }
     ensures tells { is_some (V.told core.new.vault.store) ≡ is_some (V.told core.old.vault.store) }
     ensures whole { IsWholeCore V.told core.old.regions.items core.old.system.state core.old.vault → IsWholeCore V.told core.new.regions.items core.new.system.state core.new.vault }
+    ensures files { IsNoShorter V.told core.old.vault core.new.vault }
 {
     if core.vault.stopped() {
         return Err(VaultError::Stopped);

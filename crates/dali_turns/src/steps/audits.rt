@@ -1,5 +1,5 @@
 //! The steps of an audit.
-ghost use Rattle.std.specs.Prelude.{◌≡◌, ◌<◌, ◌≤◌, ◌^◌, Bool, Some, None, Err, is_ok, IfOk, IfErr, IfSome, OnOk, OnErr, length, replicate};
+ghost use Rattle.std.specs.Prelude.{◌≡◌, ◌<◌, ◌≤◌, ◌^◌, Bool, true, Some, None, Err, is_ok, IfOk, IfErr, IfSome, OnOk, OnErr, length, replicate};
 ghost use Rattle.dali_geometry.specs.Places.{regions as regions_of};
 ghost use Rattle.dali_record.specs.declared.records.Record.TheVariants.{AuditBegin};
 ghost use Rattle.dali_system.specs.Steps.{audit_begun};
@@ -10,15 +10,18 @@ ghost use Rattle.dali_clients.specs.declared.command.Command.TheVariants.{Audit 
 ghost use Rattle.dali_clients.specs.declared.line.Line.TheVariants.{Refused as IsRefused};
 ghost use Rattle.dali_turns.specs.declared.client.State.TheVariants.{Outside as IsOutside, Auditing as IsAuditing};
 ghost use Rattle.dali_turns.specs.Clients.{next_of, Passes, Finishes};
-ghost use Rattle.dali_turns.specs.Goes.{MayStep, StepGoes};
+ghost use Rattle.dali_turns.specs.Goes.{StepGoes};
+ghost use Rattle.dali_turns.specs.Places.{PlacesGo};
 
 use crate::client::{Client, State};
+use crate::run::no_run;
 use crate::why::why_of;
 use dali_audit::Audit;
 use dali_bytes::OutOfMemory;
 use dali_clients::{Command, Line, Why};
 use dali_core::{System, SystemError};
 use dali_store::Store;
+use dali_vault::Vault;
 use dali_whole::{Core, flush};
 use std::alloc::Global;
 
@@ -29,6 +32,14 @@ fn refused(why: Why) -> Line
         command: Command::Audit,
         why,
     }
+}
+
+/// Whether the log's end and the number of the current image leave room for what a step writes.
+pub(crate) fn has_room<V: Store>(vault: &Vault<V>) -> bool
+    ensures small { result ≡ true → (vault.now.end < 2 ^ 62) × (vault.now.current < 2 ^ 62) }
+    ensures told { (vault.now.end < 2 ^ 62) × (vault.now.current < 2 ^ 62) → result ≡ true }
+{
+    vault.end() < 1 << 62 && vault.current() < 1 << 62
 }
 
 /// Begins an audit, as `Audit::begin` does: its numbers fit their fields.
@@ -54,7 +65,10 @@ pub(crate) fn start<V: Store>(
     core: &mut Core<V>,
 ) -> Result<bool, OutOfMemory>
     requires next { next_of client.old ≡ Some IsAudit }
+    requires stands { client.old.state ≡ IsOutside }
     ensures goes { (precheck : Bool) → StepGoes V.told V.may_leave V.faults precheck IsOutside client.old core.old.regions.items core.old.system.state core.old.vault (is_ok result) client.new core.new.regions.items core.new.system.state core.new.vault }
+    ensures places { PlacesGo V.told IsOutside core.old.regions.items core.old.vault client.new.state core.new.regions.items core.new.vault }
+    ensures on { IfOk result (λ went. went ≡ true) }
 {
     match begin(alloc, &mut core.system) {
         Ok(audit) => {
@@ -77,11 +91,16 @@ pub(crate) fn audit<V: Store>(
     alloc: Global,
     core: &mut Core<V>,
 ) -> Result<bool, OutOfMemory>
-    requires { MayStep V.told V.may_leave V.faults (IsAuditing audit next) client.old core.old.regions.items core.old.system.state core.old.vault }
+    requires stands { client.old.state ≡ IsOutside }
     ensures goes { (precheck : Bool) → StepGoes V.told V.may_leave V.faults precheck (IsAuditing audit next) client.old core.old.regions.items core.old.system.state core.old.vault (is_ok result) client.new core.new.regions.items core.new.system.state core.new.vault }
+    ensures places { PlacesGo V.told (IsAuditing audit next) core.old.regions.items core.old.vault client.new.state core.new.regions.items core.new.vault }
+    ensures on { IfOk result (λ went. went ≡ true) }
 {
     let mut audit = audit;
     if (next as usize) < core.regions.len() {
+        if !audit.waits(next) {
+            return no_run();
+        }
         audit.pass(next, &mut core.regions[next as usize]);
         client.state = State::Auditing {
             audit,
@@ -100,10 +119,15 @@ fn end<V: Store>(
     alloc: Global,
     core: &mut Core<V>,
 ) -> Result<bool, OutOfMemory>
-    requires may { MayStep V.told V.may_leave V.faults (IsAuditing audit next) client.old core.old.regions.items core.old.system.state core.old.vault }
+    requires stands { client.old.state ≡ IsOutside }
     requires all { length core.old.regions.items ≤ next }
     ensures goes { (precheck : Bool) → StepGoes V.told V.may_leave V.faults precheck (IsAuditing audit next) client.old core.old.regions.items core.old.system.state core.old.vault (is_ok result) client.new core.new.regions.items core.new.system.state core.new.vault }
+    ensures places { PlacesGo V.told (IsAuditing audit next) core.old.regions.items core.old.vault client.new.state core.new.regions.items core.new.vault }
+    ensures on { IfOk result (λ went. went ≡ true) }
 {
+    if !audit.has_passed_all() || !has_room(&core.vault) {
+        return no_run();
+    }
     let verdict = match audit.end(&mut core.system) {
         Ok(verdict) => verdict,
         Err(error) => {

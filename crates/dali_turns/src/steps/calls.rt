@@ -1,22 +1,26 @@
 //! The steps of a call.
-ghost use Rattle.std.specs.Prelude.{◌≡◌, Bool, true, false, not, Some, None, IsSome, OnOk, OnErr, IfOk, IfErr, is_ok};
+ghost use Rattle.std.specs.Prelude.{◌≡◌, Bool, true, false, not, Some, None, IsSome, OnOk, OnErr, IfOk, IfErr, is_ok, is_some};
 ghost use Rattle.dali_record.specs.declared.records.Call.{Call as Called};
 ghost use Rattle.dali_core.specs.declared.want.Want.TheVariants.{Region as WantsRegion, Done as AnswerIsNext};
+ghost use Rattle.dali_calls.specs.Flags.{FlagsStay};
 ghost use Rattle.dali_calls.specs.Plans.{want_of, plan_next, is_back, is_answered, IsWhole};
 ghost use Rattle.dali_single.specs.Refusals.{IsRefusal, IsLatched};
 ghost use Rattle.dali_single.specs.Stands.{IsAtRest};
 ghost use Rattle.dali_single.specs.declared.error.StepError.TheVariants.{Latch as ByLatch};
 ghost use Rattle.dali_stepwise.specs.Stepwise.{OneFurther, IsDeath};
+ghost use Rattle.dali_att.specs.declared.state.State.TheVariants.{Live};
 ghost use Rattle.dali_system.specs.State.{state_of};
 ghost use Rattle.dali_clean.specs.Cleaned.{IsDead};
 ghost use Rattle.dali_transcripts.specs.World.{is_dead_in};
 ghost use Rattle.dali_clients.specs.declared.command.Command.TheVariants.{Call as IsCall};
-ghost use Rattle.dali_turns.specs.declared.client.State.TheVariants.{Within as IsWithin, Calling as IsCalling, TakingBack as IsTakingBack};
+ghost use Rattle.dali_turns.specs.declared.client.State.TheVariants.{Outside as IsOutside, Within as IsWithin, Calling as IsCalling, TakingBack as IsTakingBack};
 ghost use Rattle.dali_turns.specs.Clients.{next_of, Stays};
 ghost use Rattle.dali_turns.specs.Calls.{TurnsBack, IsRefusedBy, IsDeadly, IsFurther, MustWait, call_in};
-ghost use Rattle.dali_turns.specs.Goes.{MayStep, StepGoes};
+ghost use Rattle.dali_turns.specs.Goes.{StepGoes};
+ghost use Rattle.dali_turns.specs.Places.{PlacesGo};
 
 use crate::client::{Client, State, Transaction};
+use crate::run::no_run;
 use crate::steps::{Setting, clean_up, transactions};
 use crate::why::why_of;
 use dali_att::State as TxnState;
@@ -39,10 +43,11 @@ pub(crate) fn ask<'a, V: Store>(
     call: Call,
     core: &mut Core<V>,
 ) -> Result<bool, OutOfMemory>
-    requires may { MayStep V.told V.may_leave V.faults (IsWithin transaction) client.old core.old.regions.items core.old.system.state core.old.vault }
+    requires stands { client.old.state ≡ IsOutside }
     requires next { next_of client.old ≡ Some (IsCall call) }
     ensures goes { (precheck : Bool) → StepGoes V.told V.may_leave V.faults precheck (IsWithin transaction.entry) client.old core.old.regions.items core.old.system.state core.old.vault (is_ok result) client.new core.new.regions.items core.new.system.state core.new.vault }
-    ensures waits { IfOk result (λ went. went ≡ false → Stays client.old (IsWithin transaction.entry) client.new × (core.new ≡ core.old) × MustWait core.old.system.state transaction.entry.txn call) }
+    ensures places { PlacesGo V.told (IsWithin transaction.entry) core.old.regions.items core.old.vault client.new.state core.new.regions.items core.new.vault }
+    ensures waits { IfOk result (λ went. went ≡ false → Stays client.old (IsWithin transaction.entry) client.new × (core.new ≡ core.old) × (core.old.system.state.stop ≡ None) × MustWait core.old.system.state transaction.entry.txn call) }
 {
     let plan = Plan::new(core.system.geometry(), transaction.txn, call);
     match dali_stepwise::ask(&plan, &mut core.system, transaction.txn) {
@@ -86,10 +91,11 @@ fn clean_holder<'a, V: Store>(
     holder: u64,
     core: &mut Core<V>,
 ) -> Result<bool, OutOfMemory>
-    requires may { MayStep V.told V.may_leave V.faults (IsWithin transaction) client.old core.old.regions.items core.old.system.state core.old.vault }
+    requires stands { client.old.state ≡ IsOutside }
     requires next { (call : Called) × (next_of client.old ≡ Some (IsCall call)) }
     requires dead { IsDead (state_of core.old.system.state holder) }
     ensures goes { (precheck : Bool) → StepGoes V.told V.may_leave V.faults precheck (IsWithin transaction.entry) client.old core.old.regions.items core.old.system.state core.old.vault (is_ok result) client.new core.new.regions.items core.new.system.state core.new.vault }
+    ensures places { PlacesGo V.told (IsWithin transaction.entry) core.old.regions.items core.old.vault client.new.state core.new.regions.items core.new.vault }
     ensures on { IfOk result (λ went. went ≡ true) }
 {
     match clean_up(core, holder)? {
@@ -104,6 +110,39 @@ fn clean_holder<'a, V: Store>(
     }
 }
 
+// Whether a plan stands where its next step begins: it is of this core and of a live transaction, and has no operation open.
+fn is_at_rest<V: Store>(core: &Core<V>, plan: &Plan) -> bool
+    ensures rest { result ≡ true → IsAtRest core.now.regions.items core.now.system.state plan.now }
+    ensures told { IsAtRest core.now.regions.items core.now.system.state plan.now → result ≡ true }
+{
+    let geometry = core.system.geometry();
+    if plan.geometry() != geometry {
+        return false;
+    }
+    if core.regions.len() != geometry.regions() as usize {
+        return false;
+    }
+    if !lives(core, plan.txn()) {
+        return false;
+    }
+    !plan.is_open()
+}
+
+// Whether a transaction is live.
+fn lives<V: Store>(core: &Core<V>, txn: u64) -> bool
+    ensures lives { result ≡ true → state_of core.now.system.state txn ≡ Some Live }
+    ensures told { state_of core.now.system.state txn ≡ Some Live → result ≡ true }
+{
+    matches!(core.system.state(txn), Some(TxnState::Live))
+}
+
+// Whether a call is under way.
+fn is_called(client: &Client<'_>) -> bool
+    ensures { result ≡ is_some (call_in (next_of client.now)) }
+{
+    called(client).is_some()
+}
+
 /// The next step of a call that has its lock: an operation, the one in which the client dies, or the answer.
 pub(crate) fn call<'a, V: Store, G: Gate>(
     client: &mut Client<'a>,
@@ -112,18 +151,29 @@ pub(crate) fn call<'a, V: Store, G: Gate>(
     core: &mut Core<V>,
     setting: &Setting<'_, G>,
 ) -> Result<bool, OutOfMemory>
-    requires may { MayStep V.told V.may_leave V.faults (IsCalling transaction plan) client.old core.old.regions.items core.old.system.state core.old.vault }
+    requires stands { client.old.state ≡ IsOutside }
     ensures goes { StepGoes V.told V.may_leave V.faults setting.now.precheck (IsCalling transaction.entry plan) client.old core.old.regions.items core.old.system.state core.old.vault (is_ok result) client.new core.new.regions.items core.new.system.state core.new.vault }
+    ensures places { PlacesGo V.told (IsCalling transaction.entry plan) core.old.regions.items core.old.vault client.new.state core.new.regions.items core.new.vault }
     ensures on { IfOk result (λ went. went ≡ true) }
 {
-    let Want::Region { region } = plan.wants() else {
-        return answer(client, transaction, plan, core);
+    let Some(call) = called(client) else {
+        return no_run(); // a call is under way
     };
-    let onward = !plan.is_back();
-    if onward && transaction.deadly == Some(1) {
-        return die(client, transaction, plan, region, core, setting);
+    if !is_at_rest(core, &plan) {
+        return no_run();
     }
-    operate(client, transaction, plan, region, onward, core, setting)
+    match plan.wants() {
+        Want::Region { region } => {
+            let onward = !plan.is_back();
+            if onward && transaction.deadly == Some(1) {
+                return die(client, transaction, plan, region, core, setting);
+            }
+            operate(client, transaction, plan, region, onward, core, setting)
+        }
+        Want::Done => answer(client, transaction, plan, call, core),
+        // a plan that wants nothing was answered or refused
+        Want::Nothing => no_run(),
+    }
 }
 
 // Makes the next operation of a plan over the core.
@@ -138,6 +188,7 @@ fn make_next<V: Store, G: Gate>(
     ensures further { OnOk result (OneFurther setting.now.precheck plan.old core.old.regions.items core.old.system.state plan.new core.new.regions.items core.new.system.state) }
     ensures err { OnErr result ((plan.new ≡ plan.old) × (core.new.regions.items ≡ core.old.regions.items) × (core.new.system.state ≡ core.old.system.state)) }
     ensures cause { IfErr result (IsRefusal setting.now.precheck plan.old core.old.regions.items core.old.system.state) }
+    ensures flags { FlagsStay core.old.regions.items core.new.regions.items }
     ensures vault { core.new.vault ≡ core.old.vault }
 {
     dali_stepwise::operate(
@@ -163,6 +214,7 @@ fn die_next<V: Store, G: Gate>(
     ensures dies { OnOk result (IsDeath setting.now.precheck plan.old core.old.regions.items core.old.system.state core.new.regions.items core.new.system.state) }
     ensures err { OnErr result ((plan.new ≡ plan.old) × (core.new.regions.items ≡ core.old.regions.items) × (core.new.system.state ≡ core.old.system.state)) }
     ensures cause { IfErr result (λ e. IsRefusal setting.now.precheck plan.old core.old.regions.items core.old.system.state (ByLatch e)) }
+    ensures flags { FlagsStay core.old.regions.items core.new.regions.items }
     ensures vault { core.new.vault ≡ core.old.vault }
 {
     dali_stepwise::die(
@@ -186,12 +238,15 @@ fn operate<'a, V: Store, G: Gate>(
     core: &mut Core<V>,
     setting: &Setting<'_, G>,
 ) -> Result<bool, OutOfMemory>
-    requires may { MayStep V.told V.may_leave V.faults (IsCalling transaction plan) client.old core.old.regions.items core.old.system.state core.old.vault }
+    requires stands { client.old.state ≡ IsOutside }
+    requires rest { IsAtRest core.old.regions.items core.old.system.state plan }
+    requires called { IsSome (call_in (next_of client.old)) }
     requires wants { want_of plan ≡ WantsRegion region }
     requires whole { IsWhole plan }
     requires way { onward ≡ not (is_back plan) }
     requires lives { onward ≡ true → IsDeadly transaction → ⊥ }
     ensures goes { StepGoes V.told V.may_leave V.faults setting.now.precheck (IsCalling transaction.entry plan) client.old core.old.regions.items core.old.system.state core.old.vault (is_ok result) client.new core.new.regions.items core.new.system.state core.new.vault }
+    ensures places { PlacesGo V.told (IsCalling transaction.entry plan) core.old.regions.items core.old.vault client.new.state core.new.regions.items core.new.vault }
     ensures on { IfOk result (λ went. went ≡ true) }
 {
     let mut plan = plan;
@@ -228,12 +283,15 @@ fn die<'a, V: Store, G: Gate>(
     core: &mut Core<V>,
     setting: &Setting<'_, G>,
 ) -> Result<bool, OutOfMemory>
-    requires may { MayStep V.told V.may_leave V.faults (IsCalling transaction plan) client.old core.old.regions.items core.old.system.state core.old.vault }
+    requires stands { client.old.state ≡ IsOutside }
+    requires rest { IsAtRest core.old.regions.items core.old.system.state plan }
+    requires called { IsSome (call_in (next_of client.old)) }
     requires wants { want_of plan ≡ WantsRegion region }
     requires whole { IsWhole plan }
     requires way { is_back plan ≡ false }
     requires deadly { IsDeadly transaction }
     ensures goes { StepGoes V.told V.may_leave V.faults setting.now.precheck (IsCalling transaction.entry plan) client.old core.old.regions.items core.old.system.state core.old.vault (is_ok result) client.new core.new.regions.items core.new.system.state core.new.vault }
+    ensures places { PlacesGo V.told (IsCalling transaction.entry plan) core.old.regions.items core.old.vault client.new.state core.new.regions.items core.new.vault }
     ensures on { IfOk result (λ went. went ≡ true) }
 {
     let mut plan = plan;
@@ -269,18 +327,19 @@ fn answer<'a, V: Store>(
     client: &mut Client<'a>,
     transaction: Transaction<'a>,
     plan: Plan,
+    call: Call,
     core: &mut Core<V>,
 ) -> Result<bool, OutOfMemory>
-    requires may { MayStep V.told V.may_leave V.faults (IsCalling transaction plan) client.old core.old.regions.items core.old.system.state core.old.vault }
+    requires stands { client.old.state ≡ IsOutside }
+    requires rest { IsAtRest core.old.regions.items core.old.system.state plan }
+    requires called { call_in (next_of client.old) ≡ Some call }
     requires wants { want_of plan ≡ AnswerIsNext }
     requires whole { IsWhole plan }
     ensures goes { (precheck : Bool) → StepGoes V.told V.may_leave V.faults precheck (IsCalling transaction.entry plan) client.old core.old.regions.items core.old.system.state core.old.vault (is_ok result) client.new core.new.regions.items core.new.system.state core.new.vault }
+    ensures places { PlacesGo V.told (IsCalling transaction.entry plan) core.old.regions.items core.old.vault client.new.state core.new.regions.items core.new.vault }
     ensures on { IfOk result (λ went. went ≡ true) }
 {
     let mut plan = plan;
-    let Some(call) = called(client) else {
-        unreachable!() // a call is under way
-    };
     match dali_stepwise::answer(&mut plan, &mut core.system) {
         Ok(answer) => {
             let state = State::Within { transaction };
@@ -301,12 +360,15 @@ fn hindered<'a, V: Store>(
     error: StepError,
     core: &mut Core<V>,
 ) -> Result<bool, OutOfMemory>
-    requires may { MayStep V.told V.may_leave V.faults (IsCalling transaction plan) client.old core.old.regions.items core.old.system.state core.old.vault }
+    requires stands { client.old.state ≡ IsOutside }
+    requires rest { IsAtRest core.old.regions.items core.old.system.state plan }
+    requires called { IsSome (call_in (next_of client.old)) }
     requires wants { want_of plan ≡ WantsRegion region }
     requires whole { IsWhole plan }
     requires cause { (precheck : Bool) × IsRefusal precheck plan core.old.regions.items core.old.system.state error }
     requires lives { is_back plan ≡ false → IsDeadly transaction → IsLatched error }
     ensures goes { (precheck : Bool) → IsRefusal precheck plan core.old.regions.items core.old.system.state error → StepGoes V.told V.may_leave V.faults precheck (IsCalling transaction.entry plan) client.old core.old.regions.items core.old.system.state core.old.vault (is_ok result) client.new core.new.regions.items core.new.system.state core.new.vault }
+    ensures places { PlacesGo V.told (IsCalling transaction.entry plan) core.old.regions.items core.old.vault client.new.state core.new.regions.items core.new.vault }
     ensures on { IfOk result (λ went. went ≡ true) }
 {
     match error {
@@ -331,7 +393,7 @@ fn hindered<'a, V: Store>(
                 Ok(true)
             }
             // between two steps no live client has a region latched
-            LatchError::Latched { .. } => unreachable!(),
+            LatchError::Latched { .. } => no_run(),
         },
         StepError::System { cause } => {
             client.points = client.point();
@@ -390,10 +452,17 @@ pub(crate) fn take_back<'a, V: Store, G: Gate>(
     core: &mut Core<V>,
     setting: &Setting<'_, G>,
 ) -> Result<bool, OutOfMemory>
-    requires may { MayStep V.told V.may_leave V.faults (IsTakingBack transaction plan why) client.old core.old.regions.items core.old.system.state core.old.vault }
+    requires stands { client.old.state ≡ IsOutside }
     ensures goes { StepGoes V.told V.may_leave V.faults setting.now.precheck (IsTakingBack transaction.entry plan why) client.old core.old.regions.items core.old.system.state core.old.vault (is_ok result) client.new core.new.regions.items core.new.system.state core.new.vault }
+    ensures places { PlacesGo V.told (IsTakingBack transaction.entry plan why) core.old.regions.items core.old.vault client.new.state core.new.regions.items core.new.vault }
     ensures on { IfOk result (λ went. went ≡ true) }
 {
+    if !is_called(client) {
+        return no_run(); // a call is under way
+    }
+    if !is_at_rest(core, &plan) {
+        return no_run();
+    }
     match plan.wants() {
         Want::Region { .. } => go_back(client, transaction, plan, why, core, setting),
         Want::Nothing => {
@@ -401,7 +470,7 @@ pub(crate) fn take_back<'a, V: Store, G: Gate>(
             Ok(true)
         }
         // a refused call has no answer
-        Want::Done => unreachable!(),
+        Want::Done => no_run(),
     }
 }
 
@@ -414,9 +483,12 @@ fn go_back<'a, V: Store, G: Gate>(
     core: &mut Core<V>,
     setting: &Setting<'_, G>,
 ) -> Result<bool, OutOfMemory>
-    requires may { MayStep V.told V.may_leave V.faults (IsTakingBack transaction plan why) client.old core.old.regions.items core.old.system.state core.old.vault }
+    requires stands { client.old.state ≡ IsOutside }
+    requires rest { IsAtRest core.old.regions.items core.old.system.state plan }
+    requires called { IsSome (call_in (next_of client.old)) }
     requires wants { IsSome (plan_next plan) }
     ensures goes { StepGoes V.told V.may_leave V.faults setting.now.precheck (IsTakingBack transaction.entry plan why) client.old core.old.regions.items core.old.system.state core.old.vault (is_ok result) client.new core.new.regions.items core.new.system.state core.new.vault }
+    ensures places { PlacesGo V.told (IsTakingBack transaction.entry plan why) core.old.regions.items core.old.vault client.new.state core.new.regions.items core.new.vault }
     ensures on { IfOk result (λ went. went ≡ true) }
 {
     let mut plan = plan;
@@ -444,10 +516,12 @@ fn stuck<'a, V: Store>(
     error: StepError,
     core: &mut Core<V>,
 ) -> Result<bool, OutOfMemory>
-    requires may { MayStep V.told V.may_leave V.faults (IsTakingBack transaction plan why) client.old core.old.regions.items core.old.system.state core.old.vault }
+    requires stands { client.old.state ≡ IsOutside }
+    requires called { IsSome (call_in (next_of client.old)) }
     requires wants { IsSome (plan_next plan) }
     requires cause { (precheck : Bool) × IsRefusal precheck plan core.old.regions.items core.old.system.state error }
     ensures goes { (precheck : Bool) → IsRefusal precheck plan core.old.regions.items core.old.system.state error → StepGoes V.told V.may_leave V.faults precheck (IsTakingBack transaction.entry plan why) client.old core.old.regions.items core.old.system.state core.old.vault (is_ok result) client.new core.new.regions.items core.new.system.state core.new.vault }
+    ensures places { PlacesGo V.told (IsTakingBack transaction.entry plan why) core.old.regions.items core.old.vault client.new.state core.new.regions.items core.new.vault }
     ensures on { IfOk result (λ went. went ≡ true) }
 {
     match error {
@@ -467,9 +541,9 @@ fn stuck<'a, V: Store>(
                 }
             },
             // no live client has it latched
-            LatchError::Latched { .. } => unreachable!(),
+            LatchError::Latched { .. } => no_run(),
             // what takes back compares nothing
-            LatchError::Damaged { .. } => unreachable!(),
+            LatchError::Damaged { .. } => no_run(),
         },
         StepError::System { cause } => {
             client.refuse_call(transaction, why_of(cause)?)?;

@@ -1,14 +1,17 @@
 //! The steps of a checkpoint.
-ghost use Rattle.std.specs.Prelude.{◌≡◌, ◌≤◌, Bool, true, Some, None, Err, is_ok, IfOk, OnOk, OnErr, length};
+ghost use Rattle.std.specs.Prelude.{◌≡◌, ◌<◌, ◌≤◌, Bool, true, Some, None, Err, is_ok, IfOk, OnOk, OnErr, IsSomeAnd, length};
+ghost use Rattle.dali_geometry.specs.Places.{regions as regions_of};
 ghost use Rattle.dali_checkpoint.specs.Kept.{given_up};
 ghost use Rattle.dali_clients.specs.declared.command.Command.TheVariants.{Checkpoint as IsCheckpoint};
 ghost use Rattle.dali_turns.specs.declared.client.State.TheVariants.{Outside as IsOutside, Copying as IsCopying, Certifying as IsCertifying};
 ghost use Rattle.dali_turns.specs.Endings.{line_in, SaysEnd, Unsaid};
 ghost use Rattle.dali_turns.specs.Clients.{next_of};
-ghost use Rattle.dali_turns.specs.Goes.{MayStep, StepGoes};
+ghost use Rattle.dali_turns.specs.Goes.{StepGoes};
+ghost use Rattle.dali_turns.specs.Places.{HasPlaces, PlacesGo};
 
 use crate::client::{Client, State};
-use crate::steps::audits;
+use crate::run::no_run;
+use crate::steps::audits::{self, has_room};
 use dali_audit::Audit;
 use dali_bytes::OutOfMemory;
 use dali_checkpoint::{Checkpoint, CheckpointError};
@@ -65,6 +68,33 @@ fn give_up<V: Store>(
     Ok(())
 }
 
+// Whether this region is the one that the checkpoint copies next.
+fn may_copy(checkpoint: &Checkpoint, next: u32) -> bool
+    ensures next { result ≡ true → (next ≡ checkpoint.now.copied) × (next < regions_of checkpoint.now.header.geometry) }
+    ensures told { (next ≡ checkpoint.now.copied) × (next < regions_of checkpoint.now.header.geometry) → result ≡ true }
+{
+    next == checkpoint.copied() && next < checkpoint.regions()
+}
+
+// Whether the checkpoint has copied all its regions, and these are as many.
+fn may_settle(checkpoint: &Checkpoint, next: u32) -> bool
+    ensures all { result ≡ true → (next ≡ checkpoint.now.copied) × (next ≡ regions_of checkpoint.now.header.geometry) }
+    ensures told { (next ≡ checkpoint.now.copied) × (next ≡ regions_of checkpoint.now.header.geometry) → result ≡ true }
+{
+    next == checkpoint.copied() && next == checkpoint.regions()
+}
+
+// Whether the checkpoint settled before this audit began.
+fn may_certify(checkpoint: &Checkpoint, audit: &Audit) -> bool
+    ensures behind { result ≡ true → IsSomeAnd checkpoint.now.settled (λ n. n ≤ audit.now.begin) }
+    ensures told { IsSomeAnd checkpoint.now.settled (λ n. n ≤ audit.now.begin) → result ≡ true }
+{
+    match checkpoint.settled() {
+        Some(number) => number <= audit.number(),
+        None => false,
+    }
+}
+
 /// Starts a checkpoint.
 pub(crate) fn start<V: Store>(
     client: &mut Client<'_>,
@@ -72,9 +102,14 @@ pub(crate) fn start<V: Store>(
     core: &mut Core<V>,
 ) -> Result<bool, OutOfMemory>
     requires next { next_of client.old ≡ Some IsCheckpoint }
-    requires may { MayStep V.told V.may_leave V.faults IsOutside client.old core.old.regions.items core.old.system.state core.old.vault }
+    requires stands { client.old.state ≡ IsOutside }
     ensures goes { (precheck : Bool) → StepGoes V.told V.may_leave V.faults precheck IsOutside client.old core.old.regions.items core.old.system.state core.old.vault (is_ok result) client.new core.new.regions.items core.new.system.state core.new.vault }
+    ensures places { PlacesGo V.told IsOutside core.old.regions.items core.old.vault client.new.state core.new.regions.items core.new.vault }
+    ensures on { IfOk result (λ went. went ≡ true) }
 {
+    if !has_room(&core.vault) {
+        return no_run();
+    }
     match Checkpoint::start(alloc, &mut core.system, &mut core.vault) {
         Ok(checkpoint) => {
             client.state = State::Copying {
@@ -99,14 +134,20 @@ pub(crate) fn copy<V: Store>(
     alloc: Global,
     core: &mut Core<V>,
 ) -> Result<bool, OutOfMemory>
-    requires { MayStep V.told V.may_leave V.faults (IsCopying checkpoint next) client.old core.old.regions.items core.old.system.state core.old.vault }
+    requires stands { client.old.state ≡ IsOutside }
+    requires places { HasPlaces V.told (IsCopying checkpoint next) core.old.regions.items core.old.vault }
     ensures goes { (precheck : Bool) → StepGoes V.told V.may_leave V.faults precheck (IsCopying checkpoint next) client.old core.old.regions.items core.old.system.state core.old.vault (is_ok result) client.new core.new.regions.items core.new.system.state core.new.vault }
+    ensures places { PlacesGo V.told (IsCopying checkpoint next) core.old.regions.items core.old.vault client.new.state core.new.regions.items core.new.vault }
+    ensures on { IfOk result (λ went. went ≡ true) }
 {
     if let Some(cause) = core.system.stopped() {
         give_up(client, checkpoint, CheckpointError::Stopped { cause }, core)?;
         return Ok(true);
     }
     if (next as usize) < core.regions.len() {
+        if !may_copy(&checkpoint, next) {
+            return no_run();
+        }
         let mut checkpoint = checkpoint;
         match checkpoint.copy(next, &mut core.regions[next as usize], &mut core.vault) {
             Ok(()) => {
@@ -133,11 +174,17 @@ fn settle<V: Store>(
     alloc: Global,
     core: &mut Core<V>,
 ) -> Result<bool, OutOfMemory>
-    requires may { MayStep V.told V.may_leave V.faults (IsCopying checkpoint next) client.old core.old.regions.items core.old.system.state core.old.vault }
+    requires stands { client.old.state ≡ IsOutside }
+    requires places { HasPlaces V.told (IsCopying checkpoint next) core.old.regions.items core.old.vault }
     requires runs { core.old.system.state.stop ≡ None }
     requires all { length core.old.regions.items ≤ next }
     ensures goes { (precheck : Bool) → StepGoes V.told V.may_leave V.faults precheck (IsCopying checkpoint next) client.old core.old.regions.items core.old.system.state core.old.vault (is_ok result) client.new core.new.regions.items core.new.system.state core.new.vault }
+    ensures places { PlacesGo V.told (IsCopying checkpoint next) core.old.regions.items core.old.vault client.new.state core.new.regions.items core.new.vault }
+    ensures on { IfOk result (λ went. went ≡ true) }
 {
+    if !may_settle(&checkpoint, next) || !has_room(&core.vault) {
+        return no_run();
+    }
     let mut checkpoint = checkpoint;
     match checkpoint.settle(alloc, &mut core.system, &mut core.vault) {
         Ok(()) => {}
@@ -172,10 +219,15 @@ pub(crate) fn certify<V: Store>(
     alloc: Global,
     core: &mut Core<V>,
 ) -> Result<bool, OutOfMemory>
-    requires { MayStep V.told V.may_leave V.faults (IsCertifying checkpoint audit next) client.old core.old.regions.items core.old.system.state core.old.vault }
+    requires stands { client.old.state ≡ IsOutside }
     ensures goes { (precheck : Bool) → StepGoes V.told V.may_leave V.faults precheck (IsCertifying checkpoint audit next) client.old core.old.regions.items core.old.system.state core.old.vault (is_ok result) client.new core.new.regions.items core.new.system.state core.new.vault }
+    ensures places { PlacesGo V.told (IsCertifying checkpoint audit next) core.old.regions.items core.old.vault client.new.state core.new.regions.items core.new.vault }
+    ensures on { IfOk result (λ went. went ≡ true) }
 {
     if (next as usize) < core.regions.len() {
+        if !audit.waits(next) {
+            return no_run();
+        }
         let mut audit = audit;
         audit.pass(next, &mut core.regions[next as usize]);
         client.state = State::Certifying {
@@ -197,10 +249,15 @@ fn finish_audit<V: Store>(
     alloc: Global,
     core: &mut Core<V>,
 ) -> Result<bool, OutOfMemory>
-    requires may { MayStep V.told V.may_leave V.faults (IsCertifying checkpoint audit next) client.old core.old.regions.items core.old.system.state core.old.vault }
+    requires stands { client.old.state ≡ IsOutside }
     requires all { length core.old.regions.items ≤ next }
     ensures goes { (precheck : Bool) → StepGoes V.told V.may_leave V.faults precheck (IsCertifying checkpoint audit next) client.old core.old.regions.items core.old.system.state core.old.vault (is_ok result) client.new core.new.regions.items core.new.system.state core.new.vault }
+    ensures places { PlacesGo V.told (IsCertifying checkpoint audit next) core.old.regions.items core.old.vault client.new.state core.new.regions.items core.new.vault }
+    ensures on { IfOk result (λ went. went ≡ true) }
 {
+    if !audit.has_passed_all() || !may_certify(&checkpoint, &audit) || !has_room(&core.vault) {
+        return no_run();
+    }
     match audit.end(&mut core.system) {
         Ok(verdict) => {
             let made = checkpoint.certify(alloc, verdict, &mut core.system, &mut core.vault);

@@ -2,10 +2,12 @@
 ghost use Rattle.std.specs.Prelude.{◌≡◌, Some, None, Ok, IfSome, IfOk, OnErr};
 ghost use Rattle.dali_system.specs.State.{state_of};
 ghost use Rattle.dali_system.specs.declared.causes.Cause.{Cause as IsCause};
+ghost use Rattle.dali_calls.specs.Flags.{FlagsStay};
 ghost use Rattle.dali_clean.specs.Cleaned.{MayClean, IsDead};
 ghost use Rattle.dali_clients.specs.declared.line.Why.TheVariants.{Stopped as IsStopped};
 ghost use Rattle.dali_turns.specs.Ends.{IsCleanedUp, IsLeftDead};
 
+use crate::run::no_run;
 use dali_bytes::OutOfMemory;
 use dali_clean::CleanError;
 use dali_clients::Why;
@@ -14,17 +16,17 @@ use dali_whole::{Core, clean};
 
 /// Cleans up a dead transaction that is in the way. Answers why what met it is refused, where the engine is stopped.
 pub(crate) fn clean_up<V: Store>(core: &mut Core<V>, txn: u64) -> Result<Option<Why>, OutOfMemory>
-    requires may { MayClean core.old.regions.items core.old.system.state txn }
-    requires dead { IsDead (state_of core.old.system.state txn) }
     ensures vault { core.new.vault ≡ core.old.vault }
+    ensures flags { FlagsStay core.old.regions.items core.new.regions.items }
     ensures cleaned { result ≡ Ok None → IsCleanedUp txn core.old.regions.items core.old.system.state core.new.regions.items core.new.system.state }
     ensures refused { IfOk result (λ o. IfSome o (λ why. (cause : IsCause) × (why ≡ IsStopped cause) × (core.old.system.state.stop ≡ Some cause)
-        × IsLeftDead txn core.old.regions.items core.old.system.state core.new.regions.items core.new.system.state)) }
-    ensures memory { OnErr result ((core.old.system.state.stop ≡ None) × IsLeftDead txn core.old.regions.items core.old.system.state core.new.regions.items core.new.system.state) }
+        × (MayClean core.old.regions.items core.old.system.state txn → IsLeftDead txn core.old.regions.items core.old.system.state core.new.regions.items core.new.system.state))) }
+    ensures memory { OnErr result (MayClean core.old.regions.items core.old.system.state txn → IsDead (state_of core.old.system.state txn)
+        → (core.old.system.state.stop ≡ None) × IsLeftDead txn core.old.regions.items core.old.system.state core.new.regions.items core.new.system.state) }
 {
     match clean(core, txn) {
         Ok(()) => Ok(None),
-        Err(CleanError::NotDead) => unreachable!(),
+        Err(CleanError::NotDead) => no_run(),
         Err(CleanError::Stopped { cause }) => Ok(Some(Why::Stopped { cause })),
         Err(CleanError::OutOfMemory) => Err(OutOfMemory),
     }

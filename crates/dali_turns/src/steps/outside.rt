@@ -1,14 +1,17 @@
 //! The steps of a client outside a transaction that are no audit's and no checkpoint's.
-ghost use Rattle.std.specs.Prelude.{◌≡◌, Bool, true, false, Some, None, Ok, is_ok};
+ghost use Rattle.std.specs.Prelude.{◌≡◌, ◌≢◌, ◌<◌, Bool, true, false, Some, None, Ok, is_ok, IfOk};
 ghost use Rattle.dali_clients.specs.declared.command.Command.{Command as Order};
 ghost use Rattle.dali_clients.specs.declared.command.Command.TheVariants.{Begin as IsBegin, Poke as IsPoke};
 ghost use Rattle.dali_turns.specs.declared.client.State.{State as Place};
 ghost use Rattle.dali_turns.specs.declared.client.State.TheVariants.{Outside as IsOutside, LeftOut as IsLeftOut, Waiting as IsWaiting};
 ghost use Rattle.dali_turns.specs.Clients.{next_of, Passes, Stays, left_behind};
 ghost use Rattle.dali_turns.specs.Outside.{HasGone, BeginsFrom};
-ghost use Rattle.dali_turns.specs.Goes.{MayStep, StepGoes};
+ghost use Rattle.dali_turns.specs.Goes.{StepGoes};
+ghost use Rattle.dali_turns.specs.Places.{PlacesGo};
+ghost use Rattle.dali_turns.specs.Waits.{StaysPut};
 
 use crate::client::{Client, State, Transaction};
+use crate::run::no_run;
 use crate::why::why_of;
 use dali_att::State as TxnState;
 use dali_bytes::OutOfMemory;
@@ -23,9 +26,12 @@ pub(crate) fn begin<V: Store>(
     tries: u32,
     core: &mut Core<V>,
 ) -> Result<bool, OutOfMemory>
-    requires { next_of client.old ≡ Some IsBegin }
+    requires next { next_of client.old ≡ Some IsBegin }
+    requires stands { client.old.state ≡ IsOutside }
     ensures goes { (precheck : Bool) (state : Place) → BeginsFrom core.old.system.state tries state
         → StepGoes V.told V.may_leave V.faults precheck state client.old core.old.regions.items core.old.system.state core.old.vault (is_ok result) client.new core.new.regions.items core.new.system.state core.new.vault }
+    ensures places { (state : Place) → PlacesGo V.told state core.old.regions.items core.old.vault client.new.state core.new.regions.items core.new.vault }
+    ensures on { IfOk result (λ went. went ≡ true) }
 {
     let commands = client.rest;
     match core.system.begin() {
@@ -56,9 +62,14 @@ pub(crate) fn wait<V: Store>(
     holder: u64,
     core: &mut Core<V>,
 ) -> Result<bool, OutOfMemory>
-    requires { next_of client.old ≡ Some IsBegin }
+    requires stands { client.old.state ≡ IsOutside }
     ensures goes { (precheck : Bool) → StepGoes V.told V.may_leave V.faults precheck (IsWaiting tries holder) client.old core.old.regions.items core.old.system.state core.old.vault (is_ok result) client.new core.new.regions.items core.new.system.state core.new.vault }
+    ensures places { PlacesGo V.told (IsWaiting tries holder) core.old.regions.items core.old.vault client.new.state core.new.regions.items core.new.vault }
+    ensures idle { result ≡ Ok false → StaysPut core.old.system.state (IsWaiting tries holder) client.old client.new × (core.new ≡ core.old) }
 {
+    if !begins_next(client) {
+        return no_run(); // a transaction that is tried again begins
+    }
     if has_gone(&core.system, holder) {
         return begin(client, tries, core);
     }
@@ -69,9 +80,18 @@ pub(crate) fn wait<V: Store>(
     Ok(false)
 }
 
+// Whether a begin is the client's next command.
+fn begins_next(client: &Client<'_>) -> bool
+    ensures begins { result ≡ true → next_of client.now ≡ Some IsBegin }
+    ensures told { next_of client.now ≡ Some IsBegin → result ≡ true }
+{
+    matches!(client.command(), Some(Command::Begin))
+}
+
 // Whether a transaction has ended, or its client died.
 fn has_gone(system: &System, txn: u64) -> bool
-    ensures { result ≡ true → HasGone system.now.state txn }
+    ensures is { result ≡ true → HasGone system.now.state txn }
+    ensures never { result ≡ false → HasGone system.now.state txn → ⊥ }
 {
     matches!(system.state(txn), None | Some(TxnState::Dead { .. }))
 }
@@ -94,6 +114,14 @@ pub(crate) fn left_out(client: &mut Client<'_>) -> Result<bool, OutOfMemory>
     Ok(true)
 }
 
+// Whether a stray write with this mask changes a word of a region.
+fn is_stray(word: u8, mask: u64) -> bool
+    ensures stray { result ≡ true → (word < 64) × (mask ≢ 0) }
+    ensures told { (word < 64) × (mask ≢ 0) → result ≡ true }
+{
+    word < 64 && mask != 0
+}
+
 /// A stray write. Its line comes first, for which memory may be refused.
 pub(crate) fn poke<V: Store>(
     client: &mut Client<'_>,
@@ -102,10 +130,15 @@ pub(crate) fn poke<V: Store>(
     mask: u64,
     core: &mut Core<V>,
 ) -> Result<bool, OutOfMemory>
-    requires may { MayStep V.told V.may_leave V.faults IsOutside client.old core.old.regions.items core.old.system.state core.old.vault }
     requires next { next_of client.old ≡ Some (IsPoke region word mask) }
+    requires stands { client.old.state ≡ IsOutside }
     ensures goes { (precheck : Bool) → StepGoes V.told V.may_leave V.faults precheck IsOutside client.old core.old.regions.items core.old.system.state core.old.vault (is_ok result) client.new core.new.regions.items core.new.system.state core.new.vault }
+    ensures places { PlacesGo V.told IsOutside core.old.regions.items core.old.vault client.new.state core.new.regions.items core.new.vault }
+    ensures on { IfOk result (λ went. went ≡ true) }
 {
+    if !is_stray(word, mask) {
+        return no_run(); // each block's stray writes are so
+    }
     match core.regions.get_mut(region as usize) {
         Some(region) => {
             client.finish(State::Outside, Line::PokeOk)?;

@@ -1,8 +1,7 @@
 //! How transactions end.
 ghost use Rattle.std.specs.Prelude.{◌≡◌, ◌+◌, ◌<◌, [], ◌∷◌, Bool, true, false, Some, None, Ok, Err, IsErr, is_ok, map, OnOk, OnErr, IfOk, IfErr, IfSome};
-ghost use Rattle.dali_att.specs.declared.state.State.TheVariants.{Live};
-ghost use Rattle.dali_system.specs.State.{state_of};
-ghost use Rattle.dali_ends.specs.Stands.{IsUp, IsBetween};
+ghost use Rattle.dali_calls.specs.Flags.{FlagsStay};
+ghost use Rattle.dali_whole.specs.Cores.{IsNoShorter};
 ghost use Rattle.dali_clients.specs.declared.command.Command.TheVariants.{Commit as IsCommit, Abort as IsAbort};
 ghost use Rattle.dali_clients.specs.declared.line.Why.TheVariants.{Stopped as IsStopped, StoreStopped as IsStoreStopped};
 ghost use Rattle.dali_clients.specs.declared.line.Line.TheVariants.{Busy as IsBusy};
@@ -11,9 +10,11 @@ ghost use Rattle.dali_transcripts.specs.Moves.{behind_close as acts_behind};
 ghost use Rattle.dali_turns.specs.declared.client.State.TheVariants.{Outside as IsOutside, Within as IsWithin, Waiting as IsWaiting};
 ghost use Rattle.dali_turns.specs.Clients.{next_of};
 ghost use Rattle.dali_turns.specs.Ends.{IsTakenBack, IsHalfBack, IsCommitted, IsUncommitted, abort_line, end_line as line_of, SaysAlso, GoesSilent};
-ghost use Rattle.dali_turns.specs.Goes.{MayStep, StepGoes, MayYield, YieldGoes};
+ghost use Rattle.dali_turns.specs.Goes.{StepGoes, YieldGoes};
+ghost use Rattle.dali_turns.specs.Places.{PlacesGo};
 
 use crate::client::{Client, State, Transaction};
+use crate::run::no_run;
 use crate::steps::Setting;
 use dali_bytes::OutOfMemory;
 use dali_clients::{Command, Line, Why};
@@ -34,20 +35,19 @@ fn commit_in<V: Store>(
     alloc: Global,
     txn: u64,
 ) -> Result<Option<Why>, OutOfMemory>
-    requires may { core.old.system.state.stop ≡ None → IsBetween V.told V.may_leave V.faults core.old.regions.items core.old.system.state core.old.vault txn }
-    requires lives { state_of core.old.system.state txn ≡ Some Live }
-    requires runs { core.old.system.state.stop ≡ None → core.old.vault.stopped ≡ false }
     ensures stopped { IfSome core.old.system.state.stop (λ cause. (result ≡ Ok (Some (IsStopped cause))) × (core.new ≡ core.old)) }
     ensures ok { core.old.system.state.stop ≡ None → result ≡ Ok None → IsCommitted V.told V.may_leave V.faults txn core.old.regions.items core.old.system.state core.old.vault core.new.regions.items core.new.system.state core.new.vault }
     ensures fault { core.old.system.state.stop ≡ None → IfOk result (λ o. IfSome o (λ why. (why ≡ IsStoreStopped) × IsUncommitted V.told V.may_leave V.faults txn core.old.regions.items core.old.system.state core.old.vault core.new.regions.items core.new.system.state core.new.vault)) }
     ensures memory { OnErr result (core.new ≡ core.old) }
+    ensures flags { FlagsStay core.old.regions.items core.new.regions.items }
+    ensures files { IsNoShorter V.told core.old.vault core.new.vault }
 {
     if let Some(cause) = core.system.stopped() {
         return Ok(Some(Why::Stopped { cause }));
     }
     match dali_ends::commit(core, alloc, txn) {
         Ok(()) => Ok(None),
-        Err(CommitError::Stopped { .. }) => unreachable!(), // the vault runs with the engine
+        Err(CommitError::Stopped { .. }) => no_run(), // the vault runs with the engine
         Err(CommitError::Fault) => Ok(Some(Why::StoreStopped)),
         Err(CommitError::OutOfMemory) => Err(OutOfMemory),
     }
@@ -60,9 +60,11 @@ pub(crate) fn commit<V: Store, G: Gate>(
     core: &mut Core<V>,
     setting: &Setting<'_, G>,
 ) -> Result<bool, OutOfMemory>
-    requires may { MayStep V.told V.may_leave V.faults (IsWithin transaction) client.old core.old.regions.items core.old.system.state core.old.vault }
+    requires stands { client.old.state ≡ IsOutside }
     requires next { next_of client.old ≡ Some IsCommit }
     ensures goes { StepGoes V.told V.may_leave V.faults setting.now.precheck (IsWithin transaction.entry) client.old core.old.regions.items core.old.system.state core.old.vault (is_ok result) client.new core.new.regions.items core.new.system.state core.new.vault }
+    ensures places { PlacesGo V.told (IsWithin transaction.entry) core.old.regions.items core.old.vault client.new.state core.new.regions.items core.new.vault }
+    ensures on { IfOk result (λ went. went ≡ true) }
 {
     let command = Command::Commit;
     match commit_in(core, setting.alloc, transaction.txn)? {
@@ -74,9 +76,8 @@ pub(crate) fn commit<V: Store, G: Gate>(
 
 // Takes a transaction of a core back. Answers why not, where the engine is stopped.
 fn take_back<V: Store>(core: &mut Core<V>, txn: u64) -> Result<Option<Cause>, OutOfMemory>
-    requires up { IsUp V.told V.may_leave V.faults core.old.regions.items core.old.system.state core.old.vault }
-    requires lives { state_of core.old.system.state txn ≡ Some Live }
     ensures vault { core.new.vault ≡ core.old.vault }
+    ensures flags { FlagsStay core.old.regions.items core.new.regions.items }
     ensures stopped { IfSome core.old.system.state.stop (λ cause. core.new ≡ core.old) }
     ensures known { IfOk result (λ o. o ≡ core.old.system.state.stop) }
     ensures away { core.old.system.state.stop ≡ None → OnOk result (IsTakenBack V.told V.may_leave V.faults txn core.old.regions.items core.old.system.state core.old.vault core.new.regions.items core.new.system.state) }
@@ -116,9 +117,11 @@ pub(crate) fn abort<V: Store>(
     transaction: Transaction<'_>,
     core: &mut Core<V>,
 ) -> Result<bool, OutOfMemory>
-    requires may { MayStep V.told V.may_leave V.faults (IsWithin transaction) client.old core.old.regions.items core.old.system.state core.old.vault }
+    requires stands { client.old.state ≡ IsOutside }
     requires next { next_of client.old ≡ Some IsAbort }
     ensures goes { (precheck : Bool) → StepGoes V.told V.may_leave V.faults precheck (IsWithin transaction.entry) client.old core.old.regions.items core.old.system.state core.old.vault (is_ok result) client.new core.new.regions.items core.new.system.state core.new.vault }
+    ensures places { PlacesGo V.told (IsWithin transaction.entry) core.old.regions.items core.old.vault client.new.state core.new.regions.items core.new.vault }
+    ensures on { IfOk result (λ went. went ≡ true) }
 {
     let left = take_back(core, transaction.txn)?;
     client.finish(State::Outside, told_line(left))?;
@@ -131,9 +134,11 @@ pub(crate) fn end<V: Store>(
     transaction: Transaction<'_>,
     core: &mut Core<V>,
 ) -> Result<bool, OutOfMemory>
-    requires may { MayStep V.told V.may_leave V.faults (IsWithin transaction) client.old core.old.regions.items core.old.system.state core.old.vault }
+    requires stands { client.old.state ≡ IsOutside }
     requires next { next_of client.old ≡ None }
     ensures goes { (precheck : Bool) → StepGoes V.told V.may_leave V.faults precheck (IsWithin transaction.entry) client.old core.old.regions.items core.old.system.state core.old.vault (is_ok result) client.new core.new.regions.items core.new.system.state core.new.vault }
+    ensures places { PlacesGo V.told (IsWithin transaction.entry) core.old.regions.items core.old.vault client.new.state core.new.regions.items core.new.vault }
+    ensures on { IfOk result (λ went. went ≡ true) }
 {
     let left = take_back(core, transaction.txn)?;
     client.finish(State::Outside, end_line(left))?;
@@ -150,6 +155,7 @@ fn wait_for<'a>(
 ) -> Result<(), OutOfMemory>
     ensures ok { OnOk result (SaysAlso client.old commands.now (IsWaiting tries holder) (line ∷ []) client.new) }
     ensures err { OnErr result (GoesSilent client.old client.new) }
+    ensures stands { client.new.state ≡ IsWaiting tries holder }
 {
     client.rest = commands;
     client.state = State::Waiting { tries, holder };
@@ -161,6 +167,7 @@ fn leave<'a>(client: &mut Client<'a>, holder: u64, line: Line) -> Result<(), Out
     ensures rest { OnOk result (map act_of client.new.rest.now ≡ acts_behind (map act_of client.old.rest.now)) }
     ensures ok { OnOk result (SaysAlso client.old client.new.rest.now IsOutside (IsBusy holder ∷ line ∷ []) client.new) }
     ensures err { OnErr result (GoesSilent client.old client.new) }
+    ensures stands { client.new.state ≡ IsOutside }
 {
     client.rest = behind_close(client.rest);
     client.state = State::Outside;
@@ -175,10 +182,14 @@ pub(crate) fn give_way<'a, V: Store>(
     holder: u64,
     core: &mut Core<V>,
 ) -> Result<bool, OutOfMemory>
-    requires may { MayYield V.told V.may_leave V.faults transaction holder client.old core.old.regions.items core.old.system.state core.old.vault }
+    requires stands { client.old.state ≡ IsOutside }
     ensures on { IfOk result (λ went. went ≡ true) }
     ensures goes { (precheck : Bool) → YieldGoes V.told V.may_leave V.faults precheck transaction.entry holder client.old core.old.regions.items core.old.system.state core.old.vault (is_ok result) client.new core.new.regions.items core.new.system.state core.new.vault }
+    ensures places { PlacesGo V.told (IsWithin transaction.entry) core.old.regions.items core.old.vault client.new.state core.new.regions.items core.new.vault }
 {
+    if transaction.tries >= MAX_TRIES {
+        return no_run(); // no transaction is tried so often
+    }
     let line = end_line(take_back(core, transaction.txn)?);
     let tries = transaction.tries + 1;
     if tries < MAX_TRIES {

@@ -1,5 +1,7 @@
 use Rattle.std.proofs.Common.{ap, refl}
 use Rattle.dali_core.specs.Served.{Served}
+use Rattle.dali_clean.proofs.Flags.{recovered_flags}
+use Rattle.dali_calls.proofs.Flags.{flags_same}
 use Rattle.dali_clean.proofs.Cleaning.{left_there, claimed}
 use Rattle.dali_clean.proofs.Others.{claim_others, others_same, kept_in_state, kept_same}
 use Rattle.dali_att.specs.declared.state.State.TheVariants.{Cleaning}
@@ -22,3 +24,9 @@ returns-in-Err-clause-others c = others_same c.args.regions.now c.args.regions.n
 
 pub returns-in-Err-clause-kept : goal.returns-in-Err-clause-kept
 returns-in-Err-clause-kept c = kept_same c.args.system.now c.claim.new.self c.in-Err.ensures.err
+
+pub returns-in-Ok-clause-flags : goal.returns-in-Ok-clause-flags
+returns-in-Ok-clause-flags c = recovered_flags c.args.regions.now c.recover.new.regions c.in-Ok.latched c.recover.ensures
+
+pub returns-in-Err-clause-flags : goal.returns-in-Err-clause-flags
+returns-in-Err-clause-flags c = flags_same c.args.regions.now

@@ -1,5 +1,6 @@
 use Rattle.std.proofs.Common.{ap, None}
 use Rattle.dali_core.specs.Served.{Served}
+use Rattle.dali_calls.proofs.Flags.{flags_further}
 use Rattle.dali_clean.proofs.Cleaning.{ends_so, given_back}
 use Rattle.dali_clean.proofs.Others.{others_further, dead_others, kept_further, kept_in_state, promises_same, promises_further}
 use Rattle.dali_att.specs.declared.state.State.TheVariants.{Dead}
@@ -41,3 +42,9 @@ returns-in-Err-finish-clause-kept c =
 
 pub returns-in-Err-clause-kept : goal.returns-in-Err-clause-kept
 returns-in-Err-clause-kept c = c.claim.ensures.kept
+
+pub returns-in-Ok-finish-clause-flags : goal.returns-in-Ok-finish-clause-flags
+returns-in-Ok-finish-clause-flags c = flags_further c.args.regions.now c.claim.new.regions c.finish.new.regions c.claim.ensures.flags c.finish.ensures.flags
+
+pub returns-in-Err-finish-clause-flags : goal.returns-in-Err-finish-clause-flags
+returns-in-Err-finish-clause-flags c = flags_further c.args.regions.now c.claim.new.regions c.finish.new.regions c.claim.ensures.flags c.finish.ensures.flags

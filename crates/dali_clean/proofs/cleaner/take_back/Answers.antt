@@ -1,6 +1,8 @@
 use Rattle.std.proofs.Common.{◌∙◌, ap, refl, slice_set}
 use Rattle.dali_region.specs.State.{RegionState}
 use Rattle.dali_core.specs.declared.take_back.TakeBack.{TakeBack}
+use Rattle.dali_calls.proofs.Flags.{flags_same, flags_set, flags_further}
+use Rattle.dali_clean.proofs.Flags.{undone_flag, refused_flag}
 use Rattle.dali_clean.proofs.Lists.{get_here}
 use Rattle.dali_clean.proofs.Steps.{stays}
 use Rattle.dali_clean.proofs.Backward.{none_wanted}
@@ -14,6 +16,7 @@ loop-region-init c = record {
   is = record { regions = c.requires.regions; kind = c.requires.kind; quiet = c.requires.quiet; claimed = c.requires.claimed };
   others = others_same c.args.regions.now c.args.regions.now c.args.system.now.state c.args.system.now.state c.args.txn refl refl;
   kept = kept_same c.args.system.now c.args.system.now refl;
+  flags = flags_same c.args.regions.now;
   stop = refl;
   txn = c.new-back.ensures.fields.0;
   down = c.new-back.ensures.fields.1;
@@ -65,6 +68,10 @@ loop-region-preserved c =
           (undone_others (slice_set c.loop-region.regions c.in-Region.region c.release.new.region) c.release.new.system.state c.undo.new.system.state c.args.txn c.in-Region.region c.loop-region.back c.undo.new.back _ c.undo.new.region (get_here _ c.in-Region.region _ (there_still c.loop-region.regions c.in-Region.region c.release.new.region less)) c.loop-region.invariant.txn one));
       kept = kept_further c.args.system.now c.loop-region.system c.undo.new.system c.loop-region.invariant.kept
           (kept_further c.loop-region.system c.release.new.system c.undo.new.system (record { locks = released_locks _ c.release.new.region c.loop-region.system.state c.release.new.system.state c.release.ensures.released; promised = c.release.ensures.promised }) (record { locks = undone_locks c.loop-region.back c.undo.new.back _ c.undo.new.region c.release.new.system.state c.undo.new.system.state one; promised = c.undo.ensures.promised }));
+      flags = flags_further c.args.regions.now c.loop-region.regions _ c.loop-region.invariant.flags
+          (flags_further c.loop-region.regions (slice_set c.loop-region.regions c.in-Region.region c.release.new.region) _
+          (flags_set c.loop-region.regions c.in-Region.region _ c.release.new.region (get_here c.loop-region.regions c.in-Region.region _ less) c.release.ensures.flags)
+          (flags_set (slice_set c.loop-region.regions c.in-Region.region c.release.new.region) c.in-Region.region _ c.undo.new.region (get_here _ c.in-Region.region _ (there_still c.loop-region.regions c.in-Region.region c.release.new.region less)) (undone_flag c.loop-region.back c.undo.new.back _ c.undo.new.region c.release.new.system.state c.undo.new.system.state one)));
       stop = turn.stop;
       txn = ap (λ (b : TakeBack). b.txn) one.next ∙ c.loop-region.invariant.txn;
       down = ap (λ (b : TakeBack). b.down_to) one.next ∙ c.loop-region.invariant.down;
@@ -99,6 +106,7 @@ returns c = record {
   is = c.loop-region.invariant.is;
   others = c.loop-region.invariant.others;
   kept = c.loop-region.invariant.kept;
+  flags = c.loop-region.invariant.flags;
   stop = c.loop-region.invariant.stop;
   all = none_wanted _ c.loop-region.back.next c.loop-region.invariant.next (λ r e. c.in_default.not-Region r (c.wants.ensures ∙ e));
   refused = tt;
@@ -117,3 +125,11 @@ pub returns-in-Err-clause-kept : goal.returns-in-Err-clause-kept
 returns-in-Err-clause-kept c =
     kept_further c.args.system.now c.loop-region.system c.undo.new.system c.loop-region.invariant.kept
     (kept_further c.loop-region.system c.release.new.system c.undo.new.system (record { locks = released_locks _ c.release.new.region c.loop-region.system.state c.release.new.system.state c.release.ensures.released; promised = c.release.ensures.promised }) (kept_same c.release.new.system c.undo.new.system c.in-Err.ensures.err.0))
+
+pub returns-in-Err-clause-flags : goal.returns-in-Err-clause-flags
+returns-in-Err-clause-flags c =
+    let less = region_in c.loop-region.regions c.loop-region.system.state c.args.txn c.in-Region.region c.loop-region.back.next c.loop-region.invariant.is c.loop-region.invariant.next c.in-Region.ensures in
+    flags_further c.args.regions.now c.loop-region.regions _ c.loop-region.invariant.flags
+    (flags_further c.loop-region.regions (slice_set c.loop-region.regions c.in-Region.region c.release.new.region) _
+    (flags_set c.loop-region.regions c.in-Region.region _ c.release.new.region (get_here c.loop-region.regions c.in-Region.region _ less) c.release.ensures.flags)
+    (flags_set (slice_set c.loop-region.regions c.in-Region.region c.release.new.region) c.in-Region.region _ c.undo.new.region (get_here _ c.in-Region.region _ (there_still c.loop-region.regions c.in-Region.region c.release.new.region less)) (refused_flag c.loop-region.back.txn _ c.undo.new.region c.in-Err.ensures.err.1)))

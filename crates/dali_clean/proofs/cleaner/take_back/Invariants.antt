@@ -2,6 +2,7 @@ use Rattle.std.proofs.Common.{◌≡◌, IfSome, None, length}
 use Rattle.dali_record.specs.Spelling.{IsUndo}
 use Rattle.dali_att.specs.Table.{undos_at}
 use Rattle.dali_core.specs.TakenBack.{next_undo}
+use Rattle.dali_calls.specs.Flags.{FlagsStay}
 use Rattle.dali_clean.specs.Cleaned.{LeadsOn, IsCleaning}
 use Rattle.dali_clean.specs.Others.{OthersStay, HasKept}
 use Rattle.dali_clean.proofs.cleaner.take_back.Given as goal
@@ -12,6 +13,7 @@ invariant-loop-region l = record {
   is : IsCleaning l.regions l.system.state l.txn;
   others : OthersStay l.initial.regions l.initial.system.state l.txn l.regions l.system.state;
   kept : HasKept l.initial.system l.system;
+  flags : FlagsStay l.initial.regions l.regions;
   stop : l.system.state.stop ≡ l.initial.system.state.stop;
   txn : l.back.txn ≡ l.txn;
   down : l.back.down_to ≡ 0;

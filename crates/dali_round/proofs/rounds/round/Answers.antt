@@ -1,12 +1,14 @@
-use Rattle.std.proofs.Common.{◌≡◌, ◌∙◌, length, map, false, ap, sym, subst, inl, arith}
+use Rattle.std.proofs.Common.{◌≡◌, ◌<◌, ◌∙◌, List, length, map, false, ap, sym, subst, inl, arith}
 use Rattle.std.proofs.lemmas.Grind.{common_steps}
 use Rattle.dali_clients.specs.Said.{Transcribed}
 use Rattle.dali_clients.specs.Told.{told_of}
 use Rattle.dali_turns.specs.declared.client.Client.{Client}
 use Rattle.dali_round.specs.Leads.{is_done, lines_in, RoundLeads}
 use Rattle.dali_round.specs.Played.{AreNew}
+use Rattle.dali_round.specs.Ends.{named}
 use Rattle.dali_round.proofs.Made.{put_back}
-use Rattle.dali_round.proofs.Whole.{may_start, none_leads, round_leads, round_numbers}
+use Rattle.dali_round.proofs.Keeping.{new_places}
+use Rattle.dali_round.proofs.Whole.{none_leads, round_leads, many_named, numbers_same}
 use Rattle.dali_round.proofs.rounds.round.Goals as goal
 
 pub returns-in_default-clause-leads : goal.returns-in_default-clause-leads
@@ -17,20 +19,27 @@ returns-in_default-clause-leads g c = λ s B p b.
 
 pub play-end-requires : goal.play-end-requires
 play-end-requires g c =
-    may_start g.V.Store.told g.V.Store.may_leave g.V.Store.faults c.args.precheck c.args.core.regions.items c.args.core.system.state c.args.core.vault c.args.blocks.now c.deref_mut.result.now c.requires.core c.requires.placed
-    (subst (AreNew c.args.blocks.now) (sym c.deref_mut.ensures.value) c.in-Ok.ensures.clients)
+    new_places g.V.Store.told c.args.blocks.now c.deref_mut.result.now c.args.core.regions.items c.args.core.vault (subst (AreNew c.args.blocks.now) (sym c.deref_mut.ensures.value) c.in-Ok.ensures.clients) c.requires.files
 
 pub returns-clause-leads : goal.returns-clause-leads
 returns-clause-leads g c = λ s B p b.
     let size : length c.play-end.new.clients ≡ c.in-Ok.clients.len = grind (arith, common_steps, c.play-end.auto.clients, c.deref_mut.ensures.value) in
+    let many : length c.play-end.new.clients ≡ length c.args.blocks.now = c.play-end.auto.clients ∙ (ap length c.deref_mut.ensures.value ∙ c.in-Ok.ensures.clients.count) in
     round_leads g.V.Store.told g.V.Store.may_leave g.V.Store.faults c.args.precheck c.args.core.regions.items c.play-end.new.core.regions.items c.args.core.system.state c.play-end.new.core.system.state c.args.core.vault c.play-end.new.core.vault (is_done c.play-end.result) c.args.blocks.now c.deref_mut.result.now c.play-end.new.clients c.transcripts_of.result.items c.requires.placed
-    (subst (AreNew c.args.blocks.now) (sym c.deref_mut.ensures.value) c.in-Ok.ensures.clients) c.play-end.ensures
-    (c.transcripts_of.ensures ∙ ap (map (λ (k : Client). k.transcript)) (put_back c.in-Ok.clients.len c.play-end.new.clients c.in-Ok.clients.items size)) s B p b
+    (subst (AreNew c.args.blocks.now) (sym c.deref_mut.ensures.value) c.in-Ok.ensures.clients) c.play-end.ensures.goes many
+    (c.transcripts_of.ensures ∙ ap (named c.args.blocks.now) (put_back c.in-Ok.clients.len c.play-end.new.clients c.in-Ok.clients.items size)) s B p b
 
 pub returns-clause-clients : goal.returns-clause-clients
 returns-clause-clients g c =
     let size : length c.play-end.new.clients ≡ c.in-Ok.clients.len = grind (arith, common_steps, c.play-end.auto.clients, c.deref_mut.ensures.value) in
+    let many : length c.play-end.new.clients ≡ length c.args.blocks.now = c.play-end.auto.clients ∙ (ap length c.deref_mut.ensures.value ∙ c.in-Ok.ensures.clients.count) in
     inl
-    (round_numbers g.V.Store.told g.V.Store.may_leave g.V.Store.faults c.args.precheck c.args.core.regions.items c.play-end.new.core.regions.items c.args.core.system.state c.play-end.new.core.system.state c.args.core.vault c.play-end.new.core.vault (is_done c.play-end.result) c.args.blocks.now c.deref_mut.result.now c.play-end.new.clients c.transcripts_of.result.items c.requires.placed
-    (subst (AreNew c.args.blocks.now) (sym c.deref_mut.ensures.value) c.in-Ok.ensures.clients) c.play-end.ensures
-    (c.transcripts_of.ensures ∙ ap (map (λ (k : Client). k.transcript)) (put_back c.in-Ok.clients.len c.play-end.new.clients c.in-Ok.clients.items size)) c.requires.core)
+    (ap (map (λ (t : Transcribed). t.client)) (c.transcripts_of.ensures ∙ ap (named c.args.blocks.now) (put_back c.in-Ok.clients.len c.play-end.new.clients c.in-Ok.clients.items size))
+    ∙ numbers_same c.args.blocks.now c.play-end.new.clients many)
+
+pub returns-clause-nothing : goal.returns-clause-nothing
+returns-clause-nothing g c = λ less.
+    let size : length c.play-end.new.clients ≡ c.in-Ok.clients.len = grind (arith, common_steps, c.play-end.auto.clients, c.deref_mut.ensures.value) in
+    let many : length c.play-end.new.clients ≡ length c.args.blocks.now = c.play-end.auto.clients ∙ (ap length c.deref_mut.ensures.value ∙ c.in-Ok.ensures.clients.count) in
+    let all : length c.transcripts_of.result.items ≡ length c.args.blocks.now = ap length (c.transcripts_of.ensures ∙ ap (named c.args.blocks.now) (put_back c.in-Ok.clients.len c.play-end.new.clients c.in-Ok.clients.items size)) ∙ many_named c.args.blocks.now c.play-end.new.clients many in
+    absurd (omega (arith, all, less))

@@ -1,18 +1,35 @@
-use Rattle.std.proofs.Common.{true, false, is_ok}
+use Rattle.std.proofs.Common.{true, false, is_ok, ◌≡◌, Bool, Ok, refl, ap, ◌∙◌}
 use Rattle.dali_turns.proofs.Commands.{err_false}
-use Rattle.dali_round.proofs.Playing.{may_on, goes_on, goes_cut, goes_as}
+use Rattle.dali_round.proofs.GoingOn.{idle_are_over}
+use Rattle.dali_round.proofs.Playing.{goes_on, goes_cut, goes_as}
 use Rattle.dali_round.proofs.rounds.run.Goals as goal
 
+pub loop-init : goal.loop-init
+loop-init g c = record { goes = λ s p bs f. f; places = c.requires }
+
 pub make_turns-requires : goal.make_turns-requires
-make_turns-requires g c = may_on g.V.Store.told g.V.Store.may_leave g.V.Store.faults _ _ _ _ _ _ _ _ _ c.requires c.loop.invariant
+make_turns-requires g c = c.loop.invariant.places
+
+pub loop-preserved : goal.loop-preserved
+loop-preserved g c = record {
+  goes = goes_on g.V.Store.told g.V.Store.may_leave g.V.Store.faults _ _ _ _ _ _ _ _ _ _ _ _ _ true c.loop.invariant.goes c.in_ok-make_turns.ensures.goes;
+  places = c.in_ok-make_turns.ensures.places;
+}
 
 pub returns-in_err-make_turns-clause-goes : goal.returns-in_err-make_turns-clause-goes
 returns-in_err-make_turns-clause-goes g c =
     goes_as g.V.Store.told g.V.Store.may_leave g.V.Store.faults _ _ _ _ _ _ _ _ _ false (is_ok c.from_residual.result) (err_false c.from_residual.result c.from_residual.ensures.0)
-    (goes_on g.V.Store.told g.V.Store.may_leave g.V.Store.faults _ _ _ _ _ _ _ _ _ _ _ _ _ false c.loop.invariant c.in_err-make_turns.ensures)
+    (goes_on g.V.Store.told g.V.Store.may_leave g.V.Store.faults _ _ _ _ _ _ _ _ _ _ _ _ _ false c.loop.invariant.goes c.in_err-make_turns.ensures.goes)
 
-pub returns-after-loop-clause-goes : goal.returns-after-loop-clause-goes
-returns-after-loop-clause-goes g c = goes_cut g.V.Store.told g.V.Store.may_leave g.V.Store.faults _ _ _ _ _ _ _ _ _ c.loop.invariant
+pub returns-clause-goes : goal.returns-clause-goes
+returns-clause-goes g c = goes_cut g.V.Store.told g.V.Store.may_leave g.V.Store.faults _ _ _ _ _ _ _ _ _ c.loop.invariant.goes
 
 pub returns-then-not-branch-clause-goes : goal.returns-then-not-branch-clause-goes
-returns-then-not-branch-clause-goes g c = goes_cut g.V.Store.told g.V.Store.may_leave g.V.Store.faults _ _ _ _ _ _ _ _ _ (goes_on g.V.Store.told g.V.Store.may_leave g.V.Store.faults _ _ _ _ _ _ _ _ _ _ _ _ _ true c.loop.invariant c.in_ok-make_turns.ensures)
+returns-then-not-branch-clause-goes g c =
+    goes_on g.V.Store.told g.V.Store.may_leave g.V.Store.faults _ _ _ _ _ _ _ _ _ _ _ _ _ true c.loop.invariant.goes c.in_ok-make_turns.ensures.goes
+
+pub returns-then-not-branch-clause-stuck : goal.returns-then-not-branch-clause-stuck
+returns-then-not-branch-clause-stuck g c = λ e s p bs f.
+    let played = goes_on g.V.Store.told g.V.Store.may_leave g.V.Store.faults _ _ _ _ _ _ _ _ _ _ _ _ _ true c.loop.invariant.goes c.in_ok-make_turns.ensures.goes s p bs f in
+    let over = c.are_over.ensures.always (idle_are_over g.V.Store.told g.V.Store.may_leave g.V.Store.faults c.args.setting.now.precheck s p bs _ _ _ _ played (c.make_turns.ensures.idle (c.in_ok-make_turns.was ∙ ap Ok c.if-not-branch.true))) in
+    absurd (cc)

@@ -40,3 +40,21 @@ returns-in-Err-ended-clause-promises c = promises_same c.args.system.now c.ended
 
 pub returns-in-Err-clause-promises : goal.returns-in-Err-clause-promises
 returns-in-Err-clause-promises c = promises_same c.args.system.now c.take_back.new.system c.args.txn c.take_back.ensures.promised
+
+pub returns-in-Ok-ended-clause-stop : goal.returns-in-Ok-ended-clause-stop
+returns-in-Ok-ended-clause-stop c = ap (λ (s : Served). s.state.stop) c.in-Ok-ended.ensures.ok ∙ c.take_back.ensures.goes.stop
+
+pub returns-in-Err-ended-clause-stop : goal.returns-in-Err-ended-clause-stop
+returns-in-Err-ended-clause-stop c = ap (λ (s : Served). s.state.stop) c.in-Err-ended.ensures.err ∙ c.take_back.ensures.goes.stop
+
+pub returns-in-Err-clause-stop : goal.returns-in-Err-clause-stop
+returns-in-Err-clause-stop c = c.take_back.ensures.goes.stop
+
+pub returns-in-Ok-ended-clause-holds : goal.returns-in-Ok-ended-clause-holds
+returns-in-Ok-ended-clause-holds c = c.take_back.ensures.goes.holds
+
+pub returns-in-Err-ended-clause-holds : goal.returns-in-Err-ended-clause-holds
+returns-in-Err-ended-clause-holds c = c.take_back.ensures.goes.holds
+
+pub returns-in-Err-clause-holds : goal.returns-in-Err-clause-holds
+returns-in-Err-clause-holds c = c.take_back.ensures.goes.holds

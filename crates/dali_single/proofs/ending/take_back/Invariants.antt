@@ -2,6 +2,7 @@ use Rattle.std.proofs.Common.{◌≡◌, IfSome, None, length}
 use Rattle.dali_record.specs.Spelling.{IsUndo}
 use Rattle.dali_att.specs.Table.{undos_at}
 use Rattle.dali_core.specs.TakenBack.{next_undo}
+use Rattle.dali_calls.specs.Flags.{FlagsStay}
 use Rattle.dali_single.specs.Ending.{UndoesFrom}
 use Rattle.dali_single.proofs.ending.take_back.Given as goal
 
@@ -9,6 +10,7 @@ abbrev pub invariant-loop-region : goal.invariant-loop-region
 invariant-loop-region l = record {
   goes : UndoesFrom l.initial.regions l.initial.system.state l.txn l.regions l.system.state;
   promised : l.system.promised ≡ l.initial.system.promised;
+  flags : FlagsStay l.initial.regions l.regions;
   txn : l.back.txn ≡ l.txn;
   down : l.back.down_to ≡ 0;
   next : l.back.next ≡ next_undo (undos_at l.system.state.table l.txn) 0;

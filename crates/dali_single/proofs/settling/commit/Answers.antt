@@ -58,3 +58,8 @@ returns-in_err-commit-clause-promises c = absurd (let no : false ≡ true = c.in
 
 pub returns-in_err-commit-clause-err : goal.returns-in_err-commit-clause-err
 returns-in_err-commit-clause-err c = absurd (let no : false ≡ true = c.in_err-commit.ensures.promised (ap (λ (s : Served). stop_refusal s.state) c.in_ok-removals.ensures.ok ∙ runs_on c.args.system.now.state c.in_ok-removals.removals c.in_ok-removals.ensures.refused) (enough_to_commit c.args.system.now c.ready.new.self c.args.txn (length c.in_ok-removals.removals.items) c.in_ok-removals.ensures.ok) in cc)
+
+pub returns-clause-logged : goal.returns-clause-logged
+returns-clause-logged c =
+    let same : c.ready.new.self.state ≡ c.args.system.now.state = ap (λ (s : Served). s.state) c.in_ok-removals.ensures.ok in
+    ap (λ (s : Served). s.state) c.in_ok-commit.ensures.ok ∙ ap (λ (y : SystemState). commit_logged y c.args.txn) same

@@ -1,4 +1,6 @@
 use Rattle.std.proofs.Common.{refl, arith}
+use Rattle.dali_calls.proofs.Flags.{flags_same, flags_set, flags_further}
+use Rattle.dali_single.proofs.Flags.{freed_flag, left_flag}
 use Rattle.dali_single.proofs.Lists.{get_here}
 use Rattle.dali_single.proofs.Settled.{none_freed, next_further, those_left, removal_stuck, promised_further, promised_still, promised_one, removal_there, free_there, free_further, free_refused}
 use Rattle.dali_single.proofs.Promising.{promises_further}
@@ -10,6 +12,7 @@ loop-removal-init c = record {
   next = omega arith;
   promised = λ h. h;
   promises = λ u e. refl;
+  flags = flags_same c.args.regions.now;
 }
 
 pub returns-in-Err-clause-err : goal.returns-in-Err-clause-err
@@ -28,6 +31,8 @@ loop-removal-preserved c =
       next = next_further c.args.system.now.state c.loop-removal.system.state c.free.new.system.state c.args.txn c.loop-removal.removal-index _ _ c.free.new.region c.loop-removal.invariant.next c.in-Ok.ensures.ok.1;
       promised = λ h. promised_further c.loop-removal.system c.free.new.system c.args.txn c.loop-removal.removal-index c.args.removals.now c.loop-removal-test.true (c.loop-removal.invariant.promised h) c.in-Ok.ensures.kept;
       promises = promises_further c.args.system.now c.loop-removal.system c.free.new.system c.args.txn c.loop-removal.invariant.promises c.free.ensures.promises;
+      flags = flags_further c.args.regions.now c.loop-removal.regions _ c.loop-removal.invariant.flags
+          (flags_set c.loop-removal.regions _ _ c.free.new.region (get_here c.loop-removal.regions _ _ there) (freed_flag _ _ c.free.new.region c.loop-removal.system.state c.free.new.system.state c.args.txn c.in-Ok.ensures.ok.1));
     }
 
 pub returns-in-Err-clause-cause : goal.returns-in-Err-clause-cause
@@ -44,3 +49,10 @@ returns-in-Err-clause-still c = λ h. promised_still c.args.system.now.state c.l
 
 pub returns-in-Err-clause-promises : goal.returns-in-Err-clause-promises
 returns-in-Err-clause-promises c = promises_further c.args.system.now c.loop-removal.system c.free.new.system c.args.txn c.loop-removal.invariant.promises c.free.ensures.promises
+
+pub returns-in-Err-clause-flags : goal.returns-in-Err-clause-flags
+returns-in-Err-clause-flags c =
+    let goes = removal_there c.args.regions.now c.loop-removal.regions c.args.system.now.state c.loop-removal.system.state c.args.txn c.loop-removal.removal-index c.args.removals.now _ c.loop-removal-test.true c.loop-removal.invariant.goes in
+    let there = free_there c.args.regions.now c.loop-removal.regions c.args.system.now.state c.loop-removal.system.state c.args.txn c.args.removals.now _ _ goes in
+    flags_further c.args.regions.now c.loop-removal.regions _ c.loop-removal.invariant.flags
+    (flags_set c.loop-removal.regions _ _ c.free.new.region (get_here c.loop-removal.regions _ _ there) (left_flag c.args.txn _ c.free.new.region c.in-Err.ensures.err.1))

@@ -1,4 +1,5 @@
 use Rattle.std.proofs.Common.{◌≡◌, ◌+◌, drop, length}
+use Rattle.dali_calls.specs.Flags.{FlagsStay}
 use Rattle.dali_single.specs.Single.{PromisesStay}
 use Rattle.dali_single.specs.Settling.{AreFreed, IsPromised, settle_room}
 use Rattle.dali_single.proofs.settling.free_all.Given as goal
@@ -9,4 +10,5 @@ invariant-loop-removal l = record {
   next : l.system.state.next ≡ l.initial.system.state.next + l.removal-index;
   promised : IsPromised l.initial.system l.txn (settle_room (length l.removals)) → IsPromised l.system l.txn (settle_room (length (drop l.removal-index l.removals)));
   promises : PromisesStay l.initial.system l.txn l.system;
+  flags : FlagsStay l.initial.regions l.regions;
 }

@@ -66,3 +66,12 @@ returns-in-Err-ended-clause-promises c =
 
 pub returns-in-Err-clause-promises : goal.returns-in-Err-clause-promises
 returns-in-Err-clause-promises c = c.free_all.ensures.promises
+
+pub returns-in-Ok-ended-clause-holds : goal.returns-in-Ok-ended-clause-holds
+returns-in-Ok-ended-clause-holds c = c.in-Ok.ensures.ok.holds
+
+pub returns-in-Err-ended-clause-holds : goal.returns-in-Err-ended-clause-holds
+returns-in-Err-ended-clause-holds c = c.in-Ok.ensures.ok.holds
+
+pub returns-in-Err-clause-holds : goal.returns-in-Err-clause-holds
+returns-in-Err-clause-holds c = c.in-Err.ensures.err.holds

@@ -1,14 +1,43 @@
-use Rattle.std.proofs.Common.{◌∙◌, refl, sym}
+use Rattle.std.proofs.Common.{refl, sym, ◌∙◌}
+use Rattle.dali_turns.specs.declared.client.State.TheVariants.{Outside}
+use Rattle.dali_turns.proofs.Here.{in_no_run}
 use Rattle.dali_turns.proofs.Commands.{behind_next}
 use Rattle.dali_turns.proofs.Stepping.{none_goes, not_outside, outside_placed}
+use Rattle.dali_turns.proofs.Putting.{never_went, outside_put}
+use Rattle.dali_turns.proofs.Placed.{places_still, at_state}
 use Rattle.dali_turns.proofs.steps.next.Goals as goal
 
-pub unreachable-requires : goal.unreachable-requires
-unreachable-requires g c =
+pub returns-in_default-clause-goes : goal.returns-in_default-clause-goes
+returns-in_default-clause-goes g c =
     let k = c.args.client.now in
-    not_outside c.in-Some.command (behind_next k) (outside_placed g.V.Store.told g.V.Store.may_leave g.V.Store.faults c.args.core.now.regions.items c.args.core.now.system.state c.args.core.now.vault k c.in-Some.command c.requires.may (sym c.command.ensures ∙ c.in-Some.is))
-    (λ e. c.in_default.not-Begin e) (λ r word mask e. c.in_default.not-Poke r word mask e) (λ e. c.in_default.not-Audit e) (λ e. c.in_default.not-Checkpoint e)
+    in_no_run g.V.Store.told g.V.Store.may_leave g.V.Store.faults c.args.setting.now.precheck k c.args.core.now.regions.items c.args.core.now.system.state c.args.core.now.vault _ k c.args.core.now.regions.items c.args.core.now.system.state c.args.core.now.vault Outside
+    (λ may. not_outside c.in-Some.command (behind_next k) (outside_placed g.V.Store.told g.V.Store.may_leave g.V.Store.faults c.args.core.now.regions.items c.args.core.now.system.state c.args.core.now.vault k c.in-Some.command may (sym c.command.ensures ∙ c.in-Some.is))
+    (λ e. c.in_default.not-Begin e) (λ r word mask e. c.in_default.not-Poke r word mask e) (λ e. c.in_default.not-Audit e) (λ e. c.in_default.not-Checkpoint e))
 
-pub returns-in-None : goal.returns-in-None
-returns-in-None g c =
+pub returns-in-None-clause-goes : goal.returns-in-None-clause-goes
+returns-in-None-clause-goes g c =
     none_goes g.V.Store.told g.V.Store.may_leave g.V.Store.faults c.args.setting.now.precheck c.args.core.now.regions.items c.args.core.now.system.state c.args.core.now.vault c.args.client.now c.args.client.now (record { rest = refl; stands = c.requires.stands; points = refl; transcript = refl })
+
+pub returns-in_default-clause-places : goal.returns-in_default-clause-places
+returns-in_default-clause-places g c = places_still g.V.Store.told Outside c.args.client.now.state c.args.core.now.regions.items c.args.core.now.regions.items c.args.core.now.vault c.args.core.now.vault refl refl (at_state g.V.Store.told c.args.client.now.state Outside c.args.core.now.vault c.requires.stands tt)
+
+pub returns-in-None-clause-places : goal.returns-in-None-clause-places
+returns-in-None-clause-places g c = places_still g.V.Store.told Outside c.args.client.now.state c.args.core.now.regions.items c.args.core.now.regions.items c.args.core.now.vault c.args.core.now.vault refl refl (at_state g.V.Store.told c.args.client.now.state Outside c.args.core.now.vault c.requires.stands tt)
+
+pub returns-in-Begin-clause-places : goal.returns-in-Begin-clause-places
+returns-in-Begin-clause-places g c = c.begin.ensures.places Outside
+
+pub returns-in-None-clause-idle : goal.returns-in-None-clause-idle
+returns-in-None-clause-idle g c = λ e. (outside_put c.args.core.now.system.state c.args.client.now c.requires.stands (sym c.command.ensures ∙ c.in-None.is), refl)
+
+pub returns-in-Begin-clause-idle : goal.returns-in-Begin-clause-idle
+returns-in-Begin-clause-idle g c = λ e. never_went c.begin.result c.begin.ensures.on e
+
+pub returns-in-Poke-clause-idle : goal.returns-in-Poke-clause-idle
+returns-in-Poke-clause-idle g c = λ e. never_went c.poke.result c.poke.ensures.on e
+
+pub returns-in-Audit-clause-idle : goal.returns-in-Audit-clause-idle
+returns-in-Audit-clause-idle g c = λ e. never_went c.start.result c.start.ensures.on e
+
+pub returns-in-Checkpoint-clause-idle : goal.returns-in-Checkpoint-clause-idle
+returns-in-Checkpoint-clause-idle g c = λ e. never_went c.start-in-Checkpoint.result c.start-in-Checkpoint.ensures.on e

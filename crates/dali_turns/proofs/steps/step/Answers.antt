@@ -1,77 +1,133 @@
 use Rattle.std.proofs.Common.{true, is_ok, refl, sym}
 use Rattle.dali_turns.specs.declared.client.State.TheVariants.{Outside, LeftOut, Within, Calling, TakingBack, Waiting, Auditing, Copying, Certifying, Gone}
-use Rattle.dali_turns.proofs.Stepping.{may_stepped, stepped, waits_begin, left_goes, gone_goes}
+use Rattle.dali_turns.proofs.Stepping.{stepped, left_goes, gone_goes}
+use Rattle.dali_turns.proofs.Putting.{never_went, put_from, gone_put, left_out_put}
+use Rattle.dali_turns.proofs.Placed.{places_from, holds_from, places_still, at_state, left_reaches}
 use Rattle.dali_turns.proofs.steps.step.Goals as goal
 
-pub within-requires : goal.within-requires
-within-requires g c = may_stepped g.V.Store.told g.V.Store.may_leave g.V.Store.faults c.args.core.now.regions.items c.args.core.now.system.state c.args.core.now.vault c.args.client.now (record c.args.client.now { state = c.replace.new.dest }) (Within c.in-Within.transaction) (sym c.in-Within.ensures.value) (record { rest = refl; client = refl; lines = refl }) c.requires
-
-pub returns-in-Within : goal.returns-in-Within
-returns-in-Within g c =
+pub returns-in-Within-clause-goes : goal.returns-in-Within-clause-goes
+returns-in-Within-clause-goes g c =
     stepped g.V.Store.told g.V.Store.may_leave g.V.Store.faults c.args.setting.now.precheck (is_ok c.within.result) c.args.core.now.regions.items c.within.new.core.regions.items c.args.core.now.system.state c.within.new.core.system.state c.args.core.now.vault c.within.new.core.vault
-    c.args.client.now (record c.args.client.now { state = c.replace.new.dest }) c.within.new.client (Within c.in-Within.transaction) (sym c.in-Within.ensures.value) (record { rest = refl; client = refl; lines = refl }) c.within.ensures
+    c.args.client.now (record c.args.client.now { state = c.replace.new.dest }) c.within.new.client (Within c.in-Within.transaction) (sym c.in-Within.ensures.value) (record { rest = refl; client = refl; lines = refl }) c.within.ensures.goes
 
-pub call-requires : goal.call-requires
-call-requires g c = record { may = may_stepped g.V.Store.told g.V.Store.may_leave g.V.Store.faults c.args.core.now.regions.items c.args.core.now.system.state c.args.core.now.vault c.args.client.now (record c.args.client.now { state = c.replace.new.dest }) (Calling c.in-Calling.transaction c.in-Calling.plan) (sym c.in-Calling.ensures.value) (record { rest = refl; client = refl; lines = refl }) c.requires }
-
-pub returns-in-Calling : goal.returns-in-Calling
-returns-in-Calling g c =
+pub returns-in-Calling-clause-goes : goal.returns-in-Calling-clause-goes
+returns-in-Calling-clause-goes g c =
     stepped g.V.Store.told g.V.Store.may_leave g.V.Store.faults c.args.setting.now.precheck (is_ok c.call.result) c.args.core.now.regions.items c.call.new.core.regions.items c.args.core.now.system.state c.call.new.core.system.state c.args.core.now.vault c.call.new.core.vault
     c.args.client.now (record c.args.client.now { state = c.replace.new.dest }) c.call.new.client (Calling c.in-Calling.transaction c.in-Calling.plan) (sym c.in-Calling.ensures.value) (record { rest = refl; client = refl; lines = refl }) c.call.ensures.goes
 
-pub take_back-requires : goal.take_back-requires
-take_back-requires g c = record { may = may_stepped g.V.Store.told g.V.Store.may_leave g.V.Store.faults c.args.core.now.regions.items c.args.core.now.system.state c.args.core.now.vault c.args.client.now (record c.args.client.now { state = c.replace.new.dest }) (TakingBack c.in-TakingBack.transaction c.in-TakingBack.plan c.in-TakingBack.why) (sym c.in-TakingBack.ensures.value) (record { rest = refl; client = refl; lines = refl }) c.requires }
-
-pub returns-in-TakingBack : goal.returns-in-TakingBack
-returns-in-TakingBack g c =
+pub returns-in-TakingBack-clause-goes : goal.returns-in-TakingBack-clause-goes
+returns-in-TakingBack-clause-goes g c =
     stepped g.V.Store.told g.V.Store.may_leave g.V.Store.faults c.args.setting.now.precheck (is_ok c.take_back.result) c.args.core.now.regions.items c.take_back.new.core.regions.items c.args.core.now.system.state c.take_back.new.core.system.state c.args.core.now.vault c.take_back.new.core.vault
     c.args.client.now (record c.args.client.now { state = c.replace.new.dest }) c.take_back.new.client (TakingBack c.in-TakingBack.transaction c.in-TakingBack.plan c.in-TakingBack.why) (sym c.in-TakingBack.ensures.value) (record { rest = refl; client = refl; lines = refl }) c.take_back.ensures.goes
 
-pub wait-requires : goal.wait-requires
-wait-requires g c = waits_begin g.V.Store.told g.V.Store.may_leave g.V.Store.faults c.args.core.now.regions.items c.args.core.now.system.state c.args.core.now.vault (record c.args.client.now { state = c.replace.new.dest }) c.in-Waiting.tries c.in-Waiting.holder (may_stepped g.V.Store.told g.V.Store.may_leave g.V.Store.faults c.args.core.now.regions.items c.args.core.now.system.state c.args.core.now.vault c.args.client.now (record c.args.client.now { state = c.replace.new.dest }) (Waiting c.in-Waiting.tries c.in-Waiting.holder) (sym c.in-Waiting.ensures.value) (record { rest = refl; client = refl; lines = refl }) c.requires)
-
-pub returns-in-Waiting : goal.returns-in-Waiting
-returns-in-Waiting g c =
+pub returns-in-Waiting-clause-goes : goal.returns-in-Waiting-clause-goes
+returns-in-Waiting-clause-goes g c =
     stepped g.V.Store.told g.V.Store.may_leave g.V.Store.faults c.args.setting.now.precheck (is_ok c.wait.result) c.args.core.now.regions.items c.wait.new.core.regions.items c.args.core.now.system.state c.wait.new.core.system.state c.args.core.now.vault c.wait.new.core.vault
     c.args.client.now (record c.args.client.now { state = c.replace.new.dest }) c.wait.new.client (Waiting c.in-Waiting.tries c.in-Waiting.holder) (sym c.in-Waiting.ensures.value) (record { rest = refl; client = refl; lines = refl }) (c.wait.ensures.goes c.args.setting.now.precheck)
 
-pub audit-requires : goal.audit-requires
-audit-requires g c = may_stepped g.V.Store.told g.V.Store.may_leave g.V.Store.faults c.args.core.now.regions.items c.args.core.now.system.state c.args.core.now.vault c.args.client.now (record c.args.client.now { state = c.replace.new.dest }) (Auditing c.in-Auditing.audit c.in-Auditing.next) (sym c.in-Auditing.ensures.value) (record { rest = refl; client = refl; lines = refl }) c.requires
-
-pub returns-in-Auditing : goal.returns-in-Auditing
-returns-in-Auditing g c =
+pub returns-in-Auditing-clause-goes : goal.returns-in-Auditing-clause-goes
+returns-in-Auditing-clause-goes g c =
     stepped g.V.Store.told g.V.Store.may_leave g.V.Store.faults c.args.setting.now.precheck (is_ok c.audit.result) c.args.core.now.regions.items c.audit.new.core.regions.items c.args.core.now.system.state c.audit.new.core.system.state c.args.core.now.vault c.audit.new.core.vault
     c.args.client.now (record c.args.client.now { state = c.replace.new.dest }) c.audit.new.client (Auditing c.in-Auditing.audit c.in-Auditing.next) (sym c.in-Auditing.ensures.value) (record { rest = refl; client = refl; lines = refl }) (c.audit.ensures.goes c.args.setting.now.precheck)
 
-pub copy-requires : goal.copy-requires
-copy-requires g c = may_stepped g.V.Store.told g.V.Store.may_leave g.V.Store.faults c.args.core.now.regions.items c.args.core.now.system.state c.args.core.now.vault c.args.client.now (record c.args.client.now { state = c.replace.new.dest }) (Copying c.in-Copying.checkpoint c.in-Copying.next) (sym c.in-Copying.ensures.value) (record { rest = refl; client = refl; lines = refl }) c.requires
-
-pub returns-in-Copying : goal.returns-in-Copying
-returns-in-Copying g c =
+pub returns-in-Copying-clause-goes : goal.returns-in-Copying-clause-goes
+returns-in-Copying-clause-goes g c =
     stepped g.V.Store.told g.V.Store.may_leave g.V.Store.faults c.args.setting.now.precheck (is_ok c.copy.result) c.args.core.now.regions.items c.copy.new.core.regions.items c.args.core.now.system.state c.copy.new.core.system.state c.args.core.now.vault c.copy.new.core.vault
     c.args.client.now (record c.args.client.now { state = c.replace.new.dest }) c.copy.new.client (Copying c.in-Copying.checkpoint c.in-Copying.next) (sym c.in-Copying.ensures.value) (record { rest = refl; client = refl; lines = refl }) (c.copy.ensures.goes c.args.setting.now.precheck)
 
-pub certify-requires : goal.certify-requires
-certify-requires g c = may_stepped g.V.Store.told g.V.Store.may_leave g.V.Store.faults c.args.core.now.regions.items c.args.core.now.system.state c.args.core.now.vault c.args.client.now (record c.args.client.now { state = c.replace.new.dest }) (Certifying c.in-Certifying.checkpoint c.in-Certifying.audit c.in-Certifying.next) (sym c.in-Certifying.ensures.value) (record { rest = refl; client = refl; lines = refl }) c.requires
-
-pub returns-in-Certifying : goal.returns-in-Certifying
-returns-in-Certifying g c =
+pub returns-in-Certifying-clause-goes : goal.returns-in-Certifying-clause-goes
+returns-in-Certifying-clause-goes g c =
     stepped g.V.Store.told g.V.Store.may_leave g.V.Store.faults c.args.setting.now.precheck (is_ok c.certify.result) c.args.core.now.regions.items c.certify.new.core.regions.items c.args.core.now.system.state c.certify.new.core.system.state c.args.core.now.vault c.certify.new.core.vault
     c.args.client.now (record c.args.client.now { state = c.replace.new.dest }) c.certify.new.client (Certifying c.in-Certifying.checkpoint c.in-Certifying.audit c.in-Certifying.next) (sym c.in-Certifying.ensures.value) (record { rest = refl; client = refl; lines = refl }) (c.certify.ensures.goes c.args.setting.now.precheck)
 
-pub returns-in-Outside : goal.returns-in-Outside
-returns-in-Outside g c =
+pub returns-in-Outside-clause-goes : goal.returns-in-Outside-clause-goes
+returns-in-Outside-clause-goes g c =
     stepped g.V.Store.told g.V.Store.may_leave g.V.Store.faults c.args.setting.now.precheck (is_ok c.next.result) c.args.core.now.regions.items c.next.new.core.regions.items c.args.core.now.system.state c.next.new.core.system.state c.args.core.now.vault c.next.new.core.vault
-    c.args.client.now (record c.args.client.now { state = c.replace.new.dest }) c.next.new.client Outside (sym c.in-Outside.ensures.value) (record { rest = refl; client = refl; lines = refl }) c.next.ensures
+    c.args.client.now (record c.args.client.now { state = c.replace.new.dest }) c.next.new.client Outside (sym c.in-Outside.ensures.value) (record { rest = refl; client = refl; lines = refl }) c.next.ensures.goes
 
-pub returns-in-LeftOut : goal.returns-in-LeftOut
-returns-in-LeftOut g c =
+pub returns-in-LeftOut-clause-goes : goal.returns-in-LeftOut-clause-goes
+returns-in-LeftOut-clause-goes g c =
     stepped g.V.Store.told g.V.Store.may_leave g.V.Store.faults c.args.setting.now.precheck (is_ok c.left_out.result) c.args.core.now.regions.items c.args.core.now.regions.items c.args.core.now.system.state c.args.core.now.system.state c.args.core.now.vault c.args.core.now.vault
     c.args.client.now (record c.args.client.now { state = c.replace.new.dest }) c.left_out.new.client LeftOut (sym c.in-LeftOut.ensures.value) (record { rest = refl; client = refl; lines = refl })
     (left_goes g.V.Store.told g.V.Store.may_leave g.V.Store.faults c.args.setting.now.precheck c.args.core.now.regions.items c.args.core.now.system.state c.args.core.now.vault (record c.args.client.now { state = c.replace.new.dest }) c.left_out.new.client c.left_out.result c.left_out.ensures.done c.left_out.ensures.passed)
 
-pub returns-in-Gone : goal.returns-in-Gone
-returns-in-Gone g c =
+pub returns-in-Gone-clause-goes : goal.returns-in-Gone-clause-goes
+returns-in-Gone-clause-goes g c =
     stepped g.V.Store.told g.V.Store.may_leave g.V.Store.faults c.args.setting.now.precheck true c.args.core.now.regions.items c.args.core.now.regions.items c.args.core.now.system.state c.args.core.now.system.state c.args.core.now.vault c.args.core.now.vault
     c.args.client.now (record c.args.client.now { state = c.replace.new.dest }) (record c.args.client.now { state = Gone }) Gone (sym c.in-Gone.ensures.value) (record { rest = refl; client = refl; lines = refl })
     (gone_goes g.V.Store.told g.V.Store.may_leave g.V.Store.faults c.args.setting.now.precheck c.args.core.now.regions.items c.args.core.now.system.state c.args.core.now.vault (record c.args.client.now { state = c.replace.new.dest }) (record c.args.client.now { state = Gone }) (record { rest = refl; stands = refl; points = refl; transcript = refl }))
+
+pub returns-in-Within-clause-places : goal.returns-in-Within-clause-places
+returns-in-Within-clause-places g c = places_from g.V.Store.told c.args.client.now.state (Within c.in-Within.transaction) c.within.new.client.state c.args.core.now.regions.items c.within.new.core.regions.items c.args.core.now.vault c.within.new.core.vault (sym c.in-Within.ensures.value) c.within.ensures.places
+
+pub returns-in-Calling-clause-places : goal.returns-in-Calling-clause-places
+returns-in-Calling-clause-places g c = places_from g.V.Store.told c.args.client.now.state (Calling c.in-Calling.transaction c.in-Calling.plan) c.call.new.client.state c.args.core.now.regions.items c.call.new.core.regions.items c.args.core.now.vault c.call.new.core.vault (sym c.in-Calling.ensures.value) c.call.ensures.places
+
+pub returns-in-TakingBack-clause-places : goal.returns-in-TakingBack-clause-places
+returns-in-TakingBack-clause-places g c = places_from g.V.Store.told c.args.client.now.state (TakingBack c.in-TakingBack.transaction c.in-TakingBack.plan c.in-TakingBack.why) c.take_back.new.client.state c.args.core.now.regions.items c.take_back.new.core.regions.items c.args.core.now.vault c.take_back.new.core.vault (sym c.in-TakingBack.ensures.value) c.take_back.ensures.places
+
+pub returns-in-Waiting-clause-places : goal.returns-in-Waiting-clause-places
+returns-in-Waiting-clause-places g c = places_from g.V.Store.told c.args.client.now.state (Waiting c.in-Waiting.tries c.in-Waiting.holder) c.wait.new.client.state c.args.core.now.regions.items c.wait.new.core.regions.items c.args.core.now.vault c.wait.new.core.vault (sym c.in-Waiting.ensures.value) c.wait.ensures.places
+
+pub returns-in-Auditing-clause-places : goal.returns-in-Auditing-clause-places
+returns-in-Auditing-clause-places g c = places_from g.V.Store.told c.args.client.now.state (Auditing c.in-Auditing.audit c.in-Auditing.next) c.audit.new.client.state c.args.core.now.regions.items c.audit.new.core.regions.items c.args.core.now.vault c.audit.new.core.vault (sym c.in-Auditing.ensures.value) c.audit.ensures.places
+
+pub returns-in-Copying-clause-places : goal.returns-in-Copying-clause-places
+returns-in-Copying-clause-places g c = places_from g.V.Store.told c.args.client.now.state (Copying c.in-Copying.checkpoint c.in-Copying.next) c.copy.new.client.state c.args.core.now.regions.items c.copy.new.core.regions.items c.args.core.now.vault c.copy.new.core.vault (sym c.in-Copying.ensures.value) c.copy.ensures.places
+
+pub returns-in-Certifying-clause-places : goal.returns-in-Certifying-clause-places
+returns-in-Certifying-clause-places g c = places_from g.V.Store.told c.args.client.now.state (Certifying c.in-Certifying.checkpoint c.in-Certifying.audit c.in-Certifying.next) c.certify.new.client.state c.args.core.now.regions.items c.certify.new.core.regions.items c.args.core.now.vault c.certify.new.core.vault (sym c.in-Certifying.ensures.value) c.certify.ensures.places
+
+pub returns-in-Outside-clause-places : goal.returns-in-Outside-clause-places
+returns-in-Outside-clause-places g c = places_from g.V.Store.told c.args.client.now.state Outside c.next.new.client.state c.args.core.now.regions.items c.next.new.core.regions.items c.args.core.now.vault c.next.new.core.vault (sym c.in-Outside.ensures.value) c.next.ensures.places
+
+pub copy-requires-clause-places : goal.copy-requires-clause-places
+copy-requires-clause-places g c = holds_from g.V.Store.told c.args.client.now.state (Copying c.in-Copying.checkpoint c.in-Copying.next) c.args.core.now.regions.items c.args.core.now.vault (sym c.in-Copying.ensures.value) c.requires
+
+pub returns-in-LeftOut-clause-places : goal.returns-in-LeftOut-clause-places
+returns-in-LeftOut-clause-places g c =
+    places_still g.V.Store.told c.args.client.now.state c.left_out.new.client.state c.args.core.now.regions.items c.args.core.now.regions.items c.args.core.now.vault c.args.core.now.vault refl refl (left_reaches g.V.Store.told (record c.args.client.now { state = c.replace.new.dest }) c.left_out.new.client c.left_out.result c.args.core.now.vault c.left_out.ensures.done c.left_out.ensures.passed)
+
+pub returns-in-Gone-clause-places : goal.returns-in-Gone-clause-places
+returns-in-Gone-clause-places g c = places_still g.V.Store.told c.args.client.now.state Gone c.args.core.now.regions.items c.args.core.now.regions.items c.args.core.now.vault c.args.core.now.vault refl refl tt
+
+pub returns-in-Within-clause-idle : goal.returns-in-Within-clause-idle
+returns-in-Within-clause-idle g c = λ e.
+    let put = c.within.ensures.idle e in
+    (put_from c.args.core.now.system.state c.args.client.now c.within.new.client (Within c.in-Within.transaction) c.replace.new.dest c.in-Within.ensures.value put.0, put.1)
+
+pub returns-in-Waiting-clause-idle : goal.returns-in-Waiting-clause-idle
+returns-in-Waiting-clause-idle g c = λ e.
+    let put = c.wait.ensures.idle e in
+    (put_from c.args.core.now.system.state c.args.client.now c.wait.new.client (Waiting c.in-Waiting.tries c.in-Waiting.holder) c.replace.new.dest c.in-Waiting.ensures.value put.0, put.1)
+
+pub returns-in-Outside-clause-idle : goal.returns-in-Outside-clause-idle
+returns-in-Outside-clause-idle g c = λ e.
+    let put = c.next.ensures.idle e in
+    (put_from c.args.core.now.system.state c.args.client.now c.next.new.client (Outside) c.replace.new.dest c.in-Outside.ensures.value put.0, put.1)
+
+pub returns-in-Calling-clause-idle : goal.returns-in-Calling-clause-idle
+returns-in-Calling-clause-idle g c = λ e. never_went c.call.result c.call.ensures.on e
+
+pub returns-in-TakingBack-clause-idle : goal.returns-in-TakingBack-clause-idle
+returns-in-TakingBack-clause-idle g c = λ e. never_went c.take_back.result c.take_back.ensures.on e
+
+pub returns-in-Auditing-clause-idle : goal.returns-in-Auditing-clause-idle
+returns-in-Auditing-clause-idle g c = λ e. never_went c.audit.result c.audit.ensures.on e
+
+pub returns-in-Copying-clause-idle : goal.returns-in-Copying-clause-idle
+returns-in-Copying-clause-idle g c = λ e. never_went c.copy.result c.copy.ensures.on e
+
+pub returns-in-Certifying-clause-idle : goal.returns-in-Certifying-clause-idle
+returns-in-Certifying-clause-idle g c = λ e. never_went c.certify.result c.certify.ensures.on e
+
+pub returns-in-LeftOut-clause-idle : goal.returns-in-LeftOut-clause-idle
+returns-in-LeftOut-clause-idle g c = λ e. (
+  put_from c.args.core.now.system.state c.args.client.now c.left_out.new.client LeftOut c.replace.new.dest c.in-LeftOut.ensures.value
+      (left_out_put c.args.core.now.system.state (record c.args.client.now { state = c.replace.new.dest }) c.left_out.new.client c.left_out.result c.left_out.ensures.done c.left_out.ensures.passed e),
+  refl,
+)
+
+pub returns-in-Gone-clause-idle : goal.returns-in-Gone-clause-idle
+returns-in-Gone-clause-idle g c = λ e.
+    (put_from c.args.core.now.system.state c.args.client.now (record c.args.client.now { state = Gone }) Gone c.replace.new.dest c.in-Gone.ensures.value (gone_put c.args.core.now.system.state c.args.client.now c.replace.new.dest), refl)

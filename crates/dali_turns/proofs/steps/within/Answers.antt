@@ -1,16 +1,39 @@
-use Rattle.std.proofs.Common.{◌∙◌, Some, refl, ap, sym}
+use Rattle.std.proofs.Common.{◌≡◌, Some, refl, ap, sym, ◌∙◌}
+use Rattle.dali_turns.specs.declared.client.State.TheVariants.{Outside, Within}
+use Rattle.dali_turns.proofs.Here.{in_no_run}
 use Rattle.dali_turns.proofs.Commands.{behind_next}
 use Rattle.dali_turns.proofs.Stepping.{armed_goes, not_within, within_placed}
+use Rattle.dali_turns.proofs.Putting.{never_went, asked_put}
+use Rattle.dali_turns.proofs.Placed.{places_still, at_state}
 use Rattle.dali_turns.proofs.steps.within.Goals as goal
 
-pub unreachable-requires : goal.unreachable-requires
-unreachable-requires g c =
+pub returns-in_default-clause-goes : goal.returns-in_default-clause-goes
+returns-in_default-clause-goes g c =
     let k = c.args.client.now in
-    not_within c.in-Some.command (behind_next k) (within_placed g.V.Store.told g.V.Store.may_leave g.V.Store.faults c.args.core.now.regions.items c.args.core.now.system.state c.args.core.now.vault k c.args.transaction c.in-Some.command c.requires (sym c.command.ensures ∙ c.in-Some.is))
-    (λ call e. c.in_default.not-Call call e) (λ n e. c.in_default.not-Die n e) (λ e. c.in_default.not-Commit e) (λ e. c.in_default.not-Abort e)
+    in_no_run g.V.Store.told g.V.Store.may_leave g.V.Store.faults c.args.setting.now.precheck k c.args.core.now.regions.items c.args.core.now.system.state c.args.core.now.vault _ k c.args.core.now.regions.items c.args.core.now.system.state c.args.core.now.vault (Within c.args.transaction)
+    (λ may. not_within c.in-Some.command (behind_next k) (within_placed g.V.Store.told g.V.Store.may_leave g.V.Store.faults c.args.core.now.regions.items c.args.core.now.system.state c.args.core.now.vault k c.args.transaction c.in-Some.command may (sym c.command.ensures ∙ c.in-Some.is))
+    (λ call e. c.in_default.not-Call call e) (λ n e. c.in_default.not-Die n e) (λ e. c.in_default.not-Commit e) (λ e. c.in_default.not-Abort e))
 
-pub returns-in-Die : goal.returns-in-Die
-returns-in-Die g c =
+pub returns-in-Die-clause-goes : goal.returns-in-Die-clause-goes
+returns-in-Die-clause-goes g c =
     let x = c.args.transaction in
     armed_goes g.V.Store.told g.V.Store.may_leave g.V.Store.faults c.args.setting.now.precheck c.args.core.now.regions.items c.args.core.now.system.state c.args.core.now.vault c.args.client.now _ x (record x { deadly = Some c.in-Die.operation }) c.in-Die.operation (sym c.command.ensures ∙ (c.in-Some.is ∙ ap Some c.in-Die.is)) refl
     (record { rest = c.pass_command.ensures.rest; stands = refl; points = c.pass_command.ensures.points; transcript = c.pass_command.ensures.transcript })
+
+pub returns-in_default-clause-places : goal.returns-in_default-clause-places
+returns-in_default-clause-places g c = places_still g.V.Store.told (Within c.args.transaction) c.args.client.now.state c.args.core.now.regions.items c.args.core.now.regions.items c.args.core.now.vault c.args.core.now.vault refl refl (at_state g.V.Store.told c.args.client.now.state Outside c.args.core.now.vault c.requires.stands tt)
+
+pub returns-in-Die-clause-places : goal.returns-in-Die-clause-places
+returns-in-Die-clause-places g c = places_still g.V.Store.told (Within c.args.transaction) _ c.args.core.now.regions.items c.args.core.now.regions.items c.args.core.now.vault c.args.core.now.vault refl refl tt
+
+pub returns-in-Call-clause-idle : goal.returns-in-Call-clause-idle
+returns-in-Call-clause-idle g c = λ e. asked_put c.args.core.now.system.state c.args.client.now c.ask.new.client c.args.transaction c.in-Call.call c.ask.result (c.ask.new.core ≡ c.args.core.now) c.ask.ensures.waits e
+
+pub returns-in-None-clause-idle : goal.returns-in-None-clause-idle
+returns-in-None-clause-idle g c = λ e. never_went c.end.result c.end.ensures.on e
+
+pub returns-in-Commit-clause-idle : goal.returns-in-Commit-clause-idle
+returns-in-Commit-clause-idle g c = λ e. never_went c.commit.result c.commit.ensures.on e
+
+pub returns-in-Abort-clause-idle : goal.returns-in-Abort-clause-idle
+returns-in-Abort-clause-idle g c = λ e. never_went c.abort.result c.abort.ensures.on e

@@ -12,4 +12,4 @@ returns-clause-goes g c =
 
 pub returns-clause-left : goal.returns-clause-left
 returns-clause-left g c =
-    err_left g.V.Store.told g.V.Store.may_leave g.V.Store.faults c.clean.result c.args.regions.now c.clean.new.regions c.args.system.now.state c.clean.new.system.state c.args.beside.now c.args.txn _ c.clean.ensures.again
+    λ may. err_left g.V.Store.told g.V.Store.may_leave g.V.Store.faults c.clean.result c.args.regions.now c.clean.new.regions c.args.system.now.state c.clean.new.system.state c.args.beside.now c.args.txn _ c.clean.ensures.again

@@ -29,3 +29,9 @@ returns-in-Ok-clause-tells g c = c.in-Ok.ensures.ok.2.ok.tells
 
 pub returns-in-Err-clause-tells : goal.returns-in-Err-clause-tells
 returns-in-Err-clause-tells g c = c.in-Err.ensures.fault.1.2.tells
+
+pub returns-in-Ok-clause-files : goal.returns-in-Ok-clause-files
+returns-in-Ok-clause-files g c = c.write_out.ensures.files
+
+pub returns-in-Err-clause-files : goal.returns-in-Err-clause-files
+returns-in-Err-clause-files g c = c.write_out.ensures.files

@@ -3,6 +3,8 @@ use Rattle.std.proofs.lemmas.Result.{on_ok_weaker}
 use Rattle.dali_store.specs.Calls.{fewer}
 use Rattle.dali_batch.specs.Log.{body_bytes}
 use Rattle.dali_core.specs.Served.{Served}
+use Rattle.dali_store.specs.declared.store.FileName.TheVariants.{Log}
+use Rattle.dali_whole.proofs.Lengths.{torn_length}
 use Rattle.dali_whole.proofs.Moments.{calls_of}
 use Rattle.dali_whole.proofs.durable.write_out.Goals as goal
 
@@ -13,3 +15,9 @@ returns-in-Ok-clause-calls g c =
 pub returns-in-Err-clause-calls : goal.returns-in-Err-clause-calls
 returns-in-Err-clause-calls g c =
     on_ok_weaker c.flush-flushed.result (λ e. e ∙ ap (λ n. fewer n (g.V.Store.lets_pass c.args.vault.now.store)) (calls_of c.args.system.now.state c.frame-in-Err.result.now.body (c.frame-in-Err.ensures.body ∙ ap (λ (s : Served). body_bytes (drop s.state.taken s.state.since)) c.in-Err.ensures.err))) c.flush-flushed.ensures.calls
+
+pub returns-in-Ok-clause-files : goal.returns-in-Ok-clause-files
+returns-in-Ok-clause-files g c = torn_length Log c.args.vault.now.end _ (g.V.Store.told c.args.vault.now.store) (g.V.Store.told c.flush.new.vault.store) (c.flush.ensures.torn c.requires.runs)
+
+pub returns-in-Err-clause-files : goal.returns-in-Err-clause-files
+returns-in-Err-clause-files g c = torn_length Log c.args.vault.now.end _ (g.V.Store.told c.args.vault.now.store) (g.V.Store.told c.flush-flushed.new.vault.store) (c.flush-flushed.ensures.torn c.requires.runs)

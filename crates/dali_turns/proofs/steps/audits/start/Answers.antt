@@ -3,8 +3,10 @@ use Rattle.dali_core.specs.Served.{Served}
 use Rattle.dali_clients.specs.declared.line.Line.{Line}
 use Rattle.dali_turns.specs.declared.client.State.TheVariants.{Outside as IsOutside}
 use Rattle.dali_turns.specs.Clients.{Finishes}
+use Rattle.dali_turns.proofs.Putting.{err_on}
 use Rattle.dali_turns.proofs.Commands.{err_false}
 use Rattle.dali_turns.proofs.AuditSteps.{begins_goes, refused_goes, silent_goes, no_begin_goes}
+use Rattle.dali_turns.proofs.Placing.{still, still_outside}
 use Rattle.dali_turns.proofs.steps.audits.start.Goals as goal
 
 pub returns-in_err-why-in-Err : goal.returns-in_err-why-in-Err
@@ -12,6 +14,8 @@ returns-in_err-why-in-Err g c = record {
   goes = λ precheck.
       no_begin_goes g.V.Store.told g.V.Store.may_leave g.V.Store.faults precheck c.args.client.now _ c.args.core.now.regions.items c.args.core.now.system.state c.args.core.now.vault c.requires.next _ _ (err_false c.from_residual.result c.from_residual.ensures.0) refl
       (ap (λ (s : Served). s.state) c.in-Err.ensures.err);
+  places = still_outside _ _ _ _ _ c.requires.stands;
+  on = err_on c.from_residual.result c.from_residual.ensures.0;
 }
 
 pub returns-in_err-finish-in-Err : goal.returns-in_err-finish-in-Err
@@ -20,6 +24,8 @@ returns-in_err-finish-in-Err g c = record {
       silent_goes g.V.Store.told g.V.Store.may_leave g.V.Store.faults precheck c.args.client.now c.finish.new.self c.args.core.now.regions.items c.args.core.now.system.state c.args.core.now.vault c.requires.next _
       c.begin.result c.in-Err.error c.in-Err.is c.begin.ensures.memory c.begin.ensures.refused (ap (λ (s : Served). s.state) c.in-Err.ensures.err)
       _ (err_false c.from_residual-in_err-finish-in-Err.result c.from_residual-in_err-finish-in-Err.ensures.0) c.in_ok-why-in-Err.why c.in_ok-why-in-Err.ensures.given c.in_err-finish-in-Err.ensures.err;
+  places = still_outside _ _ _ _ _ c.in_err-finish-in-Err.ensures.err.stands;
+  on = err_on c.from_residual-in_err-finish-in-Err.result c.from_residual-in_err-finish-in-Err.ensures.0;
 }
 
 pub returns-in-Ok : goal.returns-in-Ok
@@ -27,6 +33,8 @@ returns-in-Ok g c = record {
   goes = λ precheck.
       begins_goes g.V.Store.told g.V.Store.may_leave g.V.Store.faults precheck c.args.client.now _ c.args.core.now.regions.items c.args.core.now.system.state c.args.core.now.vault c.requires.next _
       c.in-Ok.audit c.in-Ok.ensures.audit c.in-Ok.ensures.room c.in-Ok.ensures.number c.in-Ok.ensures.count refl (ap (λ (s : Served). s.state) c.in-Ok.ensures.ok);
+  places = still _ _ _ _ _ tt;
+  on = refl;
 }
 
 pub returns-in_ok-finish-in-Err : goal.returns-in_ok-finish-in-Err
@@ -35,4 +43,6 @@ returns-in_ok-finish-in-Err g c = record {
       refused_goes g.V.Store.told g.V.Store.may_leave g.V.Store.faults precheck c.args.client.now c.finish.new.self c.args.core.now.regions.items c.args.core.now.system.state c.args.core.now.vault c.requires.next _
       c.begin.result c.in-Err.error c.in-Err.is c.begin.ensures.memory c.begin.ensures.refused (ap (λ (s : Served). s.state) c.in-Err.ensures.err)
       c.in_ok-why-in-Err.why c.in_ok-why-in-Err.ensures.given (subst (λ (l : Line). Finishes c.args.client.now IsOutside l c.finish.new.self) c.refused.ensures c.in_ok-finish-in-Err.ensures.ok);
+  places = still_outside _ _ _ _ _ c.in_ok-finish-in-Err.ensures.ok.stands;
+  on = refl;
 }

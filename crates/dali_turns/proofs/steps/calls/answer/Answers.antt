@@ -1,14 +1,21 @@
-use Rattle.std.proofs.Common.{◌≡◌, Some, None, ap, sym, ◌∙◌}
+use Rattle.std.proofs.Common.{ap, refl, ◌∙◌}
+use Rattle.dali_calls.specs.Plans.{Planned, is_answered}
 use Rattle.dali_core.specs.Served.{Served}
-use Rattle.dali_turns.specs.Calls.{call_in}
+use Rattle.dali_turns.specs.declared.client.State.TheVariants.{Within, Calling}
+use Rattle.dali_turns.specs.Clients.{next_of}
 use Rattle.dali_turns.proofs.Commands.{err_false}
-use Rattle.dali_turns.proofs.CallSteps.{answered_goes, answered_silently, unanswered_goes, command_there}
+use Rattle.dali_turns.proofs.CallSteps.{answered_goes, answered_silently, unanswered_goes, command_of_call, before_answer}
+use Rattle.dali_turns.proofs.Placed.{places_still, at_state, refused_reaches}
 use Rattle.dali_turns.proofs.steps.calls.answer.Goals as goal
 
-pub unreachable-requires : goal.unreachable-requires
-unreachable-requires g c =
-    let there = command_there g.V.Store.told g.V.Store.may_leave g.V.Store.faults c.args.core.now.regions.items c.args.core.now.system.state c.args.core.now.vault c.args.client.now c.args.transaction c.args.plan c.requires.may in
-    let none : None ≡ Some there.0 = sym c.in_default.is ∙ (c.called.ensures ∙ ap call_in there.1) in absurd (cc)
+pub refused-requires-clause-next : goal.refused-requires-clause-next
+refused-requires-clause-next g c = command_of_call (next_of c.args.client.now) c.args.call c.requires.called
+
+pub refused-requires-clause-closed : goal.refused-requires-clause-closed
+refused-requires-clause-closed g c = ap (λ (p : Planned). p.operation) c.in-Err.ensures.err.0 ∙ c.requires.rest.closed
+
+pub refused-requires-clause-before : goal.refused-requires-clause-before
+refused-requires-clause-before g c = ap (λ (p : Planned). is_answered p.phase) c.in-Err.ensures.err.0 ∙ before_answer c.args.plan c.requires.wants
 
 pub returns-in_err-finish-in-Ok-clause-goes : goal.returns-in_err-finish-in-Ok-clause-goes
 returns-in_err-finish-in-Ok-clause-goes g c = λ precheck.
@@ -18,9 +25,19 @@ returns-in_err-finish-in-Ok-clause-goes g c = λ precheck.
 pub returns-in_ok-finish-in-Ok-clause-goes : goal.returns-in_ok-finish-in-Ok-clause-goes
 returns-in_ok-finish-in-Ok-clause-goes g c = λ precheck.
     answered_goes g.V.Store.told g.V.Store.may_leave g.V.Store.faults precheck c.args.core.now.regions.items c.args.core.now.system.state c.args.core.now.vault c.args.client.now c.finish.new.self c.args.transaction c.args.plan
-    c.in-Some.call c.in-Ok.answer c.answer.new.system.state (sym c.called.ensures ∙ c.in-Some.is) (ap (λ (z : Served). z.state) c.in-Ok.ensures.ok) c.in-Ok.ensures.answers c.in_ok-finish-in-Ok.ensures.ok
+    c.args.call c.in-Ok.answer c.answer.new.system.state c.requires.called (ap (λ (z : Served). z.state) c.in-Ok.ensures.ok) c.in-Ok.ensures.answers c.in_ok-finish-in-Ok.ensures.ok
 
 pub returns-in-Err-clause-goes : goal.returns-in-Err-clause-goes
 returns-in-Err-clause-goes g c = λ precheck.
     unanswered_goes g.V.Store.told g.V.Store.may_leave g.V.Store.faults precheck c.args.core.now.regions.items c.args.core.now.system.state c.args.core.now.vault c.args.client.now c.refused.new.client c.args.transaction c.args.plan
     c.answer.new.plan c.answer.new.system.state c.in-Err.error c.refused.result c.in-Err.ensures.err.0 (ap (λ (z : Served). z.state) c.in-Err.ensures.err.1) c.requires.whole c.requires.wants c.in-Err.ensures.cause c.refused.ensures
+
+pub returns-in_err-finish-in-Ok-clause-places : goal.returns-in_err-finish-in-Ok-clause-places
+returns-in_err-finish-in-Ok-clause-places g c = places_still g.V.Store.told (Calling c.args.transaction c.args.plan) c.finish.new.self.state c.args.core.now.regions.items c.args.core.now.regions.items c.args.core.now.vault c.args.core.now.vault refl refl (at_state g.V.Store.told c.finish.new.self.state (Within c.args.transaction) c.args.core.now.vault c.in_err-finish-in-Ok.ensures.err.stands tt)
+
+pub returns-in_ok-finish-in-Ok-clause-places : goal.returns-in_ok-finish-in-Ok-clause-places
+returns-in_ok-finish-in-Ok-clause-places g c = places_still g.V.Store.told (Calling c.args.transaction c.args.plan) c.finish.new.self.state c.args.core.now.regions.items c.args.core.now.regions.items c.args.core.now.vault c.args.core.now.vault refl refl (at_state g.V.Store.told c.finish.new.self.state (Within c.args.transaction) c.args.core.now.vault c.in_ok-finish-in-Ok.ensures.ok.stands tt)
+
+pub returns-in-Err-clause-places : goal.returns-in-Err-clause-places
+returns-in-Err-clause-places g c = places_still g.V.Store.told (Calling c.args.transaction c.args.plan) c.refused.new.client.state c.args.core.now.regions.items c.args.core.now.regions.items c.args.core.now.vault c.args.core.now.vault refl refl
+    (refused_reaches g.V.Store.told c.in-Err.error c.args.client.now c.args.transaction c.answer.new.plan c.refused.result c.refused.new.client c.args.core.now.vault c.requires.stands (command_of_call (next_of c.args.client.now) c.args.call c.requires.called) c.refused.ensures)

@@ -1,11 +1,13 @@
-use Rattle.std.proofs.Common.{is_ok, ap, refl, sym, subst, ◌∙◌}
+use Rattle.std.proofs.Common.{is_some, is_ok, ap, refl, sym, subst, ◌∙◌}
 use Rattle.dali_core.specs.Served.{Served}
 use Rattle.dali_clients.specs.declared.line.Why.{Why}
+use Rattle.dali_turns.specs.declared.client.State.TheVariants.{Outside, Within}
 use Rattle.dali_turns.specs.Clients.{RefusesCall}
 use Rattle.dali_turns.proofs.Commands.{err_false}
 use Rattle.dali_turns.proofs.Asking.{new_plan}
 use Rattle.dali_turns.proofs.CallSteps.{ran_there, asked_says, stop_why, unasked_goes, unasked_silently, unasked_nowhere}
-use Rattle.dali_turns.proofs.Requests.{granted_then, waits_then, may_yield_then, yield_then, may_clean_behind, clean_behind}
+use Rattle.dali_turns.proofs.Requests.{granted_then, waits_then, yield_then, clean_behind}
+use Rattle.dali_turns.proofs.Placed.{places_still, at_state, call_refused}
 use Rattle.dali_turns.proofs.steps.calls.ask.Goals as goal
 
 pub returns-in-Granted-clause-goes : goal.returns-in-Granted-clause-goes
@@ -16,17 +18,9 @@ pub returns-else-is_dead-clause-goes : goal.returns-else-is_dead-clause-goes
 returns-else-is_dead-clause-goes g c = λ precheck.
     waits_then g.V.Store.told g.V.Store.may_leave g.V.Store.faults c.args.core.now.regions.items c.args.core.now.system.state c.ask.new.system.state c.args.core.now.vault c.args.client.now c.args.transaction c.args.call c.requires.next c.new-plan.result (c.new-plan.ensures ∙ ap (λ n. new_plan n c.args.transaction.txn c.args.call) c.geometry.ensures) c.in-Ok.answer c.in-Ok.ensures.answer (ap (λ (m : Served). m.state) c.in-Ok.ensures.ok) c.in-Ok.ensures.asked (ran_there c.args.core.now.system.state c.ask.result c.in-Ok.answer c.in-Ok.is c.ask.ensures.refused) c.in-Wait.holder c.in-Wait.is precheck _ (record { rest = refl; stands = refl; points = refl; transcript = refl })
 
-pub clean_holder-requires-then-is_dead-2-clause-may : goal.clean_holder-requires-then-is_dead-2-clause-may
-clean_holder-requires-then-is_dead-2-clause-may g c =
-    may_clean_behind g.V.Store.told g.V.Store.may_leave g.V.Store.faults c.args.core.now.regions.items c.args.core.now.system.state c.ask.new.system.state c.args.core.now.vault c.args.client.now c.args.transaction c.args.call c.requires.next c.new-plan.result (c.new-plan.ensures ∙ ap (λ n. new_plan n c.args.transaction.txn c.args.call) c.geometry.ensures) c.in-Ok.answer c.in-Ok.ensures.answer (ap (λ (m : Served). m.state) c.in-Ok.ensures.ok) c.in-Ok.ensures.asked (ran_there c.args.core.now.system.state c.ask.result c.in-Ok.answer c.in-Ok.is c.ask.ensures.refused) c.in-Busy.holder c.in-Busy.is (sym c.is_dead-in-Busy.ensures ∙ c.if-is_dead-2.true) c.requires.may
-
 pub returns-then-is_dead-2-clause-goes : goal.returns-then-is_dead-2-clause-goes
 returns-then-is_dead-2-clause-goes g c = λ precheck.
     clean_behind g.V.Store.told g.V.Store.may_leave g.V.Store.faults c.args.core.now.regions.items c.args.core.now.system.state c.ask.new.system.state c.args.core.now.vault c.args.client.now c.args.transaction c.args.call c.requires.next c.new-plan.result (c.new-plan.ensures ∙ ap (λ n. new_plan n c.args.transaction.txn c.args.call) c.geometry.ensures) c.in-Ok.answer c.in-Ok.ensures.answer (ap (λ (m : Served). m.state) c.in-Ok.ensures.ok) c.in-Ok.ensures.asked (ran_there c.args.core.now.system.state c.ask.result c.in-Ok.answer c.in-Ok.is c.ask.ensures.refused) c.in-Busy.holder c.in-Busy.is (sym c.is_dead-in-Busy.ensures ∙ c.if-is_dead-2.true) precheck (is_ok c.clean_holder-then-is_dead-2.result) c.clean_holder-then-is_dead-2.new.client c.clean_holder-then-is_dead-2.new.core.regions.items c.clean_holder-then-is_dead-2.new.core.system.state c.clean_holder-then-is_dead-2.new.core.vault (c.clean_holder-then-is_dead-2.ensures.goes precheck)
-
-pub give_way-requires : goal.give_way-requires
-give_way-requires g c =
-    record { may = may_yield_then g.V.Store.told g.V.Store.may_leave g.V.Store.faults c.args.core.now.regions.items c.args.core.now.system.state c.ask.new.system.state c.args.core.now.vault c.args.client.now c.args.transaction c.args.call c.requires.next c.new-plan.result (c.new-plan.ensures ∙ ap (λ n. new_plan n c.args.transaction.txn c.args.call) c.geometry.ensures) c.in-Ok.answer c.in-Ok.ensures.answer (ap (λ (m : Served). m.state) c.in-Ok.ensures.ok) c.in-Ok.ensures.asked (ran_there c.args.core.now.system.state c.ask.result c.in-Ok.answer c.in-Ok.is c.ask.ensures.refused) c.in-Busy.holder c.in-Busy.is (sym c.is_dead-in-Busy.ensures ∙ c.if-is_dead-2.false) c.requires.may }
 
 pub returns-else-is_dead-2-clause-goes : goal.returns-else-is_dead-2-clause-goes
 returns-else-is_dead-2-clause-goes g c = λ precheck.
@@ -45,3 +39,18 @@ pub returns-in_ok-refuse_call-in-Err-clause-goes : goal.returns-in_ok-refuse_cal
 returns-in_ok-refuse_call-in-Err-clause-goes g c = λ precheck.
     let stop = stop_why c.args.core.now.system.state.stop c.in-Err.error c.in_ok-why_of-in-Err.field-0 (asked_says c.args.core.now.system.state c.ask.result c.in-Err.error c.in-Err.is c.ask.ensures.refused c.ask.ensures.memory) c.in_ok-why_of-in-Err.ensures.given in
     unasked_goes g.V.Store.told g.V.Store.may_leave g.V.Store.faults precheck c.args.core.now.regions.items c.args.core.now.system.state c.args.core.now.vault c.args.client.now c.refuse_call.new.self c.args.transaction c.args.call c.requires.next c.ask.new.system.state stop.0 (ap (λ (m : Served). m.state) c.in-Err.ensures.err) stop.2 (subst (λ (o : Why). RefusesCall c.args.client.now c.args.transaction o c.refuse_call.new.self) stop.1 c.in_ok-refuse_call-in-Err.ensures.ok)
+
+pub returns-in-Granted-clause-places : goal.returns-in-Granted-clause-places
+returns-in-Granted-clause-places g c = places_still g.V.Store.told (Within c.args.transaction) _ c.args.core.now.regions.items c.args.core.now.regions.items c.args.core.now.vault c.args.core.now.vault refl refl tt
+
+pub returns-else-is_dead-clause-places : goal.returns-else-is_dead-clause-places
+returns-else-is_dead-clause-places g c = places_still g.V.Store.told (Within c.args.transaction) _ c.args.core.now.regions.items c.args.core.now.regions.items c.args.core.now.vault c.args.core.now.vault refl refl tt
+
+pub returns-in_err-why_of-in-Err-clause-places : goal.returns-in_err-why_of-in-Err-clause-places
+returns-in_err-why_of-in-Err-clause-places g c = places_still g.V.Store.told (Within c.args.transaction) c.args.client.now.state c.args.core.now.regions.items c.args.core.now.regions.items c.args.core.now.vault c.args.core.now.vault refl refl (at_state g.V.Store.told c.args.client.now.state Outside c.args.core.now.vault c.requires.stands tt)
+
+pub returns-in_err-refuse_call-in-Err-clause-places : goal.returns-in_err-refuse_call-in-Err-clause-places
+returns-in_err-refuse_call-in-Err-clause-places g c = places_still g.V.Store.told (Within c.args.transaction) c.refuse_call.new.self.state c.args.core.now.regions.items c.args.core.now.regions.items c.args.core.now.vault c.args.core.now.vault refl refl (at_state g.V.Store.told c.refuse_call.new.self.state (Within c.args.transaction) c.args.core.now.vault c.in_err-refuse_call-in-Err.ensures.err.stands tt)
+
+pub returns-in_ok-refuse_call-in-Err-clause-places : goal.returns-in_ok-refuse_call-in-Err-clause-places
+returns-in_ok-refuse_call-in-Err-clause-places g c = places_still g.V.Store.told (Within c.args.transaction) c.refuse_call.new.self.state c.args.core.now.regions.items c.args.core.now.regions.items c.args.core.now.vault c.args.core.now.vault refl refl (at_state g.V.Store.told c.refuse_call.new.self.state (Within c.args.transaction) c.args.core.now.vault (call_refused c.args.client.now c.args.transaction _ c.refuse_call.new.self (ap is_some c.requires.next) c.in_ok-refuse_call-in-Err.ensures.ok) tt)

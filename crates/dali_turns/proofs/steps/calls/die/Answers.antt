@@ -2,14 +2,12 @@ use Rattle.std.proofs.Common.{is_ok, ap, refl, sym, subst, ◌∙◌}
 use Rattle.dali_calls.specs.Plans.{Planned, IsWhole, want_of}
 use Rattle.dali_single.specs.Refusals.{IsRefusal}
 use Rattle.dali_single.specs.declared.error.StepError.TheVariants.{Latch}
-use Rattle.dali_turns.specs.Goes.{MayStep, StepGoes}
+use Rattle.dali_turns.specs.Goes.{StepGoes}
 use Rattle.dali_turns.specs.declared.client.State.TheVariants.{Calling as IsCalling}
 use Rattle.dali_turns.proofs.Commands.{err_false}
-use Rattle.dali_turns.proofs.CallSteps.{dies_goes, dies_silently, at_rest, some_next, may_still, goes_still, vault_still}
+use Rattle.dali_turns.proofs.CallSteps.{dies_goes, dies_silently, some_next, rest_still, goes_still, vault_still}
+use Rattle.dali_turns.proofs.Placed.{places_beside, places_then}
 use Rattle.dali_turns.proofs.steps.calls.die.Goals as goal
-
-pub die_next-requires-clause-rest : goal.die_next-requires-clause-rest
-die_next-requires-clause-rest g c = at_rest g.V.Store.told g.V.Store.may_leave g.V.Store.faults c.args.core.now.regions.items c.args.core.now.system.state c.args.core.now.vault c.args.client.now c.args.transaction c.args.plan c.requires.may
 
 pub die_next-requires-clause-wants : goal.die_next-requires-clause-wants
 die_next-requires-clause-wants g c = some_next g.V.Store.told g.V.Store.may_leave g.V.Store.faults c.args.core.now.regions.items c.args.core.now.system.state c.args.core.now.vault c.args.client.now c.args.transaction c.args.plan c.args.region c.requires.wants
@@ -25,12 +23,6 @@ returns-in_err-say-in-Ok-clause-goes g c =
     vault_still g.V.Store.told g.V.Store.may_leave g.V.Store.faults c.args.setting.now.precheck (IsCalling c.args.transaction c.args.plan) c.args.client.now _ c.args.core.now.regions.items c.die_next.new.core.regions.items c.args.core.now.system.state c.die_next.new.core.system.state c.args.core.now.vault c.die_next.new.core.vault _ c.in-Ok.ensures.vault
     (dies_silently g.V.Store.told g.V.Store.may_leave g.V.Store.faults c.args.setting.now.precheck c.args.core.now.regions.items c.args.core.now.system.state c.args.core.now.vault c.args.client.now _ c.args.transaction c.args.plan
     c.die_next.new.core.regions.items c.die_next.new.core.system.state _ (err_false c.from_residual.result c.from_residual.ensures.0) c.requires.whole c.requires.way c.requires.deadly c.in-Ok.ensures.dies c.in_err-say-in-Ok.ensures.err)
-
-pub hindered-requires-clause-may : goal.hindered-requires-clause-may
-hindered-requires-clause-may g c =
-    subst (λ (m : Planned). MayStep g.V.Store.told g.V.Store.may_leave g.V.Store.faults (IsCalling c.args.transaction m) c.args.client.now c.die_next.new.core.regions.items c.die_next.new.core.system.state c.die_next.new.core.vault) (sym c.in-Err.ensures.err.0)
-    (may_still g.V.Store.told g.V.Store.may_leave g.V.Store.faults c.args.client.now c.args.core.now.regions.items c.die_next.new.core.regions.items c.args.core.now.system.state c.die_next.new.core.system.state c.args.core.now.vault c.die_next.new.core.vault c.in-Err.ensures.err.1 c.in-Err.ensures.err.2 c.in-Err.ensures.vault
-    (IsCalling c.args.transaction c.args.plan) c.requires.may)
 
 pub hindered-requires-clause-wants : goal.hindered-requires-clause-wants
 hindered-requires-clause-wants g c = ap want_of c.in-Err.ensures.err.0 ∙ c.requires.wants
@@ -58,3 +50,15 @@ returns-in-Err-clause-goes g c =
     (subst (λ (m : Planned). IsRefusal c.args.setting.now.precheck m c.die_next.new.core.regions.items c.die_next.new.core.system.state (Latch c.in-Err.cause)) (sym c.in-Err.ensures.err.0)
     (subst (λ rs. IsRefusal c.args.setting.now.precheck c.args.plan rs c.die_next.new.core.system.state (Latch c.in-Err.cause)) (sym c.in-Err.ensures.err.1)
     (subst (λ y. IsRefusal c.args.setting.now.precheck c.args.plan c.args.core.now.regions.items y (Latch c.in-Err.cause)) (sym c.in-Err.ensures.err.2) c.in-Err.ensures.cause)))))
+
+pub hindered-requires-clause-rest : goal.hindered-requires-clause-rest
+hindered-requires-clause-rest g c = rest_still g.V.Store.told g.V.Store.may_leave g.V.Store.faults c.args.client.now c.args.core.now.regions.items c.die_next.new.core.regions.items c.args.core.now.system.state c.die_next.new.core.system.state c.args.core.now.vault c.die_next.new.core.vault c.in-Err.ensures.err.1 c.in-Err.ensures.err.2 c.in-Err.ensures.vault c.args.plan c.die_next.new.plan c.in-Err.ensures.err.0 c.requires.rest
+
+pub returns-in_ok-say-in-Ok-clause-places : goal.returns-in_ok-say-in-Ok-clause-places
+returns-in_ok-say-in-Ok-clause-places g c = places_beside g.V.Store.told (IsCalling c.args.transaction c.args.plan) _ c.args.core.now.regions.items c.die_next.new.core.regions.items c.args.core.now.vault c.die_next.new.core.vault c.in-Ok.ensures.flags c.in-Ok.ensures.vault tt
+
+pub returns-in_err-say-in-Ok-clause-places : goal.returns-in_err-say-in-Ok-clause-places
+returns-in_err-say-in-Ok-clause-places g c = places_beside g.V.Store.told (IsCalling c.args.transaction c.args.plan) _ c.args.core.now.regions.items c.die_next.new.core.regions.items c.args.core.now.vault c.die_next.new.core.vault c.in-Ok.ensures.flags c.in-Ok.ensures.vault tt
+
+pub returns-in-Err-clause-places : goal.returns-in-Err-clause-places
+returns-in-Err-clause-places g c = places_then g.V.Store.told (IsCalling c.args.transaction c.args.plan) (IsCalling c.args.transaction c.die_next.new.plan) c.hindered.new.client.state c.args.core.now.regions.items c.die_next.new.core.regions.items c.hindered.new.core.regions.items c.args.core.now.vault c.die_next.new.core.vault c.hindered.new.core.vault c.in-Err.ensures.err.1 c.in-Err.ensures.vault tt c.hindered.ensures.places

@@ -4,6 +4,7 @@ use Rattle.dali_region.specs.State.{RegionState}
 use Rattle.dali_stepwise.specs.Stepwise.{IsDeath}
 use Rattle.dali_whole.proofs.CleanedUp.{put_back}
 use Rattle.dali_turns.proofs.CallSteps.{on_err}
+use Rattle.dali_turns.proofs.Flags.{flags_equal, flags_of, death_flags}
 use Rattle.dali_turns.proofs.steps.calls.die_next.Goals as goal
 
 pub returns-clause-dies : goal.returns-clause-dies
@@ -17,3 +18,7 @@ pub returns-clause-err : goal.returns-clause-err
 returns-clause-err g c =
     let size : length c.die.new.regions ≡ c.args.core.now.regions.len = search rules in
     on_err c.die.result _ _ (λ h. (h.0, put_back c.args.core.now.regions.len c.die.new.regions c.args.core.now.regions.items size ∙ (h.1 ∙ c.deref_mut.ensures.value), ap (λ (z : Served). z.state) h.2)) c.die.ensures.err
+
+pub returns-clause-flags : goal.returns-clause-flags
+returns-clause-flags g c =
+    flags_of c.die.result c.args.core.now.regions.items _ _ _ (returns-clause-dies g c) (death_flags c.args.setting.now.precheck c.args.plan.now c.args.core.now.regions.items _ c.args.core.now.system.state c.die.new.system.state) (returns-clause-err g c) (λ e. flags_equal c.args.core.now.regions.items _ e.1)

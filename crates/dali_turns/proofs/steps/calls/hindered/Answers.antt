@@ -1,27 +1,37 @@
-use Rattle.std.proofs.Common.{◌≡◌, Some, Ok, is_some, ap, refl, subst, ◌∙◌}
+use Rattle.std.proofs.Common.{◌≡◌, Some, Ok, ap, refl, subst, ◌∙◌}
 use Rattle.dali_system.specs.declared.causes.Cause.{Cause as IsCause}
+use Rattle.dali_clean.specs.Cleaned.{MayClean}
 use Rattle.dali_clients.specs.declared.line.Why.{Why}
 use Rattle.dali_clients.specs.declared.line.Why.TheVariants.{Stopped as IsStopped}
-use Rattle.dali_turns.specs.Clients.{RefusesCall}
-use Rattle.dali_turns.specs.Ends.{IsLeftDead}
 use Rattle.dali_single.specs.declared.error.StepError.TheVariants.{Latch}
 use Rattle.dali_single.specs.Refusals.{IsLatched, IsRefusal}
-use Rattle.dali_turns.specs.declared.client.State.TheVariants.{Calling as IsCalling}
+use Rattle.dali_turns.specs.Clients.{next_of, RefusesCall}
+use Rattle.dali_turns.specs.Ends.{IsLeftDead}
+use Rattle.dali_turns.specs.declared.client.State.TheVariants.{Outside, Within, Calling, TakingBack}
+use Rattle.dali_turns.proofs.Here.{in_no_run}
 use Rattle.dali_turns.proofs.Commands.{err_false}
-use Rattle.dali_turns.proofs.CallSteps.{command_there, not_held, damage_refuses, system_refuses, by_lines, vault_still}
-use Rattle.dali_turns.proofs.CleanSteps.{is_some_at, may_be_cleaned, holder_is_dead, operate_again, operate_stopped, operate_stopped_silently, operate_half}
+use Rattle.dali_turns.proofs.CallSteps.{some_command, before_operation, not_held, damage_refuses, system_refuses, by_lines}
+use Rattle.dali_turns.proofs.CleanSteps.{is_some_at, cleans_in, holder_is_dead, operate_again, operate_stopped, operate_stopped_silently, operate_half}
+use Rattle.dali_turns.proofs.Placed.{places_beside, places_still, at_state, call_refused, refused_reaches}
 use Rattle.dali_turns.proofs.steps.calls.hindered.Goals as goal
 
 pub refuse_call-requires : goal.refuse_call-requires
-refuse_call-requires g c = ap is_some (command_there g.V.Store.told g.V.Store.may_leave g.V.Store.faults c.args.core.now.regions.items c.args.core.now.system.state c.args.core.now.vault c.args.client.now c.args.transaction c.args.plan c.requires.may).1
+refuse_call-requires g c = some_command (next_of c.args.client.now) c.requires.called
 
 pub refused-requires-clause-next : goal.refused-requires-clause-next
-refused-requires-clause-next g c = ap is_some (command_there g.V.Store.told g.V.Store.may_leave g.V.Store.faults c.args.core.now.regions.items c.args.core.now.system.state c.args.core.now.vault c.args.client.now c.args.transaction c.args.plan c.requires.may).1
+refused-requires-clause-next g c = some_command (next_of c.args.client.now) c.requires.called
 
-pub unreachable-requires : goal.unreachable-requires
-unreachable-requires g c =
-    not_held g.V.Store.told g.V.Store.may_leave g.V.Store.faults c.args.core.now.regions.items c.args.core.now.system.state c.args.core.now.vault c.args.client.now c.args.transaction c.args.plan c.requires.may c.requires.cause.0 c.args.region _ c.requires.wants
-    (subst (λ e. IsRefusal c.requires.cause.0 c.args.plan c.args.core.now.regions.items c.args.core.now.system.state e) (c.in-Latch.is ∙ ap Latch c.in-Latched.is) c.requires.cause.1)
+pub refused-requires-clause-before : goal.refused-requires-clause-before
+refused-requires-clause-before g c = before_operation c.args.plan c.args.region c.requires.wants
+
+pub turn_back-requires-clause-before : goal.turn_back-requires-clause-before
+turn_back-requires-clause-before g c = before_operation c.args.plan c.args.region c.requires.wants
+
+pub returns-in-Latched-clause-goes : goal.returns-in-Latched-clause-goes
+returns-in-Latched-clause-goes g c = λ precheck why.
+    in_no_run g.V.Store.told g.V.Store.may_leave g.V.Store.faults precheck c.args.client.now c.args.core.now.regions.items c.args.core.now.system.state c.args.core.now.vault _ c.args.client.now c.args.core.now.regions.items c.args.core.now.system.state c.args.core.now.vault (Calling c.args.transaction c.args.plan)
+    (λ may. not_held g.V.Store.told g.V.Store.may_leave g.V.Store.faults c.args.core.now.regions.items c.args.core.now.system.state c.args.core.now.vault c.args.client.now c.args.transaction c.args.plan may c.requires.cause.0 c.args.region _ c.requires.wants
+    (subst (λ e. IsRefusal c.requires.cause.0 c.args.plan c.args.core.now.regions.items c.args.core.now.system.state e) (c.in-Latch.is ∙ ap Latch c.in-Latched.is) c.requires.cause.1))
 
 pub returns-in-Damaged-clause-goes : goal.returns-in-Damaged-clause-goes
 returns-in-Damaged-clause-goes g c = λ precheck why.
@@ -30,35 +40,55 @@ returns-in-Damaged-clause-goes g c = λ precheck why.
 
 pub returns-in-System-clause-goes : goal.returns-in-System-clause-goes
 returns-in-System-clause-goes g c = λ precheck why.
-    by_lines g.V.Store.told g.V.Store.may_leave g.V.Store.faults precheck (IsCalling c.args.transaction c.args.plan) c.args.client.now _ c.refused.new.client c.args.core.now.regions.items c.args.core.now.regions.items c.args.core.now.system.state c.args.core.now.system.state c.args.core.now.vault c.args.core.now.vault _ refl refl
+    by_lines g.V.Store.told g.V.Store.may_leave g.V.Store.faults precheck (Calling c.args.transaction c.args.plan) c.args.client.now _ c.refused.new.client c.args.core.now.regions.items c.args.core.now.regions.items c.args.core.now.system.state c.args.core.now.system.state c.args.core.now.vault c.args.core.now.vault _ refl refl
     (system_refuses g.V.Store.told g.V.Store.may_leave g.V.Store.faults precheck c.args.core.now.regions.items c.args.core.now.system.state c.args.core.now.vault _ c.refused.new.client c.args.transaction c.args.plan c.args.region c.in-System.cause c.refused.result c.requires.whole c.requires.wants
     (subst (λ e. IsRefusal precheck c.args.plan c.args.core.now.regions.items c.args.core.now.system.state e) c.in-System.is why)
     (λ way deadly. subst IsLatched c.in-System.is (c.requires.lives way deadly)) c.refused.ensures)
 
-pub clean_up-requires-clause-may : goal.clean_up-requires-clause-may
-clean_up-requires-clause-may g c = may_be_cleaned g.V.Store.told g.V.Store.may_leave g.V.Store.faults (IsCalling c.args.transaction c.args.plan) c.args.client.now c.args.core.now.regions.items c.args.core.now.system.state c.args.core.now.vault c.requires.may c.in-DeadHolder.txn
-
 pub returns-in_err-clean_up-in-DeadHolder-clause-goes : goal.returns-in_err-clean_up-in-DeadHolder-clause-goes
 returns-in_err-clean_up-in-DeadHolder-clause-goes g c = λ precheck why.
-    vault_still g.V.Store.told g.V.Store.may_leave g.V.Store.faults precheck (IsCalling c.args.transaction c.args.plan) c.args.client.now c.args.client.now c.args.core.now.regions.items c.clean_up.new.core.regions.items c.args.core.now.system.state c.clean_up.new.core.system.state c.args.core.now.vault c.clean_up.new.core.vault _ c.in_err-clean_up-in-DeadHolder.ensures.vault
-    (operate_half g.V.Store.told g.V.Store.may_leave g.V.Store.faults precheck c.args.core.now.regions.items c.clean_up.new.core.regions.items c.args.core.now.system.state c.clean_up.new.core.system.state c.args.core.now.vault c.args.client.now c.args.client.now c.args.transaction c.in-DeadHolder.txn (holder_is_dead g.V.Store.told g.V.Store.may_leave g.V.Store.faults (IsCalling c.args.transaction c.args.plan) c.args.client.now c.args.core.now.regions.items c.args.core.now.system.state c.args.core.now.vault c.requires.may c.requires.cause.0 c.args.plan c.args.region c.in-DeadHolder.txn c.requires.wants (subst (λ e. IsRefusal c.requires.cause.0 c.args.plan c.args.core.now.regions.items c.args.core.now.system.state e) (c.in-Latch.is ∙ ap Latch c.in-DeadHolder.is) c.requires.cause.1)) c.in_err-clean_up-in-DeadHolder.ensures.memory.1 refl c.args.plan _ (err_false c.from_residual.result c.from_residual.ensures.0))
+    cleans_in g.V.Store.told g.V.Store.may_leave g.V.Store.faults precheck (Calling c.args.transaction c.args.plan) c.args.client.now c.args.client.now c.args.core.now.regions.items c.clean_up.new.core.regions.items c.args.core.now.system.state c.clean_up.new.core.system.state c.args.core.now.vault c.clean_up.new.core.vault _ c.in-DeadHolder.txn c.in_err-clean_up-in-DeadHolder.ensures.vault (λ may. holder_is_dead g.V.Store.told g.V.Store.may_leave g.V.Store.faults (Calling c.args.transaction c.args.plan) c.args.client.now c.args.core.now.regions.items c.args.core.now.system.state c.args.core.now.vault may c.requires.cause.0 c.args.plan c.args.region c.in-DeadHolder.txn c.requires.wants (subst (λ e. IsRefusal c.requires.cause.0 c.args.plan c.args.core.now.regions.items c.args.core.now.system.state e) (c.in-Latch.is ∙ ap Latch c.in-DeadHolder.is) c.requires.cause.1))
+    (λ clean dead. operate_half g.V.Store.told g.V.Store.may_leave g.V.Store.faults precheck c.args.core.now.regions.items c.clean_up.new.core.regions.items c.args.core.now.system.state c.clean_up.new.core.system.state c.args.core.now.vault c.args.client.now c.args.client.now c.args.transaction c.in-DeadHolder.txn dead (c.in_err-clean_up-in-DeadHolder.ensures.memory clean dead).1 refl c.args.plan _ (err_false c.from_residual.result c.from_residual.ensures.0))
 
 pub returns-in_err-refuse_call-in-Some-clause-goes : goal.returns-in_err-refuse_call-in-Some-clause-goes
 returns-in_err-refuse_call-in-Some-clause-goes g c = λ precheck why.
-    let r = is_some_at c.in_ok-clean_up-in-DeadHolder.field-0 c.in-Some.why (λ (o : Why). (stop : IsCause) × (o ≡ IsStopped stop) × (c.args.core.now.system.state.stop ≡ Some stop) × IsLeftDead c.in-DeadHolder.txn c.args.core.now.regions.items c.args.core.now.system.state c.clean_up.new.core.regions.items c.clean_up.new.core.system.state) c.in-Some.is c.in_ok-clean_up-in-DeadHolder.ensures.refused in
-    vault_still g.V.Store.told g.V.Store.may_leave g.V.Store.faults precheck (IsCalling c.args.transaction c.args.plan) c.args.client.now c.refuse_call.new.self c.args.core.now.regions.items c.clean_up.new.core.regions.items c.args.core.now.system.state c.clean_up.new.core.system.state c.args.core.now.vault c.clean_up.new.core.vault _ c.in_ok-clean_up-in-DeadHolder.ensures.vault
-    (operate_stopped_silently g.V.Store.told g.V.Store.may_leave g.V.Store.faults precheck c.args.core.now.regions.items c.clean_up.new.core.regions.items c.args.core.now.system.state c.clean_up.new.core.system.state c.args.core.now.vault c.args.client.now c.refuse_call.new.self c.args.transaction c.in-DeadHolder.txn (holder_is_dead g.V.Store.told g.V.Store.may_leave g.V.Store.faults (IsCalling c.args.transaction c.args.plan) c.args.client.now c.args.core.now.regions.items c.args.core.now.system.state c.args.core.now.vault c.requires.may c.requires.cause.0 c.args.plan c.args.region c.in-DeadHolder.txn c.requires.wants (subst (λ e. IsRefusal c.requires.cause.0 c.args.plan c.args.core.now.regions.items c.args.core.now.system.state e) (c.in-Latch.is ∙ ap Latch c.in-DeadHolder.is) c.requires.cause.1)) r.3 r.0 r.2 c.args.plan _ (err_false c.from_residual-in_err-refuse_call-in-Some.result c.from_residual-in_err-refuse_call-in-Some.ensures.0) c.in_err-refuse_call-in-Some.ensures.err)
+    let r = is_some_at c.in_ok-clean_up-in-DeadHolder.field-0 c.in-Some.why (λ (o : Why). (stop : IsCause) × (o ≡ IsStopped stop) × (c.args.core.now.system.state.stop ≡ Some stop) × (MayClean c.args.core.now.regions.items c.args.core.now.system.state c.in-DeadHolder.txn → IsLeftDead c.in-DeadHolder.txn c.args.core.now.regions.items c.args.core.now.system.state c.clean_up.new.core.regions.items c.clean_up.new.core.system.state)) c.in-Some.is c.in_ok-clean_up-in-DeadHolder.ensures.refused in
+    cleans_in g.V.Store.told g.V.Store.may_leave g.V.Store.faults precheck (Calling c.args.transaction c.args.plan) c.args.client.now c.refuse_call.new.self c.args.core.now.regions.items c.clean_up.new.core.regions.items c.args.core.now.system.state c.clean_up.new.core.system.state c.args.core.now.vault c.clean_up.new.core.vault _ c.in-DeadHolder.txn c.in_ok-clean_up-in-DeadHolder.ensures.vault (λ may. holder_is_dead g.V.Store.told g.V.Store.may_leave g.V.Store.faults (Calling c.args.transaction c.args.plan) c.args.client.now c.args.core.now.regions.items c.args.core.now.system.state c.args.core.now.vault may c.requires.cause.0 c.args.plan c.args.region c.in-DeadHolder.txn c.requires.wants (subst (λ e. IsRefusal c.requires.cause.0 c.args.plan c.args.core.now.regions.items c.args.core.now.system.state e) (c.in-Latch.is ∙ ap Latch c.in-DeadHolder.is) c.requires.cause.1))
+    (λ clean dead. operate_stopped_silently g.V.Store.told g.V.Store.may_leave g.V.Store.faults precheck c.args.core.now.regions.items c.clean_up.new.core.regions.items c.args.core.now.system.state c.clean_up.new.core.system.state c.args.core.now.vault c.args.client.now c.refuse_call.new.self c.args.transaction c.in-DeadHolder.txn dead (r.3 clean) r.0 r.2 c.args.plan _ (err_false c.from_residual-in_err-refuse_call-in-Some.result c.from_residual-in_err-refuse_call-in-Some.ensures.0) c.in_err-refuse_call-in-Some.ensures.err)
 
 pub returns-in_ok-refuse_call-in-Some-clause-goes : goal.returns-in_ok-refuse_call-in-Some-clause-goes
 returns-in_ok-refuse_call-in-Some-clause-goes g c = λ precheck why.
-    let r = is_some_at c.in_ok-clean_up-in-DeadHolder.field-0 c.in-Some.why (λ (o : Why). (stop : IsCause) × (o ≡ IsStopped stop) × (c.args.core.now.system.state.stop ≡ Some stop) × IsLeftDead c.in-DeadHolder.txn c.args.core.now.regions.items c.args.core.now.system.state c.clean_up.new.core.regions.items c.clean_up.new.core.system.state) c.in-Some.is c.in_ok-clean_up-in-DeadHolder.ensures.refused in
-    vault_still g.V.Store.told g.V.Store.may_leave g.V.Store.faults precheck (IsCalling c.args.transaction c.args.plan) c.args.client.now c.refuse_call.new.self c.args.core.now.regions.items c.clean_up.new.core.regions.items c.args.core.now.system.state c.clean_up.new.core.system.state c.args.core.now.vault c.clean_up.new.core.vault _ c.in_ok-clean_up-in-DeadHolder.ensures.vault
-    (operate_stopped g.V.Store.told g.V.Store.may_leave g.V.Store.faults precheck c.args.core.now.regions.items c.clean_up.new.core.regions.items c.args.core.now.system.state c.clean_up.new.core.system.state c.args.core.now.vault c.args.client.now c.refuse_call.new.self c.args.transaction c.in-DeadHolder.txn (holder_is_dead g.V.Store.told g.V.Store.may_leave g.V.Store.faults (IsCalling c.args.transaction c.args.plan) c.args.client.now c.args.core.now.regions.items c.args.core.now.system.state c.args.core.now.vault c.requires.may c.requires.cause.0 c.args.plan c.args.region c.in-DeadHolder.txn c.requires.wants (subst (λ e. IsRefusal c.requires.cause.0 c.args.plan c.args.core.now.regions.items c.args.core.now.system.state e) (c.in-Latch.is ∙ ap Latch c.in-DeadHolder.is) c.requires.cause.1)) r.3 r.0 r.2 c.args.plan (subst (λ (o : Why). RefusesCall c.args.client.now c.args.transaction o c.refuse_call.new.self) r.1 c.in_ok-refuse_call-in-Some.ensures.ok))
+    let r = is_some_at c.in_ok-clean_up-in-DeadHolder.field-0 c.in-Some.why (λ (o : Why). (stop : IsCause) × (o ≡ IsStopped stop) × (c.args.core.now.system.state.stop ≡ Some stop) × (MayClean c.args.core.now.regions.items c.args.core.now.system.state c.in-DeadHolder.txn → IsLeftDead c.in-DeadHolder.txn c.args.core.now.regions.items c.args.core.now.system.state c.clean_up.new.core.regions.items c.clean_up.new.core.system.state)) c.in-Some.is c.in_ok-clean_up-in-DeadHolder.ensures.refused in
+    cleans_in g.V.Store.told g.V.Store.may_leave g.V.Store.faults precheck (Calling c.args.transaction c.args.plan) c.args.client.now c.refuse_call.new.self c.args.core.now.regions.items c.clean_up.new.core.regions.items c.args.core.now.system.state c.clean_up.new.core.system.state c.args.core.now.vault c.clean_up.new.core.vault _ c.in-DeadHolder.txn c.in_ok-clean_up-in-DeadHolder.ensures.vault (λ may. holder_is_dead g.V.Store.told g.V.Store.may_leave g.V.Store.faults (Calling c.args.transaction c.args.plan) c.args.client.now c.args.core.now.regions.items c.args.core.now.system.state c.args.core.now.vault may c.requires.cause.0 c.args.plan c.args.region c.in-DeadHolder.txn c.requires.wants (subst (λ e. IsRefusal c.requires.cause.0 c.args.plan c.args.core.now.regions.items c.args.core.now.system.state e) (c.in-Latch.is ∙ ap Latch c.in-DeadHolder.is) c.requires.cause.1))
+    (λ clean dead. operate_stopped g.V.Store.told g.V.Store.may_leave g.V.Store.faults precheck c.args.core.now.regions.items c.clean_up.new.core.regions.items c.args.core.now.system.state c.clean_up.new.core.system.state c.args.core.now.vault c.args.client.now c.refuse_call.new.self c.args.transaction c.in-DeadHolder.txn dead (r.3 clean) r.0 r.2 c.args.plan (subst (λ (o : Why). RefusesCall c.args.client.now c.args.transaction o c.refuse_call.new.self) r.1 c.in_ok-refuse_call-in-Some.ensures.ok))
 
 pub returns-in-None-clause-goes : goal.returns-in-None-clause-goes
 returns-in-None-clause-goes g c = λ precheck why.
-    vault_still g.V.Store.told g.V.Store.may_leave g.V.Store.faults precheck (IsCalling c.args.transaction c.args.plan) c.args.client.now _ c.args.core.now.regions.items c.clean_up.new.core.regions.items c.args.core.now.system.state c.clean_up.new.core.system.state c.args.core.now.vault c.clean_up.new.core.vault _ c.in_ok-clean_up-in-DeadHolder.ensures.vault
-    (operate_again g.V.Store.told g.V.Store.may_leave g.V.Store.faults precheck c.args.core.now.regions.items c.clean_up.new.core.regions.items c.args.core.now.system.state c.clean_up.new.core.system.state c.args.core.now.vault c.args.client.now _ c.args.transaction c.in-DeadHolder.txn (holder_is_dead g.V.Store.told g.V.Store.may_leave g.V.Store.faults (IsCalling c.args.transaction c.args.plan) c.args.client.now c.args.core.now.regions.items c.args.core.now.system.state c.args.core.now.vault c.requires.may c.requires.cause.0 c.args.plan c.args.region c.in-DeadHolder.txn c.requires.wants (subst (λ e. IsRefusal c.requires.cause.0 c.args.plan c.args.core.now.regions.items c.args.core.now.system.state e) (c.in-Latch.is ∙ ap Latch c.in-DeadHolder.is) c.requires.cause.1)) (c.in_ok-clean_up-in-DeadHolder.ensures.cleaned (ap Ok c.in-None.is)) c.args.plan (record { rest = refl; stands = refl; points = refl; transcript = refl }))
+    cleans_in g.V.Store.told g.V.Store.may_leave g.V.Store.faults precheck (Calling c.args.transaction c.args.plan) c.args.client.now _ c.args.core.now.regions.items c.clean_up.new.core.regions.items c.args.core.now.system.state c.clean_up.new.core.system.state c.args.core.now.vault c.clean_up.new.core.vault _ c.in-DeadHolder.txn c.in_ok-clean_up-in-DeadHolder.ensures.vault (λ may. holder_is_dead g.V.Store.told g.V.Store.may_leave g.V.Store.faults (Calling c.args.transaction c.args.plan) c.args.client.now c.args.core.now.regions.items c.args.core.now.system.state c.args.core.now.vault may c.requires.cause.0 c.args.plan c.args.region c.in-DeadHolder.txn c.requires.wants (subst (λ e. IsRefusal c.requires.cause.0 c.args.plan c.args.core.now.regions.items c.args.core.now.system.state e) (c.in-Latch.is ∙ ap Latch c.in-DeadHolder.is) c.requires.cause.1))
+    (λ clean dead. operate_again g.V.Store.told g.V.Store.may_leave g.V.Store.faults precheck c.args.core.now.regions.items c.clean_up.new.core.regions.items c.args.core.now.system.state c.clean_up.new.core.system.state c.args.core.now.vault c.args.client.now _ c.args.transaction c.in-DeadHolder.txn dead (c.in_ok-clean_up-in-DeadHolder.ensures.cleaned (ap Ok c.in-None.is)) c.args.plan (record { rest = refl; stands = refl; points = refl; transcript = refl }))
 
-pub clean_up-requires-clause-dead : goal.clean_up-requires-clause-dead
-clean_up-requires-clause-dead g c = holder_is_dead g.V.Store.told g.V.Store.may_leave g.V.Store.faults (IsCalling c.args.transaction c.args.plan) c.args.client.now c.args.core.now.regions.items c.args.core.now.system.state c.args.core.now.vault c.requires.may c.requires.cause.0 c.args.plan c.args.region c.in-DeadHolder.txn c.requires.wants (subst (λ e. IsRefusal c.requires.cause.0 c.args.plan c.args.core.now.regions.items c.args.core.now.system.state e) (c.in-Latch.is ∙ ap Latch c.in-DeadHolder.is) c.requires.cause.1)
+pub returns-in_err-clean_up-in-DeadHolder-clause-places : goal.returns-in_err-clean_up-in-DeadHolder-clause-places
+returns-in_err-clean_up-in-DeadHolder-clause-places g c =
+    places_beside g.V.Store.told (Calling c.args.transaction c.args.plan) c.args.client.now.state c.args.core.now.regions.items c.clean_up.new.core.regions.items c.args.core.now.vault c.clean_up.new.core.vault c.in_err-clean_up-in-DeadHolder.ensures.flags c.in_err-clean_up-in-DeadHolder.ensures.vault (at_state g.V.Store.told c.args.client.now.state Outside c.clean_up.new.core.vault c.requires.stands tt)
+
+pub returns-in_err-refuse_call-in-Some-clause-places : goal.returns-in_err-refuse_call-in-Some-clause-places
+returns-in_err-refuse_call-in-Some-clause-places g c =
+    places_beside g.V.Store.told (Calling c.args.transaction c.args.plan) c.refuse_call.new.self.state c.args.core.now.regions.items c.clean_up.new.core.regions.items c.args.core.now.vault c.clean_up.new.core.vault c.in_ok-clean_up-in-DeadHolder.ensures.flags c.in_ok-clean_up-in-DeadHolder.ensures.vault (at_state g.V.Store.told c.refuse_call.new.self.state (Within c.args.transaction) c.clean_up.new.core.vault c.in_err-refuse_call-in-Some.ensures.err.stands tt)
+
+pub returns-in_ok-refuse_call-in-Some-clause-places : goal.returns-in_ok-refuse_call-in-Some-clause-places
+returns-in_ok-refuse_call-in-Some-clause-places g c =
+    places_beside g.V.Store.told (Calling c.args.transaction c.args.plan) c.refuse_call.new.self.state c.args.core.now.regions.items c.clean_up.new.core.regions.items c.args.core.now.vault c.clean_up.new.core.vault c.in_ok-clean_up-in-DeadHolder.ensures.flags c.in_ok-clean_up-in-DeadHolder.ensures.vault (at_state g.V.Store.told c.refuse_call.new.self.state (Within c.args.transaction) c.clean_up.new.core.vault (call_refused c.args.client.now c.args.transaction c.in-Some.why c.refuse_call.new.self (some_command (next_of c.args.client.now) c.requires.called) c.in_ok-refuse_call-in-Some.ensures.ok) tt)
+
+pub returns-in-None-clause-places : goal.returns-in-None-clause-places
+returns-in-None-clause-places g c =
+    places_beside g.V.Store.told (Calling c.args.transaction c.args.plan) _ c.args.core.now.regions.items c.clean_up.new.core.regions.items c.args.core.now.vault c.clean_up.new.core.vault c.in_ok-clean_up-in-DeadHolder.ensures.flags c.in_ok-clean_up-in-DeadHolder.ensures.vault tt
+
+pub returns-in-Latched-clause-places : goal.returns-in-Latched-clause-places
+returns-in-Latched-clause-places g c = places_still g.V.Store.told (Calling c.args.transaction c.args.plan) c.args.client.now.state c.args.core.now.regions.items c.args.core.now.regions.items c.args.core.now.vault c.args.core.now.vault refl refl (at_state g.V.Store.told c.args.client.now.state Outside c.args.core.now.vault c.requires.stands tt)
+
+pub returns-in-Damaged-clause-places : goal.returns-in-Damaged-clause-places
+returns-in-Damaged-clause-places g c = places_still g.V.Store.told (Calling c.args.transaction c.args.plan) c.turn_back.new.client.state c.args.core.now.regions.items c.args.core.now.regions.items c.args.core.now.vault c.args.core.now.vault refl refl (at_state g.V.Store.told c.turn_back.new.client.state _ c.args.core.now.vault c.turn_back.ensures.stands tt)
+
+pub returns-in-System-clause-places : goal.returns-in-System-clause-places
+returns-in-System-clause-places g c =
+    places_still g.V.Store.told (Calling c.args.transaction c.args.plan) c.refused.new.client.state c.args.core.now.regions.items c.args.core.now.regions.items c.args.core.now.vault c.args.core.now.vault refl refl (refused_reaches g.V.Store.told c.in-System.cause _ c.args.transaction c.args.plan c.refused.result c.refused.new.client c.args.core.now.vault c.requires.stands (some_command (next_of c.args.client.now) c.requires.called) c.refused.ensures)

@@ -1,13 +1,11 @@
 use Rattle.std.proofs.Common.{not, is_ok, ap, refl, sym, subst, ◌∙◌}
 use Rattle.dali_calls.specs.Plans.{Planned, IsWhole, is_back, want_of}
 use Rattle.dali_single.specs.Refusals.{IsRefusal}
-use Rattle.dali_turns.specs.Goes.{MayStep, StepGoes}
+use Rattle.dali_turns.specs.Goes.{StepGoes}
 use Rattle.dali_turns.specs.declared.client.State.TheVariants.{Calling as IsCalling}
-use Rattle.dali_turns.proofs.CallSteps.{operated_goes, at_rest, some_next, may_still, goes_still, vault_still}
+use Rattle.dali_turns.proofs.CallSteps.{operated_goes, some_next, rest_still, goes_still, vault_still}
+use Rattle.dali_turns.proofs.Placed.{places_beside, places_then}
 use Rattle.dali_turns.proofs.steps.calls.operate.Goals as goal
-
-pub make_next-requires-clause-rest : goal.make_next-requires-clause-rest
-make_next-requires-clause-rest g c = at_rest g.V.Store.told g.V.Store.may_leave g.V.Store.faults c.args.core.now.regions.items c.args.core.now.system.state c.args.core.now.vault c.args.client.now c.args.transaction c.args.plan c.requires.may
 
 pub make_next-requires-clause-wants : goal.make_next-requires-clause-wants
 make_next-requires-clause-wants g c = some_next g.V.Store.told g.V.Store.may_leave g.V.Store.faults c.args.core.now.regions.items c.args.core.now.system.state c.args.core.now.vault c.args.client.now c.args.transaction c.args.plan c.args.region c.requires.wants
@@ -17,12 +15,6 @@ returns-in-Ok-clause-goes g c =
     vault_still g.V.Store.told g.V.Store.may_leave g.V.Store.faults c.args.setting.now.precheck (IsCalling c.args.transaction c.args.plan) c.args.client.now _ c.args.core.now.regions.items c.make_next.new.core.regions.items c.args.core.now.system.state c.make_next.new.core.system.state c.args.core.now.vault c.make_next.new.core.vault _ c.in-Ok.ensures.vault
     (operated_goes g.V.Store.told g.V.Store.may_leave g.V.Store.faults c.args.setting.now.precheck c.args.core.now.regions.items c.args.core.now.system.state c.args.core.now.vault c.args.client.now _ c.args.transaction c.args.plan
     c.make_next.new.core.regions.items c.make_next.new.core.system.state c.make_next.new.plan c.further-transaction.result c.args.onward c.requires.whole c.in-Ok.ensures.further c.requires.way c.requires.lives c.further-transaction.ensures refl refl refl)
-
-pub hindered-requires-clause-may : goal.hindered-requires-clause-may
-hindered-requires-clause-may g c =
-    subst (λ (m : Planned). MayStep g.V.Store.told g.V.Store.may_leave g.V.Store.faults (IsCalling c.args.transaction m) c.args.client.now c.make_next.new.core.regions.items c.make_next.new.core.system.state c.make_next.new.core.vault) (sym c.in-Err.ensures.err.0)
-    (may_still g.V.Store.told g.V.Store.may_leave g.V.Store.faults c.args.client.now c.args.core.now.regions.items c.make_next.new.core.regions.items c.args.core.now.system.state c.make_next.new.core.system.state c.args.core.now.vault c.make_next.new.core.vault c.in-Err.ensures.err.1 c.in-Err.ensures.err.2 c.in-Err.ensures.vault
-    (IsCalling c.args.transaction c.args.plan) c.requires.may)
 
 pub hindered-requires-clause-wants : goal.hindered-requires-clause-wants
 hindered-requires-clause-wants g c = ap want_of c.in-Err.ensures.err.0 ∙ c.requires.wants
@@ -50,3 +42,12 @@ returns-in-Err-clause-goes g c =
     (subst (λ (m : Planned). IsRefusal c.args.setting.now.precheck m c.make_next.new.core.regions.items c.make_next.new.core.system.state c.in-Err.error) (sym c.in-Err.ensures.err.0)
     (subst (λ rs. IsRefusal c.args.setting.now.precheck c.args.plan rs c.make_next.new.core.system.state c.in-Err.error) (sym c.in-Err.ensures.err.1)
     (subst (λ y. IsRefusal c.args.setting.now.precheck c.args.plan c.args.core.now.regions.items y c.in-Err.error) (sym c.in-Err.ensures.err.2) c.in-Err.ensures.cause)))))
+
+pub hindered-requires-clause-rest : goal.hindered-requires-clause-rest
+hindered-requires-clause-rest g c = rest_still g.V.Store.told g.V.Store.may_leave g.V.Store.faults c.args.client.now c.args.core.now.regions.items c.make_next.new.core.regions.items c.args.core.now.system.state c.make_next.new.core.system.state c.args.core.now.vault c.make_next.new.core.vault c.in-Err.ensures.err.1 c.in-Err.ensures.err.2 c.in-Err.ensures.vault c.args.plan c.make_next.new.plan c.in-Err.ensures.err.0 c.requires.rest
+
+pub returns-in-Ok-clause-places : goal.returns-in-Ok-clause-places
+returns-in-Ok-clause-places g c = places_beside g.V.Store.told (IsCalling c.args.transaction c.args.plan) _ c.args.core.now.regions.items c.make_next.new.core.regions.items c.args.core.now.vault c.make_next.new.core.vault c.in-Ok.ensures.flags c.in-Ok.ensures.vault tt
+
+pub returns-in-Err-clause-places : goal.returns-in-Err-clause-places
+returns-in-Err-clause-places g c = places_then g.V.Store.told (IsCalling c.args.transaction c.args.plan) (IsCalling c.args.transaction c.make_next.new.plan) c.hindered.new.client.state c.args.core.now.regions.items c.make_next.new.core.regions.items c.hindered.new.core.regions.items c.args.core.now.vault c.make_next.new.core.vault c.hindered.new.core.vault c.in-Err.ensures.err.1 c.in-Err.ensures.vault tt c.hindered.ensures.places

@@ -1,13 +1,30 @@
-use Rattle.std.proofs.Common.{is_some, ap, sym, ◌∙◌}
+use Rattle.std.proofs.Common.{◌≡◌, true, false, is_some, ap, refl, sym, ◌∙◌}
+use Rattle.dali_turns.specs.declared.client.State.TheVariants.{Outside, Within, TakingBack}
+use Rattle.dali_turns.specs.Clients.{next_of}
+use Rattle.dali_turns.specs.Calls.{call_in}
+use Rattle.dali_turns.proofs.Here.{in_no_run}
 use Rattle.dali_turns.proofs.Commands.{err_false}
-use Rattle.dali_turns.proofs.CallSteps.{back_command, never_done, ends_back, ends_back_silently}
+use Rattle.dali_turns.proofs.CallSteps.{some_command, back_at_rest, back_command, never_done, ends_back, ends_back_silently}
+use Rattle.dali_turns.proofs.Placed.{places_still, at_state, call_refused}
 use Rattle.dali_turns.proofs.steps.calls.take_back.Goals as goal
 
 pub refuse_call-requires : goal.refuse_call-requires
-refuse_call-requires g c = ap is_some (back_command g.V.Store.told g.V.Store.may_leave g.V.Store.faults c.args.core.now.regions.items c.args.core.now.system.state c.args.core.now.vault c.args.client.now c.args.transaction c.args.plan c.args.why c.requires.may).1
+refuse_call-requires g c = some_command (next_of c.args.client.now) (sym c.is_called.ensures ∙ c.if-not-is_called.false)
 
-pub unreachable-requires : goal.unreachable-requires
-unreachable-requires g c = never_done g.V.Store.told g.V.Store.may_leave g.V.Store.faults c.args.core.now.regions.items c.args.core.now.system.state c.args.core.now.vault c.args.client.now c.args.transaction c.args.plan c.args.why c.requires.may (sym c.wants.ensures.wants ∙ c.in-Done.is)
+pub returns-then-not-is_called-clause-goes : goal.returns-then-not-is_called-clause-goes
+returns-then-not-is_called-clause-goes g c =
+    in_no_run g.V.Store.told g.V.Store.may_leave g.V.Store.faults c.args.setting.now.precheck c.args.client.now c.args.core.now.regions.items c.args.core.now.system.state c.args.core.now.vault _ c.args.client.now c.args.core.now.regions.items c.args.core.now.system.state c.args.core.now.vault (TakingBack c.args.transaction c.args.plan c.args.why)
+    (λ may. let there : true ≡ false = sym (c.is_called.ensures ∙ ap (λ o. is_some (call_in o)) (back_command g.V.Store.told g.V.Store.may_leave g.V.Store.faults c.args.core.now.regions.items c.args.core.now.system.state c.args.core.now.vault c.args.client.now c.args.transaction c.args.plan c.args.why may).1) ∙ c.if-not-is_called.true in absurd (cc))
+
+pub returns-then-not-is_at_rest-clause-goes : goal.returns-then-not-is_at_rest-clause-goes
+returns-then-not-is_at_rest-clause-goes g c =
+    in_no_run g.V.Store.told g.V.Store.may_leave g.V.Store.faults c.args.setting.now.precheck c.args.client.now c.args.core.now.regions.items c.args.core.now.system.state c.args.core.now.vault _ c.args.client.now c.args.core.now.regions.items c.args.core.now.system.state c.args.core.now.vault (TakingBack c.args.transaction c.args.plan c.args.why)
+    (λ may. let rest : true ≡ false = sym (c.is_at_rest.ensures.told (back_at_rest g.V.Store.told g.V.Store.may_leave g.V.Store.faults c.args.core.now.regions.items c.args.core.now.system.state c.args.core.now.vault c.args.client.now c.args.transaction c.args.plan c.args.why may)) ∙ c.if-not-is_at_rest.true in absurd (cc))
+
+pub returns-in-Done-clause-goes : goal.returns-in-Done-clause-goes
+returns-in-Done-clause-goes g c =
+    in_no_run g.V.Store.told g.V.Store.may_leave g.V.Store.faults c.args.setting.now.precheck c.args.client.now c.args.core.now.regions.items c.args.core.now.system.state c.args.core.now.vault _ c.args.client.now c.args.core.now.regions.items c.args.core.now.system.state c.args.core.now.vault (TakingBack c.args.transaction c.args.plan c.args.why)
+    (λ may. never_done g.V.Store.told g.V.Store.may_leave g.V.Store.faults c.args.core.now.regions.items c.args.core.now.system.state c.args.core.now.vault c.args.client.now c.args.transaction c.args.plan c.args.why may (sym c.wants.ensures.wants ∙ c.in-Done.is))
 
 pub returns-in_err-refuse_call-in-Nothing-clause-goes : goal.returns-in_err-refuse_call-in-Nothing-clause-goes
 returns-in_err-refuse_call-in-Nothing-clause-goes g c =
@@ -18,3 +35,18 @@ pub returns-in_ok-refuse_call-in-Nothing-clause-goes : goal.returns-in_ok-refuse
 returns-in_ok-refuse_call-in-Nothing-clause-goes g c =
     ends_back g.V.Store.told g.V.Store.may_leave g.V.Store.faults c.args.setting.now.precheck c.args.core.now.regions.items c.args.core.now.system.state c.args.core.now.vault c.args.client.now c.refuse_call.new.self c.args.transaction c.args.plan c.args.why c.wants.ensures.whole (sym c.wants.ensures.wants ∙ c.in-Nothing.is)
     c.in_ok-refuse_call-in-Nothing.ensures.ok
+
+pub returns-then-not-is_called-clause-places : goal.returns-then-not-is_called-clause-places
+returns-then-not-is_called-clause-places g c = places_still g.V.Store.told (TakingBack c.args.transaction c.args.plan c.args.why) c.args.client.now.state c.args.core.now.regions.items c.args.core.now.regions.items c.args.core.now.vault c.args.core.now.vault refl refl (at_state g.V.Store.told c.args.client.now.state Outside c.args.core.now.vault c.requires.stands tt)
+
+pub returns-then-not-is_at_rest-clause-places : goal.returns-then-not-is_at_rest-clause-places
+returns-then-not-is_at_rest-clause-places g c = places_still g.V.Store.told (TakingBack c.args.transaction c.args.plan c.args.why) c.args.client.now.state c.args.core.now.regions.items c.args.core.now.regions.items c.args.core.now.vault c.args.core.now.vault refl refl (at_state g.V.Store.told c.args.client.now.state Outside c.args.core.now.vault c.requires.stands tt)
+
+pub returns-in-Done-clause-places : goal.returns-in-Done-clause-places
+returns-in-Done-clause-places g c = places_still g.V.Store.told (TakingBack c.args.transaction c.args.plan c.args.why) c.args.client.now.state c.args.core.now.regions.items c.args.core.now.regions.items c.args.core.now.vault c.args.core.now.vault refl refl (at_state g.V.Store.told c.args.client.now.state Outside c.args.core.now.vault c.requires.stands tt)
+
+pub returns-in_err-refuse_call-in-Nothing-clause-places : goal.returns-in_err-refuse_call-in-Nothing-clause-places
+returns-in_err-refuse_call-in-Nothing-clause-places g c = places_still g.V.Store.told (TakingBack c.args.transaction c.args.plan c.args.why) c.refuse_call.new.self.state c.args.core.now.regions.items c.args.core.now.regions.items c.args.core.now.vault c.args.core.now.vault refl refl (at_state g.V.Store.told c.refuse_call.new.self.state (Within c.args.transaction) c.args.core.now.vault c.in_err-refuse_call-in-Nothing.ensures.err.stands tt)
+
+pub returns-in_ok-refuse_call-in-Nothing-clause-places : goal.returns-in_ok-refuse_call-in-Nothing-clause-places
+returns-in_ok-refuse_call-in-Nothing-clause-places g c = places_still g.V.Store.told (TakingBack c.args.transaction c.args.plan c.args.why) c.refuse_call.new.self.state c.args.core.now.regions.items c.args.core.now.regions.items c.args.core.now.vault c.args.core.now.vault refl refl (at_state g.V.Store.told c.refuse_call.new.self.state (Within c.args.transaction) c.args.core.now.vault (call_refused c.args.client.now c.args.transaction _ c.refuse_call.new.self (some_command (next_of c.args.client.now) (sym c.is_called.ensures ∙ c.if-not-is_called.false)) c.in_ok-refuse_call-in-Nothing.ensures.ok) tt)

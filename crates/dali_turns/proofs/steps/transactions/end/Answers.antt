@@ -1,30 +1,34 @@
 use Rattle.std.proofs.Common.{refl, subst}
 use Rattle.dali_clients.specs.declared.line.Line.{Line}
-use Rattle.dali_turns.specs.declared.client.State.TheVariants.{Outside as IsOutside, Within as IsWithin}
+use Rattle.dali_turns.specs.declared.client.State.TheVariants.{Outside, Within}
 use Rattle.dali_turns.specs.Clients.{Finishes}
 use Rattle.dali_turns.proofs.Commands.{err_false, unsaid_goes}
 use Rattle.dali_turns.proofs.CloseSteps.{stays_by, end_goes, end_silent_goes, end_half_goes}
+use Rattle.dali_turns.proofs.Placed.{places_beside, at_state}
 use Rattle.dali_turns.proofs.steps.transactions.end.Goals as goal
 
-pub returns-in_err-left : goal.returns-in_err-left
-returns-in_err-left g c = record {
-  goes = λ precheck.
-      unsaid_goes g.V.Store.told g.V.Store.may_leave g.V.Store.faults precheck (IsWithin c.args.transaction) c.args.client.now c.args.client.now c.args.core.now.regions.items c.take_back.new.core.regions.items c.args.core.now.system.state c.take_back.new.core.system.state c.args.core.now.vault c.take_back.new.core.vault _ (err_false c.from_residual.result c.from_residual.ensures.0)
-      (end_half_goes g.V.Store.told g.V.Store.may_leave g.V.Store.faults precheck c.args.transaction c.args.client.now c.args.client.now c.args.core.now.regions.items c.args.core.now.system.state c.args.core.now.vault c.take_back.new.core.regions.items c.take_back.new.core.system.state c.take_back.new.core.vault c.take_back.ensures.vault c.requires.next c.in_err-left.ensures.half.1 refl);
-}
+pub returns-in_err-left-clause-goes : goal.returns-in_err-left-clause-goes
+returns-in_err-left-clause-goes g c = λ precheck.
+    unsaid_goes g.V.Store.told g.V.Store.may_leave g.V.Store.faults precheck (Within c.args.transaction) c.args.client.now c.args.client.now c.args.core.now.regions.items c.take_back.new.core.regions.items c.args.core.now.system.state c.take_back.new.core.system.state c.args.core.now.vault c.take_back.new.core.vault _ (err_false c.from_residual.result c.from_residual.ensures.0)
+    (end_half_goes g.V.Store.told g.V.Store.may_leave g.V.Store.faults precheck c.args.transaction c.args.client.now c.args.client.now c.args.core.now.regions.items c.args.core.now.system.state c.args.core.now.vault c.take_back.new.core.regions.items c.take_back.new.core.system.state c.take_back.new.core.vault c.take_back.ensures.vault c.requires.next c.in_err-left.ensures.half.1 refl)
 
-pub returns-in_err-finish : goal.returns-in_err-finish
-returns-in_err-finish g c = record {
-  goes = λ precheck.
-      unsaid_goes g.V.Store.told g.V.Store.may_leave g.V.Store.faults precheck (IsWithin c.args.transaction) c.args.client.now c.finish.new.self c.args.core.now.regions.items c.take_back.new.core.regions.items c.args.core.now.system.state c.take_back.new.core.system.state c.args.core.now.vault c.take_back.new.core.vault _ (err_false c.from_residual-in_err-finish.result c.from_residual-in_err-finish.ensures.0)
-      (end_silent_goes g.V.Store.told g.V.Store.may_leave g.V.Store.faults precheck c.args.transaction c.args.client.now c.finish.new.self c.args.core.now.regions.items c.args.core.now.system.state c.args.core.now.vault c.take_back.new.core.regions.items c.take_back.new.core.system.state c.take_back.new.core.vault c.take_back.ensures.vault c.requires.next c.in_ok-left.ensures.away
-      (stays_by c.take_back.new.core c.args.core.now (λ k. k.regions.items) (λ k. k.system.state) c.args.core.now.system.state.stop c.take_back.ensures.stopped) c.in_err-finish.ensures.err);
-}
+pub returns-in_err-finish-clause-goes : goal.returns-in_err-finish-clause-goes
+returns-in_err-finish-clause-goes g c = λ precheck.
+    unsaid_goes g.V.Store.told g.V.Store.may_leave g.V.Store.faults precheck (Within c.args.transaction) c.args.client.now c.finish.new.self c.args.core.now.regions.items c.take_back.new.core.regions.items c.args.core.now.system.state c.take_back.new.core.system.state c.args.core.now.vault c.take_back.new.core.vault _ (err_false c.from_residual-in_err-finish.result c.from_residual-in_err-finish.ensures.0)
+    (end_silent_goes g.V.Store.told g.V.Store.may_leave g.V.Store.faults precheck c.args.transaction c.args.client.now c.finish.new.self c.args.core.now.regions.items c.args.core.now.system.state c.args.core.now.vault c.take_back.new.core.regions.items c.take_back.new.core.system.state c.take_back.new.core.vault c.take_back.ensures.vault c.requires.next c.in_ok-left.ensures.away
+    (stays_by c.take_back.new.core c.args.core.now (λ k. k.regions.items) (λ k. k.system.state) c.args.core.now.system.state.stop c.take_back.ensures.stopped) c.in_err-finish.ensures.err)
 
-pub returns : goal.returns
-returns g c = record {
-  goes = λ precheck.
-      end_goes g.V.Store.told g.V.Store.may_leave g.V.Store.faults precheck c.args.transaction c.args.client.now c.finish.new.self c.args.core.now.regions.items c.args.core.now.system.state c.args.core.now.vault c.take_back.new.core.regions.items c.take_back.new.core.system.state c.take_back.new.core.vault c.take_back.ensures.vault c.requires.next c.in_ok-left.ensures.away
-      (stays_by c.take_back.new.core c.args.core.now (λ k. k.regions.items) (λ k. k.system.state) c.args.core.now.system.state.stop c.take_back.ensures.stopped) c.in_ok-left.left c.in_ok-left.ensures.known
-      (subst (λ (l : Line). Finishes c.args.client.now IsOutside l c.finish.new.self) c.end_line.ensures c.in_ok-finish.ensures.ok);
-}
+pub returns-clause-goes : goal.returns-clause-goes
+returns-clause-goes g c = λ precheck.
+    end_goes g.V.Store.told g.V.Store.may_leave g.V.Store.faults precheck c.args.transaction c.args.client.now c.finish.new.self c.args.core.now.regions.items c.args.core.now.system.state c.args.core.now.vault c.take_back.new.core.regions.items c.take_back.new.core.system.state c.take_back.new.core.vault c.take_back.ensures.vault c.requires.next c.in_ok-left.ensures.away
+    (stays_by c.take_back.new.core c.args.core.now (λ k. k.regions.items) (λ k. k.system.state) c.args.core.now.system.state.stop c.take_back.ensures.stopped) c.in_ok-left.left c.in_ok-left.ensures.known
+    (subst (λ (l : Line). Finishes c.args.client.now Outside l c.finish.new.self) c.end_line.ensures c.in_ok-finish.ensures.ok)
+
+pub returns-in_err-left-clause-places : goal.returns-in_err-left-clause-places
+returns-in_err-left-clause-places g c = places_beside g.V.Store.told (Within c.args.transaction) c.args.client.now.state c.args.core.now.regions.items c.take_back.new.core.regions.items c.args.core.now.vault c.take_back.new.core.vault c.take_back.ensures.flags c.take_back.ensures.vault (at_state g.V.Store.told c.args.client.now.state Outside c.take_back.new.core.vault c.requires.stands tt)
+
+pub returns-in_err-finish-clause-places : goal.returns-in_err-finish-clause-places
+returns-in_err-finish-clause-places g c = places_beside g.V.Store.told (Within c.args.transaction) c.finish.new.self.state c.args.core.now.regions.items c.take_back.new.core.regions.items c.args.core.now.vault c.take_back.new.core.vault c.take_back.ensures.flags c.take_back.ensures.vault (at_state g.V.Store.told c.finish.new.self.state Outside c.take_back.new.core.vault c.in_err-finish.ensures.err.stands tt)
+
+pub returns-clause-places : goal.returns-clause-places
+returns-clause-places g c = places_beside g.V.Store.told (Within c.args.transaction) c.finish.new.self.state c.args.core.now.regions.items c.take_back.new.core.regions.items c.args.core.now.vault c.take_back.new.core.vault c.take_back.ensures.flags c.take_back.ensures.vault (at_state g.V.Store.told c.finish.new.self.state Outside c.take_back.new.core.vault c.in_ok-finish.ensures.ok.stands tt)

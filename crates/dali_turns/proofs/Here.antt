@@ -1,0 +1,59 @@
+-- What a run gives a step. No step asks for one: where a clause speaks of each run that has come here, it is shown from one.
+--     MayStep ..               there is a run, a world and a standing, in which the client stands so
+--     MayYield ..              the same where it gives way to an older transaction, in the midst of a step
+use Rattle.std.proofs.Common.{ℕ, Bool, List, Option}
+use Rattle.dali_record.specs.declared.records.Record.{Record}
+use Rattle.dali_region.specs.State.{RegionState}
+use Rattle.dali_store.specs.Store.{Files as Disk}
+use Rattle.dali_system.specs.State.{SystemState}
+use Rattle.dali_crash.specs.Checkpoints.{Point}
+use Rattle.dali_crash.specs.Traces.{Start}
+use Rattle.dali_vault.specs.Vaulted.{Vaulted}
+use Rattle.dali_transcripts.specs.World.{World}
+use Rattle.dali_transcripts.specs.Rounds.{Standing}
+use Rattle.dali_turns.specs.declared.client.Client.{Client}
+use Rattle.dali_turns.specs.declared.client.State.{State}
+use Rattle.dali_turns.specs.declared.client.Transaction.{Transaction}
+use Rattle.dali_turns.specs.Stood.{Stood}
+use Rattle.dali_turns.specs.Within.{FitsYielding}
+use Rattle.dali_turns.specs.Fits.{rest_of, IsOf, Fits}
+use Rattle.dali_turns.specs.Goes.{StepGoes, YieldGoes}
+
+module _ {V : Type 0} (told : V → Option Disk) (may_leave : V → Disk → Type 0) (faults : V → ℕ) where
+  pub record MayStep (state : State) (k : Client) (gs : List RegionState) (y : SystemState) (v : Vaulted V) : Type 0 where
+    pub start : Start
+    pub batches : List (List Record)
+    pub point : Point
+    pub world : World
+    pub standing : Standing
+    pub precheck : Bool
+    pub stood : Stood told may_leave faults start batches point world precheck gs y v
+    pub is : IsOf world standing k
+    pub fits : Fits told may_leave faults start batches point world gs y v standing (rest_of k) state
+
+  pub record MayYield (x : Transaction) (holder : ℕ) (k : Client) (gs : List RegionState) (y : SystemState) (v : Vaulted V) : Type 0 where
+    pub start : Start
+    pub batches : List (List Record)
+    pub point : Point
+    pub world : World
+    pub standing : Standing
+    pub precheck : Bool
+    pub stood : Stood told may_leave faults start batches point world precheck gs y v
+    pub is : IsOf world standing k
+    pub fits : FitsYielding point world standing (rest_of k) x holder
+
+  module _ (precheck : Bool) (k : Client) (gs : List RegionState) (y : SystemState) (v : Vaulted V) (ok : Bool) (j : Client) (hs : List RegionState) (z : SystemState) (u : Vaulted V) where
+    module _ (state : State) where
+      pub in_a_run : (MayStep state k gs y v → StepGoes told may_leave faults precheck state k gs y v ok j hs z u) → StepGoes told may_leave faults precheck state k gs y v ok j hs z u
+      in_a_run goes s B p w a stood is fits =
+          goes (record { start = s; batches = B; point = p; world = w; standing = a; precheck = precheck; stood = stood; is = is; fits = fits }) s B p w a stood is fits
+
+      -- an exit that no run comes to
+      pub in_no_run : (MayStep state k gs y v → ⊥) → StepGoes told may_leave faults precheck state k gs y v ok j hs z u
+      in_no_run never s B p w a stood is fits =
+          absurd (never (record { start = s; batches = B; point = p; world = w; standing = a; precheck = precheck; stood = stood; is = is; fits = fits }))
+
+    module _ (x : Transaction) (holder : ℕ) where
+      pub yields_in_no_run : (MayYield x holder k gs y v → ⊥) → YieldGoes told may_leave faults precheck x holder k gs y v ok j hs z u
+      yields_in_no_run never s B p w a stood is fits =
+          absurd (never (record { start = s; batches = B; point = p; world = w; standing = a; precheck = precheck; stood = stood; is = is; fits = fits }))

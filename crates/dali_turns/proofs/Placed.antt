@@ -1,0 +1,88 @@
+-- What becomes of the places in image files, whatever log the core has.
+use Rattle.std.proofs.Common.{◌≡◌, ℕ, ◌≤◌, Bool, true, false, List, Option, Some, None, is_some, IfSome, Result, Ok, Err, length, refl, ap, sym, subst, ◌∙◌, arith}
+use Rattle.std.specs.Prelude.{if◌then◌else◌}
+use Rattle.dali_bytes.specs.declared.error.OutOfMemory.{OutOfMemory as NoMemory}
+use Rattle.dali_region.specs.State.{RegionState}
+use Rattle.dali_store.specs.Store.{Files as Disk}
+use Rattle.dali_vault.specs.Vaulted.{Vaulted}
+use Rattle.dali_core.specs.declared.error.SystemError.{SystemError}
+use Rattle.dali_core.specs.declared.error.SystemError.TheVariants.{Stopped, LogFull, OutOfMemory}
+use Rattle.dali_calls.specs.Flags.{FlagsStay}
+use Rattle.dali_calls.specs.Plans.{Planned, refused}
+use Rattle.dali_whole.specs.Cores.{HoldsPlaces, NoShorter, IsNoShorter}
+use Rattle.dali_clients.specs.declared.command.Command.{Command}
+use Rattle.dali_clients.specs.declared.line.Why.{Why}
+use Rattle.dali_clients.specs.declared.line.Why.TheVariants.{Stopped as IsStopped, LogFull as IsFull}
+use Rattle.dali_turns.specs.declared.client.Client.{Client}
+use Rattle.dali_turns.specs.declared.client.State.{State}
+use Rattle.dali_turns.specs.declared.client.State.TheVariants.{Outside, LeftOut, Within, TakingBack}
+use Rattle.dali_turns.specs.declared.client.Transaction.{Transaction}
+use Rattle.dali_clients.specs.Told.{act_of}
+use Rattle.dali_transcripts.specs.Words.{closes}
+use Rattle.dali_turns.specs.Clients.{next_of, RefusesCall, Stays, Passes, left_behind}
+use Rattle.dali_turns.specs.Calls.{IsRefusedBy}
+use Rattle.dali_turns.specs.Places.{ReachesNext, HasPlaces, PlacesGo}
+use Rattle.dali_turns.proofs.Flags.{flags_same, flags_equal}
+
+pub as_long : (o : Option Disk) → NoShorter o o
+as_long (Some a) = λ side. omega arith
+as_long None = refl
+
+places_stay : (gs hs : List RegionState) → FlagsStay gs hs → (o p : Option Disk) → NoShorter o p → IfSome o (HoldsPlaces gs) → IfSome p (HoldsPlaces hs)
+places_stay gs hs flags (Some a) (Some b) longer places = λ side r h at clear.
+    let g = flags.each r h at in omega (arith, places side r g.0 g.1 (g.2 side clear), longer side)
+places_stay gs hs flags (Some a) None longer places = absurd longer
+places_stay gs hs flags None (Some b) longer places = let no_way : Some b ≡ None = longer in absurd (cc)
+places_stay gs hs flags None None longer places = tt
+
+pub call_refused : (k : Client) (x : Transaction) (why : Why) (j : Client) → is_some (next_of k) ≡ true → RefusesCall k x why j → j.state ≡ Within x
+call_refused k x why j next f = by_next (next_of k) refl next
+  where
+    by_next : (o : Option Command) → next_of k ≡ o → is_some o ≡ true → j.state ≡ Within x
+    by_next (Some command) e some = (f command e).stands
+    by_next None e some = absurd (cc)
+
+module _ {V : Type 0} (told : V → Option Disk) where
+  module _ (state state' : State) (gs hs : List RegionState) (v u : Vaulted V) where
+    pub places_go : FlagsStay gs hs → IsNoShorter told v u → ReachesNext told state' u → PlacesGo told state gs v state' hs u
+    places_go flags longer next = record { longer = longer; places = λ h. record { files = places_stay gs hs flags (told v.store) (told u.store) longer h.files; next = next } }
+
+    pub places_beside : FlagsStay gs hs → u ≡ v → ReachesNext told state' u → PlacesGo told state gs v state' hs u
+    places_beside flags vault next = places_go flags (subst (λ (x : Vaulted V). IsNoShorter told v x) (sym vault) (as_long (told v.store))) next
+
+    -- the regions are as they were
+    pub places_still : hs ≡ gs → u ≡ v → ReachesNext told state' u → PlacesGo told state gs v state' hs u
+    places_still regions vault next = places_beside (flags_equal gs hs regions) vault next
+
+  pub places_then : (state m state' : State) (gs rs hs : List RegionState) (v o u : Vaulted V) → rs ≡ gs → o ≡ v → ReachesNext told m v → PlacesGo told m rs o state' hs u → PlacesGo told state gs v state' hs u
+  places_then state m state' gs rs hs v o u regions vault next go =
+      let here : PlacesGo told m gs v state' hs u = subst (λ (l : List RegionState). PlacesGo told m l v state' hs u) regions (subst (λ (x : Vaulted V). PlacesGo told m rs x state' hs u) vault go) in
+      record { longer = here.longer; places = λ h. here.places (record { files = h.files; next = next }) }
+
+  pub places_from : (state m state' : State) (gs hs : List RegionState) (v u : Vaulted V) → state ≡ m → PlacesGo told m gs v state' hs u → PlacesGo told state gs v state' hs u
+  places_from state m state' gs hs v u is go = subst (λ (s : State). PlacesGo told s gs v state' hs u) (sym is) go
+
+  pub holds_from : (state m : State) (gs : List RegionState) (v : Vaulted V) → state ≡ m → HasPlaces told state gs v → HasPlaces told m gs v
+  holds_from state m gs v is h = subst (λ (s : State). HasPlaces told s gs v) is h
+
+  -- the client makes no checkpoint
+  pub at_state : (state makes : State) (u : Vaulted V) → state ≡ makes → ReachesNext told makes u → ReachesNext told state u
+  at_state state makes u is next = subst (λ (s : State). ReachesNext told s u) (sym is) next
+
+  pub refused_reaches : (e : SystemError) (k : Client) (x : Transaction) (plan : Planned) (r : Result Bool NoMemory) (j : Client) (u : Vaulted V) → k.state ≡ Outside → is_some (next_of k) ≡ true → IsRefusedBy e k x plan r j → ReachesNext told j.state u
+  refused_reaches (LogFull end limit) k x plan r j u stands next h = at_state j.state (TakingBack x (refused plan) (IsFull end limit)) u h.1.stands tt
+  refused_reaches (Stopped cause) k x plan (Ok b) j u stands next h = at_state j.state (Within x) u (call_refused k x (IsStopped cause) j next h.1) tt
+  refused_reaches (Stopped cause) k x plan (Err e) j u stands next h = at_state j.state (Within x) u h.2.stands tt
+  refused_reaches OutOfMemory k x plan (Ok b) j u stands next h = absurd h.1
+  refused_reaches OutOfMemory k x plan (Err e) j u stands next h = at_state j.state Outside u (ap (λ (l : Client). l.state) h.0 ∙ stands) tt
+
+  pub left_reaches : (k j : Client) (r : Result Bool NoMemory) (u : Vaulted V) → (next_of k ≡ None → (r ≡ Ok false) × Stays k LeftOut j) → ((command : Command) → next_of k ≡ Some command → (r ≡ Ok true) × Passes k (left_behind command) j) → ReachesNext told j.state u
+  left_reaches k j r u done passed = by_next (next_of k) refl
+    where
+      by_test : (b : Bool) → ReachesNext told (if b then Outside else LeftOut) u
+      by_test true = tt
+      by_test false = tt
+
+      by_next : (o : Option Command) → next_of k ≡ o → ReachesNext told j.state u
+      by_next None e = at_state j.state LeftOut u (done e).1.stands tt
+      by_next (Some command) e = at_state j.state (left_behind command) u (passed command e).1.stands (by_test (closes (act_of command)))
