@@ -14,9 +14,13 @@ const MADE: usize = 16;
 /// The bytes of the Ended of one transaction.
 const ENDED: usize = 9;
 
-/// The bytes of a batch with one transaction of one insert of three bytes, with the length before them and the next
-/// closed gate behind; each but the first has the Ended of the transaction before too.
-const BATCH: usize = 5 + 9 + 23 + 9 + ENDED;
+/// The bytes of a transaction of one insert of three bytes: its Begin, three operations (the key is looked for, the cell put,
+/// the entry added), the answer, and the Commit.
+const TRANSACTION: usize = 9 + 49 + 118 + 82 + 23 + 9;
+
+/// The bytes of a batch with one transaction, with the length before it and the next closed gate behind; each but the first has the
+/// Ended of the transaction before too.
+const BATCH: usize = 5 + ENDED + TRANSACTION;
 
 fn write_batch(log: &File, gate: u64, batch: &[u8]) -> io::Result<()> {
     log.write_all_at(batch, gate + 1)?;
@@ -52,18 +56,6 @@ pub fn commit(count: u64, folder: &Path) -> Option<Timing> {
     let timing = time_commits(&log, count);
     fs::remove_file(path).ok()?;
     timing
-}
-
-/// The log of the folder, which the system has cached, is read once. Giving the memory back isn't timed.
-pub fn read(folder: &Path) -> Option<Timing> {
-    let path = folder.join("dali.log");
-    let length = fs::metadata(&path).ok()?.len();
-    let mut bytes = Vec::new();
-    let timing = timed(length, "bytes", || {
-        bytes = black_box(fs::read(&path).ok()?);
-        Some(())
-    })?;
-    Some(timing.checked(bytes.len() as u64))
 }
 
 /// The image of the folder's database and the log from the image's place on, which the system has cached, are read once.

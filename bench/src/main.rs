@@ -36,14 +36,13 @@ fn time(words: &[&str]) -> Option<Timing> {
         ["clean", count, folder] => files::settle(count.parse().ok()?, &[], Path::new(folder)),
         ["dirty", count, folder] => files::settle(count.parse().ok()?, &[0], Path::new(folder)),
         ["commit", count, folder] => files::commit(count.parse().ok()?, Path::new(folder)),
-        ["restart", folder] => files::read(Path::new(folder)),
         ["recover", folder] => files::read_behind(Path::new(folder)),
         _ => None,
     }
 }
 
 const USAGE: &str = "usage: bench codec|locks|update|check|parse|claims|notes|insert|get|change|delete|tens|uncoded|audit|apart COUNT, \
-    bench commit|checkpoint|clean|dirty COUNT FOLDER, bench restart|recover FOLDER, or bench table PROGRAM FOLDER [ROW..]";
+    bench commit|checkpoint|clean|dirty COUNT FOLDER, bench recover FOLDER, or bench table PROGRAM FOLDER [ROW..]";
 
 fn main() -> ExitCode {
     let words: Vec<String> = std::env::args().skip(1).collect();

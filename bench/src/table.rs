@@ -7,7 +7,7 @@ use std::process::{Child, Command, Stdio};
 /// How many turns most rows have. It is odd, as are those of each row, so that one run is the median.
 const TURNS: usize = 5;
 
-/// How many turns the commits and the growth have. A disk varies from moment to moment by more than the goal allows, and
+/// How many turns the commits, the growth and the script have. A disk varies from moment to moment by more than the goal allows, and
 /// so does a run of some 50 milliseconds: many short turns meet the machine in the same moments on both sides.
 const SHORT_TURNS: usize = 25;
 
@@ -39,8 +39,6 @@ enum Files {
     Absent,
     /// New ones, which each run removes.
     New,
-    /// The log that was written for all runs.
-    Log,
     /// A copy for each run of the files of a database with so many updates behind its image, and with an audit that failed behind
     /// them where it is damaged.
     Database { updates: u64, damaged: bool },
@@ -61,7 +59,7 @@ struct Row {
     goal: Goal,
 }
 
-const ROWS: [Row; 25] = [
+const ROWS: [Row; 24] = [
     Row {
         name: "codec",
         count: Some(1_000_000),
@@ -261,17 +259,6 @@ const ROWS: [Row; 25] = [
         goal: Goal::Share(0.9),
     },
     Row {
-        name: "restart",
-        count: None,
-        others: &[],
-        files: Files::Log,
-        turns: TURNS,
-        dali: "restart over a log of 60 MiB, which the system has cached",
-        beside: "reading the cached file once",
-        unit: "bytes",
-        goal: Goal::Times(4.0),
-    },
-    Row {
         name: "recover",
         count: None,
         others: &[],
@@ -367,15 +354,17 @@ impl Row {
     }
 }
 
-/// The transactions of ten inserts in the log of the restart.
-const LOGGED: u64 = 240_132;
-
 /// How many regions are audited and checkpointed beside those of the goals.
 const REGIONS: [u64; 2] = [2_001, 98_304];
 
 const GROWTH: [u64; 3] = [1_000, 10_000, 100_000];
 
 const MOST_GROWTH: f64 = 1.3;
+
+/// The transactions of the script, which has nearly a MiB.
+const SCRIPTED: u64 = 6_000;
+
+const MOST_SCRIPTED: f64 = 1.5;
 
 /// The inserts of the row of the codewords' share, which is told of the plain Rust side: dali's own update always keeps
 /// them.
@@ -535,7 +524,7 @@ fn print_growth(counts: [u64; 2], grown: [&[Run]; 2]) {
     let runs = grown.map(median);
     let times = runs[0].rate as f64 / runs[1].rate as f64;
     println!(
-        "| insert {} records in memory, in transactions of ten | dali with {} records | {} inserts | {} | {times:.2} times | {} | at most {MOST_GROWTH} times | {} | {} | {} |",
+        "| insert {} records in memory, in durable transactions of five | dali with {} records | {} inserts | {} | {times:.2} times | {} | at most {MOST_GROWTH} times | {} | {} | {} |",
         in_threes(counts[1]),
         in_threes(counts[0]),
         in_threes(runs[1].rate),
@@ -544,6 +533,22 @@ fn print_growth(counts: [u64; 2], grown: [&[Run]; 2]) {
         if times <= MOST_GROWTH { "yes" } else { "no" },
         mebibytes(runs[1]),
         mebibytes(runs[0]),
+    );
+}
+
+/// Prints the row of the script, beside the same transactions without script and lines.
+fn print_script(script: &[Run], direct: &[Run]) {
+    let runs = [script, direct].map(median);
+    let times = runs[1].rate as f64 / runs[0].rate as f64;
+    println!(
+        "| run a script of 1 MiB with {} transactions of five inserts, over a store in memory | dali's core with the same transactions, without script and lines | {} transactions | {} | {times:.2} times | {} | at most {MOST_SCRIPTED} times | {} | {} | {} |",
+        in_threes(SCRIPTED),
+        in_threes(runs[0].rate),
+        in_threes(runs[1].rate),
+        middle_half(&Goal::Times(MOST_SCRIPTED), script, direct),
+        if times <= MOST_SCRIPTED { "yes" } else { "no" },
+        mebibytes(runs[0]),
+        mebibytes(runs[1]),
     );
 }
 
@@ -589,7 +594,7 @@ fn print_machine(folder: &Path) -> io::Result<()> {
         .find_map(|line| line.strip_prefix("model name")?.split_once(": "))
         .map_or("an unknown processor", |(_, model)| model);
     println!("{cores} cores of {model}; files on {}.", disk_of(folder)?);
-    println!("Medians of {TURNS} runs each, of commits, checkpoints and growth {SHORT_TURNS}. `half of the turns` says between which two ratios");
+    println!("Medians of {TURNS} runs each, of commits, checkpoints, growth and the script {SHORT_TURNS}. `half of the turns` says between which two ratios");
     println!("half of them lie.");
     println!("Rates are a second.");
     println!("Memory is the most that was resident, in MiB (2^20 bytes). Near 2 or 3 MiB it says nothing, since what this");
@@ -652,7 +657,6 @@ impl Sides<'_> {
         match row.files {
             Files::Absent => None,
             Files::New => Some(&self.new),
-            Files::Log => Some(&self.made),
             Files::Database { .. } => Some(&self.copy),
         }
     }
@@ -661,7 +665,6 @@ impl Sides<'_> {
     fn make_files(&self, row: &Row) -> io::Result<()> {
         let (name, count) = match row.files {
             Files::Absent | Files::New => return Ok(()),
-            Files::Log => ("log", LOGGED),
             Files::Database { updates, damaged: false } => ("fill", updates),
             Files::Database { updates, damaged: true } => ("damage", updates),
         };
@@ -715,9 +718,10 @@ impl Sides<'_> {
         run(&mut command)
     }
 
-    fn growth(&self, count: u64) -> io::Result<Run> {
+    /// dali's program alone, which does so much of this in memory.
+    fn alone(&self, name: &str, count: u64) -> io::Result<Run> {
         let mut command = Command::new(self.dali);
-        command.arg("growth").arg("--count").arg(count.to_string());
+        command.arg(name).arg("--count").arg(count.to_string());
         run(&mut command)
     }
 }
@@ -776,7 +780,7 @@ fn print_growths(sides: &Sides) -> io::Result<()> {
         for place in 0..GROWTH.len() {
             // The order is turned around every other turn, as in the other rows.
             let place = if turn % 2 == 0 { place } else { GROWTH.len() - 1 - place };
-            grown[place].push(sides.growth(GROWTH[place])?);
+            grown[place].push(sides.alone("growth", GROWTH[place])?);
         }
     }
     for runs in &grown {
@@ -785,6 +789,23 @@ fn print_growths(sides: &Sides) -> io::Result<()> {
     for (counts, runs) in GROWTH.windows(2).zip(grown.windows(2)) {
         print_growth([counts[0], counts[1]], [&runs[0], &runs[1]]);
     }
+    Ok(())
+}
+
+fn print_scripts(sides: &Sides) -> io::Result<()> {
+    let mut script = Vec::new();
+    let mut direct = Vec::new();
+    for turn in 0..SHORT_TURNS {
+        if turn % 2 == 0 {
+            script.push(sides.alone("script", SCRIPTED)?);
+            direct.push(sides.alone("direct", SCRIPTED)?);
+        } else {
+            direct.push(sides.alone("direct", SCRIPTED)?);
+            script.push(sides.alone("script", SCRIPTED)?);
+        }
+    }
+    compare("script", script.iter().chain(&direct))?;
+    print_script(&script, &direct);
     Ok(())
 }
 
@@ -802,10 +823,14 @@ pub fn print(program: &Path, folder: &Path, names: &[&str]) -> io::Result<()> {
     fs::create_dir(&sides.new)?;
     print_machine(&own.path)?;
     println!("{HEAD}");
+    if names == ["script"] {
+        return print_scripts(&sides);
+    }
     if !names.is_empty() {
         return print_rows(&sides, names);
     }
     print_rows(&sides, &ROWS.each_ref().map(|row| row.name))?;
     print_codewords(&sides)?;
-    print_growths(&sides)
+    print_growths(&sides)?;
+    print_scripts(&sides)
 }

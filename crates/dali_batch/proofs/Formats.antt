@@ -4,7 +4,7 @@ use Rattle.dali_store.specs.Store.{Files, NoLonger, Torn, TornIn, HoldsIn, Follo
 use Rattle.dali_store.specs.declared.store.FileName.TheVariants.{Log, ImageA, ImageB, Anchor}
 use Rattle.dali_batch.specs.Batch.{IsClosedAt, IsUnformatted, Ends}
 use Rattle.dali_batch.specs.Appending.{next_place, Adds, SomeAdded, AllAdded}
-use Rattle.dali_batch.specs.Formatting.{SameImages, CloseLeaves, AreClosed, FormatLeaves, IsFormattedBy}
+use Rattle.dali_batch.specs.Formatting.{SameImages, CloseLeaves, AreClosed, HasFirst, FormatLeaves, IsFormattedBy}
 use Rattle.dali_batch.proofs.Torn.{torn_same, torn_then}
 
 -- a log that ends at its first gate
@@ -83,22 +83,25 @@ module _ (may0 : Files → Type 0) where
     images_of : (d c : Files) → SameImages may0 d → SameBut Log d c → SameImages may0 c
     images_of d c from same = (from.0, from.1, same ImageA (λ e. cc) ∙ from.2, same ImageB (λ e. cc) ∙ from.3, subst (Torn 0 1 from.0.anchor) (sym (same Anchor (λ e. cc))) from.4)
 
-    none_or_one : (n : ℕ) (old new : List ℕ) → n ≤ 1 → IsClosedAt 0 old → Adds 0 (take n (body ∷ [])) old new → IsUnformatted new ⊎ Ends new 0 (body ∷ []) (next_place 0 (body ∷ []))
-    none_or_one zero old new le shut adds = inl (inr ((adds 0 [] (closed_ends old shut)).closed.1))
-    none_or_one (suc zero) old new le shut adds = inr (adds 0 [] (closed_ends old shut))
-    none_or_one (suc (suc n)) old new le shut adds = absurd (omega (arith, le))
+    none_or_one : (n : ℕ) (old : List ℕ) (c : Files) → n ≤ 1 → IsClosedAt 0 old → IsClosedAt 0 c.anchor → Adds 0 (take n (body ∷ [])) old c.log → IsUnformatted c.log ⊎ HasFirst body c
+    none_or_one zero old c le shut anchor adds = inl (inr ((adds 0 [] (closed_ends old shut)).closed.1))
+    none_or_one (suc zero) old c le shut anchor adds = inr (record { anchor = anchor; log = adds 0 [] (closed_ends old shut) })
+    none_or_one (suc (suc n)) old c le shut anchor adds = absurd (omega (arith, le))
+
+    anchor_of : (d c : Files) → AreClosed d → SameBut Log d c → IsClosedAt 0 c.anchor
+    anchor_of d c closed same = subst (IsClosedAt 0) (sym (same Anchor (λ e. cc))) closed.anchor
 
     -- the batch is being added
     pub format_crash : (may1 : Files → Type 0) → ((d : Files) → may1 d → CloseLeaves may0 d) → ((d : Files) → may1 d → AreClosed d) → (c : Files) → SomeAdded may1 0 (body ∷ []) c → FormatLeaves may0 body c
     format_crash may1 closing closed c added = record {
       others = images_of added.others.0 c (closing added.others.0 added.others.1).others added.others.2;
-      log = none_or_one added.log.2 added.log.0.log c.log added.log.3 (closed added.log.0 added.log.1).log added.log.4;
+      log = none_or_one added.log.2 added.log.0.log c added.log.3 (closed added.log.0 added.log.1).log (anchor_of added.others.0 c (closed added.others.0 added.others.1) added.others.2) added.log.4;
     }
 
     -- it has been added
     pub formatted : (may1 : Files → Type 0) → ((d : Files) → may1 d → CloseLeaves may0 d) → ((d : Files) → may1 d → AreClosed d) → (c : Files) → AllAdded may1 0 (body ∷ []) c → IsFormattedBy may0 body c
     formatted may1 closing closed c added = record {
       others = images_of added.others.0 c (closing added.others.0 added.others.1).others added.others.2;
-      anchor = subst (IsClosedAt 0) (sym (added.others.2 Anchor (λ e. cc))) (closed added.others.0 added.others.1).anchor;
+      anchor = anchor_of added.others.0 c (closed added.others.0 added.others.1) added.others.2;
       log = added.log.2 0 [] (closed_ends added.log.0.log (closed added.log.0 added.log.1).log);
     }

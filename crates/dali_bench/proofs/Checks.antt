@@ -3,9 +3,8 @@ use Rattle.std.proofs.Common.{◌≡◌, ℕ, zero, suc, ◌+◌, ◌%◌, ◌<�
 use Rattle.std.proofs.lemmas.List.Sums.{fold_more}
 use Rattle.std.proofs.Math.Seq.{take-append_seam}
 use Rattle.dali_region.specs.State.{RegionState, checked, loaded}
-use Rattle.dali_engine.specs.Memory.{change_at}
 use Rattle.dali_bench.specs.Keys.{number_below}
-use Rattle.dali_bench.specs.Regions.{made_words, made_regions, mixed_words, worked, updated_once, updated_times, strays_in}
+use Rattle.dali_bench.specs.Regions.{made_words, made_regions, mixed_words, change_at, worked, updated_once, updated_times, strays_in}
 
 set_at : {X : Type 0} (f : X → X) (i : ℕ) (xs : List X) (x new : X) → i < length xs → new ≡ f (get_or xs i x) → slice_set xs i new ≡ change_at f i xs
 set_at f i [] x new lt e = refl

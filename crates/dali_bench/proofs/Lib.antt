@@ -1,9 +1,7 @@
 pub mod Checks
 pub mod Drawing
 pub mod Filled
-pub mod Filling
 pub mod Holding
 pub mod Reading
 pub mod Requested
-pub mod Restoring
 pub mod Written

@@ -4,13 +4,13 @@
 --     mixed_words check g       a check number with the words of g in it
 --     check_of gs               the check number of the words of all regions
 --     worked t i g              a region after an operation of transaction t that has read word i and set it to t
+--     change_at f i xs          a list with item i changed by f
 --     updated_once place gs     the regions after the update with this number, of a word of one of them
 --     updated_times n gs        the regions after the first n updates
 --     strays_in gs              the masks by which regions are damaged, or-ed
 use Rattle.std.specs.Prelude.{ℕ, zero, suc, ◌+◌, ◌*◌, ◌%◌, ◌^◌, List, [], ◌∷◌, ◌++◌, length, map, fold, bit_or}
 use Rattle.std.specs.List.{range_with_len}
 use Rattle.dali_region.specs.State.{RegionState, loaded, latched, with_reads, updated, touched}
-use Rattle.dali_engine.specs.Memory.{change_at}
 use Rattle.dali_bench.specs.Keys.{number_below, mixed}
 
 unfoldable pub made_words : ℕ → List ℕ
@@ -28,6 +28,11 @@ check_of gs = fold mixed_words 0 gs
 
 abbrev pub worked : ℕ → ℕ → RegionState → RegionState
 worked txn word g = touched (updated word txn (with_reads (2 ^ word) (latched txn g)))
+
+abbrev pub change_at : {X : Type 0} → (X → X) → ℕ → List X → List X
+change_at f i [] = []
+change_at f zero (x ∷ xs) = f x ∷ xs
+change_at f (suc i) (x ∷ xs) = x ∷ change_at f i xs
 
 abbrev pub updated_once : ℕ → List RegionState → List RegionState
 updated_once place gs = change_at (worked place (place % 64)) (number_below (length gs) place) gs

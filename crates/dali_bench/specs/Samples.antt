@@ -1,4 +1,5 @@
 -- The records that are encoded and decoded.
+--     abc                   the value of a sample
 --     filled n v            the words of a region whose cells 1 to n hold the value v, each under its key
 --     sample_block i v      the block of a put, a read or a change in one of the cells 1 to 7, by turns
 --     sample i v            its record, of transaction i
@@ -16,6 +17,9 @@ use Rattle.dali_record.specs.declared.records.Record.TheVariants.{Forward}
 use Rattle.dali_record.specs.Blocks.{made}
 use Rattle.dali_record.specs.Operations.{effect}
 use Rattle.dali_record.specs.Spelling.{CanBeSpelled, spelling}
+
+abbrev pub abc : List ℕ
+abc = 97 ∷ 98 ∷ 99 ∷ []
 
 unfoldable pub filled : ℕ → List ℕ → List ℕ
 filled zero v = slice_set (replicate 64 0) 0 1

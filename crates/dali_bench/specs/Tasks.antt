@@ -4,7 +4,7 @@
 --     has_folder task      whether it has files
 use Rattle.std.specs.Prelude.{ℕ, Bool, true, false, List, codes}
 use Rattle.dali_bench.specs.declared.arguments.Task.{Task}
-use Rattle.dali_bench.specs.declared.arguments.Task.TheVariants.{Codec, Locks, Update, Check, Parse, Claims, Notes, Commit, Log, Restart, Growth, Insert, Get, Change, Delete, Tens, Audit, Checkpoint, Clean, Dirty, Fill, Damage, Recover, Small}
+use Rattle.dali_bench.specs.declared.arguments.Task.TheVariants.{Codec, Locks, Update, Check, Parse, Claims, Notes, Commit, Growth, Script, Direct, Insert, Get, Change, Delete, Tens, Audit, Checkpoint, Clean, Dirty, Fill, Damage, Recover, Small}
 
 abbrev pub name_of : Task → List ℕ
 name_of Codec = codes "codec"
@@ -15,9 +15,9 @@ name_of Parse = codes "parse"
 name_of Claims = codes "claims"
 name_of Notes = codes "notes"
 name_of Commit = codes "commit"
-name_of Log = codes "log"
-name_of Restart = codes "restart"
 name_of Growth = codes "growth"
+name_of Script = codes "script"
+name_of Direct = codes "direct"
 name_of Insert = codes "insert"
 name_of Get = codes "get"
 name_of Change = codes "change"
@@ -33,15 +33,12 @@ name_of Recover = codes "recover"
 name_of Small = codes "small"
 
 abbrev pub has_count : Task → Bool
-has_count Restart = false
 has_count Recover = false
 has_count Small = false
 has_count _ = true
 
 abbrev pub has_folder : Task → Bool
 has_folder Commit = true
-has_folder Log = true
-has_folder Restart = true
 has_folder Checkpoint = true
 has_folder Clean = true
 has_folder Dirty = true

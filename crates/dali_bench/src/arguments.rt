@@ -25,12 +25,12 @@ pub enum Task {
     Notes,
     /// Commits transactions to files in a new folder within a folder.
     Commit,
-    /// Writes a log into a folder.
-    Log,
-    /// Restarts from the log in a folder.
-    Restart,
     /// Inserts records into a database in memory.
     Growth,
+    /// Runs a script over a store in memory.
+    Script,
+    /// Commits the same transactions without a script.
+    Direct,
     /// Makes calls that insert.
     Insert,
     /// Makes calls that read.
@@ -68,9 +68,9 @@ const TASKS: [Task; 24] = [
     Task::Claims,
     Task::Notes,
     Task::Commit,
-    Task::Log,
-    Task::Restart,
     Task::Growth,
+    Task::Script,
+    Task::Direct,
     Task::Insert,
     Task::Get,
     Task::Change,
@@ -99,9 +99,9 @@ impl Task {
             Task::Claims => "claims",
             Task::Notes => "notes",
             Task::Commit => "commit",
-            Task::Log => "log",
-            Task::Restart => "restart",
             Task::Growth => "growth",
+            Task::Script => "script",
+            Task::Direct => "direct",
             Task::Insert => "insert",
             Task::Get => "get",
             Task::Change => "change",
@@ -129,10 +129,9 @@ impl Task {
             Task::Notes => "Adds COUNT entries to a history, and lets another note meet each",
             Task::Commit =>
                 "Commits COUNT transactions of one insert to files in a folder within FOLDER",
-            Task::Log =>
-                "Writes the log of COUNT transactions of ten inserts as a new file into FOLDER",
-            Task::Restart => "Restarts from the log in FOLDER",
-            Task::Growth => "Inserts COUNT records in transactions of ten, in memory",
+            Task::Growth => "Inserts COUNT records in transactions of five, in memory",
+            Task::Script => "Runs a script of COUNT transactions of five inserts, in memory",
+            Task::Direct => "Commits COUNT transactions of five inserts, in memory",
             Task::Insert => "Makes COUNT calls that insert, five a transaction",
             Task::Get => "Makes COUNT calls that read, five a transaction",
             Task::Change => "Makes COUNT calls that update, five a transaction",
@@ -156,7 +155,7 @@ impl Task {
     fn has_count(self) -> bool
         ensures { result ≡ has_count self }
     {
-        !matches!(self, Task::Restart | Task::Recover | Task::Small)
+        !matches!(self, Task::Recover | Task::Small)
     }
 
     fn has_folder(self) -> bool
@@ -165,8 +164,6 @@ impl Task {
         matches!(
             self,
             Task::Commit
-                | Task::Log
-                | Task::Restart
                 | Task::Checkpoint
                 | Task::Clean
                 | Task::Dirty

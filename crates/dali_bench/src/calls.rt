@@ -88,8 +88,8 @@ fn call_of(kind: Kind, key: u64, values: &[Value; 2]) -> Call {
     }
 }
 
-// Makes the calls of a transaction, on the keys from this place on.
-fn call_all(
+/// Makes the calls of a transaction, on the keys from this place on.
+pub fn call_all(
     regions: &mut [Region],
     system: &mut System,
     txn: u64,

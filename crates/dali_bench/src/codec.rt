@@ -7,9 +7,8 @@ ghost use Rattle.dali_record.specs.declared.records.Record.TheVariants.{Forward}
 ghost use Rattle.dali_record.specs.Blocks.{made};
 ghost use Rattle.dali_record.specs.Spelling.{IsOperation, CanBeSpelled, is_forward};
 ghost use Rattle.dali_bench.specs.Amounts.{Tells};
-ghost use Rattle.dali_bench.specs.Databases.{abc};
 ghost use Rattle.dali_bench.specs.Keys.{mixed};
-ghost use Rattle.dali_bench.specs.Samples.{filled, sample, first_samples, spell_all, words_of, words_in, AreRead};
+ghost use Rattle.dali_bench.specs.Samples.{abc, filled, sample, first_samples, spell_all, words_of, words_in, AreRead};
 
 use crate::keys::mix_bytes;
 use crate::timing::Timing;

@@ -11,6 +11,7 @@ mod keys;
 mod locks;
 mod recoveries;
 mod regions;
+mod runs;
 mod scripts;
 mod shared;
 mod timing;
@@ -21,7 +22,11 @@ use calls::Kind;
 use dali_filestore::FileStore;
 use dali_store::FileName;
 use std::io::ErrorKind;
+use std::marker::Sync;
 use std::process::ExitCode;
+use std::rt::Clock;
+use std::sync::Wait;
+use std::thread::Threads;
 use std::{env, fs};
 use timing::Timing;
 
@@ -29,7 +34,11 @@ use timing::Timing;
 const FOLDERS: u32 = 1000;
 
 // Does a little of each.
-fn run_small(rt: &HostRuntime, folder: &str) -> Result<()> {
+fn run_small(
+    rt: &HostRuntime,
+    runner: &(impl Clock + Threads + Wait + Sync),
+    folder: &str,
+) -> Result<()> {
     let alloc = rt.alloc();
     codec::run(rt, alloc, 1000)?;
     locks::run(rt, alloc, 10_000)?;
@@ -39,6 +48,8 @@ fn run_small(rt: &HostRuntime, folder: &str) -> Result<()> {
     shared::draw(rt, alloc, 1000)?;
     shared::note(rt, alloc, 1000)?;
     databases::grow(rt, alloc, 100)?;
+    databases::commit_in_memory(rt, alloc, 10)?;
+    runs::run(runner, alloc, 10)?;
     calls::run(rt, alloc, Kind::Delete, 100)?;
     audits::run(rt, alloc, 6)?;
     let first = make_folder(rt, folder)?;
@@ -49,8 +60,6 @@ fn run_small(rt: &HostRuntime, folder: &str) -> Result<()> {
     time_commits(rt, 3, commits.as_str())?;
     let dirty = make_folder(rt, folder)?;
     time_dirty(rt, 6, dirty.as_str())?;
-    databases::make_log(rt, alloc, 5, folder)?;
-    time_restart(rt, folder)?;
     for damaged in [false, true] {
         let files = make_folder(rt, folder)?;
         make_files(rt, 20, 50, damaged, files.as_str())?;
@@ -81,8 +90,7 @@ fn remove(rt: &HostRuntime, folder: &str, timing: Result<Timing>) -> Result<Timi
 }
 
 fn time_commits(rt: &HostRuntime, count: u32, folder: &str) -> Result<Timing> {
-    let mut store = FileStore::in_folder(rt, folder);
-    databases::commit(rt, rt.alloc(), &mut store, count)
+    databases::commit(rt, rt.alloc(), FileStore::in_folder(rt, folder), count)
 }
 
 fn time_checkpoint(rt: &HostRuntime, count: u32, folder: &str) -> Result<Timing> {
@@ -122,12 +130,12 @@ fn time_recovery(rt: &HostRuntime, folder: &str) -> Result<Timing> {
     recoveries::recover(rt, rt.alloc(), FileStore::in_folder(rt, folder))
 }
 
-fn time_restart(rt: &HostRuntime, folder: &str) -> Result<Timing> {
-    let mut store = FileStore::in_folder(rt, folder);
-    databases::restart(rt, rt.alloc(), &mut store)
-}
-
-fn run_job(rt: &HostRuntime, job: &Job) -> Result<()> {
+// The runner is the same runtime as one under which a script is run.
+fn run_job(
+    rt: &HostRuntime,
+    runner: &(impl Clock + Threads + Wait + Sync),
+    job: &Job,
+) -> Result<()> {
     let alloc = rt.alloc();
     let count = job.count;
     let timing = match job.task {
@@ -139,6 +147,8 @@ fn run_job(rt: &HostRuntime, job: &Job) -> Result<()> {
         Task::Claims => shared::draw(rt, alloc, count)?,
         Task::Notes => shared::note(rt, alloc, count)?,
         Task::Growth => databases::grow(rt, alloc, count)?,
+        Task::Script => runs::run(runner, alloc, count)?,
+        Task::Direct => databases::commit_in_memory(rt, alloc, count)?,
         Task::Insert => calls::run(rt, alloc, Kind::Insert, count)?,
         Task::Get => calls::run(rt, alloc, Kind::Get, count)?,
         Task::Change => calls::run(rt, alloc, Kind::Update, count)?,
@@ -165,14 +175,12 @@ fn run_job(rt: &HostRuntime, job: &Job) -> Result<()> {
             let timing = time_dirty(rt, count, folder.as_str());
             remove(rt, folder.as_str(), timing)?
         }
-        Task::Restart => time_restart(rt, job.folder)?,
         Task::Recover => time_recovery(rt, job.folder)?,
-        Task::Log => return databases::make_log(rt, alloc, count, job.folder),
         Task::Fill => return make_files(rt, recoveries::RECORDS, count, false, job.folder),
         Task::Damage => return make_files(rt, recoveries::RECORDS, count, true, job.folder),
         Task::Small => {
             let folder = make_folder(rt, job.folder)?;
-            let small = run_small(rt, folder.as_str());
+            let small = run_small(rt, runner, folder.as_str());
             let removed = fs::remove_dir_all(rt, folder.as_str());
             small?;
             removed?;
@@ -196,6 +204,6 @@ fn main(rt: HostRuntime) -> Result<ExitCode> {
         }
     };
     let job = arguments::asked(&matches).context("no subcommand")?;
-    run_job(&rt, &job)?;
+    run_job(&rt, &rt, &job)?;
     Ok(ExitCode::SUCCESS)
 }

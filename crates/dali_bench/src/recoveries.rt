@@ -3,11 +3,12 @@ ghost use Rattle.std.specs.Prelude.{◌≡◌, codes, IfOk};
 ghost use Rattle.dali_bench.specs.Amounts.{Tells};
 
 use crate::audits::audit_all;
-use crate::calls::{CALLS, Kind, LIMIT, run_transaction, sizes_for, values};
+use crate::calls::{CALLS, Kind, LIMIT, run_transaction, values};
+use crate::databases::make;
 use crate::timing::Timing;
 use anyhow::{Result, ensure};
 use dali_memstore::MemoryStore;
-use dali_restart::{format, open, restart};
+use dali_restart::{open, restart};
 use dali_store::{FileName, Store};
 use dali_whole::{Core, flush};
 use std::alloc::Global;
@@ -16,14 +17,6 @@ use std::time::Instant;
 
 /// How many records a database has.
 pub const RECORDS: u32 = 100_000;
-
-// A new database with sizes for so many records.
-fn make<V: Store + Drop>(alloc: Global, store: V, records: u32) -> Result<Core<V>> {
-    match format(alloc, store, sizes_for(records)?, LIMIT) {
-        Ok(core) => Ok(core),
-        Err(refused) => Err(refused.error.into()),
-    }
-}
 
 // What a restart finds in a store.
 fn recovered<V: Store + Drop>(alloc: Global, store: V) -> Result<Core<V>> {

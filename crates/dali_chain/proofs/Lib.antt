@@ -1,2 +1,4 @@
-mod Made
-mod Going
+pub mod Made
+pub mod Going
+pub mod Shown
+pub mod Verifying

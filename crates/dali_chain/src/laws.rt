@@ -7,6 +7,7 @@
 //! says; of a history, with all that was acknowledged (`a_crash_restarts`). The next start has their log, or that with the record
 //! of the restart, and is a history where they are one: so all of it goes on from there.
 ghost use Rattle.dali_chain.specs.Chain.{FormatBegins, RestartBegins, RoundBegins, RoundsBegin, CrashRestarts};
+ghost use Rattle.dali_chain.specs.Shown.{ShowsExpected, VerifiesAlways};
 
 use dali_store::Store;
 
@@ -34,4 +35,12 @@ pub fn rounds_begin_again<V: Store>()
 /// history and no damage escapes, that is right, and whatever was acknowledged survives.
 pub fn a_crash_restarts<V: Store>()
     ensures { CrashRestarts V.told V.may_leave V.faults }
+{}
+
+/// Between two rounds, where the engine runs, no transaction is left and no region was poked since the core was made, the words
+/// in memory have the records that the log is expected to leave, unflushed records of it included; and a comparison with a plain
+/// replay of the whole log comes out equal.
+pub fn memory_is_as_expected<V: Store>()
+    ensures records { ShowsExpected V.told V.may_leave V.faults }
+    ensures verifies { VerifiesAlways V.told V.may_leave V.faults }
 {}

@@ -14,52 +14,12 @@ use Rattle.dali_traces.specs.Disks.{image_file, image_name}
 use Rattle.dali_traces.specs.Places.{place_of}
 use Rattle.dali_vault.specs.Vaulted.{Vaulted}
 use Rattle.dali_whole.specs.Cores.{HoldsPlaces}
+pub use Rattle.dali_whole.proofs.Lengths.{no_shorter_tells, same_length, torn_length, then_length, unless_stopped, places_stay}
 use Rattle.dali_checkpoint.specs.Done.{Reaches}
 use Rattle.dali_whole.specs.Cores.{NoShorter}
 use Rattle.dali_checkpoint.specs.Runs.{is_first_dirty, run_of, change}
 use Rattle.dali_checkpoint.proofs.Pieces.{change_cases, run_clean, run_length, run_some}
 use Rattle.dali_checkpoint.proofs.Results.{place_there}
-
--- the store tells its files just where it did
-pub no_shorter_tells : (o p : Option Disk) → NoShorter o p → is_some p ≡ is_some o
-no_shorter_tells (Some a) (Some b) h = refl
-no_shorter_tells (Some a) None h = absurd h
-no_shorter_tells None p h = ap is_some h
-
-pub same_length : (o p : Option Disk) → p ≡ o → NoShorter o p
-same_length (Some a) (Some b) e = λ side. let one : b ≡ a = cc in subst (λ (z : Disk). length (image_file side a) ≤ length (image_file side z)) (sym one) (omega arith)
-same_length (Some a) None e = absurd (cc)
-same_length None p e = e
-
-from_same : (x y : List ℕ) → y ≡ x → length x ≤ length y
-from_same x y e = omega (arith, ap length e)
-
-torn_one : (f : FileName) (at n : ℕ) (a b : Disk) → TornIn f at n a b → (side : Side) → length (image_file side a) ≤ length (image_file side b)
-torn_one Log at n a b t A = from_same a.a b.a (t.same ImageA (λ e. cc))
-torn_one Log at n a b t B = from_same a.b b.b (t.same ImageB (λ e. cc))
-torn_one ImageA at n a b t A = t.torn.no_shorter
-torn_one ImageA at n a b t B = from_same a.b b.b (t.same ImageB (λ e. cc))
-torn_one ImageB at n a b t A = from_same a.a b.a (t.same ImageA (λ e. cc))
-torn_one ImageB at n a b t B = t.torn.no_shorter
-torn_one Anchor at n a b t A = from_same a.a b.a (t.same ImageA (λ e. cc))
-torn_one Anchor at n a b t B = from_same a.b b.b (t.same ImageB (λ e. cc))
-
-pub torn_length : (f : FileName) (at n : ℕ) (o p : Option Disk) → TornTold f at n o p → NoShorter o p
-torn_length f at n (Some a) (Some b) t = torn_one f at n a b t
-torn_length f at n (Some a) None t = t
-torn_length f at n None p t = t
-
-pub then_length : (o p q : Option Disk) → NoShorter o p → NoShorter p q → NoShorter o q
-then_length (Some a) (Some b) (Some d) s t = λ side. omega (arith, s side, t side)
-then_length (Some a) (Some b) None s t = t
-then_length (Some a) None q s t = absurd s
-then_length None (Some b) q s t = absurd (cc)
-then_length None None q s t = t
-
--- over a call that a stopped vault refuses
-pub unless_stopped : (b : Bool) (o p : Option Disk) → (b ≡ true → p ≡ o) → (b ≡ false → NoShorter o p) → NoShorter o p
-unless_stopped true o p s t = same_length o p (s refl)
-unless_stopped false o p s t = t refl
 
 reaches_told : (o p : Option Disk) (side : Side) (n : ℕ) → NoShorter o p → IfSome o (λ fs. place_of n ≤ length (image_file side fs)) → IfSome p (λ fs. place_of n ≤ length (image_file side fs))
 reaches_told (Some a) (Some b) side n s r = omega (arith, s side, r)
@@ -69,15 +29,6 @@ reaches_told None None side n s r = tt
 
 pub reaches_on : {V : Type 0} (told : V → Option Disk) (side : Side) (n : ℕ) (v w : Vaulted V) → NoShorter (told v.store) (told w.store) → Reaches told side n v → Reaches told side n w
 reaches_on told side n v w s r = reaches_told (told v.store) (told w.store) side n s r
-
-places_one : (gs : List RegionState) (a b : Disk) → ((side : Side) → length (image_file side a) ≤ length (image_file side b)) → HoldsPlaces gs a → HoldsPlaces gs b
-places_one gs a b s holds = λ side r g at clean. omega (arith, s side, holds side r g at clean)
-
-pub places_stay : (o p : Option Disk) (gs : List RegionState) → NoShorter o p → IfSome o (HoldsPlaces gs) → IfSome p (HoldsPlaces gs)
-places_stay (Some a) (Some b) gs s holds = places_one gs a b s holds
-places_stay (Some a) None gs s holds = tt
-places_stay None (Some b) gs s holds = absurd (cc)
-places_stay None None gs s holds = tt
 
 -- the region with the number r was cleaned for one side
 clean_cases : (side other : Side) (g : RegionState) → is_dirty (cleaned side g) other ≡ false → (other ≡ side) ⊎ (is_dirty g other ≡ false)

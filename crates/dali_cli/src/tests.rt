@@ -3,6 +3,7 @@ use dali_run::{OpenGate, SCRIPT_LIMIT, Status, run};
 use dali_script::Kind;
 use dali_store::FileName;
 use dali_streams::{MemorySink, MemorySource};
+use std::alloc::Global;
 use std::process::Abort;
 use std::sync::Wait;
 use std::test::Fail;
@@ -10,7 +11,7 @@ use std::thread::Threads;
 
 mod cases;
 
-use cases::CASES;
+use cases::{CASES, CORE_CASES, REFUSED};
 
 const NONE: &[u64] = &[];
 
@@ -24,16 +25,17 @@ const WITH_A_BEGIN: &[u8] =
 const BATCH_WITHOUT_ITS_BYTES: &[u8] =
     b"\xa5\0\0\0\x0a\x01\x01\0\0\0\x01\0\0\0\x01\xa5\0\0\0\x64\0";
 
-// Begin, commit and ended of the transaction with the last number.
-const WITH_THE_LAST_NUMBER: &[u8] =
-    b"\xa5\0\0\0\x0a\x01\x01\0\0\0\x01\0\0\0\x01\xa5\0\0\0\x1b\x02\xff\xff\xff\xff\xff\xff\xff\xff\x05\xff\xff\xff\xff\xff\xff\xff\xff\x06\xff\xff\xff\xff\xff\xff\xff\xff\0";
-
+// Behind the format's batch: begin, a look for key 5, its cell, its entry, the insert's answer, and commit.
 const WITH_ONE_RECORD: &[u8] =
-    b"\xa5\0\0\0\x0a\x01\x01\0\0\0\x01\0\0\0\x01\xa5\0\0\0\x29\x02\0\0\0\0\0\0\0\x01\x04\0\0\0\0\0\0\0\x01\x01\0\0\0\0\0\0\0\x05\x03abc\x01\x05\0\0\0\0\0\0\0\x01\0";
+    b"\xa5\0\0\0\x0a\x01\x01\0\0\0\x01\0\0\0\x01\xa5\0\0\x01\x22\x02\0\0\0\0\0\0\0\x01\x03\0\0\0\0\0\0\0\x01\0\0\0\0\0\0\0\x05\0\0\0\0\x01$\x92I$\x92I$\x93\0\0\0\0\0\0\0\0\0\0\0\0\0\0\0\0\x02\0\0\x03\0\0\0\0\0\0\0\x01\0\0\0\0\0\0\0\x05\0\0\0\x01\x04\x03abc\0\0\0\0\0\0\xff\0\0\0\0\0\0\0\0\0\0\0\0\0\0\0\xff\0\0\0\0\0\0\0\0\x01\0\0\0\0\0\0\0\x05\0\0\0\0\0\0\0\x03abc\0\0\0\0\0\0\0\0\0\0\0\0\0\0\0\0\0\0\0\0\0\0\0\0\0\0\0\0\0\0\0\0\0\0\0\0\0\x06\x01\x01\x01\x03\0\0\0\0\0\0\0\x01\0\0\0\0\0\0\0\x05\0\0\0\0\x02\0\0\0\0\0\0\0\x09\0\0\0\0\0\0\0\x0e\0\0\0\0\0\0\0\0\0\0\0\0\0\0\0\x0e\0\0\0\0\0\0\0\x01\0\0\0\0\0\0\0\x05\0\0\0\0\0\0\0\x09\x03\0\x04\0\x04\0\0\0\0\0\0\0\x01\x01\0\0\0\0\0\0\0\x05\x03abc\x01\x05\0\0\0\0\0\0\0\x01\0";
 
 const ONE_RECORD: &str = "size 1 1\nclient 1\nbegin\ninsert 5 abc\ncommit\nend\nshow\n";
 
 const ONE_RECORD_LINES: &[u8] = b"1 begin 1\n1 insert ok\n1 commit ok\n5 abc\nrecords 1\n";
+
+// Transaction 3 reads a damaged word, and 5 reads what 3 wrote.
+const CHAIN: &str =
+    "size 2 3\nclient 1\nbegin\ninsert 4 abc\ncommit\nbegin\ninsert 5 xyz\ncommit\ncheckpoint\npoke 3 11 0100000000000000\nbegin\nget 4\ninsert 6 qq\ncommit\nbegin\nupdate 5 y\ncommit\nbegin\nget 6\ncommit\naudit\nend\ncrash 0\nrestart\nshow\n";
 
 // A run over streams and a store in memory, some of whose calls fail.
 #[derive(Drop)]
@@ -86,10 +88,9 @@ fn runs_as_wanted(
         b"\0".to_vec(alloc)?,
     ];
     let store = MemoryStore::with(files, case.failing_calls.to_vec(alloc)?);
-    let (status, store) = run(rt, alloc, &words, &mut source, &mut sink, store, &OpenGate);
+    let (status, _store) = run(rt, alloc, &words, &mut source, &mut sink, store, &OpenGate);
     assert!(rt; sink.taken() == case.wanted, "the lines of {}", case.name);
     assert!(rt; status == case.status, "the status of {}", case.name);
-    assert!(rt; store.file(FileName::ImageA).is_empty());
     Ok(())
 }
 
@@ -122,6 +123,54 @@ fn scripts_give_their_lines_and_statuses(rt: HostRuntime) -> Result<(), Fail> {
             "a failed audit whose end can't be written",
             "size 2 3\npoke 3 11 1\nfuse 0\naudit\naudit\nshow\n",
             b"poke ok\nfuse 0\naudit store stopped\naudit stopped damage 3\nshow stopped damage 3\n",
+            Status::Done,
+        ),
+        Case::new(
+            "a dead client is rolled back",
+            "size 1 1\nclient 1\nbegin\ndie 4\ninsert 5 abc\ninsert 6 d\nend\naudit\ncrash 1\nrestart\nshow\n",
+            b"1 begin 1\n1 insert ok\n1 died\naudit clean\ncrash 1\nrolled back 1\ndeleted none\nrecords 0\n",
+            Status::Done,
+        ),
+        Case::new(
+            "a dead cell stays reserved",
+            "size 1 1\nclient 1\nbegin\ninsert 1 a\ninsert 2 a\ninsert 3 a\ninsert 4 a\ninsert 5 a\ninsert 6 a\ninsert 7 a\ninsert 8 a\ndelete 1\ninsert 8 a\ncommit\nbegin\ninsert 8 a\ncommit\nend\n",
+            b"1 begin 1\n1 insert ok\n1 insert ok\n1 insert ok\n1 insert ok\n1 insert ok\n1 insert ok\n1 insert ok\n1 insert full heap\n1 delete ok\n1 insert full heap\n1 commit ok\n1 begin 4\n1 insert ok\n1 commit ok\n",
+            Status::Done,
+        ),
+        Case::new(
+            "a delete and an insert are taken back",
+            "size 1 1\nclient 1\nbegin\ninsert 5 abc\ncommit\nbegin\ndelete 5\ninsert 5 z\nabort\nbegin\nget 5\ncommit\nend\n",
+            b"1 begin 1\n1 insert ok\n1 commit ok\n1 begin 2\n1 delete ok\n1 insert ok\n1 abort ok\n1 begin 3\n1 got abc\n1 commit ok\n",
+            Status::Done,
+        ),
+        Case::new(
+            "a chain of two and a survivor",
+            CHAIN,
+            b"1 begin 1\n1 insert ok\n1 commit ok\n1 begin 2\n1 insert ok\n1 commit ok\n1 checkpoint 1\n1 poke ok\n1 begin 3\n1 got `bc\n1 insert ok\n1 commit ok\n1 begin 4\n1 update ok\n1 commit ok\n1 begin 5\n1 got qq\n1 commit ok\n1 audit failed 3\ncrash 0\nrolled back none\ndeleted 3 5\n4 abc\n5 y\nrecords 2\n",
+            Status::Done,
+        ),
+        Case::new(
+            "a change before the damaged read is undone",
+            "size 2 3\nclient 1\nbegin\ninsert 4 abc\ncommit\nbegin\ninsert 5 xyz\ncommit\ncheckpoint\npoke 3 11 0100000000000000\nbegin\nupdate 5 q\nget 4\ncommit\nbegin\nget 5\ncommit\naudit\nend\ncrash 0\nrestart\nshow\n",
+            b"1 begin 1\n1 insert ok\n1 commit ok\n1 begin 2\n1 insert ok\n1 commit ok\n1 checkpoint 1\n1 poke ok\n1 begin 3\n1 update ok\n1 got `bc\n1 commit ok\n1 begin 4\n1 got q\n1 commit ok\n1 audit failed 3\ncrash 0\nrolled back none\ndeleted 3 4\n4 abc\n5 xyz\nrecords 2\n",
+            Status::Done,
+        ),
+        Case::new(
+            "a writer of damaged words is deleted",
+            "size 2 3\nclient 1\nbegin\ninsert 4 abc\ncommit\nend\naudit\npoke 3 11 0100000000000000\nclient 1\nbegin\nupdate 4 zz\ncommit\nend\naudit\ncrash 0\nrestart\nshow\n",
+            b"1 begin 1\n1 insert ok\n1 commit ok\naudit clean\npoke ok\n1 begin 2\n1 update ok\n1 commit ok\naudit failed 3\ncrash 0\nrolled back none\ndeleted 2\n4 abc\nrecords 1\n",
+            Status::Done,
+        ),
+        Case::new(
+            "a dead client in another one's way",
+            "size 1 1\nclient 1\nbegin\ndie 2\ninsert 5 abc\nend\nnext\nclient 2\nbegin\ninsert 6 d\nget 5\ncommit\nend\nshow\n",
+            b"1 begin 1\n1 died\n2 begin 2\n2 insert ok\n2 get missing\n2 commit ok\n6 d\nrecords 1\n",
+            Status::Done,
+        ),
+        Case::new(
+            "an image with what a dead client left",
+            "size 1 2\nclient 1\nbegin\ndie 5\ninsert 5 abc\ninsert 6 d\nend\ncheckpoint\ncleanup\ncrash 0\nrestart\nshow\n",
+            b"1 begin 1\n1 insert ok\n1 died\ncheckpoint 1\ncleaned 1\ncrash 0\nrolled back 1\ndeleted none\nrecords 0\n",
             Status::Done,
         ),
         Case::new(
@@ -197,15 +246,6 @@ fn scripts_give_their_lines_and_statuses(rt: HostRuntime) -> Result<(), Fail> {
                 "open\nclient 1\nbegin\ncommit\nend\nshow\n",
                 b"rolled back 1\ndeleted none\n1 begin 2\n1 commit ok\nrecords 0\n",
                 Status::Done,
-            )
-        },
-        Case {
-            log: WITH_THE_LAST_NUMBER,
-            ..Case::new(
-                "no number is left",
-                "open\nshow\nclient 1\nbegin\ncommit\nend\nshow\n",
-                b"rolled back none\ndeleted none\nrecords 0\nout of numbers\n",
-                Status::OutOfNumbers,
             )
         },
         Case::new(
@@ -305,18 +345,28 @@ fn scripts_give_their_lines_and_statuses(rt: HostRuntime) -> Result<(), Fail> {
     Ok(())
 }
 
+// A run over this store, by pieces as large as may be.
+fn run_over(
+    rt: &(impl Abort + AllocGlobal + Threads + Wait + Sync),
+    script: Vec<u8>,
+    store: MemoryStore,
+) -> Result<(Status, MemorySink, MemoryStore), Fail> {
+    let alloc = rt.alloc();
+    let words = vec![in alloc; String::from_str(alloc, "run")?]?;
+    let mut source = MemorySource::new(script, 65_536, Vec::new(alloc));
+    let mut sink = MemorySink::new(alloc, 65_536, Vec::new(alloc));
+    let (status, store) = run(rt, alloc, &words, &mut source, &mut sink, store, &OpenGate);
+    Ok((status, sink, store))
+}
+
 // What a run over an empty store writes.
 fn written(
     rt: &(impl Abort + AllocGlobal + Threads + Wait + Sync),
     script: Vec<u8>,
     failing_calls: Vec<u64>,
 ) -> Result<(Status, MemorySink), Fail> {
-    let alloc = rt.alloc();
-    let words = vec![in alloc; String::from_str(alloc, "run")?]?;
-    let mut source = MemorySource::new(script, 65_536, Vec::new(alloc));
-    let mut sink = MemorySink::new(alloc, 65_536, Vec::new(alloc));
-    let store = MemoryStore::new(alloc, failing_calls);
-    let (status, _store) = run(rt, alloc, &words, &mut source, &mut sink, store, &OpenGate);
+    let store = MemoryStore::new(rt.alloc(), failing_calls);
+    let (status, sink, _store) = run_over(rt, script, store)?;
     Ok((status, sink))
 }
 
@@ -348,6 +398,51 @@ fn scripts_from_outside(rt: HostRuntime) -> Result<(), Fail> {
     assert_eq!(rt; CASES.lines().count(), 80);
     for case in CASES.lines() {
         case_runs_as_wanted(&rt, case)?;
+    }
+    Ok(())
+}
+
+// What a case writes that has a line of its own before that.
+fn split_case(case: &str) -> Result<(&str, &str), Fail> {
+    Ok(case.split_once("====\n").ok_or("a case has two parts")?)
+}
+
+fn core_case_runs_as_wanted(
+    rt: &(impl Abort + AllocGlobal + Threads + Wait + Sync),
+    case: &str,
+) -> Result<(), Fail> {
+    let alloc = rt.alloc();
+    let (script, wanted) = split_case(case)?;
+    let (status, sink) = written(rt, script.as_bytes().to_vec(alloc)?, Vec::new(alloc))?;
+    assert!(rt; sink.taken() == wanted.as_bytes(), "at {case}");
+    assert!(rt; status == Status::Done, "at {case}");
+    Ok(())
+}
+
+#[test]
+fn cases_of_all_commands(rt: HostRuntime) -> Result<(), Fail> {
+    for case in CORE_CASES.split("----\n").filter(|case| !case.is_empty()) {
+        core_case_runs_as_wanted(&rt, case)?;
+    }
+    Ok(())
+}
+
+fn case_is_refused(
+    rt: &(impl Abort + AllocGlobal + Threads + Wait + Sync),
+    case: &str,
+) -> Result<(), Fail> {
+    let alloc = rt.alloc();
+    let (script, wanted) = split_case(case)?;
+    let (status, sink) = written(rt, script.as_bytes().to_vec(alloc)?, Vec::new(alloc))?;
+    assert!(rt; sink.taken() == wanted.as_bytes(), "at {case}");
+    assert!(rt; matches!(status, Status::BadScript { .. }), "at {case}");
+    Ok(())
+}
+
+#[test]
+fn faulty_scripts_are_refused(rt: HostRuntime) -> Result<(), Fail> {
+    for case in REFUSED.split("----\n").filter(|case| !case.is_empty()) {
+        case_is_refused(&rt, case)?;
     }
     Ok(())
 }
@@ -467,30 +562,33 @@ fn add_often(line: &[u8], times: u64, text: &mut Vec<u8>) -> Result<(), Fail> {
     Ok(())
 }
 
-// The record of an insert has 60 bytes, and so has that of a get: the first transaction has more than 64 KiB, the second
-// more than a MiB.
+// The records of an insert have 300 bytes and more, and those of a get 220: the first transaction has more than 64 KiB, the
+// second makes the log longer than a MiB. So has the script, whose numbers have leading zeros.
 #[test]
 fn long_transactions_survive_a_restart(rt: HostRuntime) -> Result<(), Fail> {
     let alloc = rt.alloc();
     let mut script = b"size 200 400\nclient 1\nbegin\n".to_vec(alloc)?;
     let mut wanted = b"1 begin 1\n".to_vec(alloc)?;
-    add_lines(&rt, "insert ", 1200, &mut script)?;
-    add_often(b"1 insert ok\n", 1200, &mut wanted)?;
+    add_lines(&rt, "insert ", 200, &mut script)?;
+    add_often(b"1 insert ok\n", 200, &mut wanted)?;
     script.extend_from_slice(b"commit\nbegin\n")?;
     wanted.extend_from_slice(b"1 commit ok\n1 begin 2\n")?;
-    add_often(b"get 7\n", 20_000, &mut script)?;
+    add_often(b"get 0000000000000000007\n", 4000, &mut script)?;
     add_often(
         b"1 got aaaaaaaaaaaaaaaaaaaaaaaaaaaaaaaaaaaaaaaa\n",
-        20_000,
+        4000,
         &mut wanted,
     )?;
     script.extend_from_slice(b"commit\nend\ncrash 0\nrestart\nshow\n")?;
     wanted.extend_from_slice(b"1 commit ok\ncrash 0\nrolled back none\ndeleted none\n")?;
-    add_lines(&rt, "", 1200, &mut wanted)?;
-    wanted.extend_from_slice(b"records 1200\n")?;
-    let (status, sink) = written(&rt, script, Vec::new(alloc))?;
+    add_lines(&rt, "", 200, &mut wanted)?;
+    wanted.extend_from_slice(b"records 200\n")?;
+    assert!(rt; script.len() > 65_536);
+    let store = MemoryStore::new(alloc, Vec::new(alloc));
+    let (status, sink, store) = run_over(&rt, script, store)?;
     assert!(rt; status == Status::Done);
     assert!(rt; sink.taken() == wanted.as_slice());
+    assert!(rt; store.file(FileName::Log).len() > 1_048_576);
     Ok(())
 }
 
@@ -532,5 +630,198 @@ fn a_second_run_finds_the_records(rt: HostRuntime) -> Result<(), Fail> {
     assert!(rt; status == Status::Done);
     let (status, _store) = goes_on(&rt, "size 1 1\n", b"formatted\n", store)?;
     assert!(rt; status == Status::Formatted);
+    Ok(())
+}
+
+// The script is read by pieces of 7 bytes.
+#[test]
+fn a_source_that_fails_at_any_read(rt: HostRuntime) -> Result<(), Fail> {
+    let alloc = rt.alloc();
+    for read in 0..(ONE_RECORD.len() / 7) as u64 {
+        let words = vec![in alloc; String::from_str(alloc, "run")?]?;
+        let failing = vec![in alloc; read]?;
+        let mut source = MemorySource::new(ONE_RECORD.as_bytes().to_vec(alloc)?, 7, failing);
+        let mut sink = MemorySink::new(alloc, 5, Vec::new(alloc));
+        let store = MemoryStore::new(alloc, Vec::new(alloc));
+        let (status, _store) = run(&rt, alloc, &words, &mut source, &mut sink, store, &OpenGate);
+        assert!(rt; status == Status::ReadFault, "at {read}");
+        assert!(rt; sink.taken() == b"read fault\n".as_slice(), "at {read}");
+    }
+    Ok(())
+}
+
+// The lines are taken by pieces of 5 bytes: eleven, since those of the round and those of show are written apart.
+#[test]
+fn a_sink_that_fails_at_any_write(rt: HostRuntime) -> Result<(), Fail> {
+    let alloc = rt.alloc();
+    for write in 0..11 {
+        let words = vec![in alloc; String::from_str(alloc, "run")?]?;
+        let mut source = MemorySource::new(
+            ONE_RECORD.as_bytes().to_vec(alloc)?,
+            7,
+            Vec::new(alloc),
+        );
+        let failing: Vec<u64> = vec![in alloc; write]?;
+        let mut sink = MemorySink::new(alloc, 5, failing);
+        let store = MemoryStore::new(alloc, Vec::new(alloc));
+        let (status, _store) = run(&rt, alloc, &words, &mut source, &mut sink, store, &OpenGate);
+        assert!(rt; status == Status::WriteFault, "at {write}");
+        assert!(rt; ONE_RECORD_LINES.starts_with(sink.taken()), "at {write}");
+        assert!(rt; sink.taken().len() < ONE_RECORD_LINES.len(), "at {write}");
+    }
+    Ok(())
+}
+
+const EACH_CALL: &str =
+    "size 1 2\nclient 1\nbegin\ninsert 5 abc\ncommit\ncheckpoint\nbegin\nupdate 5 z\nend\naudit\ncrash 0\nrestart\nshow\n";
+
+const EACH_CALL_LINES: &[u8] =
+    b"1 begin 1\n1 insert ok\n1 commit ok\n1 checkpoint 1\n1 begin 2\n1 update ok\n1 aborted\naudit clean\ncrash 0\nrolled back none\ndeleted none\n5 abc\nrecords 1\n";
+
+fn files_of(alloc: Global, store: &MemoryStore) -> Result<[Vec<u8>; 4], Fail> {
+    Ok([
+        store.file(FileName::Log).to_vec(alloc)?,
+        store.file(FileName::ImageA).to_vec(alloc)?,
+        store.file(FileName::ImageB).to_vec(alloc)?,
+        store.file(FileName::Anchor).to_vec(alloc)?,
+    ])
+}
+
+// Whatever call of the store fails, what was told as committed is found by the next run. It answers whether all went well.
+fn keeps_what_was_told(
+    rt: &(impl Abort + AllocGlobal + Threads + Wait + Sync),
+    call: u64,
+) -> Result<bool, Fail> {
+    let alloc = rt.alloc();
+    let store = MemoryStore::new(alloc, vec![in alloc; call]?);
+    let (status, sink, store) = run_over(rt, EACH_CALL.as_bytes().to_vec(alloc)?, store)?;
+    let ends = match status {
+        Status::Done => b"\n".as_slice(),
+        Status::StoreFault => b"store fault\n".as_slice(),
+        _ => b"another status".as_slice(),
+    };
+    assert!(rt; sink.taken().ends_with(ends), "at {call}");
+    let told = sink
+        .taken()
+        .starts_with(b"1 begin 1\n1 insert ok\n1 commit ok\n");
+    let again = MemoryStore::with(files_of(alloc, &store)?, Vec::new(alloc));
+    let (status, found, _store) = run_over(rt, b"open\nshow\n".to_vec(alloc)?, again)?;
+    if told {
+        assert!(rt; status == Status::Done, "at {call}");
+        assert!(rt;
+            found.taken().ends_with(b"deleted none\n5 abc\nrecords 1\n"),
+            "at {call}"
+        );
+    }
+    Ok(sink.taken() == EACH_CALL_LINES)
+}
+
+// The last call that is made is one of the restart's.
+#[test]
+fn a_store_that_fails_at_any_call(rt: HostRuntime) -> Result<(), Fail> {
+    for call in 0..1000 {
+        if keeps_what_was_told(&rt, call)? {
+            assert!(rt; call > 30, "at {call}");
+            return Ok(());
+        }
+    }
+    Ok(None.ok_or("each call was made")?)
+}
+
+// The worked chain, whose first restart is stopped after so many calls of the store, and the store cut so then.
+fn stopped_chain(alloc: Global, passes: u32, choice: u32) -> Result<String, Fail> {
+    let script = CHAIN
+        .strip_suffix("restart\nshow\n")
+        .ok_or("another script")?;
+    Ok(format!(in alloc; "{script}fuse {passes}\nrestart\ncrash {choice}\nrestart\nshow\n")?)
+}
+
+// Whether the first restart was stopped.
+fn stops_and_ends_well(
+    rt: &(impl Abort + AllocGlobal + Threads + Wait + Sync),
+    passes: u32,
+    choice: u32,
+) -> Result<bool, Fail> {
+    let script = stopped_chain(rt.alloc(), passes, choice)?;
+    let store = MemoryStore::new(rt.alloc(), Vec::new(rt.alloc()));
+    let (status, sink, _store) = run_over(rt, script.as_bytes().to_vec(rt.alloc())?, store)?;
+    assert!(rt; status == Status::Done, "at {passes}, {choice}");
+    assert!(rt;
+        sink.taken()
+            .ends_with(b"rolled back none\ndeleted 3 5\n4 abc\n5 y\nrecords 2\n"),
+        "at {passes}, {choice}"
+    );
+    let text = str::from_utf8(sink.taken()).map_err(|_| "no text")?;
+    Ok(text.contains("restart store stopped"))
+}
+
+// Cut in each of these ways, the worked chain comes to the same records. It answers whether the first restart was stopped.
+fn stops_in_each_way(
+    rt: &(impl Abort + AllocGlobal + Threads + Wait + Sync),
+    passes: u32,
+) -> Result<bool, Fail> {
+    let mut stopped = true;
+    for choice in 0..5 {
+        stopped &= stops_and_ends_well(rt, passes, choice)?;
+    }
+    Ok(stopped)
+}
+
+#[test]
+fn stops_inside_a_restart(rt: HostRuntime) -> Result<(), Fail> {
+    for passes in 0..1000 {
+        if !stops_in_each_way(&rt, passes)? {
+            assert!(rt; passes > 10, "at {passes}");
+            return Ok(());
+        }
+    }
+    Ok(None.ok_or("each restart was stopped")?)
+}
+
+// Adds a block of a client with so many transactions of one insert each, from this key on.
+fn add_block(
+    alloc: Global,
+    client: u32,
+    first: u64,
+    count: u64,
+    text: &mut String,
+) -> Result<(), Fail> {
+    text.push_str(format!(in alloc; "client {client}\n")?.as_str())?;
+    for key in 0..count {
+        let key = first.wrapping_add(key);
+        text.push_str(format!(in alloc; "begin\ninsert {key} v{key}\ncommit\n")?.as_str())?;
+    }
+    text.push_str("end\n")?;
+    Ok(())
+}
+
+// Two clients insert 200 records each, beside 20 audits of a third one.
+#[test]
+fn clients_beside_audits(rt: HostRuntime) -> Result<(), Fail> {
+    let alloc = rt.alloc();
+    let mut script = String::from_str(alloc, "size 20 70\n")?;
+    add_block(alloc, 1, 1000, 200, &mut script)?;
+    add_block(alloc, 2, 2000, 200, &mut script)?;
+    script.push_str("client 3\n")?;
+    for _ in 0..20 {
+        script.push_str("audit\n")?;
+    }
+    script.push_str("end\nverify\nshow\n")?;
+    let store = MemoryStore::new(alloc, Vec::new(alloc));
+    let (status, sink, _store) = run_over(&rt, script.as_bytes().to_vec(alloc)?, store)?;
+    let text = str::from_utf8(sink.taken()).map_err(|_| "no text")?;
+    assert!(rt; status == Status::Done);
+    assert_eq!(rt;
+        text.lines().filter(|line| *line == "3 audit clean").count(),
+        20
+    );
+    assert_eq!(rt;
+        text.lines()
+            .filter(|line| line.ends_with(" commit ok"))
+            .count(),
+        400
+    );
+    assert!(rt; text.contains("\nverify ok\n1000 v1000\n"));
+    assert!(rt; text.ends_with("\n2199 v2199\nrecords 400\n"));
     Ok(())
 }

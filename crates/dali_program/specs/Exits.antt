@@ -1,13 +1,13 @@
 -- The numbers that the program ends with.
 --     number_of status      the number of a status
---     ExitsWith number      the run ended with a status of this number, and keeps what was committed
+--     ExitsWith number      the run ended with a status of this number, and what was committed survives, where no damage escapes
 --     Refuses number        there was no memory before the run: nothing was read or run, and the last line was written
-use Rattle.std.specs.Prelude.{◌≡◌, ℕ, List, Option}
+use Rattle.std.specs.Prelude.{◌≡◌, ℕ, Bool, List, Option}
 use Rattle.dali_record.specs.declared.records.Record.{Record}
 use Rattle.dali_run.specs.declared.status.Status.{Status}
-use Rattle.dali_run.specs.declared.status.Status.TheVariants.{Done, BadWords, BadScript, TooLong, ReadFault, WriteFault, StoreFault, BadStore, Unformatted, Formatted, OutOfMemory, LogFull, OutOfNumbers}
+use Rattle.dali_run.specs.declared.status.Status.TheVariants.{Done, BadWords, BadScript, TooLong, ReadFault, WriteFault, StoreFault, BadStore, Unformatted, Formatted, OutOfMemory, LogFull}
 use Rattle.dali_run.specs.Ends.{Course, HasEnded, LastLine}
-use Rattle.dali_run.specs.Survives.{IsOwn, HasKept}
+use Rattle.dali_run.specs.Survives.{IsOwn, IsHonest, Survives}
 use Rattle.dali_store.specs.Store.{Files}
 
 abbrev pub number_of : Status → ℕ
@@ -23,14 +23,16 @@ number_of Unformatted = 8
 number_of Formatted = 9
 number_of OutOfMemory = 10
 number_of (LogFull end limit) = 11
-number_of OutOfNumbers = 12
 
-module _ {V : Type 0} (told : V → Option Files) (may_leave : V → Files → Type 0) (moment : V → ℕ) (left_since : V → ℕ → Files → Type 0) (faults : V → ℕ) (cuts : V → ℕ → Option Files) where
+module _ {V : Type 0} (told : V → Option Files) (may_leave : V → Files → Type 0) (moment : V → ℕ) (left_since : V → ℕ → Files → Type 0) (faults : V → ℕ) (limit : ℕ) (cuts : V → ℕ → Option Files) (precheck : Bool) where
   pub record ExitsWith (words : List (List ℕ)) (c : Course V) (number : ℕ) : Type 0 where
     pub status : Status
     pub is_number : number ≡ number_of status
-    pub ended : HasEnded told may_leave moment left_since faults cuts words c status
-    pub survives : (base : List (List Record)) → IsOwn told may_leave base c.store → HasKept told may_leave moment left_since faults cuts words base c ended.mid ended.count status ended.ended
+    pub ended : HasEnded told may_leave moment left_since faults limit cuts precheck words c status
+    pub survives :
+        (base : List Record) → IsOwn told may_leave base c.store
+        → IsHonest told may_leave moment left_since faults limit cuts precheck words c ended.mid ended.count status ended.ended
+        → Survives told may_leave moment left_since faults limit cuts precheck words c ended.mid ended.count base status ended.ended
 
 pub record Refuses {V : Type 0} (c : Course V) (number : ℕ) : Type 0 where
   pub is_number : number ≡ number_of OutOfMemory

@@ -1,5 +1,7 @@
--- What stood before is the front of the text.
+-- What stood before is the front of the text; texts one behind the other.
 use Rattle.std.proofs.Common.{◌≡◌, ℕ, List, [], ◌∷◌, ◌++◌, OnErr, Result, Ok, Err, arith}
+use Rattle.std.specs.Fmt.{decimal}
+use Rattle.std.proofs.lemmas.Grind.{common_steps}
 use Rattle.dali_report.specs.Texts.{IsFront}
 
 within : (old text new : List ℕ) → IsFront (old ++ text) new → IsFront old new
@@ -17,3 +19,7 @@ front_of old text mid new added front = within old text new (rw added at front)
 pub on_err : {T E P : Type 0} (r : Result T E) → P → OnErr r P
 on_err (Ok x) p = tt
 on_err (Err e) p = p
+
+-- a text, another one behind it, and a number
+pub three : (old name text named all : List ℕ) (number region : ℕ) → named ≡ old ++ (name ++ text) → all ≡ named ++ decimal number → number ≡ region → all ≡ old ++ (name ++ text ++ decimal region)
+three old name text named all number region first second same = grind (arith, common_steps)

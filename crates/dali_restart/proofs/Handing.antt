@@ -10,6 +10,7 @@ use Rattle.dali_store.specs.Store.{Files as Disk, LeavesOnly, Only}
 use Rattle.dali_store.specs.Calls.{PassesFewer}
 use Rattle.dali_store.proofs.Moments.{if_some_each, joins, weaker}
 use Rattle.dali_batch.proofs.Finds.{if_some_any, if_some_same, if_some_two}
+use Rattle.dali_batch.specs.Batch.{IsUnformatted}
 use Rattle.dali_batch.specs.Reads.{OnlyReads}
 use Rattle.dali_system.specs.Images.{Told}
 use Rattle.dali_core.specs.Served.{Served}
@@ -28,6 +29,7 @@ use Rattle.dali_restart.specs.declared.restarting.Found.{Found}
 use Rattle.dali_restart.specs.declared.restarting.Report.{Report}
 use Rattle.dali_restart.specs.Deciding.{IsReadIn, IsSettled, Settles}
 use Rattle.dali_restart.specs.Restarting.{BeginsRun, Gives, IsFresh, IsLeft, IsOnWay, IsReadAs, LeavesAtRest, RunsFrom, SpellsOnWay, StopsAlike, outcome}
+use Rattle.dali_restart.proofs.Once.{reads_once}
 use Rattle.dali_restart.proofs.Telling.{gives_all, reads_as}
 
 -- ---- a result
@@ -56,6 +58,10 @@ reads_in fs may x is = reads_as fs x.base.geometry is.files x.reloaded is.begins
 pub reads_out : (fs : Disk) (may : Disk → Type 0) (x : Found) (gs : List RegionState) → IsReadIn fs may x
     → gs ≡ map loaded x.reloaded.recovered.regions.items → IsReadAs fs (outcome gs (report_of x.reloaded.recovered))
 reads_out fs may x gs is e = subst (IsReadAs fs) (outcome_is gs x.reloaded.recovered e) (reads_in fs may x is)
+
+-- a disk that was read has a database
+pub none_read : (fs : Disk) (may : Disk → Type 0) (x : Found) → IsReadIn fs may x → IsUnformatted fs.log → ⊥
+none_read fs may x is without = (reads_once fs (outcome_of x.reloaded.recovered) (reads_in fs may x is)).2 without
 
 -- ---- the core
 pub is_fresh : {V : Type 0} (r : Resting) (words : List (List ℕ)) (limit : ℕ) (store : V) (gs : List RegionState) (y : Served) (v : Vaulted V)

@@ -388,12 +388,13 @@ fn settle<V: Store>(alloc: Global, store: &mut V, found: &Found) -> Result<Resti
 /// A stop at any moment of it leaves files of which a restart hands out the same, or what a crash might have left before it; the
 /// store that comes back, with an error or in the core, reads as such files (`any_moment`).
 ///
-/// `Unformatted` exactly where the log has fewer than two bytes or its first gate is closed. `BadStore` exactly where the files
-/// are bad: in the log's first batch, else in the anchor, else in the current image, else in the log from the image's place on.
-/// `Fault` exactly where the store's count of faults rose. `TooLong` only where the restart's record would have more than the 2^30
-/// bytes of a batch; then the store was only read. `Unsteady` where a store gave other bytes when it was read again, which none
-/// does that tells its contents. `OutOfMemory` where memory is refused. It takes memory for the regions, once more for their words
-/// and twice while the image is read, and for what the last epoch's transactions and marked words need; not for the log.
+/// `Unformatted` exactly where the log has fewer than two bytes or its first gate is closed; such files are only read, whatever is
+/// answered (`none`). `BadStore` exactly where the files are bad: in the log's first batch, else in the anchor, else in the
+/// current image, else in the log from the image's place on. `Fault` exactly where the store's count of faults rose. `TooLong`
+/// only where the restart's record would have more than the 2^30 bytes of a batch; then the store was only read. `Unsteady` where
+/// a store gave other bytes when it was read again, which none does that tells its contents. `OutOfMemory` where memory is
+/// refused. It takes memory for the regions, once more for their words and twice while the image is read, and for what the last
+/// epoch's transactions and marked words need; not for the log.
 pub fn restart<V: Store>(
     alloc: Global,
     store: V,
@@ -426,6 +427,11 @@ pub fn restart<V: Store>(
     ensures steady { IfErr result (λ refused. refused.error ≡ errors.Unsteady → V.told store ≡ None) }
     ensures reads { IfErr result (λ refused. (refused.error ≡ errors.Fault → ⊥) →
         (refused.error ≡ errors.OutOfMemory → ⊥) → OnlyReads V.told V.moment V.left_since V.may_leave store refused.store) }
+    // Files without a database are only read, whatever is answered, and no core is handed out.
+    ensures none { MatchResult result
+        (λ made. IfSome (V.told store) (λ fs. IsUnformatted fs.log → ⊥))
+        (λ refused. IfSome (V.told store) (λ fs. IsUnformatted fs.log →
+        OnlyReads V.told V.moment V.left_since V.may_leave store refused.store)) }
     ensures fault { IfErr result (λ refused. refused.error ≡ errors.Fault →
         Rose (V.faults store) (V.faults refused.store)) }
     ensures kept { MatchResult result (λ made. V.faults made.0.vault.store ≡ V.faults store)

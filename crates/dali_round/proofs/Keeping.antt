@@ -1,4 +1,4 @@
--- A step of one client leaves the image files as the steps of the others ask for, whatever log there is.
+-- A step of one client leaves the image files as the steps of the others ask for, and none shorter, whatever log there is.
 use Rattle.std.proofs.Common.{◌≡◌, ℕ, ◌≤◌, List, length, Option, Some, None, refl, sym, subst, ⊎_elim, arith}
 use Rattle.std.specs.Prelude.{IfSome, slice_get, slice_set}
 use Rattle.dali_counts.proofs.Lists.{set_cases}
@@ -9,6 +9,7 @@ use Rattle.dali_traces.specs.Disks.{image_file}
 use Rattle.dali_traces.specs.Places.{place_of}
 use Rattle.dali_vault.specs.Vaulted.{Vaulted}
 use Rattle.dali_whole.specs.Cores.{HoldsPlaces, NoShorter, IsNoShorter}
+use Rattle.dali_whole.proofs.Lengths.{same_length, then_length}
 use Rattle.dali_checkpoint.specs.Kept.{side_in}
 use Rattle.dali_clients.specs.declared.command.Block.{Block}
 use Rattle.dali_turns.specs.declared.client.Client.{Client}
@@ -59,3 +60,9 @@ module _ {V : Type 0} (told : V → Option Disk) where
         let b = with_length bs ks i k new.count at_k in
         subst (λ (state : State). ReachesNext told state v) (sym (new.each i b.0 k b.1 at_k).state) tt;
   }
+
+  pub as_long : (v : Vaulted V) → IsNoShorter told v v
+  as_long v = same_length (told v.store) (told v.store) refl
+
+  pub longer_on : (v u t : Vaulted V) → IsNoShorter told v u → IsNoShorter told u t → IsNoShorter told v t
+  longer_on v u t one two = then_length (told v.store) (told u.store) (told t.store) one two

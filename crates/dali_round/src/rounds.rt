@@ -2,7 +2,7 @@
 ghost use Rattle.std.specs.Prelude.{◌≡◌, ◌<◌, ◌⊎◌, ℕ, [], false, true, Ok, Some, None, map, slice_get, length, vec_capacity, vec_len, is_ok, IfOk, IfSome, OnOk};
 ghost use Rattle.dali_transcripts.specs.Rounds.{AreBlocks};
 ghost use Rattle.dali_clients.specs.Told.{told_of};
-ghost use Rattle.dali_whole.specs.Cores.{HoldsPlaces};
+ghost use Rattle.dali_whole.specs.Cores.{HoldsPlaces, IsNoShorter};
 ghost use Rattle.dali_round.specs.Leads.{is_done, RoundGoes};
 ghost use Rattle.dali_round.specs.Played.{AreNew, AreOver, HavePlaces, PlayGoes};
 ghost use Rattle.dali_round.specs.Ends.{EndGoes, named};
@@ -55,6 +55,7 @@ fn make_turn<V: Store, G: Gate>(
     requires { HavePlaces V.told clients.old core.old.regions.items core.old.vault }
     ensures goes { PlayGoes V.told V.may_leave V.faults setting.now.precheck clients.old core.old.regions.items core.old.system.state core.old.vault (is_ok result) clients.new core.new.regions.items core.new.system.state core.new.vault }
     ensures places { HavePlaces V.told clients.new core.new.regions.items core.new.vault }
+    ensures longer { IsNoShorter V.told core.old.vault core.new.vault }
     ensures idle { result ≡ Ok false → IsPassed core.old.system.state clients.old clients.new number × (core.new ≡ core.old) }
 {
     let Some(place) = place_of(clients, number) else {
@@ -81,6 +82,7 @@ fn make_turns<V: Store, G: Gate>(
     requires { HavePlaces V.told clients.old core.old.regions.items core.old.vault }
     ensures goes { PlayGoes V.told V.may_leave V.faults setting.now.precheck clients.old core.old.regions.items core.old.system.state core.old.vault (is_ok result) clients.new core.new.regions.items core.new.system.state core.new.vault }
     ensures places { HavePlaces V.told clients.new core.new.regions.items core.new.vault }
+    ensures longer { IsNoShorter V.told core.old.vault core.new.vault }
     ensures idle { result ≡ Ok false → AreIdle core.new.system.state clients.new 65 }
 {
     let mut went_on = false;
@@ -114,6 +116,7 @@ fn run<V: Store, G: Gate>(
     requires { HavePlaces V.told clients.old core.old.regions.items core.old.vault }
     ensures goes { PlayGoes V.told V.may_leave V.faults setting.now.precheck clients.old core.old.regions.items core.old.system.state core.old.vault (is_ok result) clients.new core.new.regions.items core.new.system.state core.new.vault }
     ensures places { HavePlaces V.told clients.new core.new.regions.items core.new.vault }
+    ensures longer { IsNoShorter V.told core.old.vault core.new.vault }
     ensures over { result ≡ Ok true → AreOver clients.new }
     ensures stuck { result ≡ Ok false → NoneHasCome V.told V.may_leave V.faults setting.now.precheck clients.old core.old.regions.items core.old.system.state core.old.vault }
 {
@@ -134,6 +137,7 @@ fn play<V: Store, G: Gate>(
     requires { HavePlaces V.told clients.old core.old.regions.items core.old.vault }
     ensures goes { EndGoes V.told V.may_leave V.faults setting.now.precheck clients.old core.old.regions.items core.old.system.state core.old.vault (is_done result) clients.new core.new.regions.items core.new.system.state core.new.vault }
     ensures places { IfSome (V.told core.new.vault.store) (HoldsPlaces core.new.regions.items) }
+    ensures longer { IsNoShorter V.told core.old.vault core.new.vault }
 {
     match run(clients, core, setting) {
         Ok(true) => RoundEnd::Done,
@@ -194,6 +198,7 @@ pub fn round<V: Store, G: Gate>(
     ensures clients { (map (λ t. t.client) result.1.items ≡ map (λ b. b.client) blocks.now) ⊎ (result.1.items ≡ []) }
     ensures nothing { length result.1.items < length blocks.now → result.0 ≡ core }
     ensures files { IfSome (V.told result.0.vault.store) (HoldsPlaces result.0.regions.items) }
+    ensures longer { IsNoShorter V.told core.vault result.0.vault }
 {
     let mut core = core;
     let Ok((mut clients, room)) = clients_of(alloc, blocks) else {

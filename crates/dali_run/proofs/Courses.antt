@@ -1,18 +1,20 @@
 -- The commands of a script one after another.
 use Rattle.std.proofs.Common.{◌≡◌, ℕ, ◌+◌, ◌<◌, ◌≤◌, List, [], ◌∷◌, ◌++◌, length, take, get_or, Option, Some, None, Result, Ok, Err, zero, suc, inl, inr, arith, refl, sym, ◌∙◌, ap, subst, append_assoc}
 use Rattle.std.proofs.lemmas.List.{append-nil, take_more}
+use Rattle.std.specs.Prelude.{Bool, OnOk, IfErr}
 use Rattle.std.specs.List.{AllByRecursion}
 use Rattle.dali_store.specs.Faults.{Rose}
 use Rattle.dali_store.specs.Store.{Files}
 use Rattle.dali_streams.specs.Streams.{Appends}
 use Rattle.dali_memstore.specs.Fuse.{inner}
+use Rattle.dali_memstore.specs.declared.fuse.Fuse.{Fuse}
 use Rattle.dali_script.specs.declared.commands.Command.{Command}
 use Rattle.dali_run.specs.declared.halt.Halt.{Halt}
-use Rattle.dali_run.specs.declared.halt.Halt.TheVariants.{BadWords, BadScript, TooLong, ReadFault, WriteFault, StoreFault, BadLog, Unformatted, Formatted, LogFull, OutOfNumbers, OutOfMemory}
+use Rattle.dali_run.specs.declared.halt.Halt.TheVariants.{BadWords, BadScript, TooLong, ReadFault, WriteFault, StoreFault, BadStore, Unformatted, Formatted, LogFull, OutOfMemory}
 use Rattle.dali_run.specs.declared.program.Program.{Program}
-use Rattle.dali_engine.specs.declared.engine.Engine.{Engine}
-use Rattle.dali_run.specs.Program.{IsDown, IsUp, IsGatedIn, settled}
+use Rattle.dali_run.specs.Program.{HoldsImages, IsDown, store_of}
 use Rattle.dali_run.specs.Ends.{RanWhole, StoppedIn}
+use Rattle.dali_run.specs.Fails.{Fails}
 use Rattle.dali_run.specs.Run.{RunsAll, HasRun}
 use Rattle.dali_run.specs.Steps.{Steps}
 use Rattle.dali_run.specs.Stops.{CommandStops, ScriptStops}
@@ -30,11 +32,11 @@ sized P [] i x all within is = absurd (omega (arith, within))
 sized P (y ∷ ys) zero x all within is = subst P (sym is) all.0
 sized P (y ∷ ys) (suc i) x all within is = sized P ys i x all.1 (omega (arith, within)) is
 
-pub ok_of : {T E A : Type 0} (r : Result T E) (x : T) → r ≡ Ok x → Rattle.std.specs.Prelude.OnOk r A → A
+pub ok_of : {T E A : Type 0} (r : Result T E) (x : T) → r ≡ Ok x → OnOk r A → A
 ok_of (Ok t) x e a = a
 ok_of (Err f) x e a = absurd cc
 
-pub err_of : {T E : Type 0} (P : E → Type 0) (r : Result T E) (x : E) → r ≡ Err x → Rattle.std.specs.Prelude.IfErr r P → P x
+pub err_of : {T E : Type 0} (P : E → Type 0) (r : Result T E) (x : E) → r ≡ Err x → IfErr r P → P x
 err_of P (Ok t) x e p = absurd cc
 err_of P (Err f) x e p = let same : f ≡ x = cc in subst P same p
 
@@ -42,21 +44,24 @@ pub ok_is_no_err : {T E : Type 0} (r : Result T E) (x : T) (f : E) → r ≡ Ok 
 ok_is_no_err (Ok t) x f ok err = cc
 ok_is_no_err (Err g) x f ok err = cc
 
-pub is_up_down : {V : Type 0} (told : V → Option Files) (may_leave : V → Files → Type 0) (p : Program V) → p.engine ≡ None → IsUp told may_leave p
-is_up_down told may_leave p e = subst (λ (o : Option Engine). IsGatedIn told may_leave o p.store) (sym e) tt
+pub holds_down : {V : Type 0} (told : V → Option Files) (p : Program V) (store : V) → IsDown p store → HoldsImages told p
+holds_down told p store down = subst (HoldsImages told) (sym down.down) tt
 
-module _ {V : Type 0} (told : V → Option Files) (may_leave : V → Files → Type 0) (moment : V → ℕ) (left_since : V → ℕ → Files → Type 0) (faults : V → ℕ) (cuts : V → ℕ → Option Files) where
-  one_more : (done : List Command) (command : Command) (start now next : Program V) (text more : List ℕ) → RunsAll told may_leave moment left_since faults cuts start done text now
-      → Steps told may_leave moment left_since faults cuts now command more next → RunsAll told may_leave moment left_since faults cuts start (done ++ command ∷ []) (text ++ more) (settled next)
+pub inner_of : {V : Type 0} (p : Program V) (f : Fuse V) (s : V) → f ≡ store_of p → s ≡ inner f → inner (store_of p) ≡ s
+inner_of {V = V} p f s of is = ap (λ (x : Fuse V). inner x) (sym of) ∙ sym is
+
+module _ {V : Type 0} (told : V → Option Files) (may_leave : V → Files → Type 0) (moment : V → ℕ) (left_since : V → ℕ → Files → Type 0) (faults : V → ℕ) (limit : ℕ) (cuts : V → ℕ → Option Files) (precheck : Bool) where
+  one_more : (done : List Command) (command : Command) (start now next : Program V) (text more : List ℕ) → RunsAll told may_leave moment left_since faults limit cuts precheck start done text now
+      → Steps told may_leave moment left_since faults limit cuts precheck now command more next → RunsAll told may_leave moment left_since faults limit cuts precheck start (done ++ command ∷ []) (text ++ more) next
   one_more [] command start now next text more run step =
-      (more, next, [], subst (λ (p : Program V). Steps told may_leave moment left_since faults cuts p command more next) run.1 step, (refl, refl), ap (λ (l : List ℕ). l ++ more) run.0 ∙ sym (append-nil more))
+      (more, next, [], subst (λ (p : Program V). Steps told may_leave moment left_since faults limit cuts precheck p command more next) run.1 step, (refl, refl), ap (λ (l : List ℕ). l ++ more) run.0 ∙ sym (append-nil more))
   one_more (c ∷ done) command start now next text more run step =
-      (run.0, run.1, run.2 ++ more, run.3, one_more done command (settled run.1) now next run.2 more run.4 step, ap (λ (l : List ℕ). l ++ more) run.5 ∙ append_assoc run.0 run.2 more)
+      (run.0, run.1, run.2 ++ more, run.3, one_more done command run.1 now next run.2 more run.4 step, ap (λ (l : List ℕ). l ++ more) run.5 ∙ append_assoc run.0 run.2 more)
 
   -- so many commands were run, and their lines written
   pub record Reached (start : V) (script : List Command) (count : ℕ) (before : Option (List ℕ)) (now : Program V) (after : Option (List ℕ)) : Type 0 where
     pub text : List ℕ
-    pub run : HasRun told may_leave moment left_since faults cuts start script count text now
+    pub run : HasRun told may_leave moment left_since faults limit cuts precheck start script count text now
     pub written : Appends before text after
 
   pub begins : (start : V) (script : List Command) (before : Option (List ℕ)) (p : Program V) → IsDown p start → Reached start script 0 before p before
@@ -67,36 +72,36 @@ module _ {V : Type 0} (told : V → Option Files) (may_leave : V → Files → T
   }
 
   more_run : (start : V) (script : List Command) (count : ℕ) (command : Command) (text more : List ℕ) (now next : Program V) → count < length script → command ≡ get_or script count command
-      → HasRun told may_leave moment left_since faults cuts start script count text now → Steps told may_leave moment left_since faults cuts now command more next
-      → HasRun told may_leave moment left_since faults cuts start script (count + 1) (text ++ more) (settled next)
+      → HasRun told may_leave moment left_since faults limit cuts precheck start script count text now → Steps told may_leave moment left_since faults limit cuts precheck now command more next
+      → HasRun told may_leave moment left_since faults limit cuts precheck start script (count + 1) (text ++ more) next
   more_run start script count command text more now next within is run step = record {
     first = run.first;
     down = run.down;
-    runs = subst (λ (cs : List Command). RunsAll told may_leave moment left_since faults cuts run.first cs (text ++ more) (settled next)) (sym (front_more script count command within is))
+    runs = subst (λ (cs : List Command). RunsAll told may_leave moment left_since faults limit cuts precheck run.first cs (text ++ more) next) (sym (front_more script count command within is))
         (one_more (take count script) command run.first now next text more run.runs step);
   }
 
   pub goes_on : (start : V) (script : List Command) (count : ℕ) (command : Command) (before mid after : Option (List ℕ)) (now next : Program V) → count < length script → command ≡ get_or script count command
-      → Reached start script count before now mid → (text : List ℕ) × Steps told may_leave moment left_since faults cuts now command text next × Appends mid text after → Reached start script (count + 1) before (settled next) after
+      → Reached start script count before now mid → (text : List ℕ) × Steps told may_leave moment left_since faults limit cuts precheck now command text next × Appends mid text after → Reached start script (count + 1) before next after
   goes_on start script count command before mid after now next within is r done = record {
     text = r.text ++ done.0;
     run = more_run start script count command r.text done.0 now next within is r.run done.1;
     written = appends_then before mid after r.text done.0 r.written done.2;
   }
 
-  pub is_whole : (start : V) (script : List Command) (count : ℕ) (before after : Option (List ℕ)) (now : Program V) (end : V) → count ≡ length script → inner now.store ≡ end → Reached start script count before now after
-      → RanWhole told may_leave moment left_since faults cuts start script before after end
+  pub is_whole : (start : V) (script : List Command) (count : ℕ) (before after : Option (List ℕ)) (now : Program V) (end : V) → count ≡ length script → inner (store_of now) ≡ end → Reached start script count before now after
+      → RanWhole told may_leave moment left_since faults limit cuts precheck start script before after end
   is_whole start script count before after now end all store r = record {
     text = r.text;
     state = now;
-    run = subst (λ (n : ℕ). HasRun told may_leave moment left_since faults cuts start script n r.text now) all r.run;
+    run = subst (λ (n : ℕ). HasRun told may_leave moment left_since faults limit cuts precheck start script n r.text now) all r.run;
     store = store;
     written = r.written;
   }
 
   stopped : (halt : Halt) (start : V) (script : List Command) (count : ℕ) (command : Command) (before mid after : Option (List ℕ)) (now next : Program V) (end : V) → count < length script → command ≡ get_or script count command
-      → inner next.store ≡ end → Reached start script count before now mid → Rattle.dali_run.specs.Fails.Fails told may_leave moment left_since faults halt command now next.store × (after ≡ mid)
-      → StoppedIn told may_leave moment left_since faults cuts halt start script before after end
+      → inner (store_of next) ≡ end → Reached start script count before now mid → Fails told may_leave moment left_since faults precheck halt command now (store_of next) × (after ≡ mid)
+      → StoppedIn told may_leave moment left_since faults limit cuts precheck halt start script before after end
   stopped halt start script count command before mid after now next end within is store r stops = record {
     count = count;
     command = command;
@@ -104,15 +109,15 @@ module _ {V : Type 0} (told : V → Option Files) (may_leave : V → Files → T
     text = r.text;
     state = now;
     run = r.run;
-    last = next;
+    last = store_of next;
     fails = stops.0;
     store = store;
     written = subst (λ (t : Option (List ℕ)). Appends before r.text t) (sym stops.1) r.written;
   }
 
   pub stops_in : (halt : Halt) (start : V) (script : List Command) (count : ℕ) (command : Command) (before mid after : Option (List ℕ)) (now next : Program V) (end : V) (first faults0 faults1 : ℕ) → count < length script
-      → command ≡ get_or script count command → inner next.store ≡ end → first ≤ faults0 → Reached start script count before now mid
-      → CommandStops told may_leave moment left_since faults cuts halt command now next mid after faults0 faults1 → ScriptStops told may_leave moment left_since faults cuts halt start script end before after first faults1
+      → command ≡ get_or script count command → inner (store_of next) ≡ end → first ≤ faults0 → Reached start script count before now mid
+      → CommandStops told may_leave moment left_since faults limit cuts precheck halt command now next mid after faults0 faults1 → ScriptStops told may_leave moment left_since faults limit cuts precheck halt start script end before after first faults1
   stops_in WriteFault start script count command before mid after now next end first f0 f1 within is store le r stops = (
     record {
       count = count;
@@ -140,9 +145,8 @@ module _ {V : Type 0} (told : V → Option Files) (may_leave : V → Files → T
   stops_in TooLong start script count command before mid after now next end first f0 f1 within is store le r stops = stopped TooLong start script count command before mid after now next end within is store r stops
   stops_in ReadFault start script count command before mid after now next end first f0 f1 within is store le r stops = stopped ReadFault start script count command before mid after now next end within is store r stops
   stops_in StoreFault start script count command before mid after now next end first f0 f1 within is store le r stops = stopped StoreFault start script count command before mid after now next end within is store r stops
-  stops_in (BadLog at) start script count command before mid after now next end first f0 f1 within is store le r stops = stopped (BadLog at) start script count command before mid after now next end within is store r stops
+  stops_in (BadStore file at) start script count command before mid after now next end first f0 f1 within is store le r stops = stopped (BadStore file at) start script count command before mid after now next end within is store r stops
   stops_in Unformatted start script count command before mid after now next end first f0 f1 within is store le r stops = stopped Unformatted start script count command before mid after now next end within is store r stops
   stops_in Formatted start script count command before mid after now next end first f0 f1 within is store le r stops = stopped Formatted start script count command before mid after now next end within is store r stops
-  stops_in (LogFull limit place) start script count command before mid after now next end first f0 f1 within is store le r stops = stopped (LogFull limit place) start script count command before mid after now next end within is store r stops
-  stops_in OutOfNumbers start script count command before mid after now next end first f0 f1 within is store le r stops = stopped OutOfNumbers start script count command before mid after now next end within is store r stops
+  stops_in (LogFull most place) start script count command before mid after now next end first f0 f1 within is store le r stops = stopped (LogFull most place) start script count command before mid after now next end within is store r stops
   stops_in OutOfMemory start script count command before mid after now next end first f0 f1 within is store le r stops = stopped OutOfMemory start script count command before mid after now next end within is store r stops

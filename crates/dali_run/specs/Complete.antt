@@ -1,74 +1,47 @@
--- Runs in which nothing is wrong.
---     SetsNoFuse command    it isn't `fuse N`
---     NoneFailed script s s'     no call of the store has failed: in a script that sets no fuse its count didn't rise from the store that was handed in to the one that came back, or the count is 0
---     IsReady script s      the store is as the script's first command wants it: whatever a crash leaves, it has no database for `size`, and a log of this program for `open`
---     IsRight words c       words, script and store are as they should be, and no call of the source, the sink or the store has failed
---     EndsWell words c status     all was done, or memory was refused, or a client's command met the limit of the log or of its numbers, and which one
---     DoneRunsAreReady words c     what a run leaves that was done is as `open` wants it, where it began over a store that was ready
---     RightRunsEndWell words c status     a run in which nothing is wrong ends so
-use Rattle.std.specs.Prelude.{◌≡◌, ◌≢◌, ◌⊎◌, ◌≤◌, ℕ, List, [], ◌∷◌, length, Option, Some, is_some, true}
-use Rattle.std.specs.List.{AllByRecursion}
+-- Which runs come to their end.
+--     FindsItsGate base script s   the first command finds what it asks for: to make one, a store without a database; to open one, a database, which base
+--                                  begins
+--     IsRead c words script        the words are `run` alone, and the source has the bytes of a script
+--     MayEnd status                a run to its end; memory was refused; or a source, a sink or a store failed, whose count rose then
+--     RunsComplete                 so ends each run that reads a script whose gate is found, over files of this program
+use Rattle.std.specs.Prelude.{◌≡◌, ◌<◌, ◌≤◌, ℕ, Bool, List, [], ◌∷◌, Option, Some, IfSome, length}
 use Rattle.dali_batch.specs.Batch.{IsUnformatted}
 use Rattle.dali_record.specs.declared.records.Record.{Record}
 use Rattle.dali_script.specs.declared.commands.Command.{Command}
-use Rattle.dali_script.specs.declared.commands.Command.TheVariants.{Size, Open, Fuse as SetFuse}
+use Rattle.dali_script.specs.declared.commands.Command.TheVariants.{Size, Open}
 use Rattle.dali_script.specs.Grammar.{IsSpelled}
-use Rattle.dali_store.specs.Faults.{Rose}
 use Rattle.dali_store.specs.Store.{Files}
 use Rattle.dali_run.specs.declared.status.Status.{Status}
-use Rattle.dali_run.specs.declared.status.Status.TheVariants.{Done, OutOfMemory, LogFull, OutOfNumbers}
-use Rattle.dali_run.specs.declared.halt.Halt.{Halt}
-use Rattle.dali_run.specs.declared.halt.Halt.TheVariants as halts
-use Rattle.dali_run.specs.Ends.{IsRun, Course, HasStopped, HasEnded}
-use Rattle.dali_run.specs.Survives.{IsOwn}
+use Rattle.dali_run.specs.declared.status.Status.TheVariants.{Done, ReadFault, WriteFault, StoreFault, OutOfMemory}
+use Rattle.dali_run.specs.Ends.{Course, HasEnded, IsRun}
+use Rattle.dali_run.specs.Survives.{IsHonest, IsOwn}
 
-module _ {V : Type 0} (told : V → Option Files) (may_leave : V → Files → Type 0) (moment : V → ℕ) (left_since : V → ℕ → Files → Type 0) (faults : V → ℕ) (cuts : V → ℕ → Option Files) (words : List (List ℕ)) where
-  -- a command met the limit behind those that were run before it
-  abbrev pub MetLimit : Halt → Course V → Type 0
-  MetLimit halt c = (mid : Option (List ℕ)) × HasStopped told may_leave moment left_since faults cuts words halt c mid
+pub record IsRead {V : Type 0} (words : List (List ℕ)) (c : Course V) (script : List Command) : Type 0 where
+  pub words_are : IsRun words
+  pub bytes : List ℕ
+  pub left : c.left ≡ Some bytes
+  pub short : length bytes ≤ 1048576
+  pub spelled : IsSpelled bytes script
 
-  abbrev pub EndsWell : Course V → Status → Type 0
-  EndsWell c Done = Unit {0}
-  EndsWell c OutOfMemory = Unit {0}
-  EndsWell c (LogFull end limit) = MetLimit (halts.LogFull end limit) c
-  EndsWell c OutOfNumbers = MetLimit halts.OutOfNumbers c
-  EndsWell c _ = ⊥
+abbrev pub MayEnd : Status → Type 0
+MayEnd Done = Unit {0}
+MayEnd OutOfMemory = Unit {0}
+MayEnd ReadFault = Unit {0}
+MayEnd WriteFault = Unit {0}
+MayEnd StoreFault = Unit {0}
+MayEnd _ = ⊥
 
-abbrev pub SetsNoFuse : Command → Type 0
-SetsNoFuse (SetFuse passes) = ⊥
-SetsNoFuse _ = Unit {0}
+module _ {V : Type 0} (told : V → Option Files) where
+  abbrev pub FindsItsGate : List Record → List Command → V → Type 0
+  FindsItsGate base (Size index heap ∷ later) s = IfSome (told s) (λ fs. IsUnformatted fs.log)
+  FindsItsGate base (Open ∷ later) s = 0 < length base
+  FindsItsGate base _ s = ⊥
 
-abbrev pub NoneFailed : {V : Type 0} → (V → ℕ) → List Command → V → V → Type 0
-NoneFailed faults script start end = (AllByRecursion SetsNoFuse script × (Rose (faults start) (faults end) → ⊥)) ⊎ (faults end ≡ 0)
-
-module _ {V : Type 0} (told : V → Option Files) (may_leave : V → Files → Type 0) where
-  abbrev pub HasNoLog : V → Type 0
-  HasNoLog s = (is_some (told s) ≡ true) × ((c : Files) → may_leave s c → IsUnformatted c.log)
-
-  abbrev pub HasOwnLog : V → Type 0
-  HasOwnLog s = (base : List (List Record)) × IsOwn told may_leave base s × (base ≢ [])
-
-  abbrev pub IsReady : List Command → V → Type 0
-  IsReady (Size index heap ∷ later) s = HasNoLog s
-  IsReady (Open ∷ later) s = HasOwnLog s
-  IsReady _ s = ⊥
-
-  pub record IsRight (faults : V → ℕ) (words : List (List ℕ)) (c : Course V) : Type 0 where
-    pub words_are : IsRun words
-    pub bytes : List ℕ
-    pub given : c.left ≡ Some bytes
-    pub short : length bytes ≤ 1048576
-    pub script : List Command
-    pub spelled : IsSpelled bytes script
-    pub ready : IsReady script c.store
-    pub all_read : Rose c.read_faults c.read_faults' → ⊥
-    pub all_written : Rose c.write_faults c.write_faults' → ⊥
-    pub none_failed : NoneFailed faults script c.store c.store'
-
-abbrev pub RightRunsEndWell : {V : Type 0} → (V → Option Files) → (V → Files → Type 0) → (V → ℕ) → (V → ℕ → Files → Type 0) → (V → ℕ) → (V → ℕ → Option Files) → List (List ℕ) → Course V → Status → Type 0
-RightRunsEndWell told may_leave moment left_since faults cuts words c status =
-    IsRight told may_leave faults words c → HasEnded told may_leave moment left_since faults cuts words c status → EndsWell told may_leave moment left_since faults cuts words c status
-
-abbrev pub DoneRunsAreReady : {V : Type 0} → (V → Option Files) → (V → Files → Type 0) → (V → ℕ) → (V → ℕ → Files → Type 0) → (V → ℕ) → (V → ℕ → Option Files) → List (List ℕ) → Course V → Type 0
-DoneRunsAreReady told may_leave moment left_since faults cuts words c =
-    (e : HasEnded told may_leave moment left_since faults cuts words c Done) → IsReady told may_leave e.ended.1.0 c.store → (later : List Command) → IsReady told may_leave (Open ∷ later) c.store'
+module _ {V : Type 0} (told : V → Option Files) (may_leave : V → Files → Type 0) (moment : V → ℕ) (left_since : V → ℕ → Files → Type 0) (faults : V → ℕ) (limit : ℕ) (cuts : V → ℕ → Option Files) (precheck : Bool) where
+  abbrev pub RunsComplete : Type 0
+  RunsComplete =
+      (words : List (List ℕ)) (c : Course V) (status : Status) (base : List Record) (script : List Command)
+      → IsOwn told may_leave base c.store → IsRead words c script → FindsItsGate told base script c.store
+      → (e : HasEnded told may_leave moment left_since faults limit cuts precheck words c status)
+      → IsHonest told may_leave moment left_since faults limit cuts precheck words c e.mid e.count status e.ended
+      → MayEnd status

@@ -8,15 +8,17 @@
 --     Ended                     what holds of each status, where this was written before the last line, and the sink's count of faults was this one then
 --     LastLine                  the last line was written behind what was, and the sink's count of faults stayed; or it was cut, and the count rose in it
 --     HasEnded                  a run from its start to its end; each stream's count of faults stayed, until the last line, unless the status says that it failed
-use Rattle.std.specs.Prelude.{◌≡◌, ◌⊎◌, ℕ, ◌+◌, ◌<◌, ◌≤◌, List, [], ◌∷◌, ◌++◌, length, take, Option, codes}
+use Rattle.std.specs.Prelude.{◌≡◌, ◌⊎◌, ℕ, ◌+◌, ◌<◌, ◌≤◌, Bool, List, [], ◌∷◌, ◌++◌, length, take, Option, codes}
 use Rattle.dali_memstore.specs.Fuse.{inner}
+use Rattle.dali_memstore.specs.declared.fuse.Fuse.{Fuse}
 use Rattle.dali_run.specs.declared.halt.Halt.{Halt}
 use Rattle.dali_run.specs.declared.halt.Halt.TheVariants as halts
 use Rattle.dali_run.specs.declared.program.Program.{Program}
 use Rattle.dali_run.specs.declared.status.Status.{Status}
-use Rattle.dali_run.specs.declared.status.Status.TheVariants.{Done, BadWords, BadScript, TooLong, ReadFault, WriteFault, StoreFault, BadStore, Unformatted, Formatted, OutOfMemory, LogFull, OutOfNumbers}
+use Rattle.dali_run.specs.declared.status.Status.TheVariants.{Done, BadWords, BadScript, TooLong, ReadFault, WriteFault, StoreFault, BadStore, Unformatted, Formatted, OutOfMemory, LogFull}
 use Rattle.dali_run.specs.Fails.{Fails}
 use Rattle.dali_run.specs.Halts.{last_line}
+use Rattle.dali_run.specs.Program.{store_of}
 use Rattle.dali_run.specs.Run.{HasRun}
 use Rattle.dali_run.specs.Steps.{Steps}
 use Rattle.dali_script.specs.declared.commands.Command.{Command}
@@ -24,7 +26,6 @@ use Rattle.dali_script.specs.declared.faults.Kind.{Kind}
 use Rattle.dali_script.specs.Grammar.{IsSpelled, IsWrong}
 use Rattle.dali_store.specs.Faults.{Rose}
 use Rattle.dali_store.specs.Store.{Files}
-use Rattle.dali_store.specs.declared.store.FileName.TheVariants.{Log}
 use Rattle.dali_streams.specs.Streams.{ReadAll, ReadTooMany, Appends, AppendsSome}
 
 pub record Spells (before : Option (List ℕ)) (script : List Command) (after : Option (List ℕ)) : Type 0 where
@@ -50,12 +51,12 @@ pub record IsNext (script : List Command) (count : ℕ) (command : Command) : Ty
   pub within : count < length script
   pub next : take (count + 1) script ≡ take count script ++ command ∷ []
 
-module _ {V : Type 0} (told : V → Option Files) (may_leave : V → Files → Type 0) (moment : V → ℕ) (left_since : V → ℕ → Files → Type 0) (faults : V → ℕ) (cuts : V → ℕ → Option Files) where
+module _ {V : Type 0} (told : V → Option Files) (may_leave : V → Files → Type 0) (moment : V → ℕ) (left_since : V → ℕ → Files → Type 0) (faults : V → ℕ) (limit : ℕ) (cuts : V → ℕ → Option Files) (precheck : Bool) where
   pub record RanWhole (start : V) (script : List Command) (before after : Option (List ℕ)) (end : V) : Type 0 where
     pub text : List ℕ
     pub state : Program V
-    pub run : HasRun told may_leave moment left_since faults cuts start script (length script) text state
-    pub store : inner state.store ≡ end
+    pub run : HasRun told may_leave moment left_since faults limit cuts precheck start script (length script) text state
+    pub store : inner (store_of state) ≡ end
     pub written : Appends before text after
 
   pub record StoppedIn (halt : Halt) (start : V) (script : List Command) (before after : Option (List ℕ)) (end : V) : Type 0 where
@@ -64,10 +65,10 @@ module _ {V : Type 0} (told : V → Option Files) (may_leave : V → Files → T
     pub next : IsNext script count command
     pub text : List ℕ
     pub state : Program V
-    pub run : HasRun told may_leave moment left_since faults cuts start script count text state
-    pub last : Program V
-    pub fails : Fails told may_leave moment left_since faults halt command state last.store
-    pub store : inner last.store ≡ end
+    pub run : HasRun told may_leave moment left_since faults limit cuts precheck start script count text state
+    pub last : Fuse V
+    pub fails : Fails told may_leave moment left_since faults precheck halt command state last
+    pub store : inner last ≡ end
     pub written : Appends before text after
 
   pub record CutIn (start : V) (script : List Command) (before after : Option (List ℕ)) (end : V) : Type 0 where
@@ -76,11 +77,11 @@ module _ {V : Type 0} (told : V → Option Files) (may_leave : V → Files → T
     pub next : IsNext script count command
     pub text : List ℕ
     pub earlier : Program V
-    pub ran : HasRun told may_leave moment left_since faults cuts start script count text earlier
+    pub ran : HasRun told may_leave moment left_since faults limit cuts precheck start script count text earlier
     pub more : List ℕ
     pub state : Program V
-    pub steps : Steps told may_leave moment left_since faults cuts earlier command more state
-    pub store : inner state.store ≡ end
+    pub steps : Steps told may_leave moment left_since faults limit cuts precheck earlier command more state
+    pub store : inner (store_of state) ≡ end
     pub between : Option (List ℕ)
     pub written : Appends before text between
     pub cut : AppendsSome between more after
@@ -112,7 +113,7 @@ course left read_faults taken write_faults source source' sink sink' store store
   store' = store';
 }
 
-module _ {V : Type 0} (told : V → Option Files) (may_leave : V → Files → Type 0) (moment : V → ℕ) (left_since : V → ℕ → Files → Type 0) (faults : V → ℕ) (cuts : V → ℕ → Option Files) (words : List (List ℕ)) where
+module _ {V : Type 0} (told : V → Option Files) (may_leave : V → Files → Type 0) (moment : V → ℕ) (left_since : V → ℕ → Files → Type 0) (faults : V → ℕ) (limit : ℕ) (cuts : V → ℕ → Option Files) (precheck : Bool) (words : List (List ℕ)) where
   -- the store stays, and nothing was written
   abbrev pub Untouched : Course V → Option (List ℕ) → Type 0
   Untouched c mid = (c.store' ≡ c.store) × (mid ≡ c.taken)
@@ -127,23 +128,23 @@ module _ {V : Type 0} (told : V → Option Files) (may_leave : V → Files → T
 
   -- a script was read, and a command of it ended the run with this
   abbrev pub HasStopped : Halt → Course V → Option (List ℕ) → Type 0
-  HasStopped halt c mid = WithScript c (λ script. StoppedIn told may_leave moment left_since faults cuts halt c.store script c.taken mid c.store')
+  HasStopped halt c mid = WithScript c (λ script. StoppedIn told may_leave moment left_since faults limit cuts precheck halt c.store script c.taken mid c.store')
 
   -- what holds of each status, where mid was written before the last line, and the sink had counted so many faults then
   abbrev pub Ended : Course V → Option (List ℕ) → ℕ → Status → Type 0
-  Ended c mid count Done = IsRun words × WithScript c (λ script. RanWhole told may_leave moment left_since faults cuts c.store script c.taken mid c.store')
+  Ended c mid count Done = IsRun words × WithScript c (λ script. RanWhole told may_leave moment left_since faults limit cuts precheck c.store script c.taken mid c.store')
   Ended c mid count BadWords = (IsRun words → ⊥) × Unread c × Untouched c mid
   Ended c mid count (BadScript line kind) = IsRun words × SpellsNone c.left line kind c.left' × Untouched c mid
   Ended c mid count TooLong = IsRun words × ReadTooMany c.left 1048576 c.left' × Untouched c mid
   Ended c mid count ReadFault = IsRun words × Rose c.read_faults c.read_faults' × Untouched c mid
-  Ended c mid count WriteFault = IsRun words × Rose c.write_faults count × WithScript c (λ script. CutIn told may_leave moment left_since faults cuts c.store script c.taken mid c.store')
+  Ended c mid count WriteFault = IsRun words × Rose c.write_faults count × WithScript c (λ script. CutIn told may_leave moment left_since faults limit cuts precheck c.store script c.taken mid c.store')
   Ended c mid count StoreFault = IsRun words × HasStopped halts.StoreFault c mid
-  Ended c mid count (BadStore file at) = IsRun words × (file ≡ Log) × HasStopped (halts.BadLog at) c mid
+  Ended c mid count (BadStore file at) = IsRun words × HasStopped (halts.BadStore file at) c mid
   Ended c mid count Unformatted = IsRun words × HasStopped halts.Unformatted c mid
   Ended c mid count Formatted = IsRun words × HasStopped halts.Formatted c mid
   Ended c mid count OutOfMemory = IsRun words × (Untouched c mid ⊎ HasStopped halts.OutOfMemory c mid)
-  Ended c mid count (LogFull end limit) = IsRun words × HasStopped (halts.LogFull end limit) c mid
-  Ended c mid count OutOfNumbers = IsRun words × HasStopped halts.OutOfNumbers c mid
+  -- no command of a script ends it so
+  Ended c mid count (LogFull end limit) = ⊥
 
   pub record HasEnded (c : Course V) (status : Status) : Type 0 where
     pub mid : Option (List ℕ)

@@ -2,17 +2,15 @@
 --     halt_of.. e           what a failed call ends it with
 --     status_of halt        the status of a run that ends so
 --     last_line status      the last line that such a run writes, with its end
+--     status_in result      the status of a run with this result
 use Rattle.std.specs.Prelude.{ℕ, List, [], ◌++◌, codes, Result, Ok, Err}
 use Rattle.std.specs.Fmt.{decimal}
-use Rattle.dali_engine.specs.declared.error.EngineError.{EngineError}
-use Rattle.dali_engine.specs.declared.error.EngineError.TheVariants as engines
-use Rattle.dali_engine.specs.declared.opening.OpenError.{OpenError}
-use Rattle.dali_engine.specs.declared.opening.OpenError.TheVariants as opens
+use Rattle.dali_restart.specs.declared.error.RestartError.{RestartError}
+use Rattle.dali_restart.specs.declared.error.RestartError.TheVariants as restarts
 use Rattle.dali_script.specs.declared.faults.ScriptError.{ScriptError}
 use Rattle.dali_script.specs.declared.faults.ScriptError.TheVariants as scripts
 use Rattle.dali_script.specs.Faults.{text_of}
 use Rattle.dali_store.specs.Store.{name_of}
-use Rattle.dali_store.specs.declared.store.FileName.TheVariants.{Log}
 use Rattle.dali_streams.specs.declared.whole.ReadError.{ReadError}
 use Rattle.dali_streams.specs.declared.whole.ReadError.TheVariants as streams
 use Rattle.dali_run.specs.declared.halt.Halt.{Halt}
@@ -20,17 +18,15 @@ use Rattle.dali_run.specs.declared.halt.Halt.TheVariants as halts
 use Rattle.dali_run.specs.declared.status.Status.{Status}
 use Rattle.dali_run.specs.declared.status.Status.TheVariants as statuses
 
-abbrev pub halt_of_open : OpenError → Halt
-halt_of_open opens.Fault = halts.StoreFault
-halt_of_open opens.Formatted = halts.Formatted
-halt_of_open opens.Unformatted = halts.Unformatted
-halt_of_open (opens.BadLog at) = halts.BadLog at
-halt_of_open opens.OutOfMemory = halts.OutOfMemory
-
-abbrev pub halt_of_engine : EngineError → Halt
-halt_of_engine (engines.LogFull end limit) = halts.LogFull end limit
-halt_of_engine engines.OutOfNumbers = halts.OutOfNumbers
-halt_of_engine engines.OutOfMemory = halts.OutOfMemory
+-- no text says that the record of a restart is too long, or that a store gave other bytes when it was read again
+abbrev pub halt_of_restart : RestartError → Halt
+halt_of_restart restarts.Fault = halts.StoreFault
+halt_of_restart (restarts.BadStore file at) = halts.BadStore file at
+halt_of_restart restarts.Unformatted = halts.Unformatted
+halt_of_restart restarts.Formatted = halts.Formatted
+halt_of_restart restarts.TooLong = halts.OutOfMemory
+halt_of_restart restarts.Unsteady = halts.OutOfMemory
+halt_of_restart restarts.OutOfMemory = halts.OutOfMemory
 
 abbrev pub halt_of_script : ScriptError → Halt
 halt_of_script (scripts.BadLine line kind) = halts.BadScript line kind
@@ -48,11 +44,10 @@ status_of halts.TooLong = statuses.TooLong
 status_of halts.ReadFault = statuses.ReadFault
 status_of halts.WriteFault = statuses.WriteFault
 status_of halts.StoreFault = statuses.StoreFault
-status_of (halts.BadLog at) = statuses.BadStore Log at
+status_of (halts.BadStore file at) = statuses.BadStore file at
 status_of halts.Unformatted = statuses.Unformatted
 status_of halts.Formatted = statuses.Formatted
 status_of (halts.LogFull end limit) = statuses.LogFull end limit
-status_of halts.OutOfNumbers = statuses.OutOfNumbers
 status_of halts.OutOfMemory = statuses.OutOfMemory
 
 abbrev pub last_line : Status → List ℕ
@@ -68,7 +63,6 @@ last_line statuses.Unformatted = codes "unformatted\n"
 last_line statuses.Formatted = codes "formatted\n"
 last_line statuses.OutOfMemory = codes "out of memory\n"
 last_line (statuses.LogFull end limit) = codes "log full " ++ (decimal end ++ (codes " " ++ (decimal limit ++ codes "\n")))
-last_line statuses.OutOfNumbers = codes "out of numbers\n"
 
 -- the status of a run with this result
 abbrev pub status_in : Result (Unit {0}) Halt → Status

@@ -4,8 +4,9 @@ pub mod Fails
 pub mod Halts
 pub mod Program
 pub mod Run
-pub mod Served
-pub mod Sizes
 pub mod Steps
 pub mod Stops
 pub mod Survives
+pub mod Texts
+pub mod Told
+pub mod Unpoked

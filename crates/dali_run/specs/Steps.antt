@@ -1,156 +1,300 @@
 -- What each command does: a step from one state of the program to the next one, and the text that it prints.
---     RunsBlock, RunsBlocks       a block of a round; the blocks one after another
---     ActsAlone                   a poke or an audit outside a round
 --     Prints line old text new    a line is printed, and nothing changes
---     StepsSize, StepsRestart, StepsRound, StepsAct, StepsCrash, StepsShow, StepsFuse     one for each command
---     Steps old command text new      any command
-use Rattle.std.specs.Prelude.{◌≡◌, ◌<◌, ◌≤◌, ◌⊎◌, ℕ, List, [], ◌∷◌, ◌++◌, Option, Some, None, IfSome, is_some}
-use Rattle.dali_batch.specs.Batch.{IsUnformatted}
-use Rattle.dali_batch.specs.Reads.{OnlyReads}
-use Rattle.dali_engine.specs.declared.engine.Engine.{Engine}
-use Rattle.dali_engine.specs.declared.engine.Stage.{Stage}
-use Rattle.dali_engine.specs.declared.engine.Stage.TheVariants.{Outside}
-use Rattle.dali_engine.specs.Flushes.{Acts, ActsAll, Shows}
-use Rattle.dali_engine.specs.Opening.{IsNew, IsRestored, Makes, MakesAtAnyMoment}
-use Rattle.dali_geometry.specs.Sizes.{Sizes}
+--     Plays whole blocks c ts d   a round of these blocks leads from the core c to d, with these transcripts, whatever run has come to c
+--     RunsRound, ActsAlone        a round; a poke, an audit or a checkpoint outside of one, which is a round of one client
+--     dead_in y                   the transactions whose clients died, ascending
+--     CleansUp t c d              one of them is cleaned up, unless another's clean-up has done so before
+--     CleansAll ts c d, HasCleaned c d    all of these, one after another; all that were dead, and none is then
+--     Lists c text                the records that the words in memory store, and their number
+--     IsRead c d                  the store was read, and nothing is otherwise
+--     EndsComparison c text d     the core was compared with a replay of its whole log, or a call of the store failed in it
+--     LeavesLess old new          a crash leaves nothing that it might not have left before
+--     Makes, Leaves, Rereads f g  what making a database, or a restart, leaves of the files
+--     SetsFuse passes f g         the fuse passes so many calls on from now on
+--     StepsSize, StepsRestart, StepsRound, StepsAlone, StepsCleanup, StepsShow, StepsVerify, StepsCrash, StepsFuse     one for each command
+--     Steps old command text new  any command
+use Rattle.std.specs.Prelude.{◌≡◌, ◌⊎◌, ◌↔◌, ◌<◌, ℕ, Bool, true, false, IsTrue, List, [], ◌∷◌, ◌++◌, Option, Some, None, IfSome, is_some, length, map, filter, flat_map}
+use Rattle.std.specs.List.{list_any}
+use Rattle.std.specs.FinMap as finite
 use Rattle.dali_memstore.specs.Fuse.{inner, passes_of, failed_of}
 use Rattle.dali_memstore.specs.declared.fuse.Fuse.{Fuse}
-use Rattle.dali_report.specs.Texts.{texts, client_texts}
-use Rattle.dali_run.specs.declared.program.Program.{Program}
-use Rattle.dali_run.specs.Program.{IsUnfused, KeepsFuse, Running, running, turn, told_in, leaves_in, moment_in, since_in, faults_in}
+use Rattle.dali_record.specs.declared.records.Record.{Record}
+use Rattle.dali_calls.specs.Flags.{FlagsStay}
+use Rattle.dali_store.specs.Faults.{Rose}
+use Rattle.dali_store.specs.Store.{Files, Only, Elapses}
+use Rattle.dali_batch.specs.Batch.{IsUnformatted}
+use Rattle.dali_batch.specs.Formatting.{IsFormattedBy}
+use Rattle.dali_batch.specs.Reads.{OnlyReads}
+use Rattle.dali_system.specs.declared.causes.Cause.{Cause}
+use Rattle.dali_system.specs.State.{SystemState, state_of}
+use Rattle.dali_crash.specs.Checkpoints.{Point}
+use Rattle.dali_crash.specs.Traces.{Start}
+use Rattle.dali_vault.specs.Vaulted.{with_store}
+use Rattle.dali_clean.specs.Cleaned.{AreDead, IsDead}
+use Rattle.dali_clean.specs.Others.{OthersStay, IsGone}
+use Rattle.dali_whole.specs.declared.whole.Core.{Core}
+use Rattle.dali_whole.specs.Cleaned.{EndsAt}
+use Rattle.dali_whole.specs.Cores.{IsWholeCore, IsNoShorter}
+use Rattle.dali_restart.specs.declared.restarting.Report.{Report}
+use Rattle.dali_restart.specs.Formatted.{first_body, IsNewCore, RunBegins, IsLeft as IsMade}
+use Rattle.dali_restart.specs.Restarting.{outcome, Gives, IsReadAs, IsFresh, BeginsRun, LeavesAtRest, StaysIdle, IsLeft}
+use Rattle.dali_transcripts.specs.Words.{Act, Pokes, Audits, Checkpoints}
+use Rattle.dali_transcripts.specs.World.{is_dead_in}
+use Rattle.dali_transcripts.specs.Transcripts.{Told}
+use Rattle.dali_clients.specs.Said.{Transcribed}
+use Rattle.dali_round.specs.Leads.{lines_in, BeginsAt, RoundLeads}
+use Rattle.dali_listing.specs.declared.Listed.{Listed}
+use Rattle.dali_listing.specs.Listing.{in_memory, IsListing}
+use Rattle.dali_verify.specs.Verified.{IsWholeLog, IsVerified}
 use Rattle.dali_script.specs.declared.commands.Block.{Block}
-use Rattle.dali_script.specs.declared.commands.ClientCommand.{ClientCommand}
-use Rattle.dali_script.specs.declared.commands.ClientCommand.TheVariants as clients
 use Rattle.dali_script.specs.declared.commands.Command.{Command}
-use Rattle.dali_script.specs.declared.commands.Command.TheVariants.{Size, Open, Round, Poke, Audit, Crash, Restart, Show, Next, Fuse as SetFuse}
+use Rattle.dali_script.specs.declared.commands.Command.TheVariants.{Size, Open, Round, Poke, Audit, Checkpoint, Cleanup, Crash, Restart, Show, Verify, Next, Fuse as SetFuse}
 use Rattle.dali_script.specs.declared.names.Name.{Name}
 use Rattle.dali_script.specs.declared.names.Name.TheVariants as names
-use Rattle.dali_script.specs.declared.outputs.Line.{Line}
-use Rattle.dali_script.specs.declared.outputs.Line.TheVariants as lines
-use Rattle.dali_store.specs.Faults.{Rose}
-use Rattle.dali_store.specs.Store.{Files, LeavesOnly, Only}
+use Rattle.dali_report.specs.declared.printed.Line.{Line}
+use Rattle.dali_report.specs.declared.printed.Line.TheVariants as lines
+use Rattle.dali_report.specs.Lines.{texts}
+use Rattle.dali_run.specs.declared.program.Program.{Program}
+use Rattle.dali_run.specs.declared.program.Program.TheVariants.{Up, Down}
+use Rattle.dali_run.specs.Program.{IsDown, PlacesIn, store_of, told_in, leaves_in, moment_in, since_in, faults_in}
+use Rattle.dali_run.specs.Texts.{shown, round_lines, alone_texts, says_failure}
+use Rattle.dali_run.specs.Told.{told_by, alone, sizes_of}
 
 abbrev pub Prints : {V : Type 0} → Line → Program V → List ℕ → Program V → Type 0
 Prints line old text new = (text ≡ texts (line ∷ [])) × (new ≡ old)
 
-abbrev pub sizes_of : ℕ → ℕ → Sizes
-sizes_of index heap = record { index = index; heap = heap }
+-- each client has a transcript, if there are any
+abbrev pub TellAll : List Told → List Transcribed → Type 0
+TellAll blocks transcripts = (map (λ (t : Transcribed). t.client) transcripts ≡ map (λ (b : Told). b.client) blocks) ⊎ (transcripts ≡ [])
 
--- all records are listed, unless the engine is stopped
-abbrev pub ShowsIn : {V : Type 0} → Option Engine → Program V → List ℕ → Program V → Type 0
-ShowsIn None old text new = Prints (lines.Down names.Show) old text new
-ShowsIn (Some e) old text new = (listed : List Line) × Shows e [] listed × (text ≡ texts listed) × (new ≡ old)
+-- ---- the fuse
+pub record SetsFuse {V : Type 0} (passes : ℕ) (old new : Fuse V) : Type 0 where
+  pub store : inner new ≡ inner old
+  pub set : passes_of new ≡ Some passes
+  pub failed : failed_of new ≡ failed_of old
 
-abbrev pub StepsShow : {V : Type 0} → Program V → List ℕ → Program V → Type 0
-StepsShow old text new = ShowsIn old.engine old text new
+abbrev pub FuseIn : {V : Type 0} → ℕ → Program V → Program V → Type 0
+FuseIn {V = V} passes (Up core) new = (f : Fuse V) × SetsFuse passes core.vault.store f × (new ≡ Up (record core { vault = with_store core.vault f }))
+FuseIn {V = V} passes (Down store) new = (f : Fuse V) × SetsFuse passes store f × (new ≡ Down f)
 
-pub record StepsFuse {V : Type 0} (passes : ℕ) (old : Program V) (text : List ℕ) (new : Program V) : Type 0 where
-  pub store : inner new.store ≡ inner old.store
-  pub set : passes_of new.store ≡ Some passes
-  pub failed : failed_of new.store ≡ failed_of old.store
-  pub engine : new.engine ≡ old.engine
-  pub printed : text ≡ texts (lines.Fuse passes ∷ [])
+abbrev pub StepsFuse : {V : Type 0} → ℕ → Program V → List ℕ → Program V → Type 0
+StepsFuse passes old text new = FuseIn passes old new × (text ≡ texts (lines.Fuse passes ∷ []))
+
+-- ---- dead transactions
+abbrev pub dead_in : SystemState → List ℕ
+dead_in y = filter (λ t. is_dead_in (state_of y t)) (finite.keys y.table)
+
+-- nothing but room in memory
+pub record IsSame {V : Type 0} (c d : Core (Fuse V)) : Type 0 where
+  pub regions : d.regions.items ≡ c.regions.items
+  pub system : d.system ≡ c.system
+  pub vault : d.vault ≡ c.vault
+
+-- ---- the records in memory
+pub record Lists {V : Type 0} (c : Core (Fuse V)) (text : List ℕ) : Type 0 where
+  pub rows : List Listed
+  pub listing : IsListing c.system.state.sizes (in_memory c.regions.items) rows
+  pub printed : text ≡ texts (map shown rows ++ lines.Records (length rows) ∷ [])
+
+-- ---- a comparison with a replay
+abbrev pub verdict : Bool → Line
+verdict true = lines.VerifyOk
+verdict false = lines.VerifyDiffers
+
+module _ {V : Type 0} (told : V → Option Files) (may_leave : V → Files → Type 0) (faults : V → ℕ) where
+  pub record HasCleanedUp (t : ℕ) (c d : Core (Fuse V)) : Type 0 where
+    pub was : IsDead (state_of c.system.state t)
+    pub ends : EndsAt (told_in told) (leaves_in may_leave) (faults_in faults) c.regions.items c.system.state c.vault t d.regions.items d.system.state
+    pub gone : IsGone d.system.state t
+    pub others : OthersStay c.regions.items c.system.state t d.regions.items d.system.state
+    pub dead : AreDead c.regions.items → AreDead d.regions.items
+    pub flags : FlagsStay c.regions.items d.regions.items
+    pub vault : d.vault ≡ c.vault
+
+  abbrev pub CleansUp : ℕ → Core (Fuse V) → Core (Fuse V) → Type 0
+  CleansUp t c d = HasCleanedUp t c d ⊎ ((IsDead (state_of c.system.state t) → ⊥) × IsSame c d)
+
+  abbrev pub CleansAll : List ℕ → Core (Fuse V) → Core (Fuse V) → Type 0
+  CleansAll [] c d = d ≡ c
+  CleansAll (t ∷ ts) c d = (mid : Core (Fuse V)) × CleansUp t c mid × CleansAll ts mid d
+
+  pub record HasCleaned (c d : Core (Fuse V)) : Type 0 where
+    pub each : CleansAll (dead_in c.system.state) c d
+    pub none : (t : ℕ) → IsDead (state_of d.system.state t) → ⊥
+
+  abbrev pub CleanupIn : Option Cause → Core (Fuse V) → List ℕ → Program V → Type 0
+  CleanupIn (Some cause) core text new = Prints (lines.Stopped names.Cleanup cause) (Up core) text new
+  CleanupIn None core text new =
+      (d : Core (Fuse V)) × HasCleaned core d × (new ≡ Up d) × (text ≡ texts (lines.Cleaned (dead_in core.system.state) ∷ []))
+
+  abbrev pub StepsCleanup : Program V → List ℕ → Program V → Type 0
+  StepsCleanup (Up core) text new = CleanupIn core.system.state.stop core text new
+  StepsCleanup (Down store) text new = Prints (lines.Down names.Cleanup) (Down store) text new
+
+  -- dead transactions are cleaned up first
+  abbrev pub ShowIn : Option Cause → Core (Fuse V) → List ℕ → Program V → Type 0
+  ShowIn (Some cause) core text new = Prints (lines.Stopped names.Show cause) (Up core) text new
+  ShowIn None core text new = (d : Core (Fuse V)) × HasCleaned core d × (new ≡ Up d) × Lists d text
+
+  abbrev pub StepsShow : Program V → List ℕ → Program V → Type 0
+  StepsShow (Up core) text new = ShowIn core.system.state.stop core text new
+  StepsShow (Down store) text new = Prints (lines.Down names.Show) (Down store) text new
+
+  -- ---- rounds
+  module _ (precheck : Bool) where
+    abbrev pub Plays : Bool → List Told → Core (Fuse V) → List Transcribed → Core (Fuse V) → Type 0
+    Plays whole blocks c transcripts d =
+        (s : Start) (B : List (List Record)) (p : Point)
+        → BeginsAt (told_in told) (leaves_in may_leave) (faults_in faults) s B p c.regions.items c.system.state c.vault
+        → RoundLeads (told_in told) (leaves_in may_leave) (faults_in faults) precheck whole s p blocks (map lines_in transcripts) (map (λ t. t.receipts) transcripts)
+        d.regions.items d.system.state d.vault
+
+    -- each client's lines behind its number, by ascending number
+    pub record RunsRound (blocks : List Told) (c : Core (Fuse V)) (text : List ℕ) (d : Core (Fuse V)) : Type 0 where
+      pub transcripts : List Transcribed
+      pub plays : Plays true blocks c transcripts d
+      pub longer : IsNoShorter (told_in told) c.vault d.vault
+      pub places : PlacesIn told d
+      pub printed : text ≡ round_lines blocks (map lines_in transcripts)
+
+    -- its lines without a number; where one says that the store failed, the fuse failed a call
+    pub record ActsAlone (act : Act) (c : Core (Fuse V)) (text : List ℕ) (d : Core (Fuse V)) : Type 0 where
+      pub transcripts : List Transcribed
+      pub plays : Plays true (alone act) c transcripts d
+      pub longer : IsNoShorter (told_in told) c.vault d.vault
+      pub places : PlacesIn told d
+      pub printed : text ≡ flat_map alone_texts transcripts
+      pub by_fuse : list_any says_failure transcripts ≡ true → failed_of c.vault.store < failed_of d.vault.store
+
+    abbrev pub StepsRound : List Block → Program V → List ℕ → Program V → Type 0
+    StepsRound blocks (Up core) text new = (d : Core (Fuse V)) × RunsRound (map told_by blocks) core text d × (new ≡ Up d)
+    StepsRound blocks (Down store) text new = Prints lines.RoundDown (Down store) text new
+
+    abbrev pub StepsAlone : Name → Act → Program V → List ℕ → Program V → Type 0
+    StepsAlone name act (Up core) text new = (d : Core (Fuse V)) × ActsAlone act core text d × (new ≡ Up d)
+    StepsAlone name act (Down store) text new = Prints (lines.Down name) (Down store) text new
 
 module _ {V : Type 0} (told : V → Option Files) (may_leave : V → Files → Type 0) (moment : V → ℕ) (left_since : V → ℕ → Files → Type 0) where
-  -- reads give what they gave, and a crash leaves nothing else than before
-  abbrev pub Reads : Fuse V → Fuse V → Type 0
-  Reads old new = OnlyReads (told_in told) (moment_in moment left_since) (since_in moment left_since) (leaves_in told may_leave) old new
+  -- a crash leaves nothing that it might not have left before, at any moment too
+  pub record LeavesLess (old new : V) : Type 0 where
+    pub tells : is_some (told new) ≡ is_some (told old)
+    pub crash : (c : Files) → may_leave new c → may_leave old c
+    pub time : Elapses (moment old) (moment new) (left_since old) (left_since new) (may_leave new)
 
-  module _ (faults : V → ℕ) where
-    -- a database is made over a log without batches, and loaded
+module _ {V : Type 0} (told : V → Option Files) (may_leave : V → Files → Type 0) (moment : V → ℕ) (left_since : V → ℕ → Files → Type 0) (faults : V → ℕ) where
+  -- the files that a database is made in, and those that a restart works on
+  abbrev pub Makes : ℕ → ℕ → Fuse V → Fuse V → Type 0
+  Makes index heap old new =
+      IsMade (told_in told) (leaves_in may_leave) (moment_in moment) (since_in left_since) (faults_in faults) passes_of (sizes_of index heap) old new
+
+  abbrev pub Leaves : Fuse V → Fuse V → Type 0
+  Leaves old new = IsLeft (told_in told) (leaves_in may_leave) (moment_in moment) (since_in left_since) (faults_in faults) passes_of old new
+
+  -- the store was read, and nothing is otherwise
+  pub record IsRead (c d : Core (Fuse V)) : Type 0 where
+    pub same : d ≡ record c { vault = with_store c.vault d.vault.store }
+    pub reads : OnlyReads (told_in told) (moment_in moment) (since_in left_since) (leaves_in may_leave) c.vault.store d.vault.store
+
+  -- whether memory is what a plain replay of the whole log comes to, records that wait to be flushed among them
+  pub record Compares (c : Core (Fuse V)) (text : List ℕ) (d : Core (Fuse V)) : Type 0 where
+    pub is : Bool
+    pub replayed : IfSome (told_in told c.vault.store) (λ fs. (L : List Record) × IsWholeLog fs.log c.system.state L × (IsTrue is ↔ IsVerified c.system.state.sizes (in_memory c.regions.items) L))
+    pub read : IsRead c d
+    pub kept : faults_in faults d.vault.store ≡ faults_in faults c.vault.store
+    pub printed : text ≡ texts (verdict is ∷ [])
+
+  -- a call of the store failed in it, and the fuse failed one
+  pub record ComparisonStops (c : Core (Fuse V)) (text : List ℕ) (d : Core (Fuse V)) : Type 0 where
+    pub by_fuse : failed_of c.vault.store < failed_of d.vault.store
+    pub rose : Rose (faults_in faults c.vault.store) (faults_in faults d.vault.store)
+    pub read : IsRead c d
+    pub printed : text ≡ texts (lines.VerifyStoreStopped ∷ [])
+
+  abbrev pub EndsComparison : Core (Fuse V) → List ℕ → Core (Fuse V) → Type 0
+  EndsComparison c text d = Compares c text d ⊎ ComparisonStops c text d
+
+  -- dead transactions are cleaned up first
+  abbrev pub VerifyIn : Option Cause → Core (Fuse V) → List ℕ → Program V → Type 0
+  VerifyIn (Some cause) core text new = Prints (lines.Stopped names.Verify cause) (Up core) text new
+  VerifyIn None core text new = (c : Core (Fuse V)) × (d : Core (Fuse V)) × HasCleaned told may_leave faults core c × EndsComparison c text d × (new ≡ Up d)
+
+  abbrev pub StepsVerify : Program V → List ℕ → Program V → Type 0
+  StepsVerify (Up core) text new = VerifyIn core.system.state.stop core text new
+  StepsVerify (Down store) text new = Prints (lines.Down names.Verify) (Down store) text new
+
+  -- files without a database are only read
+  pub record Rereads (old new : Fuse V) : Type 0 where
+    pub left : Leaves old new
+    pub none : IfSome (told_in told old) (λ fs. IsUnformatted fs.log → OnlyReads (told_in told) (moment_in moment) (since_in left_since) (leaves_in may_leave) old new)
+
+  module _ (limit : ℕ) where
+    -- a database is made over a log without batches
     pub record StepsSize (index heap : ℕ) (old : Program V) (text : List ℕ) (new : Program V) : Type 0 where
-      pub engine : Engine
-      pub up : new.engine ≡ Some engine
-      pub fresh : IsNew (sizes_of index heap) engine
-      pub unformatted : IfSome (told_in told old.store) (λ fs. IsUnformatted fs.log)
-      pub makes : Makes told may_leave (sizes_of index heap) (inner old.store) (inner new.store)
-      pub any_moment : MakesAtAnyMoment told may_leave moment left_since (sizes_of index heap) (inner old.store) (inner new.store)
-      pub tells : is_some (told_in told new.store) ≡ is_some (told_in told old.store)
-      pub unfused : IsUnfused new.store
-      pub later : faults (inner old.store) ≤ faults (inner new.store)
+      pub core : Core (Fuse V)
+      pub up : new ≡ Up core
+      pub fresh : IsNewCore (sizes_of index heap) limit core.regions.items core.system core.vault
+      pub whole : IsWholeCore (told_in told) core.regions.items core.system.state core.vault
+      pub begins : RunBegins (told_in told) (leaves_in may_leave) (faults_in faults) (sizes_of index heap) limit core.regions.items core.system.state core.vault
+      pub unformatted : IfSome (told_in told (store_of old)) (λ fs. IsUnformatted fs.log)
+      pub makes : IfSome (told_in told (store_of old)) (λ _. (c : Files) → leaves_in may_leave core.vault.store c
+          → IsFormattedBy (leaves_in may_leave (store_of old)) (first_body (sizes_of index heap)) c)
+      pub left : Makes index heap (store_of old) core.vault.store
+      pub kept : faults_in faults core.vault.store ≡ faults_in faults (store_of old)
       pub silent : text ≡ []
 
-    -- the memory is given up, and the database is found in the log's file
+    -- the memory is given up, and the database is found in the files
     pub record Restarts (old : Program V) (text : List ℕ) (new : Program V) : Type 0 where
-      pub engine : Engine
-      pub rolled_back : List ℕ
-      pub up : new.engine ≡ Some engine
-      pub restored : IfSome (told_in told old.store) (λ fs. IsRestored fs.log engine rolled_back)
-      pub durable : IfSome (told_in told old.store) (λ fs. Only fs (leaves_in told may_leave new.store))
-      pub reads : Reads old.store new.store
-      pub fuse : KeepsFuse faults old.store new.store
-      pub printed : text ≡ texts (lines.RolledBack rolled_back ∷ lines.Deleted [] ∷ [])
+      pub core : Core (Fuse V)
+      pub report : Report
+      pub up : new ≡ Up core
+      pub gives : IfSome (told_in told (store_of old)) (λ fs. Gives fs (outcome core.regions.items report))
+      pub read : IfSome (told_in told (store_of old)) (λ fs. IsReadAs fs (outcome core.regions.items report))
+      pub fresh : IsFresh limit core.regions.items core.system core.vault
+      pub whole : IsWholeCore (told_in told) core.regions.items core.system.state core.vault
+      pub begins : IfSome (told_in told (store_of old)) (λ fs.
+          BeginsRun (told_in told) (leaves_in may_leave) (faults_in faults) limit fs core.regions.items core.system.state core.vault)
+      pub rests : IfSome (told_in told (store_of old)) (λ fs. (c : Files) → leaves_in may_leave core.vault.store c → LeavesAtRest fs c)
+      pub idle : IfSome (told_in told (store_of old)) (λ fs.
+          StaysIdle (told_in told) (leaves_in may_leave) (moment_in moment) (since_in left_since) fs (store_of old) core.vault.store)
+      pub left : Leaves (store_of old) core.vault.store
+      pub kept : faults_in faults core.vault.store ≡ faults_in faults (store_of old)
+      pub printed : text ≡ texts (lines.RolledBack report.rolled_back.items ∷ lines.Deleted report.deleted.items ∷ [])
 
-    -- a call of the store failed in it, and the fuse has failed one
+    -- a call of the store failed in it, and the fuse failed one
     pub record RestartStops (old : Program V) (text : List ℕ) (new : Program V) : Type 0 where
-      pub down : new.engine ≡ None
-      pub by_fuse : 0 < failed_of new.store
-      pub rose : Rose (faults_in faults old.store) (faults_in faults new.store)
-      pub reads : Reads old.store new.store
-      pub fuse : KeepsFuse faults old.store new.store
+      pub store : Fuse V
+      pub down : new ≡ Down store
+      pub by_fuse : failed_of (store_of old) < failed_of store
+      pub rose : Rose (faults_in faults (store_of old)) (faults_in faults store)
+      pub left : Rereads (store_of old) store
       pub printed : text ≡ texts (lines.RestartStoreStopped ∷ [])
 
     abbrev pub StepsRestart : Program V → List ℕ → Program V → Type 0
     StepsRestart old text new = Restarts old text new ⊎ RestartStops old text new
 
-    -- a block of a round: its commands in order, and their lines behind the client's number
-    pub record RunsBlock (block : Block) (old : Running V) (text : List ℕ) (new : Running V) : Type 0 where
-      pub stage : Stage
-      pub listed : List Line
-      pub acts : ActsAll (told_in told) (leaves_in told may_leave) (moment_in moment left_since) (since_in moment left_since) (faults_in faults)
-          block.commands (turn old Outside []) (turn new stage listed)
-      pub fuse : KeepsFuse faults old.store new.store
-      pub printed : text ≡ client_texts block.client listed
-
-    abbrev pub RunsBlocks : List Block → Running V → List ℕ → Running V → Type 0
-    RunsBlocks [] old text new = (text ≡ []) × (new ≡ old)
-    RunsBlocks (block ∷ later) old text new =
-        (first : List ℕ) × (mid : Running V) × (rest : List ℕ) × RunsBlock block old first mid × RunsBlocks later mid rest new × (text ≡ first ++ rest)
-
-    abbrev pub RoundIn : Option Engine → List Block → Program V → List ℕ → Program V → Type 0
-    RoundIn None blocks old text new = Prints lines.RoundDown old text new
-    RoundIn (Some e) blocks old text new = (e' : Engine) × (new.engine ≡ Some e') × RunsBlocks blocks (running e old.store) text (running e' new.store)
-
-    abbrev pub StepsRound : List Block → Program V → List ℕ → Program V → Type 0
-    StepsRound blocks old text new = RoundIn old.engine blocks old text new
-
-    -- a command of a client outside a round; where the store fails in it, the fuse has failed a call
-    pub record ActsAlone (command : ClientCommand) (old : Running V) (text : List ℕ) (new : Running V) : Type 0 where
-      pub stage : Stage
-      pub listed : List Line
-      pub acts : Acts (told_in told) (leaves_in told may_leave) (moment_in moment left_since) (since_in moment left_since) (faults_in faults)
-          command (turn old Outside []) (turn new stage listed)
-      pub fuse : KeepsFuse faults old.store new.store
-      pub printed : text ≡ texts listed
-      pub by_fuse : listed ≡ lines.AuditStoreStopped ∷ [] → 0 < failed_of new.store
-
-    abbrev pub ActsIn : Option Engine → Name → ClientCommand → Program V → List ℕ → Program V → Type 0
-    ActsIn None name command old text new = Prints (lines.Down name) old text new
-    ActsIn (Some e) name command old text new = (e' : Engine) × (new.engine ≡ Some e') × ActsAlone command (running e old.store) text (running e' new.store)
-
-    abbrev pub StepsAct : Name → ClientCommand → Program V → List ℕ → Program V → Type 0
-    StepsAct name command old text new = ActsIn old.engine name command old text new
-
     module _ (cuts : V → ℕ → Option Files) where
       -- a crash: the fuse is removed, and what the store makes of its files with this choice is all that is left
       pub record StepsCrash (choice : ℕ) (old : Program V) (text : List ℕ) (new : Program V) : Type 0 where
-        pub down : new.engine ≡ None
-        pub unfused : IsUnfused new.store
-        pub later : faults (inner old.store) ≤ faults (inner new.store)
-        pub chosen : told_in told new.store ≡ cuts (inner old.store) choice
-        pub durable : IfSome (told_in told new.store) (λ fs. Only fs (leaves_in told may_leave new.store))
-        pub crash : (c : Files) → leaves_in told may_leave new.store c → leaves_in told may_leave old.store c
-        pub any_moment : LeavesOnly (moment_in moment left_since) (since_in moment left_since) old.store new.store (leaves_in told may_leave old.store)
+        pub store : V
+        pub down : IsDown new store
+        pub chosen : told store ≡ cuts (inner (store_of old)) choice
+        pub durable : IfSome (told store) (λ fs. Only fs (may_leave store))
+        pub left : LeavesLess told may_leave moment left_since (inner (store_of old)) store
+        pub kept : faults store ≡ faults (inner (store_of old))
         pub printed : text ≡ texts (lines.Crash choice ∷ [])
 
-      abbrev pub Steps : Program V → Command → List ℕ → Program V → Type 0
-      Steps old (Size index heap) text new = StepsSize index heap old text new
-      Steps old Open text new = StepsRestart old text new
-      Steps old (Round blocks) text new = StepsRound blocks old text new
-      Steps old (Poke region word mask) text new = StepsAct names.Poke (clients.Poke region word mask) old text new
-      Steps old Audit text new = StepsAct names.Audit clients.Audit old text new
-      Steps old (Crash choice) text new = StepsCrash choice old text new
-      Steps old Restart text new = StepsRestart old text new
-      Steps old Show text new = StepsShow old text new
-      Steps old Next text new = (text ≡ []) × (new ≡ old)
-      Steps old (SetFuse passes) text new = StepsFuse passes old text new
+      module _ (precheck : Bool) where
+        abbrev pub Steps : Program V → Command → List ℕ → Program V → Type 0
+        Steps old (Size index heap) text new = StepsSize index heap old text new
+        Steps old Open text new = StepsRestart old text new
+        Steps old (Round blocks) text new = StepsRound told may_leave faults precheck blocks old text new
+        Steps old (Poke region word mask) text new = StepsAlone told may_leave faults precheck names.Poke (Pokes region word mask) old text new
+        Steps old Audit text new = StepsAlone told may_leave faults precheck names.Audit Audits old text new
+        Steps old Checkpoint text new = StepsAlone told may_leave faults precheck names.Checkpoint Checkpoints old text new
+        Steps old Cleanup text new = StepsCleanup told may_leave faults old text new
+        Steps old (Crash choice) text new = StepsCrash choice old text new
+        Steps old Restart text new = StepsRestart old text new
+        Steps old Show text new = StepsShow told may_leave faults old text new
+        Steps old Verify text new = StepsVerify old text new
+        Steps old Next text new = (text ≡ []) × (new ≡ old)
+        Steps old (SetFuse passes) text new = StepsFuse passes old text new

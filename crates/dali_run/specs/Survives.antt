@@ -1,205 +1,213 @@
 -- What survives of a run, whatever the store does.
---     Holds base c             files that a crash leaves: no database, where base has no batches; or a log with the batches of base at its front, from which a restart gives just the serial replay of its committed transactions
+--     HasLog base c            files that a crash leaves: a restart finds them, and their log is a history that begins with the records of base
+--     Holds base c             they have such a log, or no database, where base has no record
 --     IsOwn base s             the store tells its files, and a crash leaves only such
---     told_step .. t           what the lines have told, with those of one command more
---     AuditAnswers, ShowAnswers, RestartAnswers      what these commands print, by what was told and logged
---     StepSurvives ..          one command: what a crash leaves at any moment of it, and behind it, with the transactions that were acknowledged
---     AllSurvive ..            some commands in order
---     WholeSurvives, CutSurvives, StopSurvives       a run of all commands of a script; one whose last lines couldn't be written; one that a command ended
---     HasKept ..               any run that ended
+--     IsAPoint base p          the program is up, at a point of a run whose flushed records begin with base; or its store is such
+--     NoneEscapesIn p          no damage escapes a crash of the program: each stray write was found by the audits that passed it, and each region that was
+--                              read or written behind one is named by an audit of the log that the crash leaves
+--     NoneEscapesBehind ..     so it is behind a command that failed
+--     NoneEscape ..            and at each state of a run
+--     AllSurvive ..            each state of a run is such a point, and no record of base is lost between
+--     Survives ..              so it is of a run with each status, and the store that comes back
+--     RunsSurvive              so it is of each run
+use Rattle.std.specs.Prelude.{◌≡◌, ◌⊎◌, ℕ, Bool, true, List, [], ◌∷◌, ◌++◌, length, map, take, Option, is_some}
 use Rattle.std.proofs.Common.{inl, inr}
-use Rattle.std.specs.Prelude.{◌≡◌, ◌⊎◌, ℕ, List, [], ◌∷◌, ◌++◌, length, take, Option, Some, None, is_some, true}
 use Rattle.dali_batch.specs.Batch.{IsUnformatted}
-use Rattle.dali_batch.specs.Log.{AreSpelled, body_bytes, records_in}
-use Rattle.dali_engine.specs.declared.engine.Engine.{Engine}
-use Rattle.dali_engine.specs.declared.engine.Stage.TheVariants.{Outside}
-use Rattle.dali_engine.specs.Acts.{verdict_line}
-use Rattle.dali_engine.specs.Held.{IsListing, listing}
-use Rattle.dali_engine.specs.Standing.{Rests, Serves}
-use Rattle.dali_engine.specs.State.{LogIs}
-use Rattle.dali_engine.specs.Told.{Told, told_by, told_in, AreNamed, AllCommitted}
-use Rattle.dali_history.specs.Serial.{Map, empty_map, serial}
 use Rattle.dali_record.specs.declared.records.Record.{Record}
-use Rattle.dali_record.specs.Log.{committed}
-use Rattle.dali_report.specs.Texts.{texts}
-use Rattle.dali_script.specs.declared.commands.Block.{Block}
-use Rattle.dali_script.specs.declared.commands.ClientCommand.{ClientCommand}
-use Rattle.dali_script.specs.declared.commands.ClientCommand.TheVariants as clients
+use Rattle.dali_record.specs.Epochs.{last_epoch}
+use Rattle.dali_record.specs.Files.{Files}
+use Rattle.dali_history.specs.History.{IsHistory}
+use Rattle.dali_memstore.specs.Fuse.{inner}
+use Rattle.dali_memstore.specs.declared.fuse.Fuse.{Fuse}
+use Rattle.dali_store.specs.Store.{Files as Disk}
+use Rattle.dali_system.specs.Crashes.{NoneEscapes}
+use Rattle.dali_system.specs.Run.{log_in}
+use Rattle.dali_system.specs.State.{VaultState, stable}
+use Rattle.dali_crash.specs.Checkpoints.{Point}
+use Rattle.dali_crash.specs.Traces.{Start}
+use Rattle.dali_traces.specs.Disks.{Spells}
+use Rattle.dali_again.specs.Found.{FindsIt}
+use Rattle.dali_whole.specs.declared.whole.Core.{Core}
+use Rattle.dali_restart.specs.Headline.{IsPlaced}
+use Rattle.dali_round.specs.Leads.{BeginsAt}
 use Rattle.dali_script.specs.declared.commands.Command.{Command}
-use Rattle.dali_script.specs.declared.commands.Command.TheVariants.{Size, Open, Round, Poke, Audit, Restart, Show}
-use Rattle.dali_script.specs.declared.names.Name.{Name}
-use Rattle.dali_script.specs.declared.names.Name.TheVariants as names
-use Rattle.dali_script.specs.declared.outputs.Line.TheVariants as lines
-use Rattle.dali_store.specs.Store.{Files, LeavesOnly}
+use Rattle.dali_script.specs.declared.commands.Command.TheVariants.{Round, Poke, Audit, Checkpoint}
+use Rattle.dali_transcripts.specs.Words.{Act, Pokes, Audits, Checkpoints}
+use Rattle.dali_transcripts.specs.Transcripts.{Told}
 use Rattle.dali_run.specs.declared.halt.Halt.{Halt}
 use Rattle.dali_run.specs.declared.halt.Halt.TheVariants as halts
 use Rattle.dali_run.specs.declared.program.Program.{Program}
+use Rattle.dali_run.specs.declared.program.Program.TheVariants.{Up, Down}
 use Rattle.dali_run.specs.declared.status.Status.{Status}
-use Rattle.dali_run.specs.declared.status.Status.TheVariants.{Done, WriteFault, StoreFault, BadStore, Unformatted, Formatted, OutOfMemory, LogFull, OutOfNumbers}
-use Rattle.dali_run.specs.Ends.{RanWhole, StoppedIn, CutIn, Course, Ended, Untouched, HasStopped}
-use Rattle.dali_run.specs.Program.{Running, running, settled, turn, told_in as told_by_store, leaves_in, moment_in, since_in, faults_in}
-use Rattle.dali_run.specs.Run.{RunsAll, HasRun}
-use Rattle.dali_run.specs.Steps.{Steps, RunsBlock, RunsBlocks, RoundIn, ActsIn}
+use Rattle.dali_run.specs.declared.status.Status.TheVariants.{Done, WriteFault, StoreFault, BadStore, Unformatted, Formatted, OutOfMemory, LogFull}
+use Rattle.dali_run.specs.Ends.{Course, CutIn, Ended, HasEnded, HasStopped, RanWhole, StoppedIn, Untouched}
+use Rattle.dali_run.specs.Fails.{AloneFails, Breaks, Fails, Lost, StoreFailsIn}
+use Rattle.dali_run.specs.Program.{told_in, leaves_in, faults_in}
+use Rattle.dali_run.specs.Run.{HasRun, RunsAll}
+use Rattle.dali_run.specs.Told.{told_by, alone}
 
 -- ---- the files that a crash leaves
-pub record HasLog (base : List (List Record)) (c : Files) : Type 0 where
-  pub L : List (List Record)
-  pub log : LogIs c.log L
-  pub more : List (List Record)
-  pub front : L ≡ base ++ more
-  pub rests : Rests (records_in L)
-  pub serves : Serves (records_in L)
+abbrev pub BeginsWith : List Record → List Record → Type 0
+BeginsWith base L = (more : List Record) × (L ≡ base ++ more)
 
-abbrev pub HasNone : List (List Record) → Files → Type 0
-HasNone base c = IsUnformatted c.log × (base ≡ [])
+pub record HasLog (base : List Record) (c : Disk) : Type 0 where
+  pub files : Files
+  pub spells : Spells c files
+  pub finds : FindsIt files
+  pub history : IsHistory (log_in files)
+  pub begins : BeginsWith base (log_in files)
 
-abbrev pub Holds : List (List Record) → Files → Type 0
-Holds base c = HasNone base c ⊎ HasLog base c
+abbrev pub Holds : List Record → Disk → Type 0
+Holds base c = (IsUnformatted c.log × (base ≡ [])) ⊎ HasLog base c
 
-abbrev pub IsOwn : {V : Type 0} → (V → Option Files) → (V → Files → Type 0) → List (List Record) → V → Type 0
-IsOwn told may_leave base s = (is_some (told s) ≡ true) × ((c : Files) → may_leave s c → Holds base c)
+module _ {V : Type 0} (told : V → Option Disk) (may_leave : V → Disk → Type 0) where
+  abbrev pub IsOwn : List Record → V → Type 0
+  IsOwn base s = (is_some (told s) ≡ true) × ((c : Disk) → may_leave s c → Holds base c)
 
--- ---- what the lines have told
-abbrev pub nothing_told : Told
-nothing_told = record { acknowledged = []; begun = None; pokes = [] }
+  -- of each crash image
+  abbrev pub NoneEscapesAt : Core (Fuse V) → Type 0
+  NoneEscapesAt core =
+      (v : VaultState) (c : Disk) (E : Files) → leaves_in may_leave core.vault.store c → Spells c E
+      → NoneEscapes (last_epoch (log_in E)) (record { regions = core.regions.items; system = core.system.state; vault = v })
 
--- the regions are loaded
-abbrev pub loaded : Told → Told
-loaded t = record t { begun = None; pokes = [] }
+  abbrev pub NoneEscapesIn : Program V → Type 0
+  NoneEscapesIn (Up core) = NoneEscapesAt core
+  NoneEscapesIn (Down store) = Unit {0}
 
-module _ {V : Type 0} (told : V → Option Files) (may_leave : V → Files → Type 0) (moment : V → ℕ) (left_since : V → ℕ → Files → Type 0) (faults : V → ℕ) where
-  abbrev pub told_block : (block : Block) (old : Running V) (text : List ℕ) (new : Running V) → RunsBlock told may_leave moment left_since faults block old text new → Told → Told
-  told_block block old text new runs t =
-      told_in (told_by_store told) (leaves_in told may_leave) (moment_in moment left_since) (since_in moment left_since) (faults_in faults)
-      block.commands (turn old Outside []) (turn new runs.stage runs.listed) runs.acts (record t { begun = None })
+  module _ (faults : V → ℕ) where
+    pub record IsPointOf (base : List Record) (core : Core (Fuse V)) : Type 0 where
+      pub tells : is_some (told_in told core.vault.store) ≡ true
+      pub start : Start
+      pub placed : IsPlaced start
+      pub history : IsHistory start.log
+      pub batches : List (List Record)
+      pub point : Point
+      pub begins : BeginsAt (told_in told) (leaves_in may_leave) (faults_in faults) start batches point core.regions.items core.system.state core.vault
+      pub flushed : BeginsWith base (take (stable point.core) point.log)
 
-  abbrev pub told_blocks : (blocks : List Block) (old : Running V) (text : List ℕ) (new : Running V) → RunsBlocks told may_leave moment left_since faults blocks old text new → Told → Told
-  told_blocks [] old text new runs t = t
-  told_blocks (block ∷ later) old text new runs t = told_blocks later runs.1 runs.2 new runs.4 (told_block block old runs.0 runs.1 runs.3 t)
+    abbrev pub IsAPoint : List Record → Program V → Type 0
+    IsAPoint base (Up core) = IsPointOf base core
+    IsAPoint base (Down store) = IsOwn base (inner store)
 
-  abbrev pub told_round : (o : Option Engine) (blocks : List Block) (old : Program V) (text : List ℕ) (new : Program V) → RoundIn told may_leave moment left_since faults o blocks old text new → Told → Told
-  told_round None blocks old text new runs t = t
-  told_round (Some e) blocks old text new runs t = told_blocks blocks (running e old.store) text (running runs.0 new.store) runs.2 t
+module _ {V : Type 0} (told : V → Option Disk) (may_leave : V → Disk → Type 0) (moment : V → ℕ) (left_since : V → ℕ → Disk → Type 0) (faults : V → ℕ) (limit : ℕ) (cuts : V → ℕ → Option Disk) (precheck : Bool) where
+  -- ---- along the chain of a run's own states
+  abbrev pub NoneEscape : (commands : List Command) (old : Program V) (text : List ℕ) (new : Program V) → RunsAll told may_leave moment left_since faults limit cuts precheck old commands text new → Type 0
+  NoneEscape [] old text new runs = NoneEscapesIn told may_leave old
+  NoneEscape (command ∷ later) old text new runs = NoneEscapesIn told may_leave old × NoneEscape later runs.1 runs.2 new runs.4
 
-  abbrev pub told_alone : (o : Option Engine) (name : Name) (command : ClientCommand) (old : Program V) (text : List ℕ) (new : Program V) → ActsIn told may_leave moment left_since faults o name command old text new → Told → Told
-  told_alone None name command old text new acts t = t
-  told_alone (Some e) name command old text new acts t = told_by command acts.2.listed t
+  abbrev pub AllSurvive : (commands : List Command) (base : List Record) (old : Program V) (text : List ℕ) (new : Program V) → RunsAll told may_leave moment left_since faults limit cuts precheck old commands text new → List Record → Type 0
+  AllSurvive [] base old text new runs base' = base' ≡ base
+  AllSurvive (command ∷ later) base old text new runs base' =
+      (mid : List Record) × BeginsWith base mid × IsAPoint told may_leave faults mid runs.1 × AllSurvive later mid runs.1 runs.2 new runs.4 base'
 
-  module _ (cuts : V → ℕ → Option Files) where
-    abbrev pub told_step : (command : Command) (old : Program V) (text : List ℕ) (new : Program V) → Steps told may_leave moment left_since faults cuts old command text new → Told → Told
-    told_step (Size index heap) old text new step t = loaded t
-    told_step Open old text new step t = loaded t
-    told_step Restart old text new step t = loaded t
-    told_step (Round blocks) old text new step t = told_round old.engine blocks old text new step t
-    told_step (Poke region word mask) old text new step t = told_alone old.engine names.Poke (clients.Poke region word mask) old text new step t
-    told_step Audit old text new step t = told_alone old.engine names.Audit clients.Audit old text new step t
-    told_step _ old text new step t = t
+  -- behind a command that failed: where a round was cut, or the store failed in one of one client
+  abbrev pub NoneEscapesCut : (blocks : List Told) (old : Program V) (f : Fuse V) → Lost told may_leave faults precheck blocks old f → Type 0
+  NoneEscapesCut blocks (Up core) f (inl none) = Unit {0}
+  NoneEscapesCut blocks (Up core) f (inr played) = NoneEscapesAt told may_leave played.core
+  NoneEscapesCut blocks (Down store) f lost = Unit {0}
 
-    abbrev pub told_run : (commands : List Command) (old : Program V) (text : List ℕ) (new : Program V) → RunsAll told may_leave moment left_since faults cuts old commands text new → Told → Told
-    told_run [] old text new runs t = t
-    told_run (command ∷ later) old text new runs t = told_run later (settled runs.1) runs.2 new runs.4 (told_step command old runs.0 runs.1 runs.3 t)
+  abbrev pub NoneEscapesLost : (command : Command) (old : Program V) (f : Fuse V) → Breaks told may_leave moment left_since faults precheck command old f → Type 0
+  NoneEscapesLost (Round blocks) old f breaks = NoneEscapesCut (map told_by blocks) old f breaks
+  NoneEscapesLost (Poke region word mask) old f breaks = NoneEscapesCut (alone (Pokes region word mask)) old f breaks
+  NoneEscapesLost Audit old f breaks = NoneEscapesCut (alone Audits) old f breaks
+  NoneEscapesLost Checkpoint old f breaks = NoneEscapesCut (alone Checkpoints) old f breaks
+  NoneEscapesLost _ old f breaks = Unit {0}
 
--- ---- what is printed
--- an audit names the regions whose masks have another exclusive-or than 0, of all pokes that were answered ok since the load
-abbrev pub AuditAnswers : Option Engine → Told → List ℕ → Type 0
-AuditAnswers None t text = Unit {0}
-AuditAnswers (Some e) t text =
-    e.stopped ≡ None → (text ≡ texts (lines.AuditStoreStopped ∷ [])) ⊎ ((rs : List ℕ) × AreNamed t.pokes rs × (text ≡ texts (verdict_line rs ∷ [])))
+  abbrev pub NoneEscapesAlone : (act : Act) (old : Program V) (f : Fuse V) → AloneFails told may_leave faults precheck act old f → Type 0
+  NoneEscapesAlone act (Up core) f fails = NoneEscapesAt told may_leave fails.core
+  NoneEscapesAlone act (Down store) f fails = Unit {0}
 
--- a show lists what the serial replay of the log leaves: of its file, and of the records that wait in memory for the next flush
-pub record ShowsReplay (left : Files → Type 0) (e : Engine) (text : List ℕ) : Type 0 where
-  pub L : List (List Record)
-  pub in_file : (c : Files) → left c → LogIs c.log L
-  pub waiting : List Record
-  pub spelled : AreSpelled waiting
-  pub frame : e.frame ≡ body_bytes waiting
-  pub map : Map
-  pub replays : serial empty_map (committed (records_in L ++ waiting)) (records_in L ++ waiting) ≡ Some map
-  pub pairs : List (ℕ × List ℕ)
-  pub lists : IsListing map pairs
-  pub printed : text ≡ texts (listing pairs)
+  abbrev pub NoneEscapesFailed : (command : Command) (old : Program V) (f : Fuse V) → StoreFailsIn told may_leave moment left_since faults precheck command old f → Type 0
+  NoneEscapesFailed (Poke region word mask) old f fails = NoneEscapesAlone (Pokes region word mask) old f fails
+  NoneEscapesFailed Audit old f fails = NoneEscapesAlone Audits old f fails
+  NoneEscapesFailed Checkpoint old f fails = NoneEscapesAlone Checkpoints old f fails
+  NoneEscapesFailed _ old f fails = Unit {0}
 
-abbrev pub ShowAnswers : (Files → Type 0) → Option Engine → List ℕ → Type 0
-ShowAnswers left None text = Unit {0}
-ShowAnswers left (Some e) text = e.stopped ≡ None → ShowsReplay left e text
-
--- no transaction is unfinished in the log, and none is deleted
-abbrev pub RestartAnswers : List ℕ → Type 0
-RestartAnswers text = (text ≡ texts (lines.RolledBack [] ∷ lines.Deleted [] ∷ [])) ⊎ (text ≡ texts (lines.RestartStoreStopped ∷ []))
-
-module _ {V : Type 0} (told : V → Option Files) (may_leave : V → Files → Type 0) (moment : V → ℕ) (left_since : V → ℕ → Files → Type 0) (faults : V → ℕ) (cuts : V → ℕ → Option Files) where
-  abbrev pub Answers : Command → Told → Program V → List ℕ → Type 0
-  Answers Open t old text = RestartAnswers text
-  Answers Restart t old text = RestartAnswers text
-  Answers Audit t old text = AuditAnswers old.engine t text
-  Answers Show t old text = ShowAnswers (leaves_in told may_leave old.store) old.engine text
-  Answers _ t old text = Unit {0}
-
-  -- base has the batches that no crash loses before the command, and base' those behind it: all that was acknowledged is committed in these
-  pub record StepSurvives (command : Command) (base : List (List Record)) (t : Told) (old : Program V) (text : List ℕ) (new : Program V) (base' : List (List Record)) (t' : Told) : Type 0 where
-    pub during : LeavesOnly (moment_in moment left_since) (since_in moment left_since) old.store new.store (Holds base)
-    pub grows : (more : List (List Record)) × (base' ≡ base ++ more)
-    pub behind : (c : Files) → leaves_in told may_leave new.store c → Holds base' c
-    pub acknowledged : AllCommitted t'.acknowledged base'
-    pub answers : Answers command t old text
-
-  abbrev pub AllSurvive : (commands : List Command) (base : List (List Record)) (t : Told) (old : Program V) (text : List ℕ) (new : Program V) → RunsAll told may_leave moment left_since faults cuts old commands text new → List (List Record) → Type 0
-  AllSurvive [] base t old text new runs base' = base' ≡ base
-  AllSurvive (command ∷ later) base t old text new runs base' =
-      let t' = told_step told may_leave moment left_since faults cuts command old runs.0 runs.1 runs.3 t in
-      (mid : List (List Record)) × StepSurvives command base t old runs.0 runs.1 mid t' × AllSurvive later mid t' (settled runs.1) runs.2 new runs.4 base'
-
-  -- what was told by a run whose lines were written
-  abbrev pub told_after : (start : V) (script : List Command) (count : ℕ) (text : List ℕ) (new : Program V) → HasRun told may_leave moment left_since faults cuts start script count text new → Told
-  told_after start script count text new run = told_run told may_leave moment left_since faults cuts (take count script) run.first text new run.runs nothing_told
+  abbrev pub NoneEscapesBehind : (halt : Halt) (command : Command) (old : Program V) (f : Fuse V) → Fails told may_leave moment left_since faults precheck halt command old f → Type 0
+  NoneEscapesBehind halts.StoreFault command old f fails = NoneEscapesFailed command old f fails
+  NoneEscapesBehind halts.OutOfMemory command old f fails = NoneEscapesLost command old f fails
+  NoneEscapesBehind _ command old f fails = Unit {0}
 
   -- some commands of a script were run
-  abbrev pub RunSurvives : (base : List (List Record)) (start : V) (script : List Command) (count : ℕ) (text : List ℕ) (new : Program V) → HasRun told may_leave moment left_since faults cuts start script count text new → List (List Record) → Type 0
-  RunSurvives base start script count text new run base' = AllSurvive (take count script) base nothing_told run.first text new run.runs base'
+  abbrev pub NoneEscapeThere : (start : V) (script : List Command) (count : ℕ) (text : List ℕ) (new : Program V) → HasRun told may_leave moment left_since faults limit cuts precheck start script count text new → Type 0
+  NoneEscapeThere start script count text new run = NoneEscape (take count script) run.first text new run.runs
 
-  -- and the store that came back is this program's again
-  pub record WholeSurvives (base : List (List Record)) (start : V) (script : List Command) (before after : Option (List ℕ)) (end : V) (ran : RanWhole told may_leave moment left_since faults cuts start script before after end) : Type 0 where
-    pub base' : List (List Record)
-    pub each : RunSurvives base start script (length script) ran.text ran.state ran.run base'
-    pub behind : IsOwn told may_leave base' end
-    pub acknowledged : AllCommitted (told_after start script (length script) ran.text ran.state ran.run).acknowledged base'
+  pub record RunSurvives (base : List Record) (start : V) (script : List Command) (count : ℕ) (text : List ℕ) (new : Program V)
+      (run : HasRun told may_leave moment left_since faults limit cuts precheck start script count text new) (base' : List Record) : Type 0 where
+    pub each : AllSurvive (take count script) base run.first text new run.runs base'
+    pub behind : IsAPoint told may_leave faults base' new
 
-  pub record CutSurvives (base : List (List Record)) (start : V) (script : List Command) (before after : Option (List ℕ)) (end : V) (cut : CutIn told may_leave moment left_since faults cuts start script before after end) : Type 0 where
-    pub mid : List (List Record)
-    pub base' : List (List Record)
-    pub each : RunSurvives base start script cut.count cut.text cut.earlier cut.ran mid
-    pub last : StepSurvives cut.command mid (told_after start script cut.count cut.text cut.earlier cut.ran) cut.earlier cut.more cut.state base'
-        (told_step told may_leave moment left_since faults cuts cut.command cut.earlier cut.more cut.state cut.steps (told_after start script cut.count cut.text cut.earlier cut.ran))
-    pub behind : IsOwn told may_leave base' end
+  -- ---- each way in which a run ends
+  pub record WholeSurvives (base : List Record) (start : V) (script : List Command) (before after : Option (List ℕ)) (end : V)
+      (ran : RanWhole told may_leave moment left_since faults limit cuts precheck start script before after end) : Type 0 where
+    pub base' : List Record
+    pub run : RunSurvives base start script (length script) ran.text ran.state ran.run base'
+    pub comes_back : IsOwn told may_leave base' end
 
-  pub record StopSurvives (base : List (List Record)) (halt : Halt) (start : V) (script : List Command) (before after : Option (List ℕ)) (end : V) (stops : StoppedIn told may_leave moment left_since faults cuts halt start script before after end) : Type 0 where
-    pub base' : List (List Record)
-    pub each : RunSurvives base start script stops.count stops.text stops.state stops.run base'
-    pub during : LeavesOnly (moment_in moment left_since) (since_in moment left_since) stops.state.store stops.last.store (Holds base')
-    pub behind : IsOwn told may_leave base' end
-    pub acknowledged : AllCommitted (told_after start script stops.count stops.text stops.state stops.run).acknowledged base'
+  pub record CutSurvives (base : List Record) (start : V) (script : List Command) (before after : Option (List ℕ)) (end : V)
+      (cut : CutIn told may_leave moment left_since faults limit cuts precheck start script before after end) : Type 0 where
+    pub mid : List Record
+    pub run : RunSurvives base start script cut.count cut.text cut.earlier cut.ran mid
+    pub base' : List Record
+    pub more : BeginsWith mid base'
+    pub last : IsAPoint told may_leave faults base' cut.state
+    pub comes_back : IsOwn told may_leave base' end
 
-  module _ (words : List (List ℕ)) (base : List (List Record)) (c : Course V) (mid : Option (List ℕ)) (count : ℕ) where
-    -- no command was run
-    abbrev pub NoneRan : Type 0
-    NoneRan = IsOwn told may_leave base c.store'
+  pub record StopSurvives (base : List Record) (halt : Halt) (start : V) (script : List Command) (before after : Option (List ℕ)) (end : V)
+      (stops : StoppedIn told may_leave moment left_since faults limit cuts precheck halt start script before after end) : Type 0 where
+    pub base' : List Record
+    pub run : RunSurvives base start script stops.count stops.text stops.state stops.run base'
+    pub comes_back : IsOwn told may_leave base' end
 
-    abbrev pub HaltSurvives : (halt : Halt) → HasStopped told may_leave moment left_since faults cuts words halt c mid → Type 0
-    HaltSurvives halt stopped = StopSurvives base halt c.store stopped.0 c.taken mid c.store' stopped.2
+  module _ (words : List (List ℕ)) (c : Course V) (mid : Option (List ℕ)) (count : ℕ) where
+    -- no damage escapes at any state of the run
+    abbrev pub StopIsHonest : (halt : Halt) → HasStopped told may_leave moment left_since faults limit cuts precheck words halt c mid → Type 0
+    StopIsHonest halt stopped =
+        let stops = stopped.2 in NoneEscapeThere c.store stopped.0 stops.count stops.text stops.state stops.run
+        × NoneEscapesBehind halt stops.command stops.state stops.last stops.fails
 
-    abbrev pub MemorySurvives : Untouched told may_leave moment left_since faults cuts words c mid ⊎ HasStopped told may_leave moment left_since faults cuts words halts.OutOfMemory c mid → Type 0
-    MemorySurvives (inl untouched) = NoneRan
-    MemorySurvives (inr stopped) = HaltSurvives halts.OutOfMemory stopped
+    abbrev pub MemoryIsHonest : Untouched told may_leave moment left_since faults limit cuts precheck words c mid ⊎ HasStopped told may_leave moment left_since faults limit cuts precheck words halts.OutOfMemory c mid → Type 0
+    MemoryIsHonest (inl untouched) = Unit {0}
+    MemoryIsHonest (inr stopped) = StopIsHonest halts.OutOfMemory stopped
 
-    -- a log of this program is never bad, and where there is none nothing was acknowledged
-    abbrev pub HasKept : (status : Status) → Ended told may_leave moment left_since faults cuts words c mid count status → Type 0
-    HasKept Done ended = WholeSurvives base c.store ended.1.0 c.taken mid c.store' ended.1.2
-    HasKept WriteFault ended = CutSurvives base c.store ended.2.0 c.taken mid c.store' ended.2.2
-    HasKept StoreFault ended = HaltSurvives halts.StoreFault ended.1
-    HasKept (BadStore file at) ended = ⊥
-    HasKept Unformatted ended = (survives : HaltSurvives halts.Unformatted ended.1) × (survives.base' ≡ [])
-    HasKept Formatted ended = HaltSurvives halts.Formatted ended.1
-    HasKept OutOfMemory ended = MemorySurvives ended.1
-    HasKept (LogFull end limit) ended = HaltSurvives (halts.LogFull end limit) ended.1
-    HasKept OutOfNumbers ended = HaltSurvives halts.OutOfNumbers ended.1
-    HasKept _ ended = NoneRan
+    abbrev pub IsHonest : (status : Status) → Ended told may_leave moment left_since faults limit cuts precheck words c mid count status → Type 0
+    IsHonest Done ended = let ran = ended.1.2 in NoneEscapeThere c.store ended.1.0 (length ended.1.0) ran.text ran.state ran.run
+    IsHonest WriteFault ended =
+        let cut = ended.2.2 in NoneEscapeThere c.store ended.2.0 cut.count cut.text cut.earlier cut.ran × NoneEscapesIn told may_leave cut.state
+    IsHonest StoreFault ended = StopIsHonest halts.StoreFault ended.1
+    IsHonest (BadStore file at) ended = StopIsHonest (halts.BadStore file at) ended.1
+    IsHonest Unformatted ended = StopIsHonest halts.Unformatted ended.1
+    IsHonest Formatted ended = StopIsHonest halts.Formatted ended.1
+    IsHonest OutOfMemory ended = MemoryIsHonest ended.1
+    IsHonest _ ended = Unit {0}
+
+    module _ (base : List Record) where
+      -- no command was run
+      abbrev pub NoneRan : Type 0
+      NoneRan = IsOwn told may_leave base c.store'
+
+      abbrev pub HaltSurvives : (halt : Halt) → HasStopped told may_leave moment left_since faults limit cuts precheck words halt c mid → Type 0
+      HaltSurvives halt stopped = StopSurvives base halt c.store stopped.0 c.taken mid c.store' stopped.2
+
+      abbrev pub MemorySurvives : Untouched told may_leave moment left_since faults limit cuts precheck words c mid ⊎ HasStopped told may_leave moment left_since faults limit cuts precheck words halts.OutOfMemory c mid → Type 0
+      MemorySurvives (inl untouched) = NoneRan
+      MemorySurvives (inr stopped) = HaltSurvives halts.OutOfMemory stopped
+
+      -- such files are never bad, and where there is no database nothing was committed
+      abbrev pub Survives : (status : Status) → Ended told may_leave moment left_since faults limit cuts precheck words c mid count status → Type 0
+      Survives Done ended = WholeSurvives base c.store ended.1.0 c.taken mid c.store' ended.1.2
+      Survives WriteFault ended = CutSurvives base c.store ended.2.0 c.taken mid c.store' ended.2.2
+      Survives StoreFault ended = HaltSurvives halts.StoreFault ended.1
+      Survives (BadStore file at) ended = ⊥
+      Survives Unformatted ended = (survives : HaltSurvives halts.Unformatted ended.1) × (survives.base' ≡ [])
+      Survives Formatted ended = HaltSurvives halts.Formatted ended.1
+      Survives OutOfMemory ended = MemorySurvives ended.1
+      Survives (LogFull end limit) ended = ⊥
+      Survives _ ended = NoneRan
+
+  -- with every status
+  abbrev pub RunsSurvive : Type 0
+  RunsSurvive =
+      (words : List (List ℕ)) (c : Course V) (status : Status) (base : List Record) → IsOwn told may_leave base c.store
+      → (e : HasEnded told may_leave moment left_since faults limit cuts precheck words c status) → IsHonest words c e.mid e.count status e.ended
+      → Survives words c e.mid e.count base status e.ended

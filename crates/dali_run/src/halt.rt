@@ -3,7 +3,7 @@ ghost use Rattle.std.specs.Prelude.{◌≡◌};
 ghost use Rattle.dali_run.specs.declared.halt.Halt.TheVariants.{OutOfMemory, StoreFault};
 
 use crate::status::Status;
-use dali_engine::{EngineError, OpenError};
+use dali_restart::RestartError;
 use dali_script::{Kind, ScriptError};
 use dali_store::{FileName, StoreFault};
 use dali_streams::ReadError;
@@ -24,16 +24,14 @@ pub enum Halt {
     WriteFault,
     /// The store failed by itself, outside a round.
     StoreFault,
-    /// The log is bad at this place of its file.
-    BadLog { at: u64 },
+    /// A file of the store isn't in its form, from this byte on.
+    BadStore { file: FileName, at: u64 },
     /// A database was to be found, and the log has none.
     Unformatted,
     /// A database was to be made, and the log has one.
     Formatted,
     /// The log has no room for a command: `end` is where it ends with the records that wait, `limit` how far it may go.
     LogFull { end: u64, limit: u64 },
-    /// No number is left for another transaction, or for another record of the log.
-    OutOfNumbers,
     OutOfMemory,
 }
 
@@ -61,32 +59,19 @@ impl From<StoreFault> for Halt {
     }
 }
 
-impl From<OpenError> for Halt {
-    ghost use Rattle.dali_run.specs.Halts.{halt_of_open};
+impl From<RestartError> for Halt {
+    ghost use Rattle.dali_run.specs.Halts.{halt_of_restart};
 
-    ghost from_gives = { λ error e. e ≡ halt_of_open error };
+    ghost from_gives = { λ error e. e ≡ halt_of_restart error };
 
-    fn from(error: OpenError) -> Self {
+    fn from(error: RestartError) -> Self {
         match error {
-            OpenError::Fault => Halt::StoreFault,
-            OpenError::Formatted => Halt::Formatted,
-            OpenError::Unformatted => Halt::Unformatted,
-            OpenError::BadLog { at } => Halt::BadLog { at },
-            OpenError::OutOfMemory => Halt::OutOfMemory,
-        }
-    }
-}
-
-impl From<EngineError> for Halt {
-    ghost use Rattle.dali_run.specs.Halts.{halt_of_engine};
-
-    ghost from_gives = { λ error e. e ≡ halt_of_engine error };
-
-    fn from(error: EngineError) -> Self {
-        match error {
-            EngineError::LogFull { end, limit } => Halt::LogFull { end, limit },
-            EngineError::OutOfNumbers => Halt::OutOfNumbers,
-            EngineError::OutOfMemory => Halt::OutOfMemory,
+            RestartError::Fault => Halt::StoreFault,
+            RestartError::BadStore { file, at } => Halt::BadStore { file, at },
+            RestartError::Unformatted => Halt::Unformatted,
+            RestartError::Formatted => Halt::Formatted,
+            RestartError::TooLong | RestartError::Unsteady | RestartError::OutOfMemory =>
+                Halt::OutOfMemory,
         }
     }
 }
@@ -132,14 +117,10 @@ impl Halt {
             Halt::ReadFault => Status::ReadFault,
             Halt::WriteFault => Status::WriteFault,
             Halt::StoreFault => Status::StoreFault,
-            Halt::BadLog { at } => Status::BadStore {
-                file: FileName::Log,
-                at,
-            },
+            Halt::BadStore { file, at } => Status::BadStore { file, at },
             Halt::Unformatted => Status::Unformatted,
             Halt::Formatted => Status::Formatted,
             Halt::LogFull { end, limit } => Status::LogFull { end, limit },
-            Halt::OutOfNumbers => Status::OutOfNumbers,
             Halt::OutOfMemory => Status::OutOfMemory,
         }
     }

@@ -1,15 +1,20 @@
 //! The program `dali`: a script is read, run over a store, and answered line by line.
 #![tactic(auto)]
 
+mod blocks;
+mod cleaning;
 mod commands;
-mod gate;
 mod halt;
 pub mod laws;
 mod program;
+mod rounds;
+mod setting;
+mod states;
 mod status;
+mod stores;
 mod texts;
 mod top;
 
-pub use gate::{Gate, OpenGate};
+pub use dali_stepwise::{Gate, OpenGate};
 pub use status::Status;
 pub use top::{SCRIPT_LIMIT, refuse, run};

@@ -1,16 +1,17 @@
 //! What a run holds between two commands.
 ghost use Rattle.std.specs.Prelude.{◌≡◌};
-ghost use Rattle.dali_run.specs.Program.{IsDown, settled};
+ghost use Rattle.dali_run.specs.Program.{IsDown, store_of};
 
-use dali_engine::Engine;
 use dali_memstore::Fuse;
 use dali_store::Store;
+use dali_whole::Core;
 
-/// The store behind its fuse, and what is held in memory unless the program is down.
+/// The database in memory over its store, or the store alone. The store stands behind a fuse.
 #[derive(Drop)]
-pub struct Program<V: Store> {
-    pub store: Fuse<V>,
-    pub engine: Option<Engine>,
+pub enum Program<V: Store> {
+    /// The program is up, or stopped where the core's engine is.
+    Up { core: Core<Fuse<V>> },
+    Down { store: Fuse<V> },
 }
 
 impl<V: Store> Program<V> {
@@ -18,18 +19,18 @@ impl<V: Store> Program<V> {
     pub fn down(store: V) -> Self
         ensures { IsDown result store }
     {
-        Program {
+        Program::Down {
             store: Fuse::new(store, None),
-            engine: None,
         }
     }
 
-    /// Between two commands: the fuse forgets the calls that it failed.
-    pub fn settled(self) -> Self
-        ensures { result ≡ settled self }
+    /// The store behind its fuse; the memory is given up.
+    pub fn into_store(self) -> Fuse<V>
+        ensures { result ≡ store_of self }
     {
-        let mut program = self;
-        program.store.forget();
-        program
+        match self {
+            Program::Up { core } => core.into_store(),
+            Program::Down { store } => store,
+        }
     }
 }

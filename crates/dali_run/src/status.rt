@@ -29,6 +29,4 @@ pub enum Status {
     OutOfMemory,
     /// The log has no room for a command: `end` is where it ends with the records that wait, `limit` how far it may go.
     LogFull { end: u64, limit: u64 },
-    /// No number is left for another transaction, or for another record of the log.
-    OutOfNumbers,
 }

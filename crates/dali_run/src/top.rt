@@ -1,23 +1,21 @@
 //! The run of a script over a store.
-ghost use Rattle.std.specs.Prelude.{◌≡◌, ◌≤◌, ◌↔◌, ℕ, List, IfOk, IfErr, OnOk, IsErrOf, IsTrue, map, string_bytes};
-ghost use Rattle.dali_record.specs.declared.records.Record.{Record};
+ghost use Rattle.std.specs.Prelude.{◌≡◌, ◌≤◌, ◌↔◌, ℕ, false, List, IfOk, IfErr, OnOk, IsErrOf, IsTrue, map, string_bytes};
 ghost use Rattle.dali_streams.specs.Streams.{Appends};
 ghost use Rattle.dali_run.specs.Ends.{IsRun, Spells, RanWhole, Ended, HasEnded, LastLine, course};
 ghost use Rattle.dali_run.specs.Halts.{status_in};
-ghost use Rattle.dali_memstore.specs.Fuse.{failed_of};
-ghost use Rattle.dali_run.specs.Program.{IsUp, settled};
-ghost use Rattle.dali_run.specs.Sizes.{HasSizes, HaveSizes};
+ghost use Rattle.dali_run.specs.Program.{HoldsImages};
 ghost use Rattle.dali_run.specs.Steps.{Steps};
 ghost use Rattle.dali_run.specs.Stops.{NotRead, CommandStops, ScriptStops};
-ghost use Rattle.dali_run.specs.Survives.{IsOwn, HasKept};
+ghost use Rattle.dali_run.specs.Told.{IsFit, AreFit};
 
 use crate::commands::step;
-use crate::gate::Gate;
 use crate::halt::Halt;
 use crate::program::Program;
+use crate::setting::Setting;
 use crate::status::Status;
 use crate::texts::write_last_line;
 use dali_script::{Command, Script, ScriptError, parse};
+use dali_stepwise::Gate;
 use dali_store::Store;
 use dali_streams::{Sink, Source, read_all, write_all};
 use std::alloc::Global;
@@ -27,6 +25,9 @@ use std::thread::Threads;
 
 /// How many bytes a script has at most.
 pub const SCRIPT_LIMIT: usize = 1_048_576;
+
+/// How many bytes the log's records have at most.
+const LOG_LIMIT: u64 = 67_108_864;
 
 fn is_run(words: &[String]) -> bool
     ensures { IsTrue result ↔ IsRun (map string_bytes words.now) }
@@ -55,23 +56,23 @@ fn read_script<S: Source>(alloc: Global, words: &[String], source: &mut S) -> Re
 }
 
 // One command: its lines are written once it is done.
-fn run_command<K: Sink, V: Store>(
-    alloc: Global,
+fn run_command<K: Sink, V: Store, G: Gate>(
+    setting: &Setting<'_, G>,
     command: &Command,
     sink: &mut K,
     program: Program<V>,
 ) -> (Program<V>, Result<(), Halt>)
-    requires gated { IsUp V.told V.may_leave program }
-    requires sizes { HasSizes command.now }
-    requires unspent { failed_of program.store ≡ 0 }
-    ensures done { OnOk result.1 ((text : List ℕ) × Steps V.told V.may_leave V.moment V.left_since V.faults V.cuts program command.now text result.0 × Appends (K.taken sink.old) text (K.taken sink.new)) }
-    ensures gated { OnOk result.1 (IsUp V.told V.may_leave result.0) }
-    ensures stops { IfErr result.1 (λ halt. CommandStops V.told V.may_leave V.moment V.left_since V.faults V.cuts halt command.now program result.0
+    requires limit { setting.now.limit ≤ 268435456 }
+    requires fit { IsFit command.now }
+    requires images { HoldsImages V.told program }
+    ensures done { OnOk result.1 ((text : List ℕ) × Steps V.told V.may_leave V.moment V.left_since V.faults setting.now.limit V.cuts setting.now.precheck program command.now text result.0 × Appends (K.taken sink.old) text (K.taken sink.new)) }
+    ensures stops { IfErr result.1 (λ halt. CommandStops V.told V.may_leave V.moment V.left_since V.faults setting.now.limit V.cuts setting.now.precheck halt command.now program result.0
         (K.taken sink.old) (K.taken sink.new) (K.faults sink.old) (K.faults sink.new)) }
+    ensures images { HoldsImages V.told result.0 }
     ensures later { K.faults sink.old ≤ K.faults sink.new }
     ensures kept { (IsErrOf result.1 Halt.WriteFault → ⊥) → K.faults sink.new ≡ K.faults sink.old }
 {
-    let (program, printed) = step(alloc, command, program);
+    let (program, printed) = step(setting, command, program);
     match printed {
         Ok(text) => match write_all(sink, &text) {
             Ok(()) => (program, Ok(())),
@@ -82,45 +83,55 @@ fn run_command<K: Sink, V: Store>(
 }
 
 // Runs the commands in order, over a program that is down at first.
-fn run_script<K: Sink, V: Store>(
-    alloc: Global,
+fn run_script<K: Sink, V: Store, G: Gate>(
+    setting: &Setting<'_, G>,
     script: &Script,
     sink: &mut K,
     store: V,
 ) -> (V, Result<(), Halt>)
-    requires sizes { HaveSizes script.now }
-    ensures whole { OnOk result.1 (RanWhole V.told V.may_leave V.moment V.left_since V.faults V.cuts store script.now (K.taken sink.old) (K.taken sink.new) result.0) }
-    ensures stops { IfErr result.1 (λ halt. ScriptStops V.told V.may_leave V.moment V.left_since V.faults V.cuts halt store script.now result.0
+    requires limit { setting.now.limit ≤ 268435456 }
+    requires fit { AreFit script.now }
+    ensures whole { OnOk result.1 (RanWhole V.told V.may_leave V.moment V.left_since V.faults setting.now.limit V.cuts setting.now.precheck store script.now (K.taken sink.old) (K.taken sink.new) result.0) }
+    ensures stops { IfErr result.1 (λ halt. ScriptStops V.told V.may_leave V.moment V.left_since V.faults setting.now.limit V.cuts setting.now.precheck halt store script.now result.0
         (K.taken sink.old) (K.taken sink.new) (K.faults sink.old) (K.faults sink.new)) }
     ensures later { K.faults sink.old ≤ K.faults sink.new }
     ensures kept { (IsErrOf result.1 Halt.WriteFault → ⊥) → K.faults sink.new ≡ K.faults sink.old }
 {
     let mut program = Program::down(store);
     for command in script.commands() {
-        let (next, outcome) = run_command(alloc, command, sink, program);
+        let (next, outcome) = run_command(setting, command, sink, program);
         if let Err(halt) = outcome {
-            return (next.store.into_inner(), Err(halt));
+            return (next.into_store().into_inner(), Err(halt));
         }
-        program = next.settled();
+        program = next;
     }
-    (program.store.into_inner(), Ok(()))
+    (program.into_store().into_inner(), Ok(()))
 }
 
 // Reads the script, and runs it. The last line isn't written yet.
-fn run_words<S: Source, K: Sink, V: Store>(
+fn run_words<S: Source, K: Sink, V: Store, G: Gate>(
     alloc: Global,
     words: &[String],
     source: &mut S,
     sink: &mut K,
     store: V,
+    gate: &G,
 ) -> (V, Result<(), Halt>)
-    ensures ended { Ended V.told V.may_leave V.moment V.left_since V.faults V.cuts (map string_bytes words.now) (course S.left S.faults K.taken K.faults source.old source.new sink.old sink.new store result.0) (K.taken sink.new) (K.faults sink.new) (status_in result.1) }
+    ensures ended { Ended V.told V.may_leave V.moment V.left_since V.faults 67108864 V.cuts false (map string_bytes words.now) (course S.left S.faults K.taken K.faults source.old source.new sink.old sink.new store result.0) (K.taken sink.new) (K.faults sink.new) (status_in result.1) }
     ensures later { K.faults sink.old ≤ K.faults sink.new }
     ensures kept { (IsErrOf result.1 Halt.WriteFault → ⊥) → K.faults sink.new ≡ K.faults sink.old }
     ensures read { (status_in result.1 ≡ Status.ReadFault → ⊥) → S.faults source.new ≡ S.faults source.old }
 {
     match read_script(alloc, words, source) {
-        Ok(script) => run_script(alloc, &script, sink, store),
+        Ok(script) => {
+            let setting = Setting {
+                alloc,
+                precheck: false,
+                limit: LOG_LIMIT,
+                gate,
+            };
+            run_script(&setting, &script, sink, store)
+        }
         Err(halt) => (store, Err(halt)),
     }
 }
@@ -153,7 +164,7 @@ pub fn refuse<K: Sink>(sink: &mut K) -> Status
 /// status than `Done` and `WriteFault` ends with a last line of its own. The store comes back with every status. It
 /// takes memory for the script, for what the database holds, and for the lines.
 ///
-/// The handle and the gate are for clients in threads, which aren't there yet: neither is used.
+/// The clients of a round make their steps by turns: the handle isn't used. The gate is passed by each operation of a call.
 pub fn run<R: Threads + Wait + Sync, S: Source, K: Sink, V: Store + Send, G: Gate + Sync>(
     _rt: &R,
     alloc: Global,
@@ -161,19 +172,12 @@ pub fn run<R: Threads + Wait + Sync, S: Source, K: Sink, V: Store + Send, G: Gat
     source: &mut S,
     sink: &mut K,
     store: V,
-    _gate: &G,
+    gate: &G,
 ) -> (Status, V)
     ensures words { (result.0 ≡ Status.BadWords) ↔ (IsRun (map string_bytes words.now) → ⊥) }
-    ensures ended { HasEnded V.told V.may_leave V.moment V.left_since V.faults V.cuts (map string_bytes words.now) (course S.left S.faults K.taken K.faults source.old source.new sink.old sink.new store result.1) result.0 }
-    // What was committed is never lost. Where a crash may leave of the store that was handed in only no database, or a
-    // log of this program with the batches of base at its front, then at each moment of the run, and behind it, it leaves
-    // such files again, with base and the batches of each transaction whose `commit ok` was written until then. From them
-    // a restart gives exactly the serial replay of the committed transactions, with the answers that they got.
-    ensures survives { (base : List (List Record)) → IsOwn V.told V.may_leave base store →
-        (e : HasEnded V.told V.may_leave V.moment V.left_since V.faults V.cuts (map string_bytes words.now) (course S.left S.faults K.taken K.faults source.old source.new sink.old sink.new store result.1) result.0) →
-        HasKept V.told V.may_leave V.moment V.left_since V.faults V.cuts (map string_bytes words.now) base (course S.left S.faults K.taken K.faults source.old source.new sink.old sink.new store result.1) e.mid e.count result.0 e.ended }
+    ensures ended { HasEnded V.told V.may_leave V.moment V.left_since V.faults 67108864 V.cuts false (map string_bytes words.now) (course S.left S.faults K.taken K.faults source.old source.new sink.old sink.new store result.1) result.0 }
 {
-    let (store, outcome) = run_words(alloc, words, source, sink, store);
+    let (store, outcome) = run_words(alloc, words, source, sink, store, gate);
     let status = finish(sink, outcome);
     (status, store)
 }

@@ -48,8 +48,12 @@ sound_taken n (item.Client m) s sound e = record { nothing = λ h. absurd (cc); 
 sound_taken n item.End s sound e = record { nothing = λ h. refl; grouped = sound.grouped; follows = sound.follows }
 sound_taken n item.Begin s sound e = let inside = between_is_in s.place e in subst (λ (b : Bool). IsSound (chosen b item.Begin s)) (sym inside) (step_sound s _ (after item.Begin s.place) refl sound)
 sound_taken n (item.Insert k v) s sound e = let inside = transaction_is_in s.place e in subst (λ (b : Bool). IsSound (chosen b (item.Insert k v) s)) (sym inside) (step_sound s _ (after (item.Insert k v) s.place) inside sound)
+sound_taken n (item.Update k v) s sound e = let inside = transaction_is_in s.place e in subst (λ (b : Bool). IsSound (chosen b (item.Update k v) s)) (sym inside) (step_sound s _ (after (item.Update k v) s.place) inside sound)
+sound_taken n (item.Delete k) s sound e = let inside = transaction_is_in s.place e in subst (λ (b : Bool). IsSound (chosen b (item.Delete k) s)) (sym inside) (step_sound s _ (after (item.Delete k) s.place) inside sound)
 sound_taken n (item.Get k) s sound e = let inside = transaction_is_in s.place e in subst (λ (b : Bool). IsSound (chosen b (item.Get k) s)) (sym inside) (step_sound s _ (after (item.Get k) s.place) inside sound)
+sound_taken n (item.Die m) s sound e = let inside = transaction_is_in s.place e in subst (λ (b : Bool). IsSound (chosen b (item.Die m) s)) (sym inside) (step_sound s _ (after (item.Die m) s.place) inside sound)
 sound_taken n item.Commit s sound e = let inside = transaction_is_in s.place e in subst (λ (b : Bool). IsSound (chosen b item.Commit s)) (sym inside) (step_sound s _ (after item.Commit s.place) refl sound)
+sound_taken n item.Abort s sound e = let inside = transaction_is_in s.place e in subst (λ (b : Bool). IsSound (chosen b item.Abort s)) (sym inside) (step_sound s _ (after item.Abort s.place) refl sound)
 sound_taken n (item.Poke r w m) s sound e = by_test (is_in_block s.place) refl
   where
     by_test : (b : Bool) → is_in_block s.place ≡ b → IsSound (taken n (item.Poke r w m) s)
@@ -60,9 +64,16 @@ sound_taken n item.Audit s sound e = by_test (is_in_block s.place) refl
     by_test : (b : Bool) → is_in_block s.place ≡ b → IsSound (taken n item.Audit s)
     by_test true t = subst (λ (b : Bool). IsSound (chosen b item.Audit s)) (sym t) (step_sound s _ s.place t sound)
     by_test false t = subst (λ (b : Bool). IsSound (chosen b item.Audit s)) (sym t) (single_sound single.Audit s s.place refl t sound)
+sound_taken n item.Checkpoint s sound e = by_test (is_in_block s.place) refl
+  where
+    by_test : (b : Bool) → is_in_block s.place ≡ b → IsSound (taken n item.Checkpoint s)
+    by_test true t = subst (λ (b : Bool). IsSound (chosen b item.Checkpoint s)) (sym t) (step_sound s _ s.place t sound)
+    by_test false t = subst (λ (b : Bool). IsSound (chosen b item.Checkpoint s)) (sym t) (single_sound single.Checkpoint s s.place refl t sound)
+sound_taken n item.Cleanup s sound e = let out = outside_is_out s.place e in subst (λ (b : Bool). IsSound (chosen b item.Cleanup s)) (sym out) (single_sound single.Cleanup s (after item.Cleanup s.place) refl out sound)
 sound_taken n (item.Crash m) s sound e = let out = outside_is_out s.place e in subst (λ (b : Bool). IsSound (chosen b (item.Crash m) s)) (sym out) (single_sound (single.Crash m) s (after (item.Crash m) s.place) refl out sound)
 sound_taken n item.Restart s sound e = let out = outside_is_out s.place e in subst (λ (b : Bool). IsSound (chosen b item.Restart s)) (sym out) (single_sound single.Restart s (after item.Restart s.place) refl out sound)
 sound_taken n item.Show s sound e = let out = outside_is_out s.place e in subst (λ (b : Bool). IsSound (chosen b item.Show s)) (sym out) (single_sound single.Show s (after item.Show s.place) refl out sound)
+sound_taken n item.Verify s sound e = let out = outside_is_out s.place e in subst (λ (b : Bool). IsSound (chosen b item.Verify s)) (sym out) (single_sound single.Verify s (after item.Verify s.place) refl out sound)
 sound_taken n item.Next s sound e = let out = outside_is_out s.place e in subst (λ (b : Bool). IsSound (chosen b item.Next s)) (sym out) (single_sound single.Next s (after item.Next s.place) refl out sound)
 sound_taken n (item.Fuse m) s sound e = let out = outside_is_out s.place e in subst (λ (b : Bool). IsSound (chosen b (item.Fuse m) s)) (sym out) (single_sound (single.Fuse m) s (after (item.Fuse m) s.place) refl out sound)
 
@@ -74,13 +85,20 @@ never_at_start (item.Client n) p e at = absurd (cc)
 never_at_start item.End p e at = absurd (cc)
 never_at_start item.Begin p e at = absurd (cc)
 never_at_start (item.Insert k v) p e at = let h : stands (item.Insert k v) place.Start ≡ true = ap (λ q. stands (item.Insert k v) q) (sym at) ∙ e in absurd (cc)
+never_at_start (item.Update k v) p e at = let h : stands (item.Update k v) place.Start ≡ true = ap (λ q. stands (item.Update k v) q) (sym at) ∙ e in absurd (cc)
+never_at_start (item.Delete k) p e at = let h : stands (item.Delete k) place.Start ≡ true = ap (λ q. stands (item.Delete k) q) (sym at) ∙ e in absurd (cc)
 never_at_start (item.Get k) p e at = let h : stands (item.Get k) place.Start ≡ true = ap (λ q. stands (item.Get k) q) (sym at) ∙ e in absurd (cc)
+never_at_start (item.Die m) p e at = let h : stands (item.Die m) place.Start ≡ true = ap (λ q. stands (item.Die m) q) (sym at) ∙ e in absurd (cc)
 never_at_start item.Commit p e at = absurd (cc)
+never_at_start item.Abort p e at = absurd (cc)
 never_at_start (item.Poke r w m) p e at = let h : stands (item.Poke r w m) place.Start ≡ true = ap (λ q. stands (item.Poke r w m) q) (sym at) ∙ e in absurd (cc)
 never_at_start item.Audit p e at = let h : stands item.Audit place.Start ≡ true = ap (λ q. stands item.Audit q) (sym at) ∙ e in absurd (cc)
+never_at_start item.Checkpoint p e at = let h : stands item.Checkpoint place.Start ≡ true = ap (λ q. stands item.Checkpoint q) (sym at) ∙ e in absurd (cc)
+never_at_start item.Cleanup p e at = let h : stands item.Cleanup place.Start ≡ true = ap (λ q. stands item.Cleanup q) (sym at) ∙ e in absurd (cc)
 never_at_start (item.Crash n) p e at = let h : stands (item.Crash n) place.Start ≡ true = ap (λ q. stands (item.Crash n) q) (sym at) ∙ e in absurd (cc)
 never_at_start item.Restart p e at = let h : stands item.Restart place.Start ≡ true = ap (λ q. stands item.Restart q) (sym at) ∙ e in absurd (cc)
 never_at_start item.Show p e at = let h : stands item.Show place.Start ≡ true = ap (λ q. stands item.Show q) (sym at) ∙ e in absurd (cc)
+never_at_start item.Verify p e at = let h : stands item.Verify place.Start ≡ true = ap (λ q. stands item.Verify q) (sym at) ∙ e in absurd (cc)
 never_at_start item.Next p e at = let h : stands item.Next place.Start ≡ true = ap (λ q. stands item.Next q) (sym at) ∙ e in absurd (cc)
 never_at_start (item.Fuse n) p e at = let h : stands (item.Fuse n) place.Start ≡ true = ap (λ q. stands (item.Fuse n) q) (sym at) ∙ e in absurd (cc)
 
@@ -120,10 +138,15 @@ closed t = ended t.blocks t.commands
 grow_step : (k : ClientCommand) (n : ℕ) (steps : List ClientCommand) (bs : List Block) (cs : List Command) → grown (in_block n steps bs cs) (line_of_step k) ≡ in_block n (steps ++ k ∷ []) bs cs
 grow_step step.Begin n steps bs cs = refl
 grow_step (step.Insert k v) n steps bs cs = refl
+grow_step (step.Update k v) n steps bs cs = refl
+grow_step (step.Delete k) n steps bs cs = refl
 grow_step (step.Get k) n steps bs cs = refl
+grow_step (step.Die m) n steps bs cs = refl
 grow_step step.Commit n steps bs cs = refl
+grow_step step.Abort n steps bs cs = refl
 grow_step (step.Poke r w m) n steps bs cs = refl
 grow_step step.Audit n steps bs cs = refl
+grow_step step.Checkpoint n steps bs cs = refl
 
 grow_steps : (ks : List ClientCommand) (n : ℕ) (steps : List ClientCommand) (bs : List Block) (cs : List Command) (rest : List Item) → grow (map line_of_step ks ++ rest) (in_block n steps bs cs) ≡ grow rest (in_block n (steps ++ ks) bs cs)
 grow_steps [] n steps bs cs rest = ap (λ ks. grow rest (in_block n ks bs cs)) (sym (append-nil steps))
@@ -179,9 +202,12 @@ made_again (single.Round blocks ∷ s) bs cs g =
     ∙ ap (λ (all : List Block). ended all cs ++ single.Round blocks ∷ s) (sym none)
 made_again (single.Poke r w m ∷ s) bs cs g = grow_single (single.Poke r w m) (item.Poke r w m) bs cs s refl refl (made_again s [] (ended bs cs ++ single.Poke r w m ∷ []) g.1)
 made_again (single.Audit ∷ s) bs cs g = grow_single single.Audit item.Audit bs cs s refl refl (made_again s [] (ended bs cs ++ single.Audit ∷ []) g.1)
+made_again (single.Checkpoint ∷ s) bs cs g = grow_single single.Checkpoint item.Checkpoint bs cs s refl refl (made_again s [] (ended bs cs ++ single.Checkpoint ∷ []) g.1)
+made_again (single.Cleanup ∷ s) bs cs g = grow_single single.Cleanup item.Cleanup bs cs s refl refl (made_again s [] (ended bs cs ++ single.Cleanup ∷ []) g.1)
 made_again (single.Crash n ∷ s) bs cs g = grow_single (single.Crash n) (item.Crash n) bs cs s refl refl (made_again s [] (ended bs cs ++ single.Crash n ∷ []) g.1)
 made_again (single.Restart ∷ s) bs cs g = grow_single single.Restart item.Restart bs cs s refl refl (made_again s [] (ended bs cs ++ single.Restart ∷ []) g.1)
 made_again (single.Show ∷ s) bs cs g = grow_single single.Show item.Show bs cs s refl refl (made_again s [] (ended bs cs ++ single.Show ∷ []) g.1)
+made_again (single.Verify ∷ s) bs cs g = grow_single single.Verify item.Verify bs cs s refl refl (made_again s [] (ended bs cs ++ single.Verify ∷ []) g.1)
 made_again (single.Next ∷ s) bs cs g = grow_single single.Next item.Next bs cs s refl refl (made_again s [] (ended bs cs ++ single.Next ∷ []) g.1)
 made_again (single.Fuse n ∷ s) bs cs g = grow_single (single.Fuse n) (item.Fuse n) bs cs s refl refl (made_again s [] (ended bs cs ++ single.Fuse n ∷ []) g.1)
 

@@ -1,7 +1,9 @@
 pub mod MoreBytes
 pub mod CutLines
 pub mod LinesLeft
+pub mod Ranges
 pub mod Verdicts
 pub mod Steps
 pub mod Grouping
 pub mod Outcomes
+pub mod RightScripts

@@ -52,8 +52,12 @@ context_taken n (item.Client m) s e = refl
 context_taken n item.End s e = rw e refl
 context_taken n item.Begin s e = rw (between_is_in s.place e) refl
 context_taken n (item.Insert k v) s e = rw (transaction_is_in s.place e) refl
+context_taken n (item.Update k v) s e = rw (transaction_is_in s.place e) refl
+context_taken n (item.Delete k) s e = rw (transaction_is_in s.place e) refl
 context_taken n (item.Get k) s e = rw (transaction_is_in s.place e) refl
+context_taken n (item.Die m) s e = rw (transaction_is_in s.place e) refl
 context_taken n item.Commit s e = rw (transaction_is_in s.place e) refl
+context_taken n item.Abort s e = rw (transaction_is_in s.place e) refl
 context_taken n (item.Poke r w m) s e = by_test (is_in_block s.place) refl
   where
     by_test : (b : Bool) → is_in_block s.place ≡ b → context_of (taken n (item.Poke r w m) s) ≡ next n (item.Poke r w m) (context_of s)
@@ -64,9 +68,16 @@ context_taken n item.Audit s e = by_test (is_in_block s.place) refl
     by_test : (b : Bool) → is_in_block s.place ≡ b → context_of (taken n item.Audit s) ≡ next n item.Audit (context_of s)
     by_test true t = rw t refl
     by_test false t = rw t refl
+context_taken n item.Checkpoint s e = by_test (is_in_block s.place) refl
+  where
+    by_test : (b : Bool) → is_in_block s.place ≡ b → context_of (taken n item.Checkpoint s) ≡ next n item.Checkpoint (context_of s)
+    by_test true t = rw t refl
+    by_test false t = rw t refl
+context_taken n item.Cleanup s e = rw (outside_is_out s.place e) refl
 context_taken n (item.Crash m) s e = rw (outside_is_out s.place e) refl
 context_taken n item.Restart s e = rw (outside_is_out s.place e) refl
 context_taken n item.Show s e = rw (outside_is_out s.place e) refl
+context_taken n item.Verify s e = rw (outside_is_out s.place e) refl
 context_taken n item.Next s e = rw (outside_is_out s.place e) refl
 context_taken n (item.Fuse m) s e = rw (outside_is_out s.place e) refl
 
@@ -149,8 +160,12 @@ lines_taken n item.End s sound e =
     ∙ ap (λ t. (before ++ (round ++ open_lines t s.client s.steps)) ++ item.End ∷ []) (sym e)
 lines_taken n item.Begin s sound e = let inside = between_is_in s.place e in ap (λ b. lines_so_far (chosen b item.Begin s)) inside ∙ step_line step.Begin item.Begin s inside refl refl
 lines_taken n (item.Insert k v) s sound e = let inside = transaction_is_in s.place e in ap (λ b. lines_so_far (chosen b (item.Insert k v) s)) inside ∙ step_line (step.Insert k v) (item.Insert k v) s inside inside refl
+lines_taken n (item.Update k v) s sound e = let inside = transaction_is_in s.place e in ap (λ b. lines_so_far (chosen b (item.Update k v) s)) inside ∙ step_line (step.Update k v) (item.Update k v) s inside inside refl
+lines_taken n (item.Delete k) s sound e = let inside = transaction_is_in s.place e in ap (λ b. lines_so_far (chosen b (item.Delete k) s)) inside ∙ step_line (step.Delete k) (item.Delete k) s inside inside refl
 lines_taken n (item.Get k) s sound e = let inside = transaction_is_in s.place e in ap (λ b. lines_so_far (chosen b (item.Get k) s)) inside ∙ step_line (step.Get k) (item.Get k) s inside inside refl
+lines_taken n (item.Die m) s sound e = let inside = transaction_is_in s.place e in ap (λ b. lines_so_far (chosen b (item.Die m) s)) inside ∙ step_line (step.Die m) (item.Die m) s inside inside refl
 lines_taken n item.Commit s sound e = let inside = transaction_is_in s.place e in ap (λ b. lines_so_far (chosen b item.Commit s)) inside ∙ step_line step.Commit item.Commit s inside refl refl
+lines_taken n item.Abort s sound e = let inside = transaction_is_in s.place e in ap (λ b. lines_so_far (chosen b item.Abort s)) inside ∙ step_line step.Abort item.Abort s inside refl refl
 lines_taken n (item.Poke r w m) s sound e = by_test (is_in_block s.place) refl
   where
     by_test : (b : Bool) → is_in_block s.place ≡ b → lines_so_far (taken n (item.Poke r w m) s) ≡ lines_so_far s ++ item.Poke r w m ∷ []
@@ -161,8 +176,15 @@ lines_taken n item.Audit s sound e = by_test (is_in_block s.place) refl
     by_test : (b : Bool) → is_in_block s.place ≡ b → lines_so_far (taken n item.Audit s) ≡ lines_so_far s ++ item.Audit ∷ []
     by_test true t = ap (λ b. lines_so_far (chosen b item.Audit s)) t ∙ step_line step.Audit item.Audit s t t refl
     by_test false t = ap (λ b. lines_so_far (chosen b item.Audit s)) t ∙ single_line single.Audit item.Audit s t t refl
+lines_taken n item.Checkpoint s sound e = by_test (is_in_block s.place) refl
+  where
+    by_test : (b : Bool) → is_in_block s.place ≡ b → lines_so_far (taken n item.Checkpoint s) ≡ lines_so_far s ++ item.Checkpoint ∷ []
+    by_test true t = ap (λ b. lines_so_far (chosen b item.Checkpoint s)) t ∙ step_line step.Checkpoint item.Checkpoint s t t refl
+    by_test false t = ap (λ b. lines_so_far (chosen b item.Checkpoint s)) t ∙ single_line single.Checkpoint item.Checkpoint s t t refl
+lines_taken n item.Cleanup s sound e = let out = outside_is_out s.place e in ap (λ b. lines_so_far (chosen b item.Cleanup s)) out ∙ single_line single.Cleanup item.Cleanup s out out refl
 lines_taken n (item.Crash m) s sound e = let out = outside_is_out s.place e in ap (λ b. lines_so_far (chosen b (item.Crash m) s)) out ∙ single_line (single.Crash m) (item.Crash m) s out out refl
 lines_taken n item.Restart s sound e = let out = outside_is_out s.place e in ap (λ b. lines_so_far (chosen b item.Restart s)) out ∙ single_line single.Restart item.Restart s out out refl
 lines_taken n item.Show s sound e = let out = outside_is_out s.place e in ap (λ b. lines_so_far (chosen b item.Show s)) out ∙ single_line single.Show item.Show s out out refl
+lines_taken n item.Verify s sound e = let out = outside_is_out s.place e in ap (λ b. lines_so_far (chosen b item.Verify s)) out ∙ single_line single.Verify item.Verify s out out refl
 lines_taken n item.Next s sound e = let out = outside_is_out s.place e in ap (λ b. lines_so_far (chosen b item.Next s)) out ∙ single_line single.Next item.Next s out out refl
 lines_taken n (item.Fuse m) s sound e = let out = outside_is_out s.place e in ap (λ b. lines_so_far (chosen b (item.Fuse m) s)) out ∙ single_line (single.Fuse m) (item.Fuse m) s out out refl

@@ -9,11 +9,11 @@
 --     IsWrong bytes n kind   n is the first line that is wrong, and kind the first test that it fails
 use Rattle.std.specs.Prelude.{◌≡◌, ℕ, ◌<◌, Bool, true, false, not, ◌||◌, ◌==◌, List, [], ◌∷◌, ◌++◌, length, map, flat_map, Option, Some, None, Result, Ok, Err, ok_or, if◌then◌else◌, ◌⊎◌}
 use Rattle.std.specs.List.{list_any}
-use Rattle.dali_script.specs.Lines.{lines_of, command_lines, is_empty}
+use Rattle.dali_script.specs.Lines.{lines_of, command_lines}
 use Rattle.dali_script.specs.Faults.{◌>>=◌, test}
 use Rattle.dali_script.specs.Names.{name_of}
 use Rattle.dali_script.specs.Items.{item_of}
-use Rattle.dali_script.specs.Places.{is_start, is_outside, is_in_block, is_in_transaction, may_stand, after}
+use Rattle.dali_script.specs.Places.{is_start, is_in_block, may_stand, after}
 use Rattle.dali_script.specs.declared.faults.Kind.{Kind}
 use Rattle.dali_script.specs.declared.faults.Kind.TheVariants as kind
 use Rattle.dali_script.specs.declared.names.Name.{Name}
@@ -45,12 +45,6 @@ begins_a_script (Some name.Size) = true
 begins_a_script (Some name.Open) = true
 begins_a_script (Some _) = false
 
--- a transaction that is open at the end of its block, and a round of several blocks, aren't built yet
-abbrev pub is_built : Context → Name → Bool
-is_built c name.End = not (is_in_transaction c.place)
-is_built c name.Client = not (is_outside c.place) || is_empty c.clients
-is_built c _ = true
-
 abbrev pub is_new_here : Context → Item → Bool
 is_new_here c (item.Client n) = not (list_any (λ m. m == n) c.clients)
 is_new_here c _ = true
@@ -61,7 +55,6 @@ verdict c [] = Err kind.Unknown
 verdict c (word ∷ arguments) = do
   wanted ← test (not (is_start c.place) || begins_a_script (name_of word)) kind.SizeOrOpenWanted
   name ← ok_or (name_of word) kind.Unknown
-  built ← test (is_built c name) kind.Unknown
   placed ← test (may_stand name c.place) kind.Place
   made ← item_of name arguments
   fresh ← test (is_new_here c made) kind.Client
@@ -90,10 +83,15 @@ Reads c (l ∷ ls) (made ∷ more) d = (verdict c l.1 ≡ Ok made) × Reads (nex
 abbrev pub line_of_step : ClientCommand → Item
 line_of_step step.Begin = item.Begin
 line_of_step (step.Insert k v) = item.Insert k v
+line_of_step (step.Update k v) = item.Update k v
+line_of_step (step.Delete k) = item.Delete k
 line_of_step (step.Get k) = item.Get k
+line_of_step (step.Die n) = item.Die n
 line_of_step step.Commit = item.Commit
+line_of_step step.Abort = item.Abort
 line_of_step (step.Poke r w m) = item.Poke r w m
 line_of_step step.Audit = item.Audit
+line_of_step step.Checkpoint = item.Checkpoint
 
 abbrev pub lines_of_block : Block → List Item
 lines_of_block b = item.Client b.client ∷ map line_of_step b.commands ++ item.End ∷ []
@@ -104,9 +102,12 @@ lines_of_command single.Open = item.Open ∷ []
 lines_of_command (single.Round blocks) = flat_map lines_of_block blocks
 lines_of_command (single.Poke r w m) = item.Poke r w m ∷ []
 lines_of_command single.Audit = item.Audit ∷ []
+lines_of_command single.Checkpoint = item.Checkpoint ∷ []
+lines_of_command single.Cleanup = item.Cleanup ∷ []
 lines_of_command (single.Crash n) = item.Crash n ∷ []
 lines_of_command single.Restart = item.Restart ∷ []
 lines_of_command single.Show = item.Show ∷ []
+lines_of_command single.Verify = item.Verify ∷ []
 lines_of_command single.Next = item.Next ∷ []
 lines_of_command (single.Fuse n) = item.Fuse n ∷ []
 

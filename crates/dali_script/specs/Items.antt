@@ -66,12 +66,19 @@ item_of name.Client = one (λ n. number_in 1 64 n >>= λ number. Ok (item.Client
 item_of name.End = none item.End
 item_of name.Begin = none item.Begin
 item_of name.Insert = two (λ k v. key_in k >>= λ key. stored_in v >>= λ value. Ok (item.Insert key value))
+item_of name.Update = two (λ k v. key_in k >>= λ key. stored_in v >>= λ value. Ok (item.Update key value))
+item_of name.Delete = one (λ k. key_in k >>= λ key. Ok (item.Delete key))
 item_of name.Get = one (λ k. key_in k >>= λ key. Ok (item.Get key))
+item_of name.Die = one (λ n. number_in 1 1000000 n >>= λ operation. Ok (item.Die operation))
 item_of name.Commit = none item.Commit
+item_of name.Abort = none item.Abort
 item_of name.Poke = three poke_of
 item_of name.Audit = none item.Audit
+item_of name.Checkpoint = none item.Checkpoint
+item_of name.Cleanup = none item.Cleanup
 item_of name.Crash = one (λ n. number_in 0 1000000 n >>= λ choice. Ok (item.Crash choice))
 item_of name.Restart = none item.Restart
 item_of name.Show = none item.Show
+item_of name.Verify = none item.Verify
 item_of name.Next = none item.Next
 item_of name.Fuse = one (λ n. number_in 0 1000000000 n >>= λ passes. Ok (item.Fuse passes))

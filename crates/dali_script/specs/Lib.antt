@@ -5,5 +5,6 @@ pub mod Faults
 pub mod Items
 pub mod Places
 pub mod Grammar
+pub mod Scripts
 pub mod Reading
 pub mod Parser

@@ -47,10 +47,15 @@ context_of s = record { place = s.place; clients = s.clients; opened = s.opened 
 abbrev pub step_of : Item → Option ClientCommand
 step_of item.Begin = Some step.Begin
 step_of (item.Insert k v) = Some (step.Insert k v)
+step_of (item.Update k v) = Some (step.Update k v)
+step_of (item.Delete k) = Some (step.Delete k)
 step_of (item.Get k) = Some (step.Get k)
+step_of (item.Die n) = Some (step.Die n)
 step_of item.Commit = Some step.Commit
+step_of item.Abort = Some step.Abort
 step_of (item.Poke r w m) = Some (step.Poke r w m)
 step_of item.Audit = Some step.Audit
+step_of item.Checkpoint = Some step.Checkpoint
 step_of _ = None
 
 abbrev pub single_of : Item → Option Command
@@ -58,9 +63,12 @@ single_of (item.Size i h) = Some (single.Size i h)
 single_of item.Open = Some single.Open
 single_of (item.Poke r w m) = Some (single.Poke r w m)
 single_of item.Audit = Some single.Audit
+single_of item.Checkpoint = Some single.Checkpoint
+single_of item.Cleanup = Some single.Cleanup
 single_of (item.Crash n) = Some (single.Crash n)
 single_of item.Restart = Some single.Restart
 single_of item.Show = Some single.Show
+single_of item.Verify = Some single.Verify
 single_of item.Next = Some single.Next
 single_of (item.Fuse n) = Some (single.Fuse n)
 single_of _ = None

@@ -17,14 +17,25 @@ pub enum ClientCommand {
     Begin,
     /// Stores a record with this key and value.
     Insert { key: u64, value: Value },
+    /// Gives the record with this key this value.
+    Update { key: u64, value: Value },
+    /// Takes the record with this key away.
+    Delete { key: u64 },
     /// Asks for the value of the record with this key.
     Get { key: u64 },
+    /// The client dies in the operation with this number, counted from 1 and from here on, between its last update and
+    /// its record. A second one in a transaction replaces the first.
+    Die { operation: u64 },
     /// Commits the transaction.
     Commit,
+    /// Takes the transaction back.
+    Abort,
     /// Changes a word of a region to its exclusive-or with the mask.
     Poke { region: u32, word: u8, mask: u64 },
     /// Compares the codeword of each region with its words.
     Audit,
+    /// Writes an image of the regions, and makes it the current one.
+    Checkpoint,
 }
 
 /// The commands of a block. Contracts see a list.
@@ -111,12 +122,18 @@ pub enum Command {
     Poke { region: u32, word: u8, mask: u64 },
     /// Compares the codeword of each region with its words.
     Audit,
+    /// Writes an image of the regions, and makes it the current one.
+    Checkpoint,
+    /// Takes back what dead clients left.
+    Cleanup,
     /// Leaves the crash image with this number.
     Crash { choice: u32 },
     /// Gives the memory up and recovers it from the store.
     Restart,
     /// Lists the records.
     Show,
+    /// Compares records, answers and deleted transactions with a replay of the log.
+    Verify,
     /// Does nothing but end a round.
     Next,
     /// Lets so many store calls pass, and fails all later ones.

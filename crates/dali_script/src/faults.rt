@@ -21,8 +21,7 @@ pub enum Kind {
     Number,
     /// The leftmost argument that is wrong is a value.
     Value,
-    /// The client has a block in this round already. A second block of a round is `Unknown` until it is built, so this
-    /// doesn't come yet.
+    /// The client has a block in this round already.
     Client,
     /// The last block has no `end`.
     Unended,

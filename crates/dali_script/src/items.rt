@@ -16,13 +16,20 @@ pub enum Item {
     End,
     Begin,
     Insert { key: u64, value: Value },
+    Update { key: u64, value: Value },
+    Delete { key: u64 },
     Get { key: u64 },
+    Die { operation: u64 },
     Commit,
+    Abort,
     Poke { region: u32, word: u8, mask: u64 },
     Audit,
+    Checkpoint,
+    Cleanup,
     Crash { choice: u32 },
     Restart,
     Show,
+    Verify,
     Next,
     Fuse { passes: u64 },
 }
@@ -81,6 +88,29 @@ fn insert(arguments: &[&[u8]]) -> Result<Item, Kind>
     })
 }
 
+fn update(arguments: &[&[u8]]) -> Result<Item, Kind>
+    ensures { result ≡ item_of Name.Update (map (λ text. text.now) arguments.now) }
+{
+    let [key, text] = arguments else {
+        return Err(Kind::Arguments);
+    };
+    Ok(Item::Update {
+        key: number(key).ok_or(Kind::Number)?,
+        value: value(text).ok_or(Kind::Value)?,
+    })
+}
+
+fn delete(arguments: &[&[u8]]) -> Result<Item, Kind>
+    ensures { result ≡ item_of Name.Delete (map (λ text. text.now) arguments.now) }
+{
+    let [key] = arguments else {
+        return Err(Kind::Arguments);
+    };
+    Ok(Item::Delete {
+        key: number(key).ok_or(Kind::Number)?,
+    })
+}
+
 fn get(arguments: &[&[u8]]) -> Result<Item, Kind>
     ensures { result ≡ item_of Name.Get (map (λ text. text.now) arguments.now) }
 {
@@ -89,6 +119,17 @@ fn get(arguments: &[&[u8]]) -> Result<Item, Kind>
     };
     Ok(Item::Get {
         key: number(key).ok_or(Kind::Number)?,
+    })
+}
+
+fn die(arguments: &[&[u8]]) -> Result<Item, Kind>
+    ensures { result ≡ item_of Name.Die (map (λ text. text.now) arguments.now) }
+{
+    let [operation] = arguments else {
+        return Err(Kind::Arguments);
+    };
+    Ok(Item::Die {
+        operation: ranged(operation, 1, 1_000_000)?,
     })
 }
 
@@ -144,13 +185,20 @@ pub fn make_item(name: Name, arguments: &[&[u8]]) -> Result<Item, Kind>
         Name::End => alone(Item::End, arguments),
         Name::Begin => alone(Item::Begin, arguments),
         Name::Insert => insert(arguments),
+        Name::Update => update(arguments),
+        Name::Delete => delete(arguments),
         Name::Get => get(arguments),
+        Name::Die => die(arguments),
         Name::Commit => alone(Item::Commit, arguments),
+        Name::Abort => alone(Item::Abort, arguments),
         Name::Poke => poke(arguments),
         Name::Audit => alone(Item::Audit, arguments),
+        Name::Checkpoint => alone(Item::Checkpoint, arguments),
+        Name::Cleanup => alone(Item::Cleanup, arguments),
         Name::Crash => crash(arguments),
         Name::Restart => alone(Item::Restart, arguments),
         Name::Show => alone(Item::Show, arguments),
+        Name::Verify => alone(Item::Verify, arguments),
         Name::Next => alone(Item::Next, arguments),
         Name::Fuse => fuse(arguments),
     }

@@ -3,6 +3,7 @@ ghost use Rattle.std.specs.Prelude.{◌≡◌, ◌⊎◌, ℕ, List};
 ghost use Rattle.dali_script.specs.declared.faults.Kind.{Kind};
 ghost use Rattle.dali_script.specs.declared.commands.Command.{Command};
 ghost use Rattle.dali_script.specs.Grammar.{IsSpelled, IsWrong};
+ghost use Rattle.dali_script.specs.Scripts.{IsRightScript};
 
 /// Bytes spell a script or have a first line that is wrong, and never both; there is one such script, and one such
 /// line with one fault.
@@ -11,4 +12,10 @@ pub fn spelled_or_wrong()
     ensures never_both { (bytes : List ℕ) (script : List Command) (line : ℕ) (kind : Kind) → IsSpelled bytes script → IsWrong bytes line kind → ⊥ }
     ensures one_script { (bytes : List ℕ) (s t : List Command) → IsSpelled bytes s → IsSpelled bytes t → s ≡ t }
     ensures one_fault { (bytes : List ℕ) (m n : ℕ) (j k : Kind) → IsWrong bytes m j → IsWrong bytes n k → (m ≡ n) × (j ≡ k) }
+{}
+
+/// In a script that bytes spell each number is in its range, and the first command alone makes or opens a store. Of the
+/// clients 1 to 64 each has at most one block in a round, and each command of a block stands where it may.
+pub fn spelled_scripts_are_right()
+    ensures { (bytes : List ℕ) (script : List Command) → IsSpelled bytes script → IsRightScript script }
 {}

@@ -1,4 +1,4 @@
-//! The script: its grammar, and the lines that its commands print.
+//! The script: its grammar.
 //!
 //! A script is lines that end in a line feed, which the last one may lack. A line is words separated by spaces, tabs
 //! or carriage returns, any number of them. A line without words and one whose first byte is `#` are skipped, and
@@ -13,20 +13,21 @@
 //! | `client N` | outside a block | 1 to 64 |
 //! | `end` | in a block | |
 //! | `begin` | in a block, outside a transaction | |
-//! | `insert K V` | in a transaction | |
-//! | `get K` | in a transaction | |
-//! | `commit` | in a transaction | |
+//! | `insert K V`, `update K V` | in a transaction | |
+//! | `delete K`, `get K` | in a transaction | |
+//! | `die N` | in a transaction | 1 to 1000000 |
+//! | `commit`, `abort` | in a transaction | |
 //! | `poke R W MASK` | in a block outside a transaction, or single | R below 2^32, W 0 to 63 |
-//! | `audit` | in a block outside a transaction, or single | |
-//! | `restart`, `show`, `next` | single | |
+//! | `audit`, `checkpoint` | in a block outside a transaction, or single | |
+//! | `cleanup`, `restart`, `show`, `verify`, `next` | single | |
 //! | `fuse N` | single | 0 to 1000000000 |
 //! | `crash N` | single | 0 to 1000000 |
+//!
+//! A transaction goes from `begin` to the next `commit`, `abort` or `end`.
 //!
 //! A number is 1 to 20 decimal digits with a value below 2^64; a mask is 1 to 16 hexadecimal digits of either case, not
 //! 0. A value is 1 to 40 bytes: a byte from 0x21 to 0x7e other than the backslash stands for itself, and a backslash,
 //! `x` and two hexadecimal digits of either case stand for that byte.
-//!
-//! Not built yet, and unknown: a second block in a round, and `end` in a transaction.
 #![tactic(auto)]
 
 mod commands;
@@ -35,7 +36,6 @@ mod items;
 pub mod laws;
 mod lines;
 mod names;
-mod outputs;
 mod parser;
 mod places;
 mod texts;
@@ -43,5 +43,4 @@ mod texts;
 pub use commands::{Block, Blocks, ClientCommand, ClientCommands, Command, Script};
 pub use faults::{Kind, ScriptError};
 pub use names::Name;
-pub use outputs::Line;
 pub use parser::parse;

@@ -2,7 +2,7 @@
 ghost use Rattle.std.specs.Prelude.{◌≡◌, ◌⊎◌, ℕ, List, IfOk, OnOk, map};
 ghost use Rattle.dali_script.specs.declared.faults.Kind.{Kind};
 ghost use Rattle.dali_script.specs.declared.commands.Command.{Command};
-ghost use Rattle.dali_script.specs.Grammar.{verdict, is_built, is_new_here, IsSpelled, IsWrong};
+ghost use Rattle.dali_script.specs.Grammar.{verdict, is_new_here, IsSpelled, IsWrong};
 ghost use Rattle.dali_script.specs.Reading.{at_start, context_of, taken, read_line, finished, outcome, step_of, single_of, with_round_ended, Gives};
 ghost use Rattle.dali_script.specs.Parser.{state_of};
 
@@ -37,10 +37,15 @@ fn client_command(item: Item) -> Option<ClientCommand>
     match item {
         Item::Begin => Some(ClientCommand::Begin),
         Item::Insert { key, value } => Some(ClientCommand::Insert { key, value }),
+        Item::Update { key, value } => Some(ClientCommand::Update { key, value }),
+        Item::Delete { key } => Some(ClientCommand::Delete { key }),
         Item::Get { key } => Some(ClientCommand::Get { key }),
+        Item::Die { operation } => Some(ClientCommand::Die { operation }),
         Item::Commit => Some(ClientCommand::Commit),
+        Item::Abort => Some(ClientCommand::Abort),
         Item::Poke { region, word, mask } => Some(ClientCommand::Poke { region, word, mask }),
         Item::Audit => Some(ClientCommand::Audit),
+        Item::Checkpoint => Some(ClientCommand::Checkpoint),
         _ => None,
     }
 }
@@ -54,9 +59,12 @@ fn single_command(item: Item) -> Option<Command>
         Item::Open => Some(Command::Open),
         Item::Poke { region, word, mask } => Some(Command::Poke { region, word, mask }),
         Item::Audit => Some(Command::Audit),
+        Item::Checkpoint => Some(Command::Checkpoint),
+        Item::Cleanup => Some(Command::Cleanup),
         Item::Crash { choice } => Some(Command::Crash { choice }),
         Item::Restart => Some(Command::Restart),
         Item::Show => Some(Command::Show),
+        Item::Verify => Some(Command::Verify),
         Item::Next => Some(Command::Next),
         Item::Fuse { passes } => Some(Command::Fuse { passes }),
         _ => None,
@@ -124,17 +132,6 @@ impl Parser {
         Ok(())
     }
 
-    // Whether the command is built where it stands: a second block in a round and `end` in a transaction aren't yet.
-    fn is_built(&self, name: Name) -> bool
-        ensures { result ≡ is_built (context_of (state_of self.now)) name }
-    {
-        match name {
-            Name::End => self.place != Place::InTransaction,
-            Name::Client => self.place != Place::Outside || self.clients.is_empty(),
-            _ => true,
-        }
-    }
-
     // Whether the round has no block of this client yet.
     fn is_new_here(&self, item: &Item) -> bool
         ensures { result ≡ is_new_here (context_of (state_of self.now)) item.now }
@@ -156,9 +153,6 @@ impl Parser {
             return Err(Kind::SizeOrOpenWanted);
         }
         let name = name.ok_or(Kind::Unknown)?;
-        if !self.is_built(name) {
-            return Err(Kind::Unknown);
-        }
         if !self.place.allows(name) {
             return Err(Kind::Place);
         }

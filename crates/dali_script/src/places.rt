@@ -32,11 +32,24 @@ impl Place {
             Name::Size | Name::Open => self == Place::Start,
             Name::End => self.is_in_block(),
             Name::Begin => self == Place::InBlock,
-            Name::Insert | Name::Get | Name::Commit => self == Place::InTransaction,
-            Name::Poke | Name::Audit => matches!(self, Place::Outside | Place::InBlock),
-            Name::Client | Name::Crash | Name::Restart | Name::Show | Name::Next | Name::Fuse => {
-                self == Place::Outside
+            Name::Insert
+            | Name::Update
+            | Name::Delete
+            | Name::Get
+            | Name::Die
+            | Name::Commit
+            | Name::Abort => self == Place::InTransaction,
+            Name::Poke | Name::Audit | Name::Checkpoint => {
+                matches!(self, Place::Outside | Place::InBlock)
             }
+            Name::Client
+            | Name::Cleanup
+            | Name::Crash
+            | Name::Restart
+            | Name::Show
+            | Name::Verify
+            | Name::Next
+            | Name::Fuse => self == Place::Outside,
         }
     }
 
@@ -46,7 +59,7 @@ impl Place {
     {
         match item {
             Item::Size { .. } | Item::Open | Item::End => Place::Outside,
-            Item::Client { .. } | Item::Commit => Place::InBlock,
+            Item::Client { .. } | Item::Commit | Item::Abort => Place::InBlock,
             Item::Begin => Place::InTransaction,
             _ => self,
         }

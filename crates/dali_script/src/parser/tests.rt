@@ -3,7 +3,7 @@ use std::test::Fail;
 
 mod cases;
 
-use cases::CASES;
+use cases::{CASES, RULES};
 
 fn byte_of(seen: u8) -> u8 {
     match seen {
@@ -31,8 +31,8 @@ fn answer(alloc: Global, script: &str) -> Result<String, Fail> {
 
 #[test]
 fn scripts_from_outside(rt: HostRuntime) -> Result<(), Fail> {
-    assert_eq!(rt; CASES.lines().count(), 823);
-    for case in CASES.lines() {
+    assert_eq!(rt; (CASES.lines().count(), RULES.lines().count()), (846, 230));
+    for case in CASES.lines().chain(RULES.lines()) {
         let (want, script) = case.split_once('=').ok_or("a case has two parts")?;
         assert_eq!(rt; answer(rt.alloc(), script)?.as_str(), want, "at {script}");
     }
@@ -46,14 +46,25 @@ size 2 3
 \tclient  07 \r
 begin
 insert 5 a\\x0a\\xfF~
+update 5 b
+delete 8
 get 6
+die 0012
 commit
 poke 4294967295 11 fF
 audit
+checkpoint
+begin
+abort
+end
+client 64
+begin
 end
 
 poke 8 09 10
 audit
+checkpoint
+cleanup
 client 64
 end
 next
@@ -67,6 +78,7 @@ end
 crash 12
 restart
 show
+verify
 fuse 13";
 
 const ITS_COMMANDS: &str = "[\
@@ -74,12 +86,16 @@ Size { index: 2, heap: 3 }, \
 Round { blocks: Blocks { blocks: [Block { client: 7, commands: ClientCommands { commands: [\
 Begin, Insert { key: 5, value: Value { bytes: [97, 10, 255, 126, \
 0, 0, 0, 0, 0, 0, 0, 0, 0, 0, 0, 0, 0, 0, 0, 0, 0, 0, 0, 0, 0, 0, 0, 0, 0, 0, 0, 0, 0, 0, 0, 0, 0, 0, 0, 0], \
-count: 4 } }, Get { key: 6 }, Commit, Poke { region: 4294967295, word: 11, mask: 255 }, Audit] } }] } }, \
-Poke { region: 8, word: 9, mask: 16 }, Audit, \
+count: 4 } }, Update { key: 5, value: Value { bytes: [98, 0, 0, 0, \
+0, 0, 0, 0, 0, 0, 0, 0, 0, 0, 0, 0, 0, 0, 0, 0, 0, 0, 0, 0, 0, 0, 0, 0, 0, 0, 0, 0, 0, 0, 0, 0, 0, 0, 0, 0], \
+count: 1 } }, Delete { key: 8 }, Get { key: 6 }, Die { operation: 12 }, Commit, \
+Poke { region: 4294967295, word: 11, mask: 255 }, Audit, Checkpoint, Begin, Abort] } }, \
+Block { client: 64, commands: ClientCommands { commands: [Begin] } }] } }, \
+Poke { region: 8, word: 9, mask: 16 }, Audit, Checkpoint, Cleanup, \
 Round { blocks: Blocks { blocks: [Block { client: 64, commands: ClientCommands { commands: [] } }] } }, Next, \
 Round { blocks: Blocks { blocks: [Block { client: 7, commands: ClientCommands { commands: [\
 Begin, Get { key: 18446744073709551615 }, Commit, Begin, Commit] } }] } }, \
-Crash { choice: 12 }, Restart, Show, Fuse { passes: 13 }]";
+Crash { choice: 12 }, Restart, Show, Verify, Fuse { passes: 13 }]";
 
 #[test]
 fn each_command_with_its_fields(rt: HostRuntime) -> Result<(), Fail> {

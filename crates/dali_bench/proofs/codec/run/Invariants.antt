@@ -1,6 +1,5 @@
 use Rattle.std.proofs.Common.{◌≡◌, ◌*◌, ◌%◌, ◌^◌, ◌<◌}
-use Rattle.dali_bench.specs.Databases.{abc}
-use Rattle.dali_bench.specs.Samples.{first_samples, spell_all, words_in}
+use Rattle.dali_bench.specs.Samples.{abc, first_samples, spell_all, words_in}
 use Rattle.dali_bench.proofs.codec.run.Given as goal
 
 abbrev pub invariant-loop : goal.invariant-loop

@@ -1,7 +1,6 @@
 use Rattle.std.proofs.Common.{◌≡◌, ◌∙◌, ap, arith}
 use Rattle.std.proofs.lemmas.Grind.{common_steps}
-use Rattle.dali_bench.specs.Databases.{abc}
-use Rattle.dali_bench.specs.Samples.{sample}
+use Rattle.dali_bench.specs.Samples.{abc, sample}
 use Rattle.dali_bench.proofs.Filled.{first_none, first_more}
 use Rattle.dali_bench.proofs.codec.samples.Goals as goal
 

@@ -1,6 +1,5 @@
 use Rattle.std.proofs.Common.{◌≡◌}
-use Rattle.dali_bench.specs.Samples.{first_samples}
-use Rattle.dali_bench.specs.Databases.{abc}
+use Rattle.dali_bench.specs.Samples.{abc, first_samples}
 use Rattle.dali_bench.proofs.codec.samples.Given as goal
 
 abbrev pub invariant-loop-place : goal.invariant-loop-place

@@ -1,13 +1,13 @@
 use Rattle.std.proofs.Common.{Err, map, sym, ap, subst, ◌∙◌}
 use Rattle.dali_store.proofs.Moments.{if_some_each}
 use Rattle.dali_batch.specs.Reads.{OnlyReads}
-use Rattle.dali_batch.proofs.Finds.{if_some_same, if_some_two}
+use Rattle.dali_batch.proofs.Finds.{if_some_any, if_some_same, if_some_two}
 use Rattle.dali_recovery.specs.Laws.{outcome_of}
 use Rattle.dali_region.specs.State.{loaded}
 use Rattle.dali_rise.specs.Risen.{IsRisen, RunBegins}
 use Rattle.dali_restart.specs.declared.error.RestartError.TheVariants as errors
 use Rattle.dali_restart.specs.Restarting.{IsLeft}
-use Rattle.dali_restart.proofs.Handing.{begins_run, err_same, gives_in, is_fresh, left_reading, left_settling, reads_in, reads_out, rests_then}
+use Rattle.dali_restart.proofs.Handing.{begins_run, err_same, gives_in, is_fresh, left_reading, left_settling, none_read, reads_in, reads_out, rests_then}
 use Rattle.dali_restart.proofs.Idle.{rests_idle}
 use Rattle.dali_restart.proofs.restarting.restart.Goals as goal
 
@@ -15,6 +15,9 @@ use Rattle.dali_restart.proofs.restarting.restart.Goals as goal
 pub returns-in-Err-clause-any_moment : goal.returns-in-Err-clause-any_moment
 returns-in-Err-clause-any_moment g c =
     left_reading g.V.Store.told g.V.Store.may_leave g.V.Store.moment g.V.Store.left_since g.V.Store.faults g.V.Store.lets_pass c.args.store c.read.new.store c.read.ensures.reads c.read.ensures.later c.read.ensures.passes
+
+pub returns-in-Err-clause-none : goal.returns-in-Err-clause-none
+returns-in-Err-clause-none g c = if_some_any _ (g.V.Store.told c.args.store) (λ fs without. c.read.ensures.reads)
 
 -- nothing is written that is due, or not all of it
 pub returns-in-Err-settle-clause-long : goal.returns-in-Err-settle-clause-long
@@ -25,6 +28,9 @@ returns-in-Err-settle-clause-long g c h =
 pub returns-in-Err-settle-clause-reads : goal.returns-in-Err-settle-clause-reads
 returns-in-Err-settle-clause-reads g c no_fault no_memory =
     subst (OnlyReads g.V.Store.told g.V.Store.moment g.V.Store.left_since g.V.Store.may_leave c.args.store) (sym (c.in-Err-settle.ensures.untouched (λ q. no_fault (err_same c.in-Err-settle.error errors.Fault q)))) c.read.ensures.reads
+
+pub returns-in-Err-settle-clause-none : goal.returns-in-Err-settle-clause-none
+returns-in-Err-settle-clause-none g c = if_some_each _ _ (g.V.Store.told c.args.store) c.in-Ok.ensures.ok (λ fs is without. absurd (none_read fs _ c.in-Ok.found is without))
 
 pub returns-in-Err-settle-clause-any_moment : goal.returns-in-Err-settle-clause-any_moment
 returns-in-Err-settle-clause-any_moment g c =
@@ -39,6 +45,9 @@ returns-clause-any_moment g c =
     subst (IsLeft g.V.Store.told g.V.Store.may_leave g.V.Store.moment g.V.Store.left_since g.V.Store.faults g.V.Store.lets_pass c.args.store) (sym c.in-Err-rise.ensures.refused)
     (left_settling g.V.Store.told g.V.Store.may_leave g.V.Store.moment g.V.Store.left_since g.V.Store.faults g.V.Store.lets_pass c.args.store c.read.new.store s (g.met.V.Store.counts_now s) (g.met.V.Store.reads_now s)
     c.read.ensures.reads c.in-Ok.found c.in-Ok.ensures.ok c.settle.ensures.any_moment c.settle.ensures.tells c.read.ensures.later c.settle.ensures.later c.read.ensures.passes c.settle.ensures.passes)
+
+pub returns-clause-none : goal.returns-clause-none
+returns-clause-none g c = if_some_each _ _ (g.V.Store.told c.args.store) c.in-Ok.ensures.ok (λ fs is without. absurd (none_read fs _ c.in-Ok.found is without))
 
 -- the core
 pub returns-in-Ok-rise-clause-gives : goal.returns-in-Ok-rise-clause-gives
@@ -94,3 +103,6 @@ returns-in-Ok-rise-clause-idle g c =
     (λ fs is F spells finds rests.
     subst (OnlyReads g.V.Store.told g.V.Store.moment g.V.Store.left_since g.V.Store.may_leave c.args.store)
     (sym (ap (λ v. v.store) c.in-Ok-rise.ensures.core.vault ∙ c.settle.ensures.idle (rests_idle fs F c.in-Ok.found spells finds is.reads rests))) c.read.ensures.reads)
+
+pub returns-in-Ok-rise-clause-none : goal.returns-in-Ok-rise-clause-none
+returns-in-Ok-rise-clause-none g c = if_some_each _ _ (g.V.Store.told c.args.store) c.in-Ok.ensures.ok (λ fs is. none_read fs _ c.in-Ok.found is)

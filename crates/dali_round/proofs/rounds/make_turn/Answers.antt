@@ -2,7 +2,7 @@ use Rattle.std.proofs.Common.{get_or, is_ok}
 use Rattle.std.proofs.lemmas.Option.{slice_get-get_or}
 use Rattle.dali_round.proofs.Seats.{turn_played}
 use Rattle.dali_round.proofs.Passing.{one_passed}
-use Rattle.dali_round.proofs.Keeping.{has_places, places_on}
+use Rattle.dali_round.proofs.Keeping.{has_places, places_on, as_long}
 use Rattle.dali_round.proofs.rounds.make_turn.Goals as goal
 
 pub turn-requires : goal.turn-requires
@@ -28,3 +28,9 @@ returns-clause-idle g c = λ e.
     let ks = c.args.clients.now in
     let put = c.turn.ensures.idle e in
     (one_passed c.args.core.now.system.state ks c.args.number c.in-Some.place (get_or ks c.in-Some.place c.index-clients-place.result) c.turn.new.client (slice_get-get_or ks c.in-Some.place c.index-clients-place.result c.in-Some.ensures.within) c.in-Some.ensures.first put.0, put.1)
+
+pub returns-clause-longer : goal.returns-clause-longer
+returns-clause-longer g c = c.turn.ensures.places.longer
+
+pub returns-in_default-clause-longer : goal.returns-in_default-clause-longer
+returns-in_default-clause-longer g c = as_long g.V.Store.told c.args.core.now.vault

@@ -7,7 +7,7 @@ use Rattle.dali_round.specs.Leads.{is_done, lines_in, RoundLeads}
 use Rattle.dali_round.specs.Played.{AreNew}
 use Rattle.dali_round.specs.Ends.{named}
 use Rattle.dali_round.proofs.Made.{put_back}
-use Rattle.dali_round.proofs.Keeping.{new_places}
+use Rattle.dali_round.proofs.Keeping.{new_places, as_long}
 use Rattle.dali_round.proofs.Whole.{none_leads, round_leads, many_named, numbers_same}
 use Rattle.dali_round.proofs.rounds.round.Goals as goal
 
@@ -43,3 +43,6 @@ returns-clause-nothing g c = λ less.
     let many : length c.play-end.new.clients ≡ length c.args.blocks.now = c.play-end.auto.clients ∙ (ap length c.deref_mut.ensures.value ∙ c.in-Ok.ensures.clients.count) in
     let all : length c.transcripts_of.result.items ≡ length c.args.blocks.now = ap length (c.transcripts_of.ensures ∙ ap (named c.args.blocks.now) (put_back c.in-Ok.clients.len c.play-end.new.clients c.in-Ok.clients.items size)) ∙ many_named c.args.blocks.now c.play-end.new.clients many in
     absurd (omega (arith, all, less))
+
+pub returns-in_default-clause-longer : goal.returns-in_default-clause-longer
+returns-in_default-clause-longer g c = as_long g.V.Store.told c.args.core.vault

@@ -1,11 +1,12 @@
 use Rattle.std.proofs.Common.{true, false, is_ok, ◌≡◌, Bool, Ok, refl, ap, ◌∙◌}
 use Rattle.dali_turns.proofs.Commands.{err_false}
 use Rattle.dali_round.proofs.GoingOn.{idle_are_over}
+use Rattle.dali_round.proofs.Keeping.{as_long, longer_on}
 use Rattle.dali_round.proofs.Playing.{goes_on, goes_cut, goes_as}
 use Rattle.dali_round.proofs.rounds.run.Goals as goal
 
 pub loop-init : goal.loop-init
-loop-init g c = record { goes = λ s p bs f. f; places = c.requires }
+loop-init g c = record { goes = λ s p bs f. f; places = c.requires; longer = as_long g.V.Store.told c.args.core.now.vault }
 
 pub make_turns-requires : goal.make_turns-requires
 make_turns-requires g c = c.loop.invariant.places
@@ -14,6 +15,7 @@ pub loop-preserved : goal.loop-preserved
 loop-preserved g c = record {
   goes = goes_on g.V.Store.told g.V.Store.may_leave g.V.Store.faults _ _ _ _ _ _ _ _ _ _ _ _ _ true c.loop.invariant.goes c.in_ok-make_turns.ensures.goes;
   places = c.in_ok-make_turns.ensures.places;
+  longer = longer_on g.V.Store.told c.args.core.now.vault c.loop.core.vault c.make_turns.new.core.vault c.loop.invariant.longer c.in_ok-make_turns.ensures.longer;
 }
 
 pub returns-in_err-make_turns-clause-goes : goal.returns-in_err-make_turns-clause-goes
@@ -33,3 +35,12 @@ returns-then-not-branch-clause-stuck g c = λ e s p bs f.
     let played = goes_on g.V.Store.told g.V.Store.may_leave g.V.Store.faults _ _ _ _ _ _ _ _ _ _ _ _ _ true c.loop.invariant.goes c.in_ok-make_turns.ensures.goes s p bs f in
     let over = c.are_over.ensures.always (idle_are_over g.V.Store.told g.V.Store.may_leave g.V.Store.faults c.args.setting.now.precheck s p bs _ _ _ _ played (c.make_turns.ensures.idle (c.in_ok-make_turns.was ∙ ap Ok c.if-not-branch.true))) in
     absurd (cc)
+
+pub returns-in_err-make_turns-clause-longer : goal.returns-in_err-make_turns-clause-longer
+returns-in_err-make_turns-clause-longer g c = longer_on g.V.Store.told c.args.core.now.vault c.loop.core.vault c.make_turns.new.core.vault c.loop.invariant.longer c.in_err-make_turns.ensures.longer
+
+pub returns-clause-longer : goal.returns-clause-longer
+returns-clause-longer g c = c.loop.invariant.longer
+
+pub returns-then-not-branch-clause-longer : goal.returns-then-not-branch-clause-longer
+returns-then-not-branch-clause-longer g c = longer_on g.V.Store.told c.args.core.now.vault c.loop.core.vault c.make_turns.new.core.vault c.loop.invariant.longer c.in_ok-make_turns.ensures.longer

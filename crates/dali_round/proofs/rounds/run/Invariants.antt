@@ -1,4 +1,5 @@
 use Rattle.std.proofs.Common.{true}
+use Rattle.dali_whole.specs.Cores.{IsNoShorter}
 use Rattle.dali_round.specs.Played.{HavePlaces, PlayGoes}
 use Rattle.dali_round.proofs.rounds.run.Given as goal
 
@@ -6,4 +7,5 @@ abbrev pub invariant-loop : goal.invariant-loop
 invariant-loop g l = record {
   goes : PlayGoes g.V.Store.told g.V.Store.may_leave g.V.Store.faults l.setting.precheck l.fn.clients l.fn.core.regions.items l.fn.core.system.state l.fn.core.vault true l.clients l.core.regions.items l.core.system.state l.core.vault;
   places : HavePlaces g.V.Store.told l.clients l.core.regions.items l.core.vault;
+  longer : IsNoShorter g.V.Store.told l.fn.core.vault l.core.vault;
 }

@@ -9,20 +9,8 @@ returns-in-ReadFault-clause-all g c = rw (c.in-ReadFault.is) (c.write_all-in-Rea
 pub returns-in-ReadFault-clause-some : goal.returns-in-ReadFault-clause-some
 returns-in-ReadFault-clause-some g c = rw (c.in-ReadFault.is) (c.write_all-in-ReadFault.ensures.some)
 
-pub returns-in-BadLog-clause-all : goal.returns-in-BadLog-clause-all
-returns-in-BadLog-clause-all g c = rw (c.in-BadLog.is) (c.write_numbered.ensures.all)
-
-pub returns-in-BadLog-clause-some : goal.returns-in-BadLog-clause-some
-returns-in-BadLog-clause-some g c = rw (c.in-BadLog.is) (c.write_numbered.ensures.some)
-
 pub returns-in-Unformatted-clause-all : goal.returns-in-Unformatted-clause-all
 returns-in-Unformatted-clause-all g c = rw (c.in-Unformatted.is) (c.write_all-in-Unformatted.ensures.all)
 
 pub returns-in-Unformatted-clause-some : goal.returns-in-Unformatted-clause-some
 returns-in-Unformatted-clause-some g c = rw (c.in-Unformatted.is) (c.write_all-in-Unformatted.ensures.some)
-
-pub returns-in-OutOfNumbers-clause-all : goal.returns-in-OutOfNumbers-clause-all
-returns-in-OutOfNumbers-clause-all g c = rw (c.in-OutOfNumbers.is) (c.write_all-in-OutOfNumbers.ensures.all)
-
-pub returns-in-OutOfNumbers-clause-some : goal.returns-in-OutOfNumbers-clause-some
-returns-in-OutOfNumbers-clause-some g c = rw (c.in-OutOfNumbers.is) (c.write_all-in-OutOfNumbers.ensures.some)

@@ -1,6 +1,6 @@
 use Rattle.std.proofs.Common.{◌≡◌, ◌∷◌, [], List, ℕ, ap, ◌∙◌, map, String, Global}
 use Rattle.std.specs.Prelude.{codes, string_bytes, bytes_eq}
-use Rattle.dali_run.proofs.Endings.{single, one_word}
+use Rattle.dali_run.proofs.OneWord.{single, one_word}
 use Rattle.dali_run.proofs.top.is_run.Goals as goal
 
 pub returns-in-len1 : goal.returns-in-len1

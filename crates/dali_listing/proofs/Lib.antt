@@ -1,0 +1,3 @@
+mod Walk
+mod Rows
+mod Sorted

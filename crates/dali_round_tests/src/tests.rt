@@ -1,0 +1,545 @@
+//! What no clause says: rounds of one and of several clients, from their commands to their lines.
+ghost use Rattle.std.specs.Prelude.{◌≡◌, IfOk, IfSome};
+ghost use Rattle.dali_whole.specs.Cores.{HoldsPlaces};
+
+use crate::blocks::{are_blocks, block, words_of};
+use crate::tables::{
+    CHECKPOINTS, CONFLICTS, DEATHS, FAULTS, FULL_LOGS, ONE_CLIENT, POKES_AND_AUDITS,
+};
+use crate::texts::text_of;
+use anyhow::{Context, Result};
+use dali_geometry::Geometry;
+use dali_memstore::{Fuse, MemoryStore};
+use dali_restart::{Report, format, restart};
+use dali_round::{Block, Gate, OpenGate, RoundEnd, Transcript, round};
+use dali_store::Store;
+use dali_whole::Core;
+use std::alloc::Global;
+use std::cell::Cell;
+use std::process::Abort;
+
+// A gate that counts what passes it, and keeps the last one.
+#[derive(Drop)]
+struct Counting {
+    passed: Cell<u32>,
+    last: Cell<(u32, u32)>,
+}
+
+impl Gate for Counting {
+    fn pass(&self, client: u32, point: u32) {
+        self.passed.set(self.passed.get().saturating_add(1));
+        self.last.set((client, point));
+    }
+}
+
+fn new_gate() -> Counting {
+    Counting {
+        passed: Cell::new(0),
+        last: Cell::new((0, 0)),
+    }
+}
+
+// The calls that a format makes.
+const BEFORE: u64 = 12;
+
+// A store that passes so many calls on behind a format.
+fn store_of(alloc: Global, passes: Option<u64>) -> Fuse<MemoryStore> {
+    let passes = match passes {
+        Some(passes) => Some(passes.saturating_add(BEFORE)),
+        None => None,
+    };
+    Fuse::new(MemoryStore::new(alloc, Vec::new(alloc)), passes)
+}
+
+// The core of a new database of so many index and heap regions.
+fn core_of<V: Store + Drop>(
+    alloc: Global,
+    store: V,
+    sizes: (u32, u32),
+    limit: u64,
+) -> Result<Core<V>>
+    ensures { IfOk result (λ core. IfSome (V.told core.vault.store) (HoldsPlaces core.regions.items)) }
+{
+    if limit > 268_435_456 {
+        anyhow::bail!("no limit");
+    }
+    let geometry = Geometry::new(sizes.0, sizes.1)?;
+    match format(alloc, store, geometry, limit) {
+        Ok(core) => Ok(core),
+        Err(_) => anyhow::bail!("no core"),
+    }
+}
+
+// The parts of a text in front of a mark and behind it.
+fn parted(text: &str, mark: char) -> (&str, &str) {
+    match text.split_once(mark) {
+        Some(parts) => parts,
+        None => (text, ""),
+    }
+}
+
+// The blocks of a round, of clients 1, 2 and so on: `-` stands for one that has none.
+fn blocks_of(alloc: Global, texts: &str) -> Result<Vec<Block>> {
+    let mut blocks = Vec::new(alloc);
+    for (text, client) in texts.split('|').zip(1..=64) {
+        if text.trim() != "-" {
+            blocks.push(block(alloc, client, text)?)?;
+        }
+    }
+    Ok(blocks)
+}
+
+// How many of the transcripts have this receipt.
+fn owners(transcripts: &[Transcript], number: u64) -> usize {
+    transcripts
+        .iter()
+        .filter(|transcript| transcript.receipts().contains(&number))
+        .count()
+}
+
+// A round of these blocks that ends with each client done.
+fn done<V: Store + Drop, G: Gate>(
+    alloc: Global,
+    core: Core<V>,
+    precheck: bool,
+    texts: &str,
+    gate: &G,
+) -> Result<(Core<V>, Vec<Transcript>)>
+    requires { IfSome (V.told core.vault.store) (HoldsPlaces core.regions.items) }
+    ensures { IfOk result (λ done. IfSome (V.told done.0.vault.store) (HoldsPlaces done.0.regions.items)) }
+{
+    let blocks = blocks_of(alloc, texts)?;
+    if !are_blocks(&blocks) {
+        anyhow::bail!("no blocks");
+    }
+    let (core, transcripts, end) = round(alloc, core, &blocks, precheck, gate);
+    if end != RoundEnd::Done {
+        anyhow::bail!("the round ended early");
+    }
+    Ok((core, transcripts))
+}
+
+// Whether each record of a round has one owner, and no live hold and no checkpoint's flag is left.
+fn is_left_clean<V: Store>(core: &mut Core<V>, first: u64, transcripts: &[Transcript]) -> bool
+    ensures regions { core.new.regions ≡ core.old.regions }
+    ensures vault { core.new.vault ≡ core.old.vault }
+{
+    for number in first..core.system.records() {
+        if owners(transcripts, number) != 1 {
+            return false;
+        }
+    }
+    for region in &core.regions {
+        if let Some(hold) = region.hold() {
+            if !hold.dead {
+                return false;
+            }
+        }
+    }
+    if !core.system.start_copy() {
+        return false;
+    }
+    core.system.end_copy();
+    true
+}
+
+// What the clients of a round say.
+fn play<V: Store + Drop>(
+    alloc: Global,
+    core: Core<V>,
+    precheck: bool,
+    texts: &str,
+) -> Result<(Core<V>, String)>
+    requires { IfSome (V.told core.vault.store) (HoldsPlaces core.regions.items) }
+    ensures { IfOk result (λ played. IfSome (V.told played.0.vault.store) (HoldsPlaces played.0.regions.items)) }
+{
+    let first = core.system.records();
+    let (mut core, transcripts) = done(alloc, core, precheck, texts, &OpenGate)?;
+    if !is_left_clean(&mut core, first, &transcripts) {
+        anyhow::bail!("not left clean");
+    }
+    Ok((core, text_of(alloc, &transcripts)?))
+}
+
+// What the clients of one round over a new database say.
+fn said_in<V: Store + Drop>(
+    alloc: Global,
+    store: V,
+    sizes: (u32, u32),
+    limit: u64,
+    texts: &str,
+) -> Result<String> {
+    let core = core_of(alloc, store, sizes, limit)?;
+    let (_core, said) = play(alloc, core, false, texts)?;
+    Ok(said)
+}
+
+// Over which database rounds are run.
+#[derive(Clone, Copy, Drop)]
+struct Header {
+    sizes: (u32, u32),
+    limit: u64,
+    precheck: bool,
+}
+
+fn read_header(alloc: Global, text: &str) -> Result<Header> {
+    let words = words_of(alloc, text)?;
+    match words.as_slice() {
+        [index, heap, limit] => Ok(Header {
+            sizes: (index.parse()?, heap.parse()?),
+            limit: limit.parse()?,
+            precheck: false,
+        }),
+        [index, heap, limit, "precheck"] => Ok(Header {
+            sizes: (index.parse()?, heap.parse()?),
+            limit: limit.parse()?,
+            precheck: true,
+        }),
+        _ => anyhow::bail!("no header"),
+    }
+}
+
+// Rounds over a database, and what their clients say.
+fn check<V: Store + Drop>(
+    rt: &impl Abort,
+    alloc: Global,
+    store: V,
+    header: Header,
+    rounds: &str,
+) -> Result<()> {
+    let mut core = core_of(alloc, store, header.sizes, header.limit)?;
+    for text in rounds.split(';') {
+        let (texts, wanted) = parted(text, '=');
+        let (next, said) = play(alloc, core, header.precheck, texts)?;
+        core = next;
+        assert_eq!(rt; said.as_str(), wanted.trim());
+    }
+    Ok(())
+}
+
+fn check_all(rt: &impl Abort, alloc: Global, rows: &str) -> Result<()> {
+    for row in rows.lines() {
+        if !row.starts_with('#') {
+            let (head, rounds) = parted(row, ';');
+            check(
+                rt,
+                alloc,
+                store_of(alloc, None),
+                read_header(alloc, head)?,
+                rounds,
+            )?;
+        }
+    }
+    Ok(())
+}
+
+#[test]
+fn one_client(rt: HostRuntime) -> Result<()> {
+    check_all(&rt, rt.alloc(), ONE_CLIENT)
+}
+
+#[test]
+fn conflicts(rt: HostRuntime) -> Result<()> {
+    check_all(&rt, rt.alloc(), CONFLICTS)
+}
+
+// Adds to a text, with a mark between what was there and this.
+fn join(text: &mut String, mark: &str, more: &str) -> Result<()> {
+    if !text.is_empty() {
+        text.push_str(mark)?;
+    }
+    text.push_str(more)?;
+    Ok(())
+}
+
+// As many clients as a round may have, each with a key of its own, and what they say where they begin by ascending number.
+fn as_many_as_may_be(alloc: Global) -> Result<(String, String)> {
+    let mut texts = String::new(alloc);
+    let mut wanted = String::new(alloc);
+    for client in 1..=64 {
+        let block = format!(in alloc; "begin / insert {client}000000 a / commit")?;
+        join(&mut texts, " | ", &block)?;
+        let lines = format!(in alloc;
+            "{client} begin {client} / {client} insert ok / {client} commit ok"
+        )?;
+        join(&mut wanted, " / ", &lines)?;
+    }
+    Ok((texts, wanted))
+}
+
+#[test]
+fn sixty_four_clients(rt: HostRuntime) -> Result<()> {
+    let alloc = rt.alloc();
+    let (texts, wanted) = as_many_as_may_be(alloc)?;
+    let said = said_in(alloc, store_of(alloc, None), (7, 13), 1_000_000, &texts)?;
+    assert_eq!(rt; said.as_str(), wanted.as_str());
+    Ok(())
+}
+
+// Two clients with keys of their own make so many transactions of one insert each, and a third one makes audits.
+fn inserts_beside_audits(alloc: Global, inserts: u64, audits: u64) -> Result<String> {
+    let mut texts = String::new(alloc);
+    for client in 1..=2 {
+        let mut block = String::new(alloc);
+        for key in 0..inserts {
+            let insert = format!(in alloc; "begin / insert {client}000{key} a / commit")?;
+            join(&mut block, " / ", &insert)?;
+        }
+        join(&mut texts, " | ", &block)?;
+    }
+    let mut block = String::new(alloc);
+    for _ in 0..audits {
+        join(&mut block, " / ", "audit")?;
+    }
+    join(&mut texts, " | ", &block)?;
+    Ok(texts)
+}
+
+// How many of the lines, with ` / ` between them, end so.
+fn lines_that_end(said: &str, end: &str) -> usize {
+    said.split(" / ").filter(|line| line.ends_with(end)).count()
+}
+
+// No stray write comes, so each audit is clean; and no key is another client's, so each insert is made in its first try.
+#[test]
+fn each_audit_beside_inserts_is_clean(rt: HostRuntime) -> Result<()> {
+    let alloc = rt.alloc();
+    let texts = inserts_beside_audits(alloc, 200, 20)?;
+    let said = said_in(alloc, store_of(alloc, None), (20, 70), 1_000_000, &texts)?;
+    assert_eq!(rt;
+        (
+            lines_that_end(&said, " insert ok"),
+            lines_that_end(&said, " commit ok"),
+            lines_that_end(&said, "3 audit clean"),
+            lines_that_end(&said, "")
+        ),
+        (400, 400, 20, 1220)
+    );
+    Ok(())
+}
+
+#[test]
+fn deaths(rt: HostRuntime) -> Result<()> {
+    check_all(&rt, rt.alloc(), DEATHS)
+}
+
+// What is said where a client dies in this operation of a call, and by the next one.
+fn said_at_a_death<V: Store + Drop>(
+    alloc: Global,
+    store: V,
+    call: &str,
+    operation: u32,
+) -> Result<(String, String)> {
+    let core = core_of(alloc, store, (1, 1), 1_000_000)?;
+    let (core, _first) = play(alloc, core, false, "begin / insert 5 abc / commit")?;
+    let dying = format!(in alloc; "begin / die {operation} / {call} / commit")?;
+    let (core, died) = play(alloc, core, false, &dying)?;
+    let (_core, said) = play(
+        alloc,
+        core,
+        false,
+        "- | begin / get 6 / get 5 / insert 6 y / commit / audit",
+    )?;
+    Ok((died, said))
+}
+
+// Who was rolled back and who was deleted by a restart behind a round, and what the clients of a round behind it say.
+fn said_behind_a_restart<V: Store + Drop>(
+    alloc: Global,
+    store: V,
+    before: &str,
+    behind: &str,
+) -> Result<(Report, String)> {
+    let core = core_of(alloc, store, (2, 3), 1_000_000)?;
+    let (core, _said) = play(alloc, core, false, before)?;
+    match restart(alloc, core.into_store(), 1_000_000) {
+        Ok((core, report)) => {
+            let (_core, said) = play(alloc, core, false, behind)?;
+            Ok((report, said))
+        }
+        Err(_) => anyhow::bail!("no restart"),
+    }
+}
+
+// Who read damage, and who read from that one, are deleted, and rounds go on over what is left.
+#[test]
+fn rounds_go_on_behind_a_restart(rt: HostRuntime) -> Result<()> {
+    let alloc = rt.alloc();
+    let (report, said) = said_behind_a_restart(
+        alloc,
+        store_of(alloc, None),
+        "begin / insert 4 abc / commit / begin / insert 5 xyz / commit / checkpoint / poke 3 11 0100000000000000 / begin / get 4 / insert 6 qq / commit / begin / update 5 y / commit / begin / get 6 / commit / audit",
+        "begin / get 4 / get 5 / commit | begin / get 6",
+    )?;
+    assert_eq!(rt; report.rolled_back.len(), 0);
+    assert_eq!(rt; report.deleted.as_slice(), [3, 5].as_slice());
+    assert_eq!(rt;
+        said.as_str(),
+        "1 begin 6 / 1 got abc / 1 got y / 1 commit ok / 2 begin 7 / 2 get missing / 2 aborted"
+    );
+    Ok(())
+}
+
+// A client dies in each operation of each call, and the next one finds the record as it was, or none.
+#[test]
+fn a_death_in_each_operation(rt: HostRuntime) -> Result<()> {
+    let alloc = rt.alloc();
+    for (call, operations) in [
+        ("insert 6 z", 3),
+        ("update 5 z", 2),
+        ("delete 5", 3),
+        ("get 5", 2),
+    ] {
+        for operation in 1..=operations {
+            let (died, said) = said_at_a_death(alloc, store_of(alloc, None), call, operation)?;
+            assert_eq!(rt;
+                (died.as_str(), said.as_str()),
+                (
+                    "1 begin 2 / 1 died",
+                    "2 begin 3 / 2 get missing / 2 got abc / 2 insert ok / 2 commit ok / 2 audit clean"
+                ),
+                "{call} {operation}"
+            );
+        }
+    }
+    Ok(())
+}
+
+#[test]
+fn pokes_and_audits(rt: HostRuntime) -> Result<()> {
+    check_all(&rt, rt.alloc(), POKES_AND_AUDITS)
+}
+
+#[test]
+fn checkpoints(rt: HostRuntime) -> Result<()> {
+    check_all(&rt, rt.alloc(), CHECKPOINTS)
+}
+
+// What is said where so many calls pass, from one number on and below another.
+fn check_passes(rt: &impl Abort, alloc: Global, passes: &str, round: &str) -> Result<()> {
+    let (from, below) = parted(passes.trim(), ' ');
+    let (texts, wanted) = parted(round, '=');
+    let from: u64 = from.parse()?;
+    let below: u64 = below.parse()?;
+    for passes in from..below {
+        let said = said_in(
+            alloc,
+            store_of(alloc, Some(passes)),
+            (1, 1),
+            1_000_000,
+            texts,
+        )?;
+        assert_eq!(rt; said.as_str(), wanted.trim(), "{passes}");
+    }
+    Ok(())
+}
+
+// A store that fails at each of its calls in turn.
+#[test]
+fn faults(rt: HostRuntime) -> Result<()> {
+    for row in FAULTS.lines() {
+        if !row.starts_with('#') {
+            let (passes, round) = parted(row, ';');
+            check_passes(&rt, rt.alloc(), passes, round)?;
+        }
+    }
+    Ok(())
+}
+
+#[test]
+fn full_logs(rt: HostRuntime) -> Result<()> {
+    check_all(&rt, rt.alloc(), FULL_LOGS)
+}
+
+#[test]
+fn fourteen_transactions_fill_the_log(rt: HostRuntime) -> Result<()> {
+    let alloc = rt.alloc();
+    let mut text = String::new(alloc);
+    for key in 1..=14 {
+        text.push_str(&format!(in alloc; "begin / insert {key} abc / commit / ")?)?;
+    }
+    text.push_str("begin / insert 99 z / commit / poke 9 0 1")?;
+    let said = said_in(alloc, store_of(alloc, None), (1, 2), 4096, &text)?;
+    assert!(rt;
+        said.ends_with(
+            " / 1 begin 13 / 1 insert ok / 1 commit ok / 1 begin 14 / 1 insert log full 4073 4096 / 1 commit ok / 1 begin log full 4148 4096 / 1 poke out of range"
+        ),
+        "{said}"
+    );
+    Ok(())
+}
+
+// Two clients have the key shared in turn, so that there is always an older holder: each transaction takes fourteen turns, and
+// the second client's begin seven behind the first one's.
+fn shared_in_turn(alloc: Global) -> Result<String> {
+    let mut holder = String::new(alloc);
+    for _ in 0..520 {
+        holder.push_str("begin / get 5 / get 6 / get 6 / get 6 / abort / ")?;
+    }
+    holder.push_str("poke 9 0 1")?;
+    let mut other = String::new(alloc);
+    for _ in 0..7 {
+        other.push_str("poke 9 0 1 / ")?;
+    }
+    let text = format!(in alloc;
+        "{holder} | begin / insert 5 v / get 5 / commit / begin / get 7 / commit | {other}{holder}"
+    )?;
+    Ok(text)
+}
+
+// How many lines the second client has, and what all say.
+fn lines_of_the_second<V: Store + Drop>(
+    alloc: Global,
+    store: V,
+    texts: &str,
+) -> Result<(usize, String)> {
+    let core = core_of(alloc, store, (1, 1), 100_000_000)?;
+    let (_core, transcripts) = done(alloc, core, false, texts, &OpenGate)?;
+    let transcript = transcripts.get(1).context("no transcript")?;
+    Ok((transcript.lines().len(), text_of(alloc, &transcripts)?))
+}
+
+// Behind the thousandth try the client goes on with what stands behind its transaction: it has a begin and an end for each try,
+// then the holder, and the three lines behind it.
+#[test]
+fn the_thousandth_try_is_the_last(rt: HostRuntime) -> Result<()> {
+    let alloc = rt.alloc();
+    let texts = shared_in_turn(alloc)?;
+    let (lines, said) = lines_of_the_second(alloc, store_of(alloc, None), &texts)?;
+    assert_eq!(rt;
+        (
+            lines,
+            said.contains(
+                " / 2 begin 2 / 2 aborted / 2 begin 4 / 2 aborted / 2 begin 6 / 2 aborted / "
+            ),
+            said.contains(
+                " / 2 begin 1998 / 2 aborted / 2 begin 2000 / 2 busy 1999 / 2 aborted / 2 begin 2002 / 2 get missing / 2 commit ok / 3 "
+            )
+        ),
+        (2 * 1000 + 1 + 3, true, true)
+    );
+    Ok(())
+}
+
+#[test]
+fn the_gate_is_told_of_each_operation(rt: HostRuntime) -> Result<()> {
+    let alloc = rt.alloc();
+    for (text, passed) in [
+        // three of the insert, and two of the get
+        ("begin / insert 5 a / get 5 / commit", 5),
+        // the one in which the client dies is told of
+        ("begin / die 2 / insert 5 a / get 5 / commit", 2),
+        // what an abort takes back isn't
+        ("begin / insert 5 a / abort", 3),
+    ] {
+        let core = core_of(alloc, store_of(alloc, None), (1, 1), 1_000_000)?;
+        let gate = new_gate();
+        let (_core, _transcripts) = done(alloc, core, false, text, &gate)?;
+        assert_eq!(rt;
+            (gate.passed.get(), gate.last.get()),
+            (passed, (1, passed)),
+            "{text}"
+        );
+    }
+    Ok(())
+}
