@@ -1,6 +1,7 @@
 -- Somebody goes on while a client isn't done: a request waits for greater numbers alone, and each live transaction is a client's.
 use Rattle.std.proofs.Common.{◌≡◌, ℕ, zero, suc, ◌+◌, ◌<◌, ◌≤◌, Bool, true, false, List, length, map, Option, Some, None, refl, ap, sym, subst, ◌∙◌, ◌⊎◌, inl, inr, ⊎_elim, arith}
 use Rattle.std.specs.Prelude.{◌==◌, IsSome, is_some, slice_get}
+use Rattle.std.proofs.lemmas.Option.{slice_get_within}
 use Rattle.dali_record.specs.declared.records.Record.{Record}
 use Rattle.dali_region.specs.State.{RegionState}
 use Rattle.dali_locks.specs.declared.mode.Mode.{Mode}
@@ -16,7 +17,6 @@ use Rattle.dali_crash.specs.Traces.{Start, bases_of}
 use Rattle.dali_vault.specs.Vaulted.{Vaulted}
 use Rattle.dali_transcripts.specs.World.{World, is_dead_in, is_claimed_in}
 use Rattle.dali_transcripts.specs.Transcripts.{Told}
-use Rattle.dali_transcripts.specs.Rounds.{Standing, told_of}
 use Rattle.dali_calls.specs.Steps.{call_key}
 use Rattle.dali_calls.specs.Plans.{mode_of}
 use Rattle.dali_turns.specs.declared.client.Client.{Client}
@@ -27,9 +27,8 @@ use Rattle.dali_turns.specs.Fits.{Owns}
 use Rattle.dali_turns.specs.Outside.{HasGone}
 use Rattle.dali_turns.specs.Stood.{IsQuiet}
 use Rattle.dali_turns.specs.Waits.{Waits, MakesNone}
-use Rattle.dali_round.specs.Idle.{IsFirst, IsIdle, AreIdle}
+use Rattle.dali_round.specs.Idle.{AreIdle}
 use Rattle.dali_round.specs.Played.{Played, AreOver, EachIsOwned}
-use Rattle.dali_round.proofs.Lists.{get_map, with_length}
 
 -- ---- rows
 -- who has a row, isn't dead, claimed or committed, is alive
@@ -157,28 +156,5 @@ module _ {V : Type 0} (told : V → Option Disk) (may_leave : V → Disk → Typ
         settled = subst (λ (m : SystemState). (t : ℕ) → state_of m t ≡ Some Committed → ⊥) (sym here) (played.stood.quiet.settled runs);
       })
 
-  -- the number of the client at a place is that of the block there, and so no other client has it
-  block_at : (i : ℕ) (k : Client) → slice_get ks i ≡ Some k → (b : Told) × (slice_get bs i ≡ Some b) × (b.client ≡ k.transcript.client)
-  block_at i k at =
-      let (a, there) = with_length played.standings ks i k played.count at in
-      (told_of a, subst (λ l. slice_get l i ≡ Some (told_of a)) played.blocks (get_map told_of played.standings i a there), (played.seats i a k there at).is.client)
-
-  first_with : (i : ℕ) (k : Client) → slice_get ks i ≡ Some k → IsFirst ks k.transcript.client i k
-  first_with i k at = record {
-    at = at;
-    number = refl;
-    before = λ j l less there same.
-        let (b, mine, my_number) = block_at i k at in
-        let (d, yours, your_number) = block_at j l there in
-        let equal_places : j ≡ i = played.are.apart j i d b yours mine (your_number ∙ (same ∙ sym my_number)) in
-        absurd (omega (arith, less, equal_places));
-  }
-
-  pub idle_are_over : AreIdle y ks 65 → AreOver ks
-  idle_are_over idle = each_is_over y ks (played.owned refl) each rows_there where
-    each : (i : ℕ) (k : Client) → slice_get ks i ≡ Some k → MakesNone y k.state (length k.rest.now == 0)
-    each i k at =
-        let (b, mine, number) = block_at i k at in
-        let (least, most) = played.are.numbers i b mine in
-        let below : k.transcript.client < 65 = omega (arith, most, number) in
-        idle k.transcript.client (subst (λ n. 1 ≤ n) number least) below i k (first_with i k at)
+  pub idle_are_over : AreIdle y ks (length ks) → AreOver ks
+  idle_are_over idle = each_is_over y ks (played.owned refl) (λ i k at. idle i k (slice_get_within ks i k at) at) rows_there

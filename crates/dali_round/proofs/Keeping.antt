@@ -1,6 +1,7 @@
 -- A step of one client leaves the image files as the steps of the others ask for, and none shorter, whatever log there is.
-use Rattle.std.proofs.Common.{◌≡◌, ℕ, ◌≤◌, List, length, Option, Some, None, refl, sym, subst, ⊎_elim, arith}
+use Rattle.std.proofs.Common.{◌≡◌, ℕ, ◌<◌, ◌≤◌, List, length, Option, Some, None, get_or, refl, sym, subst, ⊎_elim, arith}
 use Rattle.std.specs.Prelude.{IfSome, slice_get, slice_set}
+use Rattle.std.proofs.lemmas.Option.{slice_get-get_or}
 use Rattle.dali_counts.proofs.Lists.{set_cases}
 use Rattle.dali_region.specs.declared.Side.{Side}
 use Rattle.dali_region.specs.State.{RegionState}
@@ -37,13 +38,13 @@ module _ {V : Type 0} (told : V → Option Disk) where
   next_on (Certifying c audit next) v u longer h = tt
   next_on Gone v u longer h = tt
 
-  pub has_places : (ks : List Client) (gs : List RegionState) (v : Vaulted V) (i : ℕ) (k : Client) → slice_get ks i ≡ Some k → HavePlaces told ks gs v → HasPlaces told k.state gs v
-  has_places ks gs v i k at_k have = record { files = have.files; next = have.next i k at_k }
+  pub has_places : (ks : List Client) (gs : List RegionState) (v : Vaulted V) (i : ℕ) (d : Client) → i < length ks → HavePlaces told ks gs v → HasPlaces told (get_or ks i d).state gs v
+  has_places ks gs v i d less have = record { files = have.files; next = have.next i (get_or ks i d) (slice_get-get_or ks i d less) }
 
-  pub places_on : (ks : List Client) (gs hs : List RegionState) (v u : Vaulted V) (i : ℕ) (k j : Client) → slice_get ks i ≡ Some k → PlacesGo told k.state gs v j.state hs u → HavePlaces told ks gs v
+  pub places_on : (ks : List Client) (gs hs : List RegionState) (v u : Vaulted V) (i : ℕ) (d j : Client) → i < length ks → PlacesGo told (get_or ks i d).state gs v j.state hs u → HavePlaces told ks gs v
       → HavePlaces told (slice_set ks i j) hs u
-  places_on ks gs hs v u i k j at_k go have =
-      let own = go.places (has_places ks gs v i k at_k have) in
+  places_on ks gs hs v u i d j less go have =
+      let own = go.places (has_places ks gs v i d less have) in
       record {
         files = own.files;
         next = λ n l at_l.

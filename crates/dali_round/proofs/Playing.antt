@@ -1,17 +1,25 @@
 -- A round goes on from wherever it began.
-use Rattle.std.proofs.Common.{◌≡◌, ℕ, Bool, true, false, List, Option, sym, subst}
+use Rattle.std.proofs.Common.{◌≡◌, ℕ, ◌<◌, Bool, true, false, List, length, Option, get_or, sym, subst}
+use Rattle.std.specs.Prelude.{slice_set}
+use Rattle.std.proofs.lemmas.Option.{slice_get-get_or}
 use Rattle.dali_region.specs.State.{RegionState}
 use Rattle.dali_store.specs.Store.{Files as Disk}
 use Rattle.dali_system.specs.State.{SystemState}
 use Rattle.dali_vault.specs.Vaulted.{Vaulted}
 use Rattle.dali_turns.specs.declared.client.Client.{Client}
+use Rattle.dali_turns.specs.Turns.{TurnGoes}
 use Rattle.dali_round.specs.Played.{PlayGoes}
-use Rattle.dali_round.proofs.Seats.{cut_play}
+use Rattle.dali_round.proofs.Seats.{cut_play, turn_played}
 
 module _ {V : Type 0} (told : V → Option Disk) (may_leave : V → Disk → Type 0) (faults : V → ℕ) (precheck : Bool) where
   pub goes_on : (ks js ls : List Client) (gs hs is : List RegionState) (y z x : SystemState) (v u t : Vaulted V) (ok : Bool) → PlayGoes told may_leave faults precheck ks gs y v true js hs z u → PlayGoes told may_leave faults precheck js hs z u ok ls is x t
       → PlayGoes told may_leave faults precheck ks gs y v ok ls is x t
   goes_on ks js ls gs hs is y z x v u t ok one two s p bs f = two s p bs (one s p bs f)
+
+  -- by a step of the client at this place
+  pub goes_one : (ks : List Client) (i : ℕ) (d j : Client) (gs hs : List RegionState) (y z : SystemState) (v u : Vaulted V) (ok : Bool) → i < length ks → TurnGoes told may_leave faults precheck (get_or ks i d) gs y v ok j hs z u
+      → PlayGoes told may_leave faults precheck ks gs y v ok (slice_set ks i j) hs z u
+  goes_one ks i d j gs hs y z v u ok less goes s p bs f = turn_played told may_leave faults precheck s p bs ks gs y v f i (get_or ks i d) (slice_get-get_or ks i d less) ok j hs z u goes
 
   pub goes_cut : (ks js : List Client) (gs hs : List RegionState) (y z : SystemState) (v u : Vaulted V) → PlayGoes told may_leave faults precheck ks gs y v true js hs z u → PlayGoes told may_leave faults precheck ks gs y v false js hs z u
   goes_cut ks js gs hs y z v u goes s p bs f = cut_play told may_leave faults precheck s p bs js hs z u (goes s p bs f)

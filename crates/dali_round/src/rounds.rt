@@ -1,13 +1,12 @@
 //! A whole round.
-ghost use Rattle.std.specs.Prelude.{◌≡◌, ◌<◌, ◌⊎◌, ℕ, [], false, true, Ok, Some, None, map, slice_get, length, vec_capacity, vec_len, is_ok, IfOk, IfSome, OnOk};
+ghost use Rattle.std.specs.Prelude.{◌≡◌, ◌<◌, ◌⊎◌, [], false, true, Ok, map, length, vec_capacity, vec_len, is_ok, IfOk, IfSome, OnOk};
 ghost use Rattle.dali_transcripts.specs.Rounds.{AreBlocks};
 ghost use Rattle.dali_clients.specs.Told.{told_of};
 ghost use Rattle.dali_whole.specs.Cores.{HoldsPlaces, IsNoShorter};
 ghost use Rattle.dali_round.specs.Leads.{is_done, RoundGoes};
 ghost use Rattle.dali_round.specs.Played.{AreNew, AreOver, HavePlaces, PlayGoes};
 ghost use Rattle.dali_round.specs.Ends.{EndGoes, named};
-ghost use Rattle.dali_round.specs.Idle.{IsFirst, IsPassed, AreIdle, NoneHasCome};
-ghost use Rattle.dali_turns.specs.declared.client.Client.{Client as ClientOf};
+ghost use Rattle.dali_round.specs.Idle.{AreIdle, NoneHasCome};
 
 use dali_bytes::OutOfMemory;
 use dali_clients::{Block, Transcript};
@@ -27,9 +26,6 @@ pub enum RoundEnd {
     OutOfMemory,
 }
 
-// The greatest number of a client.
-const MAX_CLIENT: u32 = 64;
-
 // The clients of these blocks, in their order, and room for their transcripts.
 fn clients_of(
     alloc: Global,
@@ -45,35 +41,7 @@ fn clients_of(
     Ok((clients, Vec::with_capacity(alloc, blocks.len())?))
 }
 
-// One step of the client with this number, if there is one and it can make one. Answers whether it could.
-fn make_turn<V: Store, G: Gate>(
-    clients: &mut [Client<'_>],
-    number: u32,
-    core: &mut Core<V>,
-    setting: &Setting<'_, G>,
-) -> Result<bool, OutOfMemory>
-    requires { HavePlaces V.told clients.old core.old.regions.items core.old.vault }
-    ensures goes { PlayGoes V.told V.may_leave V.faults setting.now.precheck clients.old core.old.regions.items core.old.system.state core.old.vault (is_ok result) clients.new core.new.regions.items core.new.system.state core.new.vault }
-    ensures places { HavePlaces V.told clients.new core.new.regions.items core.new.vault }
-    ensures longer { IsNoShorter V.told core.old.vault core.new.vault }
-    ensures idle { result ≡ Ok false → IsPassed core.old.system.state clients.old clients.new number × (core.new ≡ core.old) }
-{
-    let Some(place) = place_of(clients, number) else {
-        return Ok(false);
-    };
-    turn(&mut clients[place], core, setting)
-}
-
-// Where the client with this number stands, the first one if there are several.
-fn place_of(clients: &[Client<'_>], number: u32) -> Option<usize>
-    ensures within { IfSome result (λ place. place < length clients.now) }
-    ensures first { IfSome result (λ place. (i : ℕ) (k : ClientOf) → IsFirst clients.now number i k → i ≡ place) }
-    ensures none { result ≡ None → (i : ℕ) (k : ClientOf) → IsFirst clients.now number i k → ⊥ }
-{
-    clients.iter().position(|client| client.number() == number)
-}
-
-// One step of each client that can make one, by ascending number. Answers whether any could.
+// One step of each client that can make one, in their order. Answers whether any could.
 fn make_turns<V: Store, G: Gate>(
     clients: &mut [Client<'_>],
     core: &mut Core<V>,
@@ -83,11 +51,11 @@ fn make_turns<V: Store, G: Gate>(
     ensures goes { PlayGoes V.told V.may_leave V.faults setting.now.precheck clients.old core.old.regions.items core.old.system.state core.old.vault (is_ok result) clients.new core.new.regions.items core.new.system.state core.new.vault }
     ensures places { HavePlaces V.told clients.new core.new.regions.items core.new.vault }
     ensures longer { IsNoShorter V.told core.old.vault core.new.vault }
-    ensures idle { result ≡ Ok false → AreIdle core.new.system.state clients.new 65 }
+    ensures idle { result ≡ Ok false → AreIdle core.new.system.state clients.new (length clients.new) }
 {
     let mut went_on = false;
-    for number in 1..=MAX_CLIENT {
-        let moved = make_turn(clients, number, core, setting)?;
+    for client in clients.iter_mut() {
+        let moved = turn(client, core, setting)?;
         went_on = went_on || moved;
     }
     Ok(went_on)
@@ -174,8 +142,7 @@ fn transcripts_of(
 }
 
 /// Runs the blocks of several clients, at most 64 with numbers from 1 to 64 that differ, until each is done: by turns, one
-/// step of each client by ascending number, though no order is promised. It hands out the core and the transcripts, in the
-/// order of the blocks. With `precheck` an operation that goes on with a call first compares its region's codeword with
+/// step of each client, in no order that is promised. It hands out the core and the transcripts, in the order of the blocks. With `precheck` an operation that goes on with a call first compares its region's codeword with
 /// the words. The gate is told of each operation of a call behind its last update.
 ///
 /// A call whose lock a younger transaction holds waits. Where an older one holds it the transaction is taken back, and tried

@@ -1,9 +1,9 @@
 //! Blocks, read from their text, and whether a round may run them.
-ghost use Rattle.std.specs.Prelude.{◌≡◌, false, true, map, IfSome};
+ghost use Rattle.std.specs.Prelude.{◌≡◌, ◌∷◌, [], false, true, map, IfSome};
 ghost use Rattle.dali_record.specs.Spelling.{IsCall};
 ghost use Rattle.dali_transcripts.specs.Rounds.{IsPlaced, AreBlocks};
 ghost use Rattle.dali_clients.specs.Told.{act_of, told_of};
-ghost use Rattle.dali_round_tests.specs.Placing.{Leads};
+ghost use Rattle.dali_round_tests.specs.Placing.{Leads, IsBlock};
 
 use anyhow::Result;
 use dali_record::Call;
@@ -164,4 +164,24 @@ pub fn are_blocks(blocks: &[Block]) -> bool
         last = block.client;
     }
     true
+}
+
+// Whether a round may run this block.
+fn is_block(block: &Block) -> bool
+    ensures { result ≡ true → IsBlock (told_of block.now) }
+{
+    if block.client == 0 || block.client > 64 {
+        return false;
+    }
+    is_placed(&block.commands)
+}
+
+/// Whether a round may run these two blocks, in this order.
+pub fn may_be_beside(first: &Block, second: &Block) -> bool
+    ensures { result ≡ true → AreBlocks (told_of first.now ∷ told_of second.now ∷ []) }
+{
+    if !is_block(first) || !is_block(second) {
+        return false;
+    }
+    first.client != second.client
 }

@@ -2,53 +2,85 @@
 ghost use Rattle.std.specs.Prelude.{◌≡◌, IfOk, IfSome};
 ghost use Rattle.dali_whole.specs.Cores.{HoldsPlaces};
 
-use crate::blocks::{are_blocks, block, words_of};
+use crate::blocks::{are_blocks, block, may_be_beside, words_of};
 use crate::tables::{
     CHECKPOINTS, CONFLICTS, DEATHS, FAULTS, FULL_LOGS, ONE_CLIENT, POKES_AND_AUDITS,
 };
 use crate::texts::text_of;
 use anyhow::{Context, Result};
 use dali_geometry::Geometry;
-use dali_memstore::{Fuse, MemoryStore};
+use dali_memstore::{CallKind, Fuse, Hook, MemoryStore, Watch};
 use dali_restart::{Report, format, restart};
 use dali_round::{Block, Gate, OpenGate, RoundEnd, Transcript, round};
-use dali_store::Store;
+use dali_store::{FileName, Store};
 use dali_whole::Core;
 use std::alloc::Global;
 use std::cell::Cell;
 use std::process::Abort;
 
-// A gate that counts what passes it, and keeps the last one.
+// A gate that writes down what it is told.
 #[derive(Drop)]
-struct Counting {
-    passed: Cell<u32>,
-    last: Cell<(u32, u32)>,
+struct Recorder {
+    alloc: Global,
+    told: Cell<Vec<(u32, u32)>>,
 }
 
-impl Gate for Counting {
+impl Gate for Recorder {
     fn pass(&self, client: u32, point: u32) {
-        self.passed.set(self.passed.get().saturating_add(1));
-        self.last.set((client, point));
+        let mut told = self.told.replace(Vec::new(self.alloc));
+        let _noted = told.push((client, point)); // where memory is refused, the test fails
+        self.told.set(told);
     }
 }
 
-fn new_gate() -> Counting {
-    Counting {
-        passed: Cell::new(0),
-        last: Cell::new((0, 0)),
+impl Recorder {
+    fn new(alloc: Global) -> Self {
+        Recorder {
+            alloc,
+            told: Cell::new(Vec::new(alloc)),
+        }
+    }
+
+    // The points that it was told of for this client.
+    fn points_of(self, client: u32) -> Result<Vec<u32>> {
+        let mut points = Vec::new(self.alloc);
+        for (operator, point) in self.told.into_inner() {
+            if operator == client {
+                points.push(point)?;
+            }
+        }
+        Ok(points)
     }
 }
 
-// The calls that a format makes.
-const BEFORE: u64 = 12;
+// Counts the calls of a store.
+#[derive(Drop)]
+struct Counter<'a> {
+    calls: &'a Cell<u64>,
+}
 
-// A store that passes so many calls on behind a format.
-fn store_of(alloc: Global, passes: Option<u64>) -> Fuse<MemoryStore> {
-    let passes = match passes {
-        Some(passes) => Some(passes.saturating_add(BEFORE)),
-        None => None,
-    };
-    Fuse::new(MemoryStore::new(alloc, Vec::new(alloc)), passes)
+impl<'a> Hook for Counter<'a> {
+    fn called(&self, _kind: CallKind, _file: Option<FileName>, _at: u64, _length: u64) {
+        self.calls.set(self.calls.get().saturating_add(1));
+    }
+}
+
+// How many calls a format makes.
+fn calls_of_a_format(alloc: Global, sizes: (u32, u32), limit: u64) -> Result<u64> {
+    let calls = Cell::new(0);
+    let store = MemoryStore::new(alloc, Vec::new(alloc));
+    let _core = core_of(
+        alloc,
+        Watch::new(store, Counter { calls: &calls }),
+        sizes,
+        limit,
+    )?;
+    Ok(calls.get())
+}
+
+// A store in memory that never fails.
+fn whole_store(alloc: Global) -> Fuse<MemoryStore> {
+    Fuse::new(MemoryStore::new(alloc, Vec::new(alloc)), None)
 }
 
 // The core of a new database of so many index and heap regions.
@@ -224,7 +256,7 @@ fn check_all(rt: &impl Abort, alloc: Global, rows: &str) -> Result<()> {
             check(
                 rt,
                 alloc,
-                store_of(alloc, None),
+                whole_store(alloc),
                 read_header(alloc, head)?,
                 rounds,
             )?;
@@ -271,7 +303,7 @@ fn as_many_as_may_be(alloc: Global) -> Result<(String, String)> {
 fn sixty_four_clients(rt: HostRuntime) -> Result<()> {
     let alloc = rt.alloc();
     let (texts, wanted) = as_many_as_may_be(alloc)?;
-    let said = said_in(alloc, store_of(alloc, None), (7, 13), 1_000_000, &texts)?;
+    let said = said_in(alloc, whole_store(alloc), (7, 13), 1_000_000, &texts)?;
     assert_eq!(rt; said.as_str(), wanted.as_str());
     Ok(())
 }
@@ -305,7 +337,7 @@ fn lines_that_end(said: &str, end: &str) -> usize {
 fn each_audit_beside_inserts_is_clean(rt: HostRuntime) -> Result<()> {
     let alloc = rt.alloc();
     let texts = inserts_beside_audits(alloc, 200, 20)?;
-    let said = said_in(alloc, store_of(alloc, None), (20, 70), 1_000_000, &texts)?;
+    let said = said_in(alloc, whole_store(alloc), (20, 70), 1_000_000, &texts)?;
     assert_eq!(rt;
         (
             lines_that_end(&said, " insert ok"),
@@ -367,7 +399,7 @@ fn rounds_go_on_behind_a_restart(rt: HostRuntime) -> Result<()> {
     let alloc = rt.alloc();
     let (report, said) = said_behind_a_restart(
         alloc,
-        store_of(alloc, None),
+        whole_store(alloc),
         "begin / insert 4 abc / commit / begin / insert 5 xyz / commit / checkpoint / poke 3 11 0100000000000000 / begin / get 4 / insert 6 qq / commit / begin / update 5 y / commit / begin / get 6 / commit / audit",
         "begin / get 4 / get 5 / commit | begin / get 6",
     )?;
@@ -391,7 +423,7 @@ fn a_death_in_each_operation(rt: HostRuntime) -> Result<()> {
         ("get 5", 2),
     ] {
         for operation in 1..=operations {
-            let (died, said) = said_at_a_death(alloc, store_of(alloc, None), call, operation)?;
+            let (died, said) = said_at_a_death(alloc, whole_store(alloc), call, operation)?;
             assert_eq!(rt;
                 (died.as_str(), said.as_str()),
                 (
@@ -415,20 +447,22 @@ fn checkpoints(rt: HostRuntime) -> Result<()> {
     check_all(&rt, rt.alloc(), CHECKPOINTS)
 }
 
-// What is said where so many calls pass, from one number on and below another.
-fn check_passes(rt: &impl Abort, alloc: Global, passes: &str, round: &str) -> Result<()> {
+// What is said where so many calls pass behind a format, from one number on and below another.
+fn check_passes(
+    rt: &impl Abort,
+    alloc: Global,
+    before: u64,
+    passes: &str,
+    round: &str,
+) -> Result<()> {
     let (from, below) = parted(passes.trim(), ' ');
     let (texts, wanted) = parted(round, '=');
     let from: u64 = from.parse()?;
     let below: u64 = below.parse()?;
     for passes in from..below {
-        let said = said_in(
-            alloc,
-            store_of(alloc, Some(passes)),
-            (1, 1),
-            1_000_000,
-            texts,
-        )?;
+        let store = MemoryStore::new(alloc, Vec::new(alloc));
+        let store = Fuse::new(store, Some(before.saturating_add(passes)));
+        let said = said_in(alloc, store, (1, 1), 1_000_000, texts)?;
         assert_eq!(rt; said.as_str(), wanted.trim(), "{passes}");
     }
     Ok(())
@@ -437,10 +471,11 @@ fn check_passes(rt: &impl Abort, alloc: Global, passes: &str, round: &str) -> Re
 // A store that fails at each of its calls in turn.
 #[test]
 fn faults(rt: HostRuntime) -> Result<()> {
+    let before = calls_of_a_format(rt.alloc(), (1, 1), 1_000_000)?;
     for row in FAULTS.lines() {
         if !row.starts_with('#') {
             let (passes, round) = parted(row, ';');
-            check_passes(&rt, rt.alloc(), passes, round)?;
+            check_passes(&rt, rt.alloc(), before, passes, round)?;
         }
     }
     Ok(())
@@ -459,7 +494,7 @@ fn fourteen_transactions_fill_the_log(rt: HostRuntime) -> Result<()> {
         text.push_str(&format!(in alloc; "begin / insert {key} abc / commit / ")?)?;
     }
     text.push_str("begin / insert 99 z / commit / poke 9 0 1")?;
-    let said = said_in(alloc, store_of(alloc, None), (1, 2), 4096, &text)?;
+    let said = said_in(alloc, whole_store(alloc), (1, 2), 4096, &text)?;
     assert!(rt;
         said.ends_with(
             " / 1 begin 13 / 1 insert ok / 1 commit ok / 1 begin 14 / 1 insert log full 4073 4096 / 1 commit ok / 1 begin log full 4148 4096 / 1 poke out of range"
@@ -505,7 +540,7 @@ fn lines_of_the_second<V: Store + Drop>(
 fn the_thousandth_try_is_the_last(rt: HostRuntime) -> Result<()> {
     let alloc = rt.alloc();
     let texts = shared_in_turn(alloc)?;
-    let (lines, said) = lines_of_the_second(alloc, store_of(alloc, None), &texts)?;
+    let (lines, said) = lines_of_the_second(alloc, whole_store(alloc), &texts)?;
     assert_eq!(rt;
         (
             lines,
@@ -521,6 +556,15 @@ fn the_thousandth_try_is_the_last(rt: HostRuntime) -> Result<()> {
     Ok(())
 }
 
+// The numbers from 1 to this one.
+fn counted_to(alloc: Global, last: u32) -> Result<Vec<u32>> {
+    let mut numbers = Vec::new(alloc);
+    for number in 1..=last {
+        numbers.push(number)?;
+    }
+    Ok(numbers)
+}
+
 #[test]
 fn the_gate_is_told_of_each_operation(rt: HostRuntime) -> Result<()> {
     let alloc = rt.alloc();
@@ -532,13 +576,67 @@ fn the_gate_is_told_of_each_operation(rt: HostRuntime) -> Result<()> {
         // what an abort takes back isn't
         ("begin / insert 5 a / abort", 3),
     ] {
-        let core = core_of(alloc, store_of(alloc, None), (1, 1), 1_000_000)?;
-        let gate = new_gate();
+        let core = core_of(alloc, whole_store(alloc), (1, 1), 1_000_000)?;
+        let gate = Recorder::new(alloc);
         let (_core, _transcripts) = done(alloc, core, false, text, &gate)?;
+        let points = gate.points_of(1)?;
         assert_eq!(rt;
-            (gate.passed.get(), gate.last.get()),
-            (passed, (1, passed)),
+            points.as_slice(),
+            counted_to(alloc, passed)?.as_slice(),
             "{text}"
+        );
+    }
+    Ok(())
+}
+
+// What the clients of two blocks say that stand in this order, and the points that a gate is told of for one of them.
+fn said_beside<V: Store + Drop>(
+    alloc: Global,
+    store: V,
+    first: Block,
+    second: Block,
+    client: u32,
+) -> Result<(Vec<Transcript>, Vec<u32>)> {
+    let core = core_of(alloc, store, (1, 1), 1_000_000)?;
+    if !may_be_beside(&first, &second) {
+        anyhow::bail!("no blocks");
+    }
+    let gate = Recorder::new(alloc);
+    let (_core, transcripts, end) = round(alloc, core, &[first, second], false, &gate);
+    if end != RoundEnd::Done {
+        anyhow::bail!("the round ended early");
+    }
+    Ok((transcripts, gate.points_of(client)?))
+}
+
+// The block with the greater number stands first: each client goes through its own, and the gate counts each one's operations
+// by themselves.
+#[test]
+fn blocks_stand_in_any_order(rt: HostRuntime) -> Result<()> {
+    let alloc = rt.alloc();
+    for (client, operations) in [(9, 5), (4, 3), (1, 0)] {
+        let (transcripts, points) = said_beside(
+            alloc,
+            whole_store(alloc),
+            // three of the insert, and two of the get
+            block(alloc, 9, "begin / insert 5 a / get 5 / commit")?,
+            block(alloc, 4, "begin / insert 6 b / commit")?,
+            client,
+        )?;
+        assert_eq!(rt;
+            points.as_slice(),
+            counted_to(alloc, operations)?.as_slice(),
+            "{client}"
+        );
+        let said = text_of(alloc, &transcripts)?;
+        assert!(rt; said.starts_with("4 begin "), "{said}");
+        assert!(rt;
+            said.contains(" / 4 insert ok / 4 commit ok / 9 begin "),
+            "{said}"
+        );
+        assert!(rt;
+            said.ends_with(" / 9 insert ok / 9 got a / 9 commit ok"),
+            "{said}"
         );
     }
     Ok(())

@@ -1,9 +1,9 @@
--- A run that reads a script whose gate is found comes to its end.
-use Rattle.std.proofs.Common.{◌≡◌, ◌≤◌, ◌<◌, ℕ, ◌+◌, zero, suc, Bool, true, false, List, [], ◌∷◌, ◌++◌, Option, Some, None, length, take, refl, sym, ◌∙◌, ap, subst, arith}
+-- A failure of the store that ends a run shows in its count, and a run that reads a script whose gate is found comes to its end.
+use Rattle.std.proofs.Common.{◌≡◌, ◌≤◌, ◌<◌, ℕ, ◌+◌, zero, suc, Bool, true, false, List, [], ◌∷◌, ◌++◌, Option, Some, None, length, take, refl, sym, ◌∙◌, ap, subst, inl, inr, arith}
 use Rattle.std.specs.Prelude.{IfSome, is_some}
 use Rattle.std.specs.List.{AllByRecursion}
 use Rattle.dali_batch.specs.Batch.{IsUnformatted}
-use Rattle.dali_memstore.specs.Fuse.{inner}
+use Rattle.dali_memstore.specs.Fuse.{inner, passes_of}
 use Rattle.dali_memstore.specs.declared.fuse.Fuse.{Fuse}
 use Rattle.dali_record.specs.declared.records.Record.{Record}
 use Rattle.dali_restart.specs.Formatted.{first_record}
@@ -13,6 +13,7 @@ use Rattle.dali_script.specs.Grammar.{IsSpelled, IsWrong}
 use Rattle.dali_script.specs.Scripts.{BeginsOnce, begins}
 use Rattle.dali_script.proofs.Outcomes.{never_both, one_script}
 use Rattle.dali_script.proofs.RightScripts.{right_script}
+use Rattle.dali_store.specs.Faults.{Rose}
 use Rattle.dali_store.specs.Store.{Files as Disk}
 use Rattle.dali_streams.specs.Streams.{ReadAll, ReadTooMany}
 use Rattle.dali_run.specs.declared.halt.Halt.{Halt}
@@ -21,13 +22,14 @@ use Rattle.dali_run.specs.declared.program.Program.{Program}
 use Rattle.dali_run.specs.declared.program.Program.TheVariants.{Up, Down}
 use Rattle.dali_run.specs.declared.status.Status.{Status}
 use Rattle.dali_run.specs.declared.status.Status.TheVariants.{Done, BadWords, BadScript, TooLong, ReadFault, WriteFault, StoreFault, BadStore, Unformatted, Formatted, OutOfMemory, LogFull}
-use Rattle.dali_run.specs.Complete.{FindsItsGate, IsRead, MayEnd, RunsComplete}
+use Rattle.dali_run.specs.Complete.{FaultRises, FindsItsGate, IsRead, MayEnd, NoneRises, RunsComplete, StoreFaultsRise}
 use Rattle.dali_run.specs.Ends.{Course, HasEnded, HasStopped, Spells, SpellsNone}
 use Rattle.dali_run.specs.Fails.{IsSize, Opens}
 use Rattle.dali_run.specs.Program.{IsDown, store_of}
 use Rattle.dali_run.specs.Run.{HasRun}
 use Rattle.dali_run.specs.Survives.{BeginsWith, IsHonest, IsOwn, StopIsHonest, NoneEscapeThere}
 use Rattle.dali_run.specs.Told.{sizes_of}
+use Rattle.dali_run.proofs.Failing.{fault_rises}
 use Rattle.dali_run.proofs.Surviving.{begins_down, grows, made_some, none_yet, own_same, own_store, runs_survive, there}
 
 -- ---- what was read
@@ -38,6 +40,11 @@ same_bytes None bytes read rest is all_read = absurd cc
 too_many : (o : Option (List ℕ)) (bytes : List ℕ) (limit : ℕ) (rest : Option (List ℕ)) → o ≡ Some bytes → length bytes ≤ limit → ReadTooMany o limit rest → ⊥
 too_many (Some all) bytes limit rest is short many = let same : all ≡ bytes = cc is in omega (arith, ap length same, short, many.0)
 too_many None bytes limit rest is short many = absurd cc
+
+-- ---- a count that rose before
+risen_on : (a n b : ℕ) → Rose a n → n ≤ b → Rose a b
+risen_on a n b (inl more) later = inl (omega (arith, more, later))
+risen_on a n b (inr end) later = inr (omega (arith, end, later))
 
 -- ---- only the first command makes or opens a database
 at_place : (xs : List Command) (n : ℕ) (x : Command) → AllByRecursion (λ (c : Command). begins c ≡ false) xs → take (suc n) xs ≡ take n xs ++ x ∷ [] → begins x ≡ false
@@ -82,6 +89,9 @@ module _ {V : Type 0} (told : V → Option Disk) (may_leave : V → Disk → Typ
   -- before the first command the store is the one that was handed in
   at_first : (start : V) (script : List Command) (text : List ℕ) (new : Program V) → HasRun told may_leave moment left_since faults limit cuts precheck start script 0 text new → inner (store_of new) ≡ start
   at_first start script text new run = ap (λ (p : Program V). inner (store_of p)) (run.runs.1 ∙ run.down.down) ∙ run.down.store_is
+
+  unfused_at_first : (start : V) (script : List Command) (text : List ℕ) (new : Program V) → HasRun told may_leave moment left_since faults limit cuts precheck start script 0 text new → passes_of (store_of new) ≡ None
+  unfused_at_first start script text new run = ap (λ (p : Program V). passes_of (store_of p)) (run.runs.1 ∙ run.down.down) ∙ run.down.unfused.passes
 
   is_no_database : (o : Option Disk) → is_some o ≡ true → IfSome o (λ fs. IsUnformatted fs.log) → IfSome o (λ fs. IsUnformatted fs.log → ⊥) → ⊥
   is_no_database None tells none some = absurd cc
@@ -130,6 +140,25 @@ module _ {V : Type 0} (told : V → Option Disk) (may_leave : V → Disk → Typ
         (made_some told may_leave moment left_since faults reads_now counts_now limit cuts precheck index heap (take n later) base run.first text state run.runs a honest) empty (omega arith)
     never_unformatted _ n x text state once gate next is run honest none = gate
 
+    -- a database is made by the first command, before which no fuse is set
+    unfused : (script : List Command) (n : ℕ) (x : Command) (text : List ℕ) (state : Program V) → BeginsOnce script → take (n + 1) script ≡ take n script ++ x ∷ []
+        → HasRun told may_leave moment left_since faults limit cuts precheck c.store script n text state → IsSize x → passes_of (store_of state) ≡ None
+    unfused script n x text state once next run is =
+        let more : n + 1 ≡ suc n = omega arith in
+        let zero_is : n ≡ 0 = size_is_first script n x once (subst (λ (m : ℕ). take m script ≡ take n script ++ x ∷ []) more next) is in
+        unfused_at_first c.store script text state (subst (λ (m : ℕ). HasRun told may_leave moment left_since faults limit cuts precheck c.store script m text state) zero_is run)
+
+    pub store_rises : (e : HasEnded told may_leave moment left_since faults limit cuts precheck words c StoreFault)
+        → IsHonest told may_leave moment left_since faults limit cuts precheck words c e.mid e.count StoreFault e.ended
+        → FaultRises told may_leave moment left_since faults limit cuts precheck words c e.mid e.count e.ended.1
+    store_rises e honest =
+        let stopped : HasStopped told may_leave moment left_since faults limit cuts precheck words halts.StoreFault c e.mid = e.ended.1 in
+        let stops = stopped.2 in
+        let once = (right_script stopped.1.bytes stopped.0 stopped.1.spelled).once in
+        let gone = there told may_leave moment left_since faults reads_now counts_now limit cuts precheck base c.store stopped.0 stops.count stops.text stops.state stops.run own honest.0 in
+        fault_rises told may_leave moment left_since faults precheck stops.command gone.log stops.state stops.last gone.point
+        (λ is. unfused stopped.0 stops.count stops.command stops.text stops.state once stops.next.next stops.run is) stops.fails
+
     script_is : (s script : List Command) → IsRead words c script → Spells c.left s c.left' → s ≡ script
     script_is s script read spells =
         one_script read.bytes s script
@@ -138,29 +167,30 @@ module _ {V : Type 0} (told : V → Option Disk) (may_leave : V → Disk → Typ
     pub may_end : (status : Status) (script : List Command) → IsRead words c script → FindsItsGate told base script c.store
         → (e : HasEnded told may_leave moment left_since faults limit cuts precheck words c status)
         → IsHonest told may_leave moment left_since faults limit cuts precheck words c e.mid e.count status e.ended
+        → NoneRises told may_leave moment left_since faults limit cuts precheck words c e.mid e.count status e.ended
         → MayEnd status
-    may_end Done script read gate e honest = tt
-    may_end OutOfMemory script read gate e honest = tt
-    may_end ReadFault script read gate e honest = tt
-    may_end WriteFault script read gate e honest = tt
-    may_end StoreFault script read gate e honest = tt
-    may_end BadWords script read gate e honest = e.ended.0 read.words_are
-    may_end (BadScript line kind) script read gate e honest =
+    may_end Done script read gate e honest calm = tt
+    may_end OutOfMemory script read gate e honest calm = tt
+    may_end ReadFault script read gate e honest calm = absurd (calm.source e.ended.1)
+    may_end WriteFault script read gate e honest calm = absurd (calm.sink (risen_on c.write_faults e.count c.write_faults' e.ended.1 e.later))
+    may_end StoreFault script read gate e honest calm = absurd (calm.store (store_rises e honest))
+    may_end BadWords script read gate e honest calm = e.ended.0 read.words_are
+    may_end (BadScript line kind) script read gate e honest calm =
         let none : SpellsNone c.left line kind c.left' = e.ended.1 in
         never_both read.bytes script line kind read.spelled
         (subst (λ (b : List ℕ). IsWrong b line kind) (same_bytes c.left read.bytes none.bytes c.left' read.left none.all) none.wrong)
-    may_end TooLong script read gate e honest = too_many c.left read.bytes 1048576 c.left' read.left read.short e.ended.1
-    may_end (BadStore file at) script read gate e honest =
+    may_end TooLong script read gate e honest calm = too_many c.left read.bytes 1048576 c.left' read.left read.short e.ended.1
+    may_end (BadStore file at) script read gate e honest calm =
         runs_survive told may_leave moment left_since faults reads_now counts_now limit cuts precheck words c (BadStore file at) base own e honest
-    may_end (LogFull end most) script read gate e honest = e.ended
-    may_end Formatted script read gate e honest =
+    may_end (LogFull end most) script read gate e honest calm = e.ended
+    may_end Formatted script read gate e honest calm =
         let stopped : HasStopped told may_leave moment left_since faults limit cuts precheck words halts.Formatted c e.mid = e.ended.1 in
         let same = script_is stopped.0 script read stopped.1 in
         let stops = stopped.2 in
         never_formatted stopped.0 stops.count stops.command stops.text stops.state
         (subst BeginsOnce (sym same) (right_script read.bytes script read.spelled).once)
         (subst (λ (s : List Command). FindsItsGate told base s c.store) (sym same) gate) stops.next.next stops.fails.0 stops.run stops.fails.1
-    may_end Unformatted script read gate e honest =
+    may_end Unformatted script read gate e honest calm =
         let stopped : HasStopped told may_leave moment left_since faults limit cuts precheck words halts.Unformatted c e.mid = e.ended.1 in
         let same = script_is stopped.0 script read stopped.1 in
         let stops = stopped.2 in
@@ -168,5 +198,8 @@ module _ {V : Type 0} (told : V → Option Disk) (may_leave : V → Disk → Typ
         (subst BeginsOnce (sym same) (right_script read.bytes script read.spelled).once)
         (subst (λ (s : List Command). FindsItsGate told base s c.store) (sym same) gate) stops.next.next stops.fails.0 stops.run honest.0 stops.fails.1
 
+  pub store_faults_rise : StoreFaultsRise told may_leave moment left_since faults limit cuts precheck
+  store_faults_rise words c base own e honest = store_rises words c base own e honest
+
   pub runs_complete : RunsComplete told may_leave moment left_since faults limit cuts precheck
-  runs_complete words c status base script own read gate e honest = may_end words c base own status script read gate e honest
+  runs_complete words c status base script own read gate e honest calm = may_end words c base own status script read gate e honest calm

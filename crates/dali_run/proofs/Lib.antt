@@ -15,4 +15,6 @@ pub mod Surviving
 mod Cleaned
 mod Cleanings
 mod Unpoked
+mod Failing
 mod Completing
+mod Straying

@@ -2,18 +2,27 @@
 --     FindsItsGate base script s   the first command finds what it asks for: to make one, a store without a database; to open one, a database, which base
 --                                  begins
 --     IsRead c words script        the words are `run` alone, and the source has the bytes of a script
---     MayEnd status                a run to its end; memory was refused; or a source, a sink or a store failed, whose count rose then
---     RunsComplete                 so ends each run that reads a script whose gate is found, over files of this program
-use Rattle.std.specs.Prelude.{◌≡◌, ◌<◌, ◌≤◌, ℕ, Bool, List, [], ◌∷◌, Option, Some, IfSome, length}
+--     OwnRose old f                the store's own count of faults rose, or it and the calls that the fuse failed come to their type's end together
+--     FaultRises                   so it is in the command that ended a run with a failure of the store
+--     StoreFaultsRise              of each run over files of this program
+--     NoneRises                    no count rose: the source's, the sink's, and the store's in the command that ended the run
+--     MayEnd status                a run to its end, or memory was refused
+--     RunsComplete                 so ends each run that reads a script whose gate is found, over files of this program, where no count rises
+use Rattle.std.specs.Prelude.{◌≡◌, ◌⊎◌, ◌<◌, ◌≤◌, ℕ, ◌+◌, ◌^◌, Bool, List, [], ◌∷◌, Option, Some, IfSome, length}
 use Rattle.dali_batch.specs.Batch.{IsUnformatted}
+use Rattle.dali_memstore.specs.Fuse.{inner}
+use Rattle.dali_memstore.specs.declared.fuse.Fuse.{Fuse}
 use Rattle.dali_record.specs.declared.records.Record.{Record}
 use Rattle.dali_script.specs.declared.commands.Command.{Command}
 use Rattle.dali_script.specs.declared.commands.Command.TheVariants.{Size, Open}
 use Rattle.dali_script.specs.Grammar.{IsSpelled}
+use Rattle.dali_store.specs.Faults.{Rose}
 use Rattle.dali_store.specs.Store.{Files}
+use Rattle.dali_run.specs.declared.halt.Halt.TheVariants as halts
 use Rattle.dali_run.specs.declared.status.Status.{Status}
-use Rattle.dali_run.specs.declared.status.Status.TheVariants.{Done, ReadFault, WriteFault, StoreFault, OutOfMemory}
-use Rattle.dali_run.specs.Ends.{Course, HasEnded, IsRun}
+use Rattle.dali_run.specs.declared.status.Status.TheVariants.{Done, StoreFault, OutOfMemory}
+use Rattle.dali_run.specs.Ends.{Course, Ended, HasEnded, HasStopped, IsRun}
+use Rattle.dali_run.specs.Program.{faults_in, store_of}
 use Rattle.dali_run.specs.Survives.{IsHonest, IsOwn}
 
 pub record IsRead {V : Type 0} (words : List (List ℕ)) (c : Course V) (script : List Command) : Type 0 where
@@ -26,9 +35,6 @@ pub record IsRead {V : Type 0} (words : List (List ℕ)) (c : Course V) (script 
 abbrev pub MayEnd : Status → Type 0
 MayEnd Done = Unit {0}
 MayEnd OutOfMemory = Unit {0}
-MayEnd ReadFault = Unit {0}
-MayEnd WriteFault = Unit {0}
-MayEnd StoreFault = Unit {0}
 MayEnd _ = ⊥
 
 module _ {V : Type 0} (told : V → Option Files) where
@@ -37,11 +43,37 @@ module _ {V : Type 0} (told : V → Option Files) where
   FindsItsGate base (Open ∷ later) s = 0 < length base
   FindsItsGate base _ s = ⊥
 
+module _ {V : Type 0} (faults : V → ℕ) where
+  abbrev pub OwnRose : Fuse V → Fuse V → Type 0
+  OwnRose old f = (faults (inner old) < faults (inner f)) ⊎ (2 ^ 64 ≤ faults_in faults f + 1)
+
 module _ {V : Type 0} (told : V → Option Files) (may_leave : V → Files → Type 0) (moment : V → ℕ) (left_since : V → ℕ → Files → Type 0) (faults : V → ℕ) (limit : ℕ) (cuts : V → ℕ → Option Files) (precheck : Bool) where
+  module _ (words : List (List ℕ)) (c : Course V) (mid : Option (List ℕ)) (count : ℕ) where
+    abbrev pub FaultRises : HasStopped told may_leave moment left_since faults limit cuts precheck words halts.StoreFault c mid → Type 0
+    FaultRises stopped = let stops = stopped.2 in OwnRose faults (store_of stops.state) stops.last
+
+    -- of the store nothing is asked where no failure of it ended the run
+    abbrev pub StoreIsCalm : (status : Status) → Ended told may_leave moment left_since faults limit cuts precheck words c mid count status → Type 0
+    StoreIsCalm StoreFault ended = FaultRises ended.1 → ⊥
+    StoreIsCalm _ ended = Unit {0}
+
+    pub record NoneRises (status : Status) (ended : Ended told may_leave moment left_since faults limit cuts precheck words c mid count status) : Type 0 where
+      pub source : Rose c.read_faults c.read_faults' → ⊥
+      pub sink : Rose c.write_faults c.write_faults' → ⊥
+      pub store : StoreIsCalm status ended
+
+  abbrev pub StoreFaultsRise : Type 0
+  StoreFaultsRise =
+      (words : List (List ℕ)) (c : Course V) (base : List Record) → IsOwn told may_leave base c.store
+      → (e : HasEnded told may_leave moment left_since faults limit cuts precheck words c StoreFault)
+      → IsHonest told may_leave moment left_since faults limit cuts precheck words c e.mid e.count StoreFault e.ended
+      → FaultRises words c e.mid e.count e.ended.1
+
   abbrev pub RunsComplete : Type 0
   RunsComplete =
       (words : List (List ℕ)) (c : Course V) (status : Status) (base : List Record) (script : List Command)
       → IsOwn told may_leave base c.store → IsRead words c script → FindsItsGate told base script c.store
       → (e : HasEnded told may_leave moment left_since faults limit cuts precheck words c status)
       → IsHonest told may_leave moment left_since faults limit cuts precheck words c e.mid e.count status e.ended
+      → NoneRises words c e.mid e.count status e.ended
       → MayEnd status

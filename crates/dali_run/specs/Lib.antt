@@ -6,6 +6,7 @@ pub mod Program
 pub mod Run
 pub mod Steps
 pub mod Stops
+pub mod Strays
 pub mod Survives
 pub mod Texts
 pub mod Told

@@ -44,3 +44,4 @@ pub use commands::{Block, Blocks, ClientCommand, ClientCommands, Command, Script
 pub use faults::{Kind, ScriptError};
 pub use names::Name;
 pub use parser::parse;
+pub use texts::number;

@@ -10,7 +10,8 @@ const MASK_DIGITS: usize = 16;
 
 const VALUE_BYTES: usize = 40;
 
-/// One to twenty digits that spell a number below 2^64.
+/// The number below 2^64 that one to twenty ASCII digits spell, where leading zeros count as digits. None for any other
+/// text. Takes no memory.
 pub fn number(text: &[u8]) -> Option<u64>
     ensures { result ≡ number_of text.now }
 {

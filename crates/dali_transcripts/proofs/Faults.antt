@@ -6,6 +6,7 @@ use Rattle.std.specs.Ordering.{nat_cmp}
 use Rattle.dali_att.specs.Table.{fresh_row}
 use Rattle.dali_att.proofs.Changes.{get-added}
 use Rattle.std.proofs.lemmas.Bool.{ne_eqb}
+use Rattle.std.proofs.lemmas.List.{append-nil}
 use Rattle.dali_counts.proofs.Lists.{some_same}
 use Rattle.dali_record.specs.declared.records.Record.TheVariants.{Forward, Ended, AuditClean}
 use Rattle.dali_region.specs.State.{RegionState, IsLive, loaded}
@@ -61,6 +62,7 @@ so_1 = record {
             refl,
           ),
           tt,
+          λ e us. append-nil us,
         ),
         (refl, (omega arith, (inl refl, tt)), refl),
       ),

@@ -303,7 +303,7 @@ module _ (v w : World) (g : Grows v w) where
   has_cause c (Skips s act rest) h = tt
   has_cause c (Rests t act rest) h = tt
   has_cause c (Answers t tries cs d xs n call a rest) h = (works c t call xs h.0, h.1)
-  has_cause c (IsRefusedCall t tries cs d s xs n ys call why rest) h = (all_tried c t call xs h.0, (met c n (Calls call) (Some t) why h.1.0, survives c n t call d (operations t xs) why h.1.0 h.1.1), asides c t ys h.2)
+  has_cause c (IsRefusedCall t tries cs d s xs n ys call why rest) h = (all_tried c t call xs h.0, (met c n (Calls call) (Some t) why h.1.0, survives c n t call d (operations t xs) why h.1.0 h.1.1), asides c t ys h.2, h.3)
   has_cause c (Dies t tries cs d xs n r call rest) h = (works c t call xs h.0, h.1, dies c n t r call h.2)
   has_cause c (IsArmed t tries cs d s count rest) h = tt
   has_cause c (GivesWay t tries cs d xs call f ys end rest) h = (askings c t call xs h.0, busy c t call f h.1, asides c t ys h.2, end_is c t call end h.3, h.4)

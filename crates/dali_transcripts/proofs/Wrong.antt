@@ -1,30 +1,36 @@
 -- Wrong transcripts: none of these is one.
-use Rattle.std.proofs.Common.{◌≡◌, ℕ, zero, suc, ◌+◌, ◌≤◌, Bool, true, false, List, [], ◌∷◌, ◌++◌, Option, Some, None, ap, sym, subst, ◌∙◌, inl, inr, ⊎_elim, ◌⊎◌, arith}
-use Rattle.std.specs.Prelude.{◌==◌, Contains, bit_xor, filter_map, slice_get, sum_by, take, drop}
+use Rattle.std.proofs.Common.{◌≡◌, ℕ, zero, suc, ◌+◌, ◌≤◌, Bool, true, false, List, [], ◌∷◌, ◌++◌, Option, Some, None, ap, refl, sym, subst, ◌∙◌, inl, inr, ⊎_elim, ◌⊎◌, arith}
+use Rattle.std.specs.Prelude.{◌==◌, if◌then◌else◌, Contains, bit_xor, filter_map, slice_get, sum_by, take, drop}
 use Rattle.std.specs.Int.Bits.{xor_assoc, xor_self, xor_zero_l, xor_zero_r}
 use Rattle.std.proofs.lemmas.List.{append_assoc, append-nil, take-append-drop}
 use Rattle.std.proofs.lemmas.List.Elements.{filter_map-append}
 use Rattle.std.proofs.lemmas.List.Sums.{sum_by-append}
 use Rattle.dali_counts.proofs.Lists.{self, some_same}
+use Rattle.dali_record.specs.declared.operations.Block.{Block}
+use Rattle.dali_record.specs.declared.operations.Pending.{Pending}
+use Rattle.dali_record.specs.declared.operations.Undo.TheVariants.{FreeCell as UndoCell}
 use Rattle.dali_record.specs.declared.records.Call.{Call}
 use Rattle.dali_record.specs.declared.records.Record.{Record}
-use Rattle.dali_record.specs.declared.records.Record.TheVariants.{Begin, Ended}
+use Rattle.dali_record.specs.declared.records.Record.TheVariants.{Begin, Forward, Ended}
 use Rattle.dali_system.specs.declared.causes.Cause.{Cause}
 use Rattle.dali_system.specs.declared.causes.Cause.TheVariants.{Damage}
 use Rattle.dali_system.specs.Run.{damage_in, failed_first}
 use Rattle.dali_region.specs.State.{RegionState}
 use Rattle.dali_system.specs.State.{CoreState, state_of, stable}
 use Rattle.dali_system.specs.Steps.{audit_record}
-use Rattle.dali_transcripts.specs.Words.{Act, Calls, Commits as CommitAct, Checkpoints as CheckpointAct, Why, StoppedBy, Full, Damaged, UnderWay, Said, CommitOk, CheckpointSaid, Aborted, LeftOpen, Died, Busy, Refused}
+use Rattle.dali_transcripts.specs.Words.{Act, Calls, Commits as CommitAct, Checkpoints as CheckpointAct, Why, StoppedBy, Full, Damaged, UnderWay, Said, CommitOk, CheckpointSaid, Aborted, LeftOpen, Died, Busy, Refused, is_stop}
 use Rattle.dali_record.specs.Epochs.{last_epoch}
 use Rattle.dali_record.specs.Spelling.{record_length}
+use Rattle.dali_record.specs.Blocks.{pending}
+use Rattle.dali_record.specs.Log.{undo_added, drop_last}
 use Rattle.dali_transcripts.specs.World.{Deed, Logs, Claims, GivesBack, Yields, MovesAnchor, Meets, Happening, World, record_of, logged_by, log_of, log_at, HasDone, state_after, state_at, is_dead_in, has_failed, cause_of, stop_at, stray_after, refused_by}
-use Rattle.dali_transcripts.specs.Moves.{Receipt}
-use Rattle.dali_transcripts.specs.Causes.{IsDamaged, MetCause, IsRight, AreRightFrom, AreRight}
+use Rattle.dali_transcripts.specs.Moves.{Receipt, Ending, TakenBack, LeftBehind, Move, Begins, BeginsAgain, IsRefusedBegin, Skips, Rests, Answers, IsRefusedCall, Dies, IsArmed, GivesWay, GivesUp, Commits, CommitFails, IsRefusedCommit, Aborts, IsRefusedAbort, Ends, StaysOpen, Pokes, PokesNothing, Audits, IsRefusedAudit, Checkpoints, FailsCheckpoint, IsRefusedCheckpoint, said as says, own as does}
+use Rattle.dali_transcripts.specs.Causes.{IsDamaged, MetCause, IsRight, AreRightFrom, AreRight, IsTried, AreTried, undos_behind, HasCause}
 use Rattle.dali_transcripts.specs.Transcripts.{IsTranscript, line_told, lines_of_records}
 use Rattle.dali_transcripts.specs.Table.{Tells, TellsRefused}
 use Rattle.dali_transcripts.specs.Rounds.{AreAnchors, VerdictsTell}
 use Rattle.dali_transcripts.specs.Laws.{behind_died}
+use Rattle.dali_transcripts.specs.Worked.{put, free_cell}
 use Rattle.dali_transcripts.specs.Wrong.{RunsThroughout, WrongOnes}
 use Rattle.dali_transcripts.proofs.Lists.{all_get}
 use Rattle.dali_transcripts.proofs.Lines.{lines_tell}
@@ -124,6 +130,55 @@ named : (w : World) (i b c r : ℕ) (found : List ℕ) (g : RegionState) → Ver
 named w i b c r found g told e was clean has =
     let at = told i b c found e r g was in (at.3.0 has) (clean at.0)
 
+-- the operation of a step is one of the transaction of its call
+of_txn : (w : World) (c u : ℕ) (call : Call) (xs : List Receipt) (k : ℕ) (why : Why) (ys : List Receipt) (t n : ℕ) (b : Block) (more : List Receipt)
+    → xs ++ (k, Meets why) ∷ ys ≡ (n, Logs (Forward t b)) ∷ more → AreTried w c u call xs → t ≡ u
+of_txn w c u call [] k why ys t n b more e h =
+    let first : (k, Meets why) ≡ (n, Logs (Forward t b)) = cc in
+    let other : Meets why ≡ Logs (Forward t b) = ap (λ (z : Receipt). z.1) first in absurd (cc)
+of_txn w c u call (z ∷ zs) k why ys t n b more e h = let first : z ≡ (n, Logs (Forward t b)) = cc in (subst (IsTried w c u call) first h.0).0
+
+-- an insert that nothing takes back
+kept : (w : World) (c : ℕ) (x : Move) (call : Call) (t n m end limit : ℕ) → says x ≡ Refused (Calls call) (Full end limit) ∷ []
+    → does x ≡ (n, Logs (Forward t (put 97 0))) ∷ (m, Meets (Full end limit)) ∷ [] → HasCause w c x → ⊥
+kept w c (IsRefusedCall u tries cs d s xs k ys other why rest) call t n m end limit e is h =
+    let full : why ≡ Full end limit = cc in
+    let own : t ≡ u = of_txn w c u other xs k why ys t n (put 97 0) ((m, Meets (Full end limit)) ∷ []) is h.0 in
+    let back : undos_behind u [] (xs ++ (k, Meets why) ∷ ys) ≡ [] = h.3 (ap is_stop full) [] in
+    let left : (if t == u then pending (put 97 0) (UndoCell 1) ∷ [] else []) ≡ [] = subst (λ rs. undos_behind u [] rs ≡ []) is back in
+    let same : (t == u) ≡ true = ap (λ z. t == z) (sym own) ∙ self t in
+    let some : pending (put 97 0) (UndoCell 1) ∷ [] ≡ [] = subst (λ (z : Bool). (if z then pending (put 97 0) (UndoCell 1) ∷ [] else []) ≡ []) same left in
+    absurd (cc)
+kept w c (Begins u k rest) call t n m end limit e is h = absurd (cc)
+kept w c (BeginsAgain u k tries held rest) call t n m end limit e is h = absurd (cc)
+kept w c (IsRefusedBegin place s k why rest) call t n m end limit e is h = absurd (cc)
+kept w c (Skips s act rest) call t n m end limit e is h = absurd (cc)
+kept w c (Rests u act rest) call t n m end limit e is h = absurd (cc)
+kept w c (Answers u tries cs d xs k other a rest) call t n m end limit e is h = absurd (cc)
+kept w c (Dies u tries cs d xs k r other rest) call t n m end limit e is h = absurd (cc)
+kept w c (IsArmed u tries cs d s count rest) call t n m end limit e is h = absurd (cc)
+kept w c (GivesWay u tries cs d xs other f ys (TakenBack k) rest) call t n m end limit e is h = absurd (cc)
+kept w c (GivesWay u tries cs d xs other f ys (LeftBehind k z) rest) call t n m end limit e is h = absurd (cc)
+kept w c (GivesUp u tries cs d xs other f ys ending rest) call t n m end limit e is h = absurd (cc)
+kept w c (Commits u tries cs d k xs rest) call t n m end limit e is h = absurd (cc)
+kept w c (CommitFails u tries cs d k i why rest) call t n m end limit e is h = absurd (cc)
+kept w c (IsRefusedCommit u tries cs d s k why rest) call t n m end limit e is h = absurd (cc)
+kept w c (Aborts u tries cs d xs k rest) call t n m end limit e is h = absurd (cc)
+kept w c (IsRefusedAbort u tries cs d s xs k why rest) call t n m end limit e is h = absurd (cc)
+kept w c (Ends u tries cs d xs k) call t n m end limit e is h = absurd (cc)
+kept w c (StaysOpen u tries cs d s xs k z) call t n m end limit e is h = absurd (cc)
+kept w c (Pokes s k r word i rest) call t n m end limit e is h = absurd (cc)
+kept w c (PokesNothing s r word i rest) call t n m end limit e is h = absurd (cc)
+kept w c (Audits b k rs failed rest) call t n m end limit e is h = absurd (cc)
+kept w c (IsRefusedAudit s xs k why rest) call t n m end limit e is h = absurd (cc)
+kept w c (Checkpoints since b k i until current rest) call t n m end limit e is h = absurd (cc)
+kept w c (FailsCheckpoint since b k until r rs failed rest) call t n m end limit e is h = absurd (cc)
+kept w c (IsRefusedCheckpoint s span late xs k why rest) call t n m end limit e is h = absurd (cc)
+
+-- what was there before is taken back too
+more_back : (t : ℕ) (p : Pending) → (if t == t then [] else p ∷ []) ≡ p ∷ [] → ⊥
+more_back t p e = let none : [] ≡ p ∷ [] = subst (λ (z : Bool). (if z then [] else p ∷ []) ≡ p ∷ []) (self t) e in absurd (cc)
+
 pub wrong_ones : WrongOnes
 wrong_ones = record {
   another_number = λ w c acts said says transcript. let e = agree w c acts said _ _ says transcript in absurd (cc);
@@ -171,6 +226,8 @@ wrong_ones = record {
   never_met = λ act end limit did w c acts said says transcript.
       let told = full_met w c did act end limit (tells w c acts said did _ transcript says.1) in
       no_place w c told.1 (Full end limit) says.0 told.2.met;
+  refused_and_kept = λ call t n m end limit w c x e is h. kept w c x call t n m end limit e is h;
+  refused_and_more = λ w c t tries n m end limit call cs rest h. more_back t (pending (put 97 0) (UndoCell 1)) (h.3 refl (pending (put 97 0) (UndoCell 1) ∷ []));
   said_after_death = λ first later line did w c acts said says transcript.
       died_behind first line later (ap behind_died (sym says) ∙ nothing_after_died w c acts said did transcript);
   dropped = λ w b told. absurd told;

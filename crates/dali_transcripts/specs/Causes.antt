@@ -12,6 +12,8 @@
 --     IsAside w c t x          such a deed, or a taking back of t
 --     IsAsking w c t call x    such a deed, or a request for the lock of the call that finds a dead holder
 --     IsWork w c t call x      such a deed, or an operation of the call
+--     undos_behind t us xs     what is left to take back of t behind these deeds, which was us before them
+--     KeepsNothing t why xs    a call that was refused, by no stop, leaves t as it was: all that these deeds changed is taken back
 --     IsBehind w c t x         a deed of a commit behind its Commit
 --     IsCutAudit w later xs    an audit that was cut short
 --     spares d count           the client doesn't die in so many operations
@@ -22,13 +24,14 @@
 --     AreRight w               each deed of the round has what it asks for at its place
 --     AreUnfinished w c place rest xs  the deeds of a step that the end of the round cut short
 --     HasCause w c x           what must be so for the step x of client c
-use Rattle.std.specs.Prelude.{◌≡◌, ℕ, ◌+◌, ◌<◌, ◌⊎◌, Bool, true, false, List, [], ◌∷◌, ◌++◌, Option, Some, None, bit_xor, length, nat_lt, slice_get, sum_by, take, ◌==◌, ◌≤◌}
+use Rattle.std.specs.Prelude.{◌≡◌, ℕ, ◌+◌, ◌<◌, ◌⊎◌, Bool, true, false, List, [], ◌∷◌, ◌++◌, Option, Some, None, bit_xor, fold, length, nat_lt, slice_get, sum_by, take, ◌==◌, ◌≤◌}
 use Rattle.std.specs.List.{AllByRecursion}
 use Rattle.dali_geometry.specs.Sizes.{Sizes}
 use Rattle.dali_geometry.specs.Places.{regions}
 use Rattle.dali_record.specs.declared.operations.Block.{Block}
 use Rattle.dali_record.specs.declared.operations.Op.{Op}
 use Rattle.dali_record.specs.declared.operations.Op.TheVariants.{Look, Add, KillEntry, Put, Read, Change, KillCell}
+use Rattle.dali_record.specs.declared.operations.Pending.{Pending}
 use Rattle.dali_record.specs.declared.records.Call.{Call}
 use Rattle.dali_record.specs.declared.records.Call.TheVariants.{Insert, Update, Delete, Get}
 use Rattle.dali_record.specs.declared.records.Answer.{Answer}
@@ -37,12 +40,13 @@ use Rattle.dali_record.specs.declared.records.Record.TheVariants.{Begin, Forward
 use Rattle.dali_record.specs.Blocks.{AreWords, made}
 use Rattle.dali_record.specs.Spelling.{record_length, CanBeSpelled}
 use Rattle.dali_record.specs.Locks.{IsLockLegal}
+use Rattle.dali_record.specs.Log.{undo_step}
 use Rattle.dali_region.specs.State.{RegionState}
 use Rattle.dali_att.specs.declared.state.State.TheVariants.{Cleaning}
 use Rattle.dali_system.specs.declared.causes.Cause.{Cause}
 use Rattle.dali_system.specs.declared.refusals.Refusal.{Refusal}
 use Rattle.dali_system.specs.Keeps.{IsNext}
-use Rattle.dali_transcripts.specs.Words.{Act, Begins as BeginAct, Calls, Arms, Commits as CommitAct, Aborts as AbortAct, Pokes as PokeAct, Audits as AuditAct, Checkpoints as CheckpointAct, Why, StoppedBy, Full, Damaged, StoreFailed, UnderWay, key_of, mode_of}
+use Rattle.dali_transcripts.specs.Words.{Act, Begins as BeginAct, Calls, Arms, Commits as CommitAct, Aborts as AbortAct, Pokes as PokeAct, Audits as AuditAct, Checkpoints as CheckpointAct, Why, StoppedBy, Full, Damaged, StoreFailed, UnderWay, is_stop, key_of, mode_of}
 use Rattle.dali_transcripts.specs.World.{Deed, Logs, DiesOn, Claims, GivesBack, Yields, FindsDead, StartsCheckpoint, MovesAnchor, EndsCheckpoint, Meets, Happening, World, log_at, IsFlushed, IsLost, IsUncommitted, HasDone, state_at, is_dead_in, is_claimed_in, claimer_at, HasEndedBy, has_failed, failed_at, stop_at, stray_after, under_way}
 use Rattle.dali_transcripts.specs.Moves.{Receipt, Place, Outside, Within, Again, Ending, TakenBack, LeftBehind, Move, Begins, BeginsAgain, IsRefusedBegin, Skips, Rests, Answers, IsRefusedCall, Dies, IsArmed, GivesWay, GivesUp, Commits, CommitFails, IsRefusedCommit, Aborts, IsRefusedAbort, Ends, StaysOpen, Pokes, PokesNothing, Audits, IsRefusedAudit, Checkpoints, FailsCheckpoint, IsRefusedCheckpoint, operations}
 
@@ -218,6 +222,17 @@ IsTried w c t call x = IsWork w c t call x
 abbrev pub AreTried : World → ℕ → ℕ → Call → List Receipt → Type 0
 AreTried w c t call xs = AllByRecursion (IsTried w c t call) xs
 
+-- whatever there was to take back of t before these deeds, it is so behind them; where the engine is stopped nothing is taken back any more
+abbrev pub undos_by : ℕ → List Pending → Receipt → List Pending
+undos_by t us (n, Logs x) = undo_step t us x
+undos_by t us x = us
+
+abbrev pub undos_behind : ℕ → List Pending → List Receipt → List Pending
+undos_behind t us xs = fold (undos_by t) us xs
+
+abbrev pub KeepsNothing : ℕ → Why → List Receipt → Type 0
+KeepsNothing t why xs = is_stop why ≡ false → (us : List Pending) → undos_behind t us xs ≡ us
+
 -- a solo of t, or its Ended; or a clean-up; or its own flush fails, where that of another client had its Commit
 abbrev pub IsBehind : World → (client txn : ℕ) → Receipt → Type 0
 IsBehind w c t (n, Meets StoreFailed) = Unit {0}
@@ -375,7 +390,7 @@ HasCause w c (Skips s act rest) = Unit {0}
 HasCause w c (Rests t act rest) = Unit {0}
 HasCause w c (Answers t tries cs d work n call a rest) = AreWork w c t call work × (spares d (operations t work) ≡ true)
 HasCause w c (IsRefusedCall t tries cs d s work n back call why rest) =
-    AreTried w c t call work × ((met : MetCause w c n (Calls call) (Some t) why) × Survives w c n t call d (operations t work) why met) × AreAside w c t back
+    AreTried w c t call work × ((met : MetCause w c n (Calls call) (Some t) why) × Survives w c n t call d (operations t work) why met) × AreAside w c t back × KeepsNothing t why (work ++ (n, Meets why) ∷ back)
 HasCause w c (Dies t tries cs d work n r call rest) = AreWork w c t call work × (operations t work + 1 ≡ d) × DiesIn w c n t r call
 HasCause w c (IsArmed t tries cs d s count rest) = Unit {0}
 HasCause w c (GivesWay t tries cs d work call f back end rest) = AreAsking w c t call work × GetsBusy w c t call f × AreAside w c t back × IsEnd w c t call end × (tries + 1 < 1000)

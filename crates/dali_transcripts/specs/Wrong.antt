@@ -3,7 +3,7 @@ use Rattle.std.specs.Prelude.{◌≡◌, ◌≢◌, ℕ, ◌<◌, ◌≤◌, Boo
 use Rattle.dali_record.specs.declared.records.Call.{Call}
 use Rattle.dali_record.specs.declared.records.Answer.TheVariants.{Ok as AnswerOk, Exists}
 use Rattle.dali_record.specs.declared.records.Record.{Record}
-use Rattle.dali_record.specs.declared.records.Record.TheVariants.{Begin, Done, Commit, AuditBegin, AuditClean}
+use Rattle.dali_record.specs.declared.records.Record.TheVariants.{Begin, Forward, Back, Done, Commit, AuditBegin, AuditClean}
 use Rattle.dali_region.specs.State.{RegionState, IsLive}
 use Rattle.dali_system.specs.declared.causes.Cause.{Cause}
 use Rattle.dali_system.specs.declared.causes.Cause.TheVariants.{Damage}
@@ -14,11 +14,12 @@ use Rattle.dali_system.specs.Steps.{audit_record}
 use Rattle.dali_transcripts.specs.Words.{Act, Calls, Checkpoints, StoppedBy, Full, Damaged, UnderWay, Said, Begun, Answered, CommitOk, Aborted, LeftOpen, Died, Busy, CheckpointSaid, Refused}
 use Rattle.dali_record.specs.Epochs.{last_epoch}
 use Rattle.dali_record.specs.Spelling.{record_length}
-use Rattle.dali_transcripts.specs.World.{Logs, Claims, GivesBack, Yields, World, log_of, log_at, state_at, is_dead_in, is_claimed_in, claimer_at, failed_at, stop_at, stray_after, under_way}
-use Rattle.dali_transcripts.specs.Moves.{Receipt}
+use Rattle.dali_transcripts.specs.World.{Logs, Meets, Claims, GivesBack, Yields, World, log_of, log_at, state_at, is_dead_in, is_claimed_in, claimer_at, failed_at, stop_at, stray_after, under_way}
+use Rattle.dali_transcripts.specs.Moves.{Receipt, Move, IsRefusedCall, said as says, own as does}
+use Rattle.dali_transcripts.specs.Causes.{HasCause}
 use Rattle.dali_transcripts.specs.Transcripts.{IsTranscript, Told, EachTells, AreTranscripts}
 use Rattle.dali_transcripts.specs.Rounds.{IsRound}
-use Rattle.dali_transcripts.specs.Worked.{world}
+use Rattle.dali_transcripts.specs.Worked.{put, free_cell, world}
 
 -- whatever the world is, and whatever the client was told
 abbrev pub Never : (World → List Said → Type 0) → List Receipt → Type 0
@@ -26,6 +27,10 @@ Never lines did = (w : World) (c : ℕ) (acts : List Act) (said : List Said) →
 
 abbrev pub Says : List Said → World → List Said → Type 0
 Says lines w said = said ≡ lines
+
+-- whatever the step is, and the world in which it is done
+abbrev pub NoStep : List Said → List Receipt → Type 0
+NoStep lines did = (w : World) (c : ℕ) (x : Move) → says x ≡ lines → does x ≡ did → HasCause w c x → ⊥
 
 -- the stray writes to the region cancel at each moment
 abbrev pub IsCleanSoFar : World → ℕ → Type 0
@@ -83,6 +88,11 @@ pub record WrongOnes : Type 0 where
   pub not_moved : (k b n m : ℕ) → Never (λ w said. Contains said (CheckpointSaid k)) ((b, Logs AuditBegin) ∷ (n, Logs (AuditClean m)) ∷ [])
   -- a refusal that never happened
   pub never_met : (act : Act) (end limit : ℕ) (did : List Receipt) → Never (λ w said. (w.happened ≡ []) × Contains said (Refused act (Full end limit))) did
+  -- a call that was refused by a full log, and keeps its insert; or takes back one that was there before it
+  pub refused_and_kept : (call : Call) (t n m end limit : ℕ)
+      → NoStep (Refused (Calls call) (Full end limit) ∷ []) ((n, Logs (Forward t (put 97 0))) ∷ (m, Meets (Full end limit)) ∷ [])
+  pub refused_and_more : (w : World) (c t tries n m end limit : ℕ) (call : Call) (cs rest : List Act)
+      → HasCause w c (IsRefusedCall t tries cs None false [] m ((n, Logs (Back t free_cell)) ∷ []) call (Full end limit) rest) → ⊥
   -- a line after a death
   pub said_after_death : (first later : List Said) (line : Said) (did : List Receipt) → Never (Says (first ++ Died ∷ line ∷ later)) did
   -- a client that nothing is said of

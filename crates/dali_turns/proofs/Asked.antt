@@ -39,6 +39,7 @@ use Rattle.dali_turns.specs.Stood.{IsQuiet, Stood}
 use Rattle.dali_turns.specs.Within.{AreSoFar, FitsWithin, FitsCalling}
 use Rattle.dali_turns.specs.Fits.{rest_of, IsOf, Owns, Fits}
 use Rattle.dali_turns.specs.Goes.{RowsTell, Went}
+use Rattle.dali_turns.proofs.Undoing.{undone_still}
 use Rattle.dali_turns.proofs.Doing.{Did, did_quietly, behind, went_on}
 use Rattle.dali_turns.proofs.Walking.{point_behind}
 
@@ -65,7 +66,7 @@ left_none (Some d) = ap Some (omega arith)
 module _ {V : Type 0} (told : V → Option Disk) (may_leave : V → Disk → Type 0) (faults : V → ℕ)
     (precheck : Bool) (s : Start) (B : List (List Record)) (p : Point) (w : World) (a : Standing) (gs : List RegionState) (y z : SystemState) (v : Vaulted V) (k j : Client)
     (x : Transaction) (plan : Planned) (call : Call) (more : List Act) (stood : Stood told may_leave faults s B p w precheck gs y v) (is : IsOf w a k) (fits : FitsWithin p w a (rest_of k) x)
-    (next : rest_of k ≡ Calls call ∷ more) (of_txn : plan.txn ≡ x.txn) (of_call : plan.call ≡ call) (calling : plan.phase ≡ IsCalling)
+    (next : rest_of k ≡ Calls call ∷ more) (of_txn : plan.txn ≡ x.txn) (of_call : plan.call ≡ call) (calling : plan.phase ≡ IsCalling) (fresh : plan.changes ≡ [])
     (asked : IsAsked Granted p.log p.core plan (core p.core.regions z p.core.vault)) (system : z ≡ granted y plan.txn (call_key plan.call) (mode_of plan.call)) (runs : y.stop ≡ None) where
   abbrev q : Point
   q = point_behind p (Locks plan.txn (call_key plan.call) (mode_of plan.call)) p.log (core p.core.regions z p.core.vault)
@@ -117,6 +118,7 @@ module _ {V : Type 0} (told : V → Option Disk) (may_leave : V → Disk → Typ
         deadly = x.deadly;
         spot = fits.spot ∙ (ap (λ b. at (IsWithin x.txn x.tries (map act_of x.commands.now) x.deadly b) (rest_of k)) unsaid ∙ ap (at (IsWithin x.txn x.tries (map act_of x.commands.now) x.deadly false)) (sym same_rest));
         work = works_of (after w a.client [] q.core) a.client x.txn call (a.pending ++ []) now_asking;
+        undone = λ us. undone_still x.txn us us a.pending (fits.undone us) ∙ (sym (append-nil us) ∙ ap (λ l. us ++ l) (sym fresh));
         nearer = sym (ap (left x.deadly) (none_yet (after w a.client [] q.core) a.client x.txn call (a.pending ++ []) now_asking) ∙ left_none x.deadly);
         spared = ap (spares x.deadly) (none_yet (after w a.client [] q.core) a.client x.txn call (a.pending ++ []) now_asking) ∙ fits.due;
         placed = subst (IsPlaced true) (sym same_rest) fits.placed;

@@ -44,6 +44,7 @@ use Rattle.dali_turns.specs.Stood.{Stood}
 use Rattle.dali_turns.specs.Within.{AreSoFar, FitsWithin}
 use Rattle.dali_turns.specs.Fits.{rest_of, IsOf, Owns, Fits}
 use Rattle.dali_turns.specs.Goes.{RowsTell, Went}
+use Rattle.dali_turns.proofs.Undoing.{undone_still}
 use Rattle.dali_turns.proofs.Refusals.{HasCauseNow, met_now, right_now, stop_now}
 use Rattle.dali_turns.proofs.Doing.{Did, did_nothing, did_meet, behind, ended, went_on, went_by, went_silent, vault_stops}
 use Rattle.dali_turns.proofs.Calling.{behind_one, none_so_far}
@@ -108,6 +109,7 @@ module _ {V : Type 0} (told : V → Option Disk) (may_leave : V → Disk → Typ
         may = fits.may;
         spot = fits.spot ∙ ap (at (IsWithin x.txn x.tries (map act_of x.commands.now) x.deadly fits.said)) (sym same_rest);
         so_far = subst (λ rest. AreSoFar still a.client x.txn rest (a.pending ++ [])) (sym (same_rest ∙ next)) still_asking;
+        undone = λ us. undone_still x.txn us us a.pending (fits.undone us);
         placed = subst (IsPlaced true) (sym same_rest) fits.placed;
         again = fits.again;
         due = fits.due;
@@ -137,6 +139,7 @@ module _ {V : Type 0} (told : V → Option Disk) (may_leave : V → Disk → Typ
       all_tried_of now a.client x.txn call a.pending (works_of now a.client x.txn call a.pending (askings w now did_stop.goes.grows a.client x.txn call a.pending asking)),
       (met_now w a.client p.core (Calls call) (Some x.txn) (StoppedBy stop) here, ap (spares x.deadly) (none_yet w a.client x.txn call a.pending asking) ∙ fits.due),
       tt,
+      λ e. absurd (cc),
     )
 
     stopped_behind : (rest : List Act) → rest ≡ more → FitsWithin p now (ended a move) rest x
@@ -146,6 +149,7 @@ module _ {V : Type 0} (told : V → Option Disk) (may_leave : V → Disk → Typ
       spot = ap (λ d. at (IsWithin x.txn x.tries (map act_of x.commands.now) d (fits.said || true)) more) (ap (left x.deadly) (none_yet w a.client x.txn call a.pending asking) ∙ left_none x.deadly)
           ∙ ap (at (IsWithin x.txn x.tries (map act_of x.commands.now) x.deadly (fits.said || true))) (sym same);
       so_far = none_so_far now a.client x.txn rest;
+      undone = λ us. refl;
       placed = subst (IsPlaced true) (sym same) (subst (IsPlaced true) next fits.placed).1;
       again = fits.again;
       due = fits.due;
@@ -179,7 +183,7 @@ module _ {V : Type 0} (told : V → Option Disk) (may_leave : V → Disk → Typ
   pub grants_on : (z : SystemState) → (asks : (L : List Record) (rs : List RegionState) (o : VaultState) → IsNew (new_plan y.sizes x.txn call) → IsAtRest rs y (new_plan y.sizes x.txn call) → MayCall L (core rs y o) x.txn → IsAsked Granted L (core rs y o) (new_plan y.sizes x.txn call) (core rs z o))
       → z ≡ granted y x.txn (call_key call) (mode_of call) → y.stop ≡ None → Stays k (Calling x (new_plan y.sizes x.txn call)) j → Went told may_leave faults precheck s B p w a (Within x) gs y v true j gs z v
   grants_on z asks system runs f =
-      granted_on told may_leave faults precheck s B p w a gs y z v k j x (new_plan y.sizes x.txn call) call more stood is fits next refl refl refl
+      granted_on told may_leave faults precheck s B p w a gs y z v k j x (new_plan y.sizes x.txn call) call more stood is fits next refl refl refl refl
       (subst (λ (c : CoreState). IsAsked Granted p.log c (new_plan y.sizes x.txn call) (core p.core.regions z p.core.vault)) core_there
       (asks p.log p.core.regions p.core.vault refl rest_now (subst (λ (c : CoreState). MayCall p.log c x.txn) (sym core_there) (fits.may_call (ap (λ (m : SystemState). m.stop) stood.stands.at.system ∙ runs)))))
       system runs f

@@ -39,7 +39,7 @@ use Rattle.dali_clients.specs.Told.{act_of, reason_of}
 use Rattle.dali_transcripts.specs.Words.{Act, Begins as BeginAct, Calls, Why as Reason, StoppedBy, Full, is_stop, Said, Begun as SaidBegun}
 use Rattle.dali_transcripts.specs.World.{Deed, Logs, Meets, World, log_of, is_claimed_in, HasEndedBy}
 use Rattle.dali_transcripts.specs.Moves.{Receipt, Place, Outside as IsOutside, Within as IsWithin, Again, LeftOut as IsLeftOut, Move, Begins, BeginsAgain, IsRefusedBegin, from, to, own, said, at}
-use Rattle.dali_transcripts.specs.Causes.{MayBegin, WaitsNoMore, HasCause, spares}
+use Rattle.dali_transcripts.specs.Causes.{MayBegin, WaitsNoMore, HasCause, spares, undos_behind}
 use Rattle.dali_transcripts.specs.Rounds.{Standing, IsPlaced}
 use Rattle.dali_deeds.specs.Tells.{after}
 use Rattle.dali_deeds.specs.Laws.{IsNoFault}
@@ -177,6 +177,7 @@ module _ {V : Type 0} (told : V → Option Disk) (may_leave : V → Disk → Typ
           ∙ (ap (λ (d : Option ℕ). at (IsWithin x.txn x.tries (map act_of x.commands.now) d false) (behind_next k)) (sym deadly)
           ∙ ap (at (IsWithin x.txn x.tries (map act_of x.commands.now) x.deadly false)) (sym rest_is))));
       so_far = subst (λ (xs : List Receipt). AreSoFar (after w a.client (Logs (BeginRecord p.core.system.next) ∷ []) q.core) b.client x.txn (rest_of j) xs) (sym none) (none_so_far _ b.client x.txn (rest_of j));
+      undone = λ us. ap (undos_behind x.txn us) none;
       placed = subst (IsPlaced true) (sym rest_is) (subst (IsPlaced false) acts placed);
       again = record {
         more = behind_next k;

@@ -42,6 +42,7 @@ use Rattle.dali_turns.specs.Within.{AreSoFar, FitsWithin, FitsYielding}
 use Rattle.dali_turns.specs.Fits.{rest_of, IsOf, Owns}
 use Rattle.dali_turns.specs.Goes.{Went, StepGoes, YieldGoes}
 use Rattle.dali_turns.proofs.Commands.{next_act, behind_next}
+use Rattle.dali_turns.proofs.Undoing.{undone_on}
 use Rattle.dali_turns.proofs.Refusals.{runs_on_log, records_are, front, log_there, done_last, none_failed_there}
 use Rattle.dali_turns.proofs.Doing.{Did, did_quietly, did_went, still_ran, behind, so_far, vault_stops}
 use Rattle.dali_turns.proofs.Walking.{point_behind}
@@ -226,6 +227,7 @@ module _ {V : Type 0} (told : V → Option Disk) (may_leave : V → Disk → Typ
       spot = fits.spot;
       so_far = subst (λ rest. AreSoFar finds a.client x.txn rest (a.pending ++ (length (log_of w), FindsDead refusal) ∷ [])) (sym next)
           (all_append (IsAsking finds a.client x.txn call) a.pending ((length (log_of w), FindsDead refusal) ∷ []) (late (FindsDead refusal) (inr refl) find_right) (found, tt));
+      undone = λ us. undone_on x.txn us us a.pending ((length (log_of w), FindsDead refusal) ∷ []) (fits.undone us) (λ zs. refl);
       placed = fits.placed;
       again = fits.again;
       due = fits.due;

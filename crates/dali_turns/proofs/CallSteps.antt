@@ -152,10 +152,10 @@ module _ {V : Type 0} (told : V → Option Disk) (may_leave : V → Disk → Typ
         ended_said told may_leave faults precheck s B p w a gs y v k j x plan why stood is fits whole none
         (f (IsCall fits.call) (next_command told may_leave faults precheck s B p w a gs y v k j x plan why stood is fits))
 
-    pub ends_back_silently : (ok : Bool) → ok ≡ false → j.transcript ≡ k.transcript → StepGoes told may_leave faults precheck (TakingBack x plan why) k gs y v ok j gs y v
-    ends_back_silently ok no_line same s B p w a stood is fits =
+    pub ends_back_silently : (ok : Bool) → IsWhole plan → want_of plan ≡ Nothing → ok ≡ false → j.transcript ≡ k.transcript → StepGoes told may_leave faults precheck (TakingBack x plan why) k gs y v ok j gs y v
+    ends_back_silently ok whole none no_line same s B p w a stood is fits =
         subst (λ b. Went told may_leave faults precheck s B p w a (TakingBack x plan why) gs y v b j gs y v) (sym no_line)
-        (ended_unsaid told may_leave faults precheck s B p w a gs y v k j x plan why stood is fits same)
+        (ended_unsaid told may_leave faults precheck s B p w a gs y v k j x plan why stood is fits whole none same)
 
     pub goes_back : (hs : List RegionState) (z : SystemState) (q : Planned) → OneFurther precheck plan gs y q hs z → j.transcript ≡ k.transcript → j.rest.now ≡ k.rest.now → j.state ≡ TakingBack x q why
         → StepGoes told may_leave faults precheck (TakingBack x plan why) k gs y v true j hs z v

@@ -144,6 +144,7 @@ module _ {V : Type 0} (told : V → Option Disk) (may_leave : V → Disk → Typ
       may = λ e. absurd (cc);
       spot = ap (λ d. at (IsWithin x.txn x.tries (map act_of x.commands.now) d false) fits.more) (sym fits.nearer) ∙ ap (at (IsWithin x.txn x.tries (map act_of x.commands.now) x.deadly false)) (sym same);
       so_far = none_so_far _ a.client x.txn rest;
+      undone = λ us. refl;
       placed = subst (IsPlaced true) (sym same) (subst (IsPlaced true) fits.calls fits.placed).1;
       again = fits.again;
       due = ap (λ d. spares d 0) fits.nearer ∙ due_left fits.deadly (operations x.txn a.pending) fits.spared;

@@ -4,6 +4,7 @@ use Rattle.std.specs.Prelude.{◌==◌, if◌then◌else◌, slice_get}
 use Rattle.std.specs.List.{AllByRecursion, list_all}
 use Rattle.std.proofs.lemmas.List.{append_assoc, append_cancel_right, length-append, map-append}
 use Rattle.dali_counts.proofs.Lists.{equal, self}
+use Rattle.dali_record.specs.declared.operations.Pending.{Pending}
 use Rattle.dali_record.specs.declared.records.Call.{Call}
 use Rattle.dali_record.specs.declared.records.Record.{Record}
 use Rattle.dali_record.specs.declared.records.Record.TheVariants.{Ended}
@@ -31,7 +32,7 @@ use Rattle.dali_rounds.proofs.Cleaning.{clean_goes, left_goes}
 use Rattle.dali_transcripts.specs.Words.{Act, Calls}
 use Rattle.dali_transcripts.specs.World.{Deed, Logs, Claims as ClaimsTxn, GivesBack as GivesTxnBack, World, logged_by, log_of, claimed, is_dead_in, is_claimed_in, claimer_step, state_at, stop_at}
 use Rattle.dali_transcripts.specs.Moves.{Receipt, Within as IsWithin}
-use Rattle.dali_transcripts.specs.Causes.{LetsGo, IsAside, AreAside, IsUnfinished}
+use Rattle.dali_transcripts.specs.Causes.{LetsGo, IsAside, AreAside, IsUnfinished, undos_behind}
 use Rattle.dali_transcripts.specs.Laws.{receipts_from}
 use Rattle.dali_transcripts.specs.Rounds.{by}
 use Rattle.dali_transcripts.proofs.Lists.{all_map}
@@ -47,6 +48,7 @@ use Rattle.dali_turns.proofs.Beside.{is_out_of}
 use Rattle.dali_turns.proofs.Doing.{Did}
 use Rattle.dali_turns.proofs.Refusals.{done_last, stop_there}
 use Rattle.dali_turns.proofs.Sides.{At, InHand, Sided, AreBacks, HasNoDead, sided, one_goes, at_next, joined, state_here, claimer_here, state_then, claimer_then, receipts_then, after_both, course_split, courses_told, logged_is, backs_sides, asides_of}
+use Rattle.dali_turns.proofs.Undoing.{undone_on, undone_apart}
 use Rattle.dali_turns.proofs.Along.{end_out, out_both, did_calm}
 use Rattle.dali_turns.proofs.Closing.{unclaimed_then, settled_then}
 use Rattle.dali_turns.proofs.Aborting.{unfinished_call, asking_of}
@@ -88,6 +90,7 @@ module _ {V : Type 0} (told : V → Option Disk) (may_leave : V → Disk → Typ
     pub deeds : List Deed
     pub did : Did told may_leave faults precheck s B p w c state gs y v deeds B to hs z v
     pub aside : AreAside (after w c deeds to.core) c m (receipts_from (length (log_of w)) deeds)
+    pub still : (us : List Pending) → undos_behind m us (receipts_from (length (log_of w)) deeds) ≡ us
     pub leaves : (u : ℕ) → state_of y u ≡ Some Live → LeavesBe u p.log p.core to.log to.core
 
   -- memory was refused
@@ -264,6 +267,12 @@ module _ {V : Type 0} (told : V → Option Disk) (may_leave : V → Disk → Typ
             subst (λ rs. AreAside late c m rs) (sym receipts_all)
             (all_both (IsAside late c m) (receipts_from (length (log_of w)) first.ds) ((length (log_of between), one) ∷ []) (asides between late last_goes.grows c m (receipts_from (length (log_of w)) first.ds) front_aside) (side, tt))
 
+        undone_all : ((us : List Pending) → undos_behind m us ((length (log_of between), one) ∷ []) ≡ us) → (us : List Pending) → undos_behind m us (receipts_from (length (log_of w)) (first.ds ++ one ∷ [])) ≡ us
+        undone_all last us =
+            ap (undos_behind m us) receipts_all
+            ∙ undone_on m us us (receipts_from (length (log_of w)) first.ds) ((length (log_of between), one) ∷ [])
+            (undone_apart t m c (length (log_of w)) us first.ds not_own (subst (λ xs. AreBacks t xs) (sym (logged_is w c first.ds p mid records stood.tells first.at.tells mid_log)) backs)) last
+
         unfinished_all : (P : Receipt → Type 0) → ((r : Receipt) → IsAside late c m r → P r) → P (length (log_of between), one) → AllByRecursion P (receipts_from (length (log_of w)) (first.ds ++ one ∷ []))
         unfinished_all P more side =
             subst (λ rs. AllByRecursion P rs) (sym receipts_all)
@@ -295,6 +304,7 @@ module _ {V : Type 0} (told : V → Option Disk) (may_leave : V → Disk → Typ
                 claimed = ap is_claimed_in (state_here (between own hs z g others back undone records backs (Ends t) steps_are logged_there) c (Logs (Ended t)) g.to.core _ t side.at.tells) ∙ here.0;
                 own = claimer_here (between own hs z g others back undone records backs (Ends t) steps_are logged_there) c (Logs (Ended t)) g.to.core t ∙ here.1;
               }));
+          still = undone_all own hs z g others back undone records backs (Ends t) steps_are logged_there (Logs (Ended t)) refl (tt, tt) (λ us. refl);
           leaves = leaves_each own hs z g others back undone records backs (Ends t) steps_are;
         }
 
@@ -348,6 +358,7 @@ module _ {V : Type 0} (told : V → Option Disk) (may_leave : V → Disk → Typ
       did = did_gift;
       aside = asides_all own hs z g others back undone records backs (GivesBack t None) steps_are logged_mid gift refl right
           (subst (λ (n : World). IsAside n c m (length (log_of before_it), gift)) same_world (not_own, record { given = lets_go; why = inr (cause, stop_then) }));
+      still = undone_all own hs z g others back undone records backs (GivesBack t None) steps_are logged_mid gift refl right (λ us. refl);
       leaves = leaves_each own hs z g others back undone records backs (GivesBack t None) steps_are;
     }
       where

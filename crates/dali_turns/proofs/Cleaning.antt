@@ -40,6 +40,7 @@ use Rattle.dali_turns.specs.Fits.{rest_of, IsOf, Owns, Fits}
 use Rattle.dali_turns.specs.Goes.{RowsTell, Went, StepGoes}
 use Rattle.dali_turns.proofs.Doing.{did_went_live, still_ran, behind, so_far, went_on}
 use Rattle.dali_turns.proofs.CleanUps.{CleansUp, CleansHalf}
+use Rattle.dali_turns.proofs.Undoing.{undone_on}
 use Rattle.dali_turns.proofs.Reasons.{unfinished_one}
 use Rattle.dali_turns.proofs.Asked.{work_of}
 use Rattle.dali_turns.proofs.Turned.{asides_none, more_none}
@@ -96,6 +97,7 @@ module _ {V : Type 0} (told : V → Option Disk) (may_leave : V → Disk → Typ
         (all_append (IsAsking now a.client x.txn call) a.pending done
         (askings w now cleans.did.goes.grows a.client x.txn call a.pending (subst (λ rest. AreSoFar w a.client x.txn rest a.pending) next f.so_far))
         (all_map (IsAside now a.client x.txn) (IsAsking now a.client x.txn call) (aside_asking now a.client x.txn call) done cleans.aside));
+    undone = λ us. undone_on x.txn us us a.pending done (f.undone us) cleans.still;
     placed = f.placed;
     again = f.again;
     due = f.due;
@@ -129,6 +131,7 @@ module _ {V : Type 0} (told : V → Option Disk) (may_leave : V → Disk → Typ
     spot = f.spot;
     work = all_append (IsWork now a.client x.txn f.call) a.pending done (works w now cleans.did.goes.grows a.client x.txn f.call a.pending f.work)
         (all_map (IsAside now a.client x.txn) (IsWork now a.client x.txn f.call) (aside_work now a.client x.txn f.call) done cleans.aside);
+    undone = λ us. undone_on x.txn us (us ++ plan.changes) a.pending done (f.undone us) cleans.still;
     nearer = f.nearer ∙ sym (ap (left f.deadly) (none_more a.pending));
     spared = ap (spares f.deadly) (none_more a.pending) ∙ f.spared;
     placed = f.placed;
@@ -152,6 +155,7 @@ module _ {V : Type 0} (told : V → Option Disk) (may_leave : V → Disk → Typ
     survives = survives w now cleans.did.goes.grows a.client f.met x.txn f.call f.deadly (operations x.txn f.work) (reason_of why) f.cause f.survives;
     no_stop = f.no_stop;
     aside = all_append (IsAside now a.client x.txn) f.back done (asides w now cleans.did.goes.grows a.client x.txn f.back f.aside) cleans.aside;
+    undone = λ us. undone_on x.txn us (us ++ plan.changes) a.pending done (f.undone us) cleans.still;
     nearer = f.nearer;
     spared = f.spared;
     placed = f.placed;

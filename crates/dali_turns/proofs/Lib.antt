@@ -4,6 +4,7 @@ pub mod Here
 pub mod Flags
 pub mod Placed
 pub mod Putting
+pub mod Over
 pub mod Beside
 pub mod Quietly
 pub mod Doing
@@ -65,3 +66,4 @@ pub mod Closing
 pub mod CloseSteps
 pub mod CommitSteps
 pub mod Requests
+pub mod Undoing

@@ -10,11 +10,12 @@ use Rattle.dali_geometry.specs.Places.{is_place, region_at, cell_at}
 use Rattle.dali_record.specs.declared.operations.Block.{Block}
 use Rattle.dali_record.specs.declared.operations.Op.{Op}
 use Rattle.dali_record.specs.declared.operations.Op.TheVariants.{Look, Add, KillEntry}
+use Rattle.dali_record.specs.declared.operations.Pending.{Pending}
 use Rattle.dali_record.specs.declared.records.Call.{Call}
 use Rattle.dali_record.specs.declared.records.Call.TheVariants.{Insert, Update, Delete, Get}
 use Rattle.dali_record.specs.declared.records.Record.{Record}
 use Rattle.dali_record.specs.declared.records.Record.TheVariants.{Forward, Back}
-use Rattle.dali_record.specs.Log.{last_of}
+use Rattle.dali_record.specs.Log.{last_of, undo_step}
 use Rattle.dali_region.specs.State.{RegionState}
 use Rattle.dali_att.specs.declared.state.State.TheVariants.{Live}
 use Rattle.dali_calls.specs.declared.stage.Stage.{Stage}
@@ -35,7 +36,7 @@ use Rattle.dali_calls.specs.Steps.{call_key, next_op, answer_of, put_of, in_cell
 use Rattle.dali_transcripts.specs.Words.{Calls, key_of}
 use Rattle.dali_transcripts.specs.World.{Logs, Meets, World, log_of, is_claimed_in}
 use Rattle.dali_transcripts.specs.Moves.{Receipt, Within as IsWithin, at, is_operation, operations, left}
-use Rattle.dali_transcripts.specs.Causes.{IsOpOf, IsAside, IsWork, AreWork, spares}
+use Rattle.dali_transcripts.specs.Causes.{IsOpOf, IsAside, IsWork, AreWork, spares, undos_behind}
 use Rattle.dali_transcripts.specs.Rounds.{Standing, IsPlaced}
 use Rattle.dali_transcripts.proofs.Lists.{all_append}
 use Rattle.dali_transcripts.proofs.Growing.{works, asides, all_tried, met, survives}
@@ -54,6 +55,7 @@ use Rattle.dali_turns.specs.Stood.{IsQuiet, Stood}
 use Rattle.dali_turns.specs.Within.{IsAtCall, FitsCalling, FitsTakingBack}
 use Rattle.dali_turns.specs.Fits.{rest_of, IsOf, Owns, Fits}
 use Rattle.dali_turns.specs.Goes.{RowsTell, Went}
+use Rattle.dali_turns.proofs.Undoing.{undone_then, undone_once}
 use Rattle.dali_turns.proofs.Doing.{Did, behind, went_on}
 use Rattle.dali_turns.proofs.Walking.{Led, led, did_led}
 
@@ -243,6 +245,11 @@ module _ {V : Type 0} (told : V → Option Disk) (may_leave : V → Disk → Typ
   works_behind : AreWork here a.client x.txn fits.call (a.pending ++ (length (log_of w), Logs rec) ∷ [])
   works_behind = all_append (IsWork here a.client x.txn fits.call) a.pending ((length (log_of w), Logs rec) ∷ []) (works w here did.goes.grows a.client x.txn fits.call a.pending fits.work) (is_work (is_back plan) refl, tt)
 
+  undone_behind : (us : List Pending) → undos_behind x.txn us (a.pending ++ (length (log_of w), Logs rec) ∷ []) ≡ us ++ q.changes
+  undone_behind us =
+      undone_then x.txn us (us ++ plan.changes) a.pending ((length (log_of w), Logs rec) ∷ []) (fits.undone us)
+      ∙ subst (λ t. undo_step t (us ++ plan.changes) rec ≡ us ++ q.changes) fits.plan_is.txn (undone_once plan q further.block y z (is_back plan) refl further.is.of further.logged us)
+
   -- how near its death is
   nearer_behind : (back : Bool) → deadly_behind back x.deadly ≡ left fits.deadly (operations x.txn (a.pending ++ (length (log_of w), Logs (record_on back plan.txn further.block)) ∷ []))
   nearer_behind true = fits.nearer ∙ ap (left fits.deadly) (sym (subst (λ t. operations x.txn (a.pending ++ (length (log_of w), Logs (Back t further.block)) ∷ []) ≡ operations x.txn a.pending) (sym fits.plan_is.txn) (uncounted x.txn a.pending (length (log_of w)) further.block)))
@@ -280,6 +287,7 @@ module _ {V : Type 0} (told : V → Option Disk) (may_leave : V → Disk → Typ
             ∙ (ap (λ cs. at (IsWithin x'.txn x'.tries (map act_of cs) fits.deadly false) (rest_of k)) (sym f.commands)
             ∙ ap (at (IsWithin x'.txn x'.tries (map act_of x'.commands.now) fits.deadly false)) (sym same_rest))));
         work = subst (λ t. AreWork here a.client t fits.call (a.pending ++ (length (log_of w), Logs rec) ∷ [])) (sym f.txn) works_behind;
+        undone = λ us. ap (λ t. undos_behind t us (a.pending ++ (length (log_of w), Logs rec) ∷ [])) f.txn ∙ undone_behind us;
         nearer = f.deadly ∙ (nearer_behind (is_back plan) ∙ ap (λ t. left fits.deadly (operations t (a.pending ++ (length (log_of w), Logs rec) ∷ []))) (sym f.txn));
         spared = ap (λ t. spares fits.deadly (operations t (a.pending ++ (length (log_of w), Logs rec) ∷ []))) f.txn ∙ spared_behind (is_back plan) lives;
         placed = subst (IsPlaced true) (sym same_rest) fits.placed;
@@ -347,6 +355,9 @@ module _ {V : Type 0} (told : V → Option Disk) (may_leave : V → Disk → Typ
         survives = survives w there did_back.goes.grows a.client fits.met x.txn fits.call fits.deadly (operations x.txn fits.work) (reason_of why) fits.cause fits.survives;
         no_stop = fits.no_stop;
         aside = all_append (IsAside there a.client x.txn) fits.back ((length (log_of w), Logs back_rec) ∷ []) (asides w there did_back.goes.grows a.client x.txn fits.back fits.aside) (is_aside (is_back plan) back_now, tt);
+        undone = λ us.
+            undone_then x.txn us (us ++ plan.changes) a.pending ((length (log_of w), Logs back_rec) ∷ []) (fits.undone us)
+            ∙ subst (λ t. undo_step t (us ++ plan.changes) back_rec ≡ us ++ q.changes) fits.plan_is.txn (undone_once plan q further.block y z (is_back plan) refl further.is.of further.logged us);
         nearer = fits.nearer;
         spared = fits.spared;
         placed = subst (IsPlaced true) (sym same_rest) fits.placed;

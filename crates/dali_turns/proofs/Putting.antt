@@ -54,7 +54,7 @@ asked_put y k j x call r X waits none =
     (record { stays = why.0; reason = inr (why.2, (call, why.3)) }, why.1)
 
 -- ---- the receipts are put back, and nothing was logged
-same_transcript : (t : Transcribed) (n : ℕ) → logged t n n ≡ t
+pub same_transcript : (t : Transcribed) (n : ℕ) → logged t n n ≡ t
 same_transcript t n = let none : n - n ≡ 0 = omega arith in ap (λ l. record t { receipts = l }) (ap (λ k. t.receipts ++ range_with_len n k) none ∙ append-nil t.receipts)
 
 pub turn_put : (y : SystemState) (k j : Client) (lent behind first : Transcribed) (none back : List ℕ) (m n : ℕ) → first ≡ record k.transcript { receipts = none } → lent ≡ record j.transcript { receipts = back } → back ≡ k.transcript.receipts

@@ -1,5 +1,5 @@
 -- A call of a client is refused, and taken back, or told at once.
-use Rattle.std.proofs.Common.{◌≡◌, ℕ, Bool, true, false, List, [], ◌∷◌, length, map, Option, Some, is_some, refl, ap, sym, subst, ◌∙◌, inl, inr}
+use Rattle.std.proofs.Common.{◌≡◌, ℕ, Bool, true, false, List, [], ◌∷◌, ◌++◌, length, map, Option, Some, is_some, refl, ap, sym, subst, ◌∙◌, inl, inr}
 use Rattle.std.specs.Prelude.{◌==◌, ◌⊎◌}
 use Rattle.std.proofs.lemmas.List.{map-append}
 use Rattle.dali_counts.proofs.Lists.{equal, same_number}
@@ -37,6 +37,7 @@ use Rattle.dali_turns.specs.Stood.{Stood}
 use Rattle.dali_turns.specs.Within.{FitsWithin, FitsCalling, FitsTakingBack}
 use Rattle.dali_turns.specs.Fits.{rest_of, IsOf, Owns, Fits}
 use Rattle.dali_turns.specs.Goes.{RowsTell, Went}
+use Rattle.dali_turns.proofs.Undoing.{undone_on}
 use Rattle.dali_turns.proofs.Refusals.{HasCauseNow, met_now, right_now}
 use Rattle.dali_turns.proofs.Doing.{Did, did_meet, behind, ended, went_on, went_by, went_silent}
 use Rattle.dali_turns.proofs.Calling.{behind_one, none_so_far, due_left}
@@ -92,6 +93,7 @@ module _ {V : Type 0} (told : V → Option Disk) (may_leave : V → Disk → Typ
           survives = lives;
           no_stop = no_stop;
           aside = tt;
+          undone = λ us. undone_on x.txn us (us ++ plan.changes) a.pending ((length (log_of w), Meets (reason_of why)) ∷ []) (fits.undone us) (λ zs. refl);
           nearer = fits.nearer;
           spared = fits.spared;
           placed = subst (IsPlaced true) (sym same_rest) fits.placed;
@@ -121,7 +123,7 @@ module _ {V : Type 0} (told : V → Option Disk) (may_leave : V → Disk → Typ
       spot = fits.spot ∙ ap (at (IsWithin x.txn x.tries (map act_of x.commands.now) fits.deadly false)) fits.calls
 
       has_cause : HasCause now a.client move
-      has_cause = (tried, (met_now w a.client p.core (Calls fits.call) (Some x.txn) (reason_of why) cause, lives), tt)
+      has_cause = (tried, (met_now w a.client p.core (Calls fits.call) (Some x.txn) (reason_of why) cause, lives), tt, λ e. let both : true ≡ false = sym stops ∙ e in absurd (cc))
 
       fits_behind : (rest : List Act) → rest ≡ fits.more → FitsWithin p now (ended a move) rest x
       fits_behind rest same = record {
@@ -129,6 +131,7 @@ module _ {V : Type 0} (told : V → Option Disk) (may_leave : V → Disk → Typ
         may = λ e. ap (λ (m : SystemState). is_some m.stop) stood.stands.at.system ∙ stopped;
         spot = ap (λ d. at (IsWithin x.txn x.tries (map act_of x.commands.now) d (is_stop (reason_of why))) fits.more) (sym fits.nearer) ∙ ap (at (IsWithin x.txn x.tries (map act_of x.commands.now) x.deadly (is_stop (reason_of why)))) (sym same);
         so_far = none_so_far _ a.client x.txn rest;
+        undone = λ us. refl;
         placed = subst (IsPlaced true) (sym same) (subst (IsPlaced true) fits.calls fits.placed).1;
         again = fits.again;
         due = ap (λ d. spares d 0) fits.nearer ∙ due_left fits.deadly (operations x.txn a.pending) fits.spared;

@@ -96,6 +96,7 @@ module _ {V : Type 0} (told : V → Option Disk) (may_leave : V → Disk → Typ
     may = may_there k.said k.may;
     spot = k.spot;
     so_far = so_far_still t.txn rest a.pending k.so_far;
+    undone = k.undone;
     placed = k.placed;
     again = k.again;
     due = k.due;
@@ -128,6 +129,7 @@ module _ {V : Type 0} (told : V → Option Disk) (may_leave : V → Disk → Typ
     deadly = k.deadly;
     spot = k.spot;
     work = works w x goes.grows a.client t.txn k.call a.pending k.work;
+    undone = k.undone;
     nearer = k.nearer;
     spared = k.spared;
     placed = k.placed;
@@ -151,6 +153,7 @@ module _ {V : Type 0} (told : V → Option Disk) (may_leave : V → Disk → Typ
     survives = survives w x goes.grows a.client k.met t.txn k.call k.deadly (operations t.txn k.work) (reason_of why) k.cause k.survives;
     no_stop = k.no_stop;
     aside = asides w x goes.grows a.client t.txn k.back k.aside;
+    undone = k.undone;
     nearer = k.nearer;
     spared = k.spared;
     placed = k.placed;

@@ -128,6 +128,7 @@ module _ {V : Type 0} (told : V → Option Disk) (may_leave : V → Disk → Typ
           may = fits.may;
           spot = ap (at (IsWithin x.txn x.tries (map act_of x.commands.now) (Some count) fits.said)) (sym rest_is);
           so_far = so_far_none (after w a.client [] p.core) a.client x.txn (rest_of j);
+          undone = λ us. refl;
           placed = subst (IsPlaced true) (sym rest_is) placed.1;
           again = record { more = fits.again.more; begins = fits.again.begins; placed = fits.again.placed; few = fits.again.few };
           due = spared_first count placed.0;

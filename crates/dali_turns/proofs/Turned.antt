@@ -4,6 +4,7 @@ use Rattle.std.specs.Prelude.{◌==◌, filter}
 use Rattle.std.proofs.lemmas.List.{append-nil, map-append, length-append}
 use Rattle.std.proofs.lemmas.List.Elements.{filter-append}
 use Rattle.dali_counts.proofs.Lists.{equal, same_number}
+use Rattle.dali_record.specs.declared.operations.Pending.{Pending}
 use Rattle.dali_record.specs.declared.records.Call.{Call}
 use Rattle.dali_record.specs.declared.records.Record.{Record}
 use Rattle.dali_record.specs.declared.records.Record.TheVariants.{Forward}
@@ -23,7 +24,7 @@ use Rattle.dali_stepwise.proofs.Turning.{turned_ends}
 use Rattle.dali_transcripts.specs.Words.{Act, Calls, StoppedBy, is_stop}
 use Rattle.dali_transcripts.specs.World.{Logs, FindsDead, Meets, World, log_of}
 use Rattle.dali_transcripts.specs.Moves.{Receipt, Within as IsWithin, at, Move, IsRefusedCall, is_operation, operations, left}
-use Rattle.dali_transcripts.specs.Causes.{IsAside, AreAside, IsTried, AreTried, HasCause, AreUnfinished, spares}
+use Rattle.dali_transcripts.specs.Causes.{IsAside, AreAside, IsTried, AreTried, HasCause, AreUnfinished, spares, undos_behind}
 use Rattle.dali_transcripts.specs.Rounds.{Standing, IsPlaced}
 use Rattle.dali_transcripts.proofs.Lists.{all_append, all_map}
 use Rattle.dali_transcripts.proofs.Growing.{all_tried, asides, met, survives}
@@ -114,16 +115,23 @@ module _ {V : Type 0} (told : V → Option Disk) (may_leave : V → Disk → Typ
   abbrev move : Move
   move = IsRefusedCall x.txn x.tries (map act_of x.commands.now) fits.deadly false fits.work fits.met fits.back fits.call (reason_of why) fits.more
 
-  cause : HasCause still a.client move
-  cause = (
-    all_tried w still did_none.goes.grows a.client x.txn fits.call fits.work fits.tried,
-    (met w still did_none.goes.grows a.client fits.met (Calls fits.call) (Some x.txn) (reason_of why) fits.cause, survives w still did_none.goes.grows a.client fits.met x.txn fits.call fits.deadly (operations x.txn fits.work) (reason_of why) fits.cause fits.survives),
-    asides w still did_none.goes.grows a.client x.txn fits.back fits.aside,
-  )
-
   module _ (whole : IsWhole plan) (none : want_of plan ≡ Nothing) where
+    ends : MayCall p.log p.core plan.txn × (plan.changes ≡ [])
+    ends = turned_ends p.log p.core plan whole fits.plan_is.phase_is none fits.plan_is.stands
+
     may : MayCall p.log p.core x.txn
-    may = subst (MayCall p.log p.core) fits.plan_is.txn (turned_ends p.log p.core plan whole fits.plan_is.phase_is none fits.plan_is.stands).0
+    may = subst (MayCall p.log p.core) fits.plan_is.txn ends.0
+
+    undone : (us : List Pending) → undos_behind x.txn us (fits.work ++ (fits.met, Meets (reason_of why)) ∷ fits.back) ≡ us
+    undone us = ap (undos_behind x.txn us) (sym fits.pending) ∙ (fits.undone us ∙ (ap (λ l. us ++ l) ends.1 ∙ append-nil us))
+
+    cause : HasCause still a.client move
+    cause = (
+      all_tried w still did_none.goes.grows a.client x.txn fits.call fits.work fits.tried,
+      (met w still did_none.goes.grows a.client fits.met (Calls fits.call) (Some x.txn) (reason_of why) fits.cause, survives w still did_none.goes.grows a.client fits.met x.txn fits.call fits.deadly (operations x.txn fits.work) (reason_of why) fits.cause fits.survives),
+      asides w still did_none.goes.grows a.client x.txn fits.back fits.aside,
+      λ e. undone,
+    )
 
     fits_behind : (rest : List Act) → rest ≡ fits.more → FitsWithin p still (ended a move) rest x
     fits_behind rest same = record {
@@ -132,6 +140,7 @@ module _ {V : Type 0} (told : V → Option Disk) (may_leave : V → Disk → Typ
       spot = ap (λ d. at (IsWithin x.txn x.tries (map act_of x.commands.now) d (is_stop (reason_of why))) fits.more) (sym fits.nearer)
           ∙ (ap (λ b. at (IsWithin x.txn x.tries (map act_of x.commands.now) x.deadly b) fits.more) fits.no_stop ∙ ap (at (IsWithin x.txn x.tries (map act_of x.commands.now) x.deadly false)) (sym same));
       so_far = none_so_far still a.client x.txn rest;
+      undone = λ us. refl;
       placed = subst (IsPlaced true) (sym same) (subst (IsPlaced true) fits.calls fits.placed).1;
       again = fits.again;
       due = ap (λ d. spares d 0) fits.nearer ∙ due_left fits.deadly (operations x.txn fits.work) fits.spared;
@@ -147,8 +156,8 @@ module _ {V : Type 0} (told : V → Option Disk) (may_leave : V → Disk → Typ
         (subst (λ (n : State). Fits told may_leave faults s B p still gs y v (ended a move) (rest_of j) n) (sym f.stands) (fits_behind (rest_of j) (behind_one k.rest.now j.rest.now _ fits.more fits.calls f.rest)))
         (rows j.state f.stands)
 
-  pub ended_unsaid : j.transcript ≡ k.transcript → Went told may_leave faults precheck s B p w a (TakingBack x plan why) gs y v false j gs y v
-  ended_unsaid same = went_silent told may_leave faults precheck s B B p p w a (TakingBack x plan why) gs gs y y v v [] k j is did_none move spot (append-nil a.pending ∙ fits.pending) cause same
+    pub ended_unsaid : j.transcript ≡ k.transcript → Went told may_leave faults precheck s B p w a (TakingBack x plan why) gs y v false j gs y v
+    ended_unsaid same = went_silent told may_leave faults precheck s B B p p w a (TakingBack x plan why) gs gs y y v v [] k j is did_none move spot (append-nil a.pending ∙ fits.pending) cause same
 
   -- ---- the engine is stopped, and what is left of it stays
   module _ (stop : Cause) (stopped : y.stop ≡ Some stop) where
@@ -171,6 +180,7 @@ module _ {V : Type 0} (told : V → Option Disk) (may_leave : V → Disk → Typ
       all_tried w now did_stop.goes.grows a.client x.txn fits.call a.pending tried,
       (met_now w a.client p.core (Calls fits.call) (Some x.txn) (StoppedBy stop) here, ap (spares fits.deadly) count ∙ fits.spared),
       tt,
+      λ e. absurd (cc),
     )
 
     stopped_behind : (rest : List Act) → rest ≡ fits.more → FitsWithin p now (ended a stop_move) rest x
@@ -180,6 +190,7 @@ module _ {V : Type 0} (told : V → Option Disk) (may_leave : V → Disk → Typ
       spot = ap (λ n. at (IsWithin x.txn x.tries (map act_of x.commands.now) (left fits.deadly n) true) fits.more) count
           ∙ (ap (λ d. at (IsWithin x.txn x.tries (map act_of x.commands.now) d true) fits.more) (sym fits.nearer) ∙ ap (at (IsWithin x.txn x.tries (map act_of x.commands.now) x.deadly true)) (sym same));
       so_far = none_so_far now a.client x.txn rest;
+      undone = λ us. refl;
       placed = subst (IsPlaced true) (sym same) (subst (IsPlaced true) fits.calls fits.placed).1;
       again = fits.again;
       due = ap (λ d. spares d 0) fits.nearer ∙ due_left fits.deadly (operations x.txn fits.work) fits.spared;

@@ -6,6 +6,7 @@
 --     FitsTakingBack x plan why    its call is refused, and is taken back
 --     FitsYielding x holder    an older transaction holds the key of its call
 use Rattle.std.specs.Prelude.{◌≡◌, ℕ, ◌<◌, Bool, true, false, List, [], ◌∷◌, ◌++◌, Option, Some, None, map}
+use Rattle.dali_record.specs.declared.operations.Pending.{Pending}
 use Rattle.dali_record.specs.declared.records.Call.{Call}
 use Rattle.dali_att.specs.declared.state.State.TheVariants.{Live}
 use Rattle.dali_system.specs.declared.refusals.Refusal.{Refusal}
@@ -20,7 +21,7 @@ use Rattle.dali_single.specs.Single.{MayCall}
 use Rattle.dali_transcripts.specs.Words.{Act, Begins, Calls, is_stop}
 use Rattle.dali_transcripts.specs.World.{World, Meets, Yields}
 use Rattle.dali_transcripts.specs.Moves.{Receipt, Within, at, operations, left}
-use Rattle.dali_transcripts.specs.Causes.{AreAsking, AreAside, AreWork, AreTried, MetCause, GetsBusy, Survives, spares}
+use Rattle.dali_transcripts.specs.Causes.{AreAsking, AreAside, AreWork, AreTried, MetCause, GetsBusy, Survives, spares, undos_behind}
 use Rattle.dali_transcripts.specs.Rounds.{Standing, IsPlaced}
 use Rattle.dali_clients.specs.declared.line.Why.{Why}
 use Rattle.dali_clients.specs.Told.{act_of, reason_of}
@@ -44,6 +45,8 @@ pub record FitsWithin (p : Point) (w : World) (a : Standing) (rest : List Act) (
   pub may : MaySay p.core.system said
   pub spot : a.spot ≡ at (Within x.txn x.tries (map act_of x.commands.now) x.deadly said) rest
   pub so_far : AreSoFar w a.client x.txn rest a.pending
+  -- nothing of it is to be taken back
+  pub undone : (us : List Pending) → undos_behind x.txn us a.pending ≡ us
   pub placed : IsPlaced true rest
   pub again : IsTry x
   -- it doesn't die before its next operation
@@ -68,6 +71,8 @@ pub record FitsCalling (p : Point) (w : World) (a : Standing) (rest : List Act) 
   pub deadly : Option ℕ
   pub spot : a.spot ≡ at (Within x.txn x.tries (map act_of x.commands.now) deadly false) rest
   pub work : AreWork w a.client x.txn call a.pending
+  -- what is to be taken back of it is what the plan has noted
+  pub undone : (us : List Pending) → undos_behind x.txn us a.pending ≡ us ++ plan.changes
   pub nearer : x.deadly ≡ left deadly (operations x.txn a.pending)
   pub spared : spares deadly (operations x.txn a.pending) ≡ true
   pub placed : IsPlaced true rest
@@ -90,6 +95,7 @@ pub record FitsTakingBack (p : Point) (w : World) (a : Standing) (rest : List Ac
   -- a stop is told at once
   pub no_stop : is_stop (reason_of why) ≡ false
   pub aside : AreAside w a.client x.txn back
+  pub undone : (us : List Pending) → undos_behind x.txn us a.pending ≡ us ++ plan.changes
   pub nearer : x.deadly ≡ left deadly (operations x.txn work)
   pub spared : spares deadly (operations x.txn work) ≡ true
   pub placed : IsPlaced true rest

@@ -7,8 +7,9 @@ mod cleaning;
 mod outside;
 mod transactions;
 
-ghost use Rattle.std.specs.Prelude.{◌≡◌, false, Ok, is_ok};
+ghost use Rattle.std.specs.Prelude.{◌≡◌, ◌==◌, false, true, Ok, is_ok, length};
 ghost use Rattle.dali_turns.specs.declared.client.State.TheVariants.{Outside as IsOutside, Within as IsWithin};
+ghost use Rattle.dali_turns.specs.Clients.{is_over};
 ghost use Rattle.dali_turns.specs.Goes.{StepGoes};
 ghost use Rattle.dali_turns.specs.Turns.{TurnGoes};
 ghost use Rattle.dali_turns.specs.Places.{HasPlaces, PlacesGo};
@@ -34,8 +35,9 @@ pub struct Setting<'a, G: Gate> {
     pub gate: &'a G,
 }
 
-/// One step of a client; its records are noted as its own. Answers whether it went on: not where it is done, where its
-/// lock is held by a younger transaction, or where it waits for a holder's end. Then nothing has changed.
+/// One step of a client; its records are noted as its own. Answers whether it went on: never where it is done, nor where its
+/// lock is held by a younger transaction, or where it waits for a holder's end. Then nothing has changed. `OutOfMemory` where
+/// memory for the step, a line or the number of a record is refused, or where a core that no run has come to has no step.
 pub fn turn<V: Store, G: Gate>(
     client: &mut Client<'_>,
     core: &mut Core<V>,
@@ -45,6 +47,7 @@ pub fn turn<V: Store, G: Gate>(
     ensures goes { TurnGoes V.told V.may_leave V.faults setting.now.precheck client.old core.old.regions.items core.old.system.state core.old.vault (is_ok result) client.new core.new.regions.items core.new.system.state core.new.vault }
     ensures places { PlacesGo V.told client.old.state core.old.regions.items core.old.vault client.new.state core.new.regions.items core.new.vault }
     ensures idle { result ≡ Ok false → StaysPut core.old.system.state client.old.state client.old client.new × (core.new ≡ core.old) }
+    ensures over { is_over client.old.state (length client.old.rest.now == 0) ≡ true → result ≡ Ok false }
 {
     let first = core.system.records();
     // no step sees the receipts
@@ -52,6 +55,9 @@ pub fn turn<V: Store, G: Gate>(
     let stepped = step(client, core, setting);
     client.transcript.replace_receipts(receipts);
     let behind = core.system.records();
+    if first == behind {
+        return stepped; // nothing was logged
+    }
     if behind < first {
         return no_run(); // a log grows
     }
@@ -69,6 +75,7 @@ fn step<V: Store, G: Gate>(
     ensures goes { StepGoes V.told V.may_leave V.faults setting.now.precheck client.old.state client.old core.old.regions.items core.old.system.state core.old.vault (is_ok result) client.new core.new.regions.items core.new.system.state core.new.vault }
     ensures places { PlacesGo V.told client.old.state core.old.regions.items core.old.vault client.new.state core.new.regions.items core.new.vault }
     ensures idle { result ≡ Ok false → StaysPut core.old.system.state client.old.state client.old client.new × (core.new ≡ core.old) }
+    ensures over { is_over client.old.state (length client.old.rest.now == 0) ≡ true → result ≡ Ok false }
 {
     match mem::replace(&mut client.state, State::Outside) {
         State::Outside => next(client, core, setting),
@@ -109,6 +116,7 @@ fn next<V: Store, G: Gate>(
     ensures goes { StepGoes V.told V.may_leave V.faults setting.now.precheck IsOutside client.old core.old.regions.items core.old.system.state core.old.vault (is_ok result) client.new core.new.regions.items core.new.system.state core.new.vault }
     ensures places { PlacesGo V.told IsOutside core.old.regions.items core.old.vault client.new.state core.new.regions.items core.new.vault }
     ensures idle { result ≡ Ok false → StaysPut core.old.system.state IsOutside client.old client.new × (core.new ≡ core.old) }
+    ensures over { (length client.old.rest.now == 0) ≡ true → result ≡ Ok false }
 {
     match client.command() {
         None => Ok(false),

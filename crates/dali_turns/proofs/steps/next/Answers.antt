@@ -4,6 +4,7 @@ use Rattle.dali_turns.proofs.Here.{in_no_run}
 use Rattle.dali_turns.proofs.Commands.{behind_next}
 use Rattle.dali_turns.proofs.Stepping.{none_goes, not_outside, outside_placed}
 use Rattle.dali_turns.proofs.Putting.{never_went, outside_put}
+use Rattle.dali_turns.proofs.Over.{some_next}
 use Rattle.dali_turns.proofs.Placed.{places_still, at_state}
 use Rattle.dali_turns.proofs.steps.next.Goals as goal
 
@@ -41,3 +42,18 @@ returns-in-Audit-clause-idle g c = λ e. never_went c.start.result c.start.ensur
 
 pub returns-in-Checkpoint-clause-idle : goal.returns-in-Checkpoint-clause-idle
 returns-in-Checkpoint-clause-idle g c = λ e. never_went c.start-in-Checkpoint.result c.start-in-Checkpoint.ensures.on e
+
+pub returns-in_default-clause-over : goal.returns-in_default-clause-over
+returns-in_default-clause-over g c = λ none. some_next c.args.client.now c.in-Some.command (sym c.command.ensures ∙ c.in-Some.is) none
+
+pub returns-in-Begin-clause-over : goal.returns-in-Begin-clause-over
+returns-in-Begin-clause-over g c = λ none. some_next c.args.client.now c.in-Some.command (sym c.command.ensures ∙ c.in-Some.is) none
+
+pub returns-in-Poke-clause-over : goal.returns-in-Poke-clause-over
+returns-in-Poke-clause-over g c = λ none. some_next c.args.client.now c.in-Some.command (sym c.command.ensures ∙ c.in-Some.is) none
+
+pub returns-in-Audit-clause-over : goal.returns-in-Audit-clause-over
+returns-in-Audit-clause-over g c = λ none. some_next c.args.client.now c.in-Some.command (sym c.command.ensures ∙ c.in-Some.is) none
+
+pub returns-in-Checkpoint-clause-over : goal.returns-in-Checkpoint-clause-over
+returns-in-Checkpoint-clause-over g c = λ none. some_next c.args.client.now c.in-Some.command (sym c.command.ensures ∙ c.in-Some.is) none

@@ -1,6 +1,7 @@
 use Rattle.std.proofs.Common.{true, is_ok, refl, sym}
 use Rattle.dali_turns.specs.declared.client.State.TheVariants.{Outside, LeftOut, Within, Calling, TakingBack, Waiting, Auditing, Copying, Certifying, Gone}
 use Rattle.dali_turns.proofs.Stepping.{stepped, left_goes, gone_goes}
+use Rattle.dali_turns.proofs.Over.{over_in, not_over, none_next}
 use Rattle.dali_turns.proofs.Putting.{never_went, put_from, gone_put, left_out_put}
 use Rattle.dali_turns.proofs.Placed.{places_from, holds_from, places_still, at_state, left_reaches}
 use Rattle.dali_turns.proofs.steps.step.Goals as goal
@@ -131,3 +132,30 @@ returns-in-LeftOut-clause-idle g c = λ e. (
 pub returns-in-Gone-clause-idle : goal.returns-in-Gone-clause-idle
 returns-in-Gone-clause-idle g c = λ e.
     (put_from c.args.core.now.system.state c.args.client.now (record c.args.client.now { state = Gone }) Gone c.replace.new.dest c.in-Gone.ensures.value (gone_put c.args.core.now.system.state c.args.client.now c.replace.new.dest), refl)
+
+pub returns-in-Within-clause-over : goal.returns-in-Within-clause-over
+returns-in-Within-clause-over g c = λ over. not_over (Within c.in-Within.transaction) c.args.client.now.state _ c.in-Within.ensures.value refl over
+
+pub returns-in-Calling-clause-over : goal.returns-in-Calling-clause-over
+returns-in-Calling-clause-over g c = λ over. not_over (Calling c.in-Calling.transaction c.in-Calling.plan) c.args.client.now.state _ c.in-Calling.ensures.value refl over
+
+pub returns-in-TakingBack-clause-over : goal.returns-in-TakingBack-clause-over
+returns-in-TakingBack-clause-over g c = λ over. not_over (TakingBack c.in-TakingBack.transaction c.in-TakingBack.plan c.in-TakingBack.why) c.args.client.now.state _ c.in-TakingBack.ensures.value refl over
+
+pub returns-in-Waiting-clause-over : goal.returns-in-Waiting-clause-over
+returns-in-Waiting-clause-over g c = λ over. not_over (Waiting c.in-Waiting.tries c.in-Waiting.holder) c.args.client.now.state _ c.in-Waiting.ensures.value refl over
+
+pub returns-in-Auditing-clause-over : goal.returns-in-Auditing-clause-over
+returns-in-Auditing-clause-over g c = λ over. not_over (Auditing c.in-Auditing.audit c.in-Auditing.next) c.args.client.now.state _ c.in-Auditing.ensures.value refl over
+
+pub returns-in-Copying-clause-over : goal.returns-in-Copying-clause-over
+returns-in-Copying-clause-over g c = λ over. not_over (Copying c.in-Copying.checkpoint c.in-Copying.next) c.args.client.now.state _ c.in-Copying.ensures.value refl over
+
+pub returns-in-Certifying-clause-over : goal.returns-in-Certifying-clause-over
+returns-in-Certifying-clause-over g c = λ over. not_over (Certifying c.in-Certifying.checkpoint c.in-Certifying.audit c.in-Certifying.next) c.args.client.now.state _ c.in-Certifying.ensures.value refl over
+
+pub returns-in-Outside-clause-over : goal.returns-in-Outside-clause-over
+returns-in-Outside-clause-over g c = λ over. c.next.ensures.over (over_in Outside c.args.client.now.state _ c.in-Outside.ensures.value over)
+
+pub returns-in-LeftOut-clause-over : goal.returns-in-LeftOut-clause-over
+returns-in-LeftOut-clause-over g c = λ over. (c.left_out.ensures.done (none_next (record c.args.client.now { state = c.replace.new.dest }) (over_in LeftOut c.args.client.now.state _ c.in-LeftOut.ensures.value over))).0

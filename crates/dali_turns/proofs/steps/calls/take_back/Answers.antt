@@ -28,7 +28,7 @@ returns-in-Done-clause-goes g c =
 
 pub returns-in_err-refuse_call-in-Nothing-clause-goes : goal.returns-in_err-refuse_call-in-Nothing-clause-goes
 returns-in_err-refuse_call-in-Nothing-clause-goes g c =
-    ends_back_silently g.V.Store.told g.V.Store.may_leave g.V.Store.faults c.args.setting.now.precheck c.args.core.now.regions.items c.args.core.now.system.state c.args.core.now.vault c.args.client.now c.refuse_call.new.self c.args.transaction c.args.plan c.args.why _
+    ends_back_silently g.V.Store.told g.V.Store.may_leave g.V.Store.faults c.args.setting.now.precheck c.args.core.now.regions.items c.args.core.now.system.state c.args.core.now.vault c.args.client.now c.refuse_call.new.self c.args.transaction c.args.plan c.args.why _ c.wants.ensures.whole (sym c.wants.ensures.wants ∙ c.in-Nothing.is)
     (err_false c.from_residual.result c.from_residual.ensures.0) c.in_err-refuse_call-in-Nothing.ensures.err.transcript
 
 pub returns-in_ok-refuse_call-in-Nothing-clause-goes : goal.returns-in_ok-refuse_call-in-Nothing-clause-goes

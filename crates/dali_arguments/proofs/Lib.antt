@@ -1,0 +1,4 @@
+pub mod InRange
+pub mod Answered
+pub mod Built
+pub mod Getters

@@ -1,0 +1,4 @@
+pub mod Command
+pub mod Errors
+pub mod Meaning
+pub mod Laws

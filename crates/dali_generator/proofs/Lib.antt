@@ -1,0 +1,6 @@
+pub mod Ranges
+pub mod Right
+pub mod Parts
+pub mod Steps
+pub mod Keys
+pub mod Along
