@@ -24,14 +24,14 @@ const BATCH: usize = 5 + ENDED + TRANSACTION;
 
 fn write_batch(log: &File, gate: u64, batch: &[u8]) -> io::Result<()> {
     log.write_all_at(batch, gate + 1)?;
-    log.sync_all()?;
+    log.sync_data()?;
     log.write_all_at(&[OPEN], gate)?;
-    log.sync_all()
+    log.sync_data()
 }
 
 fn time_commits(log: &File, count: u64) -> Option<Timing> {
     log.write_all_at(&[1; MADE], 0).ok()?;
-    log.sync_all().ok()?;
+    log.sync_data().ok()?;
     let batch: [u8; BATCH] = std::array::from_fn(|place| place as u8);
     let mut gate = MADE as u64 - 1;
     let timing = timed(count, "commits", || {
@@ -108,7 +108,7 @@ pub fn image(regions: u64, folder: &Path) -> Option<Timing> {
     let file = make(&path)?;
     let timing = timed(regions, "regions", || {
         file.write_all_at(black_box(&bytes), 0).ok()?;
-        file.sync_all().ok()
+        file.sync_data().ok()
     });
     let length = file.metadata().ok()?.len();
     fs::remove_file(path).ok()?;
@@ -123,7 +123,7 @@ pub fn settle(regions: u64, copied: &[u64], folder: &Path) -> Option<Timing> {
     let [log, image, anchor] = [make(&paths[0])?, make(&paths[1])?, make(&paths[2])?];
     let length = AROUND + REGION * regions;
     image.set_len(length).ok()?;
-    image.sync_all().ok()?;
+    image.sync_data().ok()?;
     let words: Vec<u64> = (0..regions * REGION / 8).collect();
     let batch = [1; 5 + 1 + 9];
     let timing = timed(10, "checkpoints", || {
@@ -137,7 +137,7 @@ pub fn settle(regions: u64, copied: &[u64], folder: &Path) -> Option<Timing> {
             }
             black_box(black_box(&words).iter().fold(0, |all, word| all ^ word));
             write_batch(&log, place * batch.len() as u64, &batch).ok()?;
-            image.sync_all().ok()?;
+            image.sync_data().ok()?;
             write_batch(&anchor, place, &[0]).ok()?;
         }
         Some(())

@@ -2,6 +2,7 @@
 mod calls;
 mod codec;
 mod files;
+mod floor;
 mod keys;
 mod locks;
 mod regions;
@@ -9,6 +10,7 @@ mod script;
 mod shared;
 mod table;
 mod timing;
+mod whole;
 
 use std::path::Path;
 use std::process::ExitCode;
@@ -42,7 +44,22 @@ fn time(words: &[&str]) -> Option<Timing> {
 }
 
 const USAGE: &str = "usage: bench codec|locks|update|check|parse|claims|notes|insert|get|change|delete|tens|uncoded|audit|apart COUNT, \
-    bench commit|checkpoint|clean|dirty COUNT FOLDER, bench recover FOLDER, or bench table PROGRAM FOLDER [ROW..]";
+    bench commit|checkpoint|clean|dirty COUNT FOLDER, bench recover FOLDER, bench gen CLIENTS SIZE NUMBER FOLDER, bench read FOLDER, \
+    bench table PROGRAM FOLDER [ROW..], or bench whole PROGRAM FOLDER MEMORY [ROW..]";
+
+/// The floor of the generated round.
+fn generate(numbers: [&str; 3], folder: &Path) -> Result<(), String> {
+    let [Ok(clients), Ok(size), Ok(number)] = numbers.map(str::parse) else {
+        return Err(USAGE.to_string());
+    };
+    match floor::run(clients, size, number, folder) {
+        Some(text) => {
+            print!("{text}");
+            Ok(())
+        }
+        None => Err("gen failed".to_string()),
+    }
+}
 
 fn main() -> ExitCode {
     let words: Vec<String> = std::env::args().skip(1).collect();
@@ -52,6 +69,17 @@ fn main() -> ExitCode {
         ["table", program, folder, names @ ..] => {
             table::print(Path::new(program), Path::new(folder), names).map_err(|error| error.to_string())
         }
+        ["whole", program, folder, memory, names @ ..] => {
+            whole::print(Path::new(program), Path::new(folder), Path::new(memory), names).map_err(|error| error.to_string())
+        }
+        ["gen", clients, size, number, folder] => generate([clients, size, number], Path::new(folder)),
+        ["read", folder] => match floor::read(Path::new(folder)) {
+            Some(count) => {
+                println!("{count}");
+                Ok(())
+            }
+            None => Err("read failed".to_string()),
+        },
         [name, ..] => match time(&words) {
             Some(timing) => {
                 println!("{timing}");

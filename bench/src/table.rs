@@ -386,7 +386,7 @@ extern "C" {
 }
 
 /// Waits for a program that ends well, and answers how many KiB were resident at most.
-fn wait(child: &Child, what: &str) -> io::Result<i64> {
+pub fn wait(child: &Child, what: &str) -> io::Result<i64> {
     let mut status = 0;
     let mut usage = Usage::default();
     // SAFETY: both pointers are to values that live on, and `Usage` has the size of the system's struct.
@@ -473,7 +473,7 @@ fn middle_half(goal: &Goal, dali: &[Run], beside: &[Run]) -> String {
 }
 
 /// The number with its digits in threes.
-fn in_threes(number: u64) -> String {
+pub fn in_threes(number: u64) -> String {
     let digits = number.to_string();
     let mut text = String::new();
     for (place, digit) in digits.chars().enumerate() {
@@ -604,13 +604,13 @@ fn print_machine(folder: &Path) -> io::Result<()> {
 }
 
 /// A folder that was made for this run, and goes with it.
-struct OwnFolder {
-    path: PathBuf,
+pub struct OwnFolder {
+    pub path: PathBuf,
 }
 
 impl OwnFolder {
     /// Makes a folder within this one, with the first name that is free.
-    fn make(within: &Path) -> io::Result<OwnFolder> {
+    pub fn make(within: &Path) -> io::Result<OwnFolder> {
         fs::create_dir_all(within)?;
         for number in 0..1000 {
             let path = within.join(format!("dali_bench.{number}"));
@@ -633,7 +633,7 @@ impl Drop for OwnFolder {
 }
 
 /// Makes a folder anew.
-fn make_anew(folder: &Path) -> io::Result<()> {
+pub fn make_anew(folder: &Path) -> io::Result<()> {
     match fs::remove_dir_all(folder) {
         Err(error) if error.kind() != io::ErrorKind::NotFound => Err(error),
         _ => fs::create_dir(folder),

@@ -7,7 +7,7 @@ use std::process::ExitCode;
 
 fn main(rt: HostRuntime) -> ExitCode {
     let store = FileStore::in_folder(&rt, ".");
-    program(&rt, store)
+    program(&rt, rt.stderr(), store)
 }
 
 #[cfg(test)]

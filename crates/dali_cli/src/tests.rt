@@ -1,4 +1,5 @@
 use dali_memstore::MemoryStore;
+use dali_program::run_with;
 use dali_run::{OpenGate, SCRIPT_LIMIT, Status, run};
 use dali_script::Kind;
 use dali_store::FileName;
@@ -10,8 +11,10 @@ use std::test::Fail;
 use std::thread::Threads;
 
 mod cases;
+mod word_cases;
 
 use cases::{CASES, CORE_CASES, REFUSED};
+use word_cases::WORD_CASES;
 
 const NONE: &[u64] = &[];
 
@@ -274,7 +277,7 @@ fn scripts_give_their_lines_and_statuses(rt: HostRuntime) -> Result<(), Fail> {
             ..Case::new(
                 "another word",
                 ONE_RECORD,
-                b"usage: dali run\n",
+                b"usage: dali run [--precheck] [--log-limit N] | gen CLIENTS SIZE NUMBER | dump\n",
                 Status::BadWords,
             )
         },
@@ -424,6 +427,175 @@ fn cases_of_all_commands(rt: HostRuntime) -> Result<(), Fail> {
     for case in CORE_CASES.split("----\n").filter(|case| !case.is_empty()) {
         core_case_runs_as_wanted(&rt, case)?;
     }
+    Ok(())
+}
+
+// The words of a case stand behind its status.
+fn word_case_runs_as_wanted(
+    rt: &(impl Abort + AllocGlobal + Threads + Wait + Sync),
+    case: &str,
+) -> Result<(), Fail> {
+    let alloc = rt.alloc();
+    let (told, wanted) = split_case(case)?;
+    let (told, script) = told.split_once('\n').ok_or("a case has words")?;
+    let (status, told) = told.split_once('|').ok_or("a case has a status")?;
+    let status: u8 = status.parse()?;
+    let mut words = Vec::new(alloc);
+    for word in told.split('|') {
+        words.push(String::from_str(alloc, word)?)?;
+    }
+    let mut source = MemorySource::new(script.as_bytes().to_vec(alloc)?, 65_536, Vec::new(alloc));
+    let mut sink = MemorySink::new(alloc, 65_536, Vec::new(alloc));
+    let store = MemoryStore::new(alloc, Vec::new(alloc));
+    let (number, _store) = run_with(rt, alloc, Ok(words), &mut source, &mut sink, store);
+    assert!(rt; sink.taken() == wanted.as_bytes(), "at {case}");
+    assert!(rt; number == status, "at {case}");
+    Ok(())
+}
+
+#[test]
+fn words_from_outside(rt: HostRuntime) -> Result<(), Fail> {
+    for case in WORD_CASES.split("----\n").filter(|case| !case.is_empty()) {
+        word_case_runs_as_wanted(&rt, case)?;
+    }
+    Ok(())
+}
+
+const ONE_RECORD_DUMPED: &[u8] = b"0 format 1 1
+1 begin 1
+2 op 1 0 5 look 2492492492492493 0000000000000000 0000000000000000
+3 op 1 1 5 put 000000000000ff00 0000000000000000 000000000000ff00
+4 op 1 0 5 add 000000000000000e 0000000000000000 000000000000000e
+5 done 1 insert 5 insert ok
+6 commit 1
+";
+
+// Runs these words, with blanks between them, over a store, with an empty script, and a sink of which these writes fail.
+fn ran(
+    rt: &(impl Abort + AllocGlobal + Threads + Wait + Sync),
+    words: &str,
+    failing_writes: &[u64],
+    store: MemoryStore,
+) -> Result<(Status, MemorySink), Fail> {
+    let alloc = rt.alloc();
+    let mut named = Vec::new(alloc);
+    for word in words.split(' ') {
+        named.push(String::from_str(alloc, word)?)?;
+    }
+    let mut source = MemorySource::new(Vec::new(alloc), 7, Vec::new(alloc));
+    let mut sink = MemorySink::new(alloc, 5, failing_writes.to_vec(alloc)?);
+    let (status, _store) = run(rt, alloc, &named, &mut source, &mut sink, store, &OpenGate);
+    Ok((status, sink))
+}
+
+// A store whose log has these bytes, and of which this call fails.
+fn failing_store(alloc: Global, log: &[u8], call: u64) -> Result<MemoryStore, Fail> {
+    let files = [
+        log.to_vec(alloc)?,
+        Vec::new(alloc),
+        Vec::new(alloc),
+        b"\0".to_vec(alloc)?,
+    ];
+    Ok(MemoryStore::with(files, vec![in alloc; call]?))
+}
+
+// Each call of the store fails in turn, until none is left that does.
+fn each_failed_call_is_told(
+    rt: &(impl Abort + AllocGlobal + Threads + Wait + Sync),
+    words: &str,
+    log: &[u8],
+    lines: &[u8],
+) -> Result<(), Fail> {
+    for call in 0..500 {
+        let (status, sink) = ran(rt, words, NONE, failing_store(rt.alloc(), log, call)?)?;
+        if status == Status::Done {
+            assert!(rt; call > 0, "no call of {words} failed");
+            assert!(rt;
+                sink.taken() == lines,
+                "the lines of {words} behind {call} calls"
+            );
+            return Ok(());
+        }
+        assert!(rt;
+            status == Status::StoreFault,
+            "the status of {words} at call {call}"
+        );
+        assert!(rt;
+            sink.taken() == b"store fault\n".as_slice(),
+            "the lines of {words} at call {call}"
+        );
+    }
+    Err(Fail::new("a call failed in each run"))
+}
+
+#[test]
+fn each_failed_call_of_a_generated_run_is_told(rt: HostRuntime) -> Result<(), Fail> {
+    each_failed_call_is_told(
+        &rt,
+        "gen 1 1 9",
+        b"",
+        b"clients 1\ntransactions 1\nrecords 1\nkeys 1000000\n",
+    )
+}
+
+#[test]
+fn each_failed_call_of_a_dump_is_told(rt: HostRuntime) -> Result<(), Fail> {
+    each_failed_call_is_told(&rt, "dump", WITH_ONE_RECORD, ONE_RECORD_DUMPED)
+}
+
+#[test]
+fn a_summary_and_a_dump_that_cannot_be_written_are_cut(rt: HostRuntime) -> Result<(), Fail> {
+    let alloc = rt.alloc();
+    let (status, sink) = ran(
+        &rt,
+        "gen 1 1 9",
+        &[1],
+        MemoryStore::new(alloc, Vec::new(alloc)),
+    )?;
+    assert!(rt; status == Status::WriteFault);
+    assert!(rt; sink.taken() == b"clien".as_slice());
+    let (status, sink) = ran(
+        &rt,
+        "dump",
+        &[1],
+        failing_store(alloc, WITH_ONE_RECORD, 1000)?,
+    )?;
+    assert!(rt; status == Status::WriteFault);
+    assert!(rt; sink.taken() == b"0 for".as_slice());
+    Ok(())
+}
+
+#[test]
+fn no_generated_run_is_made_over_a_database(rt: HostRuntime) -> Result<(), Fail> {
+    let (status, sink) = ran(
+        &rt,
+        "gen 1 1 9",
+        NONE,
+        failing_store(rt.alloc(), WITH_ONE_RECORD, 1000)?,
+    )?;
+    assert!(rt; status == Status::Formatted);
+    assert!(rt; sink.taken() == b"formatted\n".as_slice());
+    Ok(())
+}
+
+// The insert of one record, a crash and a restart, and what a dump says of them.
+#[test]
+fn a_dump_tells_what_a_run_logged(rt: HostRuntime) -> Result<(), Fail> {
+    let alloc = rt.alloc();
+    let script = b"size 1 1\nclient 1\nbegin\ninsert 5 abc\ncommit\nend\ncrash 0\nrestart\n".to_vec(
+        alloc,
+    )?;
+    let words = vec![in alloc; String::from_str(alloc, "run")?]?;
+    let mut source = MemorySource::new(script, 7, Vec::new(alloc));
+    let mut sink = MemorySink::new(alloc, 5, Vec::new(alloc));
+    let store = MemoryStore::new(alloc, Vec::new(alloc));
+    let (status, store) = run(&rt, alloc, &words, &mut source, &mut sink, store, &OpenGate);
+    assert!(rt; status == Status::Done);
+    let (status, sink) = ran(&rt, "dump", NONE, store)?;
+    assert!(rt; status == Status::Done);
+    let mut wanted = ONE_RECORD_DUMPED.to_vec(alloc)?;
+    wanted.extend_from_slice(b"7 restarted rolled back none deleted none\n")?;
+    assert!(rt; sink.taken() == wanted.as_slice());
     Ok(())
 }
 

@@ -70,7 +70,7 @@ pub record Wrote (w : World) (c : ℕ) (R : Record) (d : CoreState) : Type 0 whe
   pub refusals : d.system.refusals ≡ w.core.system.refusals
   pub checking : d.system.checking ≡ w.core.system.checking
   pub room : RoomBy w (Logs R)
-  pub right : w.precheck ≡ true → RightBy w c (Logs R)
+  pub right : w.precheck ≡ true → RightBy w (Logs R)
   pub verdict : (b : ℕ) (found : List ℕ) → Logs R ≡ Logs (audit_record b found) → (r : ℕ) (g : RegionState) → slice_get w.old.regions r ≡ Some g
       → (j : ℕ) × (j ≤ length w.happened) × (b < length (log_at w j)) × (Contains found r ↔ (stray_after r g.stray (take j w.happened) ≢ 0))
 
@@ -93,15 +93,15 @@ module _ (w : World) (c : ℕ) (p q : Point) (told : Tells w p) where
       ⊎_elim (λ h. h) (λ e. let no : is_begin R ≡ true = ap is_begin e in let never : false ≡ true = sym other ∙ no in absurd (cc))
       (push_cases (log_of w) R b AuditBegin (subst (λ l. slice_get l b ≡ Some AuditBegin) (log_is w c (Logs R ∷ []) d) at))
 
-  pub told_log : (R : Record) (d : CoreState) → q.core ≡ d → q.log ≡ p.log ++ R ∷ [] → Wrote w c R d → PassesAreTold (after w c (Logs R ∷ []) d) q.audits
+  pub told_log : (R : Record) (d : CoreState) → q.core ≡ d → q.log ≡ p.log ++ R ∷ [] → Wrote w c R d → PassesAreTold (after w c (Logs R ∷ []) d) q.audits → AreRightThen w c (Logs R ∷ []) q.core
       → Goes w c p (Logs R ∷ []) (after w c (Logs R ∷ []) q.core) q
-  told_log R d is log h passes =
-      goes_by w c p q told (Logs R ∷ []) d is h.onward log (by_deed w c p q told (Logs R) d h.onward (owes_log R d h)) (h.checking ∙ told.flag) passes (tt, tt)
+  told_log R d is log h passes right =
+      goes_by w c p q told (Logs R ∷ []) d is h.onward log (by_deed w c p q told (Logs R) d h.onward (owes_log R d h)) (h.checking ∙ told.flag) passes right
 
-  pub told_plain : (R : Record) (d : CoreState) → is_begin R ≡ false → q.core ≡ d → q.log ≡ p.log ++ R ∷ [] → q.audits ≡ p.audits → Wrote w c R d
+  pub told_plain : (R : Record) (d : CoreState) → is_begin R ≡ false → q.core ≡ d → q.log ≡ p.log ++ R ∷ [] → q.audits ≡ p.audits → Wrote w c R d → AreRightThen w c (Logs R ∷ []) q.core
       → Goes w c p (Logs R ∷ []) (after w c (Logs R ∷ []) q.core) q
-  told_plain R d other is log audits h =
-      told_log R d is log h (subst (λ A. PassesAreTold (after w c (Logs R ∷ []) d) A) (sym audits) (passes_on w c (Logs R ∷ []) d p.audits (began_before R d other) told.passes))
+  told_plain R d other is log audits h right =
+      told_log R d is log h (subst (λ A. PassesAreTold (after w c (Logs R ∷ []) d) A) (sym audits) (passes_on w c (Logs R ∷ []) d p.audits (began_before R d other) told.passes)) right
 
 -- ---- the steps
 module _ (bases : Bases) (before : List Record) (w0 : World) (c : ℕ) (p q : Point) (run : StoreRun bases before no_image p) (told : Tells (record w0 { core = p.core }) p) where
@@ -126,7 +126,7 @@ module _ (bases : Bases) (before : List Record) (w0 : World) (c : ℕ) (p q : Po
   -- what a step that logs a record owes, where it leaves the rest
   simple : (R : Record) (d : CoreState) → is_end R ≡ false → d.system.sizes ≡ p.core.system.sizes → d.system.limit ≡ p.core.system.limit → d.system.first ≡ p.core.system.first → d.system.stop ≡ p.core.system.stop
       → d.system.refusals ≡ p.core.system.refusals → d.vault ≡ p.core.vault → d.system.checking ≡ p.core.system.checking → length d.regions ≡ length p.core.regions → Stays p.core.regions d.regions
-      → ((t : ℕ) → state_of d.system t ≡ state_step t (state_of p.core.system t) (Logs R, c)) → RoomBy w (Logs R) → (w0.precheck ≡ true → RightBy w c (Logs R)) → Wrote w c R d
+      → ((t : ℕ) → state_of d.system t ≡ state_step t (state_of p.core.system t) (Logs R, c)) → RoomBy w (Logs R) → (w0.precheck ≡ true → RightBy w (Logs R)) → Wrote w c R d
   simple R d none sizes limit first stop refusals vault checking count stays states room right = record {
     onward = plain p.core d sizes limit first stop refusals vault count;
     stays = stays;
@@ -140,74 +140,76 @@ module _ (bases : Bases) (before : List Record) (w0 : World) (c : ℕ) (p q : Po
   }
 
   -- where stray writes cancel now, they cancel behind all that happened
-  was_right : (r : ℕ) (h : RegionState) → slice_get p.core.regions r ≡ Some h → h.stray ≡ 0 → (g : RegionState) → slice_get w0.old.regions r ≡ Some g → WasRight w (length w0.happened) c r g
-  was_right r h at none g was = record {
-    place = length w0.happened;
-    before = omega arith;
-    alone = λ k x low high e. absurd (omega (arith, low, high));
-    right = ap (stray_after r g.stray) (take_all (length w0.happened) w0.happened (omega arith)) ∙ (sym (told.together.pokes r g h was at).0 ∙ none);
-  }
+  was_right : (r : ℕ) (h : RegionState) → slice_get p.core.regions r ≡ Some h → h.stray ≡ 0 → (g : RegionState) → slice_get w0.old.regions r ≡ Some g → WasRight w (length w0.happened) r g
+  was_right r h at none g was = ap (stray_after r g.stray) (take_all (length w0.happened) w0.happened (omega arith)) ∙ (sym (told.together.pokes r g h was at).0 ∙ none)
 
   state_there : (o : Option State) (R : Record) → may_log_in o R ≡ true → (s : State) × (o ≡ Some s)
   state_there None R e = absurd (cc)
   state_there (Some s) R e = (s, refl)
 
-  pub begins : HasRoom p.core.system (Begin p.core.system.next) → q.core ≡ with_system p.core (begun p.core.system) → q.log ≡ p.log ++ Begin p.core.system.next ∷ [] → q.audits ≡ p.audits
+  pub begins : HasRoom p.core.system (Begin p.core.system.next) → q.core ≡ with_system p.core (begun p.core.system) → q.log ≡ p.log ++ Begin p.core.system.next ∷ [] → q.audits ≡ p.audits → AreRightThen w c (Logs (Begin p.core.system.next) ∷ []) q.core
       → Goes w c p (Logs (Begin p.core.system.next) ∷ []) (after w c (Logs (Begin p.core.system.next) ∷ []) q.core) q
-  begins room is log audits =
+  begins room is log audits proper =
       told_plain w c p q told (Begin p.core.system.next) (with_system p.core (begun p.core.system)) refl is log audits
       (simple _ _ refl refl refl refl refl refl refl refl refl (same_regions p.core.regions) (λ t. begun_state p.core.system.table p.core.system.next t) (within 9 room.room) (λ e. tt))
+      proper
 
   stray_at : (r : ℕ) (g : RegionState) (o : Option RegionState) → o ≡ Some g → IfSome o (λ (h : RegionState). h.stray ≡ 0) → g.stray ≡ 0
   stray_at r g o at none = subst (λ (z : Option RegionState). IfSome z (λ (h : RegionState). h.stray ≡ 0)) at none
 
-  pub right_there : (r : ℕ) (g : RegionState) → slice_get p.core.regions r ≡ Some g → WereRight w p r → w0.precheck ≡ true → (g0 : RegionState) → slice_get w0.old.regions r ≡ Some g0 → WasRight w (length w0.happened) c r g0
+  pub right_there : (r : ℕ) (g : RegionState) → slice_get p.core.regions r ≡ Some g → WereRight w p r → w0.precheck ≡ true → (g0 : RegionState) → slice_get w0.old.regions r ≡ Some g0 → WasRight w (length w0.happened) r g0
   right_there r g at right e g0 was = was_right r g at (stray_at r g (slice_get p.core.regions r) at (right e)) g0 was
 
   touched_region : (r : ℕ) (g : RegionState) → slice_get p.core.regions r ≡ Some g → Stays p.core.regions (slice_set p.core.regions r (touched g))
   touched_region r g at = one_region p.core.regions r g (touched g) at refl refl
 
   pub operates : (t : ℕ) (b : Block) (g : RegionState) → HasRoom p.core.system (Forward t b) → slice_get p.core.regions b.region ≡ Some g → WereRight w p b.region
-      → q.core ≡ with_touched p.core (op_logged p.core.system t b) b.region g → q.log ≡ p.log ++ Forward t b ∷ [] → q.audits ≡ p.audits
+      → q.core ≡ with_touched p.core (op_logged p.core.system t b) b.region g → q.log ≡ p.log ++ Forward t b ∷ [] → q.audits ≡ p.audits → AreRightThen w c (Logs (Forward t b) ∷ []) q.core
       → Goes w c p (Logs (Forward t b) ∷ []) (after w c (Logs (Forward t b) ∷ []) q.core) q
-  operates t b g room at right is log audits =
+  operates t b g room at right is log audits proper =
       told_plain w c p q told (Forward t b) (with_touched p.core (op_logged p.core.system t b) b.region g) refl is log audits
       (simple _ _ refl refl refl refl refl refl refl refl (length-set p.core.regions b.region (touched g)) (touched_region b.region g at) (λ u. undone_state p.core.system.table t b b.undo u) (within (record_length (Forward t b)) room.room) (right_there b.region g at right))
+      proper
 
   pub takes_back : (t : ℕ) (b : Block) (g : RegionState) → slice_get p.core.regions b.region ≡ Some g
-      → q.core ≡ with_touched p.core (back_logged p.core.system t b) b.region g → q.log ≡ p.log ++ Back t b ∷ [] → q.audits ≡ p.audits
+      → q.core ≡ with_touched p.core (back_logged p.core.system t b) b.region g → q.log ≡ p.log ++ Back t b ∷ [] → q.audits ≡ p.audits → AreRightThen w c (Logs (Back t b) ∷ []) q.core
       → Goes w c p (Logs (Back t b) ∷ []) (after w c (Logs (Back t b) ∷ []) q.core) q
-  takes_back t b g at is log audits =
+  takes_back t b g at is log audits proper =
       told_plain w c p q told (Back t b) (with_touched p.core (back_logged p.core.system t b) b.region g) refl is log audits
       (simple _ _ refl refl refl refl refl refl refl refl (length-set p.core.regions b.region (touched g)) (touched_region b.region g at) (λ u. kept_state p.core.system.table t without_last (λ row. refl) u) refl (λ e. tt))
+      proper
 
   pub frees : (t : ℕ) (b : Block) (g : RegionState) → slice_get p.core.regions b.region ≡ Some g
-      → q.core ≡ with_touched p.core (solo_logged p.core.system t b) b.region g → q.log ≡ p.log ++ Solo p.core.system.next t b ∷ [] → q.audits ≡ p.audits
+      → q.core ≡ with_touched p.core (solo_logged p.core.system t b) b.region g → q.log ≡ p.log ++ Solo p.core.system.next t b ∷ [] → q.audits ≡ p.audits → AreRightThen w c (Logs (Solo p.core.system.next t b) ∷ []) q.core
       → Goes w c p (Logs (Solo p.core.system.next t b) ∷ []) (after w c (Logs (Solo p.core.system.next t b) ∷ []) q.core) q
-  frees t b g at is log audits =
+  frees t b g at is log audits proper =
       told_plain w c p q told (Solo p.core.system.next t b) (with_touched p.core (solo_logged p.core.system t b) b.region g) refl is log audits
       (simple _ _ refl refl refl refl refl refl refl refl (length-set p.core.regions b.region (touched g)) (touched_region b.region g at) (λ u. refl) refl (λ e. tt))
+      proper
 
   pub answers : (t : ℕ) (call : Call) (a : Answer) → HasRoom p.core.system (Done t call a)
-      → q.core ≡ with_system p.core (done_logged p.core.system t call a) → q.log ≡ p.log ++ Done t call a ∷ [] → q.audits ≡ p.audits
+      → q.core ≡ with_system p.core (done_logged p.core.system t call a) → q.log ≡ p.log ++ Done t call a ∷ [] → q.audits ≡ p.audits → AreRightThen w c (Logs (Done t call a) ∷ []) q.core
       → Goes w c p (Logs (Done t call a) ∷ []) (after w c (Logs (Done t call a) ∷ []) q.core) q
-  answers t call a room is log audits =
+  answers t call a room is log audits proper =
       told_plain w c p q told (Done t call a) (with_system p.core (done_logged p.core.system t call a)) refl is log audits
       (simple _ _ refl refl refl refl refl refl refl refl refl (same_regions p.core.regions) (λ u. refl) (within (record_length (Done t call a)) room.room) (λ e. tt))
+      proper
 
   pub commits : (t : ℕ) → may_log_in (state_of p.core.system t) (Commit t) ≡ true
-      → q.core ≡ with_system p.core (commit_logged p.core.system t) → q.log ≡ p.log ++ Commit t ∷ [] → q.audits ≡ p.audits
+      → q.core ≡ with_system p.core (commit_logged p.core.system t) → q.log ≡ p.log ++ Commit t ∷ [] → q.audits ≡ p.audits → AreRightThen w c (Logs (Commit t) ∷ []) q.core
       → Goes w c p (Logs (Commit t) ∷ []) (after w c (Logs (Commit t) ∷ []) q.core) q
-  commits t may is log audits =
+  commits t may is log audits proper =
       let was = state_there (state_of p.core.system t) (Commit t) may in
       told_plain w c p q told (Commit t) (with_system p.core (commit_logged p.core.system t)) refl is log audits
       (simple _ _ refl refl refl refl refl refl refl refl refl (same_regions p.core.regions) (λ u. new_state p.core.system.table t committed_row Committed (λ row. refl) was.0 was.1 u) refl (λ e. tt))
+      proper
 
-  pub ends_txn : (t : ℕ) → q.core ≡ with_system p.core (ended_logged p.core.system t) → q.log ≡ p.log ++ Ended t ∷ [] → q.audits ≡ p.audits
+  pub ends_txn : (t : ℕ) → q.core ≡ with_system p.core (ended_logged p.core.system t) → q.log ≡ p.log ++ Ended t ∷ [] → q.audits ≡ p.audits → AreRightThen w c (Logs (Ended t) ∷ []) q.core
       → Goes w c p (Logs (Ended t) ∷ []) (after w c (Logs (Ended t) ∷ []) q.core) q
-  ends_txn t is log audits =
+  ends_txn t is log audits proper =
       told_plain w c p q told (Ended t) (with_system p.core (ended_logged p.core.system t)) refl is log audits
       (simple _ _ refl refl refl refl refl refl refl refl refl (same_regions p.core.regions) (λ u. ended_state p.core.system.table t u) refl (λ e. tt))
+      proper
 
   -- an audit begins: it has passed nothing
   begun_passes : (d : CoreState) → PassesAreTold (after w c (Logs AuditBegin ∷ []) d) (audits_with p.audits p.core.system.records [])
@@ -220,12 +222,13 @@ module _ (bases : Bases) (before : List Record) (w0 : World) (c : ℕ) (p q : Po
           (told.passes b i x since (push_before (log_of w) AuditBegin b AuditBegin (λ f. let n : b ≡ p.core.system.records = f ∙ sym records_is in let no : true ≡ false = sym (same_number b p.core.system.records n) ∙ e in absurd (cc)) (subst (λ l. slice_get l b ≡ Some AuditBegin) (log_is w c (Logs AuditBegin ∷ []) d) is)) there)
 
   pub audit_begins : p.core.system.end + 1 ≤ p.core.system.limit + 1048576 → q.core ≡ with_system p.core (audit_begun p.core.system) → q.log ≡ p.log ++ AuditBegin ∷ []
-      → q.audits ≡ audits_with p.audits p.core.system.records []
+      → q.audits ≡ audits_with p.audits p.core.system.records [] → AreRightThen w c (Logs AuditBegin ∷ []) q.core
       → Goes w c p (Logs AuditBegin ∷ []) (after w c (Logs AuditBegin ∷ []) q.core) q
-  audit_begins room is log audits =
+  audit_begins room is log audits proper =
       told_log w c p q told AuditBegin (with_system p.core (audit_begun p.core.system)) is log
       (simple _ _ refl refl refl refl refl refl refl refl refl (same_regions p.core.regions) (λ u. refl) (le-leb _ _ (omega (arith, room, end_is, limit_is))) (λ e. tt))
       (subst (λ A. PassesAreTold (after w c (Logs AuditBegin ∷ []) (with_system p.core (audit_begun p.core.system))) A) (sym audits) (begun_passes (with_system p.core (audit_begun p.core.system))))
+      proper
 
   -- ---- an audit ends
   number_in : Record → ℕ
@@ -282,7 +285,7 @@ module _ (bases : Bases) (before : List Record) (w0 : World) (c : ℕ) (p q : Po
   end_room b [] = refl
   end_room b (r ∷ rs) = refl
 
-  end_right : (b : ℕ) (found : List ℕ) → RightBy w c (Logs (audit_record b found))
+  end_right : (b : ℕ) (found : List ℕ) → RightBy w (Logs (audit_record b found))
   end_right b [] = tt
   end_right b (r ∷ rs) = tt
 
@@ -295,9 +298,9 @@ module _ (bases : Bases) (before : List Record) (w0 : World) (c : ℕ) (p q : Po
   not_begin b (r ∷ rs) = refl
 
   pub audit_ends : (b : ℕ) (found : List ℕ) → BeganHere w b → IsStepAt (moment_of p) (AuditEnds b found) (moment_of q) → p.core.system.stop ≡ None
-      → q.core ≡ with_system p.core (audit_ended p.core.system b found) → q.log ≡ p.log ++ audit_record b found ∷ [] → q.audits ≡ p.audits
+      → q.core ≡ with_system p.core (audit_ended p.core.system b found) → q.log ≡ p.log ++ audit_record b found ∷ [] → q.audits ≡ p.audits → AreRightThen w c (Logs (audit_record b found) ∷ []) q.core
       → Goes w c p (Logs (audit_record b found) ∷ []) (after w c (Logs (audit_record b found) ∷ []) q.core) q
-  audit_ends b found began step runs_on is log audits =
+  audit_ends b found began step runs_on is log audits proper =
       told_plain w c p q told (audit_record b found) (with_system p.core (audit_ended p.core.system b found)) (not_begin b found) is log audits
       (record {
         onward = record { sizes = refl; limit = refl; flushed = omega arith; failed = λ e. e; sealed = λ e. refl; stop = λ cause e. end_stop found cause runs_on e; refusals = λ f h. h; count = refl };
@@ -310,6 +313,7 @@ module _ (bases : Bases) (before : List Record) (w0 : World) (c : ℕ) (p q : Po
         right = λ e. end_right b found;
         verdict = λ b' found' e r g was. named b' found' (one_of _ _ e) r g was;
       })
+      proper
     where
       tells : AuditTells (moment_of p) b found
       tells = audit_end_tells bases before (moment_of p) (moment_of q) b found run.run step

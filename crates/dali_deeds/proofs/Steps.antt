@@ -83,7 +83,7 @@ module _ (bases : Bases) (before : List Record) (w0 : World) (c : ℕ) (p q : Po
       → ((r : ℕ) (h : RegionState) → slice_get d.regions r ≡ Some h → (g : RegionState) × (slice_get p.core.regions r ≡ Some g) × (h.stray ≡ stray_step r g.stray (x, c)) × (h.poked ≡ poked_step r g.poked (x, c)))
       → ((b : ℕ) (found : List ℕ) → x ≡ Logs (audit_record b found) → ⊥)
       → ((t : ℕ) → state_of d.system t ≡ state_step t (state_of p.core.system t) (x, c)) → FaultsBy w (after w c (x ∷ []) d) x
-      → d.system.refusals ≡ p.core.system.refusals ++ refused_by ((x, c) ∷ []) → RoomBy w x → (w0.precheck ≡ true → RightBy w c x)
+      → d.system.refusals ≡ p.core.system.refusals ++ refused_by ((x, c) ∷ []) → RoomBy w x → (w0.precheck ≡ true → RightBy w x)
       → Owes w (after w c (x ∷ []) d) c x
   plain_owes x d span anchor poke none state fault refusal room right = record {
     span = span;
@@ -196,7 +196,7 @@ module _ (bases : Bases) (before : List Record) (w0 : World) (c : ℕ) (p q : Po
       region None h e = absurd (cc)
       region (Some g) h e = (g, refl)
 
-      right_here : w0.precheck ≡ true → (g0 : RegionState) → slice_get w0.old.regions r ≡ Some g0 → WasRight w (length w0.happened) c r g0
+      right_here : w0.precheck ≡ true → (g0 : RegionState) → slice_get w0.old.regions r ≡ Some g0 → WasRight w (length w0.happened) r g0
       right_here e' g0 was =
           let held = may.latched.held r refl in
           let g = region (slice_get p.core.regions r) held.0 held.1 in
@@ -269,15 +269,15 @@ meets w0 c p why told none right =
 module _ (bases : Bases) (before : List Record) (w0 : World) (c : ℕ) (p q : Point) (run : StoreRun bases before no_image p) (told : Tells (record w0 { core = p.core }) p) where
   at_core : (x : Step) (ds : List Deed) → is_of_checkpoint x ≡ false → IsStepAt (moment_of p) x (moment_of q) → AreOfCore (record w0 { core = p.core }) p x ds → AreRightThen (record w0 { core = p.core }) c ds q.core
       → Goes (record w0 { core = p.core }) c p ds (after w0 c ds q.core) q
-  at_core Begins ds other (s, audits) e right = subst (λ es. Goes (record w0 { core = p.core }) c p es (after w0 c es q.core) q) (sym e) (begins bases before w0 c p q run told s.0 s.1.1 s.1.0 audits)
-  at_core (Operates t b) ds other (s, audits) e right = subst (λ es. Goes (record w0 { core = p.core }) c p es (after w0 c es q.core) q) (sym e.0) (operates bases before w0 c p q run told t b s.0 s.1 s.2.at e.1 s.3.1 s.3.0 audits)
-  at_core (TakesBack t b) ds other (s, audits) e right = subst (λ es. Goes (record w0 { core = p.core }) c p es (after w0 c es q.core) q) (sym e) (takes_back bases before w0 c p q run told t b s.0 s.1.at s.2.1 s.2.0 audits)
-  at_core (Frees t b) ds other (s, audits) e right = subst (λ es. Goes (record w0 { core = p.core }) c p es (after w0 c es q.core) q) (sym e) (frees bases before w0 c p q run told t b s.0 s.1.at s.2.1 s.2.0 audits)
-  at_core (Answers t k a) ds other (s, audits) e right = subst (λ es. Goes (record w0 { core = p.core }) c p es (after w0 c es q.core) q) (sym e) (answers bases before w0 c p q run told t k a s.0 s.3.1 s.3.0 audits)
-  at_core (Commits t) ds other (s, audits) e right = subst (λ es. Goes (record w0 { core = p.core }) c p es (after w0 c es q.core) q) (sym e) (commits bases before w0 c p q run told t s.1.by s.2.1 s.2.0 audits)
-  at_core (Ends t) ds other (s, audits) e right = subst (λ es. Goes (record w0 { core = p.core }) c p es (after w0 c es q.core) q) (sym e) (ends_txn bases before w0 c p q run told t s.2.1 s.2.0 audits)
-  at_core AuditBegins ds other (s, audits) e right = subst (λ es. Goes (record w0 { core = p.core }) c p es (after w0 c es q.core) q) (sym e) (audit_begins bases before w0 c p q run told s.1 s.2.1 s.2.0 audits)
-  at_core (AuditEnds b found) ds other (s, audits) e right = subst (λ es. Goes (record w0 { core = p.core }) c p es (after w0 c es q.core) q) (sym e.0) (audit_ends bases before w0 c p q run told b found e.1 (s, audits) s.0.runs s.1.1 s.1.0 audits.1)
+  at_core Begins ds other (s, audits) e right = subst (λ es. Goes (record w0 { core = p.core }) c p es (after w0 c es q.core) q) (sym e) (begins bases before w0 c p q run told s.0 s.1.1 s.1.0 audits (subst (λ es. AreRightThen (record w0 { core = p.core }) c es q.core) e right))
+  at_core (Operates t b) ds other (s, audits) e right = subst (λ es. Goes (record w0 { core = p.core }) c p es (after w0 c es q.core) q) (sym e.0) (operates bases before w0 c p q run told t b s.0 s.1 s.2.at e.1 s.3.1 s.3.0 audits (subst (λ es. AreRightThen (record w0 { core = p.core }) c es q.core) e.0 right))
+  at_core (TakesBack t b) ds other (s, audits) e right = subst (λ es. Goes (record w0 { core = p.core }) c p es (after w0 c es q.core) q) (sym e) (takes_back bases before w0 c p q run told t b s.0 s.1.at s.2.1 s.2.0 audits (subst (λ es. AreRightThen (record w0 { core = p.core }) c es q.core) e right))
+  at_core (Frees t b) ds other (s, audits) e right = subst (λ es. Goes (record w0 { core = p.core }) c p es (after w0 c es q.core) q) (sym e) (frees bases before w0 c p q run told t b s.0 s.1.at s.2.1 s.2.0 audits (subst (λ es. AreRightThen (record w0 { core = p.core }) c es q.core) e right))
+  at_core (Answers t k a) ds other (s, audits) e right = subst (λ es. Goes (record w0 { core = p.core }) c p es (after w0 c es q.core) q) (sym e) (answers bases before w0 c p q run told t k a s.0 s.3.1 s.3.0 audits (subst (λ es. AreRightThen (record w0 { core = p.core }) c es q.core) e right))
+  at_core (Commits t) ds other (s, audits) e right = subst (λ es. Goes (record w0 { core = p.core }) c p es (after w0 c es q.core) q) (sym e) (commits bases before w0 c p q run told t s.1.by s.2.1 s.2.0 audits (subst (λ es. AreRightThen (record w0 { core = p.core }) c es q.core) e right))
+  at_core (Ends t) ds other (s, audits) e right = subst (λ es. Goes (record w0 { core = p.core }) c p es (after w0 c es q.core) q) (sym e) (ends_txn bases before w0 c p q run told t s.2.1 s.2.0 audits (subst (λ es. AreRightThen (record w0 { core = p.core }) c es q.core) e right))
+  at_core AuditBegins ds other (s, audits) e right = subst (λ es. Goes (record w0 { core = p.core }) c p es (after w0 c es q.core) q) (sym e) (audit_begins bases before w0 c p q run told s.1 s.2.1 s.2.0 audits (subst (λ es. AreRightThen (record w0 { core = p.core }) c es q.core) e right))
+  at_core (AuditEnds b found) ds other (s, audits) e right = subst (λ es. Goes (record w0 { core = p.core }) c p es (after w0 c es q.core) q) (sym e.0) (audit_ends bases before w0 c p q run told b found e.1 (s, audits) s.0.runs s.1.1 s.1.0 audits.1 (subst (λ es. AreRightThen (record w0 { core = p.core }) c es q.core) e.0 right))
   at_core (Locks t k m) ds other (s, audits) e right = subst (λ es. Goes (record w0 { core = p.core }) c p es (after w0 c es q.core) q) (sym e) (quiet bases before w0 c p q run told (with_system p.core (granted p.core.system t k m)) s.2.1 s.2.0 audits (same _ _ refl refl refl refl refl refl refl) (same_regions p.core.regions) (λ u. refl) refl refl refl)
   at_core (Refuses t k m h) ds other (s, audits) e right = ⊎_elim
       (λ f. subst (λ es. Goes (record w0 { core = p.core }) c p es (after w0 c es q.core) q) (sym f) (refuses bases before w0 c p q run told t k m h _ (inl refl) s.2.1 s.2.0 audits (subst (λ es. AreRightThen (record w0 { core = p.core }) c es q.core) f right)))

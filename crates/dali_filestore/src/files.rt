@@ -82,8 +82,8 @@ impl<F: OpenFile + FileExt + Drop> FourFiles<F> {
         self.file(file).write_all_at(bytes, at)
     }
 
-    // Syncs a file.
+    // Makes the bytes and the length of a file last, and no time of it.
     pub(crate) fn sync(&self, file: FileName) -> io::Result<()> {
-        self.file(file).sync_all()
+        self.file(file).sync_data()
     }
 }

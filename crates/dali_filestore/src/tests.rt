@@ -111,15 +111,15 @@ impl<'a> OpenFile for Fake<'a> {
     }
 
     fn sync_all(&self) -> io::Result<()> {
+        Err(io::Error::from(ErrorKind::Unsupported))
+    }
+
+    fn sync_data(&self) -> io::Result<()> {
         self.syncs.set(self.syncs.get().wrapping_add(1));
         if self.broken {
             return Err(io::Error::from(ErrorKind::Other));
         }
         Ok(())
-    }
-
-    fn sync_data(&self) -> io::Result<()> {
-        Err(io::Error::from(ErrorKind::Unsupported))
     }
 }
 

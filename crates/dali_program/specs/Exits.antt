@@ -2,7 +2,8 @@
 --     number_of status      the number of a status
 --     ExitsWith number      the run ended with a status of this number, and what was committed survives, where no damage escapes
 --     Refuses number        there was no memory before the run: nothing was read or run, and the last line was written
-use Rattle.std.specs.Prelude.{◌≡◌, ℕ, Bool, List, Option}
+use Rattle.std.specs.Prelude.{◌≡◌, ℕ, List, Option}
+use Rattle.dali_arguments.specs.Meaning.{meaning}
 use Rattle.dali_record.specs.declared.records.Record.{Record}
 use Rattle.dali_run.specs.declared.status.Status.{Status}
 use Rattle.dali_run.specs.declared.status.Status.TheVariants.{Done, BadWords, BadScript, TooLong, ReadFault, WriteFault, StoreFault, BadStore, Unformatted, Formatted, OutOfMemory, LogFull}
@@ -24,15 +25,15 @@ number_of Formatted = 9
 number_of OutOfMemory = 10
 number_of (LogFull end limit) = 11
 
-module _ {V : Type 0} (told : V → Option Files) (may_leave : V → Files → Type 0) (moment : V → ℕ) (left_since : V → ℕ → Files → Type 0) (faults : V → ℕ) (limit : ℕ) (cuts : V → ℕ → Option Files) (precheck : Bool) where
+module _ {V : Type 0} (told : V → Option Files) (may_leave : V → Files → Type 0) (moment : V → ℕ) (left_since : V → ℕ → Files → Type 0) (faults : V → ℕ) (cuts : V → ℕ → Option Files) where
   pub record ExitsWith (words : List (List ℕ)) (c : Course V) (number : ℕ) : Type 0 where
     pub status : Status
     pub is_number : number ≡ number_of status
-    pub ended : HasEnded told may_leave moment left_since faults limit cuts precheck words c status
+    pub ended : HasEnded told may_leave moment left_since faults cuts words c status
     pub survives :
         (base : List Record) → IsOwn told may_leave base c.store
-        → IsHonest told may_leave moment left_since faults limit cuts precheck words c ended.mid ended.count status ended.ended
-        → Survives told may_leave moment left_since faults limit cuts precheck words c ended.mid ended.count base status ended.ended
+        → IsHonest told may_leave moment left_since faults cuts c ended.mid ended.count (meaning words) status ended.ended
+        → Survives told may_leave moment left_since faults cuts c ended.mid ended.count base (meaning words) status ended.ended
 
 pub record Refuses {V : Type 0} (c : Course V) (number : ℕ) : Type 0 where
   pub is_number : number ≡ number_of OutOfMemory

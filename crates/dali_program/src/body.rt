@@ -1,5 +1,5 @@
 //! What the program does over any streams and any store.
-ghost use Rattle.std.specs.Prelude.{◌≡◌, false, IfOk, OnErr, map, string_bytes};
+ghost use Rattle.std.specs.Prelude.{◌≡◌, IfOk, OnErr, map, string_bytes};
 ghost use Rattle.dali_run.specs.Ends.{course};
 ghost use Rattle.dali_program.specs.Exits.{number_of, ExitsWith, Refuses};
 
@@ -41,7 +41,7 @@ pub fn run_with<R: Threads + Wait + Sync, S: Source, K: Sink, V: Store + Send>(
     sink: &mut K,
     store: V,
 ) -> (u8, V)
-    ensures exits { IfOk words (λ ws. ExitsWith V.told V.may_leave V.moment V.left_since V.faults 67108864 V.cuts false (map string_bytes ws.items)
+    ensures exits { IfOk words (λ ws. ExitsWith V.told V.may_leave V.moment V.left_since V.faults V.cuts (map string_bytes ws.items)
         (course S.left S.faults K.taken K.faults source.old source.new sink.old sink.new store result.1) result.0) }
     ensures refuses { OnErr words (Refuses (course S.left S.faults K.taken K.faults source.old source.new sink.old sink.new store result.1) result.0) }
 {

@@ -3,6 +3,7 @@
 
 mod body;
 mod edge;
+mod progress;
 
 pub use body::run_with;
 pub use edge::program;

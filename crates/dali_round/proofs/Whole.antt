@@ -58,7 +58,7 @@ none_tell w (b ∷ bs) e = (
     part = [];
     lines_are = refl;
     so_far = record { moves = []; path = refl; lines_are = refl; did_are = none };
-    under_way = none_under_way w b.client (start b.acts) [] refl;
+    under_way = none_under_way w b.client (start b.acts) [] tt refl;
   },
   none_tell w bs e,
 )

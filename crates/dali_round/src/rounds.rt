@@ -21,8 +21,9 @@ use std::alloc::Global;
 pub enum RoundEnd {
     /// Each client is done.
     Done,
-    /// Memory was wanted and refused: no client does more. Transactions that were open are open still, and nobody ends
-    /// them before a restart. The lines of the step that was under way may lack.
+    /// The round was cut: no client does more. Transactions that were open are open still, and nobody ends them before a
+    /// restart. The lines of the step that was under way may lack, and its call may have taken back changes of its own. It is
+    /// for where memory was wanted and refused, but no clause says when it comes: tests show that it doesn't with ample memory.
     OutOfMemory,
 }
 
@@ -142,16 +143,18 @@ fn transcripts_of(
 }
 
 /// Runs the blocks of several clients, at most 64 with numbers from 1 to 64 that differ, until each is done: by turns, one
-/// step of each client, in no order that is promised. It hands out the core and the transcripts, in the order of the blocks. With `precheck` an operation that goes on with a call first compares its region's codeword with
-/// the words. The gate is told of each operation of a call behind its last update.
+/// step of each client, in no order that is promised. It hands out the core and the transcripts, in the order of the blocks.
+/// With `precheck` an operation that goes on with a call first compares its region's codeword with the words, in one step, so
+/// that nobody comes in between. The gate is told of each operation of a call behind its last update.
 ///
 /// A call whose lock a younger transaction holds waits. Where an older one holds it the transaction is taken back, and tried
 /// again from its begin under a new number when that holder has ended, up to 1,000 times. A dead transaction whose lock or
 /// latch is in the way is cleaned up. Where the engine stops each client goes on, and its commands are refused.
 ///
 /// It takes any core, whatever log it has: what is promised of a run is so where one has come to it, as behind a format, a
-/// restart, or a round that ended with `Done`. `OutOfMemory` where memory for a step, a line or a client was refused, or where
-/// a core that no run has come to has no step: where it was for the clients, there are no transcripts, and nothing was done.
+/// restart, or a round that ended with `Done`. It ends with `OutOfMemory` where memory for a step, a line or a client was
+/// refused, or where a core that no run has come to has no step; no clause says so, and tests show that it doesn't come with
+/// ample memory. Where there are no transcripts memory for the clients was refused, and nothing was done.
 pub fn round<V: Store, G: Gate>(
     alloc: Global,
     core: Core<V>,

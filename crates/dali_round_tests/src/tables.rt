@@ -38,6 +38,10 @@ pub const DEATHS: &str = "# an insert's three operations are made, and the next 
 1 1 1000000 ; begin / die 2 / insert 5 abc | begin / get 9 / insert 5 d / commit = 1 begin 1 / 1 died / 2 begin 2 / 2 get missing / 2 insert ok / 2 commit ok
 # here the holder lives still when the other one gives way to it
 1 1 1000000 ; begin / die 3 / insert 5 abc | begin / get 9 / insert 5 d / commit = 1 begin 1 / 1 died / 2 begin 2 / 2 get missing / 2 aborted / 2 begin 3 / 2 get missing / 2 insert ok / 2 commit ok
+# the dead client's latch is met by one that is to die there, which cleans it up first
+1 1 1000000 ; begin / die 1 / insert 5 abc | poke 9 0 1 / begin / die 1 / insert 6 d = 1 begin 1 / 1 died / 2 poke out of range / 2 begin 2 / 2 died ; begin / get 5 / get 6 / commit = 1 begin 3 / 1 get missing / 1 get missing / 1 commit ok
+# the third client's audit stops the engine between the second one's request and its look, which meets the dead one's latch
+1 1 1000000 ; begin / die 1 / insert 5 abc | poke 9 0 1 / poke 9 0 1 / poke 9 0 1 / begin / get 9 / commit | poke 1 9 ff / audit = 1 begin 1 / 1 died / 2 poke out of range / 2 poke out of range / 2 poke out of range / 2 begin 2 / 2 get stopped damage 1 / 2 commit stopped damage 1 / 3 poke ok / 3 audit failed 1
 # what a commit frees, and what an abort takes back, stands on a region that a dead client has latched
 1 1 1000000 ; begin / insert 5 abc / commit = 1 begin 1 / 1 insert ok / 1 commit ok ; begin / delete 5 / commit | poke 9 0 1 / poke 9 0 1 / begin / die 1 / get 9 = 1 begin 2 / 1 delete ok / 1 commit ok / 2 poke out of range / 2 poke out of range / 2 begin 3 / 2 died ; begin / get 5 / insert 5 z / insert 9 z / commit = 1 begin 6 / 1 get missing / 1 insert ok / 1 insert ok / 1 commit ok
 1 1 1000000 ; begin / insert 5 abc / abort | poke 9 0 1 / poke 9 0 1 / begin / die 1 / get 9 = 1 begin 1 / 1 insert ok / 1 abort ok / 2 poke out of range / 2 poke out of range / 2 begin 2 / 2 died ; begin / get 5 / insert 9 z / commit = 1 begin 3 / 1 get missing / 1 insert ok / 1 commit ok
@@ -58,7 +62,11 @@ pub const POKES_AND_AUDITS: &str =
 2 3 1000000 precheck ; begin / insert 4 abc / commit / poke 3 11 0100000000000000 / begin / get 4 = 1 begin 1 / 1 insert ok / 1 commit ok / 1 poke ok / 1 begin 2 / 1 get damaged 3 6162630000000007 6062630000000007 / 1 aborted ; audit = 1 audit failed 3
 1 1 1000000 precheck ; poke 1 9 ff / begin / insert 5 a / get 5 / commit = 1 poke ok / 1 begin 1 / 1 insert damaged 1 0000000000000001 00000000000000fe / 1 get missing / 1 commit ok
 # the put is taken back where the entry's region is damaged
-1 1 1000000 precheck ; begin / insert 5 a / commit | poke 9 0 1 / poke 9 0 1 / poke 9 0 1 / poke 0 60 1 = 1 begin 1 / 1 insert damaged 0 0000000000000000 0000000000000001 / 1 commit ok / 2 poke out of range / 2 poke out of range / 2 poke out of range / 2 poke ok";
+1 1 1000000 precheck ; begin / insert 5 a / commit | poke 9 0 1 / poke 9 0 1 / poke 9 0 1 / poke 0 60 1 = 1 begin 1 / 1 insert damaged 0 0000000000000000 0000000000000001 / 1 commit ok / 2 poke out of range / 2 poke out of range / 2 poke out of range / 2 poke ok
+# here a dead client has latched the put's region by then
+1 1 1000000 precheck ; begin / die 2 / insert 6 abc | begin / insert 5 a / commit | poke 9 0 1 / poke 9 0 1 / poke 9 0 1 / poke 0 60 1 = 1 begin 1 / 1 died / 2 begin 2 / 2 insert damaged 0 0000000000000000 0000000000000001 / 2 commit ok / 3 poke out of range / 3 poke out of range / 3 poke out of range / 3 poke ok
+# in a damaged region no client dies: the operation isn't made, and the next one is the first
+1 1 1000000 precheck ; begin / die 1 / insert 5 a / get 5 / commit | poke 0 60 1 / poke 9 0 1 / poke 9 0 1 / poke 9 0 1 / poke 0 60 1 = 1 begin 1 / 1 insert damaged 0 0000000000000000 0000000000000001 / 1 died / 2 poke ok / 2 poke out of range / 2 poke out of range / 2 poke out of range / 2 poke ok";
 
 /// Checkpoints beside writers and beside each other.
 pub const CHECKPOINTS: &str =
@@ -79,7 +87,9 @@ pub const FULL_LOGS: &str =
 # the taking back took 57, and the end of the transaction 18
 1 1 200 ; begin / insert 1 a / commit = 1 begin 1 / 1 insert log full 184 200 / 1 commit ok ; begin / get 1 / commit / audit = 1 begin log full 259 200 / 1 audit clean
 # the answer of the get would take 19
-1 1 80 ; begin / get 5 / commit = 1 begin 1 / 1 get log full 68 80 / 1 commit ok";
+1 1 80 ; begin / get 5 / commit = 1 begin 1 / 1 get log full 68 80 / 1 commit ok
+# 10 bytes, two begins, an end of 9, the insert with 268, its commit with 18: there is no room for the second client's next try
+1 1 310 ; begin / insert 5 a / commit | begin / insert 5 b / commit / audit = 1 begin 1 / 1 insert ok / 1 commit ok / 2 begin 2 / 2 aborted / 2 begin log full 323 310 / 2 audit clean";
 
 /// From how many calls on, and below how many: what is said in a round where the store passes so many calls on behind a format.
 pub const FAULTS: &str =
@@ -100,6 +110,14 @@ pub const FAULTS: &str =
 8 9 ; poke 1 9 ff / checkpoint / begin = 1 poke ok / 1 checkpoint failed 1 / 1 begin stopped damage 1
 # others are refused from then on
 0 4 ; begin / insert 5 a / commit | begin / insert 6 b / get 6 / commit = 1 begin 1 / 1 insert ok / 1 commit store stopped / 2 begin 2 / 2 insert ok / 2 get stopped store / 2 commit stopped store
+# who waits for the holder begins again, and is refused
+0 4 ; begin / insert 5 a / commit | begin / insert 5 b / commit = 1 begin 1 / 1 insert ok / 1 commit store stopped / 2 begin 2 / 2 aborted / 2 begin stopped store
+# what is open stays open
+0 4 ; begin / insert 5 a / commit | begin / insert 6 b = 1 begin 1 / 1 insert ok / 1 commit store stopped / 2 begin 2 / 2 insert ok / 2 left open
+4 5 ; begin / insert 5 a / commit | begin / insert 6 b = 1 begin 1 / 1 insert ok / 1 commit ok / 2 begin 2 / 2 insert ok / 2 aborted
+0 4 ; begin / insert 5 a / commit | begin / insert 6 b / abort = 1 begin 1 / 1 insert ok / 1 commit store stopped / 2 begin 2 / 2 insert ok / 2 abort stopped store
+# a client died before
+0 4 ; begin / die 1 / insert 5 abc | poke 9 0 1 / begin / insert 6 d / commit / begin = 1 begin 1 / 1 died / 2 poke out of range / 2 begin 2 / 2 insert ok / 2 commit store stopped / 2 begin stopped store
 # a checkpoint starts behind the put: it flushes three records by four calls, and writes the header; it copies a region in
 # the turns of the entry and of the answer; the commit is flushed by the eighth call to the eleventh, and the settlement
 # flushes the transaction's end

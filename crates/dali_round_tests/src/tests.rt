@@ -9,6 +9,7 @@ use crate::tables::{
 use crate::texts::text_of;
 use anyhow::{Context, Result};
 use dali_geometry::Geometry;
+use dali_locks::{LockAnswer, Mode};
 use dali_memstore::{CallKind, Fuse, Hook, MemoryStore, Watch};
 use dali_restart::{Report, format, restart};
 use dali_round::{Block, Gate, OpenGate, RoundEnd, Transcript, round};
@@ -121,15 +122,59 @@ fn blocks_of(alloc: Global, texts: &str) -> Result<Vec<Block>> {
     Ok(blocks)
 }
 
-// How many of the transcripts have this receipt.
-fn owners(transcripts: &[Transcript], number: u64) -> usize {
-    transcripts
-        .iter()
-        .filter(|transcript| transcript.receipts().contains(&number))
-        .count()
+// Whether each record of a round, from one number on and below another, has one owner.
+fn have_one_owner(
+    alloc: Global,
+    first: u64,
+    behind: u64,
+    transcripts: &[Transcript],
+) -> Result<bool> {
+    let mut owners: Vec<u8> = Vec::new(alloc);
+    for _ in first..behind {
+        owners.push(0)?;
+    }
+    for transcript in transcripts {
+        for number in transcript.receipts() {
+            if *number < first {
+                return Ok(false);
+            }
+            match owners.get_mut((*number - first) as usize) {
+                Some(count) => *count = count.saturating_add(1),
+                None => return Ok(false),
+            }
+        }
+    }
+    Ok(owners.iter().all(|count| *count == 1))
 }
 
-// A round of these blocks that ends with each client done.
+// Whether each record of a round has one owner, and no live hold and no checkpoint's flag is left.
+fn is_left_clean<V: Store>(
+    alloc: Global,
+    core: &mut Core<V>,
+    first: u64,
+    transcripts: &[Transcript],
+) -> Result<bool>
+    ensures regions { core.new.regions ≡ core.old.regions }
+    ensures vault { core.new.vault ≡ core.old.vault }
+{
+    if !have_one_owner(alloc, first, core.system.records(), transcripts)? {
+        return Ok(false);
+    }
+    for region in &core.regions {
+        if let Some(hold) = region.hold() {
+            if !hold.dead {
+                return Ok(false);
+            }
+        }
+    }
+    if !core.system.start_copy() {
+        return Ok(false);
+    }
+    core.system.end_copy();
+    Ok(true)
+}
+
+// A round of these blocks that ends with each client done, and leaves nothing open.
 fn done<V: Store + Drop, G: Gate>(
     alloc: Global,
     core: Core<V>,
@@ -144,35 +189,15 @@ fn done<V: Store + Drop, G: Gate>(
     if !are_blocks(&blocks) {
         anyhow::bail!("no blocks");
     }
-    let (core, transcripts, end) = round(alloc, core, &blocks, precheck, gate);
+    let first = core.system.records();
+    let (mut core, transcripts, end) = round(alloc, core, &blocks, precheck, gate);
     if end != RoundEnd::Done {
         anyhow::bail!("the round ended early");
     }
+    if !is_left_clean(alloc, &mut core, first, &transcripts)? {
+        anyhow::bail!("not left clean");
+    }
     Ok((core, transcripts))
-}
-
-// Whether each record of a round has one owner, and no live hold and no checkpoint's flag is left.
-fn is_left_clean<V: Store>(core: &mut Core<V>, first: u64, transcripts: &[Transcript]) -> bool
-    ensures regions { core.new.regions ≡ core.old.regions }
-    ensures vault { core.new.vault ≡ core.old.vault }
-{
-    for number in first..core.system.records() {
-        if owners(transcripts, number) != 1 {
-            return false;
-        }
-    }
-    for region in &core.regions {
-        if let Some(hold) = region.hold() {
-            if !hold.dead {
-                return false;
-            }
-        }
-    }
-    if !core.system.start_copy() {
-        return false;
-    }
-    core.system.end_copy();
-    true
 }
 
 // What the clients of a round say.
@@ -185,11 +210,7 @@ fn play<V: Store + Drop>(
     requires { IfSome (V.told core.vault.store) (HoldsPlaces core.regions.items) }
     ensures { IfOk result (λ played. IfSome (V.told played.0.vault.store) (HoldsPlaces played.0.regions.items)) }
 {
-    let first = core.system.records();
-    let (mut core, transcripts) = done(alloc, core, precheck, texts, &OpenGate)?;
-    if !is_left_clean(&mut core, first, &transcripts) {
-        anyhow::bail!("not left clean");
-    }
+    let (core, transcripts) = done(alloc, core, precheck, texts, &OpenGate)?;
     Ok((core, text_of(alloc, &transcripts)?))
 }
 
@@ -556,6 +577,94 @@ fn the_thousandth_try_is_the_last(rt: HostRuntime) -> Result<()> {
     Ok(())
 }
 
+// What is said in a round that waits at last for a transaction which no client of it has: nobody goes on, and it is cut.
+fn said_beside_a_stranger<V: Store + Drop>(alloc: Global, store: V, texts: &str) -> Result<String> {
+    let mut core = core_of(alloc, store, (1, 1), 1_000_000)?;
+    let Ok((stranger, _)) = core.system.begin() else {
+        anyhow::bail!("no begin");
+    };
+    let Ok(LockAnswer::Granted) = core.system.request(stranger, 5, Mode::Exclusive) else {
+        anyhow::bail!("no lock");
+    };
+    let blocks = blocks_of(alloc, texts)?;
+    if !are_blocks(&blocks) {
+        anyhow::bail!("no blocks");
+    }
+    let first = core.system.records();
+    let (mut core, transcripts, end) = round(alloc, core, &blocks, false, &OpenGate);
+    if end != RoundEnd::OutOfMemory {
+        anyhow::bail!("the round wasn't cut");
+    }
+    if !is_left_clean(alloc, &mut core, first, &transcripts)? {
+        anyhow::bail!("not left clean");
+    }
+    text_of(alloc, &transcripts)
+}
+
+// The second client and the third one are done, and the first one waits.
+#[test]
+fn a_round_is_cut_where_nobody_goes_on(rt: HostRuntime) -> Result<()> {
+    let alloc = rt.alloc();
+    let said = said_beside_a_stranger(
+        alloc,
+        whole_store(alloc),
+        "begin / insert 5 a / commit | begin / insert 6 b / commit | checkpoint",
+    )?;
+    assert_eq!(rt;
+        said.as_str(),
+        "1 begin 2 / 1 aborted / 2 begin 3 / 2 insert ok / 2 commit ok / 3 checkpoint 1"
+    );
+    Ok(())
+}
+
+// What is said behind a restart with a smaller limit, over a log to which a transaction with so many gets of a missing key
+// was added.
+fn said_over_a_long_log<V: Store + Drop>(
+    alloc: Global,
+    store: V,
+    gets: u64,
+    limit: u64,
+    texts: &str,
+) -> Result<String> {
+    if limit > 268_435_456 {
+        anyhow::bail!("no limit");
+    }
+    let mut before = String::new(alloc);
+    before.push_str("begin")?;
+    for _ in 0..gets {
+        before.push_str(" / get 5")?;
+    }
+    before.push_str(" / commit")?;
+    let core = core_of(alloc, store, (1, 1), 10_000_000)?;
+    let (core, _said) = play(alloc, core, false, &before)?;
+    match restart(alloc, core.into_store(), limit) {
+        Ok((core, _report)) => {
+            let (_core, said) = play(alloc, core, false, texts)?;
+            Ok(said)
+        }
+        Err(_) => anyhow::bail!("no restart"),
+    }
+}
+
+// 10 bytes, a begin of 9, 68 for each get, a commit of 9, whose end isn't flushed, and the restart with 9; the begin of an audit
+// may go 1,048,576 bytes past the limit.
+#[test]
+fn an_audit_is_refused_a_megabyte_past_the_limit(rt: HostRuntime) -> Result<()> {
+    let alloc = rt.alloc();
+    let said = said_over_a_long_log(
+        alloc,
+        whole_store(alloc),
+        15_500,
+        1_000,
+        "begin / get 5 / commit / audit / checkpoint",
+    )?;
+    assert_eq!(rt;
+        said.as_str(),
+        "1 begin log full 1054037 1000 / 1 audit log full 1054037 1049576 / 1 checkpoint log full 1054037 1049576"
+    );
+    Ok(())
+}
+
 // The numbers from 1 to this one.
 fn counted_to(alloc: Global, last: u32) -> Result<Vec<u32>> {
     let mut numbers = Vec::new(alloc);
@@ -568,15 +677,17 @@ fn counted_to(alloc: Global, last: u32) -> Result<Vec<u32>> {
 #[test]
 fn the_gate_is_told_of_each_operation(rt: HostRuntime) -> Result<()> {
     let alloc = rt.alloc();
-    for (text, passed) in [
+    for (limit, text, passed) in [
         // three of the insert, and two of the get
-        ("begin / insert 5 a / get 5 / commit", 5),
+        (1_000_000, "begin / insert 5 a / get 5 / commit", 5),
         // the one in which the client dies is told of
-        ("begin / die 2 / insert 5 a / get 5 / commit", 2),
+        (1_000_000, "begin / die 2 / insert 5 a / get 5 / commit", 2),
         // what an abort takes back isn't
-        ("begin / insert 5 a / abort", 3),
+        (1_000_000, "begin / insert 5 a / abort", 3),
+        // the log has no room for the insert's third one, and a fourth one takes back the second one
+        (200, "begin / insert 1 a / commit", 4),
     ] {
-        let core = core_of(alloc, whole_store(alloc), (1, 1), 1_000_000)?;
+        let core = core_of(alloc, whole_store(alloc), (1, 1), limit)?;
         let gate = Recorder::new(alloc);
         let (_core, _transcripts) = done(alloc, core, false, text, &gate)?;
         let points = gate.points_of(1)?;
@@ -602,9 +713,13 @@ fn said_beside<V: Store + Drop>(
         anyhow::bail!("no blocks");
     }
     let gate = Recorder::new(alloc);
-    let (_core, transcripts, end) = round(alloc, core, &[first, second], false, &gate);
+    let number = core.system.records();
+    let (mut core, transcripts, end) = round(alloc, core, &[first, second], false, &gate);
     if end != RoundEnd::Done {
         anyhow::bail!("the round ended early");
+    }
+    if !is_left_clean(alloc, &mut core, number, &transcripts)? {
+        anyhow::bail!("not left clean");
     }
     Ok((transcripts, gate.points_of(client)?))
 }

@@ -33,7 +33,7 @@ use Rattle.dali_run.specs.Steps.{CleansAll, CleansUp, HasCleanedUp, IsSame}
 use Rattle.dali_run.proofs.Cleaned.{places_stay}
 
 -- ---- rows
-abbrev AllDead : SystemState → Type 0
+abbrev pub AllDead : SystemState → Type 0
 AllDead y = (t : ℕ) → IsSome (row_of y t) → is_dead_in (state_of y t) ≡ true
 
 dead_row : (o p : Option TxnRow) → IsDead (state_in o) → p ≡ option_map (with_state (Dead None)) o → is_dead_in (state_in p) ≡ true
@@ -67,7 +67,7 @@ flags_go (x ∷ xs) p q course tells =
     (rest.0, rest.1 ∙ flag_changes p course.0 (Does x) course.1)
 
 module _ {V : Type 0} (told : V → Option Disk) (may_leave : V → Disk → Type 0) (faults : V → ℕ) where
-  abbrev At : Start → List (List Record) → Point → List RegionState → SystemState → Vaulted (Fuse V) → Type 0
+  abbrev pub At : Start → List (List Record) → Point → List RegionState → SystemState → Vaulted (Fuse V) → Type 0
   At s B p gs y v = BeginsAt (told_in told) (leaves_in may_leave) (faults_in faults) s B p gs y v
 
   all_dead : (u : ℕ) (c d : Core (Fuse V)) → HasCleanedUp told may_leave faults u c d → AllDead c.system.state → AllDead d.system.state
@@ -134,7 +134,7 @@ module _ {V : Type 0} (told : V → Option Disk) (may_leave : V → Disk → Typ
       subst (λ (w : Vaulted (Fuse V)). At s B p d.regions.items d.system.state w) (sym same.vault)
       (subst (λ (y : Served). At s B p d.regions.items y.state c.vault) (sym same.system) (subst (λ (gs : List RegionState). At s B p gs c.system.state c.vault) (sym same.regions) begins))
 
-  moved_one : (s : Start) (B : List (List Record)) (p : Point) (t : ℕ) (c d : Core (Fuse V)) → CleansUp told may_leave faults t c d → At s B p c.regions.items c.system.state c.vault
+  pub moved_one : (s : Start) (B : List (List Record)) (p : Point) (t : ℕ) (c d : Core (Fuse V)) → CleansUp told may_leave faults t c d → At s B p c.regions.items c.system.state c.vault
       → AllDead c.system.state → c.vault.stopped ≡ false → Moved s B p d × (d.vault.stopped ≡ false)
   moved_one s B p t c d (inl one) begins all runs = (cleaned_up s B p t c d one begins all runs, ap (λ (w : Vaulted (Fuse V)). w.stopped) one.vault ∙ runs)
   moved_one s B p t c d (inr none) begins all runs = (

@@ -2,9 +2,9 @@
 use Rattle.std.proofs.Common.{◌≡◌, ◌≤◌, ◌<◌, ℕ, ◌+◌, zero, suc, Bool, true, false, List, [], ◌∷◌, ◌++◌, Option, Some, None, length, take, refl, sym, ◌∙◌, ap, subst, inl, inr, arith}
 use Rattle.std.specs.Prelude.{IfSome, is_some}
 use Rattle.std.specs.List.{AllByRecursion}
+use Rattle.dali_arguments.specs.declared.task.Task.TheVariants.{Run}
 use Rattle.dali_batch.specs.Batch.{IsUnformatted}
 use Rattle.dali_memstore.specs.Fuse.{inner, passes_of}
-use Rattle.dali_memstore.specs.declared.fuse.Fuse.{Fuse}
 use Rattle.dali_record.specs.declared.records.Record.{Record}
 use Rattle.dali_restart.specs.Formatted.{first_record}
 use Rattle.dali_script.specs.declared.commands.Command.{Command}
@@ -16,21 +16,20 @@ use Rattle.dali_script.proofs.RightScripts.{right_script}
 use Rattle.dali_store.specs.Faults.{Rose}
 use Rattle.dali_store.specs.Store.{Files as Disk}
 use Rattle.dali_streams.specs.Streams.{ReadAll, ReadTooMany}
-use Rattle.dali_run.specs.declared.halt.Halt.{Halt}
 use Rattle.dali_run.specs.declared.halt.Halt.TheVariants as halts
 use Rattle.dali_run.specs.declared.program.Program.{Program}
-use Rattle.dali_run.specs.declared.program.Program.TheVariants.{Up, Down}
 use Rattle.dali_run.specs.declared.status.Status.{Status}
 use Rattle.dali_run.specs.declared.status.Status.TheVariants.{Done, BadWords, BadScript, TooLong, ReadFault, WriteFault, StoreFault, BadStore, Unformatted, Formatted, OutOfMemory, LogFull}
 use Rattle.dali_run.specs.Complete.{FaultRises, FindsItsGate, IsRead, MayEnd, NoneRises, RunsComplete, StoreFaultsRise}
-use Rattle.dali_run.specs.Ends.{Course, HasEnded, HasStopped, Spells, SpellsNone}
+use Rattle.dali_run.specs.Ends.{Course, EndsAs, HasStopped}
 use Rattle.dali_run.specs.Fails.{IsSize, Opens}
-use Rattle.dali_run.specs.Program.{IsDown, store_of}
+use Rattle.dali_run.specs.Program.{store_of}
 use Rattle.dali_run.specs.Run.{HasRun}
-use Rattle.dali_run.specs.Survives.{BeginsWith, IsHonest, IsOwn, StopIsHonest, NoneEscapeThere}
+use Rattle.dali_run.specs.Scripts.{Spells, SpellsNone}
+use Rattle.dali_run.specs.Survives.{BeginsWith, IsOwn, NoneEscapeThere, NoneEscapesBefore, NoneEscapesIn, ScriptIsHonest}
 use Rattle.dali_run.specs.Told.{sizes_of}
 use Rattle.dali_run.proofs.Failing.{fault_rises}
-use Rattle.dali_run.proofs.Surviving.{begins_down, grows, made_some, none_yet, own_same, own_store, runs_survive, there}
+use Rattle.dali_run.proofs.Surviving.{begins_down, grows, made_some, none_yet, own_store, script_survives, there}
 
 -- ---- what was read
 same_bytes : (o : Option (List ℕ)) (bytes read : List ℕ) (rest : Option (List ℕ)) → o ≡ Some bytes → ReadAll o read rest → read ≡ bytes
@@ -97,7 +96,7 @@ module _ {V : Type 0} (told : V → Option Disk) (may_leave : V → Disk → Typ
   is_no_database None tells none some = absurd cc
   is_no_database (Some fs) tells none some = some none
 
-  module _ (words : List (List ℕ)) (c : Course V) (base : List Record) (own : IsOwn told may_leave base c.store) where
+  module _ (c : Course V) (base : List Record) (own : IsOwn told may_leave base c.store) where
     never_formatted : (script : List Command) (n : ℕ) (x : Command) (text : List ℕ) (state : Program V) → BeginsOnce script → FindsItsGate told base script c.store
         → take (n + 1) script ≡ take n script ++ x ∷ [] → IsSize x → HasRun told may_leave moment left_since faults limit cuts precheck c.store script n text state
         → IfSome (told (inner (store_of state))) (λ fs. IsUnformatted fs.log → ⊥) → ⊥
@@ -119,26 +118,27 @@ module _ {V : Type 0} (told : V → Option Disk) (may_leave : V → Disk → Typ
     never_unformatted : (script : List Command) (n : ℕ) (x : Command) (text : List ℕ) (state : Program V) → BeginsOnce script → FindsItsGate told base script c.store
         → take (n + 1) script ≡ take n script ++ x ∷ [] → Opens x
         → (run : HasRun told may_leave moment left_since faults limit cuts precheck c.store script n text state)
-        → NoneEscapeThere told may_leave moment left_since faults limit cuts precheck c.store script n text state run
+        → NoneEscapeThere told may_leave moment left_since faults limit cuts precheck c.store script n text state run → NoneEscapesIn told may_leave state
         → IfSome (told (inner (store_of state))) (λ fs. IsUnformatted fs.log) → ⊥
     unfolding there
-    never_unformatted [] n x text state once gate next is run honest none = once
-    never_unformatted (Open ∷ later) n x text state once gate next is run honest none =
+    never_unformatted [] n x text state once gate next is run honest last none = once
+    never_unformatted (Open ∷ later) n x text state once gate next is run honest last none =
         let gone = there told may_leave moment left_since faults reads_now counts_now limit cuts precheck base c.store (Open ∷ later) n text state run own honest in
         let empty = none_yet told may_leave moment left_since faults reads_now counts_now gone.log (inner (store_of state))
-        (own_store told may_leave faults gone.log state gone.point gone.none) none in
+        (own_store told may_leave faults gone.log state gone.point last) none in
         some_first base gone.log
-        (grows told may_leave moment left_since faults reads_now counts_now limit cuts precheck (take n (Open ∷ later)) base run.first text state run.runs gone.log gone.each) empty gate
-    never_unformatted (Size index heap ∷ later) zero x text state once gate next is run honest none =
+        (grows told may_leave moment left_since faults reads_now counts_now limit cuts precheck (take n (Open ∷ later)) base run.first
+        (begins_down told may_leave faults base run.first c.store run.down own) text state run.runs gone.log gone.each) empty gate
+    never_unformatted (Size index heap ∷ later) zero x text state once gate next is run honest last none =
         subst Opens (sym (first_is (Size index heap) x later next)) is
-    never_unformatted (Size index heap ∷ later) (suc n) x text state once gate next is run honest none =
+    never_unformatted (Size index heap ∷ later) (suc n) x text state once gate next is run honest last none =
         let a = begins_down told may_leave faults base run.first c.store run.down own in
         let gone = there told may_leave moment left_since faults reads_now counts_now limit cuts precheck base c.store (Size index heap ∷ later) (suc n) text state run own honest in
         let empty = none_yet told may_leave moment left_since faults reads_now counts_now gone.log (inner (store_of state))
-        (own_store told may_leave faults gone.log state gone.point gone.none) none in
+        (own_store told may_leave faults gone.log state gone.point last) none in
         some_first (first_record (sizes_of index heap) ∷ []) gone.log
         (made_some told may_leave moment left_since faults reads_now counts_now limit cuts precheck index heap (take n later) base run.first text state run.runs a honest) empty (omega arith)
-    never_unformatted _ n x text state once gate next is run honest none = gate
+    never_unformatted _ n x text state once gate next is run honest last none = gate
 
     -- a database is made by the first command, before which no fuse is set
     unfused : (script : List Command) (n : ℕ) (x : Command) (text : List ℕ) (state : Program V) → BeginsOnce script → take (n + 1) script ≡ take n script ++ x ∷ []
@@ -148,58 +148,58 @@ module _ {V : Type 0} (told : V → Option Disk) (may_leave : V → Disk → Typ
         let zero_is : n ≡ 0 = size_is_first script n x once (subst (λ (m : ℕ). take m script ≡ take n script ++ x ∷ []) more next) is in
         unfused_at_first c.store script text state (subst (λ (m : ℕ). HasRun told may_leave moment left_since faults limit cuts precheck c.store script m text state) zero_is run)
 
-    pub store_rises : (e : HasEnded told may_leave moment left_since faults limit cuts precheck words c StoreFault)
-        → IsHonest told may_leave moment left_since faults limit cuts precheck words c e.mid e.count StoreFault e.ended
-        → FaultRises told may_leave moment left_since faults limit cuts precheck words c e.mid e.count e.ended.1
+    pub store_rises : (e : EndsAs told may_leave moment left_since faults cuts (Some (Run precheck limit)) c StoreFault)
+        → NoneEscapesBefore told may_leave moment left_since faults limit cuts precheck c e.mid e.count StoreFault e.ended
+        → FaultRises told may_leave moment left_since faults limit cuts precheck c e.mid e.count e.ended
     store_rises e honest =
-        let stopped : HasStopped told may_leave moment left_since faults limit cuts precheck words halts.StoreFault c e.mid = e.ended.1 in
+        let stopped : HasStopped told may_leave moment left_since faults limit cuts precheck halts.StoreFault c e.mid = e.ended in
         let stops = stopped.2 in
         let once = (right_script stopped.1.bytes stopped.0 stopped.1.spelled).once in
-        let gone = there told may_leave moment left_since faults reads_now counts_now limit cuts precheck base c.store stopped.0 stops.count stops.text stops.state stops.run own honest.0 in
+        let gone = there told may_leave moment left_since faults reads_now counts_now limit cuts precheck base c.store stopped.0 stops.count stops.text stops.state stops.run own honest in
         fault_rises told may_leave moment left_since faults precheck stops.command gone.log stops.state stops.last gone.point
         (λ is. unfused stopped.0 stops.count stops.command stops.text stops.state once stops.next.next stops.run is) stops.fails
 
-    script_is : (s script : List Command) → IsRead words c script → Spells c.left s c.left' → s ≡ script
+    script_is : (s script : List Command) → IsRead c script → Spells c.left s c.left' → s ≡ script
     script_is s script read spells =
         one_script read.bytes s script
         (subst (λ (b : List ℕ). IsSpelled b s) (same_bytes c.left read.bytes spells.bytes c.left' read.left spells.all) spells.spelled) read.spelled
 
-    pub may_end : (status : Status) (script : List Command) → IsRead words c script → FindsItsGate told base script c.store
-        → (e : HasEnded told may_leave moment left_since faults limit cuts precheck words c status)
-        → IsHonest told may_leave moment left_since faults limit cuts precheck words c e.mid e.count status e.ended
-        → NoneRises told may_leave moment left_since faults limit cuts precheck words c e.mid e.count status e.ended
+    pub may_end : (status : Status) (script : List Command) → IsRead c script → FindsItsGate told base script c.store
+        → (e : EndsAs told may_leave moment left_since faults cuts (Some (Run precheck limit)) c status)
+        → ScriptIsHonest told may_leave moment left_since faults limit cuts precheck c e.mid e.count status e.ended
+        → NoneRises told may_leave moment left_since faults limit cuts precheck c e.mid e.count status e.ended
         → MayEnd status
     may_end Done script read gate e honest calm = tt
     may_end OutOfMemory script read gate e honest calm = tt
-    may_end ReadFault script read gate e honest calm = absurd (calm.source e.ended.1)
-    may_end WriteFault script read gate e honest calm = absurd (calm.sink (risen_on c.write_faults e.count c.write_faults' e.ended.1 e.later))
-    may_end StoreFault script read gate e honest calm = absurd (calm.store (store_rises e honest))
-    may_end BadWords script read gate e honest calm = e.ended.0 read.words_are
+    may_end ReadFault script read gate e honest calm = absurd (calm.source e.ended.0)
+    may_end WriteFault script read gate e honest calm = absurd (calm.sink (risen_on c.write_faults e.count c.write_faults' e.ended.0 e.later))
+    may_end StoreFault script read gate e honest calm = absurd (calm.store (store_rises e honest.0))
+    may_end BadWords script read gate e honest calm = e.ended
     may_end (BadScript line kind) script read gate e honest calm =
-        let none : SpellsNone c.left line kind c.left' = e.ended.1 in
+        let none : SpellsNone c.left line kind c.left' = e.ended.0 in
         never_both read.bytes script line kind read.spelled
         (subst (λ (b : List ℕ). IsWrong b line kind) (same_bytes c.left read.bytes none.bytes c.left' read.left none.all) none.wrong)
-    may_end TooLong script read gate e honest calm = too_many c.left read.bytes 1048576 c.left' read.left read.short e.ended.1
+    may_end TooLong script read gate e honest calm = too_many c.left read.bytes 1048576 c.left' read.left read.short e.ended.0
     may_end (BadStore file at) script read gate e honest calm =
-        runs_survive told may_leave moment left_since faults reads_now counts_now limit cuts precheck words c (BadStore file at) base own e honest
+        script_survives told may_leave moment left_since faults reads_now counts_now limit cuts precheck c e.mid e.count base own (BadStore file at) e.ended honest
     may_end (LogFull end most) script read gate e honest calm = e.ended
     may_end Formatted script read gate e honest calm =
-        let stopped : HasStopped told may_leave moment left_since faults limit cuts precheck words halts.Formatted c e.mid = e.ended.1 in
+        let stopped : HasStopped told may_leave moment left_since faults limit cuts precheck halts.Formatted c e.mid = e.ended in
         let same = script_is stopped.0 script read stopped.1 in
         let stops = stopped.2 in
         never_formatted stopped.0 stops.count stops.command stops.text stops.state
         (subst BeginsOnce (sym same) (right_script read.bytes script read.spelled).once)
         (subst (λ (s : List Command). FindsItsGate told base s c.store) (sym same) gate) stops.next.next stops.fails.0 stops.run stops.fails.1
     may_end Unformatted script read gate e honest calm =
-        let stopped : HasStopped told may_leave moment left_since faults limit cuts precheck words halts.Unformatted c e.mid = e.ended.1 in
+        let stopped : HasStopped told may_leave moment left_since faults limit cuts precheck halts.Unformatted c e.mid = e.ended in
         let same = script_is stopped.0 script read stopped.1 in
         let stops = stopped.2 in
         never_unformatted stopped.0 stops.count stops.command stops.text stops.state
         (subst BeginsOnce (sym same) (right_script read.bytes script read.spelled).once)
-        (subst (λ (s : List Command). FindsItsGate told base s c.store) (sym same) gate) stops.next.next stops.fails.0 stops.run honest.0 stops.fails.1
+        (subst (λ (s : List Command). FindsItsGate told base s c.store) (sym same) gate) stops.next.next stops.fails.0 stops.run honest.0 honest.1 stops.fails.1
 
   pub store_faults_rise : StoreFaultsRise told may_leave moment left_since faults limit cuts precheck
-  store_faults_rise words c base own e honest = store_rises words c base own e honest
+  store_faults_rise c base own e honest = store_rises c base own e honest
 
   pub runs_complete : RunsComplete told may_leave moment left_since faults limit cuts precheck
-  runs_complete words c status base script own read gate e honest calm = may_end words c base own status script read gate e honest calm
+  runs_complete c status base script own read gate e honest calm = may_end c base own status script read gate e honest calm

@@ -13,7 +13,7 @@ use Rattle.dali_run.specs.declared.halt.Halt.{Halt}
 use Rattle.dali_run.specs.declared.halt.Halt.TheVariants.{BadWords, BadScript, TooLong, ReadFault, WriteFault, StoreFault, BadStore, Unformatted, Formatted, LogFull, OutOfMemory}
 use Rattle.dali_run.specs.declared.program.Program.{Program}
 use Rattle.dali_run.specs.Program.{HoldsImages, IsDown, store_of}
-use Rattle.dali_run.specs.Ends.{RanWhole, StoppedIn}
+use Rattle.dali_run.specs.Scripts.{RanWhole, StoppedIn}
 use Rattle.dali_run.specs.Fails.{Fails}
 use Rattle.dali_run.specs.Run.{RunsAll, HasRun}
 use Rattle.dali_run.specs.Steps.{Steps}

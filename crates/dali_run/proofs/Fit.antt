@@ -59,7 +59,7 @@ told_at bs i t e =
     let found = told_from (slice_get bs i) t (sym (slice_get-map told_by bs i) ∙ e) in
     record { block = found.0; here = found.1; same = found.2 }
 
-right_blocks : (bs : List Block) → IsRightRound bs → AreBlocks (map told_by bs)
+pub right_blocks : (bs : List Block) → IsRightRound bs → AreBlocks (map told_by bs)
 right_blocks bs right = record {
   numbers = λ i t e.
       let at = told_at bs i t e in

@@ -1,20 +1,32 @@
 mod Courses
-mod OneWord
 mod Fronts
 mod Fuses
 mod Fusing
 mod Pieces
 mod RoundCalls
+mod Serving
 mod Fit
 mod RoundTexts
 mod Alone
 mod StoreCalls
 mod OnlyRead
 mod Comparisons
-pub mod Surviving
+mod Surviving
+pub mod Survived
+mod Serves
+mod Summarized
+mod Generated
+mod LastLines
 mod Cleaned
 mod Cleanings
 mod Unpoked
 mod Failing
 mod Completing
 mod Straying
+mod Pokings
+mod Sums
+mod Marks
+mod Telling
+mod Unharmed
+mod Unstrayed
+mod Honest

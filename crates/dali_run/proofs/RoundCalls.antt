@@ -79,7 +79,7 @@ module _ {V : Type 0} (told : V → Option Files) (may_leave : V → Files → T
       → Plays told may_leave faults precheck true (map told_of bs) c ts d
   plays_done bs c d end ts is goes = subst (λ (e : RoundEnd). Goes bs c e ts d) is goes
 
-  pub was_played : (bs : List Block) (c d : Core (Fuse V)) (end : RoundEnd) (ts : List Transcribed) → Goes bs c end ts d → IsNoShorter (told_in told) c.vault d.vault
+  abbrev pub was_played : (bs : List Block) (c d : Core (Fuse V)) (end : RoundEnd) (ts : List Transcribed) → Goes bs c end ts d → IsNoShorter (told_in told) c.vault d.vault
       → Played told may_leave faults precheck (map told_of bs) c d.vault.store
   was_played bs c d end ts goes longer = record { whole = is_done end; transcripts = ts; core = d; plays = goes; longer = longer; store = refl }
 

@@ -1,118 +1,180 @@
--- An audit outside of a round names just the regions whose stray writes don't cancel.
-use Rattle.std.proofs.Common.{◌≡◌, ◌≢◌, ℕ, zero, suc, Bool, true, false, List, [], ◌∷◌, ◌++◌, Option, Some, None, length, take, refl, sym, ◌∙◌, ap, subst, inl, inr, ⊎_elim}
-use Rattle.std.specs.Prelude.{◌⊎◌, ◌↔◌, ◌==◌, ◌&&◌, ◌||◌, Contains, if◌then◌else◌, slice_get}
-use Rattle.std.specs.List.{list_all, list_any}
+-- An audit or a checkpoint outside of a round names just the regions whose stray writes don't cancel.
+use Rattle.std.proofs.Common.{◌≡◌, ◌≢◌, ◌<◌, ℕ, zero, suc, Bool, true, false, List, [], ◌∷◌, ◌++◌, Option, Some, None, length, map, take, refl, sym, ◌∙◌, ap, subst, inl, inr, ⊎_elim, arith}
+use Rattle.std.specs.Prelude.{◌⊎◌, ◌↔◌, ◌==◌, ◌&&◌, ◌||◌, Contains, IsSome, flat_map, fold, if◌then◌else◌, nat_lt, not, slice_get}
+use Rattle.std.specs.List.{AllByRecursion, list_all, list_any}
 use Rattle.std.proofs.lemmas.List.{append-nil}
-use Rattle.std.proofs.lemmas.Bool.{eqb-true}
+use Rattle.std.proofs.lemmas.Bool.{eqb-true, ltb-true}
+use Rattle.dali_clients.specs.Said.{Transcribed}
+use Rattle.dali_memstore.specs.declared.fuse.Fuse.{Fuse}
+use Rattle.dali_geometry.specs.Places.{regions}
+use Rattle.dali_geometry.specs.Sizes.{Sizes}
 use Rattle.dali_record.specs.declared.records.Record.{Record}
+use Rattle.dali_record.specs.declared.records.Record.TheVariants.{AuditFail}
+use Rattle.dali_record.specs.Damage.{has}
+use Rattle.dali_record.specs.Legal.{Rules, kept_if, rules_next, rules_start}
+use Rattle.dali_record.specs.Spelling.{ascends}
 use Rattle.dali_region.specs.State.{RegionState}
+use Rattle.dali_report.specs.Lines.{alone_text}
+use Rattle.dali_round.specs.Leads.{lines_in}
 use Rattle.dali_store.specs.Store.{Files as Disk}
+use Rattle.dali_system.specs.Run.{LogRun}
 use Rattle.dali_system.specs.State.{CoreState}
 use Rattle.dali_system.specs.Steps.{audit_record}
-use Rattle.dali_transcripts.specs.Moves.{Receipt, Place, Outside, Spot, Move, Begins, BeginsAgain, IsRefusedBegin, Skips, Rests, Answers, IsRefusedCall, Dies, IsArmed, GivesWay, GivesUp, Commits, CommitFails, IsRefusedCommit, Aborts, IsRefusedAbort, Ends, StaysOpen, Pokes, PokesNothing, Audits as AuditsOnce, IsRefusedAudit, Checkpoints, FailsCheckpoint, IsRefusedCheckpoint, from, said, to, start, audit_own, failure_own}
-use Rattle.dali_transcripts.specs.Transcripts.{EachTells, IsPath, count_with, deeds_of, is_among, own_by, owned, said_by}
-use Rattle.dali_transcripts.specs.Words.{Act, Audits, Said, AuditSaid}
-use Rattle.dali_transcripts.specs.World.{Deed, Happening, Logs, Strays, World, stray_after}
+use Rattle.dali_transcripts.proofs.Owned.{own_ascend}
+use Rattle.dali_transcripts.specs.Laws.{IsIn}
+use Rattle.dali_transcripts.specs.Moves.{Receipt, Place, Outside, Spot, Move, Begins, BeginsAgain, IsRefusedBegin, Skips, Rests, Answers, IsRefusedCall, Dies, IsArmed, GivesWay, GivesUp, Commits, CommitFails, IsRefusedCommit, Aborts, IsRefusedAbort, Ends, StaysOpen, Pokes, PokesNothing, Audits as AuditsOnce, IsRefusedAudit, Checkpoints, FailsCheckpoint, IsRefusedCheckpoint, from, said, own, to, start, audit_own, failure_own, spanned}
+use Rattle.dali_transcripts.specs.Rounds.{HoldsTogether}
+use Rattle.dali_transcripts.specs.Transcripts.{EachTells, IsPath, IsTranscript, count_with, deeds_of, is_among, own_by, owned, said_by}
+use Rattle.dali_transcripts.specs.Words.{Act, Audits, Checkpoints as CheckpointAct, Said, AuditSaid, CheckpointSaid, CheckpointFailed, Refused}
+use Rattle.dali_transcripts.specs.World.{Deed, EndsCheckpoint, Happening, Logs, MovesAnchor, Strays, World, log_of, stray_after}
+use Rattle.dali_whole.specs.declared.whole.Core.{Core}
+use Rattle.dali_run.specs.Masks.{list_in}
+use Rattle.dali_run.specs.Steps.{ActsAlone}
 use Rattle.dali_run.specs.Strays.{LoneAuditTells}
+use Rattle.dali_run.specs.Survives.{IsPointOf}
+use Rattle.dali_run.specs.Texts.{alone_texts}
 use Rattle.dali_run.specs.Told.{alone}
 
 -- ---- the one step of the client
-abbrev is_audit : Act → Bool
-is_audit Audits = true
-is_audit act = false
+abbrev pub is_lone : Act → Bool
+is_lone Audits = true
+is_lone CheckpointAct = true
+is_lone act = false
 
 abbrev IsCalm : Place → Type 0
 IsCalm (Outside stopped) = Unit {0}
 IsCalm place = ⊥
 
-abbrev IsOfAudit : Move → Type 0
-IsOfAudit (AuditsOnce b n found failed rest) = Unit {0}
-IsOfAudit (IsRefusedAudit s work n why rest) = Unit {0}
-IsOfAudit x = ⊥
-
-of_audit : (x : Move) → IsCalm (from x).place → list_all is_audit (from x).rest ≡ true → IsOfAudit x
-of_audit (Begins t n rest) calm only = absurd (cc only)
-of_audit (BeginsAgain t n tries h rest) calm only = absurd calm
-of_audit (IsRefusedBegin place s n why rest) calm only = absurd (cc only)
-of_audit (Skips s act rest) calm only = absurd calm
-of_audit (Rests t act rest) calm only = absurd calm
-of_audit (Answers t tries cs d work n call a rest) calm only = absurd calm
-of_audit (IsRefusedCall t tries cs d s work n back call why rest) calm only = absurd calm
-of_audit (Dies t tries cs d work n r call rest) calm only = absurd calm
-of_audit (IsArmed t tries cs d s count rest) calm only = absurd calm
-of_audit (GivesWay t tries cs d work call f back end rest) calm only = absurd calm
-of_audit (GivesUp t tries cs d work call f back end rest) calm only = absurd calm
-of_audit (Commits t tries cs d n behind rest) calm only = absurd calm
-of_audit (CommitFails t tries cs d n m why rest) calm only = absurd calm
-of_audit (IsRefusedCommit t tries cs d s n why rest) calm only = absurd calm
-of_audit (Aborts t tries cs d work n rest) calm only = absurd calm
-of_audit (IsRefusedAbort t tries cs d s work n why rest) calm only = absurd calm
-of_audit (Ends t tries cs d work n) calm only = absurd calm
-of_audit (StaysOpen t tries cs d s work n cause) calm only = absurd calm
-of_audit (Pokes s n r w m rest) calm only = absurd (cc only)
-of_audit (PokesNothing s r w m rest) calm only = absurd (cc only)
-of_audit (AuditsOnce b n found failed rest) calm only = tt
-of_audit (IsRefusedAudit s work n why rest) calm only = tt
-of_audit (Checkpoints since b n m until current rest) calm only = absurd (cc only)
-of_audit (FailsCheckpoint since b n until r rs failed rest) calm only = absurd (cc only)
-of_audit (IsRefusedCheckpoint s span late work n why rest) calm only = absurd (cc only)
-
-speaks : (x : Move) (more : List Said) → IsOfAudit x → said x ++ more ≡ [] → ⊥
-speaks (AuditsOnce b n found failed rest) more is e = absurd (cc e)
-speaks (IsRefusedAudit s work n why rest) more is e = absurd (cc e)
-speaks x more is e = absurd is
-
--- its deeds are the records of an audit that found these regions, and maybe a failure behind them
-record Audited (found : List ℕ) (did : List Receipt) : Type 0 where
-  begin : ℕ
-  number : ℕ
-  failed : Option ℕ
-  did_is : did ≡ audit_own begin number found ++ failure_own failed
-
-first_audits : (w : World) (c : ℕ) (q : Spot) (x : Move) (xs : List Move) (found : List ℕ) → IsOfAudit x → IsPath w c (to x) xs q → IsCalm (to x).place → list_all is_audit (to x).rest ≡ true
-    → said x ++ said_by xs ≡ AuditSaid found ∷ [] → Audited found (own_by (x ∷ xs))
-first_audits w c q (AuditsOnce b n rs failed rest) [] found is path calm only says =
-    let same : rs ≡ found = cc says in
-    record {
-      begin = b;
-      number = n;
-      failed = failed;
-      did_is = append-nil (audit_own b n rs ++ failure_own failed) ∙ ap (λ (l : List ℕ). audit_own b n l ++ failure_own failed) same;
-    }
-first_audits w c q (AuditsOnce b n rs failed rest) (y ∷ ys) found is path calm only says =
-    absurd (speaks y (said_by ys)
-    (of_audit y (subst (λ (s : Spot). IsCalm s.place) path.0 calm) (subst (λ (s : Spot). list_all is_audit s.rest ≡ true) path.0 only))
-    (cc says))
-first_audits w c q (IsRefusedAudit s work n why rest) xs found is path calm only says = absurd (cc says)
-first_audits w c q x xs found is path calm only says = absurd is
-
-calm_behind : (x : Move) → IsOfAudit x → IsCalm (to x).place
-calm_behind (AuditsOnce b n found failed rest) is = tt
-calm_behind (IsRefusedAudit s work n why rest) is = tt
-calm_behind x is = absurd is
-
-only_behind : (x : Move) → IsOfAudit x → list_all is_audit (from x).rest ≡ true → list_all is_audit (to x).rest ≡ true
-only_behind (AuditsOnce b n found failed rest) is only = only
-only_behind (IsRefusedAudit s work n why rest) is only = only
-only_behind x is only = absurd is
-
-path_audits : (w : World) (c : ℕ) (p q : Spot) (xs : List Move) (found : List ℕ) → IsPath w c p xs q → IsCalm p.place → list_all is_audit p.rest ≡ true
-    → said_by xs ≡ AuditSaid found ∷ [] → Audited found (own_by xs)
-path_audits w c p q [] found path calm only says = absurd (cc says)
-path_audits w c p q (x ∷ xs) found path calm only says =
-    let only_there = subst (λ (s : Spot). list_all is_audit s.rest ≡ true) path.0 only in
-    let is = of_audit x (subst (λ (s : Spot). IsCalm s.place) path.0 calm) only_there in
-    first_audits w c q x xs found is path.2 (calm_behind x is) (only_behind x is only_there) says
-
--- ---- the deeds of a round of one client
 abbrev is_stray : Receipt → Bool
 is_stray (n, Strays region word mask) = true
 is_stray x = false
 
-none_strays : (begin number : ℕ) (found : List ℕ) (failed : Option ℕ) → list_any is_stray (audit_own begin number found ++ failure_own failed) ≡ false
-none_strays begin number found None = refl
-none_strays begin number found (Some n) = refl
+abbrev HasRecord : Record → List Receipt → Type 0
+HasRecord x [] = ⊥
+HasRecord x (y ∷ ys) = (y.1 ≡ Logs x) ⊎ HasRecord x ys
 
+-- it says one line; has it a list, then an audit that found these regions is among its deeds, and no stray write is
+pub record TellsOnce (lines : List Said) (did : List Receipt) : Type 0 where
+  pub line : Said
+  pub lines_are : lines ≡ line ∷ []
+  pub tells : (found : List ℕ) → list_in line ≡ Some found → (begin : ℕ) × HasRecord (audit_record begin found) did × (list_any is_stray did ≡ false)
+
+no_stray : (begin number : ℕ) (found : List ℕ) (failed : Option ℕ) → list_any is_stray (audit_own begin number found ++ failure_own failed) ≡ false
+no_stray begin number found None = refl
+no_stray begin number found (Some n) = refl
+
+no_stray_between : (since until begin number : ℕ) (found : List ℕ) (failed : Option ℕ)
+    → list_any is_stray (spanned (Some (since, until)) (audit_own begin number found ++ failure_own failed)) ≡ false
+no_stray_between since until begin number found None = refl
+no_stray_between since until begin number found (Some n) = refl
+
+has_record : (begin number : ℕ) (found list : List ℕ) (more : List Receipt) → found ≡ list → HasRecord (audit_record begin list) (audit_own begin number found ++ more)
+has_record begin number found list more same = inr (inl (ap (λ (l : List ℕ). Logs (audit_record begin l)) same))
+
+last_one : (act : Act) (rest : List Act) → length (act ∷ rest) ≡ 1 → rest ≡ []
+last_one act [] one = refl
+last_one act (next ∷ rest) one = absurd (cc one)
+
+abbrev Lone : Move → Type 0
+Lone x = TellsOnce (said x) (own x) × IsCalm (to x).place × ((to x).rest ≡ [])
+
+silent : (line : Said) (did : List Receipt) → list_in line ≡ None → TellsOnce (line ∷ []) did
+silent line did none = record {
+  line = line;
+  lines_are = refl;
+  tells = λ found e. let clash : None ≡ Some found = sym none ∙ e in absurd (cc clash);
+}
+
+lone_move : (x : Move) → IsCalm (from x).place → list_all is_lone (from x).rest ≡ true → length (from x).rest ≡ 1 → Lone x
+lone_move (Begins t n rest) calm only one = absurd (cc only)
+lone_move (BeginsAgain t n tries h rest) calm only one = absurd calm
+lone_move (IsRefusedBegin place s n why rest) calm only one = absurd (cc only)
+lone_move (Skips s act rest) calm only one = absurd calm
+lone_move (Rests t act rest) calm only one = absurd calm
+lone_move (Answers t tries cs d work n call a rest) calm only one = absurd calm
+lone_move (IsRefusedCall t tries cs d s work n back call why rest) calm only one = absurd calm
+lone_move (Dies t tries cs d work n r call rest) calm only one = absurd calm
+lone_move (IsArmed t tries cs d s count rest) calm only one = absurd calm
+lone_move (GivesWay t tries cs d work call f back end rest) calm only one = absurd calm
+lone_move (GivesUp t tries cs d work call f back end rest) calm only one = absurd calm
+lone_move (Commits t tries cs d n behind rest) calm only one = absurd calm
+lone_move (CommitFails t tries cs d n m why rest) calm only one = absurd calm
+lone_move (IsRefusedCommit t tries cs d s n why rest) calm only one = absurd calm
+lone_move (Aborts t tries cs d work n rest) calm only one = absurd calm
+lone_move (IsRefusedAbort t tries cs d s work n why rest) calm only one = absurd calm
+lone_move (Ends t tries cs d work n) calm only one = absurd calm
+lone_move (StaysOpen t tries cs d s work n cause) calm only one = absurd calm
+lone_move (Pokes s n r w m rest) calm only one = absurd (cc only)
+lone_move (PokesNothing s r w m rest) calm only one = absurd (cc only)
+lone_move (AuditsOnce b n found failed rest) calm only one = (
+  record {
+    line = AuditSaid found;
+    lines_are = refl;
+    tells = λ list e. (b, has_record b n found list (failure_own failed) (cc e), no_stray b n found failed);
+  },
+  tt,
+  last_one Audits rest one,
+)
+lone_move (IsRefusedAudit s work n why rest) calm only one = (silent (Refused Audits why) (own (IsRefusedAudit s work n why rest)) refl, tt, last_one Audits rest one)
+lone_move (Checkpoints since b n m until current rest) calm only one = (
+  record {
+    line = CheckpointSaid current;
+    lines_are = refl;
+    tells = λ list e. (b, inr (has_record b n [] list ((m, MovesAnchor current) ∷ (until, EndsCheckpoint) ∷ []) (cc e)), refl);
+  },
+  tt,
+  last_one CheckpointAct rest one,
+)
+lone_move (FailsCheckpoint since b n until r rs failed rest) calm only one = (
+  record {
+    line = CheckpointFailed (r ∷ rs);
+    lines_are = refl;
+    tells = λ list e. (b, inr (has_record b n (r ∷ rs) list (failure_own failed ++ (until, EndsCheckpoint) ∷ []) (cc e)), no_stray_between since until b n (r ∷ rs) failed);
+  },
+  tt,
+  last_one CheckpointAct rest one,
+)
+lone_move (IsRefusedCheckpoint s span late work n why rest) calm only one =
+    (silent (Refused CheckpointAct why) (own (IsRefusedCheckpoint s span late work n why rest)) refl, tt, last_one CheckpointAct rest one)
+
+no_more : (x : Move) → IsCalm (from x).place → (from x).rest ≡ [] → ⊥
+no_more (Begins t n rest) calm none = absurd (cc none)
+no_more (IsRefusedBegin place s n why rest) calm none = absurd (cc none)
+no_more (Pokes s n r w m rest) calm none = absurd (cc none)
+no_more (PokesNothing s r w m rest) calm none = absurd (cc none)
+no_more (AuditsOnce b n found failed rest) calm none = absurd (cc none)
+no_more (IsRefusedAudit s work n why rest) calm none = absurd (cc none)
+no_more (Checkpoints since b n m until current rest) calm none = absurd (cc none)
+no_more (FailsCheckpoint since b n until r rs failed rest) calm none = absurd (cc none)
+no_more (IsRefusedCheckpoint s span late work n why rest) calm none = absurd (cc none)
+no_more x calm none = absurd calm
+
+tells_so : (lines lines' : List Said) (did did' : List Receipt) → lines ≡ lines' → did ≡ did' → TellsOnce lines did → TellsOnce lines' did'
+tells_so lines lines' did did' e f once = subst (λ (l : List Said). TellsOnce l did') e (subst (λ (l : List Receipt). TellsOnce lines l) f once)
+
+lone_path : (w : World) (c : ℕ) (p q : Spot) (xs : List Move) → IsPath w c p xs q → IsCalm p.place → list_all is_lone p.rest ≡ true → length p.rest ≡ 1 → q.rest ≡ []
+    → TellsOnce (said_by xs) (own_by xs)
+lone_path w c p q [] path calm only one none =
+    let clash : 0 ≡ 1 = sym (ap (λ (l : List Act). length l) (ap (λ (s : Spot). s.rest) path ∙ none)) ∙ one in absurd (cc clash)
+lone_path w c p q (x ∷ []) path calm only one none =
+    let here =
+    lone_move x (subst (λ (s : Spot). IsCalm s.place) path.0 calm) (subst (λ (s : Spot). list_all is_lone s.rest ≡ true) path.0 only)
+    (subst (λ (s : Spot). length s.rest ≡ 1) path.0 one) in
+    tells_so (said x) (said x ++ []) (own x) (own x ++ []) (sym (append-nil (said x))) (sym (append-nil (own x))) here.0
+lone_path w c p q (x ∷ y ∷ ys) path calm only one none =
+    let here =
+    lone_move x (subst (λ (s : Spot). IsCalm s.place) path.0 calm) (subst (λ (s : Spot). list_all is_lone s.rest ≡ true) path.0 only)
+    (subst (λ (s : Spot). length s.rest ≡ 1) path.0 one) in
+    absurd (no_more y (subst (λ (s : Spot). IsCalm s.place) path.2.0 here.1) (ap (λ (s : Spot). s.rest) (sym path.2.0) ∙ here.2))
+
+pub lone_transcript : (w : World) (act : Act) (lines : List Said) (did : List Receipt) → is_lone act ≡ true → IsTranscript w 1 (act ∷ []) lines did → TellsOnce lines did
+lone_transcript w act lines did lone t =
+    let so_far = t.so_far in
+    let end : Spot = record { place = t.place; rest = [] } in
+    tells_so (said_by so_far.moves) lines (own_by so_far.moves) did (sym so_far.lines_are) (sym (so_far.did_are ∙ append-nil (own_by so_far.moves)))
+    (lone_path w 1 (start (act ∷ [])) end so_far.moves so_far.path tt (ap (λ (b : Bool). b && true) lone) refl refl)
+
+-- ---- the deeds of a round of one client
 abbrev IsLogged : Record → List Happening → Type 0
 IsLogged x xs = (i : ℕ) × (slice_get xs i ≡ Some (Logs x, 1))
 
@@ -148,10 +210,6 @@ stays r s n ((x, d) ∷ xs) all none (suc j) =
     let quiet = neither (is_stray (n, x)) (list_any is_stray (owned 1 (count_with n x) xs)) here in
     ap (λ (k : ℕ). stray_after r k (take j xs)) (calm_step r s n d x quiet.0) ∙ stays r s (count_with n x) xs parts.1 quiet.1 j
 
-abbrev HasRecord : Record → List Receipt → Type 0
-HasRecord x [] = ⊥
-HasRecord x (y ∷ ys) = (y.1 ≡ Logs x) ⊎ HasRecord x ys
-
 logged : (x : Record) (n : ℕ) (xs : List Happening) → are_ones xs ≡ true → HasRecord x (owned 1 n xs) → IsLogged x xs
 logged x n [] all has = absurd has
 logged x n ((y, d) ∷ xs) all has =
@@ -164,20 +222,120 @@ logged x n ((y, d) ∷ xs) all has =
     (λ later. let place = logged x (count_with n y) xs parts.1 later in (suc place.0, place.1))
     here)
 
+-- the list of its audit has just the regions whose stray writes didn't cancel when the round began
+pub names_strays : (w : World) → HoldsTogether w → are_ones w.happened ≡ true → (begin : ℕ) (found : List ℕ) → HasRecord (audit_record begin found) (deeds_of w 1)
+    → list_any is_stray (deeds_of w 1) ≡ false → (r : ℕ) (g : RegionState) → slice_get w.old.regions r ≡ Some g → Contains found r ↔ (g.stray ≢ 0)
+names_strays w together owners begin found has none r g old =
+    let place = logged (audit_record begin found) (length w.before) w.happened owners has in
+    let verdict = together.verdicts place.0 begin 1 found place.1 r g old in
+    subst (λ (k : ℕ). Contains found r ↔ (k ≢ 0)) (stays r g.stray (length w.before) w.happened owners none verdict.0) verdict.3
+
+-- ---- an audit's list
+abbrev pub AreBelow : ℕ → List ℕ → Type 0
+AreBelow count found = list_all (λ r. nat_lt r count) found ≡ true
+
+-- it ascends, and names regions of the database
+pub record IsList (count : ℕ) (found : List ℕ) : Type 0 where
+  pub ascend : ascends found ≡ true
+  pub below : AreBelow count found
+
+kept_only : (first failed some all : Bool) (g : Rules) → IsSome (if first then None else if failed then None else kept_if (some && all) g) → all ≡ true
+kept_only true failed some all g is = absurd (cc is)
+kept_only false true some all g is = absurd (cc is)
+kept_only false false true true g is = refl
+kept_only false false true false g is = absurd (cc is)
+kept_only false false false all g is = absurd (cc is)
+
+rules_tell : (s : Sizes) (o : Option Rules) (b : ℕ) (rs : List ℕ) → IsSome (rules_next s o (AuditFail b rs)) → AreBelow (regions s) rs
+rules_tell s None b rs is = absurd (cc is)
+rules_tell s (Some g) b rs is = kept_only (g.count == 0) g.failed (has g.audits b && not (has g.closed b)) (list_all (λ r. nat_lt r (regions s)) rs) _ is
+
+front_rules : (s : Sizes) (o : Option Rules) (L : List Record) → IsSome (fold (rules_next s) o L) → IsSome o
+front_rules s None [] is = is
+front_rules s None (x ∷ L) is = front_rules s None L is
+front_rules s (Some g) L is = refl
+
+rules_at : (s : Sizes) (o : Option Rules) (L : List Record) (n b : ℕ) (rs : List ℕ) → IsSome (fold (rules_next s) o L) → slice_get L n ≡ Some (AuditFail b rs) → AreBelow (regions s) rs
+rules_at s o [] n b rs is e = absurd (cc e)
+rules_at s o (x ∷ L) zero b rs is e =
+    let same : x ≡ AuditFail b rs = cc e in rules_tell s o b rs (subst (λ (y : Record). IsSome (rules_next s o y)) same (front_rules s (rules_next s o x) L is))
+rules_at s o (x ∷ L) (suc n) b rs is e = rules_at s (rules_next s o x) L n b rs is e
+
+list_at : (s : Sizes) (L : List Record) (n b : ℕ) (found : List ℕ) → LogRun s L → slice_get L n ≡ Some (audit_record b found) → IsList (regions s) found
+list_at s L n b [] log e = record { ascend = refl; below = refl }
+list_at s L n b (r ∷ rs) log e = record {
+  ascend = (log.spelled n (AuditFail b (r ∷ rs)) e).1.2;
+  below = rules_at s (Some rules_start) L n b (r ∷ rs) log.legal.rules e;
+}
+
+in_log : (L : List Record) (x : Record) (xs : List Receipt) → AllByRecursion (IsIn L) xs → HasRecord x xs → (n : ℕ) × (slice_get L n ≡ Some x)
+in_log L x [] all has = absurd has
+in_log L x ((n, y) ∷ xs) all has = ⊎_elim (λ here. (n, subst (λ (z : Deed). IsIn L (n, z)) here all.0)) (λ later. in_log L x xs all.1 later) has
+
+pub below_at : (count : ℕ) (found : List ℕ) (r : ℕ) → AreBelow count found → Contains found r → r < count
+below_at count [] r all (i, within, is) = absurd (omega (arith, within))
+below_at count (x ∷ xs) r all (zero, within, is) =
+    let same : x ≡ r = is in subst (λ (k : ℕ). k < count) same (ltb-true x count (both (nat_lt x count) (list_all (λ q. nat_lt q count) xs) all).0)
+below_at count (x ∷ xs) r all (suc i, within, is) = below_at count xs r (both (nat_lt x count) (list_all (λ q. nat_lt q count) xs) all).1 (i, omega (arith, within), is)
+
+-- ---- the text of a transcript
+pub record SaysOnce (w : World) (ts : List Transcribed) : Type 0 where
+  pub line : Said
+  pub lines_are : map lines_in ts ≡ (line ∷ []) ∷ []
+  pub printed : flat_map alone_texts ts ≡ alone_text line
+  pub tells : (found : List ℕ) → list_in line ≡ Some found → (begin : ℕ) × HasRecord (audit_record begin found) (deeds_of w 1) × (list_any is_stray (deeds_of w 1) ≡ false)
+
+says_once : (w : World) (act : Act) (ts : List Transcribed) → is_lone act ≡ true → EachTells true w (alone act) (map lines_in ts) → SaysOnce w ts
+says_once w act [] lone tells = absurd tells
+says_once w act (t ∷ u ∷ ts) lone tells = absurd tells.1
+says_once w act (t ∷ []) lone tells =
+    let once = lone_transcript w act (lines_in t) (deeds_of w 1) lone tells.0 in
+    record {
+      line = once.line;
+      lines_are = ap (λ (l : List Said). l ∷ []) once.lines_are;
+      printed = append-nil (alone_texts t) ∙ (ap (λ (l : List Said). flat_map alone_text l) once.lines_are ∙ append-nil (alone_text once.line));
+      tells = once.tells;
+    }
+
 module _ {V : Type 0} (told : V → Option Disk) (may_leave : V → Disk → Type 0) (faults : V → ℕ) (precheck : Bool) where
+  pub record LoneNames (act : Act) (c : Core (Fuse V)) (text : List ℕ) (d : Core (Fuse V)) (acts : ActsAlone told may_leave faults precheck act c text d) : Type 0 where
+    pub line : Said
+    pub lines_are : map lines_in acts.transcripts ≡ (line ∷ []) ∷ []
+    pub printed : text ≡ alone_text line
+    pub list : (found : List ℕ) → list_in line ≡ Some found → IsList (length c.regions.items) found
+    pub names : (found : List ℕ) → list_in line ≡ Some found → (r : ℕ) (g : RegionState) → slice_get c.regions.items r ≡ Some g → Contains found r ↔ (g.stray ≢ 0)
+
+  pub lone_names : (act : Act) (base : List Record) (c d : Core (Fuse V)) (text : List ℕ) → is_lone act ≡ true → IsPointOf told may_leave faults base c
+      → (acts : ActsAlone told may_leave faults precheck act c text d) → LoneNames act c text d acts
+  lone_names act base c d text lone at acts =
+      let led = acts.plays at.start at.batches at.point at.begins in
+      let round = led.round in
+      let w = round.world in
+      let once = says_once round.world act acts.transcripts lone round.transcripts.each in
+      let log : LogRun led.to.core.system.sizes (log_of w) =
+      subst (λ (l : List Record). LogRun led.to.core.system.sizes l) round.log led.stands.at.vault.run.run.run.runs.log in
+      let sizes : regions led.to.core.system.sizes ≡ length c.regions.items =
+      ap (λ (k : CoreState). regions k.system.sizes) (sym round.core_is)
+      ∙ (
+      ap regions round.grew.sizes
+      ∙ (sym at.begins.stands.whole.regions ∙ ap (λ (l : List RegionState). length l) at.begins.stands.at.regions)
+      ) in
+      let start_is = ap (λ (k : CoreState). k.regions) round.old_is ∙ at.begins.stands.at.regions in
+      record {
+        line = once.line;
+        lines_are = once.lines_are;
+        printed = acts.printed ∙ once.printed;
+        list = λ found e.
+            let tells = once.tells found e in
+            let there = in_log (log_of w) (audit_record tells.0 found) (deeds_of w 1) (own_ascend w 1).logged tells.1 in
+            subst (λ (n : ℕ). IsList n found) sizes (list_at led.to.core.system.sizes (log_of w) there.0 tells.0 found log there.1);
+        names = λ found e r g region.
+            let tells = once.tells found e in
+            names_strays round.world round.together round.transcripts.owners tells.0 found tells.1 tells.2 r g (ap (λ (l : List RegionState). slice_get l r) start_is ∙ region);
+      }
+
   pub lone_audit_tells : LoneAuditTells told may_leave faults precheck
   lone_audit_tells base c d text found at acts lines_are r g region =
-      let round = (acts.plays at.start at.batches at.point at.begins).round in
-      let w = round.world in
-      let each : EachTells true w (alone Audits) ((AuditSaid found ∷ []) ∷ []) =
-      subst (λ (l : List (List Said)). EachTells true w (alone Audits) l) lines_are round.transcripts.each in
-      let so_far = each.0.so_far in
-      let audited = path_audits w 1 (start (Audits ∷ [])) (record { place = each.0.place; rest = [] }) so_far.moves found so_far.path tt refl (sym so_far.lines_are) in
-      let did : deeds_of w 1 ≡ audit_own audited.begin audited.number found ++ failure_own audited.failed = so_far.did_are ∙ (append-nil (own_by so_far.moves) ∙ audited.did_is) in
-      let none : list_any is_stray (owned 1 (length w.before) w.happened) ≡ false = ap (λ (l : List Receipt). list_any is_stray l) did ∙ none_strays audited.begin audited.number found audited.failed in
-      let has : HasRecord (audit_record audited.begin found) (deeds_of w 1) = subst (λ (l : List Receipt). HasRecord (audit_record audited.begin found) l) (sym did) (inr (inl refl)) in
-      let place = logged (audit_record audited.begin found) (length w.before) w.happened round.transcripts.owners has in
-      let old : slice_get w.old.regions r ≡ Some g =
-      ap (λ (k : CoreState). slice_get k.regions r) round.old_is ∙ (ap (λ (l : List RegionState). slice_get l r) at.begins.stands.at.regions ∙ region) in
-      let verdict = round.together.verdicts place.0 audited.begin 1 found place.1 r g old in
-      subst (λ (k : ℕ). Contains found r ↔ (k ≢ 0)) (stays r g.stray (length w.before) w.happened round.transcripts.owners none verdict.0) verdict.3
+      let once = lone_names Audits base c d text refl at acts in
+      let same : once.line ≡ AuditSaid found = cc (sym once.lines_are ∙ lines_are) in
+      once.names found (ap list_in same) r g region

@@ -8,8 +8,7 @@ use Rattle.dali_batch.specs.Formatting.{FormatLeaves, HasFirst, IsFormattedBy}
 use Rattle.dali_batch.specs.Log.{BadAt}
 use Rattle.dali_batch.specs.Reads.{OnlyReads}
 use Rattle.dali_batch.proofs.Walks.{readings}
-use Rattle.dali_crash.specs.Checkpoints.{Does, Head, Point, StoreStep, IsPointCourse, moment_of}
-use Rattle.dali_crash.specs.Growth.{GoesOn}
+use Rattle.dali_crash.specs.Checkpoints.{Does, Head, Point}
 use Rattle.dali_crash.specs.StoreRuns.{StoreRun}
 use Rattle.dali_crash.specs.Traces.{Start, bases_of, start_point}
 use Rattle.dali_crash.proofs.Courses.{format_is_history}
@@ -71,12 +70,12 @@ use Rattle.dali_run.specs.declared.program.Program.{Program}
 use Rattle.dali_run.specs.declared.program.Program.TheVariants.{Up, Down}
 use Rattle.dali_run.specs.declared.status.Status.{Status}
 use Rattle.dali_run.specs.declared.status.Status.TheVariants.{Done, BadWords, BadScript, TooLong, ReadFault, WriteFault, StoreFault, BadStore, Unformatted, Formatted, OutOfMemory, LogFull}
-use Rattle.dali_run.specs.Ends.{Course, Ended, HasStopped, Untouched}
+use Rattle.dali_run.specs.Ends.{Course, EndedScript, HasStopped, Untouched}
 use Rattle.dali_run.specs.Fails.{AloneFails, Breaks, Fails, IsBadFor, Lost, StoreFailsIn}
 use Rattle.dali_run.specs.Program.{IsDown, store_of, told_in, leaves_in, moment_in, since_in, faults_in}
 use Rattle.dali_run.specs.Run.{HasRun, RunsAll}
 use Rattle.dali_run.specs.Steps.{dead_in, CleansAll, CleansUp, CleanupIn, EndsComparison, HasCleaned, Makes, Plays, Rereads, Restarts, SetsFuse, ShowIn, Steps, StepsAlone, StepsRestart, StepsSize, VerifyIn}
-use Rattle.dali_run.specs.Survives.{AllSurvive, BeginsWith, HaltSurvives, HasLog, Holds, IsAPoint, IsHonest, IsOwn, IsPointOf, MemoryIsHonest, MemorySurvives, NoneEscape, NoneEscapeThere, NoneEscapesAlone, NoneEscapesAt, NoneEscapesBehind, NoneEscapesCut, NoneEscapesFailed, NoneEscapesIn, NoneEscapesLost, RunsSurvive, StopIsHonest, Survives}
+use Rattle.dali_run.specs.Survives.{AllSurvive, BeginsWith, HaltSurvives, HasLog, Holds, IsAPoint, IsLoggedBy, IsOwn, IsPointOf, MemoryIsHonest, MemorySurvives, NoneEscape, NoneEscapeThere, NoneEscapesAlone, NoneEscapesAt, NoneEscapesBehind, NoneEscapesCut, NoneEscapesFailed, NoneEscapesIn, NoneEscapesLeft, NoneEscapesLost, ScriptIsHonest, ScriptSurvives, StopIsHonest}
 use Rattle.dali_run.specs.Told.{AreFit, IsFit, told_by, alone, sizes_of}
 use Rattle.dali_run.proofs.Cleanings.{idle_runs, moved_all}
 use Rattle.dali_run.proofs.Fit.{all_fit}
@@ -99,22 +98,28 @@ front_of (suc n) (suc k) [] le = ([], refl)
 front_of (suc n) (suc k) (x ∷ L) le =
     let rest = front_of n k L (omega (arith, le)) in (rest.0, ap (λ (l : List Record). x ∷ l) rest.1)
 
+-- what was flushed begins what is flushed behind some steps
+pub grown_more : (p q : Point) (base : List Record) → base ≡ take (stable p.core) p.log → take (stable p.core) q.log ≡ take (stable p.core) p.log → stable p.core ≤ stable q.core
+    → BeginsWith base (take (stable q.core) q.log)
+grown_more p q base flushed records more =
+    subst (λ (l : List Record). BeginsWith l (take (stable q.core) q.log)) (records ∙ sym flushed) (front_of (stable p.core) (stable q.core) q.log more)
+
 goes_on_from : (L M : List Record) → GoesOnFrom L M → BeginsWith L M
 goes_on_from L M (inl same) = ([], same ∙ sym (append-nil L))
 goes_on_from L M (inr closed) = (closing L ∷ [], closed)
 
-told_there : {P : Type 0} (o : Option Disk) → is_some o ≡ true → IfSome o (λ _. P) → P
+pub told_there : {P : Type 0} (o : Option Disk) → is_some o ≡ true → IfSome o (λ _. P) → P
 told_there None is p = absurd cc
 told_there (Some fs) is p = p
 
-none_escapes : (e : Epoch) (gs : List RegionState) (y : SystemState) (v : VaultState) (c : CoreState) → c.regions ≡ gs
+pub none_escapes : (e : Epoch) (gs : List RegionState) (y : SystemState) (v : VaultState) (c : CoreState) → c.regions ≡ gs
     → NoneEscapes e (record { regions = gs; system = y; vault = v }) → NoneEscapes e c
 none_escapes e gs y v c same none = record {
   seen = λ r g there. none.seen r g (subst (λ (l : List RegionState). slice_get l r ≡ Some g) same there);
   named = λ r g there. none.named r g (subst (λ (l : List RegionState). slice_get l r ≡ Some g) same there);
 }
 
-tells_on : (o p : Option Disk) → NoShorter o p → is_some o ≡ true → is_some p ≡ true
+pub tells_on : (o p : Option Disk) → NoShorter o p → is_some o ≡ true → is_some p ≡ true
 tells_on (Some a) (Some b) longer is = refl
 tells_on (Some a) None longer is = absurd longer
 tells_on None p longer is = absurd cc
@@ -155,7 +160,8 @@ module _ {V : Type 0} (told : V → Option Disk) (may_leave : V → Disk → Typ
       )
 
   pub own_store : (base : List Record) (p : Program V) → IsAPoint told may_leave faults base p → NoneEscapesIn told may_leave p → IsOwn told may_leave base (inner (store_of p))
-  own_store base (Up core) a none = stands_own base core a.start a.batches a.point a.begins.stands a.placed a.history a.flushed a.tells none
+  own_store base (Up core) a none =
+      stands_own base core a.start a.batches a.point a.begins.stands a.placed a.history (subst (BeginsWith base) a.flushed (begins_all base)) a.tells none
   own_store base (Down store) a none = a
 
   pub own_same : (base : List Record) (a b : V) → a ≡ b → IsOwn told may_leave base a → IsOwn told may_leave base b
@@ -218,24 +224,31 @@ module _ {V : Type 0} (told : V → Option Disk) (may_leave : V → Disk → Typ
     flushed = a.flushed;
   }
 
+  -- a core behind some steps, with all that was flushed before
+  pub record Behind (base : List Record) (core : Core (Fuse V)) : Type 0 where
+    pub log : List Record
+    pub more : BeginsWith base log
+    pub point : IsPointOf told may_leave faults log core
+
   -- ---- a round
   pub round_point : (precheck : Bool) (base : List Record) (blocks : List Blocks) (c d : Core (Fuse V)) (ts : List Transcribed) → IsNoShorter (told_in told) c.vault d.vault
-      → Plays told may_leave faults precheck true blocks c ts d → IsPointOf told may_leave faults base c → IsPointOf told may_leave faults base d
+      → Plays told may_leave faults precheck true blocks c ts d → IsPointOf told may_leave faults base c → Behind base d
   round_point precheck base blocks c d ts longer plays a =
       let led = plays a.start a.batches a.point a.begins in
       let goes = course_grows (bases_of a.start) a.start.log a.point led.to led.steps a.begins.stands.at.vault.run.run led.course in
       record {
-        tells = tells_on (told_in told c.vault.store) (told_in told d.vault.store) longer a.tells;
-        start = a.start;
-        placed = a.placed;
-        history = a.history;
-        batches = led.batches;
-        point = led.to;
-        begins = record { stands = led.stands; files = led.files; keeps = led.keeps; between = led.round.between refl };
-        flushed =
-            begins_then base (take (stable a.point.core) a.point.log) (take (stable led.to.core) led.to.log) a.flushed
-            (subst (λ (l : List Record). BeginsWith l (take (stable led.to.core) led.to.log)) goes.records
-            (front_of (stable a.point.core) (stable led.to.core) led.to.log goes.grown.flushed));
+        log = take (stable led.to.core) led.to.log;
+        more = grown_more a.point led.to base a.flushed goes.records goes.grown.flushed;
+        point = record {
+          tells = tells_on (told_in told c.vault.store) (told_in told d.vault.store) longer a.tells;
+          start = a.start;
+          placed = a.placed;
+          history = a.history;
+          batches = led.batches;
+          point = led.to;
+          begins = record { stands = led.stands; files = led.files; keeps = led.keeps; between = led.round.between refl };
+          flushed = refl;
+        };
       }
 
 -- ---- files without a database
@@ -244,13 +257,13 @@ no_log base fs without (inl none) = none.1
 no_log base fs without (inr has) = absurd ((found_good fs has.files has.spells has.finds).formatted without)
 
 -- nothing is read of the image files before a checkpoint
-no_words : Told
+pub no_words : Told
 no_words = λ side r. []
 
-no_heads : Side → Head
+pub no_heads : Side → Head
 no_heads side = record { number = 0; place = 0; first = 0; weight = 0; next = 0; table = [] }
 
-none_synced : Side → Bool
+pub none_synced : Side → Bool
 none_synced side = false
 
 -- ---- a command of a script that is spelled
@@ -263,7 +276,7 @@ fit_last : (front : List Command) (command : Command) → AreFit (front ++ comma
 fit_last [] command all = all.0
 fit_last (c ∷ front) command all = fit_last front command all.1
 
-next_fit : (script : List Command) (count : ℕ) (command : Command) → AreFit script → take (count + 1) script ≡ take count script ++ command ∷ [] → IsFit command
+pub next_fit : (script : List Command) (count : ℕ) (command : Command) → AreFit script → take (count + 1) script ≡ take count script ++ command ∷ [] → IsFit command
 next_fit script count command all next = fit_last (take count script) command (subst AreFit next (fit_front (count + 1) script all))
 
 -- ---- files of one batch, the format's
@@ -331,11 +344,8 @@ module _ {V : Type 0} (told : V → Option Disk) (may_leave : V → Disk → Typ
       by_told (Some fs) is without may = no_log base fs without (own.1 fs may)
 
   -- all that stood when the core was made is flushed
-  at_start : (s : Start) → StoreRun (bases_of s) s.log no_image (start_point s) → BeginsWith s.log (take (stable (start_point s).core) s.log)
-  at_start s run =
-      let le : length s.log ≤ stable (start_point s).core = omega (arith, run.run.run.first) in
-      subst (λ (l : List Record). BeginsWith l (take (stable (start_point s).core) s.log)) (take_all (length s.log) s.log (omega arith))
-      (front_of (length s.log) (stable (start_point s).core) s.log le)
+  pub at_start : (s : Start) → StoreRun (bases_of s) s.log no_image (start_point s) → s.log ≡ take (stable (start_point s).core) s.log
+  at_start s run = sym (take_all (stable (start_point s).core) s.log (omega (arith, run.run.run.first)))
 
   -- ---- a database that was made
   size_point : (limit index heap : ℕ) (base : List Record) (old new : Program V) (text : List ℕ) → IsOwn told may_leave base (inner (store_of old))
@@ -357,10 +367,8 @@ module _ {V : Type 0} (told : V → Option Disk) (may_leave : V → Disk → Typ
       }
 
   -- ---- a restart
-  record Restarted (base : List Record) (core : Core (Fuse V)) : Type 0 where
-    log : List Record
-    more : BeginsWith base log
-    point : IsPointOf told may_leave faults log core
+  abbrev Restarted : List Record → Core (Fuse V) → Type 0
+  Restarted = Behind told may_leave faults
 
   restart_point : (limit : ℕ) (base : List Record) (old new : Program V) (text : List ℕ) → IsOwn told may_leave base (inner (store_of old))
       → (step : Restarts told may_leave moment left_since faults limit old text new) → Restarted base step.core
@@ -458,7 +466,7 @@ module _ {V : Type 0} (told : V → Option Disk) (may_leave : V → Disk → Typ
   good_for Next base fs file at holds bad = good base fs file at holds bad
   good_for (SetFuse passes) base fs file at holds bad = good base fs file at holds bad
 
-  never_bad : (command : Command) (base : List Record) (s : V) (file : FileName) (at : ℕ) → IsOwn told may_leave base s → IfSome (told s) (λ fs. IsBadFor command fs file at) → ⊥
+  pub never_bad : (command : Command) (base : List Record) (s : V) (file : FileName) (at : ℕ) → IsOwn told may_leave base s → IfSome (told s) (λ fs. IsBadFor command fs file at) → ⊥
   never_bad command base s file at own bad = by_told (told s) own.0 (reads_now s) bad
     where
       by_told : (o : Option Disk) → is_some o ≡ true → IfSome o (λ fs. may_leave s fs) → IfSome o (λ fs. IsBadFor command fs file at) → ⊥
@@ -472,10 +480,7 @@ module _ {V : Type 0} (told : V → Option Disk) (may_leave : V → Disk → Typ
   played_own precheck whole base blocks c d ts f longer plays is a none =
       let led = plays a.start a.batches a.point a.begins in
       let goes = course_grows (bases_of a.start) a.start.log a.point led.to led.steps a.begins.stands.at.vault.run.run led.course in
-      let flushed : BeginsWith base (take (stable led.to.core) led.to.log) =
-      begins_then base (take (stable a.point.core) a.point.log) (take (stable led.to.core) led.to.log) a.flushed
-      (subst (λ (l : List Record). BeginsWith l (take (stable led.to.core) led.to.log)) goes.records
-      (front_of (stable a.point.core) (stable led.to.core) led.to.log goes.grown.flushed)) in
+      let flushed : BeginsWith base (take (stable led.to.core) led.to.log) = grown_more a.point led.to base a.flushed goes.records goes.grown.flushed in
       let own : IsOwn told may_leave base (inner d.vault.store) =
       stands_own told may_leave faults base d a.start led.batches led.to led.stands a.placed a.history flushed
       (tells_on (told_in told c.vault.store) (told_in told d.vault.store) longer a.tells) none in subst (λ (x : Fuse V). IsOwn told may_leave base (inner x)) (sym is) own
@@ -505,23 +510,24 @@ module _ {V : Type 0} (told : V → Option Disk) (may_leave : V → Disk → Typ
 
   -- ---- dead transactions are cleaned up
   pub cleaned_point : (base : List Record) (c d : Core (Fuse V)) → HasCleaned told may_leave faults c d → c.system.state.stop ≡ None → IsPointOf told may_leave faults base c
-      → IsPointOf told may_leave faults base d
+      → Behind told may_leave faults base d
   cleaned_point base c d cleaned up a =
       let idle = idle_runs told may_leave faults a.start a.batches a.point c a.begins up in
       let moved = moved_all told may_leave faults (dead_in c.system.state) a.start a.batches a.point c d cleaned.each a.begins idle.0 idle.1 in
       let goes = course_grows (bases_of a.start) a.start.log a.point moved.to moved.steps a.begins.stands.at.vault.run.run moved.course in
       record {
-        tells = subst (λ (v : Vaulted (Fuse V)). is_some (told_in told v.store) ≡ true) (sym (same_vault (dead_in c.system.state) c d cleaned.each)) a.tells;
-        start = a.start;
-        placed = a.placed;
-        history = a.history;
-        batches = a.batches;
-        point = moved.to;
-        begins = moved.begins;
-        flushed =
-            begins_then base (take (stable a.point.core) a.point.log) (take (stable moved.to.core) moved.to.log) a.flushed
-            (subst (λ (l : List Record). BeginsWith l (take (stable moved.to.core) moved.to.log)) goes.records
-            (front_of (stable a.point.core) (stable moved.to.core) moved.to.log goes.grown.flushed));
+        log = take (stable moved.to.core) moved.to.log;
+        more = grown_more a.point moved.to base a.flushed goes.records goes.grown.flushed;
+        point = record {
+          tells = subst (λ (v : Vaulted (Fuse V)). is_some (told_in told v.store) ≡ true) (sym (same_vault (dead_in c.system.state) c d cleaned.each)) a.tells;
+          start = a.start;
+          placed = a.placed;
+          history = a.history;
+          batches = a.batches;
+          point = moved.to;
+          begins = moved.begins;
+          flushed = refl;
+        };
       }
     where
       one_vault : (t : ℕ) (c d : Core (Fuse V)) → CleansUp told may_leave faults t c d → d.vault ≡ c.vault
@@ -547,71 +553,80 @@ module _ {V : Type 0} (told : V → Option Disk) (may_leave : V → Disk → Typ
   }
 
   unread_point : (base : List Record) (c : Core (Fuse V)) (f : Fuse V) → Reads told may_leave moment left_since faults c.vault.store f → Rose (faults_in faults c.vault.store) (faults_in faults f)
-      → IsPointOf told may_leave faults base c → IsPointOf told may_leave faults base (record c { vault = with_store c.vault f })
+      → IsPointOf told may_leave faults base c → Behind told may_leave faults base (record c { vault = with_store c.vault f })
   unread_point base c f reads rose a =
       let there = unread told may_leave moment left_since faults f a.start a.batches a.point c.regions.items c.system.state c.vault reads rose a.begins in
       let goes = course_grows (bases_of a.start) a.start.log a.point there.to (Does (ReadFails (faults_in faults f)) ∷ []) a.begins.stands.at.vault.run.run (there.to, there.step, refl) in
       record {
-        tells = ap is_some reads.same ∙ a.tells;
-        start = a.start;
-        placed = a.placed;
-        history = a.history;
-        batches = a.batches;
-        point = there.to;
-        begins = there.begins;
-        flushed =
-            begins_then base (take (stable a.point.core) a.point.log) (take (stable there.to.core) there.to.log) a.flushed
-            (subst (λ (l : List Record). BeginsWith l (take (stable there.to.core) there.to.log)) goes.records
-            (front_of (stable a.point.core) (stable there.to.core) there.to.log goes.grown.flushed));
+        log = take (stable there.to.core) there.to.log;
+        more = grown_more a.point there.to base a.flushed goes.records goes.grown.flushed;
+        point = record {
+          tells = ap is_some reads.same ∙ a.tells;
+          start = a.start;
+          placed = a.placed;
+          history = a.history;
+          batches = a.batches;
+          point = there.to;
+          begins = there.begins;
+          flushed = refl;
+        };
       }
 
   compared_point : (base : List Record) (c d : Core (Fuse V)) (text : List ℕ) → EndsComparison told may_leave moment left_since faults c text d → IsPointOf told may_leave faults base c
-      → IsPointOf told may_leave faults base d
-  compared_point base c d text (inl compares) a =
-      subst (IsPointOf told may_leave faults base) (sym compares.read.same) (read_point base c d.vault.store compares.read.reads compares.kept a)
+      → Behind told may_leave faults base d
+  compared_point base c d text (inl compares) a = record {
+    log = base;
+    more = begins_all base;
+    point = subst (IsPointOf told may_leave faults base) (sym compares.read.same) (read_point base c d.vault.store compares.read.reads compares.kept a);
+  }
   compared_point base c d text (inr stops) a =
-      subst (IsPointOf told may_leave faults base) (sym stops.read.same) (unread_point base c d.vault.store stops.read.reads stops.rose a)
+      subst (Behind told may_leave faults base) (sym stops.read.same) (unread_point base c d.vault.store stops.read.reads stops.rose a)
 
   module _ (limit : ℕ) (cuts : V → ℕ → Option Disk) (precheck : Bool) where
-    record Onward (base : List Record) (new : Program V) : Type 0 where
-      log : List Record
-      more : BeginsWith base log
-      point : IsAPoint told may_leave faults log new
+    pub record Onward (base : List Record) (new : Program V) : Type 0 where
+      pub log : List Record
+      pub more : BeginsWith base log
+      pub point : IsAPoint told may_leave faults log new
 
     same_point : (base : List Record) (old new : Program V) → new ≡ old → IsAPoint told may_leave faults base old → Onward base new
     same_point base old new same a = record { log = base; more = begins_all base; point = subst (IsAPoint told may_leave faults base) (sym same) a }
 
+    up_goes : (base : List Record) (core : Core (Fuse V)) (new : Program V) → new ≡ Up core → Behind told may_leave faults base core → Onward base new
+    up_goes base core new up b = record { log = b.log; more = b.more; point = subst (IsAPoint told may_leave faults b.log) (sym up) b.point }
+
     restarted : (base : List Record) (old new : Program V) (text : List ℕ) → StepsRestart told may_leave moment left_since faults limit old text new → IsOwn told may_leave base (inner (store_of old))
         → Onward base new
     restarted base old new text (inl step) own =
-        let x = restart_point limit base old new text own step in record { log = x.log; more = x.more; point = subst (IsAPoint told may_leave faults x.log) (sym step.up) x.point }
+        up_goes base step.core new step.up (restart_point limit base old new text own step)
     restarted base old new text (inr step) own =
         same_point base (Down step.store) new step.down (stops_own base (store_of old) step.store step.left own)
 
     alone_goes : (name : Name) (act : Act) (base : List Record) (old new : Program V) (text : List ℕ) → StepsAlone told may_leave faults precheck name act old text new
         → IsAPoint told may_leave faults base old → Onward base new
     alone_goes name act base (Up core) new text step a =
-        same_point base (Up step.0) new step.2 (round_point told may_leave faults precheck base (alone act) core step.0 step.1.transcripts step.1.longer step.1.plays a)
+        up_goes base step.0 new step.2 (round_point told may_leave faults precheck base (alone act) core step.0 step.1.transcripts step.1.longer step.1.plays a)
     alone_goes name act base (Down store) new text step a = same_point base (Down store) new step.1 a
 
     cleanup_goes : (stop : Option Cause) (base : List Record) (core : Core (Fuse V)) (new : Program V) (text : List ℕ) → core.system.state.stop ≡ stop → CleanupIn told may_leave faults stop core text new
         → IsPointOf told may_leave faults base core → Onward base new
     cleanup_goes (Some cause) base core new text is step a = same_point base (Up core) new step.1 a
-    cleanup_goes None base core new text is step a = same_point base (Up step.0) new step.2 (cleaned_point base core step.0 step.1 is a)
+    cleanup_goes None base core new text is step a = up_goes base step.0 new step.2 (cleaned_point base core step.0 step.1 is a)
 
     show_goes : (stop : Option Cause) (base : List Record) (core : Core (Fuse V)) (new : Program V) (text : List ℕ) → core.system.state.stop ≡ stop → ShowIn told may_leave faults stop core text new
         → IsPointOf told may_leave faults base core → Onward base new
     show_goes (Some cause) base core new text is step a = same_point base (Up core) new step.1 a
-    show_goes None base core new text is step a = same_point base (Up step.0) new step.2 (cleaned_point base core step.0 step.1 is a)
+    show_goes None base core new text is step a = up_goes base step.0 new step.2 (cleaned_point base core step.0 step.1 is a)
 
     verify_goes : (stop : Option Cause) (base : List Record) (core : Core (Fuse V)) (new : Program V) (text : List ℕ) → core.system.state.stop ≡ stop
         → VerifyIn told may_leave moment left_since faults stop core text new → IsPointOf told may_leave faults base core → Onward base new
     verify_goes (Some cause) base core new text is step a = same_point base (Up core) new step.1 a
     verify_goes None base core new text is step a =
-        same_point base (Up step.1) new step.4 (compared_point base step.0 step.1 text step.3 (cleaned_point base core step.0 step.2 is a))
+        let cleaned = cleaned_point base core step.0 step.2 is a in
+        let compared = compared_point cleaned.log step.0 step.1 text step.3 cleaned.point in
+        up_goes base step.1 new step.4 (record { log = compared.log; more = begins_then base cleaned.log compared.log cleaned.more compared.more; point = compared.point })
 
-    step_goes : (command : Command) (base : List Record) (old new : Program V) (text : List ℕ) → Steps told may_leave moment left_since faults limit cuts precheck old command text new
-        → IsAPoint told may_leave faults base old → NoneEscapesIn told may_leave old → Onward base new
+    pub step_goes : (command : Command) (base : List Record) (old new : Program V) (text : List ℕ) → Steps told may_leave moment left_since faults limit cuts precheck old command text new
+        → IsAPoint told may_leave faults base old → NoneEscapesLeft told may_leave moment left_since faults limit cuts precheck command old → Onward base new
     step_goes (Size index heap) base old new text step a none =
         let own = own_store told may_leave faults base old a none in
         let empty : base ≡ [] = none_yet base (inner (store_of old)) own step.unformatted in
@@ -624,7 +639,7 @@ module _ {V : Type 0} (told : V → Option Disk) (may_leave : V → Disk → Typ
     step_goes Open base old new text step a none = restarted base old new text step (own_store told may_leave faults base old a none)
     step_goes Restart base old new text step a none = restarted base old new text step (own_store told may_leave faults base old a none)
     step_goes (Round blocks) base (Up core) new text step a none =
-        same_point base (Up step.0) new step.2 (round_point told may_leave faults precheck base (map told_by blocks) core step.0 step.1.transcripts step.1.longer step.1.plays a)
+        up_goes base step.0 new step.2 (round_point told may_leave faults precheck base (map told_by blocks) core step.0 step.1.transcripts step.1.longer step.1.plays a)
     step_goes (Round blocks) base (Down store) new text step a none = same_point base (Down store) new step.1 a
     step_goes (Poke region word mask) base old new text step a none = alone_goes names.Poke (Pokes region word mask) base old new text step a
     step_goes Audit base old new text step a none = alone_goes names.Audit Audits base old new text step a
@@ -648,14 +663,34 @@ module _ {V : Type 0} (told : V → Option Disk) (may_leave : V → Disk → Typ
     step_goes (SetFuse passes) base (Down store) new text step a none =
         same_point base (Down step.0.0) new step.0.2 (own_same told may_leave faults base (inner store) (inner step.0.0) (sym step.0.1.store) a)
 
+    -- a round's flushed records are those of the log that it leads to
+    pub step_logs : (command : Command) (base : List Record) (old new : Program V) (text : List ℕ) (step : Steps told may_leave moment left_since faults limit cuts precheck old command text new)
+        → (a : IsAPoint told may_leave faults base old) (none : NoneEscapesLeft told may_leave moment left_since faults limit cuts precheck command old)
+        → IsLoggedBy told may_leave moment left_since faults limit cuts precheck command base old text new step a (step_goes command base old new text step a none).log
+    unfolding step_goes up_goes round_point
+    step_logs (Round blocks) base (Up core) new text step a none = refl
+    step_logs (Round blocks) base (Down store) new text step a none = tt
+    step_logs (Size index heap) base old new text step a none = tt
+    step_logs Open base old new text step a none = tt
+    step_logs (Poke region word mask) base old new text step a none = tt
+    step_logs Audit base old new text step a none = tt
+    step_logs Checkpoint base old new text step a none = tt
+    step_logs Cleanup base old new text step a none = tt
+    step_logs (Crash choice) base old new text step a none = tt
+    step_logs Restart base old new text step a none = tt
+    step_logs Show base old new text step a none = tt
+    step_logs Verify base old new text step a none = tt
+    step_logs Next base old new text step a none = tt
+    step_logs (SetFuse passes) base old new text step a none = tt
+
     -- ---- a command that failed
     lost_own : (blocks : List Blocks) (base : List Record) (old : Program V) (f : Fuse V) (lost : Lost told may_leave faults precheck blocks old f) → IsAPoint told may_leave faults base old
-        → NoneEscapesIn told may_leave old → NoneEscapesCut told may_leave moment left_since faults limit cuts precheck blocks old f lost → IsOwn told may_leave base (inner f)
-    lost_own blocks base (Up core) f (inl same) a none behind =
-        subst (λ (x : Fuse V). IsOwn told may_leave base (inner x)) (sym same) (own_store told may_leave faults base (Up core) a none)
-    lost_own blocks base (Up core) f (inr played) a none behind =
+        → NoneEscapesCut told may_leave moment left_since faults limit cuts precheck blocks old f lost → IsOwn told may_leave base (inner f)
+    lost_own blocks base (Up core) f (inl same) a behind =
+        subst (λ (x : Fuse V). IsOwn told may_leave base (inner x)) (sym same) (own_store told may_leave faults base (Up core) a behind)
+    lost_own blocks base (Up core) f (inr played) a behind =
         played_own precheck played.whole base blocks core played.core played.transcripts f played.longer played.plays played.store a behind
-    lost_own blocks base (Down store) f same a none behind = subst (λ (x : Fuse V). IsOwn told may_leave base (inner x)) (sym same) a
+    lost_own blocks base (Down store) f same a behind = subst (λ (x : Fuse V). IsOwn told may_leave base (inner x)) (sym same) a
 
     alone_own : (act : Act) (base : List Record) (old : Program V) (f : Fuse V) (fails : AloneFails told may_leave faults precheck act old f) → IsAPoint told may_leave faults base old
         → NoneEscapesAlone told may_leave moment left_since faults limit cuts precheck act old f fails → IsOwn told may_leave base (inner f)
@@ -663,78 +698,81 @@ module _ {V : Type 0} (told : V → Option Disk) (may_leave : V → Disk → Typ
     alone_own act base (Down store) f fails a behind = absurd fails
 
     stays_own : (base : List Record) (old : Program V) (f : Fuse V) → f ≡ store_of old → IsAPoint told may_leave faults base old → NoneEscapesIn told may_leave old → IsOwn told may_leave base (inner f)
-    stays_own base old f same a none = subst (λ (x : Fuse V). IsOwn told may_leave base (inner x)) (sym same) (own_store told may_leave faults base old a none)
+    stays_own base old f same a behind = subst (λ (x : Fuse V). IsOwn told may_leave base (inner x)) (sym same) (own_store told may_leave faults base old a behind)
 
     broken_own : (command : Command) → IsFit command → (base : List Record) (old : Program V) (f : Fuse V) (breaks : Breaks told may_leave moment left_since faults precheck command old f)
-        → IsAPoint told may_leave faults base old → NoneEscapesIn told may_leave old → NoneEscapesLost told may_leave moment left_since faults limit cuts precheck command old f breaks
+        → IsAPoint told may_leave faults base old → NoneEscapesLost told may_leave moment left_since faults limit cuts precheck command old f breaks
         → IsOwn told may_leave base (inner f)
-    broken_own (Size index heap) fit base old f breaks a none behind = made_own index heap fit base (store_of old) f breaks.0 (own_store told may_leave faults base old a none)
-    broken_own Open fit base old f breaks a none behind = stops_own base (store_of old) f breaks.0 (own_store told may_leave faults base old a none)
-    broken_own Restart fit base old f breaks a none behind = stops_own base (store_of old) f breaks.0 (own_store told may_leave faults base old a none)
-    broken_own (Round blocks) fit base old f breaks a none behind = lost_own (map told_by blocks) base old f breaks a none behind
-    broken_own (Poke region word mask) fit base old f breaks a none behind = lost_own (alone (Pokes region word mask)) base old f breaks a none behind
-    broken_own Audit fit base old f breaks a none behind = lost_own (alone Audits) base old f breaks a none behind
-    broken_own Checkpoint fit base old f breaks a none behind = lost_own (alone Checkpoints) base old f breaks a none behind
-    broken_own (Crash choice) fit base old f breaks a none behind =
-        crash_own told may_leave faults base (inner (store_of old)) (inner f) breaks.0.tells breaks.0.crash (own_store told may_leave faults base old a none)
-    broken_own (SetFuse passes) fit base old f breaks a none behind = own_same told may_leave faults base (inner (store_of old)) (inner f) (sym breaks) (own_store told may_leave faults base old a none)
-    broken_own Next fit base old f breaks a none behind = absurd breaks
-    broken_own Cleanup fit base old f breaks a none behind = stays_own base old f breaks a none
-    broken_own Show fit base old f breaks a none behind = stays_own base old f breaks a none
-    broken_own Verify fit base old f breaks a none behind = only_read_own base (store_of old) f breaks.0 (own_store told may_leave faults base old a none)
+    broken_own (Size index heap) fit base old f breaks a behind = made_own index heap fit base (store_of old) f breaks.0 (own_store told may_leave faults base old a behind)
+    broken_own Open fit base old f breaks a behind = stops_own base (store_of old) f breaks.0 (own_store told may_leave faults base old a behind)
+    broken_own Restart fit base old f breaks a behind = stops_own base (store_of old) f breaks.0 (own_store told may_leave faults base old a behind)
+    broken_own (Round blocks) fit base old f breaks a behind = lost_own (map told_by blocks) base old f breaks a behind
+    broken_own (Poke region word mask) fit base old f breaks a behind = lost_own (alone (Pokes region word mask)) base old f breaks a behind
+    broken_own Audit fit base old f breaks a behind = lost_own (alone Audits) base old f breaks a behind
+    broken_own Checkpoint fit base old f breaks a behind = lost_own (alone Checkpoints) base old f breaks a behind
+    broken_own (Crash choice) fit base old f breaks a behind =
+        crash_own told may_leave faults base (inner (store_of old)) (inner f) breaks.0.tells breaks.0.crash (own_store told may_leave faults base old a behind)
+    broken_own (SetFuse passes) fit base old f breaks a behind = own_same told may_leave faults base (inner (store_of old)) (inner f) (sym breaks) (own_store told may_leave faults base old a behind)
+    broken_own Next fit base old f breaks a behind = absurd breaks
+    broken_own Cleanup fit base old f breaks a behind = stays_own base old f breaks a behind
+    broken_own Show fit base old f breaks a behind = stays_own base old f breaks a behind
+    broken_own Verify fit base old f breaks a behind = only_read_own base (store_of old) f breaks.0 (own_store told may_leave faults base old a behind)
 
     failed_own : (command : Command) → IsFit command → (base : List Record) (old : Program V) (f : Fuse V) (fails : StoreFailsIn told may_leave moment left_since faults precheck command old f)
-        → IsAPoint told may_leave faults base old → NoneEscapesIn told may_leave old → NoneEscapesFailed told may_leave moment left_since faults limit cuts precheck command old f fails
+        → IsAPoint told may_leave faults base old → NoneEscapesFailed told may_leave moment left_since faults limit cuts precheck command old f fails
         → IsOwn told may_leave base (inner f)
-    failed_own (Size index heap) fit base old f fails a none behind = made_own index heap fit base (store_of old) f fails.1 (own_store told may_leave faults base old a none)
-    failed_own Open fit base old f fails a none behind = stops_own base (store_of old) f fails.1 (own_store told may_leave faults base old a none)
-    failed_own Restart fit base old f fails a none behind = stops_own base (store_of old) f fails.1 (own_store told may_leave faults base old a none)
-    failed_own (Poke region word mask) fit base old f fails a none behind = alone_own (Pokes region word mask) base old f fails a behind
-    failed_own Audit fit base old f fails a none behind = alone_own Audits base old f fails a behind
-    failed_own Checkpoint fit base old f fails a none behind = alone_own Checkpoints base old f fails a behind
-    failed_own (Crash choice) fit base old f fails a none behind =
-        crash_own told may_leave faults base (inner (store_of old)) (inner f) fails.1.tells fails.1.crash (own_store told may_leave faults base old a none)
-    failed_own (Round blocks) fit base old f fails a none behind = absurd fails
-    failed_own Cleanup fit base old f fails a none behind = absurd fails
-    failed_own Show fit base old f fails a none behind = absurd fails
-    failed_own Verify fit base old f fails a none behind = only_read_own base (store_of old) f fails.1 (own_store told may_leave faults base old a none)
-    failed_own Next fit base old f fails a none behind = absurd fails
-    failed_own (SetFuse passes) fit base old f fails a none behind = absurd fails
+    failed_own (Size index heap) fit base old f fails a behind = made_own index heap fit base (store_of old) f fails.1 (own_store told may_leave faults base old a behind)
+    failed_own Open fit base old f fails a behind = stops_own base (store_of old) f fails.1 (own_store told may_leave faults base old a behind)
+    failed_own Restart fit base old f fails a behind = stops_own base (store_of old) f fails.1 (own_store told may_leave faults base old a behind)
+    failed_own (Poke region word mask) fit base old f fails a behind = alone_own (Pokes region word mask) base old f fails a behind
+    failed_own Audit fit base old f fails a behind = alone_own Audits base old f fails a behind
+    failed_own Checkpoint fit base old f fails a behind = alone_own Checkpoints base old f fails a behind
+    failed_own (Crash choice) fit base old f fails a behind =
+        crash_own told may_leave faults base (inner (store_of old)) (inner f) fails.1.tells fails.1.crash (own_store told may_leave faults base old a behind)
+    failed_own (Round blocks) fit base old f fails a behind = absurd fails
+    failed_own Cleanup fit base old f fails a behind = absurd fails
+    failed_own Show fit base old f fails a behind = absurd fails
+    failed_own Verify fit base old f fails a behind = only_read_own base (store_of old) f fails.1 (own_store told may_leave faults base old a behind)
+    failed_own Next fit base old f fails a behind = absurd fails
+    failed_own (SetFuse passes) fit base old f fails a behind = absurd fails
 
     -- ---- some commands
-    pub record Gone (commands : List Command) (base : List Record) (old : Program V) (text : List ℕ) (new : Program V)
+    pub record Gone (commands : List Command) (base : List Record) (old : Program V) (at : IsAPoint told may_leave faults base old) (text : List ℕ) (new : Program V)
         (runs : RunsAll told may_leave moment left_since faults limit cuts precheck old commands text new) : Type 0 where
       pub log : List Record
-      pub each : AllSurvive told may_leave moment left_since faults limit cuts precheck commands base old text new runs log
+      pub each : AllSurvive told may_leave moment left_since faults limit cuts precheck commands base old at text new runs log
       pub point : IsAPoint told may_leave faults log new
-      pub none : NoneEscapesIn told may_leave new
 
     pub all_go : (commands : List Command) (base : List Record) (old : Program V) (text : List ℕ) (new : Program V)
-        → (runs : RunsAll told may_leave moment left_since faults limit cuts precheck old commands text new) → IsAPoint told may_leave faults base old
-        → NoneEscape told may_leave moment left_since faults limit cuts precheck commands old text new runs → Gone commands base old text new runs
+        → (runs : RunsAll told may_leave moment left_since faults limit cuts precheck old commands text new) (a : IsAPoint told may_leave faults base old)
+        → NoneEscape told may_leave moment left_since faults limit cuts precheck commands old text new runs → Gone commands base old a text new runs
     all_go [] base old text new runs a none = record {
       log = base;
       each = refl;
       point = subst (IsAPoint told may_leave faults base) (sym runs.1) a;
-      none = subst (NoneEscapesIn told may_leave) (sym runs.1) none;
     }
     all_go (command ∷ later) base old text new runs a none =
         let step = step_goes command base old runs.1 runs.0 runs.3 a none.0 in
         let rest = all_go later step.log runs.1 runs.2 new runs.4 step.point none.1 in
-        record { log = rest.log; each = (step.log, step.more, step.point, rest.each); point = rest.point; none = rest.none }
+        record {
+          log = rest.log;
+          each = (step.log, step.more, step.point, step_logs command base old runs.1 runs.0 runs.3 a none.0, rest.each);
+          point = rest.point;
+        }
 
     unfoldable pub there : (base : List Record) (start : V) (script : List Command) (count : ℕ) (text : List ℕ) (new : Program V)
-        → (run : HasRun told may_leave moment left_since faults limit cuts precheck start script count text new) → IsOwn told may_leave base start
-        → NoneEscapeThere told may_leave moment left_since faults limit cuts precheck start script count text new run → Gone (take count script) base run.first text new run.runs
+        → (run : HasRun told may_leave moment left_since faults limit cuts precheck start script count text new) (own : IsOwn told may_leave base start)
+        → NoneEscapeThere told may_leave moment left_since faults limit cuts precheck start script count text new run
+        → Gone (take count script) base run.first (begins_down told may_leave faults base run.first start run.down own) text new run.runs
     there base start script count text new run own none = all_go (take count script) base run.first text new run.runs (begins_down told may_leave faults base run.first start run.down own) none
 
     -- no command takes a record away
-    pub grows : (commands : List Command) (base : List Record) (old : Program V) (text : List ℕ) (new : Program V)
+    pub grows : (commands : List Command) (base : List Record) (old : Program V) (at : IsAPoint told may_leave faults base old) (text : List ℕ) (new : Program V)
         → (runs : RunsAll told may_leave moment left_since faults limit cuts precheck old commands text new) (base' : List Record)
-        → AllSurvive told may_leave moment left_since faults limit cuts precheck commands base old text new runs base' → BeginsWith base base'
-    grows [] base old text new runs base' same = subst (BeginsWith base) (sym same) (begins_all base)
-    grows (command ∷ later) base old text new runs base' all =
-        begins_then base all.0 base' all.1 (grows later all.0 runs.1 runs.2 new runs.4 base' all.3)
+        → AllSurvive told may_leave moment left_since faults limit cuts precheck commands base old at text new runs base' → BeginsWith base base'
+    grows [] base old at text new runs base' same = subst (BeginsWith base) (sym same) (begins_all base)
+    grows (command ∷ later) base old at text new runs base' all =
+        begins_then base all.0 base' all.1 (grows later all.0 runs.1 all.2 runs.2 new runs.4 base' all.4)
 
     -- behind the making of a database there is one
     pub made_some : (index heap : ℕ) (later : List Command) (base : List Record) (old : Program V) (text : List ℕ) (new : Program V)
@@ -745,98 +783,95 @@ module _ {V : Type 0} (told : V → Option Disk) (may_leave : V → Disk → Typ
     made_some index heap later base old text new runs a none =
         let step = step_goes (Size index heap) base old runs.1 runs.0 runs.3 a none.0 in
         let rest = all_go later step.log runs.1 runs.2 new runs.4 step.point none.1 in
-        grows later step.log runs.1 runs.2 new runs.4 rest.log rest.each
+        grows later step.log runs.1 step.point runs.2 new runs.4 rest.log rest.each
 
-    fails_own : (halt : Halt) (command : Command) → IsFit command → (base : List Record) (old : Program V) (f : Fuse V) (fails : Fails told may_leave moment left_since faults precheck halt command old f)
-        → IsAPoint told may_leave faults base old → NoneEscapesIn told may_leave old → NoneEscapesBehind told may_leave moment left_since faults limit cuts precheck halt command old f fails
+    pub fails_own : (halt : Halt) (command : Command) → IsFit command → (base : List Record) (old : Program V) (f : Fuse V) (fails : Fails told may_leave moment left_since faults precheck halt command old f)
+        → IsAPoint told may_leave faults base old → NoneEscapesBehind told may_leave moment left_since faults limit cuts precheck halt command old f fails
         → IsOwn told may_leave base (inner f)
-    fails_own halts.StoreFault command fit base old f fails a none behind = failed_own command fit base old f fails a none behind
-    fails_own halts.OutOfMemory command fit base old f fails a none behind = broken_own command fit base old f fails a none behind
-    fails_own (halts.BadStore file at) command fit base old f fails a none behind = only_read_own base (store_of old) f fails.2 (own_store told may_leave faults base old a none)
-    fails_own halts.Unformatted command fit base old f fails a none behind = only_read_own base (store_of old) f fails.2 (own_store told may_leave faults base old a none)
-    fails_own halts.Formatted command fit base old f fails a none behind = only_read_own base (store_of old) f fails.2 (own_store told may_leave faults base old a none)
-    fails_own halts.BadWords command fit base old f fails a none behind = absurd fails
-    fails_own (halts.BadScript line kind) command fit base old f fails a none behind = absurd fails
-    fails_own halts.TooLong command fit base old f fails a none behind = absurd fails
-    fails_own halts.ReadFault command fit base old f fails a none behind = absurd fails
-    fails_own halts.WriteFault command fit base old f fails a none behind = absurd fails
-    fails_own (halts.LogFull end most) command fit base old f fails a none behind = absurd fails
+    fails_own halts.StoreFault command fit base old f fails a behind = failed_own command fit base old f fails a behind
+    fails_own halts.OutOfMemory command fit base old f fails a behind = broken_own command fit base old f fails a behind
+    fails_own (halts.BadStore file at) command fit base old f fails a behind = only_read_own base (store_of old) f fails.2 (own_store told may_leave faults base old a behind)
+    fails_own halts.Unformatted command fit base old f fails a behind = only_read_own base (store_of old) f fails.2 (own_store told may_leave faults base old a behind)
+    fails_own halts.Formatted command fit base old f fails a behind = only_read_own base (store_of old) f fails.2 (own_store told may_leave faults base old a behind)
+    fails_own halts.BadWords command fit base old f fails a behind = absurd fails
+    fails_own (halts.BadScript line kind) command fit base old f fails a behind = absurd fails
+    fails_own halts.TooLong command fit base old f fails a behind = absurd fails
+    fails_own halts.ReadFault command fit base old f fails a behind = absurd fails
+    fails_own halts.WriteFault command fit base old f fails a behind = absurd fails
+    fails_own (halts.LogFull end most) command fit base old f fails a behind = absurd fails
 
-    module _ (words : List (List ℕ)) (c : Course V) (mid : Option (List ℕ)) (count : ℕ) (base : List Record) (own : IsOwn told may_leave base c.store) where
+    module _ (c : Course V) (mid : Option (List ℕ)) (count : ℕ) (base : List Record) (own : IsOwn told may_leave base c.store) where
       untouched : c.store' ≡ c.store → IsOwn told may_leave base c.store'
       untouched same = own_same told may_leave faults base c.store c.store' (sym same) own
 
-      stop_survives : (halt : Halt) (stopped : HasStopped told may_leave moment left_since faults limit cuts precheck words halt c mid)
-          → StopIsHonest told may_leave moment left_since faults limit cuts precheck words c mid count halt stopped
-          → HaltSurvives told may_leave moment left_since faults limit cuts precheck words c mid count base halt stopped
+      stop_survives : (halt : Halt) (stopped : HasStopped told may_leave moment left_since faults limit cuts precheck halt c mid)
+          → StopIsHonest told may_leave moment left_since faults limit cuts precheck c mid count halt stopped
+          → HaltSurvives told may_leave moment left_since faults limit cuts precheck c mid count base halt stopped
       stop_survives halt stopped honest =
           let stops = stopped.2 in
           let gone = there base c.store stopped.0 stops.count stops.text stops.state stops.run own honest.0 in
           record {
             base' = gone.log;
-            run = record { each = gone.each; behind = gone.point };
+            run = record { at = begins_down told may_leave faults base stops.run.first c.store stops.run.down own; each = gone.each; behind = gone.point };
             comes_back =
                 own_same told may_leave faults gone.log (inner stops.last) c.store' stops.store
-                (fails_own halt stops.command (next_fit stopped.0 stops.count stops.command (all_fit stopped.1.bytes stopped.0 stopped.1.spelled) stops.next.next) gone.log stops.state stops.last stops.fails gone.point gone.none honest.1);
+                (fails_own halt stops.command (next_fit stopped.0 stops.count stops.command (all_fit stopped.1.bytes stopped.0 stopped.1.spelled) stops.next.next) gone.log stops.state stops.last stops.fails gone.point honest.1);
           }
 
-      unformatted_survives : (stopped : HasStopped told may_leave moment left_since faults limit cuts precheck words halts.Unformatted c mid)
-          → StopIsHonest told may_leave moment left_since faults limit cuts precheck words c mid count halts.Unformatted stopped
-          → (survives : HaltSurvives told may_leave moment left_since faults limit cuts precheck words c mid count base halts.Unformatted stopped) × (survives.base' ≡ [])
+      unformatted_survives : (stopped : HasStopped told may_leave moment left_since faults limit cuts precheck halts.Unformatted c mid)
+          → StopIsHonest told may_leave moment left_since faults limit cuts precheck c mid count halts.Unformatted stopped
+          → (survives : HaltSurvives told may_leave moment left_since faults limit cuts precheck c mid count base halts.Unformatted stopped) × (survives.base' ≡ [])
       unfolding stop_survives there
       unformatted_survives stopped honest =
           let stops = stopped.2 in
           let gone = there base c.store stopped.0 stops.count stops.text stops.state stops.run own honest.0 in (
             stop_survives halts.Unformatted stopped honest,
-            none_yet gone.log (inner (store_of stops.state)) (own_store told may_leave faults gone.log stops.state gone.point gone.none) stops.fails.1,
+            none_yet gone.log (inner (store_of stops.state)) (own_store told may_leave faults gone.log stops.state gone.point honest.1) stops.fails.1,
           )
 
-      never_bad_store : (file : FileName) (at : ℕ) (stopped : HasStopped told may_leave moment left_since faults limit cuts precheck words (halts.BadStore file at) c mid)
-          → StopIsHonest told may_leave moment left_since faults limit cuts precheck words c mid count (halts.BadStore file at) stopped → ⊥
+      never_bad_store : (file : FileName) (at : ℕ) (stopped : HasStopped told may_leave moment left_since faults limit cuts precheck (halts.BadStore file at) c mid)
+          → StopIsHonest told may_leave moment left_since faults limit cuts precheck c mid count (halts.BadStore file at) stopped → ⊥
       never_bad_store file at stopped honest =
           let stops = stopped.2 in
           let gone = there base c.store stopped.0 stops.count stops.text stops.state stops.run own honest.0 in
-          never_bad stops.command gone.log (inner (store_of stops.state)) file at (own_store told may_leave faults gone.log stops.state gone.point gone.none) stops.fails.1
+          never_bad stops.command gone.log (inner (store_of stops.state)) file at (own_store told may_leave faults gone.log stops.state gone.point honest.1) stops.fails.1
 
-      memory_survives : (o : Untouched told may_leave moment left_since faults limit cuts precheck words c mid ⊎ HasStopped told may_leave moment left_since faults limit cuts precheck words halts.OutOfMemory c mid)
-          → MemoryIsHonest told may_leave moment left_since faults limit cuts precheck words c mid count o
-          → MemorySurvives told may_leave moment left_since faults limit cuts precheck words c mid count base o
+      memory_survives : (o : Untouched c mid ⊎ HasStopped told may_leave moment left_since faults limit cuts precheck halts.OutOfMemory c mid)
+          → MemoryIsHonest told may_leave moment left_since faults limit cuts precheck c mid count o
+          → MemorySurvives told may_leave moment left_since faults limit cuts precheck c mid count base o
       memory_survives (inl same) honest = untouched same.0
       memory_survives (inr stopped) honest = stop_survives halts.OutOfMemory stopped honest
 
-      pub survives : (status : Status) (ended : Ended told may_leave moment left_since faults limit cuts precheck words c mid count status)
-          → IsHonest told may_leave moment left_since faults limit cuts precheck words c mid count status ended
-          → Survives told may_leave moment left_since faults limit cuts precheck words c mid count base status ended
-      survives Done ended honest =
-          let ran = ended.1.2 in
-          let gone = there base c.store ended.1.0 (length ended.1.0) ran.text ran.state ran.run own honest in
+      pub script_survives : (status : Status) (ended : EndedScript told may_leave moment left_since faults limit cuts precheck c mid count status)
+          → ScriptIsHonest told may_leave moment left_since faults limit cuts precheck c mid count status ended
+          → ScriptSurvives told may_leave moment left_since faults limit cuts precheck c mid count base status ended
+      script_survives Done ended honest =
+          let ran = ended.2 in
+          let gone = there base c.store ended.0 (length ended.0) ran.text ran.state ran.run own honest.0 in
           record {
             base' = gone.log;
-            run = record { each = gone.each; behind = gone.point };
-            comes_back = own_same told may_leave faults gone.log (inner (store_of ran.state)) c.store' ran.store (own_store told may_leave faults gone.log ran.state gone.point gone.none);
+            run = record { at = begins_down told may_leave faults base ran.run.first c.store ran.run.down own; each = gone.each; behind = gone.point };
+            comes_back = own_same told may_leave faults gone.log (inner (store_of ran.state)) c.store' ran.store (own_store told may_leave faults gone.log ran.state gone.point honest.1);
           }
-      survives WriteFault ended honest =
-          let cut = ended.2.2 in
-          let gone = there base c.store ended.2.0 cut.count cut.text cut.earlier cut.ran own honest.0 in
-          let step = step_goes cut.command gone.log cut.earlier cut.state cut.more cut.steps gone.point gone.none in
+      script_survives WriteFault ended honest =
+          let cut = ended.1.2 in
+          let gone = there base c.store ended.1.0 cut.count cut.text cut.earlier cut.ran own honest.0 in
+          let step = step_goes cut.command gone.log cut.earlier cut.state cut.more cut.steps gone.point honest.1 in
           record {
             mid = gone.log;
-            run = record { each = gone.each; behind = gone.point };
+            run = record { at = begins_down told may_leave faults base cut.ran.first c.store cut.ran.down own; each = gone.each; behind = gone.point };
             base' = step.log;
             more = step.more;
             last = step.point;
-            comes_back = own_same told may_leave faults step.log (inner (store_of cut.state)) c.store' cut.store (own_store told may_leave faults step.log cut.state step.point honest.1);
+            comes_back = own_same told may_leave faults step.log (inner (store_of cut.state)) c.store' cut.store (own_store told may_leave faults step.log cut.state step.point honest.2);
           }
-      survives StoreFault ended honest = stop_survives halts.StoreFault ended.1 honest
-      survives (BadStore file at) ended honest = never_bad_store file at ended.1 honest
-      survives Unformatted ended honest = unformatted_survives ended.1 honest
-      survives Formatted ended honest = stop_survives halts.Formatted ended.1 honest
-      survives OutOfMemory ended honest = memory_survives ended.1 honest
-      survives (LogFull end most) ended honest = absurd ended
-      survives BadWords ended honest = untouched ended.2.0
-      survives (BadScript line kind) ended honest = untouched ended.2.0
-      survives TooLong ended honest = untouched ended.2.0
-      survives ReadFault ended honest = untouched ended.2.0
-
-    pub runs_survive : RunsSurvive told may_leave moment left_since faults limit cuts precheck
-    runs_survive words c status base own e honest = survives words c e.mid e.count base own status e.ended honest
+      script_survives StoreFault ended honest = stop_survives halts.StoreFault ended honest
+      script_survives (BadStore file at) ended honest = never_bad_store file at ended honest
+      script_survives Unformatted ended honest = unformatted_survives ended honest
+      script_survives Formatted ended honest = stop_survives halts.Formatted ended honest
+      script_survives OutOfMemory ended honest = memory_survives ended honest
+      script_survives (LogFull end most) ended honest = absurd ended
+      script_survives BadWords ended honest = absurd ended
+      script_survives (BadScript line kind) ended honest = untouched ended.1.0
+      script_survives TooLong ended honest = untouched ended.1.0
+      script_survives ReadFault ended honest = untouched ended.1.0

@@ -1,6 +1,6 @@
 -- A database into which nobody wrote astray is shown as its log is expected to leave it.
-use Rattle.std.proofs.Common.{◌≡◌, ℕ, Bool, true, List, Option, Some, None, refl, sym, subst, ◌≤◌}
-use Rattle.std.specs.Prelude.{IfSome, IsSome, ◌↔◌, Contains, slice_get}
+use Rattle.std.proofs.Common.{◌≡◌, ℕ, true, List, Option, Some, None, refl, sym, subst, ◌≤◌}
+use Rattle.std.specs.Prelude.{IfSome, IsSome}
 use Rattle.dali_att.specs.declared.state.State.{State}
 use Rattle.dali_att.specs.declared.state.State.TheVariants.{Live, Dead, Cleaning, Committed}
 use Rattle.dali_chain.specs.Shown.{IsServing, HoldsExpected}
@@ -8,20 +8,17 @@ use Rattle.dali_chain.proofs.Shown.{shows_expected}
 use Rattle.dali_chain.proofs.Verifying.{verifies}
 use Rattle.dali_clean.specs.Cleaned.{IsDead}
 use Rattle.dali_crash.specs.CrashLogs.{IsUnpoked}
-use Rattle.dali_listing.specs.Listing.{pairs_of}
 use Rattle.dali_memstore.specs.Fuse.{inner}
 use Rattle.dali_memstore.specs.declared.fuse.Fuse.{Fuse}
 use Rattle.dali_record.specs.declared.records.Record.{Record}
-use Rattle.dali_region.specs.State.{RegionState}
 use Rattle.dali_store.specs.Store.{Files as Disk}
 use Rattle.dali_system.specs.State.{SystemState, TxnRow, row_of, state_in}
 use Rattle.dali_transcripts.specs.World.{is_dead_in}
 use Rattle.dali_whole.specs.declared.whole.Core.{Core}
 use Rattle.dali_run.specs.Program.{told_in, leaves_in, faults_in}
-use Rattle.dali_run.specs.Steps.{Lists}
 use Rattle.dali_run.specs.Survives.{IsPointOf}
 use Rattle.dali_run.specs.Unpoked.{AreUnpoked, HasServed, UnpokedShows, UnpokedVerifies}
-use Rattle.dali_run.proofs.Surviving.{cleaned_point}
+use Rattle.dali_run.proofs.Surviving.{Behind, cleaned_point}
 
 is_dead : (o : Option State) → is_dead_in o ≡ true → IsDead o
 is_dead (Some (Dead latched)) is = (latched, refl)
@@ -36,8 +33,14 @@ no_row o (Some row) is dead none = absurd (none (is_dead (state_in (Some row)) (
 
 module _ {V : Type 0} (told : V → Option Disk) (may_leave : V → Disk → Type 0) (moment : V → ℕ) (left_since : V → ℕ → Disk → Type 0) (faults : V → ℕ)
     (reads_now : (s : V) → IfSome (told s) (λ fs. may_leave s fs)) (counts_now : (s : V) (t : ℕ) (c : Disk) → t ≤ moment s → may_leave s c → left_since s t c) where
-  point_of : (base : List Record) (c d : Core (Fuse V)) → HasServed told may_leave faults base c d → IsPointOf told may_leave faults base d
-  point_of base c d served = cleaned_point told may_leave moment left_since faults reads_now counts_now base c d served.cleaned served.ran served.at
+  behind_of : (base : List Record) (c d : Core (Fuse V)) → HasServed told may_leave faults base c d → Behind told may_leave faults base d
+  behind_of base c d served = cleaned_point told may_leave moment left_since faults reads_now counts_now base c d served.cleaned served.ran served.at
+
+  abbrev log_of : (base : List Record) (c d : Core (Fuse V)) → HasServed told may_leave faults base c d → List Record
+  log_of base c d served = (behind_of base c d served).log
+
+  point_of : (base : List Record) (c d : Core (Fuse V)) → (served : HasServed told may_leave faults base c d) → IsPointOf told may_leave faults (log_of base c d served) d
+  point_of base c d served = (behind_of base c d served).point
 
   serving : (base : List Record) (c d : Core (Fuse V)) → HasServed told may_leave faults base c d → IsServing d.system.state
   serving base c d served = let at = (point_of base c d served).begins in record {
@@ -60,6 +63,8 @@ module _ {V : Type 0} (told : V → Option Disk) (may_leave : V → Disk → Typ
   pub unpoked_shows : UnpokedShows told may_leave faults
   unpoked_shows base c d text served lists =
       let held = expects base c d served in (
+        log_of base c d served,
+        (behind_of base c d served).more,
         point_of base c d served,
         record {
           expects = held.expects;

@@ -1,14 +1,15 @@
 -- Which runs come to their end.
 --     FindsItsGate base script s   the first command finds what it asks for: to make one, a store without a database; to open one, a database, which base
 --                                  begins
---     IsRead c words script        the words are `run` alone, and the source has the bytes of a script
+--     IsRead c script              the source has the bytes of a script
 --     OwnRose old f                the store's own count of faults rose, or it and the calls that the fuse failed come to their type's end together
 --     FaultRises                   so it is in the command that ended a run with a failure of the store
 --     StoreFaultsRise              of each run over files of this program
 --     NoneRises                    no count rose: the source's, the sink's, and the store's in the command that ended the run
 --     MayEnd status                a run to its end, or memory was refused
 --     RunsComplete                 so ends each run that reads a script whose gate is found, over files of this program, where no count rises
-use Rattle.std.specs.Prelude.{◌≡◌, ◌⊎◌, ◌<◌, ◌≤◌, ℕ, ◌+◌, ◌^◌, Bool, List, [], ◌∷◌, Option, Some, IfSome, length}
+use Rattle.std.specs.Prelude.{◌≡◌, ◌⊎◌, ◌<◌, ◌≤◌, ℕ, ◌+◌, ◌^◌, Bool, List, ◌∷◌, Option, Some, IfSome, length}
+use Rattle.dali_arguments.specs.declared.task.Task.TheVariants.{Run}
 use Rattle.dali_batch.specs.Batch.{IsUnformatted}
 use Rattle.dali_memstore.specs.Fuse.{inner}
 use Rattle.dali_memstore.specs.declared.fuse.Fuse.{Fuse}
@@ -21,12 +22,11 @@ use Rattle.dali_store.specs.Store.{Files}
 use Rattle.dali_run.specs.declared.halt.Halt.TheVariants as halts
 use Rattle.dali_run.specs.declared.status.Status.{Status}
 use Rattle.dali_run.specs.declared.status.Status.TheVariants.{Done, StoreFault, OutOfMemory}
-use Rattle.dali_run.specs.Ends.{Course, Ended, HasEnded, HasStopped, IsRun}
+use Rattle.dali_run.specs.Ends.{Course, EndedScript, EndsAs, HasStopped}
 use Rattle.dali_run.specs.Program.{faults_in, store_of}
-use Rattle.dali_run.specs.Survives.{IsHonest, IsOwn}
+use Rattle.dali_run.specs.Survives.{IsOwn, NoneEscapesBefore, ScriptIsHonest}
 
-pub record IsRead {V : Type 0} (words : List (List ℕ)) (c : Course V) (script : List Command) : Type 0 where
-  pub words_are : IsRun words
+pub record IsRead {V : Type 0} (c : Course V) (script : List Command) : Type 0 where
   pub bytes : List ℕ
   pub left : c.left ≡ Some bytes
   pub short : length bytes ≤ 1048576
@@ -48,32 +48,32 @@ module _ {V : Type 0} (faults : V → ℕ) where
   OwnRose old f = (faults (inner old) < faults (inner f)) ⊎ (2 ^ 64 ≤ faults_in faults f + 1)
 
 module _ {V : Type 0} (told : V → Option Files) (may_leave : V → Files → Type 0) (moment : V → ℕ) (left_since : V → ℕ → Files → Type 0) (faults : V → ℕ) (limit : ℕ) (cuts : V → ℕ → Option Files) (precheck : Bool) where
-  module _ (words : List (List ℕ)) (c : Course V) (mid : Option (List ℕ)) (count : ℕ) where
-    abbrev pub FaultRises : HasStopped told may_leave moment left_since faults limit cuts precheck words halts.StoreFault c mid → Type 0
+  module _ (c : Course V) (mid : Option (List ℕ)) (count : ℕ) where
+    abbrev pub FaultRises : HasStopped told may_leave moment left_since faults limit cuts precheck halts.StoreFault c mid → Type 0
     FaultRises stopped = let stops = stopped.2 in OwnRose faults (store_of stops.state) stops.last
 
     -- of the store nothing is asked where no failure of it ended the run
-    abbrev pub StoreIsCalm : (status : Status) → Ended told may_leave moment left_since faults limit cuts precheck words c mid count status → Type 0
-    StoreIsCalm StoreFault ended = FaultRises ended.1 → ⊥
+    abbrev pub StoreIsCalm : (status : Status) → EndedScript told may_leave moment left_since faults limit cuts precheck c mid count status → Type 0
+    StoreIsCalm StoreFault ended = FaultRises ended → ⊥
     StoreIsCalm _ ended = Unit {0}
 
-    pub record NoneRises (status : Status) (ended : Ended told may_leave moment left_since faults limit cuts precheck words c mid count status) : Type 0 where
+    pub record NoneRises (status : Status) (ended : EndedScript told may_leave moment left_since faults limit cuts precheck c mid count status) : Type 0 where
       pub source : Rose c.read_faults c.read_faults' → ⊥
       pub sink : Rose c.write_faults c.write_faults' → ⊥
       pub store : StoreIsCalm status ended
 
   abbrev pub StoreFaultsRise : Type 0
   StoreFaultsRise =
-      (words : List (List ℕ)) (c : Course V) (base : List Record) → IsOwn told may_leave base c.store
-      → (e : HasEnded told may_leave moment left_since faults limit cuts precheck words c StoreFault)
-      → IsHonest told may_leave moment left_since faults limit cuts precheck words c e.mid e.count StoreFault e.ended
-      → FaultRises words c e.mid e.count e.ended.1
+      (c : Course V) (base : List Record) → IsOwn told may_leave base c.store
+      → (e : EndsAs told may_leave moment left_since faults cuts (Some (Run precheck limit)) c StoreFault)
+      → NoneEscapesBefore told may_leave moment left_since faults limit cuts precheck c e.mid e.count StoreFault e.ended
+      → FaultRises c e.mid e.count e.ended
 
   abbrev pub RunsComplete : Type 0
   RunsComplete =
-      (words : List (List ℕ)) (c : Course V) (status : Status) (base : List Record) (script : List Command)
-      → IsOwn told may_leave base c.store → IsRead words c script → FindsItsGate told base script c.store
-      → (e : HasEnded told may_leave moment left_since faults limit cuts precheck words c status)
-      → IsHonest told may_leave moment left_since faults limit cuts precheck words c e.mid e.count status e.ended
-      → NoneRises words c e.mid e.count status e.ended
+      (c : Course V) (status : Status) (base : List Record) (script : List Command)
+      → IsOwn told may_leave base c.store → IsRead c script → FindsItsGate told base script c.store
+      → (e : EndsAs told may_leave moment left_since faults cuts (Some (Run precheck limit)) c status)
+      → ScriptIsHonest told may_leave moment left_since faults limit cuts precheck c e.mid e.count status e.ended
+      → NoneRises c e.mid e.count status e.ended
       → MayEnd status

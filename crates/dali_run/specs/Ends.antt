@@ -1,90 +1,35 @@
 -- How a run ends, and what was read, run and written before.
---     IsRun words               the words are `run` alone
---     Spells, SpellsNone        a source was read to its end, and gave the bytes of a script, or bytes that are none
---     RanWhole                  all commands were run, and their lines written
---     StoppedIn halt            a command ended the run with this: those before it were run and their lines written
---     CutIn                     the sink failed in writing the lines of a command: the lines of those before it were written, and some of the first bytes of its own
 --     Course, course            what a run was handed, and what it left
---     Ended                     what holds of each status, where this was written before the last line, and the sink's count of faults was this one then
 --     LastLine                  the last line was written behind what was, and the sink's count of faults stayed; or it was cut, and the count rose in it
---     HasEnded                  a run from its start to its end; each stream's count of faults stayed, until the last line, unless the status says that it failed
-use Rattle.std.specs.Prelude.{◌≡◌, ◌⊎◌, ℕ, ◌+◌, ◌<◌, ◌≤◌, Bool, List, [], ◌∷◌, ◌++◌, length, take, Option, codes}
+--     EndedScript               what holds of each status of a script's run, where this was written before the last line, and the sink's count of faults was
+--                               this one then
+--     EndedGenerator            of a generated script's
+--     EndedDump                 of a dump
+--     Ended task                of each task of the words, and where they are none
+--     EndsAs task               a run from its start to its end; each stream's count of faults stayed, until the last line, unless the status says that it failed
+--     HasEnded words            so ends what the words mean
+use Rattle.std.specs.Prelude.{◌≡◌, ◌⊎◌, ℕ, ◌≤◌, Bool, List, Option, Some, None}
+use Rattle.dali_arguments.specs.Meaning.{meaning}
+use Rattle.dali_arguments.specs.declared.task.Task.{Task}
+use Rattle.dali_arguments.specs.declared.task.Task.TheVariants.{Run, Generate, Dump}
 use Rattle.dali_memstore.specs.Fuse.{inner}
 use Rattle.dali_memstore.specs.declared.fuse.Fuse.{Fuse}
+use Rattle.dali_whole.specs.declared.whole.Core.{Core}
 use Rattle.dali_run.specs.declared.halt.Halt.{Halt}
 use Rattle.dali_run.specs.declared.halt.Halt.TheVariants as halts
-use Rattle.dali_run.specs.declared.program.Program.{Program}
 use Rattle.dali_run.specs.declared.status.Status.{Status}
 use Rattle.dali_run.specs.declared.status.Status.TheVariants.{Done, BadWords, BadScript, TooLong, ReadFault, WriteFault, StoreFault, BadStore, Unformatted, Formatted, OutOfMemory, LogFull}
-use Rattle.dali_run.specs.Fails.{Fails}
+use Rattle.dali_run.specs.Dumping.{Dumps, NotDumped}
+use Rattle.dali_run.specs.Generating.{IsFound, IsLost, Summarizes, RefusedIn, NotFound, EndedBy}
 use Rattle.dali_run.specs.Halts.{last_line}
-use Rattle.dali_run.specs.Program.{store_of}
-use Rattle.dali_run.specs.Run.{HasRun}
-use Rattle.dali_run.specs.Steps.{Steps}
+use Rattle.dali_run.specs.Scripts.{Spells, SpellsNone, RanWhole, StoppedIn, CutIn}
 use Rattle.dali_script.specs.declared.commands.Command.{Command}
-use Rattle.dali_script.specs.declared.faults.Kind.{Kind}
-use Rattle.dali_script.specs.Grammar.{IsSpelled, IsWrong}
 use Rattle.dali_store.specs.Faults.{Rose}
 use Rattle.dali_store.specs.Store.{Files}
-use Rattle.dali_streams.specs.Streams.{ReadAll, ReadTooMany, Appends, AppendsSome}
-
-pub record Spells (before : Option (List ℕ)) (script : List Command) (after : Option (List ℕ)) : Type 0 where
-  pub bytes : List ℕ
-  pub all : ReadAll before bytes after
-  pub short : length bytes ≤ 1048576
-  pub spelled : IsSpelled bytes script
-
-pub record SpellsNone (before : Option (List ℕ)) (line : ℕ) (kind : Kind) (after : Option (List ℕ)) : Type 0 where
-  pub bytes : List ℕ
-  pub all : ReadAll before bytes after
-  pub short : length bytes ≤ 1048576
-  pub wrong : IsWrong bytes line kind
+use Rattle.dali_streams.specs.Streams.{ReadTooMany, Appends, AppendsSome}
 
 abbrev pub LastLine : Option (List ℕ) → Status → Option (List ℕ) → ℕ → ℕ → Type 0
 LastLine before status after faults faults' = (Appends before (last_line status) after × (faults' ≡ faults)) ⊎ (AppendsSome before (last_line status) after × Rose faults faults')
-
-abbrev pub IsRun : List (List ℕ) → Type 0
-IsRun words = words ≡ codes "run" ∷ []
-
--- a command of the script with those before it
-pub record IsNext (script : List Command) (count : ℕ) (command : Command) : Type 0 where
-  pub within : count < length script
-  pub next : take (count + 1) script ≡ take count script ++ command ∷ []
-
-module _ {V : Type 0} (told : V → Option Files) (may_leave : V → Files → Type 0) (moment : V → ℕ) (left_since : V → ℕ → Files → Type 0) (faults : V → ℕ) (limit : ℕ) (cuts : V → ℕ → Option Files) (precheck : Bool) where
-  pub record RanWhole (start : V) (script : List Command) (before after : Option (List ℕ)) (end : V) : Type 0 where
-    pub text : List ℕ
-    pub state : Program V
-    pub run : HasRun told may_leave moment left_since faults limit cuts precheck start script (length script) text state
-    pub store : inner (store_of state) ≡ end
-    pub written : Appends before text after
-
-  pub record StoppedIn (halt : Halt) (start : V) (script : List Command) (before after : Option (List ℕ)) (end : V) : Type 0 where
-    pub count : ℕ
-    pub command : Command
-    pub next : IsNext script count command
-    pub text : List ℕ
-    pub state : Program V
-    pub run : HasRun told may_leave moment left_since faults limit cuts precheck start script count text state
-    pub last : Fuse V
-    pub fails : Fails told may_leave moment left_since faults precheck halt command state last
-    pub store : inner last ≡ end
-    pub written : Appends before text after
-
-  pub record CutIn (start : V) (script : List Command) (before after : Option (List ℕ)) (end : V) : Type 0 where
-    pub count : ℕ
-    pub command : Command
-    pub next : IsNext script count command
-    pub text : List ℕ
-    pub earlier : Program V
-    pub ran : HasRun told may_leave moment left_since faults limit cuts precheck start script count text earlier
-    pub more : List ℕ
-    pub state : Program V
-    pub steps : Steps told may_leave moment left_since faults limit cuts precheck earlier command more state
-    pub store : inner (store_of state) ≡ end
-    pub between : Option (List ℕ)
-    pub written : Appends before text between
-    pub cut : AppendsSome between more after
 
 -- what a run was handed, and what it left: the bytes of the source, those that the sink took, the store, and the counts of faults of both streams
 pub record Course (V : Type 0) : Type 0 where
@@ -113,7 +58,7 @@ course left read_faults taken write_faults source source' sink sink' store store
   store' = store';
 }
 
-module _ {V : Type 0} (told : V → Option Files) (may_leave : V → Files → Type 0) (moment : V → ℕ) (left_since : V → ℕ → Files → Type 0) (faults : V → ℕ) (limit : ℕ) (cuts : V → ℕ → Option Files) (precheck : Bool) (words : List (List ℕ)) where
+module _ {V : Type 0} where
   -- the store stays, and nothing was written
   abbrev pub Untouched : Course V → Option (List ℕ) → Type 0
   Untouched c mid = (c.store' ≡ c.store) × (mid ≡ c.taken)
@@ -122,6 +67,19 @@ module _ {V : Type 0} (told : V → Option Files) (may_leave : V → Files → T
   abbrev pub Unread : Course V → Type 0
   Unread c = (c.left' ≡ c.left) × (c.read_faults' ≡ c.read_faults)
 
+  -- nothing was read or written
+  abbrev pub Silent : Course V → Option (List ℕ) → Type 0
+  Silent c mid = Unread c × (mid ≡ c.taken)
+
+  -- nothing was read, and this was written
+  abbrev pub Tells : Course V → Option (List ℕ) → List ℕ → Type 0
+  Tells c mid text = Unread c × Appends c.taken text mid
+
+  -- the sink failed in writing this
+  abbrev pub TellsSome : Course V → Option (List ℕ) → ℕ → List ℕ → Type 0
+  TellsSome c mid count text = Unread c × AppendsSome c.taken text mid × Rose c.write_faults count
+
+module _ {V : Type 0} (told : V → Option Files) (may_leave : V → Files → Type 0) (moment : V → ℕ) (left_since : V → ℕ → Files → Type 0) (faults : V → ℕ) (limit : ℕ) (cuts : V → ℕ → Option Files) (precheck : Bool) where
   -- a script was read, and run to where P says
   abbrev pub WithScript : Course V → (List Command → Type 0) → Type 0
   WithScript c P = (script : List Command) × Spells c.left script c.left' × P script
@@ -130,28 +88,95 @@ module _ {V : Type 0} (told : V → Option Files) (may_leave : V → Files → T
   abbrev pub HasStopped : Halt → Course V → Option (List ℕ) → Type 0
   HasStopped halt c mid = WithScript c (λ script. StoppedIn told may_leave moment left_since faults limit cuts precheck halt c.store script c.taken mid c.store')
 
-  -- what holds of each status, where mid was written before the last line, and the sink had counted so many faults then
-  abbrev pub Ended : Course V → Option (List ℕ) → ℕ → Status → Type 0
-  Ended c mid count Done = IsRun words × WithScript c (λ script. RanWhole told may_leave moment left_since faults limit cuts precheck c.store script c.taken mid c.store')
-  Ended c mid count BadWords = (IsRun words → ⊥) × Unread c × Untouched c mid
-  Ended c mid count (BadScript line kind) = IsRun words × SpellsNone c.left line kind c.left' × Untouched c mid
-  Ended c mid count TooLong = IsRun words × ReadTooMany c.left 1048576 c.left' × Untouched c mid
-  Ended c mid count ReadFault = IsRun words × Rose c.read_faults c.read_faults' × Untouched c mid
-  Ended c mid count WriteFault = IsRun words × Rose c.write_faults count × WithScript c (λ script. CutIn told may_leave moment left_since faults limit cuts precheck c.store script c.taken mid c.store')
-  Ended c mid count StoreFault = IsRun words × HasStopped halts.StoreFault c mid
-  Ended c mid count (BadStore file at) = IsRun words × HasStopped (halts.BadStore file at) c mid
-  Ended c mid count Unformatted = IsRun words × HasStopped halts.Unformatted c mid
-  Ended c mid count Formatted = IsRun words × HasStopped halts.Formatted c mid
-  Ended c mid count OutOfMemory = IsRun words × (Untouched c mid ⊎ HasStopped halts.OutOfMemory c mid)
-  -- no command of a script ends it so
-  Ended c mid count (LogFull end limit) = ⊥
+  abbrev pub EndedScript : Course V → Option (List ℕ) → ℕ → Status → Type 0
+  EndedScript c mid count Done = WithScript c (λ script. RanWhole told may_leave moment left_since faults limit cuts precheck c.store script c.taken mid c.store')
+  EndedScript c mid count (BadScript line kind) = SpellsNone c.left line kind c.left' × Untouched c mid
+  EndedScript c mid count TooLong = ReadTooMany c.left 1048576 c.left' × Untouched c mid
+  EndedScript c mid count ReadFault = Rose c.read_faults c.read_faults' × Untouched c mid
+  EndedScript c mid count WriteFault = Rose c.write_faults count × WithScript c (λ script. CutIn told may_leave moment left_since faults limit cuts precheck c.store script c.taken mid c.store')
+  EndedScript c mid count StoreFault = HasStopped halts.StoreFault c mid
+  EndedScript c mid count (BadStore file at) = HasStopped (halts.BadStore file at) c mid
+  EndedScript c mid count Unformatted = HasStopped halts.Unformatted c mid
+  EndedScript c mid count Formatted = HasStopped halts.Formatted c mid
+  EndedScript c mid count OutOfMemory = Untouched c mid ⊎ HasStopped halts.OutOfMemory c mid
+  -- the words have a meaning, and no command of a script ends it for want of room
+  EndedScript c mid count BadWords = ⊥
+  EndedScript c mid count (LogFull end most) = ⊥
 
-  pub record HasEnded (c : Course V) (status : Status) : Type 0 where
+module _ {V : Type 0} (told : V → Option Files) (may_leave : V → Files → Type 0) (moment : V → ℕ) (left_since : V → ℕ → Files → Type 0) (faults : V → ℕ) (cuts : V → ℕ → Option Files) where
+  -- the log has the room that it has where nothing is said
+  module _ (clients size number : ℕ) where
+    abbrev pub Generates : V → List ℕ → V → Type 0
+    Generates = Summarizes told may_leave moment left_since faults 67108864 clients size number cuts
+
+    abbrev pub GeneratorStops : Halt → V → V → Type 0
+    GeneratorStops = EndedBy told may_leave moment left_since faults 67108864 clients size number cuts
+
+    abbrev pub GeneratorIsRefused : Halt → V → V → Type 0
+    GeneratorIsRefused = RefusedIn told may_leave moment left_since faults 67108864 clients size number
+
+    abbrev pub FindsNone : V → V → Type 0
+    FindsNone = NotFound told may_leave moment left_since faults 67108864 clients size number cuts
+
+    abbrev pub GeneratorFinds : V → Core (Fuse V) → Type 0
+    GeneratorFinds = IsFound told may_leave moment left_since faults 67108864 clients size number cuts
+
+    -- it was run to its end, and the store stood so behind it
+    abbrev pub FindsLast : V → V → Type 0
+    FindsLast start end = (found : Core (Fuse V)) × GeneratorFinds start found × (inner found.vault.store ≡ end)
+
+    -- the store failed in a command, in the round, or in the restart
+    abbrev pub GeneratorFails : V → V → Type 0
+    GeneratorFails start end = GeneratorStops halts.StoreFault start end ⊎ (GeneratorIsRefused halts.StoreFault start end ⊎ FindsNone start end)
+
+    abbrev pub GeneratorLoses : V → V → Type 0
+    GeneratorLoses = IsLost told may_leave moment left_since faults 67108864 clients size number
+
+    -- nothing was done yet, or a command had no memory, or the round served not all, or the summary had no memory
+    abbrev pub GeneratorWants : V → V → Type 0
+    GeneratorWants start end = (end ≡ start) ⊎ ((GeneratorStops halts.OutOfMemory start end ⊎ GeneratorLoses start end) ⊎ (GeneratorIsRefused halts.OutOfMemory start end ⊎ FindsLast start end))
+
+    abbrev pub EndedGenerator : Course V → Option (List ℕ) → ℕ → Status → Type 0
+    EndedGenerator c mid count Done = (text : List ℕ) × Generates c.store text c.store' × Tells c mid text
+    EndedGenerator c mid count WriteFault = (text : List ℕ) × Generates c.store text c.store' × TellsSome c mid count text
+    EndedGenerator c mid count StoreFault = GeneratorFails c.store c.store' × Silent c mid
+    EndedGenerator c mid count (BadStore file at) = GeneratorStops (halts.BadStore file at) c.store c.store' × Silent c mid
+    EndedGenerator c mid count Unformatted = GeneratorStops halts.Unformatted c.store c.store' × Silent c mid
+    EndedGenerator c mid count Formatted = GeneratorStops halts.Formatted c.store c.store' × Silent c mid
+    EndedGenerator c mid count (LogFull end most) = GeneratorIsRefused (halts.LogFull end most) c.store c.store' × Silent c mid
+    EndedGenerator c mid count OutOfMemory = GeneratorWants c.store c.store' × Silent c mid
+    EndedGenerator c mid count _ = ⊥
+
+  abbrev pub EndedDump : Course V → Option (List ℕ) → ℕ → Status → Type 0
+  EndedDump c mid count Done = (text : List ℕ) × Dumps told may_leave moment left_since faults c.store text c.store' × Tells c mid text
+  EndedDump c mid count WriteFault = (text : List ℕ) × Dumps told may_leave moment left_since faults c.store text c.store' × TellsSome c mid count text
+  EndedDump c mid count StoreFault = NotDumped told may_leave moment left_since faults halts.StoreFault c.store c.store' × Silent c mid
+  EndedDump c mid count (BadStore file at) = NotDumped told may_leave moment left_since faults (halts.BadStore file at) c.store c.store' × Silent c mid
+  EndedDump c mid count Unformatted = NotDumped told may_leave moment left_since faults halts.Unformatted c.store c.store' × Silent c mid
+  EndedDump c mid count OutOfMemory = NotDumped told may_leave moment left_since faults halts.OutOfMemory c.store c.store' × Silent c mid
+  EndedDump c mid count _ = ⊥
+
+  -- the words are those of no command
+  abbrev pub EndedNone : Course V → Option (List ℕ) → Status → Type 0
+  EndedNone c mid BadWords = Unread c × Untouched c mid
+  EndedNone c mid OutOfMemory = Unread c × Untouched c mid
+  EndedNone c mid _ = ⊥
+
+  abbrev pub Ended : Option Task → Course V → Option (List ℕ) → ℕ → Status → Type 0
+  Ended None c mid count status = EndedNone c mid status
+  Ended (Some (Run precheck limit)) c mid count status = EndedScript told may_leave moment left_since faults limit cuts precheck c mid count status
+  Ended (Some (Generate clients size number)) c mid count status = EndedGenerator clients size number c mid count status
+  Ended (Some Dump) c mid count status = EndedDump c mid count status
+
+  pub record EndsAs (task : Option Task) (c : Course V) (status : Status) : Type 0 where
     pub mid : Option (List ℕ)
     pub count : ℕ
-    pub ended : Ended c mid count status
+    pub ended : Ended task c mid count status
     pub earlier : c.write_faults ≤ count
     pub kept : (status ≡ WriteFault → ⊥) → count ≡ c.write_faults
     pub later : count ≤ c.write_faults'
     pub read : (status ≡ ReadFault → ⊥) → c.read_faults' ≡ c.read_faults
     pub last : LastLine mid status c.taken' count c.write_faults'
+
+  abbrev pub HasEnded : List (List ℕ) → Course V → Status → Type 0
+  HasEnded words c status = EndsAs (meaning words) c status

@@ -5,12 +5,18 @@
 --     status_in result      the status of a run with this result
 use Rattle.std.specs.Prelude.{ℕ, List, [], ◌++◌, codes, Result, Ok, Err}
 use Rattle.std.specs.Fmt.{decimal}
+use Rattle.dali_arguments.specs.Meaning.{usage}
+use Rattle.dali_arguments.specs.declared.error.ArgumentError.{ArgumentError}
+use Rattle.dali_arguments.specs.declared.error.ArgumentError.TheVariants as words
+use Rattle.dali_dump.specs.declared.error.DumpError.{DumpError}
+use Rattle.dali_dump.specs.declared.error.DumpError.TheVariants as dumps
 use Rattle.dali_restart.specs.declared.error.RestartError.{RestartError}
 use Rattle.dali_restart.specs.declared.error.RestartError.TheVariants as restarts
 use Rattle.dali_script.specs.declared.faults.ScriptError.{ScriptError}
 use Rattle.dali_script.specs.declared.faults.ScriptError.TheVariants as scripts
 use Rattle.dali_script.specs.Faults.{text_of}
 use Rattle.dali_store.specs.Store.{name_of}
+use Rattle.dali_store.specs.declared.store.FileName.TheVariants.{Log}
 use Rattle.dali_streams.specs.declared.whole.ReadError.{ReadError}
 use Rattle.dali_streams.specs.declared.whole.ReadError.TheVariants as streams
 use Rattle.dali_run.specs.declared.halt.Halt.{Halt}
@@ -37,6 +43,16 @@ halt_of_read streams.Fault = halts.ReadFault
 halt_of_read streams.TooLong = halts.TooLong
 halt_of_read streams.OutOfMemory = halts.OutOfMemory
 
+abbrev pub halt_of_words : ArgumentError → Halt
+halt_of_words words.Faulty = halts.BadWords
+halt_of_words words.OutOfMemory = halts.OutOfMemory
+
+abbrev pub halt_of_dump : DumpError → Halt
+halt_of_dump dumps.Fault = halts.StoreFault
+halt_of_dump (dumps.BadLog at) = halts.BadStore Log at
+halt_of_dump dumps.Unformatted = halts.Unformatted
+halt_of_dump dumps.OutOfMemory = halts.OutOfMemory
+
 abbrev pub status_of : Halt → Status
 status_of halts.BadWords = statuses.BadWords
 status_of (halts.BadScript line kind) = statuses.BadScript line kind
@@ -52,7 +68,7 @@ status_of halts.OutOfMemory = statuses.OutOfMemory
 
 abbrev pub last_line : Status → List ℕ
 last_line statuses.Done = []
-last_line statuses.BadWords = codes "usage: dali run\n"
+last_line statuses.BadWords = usage ++ codes "\n"
 last_line (statuses.BadScript line kind) = codes "line " ++ (decimal line ++ (codes ": " ++ (text_of kind ++ codes "\n")))
 last_line statuses.TooLong = codes "script too long\n"
 last_line statuses.ReadFault = codes "read fault\n"

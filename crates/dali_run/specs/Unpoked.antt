@@ -19,7 +19,7 @@ use Rattle.dali_verify.specs.Verified.{IsWholeLog, IsVerified}
 use Rattle.dali_whole.specs.declared.whole.Core.{Core}
 use Rattle.dali_run.specs.Program.{told_in}
 use Rattle.dali_run.specs.Steps.{HasCleaned, Lists}
-use Rattle.dali_run.specs.Survives.{IsPointOf}
+use Rattle.dali_run.specs.Survives.{BeginsWith, IsPointOf}
 use Rattle.dali_run.specs.Texts.{shown}
 
 abbrev pub AreUnpoked : List RegionState → Type 0
@@ -44,7 +44,7 @@ module _ {V : Type 0} (told : V → Option Files) (may_leave : V → Files → T
   abbrev pub UnpokedShows : Type 0
   UnpokedShows =
       (base : List Record) (c d : Core (Fuse V)) (text : List ℕ) → HasServed base c d → Lists d text
-      → (at : IsPointOf told may_leave faults base d) × ShowsJust at.point.log text
+      → (log : List Record) × BeginsWith base log × (at : IsPointOf told may_leave faults log d) × ShowsJust at.point.log text
 
   abbrev pub UnpokedVerifies : Type 0
   UnpokedVerifies =

@@ -3,6 +3,8 @@ ghost use Rattle.std.specs.Prelude.{◌≡◌};
 ghost use Rattle.dali_run.specs.declared.halt.Halt.TheVariants.{OutOfMemory, StoreFault};
 
 use crate::status::Status;
+use dali_arguments::ArgumentError;
+use dali_dump::DumpError;
 use dali_restart::RestartError;
 use dali_script::{Kind, ScriptError};
 use dali_store::{FileName, StoreFault};
@@ -56,6 +58,37 @@ impl From<StoreFault> for Halt {
 
     fn from(_: StoreFault) -> Self {
         Halt::StoreFault
+    }
+}
+
+impl From<ArgumentError> for Halt {
+    ghost use Rattle.dali_run.specs.Halts.{halt_of_words};
+
+    ghost from_gives = { λ error e. e ≡ halt_of_words error };
+
+    fn from(error: ArgumentError) -> Self {
+        match error {
+            ArgumentError::Faulty => Halt::BadWords,
+            ArgumentError::OutOfMemory => Halt::OutOfMemory,
+        }
+    }
+}
+
+impl From<DumpError> for Halt {
+    ghost use Rattle.dali_run.specs.Halts.{halt_of_dump};
+
+    ghost from_gives = { λ error e. e ≡ halt_of_dump error };
+
+    fn from(error: DumpError) -> Self {
+        match error {
+            DumpError::Fault => Halt::StoreFault,
+            DumpError::BadLog { at } => Halt::BadStore {
+                file: FileName::Log,
+                at,
+            },
+            DumpError::Unformatted => Halt::Unformatted,
+            DumpError::OutOfMemory => Halt::OutOfMemory,
+        }
     }
 }
 

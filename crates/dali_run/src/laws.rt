@@ -3,20 +3,26 @@ ghost use Rattle.std.specs.Prelude.{ℕ, Bool, List};
 ghost use Rattle.dali_record.specs.declared.records.Record.{Record};
 ghost use Rattle.dali_run.specs.Complete.{RunsComplete, StoreFaultsRise};
 ghost use Rattle.dali_run.specs.Ends.{Course, HasEnded};
+ghost use Rattle.dali_run.specs.Honest.{CoresAreHonest, RunsAreHonest};
+ghost use Rattle.dali_run.specs.Masks.{PokesAreTold};
 ghost use Rattle.dali_run.specs.Strays.{LoneAuditTells};
+ghost use Rattle.dali_run.specs.Summaries.{SummaryDepends};
 ghost use Rattle.dali_run.specs.Survives.{RunsSurvive};
 ghost use Rattle.dali_run.specs.Unpoked.{UnpokedShows, UnpokedVerifies};
 ghost use Rattle.dali_run.specs.declared.status.Status.{Status as StatusOf};
 
 use dali_store::Store;
 
-/// What was committed is never lost. Where a crash may leave of the store that was handed in only no database, or files
-/// of which a restart finds a history that begins with the records of base, so it is behind each command, and of the store
-/// that comes back with every status, with more records: each state of the program is a point of a run whose steps keep
-/// the log. From such files a restart gives exactly the serial replay of the surviving transactions, with the answers that
-/// they got. No damage is to escape at any state, as without stray writes.
+/// What was committed is never lost. Where a crash may leave of the store that was handed in only no database, or files of which a
+/// restart finds a history that begins with the records of base, each state of a run has a list of records: while the program is up
+/// at a point of a run, just those that are flushed, and while it is down some that every crash leaves. The first is base, and each
+/// begins with the one before, over crashes and restarts too. Behind a round it is the flushed part of the log that the
+/// round's lines tell, where each commit that was answered ok is. The store that comes back, with every status, has all of the last
+/// state's. From such files a restart gives exactly the serial replay of the surviving transactions, with the answers that they got.
+/// No damage is to escape where a command gives the memory up (`size`, `open`, `restart`, `crash`), nor from the store that comes
+/// back, as without stray writes.
 pub fn runs_survive<V: Store>()
-    ensures { (limit : ℕ) (precheck : Bool) → RunsSurvive V.told V.may_leave V.moment V.left_since V.faults limit V.cuts precheck }
+    ensures { RunsSurvive V.told V.may_leave V.moment V.left_since V.faults V.cuts }
 {}
 
 /// Where no region was poked since the core was made, `show` prints just the records that the log is expected to leave, those of
@@ -33,10 +39,20 @@ pub fn a_lone_audit_names_stray_writes<V: Store>()
     ensures { (precheck : Bool) → LoneAuditTells V.told V.may_leave V.faults precheck }
 {}
 
+/// The lines tell all stray writes. At each state of a script's run, while the program is up, the masks that were written astray
+/// to a region since the load are those that lines `poke ok` told of it, of rounds too: the region's `stray` is their exclusive-or,
+/// and it was poked exactly if there is one. So a lone `audit` or `checkpoint` that answers has just the regions on its list, none
+/// where it is clean, whose masks don't cancel; and where no such line was told, `show` prints just the records that the log is
+/// expected to leave, and `verify` finds no difference. A crash may leave of the store that was handed in only files of this
+/// program, and no damage escapes where a command that was run gives the memory up, as in `runs_survive`; at the end it may.
+pub fn pokes_are_told<V: Store>()
+    ensures { (limit : ℕ) (precheck : Bool) → PokesAreTold V.told V.may_leave V.moment V.left_since V.faults limit V.cuts precheck }
+{}
+
 /// A failure of the store shows in its count. Where a crash may leave of the store that was handed in only files of this
-/// program, and no damage escapes, a run with the status `StoreFault` was ended by a command in which the store's own count of
-/// faults rose, a lone `poke`, `audit` or `checkpoint` too; or this count and the calls that the fuse failed come to 2^64 - 1 or
-/// more.
+/// program, and no damage escapes where a command gives the memory up, a run with the status `StoreFault` was ended by a command
+/// in which the store's own count of faults rose, a lone `poke`, `audit` or `checkpoint` too; or this count and the calls that the
+/// fuse failed come to 2^64 - 1 or more.
 pub fn store_faults_rise<V: Store>()
     ensures { (limit : ℕ) (precheck : Bool) → StoreFaultsRise V.told V.may_leave V.moment V.left_since V.faults limit V.cuts precheck }
 {}
@@ -47,4 +63,20 @@ pub fn store_faults_rise<V: Store>()
 /// that ended it): then the status is `Done`, or memory was refused.
 pub fn runs_complete<V: Store>()
     ensures { (limit : ℕ) (precheck : Bool) → RunsComplete V.told V.may_leave V.moment V.left_since V.faults limit V.cuts precheck }
+{}
+
+/// What a generated run writes follows from its three numbers alone. Where the words are to generate, and a crash may leave of the
+/// store only files of this program: with the status `Done` the sink took just the summary of what the round's transactions leave on
+/// an empty map, each client's one after another, whatever their order among the clients was. No damage escapes, as no script of `gen`
+/// pokes.
+pub fn the_summary_follows_from_the_numbers<V: Store>()
+    ensures { SummaryDepends V.told V.may_leave V.moment V.left_since V.faults V.cuts }
+{}
+
+/// Without stray writes no damage escapes: at each point of a run where no region was poked since the core was made, and so at each
+/// state of a run whose script has no `poke`, alone or in a block, as that of `gen` has none. A crash may leave of the store that was
+/// handed in only files of this program.
+pub fn runs_without_pokes_are_honest<V: Store>()
+    ensures cores { CoresAreHonest V.told V.may_leave V.faults }
+    ensures runs { RunsAreHonest V.told V.may_leave V.moment V.left_since V.faults V.cuts }
 {}

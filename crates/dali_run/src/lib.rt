@@ -4,10 +4,13 @@
 mod blocks;
 mod cleaning;
 mod commands;
+mod dumping;
+mod generating;
 mod halt;
 pub mod laws;
 mod program;
 mod rounds;
+mod scripts;
 mod setting;
 mod states;
 mod status;
@@ -16,5 +19,6 @@ mod texts;
 mod top;
 
 pub use dali_stepwise::{Gate, OpenGate};
+pub use scripts::SCRIPT_LIMIT;
 pub use status::Status;
-pub use top::{SCRIPT_LIMIT, refuse, run};
+pub use top::{refuse, run};

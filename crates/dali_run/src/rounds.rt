@@ -1,5 +1,5 @@
 //! Rounds, and what is a round of one client.
-ghost use Rattle.std.specs.Prelude.{◌≡◌, true, map, IfOk, IfErr, OnErr};
+ghost use Rattle.std.specs.Prelude.{◌≡◌, true, false, map, IfOk, IfErr, OnErr};
 ghost use Rattle.std.specs.List.{list_any};
 ghost use Rattle.dali_clients.specs.Told.{act_of, said_of, told_of};
 ghost use Rattle.dali_transcripts.specs.Rounds.{AreBlocks};
@@ -26,8 +26,8 @@ use dali_stepwise::Gate;
 use dali_store::Store;
 use dali_whole::Core;
 
-// Runs a round; its transcripts, if each client is done.
-fn play<V: Store, G: Gate>(
+/// Runs a round; its transcripts, if each client is done.
+pub fn play<V: Store, G: Gate>(
     setting: &Setting<'_, G>,
     blocks: &[Block],
     core: Core<Fuse<V>>,
@@ -36,7 +36,7 @@ fn play<V: Store, G: Gate>(
     requires places { PlacesIn V.told core }
     ensures plays { IfOk result.1 (λ transcripts. Plays V.told V.may_leave V.faults setting.now.precheck true (map told_of blocks.now) core transcripts.items result.0) }
     ensures tell { IfOk result.1 (λ transcripts. TellAll (map told_of blocks.now) transcripts.items) }
-    ensures lost { OnErr result.1 (Played V.told V.may_leave V.faults setting.now.precheck (map told_of blocks.now) core result.0.vault.store) }
+    ensures lost { OnErr result.1 ((played : Played V.told V.may_leave V.faults setting.now.precheck (map told_of blocks.now) core result.0.vault.store) × (played.whole ≡ false)) }
     ensures longer { IsNoShorter (told_in V.told) core.vault result.0.vault }
     ensures memory { IfErr result.1 (λ halt. halt ≡ OutOfMemory) }
     ensures places { PlacesIn V.told result.0 }
@@ -123,6 +123,7 @@ fn says_failure(transcript: &Transcript) -> bool
     transcript.lines().iter().any(|said| is_failure(said))
 }
 
+// Whether a line says that the store failed.
 fn say_failure(transcripts: &[Transcript]) -> bool
     ensures { result ≡ list_any says_failure transcripts.now }
 {

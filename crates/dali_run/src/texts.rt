@@ -1,13 +1,13 @@
 //! The texts of lines, and the last line of a run.
-ghost use Rattle.std.specs.Prelude.{◌≡◌, ◌++◌, ◌∷◌, [], IfOk, IfErr, OnOk, codes, map, flat_map, length};
+ghost use Rattle.std.specs.Prelude.{◌≡◌, ◌≤◌, ◌++◌, ◌∷◌, [], IfOk, IfErr, OnOk, codes, map, flat_map, length};
 ghost use Rattle.std.specs.Fmt.{decimal};
-ghost use Rattle.dali_store.specs.Faults.{HasCause};
+ghost use Rattle.dali_store.specs.Faults.{HasCause, Rose};
 ghost use Rattle.dali_store.specs.Store.{name_of as file_text};
 ghost use Rattle.dali_streams.specs.Streams.{Appends, AppendsSome};
 ghost use Rattle.dali_report.specs.Lines.{texts, client_texts};
 ghost use Rattle.dali_report.specs.declared.printed.Line.TheVariants as lines;
 ghost use Rattle.dali_round.specs.Leads.{lines_in};
-ghost use Rattle.dali_run.specs.declared.halt.Halt.TheVariants.{OutOfMemory};
+ghost use Rattle.dali_run.specs.declared.halt.Halt.TheVariants.{OutOfMemory, WriteFault};
 ghost use Rattle.dali_run.specs.Halts.{status_of, last_line};
 ghost use Rattle.dali_run.specs.Texts.{alone_texts, said_by, said_texts, shown};
 
@@ -161,6 +161,19 @@ fn write_in_line<K: Sink>(sink: &mut K, number: u64, text: &[u8]) -> Result<(), 
     write_all(sink, b"\n")
 }
 
+/// Writes the lines of a command.
+pub fn write_whole<K: Sink>(sink: &mut K, text: &[u8]) -> Result<(), Halt>
+    ensures all { OnOk result (Appends (K.taken sink.old) text.now (K.taken sink.new)) }
+    ensures some { IfErr result (λ halt. (halt ≡ WriteFault) × AppendsSome (K.taken sink.old) text.now (K.taken sink.new) × Rose (K.faults sink.old) (K.faults sink.new)) }
+    ensures later { K.faults sink.old ≤ K.faults sink.new }
+    ensures kept { OnOk result (K.faults sink.new ≡ K.faults sink.old) }
+{
+    match write_all(sink, text) {
+        Ok(()) => Ok(()),
+        Err(_) => Err(Halt::WriteFault),
+    }
+}
+
 // The line of a log without room.
 fn write_log_full<K: Sink>(sink: &mut K, end: u64, limit: u64) -> Result<(), Failed>
     ensures all { OnOk result (Appends (K.taken sink.old) (codes "log full " ++ (decimal end ++ (codes " " ++ (decimal limit ++ codes "\n")))) (K.taken sink.new)) }
@@ -201,7 +214,12 @@ pub fn write_last_line<K: Sink>(sink: &mut K, halt: Halt) -> Result<(), Failed>
     ensures cause { HasCause (K.faults sink.old) (K.faults sink.new) result }
 {
     match halt {
-        Halt::BadWords => write_all(sink, b"usage: dali run\n"),
+        Halt::BadWords => {
+            write_all(
+                sink,
+                b"usage: dali run [--precheck] [--log-limit N] | gen CLIENTS SIZE NUMBER | dump\n",
+            )
+        }
         Halt::BadScript { line, kind } => write_in_line(sink, line, kind.text().as_bytes()),
         Halt::TooLong => write_all(sink, b"script too long\n"),
         Halt::ReadFault => write_all(sink, b"read fault\n"),

@@ -63,6 +63,7 @@ so_1 = record {
           ),
           tt,
           λ e us. append-nil us,
+          tt,
         ),
         (refl, (omega arith, (inl refl, tt)), refl),
       ),
@@ -216,12 +217,7 @@ prechecks = record {
   operations = λ i t c b g e was.
       let here : i ≡ 10 = only_at is_operation 10 happened i (Logs (Forward t b), c) refl refl e refl in
       let on : b.region ≡ 0 = sym (ap region_in (some_same (sym (ap (λ k. slice_get happened k) here) ∙ e))) in
-      record {
-        place = i;
-        before = omega arith;
-        alone = λ k x from below at. absurd (omega (arith, from, below));
-        right = subst (λ k. stray_after b.region g.stray (take k happened) ≡ 0) (sym here) (right_at b.region g on was);
-      };
+      subst (λ k. stray_after b.region g.stray (take k happened) ≡ 0) (sym here) (right_at b.region g on was);
   deaths = λ i t r c g e was. absurd (never is_death happened i (DiesOn t r, c) refl e refl);
 }
 
@@ -246,7 +242,7 @@ faults_run = record {
     log = refl;
     transcripts = transcripts;
     receipts_are = refl;
-    right = (tt, ((CheckpointAct, None, under_way_1), (tt, (tt, (tt, (tt, (tt, (tt, (tt, (tt, (tt, ((Calls insert_a, Some 1, damaged_1), (tt, (tt, (tt, (tt, ((BeginAct, None, (tt, refl)), ((BeginAct, None, (tt, refl)), tt))))))))))))))))));
+    right = (tt, ((CheckpointAct, None, under_way_1), (refl, (refl, (tt, (tt, (tt, (refl, (refl, (refl, (refl, ((Calls insert_a, Some 1, damaged_1), (refl, (refl, (refl, (tt, ((BeginAct, None, (tt, refl)), ((BeginAct, None, (tt, refl)), tt))))))))))))))))));
     together = record {
       spans = (refl, (refl, tt));
       anchors = (refl, refl);

@@ -16,9 +16,9 @@ use Rattle.dali_system.specs.declared.refusals.Refusal.{Refusal}
 use Rattle.dali_system.specs.Run.{failed_first}
 use Rattle.dali_system.specs.State.{CoreState, state_of}
 use Rattle.dali_transcripts.specs.Words.{Act, Begins as BeginAct, Calls, Commits as CommitAct, Aborts as AbortAct, Audits as AuditAct, Checkpoints as CheckpointAct, Why, StoppedBy, Full, Damaged, StoreFailed, UnderWay}
-use Rattle.dali_transcripts.specs.World.{Deed, Logs, DiesOn, Claims, GivesBack, Yields, FindsDead, Meets, Happening, World, record_of, logged_by, log_of, log_at, IsLogged, IsFlushed, IsLost, IsUncommitted, HasDone, state_step, state_after, state_at, is_dead_in, is_claimed_in, HasDiedBy, HasEndedBy, has_failed, cause_of, claimer_step, claimer_at, failed_at, stop_at, under_way, stray_after, Grows}
-use Rattle.dali_transcripts.specs.Moves.{Receipt, Place, Again, Spot, Ending, TakenBack, LeftBehind, operations, Move, Begins, BeginsAgain, IsRefusedBegin, Skips, Rests, Answers, IsRefusedCall, Dies, IsArmed, GivesWay, GivesUp, Commits, CommitFails, IsRefusedCommit, Aborts, IsRefusedAbort, Ends, StaysOpen, Pokes, PokesNothing, Audits, IsRefusedAudit, Checkpoints, FailsCheckpoint, IsRefusedCheckpoint, to}
-use Rattle.dali_transcripts.specs.Causes.{GoesOn, IsRoomFor, limit_of, IsFull, IsDamaged, IsDamagedIn, IsUnderWayIn, IsCause, MetCause, IsCleaning, IsUntouched, HasClaimed, LetsGo, HasGivenBack, HasFoundDead, IsCleanUp, IsAside, AreAside, IsAsking, AreAsking, IsWork, AreWork, IsTried, AreTried, IsBehind, AreBehind, IsCutAudit, IsCutBy, IsAlone, Survives, DiesIn, GetsBusy, WaitsNoMore, FindsFailure, IsEnd, HasCause, IsRight, AreRightFrom}
+use Rattle.dali_transcripts.specs.World.{Deed, Logs, DiesOn, Claims, GivesBack, Yields, FindsDead, Meets, Happening, World, record_of, logged_by, log_of, log_at, IsLogged, IsFlushed, IsLost, IsUncommitted, HasDone, state_step, state_after, state_at, is_dead_in, is_claimed_in, HasDiedBy, HasEndedBy, has_failed, cause_of, claimer_step, claimer_at, stop_at, under_way, stray_after, Grows}
+use Rattle.dali_transcripts.specs.Moves.{Receipt, Place, Outside, Within, Again, Spot, Ending, TakenBack, LeftBehind, operations, Move, Begins, BeginsAgain, IsRefusedBegin, Skips, Rests, Answers, IsRefusedCall, Dies, IsArmed, GivesWay, GivesUp, Commits, CommitFails, IsRefusedCommit, Aborts, IsRefusedAbort, Ends, StaysOpen, Pokes, PokesNothing, Audits, IsRefusedAudit, Checkpoints, FailsCheckpoint, IsRefusedCheckpoint, to}
+use Rattle.dali_transcripts.specs.Causes.{GoesOn, IsRoomFor, limit_of, IsFull, IsDamaged, IsDamagedIn, IsUnderWayIn, IsCause, MetCause, IsCleaning, IsUntouched, HasClaimed, LetsGo, HasGivenBack, HasFoundDead, IsCleanUp, IsAside, AreAside, IsAsking, AreAsking, IsWork, AreWork, IsTried, AreTried, IsBehind, AreBehind, IsCutAudit, IsCutBy, IsAlone, Survives, DiesIn, GetsBusy, WaitsNoMore, FindsFailure, IsEnd, IsCutAside, IsCutWork, IsUnanswered, IsTurnedBack, IsGivingWay, AreUnfinished, HasCause, IsRight, AreRightFrom}
 use Rattle.dali_transcripts.specs.Transcripts.{IsPath}
 use Rattle.dali_transcripts.specs.Laws.{RightGoesOn, WorldGoesOn}
 use Rattle.dali_transcripts.proofs.Lists.{all_map}
@@ -83,9 +83,6 @@ module _ (v w : World) (g : Grows v w) where
 
   pub claimers : (i : ℕ) (x : Happening) (t : ℕ) → slice_get v.happened i ≡ Some x → claimer_at w i t ≡ claimer_at v i t
   claimers i x t e = ap (fold (claimer_step t) None) (taken i x e)
-
-  pub failures : (i : ℕ) (x : Happening) → slice_get v.happened i ≡ Some x → failed_at w i ≡ failed_at v i
-  failures i x e = ap (λ l. failed_first (last_epoch l).records) (log_at_is i x e)
 
   pub stops : (i : ℕ) (x : Happening) → slice_get v.happened i ≡ Some x → stop_at w i ≡ stop_at v i
   stops i x e =
@@ -206,7 +203,7 @@ module _ (v w : World) (g : Grows v w) where
     next = room (log_at v i) (log_at w i) act o h.refused e h.next;
     spelled = h.spelled;
     passes = h.passes;
-    runs = failures i x at ∙ h.runs;
+    runs = stops i x at ∙ h.runs;
   }
 
   pub goes_on : (L M : List Record) (t : ℕ) (call : Call) (b : Block) → M ≡ L → GoesOn v.core.system.sizes L t call b → GoesOn w.core.system.sizes M t call b
@@ -303,7 +300,7 @@ module _ (v w : World) (g : Grows v w) where
   has_cause c (Skips s act rest) h = tt
   has_cause c (Rests t act rest) h = tt
   has_cause c (Answers t tries cs d xs n call a rest) h = (works c t call xs h.0, h.1)
-  has_cause c (IsRefusedCall t tries cs d s xs n ys call why rest) h = (all_tried c t call xs h.0, (met c n (Calls call) (Some t) why h.1.0, survives c n t call d (operations t xs) why h.1.0 h.1.1), asides c t ys h.2, h.3)
+  has_cause c (IsRefusedCall t tries cs d s xs n ys call why rest) h = (all_tried c t call xs h.0, (met c n (Calls call) (Some t) why h.1.0, survives c n t call d (operations t xs) why h.1.0 h.1.1), asides c t ys h.2, h.3, h.4)
   has_cause c (Dies t tries cs d xs n r call rest) h = (works c t call xs h.0, h.1, dies c n t r call h.2)
   has_cause c (IsArmed t tries cs d s count rest) h = tt
   has_cause c (GivesWay t tries cs d xs call f ys end rest) h = (askings c t call xs h.0, busy c t call f h.1, asides c t ys h.2, end_is c t call end h.3, h.4)
@@ -323,12 +320,64 @@ module _ (v w : World) (g : Grows v w) where
   has_cause c (FailsCheckpoint since b n until r rs failed rest) h = flushed n h
   has_cause c (IsRefusedCheckpoint s span late xs n why rest) h = (cut_by true why xs h.0, h.1, (met c n CheckpointAct None why h.2.0, alone why span h.2.0.met.place _ h.2.0.met.there h.2.1))
 
+  -- ---- what was cut short
+  cut_aside : (c t : ℕ) (x : Receipt) → IsCutAside v c t x → IsCutAside w c t x
+  cut_aside c t (n, GivesBack u latched) h = (h.0, lets_go c n u latched h.1)
+  cut_aside c t x h = aside c t x h
+
+  cut_work : (c t : ℕ) (call : Call) (x : Receipt) → IsCutWork v c t call x → IsCutWork w c t call x
+  cut_work c t call (n, GivesBack u latched) h = (h.0, lets_go c n u latched h.1)
+  cut_work c t call x h = work c t call x h
+
+  pub unanswered : (c t : ℕ) (d : Option ℕ) (call : Call) (xs : List Receipt) → IsUnanswered v c t d call xs → IsUnanswered w c t d call xs
+  unanswered c t d call xs h = record { work = all_map (IsCutWork v c t call) (IsCutWork w c t call) (cut_work c t call) xs h.work; spared = h.spared; older = h.older }
+
+  pub turned_back : (c t : ℕ) (d : Option ℕ) (call : Call) (xs : List Receipt) → IsTurnedBack v c t d call xs → IsTurnedBack w c t d call xs
+  turned_back c t d call xs h = record {
+    work = h.work;
+    at = h.at;
+    why = h.why;
+    back = h.back;
+    is = h.is;
+    tried = all_tried c t call h.work h.tried;
+    stays = h.stays;
+    cause = met c h.at (Calls call) (Some t) h.why h.cause;
+    survives = survives c h.at t call d (operations t h.work) h.why h.cause h.survives;
+    no_stop = h.no_stop;
+    aside = all_map (IsCutAside v c t) (IsCutAside w c t) (cut_aside c t) h.back h.aside;
+    older = h.older;
+  }
+
+  giving_way : (c t : ℕ) (call : Call) (xs : List Receipt) → IsGivingWay v c t call xs → IsGivingWay w c t call xs
+  giving_way c t call xs h = record {
+    work = h.work;
+    refusal = h.refusal;
+    back = h.back;
+    is = h.is;
+    asking = askings c t call h.work h.asking;
+    busy = busy c t call h.refusal h.busy;
+    aside = asides c t h.back h.aside;
+  }
+
+  pub unfinished : (c : ℕ) (place : Place) (rest : List Act) (xs : List Receipt) → AreUnfinished v c place rest xs → AreUnfinished w c place rest xs
+  unfinished c (Within t tries cs d s) (Calls call ∷ rest) xs (inl h) = inl (unanswered c t d call xs h)
+  unfinished c (Within t tries cs d s) (Calls call ∷ rest) xs (inr (inl h)) = inr (inl (turned_back c t d call xs h))
+  unfinished c (Within t tries cs d s) (Calls call ∷ rest) xs (inr (inr h)) = inr (inr (giving_way c t call xs h))
+  unfinished c (Within t tries cs d s) (AbortAct ∷ rest) xs h = asides c t xs h
+  unfinished c (Within t tries cs d s) [] xs h = asides c t xs h
+  unfinished c (Outside s) (AuditAct ∷ rest) xs h = h
+  unfinished c (Outside s) (CheckpointAct ∷ rest) xs h = h
+  unfinished c place rest xs h = h
+
   -- each deed by itself
   pub right : (c i : ℕ) (x : Deed) → slice_get v.happened i ≡ Some (x, c) → IsRight v c i x → IsRight w c i x
+  right c i (Logs (Back t b)) e h = tt
+  right c i (Logs (Solo t p b)) e h = tt
+  right c i (Logs x) e h = stops i _ e ∙ h
   right c i (Claims u) e h = ap is_dead_in (states i _ u e) ∙ h
   right c i (GivesBack u latched) e h = (h.0, states i _ u e ∙ h.1, h.2, claimers i _ u e ∙ h.3)
-  right c i (Yields f) e h = (h.0 ∙ ap length (sym (log_at_is i _ e)), ap is_dead_in (states i _ f.holder e) ∙ h.1, failures i _ e ∙ h.2)
-  right c i (FindsDead f) e h = (h.0 ∙ ap length (sym (log_at_is i _ e)), ap is_dead_in (states i _ f.holder e) ∙ h.1, failures i _ e ∙ h.2)
+  right c i (Yields f) e h = (h.0 ∙ ap length (sym (log_at_is i _ e)), ap is_dead_in (states i _ f.holder e) ∙ h.1, stops i _ e ∙ h.2)
+  right c i (FindsDead f) e h = (h.0 ∙ ap length (sym (log_at_is i _ e)), ap is_dead_in (states i _ f.holder e) ∙ h.1, stops i _ e ∙ h.2)
   right c i (Meets StoreFailed) e h = tt
   right c i (Meets why) e h = (h.0, h.1, cause c i h.0 h.1 why _ e h.2)
   right c i x e h = h

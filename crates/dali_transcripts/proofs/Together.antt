@@ -19,7 +19,6 @@ use Rattle.dali_transcripts.specs.World.{Deed, Logs, DiesOn, StartsCheckpoint, M
 use Rattle.dali_transcripts.specs.Rounds.{AreSpans, AreAnchors, PokesTell, VerdictsTell, FaultsTell, room_for, ends_within, fits, WasRight, PrecheckTells, HoldsTogether}
 use Rattle.dali_transcripts.specs.Together.{SpanFits, AnchorIs, FaultsBy, RoomBy, RightBy, Owes, TogetherByDeed, HasKept, TogetherByNone, TogetherAtFirst}
 use Rattle.dali_transcripts.specs.Grown.{world_of}
-use Rattle.dali_transcripts.proofs.Growing.{get_back}
 
 -- ---- lists that are one deed longer
 one_span : (o : Option ℕ) (z : Happening) → SpanFits o z → AreSpans o (z ∷ [])
@@ -165,15 +164,8 @@ module _ (v w : World) (c : ℕ) (x : Deed) (g : Grows v w) (more : g.more ≡ (
       ∙ (ap (λ l. fits v.old.system.limit (sum_by record_length l) w.happened) g.before
       ∙ (ap (λ l. fits v.old.system.limit (sum_by record_length v.before) l) happened ∙ fit))
 
-  right : (i d r : ℕ) (a : RegionState) → i ≤ length v.happened → WasRight v i d r a → WasRight w i d r a
-  right i d r a within was =
-      let below = was.before in
-      record {
-        place = was.place;
-        before = was.before;
-        alone = λ k y from until e. was.alone k y from until (get_back v.happened ((x, c) ∷ []) k (y, d) (omega (arith, until, within)) (subst (λ l. slice_get l k ≡ Some (y, d)) happened e));
-        right = ap (λ l. stray_after r a.stray l) (took was.place (omega (arith, below, within))) ∙ was.right;
-      }
+  right : (i r : ℕ) (a : RegionState) → i ≤ length v.happened → WasRight v i r a → WasRight w i r a
+  right i r a within was = ap (λ l. stray_after r a.stray l) (took i within) ∙ was
 
   prechecks : w.precheck ≡ true → PrecheckTells w
   prechecks compares =
@@ -183,23 +175,21 @@ module _ (v w : World) (c : ℕ) (x : Deed) (g : Grows v w) (more : g.more ≡ (
       record {
         operations = λ i t d b a e was.
             ⊎_elim
-            (λ before. let within = slice_get_within v.happened i _ before in right i d b.region a (omega (arith, within)) (told.operations i t d b a before (old_region b.region a was)))
+            (λ before. let within = slice_get_within v.happened i _ before in right i b.region a (omega (arith, within)) (told.operations i t d b a before (old_region b.region a was)))
             (λ last.
             let deed : x ≡ Logs (Forward t b) = ap (λ (z : Happening). z.0) last.1 in
-            let who : c ≡ d = ap (λ (z : Happening). z.1) last.1 in
-            let owed : RightBy v d (Logs (Forward t b)) = subst (λ y. RightBy v d y) deed (subst (λ k. RightBy v k x) who last_right) in
+            let owed : RightBy v (Logs (Forward t b)) = subst (λ y. RightBy v y) deed last_right in
             let place = last.0 in
-            right i d b.region a (omega (arith, place)) (subst (λ k. WasRight v k d b.region a) (sym place) (owed a (old_region b.region a was))))
+            right i b.region a (omega (arith, place)) (subst (λ k. WasRight v k b.region a) (sym place) (owed a (old_region b.region a was))))
             (split i (Logs (Forward t b), d) e);
         deaths = λ i t r d a e was.
             ⊎_elim
-            (λ before. let within = slice_get_within v.happened i _ before in right i d r a (omega (arith, within)) (told.deaths i t r d a before (old_region r a was)))
+            (λ before. let within = slice_get_within v.happened i _ before in right i r a (omega (arith, within)) (told.deaths i t r d a before (old_region r a was)))
             (λ last.
             let deed : x ≡ DiesOn t r = ap (λ (z : Happening). z.0) last.1 in
-            let who : c ≡ d = ap (λ (z : Happening). z.1) last.1 in
-            let owed : RightBy v d (DiesOn t r) = subst (λ y. RightBy v d y) deed (subst (λ k. RightBy v k x) who last_right) in
+            let owed : RightBy v (DiesOn t r) = subst (λ y. RightBy v y) deed last_right in
             let place = last.0 in
-            right i d r a (omega (arith, place)) (subst (λ k. WasRight v k d r a) (sym place) (owed a (old_region r a was))))
+            right i r a (omega (arith, place)) (subst (λ k. WasRight v k r a) (sym place) (owed a (old_region r a was))))
             (split i (DiesOn t r, d) e);
       }
 
@@ -288,9 +278,6 @@ same_world v w g xs e =
     ∙ (ap (λ l. world_of v.old l w.precheck w.happened w.core) g.before
     ∙ (ap (λ b. world_of v.old v.before b w.happened w.core) g.precheck ∙ ap (λ l. world_of v.old v.before v.precheck l w.core) e))
 
-still_right : (v : World) (d : CoreState) (i c r : ℕ) (g : RegionState) → WasRight v i c r g → WasRight (world_of v.old v.before v.precheck v.happened d) i c r g
-still_right v d i c r g was = record { place = was.place; before = was.before; alone = was.alone; right = was.right }
-
 still : (v : World) (d : CoreState) → HoldsTogether v → HasKept v (world_of v.old v.before v.precheck v.happened d) → HoldsTogether (world_of v.old v.before v.precheck v.happened d)
 still v d h k = record {
   spans = h.spans;
@@ -307,8 +294,8 @@ still v d h k = record {
   refusals = k.refusals ∙ h.refusals;
   room = h.room;
   prechecks = λ on. let told = h.prechecks on in record {
-    operations = λ i t c b g e was. still_right v d i c b.region g (told.operations i t c b g e was);
-    deaths = λ i t r c g e was. still_right v d i c r g (told.deaths i t r c g e was);
+    operations = λ i t c b g e was. told.operations i t c b g e was;
+    deaths = λ i t r c g e was. told.deaths i t r c g e was;
   };
 }
 

@@ -1,5 +1,5 @@
 -- Wrong transcripts: none of these is one.
-use Rattle.std.proofs.Common.{◌≡◌, ℕ, zero, suc, ◌+◌, ◌≤◌, Bool, true, false, List, [], ◌∷◌, ◌++◌, Option, Some, None, ap, refl, sym, subst, ◌∙◌, inl, inr, ⊎_elim, ◌⊎◌, arith}
+use Rattle.std.proofs.Common.{◌≡◌, ℕ, zero, suc, ◌+◌, ◌≤◌, Bool, true, false, List, [], ◌∷◌, ◌++◌, length, Option, Some, None, ap, refl, sym, subst, ◌∙◌, inl, inr, ⊎_elim, ◌⊎◌, arith}
 use Rattle.std.specs.Prelude.{◌==◌, if◌then◌else◌, Contains, bit_xor, filter_map, slice_get, sum_by, take, drop}
 use Rattle.std.specs.Int.Bits.{xor_assoc, xor_self, xor_zero_l, xor_zero_r}
 use Rattle.std.proofs.lemmas.List.{append_assoc, append-nil, take-append-drop}
@@ -11,7 +11,7 @@ use Rattle.dali_record.specs.declared.operations.Pending.{Pending}
 use Rattle.dali_record.specs.declared.operations.Undo.TheVariants.{FreeCell as UndoCell}
 use Rattle.dali_record.specs.declared.records.Call.{Call}
 use Rattle.dali_record.specs.declared.records.Record.{Record}
-use Rattle.dali_record.specs.declared.records.Record.TheVariants.{Begin, Forward, Ended}
+use Rattle.dali_record.specs.declared.records.Record.TheVariants.{Begin, Forward, Done, Commit, Ended}
 use Rattle.dali_system.specs.declared.causes.Cause.{Cause}
 use Rattle.dali_system.specs.declared.causes.Cause.TheVariants.{Damage}
 use Rattle.dali_system.specs.Run.{damage_in, failed_first}
@@ -22,15 +22,14 @@ use Rattle.dali_transcripts.specs.Words.{Act, Calls, Commits as CommitAct, Check
 use Rattle.dali_record.specs.Epochs.{last_epoch}
 use Rattle.dali_record.specs.Spelling.{record_length}
 use Rattle.dali_record.specs.Blocks.{pending}
-use Rattle.dali_record.specs.Log.{undo_added, drop_last}
 use Rattle.dali_transcripts.specs.World.{Deed, Logs, Claims, GivesBack, Yields, MovesAnchor, Meets, Happening, World, record_of, logged_by, log_of, log_at, HasDone, state_after, state_at, is_dead_in, has_failed, cause_of, stop_at, stray_after, refused_by}
-use Rattle.dali_transcripts.specs.Moves.{Receipt, Ending, TakenBack, LeftBehind, Move, Begins, BeginsAgain, IsRefusedBegin, Skips, Rests, Answers, IsRefusedCall, Dies, IsArmed, GivesWay, GivesUp, Commits, CommitFails, IsRefusedCommit, Aborts, IsRefusedAbort, Ends, StaysOpen, Pokes, PokesNothing, Audits, IsRefusedAudit, Checkpoints, FailsCheckpoint, IsRefusedCheckpoint, said as says, own as does}
-use Rattle.dali_transcripts.specs.Causes.{IsDamaged, MetCause, IsRight, AreRightFrom, AreRight, IsTried, AreTried, undos_behind, HasCause}
+use Rattle.dali_transcripts.specs.Moves.{Receipt, TakenBack, LeftBehind, Move, Begins, BeginsAgain, IsRefusedBegin, Skips, Rests, Answers, IsRefusedCall, Dies, IsArmed, GivesWay, GivesUp, Commits, CommitFails, IsRefusedCommit, Aborts, IsRefusedAbort, Ends, StaysOpen, Pokes, PokesNothing, Audits, IsRefusedAudit, Checkpoints, FailsCheckpoint, IsRefusedCheckpoint, said as says, own as does}
+use Rattle.dali_transcripts.specs.Causes.{IsDamaged, MetCause, IsRight, AreRightFrom, AreRight, IsTried, AreTried, undos_behind, spares, IsUnanswered, IsTurnedBack, IsGivingWay, HasCause}
 use Rattle.dali_transcripts.specs.Transcripts.{IsTranscript, line_told, lines_of_records}
 use Rattle.dali_transcripts.specs.Table.{Tells, TellsRefused}
 use Rattle.dali_transcripts.specs.Rounds.{AreAnchors, VerdictsTell}
 use Rattle.dali_transcripts.specs.Laws.{behind_died}
-use Rattle.dali_transcripts.specs.Worked.{put, free_cell}
+use Rattle.dali_transcripts.specs.Worked.{put}
 use Rattle.dali_transcripts.specs.Wrong.{RunsThroughout, WrongOnes}
 use Rattle.dali_transcripts.proofs.Lists.{all_get}
 use Rattle.dali_transcripts.proofs.Lines.{lines_tell}
@@ -179,6 +178,22 @@ kept w c (IsRefusedCheckpoint s span late xs k why rest) call t n m end limit e 
 more_back : (t : ℕ) (p : Pending) → (if t == t then [] else p ∷ []) ≡ p ∷ [] → ⊥
 more_back t p e = let none : [] ≡ p ∷ [] = subst (λ (z : Bool). (if z then [] else p ∷ []) ≡ p ∷ []) (self t) e in absurd (cc)
 
+-- a client that is to die in its next operation makes none
+alone : (x : Receipt) (n t : ℕ) (b : Block) (xs ys : List Receipt) → (n, Logs (Forward t b)) ∷ [] ≡ xs ++ x ∷ ys → x.1 ≡ Logs (Forward t b)
+alone x n t b [] ys e = let first : (n, Logs (Forward t b)) ≡ x = cc in ap (λ (z : Receipt). z.1) (sym first)
+alone x n t b (y ∷ []) ys e = absurd (cc)
+alone x n t b (y ∷ z ∷ xs) ys e = absurd (cc)
+
+one_spared : (x : Receipt) (z : Bool) → z ≡ true → (let xs : List Receipt = if z then x ∷ [] else [] in spares (Some 1) (length xs) ≡ true) → ⊥
+one_spared x true e h = let no : false ≡ true = h in absurd (cc)
+one_spared x false e h = absurd (cc)
+
+operated : (w : World) (c t : ℕ) (call : Call) (n : ℕ) (b : Block)
+    → IsUnanswered w c t (Some 1) call ((n, Logs (Forward t b)) ∷ []) ⊎ (IsTurnedBack w c t (Some 1) call ((n, Logs (Forward t b)) ∷ []) ⊎ IsGivingWay w c t call ((n, Logs (Forward t b)) ∷ [])) → ⊥
+operated w c t call n b (inl h) = one_spared (n, Logs (Forward t b)) (t == t) (self t) h.spared
+operated w c t call n b (inr (inl h)) = let same : Meets h.why ≡ Logs (Forward t b) = alone (h.at, Meets h.why) n t b h.work h.back h.is in absurd (cc)
+operated w c t call n b (inr (inr h)) = let same : Yields h.refusal ≡ Logs (Forward t b) = alone (h.refusal.at, Yields h.refusal) n t b h.work h.back h.is in absurd (cc)
+
 pub wrong_ones : WrongOnes
 wrong_ones = record {
   another_number = λ w c acts said says transcript. let e = agree w c acts said _ _ says transcript in absurd (cc);
@@ -228,6 +243,7 @@ wrong_ones = record {
       no_place w c told.1 (Full end limit) says.0 told.2.met;
   refused_and_kept = λ call t n m end limit w c x e is h. kept w c x call t n m end limit e is h;
   refused_and_more = λ w c t tries n m end limit call cs rest h. more_back t (pending (put 97 0) (UndoCell 1)) (h.3 refl (pending (put 97 0) (UndoCell 1) ∷ []));
+  refused_and_on = λ w c t tries m n k end limit b call cs rest h. h.4.0;
   said_after_death = λ first later line did w c acts said says transcript.
       died_behind first line later (ap behind_died (sym says) ∙ nothing_after_died w c acts said did transcript);
   dropped = λ w b told. absurd told;
@@ -240,6 +256,14 @@ wrong_ones = record {
   live_claimed = λ i c t precheck whole before old new blocks lines receipts round h. let e = sym (right_at round.world i c (Claims t) round.right h.0) ∙ h.1 in absurd (cc);
   given_back_by_another = λ i c t latched precheck whole before old new blocks lines receipts round h. h.1 (right_at round.world i c (GivesBack t latched) round.right h.0).3;
   refused_behind_a_stop = λ i c f precheck whole before old new blocks lines receipts round h. h.1 (right_at round.world i c (Yields f) round.right h.0).2;
+  begun_behind_a_stop = λ i c t precheck whole before old new blocks lines receipts round h. h.1 (right_at round.world i c (Logs (Begin t)) round.right h.0);
+  answered_behind_a_stop = λ i c t call a precheck whole before old new blocks lines receipts round h. h.1 (right_at round.world i c (Logs (Done t call a)) round.right h.0);
+  operated_behind_a_stop = λ i c t b precheck whole before old new blocks lines receipts round h. h.1 (right_at round.world i c (Logs (Forward t b)) round.right h.0);
+  committed_behind_a_stop = λ i c t precheck whole before old new blocks lines receipts round h. h.1 (right_at round.world i c (Logs (Commit t)) round.right h.0);
+  operated_on_damage = λ i c t b g precheck whole before old new blocks lines receipts round h. h.3 ((round.together.prechecks h.0).operations i t c b g h.1 h.2);
+  begun_twice = λ w c a b s rest h. h;
+  committed_and_cut = λ w c t tries n d s cs rest h. absurd (cc);
+  operated_and_died = λ w c t tries n b s cs rest call h. operated w c t call n b h;
   poked_by_nobody = λ r g h precheck whole before old new blocks lines receipts round wrong.
       let now : slice_get round.world.core.regions r ≡ Some h = ap (λ (k : CoreState). slice_get k.regions r) round.core_is ∙ wrong.2 in
       wrong.3 ((round.together.pokes r g h wrong.1 now).0 ∙ ap (λ (xs : List Happening). stray_after r g.stray xs) wrong.0);

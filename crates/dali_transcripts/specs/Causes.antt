@@ -12,6 +12,7 @@
 --     IsAside w c t x          such a deed, or a taking back of t
 --     IsAsking w c t call x    such a deed, or a request for the lock of the call that finds a dead holder
 --     IsWork w c t call x      such a deed, or an operation of the call
+--     StaysRefused xs          behind the first refusal of a call it makes no operation
 --     undos_behind t us xs     what is left to take back of t behind these deeds, which was us before them
 --     KeepsNothing t why xs    a call that was refused, by no stop, leaves t as it was: all that these deeds changed is taken back
 --     IsBehind w c t x         a deed of a commit behind its Commit
@@ -22,7 +23,7 @@
 --     DiesIn w c n t r call    it dies in an operation of the call, on region r
 --     GetsBusy w c t call f    its request for the call's lock was refused, and the holder wasn't dead
 --     AreRight w               each deed of the round has what it asks for at its place
---     AreUnfinished w c place rest xs  the deeds of a step that the end of the round cut short
+--     AreUnfinished w c place rest xs  the deeds of a step that the end of the round cut short: of a call, an abort, an audit or a checkpoint
 --     HasCause w c x           what must be so for the step x of client c
 use Rattle.std.specs.Prelude.{◌≡◌, ℕ, ◌+◌, ◌<◌, ◌⊎◌, Bool, true, false, List, [], ◌∷◌, ◌++◌, Option, Some, None, bit_xor, fold, length, nat_lt, slice_get, sum_by, take, ◌==◌, ◌≤◌}
 use Rattle.std.specs.List.{AllByRecursion}
@@ -36,7 +37,7 @@ use Rattle.dali_record.specs.declared.records.Call.{Call}
 use Rattle.dali_record.specs.declared.records.Call.TheVariants.{Insert, Update, Delete, Get}
 use Rattle.dali_record.specs.declared.records.Answer.{Answer}
 use Rattle.dali_record.specs.declared.records.Record.{Record}
-use Rattle.dali_record.specs.declared.records.Record.TheVariants.{Begin, Forward, Back, Done, Commit, Ended, Solo, AuditBegin, AuditClean, AuditFail}
+use Rattle.dali_record.specs.declared.records.Record.TheVariants.{Begin, Forward, Back, Done, Ended, Solo, AuditBegin, AuditClean, AuditFail}
 use Rattle.dali_record.specs.Blocks.{AreWords, made}
 use Rattle.dali_record.specs.Spelling.{record_length, CanBeSpelled}
 use Rattle.dali_record.specs.Locks.{IsLockLegal}
@@ -47,7 +48,7 @@ use Rattle.dali_system.specs.declared.causes.Cause.{Cause}
 use Rattle.dali_system.specs.declared.refusals.Refusal.{Refusal}
 use Rattle.dali_system.specs.Keeps.{IsNext}
 use Rattle.dali_transcripts.specs.Words.{Act, Begins as BeginAct, Calls, Arms, Commits as CommitAct, Aborts as AbortAct, Pokes as PokeAct, Audits as AuditAct, Checkpoints as CheckpointAct, Why, StoppedBy, Full, Damaged, StoreFailed, UnderWay, is_stop, key_of, mode_of}
-use Rattle.dali_transcripts.specs.World.{Deed, Logs, DiesOn, Claims, GivesBack, Yields, FindsDead, StartsCheckpoint, MovesAnchor, EndsCheckpoint, Meets, Happening, World, log_at, IsFlushed, IsLost, IsUncommitted, HasDone, state_at, is_dead_in, is_claimed_in, claimer_at, HasEndedBy, has_failed, failed_at, stop_at, stray_after, under_way}
+use Rattle.dali_transcripts.specs.World.{Deed, Logs, DiesOn, Claims, GivesBack, Yields, FindsDead, StartsCheckpoint, EndsCheckpoint, Meets, Happening, World, log_at, IsFlushed, IsLost, IsUncommitted, HasDone, state_at, is_dead_in, is_claimed_in, claimer_at, HasEndedBy, has_failed, stop_at, stray_after, under_way}
 use Rattle.dali_transcripts.specs.Moves.{Receipt, Place, Outside, Within, Again, Ending, TakenBack, LeftBehind, Move, Begins, BeginsAgain, IsRefusedBegin, Skips, Rests, Answers, IsRefusedCall, Dies, IsArmed, GivesWay, GivesUp, Commits, CommitFails, IsRefusedCommit, Aborts, IsRefusedAbort, Ends, StaysOpen, Pokes, PokesNothing, Audits, IsRefusedAudit, Checkpoints, FailsCheckpoint, IsRefusedCheckpoint, operations}
 
 -- ---- the operations of a call
@@ -96,7 +97,7 @@ pub record IsFull (w : World) (i : ℕ) (act : Act) (o : Option ℕ) (end limit 
   pub spelled : CanBeSpelled refused
   pub passes : limit < end + record_length refused
   -- a stop comes first
-  pub runs : failed_at w i ≡ None
+  pub runs : stop_at w i ≡ None
 
 -- the exclusive-or of the two values is that of the stray writes to the region so far
 pub record IsDamaged (w : World) (i t : ℕ) (call : Call) (region codeword found : ℕ) : Type 0 where
@@ -222,6 +223,16 @@ IsTried w c t call x = IsWork w c t call x
 abbrev pub AreTried : World → ℕ → ℕ → Call → List Receipt → Type 0
 AreTried w c t call xs = AllByRecursion (IsTried w c t call) xs
 
+-- behind a refusal it makes no operation any more
+abbrev pub IsNoOperation : Receipt → Type 0
+IsNoOperation (n, Logs (Forward u b)) = ⊥
+IsNoOperation x = Unit {0}
+
+abbrev pub StaysRefused : List Receipt → Type 0
+StaysRefused [] = Unit {0}
+StaysRefused ((n, Meets why) ∷ xs) = AllByRecursion IsNoOperation xs
+StaysRefused (x ∷ xs) = StaysRefused xs
+
 -- whatever there was to take back of t before these deeds, it is so behind them; where the engine is stopped nothing is taken back any more
 abbrev pub undos_by : ℕ → List Pending → Receipt → List Pending
 undos_by t us (n, Logs x) = undo_step t us x
@@ -299,12 +310,15 @@ pub record GetsBusy (w : World) (c t : ℕ) (call : Call) (f : Refusal) : Type 0
   pub runs : is_dead_in (state_at w done.place f.holder) ≡ false
 
 -- ---- each deed by itself
--- what must be so where it is done, whichever step it belongs to; a stop for damage comes before each refusal of a request
+-- what must be so where it is done, whichever step it belongs to; behind a stop no request is refused, and nothing is logged but takings back and solos
 abbrev pub IsRight : World → (client place : ℕ) → Deed → Type 0
+IsRight w c i (Logs (Back t b)) = Unit {0}
+IsRight w c i (Logs (Solo t p b)) = Unit {0}
+IsRight w c i (Logs x) = stop_at w i ≡ None
 IsRight w c i (Claims u) = is_dead_in (state_at w i u) ≡ true
 IsRight w c i (GivesBack u latched) = (was : Option ℕ) × (state_at w i u ≡ Some (Cleaning was)) × ((latched ≡ was) ⊎ (latched ≡ None)) × (claimer_at w i u ≡ Some c)
-IsRight w c i (Yields f) = (f.at ≡ length (log_at w i)) × (is_dead_in (state_at w i f.holder) ≡ false) × (failed_at w i ≡ None)
-IsRight w c i (FindsDead f) = (f.at ≡ length (log_at w i)) × (is_dead_in (state_at w i f.holder) ≡ true) × (failed_at w i ≡ None)
+IsRight w c i (Yields f) = (f.at ≡ length (log_at w i)) × (is_dead_in (state_at w i f.holder) ≡ false) × (stop_at w i ≡ None)
+IsRight w c i (FindsDead f) = (f.at ≡ length (log_at w i)) × (is_dead_in (state_at w i f.holder) ≡ true) × (stop_at w i ≡ None)
 IsRight w c i (Meets StoreFailed) = Unit {0}
 IsRight w c i (Meets why) = (act : Act) × (o : Option ℕ) × IsCause w c i act o why
 IsRight w c i x = Unit {0}
@@ -318,44 +332,77 @@ abbrev pub AreRight : World → Type 0
 AreRight w = AreRightFrom w 0 w.happened
 
 -- ---- a step that the end of the round cut short
--- a record of an audit
-abbrev pub is_of_audit : Record → Bool
-is_of_audit AuditBegin = true
-is_of_audit (AuditClean b) = true
-is_of_audit (AuditFail b rs) = true
-is_of_audit x = false
+-- it takes back a change of t, or cleans up; a clean-up that was cut short too gives its claim back
+abbrev pub IsCutAside : World → (client txn : ℕ) → Receipt → Type 0
+IsCutAside w c t (n, GivesBack u latched) = ((u == t) ≡ false) × LetsGo w c n u latched
+IsCutAside w c t x = IsAside w c t x
 
--- a deed of a command outside a transaction
-abbrev pub IsPiece : World → (client : ℕ) → Act → Receipt → Type 0
-IsPiece w c act (n, Meets why) = MetCause w c n act None why
-IsPiece w c AuditAct (n, Logs x) = is_of_audit x ≡ true
-IsPiece w c CheckpointAct (n, Logs x) = is_of_audit x ≡ true
-IsPiece w c CheckpointAct (n, StartsCheckpoint) = Unit {0}
-IsPiece w c CheckpointAct (n, MovesAnchor number) = Unit {0}
-IsPiece w c CheckpointAct (n, EndsCheckpoint) = Unit {0}
-IsPiece w c act x = ⊥
+-- or it is work of the call
+abbrev pub IsCutWork : World → (client txn : ℕ) → Call → Receipt → Type 0
+IsCutWork w c t call (n, GivesBack u latched) = ((u == t) ≡ false) × LetsGo w c n u latched
+IsCutWork w c t call x = IsWork w c t call x
 
--- a deed of the command under way, the first of these; behind the last one its transaction is taken back
-abbrev pub IsUnfinished : World → (client : ℕ) → Place → List Act → Receipt → Type 0
-IsUnfinished w c (Within t tries cs d s) (Calls call ∷ rest) (n, Logs (Forward u b)) = IsWork w c t call (n, Logs (Forward u b))
-IsUnfinished w c (Within t tries cs d s) (Calls call ∷ rest) (n, FindsDead f) = HasFoundDead w c n t call f
-IsUnfinished w c (Within t tries cs d s) (Calls call ∷ rest) (n, Yields f) = GetsBusy w c t call f
-IsUnfinished w c (Within t tries cs d s) (act ∷ rest) (n, Meets why) = MetCause w c n act (Some t) why
-IsUnfinished w c (Within t tries cs d s) [] (n, Meets why) = MetCause w c n AbortAct (Some t) why
-IsUnfinished w c (Within t tries cs d s) rest (n, GivesBack u latched) = ((u == t) ≡ false) × LetsGo w c n u latched
-IsUnfinished w c (Within t tries cs d s) rest x = IsAside w c t x
-IsUnfinished w c (Outside s) (act ∷ rest) x = IsPiece w c act x
-IsUnfinished w c (Again tries h s) (act ∷ rest) x = IsPiece w c act x
-IsUnfinished w c place rest x = ⊥
+-- what there was to take back of t before these deeds is there still
+abbrev pub KeepsOlder : ℕ → List Receipt → Type 0
+KeepsOlder t xs = (us : List Pending) → (more : List Pending) × (undos_behind t us xs ≡ us ++ more)
 
--- a commit may have logged its record, and some of what stands behind it
-abbrev pub IsUnsettled : World → (client txn : ℕ) → Receipt → Type 0
-IsUnsettled w c t (n, GivesBack u latched) = ((u == t) ≡ false) × LetsGo w c n u latched
-IsUnsettled w c t x = IsBehind w c t x
+-- a call that has no answer yet; its client hasn't died by then
+pub record IsUnanswered (w : World) (c t : ℕ) (d : Option ℕ) (call : Call) (xs : List Receipt) : Type 0 where
+  pub work : AllByRecursion (IsCutWork w c t call) xs
+  pub spared : spares d (operations t xs) ≡ true
+  pub older : KeepsOlder t xs
 
+-- one that was refused, by no stop, and isn't taken back yet
+pub record IsTurnedBack (w : World) (c t : ℕ) (d : Option ℕ) (call : Call) (xs : List Receipt) : Type 0 where
+  pub work : List Receipt
+  pub at : ℕ
+  pub why : Why
+  pub back : List Receipt
+  pub is : xs ≡ work ++ (at, Meets why) ∷ back
+  pub tried : AreTried w c t call work
+  pub stays : StaysRefused work
+  pub cause : MetCause w c at (Calls call) (Some t) why
+  pub survives : Survives w c at t call d (operations t work) why cause
+  pub no_stop : is_stop why ≡ false
+  pub aside : AllByRecursion (IsCutAside w c t) back
+  pub older : KeepsOlder t xs
+
+-- one whose request gave way, and whose transaction isn't taken back yet
+pub record IsGivingWay (w : World) (c t : ℕ) (call : Call) (xs : List Receipt) : Type 0 where
+  pub work : List Receipt
+  pub refusal : Refusal
+  pub back : List Receipt
+  pub is : xs ≡ work ++ (refusal.at, Yields refusal) ∷ back
+  pub asking : AreAsking w c t call work
+  pub busy : GetsBusy w c t call refusal
+  pub aside : AreAside w c t back
+
+-- an audit began, and hasn't ended
+abbrev pub IsBegun : List Receipt → Type 0
+IsBegun [] = Unit {0}
+IsBegun ((b, Logs AuditBegin) ∷ []) = Unit {0}
+IsBegun xs = ⊥
+
+-- a checkpoint started, its audit may have begun, and it may have been given up
+abbrev pub MayBeOver : List Receipt → Type 0
+MayBeOver [] = Unit {0}
+MayBeOver ((n, EndsCheckpoint) ∷ []) = Unit {0}
+MayBeOver xs = ⊥
+
+abbrev pub IsStarted : List Receipt → Type 0
+IsStarted [] = Unit {0}
+IsStarted ((since, StartsCheckpoint) ∷ (b, Logs AuditBegin) ∷ xs) = MayBeOver xs
+IsStarted ((since, StartsCheckpoint) ∷ xs) = MayBeOver xs
+IsStarted xs = ⊥
+
+-- a step of any other command does nothing before it is done
 abbrev pub AreUnfinished : World → (client : ℕ) → Place → List Act → List Receipt → Type 0
-AreUnfinished w c (Within t tries cs d s) (CommitAct ∷ rest) ((n, Logs (Commit u)) ∷ behind) = (u ≡ t) × AllByRecursion (IsUnsettled w c t) behind
-AreUnfinished w c place rest xs = AllByRecursion (IsUnfinished w c place rest) xs
+AreUnfinished w c (Within t tries cs d s) (Calls call ∷ rest) xs = IsUnanswered w c t d call xs ⊎ (IsTurnedBack w c t d call xs ⊎ IsGivingWay w c t call xs)
+AreUnfinished w c (Within t tries cs d s) (AbortAct ∷ rest) xs = AreAside w c t xs
+AreUnfinished w c (Within t tries cs d s) [] xs = AreAside w c t xs
+AreUnfinished w c (Outside s) (AuditAct ∷ rest) xs = IsBegun xs
+AreUnfinished w c (Outside s) (CheckpointAct ∷ rest) xs = IsStarted xs
+AreUnfinished w c place rest xs = xs ≡ []
 
 -- ---- the steps
 -- a begin stands outside, or comes again
@@ -390,7 +437,7 @@ HasCause w c (Skips s act rest) = Unit {0}
 HasCause w c (Rests t act rest) = Unit {0}
 HasCause w c (Answers t tries cs d work n call a rest) = AreWork w c t call work × (spares d (operations t work) ≡ true)
 HasCause w c (IsRefusedCall t tries cs d s work n back call why rest) =
-    AreTried w c t call work × ((met : MetCause w c n (Calls call) (Some t) why) × Survives w c n t call d (operations t work) why met) × AreAside w c t back × KeepsNothing t why (work ++ (n, Meets why) ∷ back)
+    AreTried w c t call work × ((met : MetCause w c n (Calls call) (Some t) why) × Survives w c n t call d (operations t work) why met) × AreAside w c t back × KeepsNothing t why (work ++ (n, Meets why) ∷ back) × StaysRefused work
 HasCause w c (Dies t tries cs d work n r call rest) = AreWork w c t call work × (operations t work + 1 ≡ d) × DiesIn w c n t r call
 HasCause w c (IsArmed t tries cs d s count rest) = Unit {0}
 HasCause w c (GivesWay t tries cs d work call f back end rest) = AreAsking w c t call work × GetsBusy w c t call f × AreAside w c t back × IsEnd w c t call end × (tries + 1 < 1000)

@@ -140,17 +140,14 @@ fits limit end ((Logs x, c) ∷ xs) = ends_within (end + record_length x) (room_
 fits limit end (x ∷ xs) = fits limit end xs
 
 -- ---- precheck
--- before place i, and behind all other deeds of c, the stray writes to the region cancelled
-pub record WasRight (w : World) (i c r : ℕ) (g : RegionState) : Type 0 where
-  pub place : ℕ
-  pub before : place ≤ i
-  pub alone : (k : ℕ) (x : Deed) → place ≤ k → k < i → slice_get w.happened k ≡ Some (x, c) → ⊥
-  pub right : stray_after r g.stray (take place w.happened) ≡ 0
+-- the stray writes to the region cancel at the place of the operation itself: a look and its operation are one step, in which no other client does anything
+abbrev pub WasRight : World → (place region : ℕ) → RegionState → Type 0
+WasRight w i r g = stray_after r g.stray (take i w.happened) ≡ 0
 
 pub record PrecheckTells (w : World) : Type 0 where
   pub operations : (i t c : ℕ) (b : Block) (g : RegionState) → slice_get w.happened i ≡ Some (Logs (Forward t b), c)
-      → slice_get w.old.regions b.region ≡ Some g → WasRight w i c b.region g
-  pub deaths : (i t r c : ℕ) (g : RegionState) → slice_get w.happened i ≡ Some (DiesOn t r, c) → slice_get w.old.regions r ≡ Some g → WasRight w i c r g
+      → slice_get w.old.regions b.region ≡ Some g → WasRight w i b.region g
+  pub deaths : (i t r c : ℕ) (g : RegionState) → slice_get w.happened i ≡ Some (DiesOn t r, c) → slice_get w.old.regions r ≡ Some g → WasRight w i r g
 
 -- ---- all clients together
 pub record HoldsTogether (w : World) : Type 0 where

@@ -32,10 +32,10 @@ abbrev pub RoomBy : World → Deed → Type 0
 RoomBy v (Logs y) = ends_within (sum_by record_length (log_of v) + record_length y) (room_for v.old.system.limit y) ≡ true
 RoomBy v x = Unit {0}
 
-abbrev pub RightBy : World → (client : ℕ) → Deed → Type 0
-RightBy v c (Logs (Forward t b)) = (g : RegionState) → slice_get v.old.regions b.region ≡ Some g → WasRight v (length v.happened) c b.region g
-RightBy v c (DiesOn t r) = (g : RegionState) → slice_get v.old.regions r ≡ Some g → WasRight v (length v.happened) c r g
-RightBy v c x = Unit {0}
+abbrev pub RightBy : World → Deed → Type 0
+RightBy v (Logs (Forward t b)) = (g : RegionState) → slice_get v.old.regions b.region ≡ Some g → WasRight v (length v.happened) b.region g
+RightBy v (DiesOn t r) = (g : RegionState) → slice_get v.old.regions r ≡ Some g → WasRight v (length v.happened) r g
+RightBy v x = Unit {0}
 
 pub record Owes (v w : World) (c : ℕ) (x : Deed) : Type 0 where
   pub span : SpanFits (under_way v.happened) (x, c)
@@ -49,7 +49,7 @@ pub record Owes (v w : World) (c : ℕ) (x : Deed) : Type 0 where
   pub fault : FaultsBy v w x
   pub refusal : w.core.system.refusals ≡ v.core.system.refusals ++ refused_by ((x, c) ∷ [])
   pub room : RoomBy v x
-  pub right : v.precheck ≡ true → RightBy v c x
+  pub right : v.precheck ≡ true → RightBy v x
 
 abbrev pub TogetherByDeed : Type 0
 TogetherByDeed = (v w : World) (c : ℕ) (x : Deed) → (g : Grows v w) → g.more ≡ (x, c) ∷ [] → HoldsTogether v → Owes v w c x → HoldsTogether w

@@ -1,6 +1,8 @@
 -- Wrong transcripts and wrong rounds: none of these is one.
 use Rattle.std.specs.Prelude.{◌≡◌, ◌≢◌, ℕ, ◌<◌, ◌≤◌, Bool, true, false, List, [], ◌∷◌, ◌++◌, Option, Some, None, Contains, slice_get, sum_by, take}
+use Rattle.dali_record.specs.declared.operations.Block.{Block}
 use Rattle.dali_record.specs.declared.records.Call.{Call}
+use Rattle.dali_record.specs.declared.records.Answer.{Answer}
 use Rattle.dali_record.specs.declared.records.Answer.TheVariants.{Ok as AnswerOk, Exists}
 use Rattle.dali_record.specs.declared.records.Record.{Record}
 use Rattle.dali_record.specs.declared.records.Record.TheVariants.{Begin, Forward, Back, Done, Commit, AuditBegin, AuditClean}
@@ -11,12 +13,12 @@ use Rattle.dali_system.specs.declared.refusals.Refusal.{Refusal}
 use Rattle.dali_system.specs.Run.{failed_first}
 use Rattle.dali_system.specs.State.{CoreState, state_of, stable}
 use Rattle.dali_system.specs.Steps.{audit_record}
-use Rattle.dali_transcripts.specs.Words.{Act, Calls, Checkpoints, StoppedBy, Full, Damaged, UnderWay, Said, Begun, Answered, CommitOk, Aborted, LeftOpen, Died, Busy, CheckpointSaid, Refused}
+use Rattle.dali_transcripts.specs.Words.{Act, Calls, Commits, Audits, Checkpoints, StoppedBy, Full, Damaged, UnderWay, Said, Begun, Answered, CommitOk, Aborted, LeftOpen, Died, Busy, CheckpointSaid, Refused}
 use Rattle.dali_record.specs.Epochs.{last_epoch}
 use Rattle.dali_record.specs.Spelling.{record_length}
-use Rattle.dali_transcripts.specs.World.{Logs, Meets, Claims, GivesBack, Yields, World, log_of, log_at, state_at, is_dead_in, is_claimed_in, claimer_at, failed_at, stop_at, stray_after, under_way}
-use Rattle.dali_transcripts.specs.Moves.{Receipt, Move, IsRefusedCall, said as says, own as does}
-use Rattle.dali_transcripts.specs.Causes.{HasCause}
+use Rattle.dali_transcripts.specs.World.{Logs, Meets, Claims, GivesBack, Yields, World, log_of, log_at, state_at, is_dead_in, is_claimed_in, claimer_at, stop_at, stray_after, under_way}
+use Rattle.dali_transcripts.specs.Moves.{Receipt, Outside, Within, Move, IsRefusedCall, said as says, own as does}
+use Rattle.dali_transcripts.specs.Causes.{AreUnfinished, HasCause}
 use Rattle.dali_transcripts.specs.Transcripts.{IsTranscript, Told, EachTells, AreTranscripts}
 use Rattle.dali_transcripts.specs.Rounds.{IsRound}
 use Rattle.dali_transcripts.specs.Worked.{put, free_cell, world}
@@ -93,6 +95,9 @@ pub record WrongOnes : Type 0 where
       → NoStep (Refused (Calls call) (Full end limit) ∷ []) ((n, Logs (Forward t (put 97 0))) ∷ (m, Meets (Full end limit)) ∷ [])
   pub refused_and_more : (w : World) (c t tries n m end limit : ℕ) (call : Call) (cs rest : List Act)
       → HasCause w c (IsRefusedCall t tries cs None false [] m ((n, Logs (Back t free_cell)) ∷ []) call (Full end limit) rest) → ⊥
+  -- a call that makes an operation behind a refusal
+  pub refused_and_on : (w : World) (c t tries m n k end limit : ℕ) (b : Block) (call : Call) (cs rest : List Act)
+      → HasCause w c (IsRefusedCall t tries cs None false ((m, Meets (Full end limit)) ∷ (n, Logs (Forward t b)) ∷ []) k [] call (Full end limit) rest) → ⊥
   -- a line after a death
   pub said_after_death : (first later : List Said) (line : Said) (did : List Receipt) → Never (Says (first ++ Died ∷ line ∷ later)) did
   -- a client that nothing is said of
@@ -102,10 +107,23 @@ pub record WrongOnes : Type 0 where
   pub left_held : (r : ℕ) (g : RegionState) → NoRound (λ w new. (slice_get new.regions r ≡ Some g) × IsLive g)
   pub left_claimed : (t : ℕ) → NoRound (λ w new. is_claimed_in (state_of new.system t) ≡ true)
   pub left_running : NoRound (λ w new. (new.vault.stopped ≡ true) × (new.system.stop ≡ None))
-  -- a claim of a transaction that isn't dead; a claim that another client gives back; a request that is refused behind an audit that failed
+  -- a claim of a transaction that isn't dead; a claim that another client gives back; a request that is refused behind a stop
   pub live_claimed : (i c t : ℕ) → NoRound (λ w new. (slice_get w.happened i ≡ Some (Claims t, c)) × (is_dead_in (state_at w i t) ≡ false))
   pub given_back_by_another : (i c t : ℕ) (latched : Option ℕ) → NoRound (λ w new. (slice_get w.happened i ≡ Some (GivesBack t latched, c)) × (claimer_at w i t ≢ Some c))
-  pub refused_behind_a_stop : (i c : ℕ) (f : Refusal) → NoRound (λ w new. (slice_get w.happened i ≡ Some (Yields f, c)) × (failed_at w i ≢ None))
+  pub refused_behind_a_stop : (i c : ℕ) (f : Refusal) → NoRound (λ w new. (slice_get w.happened i ≡ Some (Yields f, c)) × (stop_at w i ≢ None))
+  -- behind a stop a transaction that begins or commits, an operation, or an answer
+  pub begun_behind_a_stop : (i c t : ℕ) → NoRound (λ w new. (slice_get w.happened i ≡ Some (Logs (Begin t), c)) × (stop_at w i ≢ None))
+  pub answered_behind_a_stop : (i c t : ℕ) (call : Call) (a : Answer) → NoRound (λ w new. (slice_get w.happened i ≡ Some (Logs (Done t call a), c)) × (stop_at w i ≢ None))
+  pub operated_behind_a_stop : (i c t : ℕ) (b : Block) → NoRound (λ w new. (slice_get w.happened i ≡ Some (Logs (Forward t b), c)) × (stop_at w i ≢ None))
+  pub committed_behind_a_stop : (i c t : ℕ) → NoRound (λ w new. (slice_get w.happened i ≡ Some (Logs (Commit t), c)) × (stop_at w i ≢ None))
+  -- with precheck an operation on a region that was right when the client looked, and isn't any more
+  pub operated_on_damage : (i c t : ℕ) (b : Block) (g : RegionState)
+      → NoRound (λ w new. (w.precheck ≡ true) × (slice_get w.happened i ≡ Some (Logs (Forward t b), c)) × (slice_get w.old.regions b.region ≡ Some g) × (stray_after b.region g.stray (take i w.happened) ≢ 0))
+  -- a round that is cut: an audit that began twice, a commit that is neither flushed nor failed, an operation of a client that is to die in it
+  pub begun_twice : (w : World) (c a b : ℕ) (s : Bool) (rest : List Act) → AreUnfinished w c (Outside s) (Audits ∷ rest) ((a, Logs AuditBegin) ∷ (b, Logs AuditBegin) ∷ []) → ⊥
+  pub committed_and_cut : (w : World) (c t tries n : ℕ) (d : Option ℕ) (s : Bool) (cs rest : List Act) → AreUnfinished w c (Within t tries cs d s) (Commits ∷ rest) ((n, Logs (Commit t)) ∷ []) → ⊥
+  pub operated_and_died : (w : World) (c t tries n : ℕ) (b : Block) (s : Bool) (cs rest : List Act) (call : Call)
+      → AreUnfinished w c (Within t tries cs (Some 1) s) (Calls call ∷ rest) ((n, Logs (Forward t b)) ∷ []) → ⊥
   -- a stray write, a failure of the store, a refusal, a transaction or a new image of nobody
   pub poked_by_nobody : (r : ℕ) (g h : RegionState) → NoRound (λ w new. IsIdle w × (slice_get w.old.regions r ≡ Some g) × (slice_get new.regions r ≡ Some h) × (h.stray ≢ g.stray))
   pub failed_by_nobody : NoRound (λ w new. IsIdle w × (new.vault.faults ≢ w.old.vault.faults))

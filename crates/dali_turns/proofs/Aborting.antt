@@ -1,9 +1,8 @@
 -- A transaction that is taken back as its client is told, at the end of its block, or since an older one holds the key of its call.
 use Rattle.std.proofs.Common.{◌≡◌, ℕ, ◌+◌, ◌<◌, Bool, true, false, List, [], ◌∷◌, ◌++◌, length, map, Option, Some, None, is_some, refl, ap, sym, subst, ◌∙◌, inl, inr}
 use Rattle.std.proofs.lemmas.List.{append_assoc}
-use Rattle.dali_record.specs.declared.records.Call.{Call}
 use Rattle.dali_record.specs.declared.records.Record.{Record}
-use Rattle.dali_record.specs.declared.records.Record.TheVariants.{Ended, Forward}
+use Rattle.dali_record.specs.declared.records.Record.TheVariants.{Ended}
 use Rattle.dali_region.specs.State.{RegionState}
 use Rattle.dali_att.specs.declared.state.State.TheVariants.{Live}
 use Rattle.dali_store.specs.Store.{Files as Disk}
@@ -12,16 +11,14 @@ use Rattle.dali_crash.specs.Checkpoints.{Point}
 use Rattle.dali_crash.specs.Traces.{Start}
 use Rattle.dali_vault.specs.Vaulted.{Vaulted}
 use Rattle.dali_transcripts.specs.Words.{Act, Calls, Arms, Commits as CommitAct, Aborts as AbortAct, AbortOk, Aborted, Busy as IsBusy}
-use Rattle.dali_transcripts.specs.World.{Deed, Logs, GivesBack as GivesTxnBack, Yields, FindsDead, Meets, World, log_of}
+use Rattle.dali_transcripts.specs.World.{Deed, Logs, Yields, World, log_of}
 use Rattle.dali_transcripts.specs.Moves.{Receipt, Outside as IsOutside, Within as IsWithin, Again, Spot, at, TakenBack, Move, Aborts, Ends, GivesWay, GivesUp, behind_close, from, said, own, to}
-use Rattle.dali_transcripts.specs.Causes.{IsAside, IsAsking, AreAsking, GetsBusy, IsUnfinished, AreUnfinished, HasCause}
+use Rattle.dali_transcripts.specs.Causes.{AreAsking, GetsBusy, AreUnfinished, HasCause}
 use Rattle.dali_transcripts.specs.Laws.{receipts_from}
 use Rattle.dali_transcripts.specs.Rounds.{Standing, IsPlaced}
 use Rattle.dali_transcripts.proofs.Growing.{askings, busy}
 use Rattle.dali_clients.specs.Told.{act_of}
 use Rattle.dali_deeds.specs.Tells.{after}
-use Rattle.dali_single.proofs.Lists.{all_both}
-use Rattle.dali_transcripts.proofs.Lists.{all_map}
 use Rattle.dali_turns.specs.declared.client.Client.{Client}
 use Rattle.dali_turns.specs.declared.client.State.{State}
 use Rattle.dali_turns.specs.declared.client.State.TheVariants.{Outside, Within, Waiting}
@@ -34,29 +31,6 @@ use Rattle.dali_turns.specs.Goes.{Went}
 use Rattle.dali_turns.proofs.Rows.{had_row}
 use Rattle.dali_turns.proofs.Doing.{ended, went_on, went_by, went_silent}
 use Rattle.dali_turns.proofs.Closing.{GoesBack, GoesAway}
-
--- what a taking back did, where the round ended in its midst
-unfinished_abort : (w : World) (c t tries : ℕ) (cs : List Act) (d : Option ℕ) (s : Bool) (rest : List Act) (x : Receipt) → IsAside w c t x → IsUnfinished w c (IsWithin t tries cs d s) (AbortAct ∷ rest) x
-unfinished_abort w c t tries cs d s rest (n, GivesTxnBack u o) h = (h.0, h.1.given)
-unfinished_abort w c t tries cs d s rest (n, Meets why) h = absurd h
-unfinished_abort w c t tries cs d s rest x h = h
-
-unfinished_end : (w : World) (c t tries : ℕ) (cs : List Act) (d : Option ℕ) (s : Bool) (x : Receipt) → IsAside w c t x → IsUnfinished w c (IsWithin t tries cs d s) [] x
-unfinished_end w c t tries cs d s (n, GivesTxnBack u o) h = (h.0, h.1.given)
-unfinished_end w c t tries cs d s (n, Meets why) h = absurd h
-unfinished_end w c t tries cs d s x h = h
-
-pub unfinished_call : (w : World) (c t tries : ℕ) (cs : List Act) (d : Option ℕ) (s : Bool) (call : Call) (rest : List Act) (x : Receipt) → IsAsking w c t call x → IsUnfinished w c (IsWithin t tries cs d s) (Calls call ∷ rest) x
-unfinished_call w c t tries cs d s call rest (n, GivesTxnBack u o) h = (h.0, h.1.given)
-unfinished_call w c t tries cs d s call rest (n, Meets why) h = absurd h
-unfinished_call w c t tries cs d s call rest (n, Yields f) h = absurd h
-unfinished_call w c t tries cs d s call rest (n, FindsDead f) h = h
-unfinished_call w c t tries cs d s call rest (n, Logs (Forward u b)) h = absurd h
-unfinished_call w c t tries cs d s call rest x h = h
-
-pub asking_of : (w : World) (c t : ℕ) (call : Call) (x : Receipt) → IsAside w c t x → IsAsking w c t call x
-asking_of w c t call (n, FindsDead f) h = absurd h
-asking_of w c t call x h = h
 
 -- behind the end of the open transaction
 placed_behind : (acts : List Act) → IsPlaced true acts → IsPlaced false (behind_close acts)
@@ -165,17 +139,13 @@ module _ {V : Type 0} (told : V → Option Disk) (may_leave : V → Disk → Typ
       abort_left more next =
           let none : a.pending ≡ [] = subst (λ acts. AreSoFar w a.client x.txn acts a.pending) next fits.so_far in
           left_there (AbortAct ∷ more) next
-          (subst (λ xs. AreUnfinished midway a.client (IsWithin x.txn x.tries (map act_of x.commands.now) x.deadly fits.said) (AbortAct ∷ more) (xs ++ receipts_from number part.back)) (sym none)
-          (all_map (IsAside midway a.client x.txn) (IsUnfinished midway a.client (IsWithin x.txn x.tries (map act_of x.commands.now) x.deadly fits.said) (AbortAct ∷ more))
-          (unfinished_abort midway a.client x.txn x.tries (map act_of x.commands.now) x.deadly fits.said more) (receipts_from number part.back) part.aside))
+          (subst (λ xs. AreUnfinished midway a.client (IsWithin x.txn x.tries (map act_of x.commands.now) x.deadly fits.said) (AbortAct ∷ more) (xs ++ receipts_from number part.back)) (sym none) part.aside)
 
       pub end_left : rest_of k ≡ [] → Went told may_leave faults precheck s B p w a (Within x) gs y v false j hs z v
       end_left next =
           let none : a.pending ≡ [] = subst (λ acts. AreSoFar w a.client x.txn acts a.pending) next fits.so_far in
           left_there [] next
-          (subst (λ xs. AreUnfinished midway a.client (IsWithin x.txn x.tries (map act_of x.commands.now) x.deadly fits.said) [] (xs ++ receipts_from number part.back)) (sym none)
-          (all_map (IsAside midway a.client x.txn) (IsUnfinished midway a.client (IsWithin x.txn x.tries (map act_of x.commands.now) x.deadly fits.said) [])
-          (unfinished_end midway a.client x.txn x.tries (map act_of x.commands.now) x.deadly fits.said) (receipts_from number part.back) part.aside))
+          (subst (λ xs. AreUnfinished midway a.client (IsWithin x.txn x.tries (map act_of x.commands.now) x.deadly fits.said) [] (xs ++ receipts_from number part.back)) (sym none) part.aside)
 
   -- ---- where an older transaction holds the key of its call
   module _ (holder : ℕ) (fits : FitsYielding p w a (rest_of k) x holder) where
@@ -269,15 +239,15 @@ module _ {V : Type 0} (told : V → Option Disk) (may_leave : V → Disk → Typ
       halfway = after w a.client part.back q.core
 
       unfinished : AreUnfinished halfway a.client (IsWithin x.txn x.tries commands x.deadly false) (Calls fits.call ∷ fits.more) ((fits.work ++ (fits.refusal.at, Yields fits.refusal) ∷ []) ++ receipts_from number part.back)
-      unfinished =
-          all_both P (fits.work ++ (fits.refusal.at, Yields fits.refusal) ∷ []) (receipts_from number part.back)
-          (all_both P fits.work ((fits.refusal.at, Yields fits.refusal) ∷ [])
-          (all_map (IsAsking halfway a.client x.txn fits.call) P (unfinished_call halfway a.client x.txn x.tries commands x.deadly false fits.call fits.more) fits.work (askings w halfway part.did.goes.grows a.client x.txn fits.call fits.work fits.asking))
-          (busy w halfway part.did.goes.grows a.client x.txn fits.call fits.refusal fits.busy, tt))
-          (all_map (IsAside halfway a.client x.txn) P (λ r h. unfinished_call halfway a.client x.txn x.tries commands x.deadly false fits.call fits.more r (asking_of halfway a.client x.txn fits.call r h)) (receipts_from number part.back) part.aside)
-        where
-          P : Receipt → Type 0
-          P r = IsUnfinished halfway a.client (IsWithin x.txn x.tries commands x.deadly false) (Calls fits.call ∷ fits.more) r
+      unfinished = inr (inr (record {
+        work = fits.work;
+        refusal = fits.refusal;
+        back = receipts_from number part.back;
+        is = append_assoc fits.work ((fits.refusal.at, Yields fits.refusal) ∷ []) (receipts_from number part.back);
+        asking = askings w halfway part.did.goes.grows a.client x.txn fits.call fits.work fits.asking;
+        busy = busy w halfway part.did.goes.grows a.client x.txn fits.call fits.refusal fits.busy;
+        aside = part.aside;
+      }))
 
       pub yield_left : Went told may_leave faults precheck s B p w a (Within x) gs y v false j hs z v
       yield_left =

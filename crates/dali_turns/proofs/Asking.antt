@@ -29,7 +29,7 @@ use Rattle.dali_transcripts.specs.World.{Meets, World, log_of}
 use Rattle.dali_transcripts.specs.Moves.{Within as IsWithin, at, Move, IsRefusedCall, left}
 use Rattle.dali_transcripts.specs.Causes.{AreAsking, AreTried, HasCause, AreUnfinished, spares}
 use Rattle.dali_transcripts.specs.Rounds.{Standing, IsPlaced}
-use Rattle.dali_transcripts.proofs.Growing.{askings}
+use Rattle.dali_transcripts.proofs.Growing.{askings, unanswered}
 use Rattle.dali_deeds.specs.Tells.{after}
 use Rattle.dali_clients.specs.declared.command.Command.TheVariants.{Call as IsCall}
 use Rattle.dali_clients.specs.declared.line.Line.TheVariants.{Refused as RefusedLine}
@@ -48,9 +48,9 @@ use Rattle.dali_turns.proofs.Undoing.{undone_still}
 use Rattle.dali_turns.proofs.Refusals.{HasCauseNow, met_now, right_now, stop_now}
 use Rattle.dali_turns.proofs.Doing.{Did, did_nothing, did_meet, behind, ended, went_on, went_by, went_silent, vault_stops}
 use Rattle.dali_turns.proofs.Calling.{behind_one, none_so_far}
-use Rattle.dali_turns.proofs.Refusing.{all_tried_of}
+use Rattle.dali_turns.proofs.Refusing.{all_tried_of, unrefused}
 use Rattle.dali_turns.proofs.Asked.{works_of, none_yet, left_none, granted_on}
-use Rattle.dali_turns.proofs.Reasons.{unfinished}
+use Rattle.dali_turns.proofs.Cutting.{asked_cut}
 
 -- the plan of a call that has made no operation
 abbrev pub new_plan : Sizes → ℕ → Call → Planned
@@ -91,8 +91,8 @@ module _ {V : Type 0} (told : V → Option Disk) (may_leave : V → Disk → Typ
       so_far : AreUnfinished still a.client a.spot.place a.spot.rest (a.pending ++ [])
       so_far =
           subst (λ q. AreUnfinished still a.client q.place q.rest (a.pending ++ [])) (sym spot)
-          (unfinished still a.client x.txn x.tries (map act_of x.commands.now) x.deadly fits.said call more (a.pending ++ [])
-          (all_tried_of still a.client x.txn call (a.pending ++ []) (works_of still a.client x.txn call (a.pending ++ []) still_asking)))
+          (subst (λ xs. AreUnfinished still a.client (IsWithin x.txn x.tries (map act_of x.commands.now) x.deadly fits.said) (Calls call ∷ more) xs) (sym (append-nil a.pending))
+          (inl (unanswered w still did_none.goes.grows a.client x.txn x.deadly call a.pending (asked_cut p w a (rest_of k) x call more next fits))))
 
   -- it waits on
   pub waits_on : Stays k (Within x) j → Went told may_leave faults precheck s B p w a (Within x) gs y v true j gs y v
@@ -140,6 +140,7 @@ module _ {V : Type 0} (told : V → Option Disk) (may_leave : V → Disk → Typ
       (met_now w a.client p.core (Calls call) (Some x.txn) (StoppedBy stop) here, ap (spares x.deadly) (none_yet w a.client x.txn call a.pending asking) ∙ fits.due),
       tt,
       λ e. absurd (cc),
+      unrefused w a.client x.txn call a.pending (works_of w a.client x.txn call a.pending asking),
     )
 
     stopped_behind : (rest : List Act) → rest ≡ more → FitsWithin p now (ended a move) rest x

@@ -53,7 +53,7 @@ use Rattle.dali_turns.specs.Outside.{FitsOutside}
 use Rattle.dali_turns.specs.Audits.{IsPassing, FitsAuditing}
 use Rattle.dali_turns.specs.Fits.{rest_of, lines_of, IsOf, Owns, Fits}
 use Rattle.dali_turns.specs.Goes.{RowsTell, Went}
-use Rattle.dali_turns.proofs.Refusals.{records_are, runs_on_log, HasCauseNow, met_now, right_now, full_audit, stop_now, full_now, may_say_more}
+use Rattle.dali_turns.proofs.Refusals.{records_are, runs_on_log, HasCauseNow, met_now, right_now, full_audit, stop_now, runs_there, full_now, may_say_more}
 use Rattle.dali_turns.proofs.Passing.{passed, dead_checked, places_checked, passed_one}
 use Rattle.dali_turns.proofs.Doing.{vault_stops, Did, did_nothing, did_meet, did_quietly, behind, ended, went_on, went_by, went_silent}
 
@@ -138,7 +138,9 @@ module _ {V : Type 0} (told : V → Option Disk) (may_leave : V → Disk → Typ
     begun_step = (refl, ((stop_there, room_there, (refl, refl)), refl), refl)
 
     pub did_begin : Did told may_leave faults precheck s B p w c state gs y v (Logs AuditBegin ∷ []) B (begun_point p) gs (audit_begun y) v
-    did_begin = did_quietly told may_leave faults precheck s B p w gs y v stood c state (begun_point p) AuditBegins (Logs AuditBegin ∷ []) (audit_begun y) gs refl begun_step refl (tt, tt) (ap audit_begun stood.stands.at.system) stood.stands.at.regions
+    did_begin = did_quietly told may_leave faults precheck s B p w gs y v stood c state (begun_point p) AuditBegins (Logs AuditBegin ∷ []) (audit_begun y) gs refl begun_step refl
+        (runs_there (bases_of s) s.log w c p stood.stands.at.vault.run stood.tells (vault_stops told may_leave faults precheck s B p w gs y v stood) (Logs AuditBegin) (begun_point p).core stop_there, tt)
+        (ap audit_begun stood.stands.at.system) stood.stands.at.regions
         refl stood.stands.dead (λ fs held. held) (record { unclaimed = stood.quiet.unclaimed; settled = stood.quiet.settled }) (λ e. e) (λ t lives other. refl) (λ b other. refl)
 
     -- the number of its begin

@@ -55,10 +55,10 @@ use Rattle.dali_turns.specs.Outside.{MaySay, FitsOutside, FitsWaiting, HasGone, 
 use Rattle.dali_turns.specs.Within.{AreSoFar, FitsWithin}
 use Rattle.dali_turns.specs.Fits.{rest_of, lines_of, IsOf, Owns, Fits}
 use Rattle.dali_turns.specs.Goes.{RowsTell, Went, StepGoes}
-use Rattle.dali_turns.proofs.Commands.{next_act, behind_next, finished_rest, finished_lines, finished_client}
+use Rattle.dali_turns.proofs.Commands.{next_act, behind_next, finished_rest, finished_lines, finished_client, due_at}
 use Rattle.dali_turns.proofs.Doing.{vault_stops, ended, Did, did_meet, did_quietly, went_by, went_silent}
 use Rattle.dali_turns.proofs.Poking.{went_nowhere}
-use Rattle.dali_turns.proofs.Refusals.{runs_on_log, end_is as end_of_log, log_there, HasCauseNow, met_now, right_now, stop_now, none_failed_there, may_say_more}
+use Rattle.dali_turns.proofs.Refusals.{runs_on_log, end_is as end_of_log, log_there, HasCauseNow, met_now, right_now, stop_now, runs_there, may_say_more}
 use Rattle.dali_turns.proofs.Rows.{gone_by}
 
 -- ---- rows
@@ -146,7 +146,9 @@ module _ {V : Type 0} (told : V → Option Disk) (may_leave : V → Disk → Typ
     own_number = number ∙ ap (λ (m : SystemState). m.next) (sym stood.stands.at.system)
 
     did : Did told may_leave faults precheck s B p w a.client state gs y v (Logs (BeginRecord p.core.system.next) ∷ []) B q gs (begun y) v
-    did = did_quietly told may_leave faults precheck s B p w gs y v stood a.client state q BeginsStep (Logs (BeginRecord p.core.system.next) ∷ []) (begun y) gs refl step refl (tt, tt) (ap begun stood.stands.at.system) stood.stands.at.regions refl
+    did = did_quietly told may_leave faults precheck s B p w gs y v stood a.client state q BeginsStep (Logs (BeginRecord p.core.system.next) ∷ []) (begun y) gs refl step refl
+        (runs_there (bases_of s) s.log w a.client p stood.stands.at.vault.run stood.tells (vault_stops told may_leave faults precheck s B p w gs y v stood) (Logs (BeginRecord p.core.system.next)) q.core (ap (λ (m : SystemState). m.stop) stood.stands.at.system ∙ room.runs), tt)
+        (ap begun stood.stands.at.system) stood.stands.at.regions refl
         stood.stands.dead (λ fs held. held) (quiet_then y stood.quiet) (λ e. e) (λ t lives other. refl) (λ b other. refl)
 
     free : IsFree q.core x.txn
@@ -294,7 +296,7 @@ module _ {V : Type 0} (told : V → Option Disk) (may_leave : V → Disk → Typ
     next = (p.core.system.next, refl, subst (λ (L : List Record). IsNext p.core.system.sizes L p.core.system.next (BeginRecord p.core.system.next)) (stood.tells.log ∙ sym (log_there w a.client (Meets (Full p.core.system.end p.core.system.limit)) p.core)) (ap is_some hb.at_work));
     spelled = omega (arith, runs.counts.next, next_is_small p.core.system.sizes p.log runs.counts.now runs.log.legal runs.counts.rules);
     passes = above;
-    runs = none_failed_there (bases_of s) s.log w a.client p stood.stands.at.vault.run stood.tells (vault_stops told may_leave faults precheck s B p w gs y v stood) (Meets (Full p.core.system.end p.core.system.limit)) p.core up;
+    runs = runs_there (bases_of s) s.log w a.client p stood.stands.at.vault.run stood.tells (vault_stops told may_leave faults precheck s B p w gs y v stood) (Meets (Full p.core.system.end p.core.system.limit)) p.core up;
   }
 
 -- ---- why the system refuses it
@@ -364,8 +366,8 @@ module _ {V : Type 0} (told : V → Option Disk) (may_leave : V → Disk → Typ
 
   -- nothing was done
   pub begins_nowhere : (state : State) → BeginsFrom y tries state → j.transcript ≡ k.transcript → StepGoes told may_leave faults precheck state k gs y v false j gs y v
-  begins_nowhere Outside from_here same s B p w a stood is fits = went_nowhere told may_leave faults precheck Outside s B p w a gs y v k j stood is fits.none same
-  begins_nowhere (Waiting n holder) from_here same s B p w a stood is fits = went_nowhere told may_leave faults precheck (Waiting n holder) s B p w a gs y v k j stood is fits.none same
+  begins_nowhere Outside from_here same s B p w a stood is fits = went_nowhere told may_leave faults precheck Outside s B p w a gs y v k j stood is (due_at a.spot (IsOutside fits.said) (rest_of k) fits.spot tt) fits.none same
+  begins_nowhere (Waiting n holder) from_here same s B p w a stood is fits = went_nowhere told may_leave faults precheck (Waiting n holder) s B p w a gs y v k j stood is (due_at a.spot (Again n holder fits.said) (rest_of k) fits.spot tt) fits.none same
   begins_nowhere state from_here same s B p w a stood is fits = absurd from_here
 
   pub unsaid_goes : (z : SystemState) (ok : Bool) → z ≡ y → ok ≡ false → (state : State) → BeginsFrom y tries state → j.transcript ≡ k.transcript → StepGoes told may_leave faults precheck state k gs y v ok j gs z v

@@ -23,7 +23,7 @@ use Rattle.dali_single.specs.Stands.{core, IsAtRest}
 use Rattle.dali_stepwise.specs.Stepwise.{IsNew, IsAsked}
 use Rattle.dali_transcripts.specs.Words.{Act, Calls, key_of}
 use Rattle.dali_transcripts.specs.Words as words
-use Rattle.dali_transcripts.specs.World.{Deed, Yields, FindsDead, Happening, World, log_of, log_at, state_step, state_at, failed_at, is_dead_in}
+use Rattle.dali_transcripts.specs.World.{Deed, Yields, FindsDead, Happening, World, log_of, log_at, state_step, state_at, stop_at, is_dead_in}
 use Rattle.dali_transcripts.specs.Moves.{Within as IsWithin, at}
 use Rattle.dali_transcripts.specs.Causes.{IsAsking, AreAsking, IsRight, HasFoundDead, GetsBusy}
 use Rattle.dali_transcripts.specs.Rounds.{Standing}
@@ -43,7 +43,7 @@ use Rattle.dali_turns.specs.Fits.{rest_of, IsOf, Owns}
 use Rattle.dali_turns.specs.Goes.{Went, StepGoes, YieldGoes}
 use Rattle.dali_turns.proofs.Commands.{next_act, behind_next}
 use Rattle.dali_turns.proofs.Undoing.{undone_on}
-use Rattle.dali_turns.proofs.Refusals.{runs_on_log, records_are, front, log_there, done_last, none_failed_there}
+use Rattle.dali_turns.proofs.Refusals.{runs_on_log, records_are, front, log_there, done_last, runs_there}
 use Rattle.dali_turns.proofs.Doing.{Did, did_quietly, did_went, still_ran, behind, so_far, vault_stops}
 use Rattle.dali_turns.proofs.Walking.{point_behind}
 use Rattle.dali_turns.proofs.Asking.{new_plan, rest_now, core_there, asking}
@@ -120,8 +120,8 @@ module _ {V : Type 0} (told : V → Option Disk) (may_leave : V → Disk → Typ
       ap (λ (xs : List Happening). fold (state_step holder) (state_of w.old.system holder) xs) (front w a.client deed there)
       ∙ (sym (stood.tells.together.states holder) ∙ (ap (λ (c : CoreState). state_of c.system holder) stood.tells.core ∙ ap (λ (m : SystemState). state_of m holder) stood.stands.at.system))
 
-  runs_then : (deed : Deed) → failed_at (after w a.client (deed ∷ []) there) (length w.happened) ≡ None
-  runs_then deed = none_failed_there (bases_of s) s.log w a.client p stood.stands.at.vault.run stood.tells (vault_stops told may_leave faults precheck s B p w gs y v stood) deed there up
+  runs_then : (deed : Deed) → stop_at (after w a.client (deed ∷ []) there) (length w.happened) ≡ None
+  runs_then deed = runs_there (bases_of s) s.log w a.client p stood.stands.at.vault.run stood.tells (vault_stops told may_leave faults precheck s B p w gs y v stood) deed there up
 
   number_then : (deed : Deed) → refusal.at ≡ length (log_at (after w a.client (deed ∷ []) there) (length w.happened))
   number_then deed = number ∙ sym (ap length (log_there w a.client deed there))

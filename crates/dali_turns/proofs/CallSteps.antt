@@ -20,7 +20,7 @@ use Rattle.dali_system.specs.Steps.{done_logged, granted}
 use Rattle.dali_vault.specs.Vaulted.{Vaulted}
 use Rattle.dali_core.specs.Refused.{stop_of, stop_refusal}
 use Rattle.dali_core.specs.declared.error.SystemError.{SystemError}
-use Rattle.dali_core.specs.declared.error.SystemError.TheVariants.{Stopped, OutOfMemory}
+use Rattle.dali_core.specs.declared.error.SystemError.TheVariants.{Stopped, LogFull, OutOfMemory}
 use Rattle.dali_core.specs.declared.want.Want.TheVariants.{Region, Done as AnswerIsNext, Nothing}
 use Rattle.dali_calls.specs.Steps.{call_key, answer_of, next_op}
 use Rattle.dali_calls.specs.declared.plan.Phase.{Phase}
@@ -261,6 +261,18 @@ before_answer plan want = wants_more plan (λ e. let both : AnswerIsNext ≡ Not
 pub some_command : (o : Option Command) → is_some (call_in o) ≡ true → is_some o ≡ true
 some_command (Some command) e = refl
 some_command None e = absurd (cc)
+
+-- a call that is refused by the system passes no point
+pub points_there : (e : SystemError) (k j : Client) (x : Transaction) (plan : Planned) (r : Result Bool NoMemory) → is_some (next_of k) ≡ true → IsRefusedBy e k x plan r j → j.points ≡ k.points
+points_there (LogFull end limit) k j x plan r some h = h.1.points
+points_there (Stopped cause) k j x plan (Ok b) some h = by_next (next_of k) refl some
+  where
+    by_next : (o : Option Command) → next_of k ≡ o → is_some o ≡ true → j.points ≡ k.points
+    by_next (Some command) e f = (h.1 command e).points
+    by_next None e f = absurd (cc)
+points_there (Stopped cause) k j x plan (Err e) some h = h.2.points
+points_there OutOfMemory k j x plan (Ok b) some h = absurd h.1
+points_there OutOfMemory k j x plan (Err e) some h = ap (λ (n : Client). n.points) h.0
 
 pub command_of_call : (o : Option Command) (call : Call) → call_in o ≡ Some call → is_some o ≡ true
 command_of_call o call e = some_command o (ap is_some e)

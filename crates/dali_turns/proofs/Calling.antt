@@ -14,7 +14,7 @@ use Rattle.dali_system.specs.State.{SystemState, VaultState, CoreState, state_of
 use Rattle.dali_system.specs.Steps.{done_logged}
 use Rattle.dali_system.specs.Courses.{Step, Answers as AnswersStep}
 use Rattle.dali_crash.specs.Checkpoints.{Point, copies_after}
-use Rattle.dali_crash.specs.Traces.{Start}
+use Rattle.dali_crash.specs.Traces.{Start, bases_of}
 use Rattle.dali_vault.specs.Vaulted.{Vaulted}
 use Rattle.dali_calls.specs.Plans.{Planned}
 use Rattle.dali_single.specs.Stands.{core, IsAtRest, AtPlan}
@@ -40,7 +40,8 @@ use Rattle.dali_turns.specs.Stood.{IsQuiet, Stood}
 use Rattle.dali_turns.specs.Within.{AreSoFar, FitsWithin, FitsCalling}
 use Rattle.dali_turns.specs.Fits.{rest_of, IsOf, Owns, Fits}
 use Rattle.dali_turns.specs.Goes.{RowsTell, Went}
-use Rattle.dali_turns.proofs.Doing.{Did, did_quietly, ended, went_by, went_silent}
+use Rattle.dali_turns.proofs.Refusals.{runs_there}
+use Rattle.dali_turns.proofs.Doing.{Did, did_quietly, ended, went_by, went_silent, vault_stops}
 
 -- ---- a transaction may call, and a plan stands, by the log, the sizes and the regions
 pub may_at : (L M : List Record) (c d : CoreState) (t : ℕ) → d.regions ≡ c.regions → d.system ≡ c.system → M ≡ L → MayCall L c t → MayCall M d t
@@ -121,7 +122,9 @@ module _ {V : Type 0} (told : V → Option Disk) (may_leave : V → Disk → Typ
     calm = subst IsQuiet (sym logged) (record { unclaimed = stood.quiet.unclaimed; settled = stood.quiet.settled })
 
     did_answer : Did told may_leave faults precheck s B p w a.client (Calling x plan) gs y v deeds B q gs z v
-    did_answer = did_quietly told may_leave faults precheck s B p w gs y v stood a.client (Calling x plan) q step_at deeds z gs refl (refl, (at_core.step, refl), refl) same_deed (tt, tt) refl stood.stands.at.regions
+    did_answer = did_quietly told may_leave faults precheck s B p w gs y v stood a.client (Calling x plan) q step_at deeds z gs refl (refl, (at_core.step, refl), refl) same_deed
+        (runs_there (bases_of s) s.log w a.client p stood.stands.at.vault.run stood.tells (vault_stops told may_leave faults precheck s B p w gs y v stood) (Logs (Done x.txn fits.call given)) q.core at_core.step.0.runs, tt)
+        refl stood.stands.at.regions
         (ap (λ (m : SystemState). m.taken) logged) stood.stands.dead (λ fs held. held) calm (λ e. ap (λ (m : SystemState). is_some m.stop) logged ∙ e)
         (λ t lives other. apart_from plan.txn t (λ e. other (sym fits.plan_is.txn ∙ e))) (λ b other. refl)
 

@@ -295,7 +295,7 @@ module _ {V : Type 0} (told : V → Option Disk) (may_leave : V → Disk → Typ
             (refusal_stop told may_leave faults precheck s B p w a (Certifying c audit next) gs y v k j stood of tt (λ t none. none) so_far fits.making cause stop (λ l. tt)) h.transcript)
         by_refusal (inr memory_is) (inl (none, is_same)) = λ s B p w a stood of fits.
             to_end false s B p w a fits.sound
-            (given_up_none told may_leave faults precheck s B p w a (Certifying c audit next) gs y v k j stood of tt (λ t none. none) so_far fits.making (λ l. (refl, tt)) (ap (λ (n : Client). n.transcript) is_same))
+            (given_up_none told may_leave faults precheck s B p w a (Certifying c audit next) gs y v k j stood of tt (λ t none. none) so_far fits.making (λ m n. tt) (ap (λ (n : Client). n.transcript) is_same))
         by_refusal (inr memory_is) (inr (line, given, h)) = let never : None ≡ Some line = ap (λ (n : SystemError). line_in (Err (checkpoint_error n))) (sym memory_is) ∙ given in absurd (cc)
 
     pub unended_silent_goes : (ok : Bool) → ok ≡ false → Unsaid k (Err (checkpoint_error f)) j → StepGoes told may_leave faults precheck (Certifying c audit next) k gs y v ok j gs z v

@@ -33,18 +33,16 @@ use Rattle.dali_turns.specs.declared.client.State.TheVariants.{Within, Calling, 
 use Rattle.dali_turns.specs.declared.client.Transaction.{Transaction}
 use Rattle.dali_turns.specs.Clients.{next_of, Passes, RefusesCall, Stays}
 use Rattle.dali_turns.specs.Ends.{IsCleanedUp, IsLeftDead}
+use Rattle.dali_turns.specs.Fits.{rest_of}
 use Rattle.dali_turns.specs.Goes.{Went, StepGoes}
 use Rattle.dali_turns.proofs.Here.{MayStep, in_a_run}
 use Rattle.dali_turns.proofs.Commands.{next_act, behind_next}
 use Rattle.dali_turns.proofs.CleanUps.{cleaned, cut_short, fallen_short}
 use Rattle.dali_turns.proofs.Cleaning.{stop_there, within_behind, calling_behind, back_behind, cleaned_on, cleaned_then, half_goes}
 use Rattle.dali_turns.proofs.CallSteps.{vault_still, back_wants, unasked_goes, unasked_silently, stuck_goes, stuck_silently}
-use Rattle.dali_turns.proofs.Asked.{works_of}
-use Rattle.dali_turns.proofs.Asking.{asking}
+use Rattle.dali_turns.proofs.Cutting.{asked_cut, called_cut, turned_cut}
 use Rattle.dali_turns.proofs.Hindered.{stopped_said, stopped_unsaid}
-use Rattle.dali_turns.proofs.Refusing.{all_tried_of}
 use Rattle.dali_turns.proofs.Reasons.{refused_on, dead_latch}
-use Rattle.dali_turns.proofs.Turned.{tried}
 
 -- ---- no transaction becomes live in it
 live_row : (gs : List RegionState) (y : SystemState) (n : ℕ) (hs : List RegionState) (z : SystemState) → RowStays gs y n hs z → state_of z n ≡ Some Live → state_of y n ≡ Some Live
@@ -153,7 +151,7 @@ module _ {V : Type 0} (told : V → Option Disk) (may_leave : V → Disk → Typ
           subst (λ b. Went told may_leave faults precheck s B p w a (Within x) gs y v b j hs z v) (sym no_line)
           (half_goes told may_leave faults precheck s B p w a gs y v k x (Within x) is to hs z half call (behind_next k) x.tries (map act_of x.commands.now) x.deadly fits.said
           (fits.spot ∙ ap (at (IsWithin x.txn x.tries (map act_of x.commands.now) x.deadly fits.said)) more)
-          (all_tried_of w a.client x.txn call a.pending (works_of w a.client x.txn call a.pending (asking told may_leave faults precheck s B p w a gs y v k k x call (behind_next k) stood is fits more))) j same)
+          (inl (asked_cut p w a (rest_of k) x call (behind_next k) more fits)) j same)
 
       pub operate_half : (plan : Planned) (ok : Bool) → ok ≡ false → StepGoes told may_leave faults precheck (Calling x plan) k gs y v ok j hs z v
       operate_half plan ok no_line s B p w a stood is fits =
@@ -161,7 +159,7 @@ module _ {V : Type 0} (told : V → Option Disk) (may_leave : V → Disk → Typ
           let (to, half) = fallen_short told may_leave faults precheck s B p w gs y v stood a.client (Calling x plan) x.txn lives t hs z (left.dead stood.stands.dead) left.others was left.left left.again in
           subst (λ b. Went told may_leave faults precheck s B p w a (Calling x plan) gs y v b j hs z v) (sym no_line)
           (half_goes told may_leave faults precheck s B p w a gs y v k x (Calling x plan) is to hs z half fits.call fits.more x.tries (map act_of x.commands.now) fits.deadly false
-          (fits.spot ∙ ap (at (IsWithin x.txn x.tries (map act_of x.commands.now) fits.deadly false)) fits.calls) (all_tried_of w a.client x.txn fits.call a.pending fits.work) j same)
+          (fits.spot ∙ ap (at (IsWithin x.txn x.tries (map act_of x.commands.now) fits.deadly false)) fits.calls) (inl (called_cut p w a (rest_of k) x plan fits)) j same)
 
       pub back_half : (plan : Planned) (why : Why) (ok : Bool) → ok ≡ false → StepGoes told may_leave faults precheck (TakingBack x plan why) k gs y v ok j hs z v
       back_half plan why ok no_line s B p w a stood is fits =
@@ -169,7 +167,7 @@ module _ {V : Type 0} (told : V → Option Disk) (may_leave : V → Disk → Typ
           let (to, half) = fallen_short told may_leave faults precheck s B p w gs y v stood a.client (TakingBack x plan why) x.txn lives t hs z (left.dead stood.stands.dead) left.others was left.left left.again in
           subst (λ b. Went told may_leave faults precheck s B p w a (TakingBack x plan why) gs y v b j hs z v) (sym no_line)
           (half_goes told may_leave faults precheck s B p w a gs y v k x (TakingBack x plan why) is to hs z half fits.call fits.more x.tries (map act_of x.commands.now) fits.deadly false
-          (fits.spot ∙ ap (at (IsWithin x.txn x.tries (map act_of x.commands.now) fits.deadly false)) fits.calls) (tried told may_leave faults precheck s B p w a gs y v k k x plan why stood is fits) j same)
+          (fits.spot ∙ ap (at (IsWithin x.txn x.tries (map act_of x.commands.now) fits.deadly false)) fits.calls) (inr (turned_cut p w a (rest_of k) x plan why fits)) j same)
 
 -- ---- what a clean-up asks for
 pub is_some_at : {X : Type 0} (o : Option X) (n : X) (P : X → Type 0) → o ≡ Some n → IfSome o P → P n

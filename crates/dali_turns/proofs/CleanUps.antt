@@ -5,7 +5,6 @@ use Rattle.std.specs.List.{AllByRecursion, list_all}
 use Rattle.std.proofs.lemmas.List.{append_assoc, append_cancel_right, length-append, map-append}
 use Rattle.dali_counts.proofs.Lists.{equal, self}
 use Rattle.dali_record.specs.declared.operations.Pending.{Pending}
-use Rattle.dali_record.specs.declared.records.Call.{Call}
 use Rattle.dali_record.specs.declared.records.Record.{Record}
 use Rattle.dali_record.specs.declared.records.Record.TheVariants.{Ended}
 use Rattle.dali_region.specs.declared.Hold.{Hold}
@@ -29,10 +28,9 @@ use Rattle.dali_stepwise.specs.Beside.{LeavesBe}
 use Rattle.dali_ends.specs.Ended.{AreOfEnd}
 use Rattle.dali_rounds.specs.Went.{Went as GoneOn}
 use Rattle.dali_rounds.proofs.Cleaning.{clean_goes, left_goes}
-use Rattle.dali_transcripts.specs.Words.{Act, Calls}
 use Rattle.dali_transcripts.specs.World.{Deed, Logs, Claims as ClaimsTxn, GivesBack as GivesTxnBack, World, logged_by, log_of, claimed, is_dead_in, is_claimed_in, claimer_step, state_at, stop_at}
-use Rattle.dali_transcripts.specs.Moves.{Receipt, Within as IsWithin}
-use Rattle.dali_transcripts.specs.Causes.{LetsGo, IsAside, AreAside, IsUnfinished, undos_behind}
+use Rattle.dali_transcripts.specs.Moves.{Receipt}
+use Rattle.dali_transcripts.specs.Causes.{LetsGo, IsAside, AreAside, IsCutAside, undos_behind}
 use Rattle.dali_transcripts.specs.Laws.{receipts_from}
 use Rattle.dali_transcripts.specs.Rounds.{by}
 use Rattle.dali_transcripts.proofs.Lists.{all_map}
@@ -45,13 +43,13 @@ use Rattle.dali_turns.specs.declared.client.State.{State}
 use Rattle.dali_turns.specs.Stood.{Stood}
 use Rattle.dali_turns.proofs.Deeds.{course_tells, stop_is_told}
 use Rattle.dali_turns.proofs.Beside.{is_out_of}
-use Rattle.dali_turns.proofs.Doing.{Did}
+use Rattle.dali_turns.proofs.Doing.{Did, vault_stops}
 use Rattle.dali_turns.proofs.Refusals.{done_last, stop_there}
-use Rattle.dali_turns.proofs.Sides.{At, InHand, Sided, AreBacks, HasNoDead, sided, one_goes, at_next, joined, state_here, claimer_here, state_then, claimer_then, receipts_then, after_both, course_split, courses_told, logged_is, backs_sides, asides_of}
+use Rattle.dali_turns.proofs.Sides.{At, InHand, Sided, AreBacks, HasNoDead, sided, one_goes, at_next, joined, state_here, claimer_here, state_then, claimer_then, receipts_then, after_both, course_split, courses_told, logged_is, backs_sides, asides_of, ended_right}
 use Rattle.dali_turns.proofs.Undoing.{undone_on, undone_apart}
 use Rattle.dali_turns.proofs.Along.{end_out, out_both, did_calm}
 use Rattle.dali_turns.proofs.Closing.{unclaimed_then, settled_then}
-use Rattle.dali_turns.proofs.Aborting.{unfinished_call, asking_of}
+use Rattle.dali_turns.proofs.Cutting.{cut_of}
 
 -- ---- the steps
 pub back_end : (t : ℕ) (xs : List Step) → AreBack t xs → AreOfEnd t xs
@@ -97,8 +95,8 @@ module _ {V : Type 0} (told : V → Option Disk) (may_leave : V → Disk → Typ
   pub record CleansHalf : Type 0 where
     pub deeds : List Deed
     pub did : Did told may_leave faults precheck s B p w c state gs y v deeds B to hs z v
-    pub unfinished : (tries : ℕ) (cs : List Act) (d : Option ℕ) (b : Bool) (call : Call) (rest : List Act)
-        → AllByRecursion (IsUnfinished (after w c deeds to.core) c (IsWithin m tries cs d b) (Calls call ∷ rest)) (receipts_from (length (log_of w)) deeds)
+    pub cut : AllByRecursion (IsCutAside (after w c deeds to.core) c m) (receipts_from (length (log_of w)) deeds)
+    pub still : (us : List Pending) → undos_behind m us (receipts_from (length (log_of w)) deeds) ≡ us
 
 module _ {V : Type 0} (told : V → Option Disk) (may_leave : V → Disk → Type 0) (faults : V → ℕ)
     (precheck : Bool) (s : Start) (B : List (List Record)) (p : Point) (w : World) (gs : List RegionState) (y : SystemState) (v : Vaulted V) (stood : Stood told may_leave faults s B p w precheck gs y v)
@@ -288,23 +286,28 @@ module _ {V : Type 0} (told : V → Option Disk) (may_leave : V → Disk → Typ
     logged_there : (mid own hs z g others back undone records backs (Ends t) steps_are).log ≡ p.log ++ records
     logged_there = append_cancel_right _ (p.log ++ records) (Ended t ∷ []) (sym end_there.1.0.2.0 ∙ (g.log ∙ (ap (λ l. p.log ++ l) own_is ∙ sym (append_assoc p.log records (Ended t ∷ [])))))
 
+    ended_there : AreRightThen (between own hs z g others back undone records backs (Ends t) steps_are logged_there) c (Logs (Ended t) ∷ []) g.to.core
+    ended_there =
+        ended_right (bases_of s) s.log c m t w p (mid own hs z g others back undone records backs (Ends t) steps_are) (Claims t ∷ (recovers latched ++ back)) first_at
+        (vault_stops told may_leave faults precheck s B p w gs y v stood) (first own hs z g others back undone records backs (Ends t) steps_are logged_there) t g.to end_there
+
     pub cleans_up : CleansUp told may_leave faults precheck s B p w gs y v c state m g.to hs z
     cleans_up =
         let side = first own hs z g others back undone records backs (Ends t) steps_are logged_there in
         let here = claimed_mid own hs z g others back undone records backs (Ends t) steps_are logged_there in
         record {
           deeds = side.ds ++ Logs (Ended t) ∷ [];
-          did = did_all own hs z g others back undone records backs (Ends t) steps_are logged_there (Logs (Ended t)) refl (tt, tt) (ap (λ r. is_claimed_in (state_in r)) gone)
+          did = did_all own hs z g others back undone records backs (Ends t) steps_are logged_there (Logs (Ended t)) refl ended_there (ap (λ r. is_claimed_in (state_in r)) gone)
               (λ e. let no : None ≡ Some Committed = sym (ap state_in gone) ∙ e in absurd (cc)) (λ b. refl);
-          aside = asides_all own hs z g others back undone records backs (Ends t) steps_are logged_there (Logs (Ended t)) refl (tt, tt)
-              (subst (λ (n : World). IsAside n c m (length (log_of (between own hs z g others back undone records backs (Ends t) steps_are logged_there)), Logs (Ended t))) (same_late own hs z g others back undone records backs (Ends t) steps_are logged_there (Logs (Ended t)) refl (tt, tt))
+          aside = asides_all own hs z g others back undone records backs (Ends t) steps_are logged_there (Logs (Ended t)) refl ended_there
+              (subst (λ (n : World). IsAside n c m (length (log_of (between own hs z g others back undone records backs (Ends t) steps_are logged_there)), Logs (Ended t))) (same_late own hs z g others back undone records backs (Ends t) steps_are logged_there (Logs (Ended t)) refl ended_there)
               (record {
                 apart = not_own;
                 done = done_last (between own hs z g others back undone records backs (Ends t) steps_are logged_there) c (Logs (Ended t)) g.to.core;
                 claimed = ap is_claimed_in (state_here (between own hs z g others back undone records backs (Ends t) steps_are logged_there) c (Logs (Ended t)) g.to.core _ t side.at.tells) ∙ here.0;
                 own = claimer_here (between own hs z g others back undone records backs (Ends t) steps_are logged_there) c (Logs (Ended t)) g.to.core t ∙ here.1;
               }));
-          still = undone_all own hs z g others back undone records backs (Ends t) steps_are logged_there (Logs (Ended t)) refl (tt, tt) (λ us. refl);
+          still = undone_all own hs z g others back undone records backs (Ends t) steps_are logged_there (Logs (Ended t)) refl ended_there (λ us. refl);
           leaves = leaves_each own hs z g others back undone records backs (Ends t) steps_are;
         }
 
@@ -376,12 +379,13 @@ module _ {V : Type 0} (told : V → Option Disk) (may_leave : V → Disk → Typ
     falls_short = record {
       deeds = side.ds ++ gift ∷ [];
       did = did_gift;
-      unfinished = λ tries cs d b call rest.
+      cut =
           let end_world = after w c (side.ds ++ gift ∷ []) g.to.core in
           unfinished_all own hs z g others back undone records backs (GivesBack t None) steps_are logged_mid gift refl right
-          (λ r. IsUnfinished end_world c (IsWithin m tries cs d b) (Calls call ∷ rest) r)
-          (λ r h. unfinished_call end_world c m tries cs d b call rest r (asking_of end_world c m call r h))
+          (λ r. IsCutAside end_world c m r)
+          (cut_of end_world c m)
           (not_own, subst (λ (n : World). LetsGo n c (length (log_of before_it)) t None) same_world lets_go);
+      still = undone_all own hs z g others back undone records backs (GivesBack t None) steps_are logged_mid gift refl right (λ us. refl);
     }
 
 -- ---- for the call

@@ -21,11 +21,11 @@ use Rattle.dali_stepwise.proofs.Waiting.{plan_waits, call_waits, rest_waits}
 use Rattle.dali_transcripts.specs.Words.{Act, Calls}
 use Rattle.dali_transcripts.specs.World.{FindsDead, Meets, World, log_of}
 use Rattle.dali_transcripts.specs.Moves.{Receipt, Within as IsWithin, at, operations, left}
-use Rattle.dali_transcripts.specs.Causes.{IsAside, IsAsking, IsWork, IsTried, AreTried, IsUnfinished, AreUnfinished, spares}
+use Rattle.dali_transcripts.specs.Causes.{IsAside, IsAsking, IsWork, IsUnanswered, IsTurnedBack, AreUnfinished, spares}
 use Rattle.dali_transcripts.specs.Laws.{receipts_from}
 use Rattle.dali_transcripts.specs.Rounds.{Standing}
 use Rattle.dali_transcripts.proofs.Lists.{all_append, all_map}
-use Rattle.dali_transcripts.proofs.Growing.{askings, works, asides, all_tried, met, survives}
+use Rattle.dali_transcripts.proofs.Growing.{askings, works, asides, all_tried, met, survives, unanswered, turned_back}
 use Rattle.dali_deeds.specs.Tells.{after}
 use Rattle.dali_clients.specs.Told.{act_of, reason_of}
 use Rattle.dali_clients.specs.declared.line.Why.{Why}
@@ -41,9 +41,9 @@ use Rattle.dali_turns.specs.Goes.{RowsTell, Went, StepGoes}
 use Rattle.dali_turns.proofs.Doing.{did_went_live, still_ran, behind, so_far, went_on}
 use Rattle.dali_turns.proofs.CleanUps.{CleansUp, CleansHalf}
 use Rattle.dali_turns.proofs.Undoing.{undone_on}
-use Rattle.dali_turns.proofs.Reasons.{unfinished_one}
+use Rattle.dali_turns.proofs.Cutting.{more_none, more_cut}
 use Rattle.dali_turns.proofs.Asked.{work_of}
-use Rattle.dali_turns.proofs.Turned.{asides_none, more_none}
+use Rattle.dali_turns.proofs.Turned.{asides_none}
 
 -- ---- what was cleaned up is part of whatever the call did
 aside_asking : (w : World) (c t : ℕ) (call : Call) (x : Receipt) → IsAside w c t x → IsAsking w c t call x
@@ -151,6 +151,7 @@ module _ {V : Type 0} (told : V → Option Disk) (may_leave : V → Disk → Typ
     back = f.back ++ done;
     pending = ap (λ l. l ++ done) f.pending ∙ append_assoc f.work ((f.met, Meets (reason_of why)) ∷ f.back) done;
     tried = all_tried w now cleans.did.goes.grows a.client x.txn f.call f.work f.tried;
+    stays = f.stays;
     cause = met w now cleans.did.goes.grows a.client f.met (Calls f.call) (Some x.txn) (reason_of why) f.cause;
     survives = survives w now cleans.did.goes.grows a.client f.met x.txn f.call f.deadly (operations x.txn f.work) (reason_of why) f.cause f.survives;
     no_stop = f.no_stop;
@@ -191,17 +192,18 @@ module _ {V : Type 0} (told : V → Option Disk) (may_leave : V → Disk → Typ
 module _ {V : Type 0} (told : V → Option Disk) (may_leave : V → Disk → Type 0) (faults : V → ℕ)
     (precheck : Bool) (s : Start) (B : List (List Record)) (p : Point) (w : World) (a : Standing) (gs : List RegionState) (y : SystemState) (v : Vaulted V) (k : Client)
     (x : Transaction) (state : State) (is : IsOf w a k) (to : Point) (hs : List RegionState) (z : SystemState) (half : CleansHalf told may_leave faults precheck s B p w gs y v a.client state x.txn to hs z)
-    (call : Call) (more : List Act) (tries : ℕ) (cs : List Act) (d : Option ℕ) (b : Bool) (spot : a.spot ≡ at (IsWithin x.txn tries cs d b) (Calls call ∷ more)) (tried : AreTried w a.client x.txn call a.pending) where
+    (call : Call) (more : List Act) (tries : ℕ) (cs : List Act) (d : Option ℕ) (b : Bool) (spot : a.spot ≡ at (IsWithin x.txn tries cs d b) (Calls call ∷ more)) (cut : IsUnanswered w a.client x.txn d call a.pending ⊎ IsTurnedBack w a.client x.txn d call a.pending) where
   abbrev then_now : World
   then_now = after w a.client half.deeds to.core
 
   pub half_goes : (j : Client) → j.transcript ≡ k.transcript → Went told may_leave faults precheck s B p w a state gs y v false j hs z v
   half_goes j same = went_on told may_leave faults precheck s B B p to w a state gs hs y z v v half.deeds k j is half.did false same (inl (refl, so_far_done)) (λ e. absurd (cc))
     where
+      cut_then : IsUnanswered w a.client x.txn d call a.pending ⊎ IsTurnedBack w a.client x.txn d call a.pending → IsUnanswered then_now a.client x.txn d call a.pending ⊎ IsTurnedBack then_now a.client x.txn d call a.pending
+      cut_then (inl h) = inl (unanswered w then_now half.did.goes.grows a.client x.txn d call a.pending h)
+      cut_then (inr h) = inr (turned_back w then_now half.did.goes.grows a.client x.txn d call a.pending h)
+
       so_far_done : AreUnfinished then_now a.client a.spot.place a.spot.rest (a.pending ++ receipts_from (length (log_of w)) half.deeds)
       so_far_done =
           subst (λ q. AreUnfinished then_now a.client q.place q.rest (a.pending ++ receipts_from (length (log_of w)) half.deeds)) (sym spot)
-          (all_append (IsUnfinished then_now a.client (IsWithin x.txn tries cs d b) (Calls call ∷ more)) a.pending (receipts_from (length (log_of w)) half.deeds)
-          (all_map (IsTried then_now a.client x.txn call) (IsUnfinished then_now a.client (IsWithin x.txn tries cs d b) (Calls call ∷ more)) (unfinished_one then_now a.client x.txn tries cs d b call more) a.pending
-          (all_tried w then_now half.did.goes.grows a.client x.txn call a.pending tried))
-          (half.unfinished tries cs d b call more))
+          (more_cut then_now a.client x.txn d call a.pending (receipts_from (length (log_of w)) half.deeds) half.cut half.still (cut_then cut))

@@ -28,15 +28,15 @@ use Rattle.dali_transcripts.specs.Causes.{AreAside}
 use Rattle.dali_transcripts.specs.Laws.{receipts_from}
 use Rattle.dali_transcripts.specs.Rounds.{by}
 use Rattle.dali_transcripts.proofs.Growing.{get_back, asides}
-use Rattle.dali_deeds.specs.Tells.{after, Goes}
+use Rattle.dali_deeds.specs.Tells.{after, AreRightThen, Goes}
 use Rattle.dali_deeds.specs.Laws.{AreOfCourse}
 use Rattle.dali_turns.specs.declared.client.State.{State}
 use Rattle.dali_turns.specs.Stood.{IsQuiet, Stood}
 use Rattle.dali_turns.specs.Fits.{Owns}
 use Rattle.dali_turns.proofs.Beside.{is_out_of}
-use Rattle.dali_turns.proofs.Doing.{Did}
+use Rattle.dali_turns.proofs.Doing.{Did, vault_stops}
 use Rattle.dali_turns.proofs.Refusals.{get_last, runs_on_log}
-use Rattle.dali_turns.proofs.Sides.{At, InHand, Sided, AreBacks, sided, one_goes, receipts_then, after_both, course_split, courses_told, logged_is, backs_sides, asides_of}
+use Rattle.dali_turns.proofs.Sides.{At, InHand, Sided, AreBacks, sided, one_goes, receipts_then, after_both, course_split, courses_told, logged_is, backs_sides, asides_of, ended_right}
 use Rattle.dali_turns.proofs.Along.{end_out, out_both, did_calm}
 
 -- ---- lists
@@ -204,15 +204,18 @@ module _ {V : Type 0} (told : V → Option Disk) (may_leave : V → Disk → Typ
       same_late : after between c (Logs (Ended t) ∷ []) g.to.core ≡ late
       same_late = after_both w c first.ds (Logs (Ended t) ∷ []) mid.core g.to.core
 
+      ended_there : AreRightThen between c (Logs (Ended t) ∷ []) g.to.core
+      ended_there = ended_right (bases_of s) s.log c t t w p mid front at_first (vault_stops told may_leave faults precheck s B p w gs y v stood) first t g.to end_step
+
       last_goes : Goes between c mid (Logs (Ended t) ∷ []) late g.to
-      last_goes = subst (λ (x : World). Goes between c mid (Logs (Ended t) ∷ []) x g.to) same_late (one_goes (bases_of s) s.log c between mid g.to (Ends t) (Logs (Ended t) ∷ []) first.at end_step refl (tt, tt))
+      last_goes = subst (λ (x : World). Goes between c mid (Logs (Ended t) ∷ []) x g.to) same_late (one_goes (bases_of s) s.log c between mid g.to (Ends t) (Logs (Ended t) ∷ []) first.at end_step refl ended_there)
 
       told_all : AreOfCourse w c p (map Does g.steps) g.to (first.ds ++ Logs (Ended t) ∷ [])
       told_all =
           subst (λ xs. AreOfCourse w c p (map Does xs) g.to (first.ds ++ Logs (Ended t) ∷ [])) (sym steps_are)
           (subst (λ xs. AreOfCourse w c p xs g.to (first.ds ++ Logs (Ended t) ∷ [])) (sym (map-append Does front (Ends t ∷ [])))
           (courses_told w c p mid g.to (map Does front) (Does (Ends t) ∷ []) first.ds (Logs (Ended t) ∷ []) stood.tells.core first.are
-          (g.to, Logs (Ended t) ∷ [], [], end_step, refl, (tt, tt), (refl, refl), refl)))
+          (g.to, Logs (Ended t) ∷ [], [], end_step, refl, ended_there, (refl, refl), refl)))
 
       all_out : (b : ℕ) → list_all (is_out_of b) (map Does g.steps) ≡ true
       all_out b =

@@ -1,7 +1,7 @@
 -- The commands of a client, and its lines.
-use Rattle.std.proofs.Common.{◌≡◌, ℕ, ◌<◌, Bool, false, List, [], ◌∷◌, ◌++◌, length, get_or, set, map, drop, Option, Some, None, Result, Ok, Err, IsErr, is_ok, refl, ap, sym, subst, ◌∙◌, inl}
+use Rattle.std.proofs.Common.{◌≡◌, ℕ, ◌<◌, Bool, true, false, List, [], ◌∷◌, ◌++◌, length, get_or, set, map, drop, Option, Some, None, Result, Ok, Err, IsErr, is_ok, refl, ap, sym, subst, ◌∙◌, inl}
 use Rattle.std.specs.Prelude.{slice_get}
-use Rattle.std.proofs.lemmas.List.{map-append, set-get_or}
+use Rattle.std.proofs.lemmas.List.{append-nil, map-append, set-get_or}
 use Rattle.std.proofs.lemmas.Option.{slice_get-get_or}
 use Rattle.dali_region.specs.State.{RegionState}
 use Rattle.dali_store.specs.Store.{Files as Disk}
@@ -11,10 +11,10 @@ use Rattle.dali_clients.specs.declared.command.Command.{Command}
 use Rattle.dali_clients.specs.declared.line.Line.{Line}
 use Rattle.dali_clients.specs.Said.{Transcribed}
 use Rattle.dali_clients.specs.Told.{act_of, said_of}
-use Rattle.dali_transcripts.specs.Words.{Act, Commits as CommitAct}
+use Rattle.dali_transcripts.specs.Words.{Act, Calls, Aborts as AbortAct, Audits as AuditAct, Checkpoints as CheckpointAct}
 use Rattle.dali_transcripts.specs.World.{World}
-use Rattle.dali_transcripts.specs.Moves.{Receipt, Place, Within, Spot}
-use Rattle.dali_transcripts.specs.Causes.{AreUnfinished}
+use Rattle.dali_transcripts.specs.Moves.{Receipt, Place, Outside, Within, Spot, at}
+use Rattle.dali_transcripts.specs.Causes.{spares, AreUnfinished}
 use Rattle.dali_transcripts.specs.Transcripts.{IsUnderWay}
 use Rattle.dali_turns.specs.declared.client.Client.{Client}
 use Rattle.dali_turns.specs.declared.client.State.{State}
@@ -72,9 +72,21 @@ pub finished_client : (k j : Client) (state : State) (line : Line) → Finishes 
 finished_client k j state line f = ap (λ (t : Transcribed). t.client) f.transcript
 
 -- ---- a step of which nothing was done
-none_unfinished : (w : World) (c : ℕ) (place : Place) (rest : List Act) → AreUnfinished w c place rest []
-none_unfinished w c (Within t tries cs d s) (CommitAct ∷ rest) = tt
-none_unfinished w c place rest = tt
+-- in a transaction its client doesn't die before the next operation
+abbrev pub IsDue : Place → Type 0
+IsDue (Within t tries cs d s) = spares d 0 ≡ true
+IsDue place = Unit {0}
 
-pub none_under_way : (w : World) (c : ℕ) (q : Spot) (pending : List Receipt) → pending ≡ [] → IsUnderWay w c q pending []
-none_under_way w c q pending e = inl (refl, subst (λ (xs : List Receipt). AreUnfinished w c q.place q.rest xs) (sym e) (none_unfinished w c q.place q.rest))
+pub due_at : (q : Spot) (place : Place) (rest : List Act) → q ≡ at place rest → IsDue place → IsDue q.place
+due_at q place rest e due = subst (λ (z : Spot). IsDue z.place) (sym e) due
+
+none_unfinished : (w : World) (c : ℕ) (place : Place) (rest : List Act) → IsDue place → AreUnfinished w c place rest []
+none_unfinished w c (Within t tries cs d s) (Calls call ∷ rest) due = inl (record { work = tt; spared = due; older = λ us. ([], sym (append-nil us)) })
+none_unfinished w c (Within t tries cs d s) (AbortAct ∷ rest) due = tt
+none_unfinished w c (Within t tries cs d s) [] due = tt
+none_unfinished w c (Outside s) (AuditAct ∷ rest) due = tt
+none_unfinished w c (Outside s) (CheckpointAct ∷ rest) due = tt
+none_unfinished w c place rest due = refl
+
+pub none_under_way : (w : World) (c : ℕ) (q : Spot) (pending : List Receipt) → IsDue q.place → pending ≡ [] → IsUnderWay w c q pending []
+none_under_way w c q pending due e = inl (refl, subst (λ (xs : List Receipt). AreUnfinished w c q.place q.rest xs) (sym e) (none_unfinished w c q.place q.rest due))

@@ -1,5 +1,5 @@
 -- A commit by its function.
-use Rattle.std.proofs.Common.{◌≡◌, ℕ, Bool, true, false, List, Option, Some, None, Result, Ok, IfSome, IfOk, refl, ap, sym, subst, ◌∙◌}
+use Rattle.std.proofs.Common.{◌≡◌, ℕ, Bool, true, false, List, map, Option, Some, None, Result, Ok, IfSome, IfOk, refl, ap, sym, subst, ◌∙◌}
 use Rattle.dali_record.specs.declared.records.Record.{Record}
 use Rattle.dali_region.specs.State.{RegionState}
 use Rattle.dali_store.specs.Store.{Files as Disk}
@@ -13,8 +13,10 @@ use Rattle.dali_ends.specs.Stands.{IsBetween}
 use Rattle.dali_clients.specs.declared.command.Command.TheVariants.{Commit}
 use Rattle.dali_clients.specs.declared.line.Line.TheVariants.{CommitOk, Refused}
 use Rattle.dali_clients.specs.declared.line.Why.{Why}
+use Rattle.dali_clients.specs.Told.{act_of}
 use Rattle.dali_clients.specs.declared.line.Why.TheVariants.{Stopped, StoreStopped}
 use Rattle.dali_transcripts.specs.World.{World}
+use Rattle.dali_transcripts.specs.Moves.{Within as IsWithin}
 use Rattle.dali_transcripts.specs.Rounds.{Standing}
 use Rattle.dali_turns.specs.declared.client.Client.{Client}
 use Rattle.dali_turns.specs.declared.client.State.TheVariants.{Outside, Within}
@@ -25,7 +27,7 @@ use Rattle.dali_turns.specs.Ends.{IsCommitted, IsUncommitted}
 use Rattle.dali_turns.specs.Within.{AreSoFar, FitsWithin}
 use Rattle.dali_turns.specs.Fits.{rest_of}
 use Rattle.dali_turns.specs.Goes.{Went, StepGoes}
-use Rattle.dali_turns.proofs.Commands.{next_act, behind_next, finished_rest, finished_lines, finished_client}
+use Rattle.dali_turns.proofs.Commands.{next_act, behind_next, finished_rest, finished_lines, finished_client, due_at}
 use Rattle.dali_turns.proofs.Poking.{went_nowhere}
 use Rattle.dali_turns.proofs.Committing.{commits_said, commits_unsaid, commit_fails, commit_fails_unsaid}
 use Rattle.dali_turns.proofs.Stopping.{commit_refused, commit_unsaid}
@@ -84,7 +86,7 @@ module _ {V : Type 0} (told : V → Option Disk) (may_leave : V → Disk → Typ
   -- ---- memory was refused
   pub no_commit_goes : j.transcript ≡ k.transcript → StepGoes told may_leave faults precheck (Within x) k gs y v false j gs y v
   no_commit_goes same s B p w a stood is fits =
-      went_nowhere told may_leave faults precheck (Within x) s B p w a gs y v k j stood is (subst (λ acts. AreSoFar w a.client x.txn acts a.pending) (next_act k Commit next) fits.so_far) same
+      went_nowhere told may_leave faults precheck (Within x) s B p w a gs y v k j stood is (due_at a.spot (IsWithin x.txn x.tries (map act_of x.commands.now) x.deadly fits.said) (rest_of k) fits.spot fits.due) (subst (λ acts. AreSoFar w a.client x.txn acts a.pending) (next_act k Commit next) fits.so_far) same
 
 -- ---- by the clauses of the call
 refused_before : {E : Type 0} (o : Option Cause) (result : Result (Option Why) E) (P : Type 0) → IfSome o (λ cause. (result ≡ Ok (Some (Stopped cause))) × P) → result ≡ Ok None → o ≡ None

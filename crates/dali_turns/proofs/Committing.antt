@@ -34,7 +34,7 @@ use Rattle.dali_transcripts.specs.Laws.{receipts_from}
 use Rattle.dali_transcripts.specs.Rounds.{Standing, IsPlaced, by}
 use Rattle.dali_transcripts.proofs.Growing.{behinds}
 use Rattle.dali_clients.specs.Told.{act_of}
-use Rattle.dali_deeds.specs.Tells.{after, Goes}
+use Rattle.dali_deeds.specs.Tells.{after, AreRightThen, Goes}
 use Rattle.dali_deeds.specs.Laws.{AreOfCourse}
 use Rattle.dali_deeds.proofs.Told.{log_is}
 use Rattle.dali_turns.specs.declared.client.Client.{Client}
@@ -50,9 +50,10 @@ use Rattle.dali_turns.specs.Goes.{Went}
 use Rattle.dali_turns.proofs.Deeds.{course_tells}
 use Rattle.dali_turns.proofs.Beside.{is_out_of, course_audit, step_image, image_then}
 use Rattle.dali_turns.proofs.Coursing.{course_flag}
-use Rattle.dali_turns.proofs.Doing.{Did, ended, went_by, went_silent}
+use Rattle.dali_turns.proofs.Refusals.{runs_there}
+use Rattle.dali_turns.proofs.Doing.{Did, vault_stops, ended, went_by, went_silent}
 use Rattle.dali_turns.proofs.Flushing.{flush_image, whole_now, has_stop}
-use Rattle.dali_turns.proofs.Sides.{At, InHand, Sided, AreSolos, sided, one_goes, at_next, state_then, receipts_then, after_both, course_split, courses_told, logged_is, solos_sides, behinds_of}
+use Rattle.dali_turns.proofs.Sides.{At, InHand, Sided, AreSolos, sided, one_goes, at_next, state_then, receipts_then, after_both, course_split, courses_told, logged_is, solos_sides, behinds_of, ended_right}
 use Rattle.dali_turns.proofs.Along.{end_out, end_calm, out_both, calm_image, both_yes}
 use Rattle.dali_turns.proofs.Closing.{unclaimed_then, settled_then, lived}
 
@@ -99,13 +100,17 @@ module _ {V : Type 0} (told : V → Option Disk) (may_leave : V → Disk → Typ
       by_stop false e = e
       by_stop true e = let some : is_some y.stop ≡ true = stood.stops e in let none : is_some y.stop ≡ false = ap is_some runs in let no : true ≡ false = sym some ∙ none in absurd (cc)
 
+  -- the engine runs there
+  commit_right : (d : CoreState) → AreRightThen w c (Logs (Commit t) ∷ []) d
+  commit_right d = (runs_there (bases_of s) s.log w c p stood.stands.at.vault.run stood.tells (vault_stops told may_leave faults precheck s B p w gs y v stood) (Logs (Commit t)) d (ap (λ (m : SystemState). m.stop) stood.stands.at.system ∙ runs), tt)
+
   -- ---- its record
   module _ (k : Point) (st : IsPointStep p (Does (Commits t)) k) where
     abbrev w1 : World
     w1 = after w c (Logs (Commit t) ∷ []) k.core
 
     at1 : At (bases_of s) s.log w1 k
-    at1 = at_next (bases_of s) s.log c w p k (Commits t) (Logs (Commit t) ∷ []) at0 st refl (tt, tt)
+    at1 = at_next (bases_of s) s.log c w p k (Commits t) (Logs (Commit t) ∷ []) at0 st refl (commit_right k.core)
 
     state1 : (u : ℕ) → state_of k.core.system u ≡ (if t == u then Some Committed else state_of p.core.system u)
     state1 u = state_then w c (Logs (Commit t) ∷ []) p k u stood.tells at1.tells
@@ -191,15 +196,25 @@ module _ {V : Type 0} (told : V → Option Disk) (may_leave : V → Disk → Typ
             after_both w3 c first.ds (Logs (Ended t) ∷ []) mid.core q.core
             ∙ (after_both w2 c [] settling q2.core q.core ∙ (after_both w1 c [] settling k2.core q.core ∙ after_both w c (Logs (Commit t) ∷ []) settling k.core q.core))
 
+        -- the store has not failed, or nothing was flushed
+        stops3 : q2.core.vault.stopped ≡ true → is_some q2.core.system.stop ≡ true
+        stops3 failed =
+            let runs2 : q2.core.vault.stopped ≡ false = ap (λ (d : CoreState). d.vault.stopped) st3.1.0.1.1 ∙ (longer_stopped k2.core.vault (frame_of k2.log k2.core) ∙ st3.1.0.0) in
+            let no : true ≡ false = sym failed ∙ runs2 in
+            absurd (cc)
+
+        ended_there : AreRightThen between c (Logs (Ended t) ∷ []) q.core
+        ended_there = ended_right (bases_of s) s.log c t t w3 q2 mid front at3 stops3 first t q last
+
         last_goes : Goes between c mid (Logs (Ended t) ∷ []) late q
-        last_goes = subst (λ (n : World). Goes between c mid (Logs (Ended t) ∷ []) n q) same_late (one_goes (bases_of s) s.log c between mid q (Ends t) (Logs (Ended t) ∷ []) first.at last refl (tt, tt))
+        last_goes = subst (λ (n : World). Goes between c mid (Logs (Ended t) ∷ []) n q) same_late (one_goes (bases_of s) s.log c between mid q (Ends t) (Logs (Ended t) ∷ []) first.at last refl ended_there)
 
         settling_told : AreOfCourse w3 c q2 (map Does (front ++ Ends t ∷ [])) q settling
         settling_told = subst (λ xs. AreOfCourse w3 c q2 xs q settling) (sym (map-append Does front (Ends t ∷ [])))
-            (courses_told w3 c q2 mid q (map Does front) (Does (Ends t) ∷ []) first.ds (Logs (Ended t) ∷ []) refl first.are (q, Logs (Ended t) ∷ [], [], last, refl, (tt, tt), (refl, refl), refl))
+            (courses_told w3 c q2 mid q (map Does front) (Does (Ends t) ∷ []) first.ds (Logs (Ended t) ∷ []) refl first.are (q, Logs (Ended t) ∷ [], [], last, refl, ended_there, (refl, refl), refl))
 
         all_told : AreOfCourse w c p (Does (Commits t) ∷ Does Takes ∷ Does Flushes ∷ map Does (front ++ Ends t ∷ [])) q deeds
-        all_told = (k, Logs (Commit t) ∷ [], settling, st, refl, (tt, tt), (k2, [], settling, st2, refl, tt, (q2, [], settling, st3, refl, tt, settling_told, refl), refl), refl)
+        all_told = (k, Logs (Commit t) ∷ [], settling, st, refl, commit_right k.core, (k2, [], settling, st2, refl, tt, (q2, [], settling, st3, refl, tt, settling_told, refl), refl), refl)
 
         behind_first : AreBehind between c t (receipts_from (length (log_of w3)) first.ds)
         behind_first = behinds_of between c t t (length (log_of w3)) first.ds first.sides (subst (λ xs. AreSolos t xs) (sym (logged_is w3 c first.ds q2 mid records at3.tells first.at.tells mid_log)) solos)
@@ -344,7 +359,7 @@ module _ {V : Type 0} (told : V → Option Disk) (may_leave : V → Disk → Typ
     fault_deeds = Logs (Commit t) ∷ Meets StoreFailed ∷ []
 
     fault_told : AreOfCourse w c p fault_steps end fault_deeds
-    fault_told = (f1, Logs (Commit t) ∷ [], Meets StoreFailed ∷ [], first_step, refl, (tt, tt), (f2, [], Meets StoreFailed ∷ [], f.stopped.course.1, refl, tt, (f3, Meets StoreFailed ∷ [], [], f.stopped.course.2.1, refl, (tt, tt), (end, [], [], last_step, refl, tt, (refl, refl), refl), refl), refl), refl)
+    fault_told = (f1, Logs (Commit t) ∷ [], Meets StoreFailed ∷ [], first_step, refl, commit_right f1.core, (f2, [], Meets StoreFailed ∷ [], f.stopped.course.1, refl, tt, (f3, Meets StoreFailed ∷ [], [], f.stopped.course.2.1, refl, (tt, tt), (end, [], [], last_step, refl, tt, (refl, refl), refl), refl), refl), refl)
 
     fault_goes : Goes w c p fault_deeds (after w c fault_deeds end.core) end
     fault_goes = course_tells (bases_of s) s.log w c p end fault_steps fault_deeds stood.stands.at.vault.run stood.tells fault_told

@@ -54,7 +54,7 @@ use Rattle.dali_turns.specs.Fits.{rest_of, IsOf, Owns, Fits}
 use Rattle.dali_turns.specs.Goes.{RowsTell, Went}
 use Rattle.dali_turns.proofs.Beside.{is_beside, is_out_of, step_image, image_then}
 use Rattle.dali_turns.proofs.Refusals.{runs_on_log, log_there, done_last}
-use Rattle.dali_turns.proofs.Doing.{Did, ended, went_by, went_silent}
+use Rattle.dali_turns.proofs.Doing.{Did, vault_stops, ended, went_by, went_silent}
 use Rattle.dali_turns.proofs.Coursing.{did_course}
 use Rattle.dali_turns.proofs.Walking.{point_behind, Led, led}
 use Rattle.dali_turns.proofs.Allowed.{words_are, may_go_on}
@@ -105,7 +105,7 @@ module _ {V : Type 0} (told : V → Option Disk) (may_leave : V → Disk → Typ
   now = subst (λ (c : CoreState). DiesNow precheck p.log c plan.txn r (core hs z u)) core_here (death.leads p.log u (subst (λ (c : CoreState). IsFree c plan.txn) (sym core_here) fits.plan_is.stands.free))
 
   walked : Led told may_leave faults plan.txn s B p w a.client gs y v p.log now.mid
-  walked = led told may_leave faults precheck plan.txn a.client s B v now.steps p w gs y p.log now.mid stood.stands.at stood.precheck_is now.leads
+  walked = led told may_leave faults precheck plan.txn a.client s B v now.steps p w gs y p.log now.mid stood.stands.at stood.precheck_is (record { run = stood.stands.at.vault.run; tells = stood.tells; whole = stood.stands.whole }) (vault_stops told may_leave faults precheck s B p w gs y v stood) now.leads
 
   none_logged : [] ≡ walked.own
   none_logged = append_cancel_left p.log [] walked.own (append-nil p.log ∙ walked.log)

@@ -20,9 +20,9 @@ use Rattle.dali_whole.specs.Flushed.{AllFlushed, FlushesAll, HasStopped, FlushFa
 use Rattle.dali_audit.specs.Findings.{Audited, damaged}
 use Rattle.dali_audit.proofs.Stepping.{end_is_step}
 use Rattle.dali_transcripts.specs.Words.{Audits as AuditAct, StoppedBy, StoreFailed, AuditSaid, Refused}
-use Rattle.dali_transcripts.specs.World.{Deed, Logs, Meets, World, log_of, IsLost}
+use Rattle.dali_transcripts.specs.World.{Deed, Logs, Meets, World, log_of, IsLost, stop_at}
 use Rattle.dali_transcripts.specs.Moves.{Receipt, Outside as IsOutside, Spot, at, Move, Audits as IsAudit, IsRefusedAudit, own}
-use Rattle.dali_transcripts.specs.Causes.{IsCutAudit, MetCause, AreUnfinished}
+use Rattle.dali_transcripts.specs.Causes.{IsCutAudit, MetCause, AreUnfinished, IsRight}
 use Rattle.dali_transcripts.specs.Laws.{receipts_from}
 use Rattle.dali_transcripts.specs.Rounds.{Standing, IsPlaced, by}
 use Rattle.dali_deeds.specs.Tells.{after}
@@ -33,7 +33,7 @@ use Rattle.dali_turns.specs.Stood.{Stood}
 use Rattle.dali_turns.specs.Audits.{IsPassing, FitsAuditing}
 use Rattle.dali_turns.specs.Fits.{rest_of, lines_of, IsOf, Audits as IsIn, Fits}
 use Rattle.dali_turns.specs.Goes.{Went}
-use Rattle.dali_turns.proofs.Refusals.{done_last, HasCauseNow, met_now, right_now, stop_now}
+use Rattle.dali_turns.proofs.Refusals.{done_last, HasCauseNow, met_now, right_now, stop_now, runs_there}
 use Rattle.dali_turns.proofs.Beside.{course_longer}
 use Rattle.dali_turns.proofs.Passing.{all_passed}
 use Rattle.dali_turns.proofs.Auditing.{rows_same}
@@ -48,6 +48,11 @@ one_then w c x es d e = ap (λ h. record w { happened = h; core = e }) (append_a
 pub vault_runs : (v y : Bool) → (v ≡ true → y ≡ true) → y ≡ false → v ≡ false
 vault_runs true y stops e = let no : true ≡ false = sym (stops refl) ∙ e in absurd (cc)
 vault_runs false y stops e = refl
+
+-- an audit ends while the engine runs
+audit_right : (w : World) (c i b : ℕ) (found : List ℕ) → stop_at w i ≡ None → IsRight w c i (Logs (audit_record b found))
+audit_right w c i b [] runs = runs
+audit_right w c i b (r ∷ rs) runs = runs
 
 -- an audit whose end the store never got
 pub lost_audit : (w : World) (b n : ℕ) (found : List ℕ) → IsLost w n → IsCutAudit w false ((b, Logs AuditBegin) ∷ (n, Logs (audit_record b found)) ∷ [])
@@ -90,7 +95,12 @@ module _ {V : Type 0} (told : V → Option Disk) (may_leave : V → Disk → Typ
 
   pub did_end : Did told may_leave faults precheck s B p w c state gs y v (Logs (audit_record audit.begin (damaged audit.findings)) ∷ []) B (ended_point p audit.begin (damaged audit.findings)) gs (audit_ended y audit.begin (damaged audit.findings)) v
   did_end = did_quietly told may_leave faults precheck s B p w gs y v stood c state (ended_point p audit.begin (damaged audit.findings)) (AuditEnds audit.begin (damaged audit.findings)) (Logs (audit_record audit.begin (damaged audit.findings)) ∷ [])
-      (audit_ended y audit.begin (damaged audit.findings)) gs refl end_step (refl, passing.began) (tt, tt)
+      (audit_ended y audit.begin (damaged audit.findings)) gs refl end_step (refl, passing.began) (
+        audit_right (after w c (Logs (audit_record audit.begin (damaged audit.findings)) ∷ []) (ended_point p audit.begin (damaged audit.findings)).core) c (length w.happened) audit.begin (damaged audit.findings)
+            (runs_there (bases_of s) s.log w c p stood.stands.at.vault.run stood.tells (vault_stops told may_leave faults precheck s B p w gs y v stood) (Logs (audit_record audit.begin (damaged audit.findings)))
+            (ended_point p audit.begin (damaged audit.findings)).core (ap (λ (m : SystemState). m.stop) stood.stands.at.system ∙ runs)),
+        tt,
+      )
       (ap (λ (m : SystemState). audit_ended m audit.begin (damaged audit.findings)) stood.stands.at.system) stood.stands.at.regions refl stood.stands.dead (λ fs held. held)
       (record { unclaimed = stood.quiet.unclaimed; settled = λ stop. stood.quiet.settled runs })
       (λ some. let none : is_some y.stop ≡ false = ap is_some runs in absurd (cc))
@@ -258,4 +268,4 @@ module _ {V : Type 0} (told : V → Option Disk) (may_leave : V → Disk → Typ
       unfinished : (pending : List Receipt) → pending ≡ (audit.begin, Logs AuditBegin) ∷ [] → (spot : Spot) → spot ≡ at (IsOutside false) (AuditAct ∷ fits.more) → AreUnfinished (after w a.client [] p.core) a.client spot.place spot.rest pending
       unfinished pending own spot there =
           subst (λ (x : Spot). AreUnfinished (after w a.client [] p.core) a.client x.place x.rest pending) (sym there)
-          (subst (λ xs. AreUnfinished (after w a.client [] p.core) a.client (IsOutside false) (AuditAct ∷ fits.more) xs) (sym own) (refl, tt))
+          (subst (λ xs. AreUnfinished (after w a.client [] p.core) a.client (IsOutside false) (AuditAct ∷ fits.more) xs) (sym own) tt)

@@ -1,7 +1,6 @@
 -- A checkpoint of a client ends without an image.
 use Rattle.std.proofs.Common.{◌≡◌, ℕ, zero, suc, ◌+◌, ◌<◌, Bool, true, false, List, [], ◌∷◌, ◌++◌, length, take, Option, Some, None, is_some, refl, ap, sym, subst, ◌∙◌, inl, arith}
 use Rattle.std.specs.Prelude.{slice_get}
-use Rattle.std.specs.List.{AllByRecursion}
 use Rattle.std.proofs.lemmas.List.{append_assoc}
 use Rattle.std.proofs.lemmas.Option.{slice_get_within}
 use Rattle.dali_record.specs.declared.records.Record.{Record}
@@ -21,7 +20,7 @@ use Rattle.dali_whole.specs.Cores.{IsCoreAt}
 use Rattle.dali_transcripts.specs.Words.{Checkpoints as CheckpointAct, Why as Reason, StoppedBy, Full, Refused, is_stop}
 use Rattle.dali_transcripts.specs.World.{Deed, Meets, StartsCheckpoint, EndsCheckpoint, Happening, World, logged_by, log_of, HasDone, under_way}
 use Rattle.dali_transcripts.specs.Moves.{Receipt, Outside as IsOutside, Spot, at, Move, IsRefusedCheckpoint, own}
-use Rattle.dali_transcripts.specs.Causes.{IsCutAudit, IsCutBy, MaySpan, MetCause, IsPiece, AreUnfinished}
+use Rattle.dali_transcripts.specs.Causes.{IsCutAudit, IsCutBy, MaySpan, MetCause, IsStarted, AreUnfinished}
 use Rattle.dali_transcripts.specs.Laws.{receipts_from}
 use Rattle.dali_transcripts.specs.Rounds.{Standing, IsPlaced, by}
 use Rattle.dali_deeds.specs.Tells.{after}
@@ -202,17 +201,13 @@ module _ {V : Type 0} (told : V → Option Disk) (may_leave : V → Disk → Typ
           went_silent told may_leave faults precheck s B B p (finish_point p) w a state gs gs y (in_checkpoint y false) v v deeds k j is did move starts own_is (h.cut (after w a.client deeds (finish_point p).core), h.spans, (met, alone_behind (after w a.client deeds (finish_point p).core) r (making.since, number) met.met.place)) same
 
     -- memory was refused
-    pub given_up_none : ((l : World) → AllByRecursion (IsPiece l a.client CheckpointAct) work) → j.transcript ≡ k.transcript → Went told may_leave faults precheck s B p w a state gs y v false j gs (in_checkpoint y false) v
-    given_up_none pieces same =
+    pub given_up_none : ((m n : ℕ) → IsStarted ((m, StartsCheckpoint) ∷ (work ++ (n, EndsCheckpoint) ∷ []))) → j.transcript ≡ k.transcript → Went told may_leave faults precheck s B p w a state gs y v false j gs (in_checkpoint y false) v
+    given_up_none started same =
         went_on told may_leave faults precheck s B B p (finish_point p) w a state gs gs y (in_checkpoint y false) v v (EndsCheckpoint ∷ []) k j is ends false same
         (inl (refl, unfinished (a.pending ++ (number, EndsCheckpoint) ∷ []) (ap (λ xs. xs ++ (number, EndsCheckpoint) ∷ []) making.pending) a.spot starts))
         (λ e. absurd (cc))
       where
-        all_more : (l : World) (xs : List Receipt) → AllByRecursion (IsPiece l a.client CheckpointAct) xs → AllByRecursion (IsPiece l a.client CheckpointAct) (xs ++ (number, EndsCheckpoint) ∷ [])
-        all_more l [] h = (tt, tt)
-        all_more l (x ∷ xs) h = (h.0, all_more l xs h.1)
-
         unfinished : (pending : List Receipt) → pending ≡ (making.since, StartsCheckpoint) ∷ (work ++ (number, EndsCheckpoint) ∷ []) → (spot : Spot) → spot ≡ at (IsOutside false) (CheckpointAct ∷ making.more) → AreUnfinished mid a.client spot.place spot.rest pending
         unfinished pending own_is spot there =
             subst (λ (x : Spot). AreUnfinished mid a.client x.place x.rest pending) (sym there)
-            (subst (λ xs. AreUnfinished mid a.client (IsOutside false) (CheckpointAct ∷ making.more) xs) (sym own_is) (tt, all_more mid work (pieces mid)))
+            (subst (λ xs. AreUnfinished mid a.client (IsOutside false) (CheckpointAct ∷ making.more) xs) (sym own_is) (started making.since number))

@@ -41,7 +41,7 @@ use Rattle.dali_transcripts.specs.World.{Meets, World, stray_after}
 use Rattle.dali_transcripts.specs.Moves.{Within as IsWithin, at, operations}
 use Rattle.dali_transcripts.specs.Causes.{GoesOn as MayGoOn, IsRoomFor, AreUnfinished, spares_without}
 use Rattle.dali_transcripts.specs.Rounds.{Standing}
-use Rattle.dali_transcripts.proofs.Growing.{works}
+use Rattle.dali_transcripts.proofs.Growing.{unanswered}
 use Rattle.dali_deeds.specs.Tells.{after}
 use Rattle.dali_turns.specs.declared.client.Client.{Client}
 use Rattle.dali_turns.specs.declared.client.State.TheVariants.{Within, Calling}
@@ -52,12 +52,13 @@ use Rattle.dali_turns.specs.Stood.{Stood}
 use Rattle.dali_turns.specs.Within.{FitsCalling}
 use Rattle.dali_turns.specs.Fits.{rest_of, IsOf}
 use Rattle.dali_turns.specs.Goes.{Went}
-use Rattle.dali_turns.proofs.Refusals.{runs_on_log, front, log_there, HasCauseNow, stop_now, none_failed_there, end_there}
+use Rattle.dali_turns.proofs.Refusals.{runs_on_log, front, log_there, HasCauseNow, stop_now, runs_there, end_there}
 use Rattle.dali_turns.proofs.Doing.{Did, did_nothing, went_on, vault_stops}
 use Rattle.dali_turns.proofs.Operating.{spared_one}
-use Rattle.dali_turns.proofs.Refusing.{all_tried_of, turned_back, refused_said, refused_unsaid}
+use Rattle.dali_turns.proofs.Refusing.{turned_back, refused_said, refused_unsaid}
 use Rattle.dali_turns.proofs.Allowed.{words_are, may_go_on, made_there, small_region, block_fits, answer_fits}
-use Rattle.dali_turns.proofs.Reasons.{RoomSays, room_cases, StopSays, stop_cases, refused_on, some_and, IsDamagedLatch, damaged_latch, command_is, unfinished}
+use Rattle.dali_turns.proofs.Reasons.{RoomSays, room_cases, StopSays, stop_cases, refused_on, some_and, IsDamagedLatch, damaged_latch, command_is}
+use Rattle.dali_turns.proofs.Cutting.{called_cut}
 
 there_too : {X Y : Type 0} (xs : List X) (ys : List Y) (i : ℕ) (y : Y) → length xs ≡ length ys → slice_get ys i ≡ Some y → (x : X) × (slice_get xs i ≡ Some x)
 there_too [] [] i y e at = absurd (cc)
@@ -93,8 +94,7 @@ module _ {V : Type 0} (told : V → Option Disk) (may_leave : V → Disk → Typ
       so_far =
           subst (λ xs. AreUnfinished (after w a.client [] p.core) a.client a.spot.place a.spot.rest xs) (sym (append-nil a.pending))
           (subst (λ q. AreUnfinished (after w a.client [] p.core) a.client q.place q.rest a.pending) (sym (fits.spot ∙ ap (at (IsWithin x.txn x.tries (map act_of x.commands.now) fits.deadly false)) fits.calls))
-          (unfinished (after w a.client [] p.core) a.client x.txn x.tries (map act_of x.commands.now) fits.deadly false fits.call fits.more a.pending
-          (all_tried_of (after w a.client [] p.core) a.client x.txn fits.call a.pending (works w (after w a.client [] p.core) did.goes.grows a.client x.txn fits.call a.pending fits.work))))
+          (inl (unanswered w (after w a.client [] p.core) did.goes.grows a.client x.txn fits.deadly fits.call a.pending (called_cut p w a (rest_of k) x plan fits))))
 
   -- ---- the engine is stopped
   stop_cause : (cause : Cause) → y.stop ≡ Some cause → HasCauseNow w a.client p.core (Calls fits.call) (Some x.txn) (StoppedBy cause)
@@ -121,7 +121,7 @@ module _ {V : Type 0} (told : V → Option Disk) (may_leave : V → Disk → Typ
     next = subst (λ l. IsRoomFor p.core.system.sizes l (Calls fits.call) (Some x.txn) R) (stood.tells.log ∙ sym (log_there w a.client (Meets (Full y.end y.limit)) p.core)) room;
     spelled = spelled;
     passes = above;
-    runs = none_failed_there (bases_of s) s.log w a.client p run stood.tells (vault_stops told may_leave faults precheck s B p w gs y v stood) (Meets (Full y.end y.limit)) p.core (ap (λ (m : SystemState). m.stop) stood.stands.at.system ∙ up);
+    runs = runs_there (bases_of s) s.log w a.client p run stood.tells (vault_stops told may_leave faults precheck s B p w gs y v stood) (Meets (Full y.end y.limit)) p.core (ap (λ (m : SystemState). m.stop) stood.stands.at.system ∙ up);
   }
 
   full_goes : (r : Result Bool NoMemory) (R : Record) → IsRoomFor p.core.system.sizes p.log (Calls fits.call) (Some x.txn) R → CanBeSpelled R → spares_without fits.deadly (operations x.txn a.pending) R ≡ true → y.stop ≡ None → y.limit < y.end + record_length R

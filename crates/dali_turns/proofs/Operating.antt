@@ -56,7 +56,7 @@ use Rattle.dali_turns.specs.Within.{IsAtCall, FitsCalling, FitsTakingBack}
 use Rattle.dali_turns.specs.Fits.{rest_of, IsOf, Owns, Fits}
 use Rattle.dali_turns.specs.Goes.{RowsTell, Went}
 use Rattle.dali_turns.proofs.Undoing.{undone_then, undone_once}
-use Rattle.dali_turns.proofs.Doing.{Did, behind, went_on}
+use Rattle.dali_turns.proofs.Doing.{Did, vault_stops, behind, went_on}
 use Rattle.dali_turns.proofs.Walking.{Led, led, did_led}
 
 -- ---- the operations of a call
@@ -183,7 +183,7 @@ module _ {V : Type 0} (told : V → Option Disk) (may_leave : V → Disk → Typ
   once = subst (λ (k : CoreState). LeadsOnce precheck p.log k plan further.block (core hs z u) q) core_here (further.leads p.log u (subst (λ (k : CoreState). AtPlan p.log k plan) (sym core_here) plan_is.stands))
 
   pub walked : Led told may_leave faults plan.txn s B p w a.client gs y v (p.log ++ R ∷ []) (core hs z u)
-  walked = led told may_leave faults precheck plan.txn a.client s B v once.steps p w gs y (p.log ++ R ∷ []) (core hs z u) stood.stands.at stood.precheck_is once.leads
+  walked = led told may_leave faults precheck plan.txn a.client s B v once.steps p w gs y (p.log ++ R ∷ []) (core hs z u) stood.stands.at stood.precheck_is (record { run = stood.stands.at.vault.run; tells = stood.tells; whole = stood.stands.whole }) (vault_stops told may_leave faults precheck s B p w gs y v stood) once.leads
 
   own_is : map Logs walked.own ≡ Logs R ∷ []
   own_is = ap (map Logs) (sym (append_cancel_left p.log (R ∷ []) walked.own walked.log))
@@ -351,6 +351,7 @@ module _ {V : Type 0} (told : V → Option Disk) (may_leave : V → Disk → Typ
         back = fits.back ++ (length (log_of w), Logs back_rec) ∷ [];
         pending = ap (λ l. l ++ (length (log_of w), Logs back_rec) ∷ []) fits.pending ∙ append_assoc fits.work ((fits.met, Meets (reason_of why)) ∷ fits.back) ((length (log_of w), Logs back_rec) ∷ []);
         tried = all_tried w there did_back.goes.grows a.client x.txn fits.call fits.work fits.tried;
+        stays = fits.stays;
         cause = met w there did_back.goes.grows a.client fits.met (Calls fits.call) (Some x.txn) (reason_of why) fits.cause;
         survives = survives w there did_back.goes.grows a.client fits.met x.txn fits.call fits.deadly (operations x.txn fits.work) (reason_of why) fits.cause fits.survives;
         no_stop = fits.no_stop;

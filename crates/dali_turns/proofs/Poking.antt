@@ -38,7 +38,7 @@ use Rattle.dali_turns.specs.Outside.{FitsOutside}
 use Rattle.dali_turns.specs.Fits.{rest_of, IsOf, Fits}
 use Rattle.dali_turns.specs.Goes.{RowsTell, Went, StepGoes}
 use Rattle.dali_turns.proofs.Here.{MayStep}
-use Rattle.dali_turns.proofs.Commands.{next_act, behind_next, finished_rest, finished_lines, finished_client, none_under_way}
+use Rattle.dali_turns.proofs.Commands.{next_act, behind_next, finished_rest, finished_lines, finished_client, IsDue, due_at, none_under_way}
 use Rattle.dali_turns.proofs.Doing.{ended, Did, did_nothing, did_quietly, went_on, went_by}
 
 -- ---- what the write leaves of the regions
@@ -66,10 +66,10 @@ module _ (gs : List RegionState) (r word mask : ℕ) (g : RegionState) (there : 
 module _ {V : Type 0} (told : V → Option Disk) (may_leave : V → Disk → Type 0) (faults : V → ℕ) where
   -- nothing was done, since memory for a line was refused
   pub went_nowhere : (precheck : Bool) (state : State) (s : Start) (B : List (List Record)) (p : Point) (w : World) (a : Standing) (gs : List RegionState) (y : SystemState) (v : Vaulted V) (k j : Client)
-      → Stood told may_leave faults s B p w precheck gs y v → IsOf w a k → a.pending ≡ [] → j.transcript ≡ k.transcript → Went told may_leave faults precheck s B p w a state gs y v false j gs y v
-  went_nowhere precheck state s B p w a gs y v k j stood is none same =
+      → Stood told may_leave faults s B p w precheck gs y v → IsOf w a k → IsDue a.spot.place → a.pending ≡ [] → j.transcript ≡ k.transcript → Went told may_leave faults precheck s B p w a state gs y v false j gs y v
+  went_nowhere precheck state s B p w a gs y v k j stood is due none same =
       let did : Did told may_leave faults precheck s B p w a.client state gs y v [] B p gs y v = did_nothing told may_leave faults precheck s B p w gs y v stood a.client state in
-      went_on told may_leave faults precheck s B B p p w a state gs gs y y v v [] k j is did false same (none_under_way (after w a.client [] p.core) a.client a.spot (a.pending ++ []) (ap (λ (xs : List Receipt). xs ++ []) none)) (λ e. absurd (cc))
+      went_on told may_leave faults precheck s B B p p w a state gs gs y y v v [] k j is did false same (none_under_way (after w a.client [] p.core) a.client a.spot (a.pending ++ []) due (ap (λ (xs : List Receipt). xs ++ []) none)) (λ e. absurd (cc))
 
   module _ (precheck : Bool) (s : Start) (B : List (List Record)) (p : Point) (w : World) (a : Standing) (gs : List RegionState) (y : SystemState) (v : Vaulted V) (k j : Client) (r word mask : ℕ)
       (stood : Stood told may_leave faults s B p w precheck gs y v) (is : IsOf w a k) (fits : FitsOutside y a (rest_of k)) (next : next_of k ≡ Some (Poke r word mask)) where
@@ -155,7 +155,7 @@ module _ {V : Type 0} (told : V → Option Disk) (may_leave : V → Disk → Typ
   pokes_none_goes precheck gs y v k j r word mask next past f s B p w a stood is fits = poke_none_went precheck s B p w a gs y v k j r word mask stood is fits next past f
 
   pub nowhere_goes : (precheck : Bool) (gs : List RegionState) (y : SystemState) (v : Vaulted V) (k j : Client) → j.transcript ≡ k.transcript → StepGoes told may_leave faults precheck Outside k gs y v false j gs y v
-  nowhere_goes precheck gs y v k j same s B p w a stood is fits = went_nowhere precheck Outside s B p w a gs y v k j stood is fits.none same
+  nowhere_goes precheck gs y v k j same s B p w a stood is fits = went_nowhere precheck Outside s B p w a gs y v k j stood is (due_at a.spot (IsOutside fits.said) (rest_of k) fits.spot tt) fits.none same
 
   pub silent_goes : (precheck : Bool) (gs hs : List RegionState) (y : SystemState) (v : Vaulted V) (k j : Client) (ok : Bool) → ok ≡ false → hs ≡ gs → Passes k Outside j → StepGoes told may_leave faults precheck Outside k gs y v ok j hs y v
   silent_goes precheck gs hs y v k j ok no_line same f =

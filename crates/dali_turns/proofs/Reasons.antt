@@ -4,7 +4,6 @@ use Rattle.std.specs.Prelude.{◌==◌, ◌&&◌, nat_lt, slice_get}
 use Rattle.std.proofs.lemmas.Bool.{ltb-true}
 use Rattle.dali_words.specs.Words.{parity_of}
 use Rattle.dali_record.specs.declared.records.Call.{Call}
-use Rattle.dali_record.specs.declared.records.Record.TheVariants.{Forward}
 use Rattle.dali_region.specs.declared.Hold.{Hold}
 use Rattle.dali_region.specs.declared.LatchError.{LatchError}
 use Rattle.dali_region.specs.declared.LatchError.TheVariants.{Latched, DeadHolder, Damaged}
@@ -26,10 +25,6 @@ use Rattle.dali_clients.specs.declared.command.Command.{Command}
 use Rattle.dali_clients.specs.declared.command.Command.TheVariants.{Begin, Call as IsCall, Die, Commit, Abort, Poke, Audit, Checkpoint}
 use Rattle.dali_clients.specs.Told.{act_of}
 use Rattle.dali_transcripts.specs.Words.{Act, Calls}
-use Rattle.dali_transcripts.specs.World.{Logs, FindsDead, Yields, GivesBack, Meets, World}
-use Rattle.dali_transcripts.specs.Moves.{Receipt, Within as IsWithin}
-use Rattle.dali_transcripts.specs.Causes.{IsTried, AreTried, IsUnfinished, AreUnfinished}
-use Rattle.dali_transcripts.proofs.Lists.{all_map}
 
 -- ---- the system
 -- why it takes no record of so many bytes that uses room
@@ -137,18 +132,6 @@ command_is (Abort ∷ xs) call more e = absurd (cc)
 command_is (Poke r i m ∷ xs) call more e = absurd (cc)
 command_is (Audit ∷ xs) call more e = absurd (cc)
 command_is (Checkpoint ∷ xs) call more e = absurd (cc)
-
--- ---- what was done of a call that is cut short
-pub unfinished_one : (w : World) (c t tries : ℕ) (cs : List Act) (d : Option ℕ) (s : Bool) (call : Call) (more : List Act) (x : Receipt) → IsTried w c t call x → IsUnfinished w c (IsWithin t tries cs d s) (Calls call ∷ more) x
-unfinished_one w c t tries cs d s call more (n, Meets why) h = h
-unfinished_one w c t tries cs d s call more (n, Logs (Forward u b)) h = h
-unfinished_one w c t tries cs d s call more (n, FindsDead f) h = h
-unfinished_one w c t tries cs d s call more (n, Yields f) h = absurd h
-unfinished_one w c t tries cs d s call more (n, GivesBack u latched) h = (h.0, h.1.given)
-unfinished_one w c t tries cs d s call more x h = h
-
-pub unfinished : (w : World) (c t tries : ℕ) (cs : List Act) (d : Option ℕ) (s : Bool) (call : Call) (more : List Act) (xs : List Receipt) → AreTried w c t call xs → AreUnfinished w c (IsWithin t tries cs d s) (Calls call ∷ more) xs
-unfinished w c t tries cs d s call more xs h = all_map (IsTried w c t call) (IsUnfinished w c (IsWithin t tries cs d s) (Calls call ∷ more)) (unfinished_one w c t tries cs d s call more) xs h
 
 -- why a clean-up is refused
 pub clean_stop : {T : Type 0} (o : Option Cause) (r : Result T CleanError) (e : CleanError) (cause : Cause) → r ≡ Err e → e ≡ CleanStopped cause → IfSome o (λ c. r ≡ Err (CleanStopped c)) → (o ≡ None → e ≡ CleanMemory) → o ≡ Some cause

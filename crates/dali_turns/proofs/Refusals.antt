@@ -13,7 +13,7 @@ use Rattle.dali_facts.proofs.KeysAndUndos.{has_counts}
 use Rattle.dali_crash.specs.Checkpoints.{Point}
 use Rattle.dali_crash.specs.StoreRuns.{StoreRun}
 use Rattle.dali_transcripts.specs.Words.{Act, Audits as AuditAct, Checkpoints as CheckpointAct, Why, StoppedBy, Full, Damaged, StoreFailed, UnderWay, is_stop}
-use Rattle.dali_transcripts.specs.World.{Deed, Meets, Happening, World, logged_by, log_of, log_at, HasDone, has_failed, cause_of, failed_at, stop_at}
+use Rattle.dali_transcripts.specs.World.{Deed, Meets, Happening, World, logged_by, log_of, log_at, HasDone, has_failed, cause_of, stop_at}
 use Rattle.dali_transcripts.specs.Causes.{CanStop, IsCause, MetCause, IsAlone}
 use Rattle.dali_deeds.specs.Tells.{after, AreRightThen, Tells}
 use Rattle.dali_turns.proofs.Deeds.{stop_is_told}
@@ -50,9 +50,6 @@ module _ (w : World) (c : ℕ) (x : Deed) (d : CoreState) where
   pub stop_there : stop_at (after w c (x ∷ []) d) (length w.happened) ≡ stop_at w (length w.happened)
   stop_there = ap (λ (xs : List Happening). cause_of (failed_first (last_epoch (w.before ++ logged_by xs)).records) (has_failed w.old.vault.stopped xs)) whole_front
 
-  pub failed_there : failed_at (after w c (x ∷ []) d) (length w.happened) ≡ failed_at w (length w.happened)
-  failed_there = ap (λ (xs : List Happening). failed_first (last_epoch (w.before ++ logged_by xs)).records) whole_front
-
 -- ---- a refusal that has cause there
 abbrev pub HasCauseNow : World → (client : ℕ) → CoreState → Act → Option ℕ → Why → Type 0
 HasCauseNow w c d act o why = IsCause (after w c (Meets why ∷ []) d) c (length w.happened) act o why
@@ -79,22 +76,15 @@ alone_behind w UnderWay span i = tt
 abbrev pub full_audit : SystemState → Why
 full_audit y = Full y.end (y.limit + 1048576)
 
-no_cause : (o : Option ℕ) (b : Bool) → cause_of o b ≡ None → o ≡ None
-no_cause None b e = refl
-no_cause (Some r) b e = absurd (cc)
-
 -- ---- why
 module _ (bases : Bases) (before : List Record) (w : World) (c : ℕ) (p : Point) (run : StoreRun bases before no_image p) (told : Tells w p) (stops : p.core.vault.stopped ≡ true → is_some p.core.system.stop ≡ true) where
   -- the engine is stopped
   pub stop_now : (act : Act) (o : Option ℕ) (cause : Cause) → CanStop act → p.core.system.stop ≡ Some cause → HasCauseNow w c p.core act o (StoppedBy cause)
   stop_now act o cause can is = (can, stop_there w c (Meets (StoppedBy cause)) p.core ∙ (stop_is_told bases before w p run told stops ∙ is))
 
-  -- where it runs no audit has failed
-  pub none_failed : p.core.system.stop ≡ None → failed_at w (length w.happened) ≡ None
-  none_failed runs = no_cause (failed_at w (length w.happened)) (has_failed w.old.vault.stopped (take (length w.happened) w.happened)) (stop_is_told bases before w p run told stops ∙ runs)
-
-  pub none_failed_there : (x : Deed) (d : CoreState) → p.core.system.stop ≡ None → failed_at (after w c (x ∷ []) d) (length w.happened) ≡ None
-  none_failed_there x d runs = failed_there w c x d ∙ none_failed runs
+  -- where it runs nothing that was done has stopped it
+  pub runs_there : (x : Deed) (d : CoreState) → p.core.system.stop ≡ None → stop_at (after w c (x ∷ []) d) (length w.happened) ≡ None
+  runs_there x d runs = stop_there w c x d ∙ (stop_is_told bases before w p run told stops ∙ runs)
 
   pub end_there : (why : Why) → p.core.system.end ≡ sum_by record_length (log_at (after w c (Meets why ∷ []) p.core) (length w.happened))
   end_there why = end_is bases before w p run told ∙ sym (ap (sum_by record_length) (log_there w c (Meets why) p.core))
@@ -108,7 +98,7 @@ module _ (bases : Bases) (before : List Record) (w : World) (c : ℕ) (p : Point
     next = refl;
     spelled = tt;
     passes = above;
-    runs = none_failed_there (Meets (full_audit p.core.system)) p.core runs;
+    runs = runs_there (Meets (full_audit p.core.system)) p.core runs;
   }
 
   pub full_checkpoint_now : p.core.system.stop ≡ None → p.core.system.limit + 1048576 < p.core.system.end + 1 → HasCauseNow w c p.core CheckpointAct None (full_audit p.core.system)
@@ -119,7 +109,7 @@ module _ (bases : Bases) (before : List Record) (w : World) (c : ℕ) (p : Point
     next = refl;
     spelled = tt;
     passes = above;
-    runs = none_failed_there (Meets (full_audit p.core.system)) p.core runs;
+    runs = runs_there (Meets (full_audit p.core.system)) p.core runs;
   }
 
 -- ---- what may be said

@@ -4,6 +4,7 @@ use Rattle.std.specs.Prelude.{◌==◌, ◌⊎◌}
 use Rattle.std.proofs.lemmas.List.{map-append}
 use Rattle.dali_counts.proofs.Lists.{equal, same_number}
 use Rattle.dali_record.specs.declared.records.Call.{Call}
+use Rattle.dali_record.specs.declared.records.Record.TheVariants.{Forward}
 use Rattle.dali_record.specs.declared.records.Record.{Record}
 use Rattle.dali_region.specs.State.{RegionState}
 use Rattle.dali_att.specs.declared.state.State.TheVariants.{Live}
@@ -15,12 +16,12 @@ use Rattle.dali_crash.specs.Traces.{Start}
 use Rattle.dali_vault.specs.Vaulted.{Vaulted}
 use Rattle.dali_calls.specs.Plans.{Planned, refused, is_answered}
 use Rattle.dali_stepwise.proofs.Turning.{plan_turns}
-use Rattle.dali_transcripts.specs.Words.{Act, Calls, is_stop}
+use Rattle.dali_transcripts.specs.Words.{Act, Calls, Why as Reason, is_stop}
 use Rattle.dali_transcripts.specs.World.{Logs, FindsDead, Meets, World, log_of}
 use Rattle.dali_transcripts.specs.Moves.{Receipt, Within as IsWithin, at, Move, IsRefusedCall, operations}
-use Rattle.dali_transcripts.specs.Causes.{IsWork, IsTried, AreWork, AreTried, Survives, HasCause, spares}
+use Rattle.dali_transcripts.specs.Causes.{IsAside, IsWork, IsTried, AreAside, AreWork, AreTried, IsNoOperation, StaysRefused, Survives, HasCause, spares}
 use Rattle.dali_transcripts.specs.Rounds.{Standing, IsPlaced}
-use Rattle.dali_transcripts.proofs.Lists.{all_map}
+use Rattle.dali_transcripts.proofs.Lists.{all_append, all_map}
 use Rattle.dali_transcripts.proofs.Growing.{works}
 use Rattle.dali_deeds.specs.Tells.{after}
 use Rattle.dali_deeds.specs.Laws.{IsNoFault}
@@ -51,6 +52,22 @@ tried_of w c t call x h = h
 
 pub all_tried_of : (w : World) (c t : ℕ) (call : Call) (xs : List Receipt) → AreWork w c t call xs → AreTried w c t call xs
 all_tried_of w c t call xs h = all_map (IsWork w c t call) (IsTried w c t call) (tried_of w c t call) xs h
+
+-- no refusal is among it
+pub unrefused : (w : World) (c t : ℕ) (call : Call) (xs : List Receipt) → AreWork w c t call xs → StaysRefused xs
+unrefused w c t call [] h = tt
+unrefused w c t call ((n, Meets why) ∷ xs) h = absurd h.0
+unrefused w c t call (x ∷ xs) h = unrefused w c t call xs h.1
+
+no_operations : (w : World) (c t : ℕ) (x : Receipt) → IsAside w c t x → IsNoOperation x
+no_operations w c t (n, Logs (Forward u b)) h = absurd h
+no_operations w c t x h = tt
+
+-- and none is made behind one
+pub stays_back : (w : World) (c t n : ℕ) (why : Reason) (xs back : List Receipt) → StaysRefused xs → AreAside w c t back → StaysRefused (xs ++ (n, Meets why) ∷ back)
+stays_back w c t n why [] back h aside = all_map (IsAside w c t) IsNoOperation (no_operations w c t) back aside
+stays_back w c t n why ((m, Meets other) ∷ xs) back h aside = all_append IsNoOperation xs ((n, Meets why) ∷ back) h (tt, all_map (IsAside w c t) IsNoOperation (no_operations w c t) back aside)
+stays_back w c t n why (x ∷ xs) back h aside = stays_back w c t n why xs back h aside
 
 module _ {V : Type 0} (told : V → Option Disk) (may_leave : V → Disk → Type 0) (faults : V → ℕ)
     (precheck : Bool) (s : Start) (B : List (List Record)) (p : Point) (w : World) (a : Standing) (gs : List RegionState) (y : SystemState) (v : Vaulted V) (k j : Client)
@@ -89,6 +106,7 @@ module _ {V : Type 0} (told : V → Option Disk) (may_leave : V → Disk → Typ
           back = [];
           pending = refl;
           tried = tried;
+          stays = unrefused w a.client x.txn fits.call a.pending fits.work;
           cause = met_now w a.client p.core (Calls fits.call) (Some x.txn) (reason_of why) cause;
           survives = lives;
           no_stop = no_stop;
@@ -123,7 +141,7 @@ module _ {V : Type 0} (told : V → Option Disk) (may_leave : V → Disk → Typ
       spot = fits.spot ∙ ap (at (IsWithin x.txn x.tries (map act_of x.commands.now) fits.deadly false)) fits.calls
 
       has_cause : HasCause now a.client move
-      has_cause = (tried, (met_now w a.client p.core (Calls fits.call) (Some x.txn) (reason_of why) cause, lives), tt, λ e. let both : true ≡ false = sym stops ∙ e in absurd (cc))
+      has_cause = (tried, (met_now w a.client p.core (Calls fits.call) (Some x.txn) (reason_of why) cause, lives), tt, λ e. let both : true ≡ false = sym stops ∙ e in absurd (cc), unrefused w a.client x.txn fits.call a.pending fits.work)
 
       fits_behind : (rest : List Act) → rest ≡ fits.more → FitsWithin p now (ended a move) rest x
       fits_behind rest same = record {

@@ -149,6 +149,7 @@ module _ {V : Type 0} (told : V → Option Disk) (may_leave : V → Disk → Typ
     back = k.back;
     pending = k.pending;
     tried = all_tried w x goes.grows a.client t.txn k.call k.work k.tried;
+    stays = k.stays;
     cause = met w x goes.grows a.client k.met (Calls k.call) (Some t.txn) (reason_of why) k.cause;
     survives = survives w x goes.grows a.client k.met t.txn k.call k.deadly (operations t.txn k.work) (reason_of why) k.cause k.survives;
     no_stop = k.no_stop;

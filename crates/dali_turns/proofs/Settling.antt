@@ -187,7 +187,7 @@ module _ {V : Type 0} (told : V → Option Disk) (may_leave : V → Disk → Typ
     full_silent stop above same = goes_on_with false (given_up_silent told may_leave faults precheck s st.batches st.to mid (behind a w []) state gs (taken y) u k j did_settle.stood is_mid tt (λ t none. none) [] making_mid (Full y.end (y.limit + 1048576)) (full_there stop above) same)
 
     pub no_audit : j.transcript ≡ k.transcript → Went told may_leave faults precheck s B p w a state gs y v false j gs (in_checkpoint (taken y) false) u
-    no_audit same = goes_on_with false (given_up_none told may_leave faults precheck s st.batches st.to mid (behind a w []) state gs (taken y) u k j did_settle.stood is_mid tt (λ t none. none) [] making_mid (λ l. tt) same)
+    no_audit same = goes_on_with false (given_up_none told may_leave faults precheck s st.batches st.to mid (behind a w []) state gs (taken y) u k j did_settle.stood is_mid tt (λ t none. none) [] making_mid (λ m n. tt) same)
 
   -- ---- the store fails
   module _ (u : Vaulted V) (longer : IsNoShorter told v u) where

@@ -1,5 +1,5 @@
 -- Steps by which a client ends a transaction, or takes back what dead clients left: the deeds that tell them, each right at its place.
-use Rattle.std.proofs.Common.{◌≡◌, ℕ, ◌+◌, Bool, true, false, not, ◌&&◌, List, [], ◌∷◌, ◌++◌, length, map, fold, Option, Some, None, refl, ap, sym, subst, ◌∙◌, ◌⊎◌, inl, inr, ⊎_elim, arith}
+use Rattle.std.proofs.Common.{◌≡◌, ℕ, ◌+◌, Bool, true, false, not, ◌&&◌, List, [], ◌∷◌, ◌++◌, length, map, fold, Option, Some, None, is_some, refl, ap, sym, subst, ◌∙◌, ◌⊎◌, inl, inr, ⊎_elim, arith}
 use Rattle.std.specs.Prelude.{◌==◌, slice_get, slice_set, if◌then◌else◌}
 use Rattle.std.specs.List.{AllByRecursion}
 use Rattle.std.proofs.lemmas.List.{append-nil, append_assoc, append_cancel_left, length-append}
@@ -7,7 +7,7 @@ use Rattle.std.proofs.lemmas.List.Sums.{fold-append}
 use Rattle.dali_counts.proofs.Lists.{equal, self}
 use Rattle.dali_record.specs.declared.operations.Block.{Block}
 use Rattle.dali_record.specs.declared.records.Record.{Record}
-use Rattle.dali_record.specs.declared.records.Record.TheVariants.{Forward, Back, Solo}
+use Rattle.dali_record.specs.declared.records.Record.TheVariants.{Forward, Back, Ended, Solo}
 use Rattle.dali_region.specs.declared.Hold.{Hold}
 use Rattle.dali_region.specs.State.{RegionState, map_hold, reading, writing, touched, taken_back}
 use Rattle.dali_att.specs.declared.state.State.{State as RowState}
@@ -17,7 +17,8 @@ use Rattle.dali_system.specs.Run.{Bases, no_image}
 use Rattle.dali_system.specs.Keeps.{may_log_in, MayRecover}
 use Rattle.dali_system.specs.Regions.{RegionStep, Latch, NoteReads, Update, TakeBack, region_after}
 use Rattle.dali_system.specs.Wholes.{IsWhole, latched_in}
-use Rattle.dali_system.specs.Courses.{Step, Operates, TakesBack, Frees, Locks, OnRegion, Claims, GivesBack, Recovers}
+use Rattle.dali_system.specs.declared.causes.Cause.{Cause}
+use Rattle.dali_system.specs.Courses.{Step, Operates, TakesBack, Frees, Ends, Locks, OnRegion, Claims, GivesBack, Recovers}
 use Rattle.dali_system.proofs.Courses.{step_goes}
 use Rattle.dali_system.proofs.WholeSteps.{whole_keeps}
 use Rattle.dali_crash.specs.Checkpoints.{StoreStep, Does, Point, IsPointStep, IsPointCourse, moment_of}
@@ -29,9 +30,9 @@ use Rattle.dali_single.specs.Ending.{IsBackOf}
 use Rattle.dali_single.specs.Settling.{IsSoloOf}
 use Rattle.dali_single.proofs.Lists.{all_both}
 use Rattle.dali_ends.specs.Ended.{AreOfEnd}
-use Rattle.dali_transcripts.specs.World.{Deed, Logs, Claims as ClaimsTxn, GivesBack as GivesTxnBack, World, logged_by, log_of, claimed, given_back, state_step, state_after, state_at, is_dead_in, is_claimed_in, claimer_step, claimer_at, Grows}
+use Rattle.dali_transcripts.specs.World.{Deed, Logs, Claims as ClaimsTxn, GivesBack as GivesTxnBack, World, logged_by, log_of, claimed, given_back, state_step, state_after, state_at, is_dead_in, is_claimed_in, failing, has_failed, claimer_step, claimer_at, Grows}
 use Rattle.dali_transcripts.specs.Moves.{Receipt}
-use Rattle.dali_transcripts.specs.Causes.{IsCleaning, HasClaimed, HasGivenBack, IsUntouched, AreAside, AreBehind}
+use Rattle.dali_transcripts.specs.Causes.{IsCleaning, HasClaimed, HasGivenBack, IsUntouched, AreAside, AreBehind, IsRight}
 use Rattle.dali_transcripts.specs.Transcripts.{count_with}
 use Rattle.dali_transcripts.specs.Laws.{receipts_from}
 use Rattle.dali_transcripts.specs.Rounds.{by}
@@ -43,7 +44,7 @@ use Rattle.dali_deeds.specs.Tells.{after, AreRightThen, Tells, Goes}
 use Rattle.dali_deeds.specs.Laws.{AreOfCourse}
 use Rattle.dali_deeds.proofs.Told.{log_is}
 use Rattle.dali_turns.proofs.Deeds.{step_tells, course_tells, goes_on}
-use Rattle.dali_turns.proofs.Refusals.{front, done_last, runs_on_log}
+use Rattle.dali_turns.proofs.Refusals.{front, done_last, runs_on_log, runs_there}
 
 -- ---- the records
 -- what they log
@@ -71,6 +72,19 @@ side_grows v w g c m (n, Logs (Solo u p b)) h = h
 side_grows v w g c m (n, ClaimsTxn u) h = (h.0, has_claimed v w g c n u h.1)
 side_grows v w g c m (n, GivesTxnBack u latched) h = (h.0, given_back_on v w g c n u latched h.1)
 side_grows v w g c m x h = absurd h
+
+side_right : (v w : World) (c m n i : ℕ) (r : Record) → IsSide v c m (n, Logs r) → IsRight w c i (Logs r)
+side_right v w c m n i (Back u b) h = tt
+side_right v w c m n i (Solo u p b) h = tt
+side_right v w c m n i r h = absurd h
+
+-- none is a failure of the store
+none_fails : (v : World) (c m n : ℕ) (ds : List Deed) (b : Bool) → AreSideDeeds v c m (receipts_from n ds) → has_failed b (by c ds) ≡ b
+none_fails v c m n [] b h = refl
+none_fails v c m n (Logs x ∷ ds) b h = none_fails v c m (n + 1) ds b h.1
+none_fails v c m n (ClaimsTxn u ∷ ds) b h = none_fails v c m n ds b h.1
+none_fails v c m n (GivesTxnBack u o ∷ ds) b h = none_fails v c m n ds b h.1
+none_fails v c m n (x ∷ ds) b h = absurd h.0
 
 pub sides_grow : (v w : World) (g : Grows v w) (c m : ℕ) (xs : List Receipt) → AreSideDeeds v c m xs → AreSideDeeds w c m xs
 sides_grow v w g c m xs h = all_map (IsSide v c m) (IsSide w c m) (side_grows v w g c m) xs h
@@ -227,6 +241,32 @@ module _ (bases : Bases) (before : List Record) (c : ℕ) where
       pub at : At bases before (after w c ds q.core) q
       pub hand : InHand (after w c ds q.core) q c m t
 
+    -- the store doesn't fail in it, and an engine that is stopped stays so
+    module _ (w : World) (p q : Point) (xs : List Step) (at : At bases before w p) (stops : p.core.vault.stopped ≡ true → is_some p.core.system.stop ≡ true) (sided : Sided w p xs q) where
+      abbrev reached : World
+      reached = after w c sided.ds q.core
+
+      reaches : Goes w c p sided.ds reached q
+      reaches = course_tells bases before w c p q (map Does xs) sided.ds at.run at.tells sided.are
+
+      stops_still : q.core.vault.stopped ≡ true → is_some q.core.system.stop ≡ true
+      stops_still failed = by_stop p.core.system.stop refl (stops before_it)
+        where
+          before_it : p.core.vault.stopped ≡ true
+          before_it =
+              ap (λ (k : CoreState). k.vault.stopped) (sym at.tells.core)
+              ∙ (at.tells.together.faults.stopped
+              ∙ (sym (fold-append failing w.old.vault.stopped w.happened (by c sided.ds) ∙ none_fails reached c m (length (log_of w)) sided.ds (has_failed w.old.vault.stopped w.happened) sided.sides)
+              ∙ (sym sided.at.tells.together.faults.stopped ∙ failed)))
+
+          by_stop : (o : Option Cause) → p.core.system.stop ≡ o → is_some p.core.system.stop ≡ true → is_some q.core.system.stop ≡ true
+          by_stop None e h = let both : true ≡ false = sym h ∙ ap is_some e in absurd (cc)
+          by_stop (Some cause) e h = ap is_some (reaches.grows.stopped cause (ap (λ (k : CoreState). k.system.stop) at.tells.core ∙ e))
+
+      -- so a transaction ends behind it where the engine runs
+      pub ended_right : (u : ℕ) (r : Point) → IsPointStep q (Does (Ends u)) r → AreRightThen reached c (Logs (Ended u) ∷ []) r.core
+      ended_right u r step = (runs_there bases before reached c q sided.at.run sided.at.tells stops_still (Logs (Ended u)) r.core step.1.0.0, tt)
+
     module _ (w : World) (p k q : Point) (x : Step) (xs : List Step) (one : List Deed) (at : At bases before w p) (step : IsPointStep p (Does x) k) (are : AreOf w c p (Does x) one) (right : AreRightThen w c one k.core) where
       abbrev there : World
       there = after w c one k.core
@@ -295,11 +335,11 @@ module _ (bases : Bases) (before : List Record) (c : ℕ) where
       logging : IsSide (after w c (Logs r ∷ []) k.core) c m (length (log_of w), Logs r)
           → (At bases before (after w c (Logs r ∷ []) k.core) k → InHand (after w c (Logs r ∷ []) k.core) k c m t → Sided (after w c (Logs r ∷ []) k.core) k xs q) → Sided w p (x ∷ xs) q
       logging side rest =
-          joined w p k q x xs (Logs r ∷ []) at step are (tt, tt) (side, tt)
+          joined w p k q x xs (Logs r ∷ []) at step are (side_right (after w c (Logs r ∷ []) k.core) (after w c (Logs r ∷ []) k.core) c m (length (log_of w)) (length w.happened) r side, tt) (side, tt)
           (rest next (hand_kept w (after w c (Logs r ∷ []) k.core) p k (λ u. state_then w c (Logs r ∷ []) p k u at.tells next.tells ∙ plain u (state_of p.core.system u)) (claimer_then w c (Logs r ∷ []) k.core t) free hand))
         where
           next : At bases before (after w c (Logs r ∷ []) k.core) k
-          next = at_next w p k x (Logs r ∷ []) at step are (tt, tt)
+          next = at_next w p k x (Logs r ∷ []) at step are (side_right (after w c (Logs r ∷ []) k.core) (after w c (Logs r ∷ []) k.core) c m (length (log_of w)) (length w.happened) r side, tt)
 
     back_side : (w : World) (p : Point) (d : CoreState) (u : ℕ) (b : Block) → At bases before w p → InHand w p c m t → u ≡ t → IsSide (after w c (Logs (Back u b) ∷ []) d) c m (length (log_of w), Logs (Back u b))
     back_side w p d u b at hand own = ⊎_elim (λ mine. inl (own ∙ mine)) (λ h. inr (record {

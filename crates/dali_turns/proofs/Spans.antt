@@ -95,7 +95,7 @@ module _ (w : World) (c : ℕ) where
   asides_plain t [] h = plain_none
   asides_plain t (x ∷ xs) h = plain_one x xs (aside_plain t x h.0) (asides_plain t xs h.1)
 
-  asking_plain : (t : ℕ) (call : Call) (x : Receipt) → IsAsking w c t call x → (b : Bool) → marked b x ≡ b
+  pub asking_plain : (t : ℕ) (call : Call) (x : Receipt) → IsAsking w c t call x → (b : Bool) → marked b x ≡ b
   asking_plain t call (n, FindsDead f) h b = refl
   asking_plain t call x h b = aside_plain t x h b
 
@@ -103,7 +103,7 @@ module _ (w : World) (c : ℕ) where
   askings_plain t call [] h = plain_none
   askings_plain t call (x ∷ xs) h = plain_one x xs (asking_plain t call x h.0) (askings_plain t call xs h.1)
 
-  work_plain : (t : ℕ) (call : Call) (x : Receipt) → IsWork w c t call x → (b : Bool) → marked b x ≡ b
+  pub work_plain : (t : ℕ) (call : Call) (x : Receipt) → IsWork w c t call x → (b : Bool) → marked b x ≡ b
   work_plain t call (n, Logs y) h b = refl
   work_plain t call x h b = asking_plain t call x h b
 
@@ -111,7 +111,7 @@ module _ (w : World) (c : ℕ) where
   works_plain t call [] h = plain_none
   works_plain t call (x ∷ xs) h = plain_one x xs (work_plain t call x h.0) (works_plain t call xs h.1)
 
-  tried_plain : (t : ℕ) (call : Call) (x : Receipt) → IsTried w c t call x → (b : Bool) → marked b x ≡ b
+  pub tried_plain : (t : ℕ) (call : Call) (x : Receipt) → IsTried w c t call x → (b : Bool) → marked b x ≡ b
   tried_plain t call (n, Meets why) h b = refl
   tried_plain t call x h b = work_plain t call x h b
 

@@ -1,8 +1,7 @@
 -- A refused call of a client has gone all its way back, or is stopped on it.
-use Rattle.std.proofs.Common.{◌≡◌, ℕ, ◌+◌, Bool, true, false, List, [], ◌∷◌, ◌++◌, length, map, Option, Some, None, is_some, if◌then◌else◌, refl, ap, sym, subst, ◌∙◌, ◌⊎◌, inl, inr, arith}
+use Rattle.std.proofs.Common.{◌≡◌, ℕ, ◌+◌, Bool, true, false, List, [], ◌∷◌, ◌++◌, length, map, Option, Some, None, is_some, if◌then◌else◌, refl, ap, sym, subst, ◌∙◌, ◌⊎◌, inl, inr}
 use Rattle.std.specs.Prelude.{◌==◌, filter}
-use Rattle.std.proofs.lemmas.List.{append-nil, map-append, length-append}
-use Rattle.std.proofs.lemmas.List.Elements.{filter-append}
+use Rattle.std.proofs.lemmas.List.{append-nil, map-append}
 use Rattle.dali_counts.proofs.Lists.{equal, same_number}
 use Rattle.dali_record.specs.declared.operations.Pending.{Pending}
 use Rattle.dali_record.specs.declared.records.Call.{Call}
@@ -24,10 +23,10 @@ use Rattle.dali_stepwise.proofs.Turning.{turned_ends}
 use Rattle.dali_transcripts.specs.Words.{Act, Calls, StoppedBy, is_stop}
 use Rattle.dali_transcripts.specs.World.{Logs, FindsDead, Meets, World, log_of}
 use Rattle.dali_transcripts.specs.Moves.{Receipt, Within as IsWithin, at, Move, IsRefusedCall, is_operation, operations, left}
-use Rattle.dali_transcripts.specs.Causes.{IsAside, AreAside, IsTried, AreTried, HasCause, AreUnfinished, spares, undos_behind}
+use Rattle.dali_transcripts.specs.Causes.{IsAside, AreAside, IsTried, AreTried, StaysRefused, HasCause, AreUnfinished, spares, undos_behind}
 use Rattle.dali_transcripts.specs.Rounds.{Standing, IsPlaced}
 use Rattle.dali_transcripts.proofs.Lists.{all_append, all_map}
-use Rattle.dali_transcripts.proofs.Growing.{all_tried, asides, met, survives}
+use Rattle.dali_transcripts.proofs.Growing.{all_tried, asides, met, survives, turned_back}
 use Rattle.dali_deeds.specs.Tells.{after}
 use Rattle.dali_clients.specs.declared.command.Command.TheVariants.{Call as IsCall}
 use Rattle.dali_clients.specs.declared.line.Line.TheVariants.{Refused as RefusedLine}
@@ -46,7 +45,9 @@ use Rattle.dali_turns.specs.Goes.{RowsTell, Went}
 use Rattle.dali_turns.proofs.Refusals.{HasCauseNow, met_now, right_now, stop_now}
 use Rattle.dali_turns.proofs.Doing.{Did, did_nothing, did_meet, ended, went_on, went_by, went_silent, vault_stops}
 use Rattle.dali_turns.proofs.Calling.{behind_one, none_so_far, due_left}
-use Rattle.dali_turns.proofs.Reasons.{command_is, unfinished}
+use Rattle.dali_turns.proofs.Reasons.{command_is}
+use Rattle.dali_turns.proofs.Refusing.{stays_back}
+use Rattle.dali_turns.proofs.Cutting.{more_none, turned_cut}
 
 -- ---- what was taken back, or cleaned up
 pub aside_tried : (w : World) (c t : ℕ) (call : Call) (x : Receipt) → IsAside w c t x → IsTried w c t call x
@@ -62,10 +63,6 @@ aside_none w c t x h = refl
 pub asides_none : (w : World) (c t : ℕ) (xs : List Receipt) → AreAside w c t xs → operations t xs ≡ 0
 asides_none w c t [] h = refl
 asides_none w c t (x ∷ xs) h = ap (λ (k : Bool). length (if k then x ∷ filter (is_operation t) xs else filter (is_operation t) xs)) (aside_none w c t x h.0) ∙ asides_none w c t xs h.1
-
-pub more_none : (t : ℕ) (work rest : List Receipt) → operations t rest ≡ 0 → operations t (work ++ rest) ≡ operations t work
-more_none t work rest e =
-    ap length (filter-append (is_operation t) work rest) ∙ (length-append (filter (is_operation t) work) (filter (is_operation t) rest) ∙ (ap (λ n. operations t work + n) e ∙ omega arith))
 
 module _ {V : Type 0} (told : V → Option Disk) (may_leave : V → Disk → Type 0) (faults : V → ℕ)
     (precheck : Bool) (s : Start) (B : List (List Record)) (p : Point) (w : World) (a : Standing) (gs : List RegionState) (y : SystemState) (v : Vaulted V) (k j : Client)
@@ -109,7 +106,7 @@ module _ {V : Type 0} (told : V → Option Disk) (may_leave : V → Disk → Typ
       so_far =
           subst (λ xs. AreUnfinished still a.client a.spot.place a.spot.rest xs) (sym (append-nil a.pending))
           (subst (λ q. AreUnfinished still a.client q.place q.rest a.pending) (sym spot)
-          (unfinished still a.client x.txn x.tries (map act_of x.commands.now) fits.deadly false fits.call fits.more a.pending (all_tried w still did_none.goes.grows a.client x.txn fits.call a.pending tried)))
+          (inr (inl (turned_back w still did_none.goes.grows a.client x.txn fits.deadly fits.call a.pending (turned_cut p w a (rest_of k) x plan why fits)))))
 
   -- ---- nothing is left of it
   abbrev move : Move
@@ -131,6 +128,7 @@ module _ {V : Type 0} (told : V → Option Disk) (may_leave : V → Disk → Typ
       (met w still did_none.goes.grows a.client fits.met (Calls fits.call) (Some x.txn) (reason_of why) fits.cause, survives w still did_none.goes.grows a.client fits.met x.txn fits.call fits.deadly (operations x.txn fits.work) (reason_of why) fits.cause fits.survives),
       asides w still did_none.goes.grows a.client x.txn fits.back fits.aside,
       λ e. undone,
+      fits.stays,
     )
 
     fits_behind : (rest : List Act) → rest ≡ fits.more → FitsWithin p still (ended a move) rest x
@@ -181,6 +179,7 @@ module _ {V : Type 0} (told : V → Option Disk) (may_leave : V → Disk → Typ
       (met_now w a.client p.core (Calls fits.call) (Some x.txn) (StoppedBy stop) here, ap (spares fits.deadly) count ∙ fits.spared),
       tt,
       λ e. absurd (cc),
+      subst StaysRefused (sym fits.pending) (stays_back w a.client x.txn fits.met (reason_of why) fits.work fits.back fits.stays fits.aside),
     )
 
     stopped_behind : (rest : List Act) → rest ≡ fits.more → FitsWithin p now (ended a stop_move) rest x

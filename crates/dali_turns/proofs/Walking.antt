@@ -1,5 +1,5 @@
 -- Steps of a transaction's own that call no store, in the midst of a step of its client, and the deeds that tell them: those of the records that they log.
-use Rattle.std.proofs.Common.{◌≡◌, ℕ, ◌+◌, Bool, true, false, not, List, [], ◌∷◌, ◌++◌, length, map, Option, Some, None, IfSome, is_some, refl, ap, sym, subst, ◌∙◌}
+use Rattle.std.proofs.Common.{◌≡◌, ℕ, ◌+◌, Bool, true, false, not, List, [], ◌∷◌, ◌++◌, map, Option, Some, None, IfSome, is_some, refl, ap, sym, subst, ◌∙◌}
 use Rattle.std.specs.Prelude.{◌==◌, ◌&&◌, IsSomeAnd, slice_get}
 use Rattle.std.specs.List.{list_all}
 use Rattle.std.proofs.lemmas.List.{append-nil, append_assoc, map-append}
@@ -8,14 +8,15 @@ use Rattle.dali_record.specs.declared.records.Record.{Record}
 use Rattle.dali_record.specs.declared.records.Record.TheVariants.{Forward, Back, Solo}
 use Rattle.dali_region.specs.State.{RegionState}
 use Rattle.dali_store.specs.Store.{Files as Disk}
-use Rattle.dali_system.specs.State.{SystemState, CoreState}
+use Rattle.dali_system.specs.Run.{Bases}
+use Rattle.dali_system.specs.State.{SystemState, VaultState, CoreState}
 use Rattle.dali_system.specs.Regions.{RegionStep, Latch, NoteReads, Update, TakeBack, Poke, Check, Die, Clean}
 use Rattle.dali_system.specs.Passes.{Audits as PassAudits}
 use Rattle.dali_system.specs.Flushes.{frame_of}
 use Rattle.dali_system.specs.Courses.{Step, Operates, TakesBack, Frees, Answers, Commits, Ends, Locks, OnRegion, IsStep, AuditsBy}
 use Rattle.dali_parts.proofs.Vaults.{step_has_vault}
 use Rattle.dali_crash.specs.Checkpoints.{StoreStep, Does, Point, IsPointStep, IsPointCourse, is_of_checkpoint, copies_after}
-use Rattle.dali_crash.specs.Traces.{Start}
+use Rattle.dali_crash.specs.Traces.{Start, bases_of}
 use Rattle.dali_vault.specs.Vaulted.{Vaulted}
 use Rattle.dali_single.specs.Operated.{IsOwn}
 use Rattle.dali_single.specs.Single.{IsOwnStep, Leads, is_end}
@@ -27,16 +28,16 @@ use Rattle.dali_steps.proofs.Steps.{quiet_goes}
 use Rattle.dali_clean.specs.Cleaned.{AreDead}
 use Rattle.dali_whole.specs.Cores.{IsCoreAt, HoldsPlaces}
 use Rattle.dali_transcripts.specs.World.{Deed, Logs, World}
-use Rattle.dali_transcripts.specs.Causes.{AreRightFrom}
-use Rattle.dali_transcripts.specs.Rounds.{by}
 use Rattle.dali_deeds.specs.Deeds.{AreOf}
-use Rattle.dali_deeds.specs.Tells.{after}
+use Rattle.dali_deeds.specs.Tells.{after, AreRightThen}
 use Rattle.dali_deeds.specs.Laws.{AreOfCourse}
 use Rattle.dali_turns.specs.declared.client.State.{State}
 use Rattle.dali_turns.specs.Stood.{IsQuiet, Stood}
 use Rattle.dali_turns.specs.Fits.{Owns}
 use Rattle.dali_turns.specs.Others.{ImageStays}
 use Rattle.dali_turns.proofs.Beside.{is_in_audit, is_beside, is_out_of, step_image, image_still, image_then}
+use Rattle.dali_turns.proofs.Refusals.{runs_there}
+use Rattle.dali_turns.proofs.Sides.{At, at_next}
 use Rattle.dali_turns.proofs.Doing.{Did}
 use Rattle.dali_turns.proofs.Coursing.{did_course}
 
@@ -63,6 +64,8 @@ pub record OwnStep (L : List Record) (c : CoreState) (x : Step) (M : List Record
   pub log : M ≡ L ++ logged_of c.system x
   pub taken : d.system.taken ≡ c.system.taken
   pub out : (b : ℕ) → is_in_audit b x ≡ false
+  pub vault : d.vault ≡ c.vault
+  pub stop : d.system.stop ≡ c.system.stop
 
 no_region : (o : Option RegionState) → IsSomeAnd o (λ g. ⊥) → ⊥
 no_region None h = absurd h
@@ -70,20 +73,20 @@ no_region (Some g) h = h
 
 -- none is a stray write, an audit's or a checkpoint's
 on_own : (t r : ℕ) (x : RegionStep) (L : List Record) (c : CoreState) (M : List Record) (d : CoreState) → IsStep L c (OnRegion r x) M d → IsSomeAnd (slice_get c.regions r) (IsOwn t x) → OwnStep L c (OnRegion r x) M d
-on_own t r (Latch u) L c M d st own = record { quiet = refl; log = st.3.0 ∙ sym (append-nil L); taken = ap (λ (k : CoreState). k.system.taken) st.3.1; out = λ b. refl }
-on_own t r (NoteReads mask) L c M d st own = record { quiet = refl; log = st.3.0 ∙ sym (append-nil L); taken = ap (λ (k : CoreState). k.system.taken) st.3.1; out = λ b. refl }
-on_own t r (Update word value) L c M d st own = record { quiet = refl; log = st.3.0 ∙ sym (append-nil L); taken = ap (λ (k : CoreState). k.system.taken) st.3.1; out = λ b. refl }
-on_own t r TakeBack L c M d st own = record { quiet = refl; log = st.3.0 ∙ sym (append-nil L); taken = ap (λ (k : CoreState). k.system.taken) st.3.1; out = λ b. refl }
+on_own t r (Latch u) L c M d st own = record { quiet = refl; log = st.3.0 ∙ sym (append-nil L); taken = ap (λ (k : CoreState). k.system.taken) st.3.1; out = λ b. refl; vault = ap (λ (z : CoreState). z.vault) st.3.1; stop = ap (λ (z : CoreState). z.system.stop) st.3.1 }
+on_own t r (NoteReads mask) L c M d st own = record { quiet = refl; log = st.3.0 ∙ sym (append-nil L); taken = ap (λ (k : CoreState). k.system.taken) st.3.1; out = λ b. refl; vault = ap (λ (z : CoreState). z.vault) st.3.1; stop = ap (λ (z : CoreState). z.system.stop) st.3.1 }
+on_own t r (Update word value) L c M d st own = record { quiet = refl; log = st.3.0 ∙ sym (append-nil L); taken = ap (λ (k : CoreState). k.system.taken) st.3.1; out = λ b. refl; vault = ap (λ (z : CoreState). z.vault) st.3.1; stop = ap (λ (z : CoreState). z.system.stop) st.3.1 }
+on_own t r TakeBack L c M d st own = record { quiet = refl; log = st.3.0 ∙ sym (append-nil L); taken = ap (λ (k : CoreState). k.system.taken) st.3.1; out = λ b. refl; vault = ap (λ (z : CoreState). z.vault) st.3.1; stop = ap (λ (z : CoreState). z.system.stop) st.3.1 }
 on_own t r (Poke word mask) L c M d st own = absurd (no_region (slice_get c.regions r) own)
 on_own t r Check L c M d st own = absurd (no_region (slice_get c.regions r) own)
 on_own t r Die L c M d st own = absurd (no_region (slice_get c.regions r) own)
 on_own t r (Clean side) L c M d st own = absurd (no_region (slice_get c.regions r) own)
 
 own_step : (precheck : Bool) (t : ℕ) (L : List Record) (c : CoreState) (x : Step) (M : List Record) (d : CoreState) → IsStep L c x M d → IsOwnStep precheck t c x → is_end x ≡ false → OwnStep L c x M d
-own_step precheck t L c (Operates u b) M d st own e = record { quiet = refl; log = st.3.0; taken = ap (λ (k : CoreState). k.system.taken) st.3.1; out = λ b. refl }
-own_step precheck t L c (TakesBack u b) M d st own e = record { quiet = refl; log = st.2.0; taken = ap (λ (k : CoreState). k.system.taken) st.2.1; out = λ b. refl }
-own_step precheck t L c (Frees u b) M d st own e = record { quiet = refl; log = st.2.0; taken = ap (λ (k : CoreState). k.system.taken) st.2.1; out = λ b. refl }
-own_step precheck t L c (Locks u k m) M d st own e = record { quiet = refl; log = st.2.0 ∙ sym (append-nil L); taken = ap (λ (z : CoreState). z.system.taken) st.2.1; out = λ b. refl }
+own_step precheck t L c (Operates u b) M d st own e = record { quiet = refl; log = st.3.0; taken = ap (λ (k : CoreState). k.system.taken) st.3.1; out = λ b. refl; vault = ap (λ (z : CoreState). z.vault) st.3.1; stop = ap (λ (z : CoreState). z.system.stop) st.3.1 }
+own_step precheck t L c (TakesBack u b) M d st own e = record { quiet = refl; log = st.2.0; taken = ap (λ (k : CoreState). k.system.taken) st.2.1; out = λ b. refl; vault = ap (λ (z : CoreState). z.vault) st.2.1; stop = ap (λ (z : CoreState). z.system.stop) st.2.1 }
+own_step precheck t L c (Frees u b) M d st own e = record { quiet = refl; log = st.2.0; taken = ap (λ (k : CoreState). k.system.taken) st.2.1; out = λ b. refl; vault = ap (λ (z : CoreState). z.vault) st.2.1; stop = ap (λ (z : CoreState). z.system.stop) st.2.1 }
+own_step precheck t L c (Locks u k m) M d st own e = record { quiet = refl; log = st.2.0 ∙ sym (append-nil L); taken = ap (λ (z : CoreState). z.system.taken) st.2.1; out = λ b. refl; vault = ap (λ (z : CoreState). z.vault) st.2.1; stop = ap (λ (z : CoreState). z.system.stop) st.2.1 }
 own_step precheck t L c (OnRegion r x) M d st own e = on_own t r x L c M d st own
 own_step precheck t L c (Answers u k a) M d st own e = absurd (cc)
 own_step precheck t L c (Commits u) M d st own e = absurd (cc)
@@ -135,10 +138,16 @@ other_of t u state owns other = by_test (t == u) refl
     by_test true e = absurd (other (owns u (equal t u e)))
     by_test false e = e
 
--- a record asks for nothing at its place
-pub records_right : (w : World) (c : ℕ) (xs : List Record) (i : ℕ) → AreRightFrom w i (by c (map Logs xs))
-records_right w c [] i = tt
-records_right w c (x ∷ xs) i = (tt, records_right w c xs (i + 1))
+-- the record of such a step has what it asks for: an operation is made while the engine runs
+records_right : (bases : Bases) (before : List Record) (w : World) (c : ℕ) (p : Point) (at : At bases before w p) (stops : p.core.vault.stopped ≡ true → is_some p.core.system.stop ≡ true) (x : Step) (K : List Record) (e : CoreState)
+    → IsStep p.log p.core x K e → is_end x ≡ false → AreRightThen w c (map Logs (logged_of p.core.system x)) e
+records_right bases before w c p at stops (Operates t b) K e step not_end = (runs_there bases before w c p at.run at.tells stops (Logs (Forward t b)) e step.1.runs, tt)
+records_right bases before w c p at stops (TakesBack t b) K e step not_end = (tt, tt)
+records_right bases before w c p at stops (Frees t b) K e step not_end = (tt, tt)
+records_right bases before w c p at stops (Answers t k a) K e step not_end = absurd (cc)
+records_right bases before w c p at stops (Commits t) K e step not_end = absurd (cc)
+records_right bases before w c p at stops (Ends t) K e step not_end = absurd (cc)
+records_right bases before w c p at stops x K e step not_end = tt
 
 -- ---- lists of them
 module _ {V : Type 0} (told : V → Option Disk) (may_leave : V → Disk → Type 0) (faults : V → ℕ) where
@@ -159,7 +168,8 @@ module _ {V : Type 0} (told : V → Option Disk) (may_leave : V → Disk → Typ
 
   module _ (precheck : Bool) (t c : ℕ) (s : Start) (B : List (List Record)) (v : Vaulted V) where
     module _ (x : Step) (p : Point) (w : World) (gs : List RegionState) (y : SystemState) (K : List Record) (e : CoreState) (here : IsCoreAt told may_leave faults s B p gs y v) (same : w.precheck ≡ precheck)
-        (step : IsStep p.log p.core x K e) (own : IsOwnStep precheck t p.core x) (not_end : is_end x ≡ false) where
+        (step : IsStep p.log p.core x K e) (own : IsOwnStep precheck t p.core x) (not_end : is_end x ≡ false)
+        (at : At (bases_of s) s.log w p) (stops : p.core.vault.stopped ≡ true → is_some p.core.system.stop ≡ true) where
       abbrev these : List Deed
       these = map Logs (logged_of p.core.system x)
 
@@ -181,6 +191,15 @@ module _ {V : Type 0} (told : V → Option Disk) (may_leave : V → Disk → Typ
         none_in_hand = λ up. here.none_in_hand up ∙ (ap (λ (z : SystemState). z.taken) (sym here.system) ∙ sym is.taken);
       }
 
+      right_there : AreRightThen w c these e
+      right_there = records_right (bases_of s) s.log w c p at stops x K e step not_end
+
+      at_there : At (bases_of s) s.log (after w c these e) (point_behind p x K e)
+      at_there = at_next (bases_of s) s.log c w p (point_behind p x K e) x these at point_step (own_told precheck t x w c p same own not_end) right_there
+
+      stops_there : e.vault.stopped ≡ true → is_some e.system.stop ≡ true
+      stops_there failed = ap is_some is.stop ∙ stops (ap (λ (z : VaultState). z.stopped) (sym is.vault) ∙ failed)
+
       led_more : (M : List Record) (d : CoreState) → Led t s B (point_behind p x K e) (after w c these e) c e.regions e.system v M d → Led t s B p w c gs y v M d
       led_more M d rest = record {
         own = logged_of p.core.system x ++ rest.own;
@@ -190,7 +209,7 @@ module _ {V : Type 0} (told : V → Option Disk) (may_leave : V → Disk → Typ
         core_there = rest.core_there;
         steps = Does x ∷ rest.steps;
         course = (point_behind p x K e, point_step, rest.course);
-        are = (point_behind p x K e, these, map Logs rest.own, point_step, own_told precheck t x w c p same own not_end, records_right (after w c these e) c (logged_of p.core.system x) (length w.happened), rest.are, map-append Logs (logged_of p.core.system x) rest.own);
+        are = (point_behind p x K e, these, map Logs rest.own, point_step, own_told precheck t x w c p same own not_end, right_there, rest.are, map-append Logs (logged_of p.core.system x) rest.own);
         at = rest.at;
         image = image_then told may_leave faults s B B B p (point_behind p x K e) rest.to gs e.regions d.regions y e.system d.system v v v (λ r. r)
             (step_image told may_leave faults s B p (point_behind p x K e) x gs y v is.quiet point_step is.taken here.system) rest.image;
@@ -198,9 +217,9 @@ module _ {V : Type 0} (told : V → Option Disk) (may_leave : V → Disk → Typ
         out = λ b. both_yes (not (is_in_audit b x)) (list_all (is_out_of b) rest.steps) (ap not (is.out b)) (rest.out b);
       }
 
-    pub led : (xs : List Step) (p : Point) (w : World) (gs : List RegionState) (y : SystemState) (M : List Record) (d : CoreState) → IsCoreAt told may_leave faults s B p gs y v → w.precheck ≡ precheck → Leads precheck t p.log p.core xs M d
-        → Led t s B p w c gs y v M d
-    led [] p w gs y M d here same leads = record {
+    pub led : (xs : List Step) (p : Point) (w : World) (gs : List RegionState) (y : SystemState) (M : List Record) (d : CoreState) → IsCoreAt told may_leave faults s B p gs y v → w.precheck ≡ precheck
+        → At (bases_of s) s.log w p → (p.core.vault.stopped ≡ true → is_some p.core.system.stop ≡ true) → Leads precheck t p.log p.core xs M d → Led t s B p w c gs y v M d
+    led [] p w gs y M d here same at stops leads = record {
       own = [];
       log = sym leads.0 ∙ sym (append-nil p.log);
       to = p;
@@ -221,9 +240,10 @@ module _ {V : Type 0} (told : V → Option Disk) (may_leave : V → Disk → Typ
       beside = λ u other. refl;
       out = λ b. refl;
     }
-    led (x ∷ xs) p w gs y M d here same (K, e, (step, own, not_end), leads) =
-        led_more x p w gs y K e here same step own not_end M d
-        (led xs (point_behind p x K e) (after w c (map Logs (logged_of p.core.system x)) e) e.regions e.system M d (at_behind x p w gs y K e here same step own not_end) same leads)
+    led (x ∷ xs) p w gs y M d here same at stops (K, e, (step, own, not_end), leads) =
+        led_more x p w gs y K e here same step own not_end at stops M d
+        (led xs (point_behind p x K e) (after w c (map Logs (logged_of p.core.system x)) e) e.regions e.system M d (at_behind x p w gs y K e here same step own not_end at stops) same
+        (at_there x p w gs y K e here same step own not_end at stops) (stops_there x p w gs y K e here same step own not_end at stops) leads)
 
   -- ---- a step of the client that ends there
   module _ (precheck : Bool) (t : ℕ) (state : State) (owns : (n : ℕ) → t ≡ n → Owns state n) (s : Start) (B : List (List Record)) (p : Point) (w : World) (c : ℕ) (gs : List RegionState) (y : SystemState) (v : Vaulted V)

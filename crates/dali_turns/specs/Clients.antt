@@ -1,12 +1,13 @@
 -- What the small steps of a client leave of it.
 --     next_of k                its next command, if it has one
+--     next_point points        the number of the next operation for the gate, of which it was told so many
 --     Passes k state j         it goes on behind the command that is under way, and stands in this state
 --     Finishes k state line j  and it has said this line
 --     RefusesCall k x why j    the line is that its call is refused, and it stands in the transaction x
 --     Stays k state j          it goes on with no command, and stands in this state
 --     left_behind command      where it stands behind a command that was left out
 --     is_over state none       it is done, where it has no command left, or has died
-use Rattle.std.specs.Prelude.{◌≡◌, Bool, true, false, if◌then◌else◌, [], ◌∷◌, Option, Some, drop, slice_get}
+use Rattle.std.specs.Prelude.{◌≡◌, ℕ, ◌+◌, ◌-◌, ◌^◌, min, Bool, true, false, if◌then◌else◌, [], ◌∷◌, Option, Some, drop, slice_get}
 use Rattle.dali_clients.specs.declared.command.Command.{Command}
 use Rattle.dali_clients.specs.declared.line.Line.{Line}
 use Rattle.dali_clients.specs.declared.line.Line.TheVariants.{Refused}
@@ -21,6 +22,9 @@ use Rattle.dali_turns.specs.declared.client.Transaction.{Transaction}
 
 abbrev pub next_of : Client → Option Command
 next_of k = slice_get k.rest.now 0
+
+abbrev pub next_point : ℕ → ℕ
+next_point points = min (points + 1) (2 ^ 32 - 1)
 
 pub record Passes (k : Client) (state : State) (j : Client) : Type 0 where
   pub rest : j.rest.now ≡ drop 1 k.rest.now

@@ -21,7 +21,7 @@ use Rattle.dali_single.specs.Single.{MayCall}
 use Rattle.dali_transcripts.specs.Words.{Act, Begins, Calls, is_stop}
 use Rattle.dali_transcripts.specs.World.{World, Meets, Yields}
 use Rattle.dali_transcripts.specs.Moves.{Receipt, Within, at, operations, left}
-use Rattle.dali_transcripts.specs.Causes.{AreAsking, AreAside, AreWork, AreTried, MetCause, GetsBusy, Survives, spares, undos_behind}
+use Rattle.dali_transcripts.specs.Causes.{AreAsking, AreAside, AreWork, AreTried, MetCause, GetsBusy, Survives, spares, undos_behind, StaysRefused}
 use Rattle.dali_transcripts.specs.Rounds.{Standing, IsPlaced}
 use Rattle.dali_clients.specs.declared.line.Why.{Why}
 use Rattle.dali_clients.specs.Told.{act_of, reason_of}
@@ -90,6 +90,7 @@ pub record FitsTakingBack (p : Point) (w : World) (a : Standing) (rest : List Ac
   pub back : List Receipt
   pub pending : a.pending ≡ work ++ (met, Meets (reason_of why)) ∷ back
   pub tried : AreTried w a.client x.txn call work
+  pub stays : StaysRefused work
   pub cause : MetCause w a.client met (Calls call) (Some x.txn) (reason_of why)
   pub survives : Survives w a.client met x.txn call deadly (operations x.txn work) (reason_of why) cause
   -- a stop is told at once

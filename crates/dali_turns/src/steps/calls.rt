@@ -1,20 +1,23 @@
 //! The steps of a call.
-ghost use Rattle.std.specs.Prelude.{◌≡◌, Bool, true, false, not, Some, None, IsSome, OnOk, OnErr, IfOk, IfErr, is_ok, is_some};
+ghost use Rattle.std.specs.Prelude.{◌≡◌, ℕ, Bool, true, false, not, Some, None, IsSome, OnOk, OnErr, IfOk, IfErr, is_ok, is_some};
 ghost use Rattle.dali_record.specs.declared.records.Call.{Call as Called};
 ghost use Rattle.dali_core.specs.declared.want.Want.TheVariants.{Region as WantsRegion, Done as AnswerIsNext};
 ghost use Rattle.dali_calls.specs.Flags.{FlagsStay};
 ghost use Rattle.dali_calls.specs.Plans.{want_of, plan_next, is_back, is_answered, IsWhole};
 ghost use Rattle.dali_single.specs.Refusals.{IsRefusal, IsLatched};
 ghost use Rattle.dali_single.specs.Stands.{IsAtRest};
-ghost use Rattle.dali_single.specs.declared.error.StepError.TheVariants.{Latch as ByLatch};
+ghost use Rattle.dali_region.specs.declared.LatchError.TheVariants.{Damaged};
+ghost use Rattle.dali_core.specs.declared.error.SystemError.{SystemError as Refused};
+ghost use Rattle.dali_single.specs.declared.error.StepError.TheVariants.{Latch as ByLatch, System as BySystem};
 ghost use Rattle.dali_stepwise.specs.Stepwise.{OneFurther, IsDeath};
 ghost use Rattle.dali_att.specs.declared.state.State.TheVariants.{Live};
 ghost use Rattle.dali_system.specs.State.{state_of};
 ghost use Rattle.dali_clean.specs.Cleaned.{IsDead};
 ghost use Rattle.dali_transcripts.specs.World.{is_dead_in};
 ghost use Rattle.dali_clients.specs.declared.command.Command.TheVariants.{Call as IsCall};
+ghost use Rattle.dali_clients.specs.declared.line.Why.TheVariants.{Damaged as IsDamaged};
 ghost use Rattle.dali_turns.specs.declared.client.State.TheVariants.{Outside as IsOutside, Within as IsWithin, Calling as IsCalling, TakingBack as IsTakingBack};
-ghost use Rattle.dali_turns.specs.Clients.{next_of, Stays};
+ghost use Rattle.dali_turns.specs.Clients.{next_of, next_point, Stays};
 ghost use Rattle.dali_turns.specs.Calls.{TurnsBack, IsRefusedBy, IsDeadly, IsFurther, MustWait, call_in};
 ghost use Rattle.dali_turns.specs.Goes.{StepGoes};
 ghost use Rattle.dali_turns.specs.Places.{PlacesGo};
@@ -370,6 +373,8 @@ fn hindered<'a, V: Store>(
     ensures goes { (precheck : Bool) → IsRefusal precheck plan core.old.regions.items core.old.system.state error → StepGoes V.told V.may_leave V.faults precheck (IsCalling transaction.entry plan) client.old core.old.regions.items core.old.system.state core.old.vault (is_ok result) client.new core.new.regions.items core.new.system.state core.new.vault }
     ensures places { PlacesGo V.told (IsCalling transaction.entry plan) core.old.regions.items core.old.vault client.new.state core.new.regions.items core.new.vault }
     ensures on { IfOk result (λ went. went ≡ true) }
+    ensures damaged { (codeword found : ℕ) → error ≡ ByLatch (Damaged codeword found) → TurnsBack client.old transaction.entry plan (IsDamaged region codeword found) client.new }
+    ensures points { (cause : Refused) → error ≡ BySystem cause → client.new.points ≡ next_point client.old.points }
 {
     match error {
         StepError::Latch { cause } => match cause {

@@ -1,5 +1,6 @@
 //! The steps of a client outside a transaction that are no audit's and no checkpoint's.
-ghost use Rattle.std.specs.Prelude.{◌≡◌, ◌≢◌, ◌<◌, Bool, true, false, Some, None, Ok, is_ok, IfOk};
+ghost use Rattle.std.specs.Prelude.{◌≡◌, ◌≢◌, ◌<◌, Bool, true, false, Some, None, Ok, is_ok, slice_get, slice_set, IfOk, OnOk};
+ghost use Rattle.dali_region.specs.State.{RegionState, poked};
 ghost use Rattle.dali_clients.specs.declared.command.Command.{Command as Order};
 ghost use Rattle.dali_clients.specs.declared.command.Command.TheVariants.{Begin as IsBegin, Poke as IsPoke};
 ghost use Rattle.dali_turns.specs.declared.client.State.{State as Place};
@@ -135,6 +136,7 @@ pub(crate) fn poke<V: Store>(
     ensures goes { (precheck : Bool) → StepGoes V.told V.may_leave V.faults precheck IsOutside client.old core.old.regions.items core.old.system.state core.old.vault (is_ok result) client.new core.new.regions.items core.new.system.state core.new.vault }
     ensures places { PlacesGo V.told IsOutside core.old.regions.items core.old.vault client.new.state core.new.regions.items core.new.vault }
     ensures on { IfOk result (λ went. went ≡ true) }
+    ensures word { (was : RegionState) → slice_get core.old.regions.items region ≡ Some was → OnOk result (core.new.regions.items ≡ slice_set core.old.regions.items region (poked word mask was)) }
 {
     if !is_stray(word, mask) {
         return no_run(); // each block's stray writes are so

@@ -1,7 +1,7 @@
-use Rattle.std.proofs.Common.{List, Global, false, map, string_bytes, subst}
+use Rattle.std.proofs.Common.{List, Global, map, string_bytes, subst}
 use Rattle.std.specs.Prelude.{String}
 use Rattle.dali_run.specs.Ends.{course}
-use Rattle.dali_run.proofs.Surviving.{runs_survive}
+use Rattle.dali_run.proofs.Survived.{runs_survive}
 use Rattle.dali_program.specs.Exits.{ExitsWith}
 use Rattle.dali_program.proofs.Words.{if_ok}
 use Rattle.dali_program.proofs.body.run_with.Goals as goal
@@ -11,7 +11,7 @@ returns-in-Ok-clause-exits g c =
     let ended = c.run-status.ensures.ended in
     let met = g.met.V.Store g.world.𝓛 g.world.𝓜 g.world.𝓡 ((λ s x. x), (λ x. x), (λ x. x), (λ x. x)) in
     if_ok _ c.args.words c.in-Ok.words c.in-Ok.is
-    (subst (λ (ws : List (String Global)). ExitsWith g.V.Store.told g.V.Store.may_leave g.V.Store.moment g.V.Store.left_since g.V.Store.faults 67108864 g.V.Store.cuts false (map string_bytes ws)
+    (subst (λ (ws : List (String Global)). ExitsWith g.V.Store.told g.V.Store.may_leave g.V.Store.moment g.V.Store.left_since g.V.Store.faults g.V.Store.cuts (map string_bytes ws)
     (course g.S.Source.left g.S.Source.faults g.K.Sink.taken g.K.Sink.faults c.args.source.now c.run-status.new.source c.args.sink.now c.run-status.new.sink c.args.store c.run-status.result.1) c.code_of.result)
     c.deref.ensures.value
     (record {
@@ -19,6 +19,6 @@ returns-in-Ok-clause-exits g c =
       is_number = c.code_of.ensures;
       ended = ended;
       survives = λ base own honest.
-          runs_survive g.V.Store.told g.V.Store.may_leave g.V.Store.moment g.V.Store.left_since g.V.Store.faults met.reads_now met.counts_now 67108864 g.V.Store.cuts false
+          runs_survive g.V.Store.told g.V.Store.may_leave g.V.Store.moment g.V.Store.left_since g.V.Store.faults met.reads_now met.counts_now g.V.Store.cuts
           _ _ c.run-status.result.0 base own ended honest;
     }))

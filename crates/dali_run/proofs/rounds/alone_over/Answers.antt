@@ -68,6 +68,6 @@ returns-in-Err-clause-ends g c =
     let act = act_of c.args.command.now in
     let lost : Played g.V.Store.told g.V.Store.may_leave g.V.Store.faults c.args.setting.now.precheck (alone act) c.args.core c.play-core.result.0.vault.store =
     subst (λ (b : List Told). Played g.V.Store.told g.V.Store.may_leave g.V.Store.faults c.args.setting.now.precheck b c.args.core c.play-core.result.0.vault.store) c.in-Ok.ensures
-    (on_err_holds c.play-core.result.1 c.in-Err.halt c.in-Err.is c.play-core.ensures.lost) in
+    (on_err_holds c.play-core.result.1 c.in-Err.halt c.in-Err.is c.play-core.ensures.lost).0 in
     subst (λ halt. AloneEnds g.V.Store.told g.V.Store.may_leave g.V.Store.faults c.args.setting.now.precheck halt act c.args.core c.play-core.result.0.vault.store)
     (sym (err_holds _ c.play-core.result.1 c.in-Err.halt c.in-Err.is c.play-core.ensures.memory)) (inr lost)

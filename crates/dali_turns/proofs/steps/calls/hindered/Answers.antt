@@ -10,7 +10,7 @@ use Rattle.dali_turns.specs.Ends.{IsLeftDead}
 use Rattle.dali_turns.specs.declared.client.State.TheVariants.{Outside, Within, Calling, TakingBack}
 use Rattle.dali_turns.proofs.Here.{in_no_run}
 use Rattle.dali_turns.proofs.Commands.{err_false}
-use Rattle.dali_turns.proofs.CallSteps.{some_command, before_operation, not_held, damage_refuses, system_refuses, by_lines}
+use Rattle.dali_turns.proofs.CallSteps.{some_command, points_there, before_operation, not_held, damage_refuses, system_refuses, by_lines}
 use Rattle.dali_turns.proofs.CleanSteps.{is_some_at, cleans_in, holder_is_dead, operate_again, operate_stopped, operate_stopped_silently, operate_half}
 use Rattle.dali_turns.proofs.Placed.{places_beside, places_still, at_state, call_refused, refused_reaches}
 use Rattle.dali_turns.proofs.steps.calls.hindered.Goals as goal
@@ -44,6 +44,10 @@ returns-in-System-clause-goes g c = λ precheck why.
     (system_refuses g.V.Store.told g.V.Store.may_leave g.V.Store.faults precheck c.args.core.now.regions.items c.args.core.now.system.state c.args.core.now.vault _ c.refused.new.client c.args.transaction c.args.plan c.args.region c.in-System.cause c.refused.result c.requires.whole c.requires.wants
     (subst (λ e. IsRefusal precheck c.args.plan c.args.core.now.regions.items c.args.core.now.system.state e) c.in-System.is why)
     (λ way deadly. subst IsLatched c.in-System.is (c.requires.lives way deadly)) c.refused.ensures)
+
+pub returns-in-System-clause-points : goal.returns-in-System-clause-points
+returns-in-System-clause-points g c = λ cause is.
+    points_there c.in-System.cause _ c.refused.new.client c.args.transaction c.args.plan c.refused.result (some_command (next_of c.args.client.now) c.requires.called) c.refused.ensures ∙ c.point-client.ensures
 
 pub returns-in_err-clean_up-in-DeadHolder-clause-goes : goal.returns-in_err-clean_up-in-DeadHolder-clause-goes
 returns-in_err-clean_up-in-DeadHolder-clause-goes g c = λ precheck why.

@@ -1,0 +1,348 @@
+//! The rows of the whole program: its words and its scripts over real files, each run a process of its own, which is timed from
+//! its start to its end.
+use crate::files;
+use crate::floor;
+use crate::table::{in_threes, make_anew, wait, OwnFolder};
+use std::fs::{self, File};
+use std::io::{self, Write};
+use std::path::{Path, PathBuf};
+use std::process::{Command, Stdio};
+use std::time::{Duration, Instant};
+
+/// How many turns a row has. Over real files a round takes a minute and more.
+const TURNS: usize = 9;
+const LONG_TURNS: usize = 3;
+
+/// The words of the generated round: 64 clients with 1,000 transactions each, on 19,202 regions.
+const ROUND: [&str; 4] = ["gen", "64", "1000", "7"];
+const REGIONS: u64 = 19_202;
+
+/// How often a script repeats what is timed of it.
+const REPEATS: u32 = 50;
+
+/// The transactions of the script with and without prechecks, which has nearly a MiB.
+const SCRIPTED: u32 = 6_000;
+
+const HEAD: &str = "\
+| what is timed | beside | dali | the other | ratio | half of the turns | goal | met | dali's MiB | the other's MiB |
+|---|---|---|---|---|---|---|---|---|---|";
+
+/// One run: how long it took, how much was resident at most, and what it printed.
+struct Run {
+    time: Duration,
+    kibibytes: i64,
+    text: Vec<u8>,
+}
+
+/// How dali's time is compared with that of the other side.
+enum Goal {
+    /// It is at most so many times as long.
+    Times(f64),
+    /// Its rate is at least so much of the other's.
+    Share(f64),
+}
+
+struct Programs {
+    dali: PathBuf,
+    beside: PathBuf,
+}
+
+/// Runs a program with this on its standard input, in this folder.
+fn run(program: &Path, words: &[&str], input: &str, folder: &Path) -> io::Result<Run> {
+    let mut command = Command::new(program);
+    command.args(words).current_dir(folder);
+    // both ways go over files, so that no pipe fills
+    let (given, printed) = (folder.join("bench.in"), folder.join("bench.out"));
+    File::create(&given)?.write_all(input.as_bytes())?;
+    command.stdin(Stdio::from(File::open(&given)?));
+    command.stdout(Stdio::from(File::create(&printed)?));
+    let start = Instant::now();
+    let child = command.spawn()?;
+    let kibibytes = wait(&child, &format!("{command:?}"))?;
+    let time = start.elapsed();
+    let text = fs::read(printed)?;
+    Ok(Run { time, kibibytes, text })
+}
+
+fn copy(from: &Path, to: &Path) -> io::Result<()> {
+    make_anew(to)?;
+    for file in fs::read_dir(from)? {
+        let file = file?;
+        let copy = to.join(file.file_name());
+        fs::copy(file.path(), &copy)?;
+        File::open(copy)?.sync_all()?;
+    }
+    Ok(())
+}
+
+fn median(mut numbers: Vec<f64>) -> f64 {
+    numbers.sort_unstable_by(f64::total_cmp);
+    numbers[numbers.len() / 2]
+}
+
+fn milliseconds(time: f64) -> String {
+    format!("{}.{:02} ms", in_threes(time as u64), (time.fract() * 100.0) as u64)
+}
+
+fn mebibytes(runs: &[Run]) -> String {
+    let sizes = runs.iter().map(|run| run.kibibytes as f64 / 1024.0).collect();
+    format!("{:.1}", median(sizes))
+}
+
+fn times(runs: &[Run]) -> Vec<f64> {
+    runs.iter().map(|run| run.time.as_secs_f64() * 1000.0).collect()
+}
+
+/// Prints a row of runs, of which the two of one turn stand at one place.
+fn print_row(what: &str, beside: &str, goal: Goal, dali: &[f64], other: &[f64], resident: [String; 2]) {
+    let ratio = |dali: f64, other: f64| match goal {
+        Goal::Times(_) => dali / other,
+        Goal::Share(_) => other / dali,
+    };
+    let mut ratios: Vec<f64> = dali
+        .iter()
+        .zip(other)
+        .map(|(dali, other)| ratio(*dali, *other))
+        .collect();
+    ratios.sort_unstable_by(f64::total_cmp);
+    let last = ratios.len() - 1;
+    let half = format!("{:.2} to {:.2}", ratios[last / 4], ratios[last - last / 4]);
+    let (dali, other) = (median(dali.to_vec()), median(other.to_vec()));
+    let ratio = ratio(dali, other);
+    let (ratio, goal, is_met) = match goal {
+        Goal::Times(most) => (
+            format!("{ratio:.2} times"),
+            format!("at most {most} times"),
+            ratio <= most,
+        ),
+        Goal::Share(least) => (
+            format!("{ratio:.2} of its rate"),
+            format!("at least {least} of its rate"),
+            ratio >= least,
+        ),
+    };
+    println!(
+        "| {what} | {beside} | {} | {} | {ratio} | {half} | {goal} | {} | {} | {} |",
+        milliseconds(dali),
+        milliseconds(other),
+        if is_met { "yes" } else { "no" },
+        resident[0],
+        resident[1],
+    );
+}
+
+/// Both sides in turn; each begins every other one, so that what one run leaves to the next falls on both.
+fn in_turn<T>(
+    turns: usize,
+    mut dali: impl FnMut() -> io::Result<T>,
+    mut other: impl FnMut() -> io::Result<T>,
+) -> io::Result<(Vec<T>, Vec<T>)> {
+    let mut runs = (Vec::new(), Vec::new());
+    for turn in 0..turns {
+        if turn % 2 == 0 {
+            runs.0.push(dali()?);
+            runs.1.push(other()?);
+        } else {
+            runs.1.push(other()?);
+            runs.0.push(dali()?);
+        }
+    }
+    Ok(runs)
+}
+
+/// Both sides print the same, and leave logs of one length but for one part in a thousand: where clients take turns, other
+/// records stand behind the last commit, which are lost, and some index regions fill, which the other side has none of.
+fn print_round(programs: &Programs, what: &str, least: f64, turns: usize, folder: &Path) -> io::Result<()> {
+    let (new, bare) = (folder.join("new"), folder.join("bare"));
+    let (dali, other) = in_turn(
+        turns,
+        || {
+            make_anew(&new)?;
+            run(&programs.dali, &ROUND, "", &new)
+        },
+        || {
+            make_anew(&bare)?;
+            run(
+                &programs.beside,
+                &[ROUND[0], ROUND[1], ROUND[2], ROUND[3], "."],
+                "",
+                &bare,
+            )
+        },
+    )?;
+    let lengths = [&new, &bare].map(|folder| fs::metadata(folder.join("dali.log")).map(|it| it.len()));
+    let [Ok(length), Ok(bare_length)] = lengths else {
+        return Err(io::Error::other("a log lacks"));
+    };
+    if dali.iter().chain(&other).any(|run| run.text != dali[0].text) || length.abs_diff(bare_length) > length / 1000 {
+        return Err(io::Error::other(format!(
+            "the two rounds differ: {length} and {bare_length} bytes of log"
+        )));
+    }
+    print_row(
+        what,
+        "plain Rust with a hash map, the same calls on files, log bytes of the same kinds",
+        Goal::Share(least),
+        &times(&dali),
+        &times(&other),
+        [mebibytes(&dali), mebibytes(&other)],
+    );
+    Ok(())
+}
+
+/// The files as they would be without a checkpoint: the log alone, and an anchor that counts none.
+fn copy_log(from: &Path, to: &Path) -> io::Result<()> {
+    copy(from, to)?;
+    fs::write(to.join("dali.anchor"), [0])?;
+    fs::write(to.join("dali.a"), [])
+}
+
+fn print_restart(programs: &Programs, made: &Path, folder: &Path) -> io::Result<()> {
+    let at = folder.join("copy");
+    let (dali, other) = in_turn(
+        TURNS,
+        || {
+            copy_log(made, &at)?;
+            run(&programs.dali, &["run"], "open\n", &at)
+        },
+        || {
+            copy_log(made, &at)?;
+            run(&programs.beside, &["read", "."], "", &at)
+        },
+    )?;
+    print_row(
+        "restart from its whole log, without an image, in memory",
+        "reading the files once",
+        Goal::Times(4.0),
+        &times(&dali),
+        &times(&other),
+        [mebibytes(&dali), mebibytes(&other)],
+    );
+    Ok(())
+}
+
+/// How many milliseconds this line of a script takes, as the difference of a script that has it often and one that lacks it.
+fn once(programs: &Programs, line: &str, made: &Path, at: &Path) -> io::Result<f64> {
+    copy(made, at)?;
+    let without = run(&programs.dali, &["run"], "open\n", at)?;
+    copy(made, at)?;
+    let script = format!("open\n{}", format!("{line}\n").repeat(REPEATS as usize));
+    let with = run(&programs.dali, &["run"], &script, at)?;
+    Ok((with.time.as_secs_f64() - without.time.as_secs_f64()) * 1000.0 / f64::from(REPEATS))
+}
+
+fn print_line(
+    programs: &Programs,
+    line: &str,
+    beside: &str,
+    goal: Goal,
+    other: impl FnMut() -> io::Result<f64>,
+    made: &Path,
+    folder: &Path,
+) -> io::Result<()> {
+    let at = folder.join("copy");
+    let (dali, other) = in_turn(TURNS, || once(programs, line, made, &at), other)?;
+    let what = format!("`{line}` behind it, {} regions, in memory", in_threes(REGIONS));
+    print_row(&what, beside, goal, &dali, &other, [String::new(), String::new()]);
+    Ok(())
+}
+
+fn script() -> String {
+    let mut text = String::from("size 3001 6001\nclient 1\n");
+    for number in 0..SCRIPTED {
+        text.push_str("begin\n");
+        for place in 0..5 {
+            text.push_str(&format!("insert {} valueof{place}\n", 5 * number + place));
+        }
+        text.push_str("commit\n");
+    }
+    text.push_str("end\n");
+    text
+}
+
+fn print_precheck(programs: &Programs, folder: &Path) -> io::Result<()> {
+    let (new, text) = (folder.join("new"), script());
+    let with_words = |words: &[&str]| {
+        make_anew(&new)?;
+        run(&programs.dali, words, &text, &new)
+    };
+    let (with, without) = in_turn(TURNS, || with_words(&["run", "--precheck"]), || with_words(&["run"]))?;
+    if with.iter().chain(&without).any(|run| run.text != with[0].text) {
+        return Err(io::Error::other("prechecks change what is printed"));
+    }
+    print_row(
+        &format!(
+            "a script of {} transactions with five inserts, with `--precheck`, in memory",
+            in_threes(u64::from(SCRIPTED))
+        ),
+        "the same without",
+        Goal::Times(1.1),
+        &times(&with),
+        &times(&without),
+        [mebibytes(&with), mebibytes(&without)],
+    );
+    Ok(())
+}
+
+fn failed() -> io::Error {
+    io::Error::other("the other side failed")
+}
+
+/// Prints the rows, or those with these names: `gen`, `memory`, `restart`, `audit`, `checkpoint`, `precheck`. The second folder
+/// is one whose files lie in memory.
+pub fn print(program: &Path, folder: &Path, memory: &Path, names: &[&str]) -> io::Result<()> {
+    let (own, own_memory) = (OwnFolder::make(folder)?, OwnFolder::make(memory)?);
+    let programs = Programs {
+        dali: fs::canonicalize(program)?,
+        beside: std::env::current_exe()?,
+    };
+    let (disk, memory) = (fs::canonicalize(&own.path)?, fs::canonicalize(&own_memory.path)?);
+    let asked = |name: &str| names.is_empty() || names.contains(&name);
+    println!("Medians of {TURNS} runs each, over real files {LONG_TURNS}.\n\n{HEAD}");
+    if asked("gen") {
+        print_round(&programs, "`gen 64 1000 7`, real files", 0.9, LONG_TURNS, &disk)?;
+    }
+    if asked("memory") {
+        print_round(&programs, "`gen 64 1000 7`, in memory", 0.5, TURNS, &memory)?;
+    }
+    let made = memory.join("made");
+    if ["restart", "audit", "checkpoint"].into_iter().any(asked) {
+        make_anew(&made)?;
+        run(&programs.dali, &ROUND, "", &made)?;
+    }
+    if asked("restart") {
+        print_restart(&programs, &made, &memory)?;
+    }
+    if asked("audit") {
+        let mut words = floor::Words::new(REGIONS);
+        let other = || Ok(words.copy(REPEATS));
+        print_line(
+            &programs,
+            "audit",
+            "copying its regions' words",
+            Goal::Times(2.0),
+            other,
+            &made,
+            &memory,
+        )?;
+    }
+    if asked("checkpoint") {
+        let other = || {
+            let timing = files::image(REGIONS, &memory).ok_or_else(failed)?;
+            Ok(timing.milliseconds())
+        };
+        print_line(
+            &programs,
+            "checkpoint",
+            "writing the bytes of an image in one piece",
+            Goal::Times(2.0),
+            other,
+            &made,
+            &memory,
+        )?;
+    }
+    if asked("precheck") {
+        print_precheck(&programs, &memory)?;
+    }
+    Ok(())
+}

@@ -1,0 +1,9 @@
+pub mod Slots
+pub mod Steps
+pub mod Tries
+pub mod Held
+pub mod Counting
+pub mod Tally
+pub mod CellsAndEntries
+pub mod Answered
+pub mod Plain

@@ -1,0 +1,388 @@
+-- Runs without pokes are honest by themselves.
+use Rattle.std.proofs.Common.{◌≡◌, ◌⊎◌, ◌≤◌, ℕ, zero, suc, ◌+◌, ◌-◌, ◌==◌, ◌%◌, Bool, true, false, List, [], ◌∷◌, ◌++◌, Option, Some, None, length, map, flat_map, take, refl, sym, ◌∙◌, ap, subst, inl, inr, arith}
+use Rattle.std.specs.Prelude.{◌||◌, IfSome, filter_map, if◌then◌else◌, slice_get}
+use Rattle.std.specs.List.{list_any, range_with_len}
+use Rattle.std.proofs.lemmas.Bool.{or_parts}
+use Rattle.std.proofs.lemmas.Option.{slice_get_within}
+use Rattle.dali_arguments.specs.Laws.{IsInRange}
+use Rattle.dali_arguments.specs.Meaning.{meaning}
+use Rattle.dali_arguments.specs.declared.task.Task.{Task}
+use Rattle.dali_arguments.specs.declared.task.Task.TheVariants.{Run, Generate, Dump}
+use Rattle.dali_arguments.proofs.InRange.{in_range}
+use Rattle.dali_clients.specs.Said.{Transcribed}
+use Rattle.dali_generator.specs.Generated.{AreWithin, block, draw, generated, index_regions, heap_regions, key_of, transaction, value_of}
+use Rattle.dali_generator.proofs.Right.{right_round, right_sizes}
+use Rattle.dali_geometry.specs.Places.{regions}
+use Rattle.dali_memstore.specs.declared.fuse.Fuse.{Fuse}
+use Rattle.dali_record.specs.declared.records.Record.{Record}
+use Rattle.dali_region.specs.State.{RegionState}
+use Rattle.dali_round.specs.Leads.{lines_in}
+use Rattle.dali_script.specs.declared.commands.Block.{Block}
+use Rattle.dali_script.specs.declared.commands.ClientCommand.{ClientCommand}
+use Rattle.dali_script.specs.declared.commands.ClientCommand.TheVariants as clients
+use Rattle.dali_script.specs.declared.commands.Command.{Command}
+use Rattle.dali_script.specs.declared.commands.Command.TheVariants.{Size, Open, Round, Poke, Audit, Checkpoint, Cleanup, Crash, Restart, Show, Verify, Next, Fuse as SetFuse}
+use Rattle.dali_store.specs.Store.{Files as Disk}
+use Rattle.dali_system.specs.State.{CoreState}
+use Rattle.dali_transcripts.specs.Words.{Act, Audits, Checkpoints, Said}
+use Rattle.dali_transcripts.specs.Transcripts.{Told as Blocks}
+use Rattle.dali_transcripts.specs.Rounds.{AreBlocks, IsPlaced}
+use Rattle.dali_whole.specs.declared.whole.Core.{Core}
+use Rattle.dali_whole.specs.Cores.{IsNoShorter}
+use Rattle.dali_run.specs.declared.halt.Halt.{Halt}
+use Rattle.dali_run.specs.declared.halt.Halt.TheVariants as halts
+use Rattle.dali_run.specs.declared.program.Program.{Program}
+use Rattle.dali_run.specs.declared.program.Program.TheVariants.{Up, Down}
+use Rattle.dali_run.specs.declared.status.Status.{Status}
+use Rattle.dali_run.specs.declared.status.Status.TheVariants.{Done, BadWords, BadScript, TooLong, ReadFault, WriteFault, StoreFault, BadStore, Unformatted, Formatted, OutOfMemory, LogFull}
+use Rattle.dali_run.specs.Ends.{Course, Ended, EndedGenerator, EndedScript, GeneratorFails, GeneratorFinds, GeneratorLoses, GeneratorStops, GeneratorWants, HasStopped, Untouched}
+use Rattle.dali_run.specs.Fails.{AloneFails, Breaks, Fails, Lost, StoreFailsIn}
+use Rattle.dali_run.specs.Generating.{IsCutRound, IsMade, IsPlayed}
+use Rattle.dali_run.specs.Honest.{NonePoked, PokesNowhere, RunsAreHonest, is_poke, pokes, pokes_in}
+use Rattle.dali_run.specs.Masks.{AreTold, IsNone, answer_in, done_on, has_any, masks_behind, masks_of, xor_of}
+use Rattle.dali_run.specs.Program.{IsDown, told_in}
+use Rattle.dali_run.specs.Run.{HasRun, RunsAll}
+use Rattle.dali_run.specs.Scripts.{Spells}
+use Rattle.dali_run.specs.Steps.{Plays, Steps}
+use Rattle.dali_run.specs.Survives.{CutIsHonest, FaultIsHonest, FoundIsHonest, GeneratorIsHonest, GeneratorStopIsHonest, IsAPoint, IsHonest, IsOwn, IsPointOf, LossIsHonest, MemoryIsHonest, NoneEscape, NoneEscapesAlone, NoneEscapesAt, NoneEscapesBehind, NoneEscapesCut, NoneEscapesFailed, NoneEscapesIn, NoneEscapesLeft, NoneEscapesLost, PlayedIsHonest, ScriptIsHonest, StopIsHonest, WantIsHonest}
+use Rattle.dali_run.specs.Told.{AreFit, IsFit, alone, told_by}
+use Rattle.dali_run.proofs.Fit.{all_fit, right_blocks}
+use Rattle.dali_run.proofs.Sums.{masks_at, poked_is}
+use Rattle.dali_run.proofs.Surviving.{begins_down, next_fit, step_goes, tells_on}
+use Rattle.dali_run.proofs.Telling.{fit_front, step_told, there_is}
+use Rattle.dali_run.proofs.Unharmed.{cores_are_honest, stands_honest}
+use Rattle.dali_run.proofs.Unstrayed.{AreQuiet, coming_none, done_none, quiet_round}
+
+-- ---- scripts without pokes
+abbrev nothing : ℕ → List ℕ
+nothing r = []
+
+none_of_blocks : (r : ℕ) (blocks : List Block) → list_any pokes_in blocks ≡ false → (lines : List (List Said)) → masks_of r (map told_by blocks) lines ≡ []
+none_of_blocks r [] none lines = refl
+none_of_blocks r (b ∷ blocks) none [] = refl
+none_of_blocks r (b ∷ blocks) none (said ∷ more) =
+    let parts = or_parts (pokes_in b) (list_any pokes_in blocks) none in
+    ap (λ (l : List ℕ). l ++ masks_of r (map told_by blocks) more)
+    (ap (done_on r (filter_map answer_in said)) (coming_none b.commands parts.0) ∙ done_none r (filter_map answer_in said))
+    ∙ none_of_blocks r blocks parts.1 more
+
+are_quiet : (blocks : List Block) → ((i : ℕ) (t : Blocks) → slice_get (map told_by blocks) i ≡ Some t → IsPlaced false t.acts) → list_any pokes_in blocks ≡ false → AreQuiet (map told_by blocks)
+are_quiet [] placed none = tt
+are_quiet (b ∷ blocks) placed none =
+    let parts = or_parts (pokes_in b) (list_any pokes_in blocks) none in
+    ((placed zero (told_by b) refl, coming_none b.commands parts.0), are_quiet blocks (λ i t e. placed (suc i) t e) parts.1)
+
+front_none : (n : ℕ) (script : List Command) → list_any pokes script ≡ false → list_any pokes (take n script) ≡ false
+front_none zero script none = refl
+front_none (suc n) [] none = refl
+front_none (suc n) (command ∷ script) none =
+    let parts = or_parts (pokes command) (list_any pokes script) none in ap (λ (b : Bool). b || list_any pokes (take n script)) parts.0 ∙ front_none n script parts.1
+
+last_none : (front : List Command) (command : Command) → list_any pokes (front ++ command ∷ []) ≡ false → pokes command ≡ false
+last_none [] command none = (or_parts (pokes command) false none).0
+last_none (c ∷ front) command none = last_none front command (or_parts (pokes c) (list_any pokes (front ++ command ∷ [])) none).1
+
+next_none : (script : List Command) (count : ℕ) (command : Command) → list_any pokes script ≡ false → take (count + 1) script ≡ take count script ++ command ∷ [] → pokes command ≡ false
+next_none script count command none next = last_none (take count script) command (subst (λ (l : List Command). list_any pokes l ≡ false) next (front_none (count + 1) script none))
+
+-- ---- generated blocks have none
+second : (first a b c : Bool) (k : ℕ) (v : List ℕ) → List ClientCommand
+second first a b c k v = if first then [] else (if a then clients.Update k v ∷ [] else (if b then clients.Delete k ∷ [] else (if c then clients.Get k ∷ [] else [])))
+
+second_none : (first a b c : Bool) (k : ℕ) (v : List ℕ) (rest : List ClientCommand) → list_any is_poke ((second first a b c k v ++ clients.Commit ∷ []) ++ rest) ≡ list_any is_poke rest
+unfolding second
+second_none true a b c k v rest = refl
+second_none false true b c k v rest = refl
+second_none false false true c k v rest = refl
+second_none false false false true k v rest = refl
+second_none false false false false k v rest = refl
+
+one_none : (number client i : ℕ) (rest : List ClientCommand) → list_any is_poke (transaction client i (draw number client i) ++ rest) ≡ list_any is_poke rest
+unfolding second
+one_none number client i rest =
+    let drawn = draw number client i in
+    second_none (i == 0) (drawn % 4 == 1) (drawn % 4 == 2) (drawn % 4 == 3) (key_of client (i - 1)) (value_of drawn) rest
+
+client_none : (number client n a : ℕ) → list_any is_poke (flat_map (λ i. transaction client i (draw number client i)) (range_with_len a n)) ≡ false
+client_none number client zero a = refl
+client_none number client (suc n) a =
+    one_none number client a (flat_map (λ i. transaction client i (draw number client i)) (range_with_len (a + 1) n)) ∙ client_none number client n (a + 1)
+
+blocks_none : (number size n a : ℕ) → list_any pokes_in (map (block number size) (range_with_len a n)) ≡ false
+blocks_none number size zero a = refl
+blocks_none number size (suc n) a =
+    ap (λ (b : Bool). b || list_any pokes_in (map (block number size) (range_with_len (a + 1) n))) (client_none number a size 0) ∙ blocks_none number size n (a + 1)
+
+-- ---- regions
+none_told : {V : Type 0} (masks : ℕ → List ℕ) (p : Program V) → IsNone masks → AreTold masks p → AreTold nothing p
+none_told masks (Up core) none are = λ r g e. let is = are r g e in (is.0 ∙ ap xor_of (none r), is.1 ∙ ap has_any (none r))
+none_told masks (Down store) none are = tt
+
+none_poked : {V : Type 0} (core : Core (Fuse V)) → AreTold nothing (Up core) → NonePoked core.regions.items
+none_poked core are = λ r g e. (are r g e).1
+
+module _ {V : Type 0} (told : V → Option Disk) (may_leave : V → Disk → Type 0) (faults : V → ℕ) (precheck : Bool) where
+  -- a round, that was cut too
+  round_honest : (whole : Bool) (base : List Record) (blocks : List Blocks) (c d : Core (Fuse V)) (ts : List Transcribed) → AreQuiet blocks → IsNoShorter (told_in told) c.vault d.vault
+      → Plays told may_leave faults precheck whole blocks c ts d → IsPointOf told may_leave faults base c → NonePoked c.regions.items → NoneEscapesAt told may_leave d
+  round_honest whole base blocks c d ts quiet longer plays a calm =
+      let led = plays a.start a.batches a.point a.begins in
+      let round = led.round in
+      let w = round.world in
+      let new_is : w.core.regions ≡ d.regions.items = ap (λ (k : CoreState). k.regions) round.core_is ∙ led.stands.at.regions in
+      let old_is : w.old.regions ≡ c.regions.items = ap (λ (k : CoreState). k.regions) round.old_is ∙ a.begins.stands.at.regions in
+      let sizes : regions led.to.core.system.sizes ≡ regions a.point.core.system.sizes =
+      ap (λ (k : CoreState). regions k.system.sizes) (sym round.core_is) ∙ ap regions round.grew.sizes in
+      let count : length d.regions.items ≡ length c.regions.items =
+      ap (λ (l : List RegionState). length l) (sym led.stands.at.regions)
+      ∙ (led.stands.whole.regions ∙ (sizes ∙ (sym a.begins.stands.whole.regions ∙ ap (λ (l : List RegionState). length l) a.begins.stands.at.regions))) in
+      let still : NonePoked d.regions.items = λ r h e.
+      let within = slice_get_within d.regions.items r h e in
+      let was = there_is c.regions.items r (omega (arith, within, count)) in
+      let pokes =
+      round.together.pokes r was.0 h (ap (λ (l : List RegionState). slice_get l r) old_is ∙ was.1) (ap (λ (l : List RegionState). slice_get l r) new_is ∙ e) in
+      pokes.1
+      ∙ (poked_is r was.0.poked w.happened
+      ∙ (ap (λ (p : Bool). p || has_any (masks_at r w.happened)) (calm r was.0 was.1) ∙ ap has_any (quiet_round r whole w blocks (map lines_in ts) quiet round.transcripts))) in
+      stands_honest told may_leave faults d a.start led.batches led.to led.stands (tells_on (told_in told c.vault.store) (told_in told d.vault.store) longer a.tells) still
+
+module _ {V : Type 0} (told : V → Option Disk) (may_leave : V → Disk → Type 0) (moment : V → ℕ) (left_since : V → ℕ → Disk → Type 0) (faults : V → ℕ)
+    (reads_now : (s : V) → IfSome (told s) (λ fs. may_leave s fs)) (counts_now : (s : V) (t : ℕ) (c : Disk) → t ≤ moment s → may_leave s c → left_since s t c)
+    (cuts : V → ℕ → Option Disk) where
+  -- a point of a run where nobody wrote astray
+  record Calm (p : Program V) : Type 0 where
+    base : List Record
+    point : IsAPoint told may_leave faults base p
+    none : AreTold nothing p
+
+  none_in : (p : Program V) → Calm p → NoneEscapesIn told may_leave p
+  none_in (Up core) calm = cores_are_honest told may_leave faults calm.base core calm.point (none_poked core calm.none)
+  none_in (Down store) calm = tt
+
+  calm_down : (base : List Record) (p : Program V) (store : V) → IsDown p store → IsOwn told may_leave base store → Calm p
+  calm_down base p store down own = record { base = base; point = begins_down told may_leave faults base p store down own; none = subst (AreTold nothing) (sym down.down) tt }
+
+  calm_same : (p q : Program V) → q ≡ p → Calm p → Calm q
+  calm_same p q same calm = subst Calm (sym same) calm
+
+  module _ (limit : ℕ) (precheck : Bool) where
+    none_behind : (command : Command) → pokes command ≡ false → (old : Program V) (text : List ℕ) (new : Program V)
+        → (step : Steps told may_leave moment left_since faults limit cuts precheck old command text new)
+        → IsNone (masks_behind told may_leave moment left_since faults limit cuts precheck command old text new step nothing)
+    none_behind (Size index heap) none old text new step r = refl
+    none_behind Open none old text new step r = refl
+    none_behind Restart none old text new step r = refl
+    none_behind (Crash choice) none old text new step r = refl
+    none_behind (Round blocks) none (Up core) text new step r = none_of_blocks r blocks none (map lines_in step.1.transcripts)
+    none_behind (Round blocks) none (Down store) text new step r = refl
+    none_behind (Poke region word mask) none old text new step r = absurd (cc none)
+    none_behind Audit none old text new step r = refl
+    none_behind Checkpoint none old text new step r = refl
+    none_behind Cleanup none old text new step r = refl
+    none_behind Show none old text new step r = refl
+    none_behind Verify none old text new step r = refl
+    none_behind Next none old text new step r = refl
+    none_behind (SetFuse passes) none old text new step r = refl
+
+    left_none : (command : Command) (old : Program V) → Calm old → NoneEscapesLeft told may_leave moment left_since faults limit cuts precheck command old
+    left_none (Size index heap) old calm = none_in old calm
+    left_none Open old calm = none_in old calm
+    left_none Restart old calm = none_in old calm
+    left_none (Crash choice) old calm = none_in old calm
+    left_none _ old calm = tt
+
+    calm_step : (command : Command) → IsFit command → pokes command ≡ false → (old : Program V) (text : List ℕ) (new : Program V)
+        → Steps told may_leave moment left_since faults limit cuts precheck old command text new → Calm old → Calm new
+    calm_step command fit none old text new step calm =
+        let onward = step_goes told may_leave moment left_since faults reads_now counts_now limit cuts precheck command calm.base old new text step calm.point (left_none command old calm) in
+        let are = step_told told may_leave moment left_since faults reads_now counts_now limit cuts precheck command fit nothing calm.base old new text step calm.point calm.none in
+        record {
+          base = onward.log;
+          point = onward.point;
+          none = none_told (masks_behind told may_leave moment left_since faults limit cuts precheck command old text new step nothing) new (none_behind command none old text new step) are;
+        }
+
+    -- ---- a command that failed
+    lost_honest : (blocks : List Blocks) (old : Program V) (f : Fuse V) (lost : Lost told may_leave faults precheck blocks old f) → AreQuiet blocks → Calm old
+        → NoneEscapesCut told may_leave moment left_since faults limit cuts precheck blocks old f lost
+    lost_honest blocks (Up core) f (inl same) quiet calm = none_in (Up core) calm
+    lost_honest blocks (Up core) f (inr played) quiet calm =
+        round_honest told may_leave faults precheck played.whole calm.base blocks core played.core played.transcripts quiet played.longer played.plays calm.point (none_poked core calm.none)
+    lost_honest blocks (Down store) f lost quiet calm = tt
+
+    alone_honest : (act : Act) (old : Program V) (f : Fuse V) (fails : AloneFails told may_leave faults precheck act old f) → AreQuiet (alone act) → Calm old
+        → NoneEscapesAlone told may_leave moment left_since faults limit cuts precheck act old f fails
+    alone_honest act (Up core) f fails quiet calm =
+        round_honest told may_leave faults precheck true calm.base (alone act) core fails.core fails.transcripts quiet fails.longer fails.plays calm.point (none_poked core calm.none)
+    alone_honest act (Down store) f fails quiet calm = tt
+
+    broken_honest : (command : Command) → IsFit command → pokes command ≡ false → (old : Program V) (f : Fuse V) (breaks : Breaks told may_leave moment left_since faults precheck command old f)
+        → Calm old → NoneEscapesLost told may_leave moment left_since faults limit cuts precheck command old f breaks
+    broken_honest (Round blocks) fit none old f breaks calm = lost_honest (map told_by blocks) old f breaks (are_quiet blocks fit.placed none) calm
+    broken_honest (Poke region word mask) fit none old f breaks calm = absurd (cc none)
+    broken_honest Audit fit none old f breaks calm = lost_honest (alone Audits) old f breaks ((tt, refl), tt) calm
+    broken_honest Checkpoint fit none old f breaks calm = lost_honest (alone Checkpoints) old f breaks ((tt, refl), tt) calm
+    broken_honest _ fit none old f breaks calm = none_in old calm
+
+    failed_honest : (command : Command) → pokes command ≡ false → (old : Program V) (f : Fuse V) (fails : StoreFailsIn told may_leave moment left_since faults precheck command old f)
+        → Calm old → NoneEscapesFailed told may_leave moment left_since faults limit cuts precheck command old f fails
+    failed_honest (Poke region word mask) none old f fails calm = absurd (cc none)
+    failed_honest Audit none old f fails calm = alone_honest Audits old f fails ((tt, refl), tt) calm
+    failed_honest Checkpoint none old f fails calm = alone_honest Checkpoints old f fails ((tt, refl), tt) calm
+    failed_honest _ none old f fails calm = none_in old calm
+
+    behind_honest : (halt : Halt) (command : Command) → IsFit command → pokes command ≡ false → (old : Program V) (f : Fuse V) (fails : Fails told may_leave moment left_since faults precheck halt command old f)
+        → Calm old → NoneEscapesBehind told may_leave moment left_since faults limit cuts precheck halt command old f fails
+    behind_honest halts.StoreFault command fit none old f fails calm = failed_honest command none old f fails calm
+    behind_honest halts.OutOfMemory command fit none old f fails calm = broken_honest command fit none old f fails calm
+    behind_honest _ command fit none old f fails calm = none_in old calm
+
+    -- ---- some commands
+    record Walked (commands : List Command) (old : Program V) (text : List ℕ) (new : Program V)
+        (runs : RunsAll told may_leave moment left_since faults limit cuts precheck old commands text new) : Type 0 where
+      each : NoneEscape told may_leave moment left_since faults limit cuts precheck commands old text new runs
+      calm : Calm new
+
+    walk : (commands : List Command) → AreFit commands → list_any pokes commands ≡ false → (old : Program V) (text : List ℕ) (new : Program V)
+        → (runs : RunsAll told may_leave moment left_since faults limit cuts precheck old commands text new) → Calm old → Walked commands old text new runs
+    walk [] fit none old text new runs calm = record { each = tt; calm = calm_same old new runs.1 calm }
+    walk (command ∷ later) fit none old text new runs calm =
+        let parts = or_parts (pokes command) (list_any pokes later) none in
+        let rest = walk later fit.1 parts.1 runs.1 runs.2 new runs.4 (calm_step command fit.0 parts.0 old runs.0 runs.1 runs.3 calm) in
+        record { each = (left_none command old calm, rest.each); calm = rest.calm }
+
+    walked : (base : List Record) (start : V) (script : List Command) → AreFit script → list_any pokes script ≡ false → IsOwn told may_leave base start → (count : ℕ) (text : List ℕ) (new : Program V)
+        → (run : HasRun told may_leave moment left_since faults limit cuts precheck start script count text new) → Walked (take count script) run.first text new run.runs
+    walked base start script fit none own count text new run =
+        walk (take count script) (fit_front count script fit) (front_none count script none) run.first text new run.runs (calm_down base run.first start run.down own)
+
+    -- ---- a script
+    module _ (c : Course V) (mid : Option (List ℕ)) (count : ℕ) (base : List Record) (own : IsOwn told may_leave base c.store)
+        (nowhere : (script : List Command) → Spells c.left script c.left' → list_any pokes script ≡ false) where
+      stop_honest : (halt : Halt) (stopped : HasStopped told may_leave moment left_since faults limit cuts precheck halt c mid)
+          → StopIsHonest told may_leave moment left_since faults limit cuts precheck c mid count halt stopped
+      stop_honest halt stopped =
+          let stops = stopped.2 in
+          let fit = all_fit stopped.1.bytes stopped.0 stopped.1.spelled in
+          let none = nowhere stopped.0 stopped.1 in
+          let gone = walked base c.store stopped.0 fit none own stops.count stops.text stops.state stops.run in (
+            gone.each,
+            behind_honest halt stops.command (next_fit stopped.0 stops.count stops.command fit stops.next.next) (next_none stopped.0 stops.count stops.command none stops.next.next) stops.state stops.last stops.fails gone.calm,
+          )
+
+      memory_honest : (o : Untouched c mid ⊎ HasStopped told may_leave moment left_since faults limit cuts precheck halts.OutOfMemory c mid)
+          → MemoryIsHonest told may_leave moment left_since faults limit cuts precheck c mid count o
+      memory_honest (inl same) = tt
+      memory_honest (inr stopped) = stop_honest halts.OutOfMemory stopped
+
+      script_honest : (status : Status) (ended : EndedScript told may_leave moment left_since faults limit cuts precheck c mid count status)
+          → ScriptIsHonest told may_leave moment left_since faults limit cuts precheck c mid count status ended
+      script_honest Done ended =
+          let ran = ended.2 in
+          let gone = walked base c.store ended.0 (all_fit ended.1.bytes ended.0 ended.1.spelled) (nowhere ended.0 ended.1) own (length ended.0) ran.text ran.state ran.run in
+          (gone.each, none_in ran.state gone.calm)
+      script_honest WriteFault ended =
+          let script = ended.1.0 in
+          let cut = ended.1.2 in
+          let fit = all_fit ended.1.1.bytes script ended.1.1.spelled in
+          let none = nowhere script ended.1.1 in
+          let gone = walked base c.store script fit none own cut.count cut.text cut.earlier cut.ran in
+          let calm = calm_step cut.command (next_fit script cut.count cut.command fit cut.next.next) (next_none script cut.count cut.command none cut.next.next) cut.earlier cut.more cut.state cut.steps gone.calm in
+          (gone.each, left_none cut.command cut.earlier gone.calm, none_in cut.state calm)
+      script_honest StoreFault ended = stop_honest halts.StoreFault ended
+      script_honest (BadStore file at) ended = stop_honest (halts.BadStore file at) ended
+      script_honest Unformatted ended = stop_honest halts.Unformatted ended
+      script_honest Formatted ended = stop_honest halts.Formatted ended
+      script_honest OutOfMemory ended = memory_honest ended
+      script_honest BadWords ended = tt
+      script_honest (BadScript line kind) ended = tt
+      script_honest TooLong ended = tt
+      script_honest ReadFault ended = tt
+      script_honest (LogFull end most) ended = tt
+
+  -- ---- a generated script
+  module _ (clients size number : ℕ) (within : AreWithin clients size) (c : Course V) (base : List Record) (own : IsOwn told may_leave base c.store) where
+    blocks_fit : AreBlocks (map told_by (generated clients size number))
+    blocks_fit = right_blocks (generated clients size number) (right_round clients size number within)
+
+    calm_made : (made : Core (Fuse V)) → IsMade told may_leave moment left_since faults 67108864 clients size c.store made → Calm (Up made)
+    calm_made made is_made =
+        calm_step 67108864 false (Size (index_regions clients size) (heap_regions clients size)) (right_sizes clients size within) refl is_made.first [] (Up made) is_made.steps
+        (calm_down base is_made.first c.store is_made.down own)
+
+    calm_played : (ends : Option Halt) (run : IsPlayed told may_leave moment left_since faults 67108864 clients size number c.store ends) → Calm (Up run.played)
+    calm_played ends run =
+        calm_step 67108864 false (Round (generated clients size number)) blocks_fit (blocks_none number size clients 1) (Up run.made) run.round.text (Up run.played) (run.played, run.round.round, refl)
+        (calm_made run.made run.is_made)
+
+    played_honest : (ends : Option Halt) (run : IsPlayed told may_leave moment left_since faults 67108864 clients size number c.store ends)
+        → PlayedIsHonest told may_leave moment left_since faults cuts clients size number c.store ends run
+    played_honest ends run = none_in (Up run.played) (calm_played ends run)
+
+    found_honest : (core : Core (Fuse V)) (run : GeneratorFinds told may_leave moment left_since faults cuts clients size number c.store core)
+        → FoundIsHonest told may_leave moment left_since faults cuts clients size number c.store core run
+    found_honest core run =
+        let crashed = calm_step 67108864 false (Crash 0) tt refl (Up run.run.run.played) run.run.text run.run.crashed run.run.crash (calm_played None run.run.run) in
+        let found = calm_step 67108864 false Restart tt refl run.run.crashed run.text (Up core) (inl run.restart) crashed in
+        (played_honest None run.run.run, none_in (Up core) found)
+
+    stops_honest : (halt : Halt) (stops : GeneratorStops told may_leave moment left_since faults cuts clients size number halt c.store c.store')
+        → GeneratorStopIsHonest told may_leave moment left_since faults cuts clients size number halt c.store c.store' stops
+    stops_honest halt (inl first) = tt
+    stops_honest halt (inr (inl crash)) = played_honest None crash.0
+    stops_honest halt (inr (inr restart)) = played_honest None restart.0.run
+
+    cut_honest : (made : Core (Fuse V)) (f : Fuse V) (cut : IsCutRound told may_leave faults (map told_by (generated clients size number)) made f) → Calm (Up made)
+        → CutIsHonest told may_leave moment left_since faults cuts clients size number made f cut
+    cut_honest made f (inl none) calm = none_in (Up made) calm
+    cut_honest made f (inr cut) calm =
+        let played = cut.0 in
+        round_honest told may_leave faults false played.whole calm.base (map told_by (generated clients size number)) made played.core played.transcripts
+        (are_quiet (generated clients size number) blocks_fit.placed (blocks_none number size clients 1)) played.longer played.plays calm.point (none_poked made calm.none)
+
+    loss_honest : (lost : GeneratorLoses told may_leave moment left_since faults cuts clients size number c.store c.store')
+        → LossIsHonest told may_leave moment left_since faults cuts clients size number c.store c.store' lost
+    loss_honest lost = cut_honest lost.made lost.left lost.cut (calm_made lost.made lost.is_made)
+
+    fault_honest : (f : GeneratorFails told may_leave moment left_since faults cuts clients size number c.store c.store')
+        → FaultIsHonest told may_leave moment left_since faults cuts clients size number c None 0 f
+    fault_honest (inl stops) = stops_honest halts.StoreFault stops
+    fault_honest (inr (inl refused)) = played_honest (Some halts.StoreFault) refused.run
+    fault_honest (inr (inr none)) = played_honest None none.run.run
+
+    want_honest : (w : GeneratorWants told may_leave moment left_since faults cuts clients size number c.store c.store')
+        → WantIsHonest told may_leave moment left_since faults cuts clients size number c None 0 w
+    want_honest (inl same) = tt
+    want_honest (inr (inl (inl stops))) = stops_honest halts.OutOfMemory stops
+    want_honest (inr (inl (inr lost))) = loss_honest lost
+    want_honest (inr (inr (inl refused))) = played_honest (Some halts.OutOfMemory) refused.run
+    want_honest (inr (inr (inr last))) = found_honest last.0 last.1
+
+    generator_honest : (mid : Option (List ℕ)) (count : ℕ) (status : Status) (ended : EndedGenerator told may_leave moment left_since faults cuts clients size number c mid count status)
+        → GeneratorIsHonest told may_leave moment left_since faults cuts clients size number c mid count status ended
+    generator_honest mid count Done ended = found_honest ended.1.found ended.1.run
+    generator_honest mid count WriteFault ended = found_honest ended.1.found ended.1.run
+    generator_honest mid count StoreFault ended = fault_honest ended.0
+    generator_honest mid count (BadStore file at) ended = stops_honest (halts.BadStore file at) ended.0
+    generator_honest mid count Unformatted ended = stops_honest halts.Unformatted ended.0
+    generator_honest mid count Formatted ended = stops_honest halts.Formatted ended.0
+    generator_honest mid count (LogFull end most) ended = played_honest (Some (halts.LogFull end most)) ended.0.run
+    generator_honest mid count OutOfMemory ended = want_honest ended.0
+    generator_honest mid count BadWords ended = tt
+    generator_honest mid count (BadScript line kind) ended = tt
+    generator_honest mid count TooLong ended = tt
+    generator_honest mid count ReadFault ended = tt
+
+  -- ---- each task of the words
+  honest : (c : Course V) (base : List Record) → IsOwn told may_leave base c.store → (words : List (List ℕ)) (mid : Option (List ℕ)) (count : ℕ) (task : Option Task) → meaning words ≡ task → PokesNowhere task c
+      → (status : Status) (ended : Ended told may_leave moment left_since faults cuts task c mid count status) → IsHonest told may_leave moment left_since faults cuts c mid count task status ended
+  honest c base own words mid count None is nowhere status ended = tt
+  honest c base own words mid count (Some Dump) is nowhere status ended = tt
+  honest c base own words mid count (Some (Run precheck limit)) is nowhere status ended = script_honest limit precheck c mid count base own nowhere status ended
+  honest c base own words mid count (Some (Generate clients size number)) is nowhere status ended =
+      let range : IsInRange (Generate clients size number) = in_range words (Generate clients size number) is in
+      generator_honest clients size number
+      (record { some_clients = range.0.0; few_clients = range.0.1; some_transactions = range.1.0; few_transactions = range.1.1 }) c base own mid count status ended
+
+  pub runs_are_honest : RunsAreHonest told may_leave moment left_since faults cuts
+  runs_are_honest words c status base own nowhere e = honest c base own words e.mid e.count (meaning words) refl nowhere status e.ended

@@ -1,0 +1,262 @@
+-- What a generated run writes follows from its three numbers.
+use Rattle.std.proofs.Common.{◌≡◌, ◌≤◌, ℕ, zero, suc, Bool, true, false, List, [], ◌∷◌, ◌++◌, length, map, take, Option, Some, None, refl, sym, ◌∙◌, ap, subst, arith, inl, inr, append-nil}
+use Rattle.std.specs.Prelude.{IfSome, is_some}
+use Rattle.dali_again.proofs.Found.{crash_is_found}
+use Rattle.dali_again.proofs.Places.{start_has_place}
+use Rattle.dali_again.specs.Found.{FindsIt}
+use Rattle.dali_arguments.specs.Laws.{IsInRange}
+use Rattle.dali_arguments.specs.Meaning.{meaning}
+use Rattle.dali_arguments.specs.declared.task.Task.{Task}
+use Rattle.dali_arguments.specs.declared.task.Task.TheVariants.{Run, Generate, Dump}
+use Rattle.dali_arguments.proofs.InRange.{in_range}
+use Rattle.dali_chain.proofs.Made.{format_begins, restart_begins}
+use Rattle.dali_again.proofs.Stages.{same_sizes}
+use Rattle.dali_crash.specs.Checkpoints.{Point}
+use Rattle.dali_crash.specs.Traces.{start_point}
+use Rattle.dali_crash.proofs.Courses.{format_is_history}
+use Rattle.dali_crash.proofs.Traces.{every_trace_is_right, trace_prefix}
+use Rattle.dali_generator.specs.Generated.{AreWithin, generated, index_regions, heap_regions}
+use Rattle.dali_generator.specs.Summary.{summary_of, summary_left}
+use Rattle.dali_geometry.specs.Sizes.{Sizes}
+use Rattle.dali_history.specs.History.{IsHistory}
+use Rattle.dali_listing.specs.declared.Listed.{Listed}
+use Rattle.dali_listing.specs.Listing.{IsListing, in_memory}
+use Rattle.dali_memstore.specs.Fuse.{inner}
+use Rattle.dali_memstore.specs.declared.fuse.Fuse.{Fuse}
+use Rattle.dali_record.specs.declared.records.Call.{Call}
+use Rattle.dali_record.specs.declared.records.Record.{Record}
+use Rattle.dali_record.specs.declared.records.Record.TheVariants.{Format}
+use Rattle.dali_record.specs.Epochs.{last_epoch}
+use Rattle.dali_record.specs.Files.{Files}
+use Rattle.dali_record.specs.Legal.{sizes_of as sizes_in}
+use Rattle.dali_restart.specs.Formatted.{first_at, first_record}
+use Rattle.dali_restart.specs.Restarting.{outcome, BeginsRun, Gives, GoesOnFrom}
+use Rattle.dali_round.specs.Leads.{lines_in}
+use Rattle.dali_served.specs.Served.{HasServed, IsFront}
+use Rattle.dali_served.specs.Generates.{calls_told}
+use Rattle.dali_served.proofs.Law.{served_rounds}
+use Rattle.dali_served.proofs.Summing.{summaries_follow}
+use Rattle.dali_store.specs.Store.{Files as Disk}
+use Rattle.dali_streams.specs.Streams.{Appends}
+use Rattle.dali_system.specs.Crashes.{NoneEscapes}
+use Rattle.dali_system.specs.Run.{log_in}
+use Rattle.dali_system.specs.State.{CoreState, SystemState, log_after, stable}
+use Rattle.dali_system.specs.declared.causes.Cause.{Cause}
+use Rattle.dali_system.specs.declared.causes.Cause.TheVariants.{Damage, Store}
+use Rattle.dali_traces.specs.Bridges.{TracedTo}
+use Rattle.dali_traces.specs.Disks.{AllSpell, Spells}
+use Rattle.dali_transcripts.specs.Transcripts.{Told as Blocks}
+use Rattle.dali_transcripts.specs.World.{log_of}
+use Rattle.dali_clients.specs.Said.{Transcribed}
+use Rattle.dali_whole.specs.declared.whole.Core.{Core}
+use Rattle.dali_run.specs.declared.halt.Halt.{Halt}
+use Rattle.dali_run.specs.declared.program.Program.{Program}
+use Rattle.dali_run.specs.declared.program.Program.TheVariants.{Up, Down}
+use Rattle.dali_run.specs.declared.status.Status.TheVariants.{Done}
+use Rattle.dali_run.specs.Ends.{Course, Ended, EndedGenerator, GeneratorFinds, LastLine}
+use Rattle.dali_run.specs.Generating.{all_served, first_full, halt_of, sum_of_keys}
+use Rattle.dali_run.specs.Honest.{PokesNowhere}
+use Rattle.dali_run.specs.Program.{IsDown, store_of, told_in, leaves_in, faults_in}
+use Rattle.dali_run.specs.Steps.{Plays, Restarts, StepsSize}
+use Rattle.dali_run.specs.Summaries.{SummaryDepends}
+use Rattle.dali_run.specs.Survives.{FoundIsHonest, IsHonest, IsOwn, IsPointOf, NoneEscapesAt}
+use Rattle.dali_run.specs.Told.{told_by, sizes_of}
+use Rattle.dali_run.proofs.Honest.{runs_are_honest}
+use Rattle.dali_run.proofs.Serves.{are_told, lines_served}
+use Rattle.dali_run.proofs.Surviving.{no_words, no_heads, none_synced, none_escapes, own_same, at_start, tells_on, told_there}
+
+-- ---- a round that ended nothing served all
+served_if : (o : Option Halt) (stop : Option Cause) (served : Bool) → halt_of o stop served ≡ None → served ≡ true
+served_if (Some halt) stop served e = absurd cc
+served_if None (Some Store) served e = absurd cc
+served_if None (Some (Damage region)) served e = absurd cc
+served_if None None true e = refl
+served_if None None false e = absurd cc
+
+-- ---- the last line of such a run is empty
+take_none : (n : ℕ) (xs : List ℕ) → xs ≡ [] → take n xs ≡ []
+take_none zero xs e = refl
+take_none (suc n) xs e = ap (take (suc n)) e
+
+written : (before mid after : Option (List ℕ)) (text : List ℕ) (f g : ℕ) → Appends before text mid → LastLine mid Done after f g → Appends before text after
+written (Some old) (Some new) after text f g e (inl all) = all.0 ∙ ap (λ (l : List ℕ). Some l) (append-nil new) ∙ e
+written (Some old) (Some new) (Some last) text f g e (inr some) =
+    ap (λ (l : List ℕ). Some l) (some.0.added ∙ (ap (λ (l : List ℕ). new ++ l) (take_none some.0.count [] refl) ∙ append-nil new)) ∙ e
+written (Some old) (Some new) None text f g e (inr some) = absurd some.0
+written (Some old) None after text f g e last = absurd cc
+written None mid after text f g e last = by_last (subst (λ (o : Option (List ℕ)). LastLine o Done after f g) e last)
+  where
+    by_last : LastLine None Done after f g → after ≡ None
+    by_last (inl all) = all.0
+    by_last (inr some) = some.0
+
+module _ {V : Type 0} (told : V → Option Disk) (may_leave : V → Disk → Type 0) (moment : V → ℕ) (left_since : V → ℕ → Disk → Type 0) (faults : V → ℕ)
+    (reads_now : (s : V) → IfSome (told s) (λ fs. may_leave s fs)) (counts_now : (s : V) (t : ℕ) (c : Disk) → t ≤ moment s → may_leave s c → left_since s t c) where
+  -- ---- a database that was just made
+  record IsFirst (s : Sizes) (core : Core (Fuse V)) : Type 0 where
+    at : IsPointOf told may_leave faults (first_record s ∷ []) core
+    log : at.start.log ≡ first_record s ∷ []
+    point : at.point ≡ start_point at.start
+
+  abbrev BeginsFirst : Sizes → Program V → Type 0
+  BeginsFirst s (Up core) = IsFirst s core
+  BeginsFirst s (Down store) = Unit {0}
+
+  down_own : (base : List Record) (p : Program V) (store : V) → IsDown p store → IsOwn told may_leave base store → IsOwn told may_leave base (inner (store_of p))
+  down_own base p store down own =
+      own_same told may_leave faults base store (inner (store_of p)) (sym down.store_is ∙ ap (λ (q : Program V). inner (store_of q)) (sym down.down)) own
+
+  first_of : (limit index heap : ℕ) (base : List Record) (old : Program V) (text : List ℕ) (core : Core (Fuse V)) → IsOwn told may_leave base (inner (store_of old))
+      → StepsSize told may_leave moment left_since faults limit index heap old text (Up core) → IsFirst (sizes_of index heap) core
+  first_of limit index heap base old text core own step =
+      let s = sizes_of index heap in
+      let start = first_at (told_in told) (leaves_in may_leave) (faults_in faults) s limit step.core.vault no_words no_heads none_synced in
+      let begins = format_begins (told_in told) (leaves_in may_leave) (faults_in faults) s limit step.core.regions.items step.core.system step.core.vault step.fresh step.whole step.begins no_words
+      no_heads none_synced in
+      let at : IsPointOf told may_leave faults (first_record s ∷ []) step.core = record {
+        tells = step.left.tells ∙ own.0;
+        start = start;
+        placed = begins.1;
+        history = format_is_history s (begins.0.stands.at.vault.run.run.run.runs.log.spelled 0 (Format index heap) refl);
+        batches = (first_record s ∷ []) ∷ [];
+        point = start_point start;
+        begins = begins.0;
+        flushed = at_start told may_leave moment left_since faults reads_now counts_now start begins.0.stands.at.vault.run;
+      } in
+      let first : IsFirst s step.core = record { at = at; log = refl; point = refl } in
+      subst (BeginsFirst s) (sym step.up) first
+
+  -- ---- its round
+  module _ (clients size number : ℕ) (within : AreWithin clients size) where
+    abbrev calls : ℕ → List (List Call)
+    calls = calls_told clients size number
+
+    abbrev blocks : List Blocks
+    blocks = map told_by (generated clients size number)
+
+    -- what a crash behind the round leaves
+    record IsLeftBy (core : Core (Fuse V)) (c : Disk) : Type 0 where
+      files : Files
+      spells : Spells c files
+      finds : FindsIt files
+      history : IsHistory (log_in files)
+      served : HasServed calls (log_in files)
+
+    served_behind : (s : Sizes) (made played : Core (Fuse V)) (ts : List Transcribed) → IsFirst s made → Plays told may_leave faults false true blocks made ts played
+        → all_served ts ≡ true → is_some (told_in told played.vault.store) ≡ true → NoneEscapesAt told may_leave played
+        → (c : Disk) → leaves_in may_leave played.vault.store c → IsLeftBy played c
+    served_behind s made played ts first plays all tells none c may =
+        let a = first.at in
+        let start = a.start in
+        let led = plays start a.batches a.point a.begins in
+        let stands = led.stands in
+        let each : AllSpell (leaves_in may_leave played.vault.store) (TracedTo start led.batches led.to) = told_there (told_in told played.vault.store) tells stands.at.vault.files in
+        let one = each c may in
+        let E = one.0 in
+        let t = one.2 in
+        let escapes : NoneEscapes (last_epoch (log_in E)) led.to.core = none_escapes (last_epoch (log_in E)) played.regions.items played.system.state led.to.core.vault led.to.core stands.at.regions (none led.to.core.vault c E may one.1) in
+        let found = crash_is_found start t.first t.starts (start_has_place start t.first t.starts a.placed) t.steps led.to E t.trace escapes.seen in
+        let right = (every_trace_is_right start t.first t.starts t.steps led.to E t.trace).right a.history escapes in
+        let prefix = trace_prefix start t.first t.starts t.steps led.to E t.trace in
+        let run = stands.at.vault.run.run in
+        let w = led.round.world in
+        let log : led.to.log ≡ log_of w = run.log ∙ led.round.log in
+        let core : w.core ≡ led.to.core = led.round.core_is in
+        let before : w.before ≡ first_record s ∷ [] =
+        led.round.before_is ∙ (ap (λ (p : Point). log_after start.log p.core.system) first.point ∙ (append-nil start.log ∙ first.log)) in
+        let begun : length start.log ≤ stable led.to.core = omega (arith, run.run.first) in
+        let front : IsFront w (log_in E) = record {
+          count = prefix.count;
+          is = prefix.log ∙ ap (take prefix.count) log;
+          begun = omega (arith, prefix.flushed, begun, ap length before, ap length first.log);
+          flushed = subst (λ (d : CoreState). stable d ≤ prefix.count) (sym core) prefix.flushed;
+        } in
+        record {
+          files = E;
+          spells = one.1;
+          finds = found.0;
+          history = right.restarts.history;
+          served =
+              served_rounds false start.log a.point.core led.to.core blocks (map lines_in ts) (map (λ (x : Transcribed). x.receipts) ts) calls s.index s.heap (log_in E) led.round before
+              (are_told clients size number) (lines_served ts all) front right.restarts.history.legal;
+        }
+
+    -- ---- what is found of it
+    abbrev Sums : Core (Fuse V) → Type 0
+    Sums core = (rows : List Listed) → IsListing core.system.state.sizes (in_memory core.regions.items) rows → summary_of clients size (length rows) (sum_of_keys rows) ≡ summary_left clients size number
+
+    abbrev SumsIn : Program V → Type 0
+    SumsIn (Up core) = Sums core
+    SumsIn (Down store) = Unit {0}
+
+    same_in : (L M : List Record) → GoesOnFrom L M → sizes_in M ≡ sizes_in L
+    same_in L M (inl same) = ap sizes_in same
+    same_in L M (inr closed) = ap sizes_in closed ∙ same_sizes L
+
+    sums_found : (limit : ℕ) (old : Program V) (text : List ℕ) (found played : Core (Fuse V)) → is_some (told (inner (store_of old))) ≡ true
+        → ((c : Disk) → may_leave (inner (store_of old)) c → IsLeftBy played c)
+        → (step : Restarts told may_leave moment left_since faults limit old text (Up found)) → Sums found
+    sums_found limit old text found played tells left step =
+        subst SumsIn (sym step.up) (by_told (told (inner (store_of old))) tells (reads_now (inner (store_of old))) step.gives step.begins)
+      where
+        from : (fs : Disk) → IsLeftBy played fs → Gives fs (outcome step.core.regions.items step.report)
+            → BeginsRun (told_in told) (leaves_in may_leave) (faults_in faults) limit fs step.core.regions.items step.core.system.state step.core.vault → Sums step.core
+        from fs has gives runs rows listing =
+            let o = gives has.files has.spells has.finds in
+            let expected = o.records has.history in
+            let at = restart_begins (told_in told) (leaves_in may_leave) (faults_in faults) limit fs has.files step.core.regions.items step.core.system step.core.vault step.fresh step.whole runs has.spells has.finds
+            no_words no_heads none_synced in
+            let sizes : step.core.system.state.sizes ≡ sizes_in (log_in has.files) =
+            ap (λ (y : SystemState). y.sizes) (sym at.begins.stands.at.system) ∙ same_in (log_in has.files) at.start.log at.log in
+            summaries_follow clients size number (log_in has.files) expected.map (sizes_in (log_in has.files)) (in_memory step.core.regions.items) rows within has.served expected.expected_is expected.records_are
+            (subst (λ s. IsListing s (in_memory step.core.regions.items) rows) sizes listing)
+
+        by_told : (o : Option Disk) → is_some o ≡ true → IfSome o (λ fs. may_leave (inner (store_of old)) fs) → IfSome o (λ fs. Gives fs (outcome step.core.regions.items step.report))
+            → IfSome o (λ fs. BeginsRun (told_in told) (leaves_in may_leave) (faults_in faults) limit fs step.core.regions.items step.core.system.state step.core.vault) → Sums step.core
+        by_told None is may gives runs = absurd cc
+        by_told (Some fs) is may gives runs = from fs (left fs may) gives runs
+
+    module _ (cuts : V → ℕ → Option Disk) where
+      sums : (base : List Record) (start : V) (found : Core (Fuse V)) → IsOwn told may_leave base start
+          → (run : GeneratorFinds told may_leave moment left_since faults cuts clients size number start found)
+          → FoundIsHonest told may_leave moment left_since faults cuts clients size number start found run → Sums found
+      sums base start found own run honest =
+          let p = run.run.run in
+          let m = p.is_made in
+          let first = first_of 67108864 (index_regions clients size) (heap_regions clients size) base m.first [] p.made (down_own base m.first start m.down own) m.steps in
+          let r = p.round.round in
+          let all = served_if (first_full r.transcripts) p.played.system.state.stop (all_served r.transcripts) p.round.is in
+          let tells : is_some (told_in told p.played.vault.store) ≡ true = tells_on (told_in told p.made.vault.store) (told_in told p.played.vault.store) r.longer first.at.tells in
+          let crash = run.run.crash in
+          let store : inner (store_of run.run.crashed) ≡ crash.store = ap (λ (q : Program V). inner (store_of q)) crash.down.down ∙ crash.down.store_is in
+          sums_found 67108864 run.run.crashed run.text found p.played
+          (ap (λ (v : V). is_some (told v)) store ∙ (crash.left.tells ∙ tells))
+          (λ c may. served_behind (sizes_of (index_regions clients size) (heap_regions clients size)) p.made p.played r.transcripts first r.plays all tells honest.0 c (crash.left.crash c (subst (λ (v : V). may_leave v c) store may)))
+          run.restart
+
+  -- ---- the words
+  module _ (cuts : V → ℕ → Option Disk) (c : Course V) (base : List Record) (own : IsOwn told may_leave base c.store) where
+    generated_text : (clients size number : ℕ) → AreWithin clients size → (mid : Option (List ℕ)) (count : ℕ) (ended : EndedGenerator told may_leave moment left_since faults cuts clients size number c mid count Done)
+        → FoundIsHonest told may_leave moment left_since faults cuts clients size number c.store ended.1.found ended.1.run → Appends c.taken (summary_left clients size number) mid
+    generated_text clients size number within mid count ended honest =
+        subst (λ text. Appends c.taken text mid) (ended.1.printed ∙ sums clients size number within cuts base c.store ended.1.found own ended.1.run honest ended.1.rows ended.1.listing) ended.2.1
+
+    of_task : (words : List (List ℕ)) (task : Option Task) → meaning words ≡ task → (clients size number : ℕ) → task ≡ Some (Generate clients size number)
+        → (mid : Option (List ℕ)) (count : ℕ) (ended : Ended told may_leave moment left_since faults cuts task c mid count Done)
+        → IsHonest told may_leave moment left_since faults cuts c mid count task Done ended → Appends c.taken (summary_left clients size number) mid
+    of_task words None is clients size number same mid count ended honest = absurd cc
+    of_task words (Some Dump) is clients size number same mid count ended honest = absurd cc
+    of_task words (Some (Run precheck limit)) is clients size number same mid count ended honest = absurd cc
+    of_task words (Some (Generate a b n)) is clients size number same mid count ended honest =
+        let range : IsInRange (Generate a b n) = in_range words (Generate a b n) is in
+        let text = generated_text a b n (record { some_clients = range.0.0; few_clients = range.0.1; some_transactions = range.1.0; few_transactions = range.1.1 }) mid count ended honest in
+        let one : a ≡ clients = cc in
+        let two : b ≡ size = cc in
+        let three : n ≡ number = cc in
+        subst (λ x. Appends c.taken (summary_left clients size x) mid) three (subst (λ x. Appends c.taken (summary_left clients x n) mid) two (subst (λ x. Appends c.taken (summary_left x b n) mid) one text))
+
+  pub summary_depends : (cuts : V → ℕ → Option Disk) → SummaryDepends told may_leave moment left_since faults cuts
+  summary_depends cuts words c base clients size number is own e =
+      let honest = runs_are_honest told may_leave moment left_since faults reads_now counts_now cuts words c Done base own (subst (λ (task : Option Task). PokesNowhere task c) (sym is) tt) e in
+      written c.taken e.mid c.taken' (summary_left clients size number) e.count c.write_faults'
+      (of_task cuts c base own words (meaning words) refl clients size number is e.mid e.count e.ended honest) e.last

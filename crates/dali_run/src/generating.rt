@@ -1,0 +1,337 @@
+//! A generated script, and the summary of what it leaves.
+ghost use Rattle.std.specs.Prelude.{◌≡◌, ◌≤◌, List, ℕ, None, false, IfErr, IfOk, IsErrOf, OnOk, map, length};
+ghost use Rattle.dali_clients.specs.Told.{said_of};
+ghost use Rattle.dali_generator.specs.Generated.{AreWithin, generated, index_regions, heap_regions};
+ghost use Rattle.dali_generator.specs.Summary.{summary_of};
+ghost use Rattle.dali_listing.specs.Listing.{IsListing, in_memory};
+ghost use Rattle.dali_listing.specs.declared.Listed.{Listed};
+ghost use Rattle.dali_memstore.specs.Fuse.{inner};
+ghost use Rattle.dali_script.specs.declared.commands.Command.TheVariants.{Size, Crash, Restart};
+ghost use Rattle.dali_served.specs.Served.{has_room, is_served};
+ghost use Rattle.dali_streams.specs.Streams.{Appends};
+ghost use Rattle.dali_transcripts.specs.Rounds.{AreBlocks};
+ghost use Rattle.dali_run.specs.declared.halt.Halt.TheVariants.{OutOfMemory};
+ghost use Rattle.dali_run.specs.declared.program.Program.TheVariants.{Up};
+ghost use Rattle.dali_run.specs.Ends.{Generates, GeneratorFinds};
+ghost use Rattle.dali_run.specs.Generating.{full_in, full_among, first_full, serves, all_served, halt_of_round, sum_of_keys, FailsIn, IsMade, IsRoundOf, NotRestarted, RoundStops};
+ghost use Rattle.dali_run.specs.Program.{IsDown, PlacesIn, store_of};
+ghost use Rattle.dali_run.specs.Steps.{StepsCrash, Restarts};
+ghost use Rattle.dali_run.specs.Stops.{GeneratorEnds, GeneratorHalts};
+ghost use Rattle.dali_run.specs.Told.{told_by};
+
+use crate::blocks::blocks_of;
+use crate::halt::Halt;
+use crate::program::Program;
+use crate::rounds::play;
+use crate::setting::Setting;
+use crate::stores::{crash, open, size as make};
+use crate::texts::write_whole;
+use dali_clients::{Line as Said, Transcript, Why};
+use dali_generator::{blocks, heap_regions, index_regions, summary};
+use dali_listing::{Listed, records};
+use dali_memstore::Fuse;
+use dali_record::Answer;
+use dali_script::Block;
+use dali_stepwise::Gate;
+use dali_store::Store;
+use dali_streams::Sink;
+use dali_system::Cause;
+use dali_whole::Core;
+use std::alloc::Global;
+
+/// A run that ended before its summary.
+#[derive(Drop)]
+struct Stopped<V: Store> {
+    store: V,
+    halt: Halt,
+}
+
+// What a line ends the run with that says that the log is full.
+fn full_in(said: &Said) -> Option<Halt>
+    ensures { result ≡ full_in (said_of said.now) }
+{
+    match said {
+        Said::Refused {
+            why: Why::LogFull { end, limit },
+            ..
+        } => Some(Halt::LogFull {
+            end: *end,
+            limit: *limit,
+        }),
+        _ => None,
+    }
+}
+
+fn full_among(lines: &[Said]) -> Option<Halt>
+    ensures { result ≡ full_among (map said_of lines.now) }
+{
+    for said in lines {
+        if let Some(halt) = full_in(said) {
+            return Some(halt);
+        }
+    }
+    None
+}
+
+fn first_full(transcripts: &[Transcript]) -> Option<Halt>
+    ensures { result ≡ first_full transcripts.now }
+{
+    for transcript in transcripts {
+        if let Some(halt) = full_among(transcript.lines()) {
+            return Some(halt);
+        }
+    }
+    None
+}
+
+// Whether there was room for what the call asked for.
+fn has_room(answer: &Answer) -> bool
+    ensures { result ≡ has_room answer.now }
+{
+    !matches!(answer, Answer::FullHeap | Answer::FullIndex)
+}
+
+// Whether the line says that all went well.
+fn is_served(said: &Said) -> bool
+    ensures { result ≡ is_served (said_of said.now) }
+{
+    match said {
+        Said::Begun { .. } | Said::CommitOk => true,
+        Said::Answered { answer, .. } => has_room(answer),
+        _ => false,
+    }
+}
+
+fn serves(transcript: &Transcript) -> bool
+    ensures { result ≡ serves transcript.now }
+{
+    transcript.lines().iter().all(|said| is_served(said))
+}
+
+fn all_served(transcripts: &[Transcript]) -> bool
+    ensures { result ≡ all_served transcripts.now }
+{
+    transcripts.iter().all(|transcript| serves(transcript))
+}
+
+// What ends the run behind its round: a full log; or else the store, which stopped the engine; or else a line that says
+// something else than that all went well, which is told as want of memory.
+fn halt_of_round(transcripts: &[Transcript], stop: Option<Cause>) -> Option<Halt>
+    ensures { result ≡ halt_of_round transcripts.now stop }
+{
+    let full = first_full(transcripts);
+    if full.is_some() {
+        return full;
+    }
+    match stop {
+        Some(Cause::Store) => Some(Halt::StoreFault),
+        Some(Cause::Damage { .. }) => Some(Halt::OutOfMemory),
+        None => {
+            if all_served(transcripts) {
+                None
+            } else {
+                Some(Halt::OutOfMemory)
+            }
+        }
+    }
+}
+
+fn leave<V: Store>(program: Program<V>, halt: Halt) -> Stopped<V>
+    ensures store { result.store ≡ inner (store_of program) }
+    ensures halt { result.halt ≡ halt }
+{
+    Stopped {
+        store: program.into_store().into_inner(),
+        halt,
+    }
+}
+
+fn give_up<V: Store>(core: Core<Fuse<V>>, halt: Halt) -> Stopped<V>
+    ensures store { result.store ≡ inner core.vault.store }
+    ensures halt { result.halt ≡ halt }
+{
+    leave(Program::Up { core }, halt)
+}
+
+// The database is made.
+fn made<V: Store, G: Gate>(
+    setting: &Setting<'_, G>,
+    clients: u32,
+    size: u32,
+    store: V,
+) -> Result<Core<Fuse<V>>, Stopped<V>>
+    requires within { AreWithin clients size }
+    requires limit { setting.now.limit ≤ 268435456 }
+    requires unchecked { setting.now.precheck ≡ false }
+    ensures made { IfOk result (λ core. IsMade V.told V.may_leave V.moment V.left_since V.faults setting.now.limit clients size store core × PlacesIn V.told core) }
+    ensures fails { IfErr result (λ s. (old : Program V) × IsDown old store × FailsIn V.told V.may_leave V.moment V.left_since V.faults s.halt (Size (index_regions clients size) (heap_regions clients size)) old s.store) }
+{
+    let (program, made) = make(
+        setting,
+        index_regions(clients, size),
+        heap_regions(clients, size),
+        Program::down(store),
+    );
+    if let Err(halt) = made {
+        return Err(leave(program, halt));
+    }
+    match program {
+        Program::Up { core } => Ok(core),
+        Program::Down { .. } => unreachable!(),
+    }
+}
+
+// The round is run.
+fn played<V: Store, G: Gate>(
+    setting: &Setting<'_, G>,
+    told: &[Block],
+    core: Core<Fuse<V>>,
+) -> Result<Core<Fuse<V>>, Stopped<V>>
+    requires placed { AreBlocks (map told_by told.now) }
+    requires places { PlacesIn V.told core }
+    requires unchecked { setting.now.precheck ≡ false }
+    ensures plays { IfOk result (λ played. IsRoundOf V.told V.may_leave V.faults (map told_by told.now) core None played × PlacesIn V.told played) }
+    ensures stops { IfErr result (λ s. RoundStops V.told V.may_leave V.faults (map told_by told.now) core s.halt s.store) }
+{
+    let Ok(blocks) = blocks_of(setting.alloc, told) else {
+        return Err(give_up(core, Halt::OutOfMemory));
+    };
+    let (core, transcripts) = play(setting, &blocks, core);
+    match transcripts {
+        Ok(transcripts) => {
+            let stop = core.system.stopped();
+            match halt_of_round(&transcripts, stop) {
+                None => Ok(core),
+                Some(halt) => Err(give_up(core, halt)),
+            }
+        }
+        Err(halt) => Err(give_up(core, halt)),
+    }
+}
+
+// A crash that leaves what was written.
+fn crashed<V: Store, G: Gate>(
+    setting: &Setting<'_, G>,
+    core: Core<Fuse<V>>,
+) -> Result<Program<V>, Stopped<V>>
+    requires unchecked { setting.now.precheck ≡ false }
+    ensures crash { IfOk result (λ crashed. (text : List ℕ) × StepsCrash V.told V.may_leave V.moment V.left_since V.faults setting.now.limit V.cuts 0 (Up core) text crashed) }
+    ensures fails { IfErr result (λ s. FailsIn V.told V.may_leave V.moment V.left_since V.faults s.halt (Crash 0) (Up core) s.store) }
+{
+    let (program, crashed) = crash(setting, 0, Program::Up { core });
+    if let Err(halt) = crashed {
+        return Err(leave(program, halt));
+    }
+    Ok(program)
+}
+
+// The database is found again. No fuse is set; where one had failed a call, the store failed.
+fn found<V: Store, G: Gate>(
+    setting: &Setting<'_, G>,
+    program: Program<V>,
+) -> Result<Core<Fuse<V>>, Stopped<V>>
+    requires limit { setting.now.limit ≤ 268435456 }
+    requires unchecked { setting.now.precheck ≡ false }
+    ensures finds { IfOk result (λ core. (text : List ℕ) × Restarts V.told V.may_leave V.moment V.left_since V.faults setting.now.limit program text (Up core)) }
+    ensures fails { IfErr result (λ s. NotRestarted V.told V.may_leave V.moment V.left_since V.faults setting.now.limit program s.halt s.store) }
+{
+    let (program, found) = open(setting, program);
+    if let Err(halt) = found {
+        return Err(leave(program, halt));
+    }
+    match program {
+        Program::Up { core } => Ok(core),
+        Program::Down { store } => Err(leave(Program::Down { store }, Halt::StoreFault)),
+    }
+}
+
+// The generated script is run to its end.
+fn run_generated<V: Store, G: Gate>(
+    setting: &Setting<'_, G>,
+    clients: u32,
+    size: u32,
+    number: u64,
+    store: V,
+) -> Result<Core<Fuse<V>>, Stopped<V>>
+    requires within { AreWithin clients size }
+    requires limit { setting.now.limit ≡ 67108864 }
+    requires unchecked { setting.now.precheck ≡ false }
+    ensures finds { IfOk result (λ core. GeneratorFinds V.told V.may_leave V.moment V.left_since V.faults V.cuts clients size number store core) }
+    ensures ends { IfErr result (λ s. GeneratorEnds V.told V.may_leave V.moment V.left_since V.faults V.cuts clients size number s.halt store s.store) }
+{
+    let Ok(blocks) = blocks(setting.alloc, clients, size, number) else {
+        return Err(Stopped {
+            store,
+            halt: Halt::OutOfMemory,
+        });
+    };
+    let core = made(setting, clients, size, store)?;
+    let core = played(setting, &blocks, core)?;
+    let program = crashed(setting, core)?;
+    found(setting, program)
+}
+
+// The sum of the keys, modulo 2^64.
+fn sum_of_keys(rows: &[Listed]) -> u64
+    ensures { result ≡ sum_of_keys rows.now }
+{
+    let mut sum = 0_u64;
+    for row in rows {
+        sum = sum.wrapping_add(row.key);
+    }
+    sum
+}
+
+// The summary of the records in memory. Each restart leaves as many regions as the sizes say.
+fn summarize<V: Store>(
+    alloc: Global,
+    clients: u32,
+    size: u32,
+    core: &Core<Fuse<V>>,
+) -> Result<Vec<u8>, Halt>
+    ensures summary { IfOk result (λ text. (rows : List Listed) × IsListing core.now.system.state.sizes (in_memory core.now.regions.items) rows
+        × (text.items ≡ summary_of clients size (length rows) (sum_of_keys rows))) }
+    ensures memory { IfErr result (λ halt. halt ≡ OutOfMemory) }
+{
+    let geometry = core.system.geometry();
+    if core.regions.len() != geometry.regions() as usize {
+        return Err(Halt::OutOfMemory);
+    }
+    let rows = records(alloc, &geometry, &core.regions)?;
+    let text = summary(alloc, clients, size, rows.len() as u64, sum_of_keys(&rows))?;
+    Ok(text)
+}
+
+/// Runs the script that these numbers generate over the store, and writes the summary of what it leaves.
+pub fn generate<K: Sink, V: Store, G: Gate>(
+    setting: &Setting<'_, G>,
+    clients: u32,
+    size: u32,
+    number: u64,
+    sink: &mut K,
+    store: V,
+) -> (V, Result<(), Halt>)
+    requires within { AreWithin clients size }
+    requires limit { setting.now.limit ≡ 67108864 }
+    requires unchecked { setting.now.precheck ≡ false }
+    ensures done { OnOk result.1 ((text : List ℕ) × Generates V.told V.may_leave V.moment V.left_since V.faults V.cuts clients size number store text result.0 × Appends (K.taken sink.old) text (K.taken sink.new)) }
+    ensures stops { IfErr result.1 (λ halt. GeneratorHalts V.told V.may_leave V.moment V.left_since V.faults V.cuts clients size number halt store result.0
+        (K.taken sink.old) (K.taken sink.new) (K.faults sink.old) (K.faults sink.new)) }
+    ensures later { K.faults sink.old ≤ K.faults sink.new }
+    ensures kept { (IsErrOf result.1 Halt.WriteFault → ⊥) → K.faults sink.new ≡ K.faults sink.old }
+{
+    match run_generated(setting, clients, size, number, store) {
+        Ok(core) => {
+            let printed = summarize(setting.alloc, clients, size, &core);
+            let store = core.into_store().into_inner();
+            match printed {
+                Ok(text) => {
+                    let written = write_whole(sink, &text);
+                    (store, written)
+                }
+                Err(halt) => (store, Err(halt)),
+            }
+        }
+        Err(stopped) => (stopped.store, Err(stopped.halt)),
+    }
+}

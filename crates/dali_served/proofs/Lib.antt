@@ -1,0 +1,12 @@
+pub mod Walked
+pub mod Marks
+pub mod Lists
+pub mod Commits
+pub mod Owners
+pub mod Fronts
+pub mod Answers
+pub mod Made
+pub mod Undamaged
+pub mod Inserted
+pub mod Summing
+pub mod Law
