@@ -823,8 +823,10 @@ pub fn print(program: &Path, folder: &Path, names: &[&str]) -> io::Result<()> {
     fs::create_dir(&sides.new)?;
     print_machine(&own.path)?;
     println!("{HEAD}");
-    if names == ["script"] {
-        return print_scripts(&sides);
+    match names {
+        ["script"] => return print_scripts(&sides),
+        ["growth"] => return print_growths(&sides),
+        _ => (),
     }
     if !names.is_empty() {
         return print_rows(&sides, names);

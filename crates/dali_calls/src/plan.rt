@@ -168,13 +168,13 @@ impl Plan {
     fn next(&self) -> Option<(u32, Op)>
         ensures { result ≡ plan_next self.now }
     {
-        if self.is_back() {
+        if !self.changes.is_empty() && self.is_back() {
             let last = self.changes.last()?;
             return Some((last.region, undo_op(&last.undo)));
         }
         match self.phase {
-            Phase::Answered => None,
-            _ => self.stage.next(&self.geometry, self.txn, &self.call),
+            Phase::Calling => self.stage.next(&self.geometry, self.txn, &self.call),
+            _ => None,
         }
     }
 

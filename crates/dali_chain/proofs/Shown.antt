@@ -42,7 +42,7 @@ no_latched None r none is = cc is
 no_latched (Some x) r none is = cc none
 
 -- the base of the last epoch, behind the steps that led to the point
-right_at : (s : Start) (B : List (List Record)) (p : Point) (history : IsHistory s.log) (F : _) → TracedTo s B p F → HasRightBase (bases_of s) p.core.system.sizes p.log
+pub right_at : (s : Start) (B : List (List Record)) (p : Point) (history : IsHistory s.log) (F : _) → TracedTo s B p F → HasRightBase (bases_of s) p.core.system.sizes p.log
 right_at s B p history F t =
     point_course_keeps_the_base (bases_of s) (start_point s) p t.steps
     (record {

@@ -31,12 +31,13 @@ use Rattle.dali_crash.specs.Checkpoints.{Point, moment_of}
 use Rattle.dali_crash.specs.StoreRuns.{StoreRun}
 use Rattle.dali_transcripts.specs.World.{Deed, Logs, World, IsLogged, logged_by, log_of, log_at, state_step, span_step, stray_after, under_way}
 use Rattle.dali_transcripts.specs.Rounds.{by, WasRight}
-use Rattle.dali_transcripts.specs.Together.{RoomBy, RightBy, Owes}
+use Rattle.dali_transcripts.specs.Together.{RoomBy, RightNow}
+use Rattle.dali_transcripts.proofs.Looks.{at_once_tells}
 use Rattle.dali_deeds.specs.Deeds.{WereRight, BeganHere}
 use Rattle.dali_deeds.specs.Tells.{after, AreRightThen, WasPassed, PassesAreTold, Tells, Goes}
 use Rattle.dali_deeds.proofs.States.{begun_state, ended_state, kept_state, new_state, undone_state}
 use Rattle.dali_deeds.proofs.Strays.{Stays, same_regions, one_region}
-use Rattle.dali_deeds.proofs.Told.{Onward, plain, push_cases, push_before, log_is, passed_on, passes_on, goes_by, by_deed, by_none}
+use Rattle.dali_deeds.proofs.Told.{Onward, plain, push_cases, push_before, log_is, passed_on, passes_on, OwesNow, goes_by, by_deed, by_none, looks_by_deed, looks_by_none}
 
 abbrev pub is_begin : Record → Bool
 is_begin AuditBegin = true
@@ -70,22 +71,25 @@ pub record Wrote (w : World) (c : ℕ) (R : Record) (d : CoreState) : Type 0 whe
   pub refusals : d.system.refusals ≡ w.core.system.refusals
   pub checking : d.system.checking ≡ w.core.system.checking
   pub room : RoomBy w (Logs R)
-  pub right : w.precheck ≡ true → RightBy w (Logs R)
+  pub right : w.precheck ≡ true → RightNow w (Logs R)
   pub verdict : (b : ℕ) (found : List ℕ) → Logs R ≡ Logs (audit_record b found) → (r : ℕ) (g : RegionState) → slice_get w.old.regions r ≡ Some g
       → (j : ℕ) × (j ≤ length w.happened) × (b < length (log_at w j)) × (Contains found r ↔ (stray_after r g.stray (take j w.happened) ≢ 0))
 
 module _ (w : World) (c : ℕ) (p q : Point) (told : Tells w p) where
-  owes_log : (R : Record) (d : CoreState) → Wrote w c R d → Owes w (after w c (Logs R ∷ []) d) c (Logs R)
+  owes_log : (R : Record) (d : CoreState) → Wrote w c R d → OwesNow w (after w c (Logs R ∷ []) d) c (Logs R)
   owes_log R d h = record {
-    span = tt;
-    anchor = ap (λ v. v.current) h.vault;
-    poke = λ r g at. h.stays.each r g at;
-    verdict = λ b found e. h.verdict b found e;
-    state = h.states;
-    fault = (ap (λ v. v.stopped) h.vault, ap (λ v. v.faults) h.vault);
-    refusal = h.refusals ∙ sym (append-nil w.core.system.refusals);
-    room = h.room;
-    right = h.right;
+    owes = record {
+      span = tt;
+      anchor = ap (λ v. v.current) h.vault;
+      poke = λ r g at. h.stays.each r g at;
+      verdict = λ b found e. h.verdict b found e;
+      state = h.states;
+      fault = (ap (λ v. v.stopped) h.vault, ap (λ v. v.faults) h.vault);
+      refusal = h.refusals ∙ sym (append-nil w.core.system.refusals);
+      room = h.room;
+      right = λ e. at_once_tells.one w c (Logs R) (h.right e);
+    };
+    now = h.right;
   }
 
   began_before : (R : Record) (d : CoreState) → is_begin R ≡ false → (b : ℕ) → IsLogged (after w c (Logs R ∷ []) d) b AuditBegin → IsLogged w b AuditBegin
@@ -96,7 +100,7 @@ module _ (w : World) (c : ℕ) (p q : Point) (told : Tells w p) where
   pub told_log : (R : Record) (d : CoreState) → q.core ≡ d → q.log ≡ p.log ++ R ∷ [] → Wrote w c R d → PassesAreTold (after w c (Logs R ∷ []) d) q.audits → AreRightThen w c (Logs R ∷ []) q.core
       → Goes w c p (Logs R ∷ []) (after w c (Logs R ∷ []) q.core) q
   told_log R d is log h passes right =
-      goes_by w c p q told (Logs R ∷ []) d is h.onward log (by_deed w c p q told (Logs R) d h.onward (owes_log R d h)) (h.checking ∙ told.flag) passes right
+      goes_by w c p q told (Logs R ∷ []) d is h.onward log (by_deed w c p q told (Logs R) d h.onward (owes_log R d h)) (looks_by_deed w c p q told (Logs R) d h.onward (owes_log R d h)) (h.checking ∙ told.flag) passes right
 
   pub told_plain : (R : Record) (d : CoreState) → is_begin R ≡ false → q.core ≡ d → q.log ≡ p.log ++ R ∷ [] → q.audits ≡ p.audits → Wrote w c R d → AreRightThen w c (Logs R ∷ []) q.core
       → Goes w c p (Logs R ∷ []) (after w c (Logs R ∷ []) q.core) q
@@ -126,7 +130,7 @@ module _ (bases : Bases) (before : List Record) (w0 : World) (c : ℕ) (p q : Po
   -- what a step that logs a record owes, where it leaves the rest
   simple : (R : Record) (d : CoreState) → is_end R ≡ false → d.system.sizes ≡ p.core.system.sizes → d.system.limit ≡ p.core.system.limit → d.system.first ≡ p.core.system.first → d.system.stop ≡ p.core.system.stop
       → d.system.refusals ≡ p.core.system.refusals → d.vault ≡ p.core.vault → d.system.checking ≡ p.core.system.checking → length d.regions ≡ length p.core.regions → Stays p.core.regions d.regions
-      → ((t : ℕ) → state_of d.system t ≡ state_step t (state_of p.core.system t) (Logs R, c)) → RoomBy w (Logs R) → (w0.precheck ≡ true → RightBy w (Logs R)) → Wrote w c R d
+      → ((t : ℕ) → state_of d.system t ≡ state_step t (state_of p.core.system t) (Logs R, c)) → RoomBy w (Logs R) → (w0.precheck ≡ true → RightNow w (Logs R)) → Wrote w c R d
   simple R d none sizes limit first stop refusals vault checking count stays states room right = record {
     onward = plain p.core d sizes limit first stop refusals vault count;
     stays = stays;
@@ -285,7 +289,7 @@ module _ (bases : Bases) (before : List Record) (w0 : World) (c : ℕ) (p q : Po
   end_room b [] = refl
   end_room b (r ∷ rs) = refl
 
-  end_right : (b : ℕ) (found : List ℕ) → RightBy w (Logs (audit_record b found))
+  end_right : (b : ℕ) (found : List ℕ) → RightNow w (Logs (audit_record b found))
   end_right b [] = tt
   end_right b (r ∷ rs) = tt
 
@@ -337,7 +341,7 @@ module _ (bases : Bases) (before : List Record) (w0 : World) (c : ℕ) (p q : Po
   unseen d is log on stays states current stopped faults refusals checking passes =
       goes_by w c p q told [] d is on (log ∙ sym (append-nil p.log))
       (by_none w c p q told d on (record { anchor = current; poke = λ r h at. stays.each r h at; states = states; stopped = stopped; faults = faults; refusals = refusals }))
-      (checking ∙ told.flag) passes tt
+      (looks_by_none w c p q told d on) (checking ∙ told.flag) passes tt
 
   pub unseen_passes : (d : CoreState) → q.audits ≡ p.audits → PassesAreTold (after w c [] d) q.audits
   unseen_passes d audits = subst (λ A. PassesAreTold (after w c [] d) A) (sym audits) (passes_on w c [] d p.audits (none_began d) told.passes)
@@ -353,10 +357,10 @@ module _ (bases : Bases) (before : List Record) (w0 : World) (c : ℕ) (p q : Po
   other_began : (x : Deed) (d : CoreState) → logged_by (by c (x ∷ [])) ≡ [] → (b : ℕ) → IsLogged (after w c (x ∷ []) d) b AuditBegin → IsLogged w b AuditBegin
   other_began x d none b at = subst (λ l. slice_get l b ≡ Some AuditBegin) (log_is w c (x ∷ []) d ∙ (ap (λ l. log_of w ++ l) none ∙ append-nil (log_of w))) at
 
-  pub seen : (x : Deed) (d : CoreState) → logged_by (by c (x ∷ [])) ≡ [] → q.core ≡ d → q.log ≡ p.log → q.audits ≡ p.audits → Onward p.core d → Owes w (after w c (x ∷ []) d) c x
+  pub seen : (x : Deed) (d : CoreState) → logged_by (by c (x ∷ [])) ≡ [] → q.core ≡ d → q.log ≡ p.log → q.audits ≡ p.audits → Onward p.core d → OwesNow w (after w c (x ∷ []) d) c x
       → d.system.checking ≡ is_some (span_step (under_way w0.happened) (x, c)) → AreRightThen w c (x ∷ []) q.core
       → Goes w c p (x ∷ []) (after w c (x ∷ []) q.core) q
   seen x d none is log audits on owes flag right =
-      goes_by w c p q told (x ∷ []) d is on (log ∙ (sym (append-nil p.log) ∙ ap (λ l. p.log ++ l) (sym none))) (by_deed w c p q told x d on owes) flag
+      goes_by w c p q told (x ∷ []) d is on (log ∙ (sym (append-nil p.log) ∙ ap (λ l. p.log ++ l) (sym none))) (by_deed w c p q told x d on owes) (looks_by_deed w c p q told x d on owes) flag
       (subst (λ A. PassesAreTold (after w c (x ∷ []) d) A) (sym audits) (passes_on w c (x ∷ []) d p.audits (other_began x d none) told.passes))
       right

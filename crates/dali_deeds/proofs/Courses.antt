@@ -15,6 +15,7 @@ use Rattle.dali_transcripts.specs.World.{Deed, Meets, World, logged_by, log_at, 
 use Rattle.dali_transcripts.specs.Rounds.{by}
 use Rattle.dali_transcripts.proofs.Grown.{grows_on}
 use Rattle.dali_transcripts.proofs.Together.{together_at_first}
+use Rattle.dali_transcripts.proofs.Looks.{at_once_at_first}
 use Rattle.dali_deeds.specs.Tells.{after, Tells, Goes}
 use Rattle.dali_deeds.specs.Laws.{MeetsTells, CourseTells, GoesOn, RoundTells, StopIsTold}
 use Rattle.dali_deeds.proofs.Steps.{step_tells, meets}
@@ -67,6 +68,7 @@ round_tells bases before p precheck run between =
       log = sym (append-nil p.log);
       grew = (grows_on.still w).0;
       together = together_at_first w refl refl;
+      at_once = λ e. at_once_at_first w refl;
       count = refl;
       flag = between.rests.flag;
       right = tt;

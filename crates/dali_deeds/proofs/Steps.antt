@@ -30,15 +30,16 @@ use Rattle.dali_system.specs.Courses.{Step, Begins, Operates, TakesBack, Frees, 
 use Rattle.dali_crash.specs.Checkpoints.{StoreStep, Does, Starts, Keeps, Copies, Skips, WritesHead, Syncs, Turns, CopyFails, HeadFails, SyncFails, TurnFails, Finishes, Point, IsPointStep, moment_of, target, with_current, with_flag, with_fault, is_of_checkpoint, IsFault}
 use Rattle.dali_crash.specs.StoreRuns.{StoreRun}
 use Rattle.dali_transcripts.specs.Words.{Why, StoppedBy, Full, Damaged, StoreFailed, UnderWay}
-use Rattle.dali_transcripts.specs.World.{Deed, Logs, Strays, DiesOn, Claims as ClaimsTxn, GivesBack as GivesTxnBack, Yields, FindsDead, StartsCheckpoint, MovesAnchor, EndsCheckpoint, Meets, World, IsLogged, logged_by, state_step, stray_step, poked_step, stray_after, refused_by, under_way, log_of}
+use Rattle.dali_transcripts.specs.World.{Deed, Logs, Strays, DiesOn, Claims as ClaimsTxn, GivesBack as GivesTxnBack, GetsLock, Yields, FindsDead, StartsCheckpoint, MovesAnchor, EndsCheckpoint, Meets, World, IsLogged, logged_by, state_step, stray_step, poked_step, stray_after, refused_by, under_way, log_of}
 use Rattle.dali_transcripts.specs.Rounds.{WasRight}
-use Rattle.dali_transcripts.specs.Together.{SpanFits, AnchorIs, FaultsBy, RoomBy, RightBy, Owes}
+use Rattle.dali_transcripts.specs.Together.{SpanFits, AnchorIs, FaultsBy, RoomBy, RightNow}
+use Rattle.dali_transcripts.proofs.Looks.{at_once_tells}
 use Rattle.dali_deeds.specs.Deeds.{WereRight, AreOfCore, AreOf, refusal_now}
 use Rattle.dali_deeds.specs.Laws.{StepTells, IsNoFault}
 use Rattle.dali_deeds.specs.Tells.{after, AreRightThen, WasPassed, PassesAreTold, Tells, Goes}
 use Rattle.dali_deeds.proofs.States.{new_state, claim_state, release_state}
 use Rattle.dali_deeds.proofs.Strays.{Stays, same_regions, one_region, poked_region}
-use Rattle.dali_deeds.proofs.Told.{Onward, plain, passed_on, passes_on, log_is, goes_by, by_deed}
+use Rattle.dali_deeds.proofs.Told.{Onward, plain, passed_on, passes_on, log_is, OwesNow, goes_by, by_deed, looks_by_deed}
 use Rattle.dali_deeds.proofs.Core.{begins, operates, takes_back, frees, answers, commits, ends_txn, audit_begins, audit_ends, unseen, unseen_passes, quiet, seen, right_there}
 
 same : (c d : CoreState) → d.system.sizes ≡ c.system.sizes → d.system.limit ≡ c.system.limit → d.system.first ≡ c.system.first → d.system.stop ≡ c.system.stop
@@ -83,18 +84,21 @@ module _ (bases : Bases) (before : List Record) (w0 : World) (c : ℕ) (p q : Po
       → ((r : ℕ) (h : RegionState) → slice_get d.regions r ≡ Some h → (g : RegionState) × (slice_get p.core.regions r ≡ Some g) × (h.stray ≡ stray_step r g.stray (x, c)) × (h.poked ≡ poked_step r g.poked (x, c)))
       → ((b : ℕ) (found : List ℕ) → x ≡ Logs (audit_record b found) → ⊥)
       → ((t : ℕ) → state_of d.system t ≡ state_step t (state_of p.core.system t) (x, c)) → FaultsBy w (after w c (x ∷ []) d) x
-      → d.system.refusals ≡ p.core.system.refusals ++ refused_by ((x, c) ∷ []) → RoomBy w x → (w0.precheck ≡ true → RightBy w x)
-      → Owes w (after w c (x ∷ []) d) c x
+      → d.system.refusals ≡ p.core.system.refusals ++ refused_by ((x, c) ∷ []) → RoomBy w x → (w0.precheck ≡ true → RightNow w x)
+      → OwesNow w (after w c (x ∷ []) d) c x
   plain_owes x d span anchor poke none state fault refusal room right = record {
-    span = span;
-    anchor = anchor;
-    poke = poke;
-    verdict = λ b found e. absurd (none b found e);
-    state = state;
-    fault = fault;
-    refusal = refusal;
-    room = room;
-    right = right;
+    owes = record {
+      span = span;
+      anchor = anchor;
+      poke = poke;
+      verdict = λ b found e. absurd (none b found e);
+      state = state;
+      fault = fault;
+      refusal = refusal;
+      room = room;
+      right = λ e. at_once_tells.one w c x (right e);
+    };
+    now = right;
   }
 
   refuses : (t k : ℕ) (m : Mode) (h : ℕ) (x : Deed) → (x ≡ Yields (refusal_now p.core t k m h)) ⊎ (x ≡ FindsDead (refusal_now p.core t k m h))
@@ -114,6 +118,14 @@ module _ (bases : Bases) (before : List Record) (w0 : World) (c : ℕ) (p q : Po
 
       on : Onward p.core d
       on = record { sizes = refl; limit = refl; flushed = omega arith; failed = λ e. e; sealed = λ e. refl; stop = λ z e. e; refusals = λ g there. Contains-append_left p.core.system.refusals _ g there; count = refl }
+
+  -- ---- locks
+  gets_lock : (t k : ℕ) (m : Mode) → q.core ≡ with_system p.core (granted p.core.system t k m) → q.log ≡ p.log → q.audits ≡ p.audits → AreRightThen w c (GetsLock t k m ∷ []) q.core
+      → Goes w c p (GetsLock t k m ∷ []) (after w c (GetsLock t k m ∷ []) q.core) q
+  gets_lock t k m is log audits right =
+      seen bases before w0 c p q run told (GetsLock t k m) (with_system p.core (granted p.core.system t k m)) refl is log audits (same _ _ refl refl refl refl refl refl refl)
+      (plain_owes (GetsLock t k m) _ tt refl (λ r g at. (g, at, refl, refl)) (λ b found e'. absurd (cc)) (λ u. refl) (refl, refl) (sym (append-nil p.core.system.refusals)) tt (λ e'. tt))
+      told.flag right
 
   -- ---- regions
   changed_region : (r : ℕ) (g new : RegionState) → slice_get p.core.regions r ≡ Some g → new.stray ≡ g.stray → new.poked ≡ g.poked
@@ -240,17 +252,8 @@ pub meets : (w0 : World) (c : ℕ) (p : Point) (why : Why) → Tells (record w0 
     → Goes (record w0 { core = p.core }) c p (Meets why ∷ []) (after w0 c (Meets why ∷ []) p.core) p
 meets w0 c p why told none right =
     goes_by (record w0 { core = p.core }) c p p told (Meets why ∷ []) p.core refl on (sym (append-nil p.log))
-    (by_deed (record w0 { core = p.core }) c p p told (Meets why) p.core on (record {
-      span = tt;
-      anchor = refl;
-      poke = λ r h at. (h, at, refl, refl);
-      verdict = λ b found e. absurd (cc);
-      state = λ t. refl;
-      fault = fault why none;
-      refusal = sym (append-nil p.core.system.refusals);
-      room = tt;
-      right = λ e. tt;
-    }))
+    (by_deed (record w0 { core = p.core }) c p p told (Meets why) p.core on owes)
+    (looks_by_deed (record w0 { core = p.core }) c p p told (Meets why) p.core on owes)
     told.flag
     (passes_on (record w0 { core = p.core }) c (Meets why ∷ []) p.core p.audits (λ b at. subst (λ l. slice_get l b ≡ Some AuditBegin) (log_is (record w0 { core = p.core }) c (Meets why ∷ []) p.core ∙ append-nil (log_of w0)) at) told.passes)
     right
@@ -265,6 +268,22 @@ meets w0 c p why told none right =
     fault UnderWay h = (refl, refl)
     fault StoreFailed h = absurd h
 
+    owes : OwesNow (record w0 { core = p.core }) (after w0 c (Meets why ∷ []) p.core) c (Meets why)
+    owes = record {
+      owes = record {
+        span = tt;
+        anchor = refl;
+        poke = λ r h at. (h, at, refl, refl);
+        verdict = λ b found e. absurd (cc);
+        state = λ t. refl;
+        fault = fault why none;
+        refusal = sym (append-nil p.core.system.refusals);
+        room = tt;
+        right = λ e. tt;
+      };
+      now = λ e. tt;
+    }
+
 -- ---- each kind of step
 module _ (bases : Bases) (before : List Record) (w0 : World) (c : ℕ) (p q : Point) (run : StoreRun bases before no_image p) (told : Tells (record w0 { core = p.core }) p) where
   at_core : (x : Step) (ds : List Deed) → is_of_checkpoint x ≡ false → IsStepAt (moment_of p) x (moment_of q) → AreOfCore (record w0 { core = p.core }) p x ds → AreRightThen (record w0 { core = p.core }) c ds q.core
@@ -278,7 +297,10 @@ module _ (bases : Bases) (before : List Record) (w0 : World) (c : ℕ) (p q : Po
   at_core (Ends t) ds other (s, audits) e right = subst (λ es. Goes (record w0 { core = p.core }) c p es (after w0 c es q.core) q) (sym e) (ends_txn bases before w0 c p q run told t s.2.1 s.2.0 audits (subst (λ es. AreRightThen (record w0 { core = p.core }) c es q.core) e right))
   at_core AuditBegins ds other (s, audits) e right = subst (λ es. Goes (record w0 { core = p.core }) c p es (after w0 c es q.core) q) (sym e) (audit_begins bases before w0 c p q run told s.1 s.2.1 s.2.0 audits (subst (λ es. AreRightThen (record w0 { core = p.core }) c es q.core) e right))
   at_core (AuditEnds b found) ds other (s, audits) e right = subst (λ es. Goes (record w0 { core = p.core }) c p es (after w0 c es q.core) q) (sym e.0) (audit_ends bases before w0 c p q run told b found e.1 (s, audits) s.0.runs s.1.1 s.1.0 audits.1 (subst (λ es. AreRightThen (record w0 { core = p.core }) c es q.core) e.0 right))
-  at_core (Locks t k m) ds other (s, audits) e right = subst (λ es. Goes (record w0 { core = p.core }) c p es (after w0 c es q.core) q) (sym e) (quiet bases before w0 c p q run told (with_system p.core (granted p.core.system t k m)) s.2.1 s.2.0 audits (same _ _ refl refl refl refl refl refl refl) (same_regions p.core.regions) (λ u. refl) refl refl refl)
+  at_core (Locks t k m) ds other (s, audits) e right = ⊎_elim
+      (λ f. subst (λ es. Goes (record w0 { core = p.core }) c p es (after w0 c es q.core) q) (sym f) (quiet bases before w0 c p q run told (with_system p.core (granted p.core.system t k m)) s.2.1 s.2.0 audits (same _ _ refl refl refl refl refl refl refl) (same_regions p.core.regions) (λ u. refl) refl refl refl))
+      (λ f. subst (λ es. Goes (record w0 { core = p.core }) c p es (after w0 c es q.core) q) (sym f) (gets_lock bases before w0 c p q run told t k m s.2.1 s.2.0 audits (subst (λ es. AreRightThen (record w0 { core = p.core }) c es q.core) f right)))
+      e
   at_core (Refuses t k m h) ds other (s, audits) e right = ⊎_elim
       (λ f. subst (λ es. Goes (record w0 { core = p.core }) c p es (after w0 c es q.core) q) (sym f) (refuses bases before w0 c p q run told t k m h _ (inl refl) s.2.1 s.2.0 audits (subst (λ es. AreRightThen (record w0 { core = p.core }) c es q.core) f right)))
       (λ f. subst (λ es. Goes (record w0 { core = p.core }) c p es (after w0 c es q.core) q) (sym f) (refuses bases before w0 c p q run told t k m h _ (inr refl) s.2.1 s.2.0 audits (subst (λ es. AreRightThen (record w0 { core = p.core }) c es q.core) f right)))

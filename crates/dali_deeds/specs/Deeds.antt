@@ -12,10 +12,10 @@ use Rattle.dali_system.specs.declared.refusals.Refusal.{Refusal}
 use Rattle.dali_system.specs.State.{CoreState}
 use Rattle.dali_system.specs.Steps.{audit_record}
 use Rattle.dali_system.specs.Regions.{Poke}
-use Rattle.dali_system.specs.Courses.{Step, Begins, Operates, TakesBack, Frees, Answers, Commits, Ends, AuditBegins, AuditEnds, Refuses, OnRegion, Dies, Claims, GivesBack, Faults, ReadFails}
+use Rattle.dali_system.specs.Courses.{Step, Begins, Operates, TakesBack, Frees, Answers, Commits, Ends, AuditBegins, AuditEnds, Locks, Refuses, OnRegion, Dies, Claims, GivesBack, Faults, ReadFails}
 use Rattle.dali_crash.specs.Checkpoints.{StoreStep, Does, Starts, Turns, CopyFails, HeadFails, SyncFails, TurnFails, Finishes, Point}
 use Rattle.dali_transcripts.specs.Words.{StoreFailed}
-use Rattle.dali_transcripts.specs.World.{Deed, Logs, Strays, DiesOn, Claims as ClaimsTxn, GivesBack as GivesTxnBack, Yields, FindsDead, StartsCheckpoint, MovesAnchor, EndsCheckpoint, Meets, World, IsLogged, under_way}
+use Rattle.dali_transcripts.specs.World.{Deed, Logs, Strays, DiesOn, Claims as ClaimsTxn, GivesBack as GivesTxnBack, GetsLock, Yields, FindsDead, StartsCheckpoint, MovesAnchor, EndsCheckpoint, Meets, World, IsLogged, under_way}
 
 abbrev pub WereRight : World → Point → ℕ → Type 0
 WereRight w p r = w.precheck ≡ true → IfSome (slice_get p.core.regions r) (λ (g : RegionState). g.stray ≡ 0)
@@ -27,7 +27,7 @@ pub record BeganHere (w : World) (b : ℕ) : Type 0 where
 abbrev pub refusal_now : CoreState → ℕ → ℕ → Mode → ℕ → Refusal
 refusal_now c t k m h = record { txn = t; key = k; mode = m; holder = h; at = c.system.records }
 
--- one that logs a record is told by it; a refusal by a live or by a dead holder; no client dies outside of an operation, and none reads the log
+-- one that logs a record is told by it; a lock that is granted may be told; a refusal by a live or by a dead holder; no client dies outside of an operation, and none reads the log
 abbrev pub AreOfCore : World → Point → Step → List Deed → Type 0
 AreOfCore w p Begins ds = ds ≡ Logs (Begin p.core.system.next) ∷ []
 AreOfCore w p (Operates t b) ds = (ds ≡ Logs (Forward t b) ∷ []) × WereRight w p b.region
@@ -38,6 +38,7 @@ AreOfCore w p (Commits t) ds = ds ≡ Logs (Commit t) ∷ []
 AreOfCore w p (Ends t) ds = ds ≡ Logs (Ended t) ∷ []
 AreOfCore w p AuditBegins ds = ds ≡ Logs AuditBegin ∷ []
 AreOfCore w p (AuditEnds b found) ds = (ds ≡ Logs (audit_record b found) ∷ []) × BeganHere w b
+AreOfCore w p (Locks t k m) ds = (ds ≡ []) ⊎ (ds ≡ GetsLock t k m ∷ [])
 AreOfCore w p (Refuses t k m h) ds = (ds ≡ Yields (refusal_now p.core t k m h) ∷ []) ⊎ (ds ≡ FindsDead (refusal_now p.core t k m h) ∷ [])
 AreOfCore w p (OnRegion r (Poke word mask)) ds = ds ≡ Strays r word mask ∷ []
 AreOfCore w p (Dies t None) ds = ⊥

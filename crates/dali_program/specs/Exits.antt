@@ -1,13 +1,16 @@
 -- The numbers that the program ends with.
 --     number_of status      the number of a status
---     ExitsWith number      the run ended with a status of this number, and what was committed survives, where no damage escapes
+--     ExitsWith number      the run ended with a status of this number; what was committed survives, where no damage escapes; and the headline holds of each of its
+--                           states, and of the store that comes back
 --     Refuses number        there was no memory before the run: nothing was read or run, and the last line was written
 use Rattle.std.specs.Prelude.{◌≡◌, ℕ, List, Option}
 use Rattle.dali_arguments.specs.Meaning.{meaning}
 use Rattle.dali_record.specs.declared.records.Record.{Record}
+use Rattle.dali_record.specs.Log.{committed}
 use Rattle.dali_run.specs.declared.status.Status.{Status}
 use Rattle.dali_run.specs.declared.status.Status.TheVariants.{Done, BadWords, BadScript, TooLong, ReadFault, WriteFault, StoreFault, BadStore, Unformatted, Formatted, OutOfMemory, LogFull}
 use Rattle.dali_run.specs.Ends.{Course, HasEnded, LastLine}
+use Rattle.dali_run.specs.Headline.{Kept}
 use Rattle.dali_run.specs.Survives.{IsOwn, IsHonest, Survives}
 use Rattle.dali_store.specs.Store.{Files}
 
@@ -34,6 +37,9 @@ module _ {V : Type 0} (told : V → Option Files) (may_leave : V → Files → T
         (base : List Record) → IsOwn told may_leave base c.store
         → IsHonest told may_leave moment left_since faults cuts c ended.mid ended.count (meaning words) status ended.ended
         → Survives told may_leave moment left_since faults cuts c ended.mid ended.count base (meaning words) status ended.ended
+    pub headline :
+        (base : List Record) → IsOwn told may_leave base c.store
+        → Kept told may_leave moment left_since faults cuts c ended.mid ended.count (committed base) (meaning words) status ended.ended
 
 pub record Refuses {V : Type 0} (c : Course V) (number : ℕ) : Type 0 where
   pub is_number : number ≡ number_of OutOfMemory

@@ -20,7 +20,7 @@ use Rattle.dali_vault.specs.Vaulted.{Vaulted}
 use Rattle.dali_during.proofs.Points.{point_whole_course_keeps}
 use Rattle.dali_clean.specs.Cleaned.{AreDead}
 use Rattle.dali_transcripts.specs.Words.{Said}
-use Rattle.dali_transcripts.specs.World.{Deed, Logs, Strays, DiesOn, Claims, GivesBack, Yields, FindsDead, StartsCheckpoint, MovesAnchor, EndsCheckpoint, Meets, Happening, World, log_of, is_dead_in, is_claimed_in, span_step, under_way, Grows}
+use Rattle.dali_transcripts.specs.World.{Deed, Logs, Strays, DiesOn, Claims, GivesBack, GetsLock, Yields, FindsDead, StartsCheckpoint, MovesAnchor, EndsCheckpoint, Meets, Happening, World, log_of, is_dead_in, is_claimed_in, span_step, under_way, Grows}
 use Rattle.dali_transcripts.specs.Moves.{Receipt}
 use Rattle.dali_transcripts.specs.Transcripts.{Told, IsUnderWay, deeds_of, number_in, numbers_of, receipts_of, AreHanded, is_among, EachTells, AreTranscripts}
 use Rattle.dali_transcripts.specs.Rounds.{Standing, Stands, AllStand, IsDone, told_of, lines_in, IsAtRest, IsBetween, IsRound}
@@ -29,7 +29,7 @@ use Rattle.dali_deeds.specs.Tells.{after, Goes}
 use Rattle.dali_clients.specs.Told.{said_of}
 use Rattle.dali_turns.specs.declared.client.Client.{Client}
 use Rattle.dali_turns.specs.Stood.{Stood}
-use Rattle.dali_turns.specs.Fits.{rest_of, lines_of, IsOf, Owns}
+use Rattle.dali_turns.specs.Fits.{rest_of, lines_of, Owns}
 use Rattle.dali_turns.specs.Turns.{own_numbers}
 use Rattle.dali_turns.proofs.Deeds.{course_tells}
 use Rattle.dali_turns.proofs.Spans.{none_under_way}
@@ -68,6 +68,7 @@ started bs ((DiesOn t r, d) ∷ xs) o c e all first = started bs xs o c e (and_r
 started bs ((Claims t, d) ∷ xs) o c e all first = started bs xs o c e (and_right (is_among bs d) (list_all (λ (x : Happening). is_among bs x.1) xs) all) first
 started bs ((GivesBack t latched, d) ∷ xs) o c e all first = started bs xs o c e (and_right (is_among bs d) (list_all (λ (x : Happening). is_among bs x.1) xs) all) first
 started bs ((Yields f, d) ∷ xs) o c e all first = started bs xs o c e (and_right (is_among bs d) (list_all (λ (x : Happening). is_among bs x.1) xs) all) first
+started bs ((GetsLock t k m, d) ∷ xs) o c e all first = started bs xs o c e (and_right (is_among bs d) (list_all (λ (x : Happening). is_among bs x.1) xs) all) first
 started bs ((FindsDead f, d) ∷ xs) o c e all first = started bs xs o c e (and_right (is_among bs d) (list_all (λ (x : Happening). is_among bs x.1) xs) all) first
 started bs ((MovesAnchor n, d) ∷ xs) o c e all first = started bs xs o c e (and_right (is_among bs d) (list_all (λ (x : Happening). is_among bs x.1) xs) all) first
 started bs ((Meets why, d) ∷ xs) o c e all first = started bs xs o c e (and_right (is_among bs d) (list_all (λ (x : Happening). is_among bs x.1) xs) all) first
@@ -157,6 +158,7 @@ module _ {V : Type 0} (told : V → Option Disk) (may_leave : V → Disk → Typ
         rests = rests clear;
         between = between;
       };
+      at_once = λ e. f.stood.tells.at_once (f.stood.precheck_is ∙ e);
     }
 
     lines_are : map lines_of ks ≡ map lines_in f.standings

@@ -22,7 +22,8 @@ use Rattle.dali_turns.specs.declared.client.Client.{Client}
 use Rattle.dali_turns.specs.declared.client.State.{State}
 use Rattle.dali_turns.specs.declared.client.State.TheVariants.{Outside, LeftOut, Within, Calling, TakingBack, Waiting, Auditing, Copying, Certifying, Gone}
 use Rattle.dali_turns.specs.Clients.{is_over}
-use Rattle.dali_turns.specs.Fits.{rest_of, Owns, Fits}
+use Rattle.dali_turns.specs.Within.{AreGot}
+use Rattle.dali_turns.specs.Fits.{rest_of, InTxn, Owns, Fits}
 use Rattle.dali_round.proofs.Begun.{in_txn}
 
 -- ---- a client that is done, with nothing left to do
@@ -97,6 +98,19 @@ module _ {V : Type 0} (told : V → Option Disk) (may_leave : V → Disk → Typ
   owns_within rest (Calling x plan) t f owns = ap (λ (q : Spot). in_txn q.place) f.spot ∙ ap Some owns
   owns_within rest (TakingBack x plan why) t f owns = ap (λ (q : Spot). in_txn q.place) f.spot ∙ ap Some owns
   owns_within rest state t f owns = absurd owns
+
+  pub owns_in : (rest : List Act) (state : State) (t : ℕ) → Fits told may_leave faults s B p w gs y v a rest state → Owns state t → InTxn a.spot.place t
+  owns_in rest (Within x) t f owns = subst (λ (q : Spot). InTxn q.place t) (sym f.spot) owns
+  owns_in rest (Calling x plan) t f owns = subst (λ (q : Spot). InTxn q.place t) (sym f.spot) owns
+  owns_in rest (TakingBack x plan why) t f owns = subst (λ (q : Spot). InTxn q.place t) (sym f.spot) owns
+  owns_in rest state t f owns = absurd owns
+
+  -- its locks were granted to it
+  pub owns_locks : (rest : List Act) (state : State) (t : ℕ) → Fits told may_leave faults s B p w gs y v a rest state → Owns state t → AreGot p w a.client t
+  owns_locks rest (Within x) t f owns = subst (AreGot p w a.client) owns f.locks
+  owns_locks rest (Calling x plan) t f owns = subst (AreGot p w a.client) owns f.locks
+  owns_locks rest (TakingBack x plan why) t f owns = subst (AreGot p w a.client) owns f.locks
+  owns_locks rest state t f owns = absurd owns
 
 -- who is done is in no transaction
 pub over_owns : (state : State) (none : Bool) (t : ℕ) → is_over state none ≡ true → Owns state t → ⊥

@@ -3,19 +3,19 @@ use Rattle.std.proofs.Common.{◌≡◌, ℕ, zero, suc, Bool, true, false, List
 use Rattle.std.specs.Prelude.{◌==◌, IsSome, slice_get, slice_set}
 use Rattle.std.specs.List.{list_all}
 use Rattle.std.proofs.lemmas.List.{append_assoc, append-nil}
-use Rattle.dali_counts.proofs.Lists.{self, equal, set_cases, some_same}
+use Rattle.dali_counts.proofs.Lists.{self, equal, same_number, set_cases, some_same}
 use Rattle.dali_record.specs.declared.records.Record.{Record}
 use Rattle.dali_record.specs.Legal.{Rules, rules_state}
 use Rattle.dali_region.specs.State.{RegionState}
 use Rattle.dali_att.specs.declared.state.State.TheVariants.{Live}
 use Rattle.dali_store.specs.Store.{Files as Disk}
 use Rattle.dali_system.specs.declared.causes.Cause.{Cause}
-use Rattle.dali_system.specs.State.{SystemState, CoreState, state_of}
+use Rattle.dali_system.specs.State.{SystemState, CoreState, state_of, lock_of}
 use Rattle.dali_crash.specs.Checkpoints.{StoreStep, Point, IsPointCourse}
 use Rattle.dali_crash.specs.Traces.{Start, bases_of}
 use Rattle.dali_vault.specs.Vaulted.{Vaulted}
 use Rattle.dali_checkpoint.proofs.Calls.{course_join}
-use Rattle.dali_transcripts.specs.World.{Deed, Happening, World, log_of, Grows}
+use Rattle.dali_transcripts.specs.World.{Deed, Happening, World, HasGot, log_of, Grows}
 use Rattle.dali_transcripts.specs.Moves.{Receipt}
 use Rattle.dali_transcripts.specs.Transcripts.{IsSoFar, owned, deeds_of, numbers_of, Told, is_among}
 use Rattle.dali_transcripts.specs.Rounds.{Standing, Stands, by, AreBlocks, told_of}
@@ -25,7 +25,7 @@ use Rattle.dali_deeds.specs.Tells.{after, Goes}
 use Rattle.dali_turns.specs.declared.client.Client.{Client}
 use Rattle.dali_turns.specs.declared.client.State.{State}
 use Rattle.dali_turns.specs.Stood.{Stood}
-use Rattle.dali_turns.specs.Fits.{rest_of, IsOf, Owns, Fits}
+use Rattle.dali_turns.specs.Fits.{rest_of, Speaks, InTxn, OthersGot, IsOf, Owns, Fits}
 use Rattle.dali_turns.specs.Others.{LeavesOthers}
 use Rattle.dali_turns.specs.Goes.{Came, RowsTell, Went}
 use Rattle.dali_turns.specs.Turns.{own_numbers, AreReceipts, Turned, TurnGoes}
@@ -35,7 +35,7 @@ use Rattle.dali_turns.proofs.Cutting.{fits_under_way}
 use Rattle.dali_round.specs.Played.{EachIsOwned, IsSeated, Played, PlayGoes}
 use Rattle.dali_round.proofs.Lists.{get_map, map_set, length_set, get_set, get_set_other, with_length, all_append}
 use Rattle.dali_round.proofs.Begun.{in_one}
-use Rattle.dali_round.proofs.Places.{at_spot, owns_within}
+use Rattle.dali_round.proofs.Places.{at_spot, owns_within, owns_in, owns_locks}
 
 -- ---- the deeds of another client
 not_same : (m n : ℕ) → (m ≡ n → ⊥) → (m == n) ≡ false
@@ -121,7 +121,7 @@ module _ {V : Type 0} (told : V → Option Disk) (may_leave : V → Disk → Typ
         let two : slice_get bs n ≡ Some (told_of b) = subst (λ l. slice_get l n ≡ Some (told_of b)) f.blocks (get_map told_of f.standings n b at_b) in
         apart (sym (f.are.apart i n (told_of a) (told_of b) one two same))
 
-    pub is_on : (b : Standing) (l : Client) → (a.client ≡ b.client → ⊥) → IsOf f.world b l → IsOf x b l
+    pub is_on : (b : Standing) (l : Client) → (a.client ≡ b.client → ⊥) → Speaks f.world b l → Speaks x b l
     is_on b l other is = record {
       client = is.client;
       lines = is.lines;
@@ -129,7 +129,7 @@ module _ {V : Type 0} (told : V → Option Disk) (may_leave : V → Disk → Typ
           (world_goes_on f.world x b.client b.acts b.lines (deeds_of f.world b.client) b.pending b.spot goes.grows is.stands);
     }
 
-    pub numbers_on : (b : Standing) (l : Client) → (a.client ≡ b.client → ⊥) → IsOf f.world b l → own_numbers x l ≡ own_numbers f.world l
+    pub numbers_on : (b : Standing) (l : Client) → (a.client ≡ b.client → ⊥) → Speaks f.world b l → own_numbers x l ≡ own_numbers f.world l
     numbers_on b l other is = ap numbers_of (deeds_same f.world x l.transcript.client a.client ds goes.grows goes.more (λ e. other (e ∙ sym is.client)))
 
     pub played_by : (b : Standing) (j : Client) → b.client ≡ a.client → b.acts ≡ a.acts → IsSeated told may_leave faults ok s C q x hs z u b j
@@ -178,9 +178,45 @@ module _ {V : Type 0} (told : V → Option Disk) (may_leave : V → Disk → Typ
     seat : IsSeated told may_leave faults true s f.batches f.to f.world gs y v there.0 k
     seat = f.seats i there.0 k there.1 at_k
 
+    system_there : f.world.core.system ≡ y
+    system_there = ap (λ (c : CoreState). c.system) f.stood.tells.core ∙ f.stood.stands.at.system
+
+    -- clients at other places are others
+    apart : (n : ℕ) (b : Standing) → slice_get f.standings n ≡ Some b → (n ≡ i → ⊥) → b.client ≡ there.0.client → ⊥
+    apart n b at_b away same =
+        let one : slice_get bs i ≡ Some (told_of there.0) = subst (λ l. slice_get l i ≡ Some (told_of there.0)) f.blocks (get_map told_of f.standings i there.0 there.1) in
+        let two : slice_get bs n ≡ Some (told_of b) = subst (λ l. slice_get l n ≡ Some (told_of b)) f.blocks (get_map told_of f.standings n b at_b) in
+        away (f.are.apart n i (told_of b) (told_of there.0) two one same)
+
+    -- whoever is in a transaction was granted its locks
+    others : OthersGot f.world there.0
+    others runs t n lives has = by_place (owner.0 == i) refl
+      where
+        owner : (m : ℕ) × (l : Client) × (slice_get ks m ≡ Some l) × Owns l.state t
+        owner = f.owned refl (ap (λ (m : SystemState). m.stop) (sym system_there) ∙ runs) t (ap (λ (m : SystemState). state_of m t) (sym system_there) ∙ lives)
+
+        held : is_some (lock_of f.to.core.system t n) ≡ true
+        held = ap (λ (c : CoreState). is_some (lock_of c.system t n)) (sym f.stood.tells.core) ∙ has
+
+        by_place : (b : Bool) → (owner.0 == i) ≡ b → InTxn there.0.spot.place t ⊎ ((d : ℕ) × ((d == there.0.client) ≡ false) × HasGot f.world.happened d t n)
+        by_place true e =
+            let same : owner.1 ≡ k = some_same (sym owner.2 ∙ (ap (slice_get ks) (equal owner.0 i e) ∙ at_k)) in
+            inl (owns_in told may_leave faults s f.batches f.to f.world gs y v there.0 (rest_of k) k.state t seat.came (subst (λ (l : Client). Owns l.state t) same owner.3))
+        by_place false e =
+            let b = with_length f.standings ks owner.0 owner.1 f.count owner.2 in
+            let its = f.seats owner.0 b.0 owner.1 b.1 owner.2 in
+            inr (
+              b.0.client,
+              not_same b.0.client there.0.client (apart owner.0 b.0 b.1 (λ here. let yes : (owner.0 == i) ≡ true = same_number owner.0 i here in let no : true ≡ false = sym yes ∙ e in absurd (cc))),
+              owns_locks told may_leave faults s f.batches f.to f.world gs y v b.0 (rest_of owner.1) owner.1.state t its.came owner.3 n held,
+            )
+
+    is_of : IsOf f.world there.0 k
+    is_of = record { client = seat.is.client; lines = seat.is.lines; stands = seat.is.stands; others = others }
+
     module _ (ok : Bool) (j : Client) (hs : List RegionState) (z : SystemState) (u : Vaulted V) (turn : TurnGoes told may_leave faults precheck k gs y v ok j hs z u) where
       abbrev t : Turned told may_leave faults precheck s f.batches f.to f.world there.0 k gs y v ok j hs z u
-      t = turn s f.batches f.to f.world there.0 f.stood seat.is seat.came seat.receipts
+      t = turn s f.batches f.to f.world there.0 f.stood is_of seat.came seat.receipts
 
       abbrev g : Went told may_leave faults precheck s f.batches f.to f.world there.0 k.state gs y v ok j hs z u
       g = t.went
@@ -219,7 +255,7 @@ module _ {V : Type 0} (told : V → Option Disk) (may_leave : V → Disk → Typ
           other : there.0.client ≡ b.client → ⊥
           other = other_client precheck s p bs ks gs y v true ok f i there.0 k there.1 at_k g.batches g.to g.steps g.course g.deeds g.world g.goes hs z u g.stood n b at_b apart
 
-          is_now : IsOf g.world b l
+          is_now : Speaks g.world b l
           is_now = is_on precheck s p bs ks gs y v true ok f i there.0 k there.1 at_k g.batches g.to g.steps g.course g.deeds g.world g.goes hs z u g.stood b l other old.is
 
       still_owned : ok ≡ true → EachIsOwned (slice_set ks i j) z

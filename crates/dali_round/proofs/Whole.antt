@@ -93,6 +93,7 @@ module _ {V : Type 0} (told : V → Option Disk) (may_leave : V → Disk → Typ
           rests = b.between.rests;
           between = λ e. absurd (cc);
         };
+        at_once = now.tells.at_once;
       }
     where
       handed : (bs : List Told) → AreHanded false (receipts_of (world told may_leave faults precheck s B p gs y v b) bs) []

@@ -15,7 +15,7 @@ use Rattle.dali_whole.specs.Cores.{HoldsPlaces}
 use Rattle.dali_ends.specs.Stands.{StandsAt}
 use Rattle.dali_transcripts.specs.Words.{Said}
 use Rattle.dali_transcripts.specs.Transcripts.{Told}
-use Rattle.dali_transcripts.specs.Rounds.{IsBetween, IsRound}
+use Rattle.dali_transcripts.specs.Rounds.{AreAtOnce, IsBetween, IsRound}
 use Rattle.dali_clients.specs.declared.command.Block.{Block}
 use Rattle.dali_clients.specs.Said.{Transcribed}
 use Rattle.dali_clients.specs.Told.{said_of, told_of}
@@ -46,6 +46,8 @@ module _ {V : Type 0} (told : V → Option Disk) (may_leave : V → Disk → Typ
     pub files : IfSome (told u.store) (HoldsPlaces hs)
     pub keeps : FlagTells to
     pub round : IsRound precheck whole s.log p.core to.core blocks lines receipts
+    -- one thread makes all steps: nothing comes between a look and its operation
+    pub at_once : precheck ≡ true → AreAtOnce round.world
 
   abbrev pub RoundGoes : Bool → List Block → List RegionState → SystemState → Vaulted V → RoundEnd → List Transcribed → List RegionState → SystemState → Vaulted V → Type 0
   RoundGoes precheck blocks gs y v end transcripts hs z u =

@@ -26,7 +26,7 @@ use Rattle.dali_turns.specs.declared.client.Client.{Client}
 use Rattle.dali_turns.specs.declared.client.State.TheVariants.{Outside}
 use Rattle.dali_turns.specs.Clients.{is_over}
 use Rattle.dali_turns.specs.Stood.{Stood}
-use Rattle.dali_turns.specs.Fits.{IsOf, Owns}
+use Rattle.dali_turns.specs.Fits.{Speaks, Owns}
 use Rattle.dali_turns.specs.Goes.{Came}
 use Rattle.dali_turns.specs.Turns.{AreReceipts}
 use Rattle.dali_turns.specs.Places.{ReachesNext}
@@ -53,7 +53,7 @@ EachIsOwned ks y = y.stop ≡ None → (t : ℕ) → state_of y t ≡ Some Live 
 
 module _ {V : Type 0} (told : V → Option Disk) (may_leave : V → Disk → Type 0) (faults : V → ℕ) where
   pub record IsSeated (ok : Bool) (s : Start) (B : List (List Record)) (p : Point) (w : World) (gs : List RegionState) (y : SystemState) (v : Vaulted V) (a : Standing) (k : Client) : Type 0 where
-    pub is : IsOf w a k
+    pub is : Speaks w a k
     pub came : Came told may_leave faults ok s B p w gs y v a k
     pub receipts : AreReceipts ok w k
 

@@ -1,6 +1,6 @@
 -- Behind the clean-up of dead transactions a round may begin, where one might before it.
 use Rattle.std.proofs.Common.{◌≡◌, ℕ, Bool, true, false, List, [], ◌∷◌, ◌++◌, Option, Some, None, map, refl, sym, ◌∙◌, ap, subst, inl, inr}
-use Rattle.std.specs.Prelude.{◌==◌, ◌⊎◌, IfSome, IsSome, IsSomeAnd, slice_get}
+use Rattle.std.specs.Prelude.{◌==◌, IfSome, IsSome, IsSomeAnd, slice_get}
 use Rattle.std.specs.Option.{option_map}
 use Rattle.std.proofs.lemmas.Bool.{eqb-true}
 use Rattle.dali_att.specs.declared.state.State.{State}
@@ -17,11 +17,10 @@ use Rattle.dali_checkpoint.proofs.Calls.{course_join}
 use Rattle.dali_memstore.specs.declared.fuse.Fuse.{Fuse}
 use Rattle.dali_record.specs.declared.records.Record.{Record}
 use Rattle.dali_region.specs.declared.Hold.{Hold}
-use Rattle.dali_region.specs.State.{RegionState, IsLive}
+use Rattle.dali_region.specs.State.{RegionState}
 use Rattle.dali_round.specs.Leads.{BeginsAt}
 use Rattle.dali_store.specs.Store.{Files as Disk}
 use Rattle.dali_system.specs.Courses.{Step}
-use Rattle.dali_system.specs.declared.causes.Cause.{Cause}
 use Rattle.dali_system.specs.State.{SystemState, TxnRow, row_of, state_in, state_of}
 use Rattle.dali_transcripts.specs.Rounds.{IsBetween}
 use Rattle.dali_transcripts.specs.World.{is_claimed_in, is_dead_in}

@@ -1,7 +1,7 @@
 -- A line that says that the store failed is of a deed that says so, and a count rose then.
 --     alone_rises        a poke, an audit or a checkpoint from a point of a run
 --     fault_rises        each command that a failure of the store ends
-use Rattle.std.proofs.Common.{◌≡◌, ◌≤◌, ℕ, ◌+◌, Bool, true, false, List, [], ◌∷◌, ◌++◌, Option, Some, None, length, map, refl, sym, ◌∙◌, ap, subst, inl, inr, ⊎_elim, arith}
+use Rattle.std.proofs.Common.{◌≡◌, ◌≤◌, ℕ, Bool, true, false, List, [], ◌∷◌, ◌++◌, Option, Some, None, length, map, refl, sym, ◌∙◌, ap, subst, inl, inr, ⊎_elim, arith}
 use Rattle.std.specs.Prelude.{◌⊎◌, ◌||◌, ◌&&◌, ◌==◌, is_some}
 use Rattle.std.specs.List.{list_all, list_any}
 use Rattle.std.proofs.lemmas.List.Folds.{list_any-append}
@@ -160,7 +160,7 @@ round_fails w act (t ∷ []) lone tells says =
     client_fails w 1 act (lines_in t) lone tells.0 (⊎_elim (λ it. it) (λ none. absurd (cc none)) (either (says_failure t) false says))
 round_fails w act (t ∷ u ∷ ts) lone tells says = absurd tells.1
 
-rises : (a b n m : ℕ) → a ≡ n → b ≡ m → HasRisen a b → Rose n m
+pub rises : (a b n m : ℕ) → a ≡ n → b ≡ m → HasRisen a b → Rose n m
 rises a b n m was is rose = subst (λ k. Rose k m) was (subst (λ k. Rose a k) is rose)
 
 -- ---- counts
@@ -184,7 +184,7 @@ module _ {V : Type 0} (told : V → Option Disk) (may_leave : V → Disk → Typ
       rises w.old.vault.faults w.core.vault.faults (faults_in faults c.vault.store) (faults_in faults f) was is
       (round.together.faults.rose (round_fails w act fails.transcripts lone round.transcripts.each fails.said))
 
-  own_rises : (old f : Fuse V) → Rose (faults_in faults old) (faults_in faults f) → failed_of f ≤ failed_of old → OwnRose faults old f
+  pub own_rises : (old f : Fuse V) → Rose (faults_in faults old) (faults_in faults f) → failed_of f ≤ failed_of old → OwnRose faults old f
   own_rises old f (inl more) few = inl (omega (arith, more, few))
   own_rises old f (inr end) few = inr end
 

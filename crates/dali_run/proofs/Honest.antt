@@ -47,6 +47,7 @@ use Rattle.dali_run.specs.Steps.{Plays, Steps}
 use Rattle.dali_run.specs.Survives.{CutIsHonest, FaultIsHonest, FoundIsHonest, GeneratorIsHonest, GeneratorStopIsHonest, IsAPoint, IsHonest, IsOwn, IsPointOf, LossIsHonest, MemoryIsHonest, NoneEscape, NoneEscapesAlone, NoneEscapesAt, NoneEscapesBehind, NoneEscapesCut, NoneEscapesFailed, NoneEscapesIn, NoneEscapesLeft, NoneEscapesLost, PlayedIsHonest, ScriptIsHonest, StopIsHonest, WantIsHonest}
 use Rattle.dali_run.specs.Told.{AreFit, IsFit, alone, told_by}
 use Rattle.dali_run.proofs.Fit.{all_fit, right_blocks}
+use Rattle.dali_run.proofs.Standing.{stands_of}
 use Rattle.dali_run.proofs.Sums.{masks_at, poked_is}
 use Rattle.dali_run.proofs.Surviving.{begins_down, next_fit, step_goes, tells_on}
 use Rattle.dali_run.proofs.Telling.{fit_front, step_told, there_is}
@@ -195,7 +196,7 @@ module _ {V : Type 0} (told : V → Option Disk) (may_leave : V → Disk → Typ
         → Steps told may_leave moment left_since faults limit cuts precheck old command text new → Calm old → Calm new
     calm_step command fit none old text new step calm =
         let onward = step_goes told may_leave moment left_since faults reads_now counts_now limit cuts precheck command calm.base old new text step calm.point (left_none command old calm) in
-        let are = step_told told may_leave moment left_since faults reads_now counts_now limit cuts precheck command fit nothing calm.base old new text step calm.point calm.none in
+        let are = step_told told may_leave moment left_since faults reads_now counts_now limit cuts precheck command fit nothing old new text step (stands_of told may_leave faults calm.base old calm.point) calm.none in
         record {
           base = onward.log;
           point = onward.point;
@@ -314,6 +315,10 @@ module _ {V : Type 0} (told : V → Option Disk) (may_leave : V → Disk → Typ
     calm_played ends run =
         calm_step 67108864 false (Round (generated clients size number)) blocks_fit (blocks_none number size clients 1) (Up run.made) run.round.text (Up run.played) (run.played, run.round.round, refl)
         (calm_made run.made run.is_made)
+
+    -- nobody wrote astray in the round
+    pub played_unpoked : (ends : Option Halt) (run : IsPlayed told may_leave moment left_since faults 67108864 clients size number c.store ends) → NonePoked run.played.regions.items
+    played_unpoked ends run = none_poked run.played (calm_played ends run).none
 
     played_honest : (ends : Option Halt) (run : IsPlayed told may_leave moment left_since faults 67108864 clients size number c.store ends)
         → PlayedIsHonest told may_leave moment left_since faults cuts clients size number c.store ends run

@@ -4,15 +4,17 @@ mod Fuses
 mod Fusing
 mod Pieces
 mod RoundCalls
-mod Serving
 mod Fit
 mod RoundTexts
 mod Alone
 mod StoreCalls
 mod OnlyRead
+mod Standing
 mod Comparisons
 mod Surviving
 pub mod Survived
+mod Oks
+pub mod Keeping
 mod Serves
 mod Summarized
 mod Generated
@@ -21,6 +23,7 @@ mod Cleaned
 mod Cleanings
 mod Unpoked
 mod Failing
+mod Rising
 mod Completing
 mod Straying
 mod Pokings

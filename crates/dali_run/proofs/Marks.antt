@@ -17,8 +17,8 @@ use Rattle.dali_system.specs.State.{CoreState, SystemState}
 use Rattle.dali_whole.specs.declared.whole.Core.{Core}
 use Rattle.std.proofs.lemmas.Bool.{eq-eqb}
 use Rattle.dali_run.specs.Steps.{dead_in, CleansAll, CleansUp, HasCleaned}
-use Rattle.dali_run.specs.Survives.{IsPointOf}
 use Rattle.dali_run.proofs.Cleanings.{AllDead, At, idle_runs, moved_one}
+use Rattle.dali_run.proofs.Standing.{IsStanding}
 
 -- ---- regions with the same stray writes
 abbrev pub SameMarks : RegionState → RegionState → Type 0
@@ -173,7 +173,7 @@ module _ {V : Type 0} (told : V → Option Disk) (may_leave : V → Disk → Typ
       let one = moved_one told may_leave faults s B p t c cleans.0 cleans.1 begins all runs in
       stays_then c cleans.0 d (stays_one s B p t c cleans.0 cleans.1 begins) (stays_all ts s B one.0.to cleans.0 d cleans.2 one.0.begins one.0.dead one.1)
 
-  pub cleaned_stays : (base : List Record) (c d : Core (Fuse V)) → HasCleaned told may_leave faults c d → c.system.state.stop ≡ None → IsPointOf told may_leave faults base c → Stays c d
-  cleaned_stays base c d cleaned up a =
+  pub cleaned_stays : (c d : Core (Fuse V)) → HasCleaned told may_leave faults c d → c.system.state.stop ≡ None → IsStanding told may_leave faults c → Stays c d
+  cleaned_stays c d cleaned up a =
       let idle = idle_runs told may_leave faults a.start a.batches a.point c a.begins up in
       stays_all (dead_in c.system.state) a.start a.batches a.point c d cleaned.each a.begins idle.0 idle.1

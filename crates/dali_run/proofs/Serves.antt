@@ -1,9 +1,9 @@
 -- The blocks of a generated round are those of whole transactions.
-use Rattle.std.proofs.Common.{◌≡◌, ℕ, zero, suc, ◌+◌, ◌-◌, ◌<◌, ◌≤◌, ◌==◌, ◌&&◌, Bool, true, false, cond, leb, List, [], ◌∷◌, ◌++◌, map, flat_map, Some, refl, sym, ◌∙◌, ap, arith, inl, inr, ⊎_elim}
+use Rattle.std.proofs.Common.{◌≡◌, ℕ, zero, suc, ◌+◌, ◌-◌, ◌<◌, ◌≤◌, ◌==◌, ◌&&◌, Bool, true, false, cond, leb, List, [], ◌∷◌, ◌++◌, map, flat_map, length, Option, Some, None, refl, sym, ◌∙◌, ap, arith, inl, inr, ⊎_elim}
 use Rattle.std.specs.Prelude.{◌⊎◌, ◌%◌, filter_map, if◌then◌else◌, slice_get}
-use Rattle.std.specs.List.{range_with_len}
+use Rattle.std.specs.List.{list_all, range_with_len}
 use Rattle.std.proofs.lemmas.Bool.{cases_lt, cases_eq, eq-eqb, le-leb, lt-leb}
-use Rattle.std.proofs.lemmas.List.{map-append}
+use Rattle.std.proofs.lemmas.List.{length-map, map-append}
 use Rattle.dali_clients.specs.Said.{Transcribed}
 use Rattle.dali_generator.specs.Generated.{block, commands_of, draw, generated, key_of, transaction, value_of}
 use Rattle.dali_generator.specs.Left.{call_in, calls_at, transactions_of}
@@ -13,22 +13,48 @@ use Rattle.dali_round.specs.Leads.{lines_in}
 use Rattle.dali_script.specs.declared.commands.Block.{Block}
 use Rattle.dali_script.specs.declared.commands.ClientCommand.{ClientCommand}
 use Rattle.dali_script.specs.declared.commands.ClientCommand.TheVariants.{Update, Delete, Get, Commit}
-use Rattle.dali_served.specs.Served.{AllServed, AreTold, acts_of}
+use Rattle.dali_served.specs.Free.{AllFit, fits_log}
+use Rattle.dali_served.specs.Served.{AreTold, acts_of}
 use Rattle.dali_served.specs.Generates.{calls_told}
-use Rattle.dali_transcripts.specs.Words.{Act, Begins, Calls, Commits}
+use Rattle.dali_transcripts.specs.Words.{AbortOk, Aborted, Act, Answered, AuditSaid, Begins, Begun, Busy, Calls, CheckpointFailed, CheckpointSaid, CommitOk, Commits, Damaged, Died, Full, LeftOpen, PokeOk, PokeOutOfRange, Refused, Said, StoppedBy, StoreFailed, UnderWay}
 use Rattle.dali_transcripts.specs.Transcripts.{Told, is_among}
-use Rattle.dali_run.specs.Generating.{all_served, serves}
+use Rattle.dali_run.specs.declared.halt.Halt.{Halt}
+use Rattle.dali_run.specs.Generating.{first_full, full_among, full_in, or_else}
 use Rattle.dali_run.specs.Told.{act_by, told_by}
 
 -- ---- the lines
-both_true : (a b : Bool) → (a && b) ≡ true → (a ≡ true) × (b ≡ true)
-both_true true true e = (refl, refl)
-both_true true false e = absurd cc
-both_true false b e = absurd cc
+both_none : (a b : Option Halt) → or_else a b ≡ None → (a ≡ None) × (b ≡ None)
+both_none None b e = (refl, e)
+both_none (Some halt) b e = absurd cc
 
-pub lines_served : (ts : List Transcribed) → all_served ts ≡ true → AllServed (map lines_in ts)
-lines_served [] e = tt
-lines_served (t ∷ ts) e = let two = both_true (serves t) (all_served ts) e in (two.0, lines_served ts two.1)
+line_fits : (said : Said) → full_in said ≡ None → fits_log said ≡ true
+line_fits (Begun txn) e = refl
+line_fits (Answered call answer) e = refl
+line_fits CommitOk e = refl
+line_fits AbortOk e = refl
+line_fits Aborted e = refl
+line_fits LeftOpen e = refl
+line_fits Died e = refl
+line_fits (Busy holder) e = refl
+line_fits PokeOk e = refl
+line_fits PokeOutOfRange e = refl
+line_fits (AuditSaid regions) e = refl
+line_fits (CheckpointSaid number) e = refl
+line_fits (CheckpointFailed regions) e = refl
+line_fits (Refused act (StoppedBy cause)) e = refl
+line_fits (Refused act (Full end limit)) e = absurd cc
+line_fits (Refused act (Damaged region codeword found)) e = refl
+line_fits (Refused act StoreFailed) e = refl
+line_fits (Refused act UnderWay) e = refl
+
+lines_fit : (lines : List Said) → full_among lines ≡ None → list_all fits_log lines ≡ true
+lines_fit [] e = refl
+lines_fit (said ∷ later) e =
+    let two = both_none (full_in said) (full_among later) e in rw (line_fits said two.0) (lines_fit later two.1)
+
+pub all_fit : (ts : List Transcribed) → first_full ts ≡ None → AllFit (map lines_in ts)
+all_fit [] e = tt
+all_fit (t ∷ ts) e = let two = both_none (full_among (lines_in t)) (first_full ts) e in (lines_fit (lines_in t) two.0, all_fit ts two.1)
 
 -- ---- the acts
 second : (first a b c : Bool) (k : ℕ) (v : List ℕ) → List ClientCommand
@@ -114,3 +140,12 @@ are_told clients size number = record { acts = acts; others = others }
         (λ few. let is = is_among_them number size clients 1 c some (omega (arith, few)) in let never : false ≡ true = sym e ∙ is in absurd cc)
         (cases_lt clients c))
         (cases_lt c 1)
+
+-- ---- one block for each client
+count_range : (n a : ℕ) → length (range_with_len a n) ≡ n
+count_range zero a = refl
+count_range (suc n) a = ap suc (count_range n (a + 1))
+
+pub one_each : (clients size number : ℕ) → length (map told_by (generated clients size number)) ≡ clients
+one_each clients size number =
+    length-map (generated clients size number) told_by ∙ (length-map (range_with_len 1 clients) (block number size) ∙ count_range clients 1)

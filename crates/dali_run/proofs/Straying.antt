@@ -31,9 +31,9 @@ use Rattle.dali_whole.specs.declared.whole.Core.{Core}
 use Rattle.dali_run.specs.Masks.{list_in}
 use Rattle.dali_run.specs.Steps.{ActsAlone}
 use Rattle.dali_run.specs.Strays.{LoneAuditTells}
-use Rattle.dali_run.specs.Survives.{IsPointOf}
 use Rattle.dali_run.specs.Texts.{alone_texts}
 use Rattle.dali_run.specs.Told.{alone}
+use Rattle.dali_run.proofs.Standing.{IsStanding, standing_of}
 
 -- ---- the one step of the client
 abbrev pub is_lone : Act → Bool
@@ -305,9 +305,9 @@ module _ {V : Type 0} (told : V → Option Disk) (may_leave : V → Disk → Typ
     pub list : (found : List ℕ) → list_in line ≡ Some found → IsList (length c.regions.items) found
     pub names : (found : List ℕ) → list_in line ≡ Some found → (r : ℕ) (g : RegionState) → slice_get c.regions.items r ≡ Some g → Contains found r ↔ (g.stray ≢ 0)
 
-  pub lone_names : (act : Act) (base : List Record) (c d : Core (Fuse V)) (text : List ℕ) → is_lone act ≡ true → IsPointOf told may_leave faults base c
+  pub lone_names : (act : Act) (c d : Core (Fuse V)) (text : List ℕ) → is_lone act ≡ true → IsStanding told may_leave faults c
       → (acts : ActsAlone told may_leave faults precheck act c text d) → LoneNames act c text d acts
-  lone_names act base c d text lone at acts =
+  lone_names act c d text lone at acts =
       let led = acts.plays at.start at.batches at.point at.begins in
       let round = led.round in
       let w = round.world in
@@ -336,6 +336,6 @@ module _ {V : Type 0} (told : V → Option Disk) (may_leave : V → Disk → Typ
 
   pub lone_audit_tells : LoneAuditTells told may_leave faults precheck
   lone_audit_tells base c d text found at acts lines_are r g region =
-      let once = lone_names Audits base c d text refl at acts in
+      let once = lone_names Audits c d text refl (standing_of told may_leave faults base c at) acts in
       let same : once.line ≡ AuditSaid found = cc (sym once.lines_are ∙ lines_are) in
       once.names found (ap list_in same) r g region

@@ -1,6 +1,7 @@
 -- What a generated run writes follows from its three numbers.
-use Rattle.std.proofs.Common.{◌≡◌, ◌≤◌, ℕ, zero, suc, Bool, true, false, List, [], ◌∷◌, ◌++◌, length, map, take, Option, Some, None, refl, sym, ◌∙◌, ap, subst, arith, inl, inr, append-nil}
-use Rattle.std.specs.Prelude.{IfSome, is_some}
+use Rattle.std.proofs.Common.{◌≡◌, ◌≤◌, ◌-◌, ℕ, zero, suc, Bool, true, false, List, [], ◌∷◌, ◌++◌, length, map, take, Option, Some, None, refl, sym, ◌∙◌, ap, subst, arith, inl, inr, append-nil, nat_cmp}
+use Rattle.std.specs.FinMap.{get-empty}
+use Rattle.std.specs.Prelude.{IfSome, is_some, slice_get}
 use Rattle.dali_again.proofs.Found.{crash_is_found}
 use Rattle.dali_again.proofs.Places.{start_has_place}
 use Rattle.dali_again.specs.Found.{FindsIt}
@@ -10,9 +11,15 @@ use Rattle.dali_arguments.specs.declared.task.Task.{Task}
 use Rattle.dali_arguments.specs.declared.task.Task.TheVariants.{Run, Generate, Dump}
 use Rattle.dali_arguments.proofs.InRange.{in_range}
 use Rattle.dali_chain.proofs.Made.{format_begins, restart_begins}
+use Rattle.dali_chain.proofs.Shown.{right_at}
 use Rattle.dali_again.proofs.Stages.{same_sizes}
 use Rattle.dali_crash.specs.Checkpoints.{Point}
-use Rattle.dali_crash.specs.Traces.{start_point}
+use Rattle.dali_crash.specs.CrashLogs.{IsUnpoked, cut_to}
+use Rattle.dali_crash.specs.Restarts.{HasRightBase}
+use Rattle.dali_crash.specs.Traces.{bases_of, start_point}
+use Rattle.dali_crash.proofs.CrashLogs.{cut_parts}
+use Rattle.dali_crash.proofs.Honest.{unpoked_escapes_none}
+use Rattle.dali_crash.proofs.Restarts.{crash_is_history}
 use Rattle.dali_crash.proofs.Courses.{format_is_history}
 use Rattle.dali_crash.proofs.Traces.{every_trace_is_right, trace_prefix}
 use Rattle.dali_generator.specs.Generated.{AreWithin, generated, index_regions, heap_regions}
@@ -26,21 +33,24 @@ use Rattle.dali_memstore.specs.declared.fuse.Fuse.{Fuse}
 use Rattle.dali_record.specs.declared.records.Call.{Call}
 use Rattle.dali_record.specs.declared.records.Record.{Record}
 use Rattle.dali_record.specs.declared.records.Record.TheVariants.{Format}
-use Rattle.dali_record.specs.Epochs.{last_epoch}
+use Rattle.dali_record.specs.Epochs.{Cut, Epoch, last_epoch}
 use Rattle.dali_record.specs.Files.{Files}
 use Rattle.dali_record.specs.Legal.{sizes_of as sizes_in}
 use Rattle.dali_restart.specs.Formatted.{first_at, first_record}
 use Rattle.dali_restart.specs.Restarting.{outcome, BeginsRun, Gives, GoesOnFrom}
 use Rattle.dali_round.specs.Leads.{lines_in}
-use Rattle.dali_served.specs.Served.{HasServed, IsFront}
+use Rattle.dali_served.specs.Free.{HasNoRows}
+use Rattle.dali_served.specs.Served.{AllServed, HasServed, IsFront}
 use Rattle.dali_served.specs.Generates.{calls_told}
+use Rattle.dali_served.proofs.Generated.{generated_are_served}
 use Rattle.dali_served.proofs.Law.{served_rounds}
 use Rattle.dali_served.proofs.Summing.{summaries_follow}
 use Rattle.dali_store.specs.Store.{Files as Disk}
 use Rattle.dali_streams.specs.Streams.{Appends}
 use Rattle.dali_system.specs.Crashes.{NoneEscapes}
-use Rattle.dali_system.specs.Run.{log_in}
-use Rattle.dali_system.specs.State.{CoreState, SystemState, log_after, stable}
+use Rattle.dali_system.specs.Run.{Bases, RunsOn, log_in}
+use Rattle.dali_region.specs.State.{RegionState}
+use Rattle.dali_system.specs.State.{CoreState, SystemState, log_after, row_of, stable}
 use Rattle.dali_system.specs.declared.causes.Cause.{Cause}
 use Rattle.dali_system.specs.declared.causes.Cause.TheVariants.{Damage, Store}
 use Rattle.dali_traces.specs.Bridges.{TracedTo}
@@ -54,24 +64,37 @@ use Rattle.dali_run.specs.declared.program.Program.{Program}
 use Rattle.dali_run.specs.declared.program.Program.TheVariants.{Up, Down}
 use Rattle.dali_run.specs.declared.status.Status.TheVariants.{Done}
 use Rattle.dali_run.specs.Ends.{Course, Ended, EndedGenerator, GeneratorFinds, LastLine}
-use Rattle.dali_run.specs.Generating.{all_served, first_full, halt_of, sum_of_keys}
-use Rattle.dali_run.specs.Honest.{PokesNowhere}
+use Rattle.dali_run.specs.Generating.{first_full, halt_of, halt_of_round, is_by_fuse, sum_of_keys}
+use Rattle.dali_run.specs.Honest.{NonePoked, PokesNowhere}
 use Rattle.dali_run.specs.Program.{IsDown, store_of, told_in, leaves_in, faults_in}
 use Rattle.dali_run.specs.Steps.{Plays, Restarts, StepsSize}
 use Rattle.dali_run.specs.Summaries.{SummaryDepends}
 use Rattle.dali_run.specs.Survives.{FoundIsHonest, IsHonest, IsOwn, IsPointOf, NoneEscapesAt}
 use Rattle.dali_run.specs.Told.{told_by, sizes_of}
-use Rattle.dali_run.proofs.Honest.{runs_are_honest}
-use Rattle.dali_run.proofs.Serves.{are_told, lines_served}
+use Rattle.dali_run.proofs.Honest.{played_unpoked, runs_are_honest}
+use Rattle.dali_run.proofs.Serves.{all_fit, are_told, one_each}
 use Rattle.dali_run.proofs.Surviving.{no_words, no_heads, none_synced, none_escapes, own_same, at_start, tells_on, told_there}
 
--- ---- a round that ended nothing served all
-served_if : (o : Option Halt) (stop : Option Cause) (served : Bool) → halt_of o stop served ≡ None → served ≡ true
-served_if (Some halt) stop served e = absurd cc
-served_if None (Some Store) served e = absurd cc
-served_if None (Some (Damage region)) served e = absurd cc
-served_if None None true e = refl
-served_if None None false e = absurd cc
+-- ---- a round that ended nothing: its log had room, and nothing stopped it
+ended_none : (full : Option Halt) (stop : Option Cause) (by_fuse : Bool) → halt_of full stop by_fuse ≡ None → (full ≡ None) × (stop ≡ None)
+ended_none (Some halt) stop by_fuse e = absurd cc
+ended_none None (Some Store) true e = absurd cc
+ended_none None (Some Store) false e = absurd cc
+ended_none None (Some (Damage region)) by_fuse e = absurd cc
+ended_none None None by_fuse e = (refl, refl)
+
+-- ---- the whole log of a run where nobody wrote astray is a history
+take_whole : (L : List Record) → take (length L) L ≡ L
+take_whole [] = refl
+take_whole (r ∷ L) = ap (λ (l : List Record). r ∷ l) (take_whole L)
+
+whole_history : (bases : Bases) (L : List Record) (c : CoreState) → RunsOn bases L c → HasRightBase bases c.system.sizes L → (last_epoch L).first ≤ length L → NonePoked c.regions → IsHistory L
+whole_history bases L c runs right from none =
+    let unpoked : IsUnpoked c = λ r g e. (none r g e, (runs.regions r g e).protected.none_missed (none r g e)) in
+    let cuts : last_epoch (take (length L) L) ≡ cut_to (length L - (last_epoch L).first) (last_epoch L) = ap (λ (q : Cut). q.now) (cut_parts L (length L) from (omega arith)) in
+    let safe : NoneEscapes (last_epoch (take (length L) L)) c =
+    subst (λ (e : Epoch). NoneEscapes e c) (sym cuts) (unpoked_escapes_none bases L c (length L - (last_epoch L).first) runs unpoked) in
+    subst (λ (K : List Record). IsHistory K) (take_whole L) (crash_is_history bases L c (length L) runs right from (omega arith) safe)
 
 -- ---- the last line of such a run is empty
 take_none : (n : ℕ) (xs : List ℕ) → xs ≡ [] → take n xs ≡ []
@@ -142,10 +165,11 @@ module _ {V : Type 0} (told : V → Option Disk) (may_leave : V → Disk → Typ
       history : IsHistory (log_in files)
       served : HasServed calls (log_in files)
 
-    served_behind : (s : Sizes) (made played : Core (Fuse V)) (ts : List Transcribed) → IsFirst s made → Plays told may_leave faults false true blocks made ts played
-        → all_served ts ≡ true → is_some (told_in told played.vault.store) ≡ true → NoneEscapesAt told may_leave played
+    served_behind : (made played : Core (Fuse V)) (ts : List Transcribed) → IsFirst (sizes_of (index_regions clients size) (heap_regions clients size)) made → Plays told may_leave faults false true blocks made ts played
+        → halt_of_round ts played.system.state.stop (is_by_fuse made played) ≡ None → is_some (told_in told played.vault.store) ≡ true → NonePoked played.regions.items → NoneEscapesAt told may_leave played
         → (c : Disk) → leaves_in may_leave played.vault.store c → IsLeftBy played c
-    served_behind s made played ts first plays all tells none c may =
+    served_behind made played ts first plays ended tells quiet none c may =
+        let s = sizes_of (index_regions clients size) (heap_regions clients size) in
         let a = first.at in
         let start = a.start in
         let led = plays start a.batches a.point a.begins in
@@ -165,6 +189,17 @@ module _ {V : Type 0} (told : V → Option Disk) (may_leave : V → Disk → Typ
         let before : w.before ≡ first_record s ∷ [] =
         led.round.before_is ∙ (ap (λ (p : Point). log_after start.log p.core.system) first.point ∙ (append-nil start.log ∙ first.log)) in
         let begun : length start.log ≤ stable led.to.core = omega (arith, run.run.first) in
+        let runs : RunsOn (bases_of start) led.to.log led.to.core = subst (λ (K : List Record). RunsOn (bases_of start) K led.to.core) (sym run.log) run.run.runs in
+        let from : (last_epoch led.to.log).first ≤ length led.to.log =
+        omega (arith, subst (λ (K : List Record). (last_epoch K).first ≤ length start.log) (sym run.log) run.run.began, begun, run.run.frame, run.run.taken, ap length run.log) in
+        let calm : NonePoked led.to.core.regions = λ r g there. quiet r g (ap (λ (l : List RegionState). slice_get l r) (sym stands.at.regions) ∙ there) in
+        let whole : IsHistory (log_of w) =
+        subst (λ (K : List Record). IsHistory K) log (whole_history (bases_of start) led.to.log led.to.core runs (right_at start led.batches led.to a.history E t) from calm) in
+        let rows : HasNoRows a.point.core = λ n. ap (λ (p : Point). row_of p.core.system n) first.point ∙ get-empty nat_cmp n in
+        let two = ended_none (first_full ts) played.system.state.stop (is_by_fuse made played) ended in
+        let all : AllServed (map lines_in ts) =
+        generated_are_served clients size number start.log a.point.core led.to.core blocks (map lines_in ts) (map (λ (x : Transcribed). x.receipts) ts) within led.round before rows whole
+        (are_told clients size number) (one_each clients size number) (ap (λ (z : SystemState). z.stop) stands.at.system ∙ two.1) (all_fit ts two.0) in
         let front : IsFront w (log_in E) = record {
           count = prefix.count;
           is = prefix.log ∙ ap (take prefix.count) log;
@@ -178,7 +213,7 @@ module _ {V : Type 0} (told : V → Option Disk) (may_leave : V → Disk → Typ
           history = right.restarts.history;
           served =
               served_rounds false start.log a.point.core led.to.core blocks (map lines_in ts) (map (λ (x : Transcribed). x.receipts) ts) calls s.index s.heap (log_in E) led.round before
-              (are_told clients size number) (lines_served ts all) front right.restarts.history.legal;
+              (are_told clients size number) all front right.restarts.history.legal;
         }
 
     -- ---- what is found of it
@@ -219,19 +254,18 @@ module _ {V : Type 0} (told : V → Option Disk) (may_leave : V → Disk → Typ
     module _ (cuts : V → ℕ → Option Disk) where
       sums : (base : List Record) (start : V) (found : Core (Fuse V)) → IsOwn told may_leave base start
           → (run : GeneratorFinds told may_leave moment left_since faults cuts clients size number start found)
-          → FoundIsHonest told may_leave moment left_since faults cuts clients size number start found run → Sums found
-      sums base start found own run honest =
+          → FoundIsHonest told may_leave moment left_since faults cuts clients size number start found run → NonePoked run.run.run.played.regions.items → Sums found
+      sums base start found own run honest quiet =
           let p = run.run.run in
           let m = p.is_made in
           let first = first_of 67108864 (index_regions clients size) (heap_regions clients size) base m.first [] p.made (down_own base m.first start m.down own) m.steps in
           let r = p.round.round in
-          let all = served_if (first_full r.transcripts) p.played.system.state.stop (all_served r.transcripts) p.round.is in
           let tells : is_some (told_in told p.played.vault.store) ≡ true = tells_on (told_in told p.made.vault.store) (told_in told p.played.vault.store) r.longer first.at.tells in
           let crash = run.run.crash in
           let store : inner (store_of run.run.crashed) ≡ crash.store = ap (λ (q : Program V). inner (store_of q)) crash.down.down ∙ crash.down.store_is in
           sums_found 67108864 run.run.crashed run.text found p.played
           (ap (λ (v : V). is_some (told v)) store ∙ (crash.left.tells ∙ tells))
-          (λ c may. served_behind (sizes_of (index_regions clients size) (heap_regions clients size)) p.made p.played r.transcripts first r.plays all tells honest.0 c (crash.left.crash c (subst (λ (v : V). may_leave v c) store may)))
+          (λ c may. served_behind p.made p.played r.transcripts first r.plays p.round.is tells quiet honest.0 c (crash.left.crash c (subst (λ (v : V). may_leave v c) store may)))
           run.restart
 
   -- ---- the words
@@ -239,7 +273,8 @@ module _ {V : Type 0} (told : V → Option Disk) (may_leave : V → Disk → Typ
     generated_text : (clients size number : ℕ) → AreWithin clients size → (mid : Option (List ℕ)) (count : ℕ) (ended : EndedGenerator told may_leave moment left_since faults cuts clients size number c mid count Done)
         → FoundIsHonest told may_leave moment left_since faults cuts clients size number c.store ended.1.found ended.1.run → Appends c.taken (summary_left clients size number) mid
     generated_text clients size number within mid count ended honest =
-        subst (λ text. Appends c.taken text mid) (ended.1.printed ∙ sums clients size number within cuts base c.store ended.1.found own ended.1.run honest ended.1.rows ended.1.listing) ended.2.1
+        subst (λ text. Appends c.taken text mid) (ended.1.printed ∙ sums clients size number within cuts base c.store ended.1.found own ended.1.run honest
+        (played_unpoked told may_leave moment left_since faults reads_now counts_now cuts clients size number within c base own None ended.1.run.run.run) ended.1.rows ended.1.listing) ended.2.1
 
     of_task : (words : List (List ℕ)) (task : Option Task) → meaning words ≡ task → (clients size number : ℕ) → task ≡ Some (Generate clients size number)
         → (mid : Option (List ℕ)) (count : ℕ) (ended : Ended told may_leave moment left_since faults cuts task c mid count Done)

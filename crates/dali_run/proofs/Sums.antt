@@ -7,7 +7,7 @@ use Rattle.std.proofs.lemmas.Nat.{xor_comm}
 use Rattle.std.proofs.lemmas.Bool.{eqb-true, eq-eqb}
 use Rattle.std.proofs.Math.Bool.{or_assoc, or_comm}
 use Rattle.dali_transcripts.specs.Words.{Said}
-use Rattle.dali_transcripts.specs.World.{Logs, Strays, DiesOn, Claims, GivesBack, Yields, FindsDead, StartsCheckpoint, MovesAnchor, EndsCheckpoint, Meets, Happening, World, stray_step, stray_after, poked_step, poked_after}
+use Rattle.dali_transcripts.specs.World.{Logs, Strays, DiesOn, Claims, GivesBack, GetsLock, Yields, FindsDead, StartsCheckpoint, MovesAnchor, EndsCheckpoint, Meets, Happening, World, stray_step, stray_after, poked_step, poked_after}
 use Rattle.dali_transcripts.specs.Moves.{Receipt}
 use Rattle.dali_transcripts.specs.Transcripts.{AreTranscripts, EachTells, Told, count_with, deeds_of, is_among, owned, owned_one}
 use Rattle.dali_transcripts.specs.Rounds.{AreBlocks, IsPlaced}
@@ -201,6 +201,7 @@ stray_one r s (DiesOn t q, c) = sym (xor_zero_r s)
 stray_one r s (Claims u, c) = sym (xor_zero_r s)
 stray_one r s (GivesBack u o, c) = sym (xor_zero_r s)
 stray_one r s (Yields f, c) = sym (xor_zero_r s)
+stray_one r s (GetsLock t k m, c) = sym (xor_zero_r s)
 stray_one r s (FindsDead f, c) = sym (xor_zero_r s)
 stray_one r s (StartsCheckpoint, c) = sym (xor_zero_r s)
 stray_one r s (MovesAnchor k, c) = sym (xor_zero_r s)
@@ -235,6 +236,7 @@ poked_one r p (DiesOn t q, c) = or_none p
 poked_one r p (Claims u, c) = or_none p
 poked_one r p (GivesBack u o, c) = or_none p
 poked_one r p (Yields f, c) = or_none p
+poked_one r p (GetsLock t k m, c) = or_none p
 poked_one r p (FindsDead f, c) = or_none p
 poked_one r p (StartsCheckpoint, c) = or_none p
 poked_one r p (MovesAnchor k, c) = or_none p

@@ -274,7 +274,7 @@ module _ {V : Type 0} (told : V → Option Disk) (may_leave : V → Disk → Typ
     of_none mid OutOfMemory ended = untouched ended.1.0
     of_none mid _ ended = absurd ended
 
-    survives : (words : List (List ℕ)) (mid : Option (List ℕ)) (count : ℕ) (task : Option Task) → meaning words ≡ task → (status : Status)
+    pub survives : (words : List (List ℕ)) (mid : Option (List ℕ)) (count : ℕ) (task : Option Task) → meaning words ≡ task → (status : Status)
         → (ended : Ended told may_leave moment left_since faults cuts task c mid count status)
         → IsHonest told may_leave moment left_since faults cuts c mid count task status ended
         → Survives told may_leave moment left_since faults cuts c mid count base task status ended

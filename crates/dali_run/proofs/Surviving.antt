@@ -179,7 +179,7 @@ module _ {V : Type 0} (told : V → Option Disk) (may_leave : V → Disk → Typ
   faults_same : (passes : ℕ) (f g : Fuse V) → SetsFuse passes f g → faults_in faults f ≡ faults_in faults g
   faults_same passes f g set = ap (λ (n : ℕ). faults (inner f) + n) (sym set.failed) ∙ ap (λ (s : V). faults s + failed_of g) (sym set.store)
 
-  fused_begins : (passes : ℕ) (core : Core (Fuse V)) (f : Fuse V) (s : Start) (B : List (List Record)) (p : Point) → SetsFuse passes core.vault.store f
+  pub fused_begins : (passes : ℕ) (core : Core (Fuse V)) (f : Fuse V) (s : Start) (B : List (List Record)) (p : Point) → SetsFuse passes core.vault.store f
       → BeginsAt (told_in told) (leaves_in may_leave) (faults_in faults) s B p core.regions.items core.system.state core.vault
       → BeginsAt (told_in told) (leaves_in may_leave) (faults_in faults) s B p core.regions.items core.system.state (with_store core.vault f)
   fused_begins passes core f s B p set begins =

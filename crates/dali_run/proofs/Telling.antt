@@ -31,7 +31,7 @@ use Rattle.dali_run.specs.declared.halt.Halt.TheVariants as halts
 use Rattle.dali_run.specs.declared.status.Status.{Status}
 use Rattle.dali_run.specs.declared.status.Status.TheVariants.{Done, BadWords, BadScript, TooLong, ReadFault, WriteFault, StoreFault, BadStore, Unformatted, Formatted, OutOfMemory, LogFull}
 use Rattle.dali_run.specs.Ends.{Course, EndedScript, HasStopped, Untouched}
-use Rattle.dali_run.specs.Masks.{list_in, poke_in, answer_in, done_on, masks_of, xor_of, has_any, AreTold, NamesOf, IsNone, NamesTold, ShowsNone, TellsBy, VerifiesNone, masks_behind, AllTold, ToldThere, ToldBefore, MemoryTold, ScriptTold, PokesAreTold}
+use Rattle.dali_run.specs.Masks.{list_in, poke_in, answer_in, done_on, masks_of, xor_of, has_any, AreTold, NamesOf, IsNone, NamesTold, ShowsNone, NamesBy, TellsBy, VerifiesNone, masks_behind, AllNamed, AllTold, NamedThere, ToldThere, BeforeHalt, BeforeWant, OfRun, StraysAreNamed, PokesAreTold}
 use Rattle.dali_run.specs.Program.{told_in}
 use Rattle.dali_run.specs.Run.{HasRun, RunsAll}
 use Rattle.dali_run.specs.Scripts.{Spells}
@@ -41,6 +41,7 @@ use Rattle.dali_run.specs.Told.{AreFit, IsFit, alone, told_by}
 use Rattle.dali_run.specs.Unpoked.{HasServed}
 use Rattle.dali_run.proofs.Fit.{all_fit}
 use Rattle.dali_run.proofs.Marks.{KeepMarks, cleaned_stays, keep_same, none_loaded}
+use Rattle.dali_run.proofs.Standing.{IsStanding, Stands, standing_of, stands_of, step_stands}
 use Rattle.dali_run.proofs.Straying.{below_at, is_lone, lone_names}
 use Rattle.dali_run.proofs.Sums.{any_both, poked_told, stray_told, xor_both}
 use Rattle.dali_run.proofs.Surviving.{begins_down, cleaned_point, there}
@@ -91,9 +92,9 @@ fit_front (suc n) (command ∷ commands) fit = (fit.0, fit_front n commands fit.
 
 module _ {V : Type 0} (told : V → Option Disk) (may_leave : V → Disk → Type 0) (faults : V → ℕ) (precheck : Bool) where
   -- ---- a round
-  round_theirs : (base : List Record) (blocks : List Blocks) (c d : Core (Fuse V)) (ts : List Transcribed) → AreBlocks blocks → Plays told may_leave faults precheck true blocks c ts d
-      → IsPointOf told may_leave faults base c → (masks : ℕ → List ℕ) → AreTheirs masks c.regions.items → AreTheirs (λ r. masks r ++ masks_of r blocks (map lines_in ts)) d.regions.items
-  round_theirs base blocks c d ts are plays a masks theirs = λ r h e.
+  round_theirs : (blocks : List Blocks) (c d : Core (Fuse V)) (ts : List Transcribed) → AreBlocks blocks → Plays told may_leave faults precheck true blocks c ts d
+      → IsStanding told may_leave faults c → (masks : ℕ → List ℕ) → AreTheirs masks c.regions.items → AreTheirs (λ r. masks r ++ masks_of r blocks (map lines_in ts)) d.regions.items
+  round_theirs blocks c d ts are plays a masks theirs = λ r h e.
       let led = plays a.start a.batches a.point a.begins in
       let round = led.round in
       let w = round.world in
@@ -123,20 +124,20 @@ module _ {V : Type 0} (told : V → Option Disk) (may_leave : V → Disk → Typ
       )
 
   -- a round of one client that pokes nothing
-  lone_theirs : (base : List Record) (act : Act) (c d : Core (Fuse V)) (text : List ℕ) → IsPlaced false (act ∷ []) → filter_map poke_in (act ∷ []) ≡ []
-      → ActsAlone told may_leave faults precheck act c text d → IsPointOf told may_leave faults base c → (masks : ℕ → List ℕ) → AreTheirs masks c.regions.items → AreTheirs masks d.regions.items
-  lone_theirs base act c d text placed none acts a masks theirs = λ r h e.
-      let is = round_theirs base (alone act) c d acts.transcripts (lone_blocks act placed) acts.plays a masks theirs r h e in
+  lone_theirs : (act : Act) (c d : Core (Fuse V)) (text : List ℕ) → IsPlaced false (act ∷ []) → filter_map poke_in (act ∷ []) ≡ []
+      → ActsAlone told may_leave faults precheck act c text d → IsStanding told may_leave faults c → (masks : ℕ → List ℕ) → AreTheirs masks c.regions.items → AreTheirs masks d.regions.items
+  lone_theirs act c d text placed none acts a masks theirs = λ r h e.
+      let is = round_theirs (alone act) c d acts.transcripts (lone_blocks act placed) acts.plays a masks theirs r h e in
       let same : masks r ++ masks_of r (alone act) (map lines_in acts.transcripts) ≡ masks r =
       ap (λ (l : List ℕ). masks r ++ l) (none_alone r act none (map lines_in acts.transcripts)) ∙ append-nil (masks r) in
       (is.0 ∙ ap xor_of same, is.1 ∙ ap has_any same)
 
   -- ---- a lone audit
-  audit_names : (base : List Record) (act : Act) (c d : Core (Fuse V)) (text : List ℕ) → is_lone act ≡ true → (acts : ActsAlone told may_leave faults precheck act c text d)
-      → IsPointOf told may_leave faults base c → (masks : ℕ → List ℕ) → AreTheirs masks c.regions.items
+  audit_names : (act : Act) (c d : Core (Fuse V)) (text : List ℕ) → is_lone act ≡ true → (acts : ActsAlone told may_leave faults precheck act c text d)
+      → IsStanding told may_leave faults c → (masks : ℕ → List ℕ) → AreTheirs masks c.regions.items
       → NamesOf masks (length c.regions.items) (map lines_in acts.transcripts) text
-  audit_names base act c d text lone acts a masks theirs =
-      let named = lone_names told may_leave faults precheck act base c d text lone a acts in
+  audit_names act c d text lone acts a masks theirs =
+      let named = lone_names told may_leave faults precheck act c d text lone a acts in
       let named_so : (found : List ℕ) → list_in named.line ≡ Some found → (r : ℕ) → r < length c.regions.items → Contains found r ↔ (xor_of (masks r) ≢ 0) =
       λ found e r below.
       let region = there_is c.regions.items r below in
@@ -156,85 +157,85 @@ module _ {V : Type 0} (told : V → Option Disk) (may_leave : V → Disk → Typ
         );
       }
 
-  lone_told : (name : Name) (act : Act) (masks : ℕ → List ℕ) (base : List Record) (old new : Program V) (text : List ℕ) → IsPlaced false (act ∷ []) → filter_map poke_in (act ∷ []) ≡ []
-      → StepsAlone told may_leave faults precheck name act old text new → IsAPoint told may_leave faults base old → AreTold masks old → AreTold masks new
-  lone_told name act masks base (Up core) new text placed none step a are =
-      subst (AreTold masks) (sym step.2) (lone_theirs base act core step.0 text placed none step.1 a masks are)
-  lone_told name act masks base (Down store) new text placed none step a are = subst (AreTold masks) (sym step.1) tt
+  lone_told : (name : Name) (act : Act) (masks : ℕ → List ℕ) (old new : Program V) (text : List ℕ) → IsPlaced false (act ∷ []) → filter_map poke_in (act ∷ []) ≡ []
+      → StepsAlone told may_leave faults precheck name act old text new → Stands told may_leave faults old → AreTold masks old → AreTold masks new
+  lone_told name act masks (Up core) new text placed none step a are =
+      subst (AreTold masks) (sym step.2) (lone_theirs act core step.0 text placed none step.1 a masks are)
+  lone_told name act masks (Down store) new text placed none step a are = subst (AreTold masks) (sym step.1) tt
 
-  lone_named : (name : Name) (act : Act) (masks : ℕ → List ℕ) (base : List Record) (old new : Program V) (text : List ℕ) → is_lone act ≡ true
-      → (step : StepsAlone told may_leave faults precheck name act old text new) → IsAPoint told may_leave faults base old → AreTold masks old
+  lone_named : (name : Name) (act : Act) (masks : ℕ → List ℕ) (old new : Program V) (text : List ℕ) → is_lone act ≡ true
+      → (step : StepsAlone told may_leave faults precheck name act old text new) → Stands told may_leave faults old → AreTold masks old
       → NamesTold told may_leave faults precheck masks name act old text new step
-  lone_named name act masks base (Up core) new text lone step a are = audit_names base act core step.0 text lone step.1 a masks are
-  lone_named name act masks base (Down store) new text lone step a are = tt
+  lone_named name act masks (Up core) new text lone step a are = audit_names act core step.0 text lone step.1 a masks are
+  lone_named name act masks (Down store) new text lone step a are = tt
 
 -- ---- each command
 module _ {V : Type 0} (told : V → Option Disk) (may_leave : V → Disk → Type 0) (moment : V → ℕ) (left_since : V → ℕ → Disk → Type 0) (faults : V → ℕ)
     (reads_now : (s : V) → IfSome (told s) (λ fs. may_leave s fs)) (counts_now : (s : V) (t : ℕ) (c : Disk) → t ≤ moment s → may_leave s c → left_since s t c)
     (limit : ℕ) (cuts : V → ℕ → Option Disk) (precheck : Bool) where
-  cleanup_told : (stop : Option Cause) (masks : ℕ → List ℕ) (base : List Record) (core : Core (Fuse V)) (new : Program V) (text : List ℕ) → core.system.state.stop ≡ stop
-      → CleanupIn told may_leave faults stop core text new → IsPointOf told may_leave faults base core → AreTheirs masks core.regions.items → AreTold masks new
-  cleanup_told (Some cause) masks base core new text is step a are = subst (AreTold masks) (sym step.1) are
-  cleanup_told None masks base core new text is step a are =
-      subst (AreTold masks) (sym step.2) (kept masks core.regions.items step.0.regions.items (cleaned_stays told may_leave faults base core step.0 step.1 is a).marks are)
+  cleanup_told : (stop : Option Cause) (masks : ℕ → List ℕ) (core : Core (Fuse V)) (new : Program V) (text : List ℕ) → core.system.state.stop ≡ stop
+      → CleanupIn told may_leave faults stop core text new → IsStanding told may_leave faults core → AreTheirs masks core.regions.items → AreTold masks new
+  cleanup_told (Some cause) masks core new text is step a are = subst (AreTold masks) (sym step.1) are
+  cleanup_told None masks core new text is step a are =
+      subst (AreTold masks) (sym step.2) (kept masks core.regions.items step.0.regions.items (cleaned_stays told may_leave faults core step.0 step.1 is a).marks are)
 
-  show_told : (stop : Option Cause) (masks : ℕ → List ℕ) (base : List Record) (core : Core (Fuse V)) (new : Program V) (text : List ℕ) → core.system.state.stop ≡ stop
-      → ShowIn told may_leave faults stop core text new → IsPointOf told may_leave faults base core → AreTheirs masks core.regions.items → AreTold masks new
-  show_told (Some cause) masks base core new text is step a are = subst (AreTold masks) (sym step.1) are
-  show_told None masks base core new text is step a are =
-      subst (AreTold masks) (sym step.2) (kept masks core.regions.items step.0.regions.items (cleaned_stays told may_leave faults base core step.0 step.1 is a).marks are)
+  show_told : (stop : Option Cause) (masks : ℕ → List ℕ) (core : Core (Fuse V)) (new : Program V) (text : List ℕ) → core.system.state.stop ≡ stop
+      → ShowIn told may_leave faults stop core text new → IsStanding told may_leave faults core → AreTheirs masks core.regions.items → AreTold masks new
+  show_told (Some cause) masks core new text is step a are = subst (AreTold masks) (sym step.1) are
+  show_told None masks core new text is step a are =
+      subst (AreTold masks) (sym step.2) (kept masks core.regions.items step.0.regions.items (cleaned_stays told may_leave faults core step.0 step.1 is a).marks are)
 
   compared_same : (c d : Core (Fuse V)) (text : List ℕ) → EndsComparison told may_leave moment left_since faults c text d → d.regions.items ≡ c.regions.items
   compared_same c d text (inl compares) = ap (λ (x : Core (Fuse V)). x.regions.items) compares.read.same
   compared_same c d text (inr stops) = ap (λ (x : Core (Fuse V)). x.regions.items) stops.read.same
 
-  verify_told : (stop : Option Cause) (masks : ℕ → List ℕ) (base : List Record) (core : Core (Fuse V)) (new : Program V) (text : List ℕ) → core.system.state.stop ≡ stop
-      → VerifyIn told may_leave moment left_since faults stop core text new → IsPointOf told may_leave faults base core → AreTheirs masks core.regions.items → AreTold masks new
-  verify_told (Some cause) masks base core new text is step a are = subst (AreTold masks) (sym step.1) are
-  verify_told None masks base core new text is step a are =
+  verify_told : (stop : Option Cause) (masks : ℕ → List ℕ) (core : Core (Fuse V)) (new : Program V) (text : List ℕ) → core.system.state.stop ≡ stop
+      → VerifyIn told may_leave moment left_since faults stop core text new → IsStanding told may_leave faults core → AreTheirs masks core.regions.items → AreTold masks new
+  verify_told (Some cause) masks core new text is step a are = subst (AreTold masks) (sym step.1) are
+  verify_told None masks core new text is step a are =
       subst (AreTold masks) (sym step.4)
       (
       kept masks step.0.regions.items step.1.regions.items (keep_same step.0.regions.items step.1.regions.items (compared_same step.0 step.1 text step.3))
-      (kept masks core.regions.items step.0.regions.items (cleaned_stays told may_leave faults base core step.0 step.2 is a).marks are)
+      (kept masks core.regions.items step.0.regions.items (cleaned_stays told may_leave faults core step.0 step.2 is a).marks are)
       )
 
-  pub step_told : (command : Command) → IsFit command → (masks : ℕ → List ℕ) (base : List Record) (old new : Program V) (text : List ℕ)
-      → (step : Steps told may_leave moment left_since faults limit cuts precheck old command text new) → IsAPoint told may_leave faults base old → AreTold masks old
+  pub step_told : (command : Command) → IsFit command → (masks : ℕ → List ℕ) (old new : Program V) (text : List ℕ)
+      → (step : Steps told may_leave moment left_since faults limit cuts precheck old command text new) → Stands told may_leave faults old → AreTold masks old
       → AreTold (masks_behind told may_leave moment left_since faults limit cuts precheck command old text new step masks) new
-  step_told (Size index heap) fit masks base old new text step a are =
+  step_told (Size index heap) fit masks old new text step a are =
       subst (AreTold (λ r. [])) (sym step.up) (new_ones _ step.core.regions.items step.fresh.regions)
-  step_told Open fit masks base old new text (inl step) a are = subst (AreTold (λ r. [])) (sym step.up) (new_ones step.fresh.words step.core.regions.items step.fresh.risen.regions)
-  step_told Open fit masks base old new text (inr step) a are = subst (AreTold (λ r. [])) (sym step.down) tt
-  step_told Restart fit masks base old new text (inl step) a are =
+  step_told Open fit masks old new text (inl step) a are = subst (AreTold (λ r. [])) (sym step.up) (new_ones step.fresh.words step.core.regions.items step.fresh.risen.regions)
+  step_told Open fit masks old new text (inr step) a are = subst (AreTold (λ r. [])) (sym step.down) tt
+  step_told Restart fit masks old new text (inl step) a are =
       subst (AreTold (λ r. [])) (sym step.up) (new_ones step.fresh.words step.core.regions.items step.fresh.risen.regions)
-  step_told Restart fit masks base old new text (inr step) a are = subst (AreTold (λ r. [])) (sym step.down) tt
-  step_told (Round blocks) fit masks base (Up core) new text step a are =
+  step_told Restart fit masks old new text (inr step) a are = subst (AreTold (λ r. [])) (sym step.down) tt
+  step_told (Round blocks) fit masks (Up core) new text step a are =
       subst (AreTold (λ r. masks r ++ masks_of r (map told_by blocks) (map lines_in step.1.transcripts))) (sym step.2)
-      (round_theirs told may_leave faults precheck base (map told_by blocks) core step.0 step.1.transcripts fit step.1.plays a masks are)
-  step_told (Round blocks) fit masks base (Down store) new text step a are = subst (AreTold (λ r. masks r ++ [])) (sym step.1) tt
-  step_told (Poke region word mask) fit masks base (Up core) new text step a are =
+      (round_theirs told may_leave faults precheck (map told_by blocks) core step.0 step.1.transcripts fit step.1.plays a masks are)
+  step_told (Round blocks) fit masks (Down store) new text step a are = subst (AreTold (λ r. masks r ++ [])) (sym step.1) tt
+  step_told (Poke region word mask) fit masks (Up core) new text step a are =
       subst (AreTold (λ r. masks r ++ masks_of r (alone (Pokes region word mask)) (map lines_in step.1.transcripts))) (sym step.2)
-      (round_theirs told may_leave faults precheck base (alone (Pokes region word mask)) core step.0 step.1.transcripts fit step.1.plays a masks are)
-  step_told (Poke region word mask) fit masks base (Down store) new text step a are = subst (AreTold (λ r. masks r ++ [])) (sym step.1) tt
-  step_told Audit fit masks base old new text step a are = lone_told told may_leave faults precheck names.Audit Audits masks base old new text tt refl step a are
-  step_told Checkpoint fit masks base old new text step a are =
-      lone_told told may_leave faults precheck names.Checkpoint Checkpoints masks base old new text tt refl step a are
-  step_told Cleanup fit masks base (Up core) new text step a are = cleanup_told core.system.state.stop masks base core new text refl step a are
-  step_told Cleanup fit masks base (Down store) new text step a are = subst (AreTold masks) (sym step.1) tt
-  step_told (Crash choice) fit masks base old new text step a are = subst (AreTold (λ r. [])) (sym step.down.down) tt
-  step_told Show fit masks base (Up core) new text step a are = show_told core.system.state.stop masks base core new text refl step a are
-  step_told Show fit masks base (Down store) new text step a are = subst (AreTold masks) (sym step.1) tt
-  step_told Verify fit masks base (Up core) new text step a are = verify_told core.system.state.stop masks base core new text refl step a are
-  step_told Verify fit masks base (Down store) new text step a are = subst (AreTold masks) (sym step.1) tt
-  step_told Next fit masks base old new text step a are = subst (AreTold masks) (sym step.1) are
-  step_told (SetFuse passes) fit masks base (Up core) new text step a are = subst (AreTold masks) (sym step.0.2) are
-  step_told (SetFuse passes) fit masks base (Down store) new text step a are = subst (AreTold masks) (sym step.0.2) tt
+      (round_theirs told may_leave faults precheck (alone (Pokes region word mask)) core step.0 step.1.transcripts fit step.1.plays a masks are)
+  step_told (Poke region word mask) fit masks (Down store) new text step a are = subst (AreTold (λ r. masks r ++ [])) (sym step.1) tt
+  step_told Audit fit masks old new text step a are = lone_told told may_leave faults precheck names.Audit Audits masks old new text tt refl step a are
+  step_told Checkpoint fit masks old new text step a are =
+      lone_told told may_leave faults precheck names.Checkpoint Checkpoints masks old new text tt refl step a are
+  step_told Cleanup fit masks (Up core) new text step a are = cleanup_told core.system.state.stop masks core new text refl step a are
+  step_told Cleanup fit masks (Down store) new text step a are = subst (AreTold masks) (sym step.1) tt
+  step_told (Crash choice) fit masks old new text step a are = subst (AreTold (λ r. [])) (sym step.down.down) tt
+  step_told Show fit masks (Up core) new text step a are = show_told core.system.state.stop masks core new text refl step a are
+  step_told Show fit masks (Down store) new text step a are = subst (AreTold masks) (sym step.1) tt
+  step_told Verify fit masks (Up core) new text step a are = verify_told core.system.state.stop masks core new text refl step a are
+  step_told Verify fit masks (Down store) new text step a are = subst (AreTold masks) (sym step.1) tt
+  step_told Next fit masks old new text step a are = subst (AreTold masks) (sym step.1) are
+  step_told (SetFuse passes) fit masks (Up core) new text step a are = subst (AreTold masks) (sym step.0.2) are
+  step_told (SetFuse passes) fit masks (Down store) new text step a are = subst (AreTold masks) (sym step.0.2) tt
 
   -- ---- where nobody wrote astray
   none_poked : (masks : ℕ → List ℕ) (base : List Record) (c d : Core (Fuse V)) → HasCleaned told may_leave faults c d → c.system.state.stop ≡ None → IsPointOf told may_leave faults base c
       → AreTheirs masks c.regions.items → IsNone masks → HasServed told may_leave faults base c d
   none_poked masks base c d cleaned ran a are none =
-      let stays = cleaned_stays told may_leave faults base c d cleaned ran a in
+      let stays = cleaned_stays told may_leave faults c d cleaned ran (standing_of told may_leave faults base c a) in
       let at = (cleaned_point told may_leave moment left_since faults reads_now counts_now base c d cleaned ran a).point in
       let theirs = kept masks c.regions.items d.regions.items stays.marks are in
       record {
@@ -284,11 +285,28 @@ module _ {V : Type 0} (told : V → Option Disk) (may_leave : V → Disk → Typ
       verify_ends base core verifies.0 verifies.1 text (none_poked masks base core verifies.0 verifies.2 ran a are none) verifies.3
   verify_none masks base (Down store) new text step a are = tt
 
+  names_by : (command : Command) (masks : ℕ → List ℕ) (old new : Program V) (text : List ℕ)
+      → (step : Steps told may_leave moment left_since faults limit cuts precheck old command text new) → Stands told may_leave faults old → AreTold masks old
+      → NamesBy told may_leave moment left_since faults limit cuts precheck command masks old text new step
+  names_by Audit masks old new text step a are = lone_named told may_leave faults precheck names.Audit Audits masks old new text refl step a are
+  names_by Checkpoint masks old new text step a are = lone_named told may_leave faults precheck names.Checkpoint Checkpoints masks old new text refl step a are
+  names_by Show masks old new text step a are = tt
+  names_by Verify masks old new text step a are = tt
+  names_by (Size index heap) masks old new text step a are = tt
+  names_by Open masks old new text step a are = tt
+  names_by (Round blocks) masks old new text step a are = tt
+  names_by (Poke region word mask) masks old new text step a are = tt
+  names_by Cleanup masks old new text step a are = tt
+  names_by (Crash choice) masks old new text step a are = tt
+  names_by Restart masks old new text step a are = tt
+  names_by Next masks old new text step a are = tt
+  names_by (SetFuse passes) masks old new text step a are = tt
+
   step_tells : (command : Command) (masks : ℕ → List ℕ) (base : List Record) (old new : Program V) (text : List ℕ)
       → (step : Steps told may_leave moment left_since faults limit cuts precheck old command text new) → IsAPoint told may_leave faults base old → AreTold masks old
       → TellsBy told may_leave moment left_since faults limit cuts precheck command masks old text new step
-  step_tells Audit masks base old new text step a are = lone_named told may_leave faults precheck names.Audit Audits masks base old new text refl step a are
-  step_tells Checkpoint masks base old new text step a are = lone_named told may_leave faults precheck names.Checkpoint Checkpoints masks base old new text refl step a are
+  step_tells Audit masks base old new text step a are = names_by Audit masks old new text step (stands_of told may_leave faults base old a) are
+  step_tells Checkpoint masks base old new text step a are = names_by Checkpoint masks old new text step (stands_of told may_leave faults base old a) are
   step_tells Show masks base old new text step a are = show_none masks base old new text step a are
   step_tells Verify masks base old new text step a are = verify_none masks base old new text step a are
   step_tells (Size index heap) masks base old new text step a are = tt
@@ -311,8 +329,29 @@ module _ {V : Type 0} (told : V → Option Disk) (may_leave : V → Disk → Typ
     are,
     step_tells command masks base old runs.1 runs.0 runs.3 a are,
     all_told later fit.1 (masks_behind told may_leave moment left_since faults limit cuts precheck command old runs.0 runs.1 runs.3 masks) all.0 runs.1 runs.2 new runs.4 all.2 base' all.4
-        (step_told command fit.0 masks base old runs.1 runs.0 runs.3 a are),
+        (step_told command fit.0 masks old runs.1 runs.0 runs.3 (stands_of told may_leave faults base old a) are),
   )
+
+  all_named : (commands : List Command) → AreFit commands → (masks : ℕ → List ℕ) (old : Program V) (text : List ℕ) (new : Program V)
+      → (runs : RunsAll told may_leave moment left_since faults limit cuts precheck old commands text new) → Stands told may_leave faults old → AreTold masks old
+      → AllNamed told may_leave moment left_since faults limit cuts precheck commands masks old text new runs
+  all_named [] fit masks old text new runs a are = are
+  all_named (command ∷ later) fit masks old text new runs a are = (
+    are,
+    λ found. (
+      names_by command masks old runs.1 runs.0 runs.3 a are,
+      all_named later fit.1 (masks_behind told may_leave moment left_since faults limit cuts precheck command old runs.0 runs.1 runs.3 masks) runs.1 runs.2 new runs.4
+          (step_stands told may_leave moment left_since faults limit cuts precheck command old runs.1 runs.0 runs.3 found a)
+          (step_told command fit.0 masks old runs.1 runs.0 runs.3 a are),
+    ),
+  )
+
+  named_there : (start : V) (script : List Command) (count : ℕ) (text : List ℕ) (new : Program V) (before after : Option (List ℕ))
+      → (run : HasRun told may_leave moment left_since faults limit cuts precheck start script count text new) → Spells before script after
+      → NamedThere told may_leave moment left_since faults limit cuts precheck start script count text new run
+  named_there start script count text new before after run spells =
+      all_named (take count script) (fit_front count script (all_fit spells.bytes script spells.spelled)) (λ r. []) run.first text new run.runs
+      (subst (Stands told may_leave faults) (sym run.down.down) tt) (subst (AreTold (λ r. [])) (sym run.down.down) tt)
 
   told_there : (base : List Record) (start : V) (script : List Command) (count : ℕ) (text : List ℕ) (new : Program V) (before after : Option (List ℕ))
       → (run : HasRun told may_leave moment left_since faults limit cuts precheck start script count text new) → IsOwn told may_leave base start → Spells before script after
@@ -326,19 +365,19 @@ module _ {V : Type 0} (told : V → Option Disk) (may_leave : V → Disk → Typ
   module _ (c : Course V) (mid : Option (List ℕ)) (count : ℕ) (base : List Record) (own : IsOwn told may_leave base c.store) where
     before_it : (halt : Halt) (stopped : HasStopped told may_leave moment left_since faults limit cuts precheck halt c mid)
         → NoneEscapesStopped told may_leave moment left_since faults limit cuts precheck c mid count halt stopped
-        → ToldBefore told may_leave moment left_since faults limit cuts precheck c mid count halt stopped
+        → BeforeHalt told may_leave moment left_since faults limit cuts precheck (ToldThere told may_leave moment left_since faults limit cuts precheck) c mid count halt stopped
     before_it halt stopped honest =
         told_there base c.store stopped.0 stopped.2.count stopped.2.text stopped.2.state c.left c.left' stopped.2.run own stopped.1 honest
 
     memory_told : (ended : Untouched c mid ⊎ HasStopped told may_leave moment left_since faults limit cuts precheck halts.OutOfMemory c mid)
         → NoneEscapesWanting told may_leave moment left_since faults limit cuts precheck c mid count ended
-        → MemoryTold told may_leave moment left_since faults limit cuts precheck c mid count ended
+        → BeforeWant told may_leave moment left_since faults limit cuts precheck (ToldThere told may_leave moment left_since faults limit cuts precheck) c mid count ended
     memory_told (inl untouched) honest = tt
     memory_told (inr stopped) honest = before_it halts.OutOfMemory stopped honest
 
     script_told : (status : Status) (ended : EndedScript told may_leave moment left_since faults limit cuts precheck c mid count status)
         → NoneEscapesBefore told may_leave moment left_since faults limit cuts precheck c mid count status ended
-        → ScriptTold told may_leave moment left_since faults limit cuts precheck c mid count status ended
+        → OfRun told may_leave moment left_since faults limit cuts precheck (ToldThere told may_leave moment left_since faults limit cuts precheck) c mid count status ended
     script_told Done ended honest =
         told_there base c.store ended.0 (length ended.0) ended.2.text ended.2.state c.left c.left' ended.2.run own ended.1 honest
     script_told WriteFault ended honest =
@@ -353,6 +392,37 @@ module _ {V : Type 0} (told : V → Option Disk) (may_leave : V → Disk → Typ
     script_told TooLong ended honest = tt
     script_told ReadFault ended honest = tt
     script_told (LogFull end most) ended honest = tt
+
+  module _ (c : Course V) (mid : Option (List ℕ)) (count : ℕ) where
+    abbrev There : (start : V) (script : List Command) (count : ℕ) (text : List ℕ) (new : Program V) → HasRun told may_leave moment left_since faults limit cuts precheck start script count text new → Type 0
+    There = NamedThere told may_leave moment left_since faults limit cuts precheck
+
+    named_before : (halt : Halt) (stopped : HasStopped told may_leave moment left_since faults limit cuts precheck halt c mid)
+        → BeforeHalt told may_leave moment left_since faults limit cuts precheck There c mid count halt stopped
+    named_before halt stopped = named_there c.store stopped.0 stopped.2.count stopped.2.text stopped.2.state c.left c.left' stopped.2.run stopped.1
+
+    named_wanting : (ended : Untouched c mid ⊎ HasStopped told may_leave moment left_since faults limit cuts precheck halts.OutOfMemory c mid)
+        → BeforeWant told may_leave moment left_since faults limit cuts precheck There c mid count ended
+    named_wanting (inl untouched) = tt
+    named_wanting (inr stopped) = named_before halts.OutOfMemory stopped
+
+    script_named : (status : Status) (ended : EndedScript told may_leave moment left_since faults limit cuts precheck c mid count status)
+        → OfRun told may_leave moment left_since faults limit cuts precheck There c mid count status ended
+    script_named Done ended = named_there c.store ended.0 (length ended.0) ended.2.text ended.2.state c.left c.left' ended.2.run ended.1
+    script_named WriteFault ended = let cut = ended.1.2 in named_there c.store ended.1.0 cut.count cut.text cut.earlier c.left c.left' cut.ran ended.1.1
+    script_named StoreFault ended = named_before halts.StoreFault ended
+    script_named (BadStore file at) ended = named_before (halts.BadStore file at) ended
+    script_named Unformatted ended = named_before halts.Unformatted ended
+    script_named Formatted ended = named_before halts.Formatted ended
+    script_named OutOfMemory ended = named_wanting ended
+    script_named BadWords ended = tt
+    script_named (BadScript line kind) ended = tt
+    script_named TooLong ended = tt
+    script_named ReadFault ended = tt
+    script_named (LogFull end most) ended = tt
+
+  pub strays_are_named : StraysAreNamed told may_leave moment left_since faults limit cuts precheck
+  strays_are_named c status e = script_named c e.mid e.count status e.ended
 
   pub pokes_are_told : PokesAreTold told may_leave moment left_since faults limit cuts precheck
   pokes_are_told c status base own e honest = script_told c e.mid e.count base own status e.ended honest

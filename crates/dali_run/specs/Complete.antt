@@ -5,11 +5,14 @@
 --     OwnRose old f                the store's own count of faults rose, or it and the calls that the fuse failed come to their type's end together
 --     FaultRises                   so it is in the command that ended a run with a failure of the store
 --     StoreFaultsRise              of each run over files of this program
+--     GeneratorFaultRises          so it is in the command that ended a generated run so, its round too
+--     GeneratorFaultsRise          of each generated run over files of this program
 --     NoneRises                    no count rose: the source's, the sink's, and the store's in the command that ended the run
 --     MayEnd status                a run to its end, or memory was refused
 --     RunsComplete                 so ends each run that reads a script whose gate is found, over files of this program, where no count rises
 use Rattle.std.specs.Prelude.{◌≡◌, ◌⊎◌, ◌<◌, ◌≤◌, ℕ, ◌+◌, ◌^◌, Bool, List, ◌∷◌, Option, Some, IfSome, length}
-use Rattle.dali_arguments.specs.declared.task.Task.TheVariants.{Run}
+use Rattle.std.proofs.Common.{inl, inr}
+use Rattle.dali_arguments.specs.declared.task.Task.TheVariants.{Run, Generate}
 use Rattle.dali_batch.specs.Batch.{IsUnformatted}
 use Rattle.dali_memstore.specs.Fuse.{inner}
 use Rattle.dali_memstore.specs.declared.fuse.Fuse.{Fuse}
@@ -22,7 +25,7 @@ use Rattle.dali_store.specs.Store.{Files}
 use Rattle.dali_run.specs.declared.halt.Halt.TheVariants as halts
 use Rattle.dali_run.specs.declared.status.Status.{Status}
 use Rattle.dali_run.specs.declared.status.Status.TheVariants.{Done, StoreFault, OutOfMemory}
-use Rattle.dali_run.specs.Ends.{Course, EndedScript, EndsAs, HasStopped}
+use Rattle.dali_run.specs.Ends.{Course, EndedScript, EndsAs, GeneratorFails, GeneratorStops, HasStopped}
 use Rattle.dali_run.specs.Program.{faults_in, store_of}
 use Rattle.dali_run.specs.Survives.{IsOwn, NoneEscapesBefore, ScriptIsHonest}
 
@@ -77,3 +80,21 @@ module _ {V : Type 0} (told : V → Option Files) (may_leave : V → Files → T
       → ScriptIsHonest told may_leave moment left_since faults limit cuts precheck c e.mid e.count status e.ended
       → NoneRises c e.mid e.count status e.ended
       → MayEnd status
+
+module _ {V : Type 0} (told : V → Option Files) (may_leave : V → Files → Type 0) (moment : V → ℕ) (left_since : V → ℕ → Files → Type 0) (faults : V → ℕ) (cuts : V → ℕ → Option Files) where
+  module _ (clients size number : ℕ) (c : Course V) where
+    abbrev pub StopRises : GeneratorStops told may_leave moment left_since faults cuts clients size number halts.StoreFault c.store c.store' → Type 0
+    StopRises (inl first) = OwnRose faults (store_of first.0) first.2.last
+    StopRises (inr (inl crash)) = OwnRose faults crash.0.played.vault.store crash.1.last
+    StopRises (inr (inr restart)) = OwnRose faults (store_of restart.0.crashed) restart.1.last
+
+    -- no fuse is set: none fails a call of the restart
+    abbrev pub GeneratorFaultRises : GeneratorFails told may_leave moment left_since faults cuts clients size number c.store c.store' → Type 0
+    GeneratorFaultRises (inl stops) = StopRises stops
+    GeneratorFaultRises (inr (inl refused)) = OwnRose faults refused.run.made.vault.store refused.run.played.vault.store
+    GeneratorFaultRises (inr (inr none)) = ⊥
+
+  abbrev pub GeneratorFaultsRise : Type 0
+  GeneratorFaultsRise =
+      (c : Course V) (base : List Record) (clients size number : ℕ) → IsOwn told may_leave base c.store
+      → (e : EndsAs told may_leave moment left_since faults cuts (Some (Generate clients size number)) c StoreFault) → GeneratorFaultRises clients size number c e.ended.0

@@ -4,6 +4,7 @@ pub mod Ends
 pub mod Fails
 pub mod Generating
 pub mod Halts
+pub mod Headline
 pub mod Honest
 pub mod Masks
 pub mod Program

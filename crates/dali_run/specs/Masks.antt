@@ -8,15 +8,22 @@
 --                                  regions whose masks don't cancel
 --     VerifiesNone masks old text  where the engine runs and there are none, `verify` finds no difference, if no call of the store fails in it
 --     ShowsNone masks old text new     and `show` prints just the records that the log of the state behind it is expected to leave
---     TellsBy command ..           so the command's lines tell the stray writes
---     AllTold ..                   each region's are told at each state of a run, and each command tells them so
---     ScriptTold status            so it is of the commands that a script's run with this status has run
---     PokesAreTold                 of each script's run
+--     NamesBy command ..           so a lone audit's, or checkpoint's, line tells the stray writes
+--     TellsBy command ..           and so do those of `show` and `verify`
+--     TellsFound s                 the store has files of a log of this program, which they fit, whether damage escaped from it or not
+--     FindsFiles command ..        a restart found such files
+--     AllNamed ..                  each region's are told at each state of a run, and each audit names them so, as long as restarts found such files
+--     AllTold ..                   and each command tells them
+--     OfRun There status           so it is of the commands that a script's run with this status has run
+--     StraysAreNamed, PokesAreTold     of each script's run
 use Rattle.std.specs.Prelude.{◌≡◌, ◌≢◌, ◌⊎◌, ◌↔◌, ◌==◌, ◌<◌, ℕ, Bool, true, false, List, [], ◌∷◌, ◌++◌, if◌then◌else◌, Option, Some, None, Contains, bit_xor, filter_map, fold, length, map, slice_get, take}
 use Rattle.std.proofs.Common.{inl, inr}
 use Rattle.dali_arguments.specs.declared.task.Task.TheVariants.{Run}
+use Rattle.dali_again.specs.Found.{FindsIt}
+use Rattle.dali_memstore.specs.Fuse.{inner}
 use Rattle.dali_memstore.specs.declared.fuse.Fuse.{Fuse}
 use Rattle.dali_record.specs.declared.records.Record.{Record}
+use Rattle.dali_record.specs.Files.{Files as Spelled}
 use Rattle.dali_record.specs.Spelling.{ascends}
 use Rattle.dali_region.specs.State.{RegionState}
 use Rattle.dali_report.specs.Lines.{alone_text, texts}
@@ -28,6 +35,7 @@ use Rattle.dali_script.specs.declared.commands.Command.TheVariants.{Size, Open, 
 use Rattle.dali_script.specs.declared.names.Name.{Name}
 use Rattle.dali_script.specs.declared.names.Name.TheVariants as names
 use Rattle.dali_store.specs.Store.{Files}
+use Rattle.dali_traces.specs.Disks.{Spells}
 use Rattle.dali_transcripts.specs.Transcripts.{Told}
 use Rattle.dali_transcripts.specs.Words.{Act, Pokes, Audits, Checkpoints, Said, PokeOk, PokeOutOfRange, AuditSaid, CheckpointSaid, CheckpointFailed}
 use Rattle.dali_whole.specs.declared.whole.Core.{Core}
@@ -38,8 +46,9 @@ use Rattle.dali_run.specs.declared.program.Program.TheVariants.{Up, Down}
 use Rattle.dali_run.specs.declared.status.Status.{Status}
 use Rattle.dali_run.specs.declared.status.Status.TheVariants.{Done, WriteFault, StoreFault, BadStore, Unformatted, Formatted, OutOfMemory}
 use Rattle.dali_run.specs.Ends.{Course, EndedScript, EndsAs, HasStopped, Untouched}
+use Rattle.dali_run.specs.Program.{store_of}
 use Rattle.dali_run.specs.Run.{HasRun, RunsAll}
-use Rattle.dali_run.specs.Steps.{Steps, StepsAlone, StepsRound}
+use Rattle.dali_run.specs.Steps.{Steps, StepsAlone, StepsRestart, StepsRound}
 use Rattle.dali_run.specs.Survives.{IsOwn, IsPointOf, NoneEscapesBefore}
 use Rattle.dali_run.specs.Told.{told_by, alone}
 use Rattle.dali_run.specs.Unpoked.{ShowsJust}
@@ -123,6 +132,14 @@ module _ {V : Type 0} (told : V → Option Files) (may_leave : V → Files → T
   ShowsNone masks (Up core) text new = core.system.state.stop ≡ None → IsNone masks → ShowsLog text new
   ShowsNone masks (Down store) text new = Unit {0}
 
+-- the store has files of a log of this program, which they fit
+pub record TellsFound {V : Type 0} (told : V → Option Files) (s : V) : Type 0 where
+  pub disk : Files
+  pub tells : told s ≡ Some disk
+  pub files : Spelled
+  pub spells : Spells disk files
+  pub finds : FindsIt files
+
 -- ---- along a run
 module _ {V : Type 0} (told : V → Option Files) (may_leave : V → Files → Type 0) (faults : V → ℕ) (precheck : Bool) where
   abbrev pub masks_in_round : (blocks : List Block) (old : Program V) (text : List ℕ) (new : Program V) → StepsRound told may_leave faults precheck blocks old text new → ℕ → List ℕ
@@ -150,13 +167,36 @@ module _ {V : Type 0} (told : V → Option Files) (may_leave : V → Files → T
       before r ++ masks_alone told may_leave faults precheck names.Poke (Pokes region word mask) old text new step r
   masks_behind _ old text new step before r = before r
 
+  abbrev pub NamesBy : (command : Command) (masks : ℕ → List ℕ) (old : Program V) (text : List ℕ) (new : Program V)
+      → Steps told may_leave moment left_since faults limit cuts precheck old command text new → Type 0
+  NamesBy Audit masks old text new step = NamesTold told may_leave faults precheck masks names.Audit Audits old text new step
+  NamesBy Checkpoint masks old text new step = NamesTold told may_leave faults precheck masks names.Checkpoint Checkpoints old text new step
+  NamesBy _ masks old text new step = Unit {0}
+
   abbrev pub TellsBy : (command : Command) (masks : ℕ → List ℕ) (old : Program V) (text : List ℕ) (new : Program V)
       → Steps told may_leave moment left_since faults limit cuts precheck old command text new → Type 0
-  TellsBy Audit masks old text new step = NamesTold told may_leave faults precheck masks names.Audit Audits old text new step
-  TellsBy Checkpoint masks old text new step = NamesTold told may_leave faults precheck masks names.Checkpoint Checkpoints old text new step
   TellsBy Show masks old text new step = ShowsNone told may_leave faults masks old text new
   TellsBy Verify masks old text new step = VerifiesNone masks old text
-  TellsBy _ masks old text new step = Unit {0}
+  TellsBy command masks old text new step = NamesBy command masks old text new step
+
+  -- ---- the files that a restart finds
+  abbrev pub FindsIn : (old : Program V) (text : List ℕ) (new : Program V) → StepsRestart told may_leave moment left_since faults limit old text new → Type 0
+  FindsIn old text new (inl step) = TellsFound told (inner (store_of old))
+  FindsIn old text new (inr stops) = Unit {0}
+
+  abbrev pub FindsFiles : (command : Command) (old : Program V) (text : List ℕ) (new : Program V)
+      → Steps told may_leave moment left_since faults limit cuts precheck old command text new → Type 0
+  FindsFiles Open old text new step = FindsIn old text new step
+  FindsFiles Restart old text new step = FindsIn old text new step
+  FindsFiles _ old text new step = Unit {0}
+
+  abbrev pub AllNamed : (commands : List Command) (masks : ℕ → List ℕ) (old : Program V) (text : List ℕ) (new : Program V)
+      → RunsAll told may_leave moment left_since faults limit cuts precheck old commands text new → Type 0
+  AllNamed [] masks old text new runs = AreTold masks old
+  AllNamed (command ∷ later) masks old text new runs =
+      AreTold masks old
+      × (FindsFiles command old runs.0 runs.1 runs.3 → NamesBy command masks old runs.0 runs.1 runs.3
+      × AllNamed later (masks_behind command old runs.0 runs.1 runs.3 masks) runs.1 runs.2 new runs.4)
 
   abbrev pub AllTold : (commands : List Command) (masks : ℕ → List ℕ) (old : Program V) (text : List ℕ) (new : Program V)
       → RunsAll told may_leave moment left_since faults limit cuts precheck old commands text new → Type 0
@@ -166,32 +206,41 @@ module _ {V : Type 0} (told : V → Option Files) (may_leave : V → Files → T
       × AllTold later (masks_behind command old runs.0 runs.1 runs.3 masks) runs.1 runs.2 new runs.4
 
   -- the first commands of a script that was run
+  abbrev pub NamedThere : (start : V) (script : List Command) (count : ℕ) (text : List ℕ) (new : Program V)
+      → HasRun told may_leave moment left_since faults limit cuts precheck start script count text new → Type 0
+  NamedThere start script count text new run = AllNamed (take count script) (λ r. []) run.first text new run.runs
+
   abbrev pub ToldThere : (start : V) (script : List Command) (count : ℕ) (text : List ℕ) (new : Program V)
       → HasRun told may_leave moment left_since faults limit cuts precheck start script count text new → Type 0
   ToldThere start script count text new run = AllTold (take count script) (λ r. []) run.first text new run.runs
 
-  module _ (c : Course V) (mid : Option (List ℕ)) (count : ℕ) where
-    abbrev pub ToldBefore : (halt : Halt) → HasStopped told may_leave moment left_since faults limit cuts precheck halt c mid → Type 0
-    ToldBefore halt stopped = let stops = stopped.2 in ToldThere c.store stopped.0 stops.count stops.text stops.state stops.run
+  module _ (There : (start : V) (script : List Command) (count : ℕ) (text : List ℕ) (new : Program V) → HasRun told may_leave moment left_since faults limit cuts precheck start script count text new → Type 0)
+      (c : Course V) (mid : Option (List ℕ)) (count : ℕ) where
+    abbrev pub BeforeHalt : (halt : Halt) → HasStopped told may_leave moment left_since faults limit cuts precheck halt c mid → Type 0
+    BeforeHalt halt stopped = let stops = stopped.2 in There c.store stopped.0 stops.count stops.text stops.state stops.run
 
-    abbrev pub MemoryTold : Untouched c mid ⊎ HasStopped told may_leave moment left_since faults limit cuts precheck halts.OutOfMemory c mid → Type 0
-    MemoryTold (inl untouched) = Unit {0}
-    MemoryTold (inr stopped) = ToldBefore halts.OutOfMemory stopped
+    abbrev pub BeforeWant : Untouched c mid ⊎ HasStopped told may_leave moment left_since faults limit cuts precheck halts.OutOfMemory c mid → Type 0
+    BeforeWant (inl untouched) = Unit {0}
+    BeforeWant (inr stopped) = BeforeHalt halts.OutOfMemory stopped
 
     -- of all commands that were run, before one that failed, or whose lines were cut
-    abbrev pub ScriptTold : (status : Status) → EndedScript told may_leave moment left_since faults limit cuts precheck c mid count status → Type 0
-    ScriptTold Done ended = let ran = ended.2 in ToldThere c.store ended.0 (length ended.0) ran.text ran.state ran.run
-    ScriptTold WriteFault ended = let cut = ended.1.2 in ToldThere c.store ended.1.0 cut.count cut.text cut.earlier cut.ran
-    ScriptTold StoreFault ended = ToldBefore halts.StoreFault ended
-    ScriptTold (BadStore file at) ended = ToldBefore (halts.BadStore file at) ended
-    ScriptTold Unformatted ended = ToldBefore halts.Unformatted ended
-    ScriptTold Formatted ended = ToldBefore halts.Formatted ended
-    ScriptTold OutOfMemory ended = MemoryTold ended
-    ScriptTold _ ended = Unit {0}
+    abbrev pub OfRun : (status : Status) → EndedScript told may_leave moment left_since faults limit cuts precheck c mid count status → Type 0
+    OfRun Done ended = let ran = ended.2 in There c.store ended.0 (length ended.0) ran.text ran.state ran.run
+    OfRun WriteFault ended = let cut = ended.1.2 in There c.store ended.1.0 cut.count cut.text cut.earlier cut.ran
+    OfRun StoreFault ended = BeforeHalt halts.StoreFault ended
+    OfRun (BadStore file at) ended = BeforeHalt (halts.BadStore file at) ended
+    OfRun Unformatted ended = BeforeHalt halts.Unformatted ended
+    OfRun Formatted ended = BeforeHalt halts.Formatted ended
+    OfRun OutOfMemory ended = BeforeWant ended
+    OfRun _ ended = Unit {0}
+
+  abbrev pub StraysAreNamed : Type 0
+  StraysAreNamed =
+      (c : Course V) (status : Status) (e : EndsAs told may_leave moment left_since faults cuts (Some (Run precheck limit)) c status) → OfRun NamedThere c e.mid e.count status e.ended
 
   abbrev pub PokesAreTold : Type 0
   PokesAreTold =
       (c : Course V) (status : Status) (base : List Record) → IsOwn told may_leave base c.store
       → (e : EndsAs told may_leave moment left_since faults cuts (Some (Run precheck limit)) c status)
       → NoneEscapesBefore told may_leave moment left_since faults limit cuts precheck c e.mid e.count status e.ended
-      → ScriptTold c e.mid e.count status e.ended
+      → OfRun ToldThere c e.mid e.count status e.ended

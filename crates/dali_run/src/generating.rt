@@ -7,13 +7,12 @@ ghost use Rattle.dali_listing.specs.Listing.{IsListing, in_memory};
 ghost use Rattle.dali_listing.specs.declared.Listed.{Listed};
 ghost use Rattle.dali_memstore.specs.Fuse.{inner};
 ghost use Rattle.dali_script.specs.declared.commands.Command.TheVariants.{Size, Crash, Restart};
-ghost use Rattle.dali_served.specs.Served.{has_room, is_served};
 ghost use Rattle.dali_streams.specs.Streams.{Appends};
 ghost use Rattle.dali_transcripts.specs.Rounds.{AreBlocks};
 ghost use Rattle.dali_run.specs.declared.halt.Halt.TheVariants.{OutOfMemory};
 ghost use Rattle.dali_run.specs.declared.program.Program.TheVariants.{Up};
 ghost use Rattle.dali_run.specs.Ends.{Generates, GeneratorFinds};
-ghost use Rattle.dali_run.specs.Generating.{full_in, full_among, first_full, serves, all_served, halt_of_round, sum_of_keys, FailsIn, IsMade, IsRoundOf, NotRestarted, RoundStops};
+ghost use Rattle.dali_run.specs.Generating.{full_in, full_among, first_full, halt_of_round, sum_of_keys, FailsIn, IsMade, IsRoundOf, NotRestarted, RoundStops};
 ghost use Rattle.dali_run.specs.Program.{IsDown, PlacesIn, store_of};
 ghost use Rattle.dali_run.specs.Steps.{StepsCrash, Restarts};
 ghost use Rattle.dali_run.specs.Stops.{GeneratorEnds, GeneratorHalts};
@@ -30,7 +29,6 @@ use dali_clients::{Line as Said, Transcript, Why};
 use dali_generator::{blocks, heap_regions, index_regions, summary};
 use dali_listing::{Listed, records};
 use dali_memstore::Fuse;
-use dali_record::Answer;
 use dali_script::Block;
 use dali_stepwise::Gate;
 use dali_store::Store;
@@ -84,55 +82,25 @@ fn first_full(transcripts: &[Transcript]) -> Option<Halt>
     None
 }
 
-// Whether there was room for what the call asked for.
-fn has_room(answer: &Answer) -> bool
-    ensures { result ≡ has_room answer.now }
-{
-    !matches!(answer, Answer::FullHeap | Answer::FullIndex)
-}
-
-// Whether the line says that all went well.
-fn is_served(said: &Said) -> bool
-    ensures { result ≡ is_served (said_of said.now) }
-{
-    match said {
-        Said::Begun { .. } | Said::CommitOk => true,
-        Said::Answered { answer, .. } => has_room(answer),
-        _ => false,
-    }
-}
-
-fn serves(transcript: &Transcript) -> bool
-    ensures { result ≡ serves transcript.now }
-{
-    transcript.lines().iter().all(|said| is_served(said))
-}
-
-fn all_served(transcripts: &[Transcript]) -> bool
-    ensures { result ≡ all_served transcripts.now }
-{
-    transcripts.iter().all(|transcript| serves(transcript))
-}
-
-// What ends the run behind its round: a full log; or else the store, which stopped the engine; or else a line that says
-// something else than that all went well, which is told as want of memory.
-fn halt_of_round(transcripts: &[Transcript], stop: Option<Cause>) -> Option<Halt>
-    ensures { result ≡ halt_of_round transcripts.now stop }
+// What ends the run behind its round: a full log, or else what stopped the engine, which is the store. A call that a fuse failed
+// would be told as want of memory; none is set.
+fn halt_of_round(transcripts: &[Transcript], stop: Option<Cause>, by_fuse: bool) -> Option<Halt>
+    ensures { result ≡ halt_of_round transcripts.now stop by_fuse }
 {
     let full = first_full(transcripts);
     if full.is_some() {
         return full;
     }
     match stop {
-        Some(Cause::Store) => Some(Halt::StoreFault),
-        Some(Cause::Damage { .. }) => Some(Halt::OutOfMemory),
-        None => {
-            if all_served(transcripts) {
-                None
-            } else {
+        Some(Cause::Store) => {
+            if by_fuse {
                 Some(Halt::OutOfMemory)
+            } else {
+                Some(Halt::StoreFault)
             }
         }
+        Some(Cause::Damage { .. }) => Some(Halt::OutOfMemory),
+        None => None,
     }
 }
 
@@ -196,11 +164,13 @@ fn played<V: Store, G: Gate>(
     let Ok(blocks) = blocks_of(setting.alloc, told) else {
         return Err(give_up(core, Halt::OutOfMemory));
     };
+    let failed = core.vault.failed();
     let (core, transcripts) = play(setting, &blocks, core);
     match transcripts {
         Ok(transcripts) => {
             let stop = core.system.stopped();
-            match halt_of_round(&transcripts, stop) {
+            let now = core.vault.failed();
+            match halt_of_round(&transcripts, stop, failed < now) {
                 None => Ok(core),
                 Some(halt) => Err(give_up(core, halt)),
             }

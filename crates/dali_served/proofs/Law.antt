@@ -53,7 +53,7 @@ both_true true true e = (refl, refl)
 both_true true false e = absurd cc
 both_true false b e = absurd cc
 
-none_of : (bs : List Told) (c n : ℕ) (xs : List Happening) → list_all (λ (x : Happening). is_among bs x.1) xs ≡ true → is_among bs c ≡ false → owned c n xs ≡ []
+pub none_of : (bs : List Told) (c n : ℕ) (xs : List Happening) → list_all (λ (x : Happening). is_among bs x.1) xs ≡ true → is_among bs c ≡ false → owned c n xs ≡ []
 none_of bs c n [] all none = refl
 none_of bs c n (x ∷ xs) all none =
     let here = both_true (is_among bs x.1) (list_all (λ (y : Happening). is_among bs y.1) xs) all in

@@ -9,4 +9,17 @@ pub mod Made
 pub mod Undamaged
 pub mod Inserted
 pub mod Summing
+pub mod Steady
+pub mod Unclaimed
+pub mod Alone
 pub mod Law
+pub mod AtHome
+pub mod Apart
+pub mod Calm
+pub mod Begins
+pub mod Whole
+pub mod Finding
+pub mod Counted
+pub mod Roomy
+pub mod Free
+pub mod Generated

@@ -13,7 +13,7 @@ use Rattle.dali_record.specs.declared.records.Answer.{Answer}
 use Rattle.dali_record.specs.declared.records.Record.TheVariants.{Forward, Done, Commit, Ended, Solo, AuditFail, Back}
 use Rattle.dali_system.specs.State.{stable}
 use Rattle.dali_transcripts.specs.Words.{Act, Begins as BeginAct, Calls, Commits as CommitAct, Said, StoreFailed}
-use Rattle.dali_transcripts.specs.World.{Logs, Claims, GivesBack, FindsDead, Meets, World}
+use Rattle.dali_transcripts.specs.World.{Logs, Claims, GivesBack, GetsLock, FindsDead, Meets, World}
 use Rattle.dali_transcripts.specs.Moves.{Receipt, Place, Outside, Within, Move, Spot, at, said, own}
 use Rattle.dali_transcripts.specs.Causes.{IsWork, AreWork, IsBehind, AreBehind}
 use Rattle.dali_transcripts.specs.Transcripts.{IsPath, said_by, own_by}
@@ -62,6 +62,7 @@ one_work w c t call (n, Logs (Ended u)) h = (refl, refl)
 one_work w c t call (n, Logs x) h = absurd h
 one_work w c t call (n, Claims u) h = (refl, refl)
 one_work w c t call (n, GivesBack u o) h = (refl, refl)
+one_work w c t call (n, GetsLock u k m) h = (refl, refl)
 one_work w c t call (n, FindsDead f) h = (refl, refl)
 one_work w c t call (n, x) h = absurd h
 

@@ -8,7 +8,7 @@ use Rattle.dali_record.specs.declared.records.Call.{Call}
 use Rattle.dali_record.specs.declared.records.Record.TheVariants.{Done, Ended, AuditBegin, AuditClean, AuditFail}
 use Rattle.dali_system.specs.declared.refusals.Refusal.{Refusal}
 use Rattle.dali_transcripts.specs.Words.{Calls, Aborts as AbortAct, Audits as AuditAct, Checkpoints as CheckpointAct, Why, StoppedBy, Full, Damaged, StoreFailed, UnderWay, Said, Answered, AbortOk, Aborted, LeftOpen, Died, Busy, Refused}
-use Rattle.dali_transcripts.specs.World.{Logs, DiesOn, Claims, GivesBack, Yields, FindsDead, EndsCheckpoint, Meets, World}
+use Rattle.dali_transcripts.specs.World.{Logs, DiesOn, Claims, GivesBack, GetsLock, Yields, FindsDead, EndsCheckpoint, Meets, World}
 use Rattle.dali_transcripts.specs.Moves.{Receipt, Spot, Ending, TakenBack, LeftBehind, Move, Answers, IsRefusedCall, Dies, GivesWay, GivesUp, Commits, CommitFails, Aborts, IsRefusedAbort, Ends, StaysOpen, Audits, IsRefusedAudit, FailsCheckpoint, IsRefusedCheckpoint, said, own, to, end_line, end_own, spanned, refused_own}
 use Rattle.dali_transcripts.specs.Causes.{IsCleanUp, IsAside, AreAside, IsAsking, AreAsking, IsWork, AreWork, IsTried, AreTried, IsBehind, AreBehind, IsCutAudit, IsCutBy, HasCause}
 use Rattle.dali_transcripts.specs.Transcripts.{IsPath, said_by, own_by}
@@ -46,6 +46,7 @@ module _ (w : World) (c : ℕ) where
   asides_silent t (x ∷ xs) h = one_silent x xs (aside_silent t x h.0) (asides_silent t xs h.1)
 
   asking_silent : (t : ℕ) (call : Call) (x : Receipt) → IsAsking w c t call x → line_of_deed x ≡ None
+  asking_silent t call (n, GetsLock u k m) h = refl
   asking_silent t call (n, FindsDead f) h = refl
   asking_silent t call x h = aside_silent t x h
 

@@ -13,7 +13,8 @@ use Rattle.dali_region.specs.State.{RegionState, IsLive, loaded}
 use Rattle.dali_system.specs.declared.causes.Cause.TheVariants.{Store}
 use Rattle.dali_system.specs.State.{row_of, state_in, state_of}
 use Rattle.dali_transcripts.specs.Words.{Begins as BeginAct, Calls, Commits as CommitAct, Aborts as AbortAct, Checkpoints as CheckpointAct, StoppedBy, Damaged, StoreFailed, UnderWay}
-use Rattle.dali_transcripts.specs.World.{Logs, DiesOn, Meets, Happening, log_at, state_step, is_claimed_in, stray_after}
+use Rattle.dali_locks.specs.declared.mode.Mode.TheVariants.{Exclusive}
+use Rattle.dali_transcripts.specs.World.{Logs, DiesOn, GetsLock, Meets, Happening, log_at, state_step, is_claimed_in, stray_after}
 use Rattle.dali_transcripts.specs.Moves.{Outside, Move, Begins, IsRefusedBegin, Skips, IsRefusedCall, Commits, CommitFails, StaysOpen, Pokes, Checkpoints, IsRefusedCheckpoint, at}
 use Rattle.dali_transcripts.specs.Causes.{IsDamaged, IsUnderWay}
 use Rattle.dali_transcripts.specs.Transcripts.{IsSoFar, deeds_of, AreTranscripts}
@@ -21,6 +22,7 @@ use Rattle.dali_transcripts.specs.Rounds.{PokesTell, VerdictsTell, FaultsTell, P
 use Rattle.dali_transcripts.specs.Worked.{index_words, heap_words, look, put, insert_a}
 use Rattle.dali_transcripts.specs.Faults.{happened, told_1, told_2, told_3, blocks, lines_1, lines_2, lines_3, committed, world, FaultsRun}
 use Rattle.dali_record.specs.Epochs.{last_epoch}
+use Rattle.dali_transcripts.proofs.Looks.{looks_now}
 use Rattle.dali_transcripts.proofs.Locked.{keeps_locks}
 use Rattle.dali_transcripts.proofs.Worked.{puts_a}
 use Rattle.dali_transcripts.proofs.Verdicts.{begin_is, ends_at, found_is, never, only_at}
@@ -30,12 +32,12 @@ moves_1 : List Move
 moves_1 =
     Pokes false 3 1 9 1 (BeginAct ∷ Calls insert_a ∷ CommitAct ∷ [])
     ∷ Begins 1 3 (Calls insert_a ∷ CommitAct ∷ [])
-    ∷ IsRefusedCall 1 0 (BeginAct ∷ Calls insert_a ∷ CommitAct ∷ []) None false ((6, Logs (Forward 1 look)) ∷ []) 7 [] insert_a (Damaged 1 1 0) (CommitAct ∷ [])
+    ∷ IsRefusedCall 1 0 (BeginAct ∷ Calls insert_a ∷ CommitAct ∷ []) None false ((6, GetsLock 1 5 Exclusive) ∷ (6, Logs (Forward 1 look)) ∷ []) 7 [] insert_a (Damaged 1 1 0) (CommitAct ∷ [])
     ∷ Commits 1 0 (BeginAct ∷ Calls insert_a ∷ CommitAct ∷ []) None 7 ((8, Logs (Ended 1)) ∷ []) []
     ∷ []
 
-damaged_1 : IsDamaged world 11 1 insert_a 1 1 0
-damaged_1 = record { compares = refl; next = put 97 0; on_region = refl; goes_on = record { of_call = record { words = heap_words; are_words = (refl, omega arith); of_call = refl; is_made = puts_a }; allowed = refl; locked = (tt, keeps_locks 1 (last_epoch (log_at world 11 ++ Forward 1 (put 97 0) ∷ [])).records refl) }; old = loaded heap_words; was = refl; stray = refl; differ = refl }
+damaged_1 : IsDamaged world 12 1 insert_a 1 1 0
+damaged_1 = record { compares = refl; next = put 97 0; on_region = refl; goes_on = record { of_call = record { words = heap_words; are_words = (refl, omega arith); of_call = refl; is_made = puts_a }; allowed = refl; locked = (tt, keeps_locks 1 (last_epoch (log_at world 12 ++ Forward 1 (put 97 0) ∷ [])).records refl) }; old = loaded heap_words; was = refl; stray = refl; differ = refl }
 
 under_way_1 : IsUnderWay world 1 3
 under_way_1 = record { other = 2; differs = refl; started = refl }
@@ -53,10 +55,10 @@ so_1 = record {
       (
         refl,
         (
-          ((refl, refl, tt), tt),
+          ((refl, refl, refl), ((refl, refl, tt), tt)),
           (
             record {
-              met = record { place = 11; there = refl; number = refl };
+              met = record { place = 12; there = refl; number = refl };
               cause = damaged_1;
             },
             refl,
@@ -80,7 +82,7 @@ so_2 : IsSoFar world 2 told_2 lines_2 (deeds_of world 2) [] (at (Outside true) [
 unfolding moves_2
 so_2 = record {
   moves = moves_2;
-  path = (refl, omega arith, (refl, tt, (refl, (tt, record { met = record { place = 17; there = refl; number = refl }; cause = (tt, refl) }), refl)));
+  path = (refl, omega arith, (refl, tt, (refl, (tt, record { met = record { place = 18; there = refl; number = refl }; cause = (tt, refl) }), refl)));
   lines_are = refl;
   did_are = refl;
 }
@@ -107,7 +109,7 @@ so_3 = record {
       (
         refl,
         ((refl, omega arith), tt),
-        (refl, (refl, record { met = record { place = 16; there = refl; number = refl }; cause = (tt, refl) }, tt), (refl, tt, refl)),
+        (refl, (refl, record { met = record { place = 17; there = refl; number = refl }; cause = (tt, refl) }, tt), (refl, tt, refl)),
       ),
     ),
   );
@@ -190,7 +192,7 @@ state_is t = ap state_in (row_is t) ∙ kept t
 failed : FaultsTell world
 failed = record {
   stopped = refl;
-  once = λ i c e. let here : i ≡ 15 = only_at fails 15 happened i (Meets StoreFailed, c) refl refl e refl in rw here refl;
+  once = λ i c e. let here : i ≡ 16 = only_at fails 16 happened i (Meets StoreFailed, c) refl refl e refl in rw here refl;
   none = λ e. let no : true ≡ false = e in absurd (cc);
   rose = λ e. inl (omega arith);
 }
@@ -208,16 +210,16 @@ abbrev region_in : Happening → ℕ
 region_in (Logs (Forward t b), c) = b.region
 region_in x = 0
 
-right_at : (r : ℕ) (g : RegionState) → r ≡ 0 → slice_get world.old.regions r ≡ Some g → stray_after r g.stray (take 10 happened) ≡ 0
-right_at zero g z e = subst (λ (y : RegionState). stray_after 0 y.stray (take 10 happened) ≡ 0) (some_same e) refl
+right_at : (r : ℕ) (g : RegionState) → r ≡ 0 → slice_get world.old.regions r ≡ Some g → stray_after r g.stray (take 11 happened) ≡ 0
+right_at zero g z e = subst (λ (y : RegionState). stray_after 0 y.stray (take 11 happened) ≡ 0) (some_same e) refl
 right_at (suc r) g z e = absurd (cc)
 
 prechecks : PrecheckTells world
 prechecks = record {
   operations = λ i t c b g e was.
-      let here : i ≡ 10 = only_at is_operation 10 happened i (Logs (Forward t b), c) refl refl e refl in
+      let here : i ≡ 11 = only_at is_operation 11 happened i (Logs (Forward t b), c) refl refl e refl in
       let on : b.region ≡ 0 = sym (ap region_in (some_same (sym (ap (λ k. slice_get happened k) here) ∙ e))) in
-      subst (λ k. stray_after b.region g.stray (take k happened) ≡ 0) (sym here) (right_at b.region g on was);
+      looks_now world c i b.region g (subst (λ k. stray_after b.region g.stray (take k happened) ≡ 0) (sym here) (right_at b.region g on was));
   deaths = λ i t r c g e was. absurd (never is_death happened i (DiesOn t r, c) refl e refl);
 }
 
@@ -242,7 +244,7 @@ faults_run = record {
     log = refl;
     transcripts = transcripts;
     receipts_are = refl;
-    right = (tt, ((CheckpointAct, None, under_way_1), (refl, (refl, (tt, (tt, (tt, (refl, (refl, (refl, (refl, ((Calls insert_a, Some 1, damaged_1), (refl, (refl, (refl, (tt, ((BeginAct, None, (tt, refl)), ((BeginAct, None, (tt, refl)), tt))))))))))))))))));
+    right = (tt, ((CheckpointAct, None, under_way_1), (refl, (refl, (tt, (tt, (tt, (refl, (refl, (refl, (tt, (refl, ((Calls insert_a, Some 1, damaged_1), (refl, (refl, (refl, (tt, ((BeginAct, None, (tt, refl)), ((BeginAct, None, (tt, refl)), tt)))))))))))))))))));
     together = record {
       spans = (refl, (refl, tt));
       anchors = (refl, refl);

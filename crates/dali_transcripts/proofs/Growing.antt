@@ -16,9 +16,9 @@ use Rattle.dali_system.specs.declared.refusals.Refusal.{Refusal}
 use Rattle.dali_system.specs.Run.{failed_first}
 use Rattle.dali_system.specs.State.{CoreState, state_of}
 use Rattle.dali_transcripts.specs.Words.{Act, Begins as BeginAct, Calls, Commits as CommitAct, Aborts as AbortAct, Audits as AuditAct, Checkpoints as CheckpointAct, Why, StoppedBy, Full, Damaged, StoreFailed, UnderWay}
-use Rattle.dali_transcripts.specs.World.{Deed, Logs, DiesOn, Claims, GivesBack, Yields, FindsDead, Meets, Happening, World, record_of, logged_by, log_of, log_at, IsLogged, IsFlushed, IsLost, IsUncommitted, HasDone, state_step, state_after, state_at, is_dead_in, is_claimed_in, HasDiedBy, HasEndedBy, has_failed, cause_of, claimer_step, claimer_at, stop_at, under_way, stray_after, Grows}
+use Rattle.dali_transcripts.specs.World.{Deed, Logs, DiesOn, Claims, GivesBack, GetsLock, Yields, FindsDead, Meets, Happening, World, record_of, logged_by, log_of, log_at, IsLogged, IsFlushed, IsLost, IsUncommitted, HasDone, state_step, state_after, state_at, is_dead_in, is_claimed_in, HasDiedBy, HasEndedBy, has_failed, cause_of, claimer_step, claimer_at, HasGot, stop_at, under_way, stray_after, Grows}
 use Rattle.dali_transcripts.specs.Moves.{Receipt, Place, Outside, Within, Again, Spot, Ending, TakenBack, LeftBehind, operations, Move, Begins, BeginsAgain, IsRefusedBegin, Skips, Rests, Answers, IsRefusedCall, Dies, IsArmed, GivesWay, GivesUp, Commits, CommitFails, IsRefusedCommit, Aborts, IsRefusedAbort, Ends, StaysOpen, Pokes, PokesNothing, Audits, IsRefusedAudit, Checkpoints, FailsCheckpoint, IsRefusedCheckpoint, to}
-use Rattle.dali_transcripts.specs.Causes.{GoesOn, IsRoomFor, limit_of, IsFull, IsDamaged, IsDamagedIn, IsUnderWayIn, IsCause, MetCause, IsCleaning, IsUntouched, HasClaimed, LetsGo, HasGivenBack, HasFoundDead, IsCleanUp, IsAside, AreAside, IsAsking, AreAsking, IsWork, AreWork, IsTried, AreTried, IsBehind, AreBehind, IsCutAudit, IsCutBy, IsAlone, Survives, DiesIn, GetsBusy, WaitsNoMore, FindsFailure, IsEnd, IsCutAside, IsCutWork, IsUnanswered, IsTurnedBack, IsGivingWay, AreUnfinished, HasCause, IsRight, AreRightFrom}
+use Rattle.dali_transcripts.specs.Causes.{IsAnothers, GoesOn, IsRoomFor, limit_of, IsFull, IsDamaged, IsDamagedIn, IsUnderWayIn, IsCause, MetCause, IsCleaning, IsUntouched, HasClaimed, LetsGo, HasGivenBack, HasFoundDead, IsCleanUp, IsAside, AreAside, IsAsking, AreAsking, IsWork, AreWork, IsTried, AreTried, IsBehind, AreBehind, IsCutAudit, IsCutBy, IsAlone, Survives, DiesIn, GetsBusy, WaitsNoMore, FindsFailure, IsEnd, IsCutAside, IsCutWork, IsUnanswered, IsTurnedBack, IsGivingWay, AreUnfinished, HasCause, IsRight, AreRightFrom}
 use Rattle.dali_transcripts.specs.Transcripts.{IsPath}
 use Rattle.dali_transcripts.specs.Laws.{RightGoesOn, WorldGoesOn}
 use Rattle.dali_transcripts.proofs.Lists.{all_map}
@@ -150,6 +150,7 @@ module _ (v w : World) (g : Grows v w) where
   asides c t xs h = all_map (IsAside v c t) (IsAside w c t) (aside c t) xs h
 
   pub asking : (c t : ℕ) (call : Call) (x : Receipt) → IsAsking v c t call x → IsAsking w c t call x
+  asking c t call (n, GetsLock u key mode) h = h
   asking c t call (n, FindsDead f) h = found_dead c n t call f h
   asking c t call x h = aside c t x h
 
@@ -299,7 +300,7 @@ module _ (v w : World) (g : Grows v w) where
   has_cause c (IsRefusedBegin place s n why rest) h = (h.0, met c n BeginAct None why h.1, waits_no_more place n why h.2)
   has_cause c (Skips s act rest) h = tt
   has_cause c (Rests t act rest) h = tt
-  has_cause c (Answers t tries cs d xs n call a rest) h = (works c t call xs h.0, h.1)
+  has_cause c (Answers t tries cs d xs n call a rest) h = (works c t call xs h.0, h.1, h.2)
   has_cause c (IsRefusedCall t tries cs d s xs n ys call why rest) h = (all_tried c t call xs h.0, (met c n (Calls call) (Some t) why h.1.0, survives c n t call d (operations t xs) why h.1.0 h.1.1), asides c t ys h.2, h.3, h.4)
   has_cause c (Dies t tries cs d xs n r call rest) h = (works c t call xs h.0, h.1, dies c n t r call h.2)
   has_cause c (IsArmed t tries cs d s count rest) h = tt
@@ -369,6 +370,10 @@ module _ (v w : World) (g : Grows v w) where
   unfinished c (Outside s) (CheckpointAct ∷ rest) xs h = h
   unfinished c place rest xs h = h
 
+  anothers : (c i t k : ℕ) (x : Happening) → slice_get v.happened i ≡ Some x → IsAnothers v c i t k → IsAnothers w c i t k
+  anothers c i t k x e (inl dead) = inl (ap is_dead_in (old_state t) ∙ dead)
+  anothers c i t k x e (inr h) = inr (h.0, h.1, subst (λ xs. HasGot xs h.0 t k) (sym (taken i x e)) h.2)
+
   -- each deed by itself
   pub right : (c i : ℕ) (x : Deed) → slice_get v.happened i ≡ Some (x, c) → IsRight v c i x → IsRight w c i x
   right c i (Logs (Back t b)) e h = tt
@@ -376,7 +381,7 @@ module _ (v w : World) (g : Grows v w) where
   right c i (Logs x) e h = stops i _ e ∙ h
   right c i (Claims u) e h = ap is_dead_in (states i _ u e) ∙ h
   right c i (GivesBack u latched) e h = (h.0, states i _ u e ∙ h.1, h.2, claimers i _ u e ∙ h.3)
-  right c i (Yields f) e h = (h.0 ∙ ap length (sym (log_at_is i _ e)), ap is_dead_in (states i _ f.holder e) ∙ h.1, stops i _ e ∙ h.2)
+  right c i (Yields f) e h = (h.0 ∙ ap length (sym (log_at_is i _ e)), ap is_dead_in (states i _ f.holder e) ∙ h.1, stops i _ e ∙ h.2, anothers c i f.holder f.key _ e h.3)
   right c i (FindsDead f) e h = (h.0 ∙ ap length (sym (log_at_is i _ e)), ap is_dead_in (states i _ f.holder e) ∙ h.1, stops i _ e ∙ h.2)
   right c i (Meets StoreFailed) e h = tt
   right c i (Meets why) e h = (h.0, h.1, cause c i h.0 h.1 why _ e h.2)

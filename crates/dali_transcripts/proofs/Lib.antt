@@ -1,4 +1,5 @@
 pub mod Lists
+pub mod Backs
 pub mod Paths
 pub mod Owned
 pub mod Growing
@@ -19,5 +20,7 @@ pub mod Corners
 pub mod Faults
 pub mod Tries
 pub mod Together
+pub mod Looks
+pub mod LooksRight
 pub mod Left
 pub mod Wrong

@@ -12,7 +12,7 @@ use Rattle.dali_record.specs.declared.records.Record.TheVariants.{Forward, Back,
 use Rattle.dali_system.specs.declared.refusals.Refusal.{Refusal}
 use Rattle.dali_system.specs.State.{stable}
 use Rattle.dali_transcripts.specs.Words.{Act, Begins as BeginAct, Calls, Commits as CommitAct, Aborts as AbortAct, Audits as AuditAct, Checkpoints as CheckpointAct, Why, StoppedBy, Full, Damaged, StoreFailed, UnderWay, Said, Answered, AbortOk, Aborted, LeftOpen, Died, Busy, AuditSaid, CheckpointSaid, CheckpointFailed, Refused, closes, is_stop}
-use Rattle.dali_transcripts.specs.World.{Logs, DiesOn, Claims, GivesBack, Yields, FindsDead, MovesAnchor, EndsCheckpoint, Meets, World}
+use Rattle.dali_transcripts.specs.World.{Logs, DiesOn, Claims, GivesBack, GetsLock, Yields, FindsDead, MovesAnchor, EndsCheckpoint, Meets, World}
 use Rattle.dali_transcripts.specs.Moves.{Receipt, Place, Outside, Within, Again, LeftOut, Gone, Spot, Ending, TakenBack, LeftBehind, Move, Begins, BeginsAgain, IsRefusedBegin, Skips, Rests, Answers, IsRefusedCall, Dies, IsArmed, GivesWay, GivesUp, Commits, CommitFails, IsRefusedCommit, Aborts, IsRefusedAbort, Ends, StaysOpen, Pokes, PokesNothing, Audits, IsRefusedAudit, Checkpoints, FailsCheckpoint, IsRefusedCheckpoint, from, said, own, to, end_line, end_own, is_open, left, operations, audit_own, failure_own, spanned, refused_own}
 use Rattle.dali_transcripts.specs.Causes.{IsCleanUp, IsAside, AreAside, IsAsking, AreAsking, IsWork, AreWork, IsTried, AreTried, IsBehind, AreBehind, IsCutAudit, IsCutBy, MetCause, HasCause}
 use Rattle.dali_transcripts.specs.Transcripts.{IsPath, IsSoFar, IsBeingSaid, said_by, own_by, line_told, is_own, line_of, txn_after, txn_behind, lines_of_records}
@@ -80,10 +80,12 @@ module _ (w : World) (c : ℕ) where
   asides_quiet t (x ∷ xs) h = one_quiet (Some t) x (aside_told t x h.0) (aside_in t x h.0) xs (asides_quiet t xs h.1)
 
   asking_told : (t : ℕ) (call : Call) (x : Receipt) → IsAsking w c t call x → line_of (stable w.core) (Some t) x ≡ None
+  asking_told t call (n, GetsLock u k m) h = refl
   asking_told t call (n, FindsDead f) h = refl
   asking_told t call x h = aside_told t x h
 
   asking_in : (t : ℕ) (call : Call) (x : Receipt) → IsAsking w c t call x → txn_after (Some t) x ≡ Some t
+  asking_in t call (n, GetsLock u k m) h = refl
   asking_in t call (n, FindsDead f) h = refl
   asking_in t call x h = aside_in t x h
 

@@ -6,7 +6,7 @@ use Rattle.dali_record.specs.declared.records.Call.{Call}
 use Rattle.dali_record.specs.declared.records.Record.TheVariants.{Back, Ended, Solo, AuditBegin, AuditClean, AuditFail}
 use Rattle.dali_system.specs.declared.refusals.Refusal.{Refusal}
 use Rattle.dali_transcripts.specs.Words.{Why, StoppedBy, Full, Damaged, StoreFailed, UnderWay}
-use Rattle.dali_transcripts.specs.World.{Logs, Claims, GivesBack, Yields, FindsDead, EndsCheckpoint, Meets, World}
+use Rattle.dali_transcripts.specs.World.{Logs, Claims, GivesBack, GetsLock, Yields, FindsDead, EndsCheckpoint, Meets, World}
 use Rattle.dali_transcripts.specs.Moves.{Receipt, Ending, TakenBack, LeftBehind, IsRefusedCall, Answers, Dies, GivesWay, GivesUp, Commits, CommitFails, Aborts, IsRefusedAbort, Ends, StaysOpen, Audits, IsRefusedAudit, FailsCheckpoint, IsRefusedCheckpoint, end_own, spanned, refused_own}
 use Rattle.dali_transcripts.specs.Causes.{IsAside, AreAside, IsAsking, AreAsking, IsBehind, AreBehind, IsCutAudit, IsCutBy}
 use Rattle.dali_transcripts.specs.Laws.{is_forward, OperationsAreTold}
@@ -30,6 +30,7 @@ aside_none w c t (n, GivesBack u latched) h = refl
 aside_none w c t x h = absurd h
 
 asking_none : (w : World) (c t : ℕ) (call : Call) (x : Receipt) → IsAsking w c t call x → not (is_forward x) ≡ true
+asking_none w c t call (n, GetsLock u k m) h = refl
 asking_none w c t call (n, FindsDead f) h = refl
 asking_none w c t call x h = aside_none w c t x h
 

@@ -5,7 +5,7 @@ use Rattle.std.specs.List.{AllByRecursion}
 use Rattle.std.proofs.lemmas.List.{append_assoc}
 use Rattle.dali_counts.proofs.Lists.{self, equal, some_same, length-push}
 use Rattle.dali_record.specs.declared.records.Record.{Record}
-use Rattle.dali_transcripts.specs.World.{Deed, Logs, Strays, DiesOn, Claims, GivesBack, Yields, FindsDead, StartsCheckpoint, MovesAnchor, EndsCheckpoint, Meets, Happening, logged_by}
+use Rattle.dali_transcripts.specs.World.{Deed, Logs, Strays, DiesOn, Claims, GivesBack, GetsLock, Yields, FindsDead, StartsCheckpoint, MovesAnchor, EndsCheckpoint, Meets, Happening, logged_by}
 use Rattle.dali_transcripts.specs.Moves.{Receipt}
 use Rattle.dali_transcripts.specs.Transcripts.{count_with, owned_one, owned}
 use Rattle.dali_transcripts.specs.Laws.{EachIsOwned, OwnedByOne, OwnGoesOn, OthersGoOn, AscendFrom, IsIn, OwnAscend}
@@ -22,6 +22,7 @@ counts n (DiesOn t r, d) ys = refl
 counts n (Claims u, d) ys = refl
 counts n (GivesBack u o, d) ys = refl
 counts n (Yields f, d) ys = refl
+counts n (GetsLock u k m, d) ys = refl
 counts n (FindsDead f, d) ys = refl
 counts n (StartsCheckpoint, d) ys = refl
 counts n (MovesAnchor k, d) ys = refl
@@ -46,6 +47,7 @@ count_above n (DiesOn t r) = omega arith
 count_above n (Claims u) = omega arith
 count_above n (GivesBack u o) = omega arith
 count_above n (Yields f) = omega arith
+count_above n (GetsLock u k m) = omega arith
 count_above n (FindsDead f) = omega arith
 count_above n StartsCheckpoint = omega arith
 count_above n (MovesAnchor k) = omega arith
@@ -92,6 +94,7 @@ are_in c before ((DiesOn t r, d) ∷ ys) = one_in (d == c) _ (length before, Die
 are_in c before ((Claims u, d) ∷ ys) = one_in (d == c) _ (length before, Claims u) (owned c (length before) ys) tt (are_in c before ys)
 are_in c before ((GivesBack u o, d) ∷ ys) = one_in (d == c) _ (length before, GivesBack u o) (owned c (length before) ys) tt (are_in c before ys)
 are_in c before ((Yields f, d) ∷ ys) = one_in (d == c) _ (length before, Yields f) (owned c (length before) ys) tt (are_in c before ys)
+are_in c before ((GetsLock u k m, d) ∷ ys) = one_in (d == c) _ (length before, GetsLock u k m) (owned c (length before) ys) tt (are_in c before ys)
 are_in c before ((FindsDead f, d) ∷ ys) = one_in (d == c) _ (length before, FindsDead f) (owned c (length before) ys) tt (are_in c before ys)
 are_in c before ((StartsCheckpoint, d) ∷ ys) = one_in (d == c) _ (length before, StartsCheckpoint) (owned c (length before) ys) tt (are_in c before ys)
 are_in c before ((MovesAnchor k, d) ∷ ys) = one_in (d == c) _ (length before, MovesAnchor k) (owned c (length before) ys) tt (are_in c before ys)
@@ -158,6 +161,7 @@ found c n ((DiesOn t r, d) ∷ xs) m x has = later (d == c) c n (DiesOn t r) xs 
 found c n ((Claims u, d) ∷ xs) m x has = later (d == c) c n (Claims u) xs m x (λ z e. absurd (cc)) (found c n xs m x) has
 found c n ((GivesBack u o, d) ∷ xs) m x has = later (d == c) c n (GivesBack u o) xs m x (λ z e. absurd (cc)) (found c n xs m x) has
 found c n ((Yields f, d) ∷ xs) m x has = later (d == c) c n (Yields f) xs m x (λ z e. absurd (cc)) (found c n xs m x) has
+found c n ((GetsLock u k j, d) ∷ xs) m x has = later (d == c) c n (GetsLock u k j) xs m x (λ z e. absurd (cc)) (found c n xs m x) has
 found c n ((FindsDead f, d) ∷ xs) m x has = later (d == c) c n (FindsDead f) xs m x (λ z e. absurd (cc)) (found c n xs m x) has
 found c n ((StartsCheckpoint, d) ∷ xs) m x has = later (d == c) c n StartsCheckpoint xs m x (λ z e. absurd (cc)) (found c n xs m x) has
 found c n ((MovesAnchor k, d) ∷ xs) m x has = later (d == c) c n (MovesAnchor k) xs m x (λ z e. absurd (cc)) (found c n xs m x) has

@@ -4,7 +4,7 @@ use Rattle.std.specs.Prelude.{◌==◌, Contains}
 use Rattle.std.proofs.lemmas.List.{append_assoc, append-nil, length-append}
 use Rattle.dali_counts.proofs.Lists.{self, set_cases}
 use Rattle.dali_transcripts.specs.Words.{Act, Said}
-use Rattle.dali_transcripts.specs.World.{Deed, Logs, Strays, DiesOn, Claims, GivesBack, Yields, FindsDead, StartsCheckpoint, MovesAnchor, EndsCheckpoint, Meets, Happening, World, logged_by, log_of, Grows}
+use Rattle.dali_transcripts.specs.World.{Deed, Logs, Strays, DiesOn, Claims, GivesBack, GetsLock, Yields, FindsDead, StartsCheckpoint, MovesAnchor, EndsCheckpoint, Meets, Happening, World, logged_by, log_of, Grows}
 use Rattle.dali_transcripts.specs.Moves.{Receipt, Spot, at, start}
 use Rattle.dali_transcripts.specs.Transcripts.{IsSoFar, IsPath, own_by, count_with, owned_one, owned, deeds_of}
 use Rattle.dali_transcripts.specs.Rounds.{Stands, by, AreAnchors, RoundGoesOn, RoundIsDone, RoundIsCut}
@@ -121,6 +121,7 @@ no_lower old new ((DiesOn t r, c) ∷ xs) h = no_lower old new xs h
 no_lower old new ((Claims u, c) ∷ xs) h = no_lower old new xs h
 no_lower old new ((GivesBack u o, c) ∷ xs) h = no_lower old new xs h
 no_lower old new ((Yields f, c) ∷ xs) h = no_lower old new xs h
+no_lower old new ((GetsLock u k m, c) ∷ xs) h = no_lower old new xs h
 no_lower old new ((FindsDead f, c) ∷ xs) h = no_lower old new xs h
 no_lower old new ((StartsCheckpoint, c) ∷ xs) h = no_lower old new xs h
 no_lower old new ((EndsCheckpoint, c) ∷ xs) h = no_lower old new xs h
@@ -150,6 +151,7 @@ rises old new ((DiesOn t r, d) ∷ xs) n c h has = rises old new xs n c h (passe
 rises old new ((Claims u, d) ∷ xs) n c h has = rises old new xs n c h (passed (Claims u) d xs n c (λ e. absurd (cc)) has)
 rises old new ((GivesBack u o, d) ∷ xs) n c h has = rises old new xs n c h (passed (GivesBack u o) d xs n c (λ e. absurd (cc)) has)
 rises old new ((Yields f, d) ∷ xs) n c h has = rises old new xs n c h (passed (Yields f) d xs n c (λ e. absurd (cc)) has)
+rises old new ((GetsLock u k m, d) ∷ xs) n c h has = rises old new xs n c h (passed (GetsLock u k m) d xs n c (λ e. absurd (cc)) has)
 rises old new ((FindsDead f, d) ∷ xs) n c h has = rises old new xs n c h (passed (FindsDead f) d xs n c (λ e. absurd (cc)) has)
 rises old new ((StartsCheckpoint, d) ∷ xs) n c h has = rises old new xs n c h (passed StartsCheckpoint d xs n c (λ e. absurd (cc)) has)
 rises old new ((EndsCheckpoint, d) ∷ xs) n c h has = rises old new xs n c h (passed EndsCheckpoint d xs n c (λ e. absurd (cc)) has)

@@ -16,7 +16,7 @@ use Rattle.dali_system.specs.State.{CoreState, state_of}
 use Rattle.dali_system.specs.Steps.{audit_record}
 use Rattle.dali_transcripts.specs.Words.{StoreFailed}
 use Rattle.dali_transcripts.specs.World.{Deed, Logs, DiesOn, StartsCheckpoint, MovesAnchor, EndsCheckpoint, Meets, Happening, World, logged_by, log_of, log_at, state_step, state_after, failing, has_failed, span_step, stray_step, stray_after, poked_step, poked_after, refusal_of, refused_by, Grows}
-use Rattle.dali_transcripts.specs.Rounds.{AreSpans, AreAnchors, PokesTell, VerdictsTell, FaultsTell, room_for, ends_within, fits, WasRight, PrecheckTells, HoldsTogether}
+use Rattle.dali_transcripts.specs.Rounds.{AreSpans, AreAnchors, PokesTell, VerdictsTell, FaultsTell, room_for, ends_within, fits, HasLooked, PrecheckTells, HoldsTogether}
 use Rattle.dali_transcripts.specs.Together.{SpanFits, AnchorIs, FaultsBy, RoomBy, RightBy, Owes, TogetherByDeed, HasKept, TogetherByNone, TogetherAtFirst}
 use Rattle.dali_transcripts.specs.Grown.{world_of}
 
@@ -75,7 +75,7 @@ failed_also true xs e = stays_failed xs
 failed_also false xs e = e
 
 -- a place of a list that is one element longer
-split_push : {X : Type 0} (xs : List X) (z : X) (i : ℕ) (y : X) → slice_get (xs ++ z ∷ []) i ≡ Some y → (slice_get xs i ≡ Some y) ⊎ ((i ≡ length xs) × (z ≡ y))
+pub split_push : {X : Type 0} (xs : List X) (z : X) (i : ℕ) (y : X) → slice_get (xs ++ z ∷ []) i ≡ Some y → (slice_get xs i ≡ Some y) ⊎ ((i ≡ length xs) × (z ≡ y))
 split_push [] z zero y e = inr (refl, some_same e)
 split_push [] z (suc i) y e = absurd (cc)
 split_push (x ∷ xs) z zero y e = inl e
@@ -164,8 +164,16 @@ module _ (v w : World) (c : ℕ) (x : Deed) (g : Grows v w) (more : g.more ≡ (
       ∙ (ap (λ l. fits v.old.system.limit (sum_by record_length l) w.happened) g.before
       ∙ (ap (λ l. fits v.old.system.limit (sum_by record_length v.before) l) happened ∙ fit))
 
-  right : (i r : ℕ) (a : RegionState) → i ≤ length v.happened → WasRight v i r a → WasRight w i r a
-  right i r a within was = ap (λ l. stray_after r a.stray l) (took i within) ∙ was
+  looked : (i r d : ℕ) (a : RegionState) → i ≤ length v.happened → HasLooked v d i r a → HasLooked w d i r a
+  looked i r d a within look =
+      let before = look.before in
+      record {
+        place = look.place;
+        before = look.before;
+        right = ap (λ l. stray_after r a.stray l) (took look.place (omega (arith, within, before))) ∙ look.right;
+        held = λ k e y from below there.
+            ⊎_elim (λ was. look.held k e y from below was) (λ last. let place = last.0 in absurd (omega (arith, place, below, within))) (split k (y, e) there);
+      }
 
   prechecks : w.precheck ≡ true → PrecheckTells w
   prechecks compares =
@@ -175,21 +183,23 @@ module _ (v w : World) (c : ℕ) (x : Deed) (g : Grows v w) (more : g.more ≡ (
       record {
         operations = λ i t d b a e was.
             ⊎_elim
-            (λ before. let within = slice_get_within v.happened i _ before in right i b.region a (omega (arith, within)) (told.operations i t d b a before (old_region b.region a was)))
+            (λ before. let within = slice_get_within v.happened i _ before in looked i b.region d a (omega (arith, within)) (told.operations i t d b a before (old_region b.region a was)))
             (λ last.
             let deed : x ≡ Logs (Forward t b) = ap (λ (z : Happening). z.0) last.1 in
-            let owed : RightBy v (Logs (Forward t b)) = subst (λ y. RightBy v y) deed last_right in
+            let owed : RightBy v c (Logs (Forward t b)) = subst (λ y. RightBy v c y) deed last_right in
             let place = last.0 in
-            right i b.region a (omega (arith, place)) (subst (λ k. WasRight v k b.region a) (sym place) (owed a (old_region b.region a was))))
+            let client : c ≡ d = ap (λ (z : Happening). z.1) last.1 in
+            subst (λ n. HasLooked w n i b.region a) client (looked i b.region c a (omega (arith, place)) (subst (λ k. HasLooked v c k b.region a) (sym place) (owed a (old_region b.region a was)))))
             (split i (Logs (Forward t b), d) e);
         deaths = λ i t r d a e was.
             ⊎_elim
-            (λ before. let within = slice_get_within v.happened i _ before in right i r a (omega (arith, within)) (told.deaths i t r d a before (old_region r a was)))
+            (λ before. let within = slice_get_within v.happened i _ before in looked i r d a (omega (arith, within)) (told.deaths i t r d a before (old_region r a was)))
             (λ last.
             let deed : x ≡ DiesOn t r = ap (λ (z : Happening). z.0) last.1 in
-            let owed : RightBy v (DiesOn t r) = subst (λ y. RightBy v y) deed last_right in
+            let owed : RightBy v c (DiesOn t r) = subst (λ y. RightBy v c y) deed last_right in
             let place = last.0 in
-            right i r a (omega (arith, place)) (subst (λ k. WasRight v k r a) (sym place) (owed a (old_region r a was))))
+            let client : c ≡ d = ap (λ (z : Happening). z.1) last.1 in
+            subst (λ n. HasLooked w n i r a) client (looked i r c a (omega (arith, place)) (subst (λ k. HasLooked v c k r a) (sym place) (owed a (old_region r a was)))))
             (split i (DiesOn t r, d) e);
       }
 
@@ -278,6 +288,9 @@ same_world v w g xs e =
     ∙ (ap (λ l. world_of v.old l w.precheck w.happened w.core) g.before
     ∙ (ap (λ b. world_of v.old v.before b w.happened w.core) g.precheck ∙ ap (λ l. world_of v.old v.before v.precheck l w.core) e))
 
+looked_still : (v : World) (d : CoreState) (c i r : ℕ) (g : RegionState) → HasLooked v c i r g → HasLooked (world_of v.old v.before v.precheck v.happened d) c i r g
+looked_still v d c i r g look = record { place = look.place; before = look.before; right = look.right; held = λ k e x from below there. look.held k e x from below there }
+
 still : (v : World) (d : CoreState) → HoldsTogether v → HasKept v (world_of v.old v.before v.precheck v.happened d) → HoldsTogether (world_of v.old v.before v.precheck v.happened d)
 still v d h k = record {
   spans = h.spans;
@@ -294,8 +307,8 @@ still v d h k = record {
   refusals = k.refusals ∙ h.refusals;
   room = h.room;
   prechecks = λ on. let told = h.prechecks on in record {
-    operations = λ i t c b g e was. told.operations i t c b g e was;
-    deaths = λ i t r c g e was. told.deaths i t r c g e was;
+    operations = λ i t c b g e was. looked_still v d c i b.region g (told.operations i t c b g e was);
+    deaths = λ i t r c g e was. looked_still v d c i r g (told.deaths i t r c g e was);
   };
 }
 

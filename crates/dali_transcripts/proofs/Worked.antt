@@ -5,6 +5,7 @@ use Rattle.std.specs.List.{list_all}
 use Rattle.std.proofs.lemmas.Bool.{ne_eqb}
 use Rattle.dali_counts.proofs.Lists.{self, some_same}
 use Rattle.dali_region.specs.State.{RegionState, IsLive, loaded}
+use Rattle.dali_locks.specs.declared.mode.Mode.TheVariants.{Shared, Exclusive}
 use Rattle.dali_index.specs.Entries.{entries}
 use Rattle.dali_heap.specs.Cells.{cells}
 use Rattle.dali_record.specs.declared.operations.Block.{Block}
@@ -17,23 +18,28 @@ use Rattle.dali_record.specs.declared.records.Record.TheVariants.{Forward, Commi
 use Rattle.dali_record.specs.Epochs.{last_epoch}
 use Rattle.dali_system.specs.Keeps.{IsNext}
 use Rattle.dali_transcripts.specs.Words.{Calls, Arms, Commits as CommitAct}
-use Rattle.dali_transcripts.specs.World.{Logs, DiesOn, Claims, FindsDead, log_at, HasDone, HasDiedBy, state_step, IsUncommitted}
+use Rattle.dali_transcripts.specs.World.{Logs, DiesOn, Claims, GetsLock, FindsDead, log_at, HasDone, HasDiedBy, state_step, IsUncommitted}
 use Rattle.dali_transcripts.specs.Moves.{Receipt, Outside, Gone, TakenBack, Move, Begins, BeginsAgain, Rests, Answers, Dies, IsArmed, GivesWay, Commits, at}
 use Rattle.dali_transcripts.specs.Causes.{HasClaimed, HasFoundDead, DiesIn, GetsBusy}
 use Rattle.dali_transcripts.specs.Transcripts.{IsSoFar, deeds_of, AreTranscripts}
 use Rattle.dali_transcripts.specs.Rounds.{PokesTell, VerdictsTell, IsAtRest, IsBetween}
 use Rattle.dali_transcripts.specs.Worked.{look, put, add, look_again, free_entry, free_cell, insert_a, insert_b, happened, log, told_1, told_2, lines_1, lines_2, refusal, found_dead, small, world, index_words, heap_words, AreMade, Conflict, blocks, ConflictRuns, receipts_1, receipts_2}
+use Rattle.dali_transcripts.proofs.Backs.{none_stays}
 use Rattle.dali_transcripts.proofs.Verdicts.{none_ends}
 use Rattle.dali_transcripts.proofs.Locked.{keeps_locks}
 use Rattle.dali_transcripts.proofs.Ends.{grew_from, no_row, all_ended, none_claimed, none_failed, not_live, strays_same}
 
 -- ---- client 1
+work_1 : List Receipt
+work_1 = (3, GetsLock 1 5 Exclusive) ∷ (3, Logs (Forward 1 look)) ∷ (4, Logs (Forward 1 (put 97 0))) ∷ (5, Logs (Forward 1 (add 0))) ∷ []
+
 moves_1 : List Move
+unfolding work_1
 moves_1 =
     Begins 1 1 (Calls insert_a ∷ Arms 2 ∷ Calls (Get 5) ∷ CommitAct ∷ [])
-    ∷ Answers 1 0 told_1 None ((3, Logs (Forward 1 look)) ∷ (4, Logs (Forward 1 (put 97 0))) ∷ (5, Logs (Forward 1 (add 0))) ∷ []) 6 insert_a AnswerOk (Arms 2 ∷ Calls (Get 5) ∷ CommitAct ∷ [])
+    ∷ Answers 1 0 told_1 None work_1 6 insert_a AnswerOk (Arms 2 ∷ Calls (Get 5) ∷ CommitAct ∷ [])
     ∷ IsArmed 1 0 told_1 None false 2 (Calls (Get 5) ∷ CommitAct ∷ [])
-    ∷ Dies 1 0 told_1 2 ((7, Logs (Forward 1 look_again)) ∷ []) 8 1 (Get 5) (CommitAct ∷ [])
+    ∷ Dies 1 0 told_1 2 ((7, GetsLock 1 5 Shared) ∷ (7, Logs (Forward 1 look_again)) ∷ []) 8 1 (Get 5) (CommitAct ∷ [])
     ∷ Rests 1 CommitAct []
     ∷ []
 
@@ -45,12 +51,12 @@ read : Block
 unfolding read_words
 read = made read_words 5 1 (Read 1)
 
-read_next : IsNext small (log_at world 8) 1 (Forward 1 read)
+read_next : IsNext small (log_at world 10) 1 (Forward 1 read)
 unfolding read read_words entries cells
 read_next = refl
 
 there_1 : HasDone world 1 8 (DiesOn 1 1)
-there_1 = record { place = 8; there = refl; number = refl }
+there_1 = record { place = 10; there = refl; number = refl }
 
 dies_1 : DiesIn world 1 8 1 1 (Get 5)
 unfolding there_1 read read_words
@@ -58,7 +64,7 @@ dies_1 = record {
   done = there_1;
   next = read;
   on_region = refl;
-  goes_on = record { of_call = record { words = read_words; are_words = (refl, omega arith); of_call = tt; is_made = refl }; allowed = read_next; locked = (tt, keeps_locks 1 (last_epoch (log_at world 8 ++ Forward 1 read ∷ [])).records refl) };
+  goes_on = record { of_call = record { words = read_words; are_words = (refl, omega arith); of_call = tt; is_made = refl }; allowed = read_next; locked = (tt, keeps_locks 1 (last_epoch (log_at world 10 ++ Forward 1 read ∷ [])).records refl) };
 }
 
 died_1 : IsSoFar world 1 told_1 lines_1 (deeds_of world 1) [] (at (Gone 1) [])
@@ -66,7 +72,7 @@ unfolding moves_1
 died_1 = record {
   moves = moves_1;
   path =
-      (refl, tt, (refl, (((refl, refl, tt), ((refl, refl, refl), ((refl, refl, tt), tt))), refl), (refl, tt, (refl, (((refl, refl, tt), tt), refl, dies_1), (refl, tt, refl)))));
+      (refl, tt, (refl, (((refl, refl, refl), ((refl, refl, tt), ((refl, refl, refl), ((refl, refl, tt), tt)))), refl, none_stays 1 work_1 (refl, (refl, (refl, (refl, tt))))), (refl, tt, (refl, (((refl, refl, refl), ((refl, refl, tt), tt)), refl, dies_1), (refl, tt, refl)))));
   lines_are = refl;
   did_are = refl;
 }
@@ -101,7 +107,7 @@ uncommitted_2 = (refl, λ k below e. none_of 2 log k refl e)
 work_3 : List Receipt
 work_3 =
     (10, FindsDead found_dead) ∷ (10, Claims 1) ∷ (10, Logs (Back 1 free_entry)) ∷ (11, Logs (Back 1 free_cell)) ∷ (12, Logs (Ended 1))
-    ∷ (13, Logs (Forward 3 look)) ∷ (14, Logs (Forward 3 (put 98 (97 * 2 ^ 56 + 4)))) ∷ (15, Logs (Forward 3 (add 12))) ∷ []
+    ∷ (13, GetsLock 3 5 Exclusive) ∷ (13, Logs (Forward 3 look)) ∷ (14, Logs (Forward 3 (put 98 (97 * 2 ^ 56 + 4)))) ∷ (15, Logs (Forward 3 (add 12))) ∷ []
 
 moves_2 : List Move
 unfolding work_3
@@ -117,13 +123,13 @@ dead_1 : (n : ℕ) → 8 ≤ n → HasDiedBy world 1 n
 dead_1 n h = inr (1, 1, 8, there_1, h)
 
 busy_2 : GetsBusy world 2 2 insert_b refusal
-busy_2 = record { txn = refl; key = refl; mode = refl; done = record { place = 6; there = refl; number = refl }; runs = refl }
+busy_2 = record { txn = refl; key = refl; mode = refl; done = record { place = 7; there = refl; number = refl }; runs = refl }
 
 found_1 : HasFoundDead world 2 10 3 insert_b found_dead
-found_1 = record { done = record { place = 11; there = refl; number = refl }; txn = refl; key = refl; mode = refl; number = refl; dead = refl }
+found_1 = record { done = record { place = 13; there = refl; number = refl }; txn = refl; key = refl; mode = refl; number = refl; dead = refl }
 
 claimed_1 : HasClaimed world 2 10 1
-claimed_1 = record { done = record { place = 12; there = refl; number = refl }; dead = refl }
+claimed_1 = record { done = record { place = 14; there = refl; number = refl }; dead = refl }
 
 told : IsSoFar world 2 told_2 lines_2 (deeds_of world 2) [] (at (Outside false) [])
 unfolding moves_2
@@ -146,12 +152,13 @@ told = record {
               (
                 (refl, claimed_1),
                 (
-                  inr (record { apart = refl; done = record { place = 13; there = refl; number = refl }; claimed = refl; own = refl }),
-                  (inr (record { apart = refl; done = record { place = 14; there = refl; number = refl }; claimed = refl; own = refl }), (record { apart = refl; done = record { place = 15; there = refl; number = refl }; claimed = refl; own = refl }, ((refl, refl, tt), ((refl, refl, refl), ((refl, refl, tt), tt))))),
+                  inr (record { apart = refl; done = record { place = 15; there = refl; number = refl }; claimed = refl; own = refl }),
+                  (inr (record { apart = refl; done = record { place = 16; there = refl; number = refl }; claimed = refl; own = refl }), (record { apart = refl; done = record { place = 17; there = refl; number = refl }; claimed = refl; own = refl }, ((refl, refl, refl), ((refl, refl, tt), ((refl, refl, refl), ((refl, refl, tt), tt)))))),
                 ),
               ),
             ),
             refl,
+            none_stays 3 work_3 (refl, (refl, (refl, (refl, (refl, (refl, (refl, (refl, (refl, tt))))))))),
           ),
           (refl, (omega arith, (inl refl, tt)), refl),
         ),
@@ -262,7 +269,7 @@ conflict_runs = record {
     log = refl;
     transcripts = transcripts;
     receipts_are = refl;
-    right = (refl, (refl, (refl, (refl, (refl, (refl, ((refl, refl, refl), (refl, (tt, (refl, (refl, ((refl, refl, refl), (refl, (tt, (tt, (refl, (refl, (refl, (refl, (refl, (refl, (refl, tt))))))))))))))))))))));
+    right = (refl, (refl, (tt, (refl, (refl, (refl, (refl, ((refl, refl, refl, inr (1, refl, (Exclusive, (2, omega arith, refl)))), (tt, (refl, (tt, (refl, (refl, ((refl, refl, refl), (refl, (tt, (tt, (refl, (tt, (refl, (refl, (refl, (refl, (refl, (refl, tt)))))))))))))))))))))))));
     together = record {
       spans = tt;
       anchors = refl;

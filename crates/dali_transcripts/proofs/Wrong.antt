@@ -1,7 +1,8 @@
 -- Wrong transcripts: none of these is one.
-use Rattle.std.proofs.Common.{◌≡◌, ℕ, zero, suc, ◌+◌, ◌≤◌, Bool, true, false, List, [], ◌∷◌, ◌++◌, length, Option, Some, None, ap, refl, sym, subst, ◌∙◌, inl, inr, ⊎_elim, ◌⊎◌, arith}
+use Rattle.std.proofs.Common.{◌≡◌, ℕ, zero, suc, ◌+◌, ◌<◌, ◌≤◌, Bool, true, false, List, [], ◌∷◌, ◌++◌, length, Option, Some, None, ap, refl, sym, subst, ◌∙◌, inl, inr, ⊎_elim, ◌⊎◌, arith}
 use Rattle.std.specs.Prelude.{◌==◌, if◌then◌else◌, Contains, bit_xor, filter_map, slice_get, sum_by, take, drop}
 use Rattle.std.specs.Int.Bits.{xor_assoc, xor_self, xor_zero_l, xor_zero_r}
+use Rattle.std.proofs.lemmas.Bool.{cases_lt}
 use Rattle.std.proofs.lemmas.List.{append_assoc, append-nil, take-append-drop}
 use Rattle.std.proofs.lemmas.List.Elements.{filter_map-append}
 use Rattle.std.proofs.lemmas.List.Sums.{sum_by-append}
@@ -27,10 +28,10 @@ use Rattle.dali_transcripts.specs.Moves.{Receipt, TakenBack, LeftBehind, Move, B
 use Rattle.dali_transcripts.specs.Causes.{IsDamaged, MetCause, IsRight, AreRightFrom, AreRight, IsTried, AreTried, undos_behind, spares, IsUnanswered, IsTurnedBack, IsGivingWay, HasCause}
 use Rattle.dali_transcripts.specs.Transcripts.{IsTranscript, line_told, lines_of_records}
 use Rattle.dali_transcripts.specs.Table.{Tells, TellsRefused}
-use Rattle.dali_transcripts.specs.Rounds.{AreAnchors, VerdictsTell}
+use Rattle.dali_transcripts.specs.Rounds.{HasLooked, AreAnchors, VerdictsTell}
 use Rattle.dali_transcripts.specs.Laws.{behind_died}
 use Rattle.dali_transcripts.specs.Worked.{put}
-use Rattle.dali_transcripts.specs.Wrong.{RunsThroughout, WrongOnes}
+use Rattle.dali_transcripts.specs.Wrong.{WasLastAt, IsDamagedFrom, RunsThroughout, WrongOnes}
 use Rattle.dali_transcripts.proofs.Lists.{all_get}
 use Rattle.dali_transcripts.proofs.Lines.{lines_tell}
 use Rattle.dali_transcripts.proofs.Matches.{lines_are_records}
@@ -194,6 +195,18 @@ operated w c t call n b (inl h) = one_spared (n, Logs (Forward t b)) (t == t) (s
 operated w c t call n b (inr (inl h)) = let same : Meets h.why ≡ Logs (Forward t b) = alone (h.at, Meets h.why) n t b h.work h.back h.is in absurd (cc)
 operated w c t call n b (inr (inr h)) = let same : Yields h.refusal ≡ Logs (Forward t b) = alone (h.refusal.at, Yields h.refusal) n t b h.work h.back h.is in absurd (cc)
 
+-- a look is behind each such place, and finds no damage
+never_looked : (w : World) (c i r k d : ℕ) (x : Deed) (g : RegionState) → HasLooked w c i r g → WasLastAt w k i c r x d → IsDamagedFrom w k i r g → ⊥
+never_looked w c i r k d x g look last damaged = ⊎_elim behind before (cases_lt k look.place)
+  where
+    behind : k < look.place → ⊥
+    behind later = damaged look.place later look.before look.right
+
+    before : look.place ≤ k → ⊥
+    before from =
+        let held = look.held k d x from last.before last.there in
+        ⊎_elim (λ own. let no : true ≡ false = sym own ∙ held.0 in absurd (cc)) (λ on. let no : true ≡ false = sym on ∙ held.1 in absurd (cc)) last.wants
+
 pub wrong_ones : WrongOnes
 wrong_ones = record {
   another_number = λ w c acts said says transcript. let e = agree w c acts said _ _ says transcript in absurd (cc);
@@ -256,11 +269,13 @@ wrong_ones = record {
   live_claimed = λ i c t precheck whole before old new blocks lines receipts round h. let e = sym (right_at round.world i c (Claims t) round.right h.0) ∙ h.1 in absurd (cc);
   given_back_by_another = λ i c t latched precheck whole before old new blocks lines receipts round h. h.1 (right_at round.world i c (GivesBack t latched) round.right h.0).3;
   refused_behind_a_stop = λ i c f precheck whole before old new blocks lines receipts round h. h.1 (right_at round.world i c (Yields f) round.right h.0).2;
+  gave_way_to_none = λ i c f precheck whole before old new blocks lines receipts round h. h.1 (right_at round.world i c (Yields f) round.right h.0).3;
   begun_behind_a_stop = λ i c t precheck whole before old new blocks lines receipts round h. h.1 (right_at round.world i c (Logs (Begin t)) round.right h.0);
   answered_behind_a_stop = λ i c t call a precheck whole before old new blocks lines receipts round h. h.1 (right_at round.world i c (Logs (Done t call a)) round.right h.0);
   operated_behind_a_stop = λ i c t b precheck whole before old new blocks lines receipts round h. h.1 (right_at round.world i c (Logs (Forward t b)) round.right h.0);
   committed_behind_a_stop = λ i c t precheck whole before old new blocks lines receipts round h. h.1 (right_at round.world i c (Logs (Commit t)) round.right h.0);
-  operated_on_damage = λ i c t b g precheck whole before old new blocks lines receipts round h. h.3 ((round.together.prechecks h.0).operations i t c b g h.1 h.2);
+  operated_on_damage = λ i c t k d b x g precheck whole before old new blocks lines receipts round h. never_looked round.world c i b.region k d x g ((round.together.prechecks h.0).operations i t c b g h.1 h.2) h.3 h.4;
+  died_on_damage = λ i c t r k d x g precheck whole before old new blocks lines receipts round h. never_looked round.world c i r k d x g ((round.together.prechecks h.0).deaths i t r c g h.1 h.2) h.3 h.4;
   begun_twice = λ w c a b s rest h. h;
   committed_and_cut = λ w c t tries n d s cs rest h. absurd (cc);
   operated_and_died = λ w c t tries n b s cs rest call h. operated w c t call n b h;

@@ -10,9 +10,10 @@
 --     MetCause w c n act o why where n records stood it was refused so, and had cause
 --     IsCleanUp w c t x        a deed of a clean-up, by the client c that is in t
 --     IsAside w c t x          such a deed, or a taking back of t
---     IsAsking w c t call x    such a deed, or a request for the lock of the call that finds a dead holder
+--     IsAsking w c t call x    such a deed, or a request for the lock of the call that is granted, or finds a dead holder
 --     IsWork w c t call x      such a deed, or an operation of the call
 --     StaysRefused xs          behind the first refusal of a call it makes no operation
+--     StaysBack t xs           behind what it takes back of t it makes no operation
 --     undos_behind t us xs     what is left to take back of t behind these deeds, which was us before them
 --     KeepsNothing t why xs    a call that was refused, by no stop, leaves t as it was: all that these deeds changed is taken back
 --     IsBehind w c t x         a deed of a commit behind its Commit
@@ -22,6 +23,7 @@
 --     IsAlone w why span i     a checkpoint that is refused before it starts meets no other
 --     DiesIn w c n t r call    it dies in an operation of the call, on region r
 --     GetsBusy w c t call f    its request for the call's lock was refused, and the holder wasn't dead
+--     IsAnothers w c i t k     before this place another client than c was granted the lock of the key k, for t; or t was dead when the round began
 --     AreRight w               each deed of the round has what it asks for at its place
 --     AreUnfinished w c place rest xs  the deeds of a step that the end of the round cut short: of a call, an abort, an audit or a checkpoint
 --     HasCause w c x           what must be so for the step x of client c
@@ -48,7 +50,7 @@ use Rattle.dali_system.specs.declared.causes.Cause.{Cause}
 use Rattle.dali_system.specs.declared.refusals.Refusal.{Refusal}
 use Rattle.dali_system.specs.Keeps.{IsNext}
 use Rattle.dali_transcripts.specs.Words.{Act, Begins as BeginAct, Calls, Arms, Commits as CommitAct, Aborts as AbortAct, Pokes as PokeAct, Audits as AuditAct, Checkpoints as CheckpointAct, Why, StoppedBy, Full, Damaged, StoreFailed, UnderWay, is_stop, key_of, mode_of}
-use Rattle.dali_transcripts.specs.World.{Deed, Logs, DiesOn, Claims, GivesBack, Yields, FindsDead, StartsCheckpoint, EndsCheckpoint, Meets, Happening, World, log_at, IsFlushed, IsLost, IsUncommitted, HasDone, state_at, is_dead_in, is_claimed_in, claimer_at, HasEndedBy, has_failed, stop_at, stray_after, under_way}
+use Rattle.dali_transcripts.specs.World.{Deed, Logs, DiesOn, Claims, GivesBack, GetsLock, Yields, FindsDead, StartsCheckpoint, EndsCheckpoint, Meets, Happening, World, log_at, IsFlushed, IsLost, IsUncommitted, HasDone, state_at, is_dead_in, is_claimed_in, claimer_at, HasGot, HasEndedBy, has_failed, stop_at, stray_after, under_way, WasDead}
 use Rattle.dali_transcripts.specs.Moves.{Receipt, Place, Outside, Within, Again, Ending, TakenBack, LeftBehind, Move, Begins, BeginsAgain, IsRefusedBegin, Skips, Rests, Answers, IsRefusedCall, Dies, IsArmed, GivesWay, GivesUp, Commits, CommitFails, IsRefusedCommit, Aborts, IsRefusedAbort, Ends, StaysOpen, Pokes, PokesNothing, Audits, IsRefusedAudit, Checkpoints, FailsCheckpoint, IsRefusedCheckpoint, operations}
 
 -- ---- the operations of a call
@@ -200,8 +202,9 @@ IsAside w c t x = IsCleanUp w c t x
 abbrev pub AreAside : World → ℕ → ℕ → List Receipt → Type 0
 AreAside w c t xs = AllByRecursion (IsAside w c t) xs
 
--- or it finds a dead transaction in the way of its request
+-- or its request is granted, or finds a dead transaction in its way
 abbrev pub IsAsking : World → (client txn : ℕ) → Call → Receipt → Type 0
+IsAsking w c t call (n, GetsLock u key mode) = (u ≡ t) × (key ≡ key_of call) × (mode ≡ mode_of call)
 IsAsking w c t call (n, FindsDead f) = HasFoundDead w c n t call f
 IsAsking w c t call x = IsAside w c t x
 
@@ -232,6 +235,15 @@ abbrev pub StaysRefused : List Receipt → Type 0
 StaysRefused [] = Unit {0}
 StaysRefused ((n, Meets why) ∷ xs) = AllByRecursion IsNoOperation xs
 StaysRefused (x ∷ xs) = StaysRefused xs
+
+-- nor behind what it takes back of t
+abbrev pub is_taking_back : ℕ → Receipt → Bool
+is_taking_back t (n, Logs (Back u b)) = u == t
+is_taking_back t x = false
+
+abbrev pub StaysBack : ℕ → List Receipt → Type 0
+StaysBack t [] = Unit {0}
+StaysBack t (x ∷ xs) = (is_taking_back t x ≡ true → AllByRecursion IsNoOperation xs) × StaysBack t xs
 
 -- whatever there was to take back of t before these deeds, it is so behind them; where the engine is stopped nothing is taken back any more
 abbrev pub undos_by : ℕ → List Pending → Receipt → List Pending
@@ -310,6 +322,10 @@ pub record GetsBusy (w : World) (c t : ℕ) (call : Call) (f : Refusal) : Type 0
   pub runs : is_dead_in (state_at w done.place f.holder) ≡ false
 
 -- ---- each deed by itself
+-- one that was dead has its locks until it is cleaned up, while it isn't dead any more
+abbrev pub IsAnothers : World → (client place txn key : ℕ) → Type 0
+IsAnothers w c i t k = WasDead w t ⊎ ((d : ℕ) × ((d == c) ≡ false) × HasGot (take i w.happened) d t k)
+
 -- what must be so where it is done, whichever step it belongs to; behind a stop no request is refused, and nothing is logged but takings back and solos
 abbrev pub IsRight : World → (client place : ℕ) → Deed → Type 0
 IsRight w c i (Logs (Back t b)) = Unit {0}
@@ -317,7 +333,7 @@ IsRight w c i (Logs (Solo t p b)) = Unit {0}
 IsRight w c i (Logs x) = stop_at w i ≡ None
 IsRight w c i (Claims u) = is_dead_in (state_at w i u) ≡ true
 IsRight w c i (GivesBack u latched) = (was : Option ℕ) × (state_at w i u ≡ Some (Cleaning was)) × ((latched ≡ was) ⊎ (latched ≡ None)) × (claimer_at w i u ≡ Some c)
-IsRight w c i (Yields f) = (f.at ≡ length (log_at w i)) × (is_dead_in (state_at w i f.holder) ≡ false) × (stop_at w i ≡ None)
+IsRight w c i (Yields f) = (f.at ≡ length (log_at w i)) × (is_dead_in (state_at w i f.holder) ≡ false) × (stop_at w i ≡ None) × IsAnothers w c i f.holder f.key
 IsRight w c i (FindsDead f) = (f.at ≡ length (log_at w i)) × (is_dead_in (state_at w i f.holder) ≡ true) × (stop_at w i ≡ None)
 IsRight w c i (Meets StoreFailed) = Unit {0}
 IsRight w c i (Meets why) = (act : Act) × (o : Option ℕ) × IsCause w c i act o why
@@ -435,7 +451,7 @@ HasCause w c (BeginsAgain t n tries h rest) = HasEndedBy w h n
 HasCause w c (IsRefusedBegin place s n why rest) = MayBegin place s × MetCause w c n BeginAct None why × WaitsNoMore w place n why
 HasCause w c (Skips s act rest) = Unit {0}
 HasCause w c (Rests t act rest) = Unit {0}
-HasCause w c (Answers t tries cs d work n call a rest) = AreWork w c t call work × (spares d (operations t work) ≡ true)
+HasCause w c (Answers t tries cs d work n call a rest) = AreWork w c t call work × (spares d (operations t work) ≡ true) × StaysBack t work
 HasCause w c (IsRefusedCall t tries cs d s work n back call why rest) =
     AreTried w c t call work × ((met : MetCause w c n (Calls call) (Some t) why) × Survives w c n t call d (operations t work) why met) × AreAside w c t back × KeepsNothing t why (work ++ (n, Meets why) ∷ back) × StaysRefused work
 HasCause w c (Dies t tries cs d work n r call rest) = AreWork w c t call work × (operations t work + 1 ≡ d) × DiesIn w c n t r call

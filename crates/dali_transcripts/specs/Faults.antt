@@ -5,6 +5,7 @@
 --     FaultsRun                the clause of a round, of this one
 use Rattle.std.specs.Prelude.{true, List, [], ◌∷◌, Some}
 use Rattle.std.specs.FinMap.{empty, insert}
+use Rattle.dali_locks.specs.declared.mode.Mode.TheVariants.{Exclusive}
 use Rattle.dali_att.specs.declared.state.State.TheVariants.{Committed}
 use Rattle.dali_att.specs.Table.{fresh_row, with_state}
 use Rattle.dali_record.specs.declared.records.Record.TheVariants.{Begin, Forward, Commit, Ended, AuditBegin, AuditClean}
@@ -13,7 +14,7 @@ use Rattle.dali_system.specs.declared.causes.Cause.TheVariants.{Store}
 use Rattle.dali_system.specs.State.{CoreState, TxnRow}
 use Rattle.dali_system.specs.Loads.{new_system}
 use Rattle.dali_transcripts.specs.Words.{Act, Begins, Calls, Commits, Aborts, Pokes, Checkpoints, StoppedBy, Damaged, StoreFailed, UnderWay, Said, Begun, CommitOk, LeftOpen, PokeOk, CheckpointSaid, Refused}
-use Rattle.dali_transcripts.specs.World.{Logs, Strays, StartsCheckpoint, MovesAnchor, EndsCheckpoint, Meets, Happening, World, logged_by}
+use Rattle.dali_transcripts.specs.World.{Logs, Strays, GetsLock, StartsCheckpoint, MovesAnchor, EndsCheckpoint, Meets, Happening, World, logged_by}
 use Rattle.dali_transcripts.specs.Transcripts.{Told}
 use Rattle.dali_transcripts.specs.Rounds.{Rounds}
 use Rattle.dali_transcripts.specs.Worked.{small, index_words, heap_words, look, insert_a, before, old_core, vault, marks}
@@ -23,7 +24,7 @@ happened =
     (StartsCheckpoint, 2) ∷ (Meets UnderWay, 3) ∷ (Logs AuditBegin, 2) ∷ (Logs (AuditClean 1), 2) ∷ (MovesAnchor 1, 2) ∷ (EndsCheckpoint, 2)
     ∷ (Strays 1 9 1, 1)
     ∷ (Logs (Begin 1), 1) ∷ (Logs (Begin 2), 3) ∷ (Logs (Begin 3), 2)
-    ∷ (Logs (Forward 1 look), 1) ∷ (Meets (Damaged 1 1 0), 1) ∷ (Logs (Commit 1), 1) ∷ (Logs (Ended 1), 1)
+    ∷ (GetsLock 1 5 Exclusive, 1) ∷ (Logs (Forward 1 look), 1) ∷ (Meets (Damaged 1 1 0), 1) ∷ (Logs (Commit 1), 1) ∷ (Logs (Ended 1), 1)
     -- the store fails in this commit
     ∷ (Logs (Commit 2), 3) ∷ (Meets StoreFailed, 3) ∷ (Meets (StoppedBy Store), 3) ∷ (Meets (StoppedBy Store), 2) ∷ []
 

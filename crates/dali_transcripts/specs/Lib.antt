@@ -14,3 +14,4 @@ pub mod Faults
 pub mod Tries
 pub mod Together
 pub mod Left
+pub mod Looks

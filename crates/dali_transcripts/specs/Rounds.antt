@@ -9,7 +9,10 @@
 --     VerdictsTell             the regions that an audit names
 --     FaultsTell               the store failed exactly where a deed says so
 --     fits limit end xs        no record that uses room passes the limit
---     PrecheckTells            with precheck no operation is made on a region whose words differ from its codeword
+--     is_on r x                the deed x wants the hold of the region r
+--     HasLooked w c i r g      a look of c at the region r, which had no damage then, whose hold lasts up to the place i
+--     PrecheckTells            with precheck no operation is made on a region whose words differed from its codeword when its client looked
+--     AreAtOnce                each such look is at the place of the operation itself, as where one thread makes all steps
 --     HoldsTogether w          what is so of all clients together, while a round goes on too
 --     IsPlaced within acts     each act stands where it may, and can be carried out
 --     AreBlocks                what a round asks of its blocks
@@ -20,7 +23,7 @@
 use Rattle.std.specs.Prelude.{◌≡◌, ◌≢◌, ◌↔◌, ℕ, ◌+◌, ◌^◌, ◌<◌, ◌≤◌, true, false, ◌==◌, List, [], ◌∷◌, ◌++◌, Bool, if◌then◌else◌, Option, Some, None, Contains, length, map, slice_get, slice_set, take, IsSome, nat_le, sum_by, ◌&&◌}
 use Rattle.dali_record.specs.declared.operations.Block.{Block}
 use Rattle.dali_record.specs.declared.records.Record.{Record}
-use Rattle.dali_record.specs.declared.records.Record.TheVariants.{Begin, Forward, Done, AuditBegin}
+use Rattle.dali_record.specs.declared.records.Record.TheVariants.{Begin, Forward, Back, Solo, Done, AuditBegin}
 use Rattle.dali_record.specs.Spelling.{IsCall, record_length}
 use Rattle.dali_region.specs.State.{RegionState, IsLive}
 use Rattle.dali_system.specs.declared.causes.Cause.{Cause}
@@ -28,7 +31,7 @@ use Rattle.dali_system.specs.Run.{HasRisen}
 use Rattle.dali_system.specs.State.{CoreState, row_of, state_of, log_after}
 use Rattle.dali_system.specs.Steps.{audit_record}
 use Rattle.dali_transcripts.specs.Words.{Act, Begins, Calls, Arms, Commits, Aborts, Pokes, Audits, Checkpoints, StoreFailed, Said}
-use Rattle.dali_transcripts.specs.World.{Deed, Logs, DiesOn, StartsCheckpoint, MovesAnchor, EndsCheckpoint, Meets, Happening, World, state_after, is_dead_in, is_claimed_in, has_failed, log_of, log_at, stray_after, poked_after, refused_by, Grows}
+use Rattle.dali_transcripts.specs.World.{Deed, Logs, DiesOn, GivesBack, StartsCheckpoint, MovesAnchor, EndsCheckpoint, Meets, Happening, World, state_after, is_dead_in, is_claimed_in, has_failed, log_of, log_at, stray_after, poked_after, refused_by, Grows}
 use Rattle.dali_transcripts.specs.Moves.{Receipt, Spot}
 use Rattle.dali_transcripts.specs.Causes.{AreRight}
 use Rattle.dali_transcripts.specs.Transcripts.{IsSoFar, IsOver, IsUnderWay, deeds_of, receipts_of, AreHanded, Told, EachTells, AreTranscripts, round_text}
@@ -140,11 +143,32 @@ fits limit end ((Logs x, c) ∷ xs) = ends_within (end + record_length x) (room_
 fits limit end (x ∷ xs) = fits limit end xs
 
 -- ---- precheck
--- the stray writes to the region cancel at the place of the operation itself: a look and its operation are one step, in which no other client does anything
+-- the stray writes to the region cancel at this place
 abbrev pub WasRight : World → (place region : ℕ) → RegionState → Type 0
 WasRight w i r g = stray_after r g.stray (take i w.happened) ≡ 0
 
+-- what is done on a region by its holder alone
+abbrev pub is_on : ℕ → Deed → Bool
+is_on r (Logs (Forward t b)) = b.region == r
+is_on r (Logs (Back t b)) = b.region == r
+is_on r (Logs (Solo p t b)) = b.region == r
+is_on r (DiesOn t q) = q == r
+is_on r (GivesBack t (Some q)) = q == r
+is_on r x = false
+
+-- behind the look its client does nothing else, and no other client what wants the hold; stray writes and audits may come between
+pub record HasLooked (w : World) (c i r : ℕ) (g : RegionState) : Type 0 where
+  pub place : ℕ
+  pub before : place ≤ i
+  pub right : WasRight w place r g
+  pub held : (k d : ℕ) (x : Deed) → place ≤ k → k < i → slice_get w.happened k ≡ Some (x, d) → ((d == c) ≡ false) × (is_on r x ≡ false)
+
 pub record PrecheckTells (w : World) : Type 0 where
+  pub operations : (i t c : ℕ) (b : Block) (g : RegionState) → slice_get w.happened i ≡ Some (Logs (Forward t b), c)
+      → slice_get w.old.regions b.region ≡ Some g → HasLooked w c i b.region g
+  pub deaths : (i t r c : ℕ) (g : RegionState) → slice_get w.happened i ≡ Some (DiesOn t r, c) → slice_get w.old.regions r ≡ Some g → HasLooked w c i r g
+
+pub record AreAtOnce (w : World) : Type 0 where
   pub operations : (i t c : ℕ) (b : Block) (g : RegionState) → slice_get w.happened i ≡ Some (Logs (Forward t b), c)
       → slice_get w.old.regions b.region ≡ Some g → WasRight w i b.region g
   pub deaths : (i t r c : ℕ) (g : RegionState) → slice_get w.happened i ≡ Some (DiesOn t r, c) → slice_get w.old.regions r ≡ Some g → WasRight w i r g

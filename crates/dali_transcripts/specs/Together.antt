@@ -1,6 +1,8 @@
 -- What a round says of all its clients together holds while it goes on, deed by deed.
 --     Owes v w c x             what the deed x of c owes, which leads from the world v to the world w
+--     RightNow v x             the look of the deed x, if it needs one, is at its own place, behind the world v
 --     HasKept v w              what a core owes that goes on without a deed
+--     AtOnceAtFirst, AtOnceByDeed, AtOnceByNone, AtOnceTells     where each look is at its own place, there is a look for each operation
 --     TogetherAtFirst, TogetherByDeed, TogetherByNone      it holds where a round begins, and then goes on to hold
 use Rattle.std.specs.Prelude.{◌≡◌, ◌≢◌, ◌↔◌, ℕ, ◌+◌, ◌<◌, ◌≤◌, true, false, List, [], ◌∷◌, ◌++◌, Option, Some, None, Contains, length, slice_get, sum_by, take}
 use Rattle.dali_record.specs.declared.records.Record.TheVariants.{Forward}
@@ -11,7 +13,7 @@ use Rattle.dali_system.specs.State.{state_of}
 use Rattle.dali_system.specs.Steps.{audit_record}
 use Rattle.dali_transcripts.specs.Words.{StoreFailed}
 use Rattle.dali_transcripts.specs.World.{Deed, Logs, DiesOn, StartsCheckpoint, MovesAnchor, EndsCheckpoint, Meets, Happening, World, log_of, log_at, state_step, stray_step, stray_after, poked_step, refused_by, under_way, Grows}
-use Rattle.dali_transcripts.specs.Rounds.{room_for, ends_within, WasRight, HoldsTogether}
+use Rattle.dali_transcripts.specs.Rounds.{room_for, ends_within, WasRight, HasLooked, PrecheckTells, AreAtOnce, HoldsTogether}
 
 -- ---- what a deed owes
 abbrev pub SpanFits : Option ℕ → Happening → Type 0
@@ -32,10 +34,16 @@ abbrev pub RoomBy : World → Deed → Type 0
 RoomBy v (Logs y) = ends_within (sum_by record_length (log_of v) + record_length y) (room_for v.old.system.limit y) ≡ true
 RoomBy v x = Unit {0}
 
-abbrev pub RightBy : World → Deed → Type 0
-RightBy v (Logs (Forward t b)) = (g : RegionState) → slice_get v.old.regions b.region ≡ Some g → WasRight v (length v.happened) b.region g
-RightBy v (DiesOn t r) = (g : RegionState) → slice_get v.old.regions r ≡ Some g → WasRight v (length v.happened) r g
-RightBy v x = Unit {0}
+-- its client has looked
+abbrev pub RightBy : World → ℕ → Deed → Type 0
+RightBy v c (Logs (Forward t b)) = (g : RegionState) → slice_get v.old.regions b.region ≡ Some g → HasLooked v c (length v.happened) b.region g
+RightBy v c (DiesOn t r) = (g : RegionState) → slice_get v.old.regions r ≡ Some g → HasLooked v c (length v.happened) r g
+RightBy v c x = Unit {0}
+
+abbrev pub RightNow : World → Deed → Type 0
+RightNow v (Logs (Forward t b)) = (g : RegionState) → slice_get v.old.regions b.region ≡ Some g → WasRight v (length v.happened) b.region g
+RightNow v (DiesOn t r) = (g : RegionState) → slice_get v.old.regions r ≡ Some g → WasRight v (length v.happened) r g
+RightNow v x = Unit {0}
 
 pub record Owes (v w : World) (c : ℕ) (x : Deed) : Type 0 where
   pub span : SpanFits (under_way v.happened) (x, c)
@@ -49,7 +57,7 @@ pub record Owes (v w : World) (c : ℕ) (x : Deed) : Type 0 where
   pub fault : FaultsBy v w x
   pub refusal : w.core.system.refusals ≡ v.core.system.refusals ++ refused_by ((x, c) ∷ [])
   pub room : RoomBy v x
-  pub right : v.precheck ≡ true → RightBy v x
+  pub right : v.precheck ≡ true → RightBy v c x
 
 abbrev pub TogetherByDeed : Type 0
 TogetherByDeed = (v w : World) (c : ℕ) (x : Deed) → (g : Grows v w) → g.more ≡ (x, c) ∷ [] → HoldsTogether v → Owes v w c x → HoldsTogether w
@@ -69,3 +77,17 @@ TogetherByNone = (v w : World) → (g : Grows v w) → g.more ≡ [] → HoldsTo
 -- where a round begins, nothing was done
 abbrev pub TogetherAtFirst : Type 0
 TogetherAtFirst = (w : World) → w.happened ≡ [] → w.core ≡ w.old → HoldsTogether w
+
+-- ---- looks that are made at once
+abbrev pub AtOnceAtFirst : Type 0
+AtOnceAtFirst = (w : World) → w.happened ≡ [] → AreAtOnce w
+
+abbrev pub AtOnceByDeed : Type 0
+AtOnceByDeed = (v w : World) (c : ℕ) (x : Deed) → (g : Grows v w) → g.more ≡ (x, c) ∷ [] → AreAtOnce v → RightNow v x → AreAtOnce w
+
+abbrev pub AtOnceByNone : Type 0
+AtOnceByNone = (v w : World) → (g : Grows v w) → g.more ≡ [] → AreAtOnce v → AreAtOnce w
+
+pub record AtOnceTells : Type 0 where
+  pub all : (w : World) → AreAtOnce w → PrecheckTells w
+  pub one : (v : World) (c : ℕ) (x : Deed) → RightNow v x → RightBy v c x

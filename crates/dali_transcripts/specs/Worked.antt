@@ -23,13 +23,13 @@ use Rattle.dali_record.specs.declared.records.Record.TheVariants.{Format, Begin,
 use Rattle.dali_record.specs.Spelling.{record_length}
 use Rattle.dali_record.specs.Legal.{txn_state}
 use Rattle.dali_record.specs.Blocks.{made, rewritten}
-use Rattle.dali_locks.specs.declared.mode.Mode.TheVariants.{Exclusive}
+use Rattle.dali_locks.specs.declared.mode.Mode.TheVariants.{Shared, Exclusive}
 use Rattle.dali_region.specs.State.{loaded}
 use Rattle.dali_system.specs.declared.refusals.Refusal.{Refusal}
 use Rattle.dali_system.specs.State.{CoreState, VaultState}
 use Rattle.dali_system.specs.Loads.{new_system}
 use Rattle.dali_transcripts.specs.Words.{Act, Begins, Calls, Arms, Commits, Said, Begun, Answered, CommitOk, Aborted, Died}
-use Rattle.dali_transcripts.specs.World.{Logs, DiesOn, Claims, Yields, FindsDead, Happening, World, logged_by}
+use Rattle.dali_transcripts.specs.World.{Logs, DiesOn, Claims, GetsLock, Yields, FindsDead, Happening, World, logged_by}
 use Rattle.dali_transcripts.specs.Transcripts.{Told, AreTranscripts}
 use Rattle.dali_transcripts.specs.Rounds.{Rounds}
 
@@ -88,13 +88,13 @@ found_dead = record { txn = 3; key = 5; mode = Exclusive; holder = 1; at = 10 }
 abbrev pub happened : List Happening
 happened =
     (Logs (Begin 1), 1) ∷ (Logs (Begin 2), 2)
-    ∷ (Logs (Forward 1 look), 1) ∷ (Logs (Forward 1 (put 97 0)), 1) ∷ (Logs (Forward 1 (add 0)), 1) ∷ (Logs (Done 1 insert_a AnswerOk), 1)
+    ∷ (GetsLock 1 5 Exclusive, 1) ∷ (Logs (Forward 1 look), 1) ∷ (Logs (Forward 1 (put 97 0)), 1) ∷ (Logs (Forward 1 (add 0)), 1) ∷ (Logs (Done 1 insert_a AnswerOk), 1)
     -- client 2 is refused; client 1 dies in the second operation of its get; client 2 ends
-    ∷ (Yields refusal, 2) ∷ (Logs (Forward 1 look_again), 1) ∷ (DiesOn 1 1, 1) ∷ (Logs (Ended 2), 2)
+    ∷ (Yields refusal, 2) ∷ (GetsLock 1 5 Shared, 1) ∷ (Logs (Forward 1 look_again), 1) ∷ (DiesOn 1 1, 1) ∷ (Logs (Ended 2), 2)
     ∷ (Logs (Begin 3), 2)
     -- it meets the dead client's lock, and cleans up
     ∷ (FindsDead found_dead, 2) ∷ (Claims 1, 2) ∷ (Logs (Back 1 free_entry), 2) ∷ (Logs (Back 1 free_cell), 2) ∷ (Logs (Ended 1), 2)
-    ∷ (Logs (Forward 3 look), 2) ∷ (Logs (Forward 3 (put 98 (97 * 2 ^ 56 + 4))), 2) ∷ (Logs (Forward 3 (add 12)), 2) ∷ (Logs (Done 3 insert_b AnswerOk), 2)
+    ∷ (GetsLock 3 5 Exclusive, 2) ∷ (Logs (Forward 3 look), 2) ∷ (Logs (Forward 3 (put 98 (97 * 2 ^ 56 + 4))), 2) ∷ (Logs (Forward 3 (add 12)), 2) ∷ (Logs (Done 3 insert_b AnswerOk), 2)
     ∷ (Logs (Commit 3), 2) ∷ (Logs (Ended 3), 2) ∷ []
 
 abbrev pub log : List Record

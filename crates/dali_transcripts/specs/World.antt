@@ -12,6 +12,7 @@
 --     HasEndedBy w t n         t has ended before record n, or its client died by then
 --     has_failed b xs          a store call has failed behind these deeds, or had before them
 --     claimer_at w i t         who claimed t last, before the deed at place i
+--     HasGot xs c t k          among these deeds the client c was granted the lock of the key k, for t
 --     failed_at w i            the first region of the epoch's failed audit before the deed at place i, if one has failed
 --     stop_at w i              why the engine is stopped before the deed at place i, if it is
 --     stray_after r s xs       the exclusive-or of the stray writes to region r behind these deeds, which was s before them
@@ -23,6 +24,7 @@ use Rattle.std.specs.Prelude.{◌≡◌, ℕ, ◌<◌, ◌≤◌, ◌⊎◌, Boo
 use Rattle.dali_record.specs.declared.records.Record.{Record}
 use Rattle.dali_record.specs.declared.records.Record.TheVariants.{Begin, Commit, Ended}
 use Rattle.dali_record.specs.Epochs.{last_epoch}
+use Rattle.dali_locks.specs.declared.mode.Mode.{Mode}
 use Rattle.dali_att.specs.declared.state.State.{State}
 use Rattle.dali_att.specs.declared.state.State.TheVariants.{Live, Dead, Cleaning, Committed}
 use Rattle.dali_system.specs.declared.causes.Cause.{Cause}
@@ -41,7 +43,9 @@ pub data Deed : Type 0 where
   -- it claims a dead transaction; it gives the claim back, where the region of the operation is latched still, or none is
   Claims : (txn : ℕ) → Deed
   GivesBack : (txn : ℕ) → (latched : Option ℕ) → Deed
-  -- its request is refused: it gives way to the holder, or finds that its client is dead
+  -- its request is granted: the transaction has the lock of the key, in this mode or a stronger one
+  GetsLock : (txn key : ℕ) → (mode : Mode) → Deed
+  -- it is refused: it gives way to the holder, or finds that its client is dead
   Yields : (refusal : Refusal) → Deed
   FindsDead : (refusal : Refusal) → Deed
   -- its checkpoint starts, moves the anchor to this number, and ends
@@ -142,6 +146,9 @@ HasDiedBy w t n = WasDead w t ⊎ ((c r m : ℕ) × HasDone w c m (DiesOn t r) �
 
 abbrev pub HasEndedBy : World → ℕ → ℕ → Type 0
 HasEndedBy w t n = ((k : ℕ) × (k < n) × IsLogged w k (Ended t)) ⊎ HasDiedBy w t n
+
+abbrev pub HasGot : List Happening → (client txn key : ℕ) → Type 0
+HasGot xs c t k = (m : Mode) × Contains xs (GetsLock t k m, c)
 
 -- ---- the stop, as the deeds leave it
 abbrev pub failing : Bool → Happening → Bool

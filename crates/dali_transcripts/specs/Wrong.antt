@@ -1,5 +1,5 @@
 -- Wrong transcripts and wrong rounds: none of these is one.
-use Rattle.std.specs.Prelude.{◌≡◌, ◌≢◌, ℕ, ◌<◌, ◌≤◌, Bool, true, false, List, [], ◌∷◌, ◌++◌, Option, Some, None, Contains, slice_get, sum_by, take}
+use Rattle.std.specs.Prelude.{◌≡◌, ◌≢◌, ℕ, ◌<◌, ◌≤◌, ◌⊎◌, ◌==◌, Bool, true, false, List, [], ◌∷◌, ◌++◌, Option, Some, None, Contains, slice_get, sum_by, take}
 use Rattle.dali_record.specs.declared.operations.Block.{Block}
 use Rattle.dali_record.specs.declared.records.Call.{Call}
 use Rattle.dali_record.specs.declared.records.Answer.{Answer}
@@ -16,11 +16,11 @@ use Rattle.dali_system.specs.Steps.{audit_record}
 use Rattle.dali_transcripts.specs.Words.{Act, Calls, Commits, Audits, Checkpoints, StoppedBy, Full, Damaged, UnderWay, Said, Begun, Answered, CommitOk, Aborted, LeftOpen, Died, Busy, CheckpointSaid, Refused}
 use Rattle.dali_record.specs.Epochs.{last_epoch}
 use Rattle.dali_record.specs.Spelling.{record_length}
-use Rattle.dali_transcripts.specs.World.{Logs, Meets, Claims, GivesBack, Yields, World, log_of, log_at, state_at, is_dead_in, is_claimed_in, claimer_at, stop_at, stray_after, under_way}
+use Rattle.dali_transcripts.specs.World.{Deed, Logs, DiesOn, Meets, Claims, GivesBack, Yields, World, log_of, log_at, state_at, is_dead_in, is_claimed_in, claimer_at, stop_at, stray_after, under_way}
 use Rattle.dali_transcripts.specs.Moves.{Receipt, Outside, Within, Move, IsRefusedCall, said as says, own as does}
-use Rattle.dali_transcripts.specs.Causes.{AreUnfinished, HasCause}
+use Rattle.dali_transcripts.specs.Causes.{IsAnothers, AreUnfinished, HasCause}
 use Rattle.dali_transcripts.specs.Transcripts.{IsTranscript, Told, EachTells, AreTranscripts}
-use Rattle.dali_transcripts.specs.Rounds.{IsRound}
+use Rattle.dali_transcripts.specs.Rounds.{is_on, IsRound}
 use Rattle.dali_transcripts.specs.Worked.{put, free_cell, world}
 
 -- whatever the world is, and whatever the client was told
@@ -37,6 +37,16 @@ NoStep lines did = (w : World) (c : ℕ) (x : Move) → says x ≡ lines → doe
 -- the stray writes to the region cancel at each moment
 abbrev pub IsCleanSoFar : World → ℕ → Type 0
 IsCleanSoFar w r = (i : ℕ) (g : RegionState) → slice_get w.old.regions r ≡ Some g → stray_after r g.stray (take i w.happened) ≡ 0
+
+-- at this place before i the client did something else, or another client what wants the hold of the region
+pub record WasLastAt (w : World) (k i c r : ℕ) (x : Deed) (d : ℕ) : Type 0 where
+  pub before : k < i
+  pub there : slice_get w.happened k ≡ Some (x, d)
+  pub wants : ((d == c) ≡ true) ⊎ (is_on r x ≡ true)
+
+-- behind that place and up to i the stray writes to the region never cancel
+abbrev pub IsDamagedFrom : World → (place end region : ℕ) → RegionState → Type 0
+IsDamagedFrom w k i r g = (j : ℕ) → k < j → j ≤ i → stray_after r g.stray (take j w.happened) ≢ 0
 
 -- no client gives way; this one is dead all the time; nothing stops the engine
 abbrev pub NoneYields : World → Type 0
@@ -111,14 +121,18 @@ pub record WrongOnes : Type 0 where
   pub live_claimed : (i c t : ℕ) → NoRound (λ w new. (slice_get w.happened i ≡ Some (Claims t, c)) × (is_dead_in (state_at w i t) ≡ false))
   pub given_back_by_another : (i c t : ℕ) (latched : Option ℕ) → NoRound (λ w new. (slice_get w.happened i ≡ Some (GivesBack t latched, c)) × (claimer_at w i t ≢ Some c))
   pub refused_behind_a_stop : (i c : ℕ) (f : Refusal) → NoRound (λ w new. (slice_get w.happened i ≡ Some (Yields f, c)) × (stop_at w i ≢ None))
+  -- one that gives way where no other client was granted the lock
+  pub gave_way_to_none : (i c : ℕ) (f : Refusal) → NoRound (λ w new. (slice_get w.happened i ≡ Some (Yields f, c)) × (IsAnothers w c i f.holder f.key → ⊥))
   -- behind a stop a transaction that begins or commits, an operation, or an answer
   pub begun_behind_a_stop : (i c t : ℕ) → NoRound (λ w new. (slice_get w.happened i ≡ Some (Logs (Begin t), c)) × (stop_at w i ≢ None))
   pub answered_behind_a_stop : (i c t : ℕ) (call : Call) (a : Answer) → NoRound (λ w new. (slice_get w.happened i ≡ Some (Logs (Done t call a), c)) × (stop_at w i ≢ None))
   pub operated_behind_a_stop : (i c t : ℕ) (b : Block) → NoRound (λ w new. (slice_get w.happened i ≡ Some (Logs (Forward t b), c)) × (stop_at w i ≢ None))
   pub committed_behind_a_stop : (i c t : ℕ) → NoRound (λ w new. (slice_get w.happened i ≡ Some (Logs (Commit t), c)) × (stop_at w i ≢ None))
-  -- with precheck an operation on a region that was right when the client looked, and isn't any more
-  pub operated_on_damage : (i c t : ℕ) (b : Block) (g : RegionState)
-      → NoRound (λ w new. (w.precheck ≡ true) × (slice_get w.happened i ≡ Some (Logs (Forward t b), c)) × (slice_get w.old.regions b.region ≡ Some g) × (stray_after b.region g.stray (take i w.happened) ≢ 0))
+  -- with precheck an operation on a region that wasn't right at any time since its client did something else, or another one held it
+  pub operated_on_damage : (i c t k d : ℕ) (b : Block) (x : Deed) (g : RegionState)
+      → NoRound (λ w new. (w.precheck ≡ true) × (slice_get w.happened i ≡ Some (Logs (Forward t b), c)) × (slice_get w.old.regions b.region ≡ Some g) × WasLastAt w k i c b.region x d × IsDamagedFrom w k i b.region g)
+  pub died_on_damage : (i c t r k d : ℕ) (x : Deed) (g : RegionState)
+      → NoRound (λ w new. (w.precheck ≡ true) × (slice_get w.happened i ≡ Some (DiesOn t r, c)) × (slice_get w.old.regions r ≡ Some g) × WasLastAt w k i c r x d × IsDamagedFrom w k i r g)
   -- a round that is cut: an audit that began twice, a commit that is neither flushed nor failed, an operation of a client that is to die in it
   pub begun_twice : (w : World) (c a b : ℕ) (s : Bool) (rest : List Act) → AreUnfinished w c (Outside s) (Audits ∷ rest) ((a, Logs AuditBegin) ∷ (b, Logs AuditBegin) ∷ []) → ⊥
   pub committed_and_cut : (w : World) (c t tries n : ℕ) (d : Option ℕ) (s : Bool) (cs rest : List Act) → AreUnfinished w c (Within t tries cs d s) (Commits ∷ rest) ((n, Logs (Commit t)) ∷ []) → ⊥

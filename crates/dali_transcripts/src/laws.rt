@@ -3,7 +3,8 @@
 ghost use Rattle.dali_transcripts.specs.Laws.{OneMoreDeed, OneMoreStep, DeedIsDone, DeedsAreDone, GrowsOn, OwnGoesOn, OthersGoOn, RightGoesOn, EachIsOwned, OwnedByOne, OwnAscend, WorldGoesOn, LinesTell, LinesAreRecords, CutLinesAreRecords, DeedsAreTold, OperationsAreTold, AnchorsRise, OkIsFlushed, GoneIsSilent, NothingAfterDied, NothingAfterStop, TriesAreFew, TextAscends};
 ghost use Rattle.dali_transcripts.specs.Grown.{StepsGrow, CoursesGrow};
 ghost use Rattle.dali_transcripts.specs.Rounds.{RoundGoesOn, RoundIsDone, RoundIsCut};
-ghost use Rattle.dali_transcripts.specs.Together.{TogetherAtFirst, TogetherByDeed, TogetherByNone};
+ghost use Rattle.dali_transcripts.specs.Together.{TogetherAtFirst, TogetherByDeed, TogetherByNone, AtOnceAtFirst, AtOnceByDeed, AtOnceByNone, AtOnceTells};
+ghost use Rattle.dali_transcripts.specs.Looks.{LooksStayRight};
 ghost use Rattle.dali_transcripts.specs.Left.{LeftHaveDied};
 ghost use Rattle.dali_transcripts.specs.Worked.{AreMade, Conflict, ConflictRuns};
 ghost use Rattle.dali_transcripts.specs.Corners.{CornersRun};
@@ -199,6 +200,20 @@ pub fn all_holds_behind_a_deed()
 /// It holds where nothing is done.
 pub fn all_holds_without_a_deed()
     ensures { TogetherByNone }
+{}
+
+/// Where one thread makes all steps, a look with precheck is at the place of its operation: so it is at first and behind each deed,
+/// and there is a look for each operation.
+pub fn looks_are_at_once()
+    ensures first { AtOnceAtFirst }
+    ensures deed { AtOnceByDeed }
+    ensures none { AtOnceByNone }
+    ensures tells { AtOnceTells }
+{}
+
+/// A look that was right stays so where another client then writes astray and begins an audit.
+pub fn looks_stay_right()
+    ensures { LooksStayRight }
 {}
 
 /// Where the engine runs behind a round that ended with Done, each transaction that has a row was dead before it, or its client

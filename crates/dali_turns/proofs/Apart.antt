@@ -18,7 +18,7 @@ use Rattle.dali_vault.specs.Vaulted.{Vaulted}
 use Rattle.dali_audit.specs.Findings.{Audited}
 use Rattle.dali_checkpoint.specs.Kept.{Checkpointed}
 use Rattle.dali_transcripts.specs.Words.{Act}
-use Rattle.dali_transcripts.specs.World.{Deed, Logs, Strays, DiesOn, Claims, GivesBack, Yields, FindsDead, StartsCheckpoint, MovesAnchor, EndsCheckpoint, Meets, Happening, World, record_of, logged_by, log_of, IsLogged, span_step, under_way}
+use Rattle.dali_transcripts.specs.World.{Deed, Logs, Strays, DiesOn, Claims, GivesBack, GetsLock, Yields, FindsDead, StartsCheckpoint, MovesAnchor, EndsCheckpoint, Meets, Happening, World, record_of, logged_by, log_of, IsLogged, span_step, under_way}
 use Rattle.dali_transcripts.specs.Moves.{Receipt}
 use Rattle.dali_transcripts.specs.Transcripts.{own_by, deeds_of}
 use Rattle.dali_transcripts.specs.Rounds.{Standing, Stands, by, AreSpans}
@@ -44,6 +44,7 @@ spans_behind o ((DiesOn t r, c) ∷ xs) ys h = spans_behind o xs ys h
 spans_behind o ((Claims t, c) ∷ xs) ys h = spans_behind o xs ys h
 spans_behind o ((GivesBack t latched, c) ∷ xs) ys h = spans_behind o xs ys h
 spans_behind o ((Yields f, c) ∷ xs) ys h = spans_behind o xs ys h
+spans_behind o ((GetsLock t k m, c) ∷ xs) ys h = spans_behind o xs ys h
 spans_behind o ((FindsDead f, c) ∷ xs) ys h = spans_behind o xs ys h
 spans_behind o ((MovesAnchor n, c) ∷ xs) ys h = spans_behind o xs ys h
 spans_behind o ((Meets why, c) ∷ xs) ys h = spans_behind o xs ys h
@@ -59,6 +60,7 @@ spans_stay c d (DiesOn t r ∷ ds) other h = spans_stay c d ds other h
 spans_stay c d (Claims t ∷ ds) other h = spans_stay c d ds other h
 spans_stay c d (GivesBack t latched ∷ ds) other h = spans_stay c d ds other h
 spans_stay c d (Yields f ∷ ds) other h = spans_stay c d ds other h
+spans_stay c d (GetsLock t k m ∷ ds) other h = spans_stay c d ds other h
 spans_stay c d (FindsDead f ∷ ds) other h = spans_stay c d ds other h
 spans_stay c d (MovesAnchor n ∷ ds) other h = spans_stay c d ds other h
 spans_stay c d (Meets why ∷ ds) other h = spans_stay c d ds other h

@@ -1,32 +1,40 @@
 -- A request for the lock of a call that is granted.
-use Rattle.std.proofs.Common.{◌≡◌, ℕ, Bool, true, false, not, List, [], ◌∷◌, ◌++◌, length, map, Option, Some, None, is_some, refl, ap, sym, subst, ◌∙◌, ◌⊎◌, inl, inr, arith}
-use Rattle.std.specs.Prelude.{◌==◌, if◌then◌else◌, filter}
+use Rattle.std.proofs.Common.{◌≡◌, ℕ, Bool, true, false, not, List, [], ◌∷◌, ◌++◌, length, map, Option, Some, None, is_some, refl, ap, sym, subst, ◌∙◌, ◌⊎◌, inl, inr, ⊎_elim, arith}
+use Rattle.std.specs.Prelude.{◌==◌, ◌&&◌, if◌then◌else◌, filter, Contains, IsSome}
+use Rattle.std.specs.FinMap.{get}
 use Rattle.std.proofs.lemmas.List.{append-nil}
+use Rattle.std.proofs.lemmas.List.Elements.{Contains-append_right}
 use Rattle.dali_counts.proofs.Lists.{equal, same_number}
+use Rattle.dali_record.specs.declared.operations.Pending.{Pending}
 use Rattle.dali_record.specs.declared.records.Call.{Call}
+use Rattle.dali_record.specs.declared.records.Call.TheVariants.{Insert, Update, Delete, Get}
 use Rattle.dali_record.specs.declared.records.Record.{Record}
 use Rattle.dali_record.specs.declared.records.Record.TheVariants.{Forward}
 use Rattle.dali_region.specs.State.{RegionState}
+use Rattle.dali_locks.specs.declared.mode.Mode.{Mode}
 use Rattle.dali_locks.specs.declared.mode.LockAnswer.TheVariants.{Granted}
+use Rattle.dali_locks.specs.Locks.{Locks as LockMap, stronger_mode, locks_with}
+use Rattle.dali_locks.proofs.Changes.{get-locks_with}
 use Rattle.dali_att.specs.declared.state.State.TheVariants.{Live}
 use Rattle.dali_store.specs.Store.{Files as Disk}
-use Rattle.dali_system.specs.State.{SystemState, state_of}
+use Rattle.dali_system.specs.State.{SystemState, state_of, lock_of}
 use Rattle.dali_system.specs.Steps.{granted}
 use Rattle.dali_system.specs.Courses.{Locks}
 use Rattle.dali_crash.specs.Checkpoints.{Point}
 use Rattle.dali_crash.specs.Traces.{Start}
 use Rattle.dali_vault.specs.Vaulted.{Vaulted}
 use Rattle.dali_calls.specs.declared.plan.Phase.TheVariants.{Calling as IsCalling}
-use Rattle.dali_calls.specs.Steps.{call_key}
-use Rattle.dali_calls.specs.Plans.{Planned, mode_of}
+use Rattle.dali_calls.specs.Steps.{call_key, answer_of}
+use Rattle.dali_calls.specs.Plans.{Planned, goes_back, mode_of}
 use Rattle.dali_single.specs.Stands.{core}
 use Rattle.dali_stepwise.specs.Stepwise.{IsAsked}
-use Rattle.dali_transcripts.specs.Words.{Act, Calls}
-use Rattle.dali_transcripts.specs.World.{Logs, World}
+use Rattle.dali_transcripts.specs.Words.{Act, Calls, key_of}
+use Rattle.dali_transcripts.specs.Words as words
+use Rattle.dali_transcripts.specs.World.{Deed, Logs, GetsLock, World, log_of}
 use Rattle.dali_transcripts.specs.Moves.{Receipt, Within as IsWithin, at, is_operation, operations, left}
-use Rattle.dali_transcripts.specs.Causes.{IsAsking, IsWork, AreAsking, AreWork, spares}
+use Rattle.dali_transcripts.specs.Causes.{IsAsking, IsWork, AreAsking, AreWork, spares, undos_behind}
 use Rattle.dali_transcripts.specs.Rounds.{Standing, IsPlaced}
-use Rattle.dali_transcripts.proofs.Lists.{all_map}
+use Rattle.dali_transcripts.proofs.Lists.{all_map, all_append}
 use Rattle.dali_transcripts.proofs.Growing.{askings}
 use Rattle.dali_deeds.specs.Tells.{after}
 use Rattle.dali_clients.specs.Told.{act_of}
@@ -36,12 +44,42 @@ use Rattle.dali_turns.specs.declared.client.State.TheVariants.{Within, Calling}
 use Rattle.dali_turns.specs.declared.client.Transaction.{Transaction}
 use Rattle.dali_turns.specs.Clients.{Stays}
 use Rattle.dali_turns.specs.Stood.{IsQuiet, Stood}
-use Rattle.dali_turns.specs.Within.{AreSoFar, FitsWithin, FitsCalling}
+use Rattle.dali_turns.specs.Within.{AreSoFar, AreGot, FitsWithin, FitsCalling}
 use Rattle.dali_turns.specs.Fits.{rest_of, IsOf, Owns, Fits}
 use Rattle.dali_turns.specs.Goes.{RowsTell, Went}
-use Rattle.dali_turns.proofs.Undoing.{undone_still}
+use Rattle.dali_turns.proofs.Returning.{turned_on, none_asked}
+use Rattle.dali_turns.proofs.Undoing.{undone_on}
+use Rattle.dali_turns.proofs.Locking.{got_more}
 use Rattle.dali_turns.proofs.Doing.{Did, did_quietly, behind, went_on}
 use Rattle.dali_turns.proofs.Walking.{point_behind}
+
+-- ---- words of calls
+pub same_key : (call : Call) → call_key call ≡ key_of call
+same_key (Insert key v) = refl
+same_key (Update key v) = refl
+same_key (Delete key) = refl
+same_key (Get key) = refl
+
+pub same_mode : (call : Call) → mode_of call ≡ words.mode_of call
+same_mode (Insert key v) = refl
+same_mode (Update key v) = refl
+same_mode (Delete key) = refl
+same_mode (Get key) = refl
+
+-- ---- whoever has a lock behind a request that is granted
+had_or_got : (locks : LockMap) (t k : ℕ) (m : Mode) (u l : ℕ) → IsSome (get (locks_with locks t k m) (u, l)) → IsSome (get locks (u, l)) ⊎ (k ≡ l)
+had_or_got locks t k m u l h = by_test (k == l) refl
+  where
+    other : (b : Bool) → ((t == u) && (k == l)) ≡ b → IsSome (if b then Some (stronger_mode (get locks (u, l)) m) else get locks (u, l))
+    other b e = subst (λ (o : Option Mode). IsSome o) (get-locks_with locks t k m u l ∙ ap (λ (c : Bool). if c then Some (stronger_mode (get locks (u, l)) m) else get locks (u, l)) e) h
+
+    neither : (a : Bool) → (a && false) ≡ false
+    neither true = refl
+    neither false = refl
+
+    by_test : (b : Bool) → (k == l) ≡ b → IsSome (get locks (u, l)) ⊎ (k ≡ l)
+    by_test true e = inr (equal k l e)
+    by_test false e = inl (other false (ap (λ (b : Bool). (t == u) && b) e ∙ neither (t == u)))
 
 -- ---- what was done before the lock was granted is work of the call, and none of its operations
 pub work_of : (w : World) (c t : ℕ) (call : Call) (x : Receipt) → IsAsking w c t call x → IsWork w c t call x
@@ -78,8 +116,14 @@ module _ {V : Type 0} (told : V → Option Disk) (may_leave : V → Disk → Typ
       by_test true e = absurd (differ (equal m n e))
       by_test false e = ap not e
 
-  did : Did told may_leave faults precheck s B p w a.client (Within x) gs y v [] B q gs z v
-  did = did_quietly told may_leave faults precheck s B p w gs y v stood a.client (Within x) q (Locks plan.txn (call_key plan.call) (mode_of plan.call)) [] z gs refl (refl, (asked.0, refl), refl) refl tt refl stood.stands.at.regions
+  abbrev deed : Deed
+  deed = GetsLock plan.txn (call_key plan.call) (mode_of plan.call)
+
+  abbrev now : World
+  now = after w a.client (deed ∷ []) q.core
+
+  did : Did told may_leave faults precheck s B p w a.client (Within x) gs y v (deed ∷ []) B q gs z v
+  did = did_quietly told may_leave faults precheck s B p w gs y v stood a.client (Within x) q (Locks plan.txn (call_key plan.call) (mode_of plan.call)) (deed ∷ []) z gs refl (refl, (asked.0, refl), refl) (inr refl) (tt, tt) refl stood.stands.at.regions
       (ap (λ (m : SystemState). m.taken) system) stood.stands.dead (λ fs held. held)
       (subst IsQuiet (sym system) (record { unclaimed = stood.quiet.unclaimed; settled = stood.quiet.settled })) (λ e. ap (λ (m : SystemState). is_some m.stop) system ∙ e)
       (λ t lives other. apart_from plan.txn t (λ e. other (sym of_txn ∙ e))) (λ b other. refl)
@@ -98,29 +142,43 @@ module _ {V : Type 0} (told : V → Option Disk) (may_leave : V → Disk → Typ
   asking : AreAsking w a.client x.txn call a.pending
   asking = subst (λ rest. AreSoFar w a.client x.txn rest a.pending) next fits.so_far
 
+  -- that it got its lock is part of what it did of the call
+  got : IsAsking now a.client x.txn call (length (log_of w), deed)
+  got = (of_txn, ap call_key of_call ∙ same_key call, ap mode_of of_call ∙ same_mode call)
+
+  own_locks : AreGot q now a.client x.txn
+  own_locks n has = ⊎_elim
+      (λ had. got_more w now did.goes.grows a.client x.txn n (fits.locks n (ap (λ (m : SystemState). is_some (lock_of m x.txn n)) stood.stands.at.system ∙ had)))
+      (λ new. (mode_of plan.call, subst (λ (y : Deed). Contains now.happened (y, a.client)) (ap (λ t. GetsLock t (call_key plan.call) (mode_of plan.call)) of_txn ∙ ap (λ k. GetsLock x.txn k (mode_of plan.call)) new) (Contains-append_right w.happened ((deed, a.client) ∷ []) (deed, a.client) (0, omega arith, refl))))
+      (had_or_got y.locks plan.txn (call_key plan.call) (mode_of plan.call) x.txn n (ap (λ (m : SystemState). is_some (lock_of m x.txn n)) (sym system) ∙ has))
+
   pub granted_on : Stays k (Calling x plan) j → Went told may_leave faults precheck s B p w a (Within x) gs y v true j gs z v
   granted_on f =
-      went_on told may_leave faults precheck s B B p q w a (Within x) gs gs y z v v [] k j is did true f.transcript
-      (subst (λ (n : State). Fits told may_leave faults s B q (after w a.client [] q.core) gs z v (behind a w []) (rest_of j) n) (sym f.stands) fitting)
+      went_on told may_leave faults precheck s B B p q w a (Within x) gs gs y z v v (deed ∷ []) k j is did true f.transcript
+      (subst (λ (n : State). Fits told may_leave faults s B q now gs z v (behind a w (deed ∷ [])) (rest_of j) n) (sym f.stands) fitting)
       (λ e. rows)
     where
       same_rest : rest_of j ≡ rest_of k
       same_rest = ap (map act_of) f.rest
 
-      now_asking : AreAsking (after w a.client [] q.core) a.client x.txn call (a.pending ++ [])
-      now_asking = subst (AreAsking (after w a.client [] q.core) a.client x.txn call) (sym (append-nil a.pending)) (askings w (after w a.client [] q.core) did.goes.grows a.client x.txn call a.pending asking)
+      now_asking : AreAsking now a.client x.txn call (a.pending ++ (length (log_of w), deed) ∷ [])
+      now_asking = all_append (IsAsking now a.client x.txn call) a.pending ((length (log_of w), deed) ∷ []) (askings w now did.goes.grows a.client x.txn call a.pending asking) (got, tt)
 
-      fitting : FitsCalling q (after w a.client [] q.core) (behind a w []) (rest_of j) x plan
+      now_undone : (us : List Pending) → undos_behind x.txn us (a.pending ++ (length (log_of w), deed) ∷ []) ≡ us
+      now_undone us = undone_on x.txn us us a.pending ((length (log_of w), deed) ∷ []) (fits.undone us) (λ zs. refl)
+
+      fitting : FitsCalling q now (behind a w (deed ∷ [])) (rest_of j) x plan
       fitting = record {
         call = call;
         more = more;
         calls = same_rest ∙ next;
         deadly = x.deadly;
         spot = fits.spot ∙ (ap (λ b. at (IsWithin x.txn x.tries (map act_of x.commands.now) x.deadly b) (rest_of k)) unsaid ∙ ap (at (IsWithin x.txn x.tries (map act_of x.commands.now) x.deadly false)) (sym same_rest));
-        work = works_of (after w a.client [] q.core) a.client x.txn call (a.pending ++ []) now_asking;
-        undone = λ us. undone_still x.txn us us a.pending (fits.undone us) ∙ (sym (append-nil us) ∙ ap (λ l. us ++ l) (sym fresh));
-        nearer = sym (ap (left x.deadly) (none_yet (after w a.client [] q.core) a.client x.txn call (a.pending ++ []) now_asking) ∙ left_none x.deadly);
-        spared = ap (spares x.deadly) (none_yet (after w a.client [] q.core) a.client x.txn call (a.pending ++ []) now_asking) ∙ fits.due;
+        turned = turned_on (goes_back (answer_of plan.geometry plan.call plan.stage)) x.txn (a.pending ++ (length (log_of w), deed) ∷ []) (none_asked now a.client x.txn call (a.pending ++ (length (log_of w), deed) ∷ []) now_asking now_undone);
+        work = works_of now a.client x.txn call (a.pending ++ (length (log_of w), deed) ∷ []) now_asking;
+        undone = λ us. now_undone us ∙ (sym (append-nil us) ∙ ap (λ l. us ++ l) (sym fresh));
+        nearer = sym (ap (left x.deadly) (none_yet now a.client x.txn call (a.pending ++ (length (log_of w), deed) ∷ []) now_asking) ∙ left_none x.deadly);
+        spared = ap (spares x.deadly) (none_yet now a.client x.txn call (a.pending ++ (length (log_of w), deed) ∷ []) now_asking) ∙ fits.due;
         placed = subst (IsPlaced true) (sym same_rest) fits.placed;
         again = fits.again;
         plan_is = record {
@@ -130,6 +188,7 @@ module _ {V : Type 0} (told : V → Option Disk) (may_leave : V → Disk → Typ
           rest = asked.2;
           stands = asked.1;
         };
+        locks = own_locks;
       }
 
       rows : RowsTell (Within x) y j.state z

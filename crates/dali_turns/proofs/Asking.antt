@@ -44,6 +44,7 @@ use Rattle.dali_turns.specs.Stood.{Stood}
 use Rattle.dali_turns.specs.Within.{AreSoFar, FitsWithin}
 use Rattle.dali_turns.specs.Fits.{rest_of, IsOf, Owns, Fits}
 use Rattle.dali_turns.specs.Goes.{RowsTell, Went}
+use Rattle.dali_turns.proofs.Locking.{still_got}
 use Rattle.dali_turns.proofs.Undoing.{undone_still}
 use Rattle.dali_turns.proofs.Refusals.{HasCauseNow, met_now, right_now, stop_now}
 use Rattle.dali_turns.proofs.Doing.{Did, did_nothing, did_meet, behind, ended, went_on, went_by, went_silent, vault_stops}
@@ -115,6 +116,7 @@ module _ {V : Type 0} (told : V → Option Disk) (may_leave : V → Disk → Typ
         due = fits.due;
         lives = fits.lives;
         free = fits.free;
+        locks = still_got p p w still did_none.goes.grows a.client x.txn (λ n h. h) fits.locks;
         may_call = fits.may_call;
       }
 
@@ -156,6 +158,7 @@ module _ {V : Type 0} (told : V → Option Disk) (may_leave : V → Disk → Typ
       due = fits.due;
       lives = fits.lives;
       free = fits.free;
+      locks = still_got p p w now did_stop.goes.grows a.client x.txn (λ n h. h) fits.locks;
       may_call = λ e. let some : Some stop ≡ None = sym stopped ∙ (ap (λ (m : SystemState). m.stop) (sym stood.stands.at.system) ∙ e) in absurd (cc);
     }
 

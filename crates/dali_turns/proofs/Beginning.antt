@@ -13,7 +13,7 @@ use Rattle.dali_att.specs.declared.state.State.{State as RowState}
 use Rattle.dali_att.specs.declared.state.State.TheVariants.{Live, Committed}
 use Rattle.dali_store.specs.Store.{Files as Disk}
 use Rattle.dali_system.specs.declared.causes.Cause.{Cause}
-use Rattle.dali_system.specs.State.{SystemState, CoreState, TxnRow, row_of, state_in, state_of, hold_of}
+use Rattle.dali_system.specs.State.{SystemState, CoreState, TxnRow, row_of, state_in, state_of, hold_of, lock_of}
 use Rattle.dali_system.specs.Run.{RunsOn}
 use Rattle.dali_system.specs.Regions.{is_alive}
 use Rattle.dali_system.specs.Keeps.{HasRoom, IsNext, IsFree, with_system}
@@ -44,6 +44,7 @@ use Rattle.dali_transcripts.specs.Rounds.{Standing, IsPlaced}
 use Rattle.dali_deeds.specs.Tells.{after}
 use Rattle.dali_deeds.specs.Laws.{IsNoFault}
 use Rattle.dali_deeds.proofs.States.{begun_state}
+use Rattle.dali_locks.specs.declared.mode.Mode.{Mode}
 use Rattle.dali_turns.specs.declared.client.Client.{Client}
 use Rattle.dali_turns.specs.declared.client.Transaction.{Transaction}
 use Rattle.dali_turns.specs.declared.client.State.{State}
@@ -77,6 +78,10 @@ alive_some (Some st) e = refl
 none_so_far : (w : World) (c t : ℕ) (rest : List Act) → AreSoFar w c t rest []
 none_so_far w c t (Calls call ∷ rest) = tt
 none_so_far w c t rest = refl
+
+some_at : (o : Option Mode) → is_some o ≡ true → (m : Mode) × (o ≡ Some m)
+some_at None e = absurd (cc)
+some_at (Some m) e = (m, refl)
 
 -- an engine that runs isn't said to be stopped
 not_said : (y : SystemState) (b : Bool) → MaySay y b → y.stop ≡ None → b ≡ false
@@ -154,6 +159,11 @@ module _ {V : Type 0} (told : V → Option Disk) (may_leave : V → Disk → Typ
     free : IsFree q.core x.txn
     free r h held = ne_eqb h.txn x.txn (λ e. absurd (omega (arith, holder_is_older r h held, e, own_number)))
 
+    no_lock : (n : ℕ) → IsSome (lock_of q.core.system x.txn n) → ⊥
+    no_lock n has =
+        let (mode, held) = some_at (lock_of p.core.system x.txn n) has in
+        absurd (omega (arith, rows_are_older (bases_of s) p.log p.core runs x.txn (runs.locks.owned x.txn n mode held), own_number))
+
     may_call : MayCall q.log q.core x.txn
     may_call = record {
       working = hb.working;
@@ -190,6 +200,7 @@ module _ {V : Type 0} (told : V → Option Disk) (may_leave : V → Disk → Typ
       due = ap (λ (d : Option ℕ). spares d 0) deadly;
       lives = lives;
       free = free;
+      locks = λ n has. absurd (no_lock n has);
       may_call = λ up. may_call;
     }
 

@@ -1,11 +1,12 @@
 -- An older transaction holds the key of a client's next call: its request is refused, and the refusal is kept.
-use Rattle.std.proofs.Common.{◌≡◌, ℕ, Bool, true, false, not, List, [], ◌∷◌, ◌++◌, length, map, Option, Some, None, is_some, refl, ap, sym, subst, ◌∙◌, inl, inr}
+use Rattle.std.proofs.Common.{◌≡◌, ℕ, Bool, true, false, not, List, [], ◌∷◌, ◌++◌, length, map, Option, Some, None, is_some, refl, ap, sym, subst, ◌∙◌, inl, inr, ⊎_elim, arith}
 use Rattle.std.specs.Prelude.{◌==◌, fold}
 use Rattle.dali_counts.proofs.Lists.{equal}
 use Rattle.dali_record.specs.declared.records.Call.{Call}
-use Rattle.dali_record.specs.declared.records.Call.TheVariants.{Insert, Update, Delete, Get}
 use Rattle.dali_record.specs.declared.records.Record.{Record}
 use Rattle.dali_region.specs.State.{RegionState}
+use Rattle.dali_att.specs.declared.state.State.{State as RowState}
+use Rattle.dali_att.specs.declared.state.State.TheVariants.{Live, Dead, Cleaning, Committed}
 use Rattle.dali_locks.specs.declared.mode.LockAnswer.TheVariants.{Busy}
 use Rattle.dali_locks.specs.Locks.{IsAnswer}
 use Rattle.dali_store.specs.Store.{Files as Disk}
@@ -21,10 +22,9 @@ use Rattle.dali_calls.specs.Plans.{Planned, mode_of}
 use Rattle.dali_single.specs.Single.{MayCall}
 use Rattle.dali_single.specs.Stands.{core, IsAtRest}
 use Rattle.dali_stepwise.specs.Stepwise.{IsNew, IsAsked}
-use Rattle.dali_transcripts.specs.Words.{Act, Calls, key_of}
-use Rattle.dali_transcripts.specs.Words as words
-use Rattle.dali_transcripts.specs.World.{Deed, Yields, FindsDead, Happening, World, log_of, log_at, state_step, state_at, stop_at, is_dead_in}
-use Rattle.dali_transcripts.specs.Moves.{Within as IsWithin, at}
+use Rattle.dali_transcripts.specs.Words.{Act, Calls}
+use Rattle.dali_transcripts.specs.World.{Deed, Yields, FindsDead, Happening, World, log_of, log_at, HasGot, state_step, state_at, stop_at, is_dead_in, is_claimed_in}
+use Rattle.dali_transcripts.specs.Moves.{Spot, Within as IsWithin, at}
 use Rattle.dali_transcripts.specs.Causes.{IsAsking, AreAsking, IsRight, HasFoundDead, GetsBusy}
 use Rattle.dali_transcripts.specs.Rounds.{Standing}
 use Rattle.dali_transcripts.proofs.Lists.{all_append}
@@ -39,8 +39,10 @@ use Rattle.dali_turns.specs.declared.client.Transaction.{Transaction}
 use Rattle.dali_turns.specs.Clients.{next_of}
 use Rattle.dali_turns.specs.Stood.{HadRow, Stood}
 use Rattle.dali_turns.specs.Within.{AreSoFar, FitsWithin, FitsYielding}
-use Rattle.dali_turns.specs.Fits.{rest_of, IsOf, Owns}
+use Rattle.dali_turns.specs.Fits.{rest_of, InTxn, IsOf, Owns}
 use Rattle.dali_turns.specs.Goes.{Went, StepGoes, YieldGoes}
+use Rattle.dali_turns.proofs.Asked.{same_key, same_mode}
+use Rattle.dali_turns.proofs.Locking.{still_got, others_on}
 use Rattle.dali_turns.proofs.Commands.{next_act, behind_next}
 use Rattle.dali_turns.proofs.Undoing.{undone_on}
 use Rattle.dali_turns.proofs.Refusals.{runs_on_log, records_are, front, log_there, done_last, runs_there}
@@ -48,17 +50,13 @@ use Rattle.dali_turns.proofs.Doing.{Did, did_quietly, did_went, still_ran, behin
 use Rattle.dali_turns.proofs.Walking.{point_behind}
 use Rattle.dali_turns.proofs.Asking.{new_plan, rest_now, core_there, asking}
 
-same_key : (call : Call) → call_key call ≡ key_of call
-same_key (Insert key v) = refl
-same_key (Update key v) = refl
-same_key (Delete key) = refl
-same_key (Get key) = refl
-
-same_mode : (call : Call) → mode_of call ≡ words.mode_of call
-same_mode (Insert key v) = refl
-same_mode (Update key v) = refl
-same_mode (Delete key) = refl
-same_mode (Get key) = refl
+-- who has a row, isn't dead, claimed or committed, is live
+live_one : (o : Option RowState) → is_some o ≡ true → is_dead_in o ≡ false → is_claimed_in o ≡ false → (o ≡ Some Committed → ⊥) → o ≡ Some Live
+live_one None some dead claimed committed = absurd (cc)
+live_one (Some Live) some dead claimed committed = refl
+live_one (Some (Dead l)) some dead claimed committed = absurd (cc)
+live_one (Some (Cleaning l)) some dead claimed committed = absurd (cc)
+live_one (Some Committed) some dead claimed committed = absurd (committed refl)
 
 row_there : (o : Option TxnRow) → is_some o ≡ true → is_some (state_in o) ≡ true
 row_there (Some row) e = refl
@@ -103,6 +101,9 @@ module _ {V : Type 0} (told : V → Option Disk) (may_leave : V → Disk → Typ
       row_there (row_of y holder)
       (ap (λ (m : SystemState). is_some (row_of m holder)) (sym stood.stands.at.system)
       ∙ (runs_on_log (bases_of s) s.log p stood.stands.at.vault.run).locks.owned holder (call_key call) answer.0.conflict.mode (ap (λ (m : SystemState). lock_of m holder (call_key call)) stood.stands.at.system ∙ answer.0.conflict.holds))
+
+  system_there : w.core.system ≡ y
+  system_there = ap (λ (c : CoreState). c.system) stood.tells.core ∙ stood.stands.at.system
 
   -- nothing was said of a stop
   unsaid : fits.said ≡ false
@@ -150,7 +151,12 @@ module _ {V : Type 0} (told : V → Option Disk) (may_leave : V → Disk → Typ
     had = inl has_row
 
     still_of : IsOf now (behind a w (deed ∷ [])) k
-    still_of = record { client = is.client; lines = is.lines; stands = so_far told may_leave faults precheck s B B p q w a (Within x) gs gs y z v v (deed ∷ []) k k is did }
+    still_of = record {
+      client = is.client;
+      lines = is.lines;
+      stands = so_far told may_leave faults precheck s B B p q w a (Within x) gs gs y z v v (deed ∷ []) k k is did;
+      others = others_on w now a (behind a w (deed ∷ [])) did.goes.grows y z system_there refl refl refl (λ e. e) (λ t lives. (lives, λ n h. h)) is.others;
+    }
 
     -- and then the step goes on from there
     then_went : (j : Client) (hs : List RegionState) (m : SystemState) (t : Vaulted V) (ok : Bool) → Went told may_leave faults precheck s B q now (behind a w (deed ∷ [])) (Within x) gs z v ok j hs m t
@@ -162,8 +168,17 @@ module _ {V : Type 0} (told : V → Option Disk) (may_leave : V → Disk → Typ
     abbrev yields : World
     yields = after w a.client (Yields refusal ∷ []) there
 
+    -- another client was granted its lock, since this one is in another transaction
+    anothers : (d : ℕ) × ((d == a.client) ≡ false) × HasGot w.happened d holder (call_key call)
+    anothers = ⊎_elim
+        (λ own. let same : x.txn ≡ holder = subst (λ (q : Spot). InTxn q.place holder) fits.spot own in absurd (omega (arith, answer.1, same)))
+        (λ got. got)
+        (is.others (ap (λ (m : SystemState). m.stop) system_there ∙ runs) holder (call_key call)
+        (ap (λ (m : SystemState). state_of m holder) system_there ∙ live_one (state_of y holder) has_row alive (stood.quiet.unclaimed holder) (stood.quiet.settled runs holder))
+        (ap (λ (m : SystemState). is_some (lock_of m holder (call_key call))) system_there ∙ ap is_some answer.0.conflict.holds))
+
     yield_right : IsRight yields a.client (length w.happened) (Yields refusal)
-    yield_right = (number_then (Yields refusal), ap is_dead_in (state_then (Yields refusal)) ∙ alive, runs_then (Yields refusal))
+    yield_right = (number_then (Yields refusal), ap is_dead_in (state_then (Yields refusal)) ∙ alive, runs_then (Yields refusal), inr (anothers.0, anothers.1, subst (λ xs. HasGot xs anothers.0 holder (call_key call)) (sym (front w a.client (Yields refusal) there)) anothers.2))
 
     busy : GetsBusy yields a.client x.txn call refusal
     busy = record {
@@ -233,6 +248,7 @@ module _ {V : Type 0} (told : V → Option Disk) (may_leave : V → Disk → Typ
       due = fits.due;
       lives = ap (λ (m : SystemState). state_of m x.txn) (sym stood.stands.at.system) ∙ fits.lives;
       free = asked.1.free;
+      locks = still_got p q w finds (did (FindsDead refusal) (inr refl) find_right).goes.grows a.client x.txn (λ n h. ap (λ (m : SystemState). is_some (lock_of m x.txn n)) stood.stands.at.system ∙ h) fits.locks;
       may_call = λ e. asked.1;
     }
 

@@ -315,7 +315,7 @@ module _ {V : Type 0} (told : V → Option Disk) (may_leave : V → Disk → Typ
   -- of a client that differs in its points alone
   pub by_lines : m.transcript ≡ k.transcript → m.rest.now ≡ k.rest.now → StepGoes told may_leave faults precheck state m gs y v ok j hs z u → StepGoes told may_leave faults precheck state k gs y v ok j hs z u
   by_lines same rest goes s B p w a stood is fits =
-      goes s B p w a stood (record { client = is.client ∙ ap (λ t. t.client) (sym same); lines = is.lines ∙ ap (λ t. map said_of t.lines) (sym same); stands = is.stands })
+      goes s B p w a stood (record { client = is.client ∙ ap (λ t. t.client) (sym same); lines = is.lines ∙ ap (λ t. map said_of t.lines) (sym same); stands = is.stands; others = is.others })
       (subst (λ r. Fits told may_leave faults s B p w gs y v a r state) (ap (map act_of) (sym rest)) fits)
 
 -- the system refuses what takes back for a stop alone

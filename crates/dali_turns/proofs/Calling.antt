@@ -10,13 +10,14 @@ use Rattle.dali_record.specs.declared.records.Record.TheVariants.{Done}
 use Rattle.dali_region.specs.State.{RegionState}
 use Rattle.dali_att.specs.declared.state.State.TheVariants.{Live}
 use Rattle.dali_store.specs.Store.{Files as Disk}
-use Rattle.dali_system.specs.State.{SystemState, VaultState, CoreState, state_of}
+use Rattle.dali_system.specs.State.{SystemState, VaultState, CoreState, state_of, lock_of}
 use Rattle.dali_system.specs.Steps.{done_logged}
 use Rattle.dali_system.specs.Courses.{Step, Answers as AnswersStep}
 use Rattle.dali_crash.specs.Checkpoints.{Point, copies_after}
 use Rattle.dali_crash.specs.Traces.{Start, bases_of}
 use Rattle.dali_vault.specs.Vaulted.{Vaulted}
-use Rattle.dali_calls.specs.Plans.{Planned}
+use Rattle.dali_calls.specs.Plans.{Planned, goes_back}
+use Rattle.dali_calls.specs.Steps.{answer_of}
 use Rattle.dali_single.specs.Stands.{core, IsAtRest, AtPlan}
 use Rattle.dali_single.specs.Single.{MayCall}
 use Rattle.dali_stepwise.specs.Stepwise.{AnswersNow}
@@ -40,7 +41,9 @@ use Rattle.dali_turns.specs.Stood.{IsQuiet, Stood}
 use Rattle.dali_turns.specs.Within.{AreSoFar, FitsWithin, FitsCalling}
 use Rattle.dali_turns.specs.Fits.{rest_of, IsOf, Owns, Fits}
 use Rattle.dali_turns.specs.Goes.{RowsTell, Went}
+use Rattle.dali_turns.proofs.Locking.{still_got}
 use Rattle.dali_turns.proofs.Refusals.{runs_there}
+use Rattle.dali_turns.proofs.Returning.{stays_of}
 use Rattle.dali_turns.proofs.Doing.{Did, did_quietly, ended, went_by, went_silent, vault_stops}
 
 -- ---- a transaction may call, and a plan stands, by the log, the sizes and the regions
@@ -132,7 +135,7 @@ module _ {V : Type 0} (told : V → Option Disk) (may_leave : V → Disk → Typ
     move = Answers x.txn x.tries (map act_of x.commands.now) fits.deadly a.pending (length (log_of w)) fits.call given fits.more
 
     cause : HasCause (after w a.client deeds q.core) a.client move
-    cause = (works w (after w a.client deeds q.core) did_answer.goes.grows a.client x.txn fits.call a.pending fits.work, fits.spared)
+    cause = (works w (after w a.client deeds q.core) did_answer.goes.grows a.client x.txn fits.call a.pending fits.work, fits.spared, stays_of (goes_back (answer_of plan.geometry plan.call plan.stage)) x.txn a.pending fits.turned)
 
     may : MayCall q.log q.core x.txn
     may =
@@ -153,6 +156,8 @@ module _ {V : Type 0} (told : V → Option Disk) (may_leave : V → Disk → Typ
       due = ap (λ d. spares d 0) fits.nearer ∙ due_left fits.deadly (operations x.txn a.pending) fits.spared;
       lives = ap (λ (m : SystemState). state_of m x.txn) (did_answer.stood.stands.at.system ∙ logged) ∙ subst (λ (m : SystemState). state_of m x.txn ≡ Some Live) system_is (subst (λ t. state_of p.core.system t ≡ Some Live) fits.plan_is.txn fits.plan_is.rest.lives);
       free = may.free;
+      locks = still_got p q w (after w a.client deeds q.core) did_answer.goes.grows a.client x.txn
+          (λ n h. ap (λ (m : SystemState). is_some (lock_of m x.txn n)) system_is ∙ (ap (λ (m : SystemState). is_some (lock_of m x.txn n)) (sym (did_answer.stood.stands.at.system ∙ logged)) ∙ h)) fits.locks;
       may_call = λ e. may;
     }
 

@@ -9,19 +9,20 @@ use Rattle.dali_region.specs.State.{RegionState}
 use Rattle.dali_att.specs.declared.state.State.TheVariants.{Live}
 use Rattle.dali_store.specs.Store.{Files as Disk}
 use Rattle.dali_system.specs.declared.causes.Cause.{Cause}
-use Rattle.dali_system.specs.State.{SystemState, CoreState, state_in, state_of}
+use Rattle.dali_system.specs.State.{SystemState, CoreState, state_in, state_of, lock_of}
 use Rattle.dali_crash.specs.Checkpoints.{Point}
 use Rattle.dali_crash.specs.Traces.{Start}
 use Rattle.dali_vault.specs.Vaulted.{Vaulted}
 use Rattle.dali_calls.specs.declared.plan.Phase.{Phase}
 use Rattle.dali_calls.specs.declared.plan.Phase.TheVariants.{Calling as IsCalling, Refused as IsRefused}
-use Rattle.dali_calls.specs.Plans.{Planned}
+use Rattle.dali_calls.specs.Plans.{Planned, goes_back}
+use Rattle.dali_calls.specs.Steps.{answer_of}
 use Rattle.dali_stepwise.specs.Beside.{LeavesBe}
 use Rattle.dali_stepwise.proofs.Waiting.{plan_waits, call_waits, rest_waits}
 use Rattle.dali_transcripts.specs.Words.{Act, Calls}
-use Rattle.dali_transcripts.specs.World.{FindsDead, Meets, World, log_of}
+use Rattle.dali_transcripts.specs.World.{GetsLock, FindsDead, Meets, World, log_of}
 use Rattle.dali_transcripts.specs.Moves.{Receipt, Within as IsWithin, at, operations, left}
-use Rattle.dali_transcripts.specs.Causes.{IsAside, IsAsking, IsWork, IsUnanswered, IsTurnedBack, AreUnfinished, spares}
+use Rattle.dali_transcripts.specs.Causes.{IsAside, IsAsking, IsWork, IsUnanswered, IsTurnedBack, AreUnfinished, IsNoOperation, spares}
 use Rattle.dali_transcripts.specs.Laws.{receipts_from}
 use Rattle.dali_transcripts.specs.Rounds.{Standing}
 use Rattle.dali_transcripts.proofs.Lists.{all_append, all_map}
@@ -38,8 +39,11 @@ use Rattle.dali_turns.specs.Stood.{Stood}
 use Rattle.dali_turns.specs.Within.{AreSoFar, FitsWithin, IsAtCall, FitsCalling, FitsTakingBack}
 use Rattle.dali_turns.specs.Fits.{rest_of, IsOf, Owns, Fits}
 use Rattle.dali_turns.specs.Goes.{RowsTell, Went, StepGoes}
+use Rattle.dali_turns.proofs.Locking.{still_got, others_on}
 use Rattle.dali_turns.proofs.Doing.{did_went_live, still_ran, behind, so_far, went_on}
 use Rattle.dali_turns.proofs.CleanUps.{CleansUp, CleansHalf}
+use Rattle.dali_turns.proofs.Refusing.{no_operations}
+use Rattle.dali_turns.proofs.Returning.{turned_then, none_asked}
 use Rattle.dali_turns.proofs.Undoing.{undone_on}
 use Rattle.dali_turns.proofs.Cutting.{more_none, more_cut}
 use Rattle.dali_turns.proofs.Asked.{work_of}
@@ -47,6 +51,7 @@ use Rattle.dali_turns.proofs.Turned.{asides_none}
 
 -- ---- what was cleaned up is part of whatever the call did
 aside_asking : (w : World) (c t : ℕ) (call : Call) (x : Receipt) → IsAside w c t x → IsAsking w c t call x
+aside_asking w c t call (n, GetsLock u k m) h = absurd h
 aside_asking w c t call (n, FindsDead f) h = absurd h
 aside_asking w c t call x h = h
 
@@ -84,9 +89,6 @@ module _ {V : Type 0} (told : V → Option Disk) (may_leave : V → Disk → Typ
       by_stop None up h = let both : true ≡ false = sym h ∙ ap is_some up in absurd (cc)
       by_stop (Some cause) up h = ap is_some (stop_there cause up)
 
-  pub clean_of : IsOf now (behind a w cleans.deeds) k
-  clean_of = record { client = is.client; lines = is.lines; stands = so_far told may_leave faults precheck s B B p to w a state gs hs y z v v cleans.deeds k k is cleans.did }
-
   -- ---- before its lock is granted
   pub within_behind : (call : Call) (more : List Act) → rest_of k ≡ Calls call ∷ more → FitsWithin p w a (rest_of k) x → FitsWithin to now (behind a w cleans.deeds) (rest_of k) x
   within_behind call more next f = record {
@@ -103,6 +105,7 @@ module _ {V : Type 0} (told : V → Option Disk) (may_leave : V → Disk → Typ
     due = f.due;
     lives = ap state_in be.row ∙ f.lives;
     free = be.free f.free;
+    locks = still_got p to w now cleans.did.goes.grows a.client x.txn (λ n h. ap is_some (sym (be.locks n)) ∙ h) f.locks;
     may_call = λ up. call_waits p.log to.log p.core to.core x.txn be (f.may_call (ran_before up));
   }
 
@@ -131,12 +134,15 @@ module _ {V : Type 0} (told : V → Option Disk) (may_leave : V → Disk → Typ
     spot = f.spot;
     work = all_append (IsWork now a.client x.txn f.call) a.pending done (works w now cleans.did.goes.grows a.client x.txn f.call a.pending f.work)
         (all_map (IsAside now a.client x.txn) (IsWork now a.client x.txn f.call) (aside_work now a.client x.txn f.call) done cleans.aside);
+    turned = turned_then (goes_back (answer_of plan.geometry plan.call plan.stage)) x.txn a.pending done f.turned (all_map (IsAside now a.client x.txn) IsNoOperation (no_operations now a.client x.txn) done cleans.aside)
+        (none_asked now a.client x.txn f.call done (all_map (IsAside now a.client x.txn) (IsAsking now a.client x.txn f.call) (aside_asking now a.client x.txn f.call) done cleans.aside) cleans.still);
     undone = λ us. undone_on x.txn us (us ++ plan.changes) a.pending done (f.undone us) cleans.still;
     nearer = f.nearer ∙ sym (ap (left f.deadly) (none_more a.pending));
     spared = ap (spares f.deadly) (none_more a.pending) ∙ f.spared;
     placed = f.placed;
     again = f.again;
     plan_is = at_call plan f.call IsCalling f.plan_is;
+    locks = still_got p to w now cleans.did.goes.grows a.client x.txn (λ n h. ap is_some (sym (be.locks n)) ∙ h) f.locks;
   }
 
   pub back_behind : (plan : Planned) (why : Why) → FitsTakingBack p w a (rest_of k) x plan why → FitsTakingBack to now (behind a w cleans.deeds) (rest_of k) x plan why
@@ -162,10 +168,27 @@ module _ {V : Type 0} (told : V → Option Disk) (may_leave : V → Disk → Typ
     placed = f.placed;
     again = f.again;
     plan_is = at_call plan f.call IsRefused f.plan_is;
+    locks = still_got p to w now cleans.did.goes.grows a.client x.txn (λ n h. ap is_some (sym (be.locks n)) ∙ h) f.locks;
   }
 
   -- ---- the step ends there, or goes on
   module _ (lived : (n : ℕ) → state_of z n ≡ Some Live → state_of y n ≡ Some Live) where
+    clean_of : IsOf now (behind a w cleans.deeds) k
+    clean_of = record {
+      client = is.client;
+      lines = is.lines;
+      stands = so_far told may_leave faults precheck s B B p to w a state gs hs y z v v cleans.deeds k k is cleans.did;
+      others = others_on w now a (behind a w cleans.deeds) cleans.did.goes.grows y z (ap (λ (c : CoreState). c.system) stood.tells.core ∙ stood.stands.at.system) cleans.did.stood.stands.at.system refl refl
+          (λ up. ap (λ (m : SystemState). m.stop) (sym stood.stands.at.system) ∙ ran_before (ap (λ (m : SystemState). m.stop) cleans.did.stood.stands.at.system ∙ up))
+          (λ n alive. (
+            lived n alive,
+            λ key has.
+                let same : is_some (lock_of p.core.system n key) ≡ is_some (lock_of to.core.system n key) = ap is_some (sym ((cleans.leaves n (lived n alive)).locks key)) in
+                ap (λ (m : SystemState). is_some (lock_of m n key)) (sym stood.stands.at.system) ∙ (same ∙ (ap (λ (m : SystemState). is_some (lock_of m n key)) cleans.did.stood.stands.at.system ∙ has)),
+          ))
+          is.others;
+    }
+
     pub cleaned_on : (j : Client) → Stays k state j → Fits told may_leave faults s B to now hs z v (behind a w cleans.deeds) (rest_of k) state → ((n : ℕ) → x.txn ≡ n → Owns state n) → ((n : ℕ) → Owns state n → x.txn ≡ n)
         → Went told may_leave faults precheck s B p w a state gs y v true j hs z v
     cleaned_on j f fits owns only =

@@ -15,7 +15,7 @@ use Rattle.dali_crash.specs.Checkpoints.{Point}
 use Rattle.dali_crash.specs.Traces.{Start}
 use Rattle.dali_vault.specs.Vaulted.{Vaulted}
 use Rattle.dali_transcripts.specs.Words.{Act, Calls, Audits as AuditAct, Checkpoints as CheckpointAct}
-use Rattle.dali_transcripts.specs.World.{Logs, GivesBack, FindsDead, StartsCheckpoint, Meets, World}
+use Rattle.dali_transcripts.specs.World.{Logs, GivesBack, GetsLock, FindsDead, StartsCheckpoint, Meets, World}
 use Rattle.dali_transcripts.specs.Moves.{Receipt, Place, Outside as IsOutside, Within as IsWithin, Again, LeftOut as IsLeftOut, Spot, at, is_operation, operations}
 use Rattle.dali_transcripts.specs.Causes.{IsAside, AreAsking, IsWork, undos_behind, spares, IsCutAside, IsCutWork, KeepsOlder, IsUnanswered, IsTurnedBack, IsGivingWay, AreUnfinished}
 use Rattle.dali_transcripts.specs.Transcripts.{IsUnderWay}
@@ -48,6 +48,7 @@ cut_work_of w c t call x h = h
 work_aside : (w : World) (c t : ℕ) (call : Call) (x : Receipt) → IsCutAside w c t x → IsCutWork w c t call x
 work_aside w c t call (n, GivesBack u latched) h = h
 work_aside w c t call (n, Logs (Forward u b)) h = absurd h
+work_aside w c t call (n, GetsLock u k m) h = absurd h
 work_aside w c t call (n, FindsDead f) h = absurd h
 work_aside w c t call x h = h
 

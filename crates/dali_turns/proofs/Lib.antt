@@ -8,6 +8,7 @@ pub mod Over
 pub mod Beside
 pub mod Quietly
 pub mod Doing
+pub mod Locking
 pub mod Coursing
 pub mod Refusals
 pub mod Flushing
@@ -20,6 +21,7 @@ pub mod AuditSteps
 pub mod Apart
 pub mod Walking
 pub mod Operating
+pub mod Returning
 pub mod Calling
 pub mod Refusing
 pub mod Asked

@@ -22,13 +22,13 @@ use Rattle.dali_calls.specs.declared.stage.Stage.{Stage}
 use Rattle.dali_calls.specs.declared.stage.Stage.TheVariants.{Fresh, Walking, Nowhere, Somewhere, Storing, Adding, Removing, Finished}
 use Rattle.dali_att.specs.Table.{without_last}
 use Rattle.dali_store.specs.Store.{Files as Disk}
-use Rattle.dali_system.specs.State.{SystemState, VaultState, CoreState, state_of}
+use Rattle.dali_system.specs.State.{SystemState, VaultState, CoreState, state_of, lock_of}
 use Rattle.dali_crash.specs.Checkpoints.{Point}
 use Rattle.dali_crash.specs.Traces.{Start}
 use Rattle.dali_vault.specs.Vaulted.{Vaulted}
 use Rattle.dali_calls.specs.declared.plan.Phase.{Phase}
 use Rattle.dali_calls.specs.declared.plan.Phase.TheVariants.{Calling as IsCalling, Refused as IsRefused}
-use Rattle.dali_calls.specs.Plans.{Planned, IsWhole, is_back, is_back_in, plan_next, onward_next, undo_next}
+use Rattle.dali_calls.specs.Plans.{Planned, IsWhole, goes_back, is_back, is_back_in, plan_next, onward_next, undo_next}
 use Rattle.dali_single.specs.Stands.{core, IsAtRest, AtPlan}
 use Rattle.dali_stepwise.specs.Opened.{IsLogged, record_on}
 use Rattle.dali_stepwise.specs.Stepwise.{OneFurther, LeadsOnce}
@@ -46,15 +46,18 @@ use Rattle.dali_rounds.specs.Went.{Went as RoundsWent}
 use Rattle.dali_rounds.proofs.Calls.{operate_goes}
 use Rattle.dali_clients.specs.declared.line.Why.{Why}
 use Rattle.dali_clients.specs.Told.{act_of, reason_of}
+use Rattle.std.specs.FinMap.{get}
 use Rattle.dali_turns.specs.declared.client.Client.{Client}
 use Rattle.dali_turns.specs.declared.client.State.{State}
 use Rattle.dali_turns.specs.declared.client.State.TheVariants.{Calling, TakingBack}
 use Rattle.dali_turns.specs.declared.client.Transaction.{Transaction}
 use Rattle.dali_turns.specs.Calls.{less_one, deadly_behind, IsFurther}
 use Rattle.dali_turns.specs.Stood.{IsQuiet, Stood}
-use Rattle.dali_turns.specs.Within.{IsAtCall, FitsCalling, FitsTakingBack}
+use Rattle.dali_turns.specs.Within.{IsAtCall, HasTurned, FitsCalling, FitsTakingBack, AreGot}
 use Rattle.dali_turns.specs.Fits.{rest_of, IsOf, Owns, Fits}
 use Rattle.dali_turns.specs.Goes.{RowsTell, Went}
+use Rattle.dali_turns.proofs.Locking.{still_got}
+use Rattle.dali_turns.proofs.Returning.{back_answered, unanswered, turned_forward, turned_back}
 use Rattle.dali_turns.proofs.Undoing.{undone_then, undone_once}
 use Rattle.dali_turns.proofs.Doing.{Did, vault_stops, behind, went_on}
 use Rattle.dali_turns.proofs.Walking.{Led, led, did_led}
@@ -149,10 +152,11 @@ spared_one (Some d) n e not_now = lt-ltb (n + 1) d (by_size (d - n == 1) refl)
 pub record SameStates (y z : SystemState) : Type 0 where
   pub states : (t : ℕ) → state_of z t ≡ state_of y t
   pub stop : z.stop ≡ y.stop
+  pub locks : z.locks ≡ y.locks
 
 logged_states : (back : Bool) (plan : Planned) (b : Block) (y z : SystemState) (q : Planned) → IsLogged back plan b y q z → SameStates y z
-logged_states false plan b y z q h = subst (SameStates y) (sym h.0) (record { states = λ t. undone_state y.table plan.txn b b.undo t; stop = refl })
-logged_states true plan b y z q h = subst (SameStates y) (sym h.0) (record { states = λ t. kept_state y.table plan.txn without_last (λ row. refl) t; stop = refl })
+logged_states false plan b y z q h = subst (SameStates y) (sym h.0) (record { states = λ t. undone_state y.table plan.txn b b.undo t; stop = refl; locks = refl })
+logged_states true plan b y z q h = subst (SameStates y) (sym h.0) (record { states = λ t. kept_state y.table plan.txn without_last (λ row. refl) t; stop = refl; locks = refl })
 
 still_quiet : (y z : SystemState) → SameStates y z → IsQuiet y → IsQuiet z
 still_quiet y z same quiet = record {
@@ -197,6 +201,15 @@ module _ {V : Type 0} (told : V → Option Disk) (may_leave : V → Disk → Typ
   pub did_operate : Did told may_leave faults precheck s B p w a.client state gs y v (Logs R ∷ []) B walked.to hs z v
   did_operate = did_led told may_leave faults precheck plan.txn state (λ n e. owns n (sym plan_is.txn ∙ e)) s B p w a.client gs y v stood (Logs R ∷ []) (p.log ++ R ∷ []) (core hs z u) walked own_is
       rounds.0.stands.dead (rounds.0.places stood.files) (still_quiet y z same stood.quiet) (λ e. ap is_some same.stop ∙ e)
+
+  -- its locks
+  pub locks_behind : (c u : ℕ) → AreGot p w c u → AreGot walked.to (after w a.client (Logs R ∷ []) walked.to.core) c u
+  locks_behind c u got =
+      still_got p walked.to w (after w a.client (Logs R ∷ []) walked.to.core) did_operate.goes.grows c u
+      (λ n h.
+      ap (λ (m : SystemState). is_some (lock_of m u n)) stood.stands.at.system
+      ∙ (ap (λ l. is_some (get l (u, n))) (sym same.locks) ∙ (ap (λ (k : CoreState). is_some (lock_of k.system u n)) (sym walked.core_there) ∙ h)))
+      got
 
   -- the plan behind it
   pub plan_behind : IsAtCall walked.to q t call phase
@@ -245,6 +258,22 @@ module _ {V : Type 0} (told : V → Option Disk) (may_leave : V → Disk → Typ
   works_behind : AreWork here a.client x.txn fits.call (a.pending ++ (length (log_of w), Logs rec) ∷ [])
   works_behind = all_append (IsWork here a.client x.txn fits.call) a.pending ((length (log_of w), Logs rec) ∷ []) (works w here did.goes.grows a.client x.txn fits.call a.pending fits.work) (is_work (is_back plan) refl, tt)
 
+  -- it takes back where its answer does, and makes an operation where it has no answer
+  turned_behind : HasTurned (goes_back (answer_of q.geometry q.call q.stage)) x.txn (a.pending ++ (length (log_of w), Logs rec) ∷ [])
+  turned_behind = subst (λ t. HasTurned now_back x.txn (a.pending ++ (length (log_of w), Logs (record_on (is_back plan) t further.block)) ∷ [])) (sym fits.plan_is.txn) (by_back (is_back plan) refl further.logged)
+    where
+      was_back : Bool
+      was_back = goes_back (answer_of plan.geometry plan.call plan.stage)
+
+      now_back : Bool
+      now_back = goes_back (answer_of q.geometry q.call q.stage)
+
+      by_back : (b : Bool) → is_back plan ≡ b → IsLogged b plan further.block y q z → HasTurned now_back x.txn (a.pending ++ (length (log_of w), Logs (record_on b x.txn further.block)) ∷ [])
+      by_back true e logged = turned_back was_back now_back x.txn (length (log_of w)) a.pending further.block
+          (ap (λ (m : Planned). goes_back (answer_of m.geometry m.call m.stage)) logged.2 ∙ back_answered plan.phase (answer_of plan.geometry plan.call plan.stage) plan.changes fits.plan_is.phase_is e) fits.turned
+      by_back false e logged = turned_forward was_back now_back x.txn (length (log_of w)) a.pending further.block
+          (unanswered plan.geometry plan.txn plan.call plan.stage (further.block.region, further.block.op) (onward_op plan further.block.region further.block.op e fits.plan_is.phase_is further.is.of.op)) fits.turned
+
   undone_behind : (us : List Pending) → undos_behind x.txn us (a.pending ++ (length (log_of w), Logs rec) ∷ []) ≡ us ++ q.changes
   undone_behind us =
       undone_then x.txn us (us ++ plan.changes) a.pending ((length (log_of w), Logs rec) ∷ []) (fits.undone us)
@@ -287,6 +316,7 @@ module _ {V : Type 0} (told : V → Option Disk) (may_leave : V → Disk → Typ
             ∙ (ap (λ cs. at (IsWithin x'.txn x'.tries (map act_of cs) fits.deadly false) (rest_of k)) (sym f.commands)
             ∙ ap (at (IsWithin x'.txn x'.tries (map act_of x'.commands.now) fits.deadly false)) (sym same_rest))));
         work = subst (λ t. AreWork here a.client t fits.call (a.pending ++ (length (log_of w), Logs rec) ∷ [])) (sym f.txn) works_behind;
+        turned = subst (λ t. HasTurned (goes_back (answer_of q.geometry q.call q.stage)) t (a.pending ++ (length (log_of w), Logs rec) ∷ [])) (sym f.txn) turned_behind;
         undone = λ us. ap (λ t. undos_behind t us (a.pending ++ (length (log_of w), Logs rec) ∷ [])) f.txn ∙ undone_behind us;
         nearer = f.deadly ∙ (nearer_behind (is_back plan) ∙ ap (λ t. left fits.deadly (operations t (a.pending ++ (length (log_of w), Logs rec) ∷ []))) (sym f.txn));
         spared = ap (λ t. spares fits.deadly (operations t (a.pending ++ (length (log_of w), Logs rec) ∷ []))) f.txn ∙ spared_behind (is_back plan) lives;
@@ -297,6 +327,7 @@ module _ {V : Type 0} (told : V → Option Disk) (may_leave : V → Disk → Typ
           placed = subst (λ cs. IsPlaced false (map act_of cs)) (sym f.commands) fits.again.placed;
           few = omega (arith, f.tries, fits.again.few);
         };
+        locks = subst (λ t. AreGot way.to here a.client t) (sym f.txn) (locks_behind told may_leave faults precheck s B p w a gs hs y z v (Calling x plan) x.txn (λ n e. e) fits.call IsCalling plan q stood fits.plan_is further a.client x.txn fits.locks);
         plan_is = subst (λ t. IsAtCall way.to q t fits.call IsCalling) (sym f.txn) (plan_behind told may_leave faults precheck s B p w a gs hs y z v (Calling x plan) x.txn (λ n e. e) fits.call IsCalling plan q stood fits.plan_is further);
       }
 
@@ -363,5 +394,6 @@ module _ {V : Type 0} (told : V → Option Disk) (may_leave : V → Disk → Typ
         spared = fits.spared;
         placed = subst (IsPlaced true) (sym same_rest) fits.placed;
         again = fits.again;
+        locks = locks_behind told may_leave faults precheck s B p w a gs hs y z v (TakingBack x plan why) x.txn (λ n e. e) fits.call IsRefused plan q stood fits.plan_is further a.client x.txn fits.locks;
         plan_is = plan_behind told may_leave faults precheck s B p w a gs hs y z v (TakingBack x plan why) x.txn (λ n e. e) fits.call IsRefused plan q stood fits.plan_is further;
       }

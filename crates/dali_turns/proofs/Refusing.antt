@@ -17,7 +17,7 @@ use Rattle.dali_vault.specs.Vaulted.{Vaulted}
 use Rattle.dali_calls.specs.Plans.{Planned, refused, is_answered}
 use Rattle.dali_stepwise.proofs.Turning.{plan_turns}
 use Rattle.dali_transcripts.specs.Words.{Act, Calls, Why as Reason, is_stop}
-use Rattle.dali_transcripts.specs.World.{Logs, FindsDead, Meets, World, log_of}
+use Rattle.dali_transcripts.specs.World.{Logs, GetsLock, FindsDead, Meets, World, log_of}
 use Rattle.dali_transcripts.specs.Moves.{Receipt, Within as IsWithin, at, Move, IsRefusedCall, operations}
 use Rattle.dali_transcripts.specs.Causes.{IsAside, IsWork, IsTried, AreAside, AreWork, AreTried, IsNoOperation, StaysRefused, Survives, HasCause, spares}
 use Rattle.dali_transcripts.specs.Rounds.{Standing, IsPlaced}
@@ -38,6 +38,7 @@ use Rattle.dali_turns.specs.Stood.{Stood}
 use Rattle.dali_turns.specs.Within.{FitsWithin, FitsCalling, FitsTakingBack}
 use Rattle.dali_turns.specs.Fits.{rest_of, IsOf, Owns, Fits}
 use Rattle.dali_turns.specs.Goes.{RowsTell, Went}
+use Rattle.dali_turns.proofs.Locking.{still_got}
 use Rattle.dali_turns.proofs.Undoing.{undone_on}
 use Rattle.dali_turns.proofs.Refusals.{HasCauseNow, met_now, right_now}
 use Rattle.dali_turns.proofs.Doing.{Did, did_meet, behind, ended, went_on, went_by, went_silent}
@@ -47,6 +48,7 @@ use Rattle.dali_turns.proofs.Calling.{behind_one, none_so_far, due_left}
 pub tried_of : (w : World) (c t : ℕ) (call : Call) (x : Receipt) → IsWork w c t call x → IsTried w c t call x
 tried_of w c t call (n, Meets why) h = absurd h
 tried_of w c t call (n, Logs y) h = h
+tried_of w c t call (n, GetsLock u k m) h = h
 tried_of w c t call (n, FindsDead f) h = h
 tried_of w c t call x h = h
 
@@ -59,7 +61,7 @@ unrefused w c t call [] h = tt
 unrefused w c t call ((n, Meets why) ∷ xs) h = absurd h.0
 unrefused w c t call (x ∷ xs) h = unrefused w c t call xs h.1
 
-no_operations : (w : World) (c t : ℕ) (x : Receipt) → IsAside w c t x → IsNoOperation x
+pub no_operations : (w : World) (c t : ℕ) (x : Receipt) → IsAside w c t x → IsNoOperation x
 no_operations w c t (n, Logs (Forward u b)) h = absurd h
 no_operations w c t x h = tt
 
@@ -123,6 +125,7 @@ module _ {V : Type 0} (told : V → Option Disk) (may_leave : V → Disk → Typ
             rest = record { sizes = fits.plan_is.rest.sizes; whole = fits.plan_is.rest.whole; lives = fits.plan_is.rest.lives; closed = fits.plan_is.rest.closed };
             stands = plan_turns p.log p.core plan (ap is_answered fits.plan_is.phase_is) fits.plan_is.stands;
           };
+          locks = still_got p p w now did.goes.grows a.client x.txn (λ n h. h) fits.locks;
         }
 
         rows : RowsTell (Calling x plan) y j.state y
@@ -155,6 +158,7 @@ module _ {V : Type 0} (told : V → Option Disk) (may_leave : V → Disk → Typ
         due = ap (λ d. spares d 0) fits.nearer ∙ due_left fits.deadly (operations x.txn a.pending) fits.spared;
         lives = subst (λ t. state_of p.core.system t ≡ Some Live) fits.plan_is.txn fits.plan_is.rest.lives;
         free = subst (IsFree p.core) fits.plan_is.txn fits.plan_is.stands.free;
+        locks = still_got p p w now did.goes.grows a.client x.txn (λ n h. h) fits.locks;
         may_call = λ e. let none : is_some p.core.system.stop ≡ false = ap is_some e in let some : is_some p.core.system.stop ≡ true = ap (λ (m : SystemState). is_some m.stop) stood.stands.at.system ∙ stopped in let no : true ≡ false = sym some ∙ none in absurd (cc);
       }
 

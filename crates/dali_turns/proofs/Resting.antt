@@ -27,9 +27,10 @@ use Rattle.dali_turns.specs.declared.client.Transaction.{Transaction}
 use Rattle.dali_turns.specs.declared.client.State.{State}
 use Rattle.dali_turns.specs.Stood.{Stood}
 use Rattle.dali_turns.specs.Outside.{MaySay, FitsOutside, FitsLeftOut, FitsWaiting}
-use Rattle.dali_turns.specs.Within.{AreSoFar, FitsWithin, IsAtCall, FitsCalling, FitsTakingBack}
+use Rattle.dali_turns.specs.Within.{AreSoFar, AreGot, FitsWithin, IsAtCall, FitsCalling, FitsTakingBack}
 use Rattle.dali_turns.specs.Fits.{Owns}
 use Rattle.dali_turns.specs.Others.{LeavesOthers}
+use Rattle.dali_turns.proofs.Locking.{still_got}
 use Rattle.dali_turns.proofs.Rows.{had_row}
 
 module _ {V : Type 0} (told : V → Option Disk) (may_leave : V → Disk → Type 0) (faults : V → ℕ)
@@ -102,6 +103,7 @@ module _ {V : Type 0} (told : V → Option Disk) (may_leave : V → Disk → Typ
     due = k.due;
     lives = ap state_in be.row ∙ k.lives;
     free = be.free k.free;
+    locks = still_got p q w x goes.grows a.client t.txn (λ n h. ap is_some (sym (be.locks n)) ∙ h) k.locks;
     may_call = λ up. call_waits p.log q.log p.core q.core t.txn be (k.may_call (ran_before up));
   }
     where
@@ -121,6 +123,12 @@ module _ {V : Type 0} (told : V → Option Disk) (may_leave : V → Disk → Typ
       be : LeavesBe plan.txn p.log p.core q.log q.core
       be = left_be plan.txn k.rest.lives (λ owns. other (subst (Owns yours) k.txn owns))
 
+  locks_wait : (plan : Planned) (t : ℕ) (call : Call) (phase : Phase) → (Owns yours t → ⊥) → IsAtCall p plan t call phase → AreGot p w a.client t → AreGot q x a.client t
+  locks_wait plan t call phase other k got = still_got p q w x goes.grows a.client t (λ n h. ap is_some (sym (be.locks n)) ∙ h) got
+    where
+      be : LeavesBe t p.log p.core q.log q.core
+      be = left_be t (subst (λ n. state_of p.core.system n ≡ Some Live) k.txn k.rest.lives) other
+
   pub calling_waits : (rest : List Act) (t : Transaction) (plan : Planned) → (Owns yours t.txn → ⊥) → FitsCalling p w a rest t plan → FitsCalling q x a rest t plan
   calling_waits rest t plan other k = record {
     call = k.call;
@@ -129,12 +137,14 @@ module _ {V : Type 0} (told : V → Option Disk) (may_leave : V → Disk → Typ
     deadly = k.deadly;
     spot = k.spot;
     work = works w x goes.grows a.client t.txn k.call a.pending k.work;
+    turned = k.turned;
     undone = k.undone;
     nearer = k.nearer;
     spared = k.spared;
     placed = k.placed;
     again = k.again;
     plan_is = at_call_waits plan t.txn k.call IsCalling other k.plan_is;
+    locks = locks_wait plan t.txn k.call IsCalling other k.plan_is k.locks;
   }
 
   pub taking_back_waits : (rest : List Act) (t : Transaction) (plan : Planned) (why : Why) → (Owns yours t.txn → ⊥) → FitsTakingBack p w a rest t plan why → FitsTakingBack q x a rest t plan why
@@ -160,4 +170,5 @@ module _ {V : Type 0} (told : V → Option Disk) (may_leave : V → Disk → Typ
     placed = k.placed;
     again = k.again;
     plan_is = at_call_waits plan t.txn k.call IsRefused other k.plan_is;
+    locks = locks_wait plan t.txn k.call IsRefused other k.plan_is k.locks;
   }

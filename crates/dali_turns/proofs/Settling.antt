@@ -7,7 +7,7 @@ use Rattle.dali_record.specs.declared.records.Record.TheVariants.{AuditBegin}
 use Rattle.dali_region.specs.declared.Side.{Side}
 use Rattle.dali_region.specs.State.{RegionState}
 use Rattle.dali_store.specs.Store.{Files as Disk}
-use Rattle.dali_system.specs.State.{SystemState}
+use Rattle.dali_system.specs.State.{SystemState, CoreState}
 use Rattle.dali_system.specs.Steps.{taken, store_stopped, stopped_by, in_checkpoint, audit_begun}
 use Rattle.dali_system.specs.Courses.{Takes, Flushes, Faults, Stops, AuditBegins}
 use Rattle.dali_crash.specs.Checkpoints.{Does, WritesHead, HeadFails, Finishes, Point, IsPointStep}
@@ -46,6 +46,7 @@ use Rattle.dali_turns.specs.Checkpoints.{IsMaking, FitsCopying}
 use Rattle.dali_turns.specs.Fits.{rest_of, lines_of, IsOf, Fits}
 use Rattle.dali_turns.specs.Others.{ImageStays}
 use Rattle.dali_turns.specs.Goes.{Went}
+use Rattle.dali_turns.proofs.Locking.{others_on}
 use Rattle.dali_turns.proofs.Auditing.{rows_same, begun_point, begun_step, did_begin, begun_passing, numbers}
 use Rattle.dali_turns.proofs.Flushing.{has_stop}
 use Rattle.dali_turns.proofs.Beside.{step_image}
@@ -171,7 +172,12 @@ module _ {V : Type 0} (told : V → Option Disk) (may_leave : V → Disk → Typ
     }
 
     is_mid : IsOf mid (behind a w []) k
-    is_mid = record { client = is.client; lines = is.lines; stands = so_far told may_leave faults precheck s B st.batches p st.to w a state gs gs y (taken y) v u [] k j is did_settle }
+    is_mid = record {
+      client = is.client;
+      lines = is.lines;
+      stands = so_far told may_leave faults precheck s B st.batches p st.to w a state gs gs y (taken y) v u [] k j is did_settle;
+      others = others_on w mid a (behind a w []) did_settle.goes.grows y (taken y) (ap (λ (c : CoreState). c.system) stood.tells.core ∙ stood.stands.at.system) st.is.at.system refl refl (λ up. up) (λ t lives. (lives, λ n h. h)) is.others;
+    }
 
     goes_on_with : (ok : Bool) → Went told may_leave faults precheck s st.batches st.to mid (behind a w []) state gs (taken y) u ok j gs (in_checkpoint (taken y) false) u → Went told may_leave faults precheck s B p w a state gs y v ok j gs (in_checkpoint (taken y) false) u
     goes_on_with ok went = did_went told may_leave faults precheck s B st.batches p st.to w a state gs gs gs y (taken y) (in_checkpoint (taken y) false) v u u [] ok j stood (λ e. e) refl did_settle went

@@ -534,7 +534,7 @@ module _ (bases : Bases) (before : List Record) (c : ℕ) where
         (change_free t x step.1.0.0 are.0 (λ h held. hand.free r h (hold_there p.core.regions r step.1.0.0 h step.1.0.1 held))) hand.free)
         (λ next now. sided xs (after w c [] k.core) k q rest are.1 next now course (log ∙ ap (λ l. l ++ rest) (sym step.1.0.3.0)) records)
     sided (Locks u key mode ∷ xs) w p q rest are at hand (k, step, course) log records =
-        silent w p k q (Locks u key mode) xs at hand step refl (same_free t p.core k.core _ step.1.0.2.1 refl hand.free)
+        silent w p k q (Locks u key mode) xs at hand step (inl refl) (same_free t p.core k.core _ step.1.0.2.1 refl hand.free)
         (λ next now. sided xs (after w c [] k.core) k q rest are.1 next now course (log ∙ ap (λ l. l ++ rest) (sym step.1.0.2.0)) records)
     sided (Operates u b ∷ xs) w p q rest are at hand (k, step, course) log records =
         let first = first_logged p k q xs (Forward u b) rest step.1.0.3.0 course log in

@@ -9,7 +9,7 @@ use Rattle.dali_record.specs.declared.records.Call.{Call}
 use Rattle.dali_record.specs.declared.records.Record.TheVariants.{Commit, Done, AuditBegin, AuditClean, AuditFail}
 use Rattle.dali_system.specs.declared.refusals.Refusal.{Refusal}
 use Rattle.dali_transcripts.specs.Words.{Why, StoppedBy, Full, Damaged, StoreFailed, UnderWay}
-use Rattle.dali_transcripts.specs.World.{Deed, Logs, Strays, DiesOn, Claims, GivesBack, Yields, FindsDead, StartsCheckpoint, MovesAnchor, EndsCheckpoint, Meets, Happening, World, span_step, under_way}
+use Rattle.dali_transcripts.specs.World.{Deed, Logs, Strays, DiesOn, Claims, GivesBack, GetsLock, Yields, FindsDead, StartsCheckpoint, MovesAnchor, EndsCheckpoint, Meets, Happening, World, span_step, under_way}
 use Rattle.dali_transcripts.specs.Moves.{Receipt, Spot, Ending, TakenBack, LeftBehind, Move, Answers, IsRefusedCall, Dies, GivesWay, GivesUp, Commits, Aborts, IsRefusedAbort, Ends, StaysOpen, Audits, IsRefusedAudit, FailsCheckpoint, IsRefusedCheckpoint, own, to, end_own, spanned, refused_own}
 use Rattle.dali_transcripts.specs.Causes.{IsCleanUp, IsAside, AreAside, IsAsking, AreAsking, IsWork, AreWork, IsTried, AreTried, IsBehind, AreBehind, IsCutAudit, IsCutBy, HasCause}
 use Rattle.dali_transcripts.specs.Transcripts.{IsPath, own_by, owned_one, owned, count_with, deeds_of}
@@ -51,7 +51,9 @@ span_goes c d (GivesBack t latched) o b true e h is = h is
 span_goes c d (GivesBack t latched) o b false e h is = h is
 span_goes c d (Yields f) o b true e h is = h is
 span_goes c d (Yields f) o b false e h is = h is
+span_goes c d (GetsLock t k m) o b true e h is = h is
 span_goes c d (FindsDead f) o b true e h is = h is
+span_goes c d (GetsLock t k m) o b false e h is = h is
 span_goes c d (FindsDead f) o b false e h is = h is
 span_goes c d (MovesAnchor n) o b true e h is = h is
 span_goes c d (MovesAnchor n) o b false e h is = h is
@@ -96,6 +98,7 @@ module _ (w : World) (c : ℕ) where
   asides_plain t (x ∷ xs) h = plain_one x xs (aside_plain t x h.0) (asides_plain t xs h.1)
 
   pub asking_plain : (t : ℕ) (call : Call) (x : Receipt) → IsAsking w c t call x → (b : Bool) → marked b x ≡ b
+  asking_plain t call (n, GetsLock u k m) h b = refl
   asking_plain t call (n, FindsDead f) h b = refl
   asking_plain t call x h b = aside_plain t x h b
 

@@ -28,6 +28,7 @@ use Rattle.dali_turns.specs.Clients.{next_of, Passes, Stays, left_behind}
 use Rattle.dali_turns.specs.Within.{AreSoFar}
 use Rattle.dali_turns.specs.Fits.{rest_of, lines_of, IsOf, Owns, Fits}
 use Rattle.dali_turns.specs.Goes.{RowsTell, Went, StepGoes}
+use Rattle.dali_turns.proofs.Locking.{still_got}
 use Rattle.dali_turns.proofs.Here.{MayStep}
 use Rattle.dali_bytes.specs.declared.error.OutOfMemory.{OutOfMemory}
 use Rattle.dali_turns.proofs.Commands.{next_act, behind_next}
@@ -69,7 +70,7 @@ not_within command rest h a b c d = absurd h
 
 module _ {V : Type 0} (told : V → Option Disk) (may_leave : V → Disk → Type 0) (faults : V → ℕ) where
   is_told : (w : World) (a : Standing) (k j : Client) → TellsSame k j → IsOf w a k → IsOf w a j
-  is_told w a k j same is = record { client = is.client ∙ sym same.client; lines = is.lines ∙ ap (map said_of) (sym same.lines); stands = is.stands }
+  is_told w a k j same is = record { client = is.client ∙ sym same.client; lines = is.lines ∙ ap (map said_of) (sym same.lines); stands = is.stands; others = is.others }
 
   pub stepped : (precheck ok : Bool) (gs hs : List RegionState) (y z : SystemState) (v u : Vaulted V) (k j n : Client) (state : State) → k.state ≡ state → TellsSame k j → StepGoes told may_leave faults precheck state j gs y v ok n hs z u
       → StepGoes told may_leave faults precheck k.state k gs y v ok n hs z u
@@ -134,6 +135,7 @@ module _ {V : Type 0} (told : V → Option Disk) (may_leave : V → Disk → Typ
           due = spared_first count placed.0;
           lives = fits.lives;
           free = fits.free;
+          locks = still_got p p w (after w a.client [] p.core) (did_nothing told may_leave faults precheck s B p w gs y v stood a.client (Within x)).goes.grows a.client x.txn (λ n h. h) fits.locks;
           may_call = fits.may_call;
         }))
         owned

@@ -21,7 +21,7 @@ use Rattle.dali_calls.specs.Plans.{Planned, want_of, IsWhole}
 use Rattle.dali_single.specs.Single.{MayCall}
 use Rattle.dali_stepwise.proofs.Turning.{turned_ends}
 use Rattle.dali_transcripts.specs.Words.{Act, Calls, StoppedBy, is_stop}
-use Rattle.dali_transcripts.specs.World.{Logs, FindsDead, Meets, World, log_of}
+use Rattle.dali_transcripts.specs.World.{Logs, GetsLock, FindsDead, Meets, World, log_of}
 use Rattle.dali_transcripts.specs.Moves.{Receipt, Within as IsWithin, at, Move, IsRefusedCall, is_operation, operations, left}
 use Rattle.dali_transcripts.specs.Causes.{IsAside, AreAside, IsTried, AreTried, StaysRefused, HasCause, AreUnfinished, spares, undos_behind}
 use Rattle.dali_transcripts.specs.Rounds.{Standing, IsPlaced}
@@ -42,6 +42,7 @@ use Rattle.dali_turns.specs.Stood.{Stood}
 use Rattle.dali_turns.specs.Within.{FitsWithin, FitsTakingBack}
 use Rattle.dali_turns.specs.Fits.{rest_of, IsOf, Owns, Fits}
 use Rattle.dali_turns.specs.Goes.{RowsTell, Went}
+use Rattle.dali_turns.proofs.Locking.{still_got}
 use Rattle.dali_turns.proofs.Refusals.{HasCauseNow, met_now, right_now, stop_now}
 use Rattle.dali_turns.proofs.Doing.{Did, did_nothing, did_meet, ended, went_on, went_by, went_silent, vault_stops}
 use Rattle.dali_turns.proofs.Calling.{behind_one, none_so_far, due_left}
@@ -53,6 +54,7 @@ use Rattle.dali_turns.proofs.Cutting.{more_none, turned_cut}
 pub aside_tried : (w : World) (c t : ℕ) (call : Call) (x : Receipt) → IsAside w c t x → IsTried w c t call x
 aside_tried w c t call (n, Meets why) h = absurd h
 aside_tried w c t call (n, Logs (Forward u b)) h = absurd h
+aside_tried w c t call (n, GetsLock u k m) h = absurd h
 aside_tried w c t call (n, FindsDead f) h = absurd h
 aside_tried w c t call x h = h
 
@@ -144,6 +146,7 @@ module _ {V : Type 0} (told : V → Option Disk) (may_leave : V → Disk → Typ
       due = ap (λ d. spares d 0) fits.nearer ∙ due_left fits.deadly (operations x.txn fits.work) fits.spared;
       lives = lives;
       free = may.free;
+      locks = still_got p p w still did_none.goes.grows a.client x.txn (λ n h. h) fits.locks;
       may_call = λ e. may;
     }
 
@@ -195,6 +198,7 @@ module _ {V : Type 0} (told : V → Option Disk) (may_leave : V → Disk → Typ
       due = ap (λ d. spares d 0) fits.nearer ∙ due_left fits.deadly (operations x.txn fits.work) fits.spared;
       lives = lives;
       free = subst (IsFree p.core) fits.plan_is.txn fits.plan_is.stands.free;
+      locks = still_got p p w now did_stop.goes.grows a.client x.txn (λ n h. h) fits.locks;
       may_call = λ e. let some : Some stop ≡ None = sym stopped ∙ (ap (λ (m : SystemState). m.stop) (sym stood.stands.at.system) ∙ e) in absurd (cc);
     }
 

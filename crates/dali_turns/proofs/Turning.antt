@@ -10,7 +10,7 @@ use Rattle.dali_system.specs.State.{SystemState}
 use Rattle.dali_crash.specs.Checkpoints.{Point}
 use Rattle.dali_crash.specs.Traces.{Start, bases_of}
 use Rattle.dali_vault.specs.Vaulted.{Vaulted}
-use Rattle.dali_transcripts.specs.World.{Deed, Logs, Strays, DiesOn, Claims, GivesBack, Yields, FindsDead, StartsCheckpoint, MovesAnchor, EndsCheckpoint, Meets, Happening, World, record_of, logged_by, log_of, Grows}
+use Rattle.dali_transcripts.specs.World.{Deed, Logs, Strays, DiesOn, Claims, GivesBack, GetsLock, Yields, FindsDead, StartsCheckpoint, MovesAnchor, EndsCheckpoint, Meets, Happening, World, record_of, logged_by, log_of, Grows}
 use Rattle.dali_transcripts.specs.Transcripts.{count_with, owned, deeds_of, number_in, numbers_of}
 use Rattle.dali_transcripts.specs.Rounds.{Standing, by}
 use Rattle.dali_transcripts.specs.Laws.{receipts_from}
@@ -20,7 +20,7 @@ use Rattle.dali_clients.specs.Told.{said_of, act_of}
 use Rattle.dali_turns.specs.declared.client.Client.{Client}
 use Rattle.dali_turns.specs.declared.client.State.{State}
 use Rattle.dali_turns.specs.Stood.{Stood}
-use Rattle.dali_turns.specs.Fits.{rest_of, IsOf, Fits}
+use Rattle.dali_turns.specs.Fits.{rest_of, IsOf, Speaks, Fits}
 use Rattle.dali_turns.specs.Goes.{Came, RowsTell, Went, StepGoes}
 use Rattle.dali_turns.specs.Turns.{own_numbers, AreReceipts, TurnGoes}
 use Rattle.dali_turns.proofs.Refusals.{records_are}
@@ -37,6 +37,7 @@ one_counts m xs x c = ap (λ l. m + length l) (filter_map-append record_of xs ((
     by_deed n (Claims u) = omega arith
     by_deed n (GivesBack u latched) = omega arith
     by_deed n (Yields f) = omega arith
+    by_deed n (GetsLock t k j) = omega arith
     by_deed n (FindsDead f) = omega arith
     by_deed n StartsCheckpoint = omega arith
     by_deed n (MovesAnchor k) = omega arith
@@ -74,6 +75,7 @@ numbers_from n c (DiesOn t r ∷ ds) = numbers_from n c ds
 numbers_from n c (Claims u ∷ ds) = numbers_from n c ds
 numbers_from n c (GivesBack u latched ∷ ds) = numbers_from n c ds
 numbers_from n c (Yields f ∷ ds) = numbers_from n c ds
+numbers_from n c (GetsLock t k m ∷ ds) = numbers_from n c ds
 numbers_from n c (FindsDead f ∷ ds) = numbers_from n c ds
 numbers_from n c (StartsCheckpoint ∷ ds) = numbers_from n c ds
 numbers_from n c (MovesAnchor k ∷ ds) = numbers_from n c ds
@@ -102,7 +104,10 @@ pub record LooksSame (k j : Client) : Type 0 where
 
 module _ {V : Type 0} (told : V → Option Disk) (may_leave : V → Disk → Type 0) (faults : V → ℕ) where
   is_same : (w : World) (a : Standing) (k j : Client) → LooksSame k j → IsOf w a k → IsOf w a j
-  is_same w a k j same is = record { client = is.client ∙ sym same.client; lines = is.lines ∙ ap (map said_of) (sym same.lines); stands = is.stands }
+  is_same w a k j same is = record { client = is.client ∙ sym same.client; lines = is.lines ∙ ap (map said_of) (sym same.lines); stands = is.stands; others = is.others }
+
+  speaks_same : (w : World) (a : Standing) (k j : Client) → LooksSame k j → Speaks w a k → Speaks w a j
+  speaks_same w a k j same is = record { client = is.client ∙ sym same.client; lines = is.lines ∙ ap (map said_of) (sym same.lines); stands = is.stands }
 
   pub fits_same : (s : Start) (B : List (List Record)) (p : Point) (w : World) (gs : List RegionState) (y : SystemState) (v : Vaulted V) (a : Standing) (k j : Client) → LooksSame k j
       → Fits told may_leave faults s B p w gs y v a (rest_of k) k.state → Fits told may_leave faults s B p w gs y v a (rest_of j) j.state
@@ -159,7 +164,7 @@ module _ {V : Type 0} (told : V → Option Disk) (may_leave : V → Disk → Typ
         standing = went.standing;
         client = went.client;
         acts = went.acts;
-        is = is_same went.world went.standing behind j also went.is;
+        is = speaks_same went.world went.standing behind j also went.is;
         came = came_same cut s went.batches went.to went.world hs z u went.standing behind j also (came_cut ok cut s went.batches went.to went.world hs z u went.standing behind less went.came);
         rows = λ e. subst (λ (st : State). RowsTell k.state y st z) (sym also.state) (went.rows (less e));
         others = went.others;

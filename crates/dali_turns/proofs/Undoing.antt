@@ -16,7 +16,7 @@ use Rattle.dali_calls.specs.Plans.{Planned, plan_next, is_back, undo_next}
 use Rattle.dali_calls.proofs.Wholes.{back_next}
 use Rattle.dali_calls.proofs.Following.{drop_append}
 use Rattle.dali_stepwise.specs.Opened.{IsLogged, record_on}
-use Rattle.dali_transcripts.specs.World.{Deed, Logs, Strays, DiesOn, Claims, GivesBack, Yields, FindsDead, StartsCheckpoint, MovesAnchor, EndsCheckpoint, Meets, logged_by}
+use Rattle.dali_transcripts.specs.World.{Deed, Logs, Strays, DiesOn, Claims, GivesBack, GetsLock, Yields, FindsDead, StartsCheckpoint, MovesAnchor, EndsCheckpoint, Meets, logged_by}
 use Rattle.dali_transcripts.specs.Moves.{Receipt}
 use Rattle.dali_transcripts.specs.Causes.{undos_by, undos_behind}
 use Rattle.dali_transcripts.specs.Laws.{receipts_from}
@@ -44,6 +44,7 @@ undone_by_log t c n us (DiesOn u r ∷ ds) = undone_by_log t c n us ds
 undone_by_log t c n us (Claims u ∷ ds) = undone_by_log t c n us ds
 undone_by_log t c n us (GivesBack u o ∷ ds) = undone_by_log t c n us ds
 undone_by_log t c n us (Yields f ∷ ds) = undone_by_log t c n us ds
+undone_by_log t c n us (GetsLock u k m ∷ ds) = undone_by_log t c n us ds
 undone_by_log t c n us (FindsDead f ∷ ds) = undone_by_log t c n us ds
 undone_by_log t c n us (StartsCheckpoint ∷ ds) = undone_by_log t c n us ds
 undone_by_log t c n us (MovesAnchor m ∷ ds) = undone_by_log t c n us ds

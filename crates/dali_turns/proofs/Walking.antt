@@ -1,5 +1,5 @@
 -- Steps of a transaction's own that call no store, in the midst of a step of its client, and the deeds that tell them: those of the records that they log.
-use Rattle.std.proofs.Common.{◌≡◌, ℕ, ◌+◌, Bool, true, false, not, List, [], ◌∷◌, ◌++◌, map, Option, Some, None, IfSome, is_some, refl, ap, sym, subst, ◌∙◌}
+use Rattle.std.proofs.Common.{◌≡◌, ℕ, ◌+◌, Bool, true, false, not, List, [], ◌∷◌, ◌++◌, map, Option, Some, None, IfSome, is_some, refl, ap, sym, subst, ◌∙◌, inl}
 use Rattle.std.specs.Prelude.{◌==◌, ◌&&◌, IsSomeAnd, slice_get}
 use Rattle.std.specs.List.{list_all}
 use Rattle.std.proofs.lemmas.List.{append-nil, append_assoc, map-append}
@@ -108,7 +108,7 @@ own_told : (precheck : Bool) (t : ℕ) (x : Step) (w : World) (c : ℕ) (p : Poi
 own_told precheck t (Operates u b) w c p same own e = (refl, λ on. own.1 (sym same ∙ on))
 own_told precheck t (TakesBack u b) w c p same own e = refl
 own_told precheck t (Frees u b) w c p same own e = refl
-own_told precheck t (Locks u k m) w c p same own e = refl
+own_told precheck t (Locks u k m) w c p same own e = inl refl
 own_told precheck t (OnRegion r x) w c p same own e = on_told t r x w c p own
 own_told precheck t (Answers u k a) w c p same own e = absurd (cc)
 own_told precheck t (Commits u) w c p same own e = absurd (cc)

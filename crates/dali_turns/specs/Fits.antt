@@ -1,20 +1,25 @@
 -- How a client fits the world, by where it stands.
 --     rest_of k, lines_of k    its commands that are left, and its lines, in words of transcripts
---     IsOf w a k               this standing of the world is the client's
+--     Speaks w a k             this standing of the world is the client's
+--     InTxn place t            a client that stands there is in the transaction t
+--     OthersGot w a            while the engine runs, the locks of each other transaction that is live were granted to another client
+--     IsOf w a k               the client's standing, before a step of it
 --     Fits s B p w gs y v a rest state     and it stands so
 --     Owns state t             the transaction t is its open one
 --     Audits state b           it is in the audit that began at record b
 --     Makes state              it makes a checkpoint
-use Rattle.std.specs.Prelude.{◌≡◌, ℕ, List, Option, map}
+use Rattle.std.specs.Prelude.{◌≡◌, ◌⊎◌, ℕ, ◌==◌, false, List, Option, Some, None, IsSome, map}
 use Rattle.dali_record.specs.declared.records.Record.{Record}
 use Rattle.dali_region.specs.State.{RegionState}
 use Rattle.dali_store.specs.Store.{Files as Disk}
-use Rattle.dali_system.specs.State.{SystemState}
+use Rattle.dali_att.specs.declared.state.State.TheVariants.{Live}
+use Rattle.dali_system.specs.State.{SystemState, state_of, lock_of}
 use Rattle.dali_crash.specs.Checkpoints.{Point}
 use Rattle.dali_crash.specs.Traces.{Start}
 use Rattle.dali_vault.specs.Vaulted.{Vaulted}
 use Rattle.dali_transcripts.specs.Words.{Act, Said}
-use Rattle.dali_transcripts.specs.World.{World}
+use Rattle.dali_transcripts.specs.World.{World, HasGot}
+use Rattle.dali_transcripts.specs.Moves.{Place, Within as IsWithin}
 use Rattle.dali_transcripts.specs.Rounds.{Standing, Stands}
 use Rattle.dali_clients.specs.Told.{act_of, said_of}
 use Rattle.dali_turns.specs.declared.client.Client.{Client}
@@ -31,10 +36,25 @@ rest_of k = map act_of k.rest.now
 abbrev pub lines_of : Client → List Said
 lines_of k = map said_of k.transcript.lines
 
+pub record Speaks (w : World) (a : Standing) (k : Client) : Type 0 where
+  pub client : a.client ≡ k.transcript.client
+  pub lines : a.lines ≡ lines_of k
+  pub stands : Stands w a
+
+abbrev pub InTxn : Place → ℕ → Type 0
+InTxn (IsWithin t tries cs d s) u = t ≡ u
+InTxn place u = ⊥
+
+abbrev pub OthersGot : World → Standing → Type 0
+OthersGot w a =
+    w.core.system.stop ≡ None → (t k : ℕ) → state_of w.core.system t ≡ Some Live → IsSome (lock_of w.core.system t k)
+    → InTxn a.spot.place t ⊎ ((d : ℕ) × ((d == a.client) ≡ false) × HasGot w.happened d t k)
+
 pub record IsOf (w : World) (a : Standing) (k : Client) : Type 0 where
   pub client : a.client ≡ k.transcript.client
   pub lines : a.lines ≡ lines_of k
   pub stands : Stands w a
+  pub others : OthersGot w a
 
 abbrev pub Owns : State → ℕ → Type 0
 Owns (Within x) t = x.txn ≡ t

@@ -23,7 +23,7 @@ use Rattle.dali_turns.specs.declared.client.State.TheVariants.{Within}
 use Rattle.dali_turns.specs.declared.client.Transaction.{Transaction}
 use Rattle.dali_turns.specs.Stood.{Stood}
 use Rattle.dali_turns.specs.Within.{FitsYielding}
-use Rattle.dali_turns.specs.Fits.{rest_of, IsOf, Owns, Fits}
+use Rattle.dali_turns.specs.Fits.{rest_of, Speaks, IsOf, Owns, Fits}
 use Rattle.dali_turns.specs.Others.{LeavesOthers}
 
 abbrev pub RowsTell : State → SystemState → State → SystemState → Type 0
@@ -47,7 +47,7 @@ module _ {V : Type 0} (told : V → Option Disk) (may_leave : V → Disk → Typ
     pub standing : Standing
     pub client : standing.client ≡ a.client
     pub acts : standing.acts ≡ a.acts
-    pub is : IsOf world standing k
+    pub is : Speaks world standing k
     pub came : Came ok s batches to world hs z u standing k
     pub rows : ok ≡ true → RowsTell state y k.state z
     pub others : LeavesOthers told may_leave faults state s B p gs y v batches to hs z u

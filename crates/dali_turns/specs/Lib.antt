@@ -12,5 +12,6 @@ pub mod Goes
 pub mod Calls
 pub mod Ends
 pub mod Turns
+pub mod Past
 pub mod Places
 pub mod Waits

@@ -2,26 +2,31 @@
 --     IsTry t tries begun      a transaction that was tried so often, and is tried again with these acts
 --     FitsWithin x             it is in the transaction x, and in no operation
 --     IsAtCall plan t call     the plan of its call stands there
+--     AreGot p w c t           each lock that t has was granted to the client c, in this round
+--     TookNothing t xs         it took nothing of t back
+--     HasTurned back t pending it took nothing back of its call; or its answer takes back, and since then it made no operation
 --     FitsCalling x plan       its call has its lock
 --     FitsTakingBack x plan why    its call is refused, and is taken back
 --     FitsYielding x holder    an older transaction holds the key of its call
-use Rattle.std.specs.Prelude.{◌≡◌, ℕ, ◌<◌, Bool, true, false, List, [], ◌∷◌, ◌++◌, Option, Some, None, map}
+use Rattle.std.specs.Prelude.{◌≡◌, ℕ, ◌<◌, Bool, true, false, List, [], ◌∷◌, ◌++◌, Option, Some, None, IsSome, map}
+use Rattle.std.specs.List.{AllByRecursion}
 use Rattle.dali_record.specs.declared.operations.Pending.{Pending}
 use Rattle.dali_record.specs.declared.records.Call.{Call}
 use Rattle.dali_att.specs.declared.state.State.TheVariants.{Live}
 use Rattle.dali_system.specs.declared.refusals.Refusal.{Refusal}
-use Rattle.dali_system.specs.State.{state_of}
+use Rattle.dali_system.specs.State.{state_of, lock_of}
 use Rattle.dali_system.specs.Keeps.{IsFree}
 use Rattle.dali_crash.specs.Checkpoints.{Point}
 use Rattle.dali_calls.specs.declared.plan.Phase.{Phase}
 use Rattle.dali_calls.specs.declared.plan.Phase.TheVariants.{Calling as IsCalling, Refused as IsRefused}
-use Rattle.dali_calls.specs.Plans.{Planned}
+use Rattle.dali_calls.specs.Plans.{Planned, goes_back}
+use Rattle.dali_calls.specs.Steps.{answer_of}
 use Rattle.dali_single.specs.Stands.{IsAtRest, AtPlan}
 use Rattle.dali_single.specs.Single.{MayCall}
 use Rattle.dali_transcripts.specs.Words.{Act, Begins, Calls, is_stop}
-use Rattle.dali_transcripts.specs.World.{World, Meets, Yields}
+use Rattle.dali_transcripts.specs.World.{World, Meets, Yields, HasGot}
 use Rattle.dali_transcripts.specs.Moves.{Receipt, Within, at, operations, left}
-use Rattle.dali_transcripts.specs.Causes.{AreAsking, AreAside, AreWork, AreTried, MetCause, GetsBusy, Survives, spares, undos_behind, StaysRefused}
+use Rattle.dali_transcripts.specs.Causes.{AreAsking, AreAside, AreWork, AreTried, MetCause, GetsBusy, Survives, spares, undos_behind, StaysRefused, is_taking_back, StaysBack}
 use Rattle.dali_transcripts.specs.Rounds.{Standing, IsPlaced}
 use Rattle.dali_clients.specs.declared.line.Why.{Why}
 use Rattle.dali_clients.specs.Told.{act_of, reason_of}
@@ -40,6 +45,9 @@ abbrev pub AreSoFar : World → (client txn : ℕ) → List Act → List Receipt
 AreSoFar w c t (Calls call ∷ rest) pending = AreAsking w c t call pending
 AreSoFar w c t rest pending = pending ≡ []
 
+abbrev pub AreGot : Point → World → (client txn : ℕ) → Type 0
+AreGot p w c t = (k : ℕ) → IsSome (lock_of p.core.system t k) → HasGot w.happened c t k
+
 pub record FitsWithin (p : Point) (w : World) (a : Standing) (rest : List Act) (x : Transaction) : Type 0 where
   pub said : Bool
   pub may : MaySay p.core.system said
@@ -53,6 +61,7 @@ pub record FitsWithin (p : Point) (w : World) (a : Standing) (rest : List Act) (
   pub due : spares x.deadly 0 ≡ true
   pub lives : state_of p.core.system x.txn ≡ Some Live
   pub free : IsFree p.core x.txn
+  pub locks : AreGot p w a.client x.txn
   -- a call that met a stop may have left it in its midst
   pub may_call : p.core.system.stop ≡ None → MayCall p.log p.core x.txn
 
@@ -63,6 +72,14 @@ pub record IsAtCall (p : Point) (plan : Planned) (t : ℕ) (call : Call) (phase 
   pub rest : IsAtRest p.core.regions p.core.system plan
   pub stands : AtPlan p.log p.core plan
 
+abbrev pub TookNothing : (txn : ℕ) → List Receipt → Type 0
+TookNothing t xs = AllByRecursion (λ x. is_taking_back t x ≡ false) xs
+
+-- what it has done of a call: it took nothing back, or the answer that it comes to does, and behind that it made no operation
+abbrev pub HasTurned : (back : Bool) → (txn : ℕ) → List Receipt → Type 0
+HasTurned false t pending = TookNothing t pending
+HasTurned true t pending = StaysBack t pending
+
 pub record FitsCalling (p : Point) (w : World) (a : Standing) (rest : List Act) (x : Transaction) (plan : Planned) : Type 0 where
   pub call : Call
   pub more : List Act
@@ -71,6 +88,7 @@ pub record FitsCalling (p : Point) (w : World) (a : Standing) (rest : List Act) 
   pub deadly : Option ℕ
   pub spot : a.spot ≡ at (Within x.txn x.tries (map act_of x.commands.now) deadly false) rest
   pub work : AreWork w a.client x.txn call a.pending
+  pub turned : HasTurned (goes_back (answer_of plan.geometry plan.call plan.stage)) x.txn a.pending
   -- what is to be taken back of it is what the plan has noted
   pub undone : (us : List Pending) → undos_behind x.txn us a.pending ≡ us ++ plan.changes
   pub nearer : x.deadly ≡ left deadly (operations x.txn a.pending)
@@ -78,6 +96,7 @@ pub record FitsCalling (p : Point) (w : World) (a : Standing) (rest : List Act) 
   pub placed : IsPlaced true rest
   pub again : IsTry x
   pub plan_is : IsAtCall p plan x.txn call IsCalling
+  pub locks : AreGot p w a.client x.txn
 
 pub record FitsTakingBack (p : Point) (w : World) (a : Standing) (rest : List Act) (x : Transaction) (plan : Planned) (why : Why) : Type 0 where
   pub call : Call
@@ -102,6 +121,7 @@ pub record FitsTakingBack (p : Point) (w : World) (a : Standing) (rest : List Ac
   pub placed : IsPlaced true rest
   pub again : IsTry x
   pub plan_is : IsAtCall p plan x.txn call IsRefused
+  pub locks : AreGot p w a.client x.txn
 
 -- in the midst of a step: the request was refused
 pub record FitsYielding (p : Point) (w : World) (a : Standing) (rest : List Act) (x : Transaction) (holder : ℕ) : Type 0 where

@@ -4,9 +4,9 @@ ghost use Rattle.dali_clients.specs.Said.{silent};
 ghost use Rattle.dali_turns.specs.declared.client.State.TheVariants.{Outside as IsOutside, Within as IsWithin};
 ghost use Rattle.dali_turns.specs.Clients.{Passes, Finishes, RefusesCall, is_over};
 
+use crate::plan::BoxedPlan;
 use dali_audit::Audit;
 use dali_bytes::OutOfMemory;
-use dali_calls::Plan;
 use dali_checkpoint::Checkpoint;
 use dali_clients::{Block, Command, Line, Transcript, Why};
 use std::alloc::Global;
@@ -37,12 +37,12 @@ pub(crate) enum State<'a> {
     /// The lock of the call is granted; its operations are made.
     Calling {
         transaction: Transaction<'a>,
-        plan: Plan,
+        plan: BoxedPlan,
     },
     /// The call is refused; its changes are taken back.
     TakingBack {
         transaction: Transaction<'a>,
-        plan: Plan,
+        plan: BoxedPlan,
         why: Why,
     },
     /// So many tries got Busy, and the last one's transaction is taken back: the next one begins when this holder has

@@ -7,6 +7,7 @@
 
 mod client;
 pub mod laws;
+mod plan;
 mod run;
 mod steps;
 mod why;

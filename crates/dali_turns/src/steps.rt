@@ -7,9 +7,10 @@ mod cleaning;
 mod outside;
 mod transactions;
 
-ghost use Rattle.std.specs.Prelude.{◌≡◌, ◌==◌, false, true, Ok, is_ok, length};
+ghost use Rattle.std.specs.Prelude.{◌≡◌, ◌==◌, Bool, false, true, None, IfSome, Ok, IfOk, is_ok, length};
 ghost use Rattle.dali_turns.specs.declared.client.State.TheVariants.{Outside as IsOutside, Within as IsWithin};
 ghost use Rattle.dali_turns.specs.Clients.{is_over};
+ghost use Rattle.dali_turns.specs.Past.{IsPast};
 ghost use Rattle.dali_turns.specs.Goes.{StepGoes};
 ghost use Rattle.dali_turns.specs.Turns.{TurnGoes};
 ghost use Rattle.dali_turns.specs.Places.{HasPlaces, PlacesGo};
@@ -65,13 +66,52 @@ pub fn turn<V: Store, G: Gate>(
     stepped
 }
 
-// The step of a client by where it stands.
+// The step of a client by where it stands. One that only goes to the next region is made where the state stands.
 fn step<V: Store, G: Gate>(
     client: &mut Client<'_>,
     core: &mut Core<V>,
     setting: &Setting<'_, G>,
 ) -> Result<bool, OutOfMemory>
     requires { HasPlaces V.told client.old.state core.old.regions.items core.old.vault }
+    ensures goes { StepGoes V.told V.may_leave V.faults setting.now.precheck client.old.state client.old core.old.regions.items core.old.system.state core.old.vault (is_ok result) client.new core.new.regions.items core.new.system.state core.new.vault }
+    ensures places { PlacesGo V.told client.old.state core.old.regions.items core.old.vault client.new.state core.new.regions.items core.new.vault }
+    ensures idle { result ≡ Ok false → StaysPut core.old.system.state client.old.state client.old client.new × (core.new ≡ core.old) }
+    ensures over { is_over client.old.state (length client.old.rest.now == 0) ≡ true → result ≡ Ok false }
+{
+    match next_region(client, core) {
+        Some(stepped) => stepped,
+        None => step_on(client, core, setting),
+    }
+}
+
+// The next region of an audit or a checkpoint, where the client is in one.
+fn next_region<V: Store>(
+    client: &mut Client<'_>,
+    core: &mut Core<V>,
+) -> Option<Result<bool, OutOfMemory>>
+    requires { HasPlaces V.told client.old.state core.old.regions.items core.old.vault }
+    ensures goes { IfSome result (λ stepped. (precheck : Bool) → StepGoes V.told V.may_leave V.faults precheck client.old.state client.old core.old.regions.items core.old.system.state core.old.vault (is_ok stepped) client.new core.new.regions.items core.new.system.state core.new.vault) }
+    ensures places { IfSome result (λ stepped. PlacesGo V.told client.old.state core.old.regions.items core.old.vault client.new.state core.new.regions.items core.new.vault) }
+    ensures on { IfSome result (λ stepped. IfOk stepped (λ went. went ≡ true)) }
+    ensures busy { IfSome result (λ stepped. (none : Bool) → is_over client.old.state none ≡ false) }
+    ensures past { result ≡ None → (client.new ≡ client.old) × (core.new ≡ core.old) × IsPast client.old.state core.old.regions.items core.old.system.state }
+{
+    match client.state {
+        State::Auditing { .. } => audits::audit_next(client, core),
+        State::Copying { .. } => checkpoints::copy_next(client, core),
+        State::Certifying { .. } => checkpoints::certify_next(client, core),
+        _ => None,
+    }
+}
+
+// The step of a client that goes to no next region.
+fn step_on<V: Store, G: Gate>(
+    client: &mut Client<'_>,
+    core: &mut Core<V>,
+    setting: &Setting<'_, G>,
+) -> Result<bool, OutOfMemory>
+    requires places { HasPlaces V.told client.old.state core.old.regions.items core.old.vault }
+    requires past { IsPast client.old.state core.old.regions.items core.old.system.state }
     ensures goes { StepGoes V.told V.may_leave V.faults setting.now.precheck client.old.state client.old core.old.regions.items core.old.system.state core.old.vault (is_ok result) client.new core.new.regions.items core.new.system.state core.new.vault }
     ensures places { PlacesGo V.told client.old.state core.old.regions.items core.old.vault client.new.state core.new.regions.items core.new.vault }
     ensures idle { result ≡ Ok false → StaysPut core.old.system.state client.old.state client.old client.new × (core.new ≡ core.old) }
@@ -90,7 +130,7 @@ fn step<V: Store, G: Gate>(
             why,
         } => calls::take_back(client, transaction, plan, why, core, setting),
         State::Waiting { tries, holder } => outside::wait(client, tries, holder, core),
-        State::Auditing { audit, next } => audits::audit(client, audit, next, setting.alloc, core),
+        State::Auditing { audit, next } => audits::end(client, audit, next, setting.alloc, core),
         State::Copying { checkpoint, next } => {
             checkpoints::copy(client, checkpoint, next, setting.alloc, core)
         }
@@ -98,7 +138,7 @@ fn step<V: Store, G: Gate>(
             checkpoint,
             audit,
             next,
-        } => checkpoints::certify(client, checkpoint, audit, next, setting.alloc, core),
+        } => checkpoints::finish_audit(client, checkpoint, audit, next, setting.alloc, core),
         State::Gone => {
             client.state = State::Gone;
             Ok(false)
@@ -146,7 +186,7 @@ fn within<'a, V: Store, G: Gate>(
     match client.command() {
         None => transactions::end(client, transaction, core),
         Some(command) => match command {
-            Command::Call { call } => calls::ask(client, transaction, call, core),
+            Command::Call { call } => calls::ask(client, transaction, call, setting.alloc, core),
             Command::Die { operation } => {
                 client.pass_command();
                 client.state = State::Within {

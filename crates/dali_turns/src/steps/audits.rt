@@ -1,10 +1,11 @@
 //! The steps of an audit.
-ghost use Rattle.std.specs.Prelude.{◌≡◌, ◌<◌, ◌≤◌, ◌^◌, Bool, true, Some, None, Err, is_ok, IfOk, IfErr, IfSome, OnOk, OnErr, length, replicate};
+ghost use Rattle.std.specs.Prelude.{◌≡◌, ℕ, ◌<◌, ◌≤◌, ◌^◌, Bool, true, Some, None, Err, is_ok, IfOk, IfErr, IfSome, OnOk, OnErr, length, replicate};
 ghost use Rattle.dali_geometry.specs.Places.{regions as regions_of};
 ghost use Rattle.dali_record.specs.declared.records.Record.TheVariants.{AuditBegin};
 ghost use Rattle.dali_system.specs.Steps.{audit_begun};
 ghost use Rattle.dali_core.specs.declared.error.SystemError.TheVariants.{OutOfMemory as Memory};
 ghost use Rattle.dali_core.specs.Audits.{audit_refusal};
+ghost use Rattle.dali_audit.specs.Findings.{Audited};
 ghost use Rattle.dali_audit.specs.declared.audit.Finding.TheVariants.{Waiting};
 ghost use Rattle.dali_clients.specs.declared.command.Command.TheVariants.{Audit as IsAudit};
 ghost use Rattle.dali_clients.specs.declared.line.Line.TheVariants.{Refused as IsRefused};
@@ -83,36 +84,32 @@ pub(crate) fn start<V: Store>(
     }
 }
 
-/// Passes the next region, or ends the audit where each was passed.
-pub(crate) fn audit<V: Store>(
+/// Passes the next region of an audit, whose state stays where it is. None where the client is in no audit, or has passed each.
+pub(crate) fn audit_next<V: Store>(
     client: &mut Client<'_>,
-    audit: Audit,
-    next: u32,
-    alloc: Global,
     core: &mut Core<V>,
-) -> Result<bool, OutOfMemory>
-    requires stands { client.old.state ≡ IsOutside }
-    ensures goes { (precheck : Bool) → StepGoes V.told V.may_leave V.faults precheck (IsAuditing audit next) client.old core.old.regions.items core.old.system.state core.old.vault (is_ok result) client.new core.new.regions.items core.new.system.state core.new.vault }
-    ensures places { PlacesGo V.told (IsAuditing audit next) core.old.regions.items core.old.vault client.new.state core.new.regions.items core.new.vault }
-    ensures on { IfOk result (λ went. went ≡ true) }
+) -> Option<Result<bool, OutOfMemory>>
+    ensures goes { IfSome result (λ stepped. (precheck : Bool) → StepGoes V.told V.may_leave V.faults precheck client.old.state client.old core.old.regions.items core.old.system.state core.old.vault (is_ok stepped) client.new core.new.regions.items core.new.system.state core.new.vault) }
+    ensures places { IfSome result (λ stepped. PlacesGo V.told client.old.state core.old.regions.items core.old.vault client.new.state core.new.regions.items core.new.vault) }
+    ensures on { IfSome result (λ stepped. IfOk stepped (λ went. went ≡ true)) }
+    ensures past { result ≡ None → (client.new ≡ client.old) × (core.new ≡ core.old) × ((audit : Audited) (next : ℕ) → client.old.state ≡ IsAuditing audit next → length core.old.regions.items ≤ next) }
 {
-    let mut audit = audit;
-    if (next as usize) < core.regions.len() {
-        if !audit.waits(next) {
-            return no_run();
-        }
-        audit.pass(next, &mut core.regions[next as usize]);
-        client.state = State::Auditing {
-            audit,
-            next: next + 1,
-        };
-        return Ok(true);
+    let State::Auditing { audit, next } = &mut client.state else {
+        return None;
+    };
+    if (*next as usize) >= core.regions.len() {
+        return None;
     }
-    end(client, audit, next, alloc, core)
+    if !audit.waits(*next) {
+        return Some(no_run());
+    }
+    audit.pass(*next, &mut core.regions[*next as usize]);
+    *next += 1;
+    Some(Ok(true))
 }
 
-// Logs what the audit found, and flushes it.
-fn end<V: Store>(
+/// Logs what the audit found, and flushes it.
+pub(crate) fn end<V: Store>(
     client: &mut Client<'_>,
     audit: Audit,
     next: u32,

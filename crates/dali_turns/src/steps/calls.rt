@@ -23,6 +23,7 @@ ghost use Rattle.dali_turns.specs.Goes.{StepGoes};
 ghost use Rattle.dali_turns.specs.Places.{PlacesGo};
 
 use crate::client::{Client, State, Transaction};
+use crate::plan::BoxedPlan;
 use crate::run::no_run;
 use crate::steps::{Setting, clean_up, transactions};
 use crate::why::why_of;
@@ -38,12 +39,15 @@ use dali_single::StepError;
 use dali_stepwise::Gate;
 use dali_store::Store;
 use dali_whole::Core;
+use std::alloc::Global;
 
-/// Asks for the lock of the call. Where a dead transaction holds it, that one is cleaned up, and the call asks again.
+/// Asks for the lock of the call, once there is room for its plan. Where a dead transaction holds it, that one is cleaned
+/// up, and the call asks again.
 pub(crate) fn ask<'a, V: Store>(
     client: &mut Client<'a>,
     transaction: Transaction<'a>,
     call: Call,
+    alloc: Global,
     core: &mut Core<V>,
 ) -> Result<bool, OutOfMemory>
     requires stands { client.old.state ≡ IsOutside }
@@ -52,8 +56,9 @@ pub(crate) fn ask<'a, V: Store>(
     ensures places { PlacesGo V.told (IsWithin transaction.entry) core.old.regions.items core.old.vault client.new.state core.new.regions.items core.new.vault }
     ensures waits { IfOk result (λ went. went ≡ false → Stays client.old (IsWithin transaction.entry) client.new × (core.new ≡ core.old) × (core.old.system.state.stop ≡ None) × MustWait core.old.system.state transaction.entry.txn call) }
 {
-    let plan = Plan::new(core.system.geometry(), transaction.txn, call);
-    match dali_stepwise::ask(&plan, &mut core.system, transaction.txn) {
+    let fresh = Plan::new(core.system.geometry(), transaction.txn, call);
+    let plan = BoxedPlan::new(alloc, fresh)?;
+    match dali_stepwise::ask(plan.get(), &mut core.system, transaction.txn) {
         Ok(answer) => match answer {
             LockAnswer::Granted => {
                 client.state = State::Calling { transaction, plan };
@@ -150,7 +155,7 @@ fn is_called(client: &Client<'_>) -> bool
 pub(crate) fn call<'a, V: Store, G: Gate>(
     client: &mut Client<'a>,
     transaction: Transaction<'a>,
-    plan: Plan,
+    plan: BoxedPlan,
     core: &mut Core<V>,
     setting: &Setting<'_, G>,
 ) -> Result<bool, OutOfMemory>
@@ -162,12 +167,13 @@ pub(crate) fn call<'a, V: Store, G: Gate>(
     let Some(call) = called(client) else {
         return no_run(); // a call is under way
     };
-    if !is_at_rest(core, &plan) {
+    let held = plan.get();
+    if !is_at_rest(core, held) {
         return no_run();
     }
-    match plan.wants() {
+    match held.wants() {
         Want::Region { region } => {
-            let onward = !plan.is_back();
+            let onward = !held.is_back();
             if onward && transaction.deadly == Some(1) {
                 return die(client, transaction, plan, region, core, setting);
             }
@@ -181,7 +187,7 @@ pub(crate) fn call<'a, V: Store, G: Gate>(
 
 // Makes the next operation of a plan over the core.
 fn make_next<V: Store, G: Gate>(
-    plan: &mut Plan,
+    plan: &mut BoxedPlan,
     core: &mut Core<V>,
     client: &Client<'_>,
     setting: &Setting<'_, G>,
@@ -195,7 +201,7 @@ fn make_next<V: Store, G: Gate>(
     ensures vault { core.new.vault ≡ core.old.vault }
 {
     dali_stepwise::operate(
-        plan,
+        &mut plan.plan,
         &mut core.regions,
         &mut core.system,
         setting.precheck,
@@ -207,7 +213,7 @@ fn make_next<V: Store, G: Gate>(
 
 // The client dies in the next operation of a plan over the core.
 fn die_next<V: Store, G: Gate>(
-    plan: &mut Plan,
+    plan: &mut BoxedPlan,
     core: &mut Core<V>,
     client: &Client<'_>,
     setting: &Setting<'_, G>,
@@ -221,7 +227,7 @@ fn die_next<V: Store, G: Gate>(
     ensures vault { core.new.vault ≡ core.old.vault }
 {
     dali_stepwise::die(
-        plan,
+        &mut plan.plan,
         &mut core.regions,
         &mut core.system,
         setting.precheck,
@@ -235,7 +241,7 @@ fn die_next<V: Store, G: Gate>(
 fn operate<'a, V: Store, G: Gate>(
     client: &mut Client<'a>,
     transaction: Transaction<'a>,
-    plan: Plan,
+    plan: BoxedPlan,
     region: u32,
     onward: bool,
     core: &mut Core<V>,
@@ -281,7 +287,7 @@ fn further(transaction: Transaction<'_>, onward: bool) -> Transaction<'_>
 fn die<'a, V: Store, G: Gate>(
     client: &mut Client<'a>,
     transaction: Transaction<'a>,
-    plan: Plan,
+    plan: BoxedPlan,
     region: u32,
     core: &mut Core<V>,
     setting: &Setting<'_, G>,
@@ -329,7 +335,7 @@ fn called(client: &Client<'_>) -> Option<Call>
 fn answer<'a, V: Store>(
     client: &mut Client<'a>,
     transaction: Transaction<'a>,
-    plan: Plan,
+    plan: BoxedPlan,
     call: Call,
     core: &mut Core<V>,
 ) -> Result<bool, OutOfMemory>
@@ -343,7 +349,7 @@ fn answer<'a, V: Store>(
     ensures on { IfOk result (λ went. went ≡ true) }
 {
     let mut plan = plan;
-    match dali_stepwise::answer(&mut plan, &mut core.system) {
+    match dali_stepwise::answer(&mut plan.plan, &mut core.system) {
         Ok(answer) => {
             let state = State::Within { transaction };
             client.finish(state, Line::Answered { call, answer })?;
@@ -358,7 +364,7 @@ fn answer<'a, V: Store>(
 fn hindered<'a, V: Store>(
     client: &mut Client<'a>,
     transaction: Transaction<'a>,
-    plan: Plan,
+    plan: BoxedPlan,
     region: u32,
     error: StepError,
     core: &mut Core<V>,
@@ -411,7 +417,7 @@ fn hindered<'a, V: Store>(
 fn refused<'a>(
     client: &mut Client<'a>,
     transaction: Transaction<'a>,
-    plan: Plan,
+    plan: BoxedPlan,
     error: SystemError,
 ) -> Result<bool, OutOfMemory>
     requires next { IsSome (next_of client.old) }
@@ -433,13 +439,13 @@ fn refused<'a>(
 }
 
 // The call is refused, and its changes are taken back from here on.
-fn turn_back<'a>(client: &mut Client<'a>, transaction: Transaction<'a>, plan: Plan, why: Why)
+fn turn_back<'a>(client: &mut Client<'a>, transaction: Transaction<'a>, plan: BoxedPlan, why: Why)
     requires closed { plan.operation ≡ None }
     requires before { is_answered plan.phase ≡ false }
     ensures { TurnsBack client.old transaction.entry plan why client.new }
 {
     let mut plan = plan;
-    plan.refuse();
+    plan.plan.refuse();
     client.state = State::TakingBack {
         transaction,
         plan,
@@ -452,7 +458,7 @@ fn turn_back<'a>(client: &mut Client<'a>, transaction: Transaction<'a>, plan: Pl
 pub(crate) fn take_back<'a, V: Store, G: Gate>(
     client: &mut Client<'a>,
     transaction: Transaction<'a>,
-    plan: Plan,
+    plan: BoxedPlan,
     why: Why,
     core: &mut Core<V>,
     setting: &Setting<'_, G>,
@@ -465,10 +471,11 @@ pub(crate) fn take_back<'a, V: Store, G: Gate>(
     if !is_called(client) {
         return no_run(); // a call is under way
     }
-    if !is_at_rest(core, &plan) {
+    let held = plan.get();
+    if !is_at_rest(core, held) {
         return no_run();
     }
-    match plan.wants() {
+    match held.wants() {
         Want::Region { .. } => go_back(client, transaction, plan, why, core, setting),
         Want::Nothing => {
             client.refuse_call(transaction, why)?;
@@ -483,7 +490,7 @@ pub(crate) fn take_back<'a, V: Store, G: Gate>(
 fn go_back<'a, V: Store, G: Gate>(
     client: &mut Client<'a>,
     transaction: Transaction<'a>,
-    plan: Plan,
+    plan: BoxedPlan,
     why: Why,
     core: &mut Core<V>,
     setting: &Setting<'_, G>,
@@ -516,7 +523,7 @@ fn go_back<'a, V: Store, G: Gate>(
 fn stuck<'a, V: Store>(
     client: &mut Client<'a>,
     transaction: Transaction<'a>,
-    plan: Plan,
+    plan: BoxedPlan,
     why: Why,
     error: StepError,
     core: &mut Core<V>,

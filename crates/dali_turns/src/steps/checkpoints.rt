@@ -1,7 +1,8 @@
 //! The steps of a checkpoint.
-ghost use Rattle.std.specs.Prelude.{◌≡◌, ◌<◌, ◌≤◌, Bool, true, Some, None, Err, is_ok, IfOk, OnOk, OnErr, IsSomeAnd, length};
+ghost use Rattle.std.specs.Prelude.{◌≡◌, ℕ, ◌+◌, ◌<◌, ◌≤◌, ◌^◌, Bool, true, Some, None, Err, is_ok, IfOk, IfSome, OnOk, OnErr, IsSomeAnd, length};
 ghost use Rattle.dali_geometry.specs.Places.{regions as regions_of};
-ghost use Rattle.dali_checkpoint.specs.Kept.{given_up};
+ghost use Rattle.dali_checkpoint.specs.Kept.{Checkpointed, given_up};
+ghost use Rattle.dali_audit.specs.Findings.{Audited};
 ghost use Rattle.dali_clients.specs.declared.command.Command.TheVariants.{Checkpoint as IsCheckpoint};
 ghost use Rattle.dali_turns.specs.declared.client.State.TheVariants.{Outside as IsOutside, Copying as IsCopying, Certifying as IsCertifying};
 ghost use Rattle.dali_turns.specs.Endings.{line_in, SaysEnd, Unsaid};
@@ -19,6 +20,7 @@ use dali_clients::{Command, Line, Why};
 use dali_store::Store;
 use dali_whole::Core;
 use std::alloc::Global;
+use std::mem;
 
 // The line of a checkpoint that has ended so.
 fn line_of(made: Result<u64, CheckpointError>) -> Result<Line, OutOfMemory>
@@ -72,6 +74,7 @@ fn give_up<V: Store>(
 fn may_copy(checkpoint: &Checkpoint, next: u32) -> bool
     ensures next { result ≡ true → (next ≡ checkpoint.now.copied) × (next < regions_of checkpoint.now.header.geometry) }
     ensures told { (next ≡ checkpoint.now.copied) × (next < regions_of checkpoint.now.header.geometry) → result ≡ true }
+    ensures few { result ≡ true → next + 1 < 2 ^ 32 }
 {
     next == checkpoint.copied() && next < checkpoint.regions()
 }
@@ -125,8 +128,57 @@ pub(crate) fn start<V: Store>(
     }
 }
 
-/// Copies the next region, or ends the image where each was copied. Where the engine was stopped in between, that is why
-/// there is no image.
+// A copy of the checkpoint that is under way has failed.
+fn fail_copy<V: Store>(
+    client: &mut Client<'_>,
+    error: CheckpointError,
+    core: &mut Core<V>,
+) -> Result<(), OutOfMemory>
+    requires copying { (checkpoint : Checkpointed) × (next : ℕ) × (client.old.state ≡ IsCopying checkpoint next) }
+    ensures system { (checkpoint : Checkpointed) (next : ℕ) → client.old.state ≡ IsCopying checkpoint next → core.new ≡ record core.old { system = record core.old.system { state = given_up checkpoint.faulted core.old.system.state } } }
+    ensures ok { OnOk result (SaysEnd (record client.old { state = IsOutside }) (Err error) client.new) }
+    ensures err { OnErr result (Unsaid (record client.old { state = IsOutside }) (Err error) client.new) }
+{
+    let State::Copying { checkpoint, .. } = mem::replace(&mut client.state, State::Outside) else {
+        unreachable!()
+    };
+    give_up(client, checkpoint, error, core)
+}
+
+/// Copies the next region, where the state of the checkpoint stays where it is. None where the client copies none, where each
+/// was copied, or where the engine was stopped in between.
+pub(crate) fn copy_next<V: Store>(
+    client: &mut Client<'_>,
+    core: &mut Core<V>,
+) -> Option<Result<bool, OutOfMemory>>
+    requires places { HasPlaces V.told client.old.state core.old.regions.items core.old.vault }
+    ensures goes { IfSome result (λ stepped. (precheck : Bool) → StepGoes V.told V.may_leave V.faults precheck client.old.state client.old core.old.regions.items core.old.system.state core.old.vault (is_ok stepped) client.new core.new.regions.items core.new.system.state core.new.vault) }
+    ensures places { IfSome result (λ stepped. PlacesGo V.told client.old.state core.old.regions.items core.old.vault client.new.state core.new.regions.items core.new.vault) }
+    ensures on { IfSome result (λ stepped. IfOk stepped (λ went. went ≡ true)) }
+    ensures past { result ≡ None → (client.new ≡ client.old) × (core.new ≡ core.old) × ((checkpoint : Checkpointed) (next : ℕ) → client.old.state ≡ IsCopying checkpoint next → core.old.system.state.stop ≡ None → length core.old.regions.items ≤ next) }
+{
+    let State::Copying { checkpoint, next } = &mut client.state else {
+        return None;
+    };
+    if core.system.stopped().is_some() || (*next as usize) >= core.regions.len() {
+        return None;
+    }
+    if !may_copy(checkpoint, *next) {
+        return Some(no_run());
+    }
+    match checkpoint.copy(*next, &mut core.regions[*next as usize], &mut core.vault) {
+        Ok(()) => {
+            *next += 1;
+            Some(Ok(true))
+        }
+        Err(error) => match fail_copy(client, error, core) {
+            Ok(()) => Some(Ok(true)),
+            Err(error) => Some(Err(error)),
+        },
+    }
+}
+
+/// Ends the image, where each region was copied. Where the engine was stopped in between, that is why there is no image.
 pub(crate) fn copy<V: Store>(
     client: &mut Client<'_>,
     checkpoint: Checkpoint,
@@ -136,6 +188,7 @@ pub(crate) fn copy<V: Store>(
 ) -> Result<bool, OutOfMemory>
     requires stands { client.old.state ≡ IsOutside }
     requires places { HasPlaces V.told (IsCopying checkpoint next) core.old.regions.items core.old.vault }
+    requires all { core.old.system.state.stop ≡ None → length core.old.regions.items ≤ next }
     ensures goes { (precheck : Bool) → StepGoes V.told V.may_leave V.faults precheck (IsCopying checkpoint next) client.old core.old.regions.items core.old.system.state core.old.vault (is_ok result) client.new core.new.regions.items core.new.system.state core.new.vault }
     ensures places { PlacesGo V.told (IsCopying checkpoint next) core.old.regions.items core.old.vault client.new.state core.new.regions.items core.new.vault }
     ensures on { IfOk result (λ went. went ≡ true) }
@@ -143,25 +196,6 @@ pub(crate) fn copy<V: Store>(
     if let Some(cause) = core.system.stopped() {
         give_up(client, checkpoint, CheckpointError::Stopped { cause }, core)?;
         return Ok(true);
-    }
-    if (next as usize) < core.regions.len() {
-        if !may_copy(&checkpoint, next) {
-            return no_run();
-        }
-        let mut checkpoint = checkpoint;
-        match checkpoint.copy(next, &mut core.regions[next as usize], &mut core.vault) {
-            Ok(()) => {
-                client.state = State::Copying {
-                    checkpoint,
-                    next: next + 1,
-                };
-                return Ok(true);
-            }
-            Err(error) => {
-                give_up(client, checkpoint, error, core)?;
-                return Ok(true);
-            }
-        }
     }
     settle(client, checkpoint, next, alloc, core)
 }
@@ -209,39 +243,33 @@ fn settle<V: Store>(
     }
 }
 
-/// Passes the next region in the checkpoint's audit; where each was passed the audit ends, and where it is clean the image
-/// becomes the current one.
-pub(crate) fn certify<V: Store>(
+/// Passes the next region in the checkpoint's audit, whose state stays where it is. None where the client is in no such audit,
+/// or has passed each.
+pub(crate) fn certify_next<V: Store>(
     client: &mut Client<'_>,
-    checkpoint: Checkpoint,
-    audit: Audit,
-    next: u32,
-    alloc: Global,
     core: &mut Core<V>,
-) -> Result<bool, OutOfMemory>
-    requires stands { client.old.state ≡ IsOutside }
-    ensures goes { (precheck : Bool) → StepGoes V.told V.may_leave V.faults precheck (IsCertifying checkpoint audit next) client.old core.old.regions.items core.old.system.state core.old.vault (is_ok result) client.new core.new.regions.items core.new.system.state core.new.vault }
-    ensures places { PlacesGo V.told (IsCertifying checkpoint audit next) core.old.regions.items core.old.vault client.new.state core.new.regions.items core.new.vault }
-    ensures on { IfOk result (λ went. went ≡ true) }
+) -> Option<Result<bool, OutOfMemory>>
+    ensures goes { IfSome result (λ stepped. (precheck : Bool) → StepGoes V.told V.may_leave V.faults precheck client.old.state client.old core.old.regions.items core.old.system.state core.old.vault (is_ok stepped) client.new core.new.regions.items core.new.system.state core.new.vault) }
+    ensures places { IfSome result (λ stepped. PlacesGo V.told client.old.state core.old.regions.items core.old.vault client.new.state core.new.regions.items core.new.vault) }
+    ensures on { IfSome result (λ stepped. IfOk stepped (λ went. went ≡ true)) }
+    ensures past { result ≡ None → (client.new ≡ client.old) × (core.new ≡ core.old) × ((checkpoint : Checkpointed) (audit : Audited) (next : ℕ) → client.old.state ≡ IsCertifying checkpoint audit next → length core.old.regions.items ≤ next) }
 {
-    if (next as usize) < core.regions.len() {
-        if !audit.waits(next) {
-            return no_run();
-        }
-        let mut audit = audit;
-        audit.pass(next, &mut core.regions[next as usize]);
-        client.state = State::Certifying {
-            checkpoint,
-            audit,
-            next: next + 1,
-        };
-        return Ok(true);
+    let State::Certifying { audit, next, .. } = &mut client.state else {
+        return None;
+    };
+    if (*next as usize) >= core.regions.len() {
+        return None;
     }
-    finish_audit(client, checkpoint, audit, next, alloc, core)
+    if !audit.waits(*next) {
+        return Some(no_run());
+    }
+    audit.pass(*next, &mut core.regions[*next as usize]);
+    *next += 1;
+    Some(Ok(true))
 }
 
-// Ends the checkpoint's audit, and the checkpoint.
-fn finish_audit<V: Store>(
+/// Ends the checkpoint's audit, and the checkpoint; where it is clean the image becomes the current one.
+pub(crate) fn finish_audit<V: Store>(
     client: &mut Client<'_>,
     checkpoint: Checkpoint,
     audit: Audit,

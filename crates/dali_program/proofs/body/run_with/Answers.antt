@@ -1,6 +1,7 @@
 use Rattle.std.proofs.Common.{List, Global, map, string_bytes, subst}
 use Rattle.std.specs.Prelude.{String}
 use Rattle.dali_run.specs.Ends.{course}
+use Rattle.dali_run.proofs.Keeping.{acknowledged_survive}
 use Rattle.dali_run.proofs.Survived.{runs_survive}
 use Rattle.dali_program.specs.Exits.{ExitsWith}
 use Rattle.dali_program.proofs.Words.{if_ok}
@@ -21,4 +22,7 @@ returns-in-Ok-clause-exits g c =
       survives = λ base own honest.
           runs_survive g.V.Store.told g.V.Store.may_leave g.V.Store.moment g.V.Store.left_since g.V.Store.faults met.reads_now met.counts_now g.V.Store.cuts
           _ _ c.run-status.result.0 base own ended honest;
+      headline = λ base own.
+          acknowledged_survive g.V.Store.told g.V.Store.may_leave g.V.Store.moment g.V.Store.left_since g.V.Store.faults met.reads_now met.counts_now g.V.Store.cuts
+          _ _ c.run-status.result.0 base own ended;
     }))

@@ -1,8 +1,14 @@
-use Rattle.dali_run.proofs.Telling.{pokes_are_told}
+use Rattle.dali_run.proofs.Telling.{pokes_are_told, strays_are_named}
 use Rattle.dali_run.proofs.laws.pokes_are_told.Goals as goal
 
-pub returns : goal.returns
-returns g c =
+pub returns-clause-named : goal.returns-clause-named
+returns-clause-named g c =
+    let met = g.met.V.Store in
+    λ limit precheck.
+    strays_are_named g.V.Store.told g.V.Store.may_leave g.V.Store.moment g.V.Store.left_since g.V.Store.faults met.reads_now met.counts_now limit g.V.Store.cuts precheck
+
+pub returns-clause-told : goal.returns-clause-told
+returns-clause-told g c =
     let met = g.met.V.Store in
     λ limit precheck.
     pokes_are_told g.V.Store.told g.V.Store.may_leave g.V.Store.moment g.V.Store.left_since g.V.Store.faults met.reads_now met.counts_now limit g.V.Store.cuts precheck

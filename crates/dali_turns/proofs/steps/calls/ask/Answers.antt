@@ -1,7 +1,8 @@
 use Rattle.std.proofs.Common.{is_some, is_ok, ap, refl, sym, subst, ◌∙◌}
+use Rattle.dali_calls.specs.Plans.{Planned}
 use Rattle.dali_core.specs.Served.{Served}
 use Rattle.dali_clients.specs.declared.line.Why.{Why}
-use Rattle.dali_turns.specs.declared.client.State.TheVariants.{Outside, Within}
+use Rattle.dali_turns.specs.declared.client.State.TheVariants.{Outside, Within, Calling}
 use Rattle.dali_turns.specs.Clients.{RefusesCall}
 use Rattle.dali_turns.proofs.Commands.{err_false}
 use Rattle.dali_turns.proofs.Asking.{new_plan}
@@ -12,23 +13,27 @@ use Rattle.dali_turns.proofs.steps.calls.ask.Goals as goal
 
 pub returns-in-Granted-clause-goes : goal.returns-in-Granted-clause-goes
 returns-in-Granted-clause-goes g c = λ precheck.
-    granted_then g.V.Store.told g.V.Store.may_leave g.V.Store.faults c.args.core.now.regions.items c.args.core.now.system.state c.ask.new.system.state c.args.core.now.vault c.args.client.now c.args.transaction c.args.call c.requires.next c.new-plan.result (c.new-plan.ensures ∙ ap (λ n. new_plan n c.args.transaction.txn c.args.call) c.geometry.ensures) c.in-Ok.answer c.in-Ok.ensures.answer (ap (λ (m : Served). m.state) c.in-Ok.ensures.ok) c.in-Ok.ensures.asked (ran_there c.args.core.now.system.state c.ask.result c.in-Ok.answer c.in-Ok.is c.ask.ensures.refused) c.in-Granted.is precheck _ (record { rest = refl; stands = refl; points = refl; transcript = refl })
+    granted_then g.V.Store.told g.V.Store.may_leave g.V.Store.faults c.args.core.now.regions.items c.args.core.now.system.state c.ask.new.system.state c.args.core.now.vault c.args.client.now c.args.transaction c.args.call c.requires.next c.get.result.now (c.get.ensures ∙ (c.in_ok-plan.ensures ∙ (c.new-fresh.ensures ∙ ap (λ n. new_plan n c.args.transaction.txn c.args.call) c.geometry.ensures))) c.in-Ok.answer c.in-Ok.ensures.answer (ap (λ (m : Served). m.state) c.in-Ok.ensures.ok) c.in-Ok.ensures.asked (ran_there c.args.core.now.system.state c.ask.result c.in-Ok.answer c.in-Ok.is c.ask.ensures.refused) c.in-Granted.is precheck _ (record { rest = refl; stands = ap (λ (p : Planned). Calling c.args.transaction p) (sym c.get.ensures); points = refl; transcript = refl })
 
 pub returns-else-is_dead-clause-goes : goal.returns-else-is_dead-clause-goes
 returns-else-is_dead-clause-goes g c = λ precheck.
-    waits_then g.V.Store.told g.V.Store.may_leave g.V.Store.faults c.args.core.now.regions.items c.args.core.now.system.state c.ask.new.system.state c.args.core.now.vault c.args.client.now c.args.transaction c.args.call c.requires.next c.new-plan.result (c.new-plan.ensures ∙ ap (λ n. new_plan n c.args.transaction.txn c.args.call) c.geometry.ensures) c.in-Ok.answer c.in-Ok.ensures.answer (ap (λ (m : Served). m.state) c.in-Ok.ensures.ok) c.in-Ok.ensures.asked (ran_there c.args.core.now.system.state c.ask.result c.in-Ok.answer c.in-Ok.is c.ask.ensures.refused) c.in-Wait.holder c.in-Wait.is precheck _ (record { rest = refl; stands = refl; points = refl; transcript = refl })
+    waits_then g.V.Store.told g.V.Store.may_leave g.V.Store.faults c.args.core.now.regions.items c.args.core.now.system.state c.ask.new.system.state c.args.core.now.vault c.args.client.now c.args.transaction c.args.call c.requires.next c.get.result.now (c.get.ensures ∙ (c.in_ok-plan.ensures ∙ (c.new-fresh.ensures ∙ ap (λ n. new_plan n c.args.transaction.txn c.args.call) c.geometry.ensures))) c.in-Ok.answer c.in-Ok.ensures.answer (ap (λ (m : Served). m.state) c.in-Ok.ensures.ok) c.in-Ok.ensures.asked (ran_there c.args.core.now.system.state c.ask.result c.in-Ok.answer c.in-Ok.is c.ask.ensures.refused) c.in-Wait.holder c.in-Wait.is precheck _ (record { rest = refl; stands = refl; points = refl; transcript = refl })
 
 pub returns-then-is_dead-2-clause-goes : goal.returns-then-is_dead-2-clause-goes
 returns-then-is_dead-2-clause-goes g c = λ precheck.
-    clean_behind g.V.Store.told g.V.Store.may_leave g.V.Store.faults c.args.core.now.regions.items c.args.core.now.system.state c.ask.new.system.state c.args.core.now.vault c.args.client.now c.args.transaction c.args.call c.requires.next c.new-plan.result (c.new-plan.ensures ∙ ap (λ n. new_plan n c.args.transaction.txn c.args.call) c.geometry.ensures) c.in-Ok.answer c.in-Ok.ensures.answer (ap (λ (m : Served). m.state) c.in-Ok.ensures.ok) c.in-Ok.ensures.asked (ran_there c.args.core.now.system.state c.ask.result c.in-Ok.answer c.in-Ok.is c.ask.ensures.refused) c.in-Busy.holder c.in-Busy.is (sym c.is_dead-in-Busy.ensures ∙ c.if-is_dead-2.true) precheck (is_ok c.clean_holder-then-is_dead-2.result) c.clean_holder-then-is_dead-2.new.client c.clean_holder-then-is_dead-2.new.core.regions.items c.clean_holder-then-is_dead-2.new.core.system.state c.clean_holder-then-is_dead-2.new.core.vault (c.clean_holder-then-is_dead-2.ensures.goes precheck)
+    clean_behind g.V.Store.told g.V.Store.may_leave g.V.Store.faults c.args.core.now.regions.items c.args.core.now.system.state c.ask.new.system.state c.args.core.now.vault c.args.client.now c.args.transaction c.args.call c.requires.next c.get.result.now (c.get.ensures ∙ (c.in_ok-plan.ensures ∙ (c.new-fresh.ensures ∙ ap (λ n. new_plan n c.args.transaction.txn c.args.call) c.geometry.ensures))) c.in-Ok.answer c.in-Ok.ensures.answer (ap (λ (m : Served). m.state) c.in-Ok.ensures.ok) c.in-Ok.ensures.asked (ran_there c.args.core.now.system.state c.ask.result c.in-Ok.answer c.in-Ok.is c.ask.ensures.refused) c.in-Busy.holder c.in-Busy.is (sym c.is_dead-in-Busy.ensures ∙ c.if-is_dead-2.true) precheck (is_ok c.clean_holder-then-is_dead-2.result) c.clean_holder-then-is_dead-2.new.client c.clean_holder-then-is_dead-2.new.core.regions.items c.clean_holder-then-is_dead-2.new.core.system.state c.clean_holder-then-is_dead-2.new.core.vault (c.clean_holder-then-is_dead-2.ensures.goes precheck)
 
 pub returns-else-is_dead-2-clause-goes : goal.returns-else-is_dead-2-clause-goes
 returns-else-is_dead-2-clause-goes g c = λ precheck.
-    yield_then g.V.Store.told g.V.Store.may_leave g.V.Store.faults c.args.core.now.regions.items c.args.core.now.system.state c.ask.new.system.state c.args.core.now.vault c.args.client.now c.args.transaction c.args.call c.requires.next c.new-plan.result (c.new-plan.ensures ∙ ap (λ n. new_plan n c.args.transaction.txn c.args.call) c.geometry.ensures) c.in-Ok.answer c.in-Ok.ensures.answer (ap (λ (m : Served). m.state) c.in-Ok.ensures.ok) c.in-Ok.ensures.asked (ran_there c.args.core.now.system.state c.ask.result c.in-Ok.answer c.in-Ok.is c.ask.ensures.refused) c.in-Busy.holder c.in-Busy.is (sym c.is_dead-in-Busy.ensures ∙ c.if-is_dead-2.false) precheck (is_ok c.give_way.result) c.give_way.new.client c.give_way.new.core.regions.items c.give_way.new.core.system.state c.give_way.new.core.vault (c.give_way.ensures.goes precheck)
+    yield_then g.V.Store.told g.V.Store.may_leave g.V.Store.faults c.args.core.now.regions.items c.args.core.now.system.state c.ask.new.system.state c.args.core.now.vault c.args.client.now c.args.transaction c.args.call c.requires.next c.get.result.now (c.get.ensures ∙ (c.in_ok-plan.ensures ∙ (c.new-fresh.ensures ∙ ap (λ n. new_plan n c.args.transaction.txn c.args.call) c.geometry.ensures))) c.in-Ok.answer c.in-Ok.ensures.answer (ap (λ (m : Served). m.state) c.in-Ok.ensures.ok) c.in-Ok.ensures.asked (ran_there c.args.core.now.system.state c.ask.result c.in-Ok.answer c.in-Ok.is c.ask.ensures.refused) c.in-Busy.holder c.in-Busy.is (sym c.is_dead-in-Busy.ensures ∙ c.if-is_dead-2.false) precheck (is_ok c.give_way.result) c.give_way.new.client c.give_way.new.core.regions.items c.give_way.new.core.system.state c.give_way.new.core.vault (c.give_way.ensures.goes precheck)
+
+pub returns-in_err-plan-clause-goes : goal.returns-in_err-plan-clause-goes
+returns-in_err-plan-clause-goes g c = λ precheck.
+    unasked_nowhere g.V.Store.told g.V.Store.may_leave g.V.Store.faults precheck c.args.core.now.regions.items c.args.core.now.system.state c.args.core.now.vault c.args.client.now c.args.client.now c.args.transaction c.args.call c.requires.next c.args.core.now.system.state _ refl (err_false c.from_residual.result c.from_residual.ensures.0) refl
 
 pub returns-in_err-why_of-in-Err-clause-goes : goal.returns-in_err-why_of-in-Err-clause-goes
 returns-in_err-why_of-in-Err-clause-goes g c = λ precheck.
-    unasked_nowhere g.V.Store.told g.V.Store.may_leave g.V.Store.faults precheck c.args.core.now.regions.items c.args.core.now.system.state c.args.core.now.vault c.args.client.now c.args.client.now c.args.transaction c.args.call c.requires.next c.ask.new.system.state _ (ap (λ (m : Served). m.state) c.in-Err.ensures.err) (err_false c.from_residual.result c.from_residual.ensures.0) refl
+    unasked_nowhere g.V.Store.told g.V.Store.may_leave g.V.Store.faults precheck c.args.core.now.regions.items c.args.core.now.system.state c.args.core.now.vault c.args.client.now c.args.client.now c.args.transaction c.args.call c.requires.next c.ask.new.system.state _ (ap (λ (m : Served). m.state) c.in-Err.ensures.err) (err_false c.from_residual-in_err-why_of-in-Err.result c.from_residual-in_err-why_of-in-Err.ensures.0) refl
 
 pub returns-in_err-refuse_call-in-Err-clause-goes : goal.returns-in_err-refuse_call-in-Err-clause-goes
 returns-in_err-refuse_call-in-Err-clause-goes g c = λ precheck.
@@ -45,6 +50,9 @@ returns-in-Granted-clause-places g c = places_still g.V.Store.told (Within c.arg
 
 pub returns-else-is_dead-clause-places : goal.returns-else-is_dead-clause-places
 returns-else-is_dead-clause-places g c = places_still g.V.Store.told (Within c.args.transaction) _ c.args.core.now.regions.items c.args.core.now.regions.items c.args.core.now.vault c.args.core.now.vault refl refl tt
+
+pub returns-in_err-plan-clause-places : goal.returns-in_err-plan-clause-places
+returns-in_err-plan-clause-places g c = places_still g.V.Store.told (Within c.args.transaction) c.args.client.now.state c.args.core.now.regions.items c.args.core.now.regions.items c.args.core.now.vault c.args.core.now.vault refl refl (at_state g.V.Store.told c.args.client.now.state Outside c.args.core.now.vault c.requires.stands tt)
 
 pub returns-in_err-why_of-in-Err-clause-places : goal.returns-in_err-why_of-in-Err-clause-places
 returns-in_err-why_of-in-Err-clause-places g c = places_still g.V.Store.told (Within c.args.transaction) c.args.client.now.state c.args.core.now.regions.items c.args.core.now.regions.items c.args.core.now.vault c.args.core.now.vault refl refl (at_state g.V.Store.told c.args.client.now.state Outside c.args.core.now.vault c.requires.stands tt)

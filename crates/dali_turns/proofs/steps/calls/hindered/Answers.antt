@@ -7,7 +7,7 @@ use Rattle.dali_single.specs.declared.error.StepError.TheVariants.{Latch}
 use Rattle.dali_single.specs.Refusals.{IsLatched, IsRefusal}
 use Rattle.dali_turns.specs.Clients.{next_of, RefusesCall}
 use Rattle.dali_turns.specs.Ends.{IsLeftDead}
-use Rattle.dali_turns.specs.declared.client.State.TheVariants.{Outside, Within, Calling, TakingBack}
+use Rattle.dali_turns.specs.declared.client.State.TheVariants.{Outside, Within, Calling}
 use Rattle.dali_turns.proofs.Here.{in_no_run}
 use Rattle.dali_turns.proofs.Commands.{err_false}
 use Rattle.dali_turns.proofs.CallSteps.{some_command, points_there, before_operation, not_held, damage_refuses, system_refuses, by_lines}

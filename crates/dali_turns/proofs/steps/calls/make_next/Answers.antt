@@ -1,4 +1,5 @@
 use Rattle.std.proofs.Common.{◌≡◌, ◌∙◌, List, OnOk, length, ap, sym, subst, rules}
+use Rattle.dali_calls.specs.Plans.{Planned}
 use Rattle.dali_core.specs.Served.{Served}
 use Rattle.dali_region.specs.State.{RegionState}
 use Rattle.dali_stepwise.specs.Stepwise.{OneFurther}
@@ -10,14 +11,16 @@ use Rattle.dali_turns.proofs.steps.calls.make_next.Goals as goal
 pub returns-clause-further : goal.returns-clause-further
 returns-clause-further g c =
     let size : length c.operate.new.regions ≡ c.args.core.now.regions.len = search rules in
+    let held : c.deref_mut.result.now ≡ c.args.plan.now = c.deref_mut.ensures.value ∙ c.plan.view_is in
     subst (λ (rs : List RegionState). OnOk c.operate.result (OneFurther c.args.setting.now.precheck c.args.plan.now c.args.core.now.regions.items c.args.core.now.system.state c.operate.new.plan rs c.operate.new.system.state))
     (sym (put_back c.args.core.now.regions.len c.operate.new.regions c.args.core.now.regions.items size))
-    (subst (λ (rs : List RegionState). OnOk c.operate.result (OneFurther c.args.setting.now.precheck c.args.plan.now rs c.args.core.now.system.state c.operate.new.plan c.operate.new.regions c.operate.new.system.state)) c.deref_mut.ensures.value c.operate.ensures.further)
+    (subst (λ (rs : List RegionState). OnOk c.operate.result (OneFurther c.args.setting.now.precheck c.args.plan.now rs c.args.core.now.system.state c.operate.new.plan c.operate.new.regions c.operate.new.system.state)) c.deref_mut-2.ensures.value (subst (λ (p : Planned). OnOk c.operate.result (OneFurther c.args.setting.now.precheck p c.deref_mut-2.result.now c.args.core.now.system.state c.operate.new.plan c.operate.new.regions c.operate.new.system.state)) held c.operate.ensures.further))
 
 pub returns-clause-err : goal.returns-clause-err
 returns-clause-err g c =
     let size : length c.operate.new.regions ≡ c.args.core.now.regions.len = search rules in
-    on_err c.operate.result _ _ (λ h. (h.0, put_back c.args.core.now.regions.len c.operate.new.regions c.args.core.now.regions.items size ∙ (h.1 ∙ c.deref_mut.ensures.value), ap (λ (z : Served). z.state) h.2)) c.operate.ensures.err
+    let held : c.deref_mut.result.now ≡ c.args.plan.now = c.deref_mut.ensures.value ∙ c.plan.view_is in
+    on_err c.operate.result _ _ (λ h. (h.0 ∙ held, put_back c.args.core.now.regions.len c.operate.new.regions c.args.core.now.regions.items size ∙ (h.1 ∙ c.deref_mut-2.ensures.value), ap (λ (z : Served). z.state) h.2)) c.operate.ensures.err
 
 pub returns-clause-flags : goal.returns-clause-flags
 returns-clause-flags g c =

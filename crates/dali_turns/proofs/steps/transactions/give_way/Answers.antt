@@ -1,4 +1,4 @@
-use Rattle.std.proofs.Common.{◌≡◌, ◌+◌, ◌<◌, [], ◌∷◌, refl, subst, arith}
+use Rattle.std.proofs.Common.{◌+◌, ◌<◌, [], ◌∷◌, refl, subst, arith}
 use Rattle.dali_clients.specs.declared.line.Line.{Line}
 use Rattle.dali_clients.specs.declared.line.Line.TheVariants.{Busy}
 use Rattle.dali_turns.specs.declared.client.State.TheVariants.{Outside, Within, Waiting}

@@ -4,7 +4,7 @@ use Rattle.dali_turns.proofs.Stepping.{stepped, left_goes, gone_goes}
 use Rattle.dali_turns.proofs.Over.{over_in, not_over, none_next}
 use Rattle.dali_turns.proofs.Putting.{never_went, put_from, gone_put, left_out_put}
 use Rattle.dali_turns.proofs.Placed.{places_from, holds_from, places_still, at_state, left_reaches}
-use Rattle.dali_turns.proofs.steps.step.Goals as goal
+use Rattle.dali_turns.proofs.steps.step_on.Goals as goal
 
 pub returns-in-Within-clause-goes : goal.returns-in-Within-clause-goes
 returns-in-Within-clause-goes g c =
@@ -28,8 +28,8 @@ returns-in-Waiting-clause-goes g c =
 
 pub returns-in-Auditing-clause-goes : goal.returns-in-Auditing-clause-goes
 returns-in-Auditing-clause-goes g c =
-    stepped g.V.Store.told g.V.Store.may_leave g.V.Store.faults c.args.setting.now.precheck (is_ok c.audit.result) c.args.core.now.regions.items c.audit.new.core.regions.items c.args.core.now.system.state c.audit.new.core.system.state c.args.core.now.vault c.audit.new.core.vault
-    c.args.client.now (record c.args.client.now { state = c.replace.new.dest }) c.audit.new.client (Auditing c.in-Auditing.audit c.in-Auditing.next) (sym c.in-Auditing.ensures.value) (record { rest = refl; client = refl; lines = refl }) (c.audit.ensures.goes c.args.setting.now.precheck)
+    stepped g.V.Store.told g.V.Store.may_leave g.V.Store.faults c.args.setting.now.precheck (is_ok c.end.result) c.args.core.now.regions.items c.end.new.core.regions.items c.args.core.now.system.state c.end.new.core.system.state c.args.core.now.vault c.end.new.core.vault
+    c.args.client.now (record c.args.client.now { state = c.replace.new.dest }) c.end.new.client (Auditing c.in-Auditing.audit c.in-Auditing.next) (sym c.in-Auditing.ensures.value) (record { rest = refl; client = refl; lines = refl }) (c.end.ensures.goes c.args.setting.now.precheck)
 
 pub returns-in-Copying-clause-goes : goal.returns-in-Copying-clause-goes
 returns-in-Copying-clause-goes g c =
@@ -38,8 +38,8 @@ returns-in-Copying-clause-goes g c =
 
 pub returns-in-Certifying-clause-goes : goal.returns-in-Certifying-clause-goes
 returns-in-Certifying-clause-goes g c =
-    stepped g.V.Store.told g.V.Store.may_leave g.V.Store.faults c.args.setting.now.precheck (is_ok c.certify.result) c.args.core.now.regions.items c.certify.new.core.regions.items c.args.core.now.system.state c.certify.new.core.system.state c.args.core.now.vault c.certify.new.core.vault
-    c.args.client.now (record c.args.client.now { state = c.replace.new.dest }) c.certify.new.client (Certifying c.in-Certifying.checkpoint c.in-Certifying.audit c.in-Certifying.next) (sym c.in-Certifying.ensures.value) (record { rest = refl; client = refl; lines = refl }) (c.certify.ensures.goes c.args.setting.now.precheck)
+    stepped g.V.Store.told g.V.Store.may_leave g.V.Store.faults c.args.setting.now.precheck (is_ok c.finish_audit.result) c.args.core.now.regions.items c.finish_audit.new.core.regions.items c.args.core.now.system.state c.finish_audit.new.core.system.state c.args.core.now.vault c.finish_audit.new.core.vault
+    c.args.client.now (record c.args.client.now { state = c.replace.new.dest }) c.finish_audit.new.client (Certifying c.in-Certifying.checkpoint c.in-Certifying.audit c.in-Certifying.next) (sym c.in-Certifying.ensures.value) (record { rest = refl; client = refl; lines = refl }) (c.finish_audit.ensures.goes c.args.setting.now.precheck)
 
 pub returns-in-Outside-clause-goes : goal.returns-in-Outside-clause-goes
 returns-in-Outside-clause-goes g c =
@@ -71,19 +71,19 @@ pub returns-in-Waiting-clause-places : goal.returns-in-Waiting-clause-places
 returns-in-Waiting-clause-places g c = places_from g.V.Store.told c.args.client.now.state (Waiting c.in-Waiting.tries c.in-Waiting.holder) c.wait.new.client.state c.args.core.now.regions.items c.wait.new.core.regions.items c.args.core.now.vault c.wait.new.core.vault (sym c.in-Waiting.ensures.value) c.wait.ensures.places
 
 pub returns-in-Auditing-clause-places : goal.returns-in-Auditing-clause-places
-returns-in-Auditing-clause-places g c = places_from g.V.Store.told c.args.client.now.state (Auditing c.in-Auditing.audit c.in-Auditing.next) c.audit.new.client.state c.args.core.now.regions.items c.audit.new.core.regions.items c.args.core.now.vault c.audit.new.core.vault (sym c.in-Auditing.ensures.value) c.audit.ensures.places
+returns-in-Auditing-clause-places g c = places_from g.V.Store.told c.args.client.now.state (Auditing c.in-Auditing.audit c.in-Auditing.next) c.end.new.client.state c.args.core.now.regions.items c.end.new.core.regions.items c.args.core.now.vault c.end.new.core.vault (sym c.in-Auditing.ensures.value) c.end.ensures.places
 
 pub returns-in-Copying-clause-places : goal.returns-in-Copying-clause-places
 returns-in-Copying-clause-places g c = places_from g.V.Store.told c.args.client.now.state (Copying c.in-Copying.checkpoint c.in-Copying.next) c.copy.new.client.state c.args.core.now.regions.items c.copy.new.core.regions.items c.args.core.now.vault c.copy.new.core.vault (sym c.in-Copying.ensures.value) c.copy.ensures.places
 
 pub returns-in-Certifying-clause-places : goal.returns-in-Certifying-clause-places
-returns-in-Certifying-clause-places g c = places_from g.V.Store.told c.args.client.now.state (Certifying c.in-Certifying.checkpoint c.in-Certifying.audit c.in-Certifying.next) c.certify.new.client.state c.args.core.now.regions.items c.certify.new.core.regions.items c.args.core.now.vault c.certify.new.core.vault (sym c.in-Certifying.ensures.value) c.certify.ensures.places
+returns-in-Certifying-clause-places g c = places_from g.V.Store.told c.args.client.now.state (Certifying c.in-Certifying.checkpoint c.in-Certifying.audit c.in-Certifying.next) c.finish_audit.new.client.state c.args.core.now.regions.items c.finish_audit.new.core.regions.items c.args.core.now.vault c.finish_audit.new.core.vault (sym c.in-Certifying.ensures.value) c.finish_audit.ensures.places
 
 pub returns-in-Outside-clause-places : goal.returns-in-Outside-clause-places
 returns-in-Outside-clause-places g c = places_from g.V.Store.told c.args.client.now.state Outside c.next.new.client.state c.args.core.now.regions.items c.next.new.core.regions.items c.args.core.now.vault c.next.new.core.vault (sym c.in-Outside.ensures.value) c.next.ensures.places
 
 pub copy-requires-clause-places : goal.copy-requires-clause-places
-copy-requires-clause-places g c = holds_from g.V.Store.told c.args.client.now.state (Copying c.in-Copying.checkpoint c.in-Copying.next) c.args.core.now.regions.items c.args.core.now.vault (sym c.in-Copying.ensures.value) c.requires
+copy-requires-clause-places g c = holds_from g.V.Store.told c.args.client.now.state (Copying c.in-Copying.checkpoint c.in-Copying.next) c.args.core.now.regions.items c.args.core.now.vault (sym c.in-Copying.ensures.value) c.requires.places
 
 pub returns-in-LeftOut-clause-places : goal.returns-in-LeftOut-clause-places
 returns-in-LeftOut-clause-places g c =
@@ -114,13 +114,13 @@ pub returns-in-TakingBack-clause-idle : goal.returns-in-TakingBack-clause-idle
 returns-in-TakingBack-clause-idle g c = λ e. never_went c.take_back.result c.take_back.ensures.on e
 
 pub returns-in-Auditing-clause-idle : goal.returns-in-Auditing-clause-idle
-returns-in-Auditing-clause-idle g c = λ e. never_went c.audit.result c.audit.ensures.on e
+returns-in-Auditing-clause-idle g c = λ e. never_went c.end.result c.end.ensures.on e
 
 pub returns-in-Copying-clause-idle : goal.returns-in-Copying-clause-idle
 returns-in-Copying-clause-idle g c = λ e. never_went c.copy.result c.copy.ensures.on e
 
 pub returns-in-Certifying-clause-idle : goal.returns-in-Certifying-clause-idle
-returns-in-Certifying-clause-idle g c = λ e. never_went c.certify.result c.certify.ensures.on e
+returns-in-Certifying-clause-idle g c = λ e. never_went c.finish_audit.result c.finish_audit.ensures.on e
 
 pub returns-in-LeftOut-clause-idle : goal.returns-in-LeftOut-clause-idle
 returns-in-LeftOut-clause-idle g c = λ e. (

@@ -1,0 +1,153 @@
+-- A generated run that ends with a failure of the store was ended by one of the handed-in store.
+use Rattle.std.proofs.Common.{◌≡◌, ◌≤◌, ℕ, Bool, true, false, List, [], ◌∷◌, Option, Some, None, refl, sym, ◌∙◌, ap, subst, inl, inr, ⊎_elim, arith}
+use Rattle.std.specs.Prelude.{IfSome, is_some, nat_lt}
+use Rattle.std.proofs.lemmas.Bool.{cases_lt}
+use Rattle.std.proofs.lemmas.Bool.Decides.{Decides-ltb}
+use Rattle.dali_clients.specs.Said.{Transcribed}
+use Rattle.dali_generator.specs.Generated.{index_regions, heap_regions}
+use Rattle.dali_memstore.specs.Fuse.{failed_of, passes_of}
+use Rattle.dali_memstore.specs.declared.fuse.Fuse.{Fuse}
+use Rattle.dali_record.specs.declared.records.Record.{Record}
+use Rattle.dali_round.specs.Leads.{lines_in}
+use Rattle.dali_script.specs.declared.commands.Command.{Command}
+use Rattle.dali_script.specs.declared.commands.Command.TheVariants.{Size}
+use Rattle.dali_store.specs.Store.{Files as Disk}
+use Rattle.dali_system.specs.declared.causes.Cause.{Cause}
+use Rattle.dali_system.specs.declared.causes.Cause.TheVariants.{Damage, Store}
+use Rattle.dali_system.specs.State.{CoreState, SystemState}
+use Rattle.dali_transcripts.specs.Transcripts.{Told as Blocks}
+use Rattle.dali_transcripts.specs.Words.{Said, Begun, Answered, CommitOk, AbortOk, Aborted, LeftOpen, Died, Busy, PokeOk, PokeOutOfRange, AuditSaid, CheckpointSaid, CheckpointFailed, Refused, StoppedBy, Full, Damaged, StoreFailed, UnderWay}
+use Rattle.dali_transcripts.specs.World.{has_failed}
+use Rattle.dali_vault.specs.Vaulted.{Vaulted}
+use Rattle.dali_whole.specs.declared.whole.Core.{Core}
+use Rattle.dali_run.specs.declared.halt.Halt.{Halt}
+use Rattle.dali_run.specs.declared.halt.Halt.TheVariants.{StoreFault}
+use Rattle.dali_run.specs.declared.program.Program.{Program}
+use Rattle.dali_run.specs.declared.program.Program.TheVariants.{Up, Down}
+use Rattle.dali_run.specs.Complete.{OwnRose, StopRises, GeneratorFaultRises, GeneratorFaultsRise}
+use Rattle.dali_run.specs.Ends.{Course, GeneratorFails, GeneratorStops}
+use Rattle.dali_run.specs.Generating.{IsMade, IsRoundOf, first_full, full_among, full_in, halt_of, is_by_fuse, or_else}
+use Rattle.dali_run.specs.Program.{IsDown, store_of, faults_in}
+use Rattle.dali_run.specs.Steps.{RestartStops}
+use Rattle.dali_run.specs.Survives.{IsOwn, IsPointOf, NoneEscapesIn}
+use Rattle.dali_run.proofs.Failing.{fault_rises, none_failed, own_rises, rises}
+use Rattle.dali_run.proofs.Surviving.{begins_down, step_goes}
+
+-- ---- what a round ends with
+abbrev IsNoFault : Option Halt → Type 0
+IsNoFault (Some StoreFault) = ⊥
+IsNoFault o = Unit {0}
+
+in_line : (said : Said) → IsNoFault (full_in said)
+in_line (Begun txn) = tt
+in_line (Answered call answer) = tt
+in_line CommitOk = tt
+in_line AbortOk = tt
+in_line Aborted = tt
+in_line LeftOpen = tt
+in_line Died = tt
+in_line (Busy holder) = tt
+in_line PokeOk = tt
+in_line PokeOutOfRange = tt
+in_line (AuditSaid regions) = tt
+in_line (CheckpointSaid number) = tt
+in_line (CheckpointFailed regions) = tt
+in_line (Refused act (StoppedBy cause)) = tt
+in_line (Refused act (Full end most)) = tt
+in_line (Refused act (Damaged region codeword found)) = tt
+in_line (Refused act StoreFailed) = tt
+in_line (Refused act UnderWay) = tt
+
+in_either : (first later : Option Halt) → IsNoFault first → IsNoFault later → IsNoFault (or_else first later)
+in_either (Some halt) later f l = f
+in_either None later f l = l
+
+in_lines : (lines : List Said) → IsNoFault (full_among lines)
+in_lines [] = tt
+in_lines (said ∷ later) = in_either (full_in said) (full_among later) (in_line said) (in_lines later)
+
+in_all : (ts : List Transcribed) → IsNoFault (first_full ts)
+in_all [] = tt
+in_all (t ∷ later) = in_either (full_among (lines_in t)) (first_full later) (in_lines (lines_in t)) (in_all later)
+
+-- the store stopped the engine, and no fuse failed a call
+by_store : (full : Option Halt) (stop : Option Cause) (by_fuse : Bool) → IsNoFault full → halt_of full stop by_fuse ≡ Some StoreFault → (stop ≡ Some Store) × (by_fuse ≡ false)
+by_store (Some halt) stop by_fuse none is = absurd (subst IsNoFault is none)
+by_store None (Some Store) true none is = absurd cc
+by_store None (Some Store) false none is = (refl, refl)
+by_store None (Some (Damage region)) by_fuse none is = absurd cc
+by_store None None by_fuse none is = absurd cc
+
+no_more : (a b : ℕ) → nat_lt a b ≡ false → b ≤ a
+no_more a b none = ⊎_elim (λ below. let clash : true ≡ false = sym ((Decides-ltb a b).1 below) ∙ none in absurd cc) (λ above. above) (cases_lt a b)
+
+-- ---- fuses
+not_set : (o : Option ℕ) → o ≡ None → is_some o ≡ false
+not_set o none = ap (λ (p : Option ℕ). is_some p) none
+
+module _ {V : Type 0} where
+  down_unset : (p : Program V) (store : V) → IsDown p store → passes_of (store_of p) ≡ None
+  down_unset p store down = ap (λ (q : Program V). passes_of (store_of q)) down.down ∙ down.unfused.passes
+
+  abbrev RunsIn : Program V → Type 0
+  RunsIn (Up core) = core.vault.stopped ≡ false
+  RunsIn (Down store) = Unit {0}
+
+module _ {V : Type 0} (told : V → Option Disk) (may_leave : V → Disk → Type 0) (moment : V → ℕ) (left_since : V → ℕ → Disk → Type 0) (faults : V → ℕ)
+    (reads_now : (s : V) → IfSome (told s) (λ fs. may_leave s fs)) (counts_now : (s : V) (t : ℕ) (c : Disk) → t ≤ moment s → may_leave s c → left_since s t c) where
+  made_runs : (limit clients size : ℕ) (start : V) (made : Core (Fuse V)) → IsMade told may_leave moment left_since faults limit clients size start made → made.vault.stopped ≡ false
+  made_runs limit clients size start made m =
+      let new : m.steps.core.vault.stopped ≡ false = ap (λ (v : Vaulted (Fuse V)). v.stopped) m.steps.fresh.vault in subst RunsIn (sym m.steps.up) new
+
+  round_rises : (base : List Record) (blocks : List Blocks) (made played : Core (Fuse V)) → IsPointOf told may_leave faults base made → made.vault.stopped ≡ false
+      → IsRoundOf told may_leave faults blocks made (Some StoreFault) played → OwnRose faults made.vault.store played.vault.store
+  round_rises base blocks made played a runs round =
+      let ts = round.round.transcripts in
+      let so = by_store (first_full ts) played.system.state.stop (is_by_fuse made played) (in_all ts) round.is in
+      let led = round.round.plays a.start a.batches a.point a.begins in
+      let is = led.round in
+      let w = is.world in
+      let stop : led.to.core.system.stop ≡ Some Store = ap (λ (y : SystemState). y.stop) led.stands.at.system ∙ so.0 in
+      let stopped : w.core.vault.stopped ≡ true = ap (λ (k : CoreState). k.vault.stopped) is.core_is ∙ led.stands.at.vault.run.run.run.runs.stop.store stop in
+      let ran : w.old.vault.stopped ≡ false = ap (λ (k : CoreState). k.vault.stopped) is.old_is ∙ (a.begins.stands.at.vault.vault.stopped ∙ runs) in
+      let failed : has_failed false w.happened ≡ true = ap (λ (b : Bool). has_failed b w.happened) (sym ran) ∙ (sym is.together.faults.stopped ∙ stopped) in
+      let was : w.old.vault.faults ≡ faults_in faults made.vault.store = ap (λ (k : CoreState). k.vault.faults) is.old_is ∙ a.begins.stands.at.vault.vault.counted in
+      let now : w.core.vault.faults ≡ faults_in faults played.vault.store = ap (λ (k : CoreState). k.vault.faults) is.core_is ∙ led.stands.at.vault.vault.counted in
+      own_rises told may_leave moment left_since faults false made.vault.store played.vault.store
+      (rises w.old.vault.faults w.core.vault.faults (faults_in faults made.vault.store) (faults_in faults played.vault.store) was now (is.together.faults.rose failed))
+      (no_more (failed_of made.vault.store) (failed_of played.vault.store) so.1)
+
+  -- no fuse is set, and none fails a call
+  never_stops : (limit : ℕ) (old new : Program V) (text : List ℕ) (store : V) → IsDown old store → RestartStops told may_leave moment left_since faults limit old text new → ⊥
+  never_stops limit old new text store down stops =
+      let counted : is_some (passes_of stops.store) ≡ is_some (passes_of (store_of old)) = stops.left.left.passes.counted in
+      let none = none_failed stops.store (counted ∙ not_set (passes_of (store_of old)) (down_unset old store down)) in
+      omega (arith, none, stops.by_fuse)
+
+  module _ (cuts : V → ℕ → Option Disk) where
+    module _ (clients size number : ℕ) (c : Course V) (base : List Record) (own : IsOwn told may_leave base c.store) where
+      abbrev making : Command
+      making = Size (index_regions clients size) (heap_regions clients size)
+
+      stop_rises : (s : GeneratorStops told may_leave moment left_since faults cuts clients size number StoreFault c.store c.store')
+          → StopRises told may_leave moment left_since faults cuts clients size number c s
+      stop_rises (inl first) =
+          fault_rises told may_leave moment left_since faults false making base first.0 first.2.last (begins_down told may_leave faults base first.0 c.store first.1 own)
+          (λ is. down_unset first.0 c.store first.1) first.2.fails
+      stop_rises (inr (inl crash)) = ⊎_elim (λ more. inl more) (λ end. inr (omega (arith, end))) crash.1.fails.0
+      stop_rises (inr (inr restart)) =
+          own_rises told may_leave moment left_since faults false (store_of restart.0.crashed) restart.1.last restart.1.fails.0.rose restart.1.fails.0.none_by_fuse
+
+      fault_rises_so : (f : GeneratorFails told may_leave moment left_since faults cuts clients size number c.store c.store')
+          → GeneratorFaultRises told may_leave moment left_since faults cuts clients size number c f
+      fault_rises_so (inl s) = stop_rises s
+      fault_rises_so (inr (inl refused)) =
+          let m = refused.run.is_made in
+          let goes =
+          step_goes told may_leave moment left_since faults reads_now counts_now 67108864 cuts false making base m.first (Up refused.run.made) [] m.steps
+          (begins_down told may_leave faults base m.first c.store m.down own) (subst (NoneEscapesIn told may_leave) (sym m.down.down) tt) in
+          round_rises goes.log _ refused.run.made refused.run.played goes.point (made_runs 67108864 clients size c.store refused.run.made m) refused.run.round
+      fault_rises_so (inr (inr none)) = never_stops 67108864 none.run.crashed none.down none.text none.run.crash.store none.run.crash.down none.restart
+
+    pub generator_faults_rise : GeneratorFaultsRise told may_leave moment left_since faults cuts
+    generator_faults_rise c base clients size number own e = fault_rises_so clients size number c base own e.ended.0

@@ -1,0 +1,21 @@
+use Rattle.std.proofs.Common.{◌≡◌, ◌<◌, true, length, refl, rules}
+use Rattle.dali_turns.specs.declared.client.State.TheVariants.{Auditing as IsAuditing}
+use Rattle.dali_turns.proofs.Commands.{lent_there}
+use Rattle.dali_turns.proofs.AuditSteps.{passes_goes}
+use Rattle.dali_turns.proofs.Placing.{checked_go}
+use Rattle.dali_turns.proofs.Stepping.{stepped}
+use Rattle.dali_turns.proofs.steps.audits.audit_next.Goals as goal
+
+pub returns-clause-goes : goal.returns-clause-goes
+returns-clause-goes g c = λ precheck.
+    let within : c.in-Auditing.next < length c.args.core.now.regions.items = search rules in
+    let at : c.args.client.now.state ≡ IsAuditing c.in-Auditing.audit c.in-Auditing.next = search rules in
+    stepped g.V.Store.told g.V.Store.may_leave g.V.Store.faults precheck true c.args.core.now.regions.items _ c.args.core.now.system.state c.args.core.now.system.state c.args.core.now.vault c.args.core.now.vault
+    c.args.client.now c.args.client.now _ (IsAuditing c.in-Auditing.audit c.in-Auditing.next) at (record { rest = refl; client = refl; lines = refl })
+    (passes_goes g.V.Store.told g.V.Store.may_leave g.V.Store.faults precheck c.args.client.now _ c.args.core.now.regions.items c.args.core.now.system.state c.args.core.now.vault c.in-Auditing.audit c.in-Auditing.next c.index_mut.result.now c.pass.new.region
+    (lent_there c.args.core.now.regions.items c.in-Auditing.next c.index_mut.result.now within c.index_mut.ensures.value) c.pass.ensures.region c.pass.new.self c.pass.ensures.found refl _ refl)
+
+pub returns-clause-places : goal.returns-clause-places
+returns-clause-places g c =
+    let within : c.in-Auditing.next < length c.args.core.now.regions.items = search rules in
+    checked_go _ _ _ _ _ c.in-Auditing.next c.index_mut.result.now c.pass.new.region (lent_there c.args.core.now.regions.items c.in-Auditing.next c.index_mut.result.now within c.index_mut.ensures.value) c.pass.ensures.region tt

@@ -1,0 +1,21 @@
+use Rattle.std.proofs.Common.{◌≡◌, ◌<◌, true, length, refl, rules}
+use Rattle.dali_turns.specs.declared.client.State.TheVariants.{Certifying as IsCertifying}
+use Rattle.dali_turns.proofs.Commands.{lent_there}
+use Rattle.dali_turns.proofs.CertifySteps.{certify_passes_goes}
+use Rattle.dali_turns.proofs.Placing.{checked_go}
+use Rattle.dali_turns.proofs.Stepping.{stepped}
+use Rattle.dali_turns.proofs.steps.checkpoints.certify_next.Goals as goal
+
+pub returns-clause-goes : goal.returns-clause-goes
+returns-clause-goes g c = λ precheck.
+    let within : c.in-Certifying.next < length c.args.core.now.regions.items = search rules in
+    let at : c.args.client.now.state ≡ IsCertifying c.in-Certifying.checkpoint c.in-Certifying.audit c.in-Certifying.next = search rules in
+    stepped g.V.Store.told g.V.Store.may_leave g.V.Store.faults precheck true c.args.core.now.regions.items _ c.args.core.now.system.state c.args.core.now.system.state c.args.core.now.vault c.args.core.now.vault
+    c.args.client.now c.args.client.now _ (IsCertifying c.in-Certifying.checkpoint c.in-Certifying.audit c.in-Certifying.next) at (record { rest = refl; client = refl; lines = refl })
+    (certify_passes_goes g.V.Store.told g.V.Store.may_leave g.V.Store.faults precheck c.args.client.now _ c.args.core.now.regions.items c.args.core.now.system.state c.args.core.now.vault c.in-Certifying.checkpoint c.in-Certifying.audit c.in-Certifying.next c.index_mut.result.now c.pass.new.region
+    (lent_there c.args.core.now.regions.items c.in-Certifying.next c.index_mut.result.now within c.index_mut.ensures.value) c.pass.ensures.region c.pass.new.self c.pass.ensures.found refl _ refl)
+
+pub returns-clause-places : goal.returns-clause-places
+returns-clause-places g c =
+    let within : c.in-Certifying.next < length c.args.core.now.regions.items = search rules in
+    checked_go _ _ _ _ _ c.in-Certifying.next c.index_mut.result.now c.pass.new.region (lent_there c.args.core.now.regions.items c.in-Certifying.next c.index_mut.result.now within c.index_mut.ensures.value) c.pass.ensures.region tt
