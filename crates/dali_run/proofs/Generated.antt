@@ -1,10 +1,10 @@
 -- A generated script that was run to some place.
 use Rattle.std.proofs.Common.{◌≡◌, ◌∙◌, ℕ, Bool, true, false, List, [], ◌∷◌, Option, Some, None, Result, Ok, Err, map, refl, sym, ap, subst}
 use Rattle.std.proofs.Common.{inl, inr}
-use Rattle.std.specs.Prelude.{IfErr, OnOk, nat_lt}
+use Rattle.std.specs.Prelude.{IfErr, OnOk}
 use Rattle.dali_clients.specs.Said.{Transcribed}
 use Rattle.dali_generator.specs.Generated.{generated, index_regions, heap_regions}
-use Rattle.dali_memstore.specs.Fuse.{failed_of, inner}
+use Rattle.dali_memstore.specs.Fuse.{inner}
 use Rattle.dali_memstore.specs.declared.fuse.Fuse.{Fuse}
 use Rattle.dali_round.specs.Leads.{lines_in}
 use Rattle.dali_script.specs.declared.commands.Command.{Command}
@@ -23,7 +23,7 @@ use Rattle.dali_run.specs.declared.program.Program.{Program}
 use Rattle.dali_run.specs.declared.program.Program.TheVariants.{Up, Down}
 use Rattle.dali_run.specs.Ends.{Course, EndedGenerator, Generates, Unread}
 use Rattle.dali_run.specs.Fails.{Fails, Played}
-use Rattle.dali_run.specs.Generating.{EndedBy, FailsIn, IsCrashed, IsCutRound, IsMade, IsPlayed, IsRoundOf, NotRestarted, RoundStops, first_full, full_among, full_in, halt_of, halt_of_round, is_by_fuse, or_else}
+use Rattle.dali_run.specs.Generating.{EndedBy, FailsIn, IsCrashed, IsCutRound, IsMade, IsPlayed, IsRoundOf, NotRestarted, RoundStops, first_full, full_among, full_in, halt_of, halt_of_round, or_else}
 use Rattle.dali_run.specs.Program.{IsDown, PlacesIn, store_of, told_in}
 use Rattle.dali_run.specs.Halts.{status_in, status_of}
 use Rattle.dali_run.specs.Steps.{Plays, Restarts, StepsRestart, StepsSize}
@@ -74,15 +74,14 @@ in_all : (ts : List Transcribed) → EndsNone (first_full ts)
 in_all [] = tt
 in_all (t ∷ later) = in_either (full_among (lines_in t)) (first_full later) (in_lines (lines_in t)) (in_all later)
 
-by_halt : (full : Option Halt) (stop : Option Cause) (by_fuse : Bool) (halt : Halt) → EndsNone full → halt_of full stop by_fuse ≡ Some halt → MayEnd halt
-by_halt (Some first) stop by_fuse halt may is = let same : first ≡ halt = cc in subst MayEnd same may
-by_halt None (Some Store) true halt may is = let same : OutOfMemory ≡ halt = cc in subst MayEnd same tt
-by_halt None (Some Store) false halt may is = let same : StoreFault ≡ halt = cc in subst MayEnd same tt
-by_halt None (Some (Damage region)) by_fuse halt may is = let same : OutOfMemory ≡ halt = cc in subst MayEnd same tt
-by_halt None None by_fuse halt may is = absurd (cc)
+by_halt : (full : Option Halt) (stop : Option Cause) (halt : Halt) → EndsNone full → halt_of full stop ≡ Some halt → MayEnd halt
+by_halt (Some first) stop halt may is = let same : first ≡ halt = cc in subst MayEnd same may
+by_halt None (Some Store) halt may is = let same : StoreFault ≡ halt = cc in subst MayEnd same tt
+by_halt None (Some (Damage region)) halt may is = let same : OutOfMemory ≡ halt = cc in subst MayEnd same tt
+by_halt None None halt may is = absurd (cc)
 
-may_end : (ts : List Transcribed) (stop : Option Cause) (by_fuse : Bool) (halt : Halt) → halt_of_round ts stop by_fuse ≡ Some halt → MayEnd halt
-may_end ts stop by_fuse halt is = by_halt (first_full ts) stop by_fuse halt (in_all ts) is
+may_end : (ts : List Transcribed) (stop : Option Cause) (halt : Halt) → halt_of_round ts stop ≡ Some halt → MayEnd halt
+may_end ts stop halt is = by_halt (first_full ts) stop halt (in_all ts) is
 
 module _ {V : Type 0} (told : V → Option Files) (may_leave : V → Files → Type 0) (faults : V → ℕ) where
   plays_so : (blocks blocks' : List Told) (c d : Core (Fuse V)) (ts : List Transcribed) (precheck : Bool) → precheck ≡ false → blocks' ≡ blocks
@@ -90,17 +89,13 @@ module _ {V : Type 0} (told : V → Option Files) (may_leave : V → Files → T
   plays_so blocks blocks' c d ts precheck unchecked same plays =
       subst (λ (bs : List Told). Plays told may_leave faults false true bs c ts d) same (subst (λ (b : Bool). Plays told may_leave faults b true blocks' c ts d) unchecked plays)
 
-  pub is_round : (blocks blocks' : List Told) (c d : Core (Fuse V)) (ts ts' : List Transcribed) (stop : Option Cause) (failed now : ℕ) (ends result : Option Halt) (precheck : Bool)
-      → failed ≡ failed_of c.vault.store → now ≡ failed_of d.vault.store → precheck ≡ false → blocks' ≡ blocks → Plays told may_leave faults precheck true blocks' c ts d → IsNoShorter (told_in told) c.vault d.vault → PlacesIn told d
-      → ts' ≡ ts → stop ≡ d.system.state.stop → result ≡ halt_of_round ts' stop (nat_lt failed now) → result ≡ ends → IsRoundOf told may_leave faults blocks c ends d
-  is_round blocks blocks' c d ts ts' stop failed now ends result precheck was is_now unchecked same plays longer places read stopped computed is = record {
+  pub is_round : (blocks blocks' : List Told) (c d : Core (Fuse V)) (ts ts' : List Transcribed) (stop : Option Cause) (ends result : Option Halt) (precheck : Bool)
+      → precheck ≡ false → blocks' ≡ blocks → Plays told may_leave faults precheck true blocks' c ts d → IsNoShorter (told_in told) c.vault d.vault → PlacesIn told d
+      → ts' ≡ ts → stop ≡ d.system.state.stop → result ≡ halt_of_round ts' stop → result ≡ ends → IsRoundOf told may_leave faults blocks c ends d
+  is_round blocks blocks' c d ts ts' stop ends result precheck unchecked same plays longer places read stopped computed is = record {
     text = round_lines blocks (map lines_in ts);
     round = record { transcripts = ts; plays = plays_so blocks blocks' c d ts precheck unchecked same plays; longer = longer; places = places; printed = refl };
-    is =
-        ap (λ (s : Option Cause). halt_of_round ts s (is_by_fuse c d)) (sym stopped)
-        ∙ (ap (λ (l : List Transcribed). halt_of_round l stop (is_by_fuse c d)) (sym read)
-        ∙ (ap (λ (n : ℕ). halt_of_round ts' stop (nat_lt n (failed_of d.vault.store))) (sym was)
-        ∙ (ap (λ (n : ℕ). halt_of_round ts' stop (nat_lt failed n)) (sym is_now) ∙ (sym computed ∙ is))));
+    is = ap (λ (s : Option Cause). halt_of_round ts s) (sym stopped) ∙ (ap (λ (l : List Transcribed). halt_of_round l stop) (sym read) ∙ (sym computed ∙ is));
   }
 
   cut_so : (blocks blocks' : List Told) (c : Core (Fuse V)) (f : Fuse V) (precheck : Bool) → precheck ≡ false → blocks' ≡ blocks
@@ -210,7 +205,7 @@ module _ {V : Type 0} (told : V → Option Files) (may_leave : V → Files → T
       → IsMade told may_leave moment left_since faults 67108864 clients size start made → RoundStops told may_leave faults blocks made halt end → EndsSo halt start end
   ends_in_round halt start end made blocks same is_made (inl stops) =
       let round = subst (λ (bs : List Told). IsRoundOf told may_leave faults bs made (Some halt) stops.0) same stops.1 in
-      refused halt start end (record { made = made; is_made = is_made; played = stops.0; round = round }) (may_end round.round.transcripts stops.0.system.state.stop (is_by_fuse made stops.0) halt round.is) stops.2
+      refused halt start end (record { made = made; is_made = is_made; played = stops.0; round = round }) (may_end round.round.transcripts stops.0.system.state.stop halt round.is) stops.2
   ends_in_round halt start end made blocks same is_made (inr lost) =
       subst (λ (h : Halt). EndsSo h start end) (sym lost.2)
       (inr (inl (inr (record { made = made; is_made = is_made; left = lost.0; cut = subst (λ (bs : List Told). IsCutRound told may_leave faults bs made lost.0) same lost.1; store = lost.3 }))))

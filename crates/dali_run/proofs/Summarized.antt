@@ -64,7 +64,7 @@ use Rattle.dali_run.specs.declared.program.Program.{Program}
 use Rattle.dali_run.specs.declared.program.Program.TheVariants.{Up, Down}
 use Rattle.dali_run.specs.declared.status.Status.TheVariants.{Done}
 use Rattle.dali_run.specs.Ends.{Course, Ended, EndedGenerator, GeneratorFinds, LastLine}
-use Rattle.dali_run.specs.Generating.{first_full, halt_of, halt_of_round, is_by_fuse, sum_of_keys}
+use Rattle.dali_run.specs.Generating.{first_full, halt_of, halt_of_round, sum_of_keys}
 use Rattle.dali_run.specs.Honest.{NonePoked, PokesNowhere}
 use Rattle.dali_run.specs.Program.{IsDown, store_of, told_in, leaves_in, faults_in}
 use Rattle.dali_run.specs.Steps.{Plays, Restarts, StepsSize}
@@ -76,12 +76,11 @@ use Rattle.dali_run.proofs.Serves.{all_fit, are_told, one_each}
 use Rattle.dali_run.proofs.Surviving.{no_words, no_heads, none_synced, none_escapes, own_same, at_start, tells_on, told_there}
 
 -- ---- a round that ended nothing: its log had room, and nothing stopped it
-ended_none : (full : Option Halt) (stop : Option Cause) (by_fuse : Bool) → halt_of full stop by_fuse ≡ None → (full ≡ None) × (stop ≡ None)
-ended_none (Some halt) stop by_fuse e = absurd cc
-ended_none None (Some Store) true e = absurd cc
-ended_none None (Some Store) false e = absurd cc
-ended_none None (Some (Damage region)) by_fuse e = absurd cc
-ended_none None None by_fuse e = (refl, refl)
+ended_none : (full : Option Halt) (stop : Option Cause) → halt_of full stop ≡ None → (full ≡ None) × (stop ≡ None)
+ended_none (Some halt) stop e = absurd cc
+ended_none None (Some Store) e = absurd cc
+ended_none None (Some (Damage region)) e = absurd cc
+ended_none None None e = (refl, refl)
 
 -- ---- the whole log of a run where nobody wrote astray is a history
 take_whole : (L : List Record) → take (length L) L ≡ L
@@ -166,7 +165,7 @@ module _ {V : Type 0} (told : V → Option Disk) (may_leave : V → Disk → Typ
       served : HasServed calls (log_in files)
 
     served_behind : (made played : Core (Fuse V)) (ts : List Transcribed) → IsFirst (sizes_of (index_regions clients size) (heap_regions clients size)) made → Plays told may_leave faults false true blocks made ts played
-        → halt_of_round ts played.system.state.stop (is_by_fuse made played) ≡ None → is_some (told_in told played.vault.store) ≡ true → NonePoked played.regions.items → NoneEscapesAt told may_leave played
+        → halt_of_round ts played.system.state.stop ≡ None → is_some (told_in told played.vault.store) ≡ true → NonePoked played.regions.items → NoneEscapesAt told may_leave played
         → (c : Disk) → leaves_in may_leave played.vault.store c → IsLeftBy played c
     served_behind made played ts first plays ended tells quiet none c may =
         let s = sizes_of (index_regions clients size) (heap_regions clients size) in
@@ -196,7 +195,7 @@ module _ {V : Type 0} (told : V → Option Disk) (may_leave : V → Disk → Typ
         let whole : IsHistory (log_of w) =
         subst (λ (K : List Record). IsHistory K) log (whole_history (bases_of start) led.to.log led.to.core runs (right_at start led.batches led.to a.history E t) from calm) in
         let rows : HasNoRows a.point.core = λ n. ap (λ (p : Point). row_of p.core.system n) first.point ∙ get-empty nat_cmp n in
-        let two = ended_none (first_full ts) played.system.state.stop (is_by_fuse made played) ended in
+        let two = ended_none (first_full ts) played.system.state.stop ended in
         let all : AllServed (map lines_in ts) =
         generated_are_served clients size number start.log a.point.core led.to.core blocks (map lines_in ts) (map (λ (x : Transcribed). x.receipts) ts) within led.round before rows whole
         (are_told clients size number) (one_each clients size number) (ap (λ (z : SystemState). z.stop) stands.at.system ∙ two.1) (all_fit ts two.0) in

@@ -132,7 +132,7 @@ module _ {V : Type 0} (told : V → Option Files) (may_leave : V → Files → T
     abbrev pub GeneratorLoses : V → V → Type 0
     GeneratorLoses = IsLost told may_leave moment left_since faults 67108864 clients size number
 
-    -- nothing was done yet, or a command had no memory, or damage or a fuse stopped the round, or the summary had no memory
+    -- nothing was done yet, or a command had no memory, or damage stopped the round, or the summary had no memory
     abbrev pub GeneratorWants : V → V → Type 0
     GeneratorWants start end = (end ≡ start) ⊎ ((GeneratorStops halts.OutOfMemory start end ⊎ GeneratorLoses start end) ⊎ (GeneratorIsRefused halts.OutOfMemory start end ⊎ FindsLast start end))
 

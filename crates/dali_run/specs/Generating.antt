@@ -1,8 +1,7 @@
 -- How a generated script is run: a database is made, its one round is run, a crash follows and a restart, and what memory stores then is counted.
 --     full_among lines, first_full ts    the first line that says that the log is full, of a client and of all, by ascending number
---     halt_of_round ts stop by_fuse      what ends such a run behind its round, whose engine is stopped so, or isn't: a full log; else the store, or damage, which is told
---                                        as want of memory, as is a call that a fuse failed; none is set, and nobody writes astray
---     is_by_fuse made played             a fuse failed a call in it
+--     halt_of_round ts stop              what ends such a run behind its round, whose engine is stopped so, or isn't: a full log; else the store, or damage, which is told
+--                                        as want of memory, though nobody writes astray in it
 --     script_of                          the script of these numbers
 --     IsMade, IsPlayed, IsCrashed, IsFound start ..    how far it was run
 --     Summarizes start text end          to its end, and this is the summary of what memory stores then
@@ -10,14 +9,14 @@
 --     NotFound start end                 the restart found no database, since a fuse failed a call of its store
 --     IsLost start end                   the round had no memory
 --     EndedBy halt start end             another command of the script ended the run: the database wasn't made, or behind a round that went well the crash or the restart failed
-use Rattle.std.specs.Prelude.{◌≡◌, ◌⊎◌, ℕ, ◌%◌, Bool, true, false, List, [], ◌∷◌, length, map, nat_lt, Option, Some, None}
+use Rattle.std.specs.Prelude.{◌≡◌, ◌⊎◌, ℕ, ◌%◌, Bool, true, false, List, [], ◌∷◌, length, map, Option, Some, None}
 use Rattle.std.specs.List.{sum_by}
 use Rattle.dali_clients.specs.Said.{Transcribed}
 use Rattle.dali_generator.specs.Generated.{generated, index_regions, heap_regions}
 use Rattle.dali_generator.specs.Summary.{summary_of}
 use Rattle.dali_listing.specs.declared.Listed.{Listed}
 use Rattle.dali_listing.specs.Listing.{IsListing, in_memory}
-use Rattle.dali_memstore.specs.Fuse.{failed_of, inner}
+use Rattle.dali_memstore.specs.Fuse.{inner}
 use Rattle.dali_memstore.specs.declared.fuse.Fuse.{Fuse}
 use Rattle.dali_round.specs.Leads.{lines_in}
 use Rattle.dali_script.specs.declared.commands.Command.{Command}
@@ -53,18 +52,14 @@ abbrev pub first_full : List Transcribed → Option Halt
 first_full [] = None
 first_full (t ∷ later) = or_else (full_among (lines_in t)) (first_full later)
 
-abbrev pub halt_of : Option Halt → Option Cause → (by_fuse : Bool) → Option Halt
-halt_of (Some halt) stop by_fuse = Some halt
-halt_of None (Some Store) true = Some OutOfMemory
-halt_of None (Some Store) false = Some StoreFault
-halt_of None (Some (Damage region)) by_fuse = Some OutOfMemory
-halt_of None None by_fuse = None
+abbrev pub halt_of : Option Halt → Option Cause → Option Halt
+halt_of (Some halt) stop = Some halt
+halt_of None (Some Store) = Some StoreFault
+halt_of None (Some (Damage region)) = Some OutOfMemory
+halt_of None None = None
 
-abbrev pub halt_of_round : List Transcribed → Option Cause → Bool → Option Halt
-halt_of_round ts stop by_fuse = halt_of (first_full ts) stop by_fuse
-
-abbrev pub is_by_fuse : {V : Type 0} → Core (Fuse V) → Core (Fuse V) → Bool
-is_by_fuse made played = nat_lt (failed_of made.vault.store) (failed_of played.vault.store)
+abbrev pub halt_of_round : List Transcribed → Option Cause → Option Halt
+halt_of_round ts stop = halt_of (first_full ts) stop
 
 -- modulo two to the 64th
 abbrev pub sum_of_keys : List Listed → ℕ
@@ -78,7 +73,7 @@ module _ {V : Type 0} (told : V → Option Files) (may_leave : V → Files → T
   pub record IsRoundOf (blocks : List Told) (made : Core (Fuse V)) (ends : Option Halt) (played : Core (Fuse V)) : Type 0 where
     pub text : List ℕ
     pub round : RunsRound told may_leave faults false blocks made text played
-    pub is : halt_of_round round.transcripts played.system.state.stop (is_by_fuse made played) ≡ ends
+    pub is : halt_of_round round.transcripts played.system.state.stop ≡ ends
 
   -- nothing was done of the round, or it was cut
   abbrev pub IsCutRound : List Told → Core (Fuse V) → Fuse V → Type 0

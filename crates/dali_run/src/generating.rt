@@ -82,23 +82,16 @@ fn first_full(transcripts: &[Transcript]) -> Option<Halt>
     None
 }
 
-// What ends the run behind its round: a full log, or else what stopped the engine, which is the store. A call that a fuse failed
-// would be told as want of memory; none is set.
-fn halt_of_round(transcripts: &[Transcript], stop: Option<Cause>, by_fuse: bool) -> Option<Halt>
-    ensures { result ≡ halt_of_round transcripts.now stop by_fuse }
+// What ends the run behind its round: a full log, or else what stopped the engine, which is the store.
+fn halt_of_round(transcripts: &[Transcript], stop: Option<Cause>) -> Option<Halt>
+    ensures { result ≡ halt_of_round transcripts.now stop }
 {
     let full = first_full(transcripts);
     if full.is_some() {
         return full;
     }
     match stop {
-        Some(Cause::Store) => {
-            if by_fuse {
-                Some(Halt::OutOfMemory)
-            } else {
-                Some(Halt::StoreFault)
-            }
-        }
+        Some(Cause::Store) => Some(Halt::StoreFault),
         Some(Cause::Damage { .. }) => Some(Halt::OutOfMemory),
         None => None,
     }
@@ -164,13 +157,11 @@ fn played<V: Store, G: Gate>(
     let Ok(blocks) = blocks_of(setting.alloc, told) else {
         return Err(give_up(core, Halt::OutOfMemory));
     };
-    let failed = core.vault.failed();
     let (core, transcripts) = play(setting, &blocks, core);
     match transcripts {
         Ok(transcripts) => {
             let stop = core.system.stopped();
-            let now = core.vault.failed();
-            match halt_of_round(&transcripts, stop, failed < now) {
+            match halt_of_round(&transcripts, stop) {
                 None => Ok(core),
                 Some(halt) => Err(give_up(core, halt)),
             }

@@ -71,7 +71,8 @@ pub fn pokes_are_told<V: Store>()
 /// A failure of the store shows in its count. Where a crash may leave of the store that was handed in only files of this
 /// program, and no damage escapes where a command gives the memory up, a run with the status `StoreFault` was ended by a command
 /// in which the store's own count of faults rose, a lone `poke`, `audit` or `checkpoint` too; or this count and the calls that the
-/// fuse failed come to 2^64 - 1 or more. So it is of a generated run, whose round counts too; of the damage nothing is asked there.
+/// fuse failed come to 2^64 - 1 or more. So it is of a generated run, whose round counts too, unless a fuse failed a call in it, which
+/// none is set for; of the damage nothing is asked there.
 pub fn store_faults_rise<V: Store>()
     ensures generated { GeneratorFaultsRise V.told V.may_leave V.moment V.left_since V.faults V.cuts }
     ensures scripts { (limit : ℕ) (precheck : Bool) → StoreFaultsRise V.told V.may_leave V.moment V.left_since V.faults limit V.cuts precheck }

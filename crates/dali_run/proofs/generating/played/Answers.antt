@@ -14,7 +14,7 @@ returns-in_default-clause-stops g c = inr (c.args.core.vault.store, inl refl, c.
 pub returns-in-None-clause-plays : goal.returns-in-None-clause-plays
 returns-in-None-clause-plays g c = (
   is_round g.V.Store.told g.V.Store.may_leave g.V.Store.faults (map told_by c.args.told.now) (map told_of c.deref.result.now) c.args.core c.play-core.result.0 c.in-Ok-transcripts.transcripts.items
-      c.deref-in-Ok-transcripts.result.now c.stopped-stop.result c.failed-failed.result c.failed-now.result None c.halt_of_round.result c.args.setting.now.precheck c.failed-failed.ensures c.failed-now.ensures c.requires.unchecked
+      c.deref-in-Ok-transcripts.result.now c.stopped-stop.result None c.halt_of_round.result c.args.setting.now.precheck c.requires.unchecked
       (ap (λ (bs : List Block). map told_of bs) c.deref.ensures.value ∙ c.in-Ok.ensures)
       (ok_holds _ c.play-core.result.1 c.in-Ok-transcripts.transcripts c.in-Ok-transcripts.is c.play-core.ensures.plays)
       c.play-core.ensures.longer c.play-core.ensures.places c.deref-in-Ok-transcripts.ensures.value c.stopped-stop.ensures c.halt_of_round.ensures c.in-None.is,
@@ -24,7 +24,7 @@ returns-in-None-clause-plays g c = (
 pub returns-in-Ok-transcripts-clause-stops : goal.returns-in-Ok-transcripts-clause-stops
 returns-in-Ok-transcripts-clause-stops g c =
     let round = is_round g.V.Store.told g.V.Store.may_leave g.V.Store.faults (map told_by c.args.told.now) (map told_of c.deref.result.now) c.args.core c.play-core.result.0 c.in-Ok-transcripts.transcripts.items
-    c.deref-in-Ok-transcripts.result.now c.stopped-stop.result c.failed-failed.result c.failed-now.result (Some c.in-Some.halt) c.halt_of_round.result c.args.setting.now.precheck c.failed-failed.ensures c.failed-now.ensures c.requires.unchecked
+    c.deref-in-Ok-transcripts.result.now c.stopped-stop.result (Some c.in-Some.halt) c.halt_of_round.result c.args.setting.now.precheck c.requires.unchecked
     (ap (λ (bs : List Block). map told_of bs) c.deref.ensures.value ∙ c.in-Ok.ensures)
     (ok_holds _ c.play-core.result.1 c.in-Ok-transcripts.transcripts c.in-Ok-transcripts.is c.play-core.ensures.plays)
     c.play-core.ensures.longer c.play-core.ensures.places c.deref-in-Ok-transcripts.ensures.value c.stopped-stop.ensures c.halt_of_round.ensures c.in-Some.is in
