@@ -481,6 +481,9 @@ fn run_in(kind: Kind, count: u64, calls: u64, coded: bool) -> Option<Timing> {
     let timing = timed(count / calls * calls, unit, || {
         database.transactions(kind, count, calls)
     })?;
+    if coded && !database.regions.iter().all(Region::is_coded) {
+        return None;
+    }
     Some(timing.checked(mix_bytes(&database.log)))
 }
 

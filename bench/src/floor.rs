@@ -5,11 +5,9 @@ use crate::codec::{self, Answer, Call, Op, Outcome, Record, Undo, Value};
 use crate::keys::scattered;
 use std::collections::HashMap;
 use std::fs::{self, File, OpenOptions};
-use std::hint::black_box;
-use std::io;
+use std::io::{self, BufReader, Read};
 use std::os::unix::fs::FileExt;
 use std::path::Path;
-use std::time::Instant;
 
 const OPEN: u8 = 0xa5;
 const CLOSED: u8 = 0;
@@ -267,8 +265,8 @@ impl Floor {
         );
     }
 
-    /// One transaction of a client, for which this number was drawn.
-    fn transaction(&mut self, files: &mut Files, key: u64, is_first: bool, drawn: u64) -> Option<()> {
+    /// One transaction of a client, for which this number was drawn. Its commit is flushed, or waits for a later one's flush.
+    fn transaction(&mut self, files: &mut Files, key: u64, is_first: bool, drawn: u64, flushes: bool) -> Option<()> {
         let txn = self.next;
         self.next += 1;
         let value = Value::from_bytes(format!("v{}", drawn % 1_000_000).as_bytes())?;
@@ -284,7 +282,9 @@ impl Floor {
             }
         }
         codec::encode(&Record::Commit { txn }, &mut self.batch);
-        files.add(&mut self.batch).ok()?;
+        if flushes {
+            files.add(&mut self.batch).ok()?;
+        }
         if let Some(freed) = freed {
             self.free(txn, freed);
         }
@@ -331,8 +331,9 @@ fn restart(files: &mut Files, regions: u64, map: &HashMap<u64, Kept>) -> Option<
     gated(&files.anchor, 0, &[CLOSED]).ok()
 }
 
-/// What the words `gen CLIENTS SIZE NUMBER` do, in a folder. The text is what `dali` prints.
-pub fn run(clients: u64, size: u64, number: u64, folder: &Path) -> Option<String> {
+/// What the words `gen CLIENTS SIZE NUMBER` do, in a folder, where so many flushes serve all commits. The text is what `dali`
+/// prints.
+pub fn run(clients: u64, size: u64, number: u64, flushes: u64, folder: &Path) -> Option<String> {
     let mut files = Files::make(folder).ok()?;
     let mut floor = Floor {
         index: clients * size / 10 + 1,
@@ -349,21 +350,43 @@ pub fn run(clients: u64, size: u64, number: u64, folder: &Path) -> Option<String
     files.add(&mut floor.batch).ok()?;
     files.anchor.write_all_at(&[CLOSED], 0).ok()?;
     files.anchor.sync_data().ok()?;
+    let count = clients * size;
+    let mut made = 0;
     for client in 1..=clients {
         let mut state = number ^ client;
         for place in 0..size {
             state = state.wrapping_mul(MULTIPLIER).wrapping_add(INCREMENT);
             let key = client * 1_000_000 + place;
-            floor.transaction(&mut files, key, place == 0, state >> 33)?;
+            let flushed = made * flushes / count;
+            made += 1;
+            floor.transaction(&mut files, key, place == 0, state >> 33, made * flushes / count > flushed)?;
         }
     }
     restart(&mut files, floor.index + floor.heap, &floor.map)?;
     let keys: u64 = floor.map.keys().fold(0, |sum, key| sum.wrapping_add(*key));
     Some(format!(
         "clients {clients}\ntransactions {}\nrecords {}\nkeys {keys}\n",
-        clients * size,
+        count,
         floor.map.len()
     ))
+}
+
+/// How many batches a folder's log has. The log is read in parts, so that little of it becomes resident: what this program has
+/// resident is counted in each that it starts.
+pub fn batches(folder: &Path) -> Option<u64> {
+    let mut log = BufReader::new(File::open(folder.join("dali.log")).ok()?);
+    let mut count = 0;
+    loop {
+        let mut gate = [0];
+        log.read_exact(&mut gate).ok()?;
+        if gate == [CLOSED] {
+            return Some(count);
+        }
+        let mut length = [0; 4];
+        log.read_exact(&mut length).ok()?;
+        log.seek_relative(i64::from(u32::from_be_bytes(length))).ok()?;
+        count += 1;
+    }
 }
 
 /// The files of a database are read once. The count is how many bytes they have.
@@ -373,28 +396,4 @@ pub fn read(folder: &Path) -> Option<u64> {
         count += fs::read(folder.join(name)).ok()?.len() as u64;
     }
     Some(count)
-}
-
-/// The words of so many regions, in one piece, and room for a copy.
-pub struct Words {
-    words: Vec<u64>,
-    copy: Vec<u64>,
-}
-
-impl Words {
-    pub fn new(regions: u64) -> Words {
-        let words: Vec<u64> = (0..64 * regions).map(scattered).collect();
-        let copy = vec![1; words.len()];
-        Words { words, copy }
-    }
-
-    /// How many milliseconds one of so many copies takes.
-    pub fn copy(&mut self, repeats: u32) -> f64 {
-        let start = Instant::now();
-        for _ in 0..repeats {
-            self.copy.copy_from_slice(black_box(&self.words));
-            black_box(&self.copy);
-        }
-        start.elapsed().as_secs_f64() * 1000.0 / f64::from(repeats)
-    }
 }

@@ -23,6 +23,7 @@ fn time(words: &[&str]) -> Option<Timing> {
         ["locks", count] => locks::run(count.parse().ok()?),
         ["update", count] => regions::update(count.parse().ok()?, regions::REGIONS),
         ["check", count] => regions::copy(count.parse().ok()?, regions::REGIONS),
+        ["copy", count, regions] => regions::copy(count.parse().ok()?, regions.parse().ok()?),
         ["parse", count] => script::run(count.parse().ok()?),
         ["claims", count] => shared::draw(count.parse().ok()?),
         ["notes", count] => shared::note(count.parse().ok()?),
@@ -44,15 +45,15 @@ fn time(words: &[&str]) -> Option<Timing> {
 }
 
 const USAGE: &str = "usage: bench codec|locks|update|check|parse|claims|notes|insert|get|change|delete|tens|uncoded|audit|apart COUNT, \
-    bench commit|checkpoint|clean|dirty COUNT FOLDER, bench recover FOLDER, bench gen CLIENTS SIZE NUMBER FOLDER, bench read FOLDER, \
-    bench table PROGRAM FOLDER [ROW..], or bench whole PROGRAM FOLDER MEMORY [ROW..]";
+    bench commit|checkpoint|clean|dirty COUNT FOLDER, bench recover FOLDER, bench gen CLIENTS SIZE NUMBER FLUSHES FOLDER, bench read FOLDER, \
+    bench copy COUNT REGIONS, bench table PROGRAM SCRIPT FOLDER [ROW..], or bench whole PROGRAM FOLDER MEMORY [ROW..]";
 
 /// The floor of the generated round.
-fn generate(numbers: [&str; 3], folder: &Path) -> Result<(), String> {
-    let [Ok(clients), Ok(size), Ok(number)] = numbers.map(str::parse) else {
+fn generate(numbers: [&str; 4], folder: &Path) -> Result<(), String> {
+    let [Ok(clients), Ok(size), Ok(number), Ok(flushes)] = numbers.map(str::parse) else {
         return Err(USAGE.to_string());
     };
-    match floor::run(clients, size, number, folder) {
+    match floor::run(clients, size, number, flushes, folder) {
         Some(text) => {
             print!("{text}");
             Ok(())
@@ -66,13 +67,15 @@ fn main() -> ExitCode {
     let words: Vec<&str> = words.iter().map(String::as_str).collect();
     let outcome = match words.as_slice() {
         [] => Err(USAGE.to_string()),
-        ["table", program, folder, names @ ..] => {
-            table::print(Path::new(program), Path::new(folder), names).map_err(|error| error.to_string())
+        ["table", program, script, folder, names @ ..] => {
+            table::print(Path::new(program), Path::new(script), Path::new(folder), names).map_err(|error| error.to_string())
         }
         ["whole", program, folder, memory, names @ ..] => {
             whole::print(Path::new(program), Path::new(folder), Path::new(memory), names).map_err(|error| error.to_string())
         }
-        ["gen", clients, size, number, folder] => generate([clients, size, number], Path::new(folder)),
+        ["gen", clients, size, number, flushes, folder] => {
+            generate([clients, size, number, flushes], Path::new(folder))
+        }
         ["read", folder] => match floor::read(Path::new(folder)) {
             Some(count) => {
                 println!("{count}");

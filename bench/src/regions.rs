@@ -79,6 +79,11 @@ impl Region {
         self.hold.map_or(0, |hold| hold.xor)
     }
 
+    /// Whether the codeword is that of the words.
+    pub fn is_coded(&self) -> bool {
+        self.codeword == self.words.iter().fold(0, |all, word| all ^ word)
+    }
+
     /// Updates a word, and keeps the codeword.
     pub fn update_coded(&mut self, word: usize, value: u64) {
         self.codeword ^= self.words[word] ^ value;

@@ -17,8 +17,8 @@ const HEAD: &str = "\
 
 /// What one run of a program gave: its rate, its check number, and the most memory that was resident.
 #[derive(Clone, Copy)]
-struct Run {
-    rate: u64,
+pub struct Run {
+    pub rate: u64,
     check: u64,
     kibibytes: i64,
 }
@@ -366,8 +366,8 @@ const SCRIPTED: u64 = 6_000;
 
 const MOST_SCRIPTED: f64 = 1.5;
 
-/// The inserts of the row of the codewords' share, which is told of the plain Rust side: dali's own update always keeps
-/// them.
+/// The inserts of the row of the codewords' share. Both of its sides are the plain Rust side, since dali's own update always keeps
+/// codewords. Of the calls an insert writes the most words.
 const CODED: u64 = 100_000;
 
 const MOST_CODED: f64 = 1.05;
@@ -412,7 +412,7 @@ fn output(command: &mut Command) -> io::Result<(String, i64)> {
 }
 
 /// Runs a program that prints `RATE UNIT a second, check CHECK`.
-fn run(command: &mut Command) -> io::Result<Run> {
+pub fn run(command: &mut Command) -> io::Result<Run> {
     let (text, kibibytes) = output(command)?;
     let mut words = text.split_whitespace();
     let rate = words.next().and_then(|word| word.parse().ok());
@@ -594,8 +594,8 @@ fn print_machine(folder: &Path) -> io::Result<()> {
         .find_map(|line| line.strip_prefix("model name")?.split_once(": "))
         .map_or("an unknown processor", |(_, model)| model);
     println!("{cores} cores of {model}; files on {}.", disk_of(folder)?);
-    println!("Medians of {TURNS} runs each, of commits, checkpoints, growth and the script {SHORT_TURNS}. `half of the turns` says between which two ratios");
-    println!("half of them lie.");
+    println!("Medians of {TURNS} runs each, of commits, checkpoints, codewords, growth and the script {SHORT_TURNS}. `half of the turns` says");
+    println!("between which two ratios half of them lie.");
     println!("Rates are a second.");
     println!("Memory is the most that was resident, in MiB (2^20 bytes). Near 2 or 3 MiB it says nothing, since what this");
     println!("program has resident is counted in each that it starts.");
@@ -640,9 +640,11 @@ pub fn make_anew(folder: &Path) -> io::Result<()> {
     }
 }
 
-/// Both programs, and the folders of their files.
+/// The programs, and the folders of their files.
 struct Sides<'a> {
     dali: &'a Path,
+    /// dali's program that runs a script.
+    script: &'a Path,
     beside: PathBuf,
     /// Where runs make files and remove them.
     new: PathBuf,
@@ -718,6 +720,11 @@ impl Sides<'_> {
         run(&mut command)
     }
 
+    /// A script of so many transactions is run, in memory.
+    fn script(&self, transactions: u64) -> io::Result<Run> {
+        run(Command::new(self.script).arg(transactions.to_string()))
+    }
+
     /// dali's program alone, which does so much of this in memory.
     fn alone(&self, name: &str, count: u64) -> io::Result<Run> {
         let mut command = Command::new(self.dali);
@@ -744,9 +751,9 @@ fn print_count(sides: &Sides, what: &str, goal: &Goal, row: &Row, count: Option<
     Ok(())
 }
 
-/// Prints the rows with these names.
-fn print_rows(sides: &Sides, names: &[&str]) -> io::Result<()> {
-    for row in ROWS.iter().filter(|row| names.contains(&row.name)) {
+/// Prints the rows whose names are asked for.
+fn print_rows(sides: &Sides, is_asked: impl Fn(&str) -> bool) -> io::Result<()> {
+    for row in ROWS.iter().filter(|row| is_asked(row.name)) {
         sides.make_files(row)?;
         print_count(sides, row.dali, &row.goal, row, row.count)?;
         for count in row.others {
@@ -797,11 +804,11 @@ fn print_scripts(sides: &Sides) -> io::Result<()> {
     let mut direct = Vec::new();
     for turn in 0..SHORT_TURNS {
         if turn % 2 == 0 {
-            script.push(sides.alone("script", SCRIPTED)?);
+            script.push(sides.script(SCRIPTED)?);
             direct.push(sides.alone("direct", SCRIPTED)?);
         } else {
             direct.push(sides.alone("direct", SCRIPTED)?);
-            script.push(sides.alone("script", SCRIPTED)?);
+            script.push(sides.script(SCRIPTED)?);
         }
     }
     compare("script", script.iter().chain(&direct))?;
@@ -809,12 +816,13 @@ fn print_scripts(sides: &Sides) -> io::Result<()> {
     Ok(())
 }
 
-/// Runs `program` and this one in turn, with files in a new folder within this one, and prints the table, or the rows with these
-/// names alone.
-pub fn print(program: &Path, folder: &Path, names: &[&str]) -> io::Result<()> {
+/// Runs dali's two programs and this one in turn, with files in a new folder within this one, and prints the table, or the rows with
+/// these names alone: those of `ROWS`, and `codewords`, `growth` and `script`.
+pub fn print(program: &Path, script: &Path, folder: &Path, names: &[&str]) -> io::Result<()> {
     let own = OwnFolder::make(folder)?;
     let sides = Sides {
         dali: program,
+        script,
         beside: std::env::current_exe()?,
         new: own.path.join("new"),
         made: own.path.join("made"),
@@ -823,16 +831,16 @@ pub fn print(program: &Path, folder: &Path, names: &[&str]) -> io::Result<()> {
     fs::create_dir(&sides.new)?;
     print_machine(&own.path)?;
     println!("{HEAD}");
-    match names {
-        ["script"] => return print_scripts(&sides),
-        ["growth"] => return print_growths(&sides),
-        _ => (),
+    let is_asked = |name: &str| names.is_empty() || names.contains(&name);
+    print_rows(&sides, is_asked)?;
+    if is_asked("codewords") {
+        print_codewords(&sides)?;
     }
-    if !names.is_empty() {
-        return print_rows(&sides, names);
+    if is_asked("growth") {
+        print_growths(&sides)?;
     }
-    print_rows(&sides, &ROWS.each_ref().map(|row| row.name))?;
-    print_codewords(&sides)?;
-    print_growths(&sides)?;
-    print_scripts(&sides)
+    if is_asked("script") {
+        print_scripts(&sides)?;
+    }
+    Ok(())
 }

@@ -15,11 +15,6 @@ impl Timing {
     pub fn checked(self, check: u64) -> Timing {
         Timing { check, ..self }
     }
-
-    /// How long it took.
-    pub fn milliseconds(&self) -> f64 {
-        self.elapsed.as_secs_f64() * 1000.0
-    }
 }
 
 /// Times what the closure does. The check number is 0.

@@ -1,8 +1,8 @@
 //! The rows of the whole program: its words and its scripts over real files, each run a process of its own, which is timed from
 //! its start to its end.
-use crate::files;
 use crate::floor;
-use crate::table::{in_threes, make_anew, wait, OwnFolder};
+use crate::keys::mix_bytes;
+use crate::table::{self, in_threes, make_anew, wait, OwnFolder};
 use std::fs::{self, File};
 use std::io::{self, Write};
 use std::path::{Path, PathBuf};
@@ -17,6 +17,9 @@ const LONG_TURNS: usize = 3;
 const ROUND: [&str; 4] = ["gen", "64", "1000", "7"];
 const REGIONS: u64 = 19_202;
 
+/// The bytes of a region's words.
+const REGION: u64 = 512;
+
 /// How often a script repeats what is timed of it.
 const REPEATS: u32 = 50;
 
@@ -27,11 +30,11 @@ const HEAD: &str = "\
 | what is timed | beside | dali | the other | ratio | half of the turns | goal | met | dali's MiB | the other's MiB |
 |---|---|---|---|---|---|---|---|---|---|";
 
-/// One run: how long it took, how much was resident at most, and what it printed.
+/// One run: how long it took, how much was resident at most, and the check number of what it printed.
 struct Run {
     time: Duration,
     kibibytes: i64,
-    text: Vec<u8>,
+    check: u64,
 }
 
 /// How dali's time is compared with that of the other side.
@@ -60,8 +63,8 @@ fn run(program: &Path, words: &[&str], input: &str, folder: &Path) -> io::Result
     let child = command.spawn()?;
     let kibibytes = wait(&child, &format!("{command:?}"))?;
     let time = start.elapsed();
-    let text = fs::read(printed)?;
-    Ok(Run { time, kibibytes, text })
+    let check = mix_bytes(&fs::read(printed)?);
+    Ok(Run { time, kibibytes, check })
 }
 
 fn copy(from: &Path, to: &Path) -> io::Result<()> {
@@ -151,7 +154,8 @@ fn in_turn<T>(
 }
 
 /// Both sides print the same, and leave logs of one length but for one part in a thousand: where clients take turns, other
-/// records stand behind the last commit, which are lost, and some index regions fill, which the other side has none of.
+/// records stand behind the last commit, which are lost, and some index regions fill, which the other side has none of. The
+/// other side flushes as often: two batches of dali's log are none of commits, its first one and the restart's.
 fn print_round(programs: &Programs, what: &str, least: f64, turns: usize, folder: &Path) -> io::Result<()> {
     let (new, bare) = (folder.join("new"), folder.join("bare"));
     let (dali, other) = in_turn(
@@ -161,10 +165,12 @@ fn print_round(programs: &Programs, what: &str, least: f64, turns: usize, folder
             run(&programs.dali, &ROUND, "", &new)
         },
         || {
+            let batches = floor::batches(&new).ok_or_else(|| io::Error::other("dali's log doesn't end"))?;
+            let flushes = batches.saturating_sub(2).to_string();
             make_anew(&bare)?;
             run(
                 &programs.beside,
-                &[ROUND[0], ROUND[1], ROUND[2], ROUND[3], "."],
+                &[ROUND[0], ROUND[1], ROUND[2], ROUND[3], &flushes, "."],
                 "",
                 &bare,
             )
@@ -174,7 +180,7 @@ fn print_round(programs: &Programs, what: &str, least: f64, turns: usize, folder
     let [Ok(length), Ok(bare_length)] = lengths else {
         return Err(io::Error::other("a log lacks"));
     };
-    if dali.iter().chain(&other).any(|run| run.text != dali[0].text) || length.abs_diff(bare_length) > length / 1000 {
+    if dali.iter().chain(&other).any(|run| run.check != dali[0].check) || length.abs_diff(bare_length) > length / 1000 {
         return Err(io::Error::other(format!(
             "the two rounds differ: {length} and {bare_length} bytes of log"
         )));
@@ -231,6 +237,12 @@ fn once(programs: &Programs, line: &str, made: &Path, at: &Path) -> io::Result<f
     Ok((with.time.as_secs_f64() - without.time.as_secs_f64()) * 1000.0 / f64::from(REPEATS))
 }
 
+/// How many milliseconds the other side takes for so many things, by the rate that it prints.
+fn spent(programs: &Programs, words: &[&str], count: u64) -> io::Result<f64> {
+    let rate = table::run(Command::new(&programs.beside).args(words))?.rate;
+    Ok(count as f64 * 1000.0 / rate as f64)
+}
+
 fn print_line(
     programs: &Programs,
     line: &str,
@@ -267,7 +279,7 @@ fn print_precheck(programs: &Programs, folder: &Path) -> io::Result<()> {
         run(&programs.dali, words, &text, &new)
     };
     let (with, without) = in_turn(TURNS, || with_words(&["run", "--precheck"]), || with_words(&["run"]))?;
-    if with.iter().chain(&without).any(|run| run.text != with[0].text) {
+    if with.iter().chain(&without).any(|run| run.check != with[0].check) {
         return Err(io::Error::other("prechecks change what is printed"));
     }
     print_row(
@@ -284,10 +296,6 @@ fn print_precheck(programs: &Programs, folder: &Path) -> io::Result<()> {
     Ok(())
 }
 
-fn failed() -> io::Error {
-    io::Error::other("the other side failed")
-}
-
 /// Prints the rows, or those with these names: `gen`, `memory`, `restart`, `audit`, `checkpoint`, `precheck`. The second folder
 /// is one whose files lie in memory.
 pub fn print(program: &Path, folder: &Path, memory: &Path, names: &[&str]) -> io::Result<()> {
@@ -298,7 +306,8 @@ pub fn print(program: &Path, folder: &Path, memory: &Path, names: &[&str]) -> io
     };
     let (disk, memory) = (fs::canonicalize(&own.path)?, fs::canonicalize(&own_memory.path)?);
     let asked = |name: &str| names.is_empty() || names.contains(&name);
-    println!("Medians of {TURNS} runs each, over real files {LONG_TURNS}.\n\n{HEAD}");
+    println!("Medians of {TURNS} runs each, over real files {LONG_TURNS}. Memory is the most that was resident, in MiB (2^20 bytes). Near 2 or 3 MiB");
+    println!("it says nothing, since what this program has resident is counted in each that it starts.\n\n{HEAD}");
     if asked("gen") {
         print_round(&programs, "`gen 64 1000 7`, real files", 0.9, LONG_TURNS, &disk)?;
     }
@@ -314,8 +323,8 @@ pub fn print(program: &Path, folder: &Path, memory: &Path, names: &[&str]) -> io
         print_restart(&programs, &made, &memory)?;
     }
     if asked("audit") {
-        let mut words = floor::Words::new(REGIONS);
-        let other = || Ok(words.copy(REPEATS));
+        let words = ["copy", &REPEATS.to_string(), &REGIONS.to_string()];
+        let other = || spent(&programs, &words, REGIONS * REGION);
         print_line(
             &programs,
             "audit",
@@ -327,10 +336,8 @@ pub fn print(program: &Path, folder: &Path, memory: &Path, names: &[&str]) -> io
         )?;
     }
     if asked("checkpoint") {
-        let other = || {
-            let timing = files::image(REGIONS, &memory).ok_or_else(failed)?;
-            Ok(timing.milliseconds())
-        };
+        let words = ["checkpoint", &REGIONS.to_string(), &memory.to_string_lossy()];
+        let other = || spent(&programs, &words, REGIONS);
         print_line(
             &programs,
             "checkpoint",

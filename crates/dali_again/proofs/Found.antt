@@ -1,23 +1,21 @@
 -- The files of a crash image are found, whether their log is a history or not.
-use Rattle.std.proofs.Common.{◌≡◌, ℕ, ◌-◌, ◌<◌, ◌≤◌, List, [], Some, length, take, slice_get, refl, ap, sym, subst, ◌∙◌, arith}
-use Rattle.std.specs.Prelude.{fold}
+use Rattle.std.proofs.Common.{◌≡◌, ◌-◌, ◌<◌, ◌≤◌, List, [], Some, length, take, slice_get, refl, ap, sym, subst, ◌∙◌, ⊎_elim, arith}
+use Rattle.std.specs.Prelude.{◌⊎◌, ℕ, fold}
 use Rattle.std.specs.List.{AllByRecursion}
 use Rattle.std.proofs.Math.Seq.{take-append_seam}
 use Rattle.std.proofs.lemmas.List.{append-nil, length-take-le}
 use Rattle.std.proofs.lemmas.Option.{slice_get_within}
+use Rattle.dali_lists.proofs.Lists.{get_within as found, get_take, length_take}
 use Rattle.dali_geometry.specs.Sizes.{Sizes}
 use Rattle.dali_geometry.specs.Places.{formatted_image}
 use Rattle.dali_record.specs.declared.records.Record.{Record}
 use Rattle.dali_record.specs.declared.records.Record.TheVariants.{Format}
-use Rattle.dali_record.specs.Log.{touch_in}
 use Rattle.dali_record.specs.Epochs.{Epoch, Cut, cut, last_epoch}
-use Rattle.dali_record.specs.Locks.{EndedBetween, IsLockLegalIn}
+use Rattle.dali_record.specs.Locks.{IsLockLegalIn}
 use Rattle.dali_record.specs.Legal.{sizes_of, IsLegalFor}
 use Rattle.dali_record.specs.Files.{Files}
-use Rattle.dali_record.proofs.Pushes.{touch_within}
 use Rattle.dali_history.specs.Recovered.{recover, base_of, recovered}
 use Rattle.dali_headline.proofs.NothingToFree.{recovered-base}
-use Rattle.dali_counts.proofs.Lists.{found, get_take, length_take}
 use Rattle.dali_counts.proofs.Fronts.{prefix_legal}
 use Rattle.dali_system.specs.State.{CoreState, stable}
 use Rattle.dali_system.specs.Run.{RunsOn, IsPrefix, log_in, only}
@@ -28,20 +26,16 @@ use Rattle.dali_crash.specs.CrashLogs.{cut_to}
 use Rattle.dali_crash.specs.Starts.{IsLawful}
 use Rattle.dali_crash.specs.StoreRuns.{StoreRun}
 use Rattle.dali_crash.specs.Traces.{Start, StartsAt, start_point, bases_of}
-use Rattle.dali_crash.proofs.CrashLogs.{cut_parts}
+use Rattle.dali_crash.proofs.CrashLogs.{cut_parts, locks_cut}
 use Rattle.dali_crash.proofs.Restarts.{sizes_take, begins_behind, some_sizes}
 use Rattle.dali_crash.proofs.Fitting.{but_is_whole}
 use Rattle.dali_crash.proofs.Traces.{few_gates, trace_runs, moment_halts}
+use Rattle.dali_traces.specs.Bridges.{LeavesRightAt}
 use Rattle.dali_again.specs.Stages.{HasPlace}
 use Rattle.dali_again.specs.Found.{NoneMissed, FindsIt, CrashIsFound}
-use Rattle.dali_again.proofs.Places.{keeps_place}
+use Rattle.dali_again.proofs.Places.{keeps_place, start_has_place}
 
 -- ---- a log cut off in its last epoch
-locks_cut : (m : ℕ) (E : List Record) → IsLockLegalIn E → IsLockLegalIn (take m E)
-locks_cut m E legal i j a b lt p q c =
-    let jm : j < m = omega (arith, touch_within (take m E) j b q, length_take m E) in
-    let w : EndedBetween a.owner i j E = legal i j a b lt (ap touch_in (sym (get_take m i E (omega (arith, lt, jm)))) ∙ p) (ap touch_in (sym (get_take m j E jm)) ∙ q) c in
-    (w.0, w.1, w.2, get_take m w.0 E (omega (arith, w.2, jm)) ∙ w.3)
 
 abbrev LegalCut : Cut → Type 0
 LegalCut c = AllByRecursion (λ (e : Epoch). IsLockLegalIn e.records) c.closed × IsLockLegalIn c.now.records
@@ -151,3 +145,14 @@ crash_is_found s D from has_place xs p E t safe = (finds s D from has_place xs p
     inside x q F step moment =
         let h = moment_halts (start_point s) p q D E F xs x t step moment in
         finds s D from has_place h.steps h.point F h.trace (λ r g e. safe r g (subst (λ (d : CoreState). slice_get d.regions r ≡ Some g) h.core e))
+
+-- what restarts right from there is found
+pub right_is_found : (s : Start) (p : Point) (F : Files) → (s.vault.current ≡ 0) ⊎ (1 < length s.log) → NoneMissed p.core → LeavesRightAt s p F → FindsIt F
+right_is_found s p F placed safe left =
+    ⊎_elim
+    (λ along. let t = along.1 in (crash_is_found s t.first t.starts (start_has_place s t.first t.starts placed) t.steps p F t.trace safe).0)
+    (λ within.
+    let i = within.3 in
+    let t = i.traced in
+    (crash_is_found s t.first t.starts (start_has_place s t.first t.starts placed) t.steps p i.was t.trace safe).1 within.0 within.1 F within.2 i.inside)
+    left.came

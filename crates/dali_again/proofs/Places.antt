@@ -1,6 +1,6 @@
 -- The place of an image and the number of the anchor, along the steps of a run with its store.
-use Rattle.std.proofs.Common.{◌≡◌, ℕ, zero, suc, ◌+◌, ◌%◌, ◌<◌, ◌≤◌, Bool, true, false, cond, List, [], ◌∷◌, length, take, Some, None, refl, ap, sym, subst, ◌∙◌, ◌⊎◌, inl, inr, ⊎_elim, arith}
-use Rattle.std.specs.Prelude.{◌==◌, flat_map, slice_get, sum_by}
+use Rattle.std.proofs.Common.{◌≡◌, ℕ, zero, suc, ◌+◌, ◌<◌, ◌≤◌, false, List, [], ◌∷◌, length, take, Some, refl, ap, sym, subst, ◌∙◌, ◌⊎◌, inl, inr, ⊎_elim, arith}
+use Rattle.std.specs.Prelude.{flat_map, slice_get, sum_by}
 use Rattle.std.proofs.lemmas.List.{length-append, length-take-le}
 use Rattle.std.proofs.lemmas.List.Concat.{flat_map-append}
 use Rattle.std.proofs.lemmas.List.Sums.{sum_by-append}
@@ -9,10 +9,9 @@ use Rattle.dali_record.specs.declared.records.Record.TheVariants.{AuditClean, Fo
 use Rattle.dali_record.specs.Epochs.{last_epoch}
 use Rattle.dali_record.specs.Files.{Files, Fits, batch_length}
 use Rattle.dali_record.specs.Legal.{sizes_of}
+use Rattle.dali_record.proofs.Batches.{number_is_length}
 use Rattle.dali_history.specs.Recovered.{base_of}
-use Rattle.dali_region.specs.declared.Side.TheVariants.{A, B as SideB}
-use Rattle.dali_counts.proofs.Lists.{equal, same_number}
-use Rattle.dali_counts.proofs.Tallies.{number_is}
+use Rattle.dali_history.proofs.Restarts.{none_in_nothing}
 use Rattle.dali_system.specs.State.{stable}
 use Rattle.dali_system.specs.Flushes.{frame_of, with_frame}
 use Rattle.dali_system.specs.Run.{Bases, IsPrefix, RunsOn, log_in, only}
@@ -21,13 +20,13 @@ use Rattle.dali_crash.specs.Checkpoints.{Came, Copies, CopyFails, Does, Finishes
 use Rattle.dali_crash.specs.StoreRuns.{IsKept, IsPlace, StoreRun}
 use Rattle.dali_crash.specs.Traces.{bases_of, start_point}
 use Rattle.dali_crash.proofs.Restarts.{begins_behind}
-use Rattle.dali_crash.proofs.StoreRuns.{store_step_keeps}
+use Rattle.dali_crash.proofs.StoreRuns.{store_step_keeps, other_side}
 use Rattle.dali_crash.proofs.Traces.{start_runs}
 use Rattle.dali_resume.specs.Again.{closing}
 use Rattle.dali_resume.proofs.Reading.{placed}
 use Rattle.dali_again.specs.Found.{FormatHasPlace, KeepsPlace, StartHasPlace, TurnedHasPlace}
 use Rattle.dali_again.specs.Stages.{HasPlace}
-use Rattle.dali_again.proofs.Stages.{behind_found, closing_log, found_log, some_record}
+use Rattle.dali_again.proofs.Stages.{behind_found, closing_log, found_log}
 
 -- ---- bytes before a place
 pub some_bytes : (bs : List (List Record)) → 0 < length (flat_map (λ b. b) bs) → 0 < sum_by batch_length bs
@@ -40,13 +39,13 @@ format_has_place s F is = record { placed = omega (arith, is.place); moved = ome
 
 pub turned_has_place : TurnedHasPlace
 turned_has_place L B n F w t = subst HasPlace (sym t.2) (record {
-  placed = some_bytes t.0.batches (omega (arith, ap length (found_log L B n t.0 w t.1), some_record L w.some.0 w.some.1 w.some.2));
+  placed = some_bytes t.0.batches (omega (arith, ap length (found_log L B n t.0 w t.1), none_in_nothing L w.some.0 w.some.1 w.some.2));
   moved = omega (arith, t.1.place.moved, behind_found L B n t.0 w t.1);
   some = inr (omega (
     arith,
     ap length (closing_log L B n t.0 w t.1),
     length-append L (closing L ∷ []),
-    some_record L w.some.0 w.some.1 w.some.2,
+    none_in_nothing L w.some.0 w.some.1 w.some.2,
   ));
 })
 
@@ -67,7 +66,7 @@ start_has_place s D from either = ⊎_elim none some either
         omega (
           arith,
           (placed (sizes_of s.log) s.log (last_epoch s.log) D.first from.lawful.legal.rules fits.epoch).1,
-          number_is s.log,
+          number_is_length s.log,
           ap length from.rests.none,
         )
 
@@ -81,21 +80,6 @@ start_has_place s D from either = ⊎_elim none some either
 
 -- ---- sides
 -- the next image isn't written where the current one stands
-other_side : (c : ℕ) → image_side c ≡ Some (side_of (c + 1)) → ⊥
-other_side c e = by_tests (c == 0) (c % 2 == 1) ((c + 1) % 2 == 1) refl refl e
-  where
-    by_tests : (a b d : Bool) → (c % 2 == 1) ≡ b → ((c + 1) % 2 == 1) ≡ d → cond a None (Some (cond b A SideB)) ≡ Some (cond d A SideB) → ⊥
-    by_tests true b d p q f = cc
-    by_tests false true true p q f = let x : c % 2 ≡ 1 = equal (c % 2) 1 p in let y : (c + 1) % 2 ≡ 1 = equal ((c + 1) % 2) 1 q in omega (arith, x, y)
-    by_tests false true false p q f = cc
-    by_tests false false true p q f = cc
-    by_tests false false false p q f = odd_or (λ x. absurd (clash (same_number (c % 2) 1 x) p)) (λ y. absurd (clash (same_number ((c + 1) % 2) 1 y) q))
-      where
-        clash : {b : Bool} → b ≡ true → b ≡ false → ⊥
-        clash g h = cc
-
-        odd_or : (c % 2 ≡ 1 → ⊥) → ((c + 1) % 2 ≡ 1 → ⊥) → ⊥
-        odd_or x y = omega (arith, x, y)
 
 -- ---- one step
 framed : (D : Files) (frame : List Record) → HasPlace D → HasPlace (with_frame D frame)

@@ -5,7 +5,7 @@ use Rattle.std.proofs.lemmas.List.Concat.{flat_map-append}
 use Rattle.dali_geometry.specs.Sizes.{Sizes}
 use Rattle.dali_record.specs.declared.records.Record.{Record}
 use Rattle.dali_record.specs.Damage.{rolled_list, deleted_list}
-use Rattle.dali_record.specs.Epochs.{Cut, cut, last_epoch, recovered_epoch, recovered_or}
+use Rattle.dali_record.specs.Epochs.{Cut, last_epoch, recovered_epoch}
 use Rattle.dali_record.specs.Files.{Files}
 use Rattle.dali_record.specs.Legal.{sizes_of}
 use Rattle.dali_record.proofs.Batches.{recovered_restarted}
@@ -14,6 +14,7 @@ use Rattle.dali_headline.proofs.NothingToFree.{recovered-base}
 use Rattle.dali_history.specs.History.{IsHistory}
 use Rattle.dali_history.specs.Recovered.{base_of, recovered}
 use Rattle.dali_history.proofs.Restarts.{IsHistory-restarted, recovered-same}
+use Rattle.dali_headline.proofs.RestartsAgain.{names_the_report}
 use Rattle.dali_system.specs.Images.{FitsBut}
 use Rattle.dali_system.specs.Run.{log_in}
 use Rattle.dali_crash.specs.Fitting.{FitsWhole}
@@ -28,10 +29,6 @@ use Rattle.dali_again.specs.Rests.{SaysOf, StagesSay}
 use Rattle.dali_again.specs.Stages.{IsFound, IsRestarting}
 use Rattle.dali_again.proofs.Places.{turned_has_place}
 use Rattle.dali_again.proofs.Stages.{behind_found, closed_lawful, closing_log, found_log, same_sizes, turned_is_fresh}
-
--- an epoch with a record is the one that is recovered
-open_epoch : (L : List Record) (r : Record) (E : List Record) → (last_epoch L).records ≡ r ∷ E → recovered_epoch L ≡ last_epoch L
-open_epoch L r E some = ap (λ X. recovered_or (cut L) X) some
 
 none_closed : (L : List Record) → (last_epoch (closed_log L)).records ≡ []
 none_closed L = ap (λ (c : Cut). c.now.records) (cut_push L (closing L))
@@ -62,7 +59,7 @@ found_says L B n G w f = record {
   };
   log = inl log;
   image = ap (λ M. recovered (sizes_of M) M) log;
-  epoch = ap recovered_epoch log ∙ open_epoch L w.some.0 w.some.1 w.some.2;
+  epoch = ap recovered_epoch log ∙ names_the_report L w.some.0 w.some.1 w.some.2;
   behind = omega (arith, behind, ap length log);
   history = λ h. subst IsHistory (sym log) h;
 }

@@ -2,8 +2,10 @@
 use Rattle.std.proofs.Common.{◌≡◌, ℕ, true, zero, suc, ◌+◌, ◌<◌, ◌≤◌, List, [], ◌∷◌, ◌++◌, length, take, drop, None, append_assoc, refl, ap, sym, subst, ◌∙◌, ◌⊎◌, inl, inr, ⊎_elim, arith}
 use Rattle.std.specs.Prelude.{sum_by}
 use Rattle.std.specs.List.{AllByRecursion, list_all}
-use Rattle.std.proofs.lemmas.List.{append-nil, length-append}
+use Rattle.std.proofs.lemmas.List.{append-nil, length-append, take-take}
 use Rattle.std.proofs.lemmas.List.Concat.{flat_map-append}
+use Rattle.dali_lists.proofs.Lists.{get_push}
+use Rattle.dali_lists.proofs.Members.{all_left}
 use Rattle.dali_geometry.specs.Sizes.{Sizes}
 use Rattle.dali_record.specs.declared.records.Record.{Record}
 use Rattle.dali_record.specs.declared.records.Record.TheVariants.{Format, Restarted}
@@ -12,7 +14,6 @@ use Rattle.dali_record.specs.Damage.{rolled_list, deleted_list}
 use Rattle.dali_record.specs.Spelling.{record_length}
 use Rattle.dali_record.specs.Legal.{IsLegal, sizes_of}
 use Rattle.dali_record.specs.Files.{Files, batch_length, is_restarted_first, next_after}
-use Rattle.dali_record.proofs.Ends.{get_new}
 use Rattle.dali_record.proofs.Pushes.{cut_push}
 use Rattle.dali_history.specs.Recovered.{base_of, recovered}
 use Rattle.dali_history.specs.History.{IsHistory}
@@ -23,9 +24,9 @@ use Rattle.dali_store.specs.Store.{Files as Disk, SameBut}
 use Rattle.dali_batch.specs.Appending.{Adds, next_place}
 use Rattle.dali_batch.specs.Batch.{IsBody, IsClosedAt, batches}
 use Rattle.dali_batch.specs.Log.{AreSpelled, HasFormat, IsFront, LogOf, bodies, records_in}
-use Rattle.dali_batch.proofs.Rows.{batches-append, bodies-append, grown}
+use Rattle.dali_batch.proofs.Rows.{batches-append, grown}
 use Rattle.dali_batch.proofs.Unique.{one_log}
-use Rattle.dali_counts.proofs.Lists.{take_take}
+use Rattle.dali_batch.proofs.Fronts.{bodies_join}
 use Rattle.dali_system.specs.Run.{log_in}
 use Rattle.dali_crash.specs.Checkpoints.{side_of, turned as turned_to}
 use Rattle.dali_crash.specs.Starts.{IsRestarted, IsFresh, IsLawful}
@@ -57,10 +58,6 @@ found_log L B n D w f = ap records_in f.batches ∙ w.batches
 
 pub closing_log : (L : List Record) (B : List (List Record)) (n : ℕ) (D : Files) → IsRestarting L B → IsFound L B n D → log_in (with_closing L D) ≡ closed_log L
 closing_log L B n D w f = flat_map-append (λ b. b) D.batches ((closing L ∷ []) ∷ []) ∙ ap (λ M. M ++ closing L ∷ []) (found_log L B n D w f)
-
-pub some_record : (L : List Record) (r : Record) (E : List Record) → (last_epoch L).records ≡ r ∷ E → 0 < length L
-some_record [] r E e = absurd (cc)
-some_record (x ∷ L) r E e = omega arith
 
 -- some record stands behind the image: in its front, or in the batches behind that
 pub behind_found : (L : List Record) (B : List (List Record)) (n : ℕ) (D : Files) → IsRestarting L B → IsFound L B n D → D.first < length L
@@ -214,7 +211,7 @@ found_logged L B n F rs ds w legal batches found = (
 )
   where
     lists : (rs ≡ rolled_list (last_epoch (take (length L) (L ++ Restarted rs ds ∷ [])))) × (ds ≡ deleted_list (last_epoch (take (length L) (L ++ Restarted rs ds ∷ []))))
-    lists = legal.scans (length L) rs ds (get_new L (Restarted rs ds))
+    lists = legal.scans (length L) rs ds (get_push L (Restarted rs ds))
 
     closes : Restarted rs ds ≡ closing L
     closes =
@@ -223,7 +220,7 @@ found_logged L B n F rs ds w legal batches found = (
 
 -- ---- the batch of Restarted
 closing_spelled : (L : List Record) (B : List (List Record)) → IsRestarting L B → AllByRecursion AreSpelled ((closing L ∷ []) ∷ [])
-closing_spelled L B w = (((closed_lawful L B w).spelled (length L) (closing L) (get_new L (closing L)), tt), tt)
+closing_spelled L B w = (((closed_lawful L B w).spelled (length L) (closing L) (get_push L (closing L)), tt), tt)
 
 found_at : (old : Disk → Type 0) (L : List Record) (B : List (List Record)) (n : ℕ) → AllSpell old (IsFound L B n) → (d : Disk) → old d → LogOf d.log B (sum_by batch_length B)
 found_at old L B n all d left =
@@ -256,10 +253,6 @@ some_batch L B w = by_batches B (w.batches)
 more_at_least : {X : Type 0} (B : List X) (x : X) → B ≡ B ++ x ∷ [] → ⊥
 more_at_least B x e = omega (arith, ap length e, length-append B (x ∷ []))
 
-all_first : {X : Type 0} (P : X → Type 0) (xs ys : List X) → AllByRecursion P (xs ++ ys) → AllByRecursion P xs
-all_first P [] ys all = tt
-all_first P (x ∷ xs) ys all = (all.0, all_first P xs ys all.1)
-
 closed_before : (bytes : List ℕ) (B : List (List Record)) (x : List Record) (e : ℕ) → LogOf bytes (B ++ x ∷ []) e → HasFormat B → IsClosedAt (sum_by batch_length B) bytes → ⊥
 closed_before bytes B x e log format closed = more_at_least B x (one_log bytes B (B ++ x ∷ []) (sum_by batch_length B) e shorter log).0
   where
@@ -267,16 +260,16 @@ closed_before bytes B x e log format closed = more_at_least B x (one_log bytes B
     p = length (batches (bodies B))
 
     parts : take e bytes ≡ batches (bodies B) ++ batches (bodies (x ∷ []))
-    parts = log.front.spells ∙ (ap batches (bodies-append B (x ∷ [])) ∙ batches-append (bodies B) (bodies (x ∷ [])))
+    parts = log.front.spells ∙ (ap batches (bodies_join B (x ∷ [])) ∙ batches-append (bodies B) (bodies (x ∷ [])))
 
     within : length (batches (bodies B)) ≤ e
-    within = omega (arith, log.front.place, ap length (ap batches (bodies-append B (x ∷ [])) ∙ batches-append (bodies B) (bodies (x ∷ []))), length-append (batches (bodies B)) (batches (bodies (x ∷ []))))
+    within = omega (arith, log.front.place, ap length (ap batches (bodies_join B (x ∷ [])) ∙ batches-append (bodies B) (bodies (x ∷ []))), length-append (batches (bodies B)) (batches (bodies (x ∷ []))))
 
     spells : take (length (batches (bodies B))) bytes ≡ batches (bodies B)
-    spells = sym (take_take (length (batches (bodies B))) e bytes within) ∙ (ap (take p) parts ∙ take_front (batches (bodies B)) (batches (bodies (x ∷ []))))
+    spells = sym (take-take (length (batches (bodies B))) e bytes within) ∙ (ap (take p) parts ∙ take_front (batches (bodies B)) (batches (bodies (x ∷ []))))
 
     front : IsFront bytes B p
-    front = record { place = refl; spells = spells; sizes = all_first IsBody (bodies B) (bodies (x ∷ [])) (subst (AllByRecursion IsBody) (bodies-append B (x ∷ [])) log.front.sizes); each = all_first AreSpelled B (x ∷ []) log.front.each; first = inr format }
+    front = record { place = refl; spells = spells; sizes = all_left IsBody (bodies B) (bodies (x ∷ [])) (subst (AllByRecursion IsBody) (bodies_join B (x ∷ [])) log.front.sizes); each = all_left AreSpelled B (x ∷ []) log.front.each; first = inr format }
 
     at : length (batches (bodies B)) ≡ sum_by batch_length B
     at = batches_length B front.each
@@ -386,7 +379,7 @@ turns L B n c d F w g is same anchor holds = (
 )
 
 -- an anchor without the new gate names no new image
-turned_gates : (L : List Record) (B : List (List Record)) (n : ℕ) (F : Files) → IsTurned L B n F → F.gates ≡ n + 1
+pub turned_gates : (L : List Record) (B : List (List Record)) (n : ℕ) (F : Files) → IsTurned L B n F → F.gates ≡ n + 1
 turned_gates L B n F g = ap (λ (z : Files). z.gates) g.2 ∙ ap (λ m. m + 1) g.1.gates
 
 logged_of : (L : List Record) (B : List (List Record)) (n : ℕ) (d : Disk) (F : Files) → Spells d F → IsMoving L B n F → IsAnchor d.anchor n → IsLogged L B n F

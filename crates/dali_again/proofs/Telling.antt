@@ -5,6 +5,9 @@ use Rattle.std.specs.List.{AllByRecursion, list_all, list_any}
 use Rattle.std.proofs.lemmas.Bool.{and_parts, both_ways}
 use Rattle.std.proofs.lemmas.List.{append-nil, length-append, length-drop}
 use Rattle.std.proofs.lemmas.List.Concat.{flat_map-append}
+use Rattle.dali_lists.proofs.Lists.{push-not_nil, drop_front}
+use Rattle.dali_lists.proofs.Members.{all_parts}
+use Rattle.dali_lists.proofs.Options.{some_of}
 use Rattle.dali_geometry.specs.Sizes.{Sizes}
 use Rattle.dali_record.specs.declared.records.Record.{Record}
 use Rattle.dali_record.specs.declared.records.Record.TheVariants.{Format, Restarted}
@@ -16,9 +19,9 @@ use Rattle.dali_record.specs.Log.{last_of}
 use Rattle.dali_record.proofs.Ends.{last_of_push}
 use Rattle.dali_record.proofs.EpochRules.{format_first, rules_before}
 use Rattle.dali_record.proofs.Pushes.{cut_push}
+use Rattle.dali_record.proofs.Batches.{number_is_length}
 use Rattle.dali_history.proofs.Prefixes.{IsLegalFor-front, sizes_of-front}
 use Rattle.dali_history.proofs.Spelled.{AreSpelled-front}
-use Rattle.dali_counts.proofs.Tallies.{number_is}
 use Rattle.dali_store.specs.Store.{Files as Disk}
 use Rattle.dali_batch.specs.Batch.{IsBody}
 use Rattle.dali_batch.specs.Log.{bodies, records_in}
@@ -28,7 +31,7 @@ use Rattle.dali_traces.specs.Disks.{Spells}
 use Rattle.dali_resume.specs.Batches.{records_of}
 use Rattle.dali_resume.specs.Rules.{ends_restarted}
 use Rattle.dali_resume.proofs.Numbers.{number_is_some}
-use Rattle.dali_resume.proofs.Onward.{restart_rule, some_is}
+use Rattle.dali_resume.proofs.Onward.{restart_rule}
 use Rattle.dali_resume.proofs.Reading.{placed}
 use Rattle.dali_again.specs.Found.{FindsIt, IsResting}
 use Rattle.dali_again.specs.Rests.{EndsLogged, IsToBegin, StandsAlone, StandsTold, TellsStage}
@@ -47,14 +50,6 @@ some_end : {X : Type 0} (xs : List X) → 0 < length xs → HasEnd xs
 some_end [] h = absurd (omega (arith, h))
 some_end (x ∷ xs) h = ends x xs
 
-not_none : {X : Type 0} (xs : List X) (x : X) → xs ++ x ∷ [] ≡ [] → ⊥
-not_none [] x e = cc
-not_none (y ∷ xs) x e = cc
-
-drop_whole : {X : Type 0} (xs ys : List X) → drop (length xs) (xs ++ ys) ≡ ys
-drop_whole [] ys = refl
-drop_whole (x ∷ xs) ys = drop_whole xs ys
-
 -- ---- the record that ends a log without a record in its last epoch
 abbrev Separates : Record → Type 0
 Separates x = ((rs ds : List ℕ) × (x ≡ Restarted rs ds)) ⊎ ((i h : ℕ) × (x ≡ Format i h))
@@ -62,7 +57,7 @@ Separates x = ((rs ds : List ℕ) × (x ≡ Restarted rs ds)) ⊎ ((i h : ℕ) �
 separator : (c : Cut) (x : Record) → (cut_step c x).now.records ≡ [] → Separates x
 separator c (Restarted rs ds) e = inl (rs, ds, refl)
 separator c (Format i h) e = inr (i, h, refl)
-separator c x e = absurd (not_none c.now.records x e)
+separator c x e = absurd (push-not_nil c.now.records x e)
 
 last_separates : (M : List Record) (x : Record) → (last_epoch (M ++ x ∷ [])).records ≡ [] → Separates x
 last_separates M x e = separator (cut M) x (ap (λ (c : Cut). c.now.records) (sym (cut_push M x)) ∙ e)
@@ -77,14 +72,14 @@ restarted_ends M x legal some none = by_kind (last_separates M x none)
     by_kind (inl r) = r
     by_kind (inr f) =
         let s = sizes_of (M ++ x ∷ []) in
-        let g = some_is (rules_state s (M ++ x ∷ [])) legal.rules in
+        let g = some_of (rules_state s (M ++ x ∷ [])) legal.rules in
         let none : M ≡ [] = format_first s M f.0 f.1 g.0 (ap (λ z. rules_state s (M ++ z ∷ [])) (sym f.2) ∙ g.1) in
         absurd (omega (arith, some, ap length none))
 
 -- a restart logs nothing right behind another
-not_twice : (s : Sizes) (N : List Record) (rs ds us vs : List ℕ) → IsSome (rules_state s ((N ++ Restarted rs ds ∷ []) ++ Restarted us vs ∷ [])) → ⊥
+pub not_twice : (s : Sizes) (N : List Record) (rs ds us vs : List ℕ) → IsSome (rules_state s ((N ++ Restarted rs ds ∷ []) ++ Restarted us vs ∷ [])) → ⊥
 not_twice s N rs ds us vs legal =
-    let h = some_is (rules_state s ((N ++ Restarted rs ds ∷ []) ++ Restarted us vs ∷ [])) legal in
+    let h = some_of (rules_state s ((N ++ Restarted rs ds ∷ []) ++ Restarted us vs ∷ [])) legal in
     let b = rules_before s (N ++ Restarted rs ds ∷ []) (Restarted us vs) h.0 h.1 in
     let a = rules_before s N (Restarted rs ds) b.0 b.1 in
     both_ways b.0.restarted (restart_rule s b.0 h.0 us vs b.2).0 (ap (λ (z : Rules). z.restarted) (restart_rule s a.0 b.0 rs ds a.2).1)
@@ -125,9 +120,6 @@ not_restarted (y ∷ L) r E some = ap (λ M. ends_restarted (last_of M)) w.2 ∙
         absurd (cc)
 
 -- ---- a front of a log
-all_parts : {X : Type 0} (P : X → Type 0) (xs ys : List X) → AllByRecursion P (xs ++ ys) → AllByRecursion P xs × AllByRecursion P ys
-all_parts P [] ys all = (tt, all)
-all_parts P (x ∷ xs) ys all = let w = all_parts P xs ys all.1 in ((all.0, w.0), w.1)
 
 abbrev LockedCut : Cut → Type 0
 LockedCut c = AllByRecursion (λ e. IsLockLegalIn e.records) c.closed × IsLockLegalIn c.now.records
@@ -207,7 +199,7 @@ module _ (fs : Disk) (F : Files) (is : Spells fs F) (finds : FindsIt F) where
 
   -- the image isn't far from the end, where the last epoch has no record and no batch stands behind it
   near : f.more ≡ [] → (last_epoch L).records ≡ [] → length L ≤ F.first + 1
-  near none empty = omega (arith, at, number_is L, ap length empty)
+  near none empty = omega (arith, at, number_is_length L, ap length empty)
     where
       same : finds.found.front ≡ log_in F
       same = sym (append-nil f.front) ∙ (ap (λ X. f.front ++ records_of X) (sym none) ∙ f.log)
@@ -312,7 +304,7 @@ module _ (fs : Disk) (F : Files) (is : Spells fs F) (finds : FindsIt F) where
   by_alone empty size rests = record {
     rolled = last.0;
     deleted = last.1;
-    alone = ap (λ n. drop n L) at ∙ (ap (drop (length end.0)) end.2 ∙ (drop_whole end.0 (end.1 ∷ []) ∙ ap (λ x. x ∷ []) last.2));
+    alone = ap (λ n. drop n L) at ∙ (ap (drop (length end.0)) end.2 ∙ (drop_front end.0 (end.1 ∷ []) ∙ ap (λ x. x ∷ []) last.2));
     resting = rests;
   }
     where

@@ -7,16 +7,12 @@ use Rattle.std.proofs.lemmas.Bool.Decides.{nat_tests}
 use Rattle.clap.specs.Words.{Kinds, Row, Text, fault_of, first_of, subcommand_of}
 use Rattle.dali_script.specs.Texts.{◌>>=◌, number_of}
 use Rattle.dali_script.specs.declared.faults.Kind.TheVariants.{Number}
-use Rattle.dali_script.proofs.Ranges.{key_fits}
+use Rattle.dali_script.proofs.Ranges.{key_fits, then_some}
 use Rattle.dali_arguments.specs.Command.{dali}
 use Rattle.dali_arguments.specs.Laws.{IsInRange}
 use Rattle.dali_arguments.specs.Meaning.{amount_in, faultless, flag_in, generation, kept_between, limit_in, meaning, number_between, run_of, task_of}
 use Rattle.dali_arguments.specs.declared.task.Task.{Task}
 use Rattle.dali_arguments.specs.declared.task.Task.TheVariants.{Run, Generate, Dump}
-
-then_some : {A B : Type 0} (o : Option A) (f : A → Option B) (y : B) → (o >>= f) ≡ Some y → (x : A) × (o ≡ Some x) × (f x ≡ Some y)
-then_some (Some x) f y e = (x, refl, e)
-then_some None f y e = absurd (cc)
 
 in_bounds : (least most n m : ℕ) (b : Bool) → (nat_lt n least || nat_lt most n) ≡ b → cond b None (Some n) ≡ Some m → (least ≤ m) × (m ≤ most)
 in_bounds least most n m true is e = absurd (cc)

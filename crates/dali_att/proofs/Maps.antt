@@ -1,5 +1,5 @@
 -- The entries of an ordered map, as a finite map.
-use Rattle.std.proofs.Common.{◌≡◌, true, false, cond, List, [], ◌∷◌, ◌++◌, length, refl, sym, ◌∙◌, ap, arith}
+use Rattle.std.proofs.Common.{◌≡◌, true, false, cond, List, [], ◌∷◌, ◌++◌, refl, sym, ◌∙◌, ap}
 use Rattle.std.specs.Prelude.{Some, None}
 use Rattle.std.specs.declared.cmp.Ordering.{Ordering}
 use Rattle.std.specs.declared.cmp.Ordering.TheVariants.{Less, Greater}
@@ -11,15 +11,12 @@ use Rattle.std.specs.Map.{lookup, keys_of}
 use Rattle.std.specs.BTreeMap.{is_at, insert_entry}
 use Rattle.std.specs.FinMap.{FinMap, IsAntisymmetric, entries, from_entries, get, insert, remove, find, put, get-from_entries, get-insert, get-remove, entries-insert, len-entries, len-empty, same_map}
 use Rattle.std.proofs.lemmas.Map.Views.{tells_apart}
+use Rattle.std.proofs.lemmas.List.{nil_from_length}
 
 module _ {K X : Type 0} (R : K → K → Ordering) where
   find_lookup : (es : List (K × X)) (q : K) → find R q es ≡ lookup (is_at (R q)) es
   find_lookup [] q = refl
   find_lookup (e ∷ es) q = ap (cond (is_at (R q) e.0) (Some e.1)) (find_lookup es q)
-
-no_items : {A : Type 0} (xs : List A) → length xs ≡ 0 → xs ≡ []
-no_items [] e = refl
-no_items (x ∷ xs) e = absurd (omega arith)
 
 module _ {K X : Type 0} {R : K → K → Ordering} (o : IsTotalOrder R) where
   -- what the map that the entries make has at a key
@@ -37,7 +34,7 @@ module _ {K X : Type 0} {R : K → K → Ordering} (o : IsTotalOrder R) where
 
   -- entries in order are those of the map that they make
   pub in_order : (es : List (K × X)) → IsStrictlySortedBy R (keys_of es) → entries (from_entries {R = R} es) ≡ es
-  in_order [] rises = no_items _ (sym (len-entries _) ∙ len-empty R X)
+  in_order [] rises = nil_from_length _ (sym (len-entries _) ∙ len-empty R X)
   in_order (e ∷ es) rises = entries-insert o (from_entries es) e.0 e.1 ∙ ap (put R e.0 e.1) (in_order es (rest_rises e es rises)) ∙ put_first e.0 e.1 es rises
 
 module _ {K X : Type 0} {R : K → K → Ordering} (o : IsTotalOrder R) (exact : IsAntisymmetric R) where

@@ -3,7 +3,7 @@ use Rattle.std.proofs.Common.{◌≡◌, ◌==◌, refl, ℕ, zero, suc, ◌+◌
 use Rattle.std.specs.Prelude.{slice_get}
 use Rattle.std.proofs.lemmas.Bool.{eq-eqb, lt-ltb, ne_eqb}
 use Rattle.std.specs.List.{list_all, AllByRecursion}
-use Rattle.dali_counts.proofs.Lists.{some_same}
+use Rattle.dali_lists.proofs.Options.{some_same}
 use Rattle.dali_record.specs.Damage.{has}
 use Rattle.dali_record.specs.Spelling.{ascends, CanBeSpelled}
 use Rattle.dali_system.specs.Steps.{audit_record}
@@ -23,13 +23,10 @@ from_more n (suc k) f (g ∷ fs) e = let z : n + suc k ≡ suc n + k = omega ari
     later Clean rest = rest
     later Waiting rest = rest
 
-below-true : (m n : ℕ) → m < n → nat_lt m n ≡ true
-below-true m n lt = lt-ltb m n lt
-
 -- behind a smaller number they ascend
 ascends_after : (m n : ℕ) (fs : List Finding) → m < n → ascends (m ∷ damaged_from n fs) ≡ true
 ascends_after m n [] lt = refl
-ascends_after m n (Damaged ∷ fs) lt = both (nat_lt m n) (ascends (n ∷ damaged_from (suc n) fs)) (below-true m n lt) (ascends_after n (suc n) fs (omega arith))
+ascends_after m n (Damaged ∷ fs) lt = both (nat_lt m n) (ascends (n ∷ damaged_from (suc n) fs)) (lt-ltb m n lt) (ascends_after n (suc n) fs (omega arith))
   where
     both : (a b : Bool) → a ≡ true → b ≡ true → (a && b) ≡ true
     both true true d e = refl
@@ -53,7 +50,7 @@ all_below k n (Waiting ∷ fs) le = all_below k (suc n) fs (omega (arith, le))
 
 tested_below : (k : ℕ) (xs : List ℕ) → AllByRecursion (λ r. r < k) xs → list_all (λ r. nat_lt r k) xs ≡ true
 tested_below k [] all = refl
-tested_below k (x ∷ xs) all = both (nat_lt x k) (list_all (λ r. nat_lt r k) xs) (below-true x k all.0) (tested_below k xs all.1)
+tested_below k (x ∷ xs) all = both (nat_lt x k) (list_all (λ r. nat_lt r k) xs) (lt-ltb x k all.0) (tested_below k xs all.1)
   where
     both : (a b : Bool) → a ≡ true → b ≡ true → (a && b) ≡ true
     both true true d e = refl

@@ -4,8 +4,8 @@ use Rattle.std.specs.Prelude.{slice_get, slice_set}
 use Rattle.std.specs.Option.{option_map_or}
 use Rattle.std.proofs.lemmas.Bool.{eq-eqb, ne_eqb}
 use Rattle.std.proofs.lemmas.List.Folds.{list_any-append}
+use Rattle.dali_lists.proofs.Lists.{set_cases, get_within as found}
 use Rattle.dali_geometry.specs.Places.{regions}
-use Rattle.dali_counts.proofs.Lists.{set_cases, found}
 use Rattle.dali_record.specs.Damage.{has}
 use Rattle.dali_region.specs.State.{RegionState}
 use Rattle.dali_system.specs.Audits.{IsAuditing, MayLogEnd}

@@ -1,10 +1,10 @@
 -- An audit of three regions has passed each.
 use Rattle.std.proofs.Common.{◌≡◌, refl, ℕ, zero, suc, ◌==◌, Bool, true, false, [], ◌∷◌, if◌then◌else◌, sym}
-use Rattle.dali_counts.proofs.Lists.{some_same}
+use Rattle.dali_lists.proofs.Options.{some_same}
 use Rattle.dali_audit.specs.declared.audit.Finding.TheVariants.{Clean, Damaged}
 use Rattle.dali_audit.specs.Findings.{finding_of, is_passed, AllPassed}
 
-found_is_passed : (n : ℕ) → is_passed (finding_of n) ≡ true
+pub found_is_passed : (n : ℕ) → is_passed (finding_of n) ≡ true
 found_is_passed n = by_test (n == 0)
   where
     by_test : (b : Bool) → is_passed (if b then Clean else Damaged) ≡ true

@@ -67,8 +67,8 @@ none_read body old new at read inside some none =
     (read.past, drop at body, read.each, read.whole, place, some, none)
 
 -- the one place that a bad record names
-pub bad_at : (r : Result Record DecodeError) (e : DecodeError) (at place : ℕ) → r ≡ Err e → e ≡ BadRecord place → IfErr r (λ d. (d ≡ BadRecord at) ⊎ (d ≡ OutOfMemory)) → IsErrOf r (BadRecord at)
-bad_at r e at place is bad errors = by_sum (subst (λ (q : Result Record DecodeError). IfErr q (λ d. (d ≡ BadRecord at) ⊎ (d ≡ OutOfMemory))) is errors)
+pub bad_at : {X : Type 0} (r : Result X DecodeError) (e : DecodeError) (at place : ℕ) → r ≡ Err e → e ≡ BadRecord place → IfErr r (λ d. (d ≡ BadRecord at) ⊎ (d ≡ OutOfMemory)) → IsErrOf r (BadRecord at)
+bad_at {X} r e at place is bad errors = by_sum (subst (λ (q : Result X DecodeError). IfErr q (λ d. (d ≡ BadRecord at) ⊎ (d ≡ OutOfMemory))) is errors)
   where
     by_sum : (e ≡ BadRecord at) ⊎ (e ≡ OutOfMemory) → IsErrOf r (BadRecord at)
     by_sum (inl same) = is ∙ ap Err same

@@ -2,6 +2,7 @@
 use Rattle.std.proofs.Common.{◌≡◌, ◌⊎◌, inl, inr, ℕ, ◌+◌, ◌≤◌, ◌<◌, List, [], ◌∷◌, ◌++◌, length, get_or, take, drop, refl, sym, ◌∙◌, ap, subst, arith, append_assoc, length-append, length-drop, take-append-drop}
 use Rattle.std.specs.List.{AllByRecursion}
 use Rattle.std.proofs.lemmas.List.{append-nil, flat_map_more, take_at, drop_at, drop-drop, get_or-drop, length-take-le}
+use Rattle.dali_lists.proofs.Members.{all_append, all_right}
 use Rattle.dali_record.specs.declared.records.Record.{Record}
 use Rattle.dali_record.specs.declared.records.Record.TheVariants.{Format}
 use Rattle.dali_record.specs.Spelling.{spelling, CanBeSpelled}
@@ -12,7 +13,7 @@ use Rattle.dali_batch.specs.Batch.{batch, batches, IsBody, IsOpenAt, IsClosedAt,
 use Rattle.dali_batch.specs.Finding.{BatchAt, IsBad}
 use Rattle.dali_batch.specs.Errors.{log_error}
 use Rattle.dali_batch.specs.Log.{body_bytes, AreSpelled, bodies, records_in, HasFormat, IsFront, LogOf, NoRecordAt, BadBody, HasNoFormat, IsBadFirst, BadAt, IsRun, TailOf, BadBehind}
-use Rattle.dali_batch.proofs.Bytes.{length-batch}
+use Rattle.dali_batch.proofs.Bytes.{length-batch, all_push}
 
 -- the error that names a bad place
 pub log_bad : (e : BatchError) (bad : ℕ) → log_error e ≡ BadLogAt bad → e ≡ BadLog bad
@@ -47,10 +48,6 @@ bodies_push (x ∷ L) rs = ap (λ (l : List (List ℕ)). body_bytes x ∷ l) (bo
 pub batches_push : (bs : List (List ℕ)) (body : List ℕ) → batches (bs ++ body ∷ []) ≡ batches bs ++ batch body
 batches_push bs body = sym (flat_map_more batch [] bs body)
 
-pub all_bodies : (bs : List (List ℕ)) (body : List ℕ) → AllByRecursion IsBody bs → IsBody body → AllByRecursion IsBody (bs ++ body ∷ [])
-all_bodies [] body all is = (is, tt)
-all_bodies (b ∷ bs) body all is = (all.0, all_bodies bs body all.1 is)
-
 pub all_spelled : (L : List (List Record)) (rs : List Record) → AllByRecursion AreSpelled L → AreSpelled rs → AllByRecursion AreSpelled (L ++ rs ∷ [])
 all_spelled [] rs all is = (is, tt)
 all_spelled (x ∷ L) rs all is = (all.0, all_spelled L rs all.1 is)
@@ -67,7 +64,7 @@ front_push bytes L p body rs front found e each format =
     record {
       place = omega (arith, front.place, ap length all, length-append (batches (bodies L)) (batch body), length-batch body);
       spells = front_batch bytes p body found ∙ ap (λ (l : List ℕ). l ++ batch body) front.spells ∙ sym all;
-      sizes = subst (AllByRecursion IsBody) (sym (bodies_push L rs)) (all_bodies (bodies L) (body_bytes rs) front.sizes (subst IsBody e found.0));
+      sizes = subst (AllByRecursion IsBody) (sym (bodies_push L rs)) (all_push (bodies L) (body_bytes rs) front.sizes (subst IsBody e found.0));
       each = all_spelled L rs front.each each;
       first = inr format;
     }
@@ -166,7 +163,7 @@ run_push bytes p L q body rs run found e each =
     record {
       place = omega (arith, run.place, ap length all, length-append old (batch body), length-batch body);
       spells = ap (λ (l : List ℕ). take (length l) (drop p bytes)) all ∙ ap (λ (l : List ℕ). take (length (old ++ batch body)) l) whole ∙ take_at (old ++ batch body) found.1 (length (old ++ batch body)) refl ∙ sym all;
-      sizes = subst (AllByRecursion IsBody) (sym (bodies_push L rs)) (all_bodies (bodies L) (body_bytes rs) run.sizes (subst IsBody e found.0));
+      sizes = subst (AllByRecursion IsBody) (sym (bodies_push L rs)) (all_push (bodies L) (body_bytes rs) run.sizes (subst IsBody e found.0));
       each = all_spelled L rs run.each each;
     }
 
@@ -195,14 +192,6 @@ pub batches_join : (L M : List (List Record)) → batches (bodies (L ++ M)) ≡ 
 batches_join [] M = refl
 batches_join (x ∷ L) M = ap (λ (l : List ℕ). batch (body_bytes x) ++ l) (batches_join L M) ∙ sym (append_assoc (batch (body_bytes x)) (batches (bodies L)) (batches (bodies M)))
 
-join_all : {X : Type 0} (P : X → Type 0) (L M : List X) → AllByRecursion P L → AllByRecursion P M → AllByRecursion P (L ++ M)
-join_all P [] M all more = more
-join_all P (x ∷ L) M all more = (all.0, join_all P L M all.1 more)
-
-split_all : {X : Type 0} (P : X → Type 0) (L M : List X) → AllByRecursion P (L ++ M) → AllByRecursion P M
-split_all P [] M all = all
-split_all P (x ∷ L) M all = split_all P L M all.1
-
 format_join : (L M : List (List Record)) → HasFormat L → HasFormat (L ++ M)
 format_join L M has = (has.0, has.1, has.2 ++ M, ap (λ (l : List (List Record)). l ++ M) has.3)
 
@@ -219,8 +208,8 @@ front_join bytes L M p q front has run =
     record {
       place = omega (arith, front.place, run.place, ap length all, length-append old more);
       spells = ap (λ (l : List ℕ). take q l) whole ∙ take_at (old ++ more) (drop (length more) (drop p bytes)) q (omega (arith, front.place, run.place, length-append old more)) ∙ sym all;
-      sizes = subst (AllByRecursion IsBody) (sym (bodies_join L M)) (join_all IsBody (bodies L) (bodies M) front.sizes run.sizes);
-      each = join_all AreSpelled L M front.each run.each;
+      sizes = subst (AllByRecursion IsBody) (sym (bodies_join L M)) (all_append IsBody (bodies L) (bodies M) front.sizes run.sizes);
+      each = all_append AreSpelled L M front.each run.each;
       first = inr (format_join L M has);
     }
 
@@ -263,8 +252,8 @@ tail_from_place bytes L M p e log place =
       run = record {
         place = omega (arith, log.front.place, place, ap length all, length-append old more);
         spells = ap (λ (l : List ℕ). take (length more) l) behind ∙ take_at more (drop e bytes) (length more) refl;
-        sizes = split_all IsBody (bodies L) (bodies M) (subst (AllByRecursion IsBody) (bodies_join L M) log.front.sizes);
-        each = split_all AreSpelled L M log.front.each;
+        sizes = all_right IsBody (bodies L) (bodies M) (subst (AllByRecursion IsBody) (bodies_join L M) log.front.sizes);
+        each = all_right AreSpelled L M log.front.each;
       };
       closed = log.closed;
     }

@@ -2,6 +2,7 @@
 use Rattle.std.proofs.Common.{◌≡◌, inr, ℕ, zero, suc, ◌+◌, ◌≤◌, List, [], ◌∷◌, ◌++◌, length, take, refl, sym, ◌∙◌, ap, subst, arith, append_assoc, length-append}
 use Rattle.std.specs.List.{AllByRecursion}
 use Rattle.std.proofs.lemmas.List.{take-append-le, append-nil, take-map, length-map}
+use Rattle.dali_lists.proofs.Members.{all_append}
 use Rattle.dali_store.specs.Store.{Files, LeavesOnly, SameBut}
 use Rattle.dali_store.specs.declared.store.FileName.TheVariants.{Log}
 use Rattle.dali_store.proofs.Moments.{joins}
@@ -12,6 +13,7 @@ use Rattle.dali_batch.specs.Batch.{batch, batches, IsClosedAt, Ends}
 use Rattle.dali_batch.specs.Appending.{next_place, Adds, SomeAdded, AllAdded}
 use Rattle.dali_batch.specs.Log.{body_bytes, AreSpelled, bodies, HasFormat, LogOf}
 use Rattle.dali_batch.specs.Laws.{Added, AppendsGoOn}
+use Rattle.dali_batch.proofs.Fronts.{bodies_join}
 
 pub batches-append : (one two : List (List ℕ)) → batches (one ++ two) ≡ batches one ++ batches two
 batches-append [] two = refl
@@ -74,13 +76,6 @@ appends moment left_since may_leave at one two old mid new =
     }
 
 -- ---- logs
-pub bodies-append : (L M : List (List Record)) → bodies (L ++ M) ≡ bodies L ++ bodies M
-bodies-append [] M = refl
-bodies-append (rs ∷ L) M = ap (λ (l : List (List ℕ)). body_bytes rs ∷ l) (bodies-append L M)
-
-all_both : {A : Type 0} (P : A → Type 0) (xs ys : List A) → AllByRecursion P xs → AllByRecursion P ys → AllByRecursion P (xs ++ ys)
-all_both P [] ys one two = two
-all_both P (x ∷ xs) ys one two = (one.0, all_both P xs ys one.1 two)
 
 pub ends_of : (bytes : List ℕ) (L : List (List Record)) (e : ℕ) → LogOf bytes L e → Ends bytes 0 (bodies L) e
 ends_of bytes L e log = record { place = omega (arith, log.front.place); spells = log.front.spells; closed = log.closed; each = log.front.sizes }
@@ -95,8 +90,8 @@ log_of_ends bytes L e ends each has = record {
 pub grown : (old new : List ℕ) (L more : List (List Record)) (at : ℕ) → LogOf old L at → AllByRecursion AreSpelled more → Adds at (bodies more) old new → LogOf new (L ++ more) (next_place at (bodies more))
 grown old new L more at log each adds =
     let has = log.format in
-    log_of_ends new (L ++ more) (next_place at (bodies more)) (subst (λ (l : List (List ℕ)). Ends new 0 l (next_place at (bodies more))) (sym (bodies-append L more)) (adds 0 (bodies L) (ends_of old L at log)))
-    (all_both AreSpelled L more log.front.each each) (has.0, has.1, has.2 ++ more, ap (λ (l : List (List Record)). l ++ more) has.3)
+    log_of_ends new (L ++ more) (next_place at (bodies more)) (subst (λ (l : List (List ℕ)). Ends new 0 l (next_place at (bodies more))) (sym (bodies_join L more)) (adds 0 (bodies L) (ends_of old L at log)))
+    (all_append AreSpelled L more log.front.each each) (has.0, has.1, has.2 ++ more, ap (λ (l : List (List Record)). l ++ more) has.3)
 
 all_take : (n : ℕ) (L : List (List Record)) → AllByRecursion AreSpelled L → AllByRecursion AreSpelled (take n L)
 all_take zero L all = tt

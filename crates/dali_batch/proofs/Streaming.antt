@@ -4,7 +4,7 @@ use Rattle.std.proofs.lemmas.List.{append-nil, drop-take, take-take, drop-drop, 
 use Rattle.dali_bytes.specs.Fields.{number32}
 use Rattle.dali_bytes.proofs.Numbers.{length-number32}
 use Rattle.dali_record.specs.declared.records.Record.{Record}
-use Rattle.dali_record.specs.declared.records.Record.TheVariants.{Format, Begin, Forward, Done, Commit, Ended, Solo, AuditBegin, AuditClean, AuditFail, Restarted, Back}
+use Rattle.dali_record.specs.declared.records.Record.TheVariants.{Format}
 use Rattle.dali_record.specs.Spelling.{spelling, CanBeSpelled, Begins}
 use Rattle.dali_batch.specs.Batch.{batch, IsClosedAt}
 use Rattle.dali_batch.specs.Finding.{BatchAt, IsBad}
@@ -153,19 +153,9 @@ kept_stays log r s keeps window = λ start front done read. record { window = wi
     )
 
 -- ---- the records of a batch
-some_length : (r : Record) → 0 < length (spelling r)
+pub some_length : (r : Record) → 0 < length (spelling r)
 some_length (Format i h) = omega arith
-some_length (Begin t) = omega arith
-some_length (Forward t b) = omega arith
-some_length (Done t c a) = omega arith
-some_length (Commit t) = omega arith
-some_length (Ended t) = omega arith
-some_length (Solo t p b) = omega arith
-some_length AuditBegin = omega arith
-some_length (AuditClean n) = omega arith
-some_length (AuditFail n rs) = omega arith
-some_length (Restarted rs ds) = omega arith
-some_length (Back t b) = omega arith
+some_length _ = omega arith
 
 module _ (log : List ℕ) (r : Reading) (start : ℕ) (front : List (List Record)) (done : List Record) (lt : r.at < r.end) (whole : (r.from ≤ r.at) × (r.end ≤ r.from + length r.bytes)) (read : IsReadFrom log start front done r) where
   within : IsWithin log start front done r

@@ -5,7 +5,7 @@ use Rattle.std.proofs.lemmas.List.{append-nil, take_at, drop_at, drop-drop}
 use Rattle.dali_bytes.specs.Fields.{number32}
 use Rattle.dali_bytes.proofs.Numbers.{length-number32}
 use Rattle.dali_record.specs.declared.records.Record.{Record}
-use Rattle.dali_record.specs.declared.records.Record.TheVariants.{Format, Begin, Forward, Done, Commit, Ended, Solo, AuditBegin, AuditClean, AuditFail, Restarted, Back}
+use Rattle.dali_record.specs.declared.records.Record.TheVariants.{Format}
 use Rattle.dali_record.specs.Spelling.{spelling, Begins}
 use Rattle.dali_record.proofs.Spelled.{one_begins}
 use Rattle.dali_batch.specs.Batch.{sized, batch, batches, IsBody, IsClosedAt, IsUnformatted}
@@ -40,17 +40,7 @@ same_batch a b x y ia ib e = same_body a b x y ia ib (tail_of 165 165 (sized a +
 -- ---- records of a body
 pub some_bytes : (r : Record) (more : List ℕ) → [] ≡ spelling r ++ more → ⊥
 some_bytes (Format index heap) more e = absurd cc
-some_bytes (Begin t) more e = absurd cc
-some_bytes (Forward t b) more e = absurd cc
-some_bytes (Done t call answer) more e = absurd cc
-some_bytes (Commit t) more e = absurd cc
-some_bytes (Ended t) more e = absurd cc
-some_bytes (Solo t parent b) more e = absurd cc
-some_bytes AuditBegin more e = absurd cc
-some_bytes (AuditClean begin) more e = absurd cc
-some_bytes (AuditFail begin regions) more e = absurd cc
-some_bytes (Restarted rolled_back deleted) more e = absurd cc
-some_bytes (Back t b) more e = absurd cc
+some_bytes _ more e = absurd cc
 
 -- whole records, and what is left behind records
 pub front_of : (rs ss : List Record) (rest : List ℕ) → AreSpelled rs → AreSpelled ss → body_bytes rs ++ rest ≡ body_bytes ss → (later : List Record) × AreSpelled later × (ss ≡ rs ++ later) × (rest ≡ body_bytes later)
@@ -170,7 +160,7 @@ behind_gate : (bytes : List ℕ) (p : ℕ) (body rest : List ℕ) → drop p byt
 behind_gate bytes p body rest e = sym (drop-drop 1 p bytes) ∙ ap (λ (l : List ℕ). drop 1 l) e
 
 -- a batch is no bad length
-no_batch : (bytes : List ℕ) (p : ℕ) (body : List ℕ) → BatchAt bytes p body → NoBatch bytes p → ⊥
+pub no_batch : (bytes : List ℕ) (p : ℕ) (body : List ℕ) → BatchAt bytes p body → NoBatch bytes p → ⊥
 no_batch bytes p body found none = none.none body found.1 found.0 (behind_gate bytes p body found.1 found.2)
 
 goes_there : (bytes : List ℕ) (p : ℕ) (goes : Goes (drop p bytes)) → BatchAt bytes p (body_bytes goes.0)

@@ -19,7 +19,8 @@ use Rattle.dali_batch.proofs.Finds.{cut_length, bad_length, batch_read}
 use Rattle.dali_batch.proofs.Bodies.{one_format}
 use Rattle.dali_batch.specs.Laws.{HasOneReading}
 use Rattle.dali_batch.proofs.Fronts.{empty_front, front_push, format_more, open_is_formatted}
-use Rattle.dali_batch.proofs.Unique.{some_bytes, one_log, one_place, log_is_good, log_is_formatted}
+use Rattle.dali_batch.proofs.Unique.{one_log, one_place, log_is_good, log_is_formatted}
+use Rattle.dali_batch.proofs.Streaming.{some_length}
 
 -- ---- one record
 bytes_behind : (x front rest : List ℕ) → IsBytes x → x ≡ front ++ rest → IsBytes rest
@@ -31,13 +32,6 @@ one_or_none x fits = by_read (record_at x) refl
     by_read : (read : Option (Record × List ℕ)) → record_at x ≡ read → ((r : Record) × (rest : List ℕ) × CanBeSpelled r × (x ≡ spelling r ++ rest)) ⊎ ((r : Record) → Begins x r → ⊥)
     by_read None e = inr (λ r begins. none_begins x e r begins.1 begins.0 begins.2)
     by_read (Some found) e = let taken = record_taken x found.0 found.1 fits e in inl (found.0, found.1, taken.0, taken.1)
-
-positive : (xs : List ℕ) → (xs ≡ [] → ⊥) → 0 < length xs
-positive [] none = absurd (none refl)
-positive (x ∷ xs) none = omega arith
-
-spelled_some : (r : Record) → 0 < length (spelling r)
-spelled_some r = positive (spelling r) (λ e. some_bytes r [] (sym e ∙ sym (append-nil (spelling r))))
 
 -- ---- all records of a body
 abbrev Parsed : List ℕ → Type 0
@@ -65,7 +59,7 @@ parse n [] le fits = inl ([], tt, refl)
 parse zero (b ∷ x) le fits = absurd (omega (arith, le))
 parse (suc n) (b ∷ x) le fits =
     ⊎_elim
-    (λ found. more_parsed (b ∷ x) found.0 found.1 found.2 found.3 (parse n found.1 (omega (arith, le, ap length found.3, length-append (spelling found.0) found.1, spelled_some found.0)) (bytes_behind (b ∷ x) (spelling found.0) found.1 fits found.3)))
+    (λ found. more_parsed (b ∷ x) found.0 found.1 found.2 found.3 (parse n found.1 (omega (arith, le, ap length found.3, length-append (spelling found.0) found.1, some_length found.0)) (bytes_behind (b ∷ x) (spelling found.0) found.1 fits found.3)))
     (λ none. inr (0, ([], b ∷ x, tt, refl, refl, omega arith, none)))
     (one_or_none (b ∷ x) fits)
 

@@ -13,7 +13,7 @@ ghost use Rattle.dali_batch.specs.Stream.{Covers, IsWhole, IsWindow, IsReadFrom,
 use crate::finding::{fill, number_of};
 use crate::{BatchError, LogError, MOST_BYTES, OPEN};
 use dali_bytes::Reader;
-use dali_record::{DecodeError, Record, decode};
+use dali_record::{DecodeError, Record, decode, decode_into};
 use dali_store::{FileName, Store};
 use std::alloc::Global;
 use std::marker::Model;
@@ -295,13 +295,13 @@ impl LogReader {
         Ok(true)
     }
 
-    // The next record of the batch, of which some is left.
-    fn next_record(&mut self) -> Result<Placed, LogError>
+    // Reads the next record of the batch, of which some is left, into a place.
+    fn next_record(&mut self, into: &mut Placed) -> Result<(), LogError>
         requires left { self.old.at < self.old.end }
         ensures whole { IsWhole self.new }
         ensures further { OnOk result (self.old.at < self.new.at) }
-        ensures spelled { IfOk result (λ given. CanBeSpelled given.entry) }
-        ensures read { IfOk result (λ given. (log : List ℕ) → GoesOn log self.old given self.new) }
+        ensures spelled { OnOk result (CanBeSpelled into.new.entry) }
+        ensures read { OnOk result ((log : List ℕ) → GoesOn log self.old into.new self.new) }
         ensures bad { IfErr result (λ e. (bad : ℕ) → e ≡ LogError.BadLog bad → (log : List ℕ) → IsBadFrom log self.old bad) }
         ensures err { OnErr result (self.new ≡ self.old) }
         ensures errors { IfErr result (λ e. ((bad : ℕ) × (e ≡ LogError.BadLog bad)) ⊎ (e ≡ LogError.OutOfMemory)) }
@@ -309,15 +309,50 @@ impl LogReader {
         let at = self.at;
         let first = at == self.body;
         let mut reader = Reader::new(self.part(at, self.end - at));
-        match decode(self.alloc, &mut reader) {
-            Ok(entry) => {
+        match decode_into(self.alloc, &mut reader, &mut into.entry) {
+            Ok(()) => {
                 let size = reader.at() as u64;
                 self.at = at + size;
-                Ok(Placed { entry, at, first })
+                into.at = at;
+                into.first = first;
+                Ok(())
             }
             Err(DecodeError::OutOfMemory) => Err(LogError::OutOfMemory),
             Err(DecodeError::BadRecord { .. }) => Err(LogError::BadLog { at }),
         }
+    }
+
+    /// Reads the next record into a place, and answers whether there was one: `next` for a caller that lends the same place
+    /// each time, so that no record is moved. Where there was none, or an error came, nothing is said of the place.
+    pub fn next_into<V: Store>(
+        &mut self,
+        store: &mut V,
+        into: &mut Placed,
+    ) -> Result<bool, LogError>
+        ensures whole { IsWhole self.new }
+        ensures further { IfOk result (λ more. more ≡ true → self.old.at < self.new.at) }
+        ensures spelled { IfOk result (λ more. more ≡ true → CanBeSpelled into.new.entry) }
+        ensures read { IfOk result (λ more. more ≡ true → IfSome (V.told store.old) (λ fs. GoesOn fs.log self.old into.new self.new)) }
+        ensures ends { IfOk result (λ more. more ≡ false → IfSome (V.told store.old) (λ fs. EndsAt fs.log self.old self.new)) }
+        ensures bad { IfErr result (λ e. (bad : ℕ) → e ≡ LogError.BadLog bad → IfSome (V.told store.old) (λ fs. IsBadFrom fs.log self.old bad)) }
+        ensures wanting { IsErrOf result LogError.OutOfMemory → IfSome (V.told store.old) (λ fs. Stays fs.log self.old self.new) }
+        ensures formatted { IsErrOf result LogError.Unformatted → ⊥ }
+        ensures reads { OnlyReads V.told V.moment V.left_since V.may_leave store.old store.new }
+        ensures later { V.faults store.old ≤ V.faults store.new }
+        ensures fault { IsErrOf result LogError.Fault → Rose (V.faults store.old) (V.faults store.new) }
+        ensures kept { (IsErrOf result LogError.Fault → ⊥) → V.faults store.new ≡ V.faults store.old }
+        ensures most { MakesAtMost 3 (V.lets_pass store.old) (V.lets_pass store.new) }
+        ensures passes { PassesFewer (V.lets_pass store.old) (V.lets_pass store.new) }
+    {
+        if self.at < self.end {
+            self.next_record(into)?;
+            return Ok(true);
+        }
+        if !self.next_batch(store)? {
+            return Ok(false);
+        }
+        self.next_record(into)?;
+        Ok(true)
     }
 
     /// The next record, or none where the log ends. `BadLog` exactly where the bytes are no log, with the first bad
@@ -342,13 +377,16 @@ impl LogReader {
         ensures most { MakesAtMost 3 (V.lets_pass store.old) (V.lets_pass store.new) }
         ensures passes { PassesFewer (V.lets_pass store.old) (V.lets_pass store.new) }
     {
-        if self.at < self.end {
-            return Ok(Some(self.next_record()?));
+        let mut given = Placed {
+            entry: Record::AuditBegin,
+            at: 0,
+            first: false,
+        };
+        match self.next_into(store, &mut given) {
+            Ok(true) => Ok(Some(given)),
+            Ok(false) => Ok(None),
+            Err(error) => Err(error),
         }
-        if !self.next_batch(store)? {
-            return Ok(None);
-        }
-        Ok(Some(self.next_record()?))
     }
 
     /// The place behind the record that was read last; at the end of the log its place.

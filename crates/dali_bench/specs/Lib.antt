@@ -1,11 +1,4 @@
 pub mod Amounts
 pub mod Calls
 pub mod Checkpoints
-pub mod Databases
-pub mod Keys
 pub mod Regions
-pub mod Requests
-pub mod Samples
-pub mod Scripts
-pub mod Shared
-pub mod Tasks

@@ -1,7 +1,4 @@
 //! The words of the command line.
-ghost use Rattle.std.specs.Prelude.{◌≡◌};
-ghost use Rattle.dali_bench.specs.Tasks.{name_of, has_count, has_folder};
-
 use anyhow::Result;
 use clap::{Arg, ArgAction, ArgMatches, Command, value_parser};
 use std::alloc::{AllocError, Global};
@@ -27,9 +24,7 @@ pub enum Task {
     Commit,
     /// Inserts records into a database in memory.
     Growth,
-    /// Runs a script over a store in memory.
-    Script,
-    /// Commits the same transactions without a script.
+    /// Makes a database in memory, and commits the transactions that a script has in `dali_bench_script`.
     Direct,
     /// Makes calls that insert.
     Insert,
@@ -59,7 +54,7 @@ pub enum Task {
     Small,
 }
 
-const TASKS: [Task; 24] = [
+const TASKS: [Task; 23] = [
     Task::Codec,
     Task::Locks,
     Task::Update,
@@ -69,7 +64,6 @@ const TASKS: [Task; 24] = [
     Task::Notes,
     Task::Commit,
     Task::Growth,
-    Task::Script,
     Task::Direct,
     Task::Insert,
     Task::Get,
@@ -87,9 +81,7 @@ const TASKS: [Task; 24] = [
 ];
 
 impl Task {
-    fn name<'a>(self) -> &'a str
-        ensures { result.now ≡ name_of self }
-    {
+    fn name<'a>(self) -> &'a str {
         match self {
             Task::Codec => "codec",
             Task::Locks => "locks",
@@ -100,7 +92,6 @@ impl Task {
             Task::Notes => "notes",
             Task::Commit => "commit",
             Task::Growth => "growth",
-            Task::Script => "script",
             Task::Direct => "direct",
             Task::Insert => "insert",
             Task::Get => "get",
@@ -130,7 +121,6 @@ impl Task {
             Task::Commit =>
                 "Commits COUNT transactions of one insert to files in a folder within FOLDER",
             Task::Growth => "Inserts COUNT records in transactions of five, in memory",
-            Task::Script => "Runs a script of COUNT transactions of five inserts, in memory",
             Task::Direct => "Commits COUNT transactions of five inserts, in memory",
             Task::Insert => "Makes COUNT calls that insert, five a transaction",
             Task::Get => "Makes COUNT calls that read, five a transaction",
@@ -152,15 +142,11 @@ impl Task {
         }
     }
 
-    fn has_count(self) -> bool
-        ensures { result ≡ has_count self }
-    {
+    fn has_count(self) -> bool {
         !matches!(self, Task::Recover | Task::Small)
     }
 
-    fn has_folder(self) -> bool
-        ensures { result ≡ has_folder self }
-    {
+    fn has_folder(self) -> bool {
         matches!(
             self,
             Task::Commit

@@ -1,23 +1,20 @@
 //! Audits of a database whose regions are as they were formatted.
-ghost use Rattle.std.specs.Prelude.{◌≡◌, ◌*◌, ◌<◌, ◌^◌, codes, length, map, OnOk, IfOk};
+ghost use Rattle.std.specs.Prelude.{◌≡◌, ◌<◌, ◌^◌, length, map, OnOk};
 ghost use Rattle.dali_geometry.specs.Places.{regions as regions_of};
 ghost use Rattle.dali_audit.specs.declared.audit.Finding.TheVariants.{Waiting};
 ghost use Rattle.dali_region.specs.State.{checked};
 ghost use Rattle.dali_checkpoint.specs.Making.{found_in};
-ghost use Rattle.dali_bench.specs.Amounts.{Counts};
 
+use crate::calls::{LIMIT, load};
 use crate::timing::Timing;
 use anyhow::{Result, ensure};
 use dali_audit::{Audit, Verdict};
 use dali_core::System;
 use dali_geometry::Geometry;
 use dali_region::Region;
-use std::alloc::{AllocError, Global};
+use std::alloc::Global;
 use std::rt::Clock;
 use std::time::Instant;
-
-/// The greatest limit of a log, in bytes.
-const LIMIT: u64 = 268_435_456;
 
 /// How often all regions are audited.
 const AUDITS: u32 = 10;
@@ -26,18 +23,6 @@ const AUDITS: u32 = 10;
 pub fn sizes_for(regions: u32) -> Result<Geometry> {
     let index = regions / 3;
     Ok(Geometry::new(index, regions - index)?)
-}
-
-// The regions of a new database.
-fn load(alloc: Global, geometry: &Geometry) -> Result<Vec<Region>, AllocError>
-    ensures { IfOk result (λ regions. length regions.items ≡ regions_of geometry.now) }
-{
-    let count = geometry.regions();
-    let mut regions = Vec::with_capacity(alloc, count as usize)?;
-    for region in 0..count {
-        regions.push(Region::load(geometry.formatted(region)))?;
-    }
-    Ok(regions)
 }
 
 // Passes all regions.
@@ -87,9 +72,7 @@ fn audit_times(alloc: Global, regions: &mut [Region], system: &mut System, times
 }
 
 /// Ten audits of so many regions. The check number is how many regions there are.
-pub fn run(clock: &impl Clock, alloc: Global, regions: u32) -> Result<Timing>
-    ensures { IfOk result (Counts (regions * 10) (codes "regions")) }
-{
+pub fn run(clock: &impl Clock, alloc: Global, regions: u32) -> Result<Timing> {
     let geometry = sizes_for(regions)?;
     let mut all = load(alloc, &geometry)?;
     let mut system = System::new(alloc, geometry, 1, 1, 10, LIMIT)?;

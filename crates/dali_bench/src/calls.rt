@@ -1,8 +1,7 @@
 //! Record calls of one client, in transactions, over regions and a system in memory.
-ghost use Rattle.std.specs.Prelude.{◌≡◌, ◌<◌, ◌*◌, ◌/◌, length, codes, OnOk, IfOk};
+ghost use Rattle.std.specs.Prelude.{◌≡◌, ◌<◌, length, OnOk, IfOk};
 ghost use Rattle.dali_geometry.specs.Places.{regions as regions_of};
-ghost use Rattle.dali_bench.specs.Amounts.{Counts};
-ghost use Rattle.dali_bench.specs.Calls.{unit_of, MayServe};
+ghost use Rattle.dali_bench.specs.Calls.{MayServe};
 
 use crate::keys::{mix_bytes, scattered};
 use crate::timing::Timing;
@@ -37,9 +36,7 @@ pub enum Kind {
 }
 
 // What is counted.
-fn unit<'a>(kind: Kind) -> &'a str
-    ensures { result.now ≡ unit_of kind }
-{
+fn unit<'a>(kind: Kind) -> &'a str {
     match kind {
         Kind::Insert => "inserts",
         Kind::Get => "gets",
@@ -61,8 +58,8 @@ pub fn values() -> Result<[Value; 2]> {
     ])
 }
 
-// The regions of a new database.
-fn load(alloc: Global, geometry: &Geometry) -> Result<Vec<Region>, AllocError>
+/// The regions of a new database.
+pub fn load(alloc: Global, geometry: &Geometry) -> Result<Vec<Region>, AllocError>
     ensures { IfOk result (λ regions. length regions.items ≡ regions_of geometry.now) }
 {
     let count = geometry.regions();
@@ -88,6 +85,26 @@ fn call_of(kind: Kind, key: u64, values: &[Value; 2]) -> Call {
     }
 }
 
+// A call, which has a good answer.
+fn call_once(
+    regions: &mut [Region],
+    system: &mut System,
+    txn: u64,
+    kind: Kind,
+    key: u64,
+    values: &[Value; 2],
+) -> Result<()>
+    requires { MayServe regions.old system.old.state txn }
+    ensures { OnOk result (MayServe regions.new system.new.state txn) }
+{
+    let answer = perform(regions, system, txn, call_of(kind, key, values), false)?;
+    ensure!(
+        matches!(answer, Answer::Ok | Answer::Got { .. }),
+        "a call failed"
+    );
+    Ok(())
+}
+
 /// Makes the calls of a transaction, on the keys from this place on.
 pub fn call_all(
     regions: &mut [Region],
@@ -101,19 +118,36 @@ pub fn call_all(
     requires { MayServe regions.old system.old.state txn }
     ensures { OnOk result (MayServe regions.new system.new.state txn) }
 {
-    for call in 0..calls as u64 {
-        let key = scattered(first.wrapping_add(call));
-        let answer = perform(regions, system, txn, call_of(kind, key, values), false)?;
-        ensure!(
-            matches!(answer, Answer::Ok | Answer::Got { .. }),
-            "a call failed"
-        );
+    for place in 0..calls as u64 {
+        let key = scattered(first.wrapping_add(place));
+        call_once(regions, system, txn, kind, key, values)?;
     }
     Ok(())
 }
 
-/// A whole transaction, which makes so many calls on the keys from this place on. Its records are left in the system's frame.
+/// Begins a transaction, where these are the system's regions.
 #[tactic(auto, using(dali_single::proofs::Guards::begun_lives, dali_single::proofs::Guards::begun_covered))]
+pub fn begin(regions: &[Region], system: &mut System) -> Result<u64>
+    ensures { IfOk result (λ txn. MayServe regions.now system.new.state txn) }
+{
+    ensure!(
+        regions.len() == system.geometry().regions() as usize,
+        "these aren't the system's regions"
+    );
+    let (txn, _) = system.begin()?;
+    Ok(txn)
+}
+
+// Commits a transaction, frees what it removed, and ends it.
+fn end(alloc: Global, regions: &mut [Region], system: &mut System, txn: u64) -> Result<()>
+    requires { MayServe regions.old system.old.state txn }
+{
+    let removals = commit(alloc, system, txn)?;
+    settle(regions, system, txn, &removals)?;
+    Ok(())
+}
+
+/// A whole transaction, which makes so many calls on the keys from this place on. Its records are left in the system's frame.
 pub fn run_transaction(
     alloc: Global,
     regions: &mut [Region],
@@ -123,15 +157,9 @@ pub fn run_transaction(
     calls: u32,
     values: &[Value; 2],
 ) -> Result<()> {
-    ensure!(
-        regions.len() == system.geometry().regions() as usize,
-        "these aren't the system's regions"
-    );
-    let (txn, _) = system.begin()?;
+    let txn = begin(regions, system)?;
     call_all(regions, system, txn, kind, first, calls, values)?;
-    let removals = commit(alloc, system, txn)?;
-    settle(regions, system, txn, &removals)?;
-    Ok(())
+    end(alloc, regions, system, txn)
 }
 
 // So many calls, in transactions of so many.
@@ -156,7 +184,6 @@ fn run_transactions(
 // is that of the bytes that the system has logged.
 fn run_in(clock: &impl Clock, alloc: Global, kind: Kind, count: u32, calls: u32) -> Result<Timing>
     requires { 0 < calls }
-    ensures counts { IfOk result (Counts (count / calls * calls) (unit_of kind)) }
 {
     let geometry = sizes_for(count)?;
     let mut regions = load(alloc, &geometry)?;
@@ -179,15 +206,11 @@ fn run_in(clock: &impl Clock, alloc: Global, kind: Kind, count: u32, calls: u32)
 }
 
 /// So many calls on as many keys, in transactions of five.
-pub fn run(clock: &impl Clock, alloc: Global, kind: Kind, count: u32) -> Result<Timing>
-    ensures counts { IfOk result (Counts (count / 5 * 5) (unit_of kind)) }
-{
+pub fn run(clock: &impl Clock, alloc: Global, kind: Kind, count: u32) -> Result<Timing> {
     run_in(clock, alloc, kind, count, CALLS)
 }
 
 /// So many inserts in transactions of ten, which is more than a heap region has cells.
-pub fn run_tens(clock: &impl Clock, alloc: Global, count: u32) -> Result<Timing>
-    ensures counts { IfOk result (Counts (count / 10 * 10) (codes "inserts")) }
-{
+pub fn run_tens(clock: &impl Clock, alloc: Global, count: u32) -> Result<Timing> {
     run_in(clock, alloc, Kind::Insert, count, 2 * CALLS)
 }

@@ -1,53 +1,39 @@
 //! Checkpoints of databases whose regions are as they were formatted.
-ghost use Rattle.std.specs.Prelude.{◌≡◌, codes, OnOk, IfOk};
-ghost use Rattle.dali_bench.specs.Amounts.{Counts};
-ghost use Rattle.dali_bench.specs.Checkpoints.{MayCheckpoint, FirstWritten};
+ghost use Rattle.std.specs.Prelude.{◌≡◌, OnOk};
+ghost use Rattle.dali_whole.specs.Cores.{IsWholeCore};
+ghost use Rattle.dali_bench.specs.Checkpoints.{FirstWritten};
 
 use crate::audits::sizes_for;
+use crate::databases::make;
 use crate::regions::update_word;
 use crate::timing::Timing;
 use anyhow::{Result, ensure};
 use dali_checkpoint::make_checkpoint;
-use dali_geometry::Geometry;
 use dali_region::Region;
-use dali_restart::format;
 use dali_store::{FileName, Store};
 use dali_whole::Core;
 use std::alloc::Global;
 use std::rt::Clock;
 use std::time::Instant;
 
-/// The greatest limit of a log, in bytes.
-const LIMIT: u64 = 268_435_456;
-
 /// How many checkpoints are made of regions that no image lacks, or all but one.
 const CHECKPOINTS: u32 = 10;
 
-// The core of a new database of these sizes.
-fn make<V: Store + Drop>(alloc: Global, store: V, geometry: Geometry) -> Result<Core<V>>
-    ensures { IfOk result (λ core. MayCheckpoint V.told core.regions.items core.system.state core.vault) }
-{
-    match format(alloc, store, geometry, LIMIT) {
-        Ok(core) => Ok(core),
-        Err(refused) => Err(refused.error.into()),
-    }
-}
-
-// A checkpoint, behind which another one may be made.
+// A checkpoint.
 fn checkpoint<V: Store>(alloc: Global, core: &mut Core<V>) -> Result<()>
-    requires { MayCheckpoint V.told core.old.regions.items core.old.system.state core.old.vault }
-    ensures { OnOk result (MayCheckpoint V.told core.new.regions.items core.new.system.state core.new.vault) }
+    requires { IsWholeCore V.told core.old.regions.items core.old.system.state core.old.vault }
+    ensures { OnOk result (IsWholeCore V.told core.new.regions.items core.new.system.state core.new.vault) }
 {
-    make_checkpoint(core, alloc)?;
     ensure!(core.vault.end() < 1 << 61, "the log is too long");
     ensure!(core.vault.current() < 1 << 62, "too many checkpoints");
+    make_checkpoint(core, alloc)?;
     Ok(())
 }
 
 // So many checkpoints.
 fn checkpoint_times<V: Store>(alloc: Global, core: &mut Core<V>, times: u32) -> Result<()>
-    requires { MayCheckpoint V.told core.old.regions.items core.old.system.state core.old.vault }
-    ensures { OnOk result (MayCheckpoint V.told core.new.regions.items core.new.system.state core.new.vault) }
+    requires { IsWholeCore V.told core.old.regions.items core.old.system.state core.old.vault }
+    ensures { OnOk result (IsWholeCore V.told core.new.regions.items core.new.system.state core.new.vault) }
 {
     for _ in 0..times {
         checkpoint(alloc, core)?;
@@ -66,8 +52,8 @@ fn write_first(regions: &mut [Region]) -> Result<()>
 
 // Writes a word of the first region.
 fn write_one<V: Store>(core: &mut Core<V>) -> Result<()>
-    requires { MayCheckpoint V.told core.old.regions.items core.old.system.state core.old.vault }
-    ensures { OnOk result (MayCheckpoint V.told core.new.regions.items core.new.system.state core.new.vault) }
+    requires { IsWholeCore V.told core.old.regions.items core.old.system.state core.old.vault }
+    ensures { OnOk result (IsWholeCore V.told core.new.regions.items core.new.system.state core.new.vault) }
 {
     write_first(&mut core.regions)?;
     Ok(())
@@ -75,8 +61,8 @@ fn write_one<V: Store>(core: &mut Core<V>) -> Result<()>
 
 // So many checkpoints, with a write of one region before each.
 fn write_and_checkpoint<V: Store>(alloc: Global, core: &mut Core<V>, times: u32) -> Result<()>
-    requires { MayCheckpoint V.told core.old.regions.items core.old.system.state core.old.vault }
-    ensures { OnOk result (MayCheckpoint V.told core.new.regions.items core.new.system.state core.new.vault) }
+    requires { IsWholeCore V.told core.old.regions.items core.old.system.state core.old.vault }
+    ensures { OnOk result (IsWholeCore V.told core.new.regions.items core.new.system.state core.new.vault) }
 {
     for _ in 0..times {
         write_one(core)?;
@@ -98,9 +84,7 @@ pub fn run_first<V: Store + Drop>(
     alloc: Global,
     store: V,
     regions: u32,
-) -> Result<Timing>
-    ensures { IfOk result (Counts regions (codes "regions")) }
-{
+) -> Result<Timing> {
     let mut core = make(alloc, store, sizes_for(regions)?)?;
     let start = Instant::now(clock)?;
     checkpoint(alloc, &mut core)?;
@@ -115,9 +99,7 @@ pub fn run_clean<V: Store + Drop>(
     alloc: Global,
     store: V,
     regions: u32,
-) -> Result<Timing>
-    ensures { IfOk result (Counts 10 (codes "checkpoints")) }
-{
+) -> Result<Timing> {
     let mut core = make(alloc, store, sizes_for(regions)?)?;
     checkpoint_times(alloc, &mut core, 2)?;
     let start = Instant::now(clock)?;
@@ -133,9 +115,7 @@ pub fn run_dirty<V: Store + Drop>(
     alloc: Global,
     store: V,
     regions: u32,
-) -> Result<Timing>
-    ensures { IfOk result (Counts 10 (codes "checkpoints")) }
-{
+) -> Result<Timing> {
     let mut core = make(alloc, store, sizes_for(regions)?)?;
     checkpoint_times(alloc, &mut core, 2)?;
     let start = Instant::now(clock)?;

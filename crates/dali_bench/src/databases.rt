@@ -1,12 +1,12 @@
 //! Databases that are made and filled.
-ghost use Rattle.std.specs.Prelude.{codes, IfOk};
-ghost use Rattle.dali_bench.specs.Amounts.{Counts};
-ghost use Rattle.dali_bench.specs.Databases.{records_grown};
+ghost use Rattle.std.specs.Prelude.{IfOk};
+ghost use Rattle.dali_whole.specs.Cores.{IsWholeCore};
 
-use crate::calls::{CALLS, Kind, LIMIT, call_all, sizes_for, values};
+use crate::calls::{CALLS, Kind, LIMIT, begin, call_all, sizes_for, values};
 use crate::timing::Timing;
 use anyhow::{Result, ensure};
 use dali_ends::commit as commit_durably;
+use dali_geometry::Geometry;
 use dali_memstore::MemoryStore;
 use dali_restart::format;
 use dali_store::{FileName, Store};
@@ -21,16 +21,17 @@ use std::time::{Duration, Instant};
 /// How many records are inserted in all while growth is timed, where the count of one database divides it.
 const RECORDS: u32 = 100_000;
 
-/// A new database with sizes for so many records.
-pub fn make<V: Store + Drop>(alloc: Global, store: V, records: u32) -> Result<Core<V>> {
-    match format(alloc, store, sizes_for(records)?, LIMIT) {
+/// A new database of these sizes.
+pub fn make<V: Store + Drop>(alloc: Global, store: V, geometry: Geometry) -> Result<Core<V>>
+    ensures { IfOk result (λ core. IsWholeCore V.told core.regions.items core.system.state core.vault) }
+{
+    match format(alloc, store, geometry, LIMIT) {
         Ok(core) => Ok(core),
         Err(refused) => Err(refused.error.into()),
     }
 }
 
 // A durable transaction, which inserts so many records from the one with this number on.
-#[tactic(auto, using(dali_single::proofs::Guards::begun_lives, dali_single::proofs::Guards::begun_covered))]
 fn commit_inserts<V: Store>(
     alloc: Global,
     core: &mut Core<V>,
@@ -38,11 +39,7 @@ fn commit_inserts<V: Store>(
     inserts: u32,
     values: &[Value; 2],
 ) -> Result<()> {
-    ensure!(
-        core.regions.len() == core.system.geometry().regions() as usize,
-        "these aren't the system's regions"
-    );
-    let (txn, _) = core.system.begin()?;
+    let txn = begin(&core.regions, &mut core.system)?;
     call_all(
         &mut core.regions,
         &mut core.system,
@@ -80,7 +77,8 @@ fn time_filling<V: Store + Drop>(
     transactions: u32,
     inserts: u32,
 ) -> Result<(Duration, u64)> {
-    let mut core = make(alloc, store, transactions.saturating_mul(inserts))?;
+    let sizes = sizes_for(transactions.saturating_mul(inserts))?;
+    let mut core = make(alloc, store, sizes)?;
     let start = Instant::now(clock)?;
     fill(alloc, &mut core, transactions, inserts)?;
     let elapsed = start.elapsed(clock)?;
@@ -94,9 +92,7 @@ pub fn commit<V: Store + Drop>(
     alloc: Global,
     store: V,
     count: u32,
-) -> Result<Timing>
-    ensures { IfOk result (Counts count (codes "commits")) }
-{
+) -> Result<Timing> {
     let (elapsed, length) = time_filling(clock, alloc, store, count, 1)?;
     Ok(Timing::new(count as u64, "commits", elapsed).checked(length))
 }
@@ -107,19 +103,23 @@ fn time_memory(clock: &impl Clock, alloc: Global, transactions: u32) -> Result<(
     time_filling(clock, alloc, store, transactions, CALLS)
 }
 
-/// Commits so many transactions of five inserts each to a store in memory. The check number is the log's length.
-pub fn commit_in_memory(clock: &impl Clock, alloc: Global, transactions: u32) -> Result<Timing>
-    ensures { IfOk result (Counts transactions (codes "transactions")) }
-{
-    let (elapsed, length) = time_memory(clock, alloc, transactions)?;
+/// Makes a database in memory, commits so many transactions of five inserts each, and gives the database up, as a script of
+/// them does: all of it is timed. The check number is the log's length.
+pub fn commit_in_memory(clock: &impl Clock, alloc: Global, transactions: u32) -> Result<Timing> {
+    let store = MemoryStore::new(alloc, Vec::new(alloc));
+    let start = Instant::now(clock)?;
+    let sizes = sizes_for(transactions.saturating_mul(CALLS))?;
+    let mut core = make(alloc, store, sizes)?;
+    fill(alloc, &mut core, transactions, CALLS)?;
+    let store = core.into_store();
+    let elapsed = start.elapsed(clock)?;
+    let length = store.file(FileName::Log).len() as u64;
     Ok(Timing::new(transactions as u64, "transactions", elapsed).checked(length))
 }
 
 /// Inserts so many records in transactions of five into a new database in memory, as often as that makes at most 100,000 in all,
 /// and at least once. Making the databases isn't timed. The check number is the sum of the lengths of their logs.
-pub fn grow(clock: &impl Clock, alloc: Global, count: u32) -> Result<Timing>
-    ensures { IfOk result (Counts (records_grown count) (codes "inserts")) }
-{
+pub fn grow(clock: &impl Clock, alloc: Global, count: u32) -> Result<Timing> {
     let transactions = count / CALLS;
     ensure!(transactions > 0, "fewer than five records");
     let rounds = (RECORDS / CALLS / transactions).max(1);

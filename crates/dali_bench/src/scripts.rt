@@ -1,6 +1,4 @@
 //! A script that is parsed.
-ghost use Rattle.std.specs.Prelude.{◌≡◌, ◌%◌, ◌^◌, ◌≤◌, max, IfOk, string_len};
-ghost use Rattle.dali_bench.specs.Scripts.{commands_in_blocks, commands_of, commands_in, IsParsed};
 
 use crate::keys::mix_bytes;
 use crate::timing::Timing;
@@ -27,9 +25,7 @@ fn put_round(round: u64, text: &mut String) -> Result<()> {
 }
 
 // A header of 15 bytes, and rounds as long as both together stay within a limit in bytes.
-fn text(alloc: Global, limit: usize) -> Result<String>
-    ensures { IfOk result (λ text. string_len text ≤ max limit 15) }
-{
+fn text(alloc: Global, limit: usize) -> Result<String> {
     let mut text = String::from_str(alloc, "size 1024 2048\n")?;
     for number in 0..limit as u64 {
         let mut round = String::new(alloc);
@@ -43,9 +39,7 @@ fn text(alloc: Global, limit: usize) -> Result<String>
 }
 
 // How many commands blocks have.
-fn count_in_blocks(blocks: &[Block]) -> u64
-    ensures { result ≡ commands_in_blocks blocks.now % 2 ^ 64 }
-{
+fn count_in_blocks(blocks: &[Block]) -> u64 {
     let mut count: u64 = 0;
     for block in blocks {
         count = count.wrapping_add(block.commands.as_slice().len() as u64);
@@ -54,9 +48,7 @@ fn count_in_blocks(blocks: &[Block]) -> u64
 }
 
 // How many commands this is, with those of its blocks.
-fn count_of(command: &Command) -> u64
-    ensures { result ≡ commands_of command.now % 2 ^ 64 }
-{
+fn count_of(command: &Command) -> u64 {
     match command {
         Command::Round { blocks } => count_in_blocks(blocks.as_slice()).wrapping_add(1),
         _ => 1,
@@ -64,9 +56,7 @@ fn count_of(command: &Command) -> u64
 }
 
 // How many commands a script has, with those of its blocks.
-fn count_in(script: &Script) -> u64
-    ensures { result ≡ commands_in script.now % 2 ^ 64 }
-{
+fn count_in(script: &Script) -> u64 {
     let mut count: u64 = 0;
     for command in script.commands() {
         count = count.wrapping_add(count_of(command));
@@ -75,9 +65,7 @@ fn count_in(script: &Script) -> u64
 }
 
 /// A script of at most so many bytes, or of the 15 of its header, is parsed, so many times.
-pub fn run(clock: &impl Clock, alloc: Global, passes: u32, limit: usize) -> Result<Timing>
-    ensures { IfOk result (IsParsed passes (max limit 15)) }
-{
+pub fn run(clock: &impl Clock, alloc: Global, passes: u32, limit: usize) -> Result<Timing> {
     let text = text(alloc, limit)?;
     let bytes = text.as_bytes();
     let start = Instant::now(clock)?;

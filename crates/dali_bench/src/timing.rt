@@ -1,6 +1,6 @@
 //! How much was done in how long.
-ghost use Rattle.std.specs.Prelude.{◌≡◌, IfOk};
-ghost use Rattle.dali_bench.specs.Amounts.{Tells, rate_of, text_of};
+ghost use Rattle.std.specs.Prelude.{◌≡◌};
+ghost use Rattle.dali_bench.specs.Amounts.{rate_of, text_of};
 
 use std::rt::Clock;
 use std::time::{Duration, Instant};
@@ -26,17 +26,12 @@ impl Timing {
         start: Instant,
         count: u64,
         unit: &'static str,
-    ) -> io::Result<Timing>
-        ensures { IfOk result (λ timing. Tells count unit.now 0 timing) }
-    {
+    ) -> io::Result<Timing> {
         Ok(Timing::new(count, unit, start.elapsed(clock)?))
     }
 
     /// So many things, in so long. The check number is 0.
-    pub fn new(count: u64, unit: &'static str, elapsed: Duration) -> Timing
-        ensures tells { Tells count unit.now 0 result }
-        ensures time { result.elapsed ≡ elapsed }
-    {
+    pub fn new(count: u64, unit: &'static str, elapsed: Duration) -> Timing {
         Timing {
             count,
             unit,
@@ -46,9 +41,7 @@ impl Timing {
     }
 
     /// The same with this check number.
-    pub fn checked(self, check: u64) -> Timing
-        ensures { result ≡ record self { check = check } }
-    {
+    pub fn checked(self, check: u64) -> Timing {
         Timing { check, ..self }
     }
 }

@@ -1,20 +1,21 @@
 -- The answer of a plan is allowed, and its calls make steps.
-use Rattle.std.proofs.Common.{◌≡◌, ℕ, Bool, true, false, not, ◌&&◌, List, [], ◌∷◌, ◌++◌, Option, Some, None, refl, sym, ap, ◌∙◌, length}
+use Rattle.std.proofs.Common.{◌≡◌, ℕ, Bool, true, false, not, ◌&&◌, [], ◌∷◌, ◌++◌, Option, Some, None, refl, sym, ap, ◌∙◌, length}
 use Rattle.std.specs.Prelude.{◌==◌, if◌then◌else◌}
 use Rattle.std.proofs.lemmas.List.{append-nil}
 use Rattle.std.proofs.lemmas.Slice.Eq.{bytes_eq-Decides}
+use Rattle.std.proofs.lemmas.Option.{same_Some}
+use Rattle.dali_lists.proofs.Numbers.{eqb-self}
 use Rattle.dali_geometry.specs.Sizes.{Sizes}
 use Rattle.dali_geometry.specs.Places.{is_place}
 use Rattle.dali_record.specs.declared.operations.Op.{Op}
-use Rattle.dali_record.specs.declared.operations.Pending.{Pending}
 use Rattle.dali_record.specs.declared.records.Answer.{Answer}
-use Rattle.dali_record.specs.declared.records.Answer.TheVariants.{Ok as AnswerOk, Exists, Missing, Got, FullHeap, FullIndex, Odd}
+use Rattle.dali_record.specs.declared.records.Answer.TheVariants.{Exists, Missing, Got, Odd}
 use Rattle.dali_record.specs.declared.records.Call.{Call}
 use Rattle.dali_record.specs.declared.records.Call.TheVariants.{Insert, Update, Delete, Get}
 use Rattle.dali_record.specs.declared.records.Record.TheVariants.{Done}
 use Rattle.dali_record.specs.Calls.{Fresh as FreshCall, answers, takes_back, same_call, same_answer}
 use Rattle.dali_record.specs.Legal.{Working, Onward, is_level, is_onward, is_unwinding, is_none_left, is_answer}
-use Rattle.dali_counts.proofs.Lists.{self}
+use Rattle.dali_record.proofs.Moves.{none_left}
 use Rattle.dali_facts.specs.Plans.{AtWork}
 use Rattle.dali_facts.proofs.Plans.{plan_answers}
 use Rattle.dali_core.specs.declared.want.Want.TheVariants.{Done as AnswerIsNext}
@@ -30,38 +31,31 @@ use Rattle.dali_calls.proofs.Wholes.{back_next}
 
 -- ---- the answer of a stage is the one that the rules give
 same_calls : (c : Call) → same_call c c ≡ true
-same_calls (Insert k v) = rw (self k) ((bytes_eq-Decides v v).1 refl)
-same_calls (Update k v) = rw (self k) ((bytes_eq-Decides v v).1 refl)
-same_calls (Delete k) = self k
-same_calls (Get k) = self k
+same_calls (Insert k v) = rw (eqb-self k) ((bytes_eq-Decides v v).1 refl)
+same_calls (Update k v) = rw (eqb-self k) ((bytes_eq-Decides v v).1 refl)
+same_calls (Delete k) = eqb-self k
+same_calls (Get k) = eqb-self k
 
 same_answers : (a : Answer) → same_answer a a ≡ true
-same_answers AnswerOk = refl
-same_answers Exists = refl
-same_answers Missing = refl
 same_answers (Got v) = (bytes_eq-Decides v v).1 refl
-same_answers FullHeap = refl
-same_answers FullIndex = refl
-same_answers (Odd p) = self p
-
-same_given : (a b : Answer) → (let o : Option Answer = Some b in Some a ≡ o) → a ≡ b
-same_given a b e = cc
+same_answers (Odd p) = eqb-self p
+same_answers _ = refl
 
 no_place : (s : Sizes) (place : ℕ) (b : Bool) (a : Answer) → is_place s place ≡ b → (if b then None else Some (Odd place)) ≡ Some a → (is_place s place ≡ false) × (Odd place ≡ a)
 no_place s place true a e f = absurd cc
-no_place s place false a e f = (e, same_given (Odd place) a f)
+no_place s place false a e f = (e, same_Some (Odd place) a f)
 
 odd_answers : (k p : ℕ) (b : Bool) → b ≡ false → ((k == k) && (p == p) && not b) ≡ true
-odd_answers k p b e = rw (self k, self p, e) refl
+odd_answers k p b e = rw (eqb-self k, eqb-self p, e) refl
 
 stage_answers : (s : Sizes) (call : Call) (stage : Stage) (a : Answer) → answer_of s call stage ≡ Some a → answers s (progress_of call stage) call a ≡ true
 stage_answers s call Fresh a e = absurd cc
 stage_answers s call (Walking r n) a e = absurd cc
 stage_answers s (Insert k v) Nowhere a e = absurd cc
-stage_answers s (Update k v) Nowhere a e = ap (answers s (progress_of (Update k v) Nowhere) (Update k v)) (sym (same_given Missing a e)) ∙ self k
-stage_answers s (Delete k) Nowhere a e = ap (answers s (progress_of (Delete k) Nowhere) (Delete k)) (sym (same_given Missing a e)) ∙ self k
-stage_answers s (Get k) Nowhere a e = ap (answers s (progress_of (Get k) Nowhere) (Get k)) (sym (same_given Missing a e)) ∙ self k
-stage_answers s (Insert k v) (Somewhere r n p) a e = ap (answers s (progress_of (Insert k v) (Somewhere r n p)) (Insert k v)) (sym (same_given Exists a e)) ∙ self k
+stage_answers s (Update k v) Nowhere a e = ap (answers s (progress_of (Update k v) Nowhere) (Update k v)) (sym (same_Some Missing a e)) ∙ eqb-self k
+stage_answers s (Delete k) Nowhere a e = ap (answers s (progress_of (Delete k) Nowhere) (Delete k)) (sym (same_Some Missing a e)) ∙ eqb-self k
+stage_answers s (Get k) Nowhere a e = ap (answers s (progress_of (Get k) Nowhere) (Get k)) (sym (same_Some Missing a e)) ∙ eqb-self k
+stage_answers s (Insert k v) (Somewhere r n p) a e = ap (answers s (progress_of (Insert k v) (Somewhere r n p)) (Insert k v)) (sym (same_Some Exists a e)) ∙ eqb-self k
 stage_answers s (Update k v) (Somewhere r n p) a e =
     let w = no_place s p (is_place s p) a refl e in ap (answers s (progress_of (Update k v) (Somewhere r n p)) (Update k v)) (sym w.1) ∙ odd_answers k p (is_place s p) w.0
 stage_answers s (Delete k) (Somewhere r n p) a e =
@@ -72,17 +66,11 @@ stage_answers s call (Storing r n) a e = absurd cc
 stage_answers s call (Adding p r n) a e = absurd cc
 stage_answers s call (Removing r n p) a e = absurd cc
 stage_answers s call (Finished b) a e =
-    let same = same_given b a e in ap (answers s (progress_of call (Finished b)) call) (sym same) ∙ (ap (λ (c : Bool). c && same_answer b b) (same_calls call) ∙ same_answers b)
+    let same = same_Some b a e in ap (answers s (progress_of call (Finished b)) call) (sym same) ∙ (ap (λ (c : Bool). c && same_answer b b) (same_calls call) ∙ same_answers b)
 
 fresh_none : (s : Sizes) (call : Call) (stage : Stage) (a : Answer) → answer_of s call stage ≡ Some a → (c : Bool) → is_fresh stage ≡ c → is_fresh stage ≡ false
 fresh_none s call Fresh a e c f = absurd cc
-fresh_none s call (Walking r n) a e c f = refl
-fresh_none s call Nowhere a e c f = refl
-fresh_none s call (Somewhere r n p) a e c f = refl
-fresh_none s call (Storing r n) a e c f = refl
-fresh_none s call (Adding p r n) a e c f = refl
-fresh_none s call (Removing r n p) a e c f = refl
-fresh_none s call (Finished b) a e c f = refl
+fresh_none s call _ a e c f = refl
 
 -- ---- a plan that wants its answer
 is_calling : (phase : Phase) (o : Option (ℕ × Op)) → want_in phase o ≡ AnswerIsNext → (phase ≡ Calling) × (o ≡ None)
@@ -92,14 +80,6 @@ is_calling Refused None e = absurd cc
 is_calling Refused (Some o) e = absurd cc
 is_calling Answered None e = absurd cc
 is_calling Answered (Some o) e = absurd cc
-
-none_left : (us : List Pending) → is_none_left us ≡ true → us ≡ []
-none_left [] e = refl
-none_left (u ∷ us) e = absurd cc
-
-not_false : (b : Bool) → not b ≡ false → b ≡ true
-not_false true e = refl
-not_false false e = absurd cc
 
 pub done_follows : DoneFollows
 done_follows s L p a sizes w follows wants answer = record {

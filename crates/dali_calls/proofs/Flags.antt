@@ -1,7 +1,8 @@
 -- What calls of regions do to the flags of images.
-use Rattle.std.proofs.Common.{◌≡◌, ℕ, Bool, true, false, ◌||◌, List, Some, refl, ap, sym, subst, ◌∙◌, ⊎_elim, slice_get, slice_set}
+use Rattle.std.proofs.Common.{◌≡◌, ℕ, Bool, true, false, List, Some, refl, ap, sym, subst, ◌∙◌, ⊎_elim, slice_get, slice_set}
 use Rattle.std.proofs.lemmas.List.{length-set}
-use Rattle.dali_counts.proofs.Lists.{set_cases}
+use Rattle.dali_lists.proofs.Lists.{set_cases}
+use Rattle.dali_lists.proofs.Tests.{left_false}
 use Rattle.dali_region.specs.declared.Side.TheVariants.{A, B}
 use Rattle.dali_region.specs.State.{RegionState, touched, taken_back, wrote}
 use Rattle.dali_system.specs.Regions.{RegionStep, Latch, NoteReads, Update, TakeBack, Poke, Check, Die, Clean, region_after}
@@ -18,13 +19,9 @@ pub flag_kept : (g h : RegionState) → h.dirty_a ≡ g.dirty_a → h.dirty_b �
 flag_kept g h a b A e = sym a ∙ e
 flag_kept g h a b B e = sym b ∙ e
 
-or_clear : (a b : Bool) → (a || b) ≡ false → a ≡ false
-or_clear true b e = e
-or_clear false b e = refl
-
 pub flag_touched : (g : RegionState) → FlagStays g (touched g)
-flag_touched g A e = or_clear g.dirty_a (wrote g) e
-flag_touched g B e = or_clear g.dirty_b (wrote g) e
+flag_touched g A e = left_false g.dirty_a (wrote g) e
+flag_touched g B e = left_false g.dirty_b (wrote g) e
 
 pub flag_taken_back : (g : RegionState) → FlagStays g (taken_back g)
 flag_taken_back g = flag_kept g (taken_back g) refl refl

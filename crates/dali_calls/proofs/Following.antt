@@ -4,8 +4,10 @@ use Rattle.std.specs.List.{AllByRecursion}
 use Rattle.std.specs.Prelude.{◌==◌, if◌then◌else◌}
 use Rattle.std.proofs.lemmas.Bool.{eq-eqb, lt-ltb}
 use Rattle.std.proofs.lemmas.Bool.Decides.{Decides-eqb}
-use Rattle.std.proofs.lemmas.List.{append-nil, append_assoc}
+use Rattle.std.proofs.lemmas.List.{append-nil, append_assoc, nil_from_length}
 use Rattle.std.proofs.lemmas.List.Sums.{fold-append}
+use Rattle.dali_lists.proofs.Numbers.{eqb-self}
+use Rattle.dali_lists.proofs.Tests.{left_true}
 use Rattle.dali_geometry.specs.Sizes.{Sizes}
 use Rattle.dali_geometry.specs.Places.{home, heap_start, is_place, region_at, cell_at}
 use Rattle.dali_record.specs.declared.operations.Op.{Op}
@@ -23,7 +25,6 @@ use Rattle.dali_record.specs.Log.{last_of, drop_last, undo_added, undos_of, undo
 use Rattle.dali_record.specs.Calls.{Progress, Fresh as FreshCall, Walking as WalkingCall, Nowhere as NowhereCall, Somewhere as SomewhereCall, Storing as StoringCall, Adding as AddingCall, Removing as RemovingCall, Finished as FinishedCall, follow, look_next, put_next, store_next, add_next, cell_next, entry_next, after_look, when, on_item}
 use Rattle.dali_record.specs.Legal.{Working, Way, Onward, TakingBack, Unwinding, way_back, is_level, is_onward, is_unwinding, is_none_left}
 use Rattle.dali_record.proofs.Tracks.{active-undos}
-use Rattle.dali_counts.proofs.Lists.{self}
 use Rattle.dali_facts.specs.Plans.{AtWork, IsPlan}
 use Rattle.dali_facts.proofs.Plans.{plan_goes_on, plan_starts, take_back_goes_on}
 use Rattle.dali_core.specs.declared.want.Want.TheVariants.{Nothing}
@@ -35,15 +36,11 @@ use Rattle.dali_calls.specs.Steps.{call_key, progress_of, in_cell, next_op, answ
 use Rattle.dali_calls.specs.Plans.{Planned, is_answered, is_back, is_back_in, goes_back, undo_next, onward_next, plan_next, want_in, want_of, went_back, IsUndoOf}
 use Rattle.dali_calls.specs.Followed.{is_amid, Follows, OnwardFollows, BackFollows, RefusedRests}
 use Rattle.dali_calls.proofs.Away.{IsAway, away_is, walks_away}
-use Rattle.dali_calls.proofs.Wholes.{onward_of, back_next}
+use Rattle.dali_calls.proofs.Wholes.{onward_of, back_next, second_of}
 
 -- ---- small facts
 pub level_is : (w : Working) → length w.undos ≡ w.mark → is_unwinding w.way ≡ false → is_level w ≡ true
 level_is w e u = ap (λ (b : Bool). b && not (is_unwinding w.way)) (eq-eqb (length w.undos) w.mark e) ∙ ap not u
-
-left_true : (a b : Bool) → (a && b) ≡ true → a ≡ true
-left_true true b e = refl
-left_true false b e = absurd cc
 
 level_mark : (w : Working) → is_level w ≡ true → length w.undos ≡ w.mark
 level_mark w e = (Decides-eqb (length w.undos) w.mark).0 (left_true (length w.undos == w.mark) (not (is_unwinding w.way)) e)
@@ -56,16 +53,12 @@ onward_winds Unwinding e = absurd cc
 pub or_amid : (p : Planned) → is_answered p.phase ≡ false → is_fresh p.stage ≡ false → is_amid p ≡ true
 or_amid p a f = ap (λ (b : Bool). not (b || is_fresh p.stage)) a ∙ ap not f
 
-none_of : (us : List Pending) → length us ≡ 0 → us ≡ []
-none_of [] e = refl
-none_of (u ∷ us) e = absurd (omega (arith, e))
-
 -- ---- the undo list with one block more
 more_undos : (s : Sizes) (t : ℕ) (L : List Record) (b : Block) (w v : Working) → AtWork s L t w → AtWork s (L ++ Forward t b ∷ []) t v → v.undos ≡ w.undos ++ undo_added b b.undo
 more_undos s t L b w v old new =
     active-undos s t (L ++ Forward t b ∷ []) v new
     ∙ (fold-append (undo_step t) [] L (Forward t b ∷ [])
-    ∙ (ap (λ (c : Bool). if c then undos_of t L ++ undo_added b b.undo else undos_of t L) (self t) ∙ ap (λ (us : List Pending). us ++ undo_added b b.undo) (sym (active-undos s t L w old))))
+    ∙ (ap (λ (c : Bool). if c then undos_of t L ++ undo_added b b.undo else undos_of t L) (eqb-self t) ∙ ap (λ (us : List Pending). us ++ undo_added b b.undo) (sym (active-undos s t L w old))))
 
 -- ---- the first block of a call
 look_of_home : (s : Sizes) (t : ℕ) (b : Block) (p : Progress) → b.op ≡ Look → b.region ≡ home s b.key → (p ≡ FreshCall → ⊥) → 0 < s.index → IsAway s p → follow s t p b ≡ None
@@ -93,13 +86,7 @@ is_new _ = false
 new_is : (p : Progress) → is_new p ≡ true → p ≡ FreshCall
 unfolding is_new
 new_is FreshCall e = refl
-new_is (WalkingCall k r n) e = absurd cc
-new_is (NowhereCall k) e = absurd cc
-new_is (SomewhereCall k r n a) e = absurd cc
-new_is (StoringCall k v r n) e = absurd cc
-new_is (AddingCall k v a r n) e = absurd cc
-new_is (RemovingCall k r n a) e = absurd cc
-new_is (FinishedCall c a) e = absurd cc
+new_is _ e = absurd cc
 
 not_new : (p : Progress) → is_new p ≡ false → p ≡ FreshCall → ⊥
 unfolding is_new
@@ -125,9 +112,6 @@ fresh_is stage e = absurd cc
 
 pub first_of : (a b : ℕ × Op) → (let o : Option (ℕ × Op) = Some b in Some a ≡ o) → a.0 ≡ b.0
 first_of a b e = cc
-
-pub second_of : (a b : ℕ × Op) → (let o : Option (ℕ × Op) = Some b in Some a ≡ o) → a.1 ≡ b.1
-second_of a b e = cc
 
 none_next : (x : ℕ × Op) → (let o : Option (ℕ × Op) = None in o ≡ Some x) → ⊥
 none_next x e = absurd cc
@@ -222,7 +206,7 @@ onward_follows s L p q b sizes w follows way of goes = by_fresh (is_fresh p.stag
     by_fresh : (c : Bool) → is_fresh p.stage ≡ c → Follows s (L ++ Forward p.txn b ∷ []) q
     by_fresh true f =
         let new : p.stage ≡ Fresh = fresh_is p.stage f in
-        let none : p.changes ≡ [] = none_of p.changes (omega (arith, w.few, ap most new)) in
+        let none : p.changes ≡ [] = nil_from_length p.changes (omega (arith, w.few, ap most new)) in
         let look : Some (home p.geometry (call_key p.call), Look) ≡ Some x = ap (next_op p.geometry p.txn p.call) (sym new) ∙ op_is in
         let still : is_amid p ≡ false = ap (λ (c : Bool). not (c || is_fresh p.stage)) unanswered ∙ ap not f in
         let key : b.key ≡ call_key p.call = ap (λ (z : Block). z.key) of.made_on in

@@ -2,7 +2,8 @@
 use Rattle.std.proofs.Common.{◌≡◌, ℕ, ◌<◌, Bool, true, false, ◌&&◌, Option, Some, None, refl, sym, ap, subst, ◌∙◌, arith}
 use Rattle.std.specs.Prelude.{◌==◌, if◌then◌else◌}
 use Rattle.std.proofs.Math.Nat.{mod-lt}
-use Rattle.std.proofs.lemmas.Bool.{eq-eqb}
+use Rattle.std.proofs.lemmas.Bool.{eq-eqb, and_from}
+use Rattle.dali_lists.proofs.Tests.{middle_true, all_three_true}
 use Rattle.dali_geometry.specs.Sizes.{Sizes}
 use Rattle.dali_geometry.specs.Places.{home, heap_start, regions, is_place, region_at, cell_at}
 use Rattle.dali_record.specs.declared.operations.Op.{Op}
@@ -15,11 +16,6 @@ use Rattle.dali_record.specs.Calls.{when, on_item, cell_next, entry_next, after_
 use Rattle.dali_calls.specs.declared.stage.Stage.{Stage}
 use Rattle.dali_calls.specs.declared.stage.Stage.TheVariants.{Fresh, Nowhere, Somewhere, Removing}
 use Rattle.dali_calls.specs.Steps.{call_key, progress_of, in_cell, next_op, is_cell_outcome, after_cell, is_delete, IsAt, IsNextBlock}
-
-middle : (a b c : Bool) → (a && b && c) ≡ true → b ≡ true
-middle true true c e = refl
-middle true false c e = absurd cc
-middle false b c e = absurd cc
 
 pub record Facts (call : Call) (r : ℕ) (op : Op) (b : Block) : Type 0 where
   pub region : b.region ≡ r
@@ -51,13 +47,13 @@ facts s t call stage b r op is e =
       region = first_is (b.region, b.op) (r, op) same;
       op_is = op_is;
       key = ap (λ (x : Block). x.key) is.made_on;
-      outcome = ap (λ (o : Op). is_outcome_of o b.outcome) (sym op_is) ∙ middle (is_within b.write b.read) (is_outcome_of b.op b.outcome) (undoes b.op b.outcome b.undo) is.spelled.fit;
+      outcome = ap (λ (o : Op). is_outcome_of o b.outcome) (sym op_is) ∙ middle_true (is_within b.write b.read) (is_outcome_of b.op b.outcome) (undoes b.op b.outcome b.undo) is.spelled.fit;
     }
 
-none_next : (p : ℕ × Op) → None ≡ Some p → ⊥
+pub none_next : (p : ℕ × Op) → None ≡ Some p → ⊥
 none_next p e = absurd cc
 
-on_it : (key region : ℕ) (b : Block) → b.key ≡ key → b.region ≡ region → on_item key region b ≡ true
+pub on_it : (key region : ℕ) (b : Block) → b.key ≡ key → b.region ≡ region → on_item key region b ≡ true
 on_it key region b k r = ap (λ (c : Bool). c && (b.region == region)) (eq-eqb b.key key k) ∙ eq-eqb b.region region r
 
 -- the first look, and the first put
@@ -73,14 +69,12 @@ put_region s t (Delete key) stage b is e some = absurd (none_next (b.region, b.o
 put_region s t (Get key) stage b is e some = absurd (none_next (b.region, b.op) (sym (ap (next_op s t (Get key)) e) ∙ is.op))
 
 -- ---- the operation on the cell
-all_three : (a b c : Bool) → a ≡ true → b ≡ true → c ≡ true → (a && b && c) ≡ true
-all_three a b c p q r = ap (λ (x : Bool). x && b && c) p ∙ ap (λ (x : Bool). x && c) q ∙ r
 
 -- the operation is on the cell that the place names
 on_cell : (s : Sizes) (key place r : ℕ) (op : Op) (b : Block) → is_place s place ≡ true → (let o : Option (ℕ × Op) = Some (region_at place, op) in o ≡ Some (b.region, b.op)) → b.key ≡ key
     → (is_place s place && on_item key (region_at place) b && (cell_at place == cell_at place)) ≡ true
 on_cell s key place r op b p e k =
-    all_three (is_place s place) (on_item key (region_at place) b) (cell_at place == cell_at place) p (on_it key (region_at place) b k (sym (first_is (region_at place, op) (b.region, b.op) e))) (eq-eqb (cell_at place) (cell_at place) refl)
+    all_three_true (is_place s place) (on_item key (region_at place) b) (cell_at place == cell_at place) p (on_it key (region_at place) b k (sym (first_is (region_at place, op) (b.region, b.op) e))) (eq-eqb (cell_at place) (cell_at place) refl)
 
 cell_follows : (s : Sizes) (call : Call) (region entry place : ℕ) (b : Block) → is_place s place ≡ true → in_cell call (region_at place) (cell_at place) ≡ Some (b.region, b.op) → b.key ≡ call_key call
     → cell_next s (call_key call) region entry place b b.op ≡ after_cell call region entry place b.outcome
@@ -120,7 +114,7 @@ in_its_cell s t call stage region entry place b is e =
       is_one = both.0;
       does = both.1;
       key = ap (λ (x : Block). x.key) is.made_on;
-      outcome = middle (is_within b.write b.read) (is_outcome_of b.op b.outcome) (undoes b.op b.outcome b.undo) is.spelled.fit;
+      outcome = middle_true (is_within b.write b.read) (is_outcome_of b.op b.outcome) (undoes b.op b.outcome b.undo) is.spelled.fit;
     }
 
 pub somewhere_outcome : (s : Sizes) (t : ℕ) (call : Call) (stage : Stage) (region entry place : ℕ) (b : Block) → IsNextBlock s t call stage b → stage ≡ Somewhere region entry place → is_cell_outcome call b.outcome ≡ true
@@ -134,8 +128,6 @@ somewhere_follows s t call stage after region entry place b is e answers =
     ap (λ (x : Stage). follow s t (progress_of call x) b) e ∙ (cell_follows s call region entry place b w.is_one w.does w.key ∙ answers)
 
 -- ---- the kill of the entry
-both_true : (a b : Bool) → a ≡ true → b ≡ true → (a && b) ≡ true
-both_true a b p q = ap (λ (x : Bool). x && b) p ∙ q
 
 pub removing_follows : (s : Sizes) (t : ℕ) (call : Call) (stage after : Stage) (region entry place : ℕ) (b : Block) → IsNextBlock s t call stage b → stage ≡ Removing region entry place → is_delete call ≡ true
     → ((key : ℕ) → after_kill_entry key place b.outcome ≡ Some (progress_of (Delete key) after)) → follow s t (progress_of call stage) b ≡ Some (progress_of call after)
@@ -146,7 +138,7 @@ removing_follows s t (Delete key) stage after region entry place b is e d answer
     let w = facts s t (Delete key) stage b region (KillEntry entry) is (ap (next_op s t (Delete key)) e) in
     ap (λ (x : Stage). follow s t (progress_of (Delete key) x) b) e
     ∙ (ap (entry_next key region entry place b) w.op_is
-    ∙ (ap (λ (x : Bool). when x (after_kill_entry key place b.outcome)) (both_true (on_item key region b) (entry == entry) (on_it key region b w.key w.region) (eq-eqb entry entry refl))
+    ∙ (ap (λ (x : Bool). when x (after_kill_entry key place b.outcome)) (and_from (on_item key region b) (entry == entry) (on_it key region b w.key w.region) (eq-eqb entry entry refl))
     ∙ answers key))
 
 pub removing_at : (s : Sizes) (call : Call) (after : Stage) → is_delete call ≡ true → ((z : Sizes) (key : ℕ) → IsAt z (Delete key) after) → IsAt s call after

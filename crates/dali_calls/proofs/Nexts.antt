@@ -1,9 +1,10 @@
 -- The next operation of a plan can be spelled.
-use Rattle.std.proofs.Common.{◌≡◌, ℕ, ◌%◌, ◌<◌, Bool, true, false, ◌&&◌, List, [], ◌∷◌, Option, Some, None, refl, sym, ap, subst, ◌∙◌, arith}
+use Rattle.std.proofs.Common.{◌≡◌, ℕ, ◌%◌, ◌<◌, Bool, true, false, List, [], ◌∷◌, Option, Some, None, refl, sym, subst, arith}
 use Rattle.std.specs.Prelude.{if◌then◌else◌, nat_le, ⊤}
 use Rattle.std.specs.List.{AllByRecursion}
 use Rattle.std.proofs.Math.Nat.{mod-lt}
-use Rattle.std.proofs.lemmas.Bool.{le-leb}
+use Rattle.std.proofs.lemmas.Bool.{le-leb, and_from}
+use Rattle.dali_lists.proofs.Tests.{right_true}
 use Rattle.dali_geometry.specs.Sizes.{Sizes}
 use Rattle.dali_geometry.specs.Places.{is_place, is_heap, region_at, cell_at}
 use Rattle.dali_record.specs.declared.operations.Op.{Op}
@@ -23,15 +24,8 @@ abbrev IsSpelled : Option (ℕ × Op) → Type 0
 IsSpelled None = ⊤
 IsSpelled (Some o) = IsOperation o.1
 
-second_true : (a b : Bool) → (a && b) ≡ true → b ≡ true
-second_true true b e = e
-second_true false b e = absurd cc
-
-both_true : (a b : Bool) → a ≡ true → b ≡ true → (a && b) ≡ true
-both_true a b p q = ap (λ (x : Bool). x && b) p ∙ q
-
 cell_in_range : (s : Sizes) (p : ℕ) → is_place s p ≡ true → IsCell (cell_at p)
-cell_in_range s p e = both_true (nat_le 1 (p % 8)) (nat_le (p % 8) 7) (second_true (is_heap s (region_at p)) (nat_le 1 (cell_at p)) e) (le-leb (p % 8) 7 (let below : p % 8 < 8 = mod-lt p (omega arith) in omega (arith, below)))
+cell_in_range s p e = and_from (nat_le 1 (p % 8)) (nat_le (p % 8) 7) (right_true (is_heap s (region_at p)) (nat_le 1 (cell_at p)) e) (le-leb (p % 8) 7 (let below : p % 8 < 8 = mod-lt p (omega arith) in omega (arith, below)))
 
 cell_spelled : (s : Sizes) (call : Call) (place : ℕ) (b : Bool) → is_place s place ≡ b → IsCall call → IsSpelled (if b then in_cell call (region_at place) (cell_at place) else None)
 cell_spelled s (Insert key v) place true e h = tt

@@ -1,9 +1,11 @@
 -- The next operation of a plan is on a region of its kind, and so is what takes it back.
-use Rattle.std.proofs.Common.{◌≡◌, ℕ, ◌%◌, ◌<◌, ◌≤◌, Bool, true, false, ◌&&◌, List, [], ◌∷◌, ◌++◌, Option, Some, None, refl, sym, ap, subst, ◌∙◌, arith, length}
+use Rattle.std.proofs.Common.{◌≡◌, ℕ, ◌%◌, ◌<◌, ◌≤◌, Bool, true, false, List, [], ◌∷◌, ◌++◌, Option, Some, None, refl, sym, ap, subst, ◌∙◌, arith, length}
 use Rattle.std.specs.Prelude.{if◌then◌else◌, nat_le, nat_lt, ⊤}
 use Rattle.std.specs.List.{AllByRecursion}
 use Rattle.std.proofs.Math.Nat.{mod-lt}
-use Rattle.std.proofs.lemmas.Bool.{le-leb, lt-ltb}
+use Rattle.std.proofs.lemmas.Bool.{le-leb, lt-ltb, and_from}
+use Rattle.dali_lists.proofs.Members.{all_append}
+use Rattle.dali_lists.proofs.Tests.{left_true, last_true}
 use Rattle.dali_geometry.specs.Sizes.{Sizes, AreInRange}
 use Rattle.dali_geometry.specs.Places.{home, heap_start, is_place, is_heap, is_index, region_at, cell_at, regions}
 use Rattle.dali_record.specs.declared.operations.Op.{Op}
@@ -20,6 +22,7 @@ use Rattle.dali_record.specs.Operations.{undo_op}
 use Rattle.dali_record.specs.Log.{drop_last, undo_added}
 use Rattle.dali_record.specs.Legal.{on_kind}
 use Rattle.dali_record.specs.Spelling.{IsOperation, IsUndo, MayBeUndo, IsBlock, is_forward, is_back, undoes, undoes_add, undoes_kill_entry, undoes_put, undoes_change, undoes_kill_cell, is_within, is_outcome_of}
+use Rattle.dali_facts.proofs.Undos.{all_dropped}
 use Rattle.dali_calls.specs.declared.stage.Stage.{Stage}
 use Rattle.dali_calls.specs.declared.stage.Stage.TheVariants.{Fresh, Walking, Nowhere, Somewhere, Storing, Adding, Removing, Finished}
 use Rattle.dali_calls.specs.declared.plan.Phase.{Phase}
@@ -61,23 +64,11 @@ abbrev pub IsKind : Sizes → Option (ℕ × Op) → Type 0
 IsKind s None = ⊤
 IsKind s (Some o) = (on_kind s o.0 o.1 ≡ true) × (is_forward o.1 ≡ true)
 
-both_true : (a b : Bool) → a ≡ true → b ≡ true → (a && b) ≡ true
-both_true a b p q = ap (λ (x : Bool). x && b) p ∙ q
-
-left_true : (a b : Bool) → (a && b) ≡ true → a ≡ true
-left_true true b e = refl
-left_true false b e = absurd cc
-
-last_true : (a b c : Bool) → (a && b && c) ≡ true → c ≡ true
-last_true true true c e = e
-last_true true false c e = absurd cc
-last_true false b c e = absurd cc
-
 index_kind : (s : Sizes) (r : ℕ) → r < s.index → is_index s r ≡ true
 index_kind s r h = lt-ltb r s.index h
 
 heap_kind : (s : Sizes) (r : ℕ) → s.index ≤ r → r < regions s → is_heap s r ≡ true
-heap_kind s r low high = both_true (nat_le s.index r) (nat_lt r (regions s)) (le-leb s.index r low) (lt-ltb r (regions s) high)
+heap_kind s r low high = and_from (nat_le s.index r) (nat_lt r (regions s)) (le-leb s.index r low) (lt-ltb r (regions s) high)
 
 start_kind : (s : Sizes) (t : ℕ) → AreInRange s → is_heap s (heap_start s t) ≡ true
 start_kind s t range = let low : t % s.heap < s.heap = mod-lt t (omega (arith, range.some_heap)) in heap_kind s (heap_start s t) (omega arith) (omega (arith, low))
@@ -119,12 +110,9 @@ abbrev IsBackOf : Option (ℕ × Op) → Type 0
 IsBackOf None = ⊤
 IsBackOf (Some o) = is_back o.1 ≡ true
 
-undo_back : (u : Undo) → is_back (undo_op u) ≡ true
+pub undo_back : (u : Undo) → is_back (undo_op u) ≡ true
 undo_back (UndoFreeCell c) = refl
-undo_back (UndoReviveCell c) = refl
-undo_back (UndoRestore c n ws) = refl
-undo_back (UndoFreeEntry e) = refl
-undo_back (UndoReviveEntry e) = refl
+undo_back _ = refl
 
 last_back : (o : Option Pending) → IsBackOf (undo_next o)
 last_back None = tt
@@ -136,19 +124,7 @@ back_kind o r op e = subst IsBackOf e (last_back o)
 -- ---- the list of what takes the call back
 undo_is_operation : (u : Undo) → IsUndo u → IsOperation (undo_op u)
 undo_is_operation (UndoFreeCell c) h = h
-undo_is_operation (UndoReviveCell c) h = h
-undo_is_operation (UndoRestore c n ws) h = h
-undo_is_operation (UndoFreeEntry e) h = h
-undo_is_operation (UndoReviveEntry e) h = h
-
-all_append : (P : Pending → Type 0) (us vs : List Pending) → AllByRecursion P us → AllByRecursion P vs → AllByRecursion P (us ++ vs)
-all_append P [] vs h k = k
-all_append P (u ∷ us) vs h k = (h.0, all_append P us vs h.1 k)
-
-all_dropped : (P : Pending → Type 0) (us : List Pending) → AllByRecursion P us → AllByRecursion P (drop_last us)
-all_dropped P [] h = tt
-all_dropped P (u ∷ []) h = tt
-all_dropped P (u ∷ v ∷ us) h = (h.0, all_dropped P (v ∷ us) h.1)
+undo_is_operation _ h = h
 
 pub dropped_undoes : (s : Sizes) (call : Call) (us : List Pending) → AllByRecursion (IsUndoOf s call) us → AllByRecursion (IsUndoOf s call) (drop_last us)
 dropped_undoes s call us h = all_dropped (IsUndoOf s call) us h

@@ -1,5 +1,6 @@
 -- What the calls of a plan leave is a step of a core.
 use Rattle.std.proofs.Common.{◌≡◌, ℕ, Bool, true, false, not, List, [], ◌∷◌, ◌++◌, Option, Some, None, IsSome, is_some, if◌then◌else◌, refl, sym, ap, subst, ◌∙◌}
+use Rattle.std.proofs.lemmas.Option.{same_Some}
 use Rattle.dali_geometry.specs.Sizes.{Sizes}
 use Rattle.dali_geometry.specs.Places.{is_place}
 use Rattle.dali_record.specs.declared.operations.Block.{Block}
@@ -29,8 +30,8 @@ use Rattle.dali_calls.specs.declared.stage.Stage.TheVariants.{Fresh, Walking, No
 use Rattle.dali_calls.specs.Steps.{call_key, answer_of, is_get, IsAt}
 use Rattle.dali_calls.specs.Plans.{Planned, is_back, undo_next, IsUndoOf, IsWhole}
 use Rattle.dali_calls.specs.Followed.{OnwardIsStep, BackIsStep, DoneIsStep}
-use Rattle.dali_calls.proofs.Wholes.{open_of, onward_kind, onward_spelled, onward_block, back_spelled, back_next, get_leaves}
-use Rattle.dali_calls.proofs.Following.{onward_follows, back_follows, last_all, first_of, second_of}
+use Rattle.dali_calls.proofs.Wholes.{open_of, onward_kind, onward_spelled, onward_block, back_spelled, back_next, get_leaves, second_of}
+use Rattle.dali_calls.proofs.Following.{onward_follows, back_follows, last_all, first_of}
 use Rattle.dali_calls.proofs.Answering.{done_follows}
 
 pub state_there : (o : Option TxnState) (x : TxnState) → o ≡ Some x → IsSome o
@@ -42,7 +43,7 @@ covers_all None c e = absurd cc
 covers_all (Some Shared) c e = absurd cc
 covers_all (Some Exclusive) c e = refl
 
-by_get : (m : Option Mode) (g c : Bool) → covers m (not g) ≡ true → (g ≡ true → c ≡ false) → covers m c ≡ true
+pub by_get : (m : Option Mode) (g c : Bool) → covers m (not g) ≡ true → (g ≡ true → c ≡ false) → covers m c ≡ true
 by_get m true c e f = ap (covers m) (f refl) ∙ e
 by_get m false c e f = covers_all m c e
 
@@ -113,31 +114,29 @@ back_is_step L c p o g ready follows way runs =
     )
 
 -- ---- the answer
-same_given : (a b : Answer) → (let o : Option Answer = Some b in Some a ≡ o) → a ≡ b
-same_given a b e = cc
 
 abbrev IsGiven : Call → Answer → Type 0
 IsGiven call a = IsAnswer a × (is_answer_of call a ≡ true)
 
 odd_given : (call : Call) (place : ℕ) (b : Bool) (a : Answer) → Is64 place → is_answer_of call (Odd place) ≡ true → (if b then None else Some (Odd place)) ≡ Some a → IsGiven call a
 odd_given call place true a h k e = absurd cc
-odd_given call place false a h k e = subst (IsGiven call) (same_given (Odd place) a e) (h, k)
+odd_given call place false a h k e = subst (IsGiven call) (same_Some (Odd place) a e) (h, k)
 
 answer_given : (s : Sizes) (call : Call) (stage : Stage) (a : Answer) → IsAt s call stage → answer_of s call stage ≡ Some a → IsGiven call a
 answer_given s call Fresh a at e = absurd cc
 answer_given s call (Walking r n) a at e = absurd cc
 answer_given s (Insert k v) Nowhere a at e = absurd cc
-answer_given s (Update k v) Nowhere a at e = subst (IsGiven (Update k v)) (same_given Missing a e) (tt, refl)
-answer_given s (Delete k) Nowhere a at e = subst (IsGiven (Delete k)) (same_given Missing a e) (tt, refl)
-answer_given s (Get k) Nowhere a at e = subst (IsGiven (Get k)) (same_given Missing a e) (tt, refl)
-answer_given s (Insert k v) (Somewhere r n p) a at e = subst (IsGiven (Insert k v)) (same_given Exists a e) (tt, refl)
+answer_given s (Update k v) Nowhere a at e = subst (IsGiven (Update k v)) (same_Some Missing a e) (tt, refl)
+answer_given s (Delete k) Nowhere a at e = subst (IsGiven (Delete k)) (same_Some Missing a e) (tt, refl)
+answer_given s (Get k) Nowhere a at e = subst (IsGiven (Get k)) (same_Some Missing a e) (tt, refl)
+answer_given s (Insert k v) (Somewhere r n p) a at e = subst (IsGiven (Insert k v)) (same_Some Exists a e) (tt, refl)
 answer_given s (Update k v) (Somewhere r n p) a at e = odd_given (Update k v) p (is_place s p) a at.2 refl e
 answer_given s (Delete k) (Somewhere r n p) a at e = odd_given (Delete k) p (is_place s p) a at.2 refl e
 answer_given s (Get k) (Somewhere r n p) a at e = odd_given (Get k) p (is_place s p) a at.2 refl e
 answer_given s call (Storing r n) a at e = absurd cc
 answer_given s call (Adding p r n) a at e = absurd cc
 answer_given s call (Removing r n p) a at e = absurd cc
-answer_given s call (Finished b) a at e = subst (IsGiven call) (same_given b a e) (at.0, at.1)
+answer_given s call (Finished b) a at e = subst (IsGiven call) (same_Some b a e) (at.0, at.1)
 
 pub done_is_step : DoneIsStep
 done_is_step L c p a sizes whole follows wants answer room lives =

@@ -1,9 +1,7 @@
 -- A commit of a taking back is a step of a core.
-use Rattle.std.proofs.Common.{◌≡◌, ℕ, true, ap, refl, ◌∙◌}
+use Rattle.std.proofs.Common.{◌≡◌, ℕ, ap, refl, ◌∙◌}
 use Rattle.std.specs.Prelude.{slice_get}
 use Rattle.dali_record.specs.declared.operations.Block.{Block}
-use Rattle.dali_record.specs.declared.operations.Undo.{Undo}
-use Rattle.dali_record.specs.declared.operations.Undo.TheVariants.{FreeCell, ReviveCell, Restore, FreeEntry, ReviveEntry}
 use Rattle.dali_record.specs.Operations.{undo_op}
 use Rattle.dali_record.specs.Blocks.{changes_item}
 use Rattle.dali_record.specs.Legal.{on_kind}
@@ -13,13 +11,7 @@ use Rattle.dali_system.specs.Run.{covers}
 use Rattle.dali_facts.proofs.Plans.{take_back_goes_on}
 use Rattle.dali_calls.specs.TakingBack.{TakeBackIsStep}
 use Rattle.dali_calls.proofs.Stepping.{covers_all, state_there}
-
-takes_back : (u : Undo) → is_back (undo_op u) ≡ true
-takes_back (FreeCell c) = refl
-takes_back (ReviveCell c) = refl
-takes_back (Restore c n vs) = refl
-takes_back (FreeEntry e) = refl
-takes_back (ReviveEntry e) = refl
+use Rattle.dali_calls.proofs.OnKind.{undo_back}
 
 pub taking_back_is_step : TakeBackIsStep
 taking_back_is_step L c t w u b g at_work last may =
@@ -32,7 +24,7 @@ taking_back_is_step L c t w u b g at_work last may =
         g,
         record {
           runs = may.runs;
-          spelled = (may.txn, may.made.spelled, ap is_back op ∙ takes_back u.undo);
+          spelled = (may.txn, may.made.spelled, ap is_back op ∙ undo_back u.undo);
           next = state_there _ _ now.1;
           by = may.by;
           kind = ap (λ (r : ℕ). on_kind c.system.sizes r b.op) region ∙ ap (on_kind c.system.sizes u.region) op ∙ may.kind;

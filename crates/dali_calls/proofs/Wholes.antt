@@ -1,10 +1,11 @@
 -- What is true of every plan stays, behind the block of its next operation.
-use Rattle.std.proofs.Common.{◌≡◌, ℕ, ◌+◌, ◌≤◌, Bool, true, false, ◌&&◌, ◌++◌, Option, Some, None, refl, sym, ap, subst, ◌∙◌, arith, length, length-append}
-use Rattle.std.specs.Prelude.{if◌then◌else◌, is_none}
+use Rattle.std.proofs.Common.{◌≡◌, ℕ, ◌+◌, ◌≤◌, Bool, true, false, ◌++◌, Option, Some, None, refl, sym, ap, subst, ◌∙◌, arith, length, length-append}
+use Rattle.std.specs.Prelude.{if◌then◌else◌, is_none, List, IsSomeAnd}
+use Rattle.dali_lists.proofs.Tests.{last_true, middle_true}
 use Rattle.dali_record.specs.declared.operations.Op.{Op}
 use Rattle.dali_record.specs.declared.operations.Op.TheVariants.{Look, Add, KillEntry, Put, Read, Change, KillCell}
 use Rattle.dali_record.specs.declared.operations.Outcome.{Outcome}
-use Rattle.dali_record.specs.declared.operations.Outcome.TheVariants.{Found, Absent, Added, NoEntry, Killed, Put as PutIn, NoCell, Value, Changed, NotLive, OtherKey, OddLength, Undone}
+use Rattle.dali_record.specs.declared.operations.Outcome.TheVariants.{Found, Absent, Added, Killed, Put as PutIn, Value, Changed, NotLive, OtherKey, OddLength}
 use Rattle.dali_record.specs.declared.operations.Undo.{Undo}
 use Rattle.dali_record.specs.declared.operations.Block.{Block}
 use Rattle.dali_record.specs.Log.{last_of, drop_last, undo_added}
@@ -15,7 +16,7 @@ use Rattle.dali_record.specs.declared.records.Call.{Call}
 use Rattle.dali_record.specs.declared.records.Call.TheVariants.{Insert, Update, Delete, Get}
 use Rattle.dali_geometry.specs.Places.{home, is_place, region_at, cell_at}
 use Rattle.dali_record.specs.Operations.{changes}
-use Rattle.dali_record.specs.Blocks.{changes_item}
+use Rattle.dali_record.specs.Blocks.{made, changes_item}
 use Rattle.dali_core.specs.declared.operation.Operation.{Operation}
 use Rattle.dali_calls.specs.declared.stage.Stage.{Stage}
 use Rattle.dali_calls.specs.declared.stage.Stage.TheVariants.{Fresh, Walking, Nowhere, Somewhere, Storing, Adding, Removing, Finished}
@@ -28,6 +29,29 @@ use Rattle.dali_calls.proofs.OnKind.{next_kind, back_kind, dropped_undoes, dropp
 -- the operation that is open
 pub open_of : (p : Planned) (o : Operation) → IsWhole p → p.operation ≡ Some o → (o.txn ≡ p.txn) × IsBlockOf (plan_next p) (call_key p.call) o.block
 open_of p o w e = subst (IsOfPlan p) e w.operation
+
+-- it has just been started
+pub started_whole : (p : Planned) (s : Option Operation) (words : List ℕ) (key number : ℕ) (op : Op) → IsWhole p → plan_next p ≡ Some (number, op) → call_key p.call ≡ key
+    → IsSomeAnd s (λ o. (o.block ≡ made words key number op) × IsBlock o.block × (o.txn ≡ p.txn)) → IsWhole (record p { operation = s })
+started_whole p None words key number op w next k h = absurd h
+started_whole p (Some o) words key number op w next k h = record {
+  sizes = w.sizes;
+  txn = w.txn;
+  call = w.call;
+  at = w.at;
+  undoes = w.undoes;
+  few = w.few;
+  gets = w.gets;
+  operation = (
+    h.2,
+    record {
+      op = next ∙ ap (λ (b : Block). Some (b.region, b.op)) (sym h.0);
+      words = words;
+      made_on = subst (λ (n : ℕ). o.block ≡ made words n o.block.region o.block.op) (sym k) (h.0 ∙ ap (λ (b : Block). made words key b.region b.op) (sym h.0));
+      spelled = h.1;
+    },
+  );
+}
 
 pub back_next : (p : Planned) (b : Bool) → is_back p ≡ b → b ≡ true → plan_next p ≡ undo_next (last_of p.changes)
 back_next p true e h = ap (λ (c : Bool). if c then undo_next (last_of p.changes) else onward_next p.phase (next_op p.geometry p.txn p.call p.stage)) e
@@ -86,11 +110,6 @@ undo_adds (Change c v) Changed u h = refl
 undo_adds (KillCell c) Killed u h = refl
 undo_adds op o u h = absurd cc
 
-last_true : (a b c : Bool) → (a && b && c) ≡ true → c ≡ true
-last_true true true c e = e
-last_true true false c e = absurd cc
-last_true false b c e = absurd cc
-
 pub few_added : (b : Block) → IsBlock b → length (undo_added b b.undo) ≤ adds b.outcome
 few_added b block = by_undo b.undo refl
   where
@@ -119,11 +138,6 @@ none_undone : (u : Option Undo) → is_none u ≡ true → u ≡ None
 none_undone None h = refl
 none_undone (Some u) h = absurd cc
 
-middle_true : (a b c : Bool) → (a && b && c) ≡ true → b ≡ true
-middle_true true true c e = refl
-middle_true true false c e = absurd cc
-middle_true false b c e = absurd cc
-
 look_leaves : (b : Block) → IsBlock b → Look ≡ b.op → Leaves b
 look_leaves b block e = (
   looks_leave b.outcome (ap (λ (op : Op). is_outcome_of op b.outcome) e ∙ middle_true (is_within b.write b.read) (is_outcome_of b.op b.outcome) (undoes b.op b.outcome b.undo) block.fit),
@@ -136,7 +150,7 @@ read_leaves b cell block e = (
   none_undone b.undo (ap (λ (op : Op). undoes op b.outcome b.undo) e ∙ last_true (is_within b.write b.read) (is_outcome_of b.op b.outcome) (undoes b.op b.outcome b.undo) block.fit),
 )
 
-second_of : (a b : ℕ × Op) → (let o : Option (ℕ × Op) = Some b in Some a ≡ o) → a.1 ≡ b.1
+pub second_of : (a b : ℕ × Op) → (let o : Option (ℕ × Op) = Some b in Some a ≡ o) → a.1 ≡ b.1
 second_of a b e = cc
 
 next_op_is : (r : ℕ) (op : Op) (b : Block) → (let p : Option (ℕ × Op) = Some (b.region, b.op) in Some (r, op) ≡ p) → op ≡ b.op
@@ -162,28 +176,11 @@ get_leaves s t (Get key) (Finished a) b at g next = let e = next.op in absurd cc
 -- a stage with a next operation has changed at most one thing
 one_next : (s : Sizes) (t : ℕ) (call : Call) (stage : Stage) (r : ℕ) (op : Op) → (let p : Option (ℕ × Op) = Some (r, op) in next_op s t call stage ≡ p) → most stage ≤ 1
 one_next s t call (Finished a) r op e = absurd cc
-one_next s t call Fresh r op e = omega arith
-one_next s t call (Walking q n) r op e = omega arith
-one_next s t call Nowhere r op e = omega arith
-one_next s t call (Somewhere q n p) r op e = omega arith
-one_next s t call (Storing q n) r op e = omega arith
-one_next s t call (Adding p q n) r op e = omega arith
-one_next s t call (Removing q n p) r op e = omega arith
+one_next s t call _ r op e = omega arith
 
 one_added : (o : Outcome) → adds o ≤ 1
 one_added (Added e) = omega arith
-one_added Killed = omega arith
-one_added (PutIn c) = omega arith
-one_added Changed = omega arith
-one_added (Found e p) = omega arith
-one_added (Absent b) = omega arith
-one_added NoEntry = omega arith
-one_added NoCell = omega arith
-one_added (Value v) = omega arith
-one_added (NotLive n) = omega arith
-one_added (OtherKey k) = omega arith
-one_added (OddLength n) = omega arith
-one_added Undone = omega arith
+one_added _ = omega arith
 
 pub onward_room : (p : Planned) (o : Operation) → IsWhole p → p.operation ≡ Some o → is_back p ≡ false → length p.changes + length (undo_added o.block o.block.undo) ≤ 2
 onward_room p o w e h =

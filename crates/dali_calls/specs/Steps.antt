@@ -1,6 +1,7 @@
 -- The operations of a call, one after another.
 --     progress_of call stage   how far the log says that the call has come
 --     next_op s t call stage   the next operation and its region;  answer_of s call stage     or else the answer
+--     region_in next           the region of an operation with its region
 --     IsAt s call stage        what is true of the stage of a call
 --     IsNextBlock s t call stage b     b is the block of the next operation on the words of its region
 use Rattle.std.specs.Prelude.{◌≡◌, ℕ, ◌≤◌, ◌<◌, ⊤, Bool, true, false, List, [], Option, Some, None, if◌then◌else◌}
@@ -67,6 +68,10 @@ next_op s t call (Storing region tried) = put_of call region
 next_op s t call (Adding place region tried) = Some (region, Add place)
 next_op s t call (Removing region entry place) = Some (region, KillEntry entry)
 next_op s t call (Finished answer) = None
+
+abbrev pub region_in : Option (ℕ × Op) → Option ℕ
+region_in None = None
+region_in (Some next) = Some next.0
 
 abbrev pub is_cell_outcome : Call → Outcome → Bool
 is_cell_outcome (Insert key v) o = false

@@ -18,13 +18,13 @@ ghost use Rattle.dali_core.specs.declared.error.SystemError.TheVariants.{OutOfMe
 ghost use Rattle.dali_core.specs.declared.want.Want.TheVariants.{Done as AnswerIsNext};
 ghost use Rattle.dali_calls.specs.declared.stage.Stage.TheVariants.{Fresh};
 ghost use Rattle.dali_calls.specs.declared.plan.Phase.TheVariants.{Calling, Refused, Answered};
-ghost use Rattle.dali_calls.specs.Steps.{call_key, progress_of, answer_of, IsBlockOf};
+ghost use Rattle.dali_calls.specs.Steps.{call_key, progress_of, answer_of, region_in, IsBlockOf};
 ghost use Rattle.dali_calls.specs.Plans.{Planned, plan_next, want_of, mode_of, with_operation, refused, answered, went_back, commit_refusal, GoesOn, IsWhole};
 ghost use Rattle.dali_calls.specs.Plans;
 
 use crate::changes::Changes;
 use crate::stage::{Stage, key_of};
-use dali_core::{Operation, System, SystemError, Want};
+use dali_core::{OpenOperation, System, SystemError, Want};
 use dali_geometry::Geometry;
 use dali_locks::Mode;
 use dali_record::{Answer, Block, Call, Op, Pending, undo_op};
@@ -55,7 +55,7 @@ pub struct Plan {
     stage: Stage,
     phase: Phase,
     changes: Changes,
-    operation: Option<Operation>,
+    operation: OpenOperation,
 }
 
 impl Model for Plan {
@@ -114,7 +114,7 @@ impl Plan {
             stage: Stage::Fresh,
             phase: Phase::Calling,
             changes: Changes::new(),
-            operation: None,
+            operation: OpenOperation::none(),
         }
     }
 
@@ -136,7 +136,7 @@ impl Plan {
     pub fn is_open(&self) -> bool
         ensures { result ≡ is_some self.now.operation }
     {
-        self.operation.is_some()
+        self.operation.is_open()
     }
 
     /// The key of its call, and the mode in which the transaction is to hold it: alone, unless the call is a get.
@@ -178,13 +178,26 @@ impl Plan {
         }
     }
 
+    // The region of the next operation.
+    fn next_region(&self) -> Option<u32>
+        ensures { result ≡ region_in (plan_next self.now) }
+    {
+        if !self.changes.is_empty() && self.is_back() {
+            return Some(self.changes.last()?.region);
+        }
+        match self.phase {
+            Phase::Calling => self.stage.next_region(&self.geometry, self.txn, &self.call),
+            _ => None,
+        }
+    }
+
     /// What the plan needs next.
     pub fn wants(&self) -> Want
         ensures wants { result ≡ want_of self.now }
         ensures whole { IsWhole self.now }
     {
-        match self.next() {
-            Some((region, _)) => Want::Region { region },
+        match self.next_region() {
+            Some(region) => Want::Region { region },
             None => match self.phase {
                 Phase::Calling => Want::Done,
                 _ => Want::Nothing,
@@ -208,15 +221,9 @@ impl Plan {
         let Some((number, op)) = self.next() else {
             unreachable!()
         };
-        let operation = Operation::start(
-            region,
-            number,
-            self.txn,
-            key_of(&self.call),
-            op,
-            prechecks(self.is_back(), precheck),
-        )?;
-        self.operation = Some(operation);
+        let checks = prechecks(self.is_back(), precheck);
+        self.operation
+            .start(region, number, self.txn, key_of(&self.call), op, checks)?;
         Ok(())
     }
 
@@ -230,10 +237,7 @@ impl Plan {
         ensures none { result ≡ false → (region.new ≡ region.old) × (self.new ≡ self.old) × IsSomeAnd self.new.operation (λ o. IsOpen region.new o.txn o.block) }
         ensures rest { self.new ≡ with_operation self.old self.new.operation }
     {
-        let Some(operation) = &mut self.operation else {
-            unreachable!()
-        };
-        operation.update(region)
+        self.operation.update(region)
     }
 
     // The open operation goes on with the call.
@@ -252,7 +256,7 @@ impl Plan {
         ensures refused { IfSome self.old.operation (λ o. IfSome (refusal system.old.state (record_length (Forward self.old.txn o.block))) (λ e. result ≡ Err e)) }
         ensures memory { IfSome self.old.operation (λ o. refusal system.old.state (record_length (Forward self.old.txn o.block)) ≡ None → IfErr result (λ e. e ≡ Memory)) }
     {
-        let Some(operation) = &self.operation else {
+        let Some(operation) = self.operation.get() else {
             unreachable!()
         };
         let block = operation.block();
@@ -262,11 +266,11 @@ impl Plan {
                 self.stage = self
                     .stage
                     .after(&self.geometry, self.txn, &self.call, block);
-                self.operation = None;
+                self.operation.close();
                 Ok(receipt)
             }
             Err(error) => {
-                self.operation = None;
+                self.operation.close();
                 region.take_back();
                 Err(error)
             }
@@ -288,17 +292,17 @@ impl Plan {
         ensures refused { IfSome (stop_refusal system.old.state) (λ e. result ≡ Err e) }
         ensures memory { stop_refusal system.old.state ≡ None → IfErr result (λ e. e ≡ Memory) }
     {
-        let Some(operation) = &self.operation else {
+        let Some(operation) = self.operation.get() else {
             unreachable!()
         };
         match system.back_op(region, self.txn, operation.block()) {
             Ok(receipt) => {
                 self.changes.pop();
-                self.operation = None;
+                self.operation.close();
                 Ok(receipt)
             }
             Err(error) => {
-                self.operation = None;
+                self.operation.close();
                 region.take_back();
                 Err(error)
             }

@@ -7,7 +7,7 @@ ghost use Rattle.dali_record.specs.Spelling.{IsEntry, IsOutcome, IsAnswer, is_an
 ghost use Rattle.dali_record.specs.declared.records.Call.{Call as CallOf};
 ghost use Rattle.dali_record.specs.declared.records.Call.TheVariants.{Update, Delete, Get};
 ghost use Rattle.dali_record.specs.declared.operations.Outcome.TheVariants.{Absent};
-ghost use Rattle.dali_calls.specs.Steps.{progress_of, next_op, cell_op, after_cell, is_cell_outcome, answer_of, call_key, call_value, is_insert, is_fresh, adds, most, IsAt, IsNextBlock};
+ghost use Rattle.dali_calls.specs.Steps.{progress_of, next_op, cell_op, region_in, after_cell, is_cell_outcome, answer_of, call_key, call_value, is_insert, is_fresh, adds, most, IsAt, IsNextBlock};
 
 use dali_geometry::Geometry;
 use dali_record::{Answer, Block, Call, Op, Outcome};
@@ -63,6 +63,17 @@ fn in_cell(geometry: &Geometry, call: &Call, place: u64) -> Option<(u32, Op)>
     }
 }
 
+// The region of that cell.
+fn region_of_cell(geometry: &Geometry, call: &Call, place: u64) -> Option<u32>
+    ensures { result ≡ region_in (cell_op geometry.now call.now place) }
+{
+    let (region, _) = geometry.cell_of(place)?;
+    match call {
+        Call::Insert { .. } => None,
+        _ => Some(region),
+    }
+}
+
 impl Stage {
     /// The next operation of the call, and its region.
     pub(crate) fn next(self, geometry: &Geometry, txn: u64, call: &Call) -> Option<(u32, Op)>
@@ -85,6 +96,28 @@ impl Stage {
             },
             Stage::Adding { place, region, .. } => Some((region, Op::Add { place })),
             Stage::Removing { region, entry, .. } => Some((region, Op::KillEntry { entry })),
+            Stage::Finished { .. } => None,
+        }
+    }
+
+    /// The region of the next operation: `next` without its operation.
+    pub(crate) fn next_region(&self, geometry: &Geometry, txn: u64, call: &Call) -> Option<u32>
+        ensures { result ≡ region_in (next_op geometry.now txn call.now self.now) }
+    {
+        match self {
+            Stage::Fresh => Some(geometry.home(key_of(call))),
+            Stage::Walking { region, .. } => Some(*region),
+            Stage::Nowhere => match call {
+                Call::Insert { .. } => Some(geometry.heap_start(txn)),
+                _ => None,
+            },
+            Stage::Somewhere { place, .. } => region_of_cell(geometry, call, *place),
+            Stage::Storing { region, .. } => match call {
+                Call::Insert { .. } => Some(*region),
+                _ => None,
+            },
+            Stage::Adding { region, .. } => Some(*region),
+            Stage::Removing { region, .. } => Some(*region),
             Stage::Finished { .. } => None,
         }
     }

@@ -1,24 +1,21 @@
 -- An audit behind a settlement: what its passes tell of the copies, and its end.
-use Rattle.std.proofs.Common.{◌≡◌, ℕ, ◌<◌, ◌≤◌, Bool, true, false, List, [], ◌∷◌, ◌++◌, length, Some, refl, ap, sym, subst, ◌∙◌, ⊎_elim, arith, inl, inr}
+use Rattle.std.proofs.Common.{◌≡◌, ℕ, ◌<◌, ◌≤◌, Bool, true, false, List, [], ◌∷◌, ◌++◌, length, Some, refl, ap, sym, subst, ◌∙◌, ⊎_elim, arith}
 use Rattle.std.specs.Prelude.{◌==◌, ◌&&◌, ◌||◌, ◌⊎◌, not, if◌then◌else◌, slice_get}
 use Rattle.std.specs.Option.{option_map_or}
-use Rattle.std.proofs.lemmas.Bool.{eqb-true}
+use Rattle.std.proofs.lemmas.Bool.{eqb-true, or_cases as or_either, or_parts, eq-eqb}
 use Rattle.std.specs.List.{list_any}
-use Rattle.dali_counts.proofs.Lists.{same_number}
-use Rattle.dali_counts.proofs.Tallies.{number_is}
+use Rattle.dali_lists.proofs.Lists.{get_push}
+use Rattle.dali_lists.proofs.Tests.{not_both_ways}
 use Rattle.dali_geometry.specs.Sizes.{Sizes}
 use Rattle.dali_geometry.specs.Places.{regions}
-use Rattle.dali_record.specs.declared.records.Record.{Record}
 use Rattle.dali_record.specs.declared.records.Record.TheVariants.{AuditClean}
+use Rattle.dali_record.proofs.Batches.{number_is_length}
 use Rattle.dali_region.specs.State.{RegionState}
 use Rattle.dali_system.specs.Passes.{Pass, is_pass_of, is_find_of, has_passed, has_found, audits_with}
-use Rattle.dali_system.specs.Courses.{Step, Begins, Operates, TakesBack, Frees, Answers, Commits, Ends, AuditBegins, AuditEnds, Locks, Refuses, OnRegion, Passes, Dies, Claims, GivesBack, Recovers, Stops, Checkpoints, Takes, Flushes, Faults, ReadFails, pass_now}
+use Rattle.dali_system.specs.Courses.{Step, AuditBegins, AuditEnds, Passes, pass_now}
 use Rattle.dali_crash.specs.Checkpoints.{Head, Does, Point, target, pass_copy, passes_region, copies_after, answers_none, IsPointStep}
 use Rattle.dali_checkpoint.specs.Running.{AreCopied, IsPassedAt, PassesTell, IsCertifiedAt}
 use Rattle.dali_checkpoint.proofs.Stays.{Stays, passed_on, same_target}
-
-true_false : {b : Bool} → b ≡ true → b ≡ false → ⊥
-true_false e f = cc
 
 any_push : (f : Pass → Bool) (ps : List Pass) (p : Pass) → list_any f (ps ++ p ∷ []) ≡ (list_any f ps || f p)
 any_push f [] p = by_test (f p)
@@ -31,14 +28,6 @@ any_push f (q ∷ ps) p = by_test (f q) (any_push f ps p)
     by_test : (b : Bool) → list_any f (ps ++ p ∷ []) ≡ (list_any f ps || f p) → (b || list_any f (ps ++ p ∷ [])) ≡ ((b || list_any f ps) || f p)
     by_test true e = refl
     by_test false e = e
-
-or_either : (a b : Bool) → (a || b) ≡ true → (a ≡ true) ⊎ (b ≡ true)
-or_either true b e = inl refl
-or_either false b e = inr e
-
-or_neither : (a b : Bool) → (a || b) ≡ false → (a ≡ false) × (b ≡ false)
-or_neither true b e = absurd (cc)
-or_neither false b e = (refl, e)
 
 and_not : (a b : Bool) → a ≡ true → (a && not b) ≡ false → b ≡ true
 and_not true true e f = refl
@@ -59,7 +48,7 @@ module _ (p q : Point) (h : Head) (n b r : ℕ) (g : RegionState) (stay : Stays 
       record {
         copy = record was.copy { passed = was.copy.passed || passes_region p.core (Passes b r) r };
         there = ap (λ side. q.copies side r) (same_target p q stay.current) ∙ (ap (λ c. c (target p) r) copies ∙ ap (pass_copy (passes_region p.core (Passes b r) r)) was.there);
-        passed = or_last was.copy.passed (passes_region p.core (Passes b r) r) (ap (λ o. (r == r) && answers_none o) at ∙ (ap (λ x. x && (g.stray == 0)) (same_number r r refl) ∙ none));
+        passed = or_last was.copy.passed (passes_region p.core (Passes b r) r) (ap (λ o. (r == r) && answers_none o) at ∙ (ap (λ x. x && (g.stray == 0)) (eq-eqb r r refl) ∙ none));
       }
     where
       or_last : (a c : Bool) → c ≡ true → (a || c) ≡ true
@@ -79,7 +68,7 @@ module _ (p q : Point) (h : Head) (n b r : ℕ) (g : RegionState) (stay : Stays 
       now = more ∙ ap (λ o. p.audits b ++ option_map_or (λ (x : RegionState). record { region = r; answer = x.stray } ∷ []) o []) at
 
       none : (has_found (p.audits b) i ≡ false) × (((r == i) && not (g.stray == 0)) ≡ false)
-      none = or_neither (has_found (p.audits b) i) ((r == i) && not (g.stray == 0)) (sym (any_push (is_find_of i) (p.audits b) (record { region = r; answer = g.stray })) ∙ (ap (λ ps. has_found ps i) (sym now) ∙ found))
+      none = or_parts (has_found (p.audits b) i) ((r == i) && not (g.stray == 0)) (sym (any_push (is_find_of i) (p.audits b) (record { region = r; answer = g.stray })) ∙ (ap (λ ps. has_found ps i) (sym now) ∙ found))
 
 -- ---- each step
 pub audits_at : (a b : ℕ) (old new : ℕ → List Pass) (ps : List Pass) → new ≡ audits_with old a ps → (t : Bool) → (b == a) ≡ t → new b ≡ (if t then ps else old b)
@@ -89,7 +78,7 @@ pub passes_go_on : (p q : Point) (x : Step) (h : Head) (n b : ℕ) → IsPointSt
 passes_go_on p q AuditBegins h n b s stay all tell = by_test (b == p.core.system.records) refl
   where
     by_test : (t : Bool) → (b == p.core.system.records) ≡ t → PassesTell q b
-    by_test true e = λ r l passed found. absurd (true_false (ap (λ ps. has_passed ps r) (sym (audits_at p.core.system.records b p.audits q.audits [] s.1.1 true e)) ∙ passed) refl)
+    by_test true e = λ r l passed found. absurd (not_both_ways (ap (λ ps. has_passed ps r) (sym (audits_at p.core.system.records b p.audits q.audits [] s.1.1 true e)) ∙ passed) refl)
     by_test false e = same_passes p q b stay (audits_at p.core.system.records b p.audits q.audits [] s.1.1 false e) tell
 passes_go_on p q (Passes a r) h n b s stay all tell = by_test (b == a) refl
   where
@@ -100,44 +89,21 @@ passes_go_on p q (Passes a r) h n b s stay all tell = by_test (b == a) refl
         (audits_at a b p.audits q.audits (p.audits a ++ pass_now p.core r) s.1.1.1 true e ∙ ap (λ z. p.audits z ++ pass_now p.core r) (sym same)) tell
     by_test false e = same_passes p q b stay (audits_at a b p.audits q.audits (p.audits a ++ pass_now p.core r) s.1.1.1 false e) tell
 passes_go_on p q (AuditEnds a found) h n b s stay all tell = same_passes p q b stay (ap (λ z. z b) s.1.1.1) tell
-passes_go_on p q Begins h n b s stay all tell = same_passes p q b stay (ap (λ z. z b) s.1.1) tell
-passes_go_on p q (Operates t k) h n b s stay all tell = same_passes p q b stay (ap (λ z. z b) s.1.1) tell
-passes_go_on p q (TakesBack t k) h n b s stay all tell = same_passes p q b stay (ap (λ z. z b) s.1.1) tell
-passes_go_on p q (Frees t k) h n b s stay all tell = same_passes p q b stay (ap (λ z. z b) s.1.1) tell
-passes_go_on p q (Answers t k a) h n b s stay all tell = same_passes p q b stay (ap (λ z. z b) s.1.1) tell
-passes_go_on p q (Commits t) h n b s stay all tell = same_passes p q b stay (ap (λ z. z b) s.1.1) tell
-passes_go_on p q (Ends t) h n b s stay all tell = same_passes p q b stay (ap (λ z. z b) s.1.1) tell
-passes_go_on p q (Locks t k m) h n b s stay all tell = same_passes p q b stay (ap (λ z. z b) s.1.1) tell
-passes_go_on p q (Refuses t k m o) h n b s stay all tell = same_passes p q b stay (ap (λ z. z b) s.1.1) tell
-passes_go_on p q (OnRegion r y) h n b s stay all tell = same_passes p q b stay (ap (λ z. z b) s.1.1) tell
-passes_go_on p q (Dies t o) h n b s stay all tell = same_passes p q b stay (ap (λ z. z b) s.1.1) tell
-passes_go_on p q (Claims t) h n b s stay all tell = same_passes p q b stay (ap (λ z. z b) s.1.1) tell
-passes_go_on p q (GivesBack t o) h n b s stay all tell = same_passes p q b stay (ap (λ z. z b) s.1.1) tell
-passes_go_on p q (Recovers r) h n b s stay all tell = same_passes p q b stay (ap (λ z. z b) s.1.1) tell
-passes_go_on p q Stops h n b s stay all tell = same_passes p q b stay (ap (λ z. z b) s.1.1) tell
-passes_go_on p q (Checkpoints u) h n b s stay all tell = same_passes p q b stay (ap (λ z. z b) s.1.1) tell
-passes_go_on p q Takes h n b s stay all tell = same_passes p q b stay (ap (λ z. z b) s.1.1) tell
-passes_go_on p q Flushes h n b s stay all tell = same_passes p q b stay (ap (λ z. z b) s.1.1) tell
-passes_go_on p q (Faults k) h n b s stay all tell = same_passes p q b stay (ap (λ z. z b) s.1.1) tell
-passes_go_on p q (ReadFails k) h n b s stay all tell = same_passes p q b stay (ap (λ z. z b) s.1.1) tell
+passes_go_on p q _ h n b s stay all tell = same_passes p q b stay (ap (λ z. z b) s.1.1) tell
 
 -- ---- its begin and its end
 pub none_passed : (p : Point) (b : ℕ) → p.audits b ≡ [] → PassesTell p b
-none_passed p b e r l passed found = absurd (true_false (ap (λ ps. has_passed ps r) (sym e) ∙ passed) refl)
+none_passed p b e r l passed found = absurd (not_both_ways (ap (λ ps. has_passed ps r) (sym e) ∙ passed) refl)
 
 pub begins_telling : (p q : Point) → IsPointStep p (Does AuditBegins) q → PassesTell q p.core.system.records
-begins_telling p q s = none_passed q p.core.system.records (audits_at p.core.system.records p.core.system.records p.audits q.audits [] s.1.1 true (same_number p.core.system.records p.core.system.records refl))
-
-get_last : (L : List Record) (x : Record) → slice_get (L ++ x ∷ []) (length L) ≡ Some x
-get_last [] x = refl
-get_last (r ∷ L) x = get_last L x
+begins_telling p q s = none_passed q p.core.system.records (audits_at p.core.system.records p.core.system.records p.audits q.audits [] s.1.1 true (eq-eqb p.core.system.records p.core.system.records refl))
 
 pub ends_clean : (p q : Point) (n b : ℕ) → IsPointStep p (Does (AuditEnds b [])) q → Stays p q → n ≤ b → PassesTell p b → IsCertifiedAt q n b
 ends_clean p q n b s stay le tell = record {
   behind = le;
   end = length p.log;
-  clean = ap (λ L. slice_get L (length p.log)) s.1.0.1.0 ∙ get_last p.log (AuditClean b);
-  ends = omega (arith, s.1.0.0.auditing.within, number_is p.log);
+  clean = ap (λ L. slice_get L (length p.log)) s.1.0.1.0 ∙ get_push p.log (AuditClean b);
+  ends = omega (arith, s.1.0.0.auditing.within, number_is_length p.log);
   passed = λ r l. let i = subst (λ (z : Sizes). r < regions z) stay.sizes l in passed_on p q r stay (tell r i (s.1.1.0.passed r i) (sym (s.1.1.0.named r i)));
 }
 

@@ -1,8 +1,10 @@
 -- What the calls of a checkpoint leave is behind steps of a run.
-use Rattle.std.proofs.Common.{◌≡◌, ℕ, suc, ◌+◌, ◌<◌, ◌≤◌, Bool, true, false, cond, List, [], ◌∷◌, ◌++◌, length, Option, Some, None, IfSome, refl, ap, sym, subst, ◌∙◌, arith, zero}
+use Rattle.std.proofs.Common.{◌≡◌, ℕ, ◌+◌, ◌<◌, ◌≤◌, Bool, true, false, cond, List, [], ◌∷◌, ◌++◌, length, Option, Some, None, IfSome, refl, ap, sym, subst, ◌∙◌, arith}
 use Rattle.std.specs.Prelude.{◌==◌, ◌&&◌, is_some, slice_get, slice_set}
-use Rattle.dali_counts.proofs.Lists.{same_number, some_same}
 use Rattle.std.proofs.Math.ListN.{drop_of_length-le}
+use Rattle.std.proofs.lemmas.Bool.{eq-eqb}
+use Rattle.std.proofs.lemmas.Option.{slice_get_within}
+use Rattle.dali_lists.proofs.Options.{some_same}
 use Rattle.dali_system.specs.Run.{blocks_on}
 use Rattle.dali_geometry.specs.Sizes.{Sizes}
 use Rattle.dali_geometry.specs.Places.{regions}
@@ -20,13 +22,13 @@ use Rattle.dali_system.specs.Steps.{taken, in_checkpoint}
 use Rattle.dali_system.specs.Keeps.{with_region}
 use Rattle.dali_system.specs.ImageSteps.{told_with}
 use Rattle.dali_system.specs.Courses.{Takes, Flushes}
+use Rattle.dali_system.proofs.ImageSteps.{side_self}
 use Rattle.dali_facts.proofs.KeysAndUndos.{has_counts}
 use Rattle.dali_crash.specs.Checkpoints.{Head, Copy, StoreStep, Does, Starts, Keeps, WritesHead, Syncs, Turns, Finishes, Point, IsPointStep, IsPointCourse, target, side_of, head_now, head_with, synced_with, copies_with, copy_at, image_in, with_flag, with_current, IsUntouched, MayTurn, IsCertified}
 use Rattle.dali_crash.specs.StoreRuns.{StoreRun, IsKept}
 use Rattle.dali_crash.specs.Traces.{Start, bases_of}
 use Rattle.dali_traces.specs.Disks.{header_bytes, table_bytes, image_file, image_name, CanBeImage}
 use Rattle.dali_traces.specs.Places.{place_of}
-use Rattle.dali_traces.proofs.Images.{same_self}
 use Rattle.dali_traces.proofs.Heads.{next_fits}
 use Rattle.dali_vault.specs.Vaulted.{Vaulted}
 use Rattle.dali_steps.specs.At.{Goes}
@@ -58,7 +60,7 @@ runs_on_log s p run = subst (λ (L : List Record). RunsOn (bases_of s) L p.core)
 
 -- ---- small facts on points
 not_equal : (i r : ℕ) → (i == r) ≡ false → (i ≡ r → ⊥)
-not_equal i r e same = let f : (i == r) ≡ true = same_number i r same in absurd (cc)
+not_equal i r e same = let f : (i == r) ≡ true = eq-eqb i r same in absurd (cc)
 
 if_two : (o : Option Disk) (P Q R : Disk → Type 0) → ((a : Disk) → P a → Q a → R a) → IfSome o P → IfSome o Q → IfSome o R
 if_two (Some a) P Q R go x y = go a x y
@@ -81,7 +83,7 @@ next_copied p q h r i l since log side copies are = by_test (i == r) refl
     at o e = ap (λ t. q.copies t i) side ∙ (ap (λ c. c (target p) i) copies ∙ e)
 
     here : (b : Bool) → (i == r) ≡ b → copies_with p.copies (target p) r (Some (copy_at (length p.log))) (target p) i ≡ cond b (Some (copy_at (length p.log))) (p.copies (target p) i)
-    here b e = ap (λ a. cond (a && (i == r)) (Some (copy_at (length p.log))) (p.copies (target p) i)) (same_self (target p)) ∙ ap (λ a. cond a (Some (copy_at (length p.log))) (p.copies (target p) i)) e
+    here b e = ap (λ a. cond (a && (i == r)) (Some (copy_at (length p.log))) (p.copies (target p) i)) (side_self (target p)) ∙ ap (λ a. cond a (Some (copy_at (length p.log))) (p.copies (target p) i)) e
 
     by_test : (b : Bool) → (i == r) ≡ b → IsCopiedAt q h (length q.log) i
     by_test true e = record { copy = copy_at (length p.log); there = at _ (here true e); since = since; until = omega (arith, ap length log) }
@@ -94,17 +96,12 @@ pub course_join : (p q r : Point) (xs ys : List StoreStep) → IsPointCourse p x
 course_join p q r [] ys a b = subst (λ z. IsPointCourse z ys r) (sym a) b
 course_join p q r (x ∷ xs) ys a b = (a.0, a.1, course_join a.0 q r xs ys a.2 b)
 
-both_heads : (p q : Point) → IsPointCourse p (Does Takes ∷ Does Flushes ∷ []) q → q.heads ≡ p.heads
+pub both_heads : (p q : Point) → IsPointCourse p (Does Takes ∷ Does Flushes ∷ []) q → q.heads ≡ p.heads
 both_heads p q c = ap (λ (z : Point). z.heads) (sym c.2.2) ∙ (ap (λ (z : Point). z.heads) c.2.1.2 ∙ ap (λ (z : Point). z.heads) c.1.2)
 
 synced_there : (side : Side) (old : Side → Bool) → synced_with old side true side ≡ true
 synced_there SideA old = refl
 synced_there SideB old = refl
-
-get_below : (L : List Record) (k : ℕ) (x : Record) → slice_get L k ≡ Some x → k < length L
-get_below [] k x e = absurd (cc)
-get_below (r ∷ L) zero x e = omega arith
-get_below (r ∷ L) (suc k) x e = omega (arith, get_below L k x e)
 
 module _ {V : Type 0} (told : V → Option Disk) (may_leave : V → Disk → Type 0) (faults : V → ℕ) where
   -- ---- what the calls say of the vault
@@ -504,7 +501,7 @@ module _ {V : Type 0} (told : V → Option Disk) (may_leave : V → Disk → Typ
       synced = ap (λ (z : Point). z.synced (target z)) same ∙ synced_there (target f.to) f.to.synced;
       clean = ap (λ (z : Point). slice_get z.log certified.end) same ∙ f.stay.log certified.end (AuditClean b) certified.clean;
       ends = certified.ends;
-      flushed = omega (arith, get_below p.log certified.end (AuditClean b) certified.clean, f.stay.longer, f.all, ap (λ (z : Point). stable z.core) same);
+      flushed = omega (arith, slice_get_within p.log certified.end (AuditClean b) certified.clean, f.stay.longer, f.all, ap (λ (z : Point). stable z.core) same);
       copies = λ r l. certified_copy r (subst (λ (z : Point). r < regions z.core.system.sizes) same l);
     };
     held = synced.held fits f.is.whole;

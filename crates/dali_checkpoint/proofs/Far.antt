@@ -3,8 +3,7 @@ use Rattle.std.proofs.Common.{◌≡◌, ◌≢◌, ℕ, zero, suc, ◌+◌, ◌
 use Rattle.std.specs.Prelude.{is_some, flat_map, slice_get, slice_set}
 use Rattle.std.proofs.lemmas.List.{append-nil, length-take-le}
 use Rattle.std.proofs.lemmas.List.Concat.{flat_map-cons}
-use Rattle.dali_counts.proofs.Lists.{found}
-use Rattle.dali_clean.proofs.Lists.{get_apart}
+use Rattle.dali_lists.proofs.Lists.{get_within, get_set_other}
 use Rattle.dali_record.specs.declared.records.Record.{Record}
 use Rattle.dali_record.specs.Spelling.{words_bytes}
 use Rattle.dali_record.proofs.Lengths.{words_are_8}
@@ -162,7 +161,7 @@ run_far {V = V} told may_leave faults s B p gs y v w c h g (g2 ∷ more) k next 
     (λ j a e.
     let t = next (suc j) a e in
     let other : c.copied ≢ c.copied + 1 + j = omega arith in
-    (get_apart gs c.copied (cleaned (side_in c) g) (c.copied + 1 + j) other ∙ (ap (slice_get gs) (let i : c.copied + 1 + j ≡ c.copied + suc j = omega arith in i) ∙ t.0), t.1))
+    (get_set_other gs c.copied (cleaned (side_in c) g) (c.copied + 1 + j) other ∙ (ap (slice_get gs) (let i : c.copied + 1 + j ≡ c.copied + suc j = omega arith in i) ∙ t.0), t.1))
     (subst (λ n. HasWritten told2 leaves2 faults2 (over v None) name n bs (over w (Some w.store))) place (other_part told may_leave faults v w name (place_of c.copied) us bs both)) in
     let log : length x.to.log ≡ length p.log = ap (λ (q : Point). length q.log) x.step.5 in
     record {
@@ -236,5 +235,5 @@ module _ {V : Type 0} (told : V → Option Disk) (may_leave : V → Disk → Typ
     where
       each : (j : ℕ) → j < run_at c gs → (g : RegionState) × (slice_get gs (c.copied + j) ≡ Some g) × (is_dirty g (side_in c) ≡ false)
       each j lt =
-          let at = found gs (c.copied + j) (length_dropped c.copied j gs (omega (arith, lt, run_length (side_in c) (drop c.copied gs)))) in
+          let at = get_within gs (c.copied + j) (length_dropped c.copied j gs (omega (arith, lt, run_length (side_in c) (drop c.copied gs)))) in
           (at.0, at.1, run_clean (side_in c) c.copied gs clean j at.0 lt at.1)

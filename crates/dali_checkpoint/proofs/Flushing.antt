@@ -14,11 +14,11 @@ use Rattle.dali_checkpoint.proofs.Audited.{passes_go_on, certified_on}
 use Rattle.dali_checkpoint.proofs.Calls.{flush_ran, copying_flushed, CopyingFlushed, settled_flushed, SettledFlushed}
 use Rattle.dali_checkpoint.proofs.Stays.{Stays, takes_stays, flushes_stays, both_stay, all_copied_on}
 
-same_regions : (p q : Point) (h : Head) (n : ℕ) → Stays p q → AreCopied p h n (regions p.core.system.sizes) → AreCopied q h n (regions q.core.system.sizes)
+pub same_regions : (p q : Point) (h : Head) (n : ℕ) → Stays p q → AreCopied p h n (regions p.core.system.sizes) → AreCopied q h n (regions q.core.system.sizes)
 same_regions p q h n stay copies = subst (λ (z : Sizes). AreCopied q h n (regions z)) (sym stay.sizes) (all_copied_on p q h n n (regions p.core.system.sizes) stay (omega arith) copies)
 
 -- what an audit has told, a flush leaves
-tells_on : (p q : Point) (h : Head) (n b : ℕ) → IsPointCourse p (Does Takes ∷ Does Flushes ∷ []) q → AreCopied p h n (regions p.core.system.sizes) → PassesTell p b → PassesTell q b
+pub tells_on : (p q : Point) (h : Head) (n b : ℕ) → IsPointCourse p (Does Takes ∷ Does Flushes ∷ []) q → AreCopied p h n (regions p.core.system.sizes) → PassesTell p b → PassesTell q b
 tells_on p q h n b course copies tells =
     let m = course.0 in
     let stay = takes_stays p m course.1 in

@@ -1,5 +1,5 @@
 -- Where a checkpoint has ended, none is under way.
-use Rattle.std.proofs.Common.{◌≡◌, ℕ, ◌+◌, ◌*◌, ◌<◌, ◌≤◌, ◌^◌, Bool, true, false, List, [], ◌∷◌, length, take, drop, Option, Some, None, is_some, refl, ap, sym, subst, ◌∙◌, arith}
+use Rattle.std.proofs.Common.{◌≡◌, ℕ, ◌+◌, ◌*◌, ◌<◌, ◌≤◌, ◌^◌, Bool, true, false, List, length, take, drop, Option, Some, None, is_some, refl, ap, sym, subst, ◌∙◌, arith}
 use Rattle.std.specs.Prelude.{sum_by}
 use Rattle.std.proofs.lemmas.List.{take-append-drop}
 use Rattle.std.proofs.lemmas.List.Sums.{sum_by-append}
@@ -12,14 +12,9 @@ use Rattle.dali_steps.proofs.Steps.{places_are_small}
 use Rattle.dali_system.specs.Run.{LogRun}
 use Rattle.dali_store.specs.Store.{Files as Disk}
 use Rattle.dali_system.specs.State.{SystemState, log_after, stable}
-use Rattle.dali_crash.specs.Checkpoints.{Head, StoreStep, Point, IsPointCourse}
-use Rattle.dali_crash.specs.StoreRuns.{FlagTells}
-use Rattle.dali_crash.proofs.Flags.{flag_stays}
+use Rattle.dali_crash.specs.Checkpoints.{Head}
+use Rattle.dali_crash.proofs.Flags.{along}
 use Rattle.dali_checkpoint.specs.Laws.{PointsTell, EndsIdle, EndIsFar}
-
-flags_on : (p q : Point) (xs : List StoreStep) → FlagTells p → IsPointCourse p xs q → FlagTells q
-flags_on p q [] tells c = subst FlagTells c tells
-flags_on p q (x ∷ xs) tells c = flags_on c.0 q xs (flag_stays p c.0 x tells c.1) c.2
 
 none_of : (o : Option Head) (flag : Bool) → (is_some o ≡ true → flag ≡ true) → flag ≡ false → o ≡ None
 none_of None flag tells e = refl
@@ -49,7 +44,7 @@ module _ {V : Type 0} (told : V → Option Disk) (may_leave : V → Disk → Typ
   ends_idle s p gs z w tells e flag = record {
     at = e.at;
     flag = flag;
-    begun = none_of e.to.begun e.to.core.system.checking (flags_on p e.to e.steps tells e.course) (ap (λ (x : SystemState). x.checking) e.at.system ∙ flag);
+    begun = none_of e.to.begun e.to.core.system.checking (along p e.to e.steps tells e.course) (ap (λ (x : SystemState). x.checking) e.at.system ∙ flag);
   }
 
   pub end_is_far : EndIsFar told may_leave faults

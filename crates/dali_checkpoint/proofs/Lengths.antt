@@ -2,7 +2,7 @@
 use Rattle.std.proofs.Common.{◌≡◌, ℕ, ◌+◌, ◌-◌, ◌<◌, ◌≤◌, Bool, true, false, List, length, Option, Some, None, IfSome, refl, ap, sym, subst, ◌∙◌, ⊎_elim, arith, length-append, inl, inr}
 use Rattle.std.specs.Prelude.{◌⊎◌, is_some, ◌++◌, take, drop, slice_get, slice_set}
 use Rattle.std.proofs.lemmas.List.{length-take-le, length-drop}
-use Rattle.dali_counts.proofs.Lists.{set_cases, found}
+use Rattle.dali_lists.proofs.Lists.{set_cases, get_within}
 use Rattle.dali_region.specs.declared.Side.{Side}
 use Rattle.dali_region.specs.declared.Side.TheVariants.{A, B}
 use Rattle.dali_region.specs.State.{RegionState}
@@ -21,7 +21,7 @@ use Rattle.dali_checkpoint.specs.Runs.{is_first_dirty, run_of, change}
 use Rattle.dali_checkpoint.proofs.Pieces.{change_cases, run_clean, run_length, run_some}
 use Rattle.dali_checkpoint.proofs.Results.{place_there}
 
-reaches_told : (o p : Option Disk) (side : Side) (n : ℕ) → NoShorter o p → IfSome o (λ fs. place_of n ≤ length (image_file side fs)) → IfSome p (λ fs. place_of n ≤ length (image_file side fs))
+pub reaches_told : (o p : Option Disk) (side : Side) (n : ℕ) → NoShorter o p → IfSome o (λ fs. place_of n ≤ length (image_file side fs)) → IfSome p (λ fs. place_of n ≤ length (image_file side fs))
 reaches_told (Some a) (Some b) side n s r = omega (arith, s side, r)
 reaches_told (Some a) None side n s r = tt
 reaches_told None (Some b) side n s r = absurd (cc)
@@ -93,7 +93,7 @@ clear_reaches o gs i side lt clean holds =
     some = run_some side (drop i gs) (omega (arith, length-drop i gs, lt))
 
     last : (g : RegionState) × (slice_get gs (i + (run_of side (drop i gs) - 1)) ≡ Some g)
-    last = found gs (i + (run_of side (drop i gs) - 1)) (omega (arith, some, run_length side (drop i gs), length-drop i gs, lt))
+    last = get_within gs (i + (run_of side (drop i gs) - 1)) (omega (arith, some, run_length side (drop i gs), length-drop i gs, lt))
 
 -- ---- bytes that were written
 held_length : (at : ℕ) (bytes old new : List ℕ) → at ≤ length old → Holds old at bytes new → at + length bytes ≤ length new

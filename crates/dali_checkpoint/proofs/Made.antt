@@ -3,6 +3,7 @@ use Rattle.std.proofs.Common.{◌≡◌, ℕ, ◌+◌, ◌-◌, ◌++◌, Bool, 
 use Rattle.std.specs.Prelude.{IsErrOf}
 use Rattle.std.proofs.lemmas.List.Elements.{Contains-push}
 use Rattle.std.proofs.lemmas.List.{length-drop}
+use Rattle.dali_lists.proofs.Tests.{not_both_ways}
 use Rattle.dali_geometry.specs.Places.{regions}
 use Rattle.dali_record.specs.declared.records.Record.TheVariants.{AuditBegin}
 use Rattle.dali_region.specs.State.{RegionState}
@@ -31,9 +32,6 @@ use Rattle.dali_checkpoint.proofs.Lengths.{places_stay}
 use Rattle.dali_checkpoint.proofs.Results.{holds_copied, holds_checked, writes_vault, writes_kept, write_stops, write_current, write_rose, turn_stops, turn_current, turn_rose, no_cause, has_cause, stays_stopped, whole_behind, err_same, same_err}
 use Rattle.dali_checkpoint.proofs.Walks.{calls_then}
 use Rattle.dali_checkpoint.proofs.Whole.{leads_same, start_fails, image_given_up, certified_leads, certify_fault_leads, failure_leads}
-
-no_both : {b : Bool} → b ≡ true → b ≡ false → ⊥
-no_both e f = cc
 
 -- ---- a checkpoint that is given up
 given_table : (b : Bool) (y : SystemState) → SameTable y (given_up b y)
@@ -93,7 +91,7 @@ module _ {V : Type 0} (told : V → Option Disk) (may_leave : V → Disk → Typ
     start_refused e busy alone stopped runs stops failed same longer = by_flag y.checking refl
       where
         by_error : y.checking ≡ false → cause_of y v ≡ None → (e ≡ InProgress) ⊎ ((e ≡ Fault) ⊎ (e ≡ OutOfMemory)) → HasEndedBy told may_leave faults gs y v e gs z w
-        by_error idle none (inl is) = absurd (no_both (alone is) idle)
+        by_error idle none (inl is) = absurd (not_both_ways (alone is) idle)
         by_error idle none (inr (inl is)) = subst (λ f. HasEndedBy told may_leave faults gs y v f gs z w) (sym is) (record {
           by = (
             (idle, none, ap (λ (t : SystemState). t.checking) (stops is) ∙ idle, write_current told may_leave faults y v w (image_name (side_of (v.current + 1))) 0 64 (failed is)),
@@ -300,7 +298,7 @@ module _ {V : Type 0} (told : V → Option Disk) (may_leave : V → Disk → Typ
             whole = whole_now z w (ap (λ (a : SystemState). a.sizes) lost.2, ap (λ (a : SystemState). a.table) lost.2) on;
             goes = failure_leads told may_leave faults gs hs y x z v u w c started is t m d j.failing k.goes (inr (Fault, lost)) ends;
           }
-          by_lost (Stopped cause) lost = absurd (no_both lost.1 k.runs)
+          by_lost (Stopped cause) lost = absurd (not_both_ways lost.1 k.runs)
           by_lost (Failed found) lost = absurd lost
           by_lost InProgress lost = absurd lost
           by_lost (LogFull end limit) lost = absurd lost
@@ -398,14 +396,14 @@ module _ {V : Type 0} (told : V → Option Disk) (may_leave : V → Disk → Typ
 
     busy_is : (e : CheckpointError) → HasNotMade faults gs y v e hs z w → y.checking ≡ true → e ≡ InProgress
     busy_is InProgress k flag = refl
-    busy_is (Stopped cause) k flag = absurd (no_both flag k.0)
-    busy_is (Failed found) k flag = absurd (no_both flag k.0.0)
-    busy_is (LogFull end limit) k flag = absurd (no_both flag k.0.0)
-    busy_is OutOfMemory k flag = absurd (no_both flag k.0.0)
-    busy_is Fault k flag = absurd (no_both flag k.0.0)
+    busy_is (Stopped cause) k flag = absurd (not_both_ways flag k.0)
+    busy_is (Failed found) k flag = absurd (not_both_ways flag k.0.0)
+    busy_is (LogFull end limit) k flag = absurd (not_both_ways flag k.0.0)
+    busy_is OutOfMemory k flag = absurd (not_both_ways flag k.0.0)
+    busy_is Fault k flag = absurd (not_both_ways flag k.0.0)
 
     pub made_in_progress : (r : Result ℕ CheckpointError) → IfOk r Made → IfErr r Ended → y.checking ≡ true → r ≡ Err InProgress
-    made_in_progress (Ok n) k l flag = absurd (no_both flag k.idle)
+    made_in_progress (Ok n) k l flag = absurd (not_both_ways flag k.idle)
     made_in_progress (Err e) k l flag = ap Err (busy_is e l.by flag)
 
     abbrev Same : CheckpointError → CheckpointError → Type 0
@@ -415,7 +413,7 @@ module _ {V : Type 0} (told : V → Option Disk) (may_leave : V → Disk → Typ
     none_stops P none = subst (λ o. IfSome o P) (sym none) tt
 
     stopped_is : (e : CheckpointError) → HasNotMade faults gs y v e hs z w → y.checking ≡ false → IfSome (cause_of y v) (λ cause. Same e (Stopped cause))
-    stopped_is InProgress k idle = absurd (no_both k.0 idle)
+    stopped_is InProgress k idle = absurd (not_both_ways k.0 idle)
     stopped_is (Stopped cause) k idle = subst (λ o. IfSome o (λ c. Same (Stopped cause) (Stopped c))) (sym k.1) refl
     stopped_is (Failed found) k idle = none_stops (λ c. Same (Failed found) (Stopped c)) k.0.1
     stopped_is (LogFull end limit) k idle = none_stops (λ c. Same (LogFull end limit) (Stopped c)) k.0.1

@@ -47,7 +47,7 @@ abbrev SpellsRight : Start → Point → Disk → Type 0
 SpellsRight s p c = (F : Files) × Spells c F × IsRightWithin s p F
 
 here : (s : Start) (p : Point) (c : Disk) → ((F : Files) × Spells c F × LeavesRightAt s p F) → SpellsRight s p c
-here s p c D = (D.0, D.1, record { to = p; steps = []; course = refl; same = refl; right = D.2 })
+here s p c D = (D.0, D.1, record { to = p; steps = []; course = refl; same = refl; regions = refl; right = D.2 })
 
 module _ {V : Type 0} (told : V → Option Disk) (may_leave : V → Disk → Type 0) (faults : V → ℕ) where
   -- ---- no call was made
@@ -67,7 +67,7 @@ module _ {V : Type 0} (told : V → Option Disk) (may_leave : V → Disk → Typ
       let current : k.to.core.vault.current ≡ v.current = k.at.vault.vault.current ∙ ap (λ (z : Vaulted V). z.current) w.flushed.2.vault in
       let torn : TornFrom (may_leave w.mid.store) (image_name (target k.to)) 0 64 c = subst (λ n. TornFrom (may_leave w.mid.store) (image_name (side_of (n + 1))) 0 64 c) (sym current) w.torn in
       let D = there (told w.mid.store) _ (w.flushed.2.ok.tells ∙ e) (write_is_right_in told may_leave faults s k.batches k.to w.mid 0 64 k.at.vault w.flushed.2.ok.runs) c torn in
-      (D.0, D.1, record { to = k.to; steps = Starts ∷ Does Takes ∷ Does Flushes ∷ Keeps ∷ []; course = k.course; same = kept_log p k.to k.course; right = D.2 }))
+      (D.0, D.1, record { to = k.to; steps = Starts ∷ Does Takes ∷ Does Flushes ∷ Keeps ∷ []; course = k.course; same = kept_log p k.to k.course; regions = k.at.regions ∙ sym idle.at.regions; right = D.2 }))
       left)
 
   -- ---- a copy
@@ -85,7 +85,7 @@ module _ {V : Type 0} (told : V → Option Disk) (may_leave : V → Disk → Typ
       let f : CopyingFlushed told may_leave faults s p gs (taken y) w.mid c h = copying_flushed told may_leave faults s B p gs y (taken y) v w.mid c h k w.flushed refl in
       let side = side_is_next told may_leave faults s f.batches f.to gs (taken y) w.mid c h f.is.at.vault.run f.is.is in
       let D = there (told w.mid.store) _ (w.flushed.2.ok.tells ∙ e) (write_is_right_in told may_leave faults s f.batches f.to w.mid at n f.is.at.vault w.flushed.2.ok.runs) d (subst (λ z. TornFrom (may_leave w.mid.store) (image_name z) at n d) side w.torn) in
-      (D.0, D.1, record { to = f.to; steps = Does Takes ∷ Does Flushes ∷ []; course = f.course; same = both_log p f.to f.course; right = D.2 }))
+      (D.0, D.1, record { to = f.to; steps = Does Takes ∷ Does Flushes ∷ []; course = f.course; same = both_log p f.to f.course; regions = f.is.at.regions ∙ sym k.at.regions; right = D.2 }))
       left)
 
   -- ---- the anchor
@@ -96,12 +96,12 @@ module _ {V : Type 0} (told : V → Option Disk) (may_leave : V → Disk → Typ
       (λ (w : SyncLeft told may_leave faults y v d).
       let f : SettledFlushed told may_leave faults s p gs (taken y) w.mid c h n = settled_flushed told may_leave faults s B p gs y (taken y) v w.mid c h n k w.flushed refl in
       let D = there (told w.mid.store) _ (w.flushed.2.ok.tells ∙ e) (crash_is_right told may_leave faults s f.batches f.to w.mid f.is.at.vault) d w.left in
-      (D.0, D.1, record { to = f.to; steps = Does Takes ∷ Does Flushes ∷ []; course = f.course; same = both_log p f.to f.course; right = D.2 }))
+      (D.0, D.1, record { to = f.to; steps = Does Takes ∷ Does Flushes ∷ []; course = f.course; same = both_log p f.to f.course; regions = f.is.at.regions ∙ sym k.at.regions; right = D.2 }))
       (λ (w : TurnLeft told may_leave faults y v (side_in c) d).
       let t : CertifyTurn told may_leave faults s p gs (taken y) w.late h b = certify_turn told may_leave faults s B p gs y v w.mid w.late c h n b k certified w.flushed w.synced in
       let D = there (told w.late.store) _ (w.synced.ok.tells ∙ (w.flushed.2.ok.tells ∙ e))
       (turn_is_right_in told may_leave faults s t.batches t.to w.late h b t.end t.at.vault w.synced.ok.runs (ap is_some t.may.begun) t.may t.held) d w.moved in
-      (D.0, D.1, record { to = t.to; steps = Does Takes ∷ Does Flushes ∷ Syncs ∷ []; course = t.course; same = synced_log p t.to t.course; right = D.2 }))
+      (D.0, D.1, record { to = t.to; steps = Does Takes ∷ Does Flushes ∷ Syncs ∷ []; course = t.course; same = synced_log p t.to t.course; regions = t.at.regions ∙ sym k.at.regions; right = D.2 }))
       later)
       left)
 

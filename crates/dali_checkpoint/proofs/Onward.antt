@@ -53,7 +53,7 @@ module _ {V : Type 0} (told : V → Option Disk) (may_leave : V → Disk → Typ
           → (d : Disk) → may_leave v.store d → (F : Files) × Spells d F × IsRightWithin s p F
       crash s B p gs y v c h k e d left =
           let D = there (told v.store) _ e (crash_is_right told may_leave faults s B p v k.at.vault) d left in
-          (D.0, D.1, record { to = p; steps = []; course = refl; same = refl; right = D.2 })
+          (D.0, D.1, record { to = p; steps = []; course = refl; same = refl; regions = refl; right = D.2 })
 
   pub copies_right_next : (c0 : Checkpointed) (init : List RegionState) (v0 : Vaulted V) (c : Checkpointed) (gs : List RegionState) (v : Vaulted V) → CopiesTo told may_leave faults lets_pass c0 init v0 c gs v
       → (w : Vaulted V) (at n : ℕ) → CopiesStayRight told may_leave faults moment left_since init v0 c0 v

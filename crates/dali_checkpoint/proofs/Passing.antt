@@ -1,7 +1,8 @@
 -- The passes of an audit, one after another.
 use Rattle.std.proofs.Common.{◌≡◌, ℕ, suc, ◌+◌, ◌<◌, List, length, map, replicate, Some, ap, sym, subst, ◌∙◌, arith}
 use Rattle.std.specs.Prelude.{slice_get, slice_set}
-use Rattle.dali_counts.proofs.Lists.{some_same, found}
+use Rattle.dali_lists.proofs.Lists.{get_within}
+use Rattle.dali_lists.proofs.Options.{some_same}
 use Rattle.dali_region.specs.State.{RegionState, checked}
 use Rattle.dali_audit.specs.declared.audit.Finding.{Finding}
 use Rattle.dali_audit.specs.declared.audit.Finding.TheVariants.{Waiting}
@@ -13,12 +14,12 @@ use Rattle.dali_checkpoint.proofs.Results.{all_found}
 module _ (init gs : List RegionState) (a0 a : Audited) (i : ℕ) (is : a ≡ record a0 { findings = walk found_in (λ _. Waiting) i init }) (regions : gs ≡ walk checked (λ g. g) i init) (within : i < length init) where
   pub waits_at : slice_get a.findings i ≡ Some Waiting
   waits_at =
-      let x = found init i within in
+      let x = get_within init i within in
       ap (λ (b : Audited). slice_get b.findings i) is ∙ walk_get found_in (λ _. Waiting) i init x.0 x.1
 
   module _ (g h : RegionState) (b : Audited) (at : slice_get gs i ≡ Some g) (passed : b ≡ record a { findings = slice_set a.findings i (finding_of g.stray) }) (checks : h ≡ checked g) where
     one : (x : RegionState) × (slice_get init i ≡ Some x)
-    one = found init i within
+    one = get_within init i within
 
     same : g ≡ one.0
     same = some_same (sym at ∙ (ap (λ l. slice_get l i) regions ∙ walk_get checked (λ z. z) i init one.0 one.1))

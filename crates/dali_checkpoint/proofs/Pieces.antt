@@ -6,7 +6,8 @@ use Rattle.std.proofs.lemmas.List.{drop_more, length-drop, take_more, get_or-dro
 use Rattle.std.proofs.lemmas.List.Concat.{flat_map-append, flat_map-cons}
 use Rattle.dali_record.specs.Spelling.{words_bytes}
 use Rattle.std.proofs.lemmas.List.Sums.{prefix_len-drop_yes, prefix_len-drop_no, prefix_len-le-length}
-use Rattle.dali_counts.proofs.Lists.{some_same}
+use Rattle.dali_lists.proofs.Lists.{get_drop}
+use Rattle.dali_lists.proofs.Options.{some_same}
 use Rattle.dali_region.specs.declared.Side.{Side}
 use Rattle.dali_region.specs.declared.Side.TheVariants.{A as SideA, B as SideB}
 use Rattle.dali_region.specs.State.{RegionState}
@@ -301,13 +302,8 @@ clean_ones side (suc n) (x ∷ xs) le k g lt e = by_flag (is_dirty x side) refl 
     by_flag false e later zero l at = ap (λ z. is_dirty z side) (sym (some_same at)) ∙ e
     by_flag false e later (suc j) l at = later (omega (arith, size false e)) j (omega (arith, l)) at
 
-get_dropped : {A : Type 0} (i k : ℕ) (xs : List A) → slice_get (drop i xs) k ≡ slice_get xs (i + k)
-get_dropped zero k xs = ap (slice_get xs) (let sum : k ≡ 0 + k = omega arith in sum)
-get_dropped (suc i) k [] = refl
-get_dropped (suc i) k (x ∷ xs) = get_dropped i k xs ∙ ap (slice_get (x ∷ xs)) (let sum : suc (i + k) ≡ suc i + k = omega arith in sum)
-
 pub run_clean : (side : Side) (i : ℕ) (gs : List RegionState) → is_first_dirty side (drop i gs) ≡ false → (k : ℕ) (g : RegionState) → k < run_of side (drop i gs) → slice_get gs (i + k) ≡ Some g → is_dirty g side ≡ false
-run_clean side i gs clean k g lt e = clean_ones side (run_of side (drop i gs)) (drop i gs) (run_within side false (drop i gs) clean) k g lt (get_dropped i k gs ∙ e)
+run_clean side i gs clean k g lt e = clean_ones side (run_of side (drop i gs)) (drop i gs) (run_within side false (drop i gs) clean) k g lt (get_drop i k gs ∙ e)
 
 clean_same : (side : Side) (g : RegionState) → is_dirty g side ≡ false → cleaned side g ≡ g
 clean_same SideA g e = ap (λ b. record g { dirty_a = b }) (sym e)

@@ -2,7 +2,7 @@
 use Rattle.std.proofs.Common.{◌≡◌, ℕ, zero, suc, ◌+◌, ◌≤◌, Bool, true, false, List, [], ◌∷◌, length, map, Option, Some, None, IfSome, Result, Ok, Err, refl, ap, sym, subst, ◌∙◌, inl, inr}
 use Rattle.std.specs.Prelude.{◌==◌, if◌then◌else◌, slice_get, IsSome}
 use Rattle.std.specs.FinMap as map
-use Rattle.dali_counts.proofs.Lists.{some_same}
+use Rattle.dali_lists.proofs.Options.{some_same}
 use Rattle.dali_att.specs.declared.state.State.TheVariants.{Dead}
 use Rattle.dali_geometry.specs.Places.{regions}
 use Rattle.dali_region.specs.declared.Hold.{Hold}
@@ -59,7 +59,7 @@ all_found (g ∷ gs) zero f e = ap is_passed (sym (some_same e)) ∙ passed_by (
 all_found (g ∷ gs) (suc r) f e = all_found gs r f e
 
 -- ---- a check changes no flag
-checked_dirty : (g : RegionState) (side : Side) → is_dirty (checked g) side ≡ is_dirty g side
+pub checked_dirty : (g : RegionState) (side : Side) → is_dirty (checked g) side ≡ is_dirty g side
 checked_dirty g SideA = refl
 checked_dirty g SideB = refl
 
@@ -173,10 +173,6 @@ same_err e = ap Err e
 
 pub err_not_ok : {T E : Type 0} {e : E} {x : T} → ◌≡◌ {A = Result T E} (Err e) (Ok x) → ⊥
 err_not_ok e = cc
-
-pub not_false : (b : Bool) → (b ≡ false → ⊥) → b ≡ true
-not_false true f = refl
-not_false false f = absurd (f refl)
 
 -- an answer that wasn't Ok where the engine was stopped
 pub none_of_ok : {T : Type 0} (o : Option Cause) (x : T) → IfSome o (λ cause. ◌≡◌ {A = Result T CheckpointError} (Ok x) (Err (StoppedBy cause))) → o ≡ None

@@ -1,6 +1,6 @@
 -- The rows of the system's table are those that a checkpoint keeps.
 use Rattle.std.proofs.Common.{◌≡◌, ℕ, suc, ◌-◌, ◌<◌, Bool, true, false, List, [], ◌∷◌, length, Option, Some, None, map, refl, ap, sym, subst, ◌∙◌, ⊎_elim, arith}
-use Rattle.std.specs.Prelude.{◌==◌, ◌&&◌, ◌||◌, not, T, filter, take, is_some, Contains, slice_get}
+use Rattle.std.specs.Prelude.{◌==◌, ◌||◌, not, T, filter, take, is_some, Contains, slice_get}
 use Rattle.std.specs.Option.{option_map, option_map_or}
 use Rattle.std.specs.List.{AllByRecursion, list_any}
 use Rattle.std.proofs.lemmas.Bool.{eq-eqb, eqb-true, or_cases, and_parts, and_from}
@@ -9,10 +9,11 @@ use Rattle.std.proofs.lemmas.List.Kept.{IsStrictlyIncreasing-filter}
 use Rattle.std.proofs.Math.Path.{fun_ext}
 use Rattle.std.specs.FinMap as finite
 use Rattle.std.specs.FinMap.Entries.{is_sorted, below_all}
-use Rattle.std.specs.Ordering.{nat_cmp, is_lt, eq_by_cmp}
-use Rattle.std.specs.declared.cmp.Ordering.{Ordering}
-use Rattle.std.specs.declared.cmp.Ordering.TheVariants.{Less, Equal, Greater}
-use Rattle.std.specs.Cmp.{nat_cmp_total, eq_by_cmp_equiv, unsigned_tied, ranked}
+use Rattle.std.specs.Ordering.{nat_cmp, eq_by_cmp}
+use Rattle.std.specs.Cmp.{nat_cmp_total, eq_by_cmp_equiv, unsigned_tied}
+use Rattle.dali_lists.proofs.Members.{contains_from_get}
+use Rattle.dali_lists.proofs.Numbers.{cmp_less}
+use Rattle.dali_lists.proofs.Tests.{T_left, T_right, same_tests}
 use Rattle.dali_att.specs.declared.state.State.{State}
 use Rattle.dali_att.specs.declared.state.State.TheVariants.{Live, Dead, Cleaning, Committed}
 use Rattle.dali_att.specs.Table.{Table, Row as Entry}
@@ -22,10 +23,9 @@ use Rattle.dali_record.specs.Log.{begun, ended}
 use Rattle.dali_record.specs.Epochs.{last_epoch}
 use Rattle.dali_record.specs.Damage.{has}
 use Rattle.dali_record.specs.Files.{Row, row_of as file_row, table_before}
-use Rattle.dali_history.proofs.Places.{Contains-from_get}
+use Rattle.dali_record.proofs.Batches.{number_is_length}
 use Rattle.dali_history.proofs.Members.{has-filter, has-filter_from}
 use Rattle.dali_history.proofs.Ascending.{begun_ascends}
-use Rattle.dali_counts.proofs.Tallies.{number_is}
 use Rattle.dali_system.specs.State.{TxnRow, CoreState}
 use Rattle.dali_system.specs.Run.{Bases, RunsOn, is_committed}
 use Rattle.dali_facts.proofs.Begun.{holds_the_begun}
@@ -36,28 +36,16 @@ use Rattle.dali_during.proofs.Reported.{table_is_kept}
 use Rattle.dali_image.specs.Rows.{rows_of, row_at, is_committed as is_kept_committed}
 
 -- ---- the keys of a table rise
-first : (a b : Bool) → T (a && b) → T a
-first true b p = tt
-first false b p = p
-
-second : (a b : Bool) → T (a && b) → T b
-second true b p = p
-second false b p = absurd p
-
-less : (x y : ℕ) (o : Ordering) → o ≡ nat_cmp x y → T (is_lt o) → x < y
-less x y Less e p = ranked x y Less e
-less x y Equal e p = absurd p
-less x y Greater e p = absurd p
 
 keys_above : (x : ℕ) (es : List (ℕ × Entry Pending)) → T (below_all nat_cmp x es) → AllByRecursion (λ y. x < y) (map (λ e. e.0) es)
 keys_above x [] p = tt
-keys_above x (e ∷ es) p = (less x e.0 (nat_cmp x e.0) refl (first _ _ p), keys_above x es (second _ _ p))
+keys_above x (e ∷ es) p = (cmp_less x e.0 (nat_cmp x e.0) refl (T_left _ _ p), keys_above x es (T_right _ _ p))
 
 keys_up : (es : List (ℕ × Entry Pending)) → T (is_sorted nat_cmp es) → Up (map (λ e. e.0) es)
 keys_up [] p = tt
-keys_up (e ∷ es) p = (keys_above e.0 es (first _ _ p), keys_up es (second _ _ p))
+keys_up (e ∷ es) p = (keys_above e.0 es (T_left _ _ p), keys_up es (T_right _ _ p))
 
-has_keys : (m : Table Pending) (t : ℕ) → has (finite.keys m) t ≡ is_some (finite.get m t)
+pub has_keys : (m : Table Pending) (t : ℕ) → has (finite.keys m) t ≡ is_some (finite.get m t)
 has_keys m t =
     let tests : (λ (x : ℕ). x == t) ≡ eq_by_cmp nat_cmp t = fun_ext (λ x. sym ((eq_by_cmp_equiv nat_cmp_total).symm t x ∙ unsigned_tied x t)) in
     ap (λ (p : ℕ → Bool). list_any p (finite.keys m)) tests ∙ sym (finite.contains_key-keys m t)
@@ -77,10 +65,6 @@ row_is m t (Some q) r e f =
     ∙ ap (λ (b : Bool). record { txn = t; is_committed = b; undos = r.undos }) (kept_state r.state)
 
 -- ---- all rows
-both_bools : (a b : Bool) → (a ≡ true → b ≡ true) → (b ≡ true → a ≡ true) → a ≡ b
-both_bools true b f g = sym (f refl)
-both_bools false true f g = g refl
-both_bools false false f g = refl
 
 map_same : (f g : ℕ → Row) (xs : List ℕ) → ((t : ℕ) → has xs t ≡ true → f t ≡ g t) → map f xs ≡ map g xs
 map_same f g [] h = refl
@@ -108,7 +92,7 @@ rows_are bases L c run = ap (map (row_at c.system.table)) keys_are ∙ (map_same
     rows P = map (file_row P) (filter (λ t. not (has (ended P) t)) (begun P))
 
     all : take (length L - (last_epoch L).first) (last_epoch L).records ≡ E
-    all = take_all (length L - (last_epoch L).first) (last_epoch L).records (omega (arith, number_is L))
+    all = take_all (length L - (last_epoch L).first) (last_epoch L).records (omega (arith, number_is_length L))
 
     running : List ℕ
     running = filter (λ t. not (has (ended E) t)) (begun E)
@@ -128,10 +112,10 @@ rows_are bases L c run = ap (map (row_at c.system.table)) keys_are ∙ (map_same
     keys_are =
         same_increasing (finite.keys c.system.table) running (keys_up (finite.entries c.system.table) (finite.entries_sorted c.system.table))
         (IsStrictlyIncreasing-filter (λ t. not (has (ended E) t)) (begun E) (begun_ascends c.system.sizes L (last_epoch L) run.log.legal.rules (last_in L)))
-        (λ t. has_keys c.system.table t ∙ both_bools (is_some (finite.get c.system.table t)) (has running t) (is_in t) (has_row t))
+        (λ t. has_keys c.system.table t ∙ same_tests (is_some (finite.get c.system.table t)) (has running t) (is_in t) (has_row t))
 
     each : (t : ℕ) → has running t ≡ true → row_at c.system.table t ≡ file_row E t
     each t e =
         let at = map_get (file_row E) running t e in
-        let kept = (table_is_kept bases L c run (file_row E t)).0 (subst (λ P. Contains (rows P) (file_row E t)) (sym all) (Contains-from_get (rows E) at.0 (file_row E t) at.1)) in
+        let kept = (table_is_kept bases L c run (file_row E t)).0 (subst (λ P. Contains (rows P) (file_row E t)) (sym all) (contains_from_get (rows E) at.0 (file_row E t) at.1)) in
         row_is c.system.table t (finite.get c.system.table t) kept.0 refl kept.1 ∙ sym kept.2

@@ -1,6 +1,8 @@
 -- What a step of others leaves of a checkpoint.
-use Rattle.std.proofs.Common.{◌≡◌, ℕ, suc, ◌+◌, ◌≤◌, Bool, true, false, List, [], ◌∷◌, ◌++◌, length, Option, Some, None, refl, ap, sym, subst, ◌∙◌, ⊎_elim, arith, length-append, zero}
+use Rattle.std.proofs.Common.{◌≡◌, ℕ, ◌+◌, ◌≤◌, Bool, true, [], ◌∷◌, length, Option, Some, None, refl, ap, sym, subst, ◌∙◌, ⊎_elim, arith, length-append}
 use Rattle.std.specs.Prelude.{◌||◌, slice_get}
+use Rattle.std.proofs.lemmas.Bool.{or_left}
+use Rattle.dali_lists.proofs.Lists.{get_front}
 use Rattle.dali_record.specs.declared.records.Record.{Record}
 use Rattle.dali_region.specs.declared.Side.{Side}
 use Rattle.dali_system.specs.State.{CoreState}
@@ -8,7 +10,7 @@ use Rattle.dali_system.specs.Flushes.{frame_of}
 use Rattle.dali_system.specs.Courses.{Step, Takes, Flushes}
 use Rattle.dali_system.proofs.Courses.{Goes, step_goes}
 use Rattle.dali_crash.specs.Checkpoints.{Head, Copy, Does, Point, target, side_of, pass_copy, passes_region, IsPointStep, IsPointCourse, moment_of}
-use Rattle.dali_steps.proofs.Frames.{longer_current}
+use Rattle.dali_crash.proofs.StepLeaves.{longer_parts}
 use Rattle.dali_image.specs.Laws.{header_of}
 use Rattle.dali_checkpoint.specs.Kept.{Checkpointed}
 use Rattle.dali_checkpoint.specs.Running.{IsCopiedAt, AreCopied, IsOf, IsPassedAt}
@@ -44,18 +46,10 @@ stays_then p q r s t = record {
 }
 
 -- ---- a step of the core
-or_true : (a b : Bool) → a ≡ true → (a || b) ≡ true
-or_true true b e = refl
-or_true false b e = absurd (cc)
 
 passed_copy : (b : Bool) (o : Option Copy) (k : Copy) → o ≡ Some k → IsStill (pass_copy b o) k
-passed_copy b (Some j) k e = record { copy = record j { passed = j.passed || b }; there = refl; at = let one : j ≡ k = cc in ap (λ (z : Copy). z.at) one; passed = λ f. let one : j ≡ k = cc in or_true j.passed b (ap (λ (z : Copy). z.passed) one ∙ f) }
+passed_copy b (Some j) k e = record { copy = record j { passed = j.passed || b }; there = refl; at = let one : j ≡ k = cc in ap (λ (z : Copy). z.at) one; passed = λ f. let one : j ≡ k = cc in or_left j.passed b (ap (λ (z : Copy). z.passed) one ∙ f) }
 passed_copy b None k e = absurd (cc)
-
-get_longer : (L M : List Record) (k : ℕ) (x : Record) → slice_get L k ≡ Some x → slice_get (L ++ M) k ≡ Some x
-get_longer [] M k x e = absurd (cc)
-get_longer (r ∷ L) M zero x e = e
-get_longer (r ∷ L) M (suc k) x e = get_longer L M k x e
 
 pub does_stays : (p q : Point) (x : Step) → IsPointStep p (Does x) q → q.core.vault.current ≡ p.core.vault.current → Stays p q
 does_stays p q x s current = record {
@@ -67,7 +61,7 @@ does_stays p q x s current = record {
       let now = passed_copy (passes_region p.core x r) (p.copies side r) k e in
       record { copy = now.copy; there = ap (λ (z : Point). z.copies side r) s.2 ∙ now.there; at = now.at; passed = now.passed };
   longer = ⊎_elim (λ same. omega (arith, ap length same)) (λ more. omega (arith, ap length more.2, length-append p.log (more.0 ∷ []))) goes.log;
-  log = λ k y e. ⊎_elim (λ same. ap (λ L. slice_get L k) same ∙ e) (λ more. ap (λ L. slice_get L k) more.2 ∙ get_longer p.log (more.0 ∷ []) k y e) goes.log;
+  log = λ k y e. ⊎_elim (λ same. ap (λ L. slice_get L k) same ∙ e) (λ more. ap (λ L. slice_get L k) more.2 ∙ get_front p.log (more.0 ∷ []) k y e) goes.log;
 }
   where
     goes : Goes (moment_of p) (moment_of q)
@@ -77,7 +71,7 @@ pub takes_stays : (p q : Point) → IsPointStep p (Does Takes) q → Stays p q
 takes_stays p q s = does_stays p q Takes s (ap (λ (c : CoreState). c.vault.current) s.1.0.1)
 
 pub flushes_stays : (p q : Point) → IsPointStep p (Does Flushes) q → Stays p q
-flushes_stays p q s = does_stays p q Flushes s (ap (λ (c : CoreState). c.vault.current) s.1.0.1.1 ∙ longer_current p.core.vault (frame_of p.log p.core))
+flushes_stays p q s = does_stays p q Flushes s (ap (λ (c : CoreState). c.vault.current) s.1.0.1.1 ∙ longer_parts p.core.vault (frame_of p.log p.core))
 
 pub both_stay : (p q : Point) → IsPointCourse p (Does Takes ∷ Does Flushes ∷ []) q → Stays p q
 both_stay p q c = stays_then p c.0 q (takes_stays p c.0 c.1) (subst (Stays c.0) c.2.2 (flushes_stays c.0 c.2.0 c.2.1))

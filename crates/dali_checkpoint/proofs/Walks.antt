@@ -2,7 +2,7 @@
 use Rattle.std.proofs.Common.{◌≡◌, ℕ, zero, suc, ◌+◌, ◌-◌, ◌<◌, List, [], ◌∷◌, Some, None, Option, length, map, take, replicate, refl, ap, sym, ◌∙◌, arith}
 use Rattle.std.specs.Prelude.{slice_get, slice_set, slice_index_or, sum_by}
 use Rattle.std.proofs.lemmas.List.Sums.{sum_by-cons}
-use Rattle.dali_counts.proofs.Lists.{some_same}
+use Rattle.dali_lists.proofs.Options.{some_same}
 use Rattle.dali_store.specs.Calls.{fewer, one_less}
 
 -- the first i are as f makes them, the others as g does
@@ -52,10 +52,6 @@ walk_map f g h k ef eg (suc i) (x ∷ xs) = ap (λ z. z ∷ map h (walk f g i xs
 
 pub map_same : {A C : Type 0} (f : A → A) (h : A → C) → ((x : A) → h (f x) ≡ h x) → (xs : List A) → map h (map f xs) ≡ map h xs
 map_same f h e xs = map_both f h h e xs
-
-pub map_self : {A : Type 0} (xs : List A) → map (λ x. x) xs ≡ xs
-map_self [] = refl
-map_self (x ∷ xs) = ap (λ l. x ∷ l) (map_self xs)
 
 pub take_all : {A : Type 0} (xs : List A) → take (length xs) xs ≡ xs
 take_all [] = refl

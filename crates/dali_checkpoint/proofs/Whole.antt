@@ -1,7 +1,10 @@
 -- A whole checkpoint as steps of a run.
 use Rattle.std.proofs.Common.{◌≡◌, ℕ, zero, suc, ◌+◌, ◌<◌, ◌≤◌, ◌^◌, Bool, true, false, List, [], ◌∷◌, ◌++◌, length, map, replicate, Option, Some, None, refl, ap, sym, subst, ◌∙◌, arith}
 use Rattle.std.specs.Prelude.{slice_get, slice_set}
-use Rattle.dali_counts.proofs.Lists.{same_number, some_same, found}
+use Rattle.std.proofs.lemmas.Bool.{eq-eqb}
+use Rattle.std.proofs.lemmas.List.{map-id}
+use Rattle.dali_lists.proofs.Lists.{get_within as found}
+use Rattle.dali_lists.proofs.Options.{some_same}
 use Rattle.dali_facts.proofs.KeysAndUndos.{has_counts}
 use Rattle.dali_geometry.specs.Places.{regions}
 use Rattle.dali_record.specs.declared.records.Record.{Record}
@@ -33,7 +36,7 @@ use Rattle.dali_checkpoint.specs.Done.{Reaches, Writes, FailsToWrite, HasStarted
 use Rattle.dali_checkpoint.specs.Runs.{run_at, is_run_dirty, run_bytes, behind_run, cleaned_run}
 use Rattle.dali_checkpoint.specs.Laws.{Ends, Keeps, Started, copy_steps, skip_steps}
 use Rattle.dali_checkpoint.specs.Making.{IdleAgain, LeadsIdle, CopiesGo, CopiesFail, AuditedAll, AuditGoes, AuditFails, ImageMade, ImageGoes, ImageFails, found_in, failing_in}
-use Rattle.dali_checkpoint.proofs.Walks.{walk, walk_get, walk_set, walk_all, map_self, map_none, map_length}
+use Rattle.dali_checkpoint.proofs.Walks.{walk, walk_get, walk_set, walk_all, map_none, map_length}
 use Rattle.dali_checkpoint.proofs.Calls.{course_join, runs_on_log, start_goes, settle_goes_on, certify_goes_on}
 use Rattle.dali_checkpoint.proofs.Far.{run_goes_on, run_skips_on}
 use Rattle.dali_checkpoint.proofs.Faults.{ended, more, nothing, start_faults, run_faults_end, settle_faults, certify_faults, failure_ends, gives_up}
@@ -58,7 +61,7 @@ waiting zero r f e = absurd (cc)
 waiting (suc m) zero f e = some_same e
 waiting (suc m) (suc r) f e = waiting m r f e
 
-none_found : (m : ℕ) → AreFindings [] (replicate m Waiting)
+pub none_found : (m : ℕ) → AreFindings [] (replicate m Waiting)
 none_found m = record { passed = λ r f e. ap is_passed (waiting m r f e); found = λ r f e. ap is_damaged (waiting m r f e) }
 
 module _ {V : Type 0} (told : V → Option Disk) (may_leave : V → Disk → Type 0) (faults : V → ℕ) where
@@ -113,7 +116,7 @@ module _ {V : Type 0} (told : V → Option Disk) (may_leave : V → Disk → Typ
       keeps = others_keep told may_leave faults s B p q v AuditBegins refl step refl
 
       none : q.audits y.records ≡ []
-      none = audits_at p.core.system.records y.records p.audits q.audits [] refl true (same_number y.records p.core.system.records (sym records_are))
+      none = audits_at p.core.system.records y.records p.audits q.audits [] refl true (eq-eqb y.records p.core.system.records (sym records_are))
 
   -- one region more
   pub audit_passes : (s : Start) (B : List (List Record)) (p : Point) (gs : List RegionState) (y : SystemState) (v : Vaulted V) (c : Checkpointed) (h : Head) (n b r : ℕ) (fs : List Finding) (g : RegionState)
@@ -126,7 +129,7 @@ module _ {V : Type 0} (told : V → Option Disk) (may_leave : V → Disk → Typ
     is = subst (λ z. IsSettled told may_leave faults s B q (slice_set gs r (checked g)) z v c h n) k.is.at.system
         (subst (λ (l : List RegionState). IsSettled told may_leave faults s B q l q.core.system v c h n) (ap (λ l. slice_set l r (checked g)) k.is.at.regions) (keeps.settled gs y c h n k.is));
     auditing = k.auditing;
-    findings = subst (λ ps. AreFindings ps (slice_set fs r (finding_of g.stray))) (sym (audits_at b b k.to.audits q.audits (k.to.audits b ++ pass_now k.to.core r) refl true (same_number b b refl))) one.1;
+    findings = subst (λ ps. AreFindings ps (slice_set fs r (finding_of g.stray))) (sym (audits_at b b k.to.audits q.audits (k.to.audits b ++ pass_now k.to.core r) refl true (eq-eqb b b refl))) one.1;
     tell = keeps.passes gs y c h n b k.is k.tell;
   }
     where
@@ -156,7 +159,7 @@ module _ {V : Type 0} (told : V → Option Disk) (may_leave : V → Disk → Typ
       (subst (λ (fs : List Finding). Auditing s B p (walk checked (λ g. g) (length gs) gs) y v c h n b fs) (walk_all found_in (λ _. Waiting) gs) (some_pass (length gs) (omega arith)))
     where
       some_pass : (i : ℕ) → i ≤ length gs → Auditing s B p (walk checked (λ g. g) i gs) y v c h n b (walk found_in (λ _. Waiting) i gs)
-      some_pass zero le = subst (λ (l : List RegionState). Auditing s B p l y v c h n b (map (λ _. Waiting) gs)) (sym (map_self gs)) (subst (Auditing s B p gs y v c h n b) (sym (map_none Waiting gs)) k)
+      some_pass zero le = subst (λ (l : List RegionState). Auditing s B p l y v c h n b (map (λ _. Waiting) gs)) (sym (map-id gs)) (subst (Auditing s B p gs y v c h n b) (sym (map_none Waiting gs)) k)
       some_pass (suc i) le =
           let g = found gs i (omega (arith, le)) in
           subst (λ (l : List RegionState). Auditing s B p l y v c h n b (walk found_in (λ _. Waiting) (suc i) gs)) (walk_set checked (λ x. x) i gs g.0 g.1)

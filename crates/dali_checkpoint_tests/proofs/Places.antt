@@ -1,7 +1,7 @@
 -- The places of two regions in the image files.
-use Rattle.std.proofs.Common.{◌≡◌, refl, ℕ, zero, suc, ◌+◌, ◌≤◌, false, List, [], ◌∷◌, length, Option, Some, None, IfSome, sym, subst, ap, ◌∙◌, ◌++◌}
-use Rattle.std.specs.Prelude.{slice_get, Result, Ok, Err, OnOk}
-use Rattle.dali_counts.proofs.Lists.{some_same}
+use Rattle.std.proofs.Common.{◌≡◌, refl, zero, suc, ◌+◌, ◌≤◌, false, List, [], ◌∷◌, length, Option, Some, None, IfSome, sym, subst, ap, ◌∙◌, ◌++◌}
+use Rattle.std.specs.Prelude.{Result, Ok, Err, OnOk}
+use Rattle.dali_lists.proofs.Options.{some_same}
 use Rattle.dali_region.specs.declared.Side.{Side}
 use Rattle.dali_region.specs.declared.Side.TheVariants.{A, B}
 use Rattle.dali_region.specs.State.{RegionState, checked}
@@ -12,6 +12,7 @@ use Rattle.dali_traces.specs.Places.{place_of}
 use Rattle.dali_whole.specs.Cores.{HoldsPlaces}
 use Rattle.dali_whole.specs.Cores.{NoShorter}
 use Rattle.dali_checkpoint.proofs.Lengths.{places_stay, copied_places, then_length}
+use Rattle.dali_checkpoint.proofs.Results.{checked_dirty}
 use Rattle.dali_checkpoint_tests.specs.Flags.{IsUncopied, AreUncopied}
 
 -- ---- regions that no image has
@@ -38,15 +39,7 @@ uncopied_more [] g each one (suc r) h e = absurd (cc)
 uncopied_more (x ∷ xs) g each one zero h e = each 0 h e
 uncopied_more (x ∷ xs) g each one (suc r) h e = uncopied_more xs g (λ q. each (suc q)) one r h e
 
--- ---- where a flag is clear, its place is there
-pub place_there : (o : Option Disk) (gs : List RegionState) (side : Side) (r : ℕ) (g : RegionState) → slice_get gs r ≡ Some g → IfSome o (HoldsPlaces gs) → is_dirty g side ≡ false → IfSome o (λ fs. place_of (r + 1) ≤ length (image_file side fs))
-place_there (Some fs) gs side r g at holds clean = holds side r g at clean
-place_there None gs side r g at holds clean = tt
-
 -- ---- a check changes no flag
-checked_dirty : (g : RegionState) (side : Side) → is_dirty (checked g) side ≡ is_dirty g side
-checked_dirty g A = refl
-checked_dirty g B = refl
 
 checked_one : (g h : RegionState) (fs : Disk) → HoldsPlaces (g ∷ h ∷ []) fs → HoldsPlaces (checked g ∷ checked h ∷ []) fs
 checked_one g h fs holds side zero k e clean = holds side 0 g refl (sym (checked_dirty g side) ∙ (ap (λ z. is_dirty z side) (some_same e) ∙ clean))

@@ -1,18 +1,13 @@
 -- Totals, and numbers below others.
-use Rattle.std.proofs.Common.{◌≡◌, ◌≢◌, ℕ, zero, suc, ◌+◌, ◌≤◌, ◌<◌, ◌==◌, true, false, List, [], ◌∷◌, ◌++◌, length, set, refl, sym, ap, subst, ⊎_elim, arith}
-use Rattle.std.proofs.lemmas.Bool.Decides.{nat_tests}
+use Rattle.std.proofs.Common.{◌≡◌, ◌≢◌, ℕ, zero, suc, ◌+◌, ◌≤◌, ◌<◌, ◌==◌, false, List, [], ◌∷◌, ◌++◌, length, set, refl, sym, ap, subst, ⊎_elim, arith}
 use mathlib.Core.Option.{some, some-ne-none, some-injective}
 use lib.ListN.{get_elem?}
+use Rattle.std.proofs.lemmas.Bool.{eq-eqb, ne_eqb}
+use Rattle.dali_lists.proofs.Numbers.{eqb-suc}
 use Rattle.atomic_table.proofs.Lists.{at_set}
 use Rattle.dali_claims.specs.Claims.{one_if, times, below, AllBelow, Drawn, AreFresh, AreOf, drawn_by, over_by}
 use Rattle.atomic_table.specs.Seated.{TableId}
 use Rattle.dali_claims.specs.Rule.{total}
-
-pub same : (m n : ℕ) → m ≡ n → (m == n) ≡ true
-same m n e = grind (arith, nat_tests)
-
-pub other : (m n : ℕ) → m ≢ n → (m == n) ≡ false
-other m n e = grind (arith, nat_tests)
 
 pub below-is : (n c : ℕ) → 1 ≤ below n c → n < c
 below-is zero zero h = absurd (omega arith)
@@ -20,18 +15,15 @@ below-is zero (suc c) h = omega arith
 below-is (suc n) zero h = absurd (omega arith)
 below-is (suc n) (suc c) h = let r : n < c = below-is n c h in omega arith
 
-suc_test : (n x : ℕ) → (suc n == suc x) ≡ (n == x)
-suc_test n x = grind (arith, nat_tests)
-
 pub below_more : (x n : ℕ) → below x (suc n) ≡ below x n + one_if (n == x)
 below_more zero zero = refl
-below_more zero (suc n) = let off : one_if (suc n == 0) ≡ 0 = ap one_if (other (suc n) 0 (λ e. omega arith)) in omega arith
-below_more (suc x) zero = let off : one_if (0 == suc x) ≡ 0 = ap one_if (other 0 (suc x) (λ e. omega arith)) in let z : below x 0 ≡ 0 = none x in omega arith
+below_more zero (suc n) = let off : one_if (suc n == 0) ≡ 0 = ap one_if (ne_eqb (suc n) 0 (λ e. omega arith)) in omega arith
+below_more (suc x) zero = let off : one_if (0 == suc x) ≡ 0 = ap one_if (ne_eqb 0 (suc x) (λ e. omega arith)) in let z : below x 0 ≡ 0 = none x in omega arith
   where
     none : (x : ℕ) → below x 0 ≡ 0
     none zero = refl
     none (suc x) = refl
-below_more (suc x) (suc n) = let t : one_if (suc n == suc x) ≡ one_if (n == x) = ap one_if (suc_test n x) in omega (arith, below_more x n)
+below_more (suc x) (suc n) = let t : one_if (suc n == suc x) ≡ one_if (n == x) = ap one_if (eqb-suc n x) in omega (arith, below_more x n)
 
 pub times-append : (x : ℕ) (xs ys : List ℕ) → times x (xs ++ ys) ≡ times x xs + times x ys
 times-append x [] ys = omega arith
@@ -39,7 +31,7 @@ times-append x (y ∷ xs) ys = omega (arith, times-append x xs ys)
 
 pub all_below : (n : ℕ) (xs : List ℕ) → ((y : ℕ) → 1 ≤ times y xs → y < n) → AllBelow n xs
 all_below n [] h = tt
-all_below n (y ∷ ys) h = let one : one_if (y == y) ≡ 1 = ap one_if (same y y refl) in (h y (omega arith), all_below n ys (λ z more. h z (omega arith)))
+all_below n (y ∷ ys) h = let one : one_if (y == y) ≡ 1 = ap one_if (eq-eqb y y refl) in (h y (omega arith), all_below n ys (λ z more. h z (omega arith)))
 
 module _ {A : Type 0} where
   pub total_set : (f : A → ℕ) (l : List A) (i : ℕ) (v w : A) → get_elem? l i ≡ some v → total f (set l i w) + f v ≡ total f l + f w

@@ -1,7 +1,6 @@
 -- The operation of an undo, from its latch to its record; and the undo that is last.
-use Rattle.std.proofs.Common.{◌≡◌, ℕ, suc, ◌-◌, ◌<◌, Bool, true, false, List, [], ◌∷◌, ◌++◌, Option, Some, None, IsSomeAnd, IfSome, refl, sym, ap, subst, ◌∙◌, arith, length, take}
+use Rattle.std.proofs.Common.{◌≡◌, ℕ, suc, ◌-◌, ◌<◌, Bool, true, false, List, [], ◌∷◌, ◌++◌, Option, Some, None, IsSomeAnd, IfSome, refl, sym, ap, subst, ◌∙◌, arith, length}
 use Rattle.std.specs.Prelude.{◌^◌, if◌then◌else◌, nat_lt}
-use Rattle.std.specs.List.{AllByRecursion}
 use Rattle.std.proofs.lemmas.Bool.{lt-ltb}
 use Rattle.dali_record.specs.declared.operations.Block.{Block}
 use Rattle.dali_record.specs.declared.operations.Pending.{Pending}
@@ -110,24 +109,6 @@ next_last us u e = by_test (nat_lt 0 (length us)) refl
       where
         never : (let n : Option Pending = None in n ≡ Some u) → ⊥
         never f = cc
-
-pub all_dropped : (P : Pending → Type 0) (us : List Pending) → AllByRecursion P us → AllByRecursion P (drop_last us)
-all_dropped P [] h = tt
-all_dropped P (u ∷ []) h = tt
-all_dropped P (u ∷ v ∷ us) h = (h.0, all_dropped P (v ∷ us) h.1)
-
-pub but_last : (us : List Pending) → take (length us - 1) us ≡ drop_last us
-but_last [] = refl
-but_last (p ∷ []) = refl
-but_last (p ∷ q ∷ us) = let e : length (p ∷ q ∷ us) - 1 ≡ suc (length (q ∷ us) - 1) = omega arith in rw e (ap (λ vs. p ∷ vs) (but_last (q ∷ us)))
-
-pub last_has : (P : Pending → Type 0) (us : List Pending) (u : Pending) → AllByRecursion P us → last_of us ≡ Some u → P u
-last_has P [] u h e = absurd (never e)
-  where
-    never : (let n : Option Pending = None in n ≡ Some u) → ⊥
-    never f = cc
-last_has P (v ∷ []) u h e = let same : v ≡ u = cc in subst P same h.0
-last_has P (v ∷ w ∷ us) u h e = last_has P (w ∷ us) u h.1 e
 
 pub fewer : (us : List Pending) (u : Pending) → last_of us ≡ Some u → length (drop_last us) < length us
 fewer [] u e = absurd (never e)

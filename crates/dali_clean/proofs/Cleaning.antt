@@ -1,10 +1,13 @@
 -- A clean-up, from its claim to its end.
-use Rattle.std.proofs.Common.{inl, inr, ◌≡◌, ℕ, ◌<◌, Bool, true, false, List, [], ◌∷◌, ◌++◌, Option, Some, None, IsSome, IsSomeAnd, IfSome, OnOk, Result, Ok, refl, sym, ap, subst, ◌∙◌, arith, length, get_or, slice_get, slice_set, option_map}
+use Rattle.std.proofs.Common.{inl, inr, ◌≡◌, ℕ, ◌<◌, Bool, true, false, List, [], ◌∷◌, ◌++◌, Option, Some, None, IsSome, IsSomeAnd, IfSome, OnOk, Result, Ok, refl, sym, ap, subst, ◌∙◌, arith, length, slice_get, slice_set, option_map}
 use Rattle.std.specs.Prelude.{◌==◌, ◌&&◌}
 use Rattle.std.specs.List.{list_all}
 use Rattle.std.specs.FinMap.{get}
-use Rattle.std.proofs.lemmas.List.{length-set}
+use Rattle.std.proofs.lemmas.List.{length-set, set-set}
 use Rattle.std.proofs.lemmas.Bool.Decides.{Decides-eqb}
+use Rattle.std.proofs.lemmas.Option.{none-some, same_Some}
+use Rattle.dali_lists.proofs.Lists.{set_same, get_set}
+use Rattle.dali_lists.proofs.Options.{if_some_at}
 use Rattle.dali_geometry.specs.Sizes.{Sizes}
 use Rattle.dali_record.specs.declared.operations.Block.{Block}
 use Rattle.dali_record.specs.declared.operations.Pending.{Pending}
@@ -27,37 +30,32 @@ use Rattle.dali_system.specs.Regions.{RegionStep, IsOpen, is_alive}
 use Rattle.dali_system.specs.Passes.{Audits}
 use Rattle.dali_system.specs.Wholes.{AreOfKind, is_of_kind, latched_in}
 use Rattle.dali_system.specs.Courses.{Claims as ClaimsTxn, Recovers, GivesBack as GivesTxnBack, TakesBack, Ends as EndsTxn, Moment, IsStepAt, IsStep, IsCourse}
+use Rattle.dali_system.proofs.Deaths.{region_with}
+use Rattle.dali_system.proofs.Tables.{but_last}
+use Rattle.dali_system.proofs.Touching.{join}
+use Rattle.dali_system.proofs.WholeSteps.{state_kinds, less_kinds}
 use Rattle.dali_core.specs.declared.take_back.TakeBack.{TakeBack}
 use Rattle.dali_core.specs.declared.want.Want.TheVariants.{Region}
 use Rattle.dali_core.specs.TakenBack.{next_undo, want_of, IsMadeOf, IsUndoBlock}
 use Rattle.dali_core.specs.Served.{Served}
 use Rattle.dali_facts.proofs.Ends.{empty_end_is_step}
 use Rattle.dali_calls.proofs.TakingBack.{taking_back_is_step}
+use Rattle.dali_calls.proofs.Following.{last_all}
 use Rattle.dali_clean.specs.Undone.{Goes, Undone, IsTakenBack, IsReclaimed, Released}
 use Rattle.dali_clean.specs.Cleaned.{core, moment, AreDead, AreQuiet, MayClean, WholeMayClean, InRun, LeadsBy, LeadsOn, is_claimed, IsCleaning, IsLeftAt, IsRecovered, Claims, IsUndone, Ends, GivesBack}
 use Rattle.dali_clean.specs.Steps.{IsClaim}
-use Rattle.dali_clean.proofs.Lists.{set_same, set_twice, get_set, get_here}
 use Rattle.dali_clean.proofs.Steps.{join_back, region_back, leads_further, stays, Cleaned, cleaned_by, end_is_apart, gift_is_apart}
-use Rattle.dali_clean.proofs.Courses.{locked_keys, join, one, in_run_on, steps_on, on_region, runs_of, undos_in, work_of, row_here, row_there, held_of, holder, kind_in}
-use Rattle.dali_clean.proofs.Backward.{next_last, but_last, last_has, fewer, wanted_undo}
+use Rattle.dali_clean.proofs.Courses.{locked_keys, one, in_run_on, steps_on, on_region, runs_of, undos_in, work_of, row_here, row_there, held_of, kind_in}
+use Rattle.dali_clean.proofs.Backward.{next_last, fewer, wanted_undo}
 
 -- ---- options
 pub if_some_by : {A : Type 0} (o : Option A) (P : A → Type 0) → ((x : A) → o ≡ Some x → P x) → IfSome o P
 if_some_by None P f = tt
 if_some_by (Some x) P f = f x refl
 
-pub if_some_at : {A : Type 0} (o : Option A) (P : A → Type 0) (x : A) → o ≡ Some x → IfSome o P → P x
-if_some_at o P x e h = subst (λ z. IfSome z P) e h
-
 pub if_some_then : {A : Type 0} (o : Option A) (P Q : A → Type 0) → IfSome o P → ((x : A) → P x → Q x) → IfSome o Q
 if_some_then None P Q h f = tt
 if_some_then (Some x) P Q h f = f x h
-
-none_some : {A : Type 0} (x : A) → (let n : Option A = None in n ≡ Some x) → ⊥
-none_some x e = cc
-
-same_some : {A : Type 0} (x y : A) → (let o : Option A = Some y in Some x ≡ o) → x ≡ y
-same_some x y e = cc
 
 pub on_ok_of : {T E : Type 0} (r : Result T E) (P : Type 0) (x : T) → r ≡ Ok x → OnOk r P → P
 on_ok_of r P x e h = subst (λ z. OnOk z P) e h
@@ -70,12 +68,8 @@ undos_mapped : (st : State) (row : Option TxnRow) → undos_in (option_map (with
 undos_mapped st None = refl
 undos_mapped st (Some row) = refl
 
-kinds_mapped : (s : Sizes) (st : State) (row : Option TxnRow) → AreOfKind s row → AreOfKind s (option_map (with_state st) row)
-kinds_mapped s st None h = h
-kinds_mapped s st (Some row) h = h
-
-state_mapped : (st : State) (row : Option TxnRow) (old : State) → state_in row ≡ Some old → state_in (option_map (with_state st) row) ≡ Some st
-state_mapped st None old e = absurd (none_some old e)
+pub state_mapped : (st : State) (row : Option TxnRow) (old : State) → state_in row ≡ Some old → state_in (option_map (with_state st) row) ≡ Some st
+state_mapped st None old e = absurd (none-some old e)
 state_mapped st (Some row) old e = refl
 
 -- the state of u changes, whatever row t has
@@ -93,7 +87,7 @@ module _ (y : SystemState) (u t : ℕ) (st : State) where
   undos_put = by_row (λ row. undos_in row ≡ undos_in (get y.table t)) (λ same. undos_mapped st (get y.table t)) (λ apart. refl)
 
   kinds_put : AreOfKind y.sizes (row_of y t) → AreOfKind y.sizes (row_of (in_state y u st) t)
-  kinds_put h = by_row (AreOfKind y.sizes) (λ same. kinds_mapped y.sizes st (get y.table t) h) (λ apart. h)
+  kinds_put h = by_row (AreOfKind y.sizes) (λ same. state_kinds y.sizes st (get y.table t) h) (λ apart. h)
 
 state_put : (y : SystemState) (t : ℕ) (st old : State) → state_of y t ≡ Some old → state_of (in_state y t st) t ≡ Some st
 state_put y t st old e = ap state_in (row_here y.table t (with_state st)) ∙ state_mapped st (get y.table t) old e
@@ -118,14 +112,14 @@ claimed_lives o h = ap is_alive (latched_of o h).1
 pub quiet_set : (t : ℕ) (rs : List RegionState) (r : ℕ) (g h : RegionState) → AreQuiet t rs → slice_get rs r ≡ Some g → h.hold ≡ None → AreQuiet t (slice_set rs r h)
 quiet_set t rs r g h quiet at none q k there = if_some_by k.hold _ (λ o held.
     let was = held_of rs r g h q o at none (ap hold_in there ∙ held) in
-    let own = holder (slice_get rs q) o was.1 in
+    let own = region_with (slice_get rs q) o was.1 in
     if_some_at own.0.hold _ o own.2 (quiet q own.0 own.1))
 
 pub dead_of_quiet : (t : ℕ) (rs : List RegionState) → AreQuiet t rs → AreDead rs
 dead_of_quiet t rs quiet r g at = if_some_then g.hold _ _ (quiet r g at) (λ h both. both.0)
 
 -- the hold of a region, by the region
-holds_at : (rs : List RegionState) (r : ℕ) (g : RegionState) (h : Hold) → slice_get rs r ≡ Some g → g.hold ≡ Some h → hold_in (slice_get rs r) ≡ Some h
+pub holds_at : (rs : List RegionState) (r : ℕ) (g : RegionState) (h : Hold) → slice_get rs r ≡ Some g → g.hold ≡ Some h → hold_in (slice_get rs r) ≡ Some h
 holds_at rs r g h at held = ap hold_in at ∙ held
 
 -- ---- the claim
@@ -133,7 +127,7 @@ pub left_there : (rs : List RegionState) (y : SystemState) (t : ℕ) (latched : 
 left_there rs y t None may dead = tt
 left_there rs y t (Some r) may dead =
     let named = may.named r dead in
-    let own = holder (slice_get rs r) named.0 named.1 in
+    let own = region_with (slice_get rs r) named.0 named.1 in
     (own.0, own.1, subst (λ o. IsSome o) (sym own.2) refl)
 
 pub whole_may_clean : WholeMayClean
@@ -142,7 +136,7 @@ whole_may_clean rs y v t whole dead = record {
   kind = whole.undos t;
   dead = dead;
   own = λ r h held own.
-      let by = holder (slice_get rs r) h held in
+      let by = region_with (slice_get rs r) h held in
       ap (λ (n : ℕ). latched_in (state_of y n)) (sym own) ∙ whole.dead r h held (if_some_at by.0.hold _ h by.2 (dead r by.0 by.1));
   named = λ r is. whole.named t r is;
 }
@@ -167,7 +161,7 @@ claimed rs rs' y z t latched cleans dead is back = subst (λ (x : SystemState). 
 
     each : (o : Option ℕ) → state_of y t ≡ Some (Dead o) → (r : ℕ) (h : Hold) → hold_in (slice_get rs r) ≡ Some h → (o ≡ Some r → ⊥) → (h.dead ≡ true) × ((h.txn == t) ≡ false)
     each o d r h held none =
-        let own = holder (slice_get rs r) h held in
+        let own = region_with (slice_get rs r) h held in
         let gone = if_some_at own.0.hold _ h own.2 (cleans.dead r own.0 own.1) in
         (gone, by_test (h.txn == t) refl gone)
       where
@@ -186,7 +180,7 @@ claimed rs rs' y z t latched cleans dead is back = subst (λ (x : SystemState). 
     by_latched : (o : Option ℕ) → state_of y t ≡ Some (Dead o) → IsRecovered rs o rs' → Claims rs y t rs' (now o)
     by_latched None d same = subst (λ (gs : List RegionState). Claims rs y t gs (now None)) (sym same) (record {
       goes = λ bases before L v a is. record { log = L; steps = ClaimsTxn t ∷ []; are = (None, d, refl); course = claim_course rs y t None d L v a };
-      is = is_cleaning None rs d refl (λ r g at. if_some_by g.hold _ (λ h held. each None d r h (holds_at rs r g h at held) (none_some r)));
+      is = is_cleaning None rs d refl (λ r g at. if_some_by g.hold _ (λ h held. each None d r h (holds_at rs r g h at held) (none-some r)));
       stop = refl;
     })
     by_latched (Some r) d same = subst (λ (gs : List RegionState). Claims rs y t gs (now (Some r))) (sym same.2) (record {
@@ -199,7 +193,7 @@ claimed rs rs' y z t latched cleans dead is back = subst (λ (x : SystemState). 
       };
       is = is_cleaning (Some r) (slice_set rs r (taken_back same.0)) d (length-set rs r (taken_back same.0)) (λ q k at. if_some_by k.hold _ (λ h held.
           let was = held_of rs r same.0 (taken_back same.0) q h same.1 refl (holds_at (slice_set rs r (taken_back same.0)) q k h at held) in
-          each (Some r) d q h was.1 (λ e. was.0 (same_some r q e))));
+          each (Some r) d q h was.1 (λ e. was.0 (same_Some r q e))));
       stop = refl;
     })
       where
@@ -207,12 +201,12 @@ claimed rs rs' y z t latched cleans dead is back = subst (λ (x : SystemState). 
         named = cleans.named r d
 
         there : (g : RegionState) × (slice_get rs r ≡ Some g) × (g.hold ≡ Some named.0)
-        there = holder (slice_get rs r) named.0 named.1
+        there = region_with (slice_get rs r) named.0 named.1
 
         may : (v : VaultState) → MayRecover (core rs (now (Some r)) v) same.0
         may v = record {
           hold = named.0;
-          at = ap (λ (g : RegionState). g.hold) (same_some same.0 there.0 (sym same.1 ∙ there.1)) ∙ there.2;
+          at = ap (λ (g : RegionState). g.hold) (same_Some same.0 there.0 (sym same.1 ∙ there.1)) ∙ there.2;
           dead = named.3;
           latched = Some r;
           claimed = ap (λ (n : ℕ). state_of (now (Some r)) n) named.2 ∙ state_put y t (Cleaning (Some r)) (Dead (Some r)) d;
@@ -308,15 +302,15 @@ freed rs y z t r g h is at (inr some) = subst (λ (k : RegionState). Freed rs y 
               was = o;
               claimed = now;
               left = record {
-                held = λ q e. absurd (none_some q e);
+                held = λ q e. absurd (none-some q e);
                 only = λ q h there_is own gone. absurd ((held_of rs r g (taken_back g) q h at refl there_is).0
-                    (same_some r q (sym names ∙ (sym (ap latched_in now) ∙ (ap (λ (n : ℕ). latched_in (state_of y1 n)) (sym own) ∙ there.whole.dead q h there_is gone)))));
+                    (same_Some r q (sym names ∙ (sym (ap latched_in now) ∙ (ap (λ (n : ℕ). latched_in (state_of y1 n)) (sym own) ∙ there.whole.dead q h there_is gone)))));
               };
               idle = record {
-                held = λ q e. absurd (none_some q e);
+                held = λ q e. absurd (none-some q e);
                 only = λ q h there_is own lives. absurd (clash lives (
                     let was_there = (held_of rs r g (taken_back g) q h at refl there_is).1 in
-                    let by = holder (slice_get rs q) h was_there in
+                    let by = region_with (slice_get rs q) h was_there in
                     (if_some_at by.0.hold _ h by.2 (is.quiet q by.0 by.1)).0));
               };
             }
@@ -331,9 +325,9 @@ freed rs y z t r g h is at (inr some) = subst (λ (k : RegionState). Freed rs y 
     })
       where
         may : {v : VaultState} (st : Option State) → state_of y u ≡ st → latched_in st ≡ Some r → MayRecover (core rs y v) g
-        may None e l = absurd (none_some r l)
-        may (Some Live) e l = absurd (none_some r l)
-        may (Some Committed) e l = absurd (none_some r l)
+        may None e l = absurd (none-some r l)
+        may (Some Live) e l = absurd (none-some r l)
+        may (Some Committed) e l = absurd (none-some r l)
         may (Some (Dead latched)) e l = absurd (not.0 latched e)
         may (Some (Cleaning latched)) e l = record { hold = k; at = some.1; dead = mine.0; latched = latched; claimed = e }
 
@@ -343,7 +337,7 @@ kinds_of s None h = refl
 kinds_of s (Some row) h = h
 
 last_kind : (s : Sizes) (us : List Pending) (u : Pending) → list_all (is_of_kind s) us ≡ true → last_of us ≡ Some u → is_of_kind s u ≡ true
-last_kind s [] u h e = absurd (none_some u e)
+last_kind s [] u h e = absurd (none-some u e)
 last_kind s (v ∷ []) u h e = let same : v ≡ u = cc in ap (is_of_kind s) (sym same) ∙ left_true (is_of_kind s v) _ h
   where
     left_true : (a b : Bool) → (a && b) ≡ true → a ≡ true
@@ -355,18 +349,9 @@ last_kind s (v ∷ w ∷ us) u h e = last_kind s (w ∷ us) u (right_true (is_of
     right_true true b e = e
     right_true false b e = absurd cc
 
-dropped_kinds : (s : Sizes) (us : List Pending) → list_all (is_of_kind s) us ≡ true → list_all (is_of_kind s) (drop_last us) ≡ true
-dropped_kinds s [] h = h
-dropped_kinds s (u ∷ []) h = refl
-dropped_kinds s (u ∷ v ∷ us) h = both (is_of_kind s u) _ _ h (dropped_kinds s (v ∷ us))
-  where
-    both : (a b c : Bool) → (a && b) ≡ true → (b ≡ true → c ≡ true) → (a && c) ≡ true
-    both true b c e f = f e
-    both false b c e f = absurd cc
-
 popped_in : (s : Sizes) (row : Option TxnRow) → AreOfKind s row → AreOfKind s (option_map without_last row)
 popped_in s None h = h
-popped_in s (Some row) h = subst (λ us. list_all (is_of_kind s) us ≡ true) (sym (but_last row.undos)) (dropped_kinds s row.undos h)
+popped_in s (Some row) h = subst (λ us. list_all (is_of_kind s) us ≡ true) (sym (but_last row.undos)) (less_kinds s row.undos h)
 
 popped_undos : (row : Option TxnRow) → undos_in (option_map without_last row) ≡ drop_last (undos_in row)
 popped_undos None = refl
@@ -402,7 +387,7 @@ one_back rs y t u b g opened xs fits is last made runs at goes open_now = record
         txn = fits;
         runs = runs;
         by = ap (λ o. may_log_in o (Back t b)) claim.1;
-        holds = last_has (λ (p : Pending). covers (lock_of y t p.key) true ≡ true) (undos_at y.table t) u (locked_keys bases before (moment rs y L v a) t run) last;
+        holds = last_all (λ (p : Pending). covers (lock_of y t p.key) true ≡ true) (undos_at y.table t) u (locked_keys bases before (moment rs y L v a) t run) last;
         kind = last_kind y.sizes (undos_at y.table t) u (kinds_of y.sizes (row_of y t) is.kind) last;
         made = made;
         at = here;
@@ -415,7 +400,7 @@ one_back rs y t u b g opened xs fits is last made runs at goes open_now = record
         course = join (moment rs y L v a) (moment (slice_set rs u.region opened) y L v a) (moment (slice_set rs u.region (touched opened)) (back_logged y t b) (L ++ Back t b ∷ []) v a) (steps_on u.region xs) (TakesBack t b ∷ [])
             (on_region rs y L v a t u.region g opened xs (claimed_lives (state_of y t) is.claimed) at goes)
             (one (moment (slice_set rs u.region opened) y L v a) (moment (slice_set rs u.region (touched opened)) (back_logged y t b) (L ++ Back t b ∷ []) v a) (TakesBack t b) (
-              subst (λ (gs : List RegionState). IsStep L c (TakesBack t b) (L ++ Back t b ∷ []) (core gs (back_logged y t b) v)) (set_twice rs u.region opened (touched opened))
+              subst (λ (gs : List RegionState). IsStep L c (TakesBack t b) (L ++ Back t b ∷ []) (core gs (back_logged y t b) v)) (set-set rs u.region opened (touched opened))
                   (subst (λ (n : ℕ). IsStep L c (TakesBack t b) (L ++ Back t b ∷ []) (with_touched c (back_logged y t b) n opened)) same by.step),
               refl,
             ));
@@ -466,7 +451,7 @@ back_refused rs y t r g h is at back = record {
 
 -- ---- the end
 free_of_quiet : (rs : List RegionState) (y : SystemState) (v : VaultState) (t : ℕ) → AreQuiet t rs → IsFree (core rs y v) t
-free_of_quiet rs y v t quiet r h held = let own = holder (slice_get rs r) h held in (if_some_at own.0.hold _ h own.2 (quiet r own.0 own.1)).1
+free_of_quiet rs y v t quiet r h held = let own = region_with (slice_get rs r) h held in (if_some_at own.0.hold _ h own.2 (quiet r own.0 own.1)).1
 
 pub ends_so : (rs rs1 rs' : List RegionState) (y y1 z : SystemState) (t : ℕ) → LeadsBy (IsClaim y t) rs y rs1 y1 → IsUndone rs1 y1 t rs' z → Ends rs y t rs' z
 ends_so rs rs1 rs' y y1 z t claim o bases before L v a run = record {
@@ -505,8 +490,8 @@ given_back rs rs1 rs' y y1 y2 z t first rest is back = (by, ap (λ (x : SystemSt
     may v = record {
       was = claim.0;
       claimed = claim.1;
-      left = record { held = λ q e. absurd (none_some q e); only = λ q h held own dead. absurd (apart (free_of_quiet rs' y2 v t is.quiet q h held) own) };
-      idle = record { held = λ q e. absurd (none_some q e); only = λ q h held own dead. absurd (apart (free_of_quiet rs' y2 v t is.quiet q h held) own) };
+      left = record { held = λ q e. absurd (none-some q e); only = λ q h held own dead. absurd (apart (free_of_quiet rs' y2 v t is.quiet q h held) own) };
+      idle = record { held = λ q e. absurd (none-some q e); only = λ q h held own dead. absurd (apart (free_of_quiet rs' y2 v t is.quiet q h held) own) };
     }
 
     by : GivesBack rs y t rs' z
@@ -519,9 +504,6 @@ given_back rs rs1 rs' y y1 y2 z t first rest is back = (by, ap (λ (x : SystemSt
 -- ---- a turn of the loop
 pub there_still : (rs : List RegionState) (r : ℕ) (h : RegionState) → r < length rs → r < length (slice_set rs r h)
 there_still rs r h less = subst (λ (n : ℕ). r < n) (sym (length-set rs r h)) less
-
-pub set_here : (rs : List RegionState) (r : ℕ) (h d : RegionState) → r < length rs → get_or (slice_set rs r h) r d ≡ h
-set_here rs r h d less = same_some (get_or (slice_set rs r h) r d) h (sym (get_here (slice_set rs r h) r d (there_still rs r h less)) ∙ get_set rs r (get_or rs r d) h (get_here rs r d less))
 
 pub record Turned (rs0 : List RegionState) (y0 : SystemState) (t : ℕ) (rs : List RegionState) (z : SystemState) : Type 0 where
   pub goes : LeadsOn rs0 y0 t rs z

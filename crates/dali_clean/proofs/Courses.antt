@@ -1,15 +1,20 @@
 -- Steps of a core, one behind another, and what a run says along them.
-use Rattle.std.proofs.Common.{◌≡◌, ◌≢◌, ℕ, ◌<◌, Bool, true, false, ◌&&◌, List, [], ◌∷◌, ◌++◌, Option, Some, None, refl, sym, ap, subst, ◌∙◌, arith, slice_get, slice_set, option_map}
+use Rattle.std.proofs.Common.{◌≡◌, ◌≢◌, ℕ, ◌<◌, Bool, true, false, List, [], ◌∷◌, Option, Some, None, refl, sym, ap, subst, ◌∙◌, arith, slice_get, slice_set, option_map}
 use Rattle.std.specs.List.{AllByRecursion}
 use Rattle.std.specs.Prelude.{◌==◌, nat_lt, nat_le, if◌then◌else◌}
 use Rattle.std.specs.Option.{option_map_or}
 use Rattle.std.specs.FinMap.{get}
 use Rattle.std.proofs.lemmas.Bool.{ltb-true}
 use Rattle.std.proofs.lemmas.Bool.Decides.{Decides-eqb}
+use Rattle.std.proofs.lemmas.List.{set-set}
+use Rattle.dali_lists.proofs.Lists.{set_same, get_set, get_set_other}
+use Rattle.dali_lists.proofs.Members.{all_weaker}
+use Rattle.dali_lists.proofs.Numbers.{eqb-self}
+use Rattle.dali_lists.proofs.Tests.{right_true}
 use Rattle.dali_geometry.specs.Sizes.{Sizes}
 use Rattle.dali_geometry.specs.Places.{regions, is_index, is_heap}
 use Rattle.dali_record.specs.declared.operations.Op.{Op}
-use Rattle.dali_record.specs.declared.operations.Op.TheVariants.{Look, Add, KillEntry, FreeEntry, ReviveEntry, Put, Read, Change, KillCell, FreeCell, ReviveCell, Restore}
+use Rattle.dali_record.specs.declared.operations.Op.TheVariants.{Look, Add, KillEntry, FreeEntry, ReviveEntry}
 use Rattle.dali_record.specs.declared.operations.Pending.{Pending}
 use Rattle.dali_record.specs.declared.records.Record.{Record}
 use Rattle.dali_record.specs.Legal.{on_kind, Working, TxnState, Unbegun, Active, Committed as Ending, Over, txn_state}
@@ -28,15 +33,11 @@ use Rattle.dali_system.proofs.Courses.{bare_course_keeps}
 use Rattle.dali_system.proofs.WholeSteps.{whole_course_keeps}
 use Rattle.dali_facts.specs.Plans.{AtWork}
 use Rattle.dali_facts.specs.Undos.{MayBePerformed}
-use Rattle.dali_facts.proofs.Undos.{all_by, undos_may_be_performed}
+use Rattle.dali_facts.proofs.Undos.{undos_may_be_performed}
 use Rattle.dali_clean.specs.Undone.{IsOwn, Goes}
 use Rattle.dali_clean.specs.Cleaned.{moment, InRun}
-use Rattle.dali_clean.proofs.Lists.{set_same, set_twice, get_set, get_apart}
 
 -- ---- lists of steps
-pub join : (m k n : Moment) (xs ys : List Step) → IsCourse m xs k → IsCourse k ys n → IsCourse m (xs ++ ys) n
-join m k n [] ys p q = subst (λ (x : Moment). IsCourse x ys n) (sym p) q
-join m k n (x ∷ xs) ys p q = (p.0, p.1, join p.0 k n xs ys p.2 q)
 
 pub one : (m n : Moment) (x : Step) → IsStepAt m x n → IsCourse m (x ∷ []) n
 one m n x s = (n, s, refl)
@@ -69,7 +70,7 @@ on_region rs y L v a t r g h (x ∷ xs) alive at go =
     let next = region_after x g in (
       moment (slice_set rs r next) y L v a,
       ((g, at, (go.0, alone_of y t x g alive go.1), (refl, refl)), refl),
-      subst (λ (gs : List RegionState). IsCourse (moment (slice_set rs r next) y L v a) (steps_on r xs) (moment gs y L v a)) (set_twice rs r next h)
+      subst (λ (gs : List RegionState). IsCourse (moment (slice_set rs r next) y L v a) (steps_on r xs) (moment gs y L v a)) (set-set rs r next h)
           (on_region (slice_set rs r next) y L v a t r next h xs alive (get_set rs r g next at) go.2),
     )
 
@@ -80,7 +81,7 @@ runs_of bases before m is = subst (λ M. RunsOn bases M m.core) (sym is.run.log)
 -- each undo's key is locked
 pub locked_keys : (bases : Bases) (before : List Record) (m : Moment) (t : ℕ) → InRun bases before m → AllByRecursion (λ (u : Pending). covers (lock_of m.core.system t u.key) true ≡ true) (undos_at m.core.system.table t)
 locked_keys bases before m t is =
-    all_by (MayBePerformed m.core.system t) (λ (u : Pending). covers (lock_of m.core.system t u.key) true ≡ true) (undos_at m.core.system.table t) (λ u may. may.lock)
+    all_weaker (MayBePerformed m.core.system t) (λ (u : Pending). covers (lock_of m.core.system t u.key) true ≡ true) (undos_at m.core.system.table t) (λ u may. may.lock)
     (undos_may_be_performed bases m.log m.core (runs_of bases before m is) t)
 
 abbrev pub undos_in : Option TxnRow → List Pending
@@ -112,11 +113,9 @@ work_of s L t row st is state runs = by_state (txn_state s t L) refl is
     by_state (Some Over) e r = absurd (none_there r)
 
 -- ---- rows
-self_same : (t : ℕ) → (t == t) ≡ true
-self_same t = (Decides-eqb t t).1 refl
 
 pub row_here : (m : Table Pending) (t : ℕ) (f : TxnRow → TxnRow) → get (with_row m t f) t ≡ option_map f (get m t)
-row_here m t f = get-with_row m t f t ∙ ap (λ (b : Bool). if b then option_map f (get m t) else get m t) (self_same t)
+row_here m t f = get-with_row m t f t ∙ ap (λ (b : Bool). if b then option_map f (get m t) else get m t) (eqb-self t)
 
 pub row_there : (m : Table Pending) (u t : ℕ) (f : TxnRow → TxnRow) → (u == t) ≡ false → get (with_row m u f) t ≡ get m t
 row_there m u t f apart = get-with_row m u f t ∙ ap (λ (b : Bool). if b then option_map f (get m u) else get m t) apart
@@ -137,19 +136,7 @@ held_of rs r g h q o at none held = by_test (r == q) refl
         let same : r ≡ q = (Decides-eqb r q).0 e in
         let is : hold_in (slice_get (slice_set rs r h) q) ≡ None = subst (λ (n : ℕ). hold_in (slice_get (slice_set rs r h) n) ≡ None) same (ap hold_in (get_set rs r g h at) ∙ none) in
         absurd (no_hold (sym is ∙ held))
-    by_test false e = (apart e, ap hold_in (sym (get_apart rs r h q (apart e))) ∙ held)
-
--- the region of a hold
-pub holder : (o : Option RegionState) (h : Hold) → hold_in o ≡ Some h → (g : RegionState) × (o ≡ Some g) × (g.hold ≡ Some h)
-holder None h e = absurd (never e)
-  where
-    never : (let n : Option Hold = None in n ≡ Some h) → ⊥
-    never f = cc
-holder (Some g) h e = (g, refl, e)
-
-right_true : (a b : Bool) → (a && b) ≡ true → b ≡ true
-right_true true b e = e
-right_true false b e = absurd cc
+    by_test false e = (apart e, ap hold_in (sym (get_set_other rs r h q (apart e))) ∙ held)
 
 index_in : (s : Sizes) (r : ℕ) → is_index s r ≡ true → r < regions s
 index_in s r e = let less = ltb-true r s.index e in omega (arith, less)
@@ -163,10 +150,4 @@ kind_in s r (Add p) e = index_in s r e
 kind_in s r (KillEntry n) e = index_in s r e
 kind_in s r (FreeEntry n) e = index_in s r e
 kind_in s r (ReviveEntry n) e = index_in s r e
-kind_in s r (Put v) e = heap_in s r e
-kind_in s r (Read c) e = heap_in s r e
-kind_in s r (Change c v) e = heap_in s r e
-kind_in s r (KillCell c) e = heap_in s r e
-kind_in s r (FreeCell c) e = heap_in s r e
-kind_in s r (ReviveCell c) e = heap_in s r e
-kind_in s r (Restore c n ws) e = heap_in s r e
+kind_in s r _ e = heap_in s r e

@@ -1,29 +1,20 @@
 -- What a clean-up asks of regions and system, over an index region and a heap region that nobody has latched, or dead clients; for the tests.
 use Rattle.std.proofs.Common.{◌≡◌, ℕ, true, false, zero, suc, [], ◌∷◌, Option, Some, None, refl, sym, ap, subst, ◌∙◌, slice_get}
-use Rattle.std.specs.Prelude.{◌==◌, IfSome, IsSome, IsSomeAnd}
+use Rattle.std.specs.Prelude.{◌==◌, IfSome, IsSomeAnd}
 use Rattle.std.specs.List.{list_all}
-use Rattle.std.specs.Option.{option_map_or}
 use Rattle.std.proofs.lemmas.Bool.Decides.{Decides-eqb}
+use Rattle.std.proofs.lemmas.Option.{same_Some}
 use Rattle.dali_record.specs.declared.operations.Block.{Block}
-use Rattle.dali_geometry.specs.Sizes.{Sizes}
 use Rattle.dali_geometry.specs.Places.{regions}
 use Rattle.dali_region.specs.declared.Hold.{Hold}
 use Rattle.dali_region.specs.State.{RegionState, IsLive}
-use Rattle.dali_att.specs.declared.state.State.{State}
 use Rattle.dali_att.specs.declared.state.State.TheVariants.{Dead}
 use Rattle.dali_att.specs.Table.{undos_at}
-use Rattle.dali_system.specs.State.{TxnRow, SystemState, row_of, state_of, state_in, hold_in}
-use Rattle.dali_system.specs.Wholes.{AreOfKind, is_of_kind, latched_in}
+use Rattle.dali_system.specs.State.{SystemState, row_of, state_of, hold_in}
+use Rattle.dali_system.specs.Wholes.{is_of_kind, latched_in}
 use Rattle.dali_core.specs.UnderWay.{IsUnderWay}
 use Rattle.dali_clean.specs.Cleaned.{MayClean}
-
-pub some_row : (row : Option TxnRow) (s : State) → state_in row ≡ Some s → IsSome row
-some_row None s e = cc
-some_row (Some row) s e = refl
-
-of_kind : (s : Sizes) (row : Option TxnRow) → list_all (is_of_kind s) (option_map_or (λ r. r.undos) row []) ≡ true → AreOfKind s row
-of_kind s None e = tt
-of_kind s (Some row) e = e
+use Rattle.dali_clean.proofs.Fitting.{kind_of}
 
 no_hold : (g h : RegionState) → h.hold ≡ None → (let o : Option RegionState = Some g in Some h ≡ o) → g.hold ≡ None
 no_hold g h none e = let same : h ≡ g = cc in subst (λ (x : RegionState). x.hold ≡ None) same none
@@ -45,7 +36,7 @@ pub may_clean : (i h : RegionState) (y : SystemState) (t : ℕ) → i.hold ≡ N
     → list_all (is_of_kind y.sizes) (undos_at y.table t) ≡ true → MayClean (i ∷ h ∷ []) y t
 may_clean i h y t first second two none kind = record {
   regions = sym two;
-  kind = of_kind y.sizes (row_of y t) kind;
+  kind = kind_of y.sizes (row_of y t) kind;
   dead = λ r g at. subst (λ (o : Option Hold). IfSome o (λ h. h.dead ≡ true)) (sym (unheld i h first second r g at)) tt;
   own = λ r k held own. absurd (no_some (hold_in (slice_get (i ∷ h ∷ []) r)) k (held_by_none i h first second r) held);
   named = λ r is. absurd (no_some (latched_in (state_of y t)) r none (ap latched_in is));
@@ -55,9 +46,6 @@ may_clean i h y t first second two none kind = record {
 pub is_live : (txn : ℕ) (b : Block) (left taken : ℕ) (g : RegionState) → IsUnderWay txn b left taken g → IsLive g
 is_live txn b left taken g way = subst (λ (o : Option Hold). IsSomeAnd o (λ h. h.dead ≡ false)) (sym way.hold) refl
 
-same_some : {A : Type 0} (x y : A) → (let o : Option A = Some y in Some x ≡ o) → x ≡ y
-same_some x y e = cc
-
 if_dead : (o : Option Hold) (a : Hold) → o ≡ Some a → a.dead ≡ true → IfSome o (λ h. h.dead ≡ true)
 if_dead o a e dead = subst (λ (p : Option Hold). IfSome p (λ h. h.dead ≡ true)) (sym e) dead
 
@@ -65,15 +53,15 @@ pub may_clean_over : (i h : RegionState) (a b : Hold) (y : SystemState) (t : ℕ
     → regions y.sizes ≡ 2 → state_of y t ≡ Some (Dead (Some 0)) → list_all (is_of_kind y.sizes) (undos_at y.table t) ≡ true → MayClean (i ∷ h ∷ []) y t
 may_clean_over i h a b y t first second gone other_gone own apart two state kind = record {
   regions = sym two;
-  kind = of_kind y.sizes (row_of y t) kind;
+  kind = kind_of y.sizes (row_of y t) kind;
   dead = all_dead;
   own = own_at;
-  named = λ r is. by_region r (same_some 0 r (sym (ap latched_in state) ∙ ap latched_in is));
+  named = λ r is. by_region r (same_Some 0 r (sym (ap latched_in state) ∙ ap latched_in is));
 }
   where
     all_dead : (r : ℕ) (g : RegionState) → slice_get (i ∷ h ∷ []) r ≡ Some g → IfSome g.hold (λ h. h.dead ≡ true)
-    all_dead zero g e = let same : i ≡ g = same_some i g e in subst (λ (x : RegionState). IfSome x.hold (λ h. h.dead ≡ true)) same (if_dead i.hold a first gone)
-    all_dead (suc zero) g e = let same : h ≡ g = same_some h g e in subst (λ (x : RegionState). IfSome x.hold (λ h. h.dead ≡ true)) same (if_dead h.hold b second other_gone)
+    all_dead zero g e = let same : i ≡ g = same_Some i g e in subst (λ (x : RegionState). IfSome x.hold (λ h. h.dead ≡ true)) same (if_dead i.hold a first gone)
+    all_dead (suc zero) g e = let same : h ≡ g = same_Some h g e in subst (λ (x : RegionState). IfSome x.hold (λ h. h.dead ≡ true)) same (if_dead h.hold b second other_gone)
     all_dead (suc (suc r)) g e = absurd (no_some (slice_get (i ∷ h ∷ []) (suc (suc r))) g refl e)
 
     never : b.txn ≡ t → ⊥
@@ -81,7 +69,7 @@ may_clean_over i h a b y t first second gone other_gone own apart two state kind
 
     own_at : (r : ℕ) (k : Hold) → hold_in (slice_get (i ∷ h ∷ []) r) ≡ Some k → k.txn ≡ t → latched_in (state_of y t) ≡ Some r
     own_at zero k held e = ap latched_in state
-    own_at (suc zero) k held e = absurd (never (ap (λ (x : Hold). x.txn) (same_some b k (sym second ∙ held)) ∙ e))
+    own_at (suc zero) k held e = absurd (never (ap (λ (x : Hold). x.txn) (same_Some b k (sym second ∙ held)) ∙ e))
     own_at (suc (suc r)) k held e = absurd (no_some (hold_in (slice_get (i ∷ h ∷ []) (suc (suc r)))) k refl held)
 
     by_region : (r : ℕ) → 0 ≡ r → (k : Hold) × (hold_in (slice_get (i ∷ h ∷ []) r) ≡ Some k) × (k.txn ≡ t) × (k.dead ≡ true)

@@ -3,13 +3,15 @@ use Rattle.std.proofs.Common.{inl, inr, ◌≡◌, ◌≢◌, ℕ, Bool, true, f
 use Rattle.std.specs.Prelude.{◌==◌, if◌then◌else◌}
 use Rattle.std.specs.FinMap.{get, remove}
 use Rattle.std.proofs.lemmas.Bool.Decides.{Decides-eqb}
+use Rattle.std.proofs.lemmas.Option.{none-some}
+use Rattle.dali_lists.proofs.Lists.{set_same, get_set, get_set_other}
 use Rattle.dali_region.specs.declared.Hold.{Hold}
 use Rattle.dali_region.specs.State.{RegionState, taken_back}
 use Rattle.dali_att.specs.declared.state.State.{State}
 use Rattle.dali_att.specs.declared.state.State.TheVariants.{Dead, Cleaning}
 use Rattle.dali_att.specs.Table.{with_state, without_last}
 use Rattle.dali_att.proofs.Changes.{get-ended}
-use Rattle.dali_locks.proofs.Changes.{get-locks_without}
+use Rattle.dali_locks.proofs.Kept.{locks_without_at}
 use Rattle.dali_system.specs.State.{TxnRow, SystemState, row_of, state_in, hold_in}
 use Rattle.dali_system.specs.Steps.{in_state, back_logged, ended_logged}
 use Rattle.dali_core.specs.declared.take_back.TakeBack.{TakeBack}
@@ -19,7 +21,6 @@ use Rattle.dali_core.proofs.Totals.{others_stay}
 use Rattle.dali_clean.specs.Undone.{Undone, IsTakenBack, IsReclaimed, Released}
 use Rattle.dali_clean.specs.Cleaned.{IsRecovered}
 use Rattle.dali_clean.specs.Others.{IsFreed, RowStays, HoldStays, OthersStay, PromisesStay, IsGone, HasKept}
-use Rattle.dali_clean.proofs.Lists.{set_same, get_set, get_apart}
 use Rattle.dali_clean.proofs.Courses.{row_here, row_there}
 
 -- ---- one part behind another
@@ -28,12 +29,9 @@ hold_further rs rs' rs'' r first (inr none) = inr none
 hold_further rs rs' rs'' r (inl same) (inl second) = inl (second ∙ same)
 hold_further rs rs' rs'' r (inr none) (inl second) = inr (second ∙ none)
 
-none_some : {A : Type 0} (x : A) → (let n : Option A = None in n ≡ Some x) → ⊥
-none_some x e = cc
-
 held_before : (rs rs' : List RegionState) (r : ℕ) (h : Hold) → HoldStays rs rs' r → hold_in (slice_get rs' r) ≡ Some h → hold_in (slice_get rs r) ≡ Some h
 held_before rs rs' r h (inl same) held = sym same ∙ held
-held_before rs rs' r h (inr none) held = absurd (none_some h (sym none ∙ held))
+held_before rs rs' r h (inr none) held = absurd (none-some h (sym none ∙ held))
 
 freed_behind : (rs rs' : List RegionState) (r : ℕ) → HoldStays rs rs' r → hold_in (slice_get rs r) ≡ None → hold_in (slice_get rs' r) ≡ None
 freed_behind rs rs' r (inl same) none = same ∙ none
@@ -88,7 +86,7 @@ hold_put rs q g h at none r = by_place (q == r) refl
     by_place true e =
         let same : q ≡ r = (Decides-eqb q r).0 e in
         inr (subst (λ (n : ℕ). hold_in (slice_get (slice_set rs q h) n) ≡ None) same (ap hold_in (get_set rs q g h at) ∙ none))
-    by_place false e = inl (ap hold_in (get_apart rs q h r (apart e)))
+    by_place false e = inl (ap hold_in (get_set_other rs q h r (apart e)))
 
 -- ---- the claim, the claim given back, and a region that is freed
 in_state_others : (rs rs' : List RegionState) (y z : SystemState) (t : ℕ) (st : State) → z ≡ in_state y t st → ((r : ℕ) → HoldStays rs rs' r) → OthersStay rs y t rs' z
@@ -159,14 +157,14 @@ refused_others rs s z t v r g h at is back = subst (λ (x : Served). OthersStay 
 pub ended_others : (rs : List RegionState) (y z : SystemState) (t : ℕ) → z ≡ ended_logged y t → OthersStay rs y t rs z
 ended_others rs y z t is = subst (λ (x : SystemState). OthersStay rs y t rs x) (sym is) (record {
   rows = λ u e. inl (get-ended y.table t u ∙ ap (λ (b : Bool). if b then None else get y.table u) e);
-  locks = λ u k e. get-locks_without y.locks t u k ∙ ap (λ (b : Bool). if b then None else get y.locks (u, k)) e;
+  locks = λ u k e. locks_without_at y.locks t u k ∙ ap (λ (b : Bool). if b then None else get y.locks (u, k)) e;
   holds = λ r. inl refl;
 })
 
 pub ended_gone : (y z : SystemState) (t : ℕ) → z ≡ ended_logged y t → IsGone z t
 ended_gone y z t is = subst (λ (x : SystemState). IsGone x t) (sym is) (
   get-ended y.table t t ∙ ap (λ (b : Bool). if b then None else get y.table t) self,
-  λ k. get-locks_without y.locks t t k ∙ ap (λ (b : Bool). if b then None else get y.locks (t, k)) self,
+  λ k. locks_without_at y.locks t t k ∙ ap (λ (b : Bool). if b then None else get y.locks (t, k)) self,
 )
   where
     self : (t == t) ≡ true

@@ -1,8 +1,9 @@
 -- The steps of a clean-up: each is its own, and apart from who is alive.
-use Rattle.std.proofs.Common.{◌≡◌, ℕ, Bool, true, false, not, ◌&&◌, List, [], ◌∷◌, ◌++◌, Option, Some, None, refl, sym, ap, subst, ◌∙◌}
+use Rattle.std.proofs.Common.{◌≡◌, ℕ, Bool, true, false, not, List, [], ◌∷◌, ◌++◌, Option, Some, None, refl, sym, ap, subst, ◌∙◌}
 use Rattle.std.specs.List.{list_all}
 use Rattle.std.specs.Prelude.{◌==◌}
 use Rattle.std.proofs.lemmas.Bool.Decides.{Decides-eqb}
+use Rattle.std.proofs.lemmas.Bool.{and_from, eq-eqb, not_from_false}
 use Rattle.dali_record.specs.declared.operations.Block.{Block}
 use Rattle.dali_record.specs.declared.records.Record.{Record}
 use Rattle.dali_att.specs.declared.state.State.TheVariants.{Dead, Cleaning}
@@ -13,11 +14,12 @@ use Rattle.dali_system.specs.Run.{Bases}
 use Rattle.dali_system.specs.Passes.{Audits}
 use Rattle.dali_system.specs.Regions.{RegionStep, Latch, NoteReads, Update, TakeBack, Poke, Check, Die, Clean, region_after, is_alive}
 use Rattle.dali_system.specs.Courses.{Step, TakesBack, Ends, OnRegion, Claims, GivesBack, Recovers, Moment, IsStepAt, IsStep, IsCourse}
+use Rattle.dali_system.proofs.Touching.{join}
 use Rattle.dali_clean.specs.Steps.{is_own_change, AreBack, recovers, IsClaim, IsCleanUp, is_own_step, OwnSteps, is_apart_on, is_apart, AreBeside}
 use Rattle.dali_clean.specs.Undone.{IsOwn, Goes}
 use Rattle.dali_clean.specs.Cleaned.{moment, InRun, Led, LeadsBy, LeadsOn}
 use Rattle.dali_clean.proofs.Lists.{append_twice}
-use Rattle.dali_clean.proofs.Courses.{row_there, join, one, in_run_on, steps_on}
+use Rattle.dali_clean.proofs.Courses.{row_there, one, in_run_on, steps_on}
 
 -- ---- one taking back behind another
 pub join_back : (t : ℕ) (xs ys : List Step) → AreBack t xs → AreBack t ys → AreBack t (xs ++ ys)
@@ -41,16 +43,11 @@ all_back y t x xs is = (
 )
 
 -- ---- each is its own
-pub first_too : (b c : Bool) → b ≡ true → c ≡ true → (b && c) ≡ true
-first_too b c e f = ap (λ x. x && c) e ∙ f
-
-same_test : (u t : ℕ) → u ≡ t → (u == t) ≡ true
-same_test u t e = (Decides-eqb u t).1 e
 
 back_own : (t : ℕ) (x : Step) (xs : List Step) → AreBack t xs → is_own_step t x ≡ true → list_all (is_own_step t) (xs ++ x ∷ []) ≡ true
-back_own t x [] p own = first_too (is_own_step t x) true own refl
-back_own t x (OnRegion r c ∷ xs) p own = first_too (is_own_change t c) _ p.0 (back_own t x xs p.1 own)
-back_own t x (TakesBack u b ∷ xs) p own = first_too (u == t) _ (same_test u t p.0) (back_own t x xs p.1 own)
+back_own t x [] p own = and_from (is_own_step t x) true own refl
+back_own t x (OnRegion r c ∷ xs) p own = and_from (is_own_change t c) _ p.0 (back_own t x xs p.1 own)
+back_own t x (TakesBack u b ∷ xs) p own = and_from (u == t) _ (eq-eqb u t p.0) (back_own t x xs p.1 own)
 back_own t x (Claims u ∷ Recovers r ∷ GivesBack v o ∷ xs) p own = back_own t x xs p.3 own
 back_own t x (Recovers r ∷ xs) p own = back_own t x xs p own
 back_own t x (y ∷ xs) p own = absurd p
@@ -59,18 +56,10 @@ pub own_steps : OwnSteps
 own_steps y t x xs is own = let all = all_back y t x xs is in subst (λ ys. list_all (is_own_step t) ys ≡ true) (sym all.1) (back_own t x all.0 all.2 own)
 
 -- ---- and apart from who is alive
-pub not_of : (b : Bool) → b ≡ false → not b ≡ true
-not_of b e = ap not e
 
 pub apart_change : (t u : ℕ) (c : RegionStep) → (t == u) ≡ false → is_own_change t c ≡ true → is_apart_on u c ≡ true
-apart_change t u (Latch v) apart own = let same : v ≡ t = (Decides-eqb v t).0 own in not_of (v == u) (ap (λ (n : ℕ). n == u) same ∙ apart)
-apart_change t u (NoteReads mask) apart own = refl
-apart_change t u (Update word value) apart own = refl
-apart_change t u TakeBack apart own = refl
-apart_change t u (Poke word mask) apart own = refl
-apart_change t u Check apart own = refl
-apart_change t u Die apart own = refl
-apart_change t u (Clean side) apart own = refl
+apart_change t u (Latch v) apart own = let same : v ≡ t = (Decides-eqb v t).0 own in not_from_false (v == u) (ap (λ (n : ℕ). n == u) same ∙ apart)
+apart_change t u _ apart own = refl
 
 -- who is dead isn't who is alive
 pub dead_apart : (y : SystemState) (v u : ℕ) (o : Option ℕ) → state_of y v ≡ Some (Dead o) → is_alive (state_of y u) ≡ true → (v == u) ≡ false
@@ -102,13 +91,13 @@ module _ (u : ℕ) (L M : List Record) (c d : CoreState) where
 
 back_apart : (t u : ℕ) (x : Step) (m n : Moment) (xs : List Step) → (t == u) ≡ false → is_apart u x ≡ true → is_alive (state_of m.core.system u) ≡ true → AreBack t xs → IsCourse m (xs ++ x ∷ []) n
     → list_all (is_apart u) (xs ++ x ∷ []) ≡ true
-back_apart t u x m n [] apart last alive p course = first_too (is_apart u x) true last refl
+back_apart t u x m n [] apart last alive p course = and_from (is_apart u x) true last refl
 back_apart t u x m n (OnRegion r c ∷ xs) apart last alive p course =
-    first_too (is_apart_on u c) _ (apart_change t u c apart p.0)
+    and_from (is_apart_on u c) _ (apart_change t u c apart p.0)
     (back_apart t u x course.0 n xs apart last (ap is_alive (region_leaves u m.log course.0.log m.core course.0.core r c course.1.0) ∙ alive) p.1 course.2)
 back_apart t u x m n (TakesBack v b ∷ xs) apart last alive p course =
     let other : (v == u) ≡ false = ap (λ (k : ℕ). k == u) p.0 ∙ apart in
-    first_too (not (v == u)) _ (not_of (v == u) other)
+    and_from (not (v == u)) _ (not_from_false (v == u) other)
     (back_apart t u x course.0 n xs apart last (ap is_alive (back_leaves u m.log course.0.log m.core course.0.core v b other course.1.0) ∙ alive) p.1 course.2)
 back_apart t u x m n (Claims v ∷ Recovers r ∷ GivesBack w o ∷ xs) apart last alive p course =
     let m1 = course.0 in
@@ -119,7 +108,7 @@ back_apart t u x m n (Claims v ∷ Recovers r ∷ GivesBack w o ∷ xs) apart la
     let alive1 = ap is_alive (claim_leaves u m.log m1.log m.core m1.core v other course.1.0) ∙ alive in
     let alive2 = ap is_alive (recover_leaves u m1.log m2.log m1.core m2.core r course.2.1.0) ∙ alive1 in
     let alive3 = ap is_alive (give_leaves u m2.log m3.log m2.core m3.core w o other2 course.2.2.1.0) ∙ alive2 in
-    first_too (not (v == u)) _ (not_of (v == u) other) (first_too (not (w == u)) _ (not_of (w == u) other2) (back_apart t u x m3 n xs apart last alive3 p.3 course.2.2.2))
+    and_from (not (v == u)) _ (not_from_false (v == u) other) (and_from (not (w == u)) _ (not_from_false (w == u) other2) (back_apart t u x m3 n xs apart last alive3 p.3 course.2.2.2))
 back_apart t u x m n (Recovers r ∷ xs) apart last alive p course =
     back_apart t u x course.0 n xs apart last (ap is_alive (recover_leaves u m.log course.0.log m.core course.0.core r course.1.0) ∙ alive) p course.2
 back_apart t u x m n (y ∷ xs) apart last alive p course = absurd p
@@ -127,7 +116,7 @@ back_apart t u x m n (y ∷ xs) apart last alive p course = absurd p
 pub are_beside : (y : SystemState) (t : ℕ) (x : Step) (m n : Moment) (xs : List Step) → ((u : ℕ) → (t == u) ≡ false → is_apart u x ≡ true) → IsCleanUp y t x xs → IsCourse m xs n → AreBeside t m.core.system xs
 are_beside y t x m n xs last is course u apart alive =
     subst (λ ys. list_all (is_apart u) ys ≡ true) (sym behind.1)
-    (first_too (not (t == u)) _ (not_of (t == u) apart)
+    (and_from (not (t == u)) _ (not_from_false (t == u) apart)
     (back_apart t u x all.0 n behind.0 apart (last u apart) (ap is_alive (claim_leaves u m.log all.0.log m.core all.0.core t apart all.1.0) ∙ alive) behind.2 all.2))
   where
     behind : (back : List Step) × (xs ≡ Claims t ∷ (back ++ x ∷ [])) × AreBack t back
@@ -137,10 +126,10 @@ are_beside y t x m n xs last is course u apart alive =
     all = subst (λ ys. IsCourse m ys n) behind.1 course
 
 pub end_is_apart : (t u : ℕ) → (t == u) ≡ false → is_apart u (Ends t) ≡ true
-end_is_apart t u apart = not_of (t == u) apart
+end_is_apart t u apart = not_from_false (t == u) apart
 
 pub gift_is_apart : (t u : ℕ) → (t == u) ≡ false → is_apart u (GivesBack t None) ≡ true
-gift_is_apart t u apart = not_of (t == u) apart
+gift_is_apart t u apart = not_from_false (t == u) apart
 
 -- ---- lists of steps that lead on
 pub change_back : (t : ℕ) (x : RegionStep) (g : RegionState) → IsOwn t x g → is_own_change t x ≡ true

@@ -62,7 +62,7 @@ fn finish(operation: &mut Operation, region: &mut Region) -> Option<u32>
 }
 
 // Puts three bytes into the first cell of region 1, for the key 7 and a transaction of the table.
-#[tactic(auto, using(crate::proofs::Guards::some_row))]
+#[tactic(auto, using(dali_core::proofs::Guards::some_row))]
 fn put_in(
     system: &mut System,
     region: &mut Region,

@@ -1,15 +1,15 @@
 -- What is known of a transaction that is claimed, by its state, and of a region by the operation that is under way.
 use Rattle.std.proofs.Common.{◌≡◌, ℕ, Bool, Option, Some, None, true, false, cond, refl, sym, ap, subst, ◌∙◌}
-use Rattle.std.specs.Prelude.{IsSome, IsSomeAnd, IfSome}
+use Rattle.std.specs.Prelude.{IsSomeAnd, IfSome}
 use Rattle.dali_record.specs.declared.operations.Block.{Block}
 use Rattle.dali_region.specs.declared.Hold.{Hold}
 use Rattle.dali_region.specs.State.{RegionState, IsLive}
 use Rattle.std.specs.Option.{option_map}
 use Rattle.std.specs.FinMap.{get}
+use Rattle.dali_lists.proofs.Numbers.{eqb-self}
 use Rattle.dali_record.specs.declared.operations.Pending.{Pending}
 use Rattle.dali_att.specs.Table.{Table, Row, with_row, with_state, without_last}
 use Rattle.dali_att.proofs.Changes.{get-with_row}
-use Rattle.dali_counts.proofs.Lists.{self}
 use Rattle.dali_system.specs.State.{SystemState, TxnRow, state_in, state_of}
 use Rattle.dali_system.specs.Steps.{in_state, back_logged}
 use Rattle.dali_core.specs.Served.{Served}
@@ -25,16 +25,12 @@ claimed o latched e = rw e tt
 pub is_live : (txn : ℕ) (b : Block) (left taken : ℕ) (g : RegionState) → IsUnderWay txn b left taken g → IsLive g
 is_live txn b left taken g way = subst (λ (o : Option Hold). IsSomeAnd o (λ h. h.dead ≡ false)) (sym way.hold) refl
 
-pub some_row : (row : Option TxnRow) (s : State) → state_in row ≡ Some s → IsSome row
-some_row None s e = cc
-some_row (Some row) s e = refl
-
 pub is_left : (t : ℕ) (o : Option Hold) (h : Hold) → o ≡ Some h → h.dead ≡ true → h.txn ≡ t → IsSomeAnd o (λ h. (h.dead ≡ true) × (h.txn ≡ t))
 is_left t o h is dead own = subst (λ (o : Option Hold). IsSomeAnd o (λ h. (h.dead ≡ true) × (h.txn ≡ t))) (sym is) (dead, own)
 
 -- ---- the claim stands
 at_own : (m : Table Pending) (t : ℕ) (f : Row Pending → Row Pending) → get (with_row m t f) t ≡ option_map f (get m t)
-at_own m t f = get-with_row m t f t ∙ ap (λ (b : Bool). cond b (option_map f (get m t)) (get m t)) (self t)
+at_own m t f = get-with_row m t f t ∙ ap (λ (b : Bool). cond b (option_map f (get m t)) (get m t)) (eqb-self t)
 
 pub claimed_now : (y : SystemState) (t : ℕ) (o : Option ℕ) → state_of y t ≡ Some (Dead o) → IsSomeAnd (state_of (in_state y t (Cleaning o)) t) is_claimed
 claimed_now y t o dead = subst (λ (r : Option TxnRow). IsSomeAnd (state_in r) is_claimed) (sym (at_own y.table t (with_state (Cleaning o)))) (by_row (get y.table t) dead)

@@ -1,6 +1,7 @@
 -- What each call of a clean-up leaves is a step of a core.
 use Rattle.std.proofs.Common.{◌≡◌, ℕ, true, List, [], ◌∷◌, ◌++◌, Option, Some, None, refl, ap, ◌∙◌}
 use Rattle.std.specs.Prelude.{IsSomeAnd, slice_get}
+use Rattle.dali_lists.proofs.Numbers.{eqb-self}
 use Rattle.dali_geometry.specs.Sizes.{Sizes}
 use Rattle.dali_record.specs.declared.operations.Block.{Block}
 use Rattle.dali_record.specs.declared.records.Record.{Record}
@@ -9,7 +10,6 @@ use Rattle.dali_record.specs.Legal.{Working, Over, txn_state, txn_next, is_none_
 use Rattle.dali_record.proofs.Pushes.{txn_state_push}
 use Rattle.dali_att.specs.declared.state.State.{State}
 use Rattle.dali_att.specs.declared.state.State.TheVariants.{Live, Dead, Cleaning, Committed}
-use Rattle.dali_counts.proofs.Lists.{self}
 use Rattle.dali_region.specs.State.{RegionState}
 use Rattle.dali_region.specs.declared.Hold.{Hold}
 use Rattle.dali_system.specs.State.{CoreState, state_of, hold_in}
@@ -78,7 +78,7 @@ clean_is_step L c t w u b g at_work last may = taking_back_is_step L c t w u b g
 })
 
 over : (s : Sizes) (L : List Record) (t : ℕ) (w : Working) → AtWork s L t w → w.undos ≡ [] → txn_state s t (L ++ Ended t ∷ []) ≡ Some Over
-over s L t w at none = txn_state_push s t L (Ended t) ∙ (ap (λ o. txn_next s t o (Ended t)) at ∙ rw (self t, ap is_none_left none) refl)
+over s L t w at none = txn_state_push s t L (Ended t) ∙ (ap (λ o. txn_next s t o (Ended t)) at ∙ rw (eqb-self t, ap is_none_left none) refl)
 
 pub end_is_step : EndIsStep
 end_is_step L c t w at none runs claimed free = (

@@ -150,7 +150,7 @@ fn finish(operation: &mut Operation, region: &mut Region) -> Option<u32>
 }
 
 // Puts three bytes into the first cell of region 1 for a transaction of the table.
-#[tactic(auto, using(crate::proofs::Claims::some_row))]
+#[tactic(auto, using(dali_core::proofs::Guards::some_row))]
 fn put_in(
     system: &mut System,
     region: &mut Region,

@@ -45,36 +45,15 @@ line_in (IsRefused act why) = Refused (command_in act) (why_in why)
 
 same_command : (c : Command) → command_in (act_of c) ≡ c
 same_command Begin = refl
-same_command (Call call) = refl
-same_command (Die operation) = refl
-same_command Commit = refl
-same_command Abort = refl
-same_command (Poke region word mask) = refl
-same_command Audit = refl
-same_command Checkpoint = refl
+same_command _ = refl
 
 same_why : (c : Why) → why_in (reason_of c) ≡ c
 same_why (Stopped cause) = refl
-same_why (LogFull end limit) = refl
-same_why (Damaged region codeword found) = refl
-same_why StoreStopped = refl
-same_why InProgress = refl
+same_why _ = refl
 
 same_line : (c : Line) → line_in (said_of c) ≡ c
-same_line (Begun txn) = refl
-same_line (Answered call answer) = refl
-same_line CommitOk = refl
-same_line AbortOk = refl
-same_line Aborted = refl
-same_line LeftOpen = refl
-same_line Died = refl
-same_line (Busy holder) = refl
-same_line PokeOk = refl
-same_line PokeOutOfRange = refl
-same_line (Audited failing) = refl
-same_line (Checkpointed number) = refl
-same_line (CheckpointFailed failing) = refl
 same_line (Refused command why) = ap (λ c. Refused c (why_in (reason_of why))) (same_command command) ∙ ap (λ y. Refused command y) (same_why why)
+same_line _ = refl
 
 pub each_is_told : EachIsTold
 each_is_told = record {

@@ -1,29 +1,14 @@
 -- The lowest word of a set, and the others: what one update writes, and what is left to be written.
-use Rattle.std.proofs.Common.{◌≡◌, ℕ, zero, suc, ◌+◌, ◌-◌, ◌*◌, ◌^◌, ◌<◌, ◌/◌, ◌%◌, max, true, false, List, [], ◌∷◌, length, refl, ap, sym, ◌∙◌, arith, set, count_ones}
-use Rattle.std.specs.Prelude.{bit_and, bit_or, ◌==◌}
-use Rattle.std.specs.Int.{bit_at}
+use Rattle.std.proofs.Common.{◌≡◌, ℕ, zero, suc, ◌+◌, ◌-◌, ◌*◌, ◌^◌, ◌<◌, ◌/◌, ◌%◌, max, List, [], ◌∷◌, length, refl, ap, sym, ◌∙◌, arith, set, count_ones}
+use Rattle.std.specs.Prelude.{bit_and, bit_or}
 use Rattle.std.specs.Int.Count.{count_trailing_zeros, under as place_under, ones_step}
-use Rattle.std.specs.Int.Bits.{and_self, and_step, or_step, or_zero_l}
+use Rattle.std.specs.Int.Bits.{and_self, or_step, or_zero_l}
 use Rattle.std.proofs.lemmas.Nat.{and_shr}
-use Rattle.std.proofs.lemmas.Nat.Bits.{same_from_bits, bit_at_or}
 use Rattle.std.proofs.Math.Nat.{pow-suc}
-use Rattle.dali_words.specs.Words.{has_first, write_under}
-
-pub or_assoc : (a b c : ℕ) → bit_or (bit_or a b) c ≡ bit_or a (bit_or b c)
-or_assoc a b c = same_from_bits (bit_or (bit_or a b) c) (bit_or a (bit_or b c)) (λ i. bit_at_or (bit_or a b) c i ∙ ap (λ n. max n (bit_at c i)) (bit_at_or a b i) ∙ (three (bit_at a i) (bit_at b i) (bit_at c i) ∙ sym (bit_at_or a (bit_or b c) i ∙ ap (max (bit_at a i)) (bit_at_or b c i))))
-  where
-    three : (x y z : ℕ) → max (max x y) z ≡ max x (max y z)
-    three x y z = omega arith
+use Rattle.dali_words.specs.Words.{write_under}
+use Rattle.dali_words.proofs.Lowest.{even_left, no_first, some_first}
 
 -- ---- halves
-even_left : (m : ℕ) → 0 < m → bit_and m (m - 1) % 2 ≡ 0
-even_left m some = omega (arith, and_step m (m - 1))
-
-no_first : (m : ℕ) → m % 2 ≡ 0 → has_first m ≡ false
-no_first m e = ap (λ d. d == 1) e
-
-some_first : (m d : ℕ) → m % 2 ≡ suc d → has_first m ≡ true
-some_first m d e = let one : m % 2 ≡ 1 = omega (arith, e) in ap (λ n. n == 1) one
 
 half_even : (m : ℕ) → 0 < m → m % 2 ≡ 0 → bit_and m (m - 1) / 2 ≡ bit_and (m / 2) (m / 2 - 1)
 half_even m some e = and_shr m (m - 1) 1 ∙ ap (bit_and (m / 2)) (omega (arith, e, some))

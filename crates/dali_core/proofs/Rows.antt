@@ -2,16 +2,16 @@
 use Rattle.std.proofs.Common.{◌≡◌, ℕ, Bool, true, false, cond, List, [], ◌∷◌, ◌++◌, length, take, Option, Some, None, refl, sym, ap, subst, ◌∙◌, arith, length-append}
 use Rattle.std.specs.Prelude.{◌==◌, ◌-◌, IsSome}
 use Rattle.std.specs.Option.{option_map}
-use Rattle.std.proofs.lemmas.Bool.{eq-eqb}
+use Rattle.std.proofs.lemmas.Bool.{eqb-true}
 use Rattle.std.proofs.lemmas.List.{take_at}
 use Rattle.std.specs.Cmp.{nat_cmp_total}
 use Rattle.std.specs.FinMap.{get, insert, remove, same_map, nat_cmp-IsAntisymmetric}
+use Rattle.dali_lists.proofs.Numbers.{eqb-self}
 use Rattle.dali_record.specs.declared.operations.Block.{Block}
 use Rattle.dali_record.specs.declared.operations.Pending.{Pending}
 use Rattle.dali_record.specs.declared.operations.Undo.{Undo}
 use Rattle.dali_att.specs.Table.{Table, Row, fresh_row, with_row, with_undo, without_last}
 use Rattle.dali_att.proofs.Changes.{get-added, get-ended, get-with_row}
-use Rattle.dali_counts.proofs.Lists.{equal}
 use Rattle.dali_system.specs.Steps.{undo_kept}
 
 undone : (us : List Pending) (u : Pending) → take (length (us ++ u ∷ []) - 1) (us ++ u ∷ []) ≡ us
@@ -21,9 +21,6 @@ row_undone : (u : Pending) (o : Option (Row Pending)) → option_map without_las
 row_undone u None = refl
 row_undone u (Some row) = ap (λ (us : List Pending). let r : Row Pending = record { state = row.state; undos = us } in Some r) (undone row.undos u)
 
-same_number : (t : ℕ) → (t == t) ≡ true
-same_number t = eq-eqb t t refl
-
 -- an undo that is kept and then dropped
 pub undo_forgotten : (m : Table Pending) (t : ℕ) (u : Pending) → with_row (with_row m t (with_undo u)) t without_last ≡ m
 undo_forgotten m t u = same_map nat_cmp_total nat_cmp-IsAntisymmetric _ _ (λ q. at q (t == q) refl)
@@ -32,8 +29,8 @@ undo_forgotten m t u = same_map nat_cmp_total nat_cmp-IsAntisymmetric _ _ (λ q.
     at q true e =
         get-with_row (with_row m t (with_undo u)) t without_last q
         ∙ ap (λ (b : Bool). cond b (option_map without_last (get (with_row m t (with_undo u)) t)) (get (with_row m t (with_undo u)) q)) e
-        ∙ ap (option_map without_last) (get-with_row m t (with_undo u) t ∙ ap (λ (b : Bool). cond b (option_map (with_undo u) (get m t)) (get m t)) (same_number t))
-        ∙ row_undone u (get m t) ∙ ap (get m) (equal t q e)
+        ∙ ap (option_map without_last) (get-with_row m t (with_undo u) t ∙ ap (λ (b : Bool). cond b (option_map (with_undo u) (get m t)) (get m t)) (eqb-self t))
+        ∙ row_undone u (get m t) ∙ ap (get m) (eqb-true t q e)
     at q false e =
         get-with_row (with_row m t (with_undo u)) t without_last q
         ∙ ap (λ (b : Bool). cond b (option_map without_last (get (with_row m t (with_undo u)) t)) (get (with_row m t (with_undo u)) q)) e
@@ -45,7 +42,7 @@ pub row_forgotten : (m : Table Pending) (t : ℕ) → get m t ≡ None → remov
 row_forgotten m t none = same_map nat_cmp_total nat_cmp-IsAntisymmetric _ _ (λ q. at q (t == q) refl)
   where
     at : (q : ℕ) (c : Bool) → (t == q) ≡ c → get (remove (insert m t fresh_row) t) q ≡ get m q
-    at q true e = get-ended (insert m t fresh_row) t q ∙ ap (λ (b : Bool). cond b None (get (insert m t fresh_row) q)) e ∙ sym none ∙ ap (get m) (equal t q e)
+    at q true e = get-ended (insert m t fresh_row) t q ∙ ap (λ (b : Bool). cond b None (get (insert m t fresh_row) q)) e ∙ sym none ∙ ap (get m) (eqb-true t q e)
     at q false e =
         get-ended (insert m t fresh_row) t q ∙ ap (λ (b : Bool). cond b None (get (insert m t fresh_row) q)) e
         ∙ get-added m t fresh_row q ∙ ap (λ (b : Bool). cond b (Some fresh_row) (get m q)) e
@@ -67,7 +64,7 @@ row_twice m t f g = same_map nat_cmp_total nat_cmp-IsAntisymmetric _ _ (λ q. at
     at q true e =
         get-with_row (with_row m t f) t g q
         ∙ ap (λ (b : Bool). cond b (option_map g (get (with_row m t f) t)) (get (with_row m t f) q)) e
-        ∙ ap (option_map g) (get-with_row m t f t ∙ ap (λ (b : Bool). cond b (option_map f (get m t)) (get m t)) (same_number t))
+        ∙ ap (option_map g) (get-with_row m t f t ∙ ap (λ (b : Bool). cond b (option_map f (get m t)) (get m t)) (eqb-self t))
         ∙ twice f g (get m t)
         ∙ sym (get-with_row m t (λ r. g (f r)) q ∙ ap (λ (b : Bool). cond b (option_map (λ r. g (f r)) (get m t)) (get m q)) e)
     at q false e =
@@ -85,4 +82,4 @@ some_mapped f None h = absurd cc
 pub row_stays : (m n : Table Pending) (t : ℕ) (f : Row Pending → Row Pending) → n ≡ with_row m t f → IsSome (get m t) → IsSome (get n t)
 row_stays m n t f e h =
     subst (λ (o : Option (Row Pending)). IsSome o)
-    (sym (ap (λ (k : Table Pending). get k t) e ∙ get-with_row m t f t ∙ ap (λ (b : Bool). cond b (option_map f (get m t)) (get m t)) (same_number t))) (some_mapped f (get m t) h)
+    (sym (ap (λ (k : Table Pending). get k t) e ∙ get-with_row m t f t ∙ ap (λ (b : Bool). cond b (option_map f (get m t)) (get m t)) (eqb-self t))) (some_mapped f (get m t) h)

@@ -5,6 +5,8 @@ use Rattle.std.specs.Option.{option_map}
 use Rattle.std.specs.List.{AllByRecursion}
 use Rattle.std.specs.FinMap.{get, insert, remove, empty, get-empty}
 use Rattle.std.specs.Ordering.{nat_cmp}
+use Rattle.std.proofs.lemmas.Bool.{eqb-true}
+use Rattle.std.proofs.lemmas.Option.{same_Some}
 use Rattle.dali_record.specs.declared.operations.Block.{Block}
 use Rattle.dali_record.specs.declared.operations.Pending.{Pending}
 use Rattle.dali_record.specs.declared.operations.Undo.{Undo}
@@ -12,19 +14,11 @@ use Rattle.dali_record.specs.Spelling.{IsUndo, MayBeUndo}
 use Rattle.dali_att.specs.Table.{Table, Row, fresh_row, with_row, with_undo, with_state, without_last, without_undos}
 use Rattle.dali_att.specs.declared.state.State.{State}
 use Rattle.dali_att.proofs.Changes.{get-added, get-ended, get-with_row}
-use Rattle.dali_counts.proofs.Lists.{equal}
 use Rattle.dali_system.specs.Steps.{undo_kept}
 use Rattle.dali_core.specs.Rows.{IsRow, AreRows}
 
 abbrev Undoes : List Pending → Type 0
 Undoes us = AllByRecursion (λ (u : Pending). IsUndo u.undo) us
-
-some_one : {A : Type 0} (x y : A) → Some x ≡ Some y → x ≡ y
-some_one x y e = ap (λ (o : Option _). or_else x o) e
-  where
-    or_else : {A : Type 0} → A → Option A → A
-    or_else x None = x
-    or_else x (Some y) = y
 
 -- the number of the next transaction has no row
 pub none_next : (n : ℕ) (m : Table Pending) → AreRows n m → get m n ≡ None
@@ -45,11 +39,11 @@ row_changed n m t f keeps rows q row is = at (t == q) refl
     changed None e same there = absurd cc
     changed (Some old) e same there =
         let was : IsRow n t old = rows t old e in
-        subst (λ (r : Row Pending). IsRow n q r) (some_one (f old) row there) (record { begun = omega (arith, was.begun, same); undoes = keeps old was.undoes })
+        subst (λ (r : Row Pending). IsRow n q r) (same_Some (f old) row there) (record { begun = omega (arith, was.begun, same); undoes = keeps old was.undoes })
 
     at : (c : Bool) → (t == q) ≡ c → IsRow n q row
     at true e =
-        changed (get m t) refl (equal t q e)
+        changed (get m t) refl (eqb-true t q e)
         (sym (get-with_row m t f q ∙ ap (λ (b : Bool). cond b (option_map f (get m t)) (get m q)) e) ∙ is)
     at false e = rows q row (sym (get-with_row m t f q ∙ ap (λ (b : Bool). cond b (option_map f (get m t)) (get m q)) e) ∙ is)
 
@@ -59,8 +53,8 @@ row_added n m rows q row is = at (n == q) refl
   where
     at : (c : Bool) → (n == q) ≡ c → IsRow (n + 1) q row
     at true e =
-        subst (λ (r : Row Pending). IsRow (n + 1) q r) (some_one fresh_row row (sym (get-added m n fresh_row q ∙ ap (λ (b : Bool). cond b (Some fresh_row) (get m q)) e) ∙ is))
-        (record { begun = omega (arith, equal n q e); undoes = tt })
+        subst (λ (r : Row Pending). IsRow (n + 1) q r) (same_Some fresh_row row (sym (get-added m n fresh_row q ∙ ap (λ (b : Bool). cond b (Some fresh_row) (get m q)) e) ∙ is))
+        (record { begun = omega (arith, eqb-true n q e); undoes = tt })
     at false e =
         let was : IsRow n q row = rows q row (sym (get-added m n fresh_row q ∙ ap (λ (b : Bool). cond b (Some fresh_row) (get m q)) e) ∙ is) in
         record { begun = omega (arith, was.begun); undoes = was.undoes }

@@ -1,12 +1,12 @@
 -- The system after a step, and its bounds.
 use Rattle.std.proofs.Common.{◌≡◌, ℕ, ◌+◌, ◌<◌, List, [], ◌∷◌, ◌++◌, length, sym, ap, subst, ◌∙◌, arith, length-append}
 use Rattle.std.specs.Prelude.{◌^◌}
+use Rattle.dali_bytes.proofs.Numbers.{length-number64}
 use Rattle.dali_record.specs.declared.records.Record.{Record}
 use Rattle.dali_record.specs.declared.operations.Pending.{Pending}
 use Rattle.dali_record.specs.Spelling.{spelling}
 use Rattle.dali_batch.specs.Log.{body_bytes}
 use Rattle.dali_record.specs.declared.records.Record.TheVariants.{Begin, Commit, Ended}
-use Rattle.dali_record.proofs.Lengths.{number64_is_8}
 use Rattle.dali_batch.proofs.Bodies.{bytes_push}
 use Rattle.dali_att.specs.Table.{Table}
 use Rattle.dali_locks.specs.Locks.{Locks}
@@ -87,10 +87,10 @@ next_fits s j x p b is small =
     let short : IsSmall (with_one s.journal x p) = subst IsSmall is small in omega (arith, b.next, short.records, length-append s.journal.since (x ∷ []))
 
 pub nine_begin : (t : ℕ) → 9 ≡ length (spelling (Begin t))
-nine_begin t = omega (arith, number64_is_8 t)
+nine_begin t = omega (arith, length-number64 t)
 
 pub nine_commit : (t : ℕ) → 9 ≡ length (spelling (Commit t))
-nine_commit t = omega (arith, number64_is_8 t)
+nine_commit t = omega (arith, length-number64 t)
 
 pub nine_ended : (t : ℕ) → 9 ≡ length (spelling (Ended t))
-nine_ended t = omega (arith, number64_is_8 t)
+nine_ended t = omega (arith, length-number64 t)

@@ -10,6 +10,7 @@ use Rattle.std.specs.FinMap.{get, insert, remove, empty, entries, entries_sorted
 use Rattle.std.specs.FinMap.Entries.{below_all, by_order}
 use Rattle.std.specs.Map.{lookup}
 use Rattle.std.specs.BTreeMap.{is_at}
+use Rattle.dali_lists.proofs.Tests.{T_left, T_right}
 use Rattle.dali_att.proofs.Maps.{get_entries, inserted}
 use Rattle.dali_core.specs.Promised.{Promised, OwnChanges, OthersStay, of_entries, promised_to, sum_of, total, used}
 
@@ -17,13 +18,6 @@ abbrev pub found : Option ℕ → ℕ
 found o = option_map_or (λ n. n) o 0
 
 -- ---- entries in order
-first : (a b : Bool) → T (a && b) → T a
-first true b p = tt
-first false b p = p
-
-second : (a b : Bool) → T (a && b) → T b
-second true b p = p
-second false b p = absurd p
 
 less : (o : Ordering) → T (is_lt o) → o ≡ Less
 less Less p = refl
@@ -36,19 +30,19 @@ both false b p q = p
 
 below_less : (x y : ℕ) (es : List (ℕ × ℕ)) → nat_cmp x y ≡ Less → T (below_all nat_cmp y es) → T (below_all nat_cmp x es)
 below_less x y [] p h = tt
-below_less x y (e ∷ es) p h = both _ _ (subst (λ r. T (is_lt r)) (sym (nat_cmp_total.trans x y e.0 p (less _ (first _ _ h)))) tt) (below_less x y es p (second _ _ h))
+below_less x y (e ∷ es) p h = both _ _ (subst (λ r. T (is_lt r)) (sym (nat_cmp_total.trans x y e.0 p (less _ (T_left _ _ h)))) tt) (below_less x y es p (T_right _ _ h))
 
 find_below : (q : ℕ) (es : List (ℕ × ℕ)) → T (below_all nat_cmp q es) → find nat_cmp q es ≡ None
 find_below q [] h = refl
-find_below q (e ∷ es) h = ap (λ r. cond (is_eq r) (Some e.1) (find nat_cmp q es)) (less _ (first _ _ h)) ∙ find_below q es (second _ _ h)
+find_below q (e ∷ es) h = ap (λ r. cond (is_eq r) (Some e.1) (find nat_cmp q es)) (less _ (T_left _ _ h)) ∙ find_below q es (T_right _ _ h)
 
 sum_put : (k v : ℕ) (es : List (ℕ × ℕ)) → T (is_sorted nat_cmp es) → sum_of (put nat_cmp k v es) + found (find nat_cmp k es) ≡ sum_of es + v
 sum_put k v [] h = omega arith
 sum_put k v (e ∷ es) h =
     elim (nat_cmp k e.0) as (λ r. nat_cmp k e.0 ≡ r → sum_of (by_order r ((k, v) ∷ e ∷ es) ((e.0, v) ∷ es) (e ∷ put nat_cmp k v es)) + found (cond (is_eq r) (Some e.1) (find nat_cmp k es)) ≡ e.1 + sum_of es + v) [
-      | Less ↦ λ p. subst (λ (x : Option ℕ). v + (e.1 + sum_of es) + found x ≡ e.1 + sum_of es + v) (sym (find_below k es (below_less k e.0 es p (first _ _ h)))) (omega arith)
+      | Less ↦ λ p. subst (λ (x : Option ℕ). v + (e.1 + sum_of es) + found x ≡ e.1 + sum_of es + v) (sym (find_below k es (below_less k e.0 es p (T_left _ _ h)))) (omega arith)
       | Equal ↦ λ p. omega arith
-      | Greater ↦ λ p. let rest = sum_put k v es (second _ _ h) in omega (arith, rest)
+      | Greater ↦ λ p. let rest = sum_put k v es (T_right _ _ h) in omega (arith, rest)
     ] refl
 
 -- ---- each change

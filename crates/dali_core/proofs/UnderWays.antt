@@ -10,6 +10,7 @@ use Rattle.std.proofs.lemmas.List.{length-set}
 use Rattle.std.proofs.lemmas.Bool.Decides.{Decides-eqb}
 use Rattle.std.specs.Int.{w64}
 use Rattle.dali_words.specs.Words.{xor_under, write_under, parity_of}
+use Rattle.dali_words.proofs.Rows.{or_assoc}
 use Rattle.dali_record.specs.declared.operations.Op.{Op}
 use Rattle.dali_record.specs.declared.operations.Block.{Block}
 use Rattle.dali_record.specs.Spelling.{IsBlock, is_within, is_outcome_of, undoes}
@@ -21,9 +22,10 @@ use Rattle.dali_region.specs.declared.LatchError.{LatchError}
 use Rattle.dali_region.specs.declared.LatchError.TheVariants.{Latched, DeadHolder, Damaged}
 use Rattle.dali_region.specs.Answers.{latch_answer}
 use Rattle.dali_region.proofs.Holds.{unheld-same}
+use Rattle.dali_region.proofs.Olds.{write_nothing}
 use Rattle.dali_system.specs.Regions.{IsOpen}
 use Rattle.dali_core.specs.UnderWay.{IsUnderWay}
-use Rattle.dali_core.proofs.Lowest.{or_assoc, lowest_or, lowest_count, lowest_write}
+use Rattle.dali_core.proofs.Lowest.{lowest_or, lowest_count, lowest_write}
 
 -- ---- the start
 whole_mask : (m : ℕ) → m < 2 ^ 64 → bit_and m (2 ^ 64 - 1) ≡ m
@@ -134,9 +136,6 @@ goes_on txn b left taken g w some = record {
         sym (ap (λ vs. write_under left vs g.words) next ∙ (first ∙ ap (λ n. write_under others (drop (taken + 1) b.after) (set g.words (count_trailing_zeros n left) value)) w.size))
 
 -- ---- the end
-write_nothing : (news ws : List ℕ) → write_under 0 news ws ≡ ws
-write_nothing news [] = refl
-write_nothing news (w ∷ ws) = ap (λ us. w ∷ us) (write_nothing news ws)
 
 all_written : (txn : ℕ) (b : Block) (written : ℕ) → bit_or written 0 ≡ b.write → written ≡ b.write
 all_written txn b written e = sym (or_zero_r written) ∙ e

@@ -13,7 +13,7 @@ mod want;
 
 pub use error::{NotDead, SystemError};
 pub use journal::Journal;
-pub use operation::Operation;
+pub use operation::{OpenOperation, Operation};
 pub use system::System;
 pub use take_back::TakeBack;
 pub use want::Want;

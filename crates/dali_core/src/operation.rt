@@ -1,5 +1,5 @@
 //! The operation that is open on a region, from its latch to its record.
-ghost use Rattle.std.specs.Prelude.{◌≡◌, ◌<◌, ◌+◌, ℕ, true, false, Ok, Err, IfOk, IfErr, OnOk, OnErr, not, ◌==◌};
+ghost use Rattle.std.specs.Prelude.{◌≡◌, ◌<◌, ◌+◌, ℕ, [], true, false, is_some, IsNone, Ok, Err, None, Some, IfOk, IfErr, IfSome, IsSomeAnd, OnOk, OnErr, not, ◌==◌};
 ghost use Rattle.dali_record.specs.Spelling.{IsOperation, IsBlock};
 ghost use Rattle.dali_record.specs.Blocks.{made};
 ghost use Rattle.dali_region.specs.State.{latched, with_reads};
@@ -9,6 +9,7 @@ ghost use Rattle.dali_core.specs.UnderWay.{IsUpdated, IsUnderWay};
 
 use dali_record::{Block, Op};
 use dali_region::{LatchError, Region};
+use std::marker::Model;
 
 /// The operation that a transaction has open on a region: its block, the set of the words that are still to be written,
 /// and how many new words were. It has some 750 bytes; no call takes memory.
@@ -39,16 +40,49 @@ impl Operation {
         ensures made { IfOk result (λ o. (o.block ≡ made region.old.words key number op) × IsBlock o.block × (o.txn ≡ txn)) }
         ensures under_way { IfOk result (λ o. IsUnderWay txn o.block o.left o.taken region.new) }
     {
-        region.latch(txn, precheck)?;
-        let block = Block::new(op, key, number, region.words());
-        region.note_reads(block.read);
-        let left = block.write;
-        Ok(Operation {
-            txn,
-            block,
-            left,
+        let mut operation = Operation::blank();
+        match operation.start_here(region, number, txn, key, op, precheck) {
+            Ok(()) => Ok(operation),
+            Err(error) => Err(error),
+        }
+    }
+
+    // A place for an operation.
+    fn blank() -> Self
+        ensures { result.block.after ≡ [] }
+    {
+        Operation {
+            txn: 0,
+            block: Block::blank(),
+            left: 0,
             taken: 0,
-        })
+        }
+    }
+
+    // Starts an operation in place of this one, as `start` does.
+    fn start_here(
+        &mut self,
+        region: &mut Region,
+        number: u32,
+        txn: u64,
+        key: u64,
+        op: Op,
+        precheck: bool,
+    ) -> Result<(), LatchError>
+        requires { IsOperation op }
+        ensures refused { IfErr result (λ e. (latch_answer precheck region.old ≡ Err e) × (region.new ≡ region.old) × (self.new ≡ self.old)) }
+        ensures latched { OnOk result ((latch_answer precheck region.old ≡ Ok tt) × (region.new ≡ with_reads self.new.block.read (latched txn region.old))) }
+        ensures checked { precheck ≡ true → OnOk result (region.old.stray ≡ 0) }
+        ensures made { OnOk result ((self.new.block ≡ made region.old.words key number op) × IsBlock self.new.block × (self.new.txn ≡ txn)) }
+        ensures under_way { OnOk result (IsUnderWay txn self.new.block self.new.left self.new.taken region.new) }
+    {
+        region.latch(txn, precheck)?;
+        self.block.make(op, key, number, region.words());
+        region.note_reads(self.block.read);
+        self.txn = txn;
+        self.left = self.block.write;
+        self.taken = 0;
+        Ok(())
     }
 
     /// Its transaction.
@@ -82,5 +116,95 @@ impl Operation {
         self.left &= self.left - 1;
         self.taken += 1;
         true
+    }
+}
+
+/// The operation that is open, where one is. Its room is there also where none is, so that an operation is started where it
+/// lies and isn't moved. Contracts see an option of an operation.
+#[derive(Drop)]
+pub struct OpenOperation {
+    is_open: bool,
+    operation: Operation,
+}
+
+impl Model for OpenOperation {
+    ghost use Rattle.std.specs.Prelude.{Option, Some, None, if◌then◌else◌};
+    ghost use Rattle.dali_core.specs.declared.operation.Operation.{Operation as OperationOf};
+
+    ghost Value = { Option OperationOf };
+
+    ghost view = { λ o. if o.is_open then Some o.operation else None };
+}
+
+impl OpenOperation {
+    /// None.
+    pub fn none() -> Self
+        ensures { result ≡ None }
+    {
+        OpenOperation {
+            is_open: false,
+            operation: Operation::blank(),
+        }
+    }
+
+    /// Whether one is open.
+    pub fn is_open(&self) -> bool
+        ensures { result ≡ is_some self.now }
+    {
+        self.is_open
+    }
+
+    /// The one that is open.
+    pub fn get(&self) -> Option<&Operation>
+        ensures some { IfSome result (λ o. self.now ≡ Some o.now) }
+        ensures none { IsNone result → self.now ≡ None }
+    {
+        if self.is_open {
+            Some(&self.operation)
+        } else {
+            None
+        }
+    }
+
+    /// Starts an operation, as `Operation::start` does; one that was open is let go.
+    pub fn start(
+        &mut self,
+        region: &mut Region,
+        number: u32,
+        txn: u64,
+        key: u64,
+        op: Op,
+        precheck: bool,
+    ) -> Result<(), LatchError>
+        requires { IsOperation op }
+        ensures refused { IfErr result (λ e. (latch_answer precheck region.old ≡ Err e) × (region.new ≡ region.old) × (self.new ≡ self.old)) }
+        ensures latched { OnOk result ((latch_answer precheck region.old ≡ Ok tt) × IsSomeAnd self.new (λ o. region.new ≡ with_reads o.block.read (latched txn region.old))) }
+        ensures checked { precheck ≡ true → OnOk result (region.old.stray ≡ 0) }
+        ensures made { OnOk result (IsSomeAnd self.new (λ o. (o.block ≡ made region.old.words key number op) × IsBlock o.block × (o.txn ≡ txn))) }
+        ensures under_way { OnOk result (IsSomeAnd self.new (λ o. IsUnderWay txn o.block o.left o.taken region.new)) }
+    {
+        self.operation
+            .start_here(region, number, txn, key, op, precheck)?;
+        self.is_open = true;
+        Ok(())
+    }
+
+    /// Writes the next word, as `Operation::update` does.
+    pub fn update(&mut self, region: &mut Region) -> bool
+        requires { IsSomeAnd self.old (λ o. IsUnderWay o.txn o.block o.left o.taken region.old) }
+        ensures some { IfSome self.old (λ o. result ≡ not (o.left == 0)) }
+        ensures same { IfSome self.old (λ o. IsSomeAnd self.new (λ p. (p.txn ≡ o.txn) × (p.block ≡ o.block))) }
+        ensures under_way { IsSomeAnd self.new (λ o. IsUnderWay o.txn o.block o.left o.taken region.new) }
+        ensures step { result ≡ true → IfSome self.old (λ o. IsSomeAnd self.new (λ p. p.taken ≡ o.taken + 1)) × IsUpdated region.old region.new }
+        ensures none { result ≡ false → (region.new ≡ region.old) × (self.new ≡ self.old) × IsSomeAnd self.new (λ o. IsOpen region.new o.txn o.block) }
+    {
+        self.operation.update(region)
+    }
+
+    /// None is open any more.
+    pub fn close(&mut self)
+        ensures { self.new ≡ None }
+    {
+        self.is_open = false;
     }
 }

@@ -5,6 +5,10 @@ use Rattle.std.specs.Prelude.{◌==◌, ◌&&◌, not, sum_by, slice_get, ◌^�
 use Rattle.std.specs.List.{list_all}
 use Rattle.std.proofs.lemmas.List.Sums.{sum_by_push}
 use Rattle.std.proofs.lemmas.List.{nil_from_length}
+use Rattle.std.proofs.lemmas.Bool.{false_from_ne_true as awake, eqb-true}
+use Rattle.dali_lists.proofs.Lists.{get_push}
+use Rattle.dali_lists.proofs.Options.{some_same}
+use Rattle.dali_lists.proofs.Tests.{left_true}
 use Rattle.dali_geometry.specs.Sizes.{Sizes}
 use Rattle.dali_geometry.specs.Places.{regions}
 use Rattle.dali_record.specs.declared.records.Record.{Record}
@@ -15,11 +19,10 @@ use Rattle.dali_record.specs.Spelling.{record_length, CanBeSpelled}
 use Rattle.dali_record.specs.Legal.{TxnState, Unbegun, Active, Committed as Ending, Over, txn_state, txn_next, Rules, kept_if, runs, passes, restarts, rules_state, rules_first, rules_behind, rules_start, rules_step, IsLegalFor, TellsScan}
 use Rattle.dali_record.proofs.Ends.{by_push}
 use Rattle.dali_record.proofs.Pushes.{txn_state_push}
-use Rattle.dali_record.proofs.EpochRules.{rules_before}
-use Rattle.dali_counts.proofs.Lists.{and_left, equal, some_same}
+use Rattle.dali_record.proofs.EpochRules.{rules_before, unless_failed}
 use Rattle.dali_counts.proofs.Tallies.{tallies, next_some, tells_step}
-use Rattle.dali_counts.proofs.SmallLogs.{lefts, lefts_step, left_of, more, gone, sum_below, sum_none, sum_at, sum_most, none_sum, was_given, never_back, never_solo, open_audits, opens_one, ends_audit, uses, HasRoomFor, room_behind, not_failed, next_within, bound}
-use Rattle.dali_counts.proofs.ShortLogs.{block_most, open_of, one_open, none_open, HasSizes, Grows, grows, numbers_if, sizes_most, get_old, get_new, take_old, take_new}
+use Rattle.dali_counts.proofs.SmallLogs.{lefts, lefts_step, left_of, more, gone, sum_below, sum_none, sum_at, sum_most, none_sum, was_given, never_back, never_solo, open_audits, opens_one, ends_audit, uses, HasRoomFor, room_behind, next_within, bound}
+use Rattle.dali_counts.proofs.ShortLogs.{block_most, open_of, one_open, none_open, HasSizes, Grows, grows, numbers_if, sizes_most, get_old, take_old, take_new}
 use Rattle.dali_counts.specs.Counts.{AreSpelled, IsLight, next_with}
 
 -- more than the bytes that may still come without room
@@ -61,10 +64,6 @@ never_failed : (c : Bool) (o : Option Rules) (g : Rules) → cond c None o ≡ S
 never_failed true o g e = absurd (cc)
 never_failed false o g e = refl
 
-awake : (b : Bool) → (b ≡ true → ⊥) → b ≡ false
-awake true h = absurd (h refl)
-awake false h = refl
-
 none_spent : (h : Rules) → h.failed ≡ false → h.restarted ≡ false → spent h ≡ 0
 none_spent h e f = rw (f, e) refl
 
@@ -100,43 +99,43 @@ AreGiven s L = (t : ℕ) → IsSome (txn_state s t L)
 
 behind : (s : Sizes) (L : List Record) (h g : Rules) (x : Record) (n : ℕ) → rules_state s L ≡ Some h → h.next ≤ n → rules_behind s h x ≡ Some g → AreGiven s (L ++ x ∷ []) → CanBeSpelled x → Grows L x → IsLightAt s L h n → IsLightAt s (L ++ x ∷ []) g n
 unfolding open_audits
-behind s L h g (Format i m) n e l r some is grow ih = absurd (let f : None ≡ Some g = not_failed h.failed None g r in cc)
+behind s L h g (Format i m) n e l r some is grow ih = absurd (let f : None ≡ Some g = unless_failed h.failed None g r in cc)
 behind s L h g (Begin t) n e l r some is grow ih =
-    of_kept _ _ g (λ k. IsLightAt s (L ++ Begin t ∷ []) k n) (not_failed h.failed _ g r)
+    of_kept _ _ g (λ k. IsLightAt s (L ++ Begin t ∷ []) k n) (unless_failed h.failed _ g r)
     (λ kept. used s L h _ (Begin t) n ih (room_behind s h g (Begin t) r) (tallies s L h e).1 refl (omega (arith, lefts_step s L (Begin t) n some, sum_most t 2 n, none_sum n, one_open L (Begin t) refl)) refl)
 behind s L h g (Forward t b) n e l r some is grow ih =
-    of_kept _ _ g (λ k. IsLightAt s (L ++ Forward t b ∷ []) k n) (not_failed h.failed _ g r)
+    of_kept _ _ g (λ k. IsLightAt s (L ++ Forward t b ∷ []) k n) (unless_failed h.failed _ g r)
     (λ kept. used s L h _ (Forward t b) n ih (room_behind s h g (Forward t b) r) (tallies s L h e).1 refl (omega (arith, lefts_step s L (Forward t b) n some, sum_most t 1 n, none_sum n, one_open L (Forward t b) refl)) refl)
 behind s L h g (Done t c a) n e l r some is grow ih =
-    of_kept _ _ g (λ k. IsLightAt s (L ++ Done t c a ∷ []) k n) (not_failed h.failed _ g r)
+    of_kept _ _ g (λ k. IsLightAt s (L ++ Done t c a ∷ []) k n) (unless_failed h.failed _ g r)
     (λ kept. used s L h _ (Done t c a) n ih (room_behind s h g (Done t c a) r) (tallies s L h e).1 refl (omega (arith, lefts_step s L (Done t c a) n some, none_sum n, one_open L (Done t c a) refl)) refl)
 behind s L h g (Commit t) n e l r some is grow ih =
-    of_some _ g (λ k. IsLightAt s (L ++ Commit t ∷ []) k n) (not_failed h.failed _ g r)
+    of_some _ g (λ k. IsLightAt s (L ++ Commit t ∷ []) k n) (unless_failed h.failed _ g r)
     (own s L h _ (Commit t) n ih refl (never_failed h.failed _ g r) (omega arith) (omega (arith, lefts_step s L (Commit t) n some, none_sum n, sum_at t 1 n (omega (arith, l, was_given s L h t (Commit t) e (some t) (never_back t (Some Unbegun)))))) refl refl refl (one_open L (Commit t) refl))
 behind s L h g (Ended t) n e l r some is grow ih =
-    of_some _ g (λ k. IsLightAt s (L ++ Ended t ∷ []) k n) (not_failed h.failed _ g r)
+    of_some _ g (λ k. IsLightAt s (L ++ Ended t ∷ []) k n) (unless_failed h.failed _ g r)
     (own s L h _ (Ended t) n ih refl (never_failed h.failed _ g r) (omega arith) (omega (arith, lefts_step s L (Ended t) n some, none_sum n, sum_at t 1 n (omega (arith, l, was_given s L h t (Ended t) e (some t) (never_back t (Some Unbegun)))))) refl refl refl (one_open L (Ended t) refl))
 behind s L h g (Solo t p b) n e l r some is grow ih =
-    of_kept _ _ g (λ k. IsLightAt s (L ++ Solo t p b ∷ []) k n) (not_failed h.failed _ g r)
+    of_kept _ _ g (λ k. IsLightAt s (L ++ Solo t p b ∷ []) k n) (unless_failed h.failed _ g r)
     (λ kept. own s L h _ (Solo t p b) n ih refl (never_failed h.failed _ g r) (omega (arith, block_most b is.2)) (omega (arith, lefts_step s L (Solo t p b) n some, none_sum n, sum_at p 1 n (omega (arith, l, was_given s L h p (Solo t p b) e (some p) (never_solo s t p b))))) refl refl refl (one_open L (Solo t p b) refl))
 behind s L h g (Back t b) n e l r some is grow ih =
-    of_kept _ _ g (λ k. IsLightAt s (L ++ Back t b ∷ []) k n) (not_failed h.failed _ g r)
+    of_kept _ _ g (λ k. IsLightAt s (L ++ Back t b ∷ []) k n) (unless_failed h.failed _ g r)
     (λ kept. own s L h _ (Back t b) n ih refl (never_failed h.failed _ g r) (omega (arith, block_most b is.1)) (omega (arith, lefts_step s L (Back t b) n some, none_sum n, sum_at t 1 n (omega (arith, l, was_given s L h t (Back t b) e (some t) (never_back t (Some Unbegun)))))) refl refl refl (one_open L (Back t b) refl))
 behind s L h g AuditBegin n e l r some is grow ih =
-    of_kept _ _ g (λ k. IsLightAt s (L ++ AuditBegin ∷ []) k n) (not_failed h.failed _ g r)
+    of_kept _ _ g (λ k. IsLightAt s (L ++ AuditBegin ∷ []) k n) (unless_failed h.failed _ g r)
     (λ kept. used s L h _ AuditBegin n ih (room_behind s h g AuditBegin r) (tallies s L h e).1 refl (omega (arith, lefts_step s L AuditBegin n some, none_sum n, opens_one h.count h.closed h.audits, one_open L AuditBegin refl)) refl)
 behind s L h g (AuditClean b) n e l r some is grow ih =
-    of_kept _ _ g (λ k. IsLightAt s (L ++ AuditClean b ∷ []) k n) (not_failed h.failed _ g r)
+    of_kept _ _ g (λ k. IsLightAt s (L ++ AuditClean b ∷ []) k n) (unless_failed h.failed _ g r)
     (λ kept.
-    let slept : spent h ≡ 0 = none_spent h (never_failed h.failed _ g r) (audit_awake s L h n b ih (and_left (has h.audits b) _ kept)) in
+    let slept : spent h ≡ 0 = none_spent h (never_failed h.failed _ g r) (audit_awake s L h n b ih (left_true (has h.audits b) _ kept)) in
     paid s L h _ (AuditClean b) n ih refl
     (omega (arith, lefts_step s L (AuditClean b) n some, none_sum n, ends_audit h b kept, one_open L (AuditClean b) refl))
     (omega (arith, lefts_step s L (AuditClean b) n some, none_sum n, ends_audit h b kept, one_open L (AuditClean b) refl, slept)) (λ e. absurd (cc)))
 behind s L h g (AuditFail b rs) n e l r some is grow ih =
-    of_kept _ _ g (λ k. IsLightAt s (L ++ AuditFail b rs ∷ []) k n) (not_failed h.failed _ g r)
+    of_kept _ _ g (λ k. IsLightAt s (L ++ AuditFail b rs ∷ []) k n) (unless_failed h.failed _ g r)
     (λ kept.
-    let has_one : (has h.audits b && not (has h.closed b)) ≡ true = and_left (has h.audits b && not (has h.closed b)) _ kept in
-    let slept : spent h ≡ 0 = none_spent h (never_failed h.failed _ g r) (audit_awake s L h n b ih (and_left (has h.audits b) _ has_one)) in
+    let has_one : (has h.audits b && not (has h.closed b)) ≡ true = left_true (has h.audits b && not (has h.closed b)) _ kept in
+    let slept : spent h ≡ 0 = none_spent h (never_failed h.failed _ g r) (audit_awake s L h n b ih (left_true (has h.audits b) _ has_one)) in
     paid s L h _ (AuditFail b rs) n ih refl
     (omega (arith, lefts_step s L (AuditFail b rs) n some, none_sum n, ends_audit h b has_one, one_open L (AuditFail b rs) refl))
     (omega (arith, lefts_step s L (AuditFail b rs) n some, none_sum n, ends_audit h b has_one, one_open L (AuditFail b rs) refl, slept, grow)) (λ e. absurd (cc)))
@@ -197,11 +196,11 @@ light s sizes = by_push (Light s) (λ g e some spelled tells n l. at_start g n (
       where
         grow : (h : Rules) → rules_step s h x ≡ Some g → Grows L x
         grow h r =
-            grows s L x sizes (spelled (length L) x (get_new L x)) (numbers_if s h g x r)
-            (λ rs ds is. let t = tells (length L) rs ds (get_new L x ∙ ap Some is) in (t.0 ∙ ap (λ m. rolled_list (last_epoch m)) (take_new L x), t.1 ∙ ap (λ m. deleted_list (last_epoch m)) (take_new L x)))
+            grows s L x sizes (spelled (length L) x (get_push L x)) (numbers_if s h g x r)
+            (λ rs ds is. let t = tells (length L) rs ds (get_push L x ∙ ap Some is) in (t.0 ∙ ap (λ m. rolled_list (last_epoch m)) (take_new L x), t.1 ∙ ap (λ m. deleted_list (last_epoch m)) (take_new L x)))
 
         by_test : (h : Rules) → rules_state s L ≡ Some h → (c : Bool) → (h.count == 0) ≡ c → cond c (rules_first s h x) (rules_behind s h x) ≡ Some g → IsLightAt s (L ++ x ∷ []) g n
-        by_test h was true f r = from_start L (nil_from_length L (sym (tallies s L h was).0 ∙ equal h.count 0 f)) was r
+        by_test h was true f r = from_start L (nil_from_length L (sym (tallies s L h was).0 ∙ eqb-true h.count 0 f)) was r
           where
             from_start : (M : List Record) → M ≡ [] → rules_state s M ≡ Some h → rules_first s h x ≡ Some g → IsLightAt s (M ++ x ∷ []) g n
             from_start [] q v r = let is : rules_start ≡ h = cc in first s x g n (subst (λ z. rules_first s z x ≡ Some g) (sym is) r)
@@ -210,7 +209,7 @@ light s sizes = by_push (Light s) (λ g e some spelled tells n l. at_start g n (
             let stepped : rules_step s h x ≡ Some g = rw f r in
             let before : h.next ≤ n = next_within x h.next n (omega (arith, l, (tells_step s h x g stepped).2)) in
             let old : IsLightAt s L h n = ih h was (λ t. next_some s t (txn_state s t L) x (rw (txn_state_push s t L x) at (some t))) (λ i y k. spelled i y (get_old L x i y k)) (λ m rs ds k. let t = tells m rs ds (get_old L x m (Restarted rs ds) k) in (t.0 ∙ ap (λ z. rolled_list (last_epoch z)) (take_old L x m (Restarted rs ds) k), t.1 ∙ ap (λ z. deleted_list (last_epoch z)) (take_old L x m (Restarted rs ds) k))) n before in
-            behind s L h g x n was before r some (spelled (length L) x (get_new L x)) (grow h stepped) old
+            behind s L h g x n was before r some (spelled (length L) x (get_push L x)) (grow h stepped) old
 
 spent_few : (b c : Bool) → cond b 1048608 (cond c 524304 0) ≤ 1048608
 spent_few true c = omega arith

@@ -1,16 +1,16 @@
 -- Numbers that weren't given yet have no record; and without pokes every block is sound.
 use Rattle.std.proofs.Common.{◌≡◌, ℕ, ◌<◌, ◌≤◌, Bool, true, false, cond, List, Option, Some, None, refl, ap, sym, subst, ◌∙◌, arith}
 use Rattle.std.specs.Prelude.{IsSome, ◌==◌, not}
-use Rattle.std.proofs.lemmas.Bool.{ne_eqb}
+use Rattle.std.proofs.lemmas.Bool.{ne_eqb, eqb-true}
+use Rattle.dali_lists.proofs.Tests.{left_true}
 use Rattle.dali_geometry.specs.Sizes.{Sizes}
 use Rattle.dali_record.specs.declared.operations.Block.{Block}
 use Rattle.dali_record.specs.declared.records.Record.{Record}
-use Rattle.dali_record.specs.declared.records.Record.TheVariants.{Format, Begin, Forward, Done, Commit, Ended, Solo, AuditBegin, AuditClean, AuditFail, Restarted, Back}
+use Rattle.dali_record.specs.declared.records.Record.TheVariants.{Format, Begin, Forward, Done, Commit, Ended, Solo, Back}
 use Rattle.dali_record.specs.Legal.{Unbegun, txn_state, txn_next, unbegun_step, allowed, Rules, rules_state, rules_next, rules_step, rules_first, rules_behind, runs, has_room, on_kind}
 use Rattle.dali_record.proofs.Ends.{by_push}
 use Rattle.dali_record.proofs.Pushes.{rules_state_push, txn_state_push}
 use Rattle.dali_counts.proofs.Tallies.{tells_step, if_kept, if_none, next_some}
-use Rattle.dali_counts.proofs.Lists.{and_left, equal}
 use Rattle.dali_counts.specs.Counts.{next_with, UnbegunAbove}
 
 begin_number : (s : Sizes) (h : Rules) (u : ℕ) → IsSome (rules_step s h (Begin u)) → (u == h.next) ≡ true
@@ -18,50 +18,36 @@ begin_number s h u k = by_test (h.count == 0) k
   where
     by_test : (c : Bool) → IsSome (cond c (rules_first s h (Begin u)) (rules_behind s h (Begin u))) → (u == h.next) ≡ true
     by_test true k = absurd (cc)
-    by_test false k = and_left (u == h.next) (has_room h (Begin u)) (if_kept _ _ (if_none h.failed (runs s h (Begin u)) k))
+    by_test false k = left_true (u == h.next) (has_room h (Begin u)) (if_kept _ _ (if_none h.failed (runs s h (Begin u)) k))
 
 solo_number : (s : Sizes) (h : Rules) (u p : ℕ) (b : Block) → IsSome (rules_step s h (Solo u p b)) → (u == h.next) ≡ true
 solo_number s h u p b k = by_test (h.count == 0) k
   where
     by_test : (c : Bool) → IsSome (cond c (rules_first s h (Solo u p b)) (rules_behind s h (Solo u p b))) → (u == h.next) ≡ true
     by_test true k = absurd (cc)
-    by_test false k = and_left (u == h.next) (on_kind s b.region b.op) (if_kept _ _ (if_none h.failed (runs s h (Solo u p b)) k))
+    by_test false k = left_true (u == h.next) (on_kind s b.region b.op) (if_kept _ _ (if_none h.failed (runs s h (Solo u p b)) k))
 
 if_allowed : (c : Bool) → IsSome (allowed c (Some Unbegun)) → allowed c (Some Unbegun) ≡ Some Unbegun
 if_allowed true h = refl
 if_allowed false h = absurd (cc)
 
 apart : (u n t : ℕ) → (u == n) ≡ true → n < t → (u == t) ≡ false
-apart u n t e h = ne_eqb u t (λ f. absurd (omega (arith, equal u n e, f, h)))
+apart u n t e h = ne_eqb u t (λ f. absurd (omega (arith, eqb-true u n e, f, h)))
 
 -- t is above every number that the record gives
 stays : (s : Sizes) (h : Rules) (t : ℕ) (x : Record) → IsSome (rules_step s h x) → next_with x h.next ≤ t → IsSome (unbegun_step t x) → unbegun_step t x ≡ Some Unbegun
-stays s h t (Format m n) k l i = refl
 stays s h t (Begin u) k l i = rw (apart u h.next t (begin_number s h u k) (omega (arith, l))) refl
 stays s h t (Forward u b) k l i = if_allowed _ i
 stays s h t (Done u c a) k l i = if_allowed _ i
 stays s h t (Commit u) k l i = if_allowed _ i
 stays s h t (Ended u) k l i = if_allowed _ i
 stays s h t (Solo u p b) k l i = let f : (u == t) ≡ false = apart u h.next t (solo_number s h u p b k) (omega (arith, l)) in let j = rw f at i in rw f (if_allowed (not (p == t)) j)
-stays s h t AuditBegin k l i = refl
-stays s h t (AuditClean b) k l i = refl
-stays s h t (AuditFail b rs) k l i = refl
-stays s h t (Restarted rs ds) k l i = refl
 stays s h t (Back u b) k l i = if_allowed _ i
+stays s h t _ k l i = refl
 
-next_grows : (x : Record) (n : ℕ) → n ≤ next_with x n
+pub next_grows : (x : Record) (n : ℕ) → n ≤ next_with x n
 next_grows (Format i h) n = omega arith
-next_grows (Begin t) n = omega arith
-next_grows (Forward t b) n = omega arith
-next_grows (Done t c a) n = omega arith
-next_grows (Commit t) n = omega arith
-next_grows (Ended t) n = omega arith
-next_grows (Solo t p b) n = omega arith
-next_grows AuditBegin n = omega arith
-next_grows (AuditClean b) n = omega arith
-next_grows (AuditFail b rs) n = omega arith
-next_grows (Restarted rs ds) n = omega arith
-next_grows (Back t b) n = omega arith
+next_grows _ n = omega arith
 
 abbrev pub Above : Sizes → ℕ → List Record → Type 0
 Above s t L = (g : Rules) → rules_state s L ≡ Some g → g.next ≤ t → IsSome (txn_state s t L) → txn_state s t L ≡ Some Unbegun

@@ -1,29 +1,32 @@
 -- The bytes of a legal log, with a frame for each record, stay below 2^62.
 use Rattle.std.proofs.Common.{◌≡◌, ℕ, zero, suc, ◌+◌, ◌*◌, ◌<◌, ◌≤◌, Bool, true, false, cond, List, [], ◌∷◌, ◌++◌, length, take, Option, Some, None, refl, ap, sym, ◌∙◌, arith}
-use Rattle.std.specs.Prelude.{◌==◌, ◌&&◌, ◌/◌, replicate, not, filter, sum_by, flat_map, slice_get, ◌^◌, count_ones, nat_lt, nat_le, IsSome, is_some, fold}
+use Rattle.std.specs.Prelude.{◌==◌, ◌&&◌, replicate, not, sum_by, flat_map, slice_get, ◌^◌, count_ones, nat_lt, nat_le, IsSome, is_some, fold}
 use Rattle.std.specs.List.{list_all}
-use Rattle.std.proofs.lemmas.Bool.{leb-true, ltb-true}
+use Rattle.std.proofs.lemmas.Bool.{leb-true, ltb-true, eqb-true}
 use Rattle.std.proofs.lemmas.List.Sums.{sum_by_push, sum_by-append}
-use Rattle.std.proofs.lemmas.List.{length-append}
+use Rattle.std.proofs.lemmas.List.{length-append, length_push}
+use Rattle.dali_lists.proofs.Lists.{length_filter, get_push}
+use Rattle.dali_lists.proofs.Tests.{left_true, right_true}
 use Rattle.dali_record.specs.Files.{batch_length}
 use Rattle.dali_geometry.specs.Sizes.{Sizes}
 use Rattle.dali_geometry.specs.Places.{regions}
 use Rattle.dali_words.specs.Values.{IsValue}
 use Rattle.dali_record.specs.declared.operations.Block.{Block}
 use Rattle.dali_record.specs.declared.operations.Op.{Op}
-use Rattle.dali_record.specs.declared.operations.Op.TheVariants.{Look, Add, KillEntry, Put, Read, Change, KillCell, FreeCell, ReviveCell, Restore, FreeEntry, ReviveEntry}
+use Rattle.dali_record.specs.declared.operations.Op.TheVariants.{Put, Change}
 use Rattle.dali_record.specs.declared.operations.Outcome.{Outcome}
-use Rattle.dali_record.specs.declared.operations.Outcome.TheVariants.{Found, Absent, Added, NoEntry, Killed, Put as PutIn, NoCell, Value, Changed, NotLive, OtherKey, OddLength, Undone}
+use Rattle.dali_record.specs.declared.operations.Outcome.TheVariants.{Value}
 use Rattle.dali_record.specs.declared.operations.Undo.{Undo}
 use Rattle.dali_record.specs.declared.operations.Undo.TheVariants.{FreeCell as UndoFreeCell, ReviveCell as UndoReviveCell, Restore as UndoRestore, FreeEntry as UndoFreeEntry, ReviveEntry as UndoReviveEntry}
 use Rattle.dali_record.specs.declared.records.Call.{Call}
 use Rattle.dali_record.specs.declared.records.Call.TheVariants.{Insert, Update, Delete, Get}
 use Rattle.dali_record.specs.declared.records.Answer.{Answer}
-use Rattle.dali_record.specs.declared.records.Answer.TheVariants.{Ok as AnswerOk, Exists, Missing, Got, FullHeap, FullIndex, Odd}
+use Rattle.dali_record.specs.declared.records.Answer.TheVariants.{Got}
 use Rattle.dali_record.specs.declared.records.Record.{Record}
 use Rattle.dali_record.specs.declared.records.Record.TheVariants.{Format, Begin, Forward, Done, Commit, Ended, Solo, AuditBegin, AuditClean, AuditFail, Restarted, Back}
 use Rattle.dali_record.specs.Spelling.{CanBeSpelled, IsBlock, IsOperation, IsOutcome, IsCall, IsAnswer, op_length, outcome_length, undo_length, block_length, call_length, answer_length, record_length, ascends}
-use Rattle.dali_words.specs.Words.{under, has_first}
+use Rattle.dali_words.specs.Words.{under}
+use Rattle.dali_words.proofs.Lowest.{under_few}
 use Rattle.dali_record.specs.Log.{begun, committed, ended}
 use Rattle.dali_record.specs.Epochs.{Epoch, Cut, cut, cut_step, last_epoch}
 use Rattle.dali_record.specs.Damage.{has, rolled_list, deleted_list, marks, has_corrupt, damage_of}
@@ -31,45 +34,25 @@ use Rattle.dali_record.specs.Legal.{Rules, rules_state, rules_next, rules_step, 
 use Rattle.dali_record.proofs.Makes.{members}
 use Rattle.dali_record.proofs.Pushes.{cut_push}
 use Rattle.dali_record.proofs.Ends.{by_push}
-use Rattle.dali_record.proofs.EpochRules.{rules_before}
-use Rattle.dali_counts.proofs.Lists.{and_left, and_right, equal, length-push}
-use Rattle.dali_counts.proofs.SmallLogs.{is_small}
+use Rattle.dali_record.proofs.EpochRules.{rules_before, unless_failed}
+use Rattle.dali_counts.proofs.SmallLogs.{is_small, of_kept}
 use Rattle.dali_counts.specs.Counts.{AreSpelled, IsShort, FileIsShort}
+use Rattle.dali_counts.proofs.Fronts.{none_rules}
 
 -- ---- one record that holds no list
 size_most : (v : List ℕ) → IsValue v → length v ≤ 40
-size_most v is = leb-true (length v) 40 (and_right (nat_le 1 (length v)) _ is.0)
+size_most v is = leb-true (length v) 40 (right_true (nat_le 1 (length v)) _ is.0)
 
 op_most : (o : Op) → IsOperation o → op_length o ≤ 50
-op_most Look is = omega arith
-op_most (Add p) is = omega arith
-op_most (KillEntry e) is = omega arith
 op_most (Put v) is = omega (arith, size_most v is)
-op_most (Read c) is = omega arith
 op_most (Change c v) is = omega (arith, size_most v is.1)
-op_most (KillCell c) is = omega arith
-op_most (FreeCell c) is = omega arith
-op_most (ReviveCell c) is = omega arith
-op_most (Restore c n vs) is = omega arith
-op_most (FreeEntry e) is = omega arith
-op_most (ReviveEntry e) is = omega arith
+op_most _ is = omega arith
 
 outcome_most : (o : Outcome) → IsOutcome o → outcome_length o ≤ 42
-outcome_most (Found e p) is = omega arith
-outcome_most (Absent o) is = omega arith
-outcome_most (Added e) is = omega arith
-outcome_most NoEntry is = omega arith
-outcome_most Killed is = omega arith
-outcome_most (PutIn c) is = omega arith
-outcome_most NoCell is = omega arith
 outcome_most (Value v) is = omega (arith, size_most v is)
-outcome_most Changed is = omega arith
-outcome_most (NotLive n) is = omega arith
-outcome_most (OtherKey n) is = omega arith
-outcome_most (OddLength n) is = omega arith
-outcome_most Undone is = omega arith
+outcome_most _ is = omega arith
 
-undo_most : (o : Option Undo) → undo_length o ≤ 50
+pub undo_most : (o : Option Undo) → undo_length o ≤ 50
 undo_most None = omega arith
 undo_most (Some (UndoFreeCell c)) = omega arith
 undo_most (Some (UndoReviveCell c)) = omega arith
@@ -84,21 +67,8 @@ call_most (Delete k) is = omega arith
 call_most (Get k) is = omega arith
 
 answer_most : (a : Answer) → IsAnswer a → answer_length a ≤ 42
-answer_most AnswerOk is = omega arith
-answer_most Exists is = omega arith
-answer_most Missing is = omega arith
 answer_most (Got v) is = omega (arith, size_most v is)
-answer_most FullHeap is = omega arith
-answer_most FullIndex is = omega arith
-answer_most (Odd p) is = omega arith
-
-under_few : (m : ℕ) (ws : List ℕ) → length (under m ws) ≤ length ws
-under_few m [] = omega arith
-under_few m (w ∷ ws) = by_test (has_first m) (under_few (m / 2) ws)
-  where
-    by_test : (c : Bool) → length (under (m / 2) ws) ≤ length ws → length (cond c (w ∷ under (m / 2) ws) (under (m / 2) ws)) ≤ suc (length ws)
-    by_test true h = omega (arith, h)
-    by_test false h = omega (arith, h)
+answer_most _ is = omega arith
 
 ones_most : (m : ℕ) → m < 2 ^ 64 → count_ones m ≤ 64
 ones_most m h = let e : length (under m (replicate 64 0)) ≡ count_ones m = members m (replicate 64 0) h in let f : length (under m (replicate 64 0)) ≤ 64 = under_few m (replicate 64 0) in omega (arith, e, f)
@@ -108,24 +78,17 @@ block_most b is = omega (arith, op_most b.op is.op, outcome_most b.outcome is.ou
 
 -- ---- one that names regions in ascending order
 below_most : (n m : ℕ) (rs : List ℕ) → ascends (m ∷ rs) ≡ true → list_all (λ r. nat_lt r n) (m ∷ rs) ≡ true → m + length (m ∷ rs) ≤ n
-below_most n m [] up all = omega (arith, ltb-true m n (and_left (nat_lt m n) true all))
+below_most n m [] up all = omega (arith, ltb-true m n (left_true (nat_lt m n) true all))
 below_most n m (r ∷ rs) up all =
-    omega (arith, ltb-true m r (and_left (nat_lt m r) _ up), below_most n r rs (and_right (nat_lt m r) _ up) (and_right (nat_lt m n) _ all))
+    omega (arith, ltb-true m r (left_true (nat_lt m r) _ up), below_most n r rs (right_true (nat_lt m r) _ up) (right_true (nat_lt m n) _ all))
 
 regions_most : (n : ℕ) (rs : List ℕ) → ascends rs ≡ true → list_all (λ r. nat_lt r n) rs ≡ true → length rs ≤ n
 regions_most n [] up all = omega arith
 regions_most n (m ∷ rs) up all = omega (arith, below_most n m rs up all)
 
 -- ---- an epoch's lists
-filter_most : {X : Type 0} (p : X → Bool) (xs : List X) → length (filter p xs) ≤ length xs
-filter_most p [] = omega arith
-filter_most p (x ∷ xs) = by_test (p x) (filter_most p xs)
-  where
-    by_test : (c : Bool) → length (filter p xs) ≤ length xs → length (cond c (x ∷ filter p xs) (filter p xs)) ≤ suc (length xs)
-    by_test true h = omega (arith, h)
-    by_test false h = omega (arith, h)
 
-begun_most : (E : List Record) → length (begun E) ≤ length E
+pub begun_most : (E : List Record) → length (begun E) ≤ length E
 begun_most [] = omega arith
 begun_most (Begin t ∷ E) = omega (arith, begun_most E)
 begun_most (Format i h ∷ E) = omega (arith, begun_most E)
@@ -141,10 +104,10 @@ begun_most (Restarted rs ds ∷ E) = omega (arith, begun_most E)
 begun_most (Back t b ∷ E) = omega (arith, begun_most E)
 
 rolled_most : (e : Epoch) → length (rolled_list e) ≤ length e.records
-rolled_most e = omega (arith, begun_most e.records, filter_most (λ t. not (has (committed e.records) t) && not (has (ended e.records) t)) (begun e.records))
+rolled_most e = omega (arith, begun_most e.records, length_filter (λ t. not (has (committed e.records) t) && not (has (ended e.records) t)) (begun e.records))
 
 deleted_most : (e : Epoch) → length (deleted_list e) ≤ length e.records
-deleted_most e = omega (arith, begun_most e.records, filter_most (λ t. has (committed e.records) t && has_corrupt (marks (damage_of e) e.records) t) (begun e.records))
+deleted_most e = omega (arith, begun_most e.records, length_filter (λ t. has (committed e.records) t && has_corrupt (marks (damage_of e) e.records) t) (begun e.records))
 
 -- ---- each record: what it adds, against the records of the open epoch before it
 abbrev pub open_of : List Record → ℕ
@@ -161,7 +124,7 @@ now_of : (L : List Record) (x : Record) → last_epoch (L ++ x ∷ []) ≡ (cut_
 now_of L x = ap (λ (c : Cut). c.now) (cut_push L x)
 
 pub one_open : (L : List Record) (x : Record) → (cut_step (cut L) x).now ≡ record { first = (last_epoch L).first; records = (last_epoch L).records ++ x ∷ [] } → open_of (L ++ x ∷ []) ≡ open_of L + 1
-one_open L x e = ap (λ (d : Epoch). length d.records) (now_of L x ∙ e) ∙ length-push (last_epoch L).records x
+one_open L x e = ap (λ (d : Epoch). length d.records) (now_of L x ∙ e) ∙ length_push (last_epoch L).records x
 
 pub none_open : (L : List Record) (x : Record) → (cut_step (cut L) x).now.records ≡ [] → open_of (L ++ x ∷ []) ≡ 0
 none_open L x e = ap (λ (d : Epoch). length d.records) (now_of L x) ∙ ap length e
@@ -181,59 +144,36 @@ grows s L (Restarted rs ds) sizes is fails tells = let lists = tells rs ds refl 
 grows s L (Back t b) sizes is fails tells = omega (arith, one_open L (Back t b) refl, block_most b is.1)
 
 -- ---- what the rules say of the last record
-kept_true : (c : Bool) (k h : Rules) → kept_if c k ≡ Some h → c ≡ true
-kept_true true k h e = refl
-kept_true false k h e = absurd (cc)
-
-inside_if : (c : Bool) (o : Option Rules) (h : Rules) → cond c None o ≡ Some h → o ≡ Some h
-inside_if true o h e = absurd (cc)
-inside_if false o h e = e
 
 numbers_of : (s : Sizes) (g h : Rules) (b : ℕ) (rs : List ℕ) → rules_step s g (AuditFail b rs) ≡ Some h → list_all (λ r. nat_lt r (regions s)) rs ≡ true
 numbers_of s g h b rs = by_count (g.count == 0)
   where
     by_count : (c : Bool) → cond c (rules_first s g (AuditFail b rs)) (rules_behind s g (AuditFail b rs)) ≡ Some h → list_all (λ r. nat_lt r (regions s)) rs ≡ true
     by_count true e = absurd (cc)
-    by_count false e = and_right (has g.audits b && not (has g.closed b)) (list_all (λ r. nat_lt r (regions s)) rs) (kept_true _ _ h (inside_if g.failed _ h e))
+    by_count false e = right_true (has g.audits b && not (has g.closed b)) (list_all (λ r. nat_lt r (regions s)) rs) (of_kept _ _ h (unless_failed g.failed _ h e))
 
 pub numbers_if : (s : Sizes) (g h : Rules) (x : Record) → rules_step s g x ≡ Some h → (b : ℕ) (rs : List ℕ) → x ≡ AuditFail b rs → list_all (λ r. nat_lt r (regions s)) rs ≡ true
 numbers_if s g h x e b rs is = numbers_of s g h b rs (sym (ap (rules_step s g) is) ∙ e)
 
 -- ---- the format's sizes
-none_stays : (s : Sizes) (L : List Record) → fold (rules_next s) None L ≡ None
-none_stays s [] = refl
-none_stays s (x ∷ L) = none_stays s L
 
 no_first : (s : Sizes) (L : List Record) → IsSome (fold (rules_next s) None L) → ⊥
-no_first s L some = let is : is_some (fold (rules_next s) None L) ≡ true = some in let not : is_some (fold (rules_next s) None L) ≡ false = ap is_some (none_stays s L) in cc
+no_first s L some = let is : is_some (fold (rules_next s) None L) ≡ true = some in let not : is_some (fold (rules_next s) None L) ≡ false = ap is_some (none_rules s L) in cc
 
 pub sizes_most : (s : Sizes) (x : Record) (L : List Record) → IsSome (rules_state s (x ∷ L)) → CanBeSpelled x → HasSizes s
 sizes_most s (Format i h) L some is = by_test ((i == s.index) && (h == s.heap)) refl some
   where
     by_test : (c : Bool) → ((i == s.index) && (h == s.heap)) ≡ c → IsSome (fold (rules_next s) (kept_if c (passes rules_start (Format i h))) L) → HasSizes s
     by_test false e k = absurd (no_first s L k)
-    by_test true e k = omega (arith, equal i s.index (and_left (i == s.index) (h == s.heap) e), equal h s.heap (and_right (i == s.index) (h == s.heap) e), leb-true i 32768 (and_right (nat_le 1 i) _ is.0), leb-true h 65536 (and_right (nat_le 1 h) _ is.1))
+    by_test true e k = omega (arith, eqb-true i s.index (left_true (i == s.index) (h == s.heap) e), eqb-true h s.heap (right_true (i == s.index) (h == s.heap) e), leb-true i 32768 (right_true (nat_le 1 i) _ is.0), leb-true h 65536 (right_true (nat_le 1 h) _ is.1))
 sizes_most s (Begin t) L some is = absurd (no_first s L some)
-sizes_most s (Forward t b) L some is = absurd (no_first s L some)
-sizes_most s (Done t c a) L some is = absurd (no_first s L some)
-sizes_most s (Commit t) L some is = absurd (no_first s L some)
-sizes_most s (Ended t) L some is = absurd (no_first s L some)
-sizes_most s (Solo t p b) L some is = absurd (no_first s L some)
-sizes_most s AuditBegin L some is = absurd (no_first s L some)
-sizes_most s (AuditClean b) L some is = absurd (no_first s L some)
-sizes_most s (AuditFail b rs) L some is = absurd (no_first s L some)
-sizes_most s (Restarted rs ds) L some is = absurd (no_first s L some)
-sizes_most s (Back t b) L some is = absurd (no_first s L some)
+sizes_most s _ L some is = absurd (no_first s L some)
 
 -- ---- all of it
 pub get_old : (L : List Record) (x : Record) (i : ℕ) (r : Record) → slice_get L i ≡ Some r → slice_get (L ++ x ∷ []) i ≡ Some r
 get_old [] x i r e = absurd (cc)
 get_old (y ∷ L) x zero r e = e
 get_old (y ∷ L) x (suc i) r e = get_old L x i r e
-
-pub get_new : (L : List Record) (x : Record) → slice_get (L ++ x ∷ []) (length L) ≡ Some x
-get_new [] x = refl
-get_new (y ∷ L) x = get_new L x
 
 pub take_old : (L : List Record) (x : Record) (i : ℕ) (r : Record) → slice_get L i ≡ Some r → take i (L ++ x ∷ []) ≡ take i L
 take_old [] x i r e = absurd (cc)
@@ -261,10 +201,10 @@ bounded s sizes = by_push (Bound s) (λ some spelled tells. omega arith) step
             omega (
               arith,
               old,
-              length-push L x,
+              length_push L x,
               sum_by_push record_length L x,
-              grows s L x sizes (spelled (length L) x (get_new L x)) (numbers_if s before.0 h x before.2)
-                  (λ rs ds is. let t = tells (length L) rs ds (get_new L x ∙ ap Some is) in (t.0 ∙ ap (λ l. rolled_list (last_epoch l)) (take_new L x), t.1 ∙ ap (λ l. deleted_list (last_epoch l)) (take_new L x))),
+              grows s L x sizes (spelled (length L) x (get_push L x)) (numbers_if s before.0 h x before.2)
+                  (λ rs ds is. let t = tells (length L) rs ds (get_push L x ∙ ap Some is) in (t.0 ∙ ap (λ l. rolled_list (last_epoch l)) (take_new L x), t.1 ∙ ap (λ l. deleted_list (last_epoch l)) (take_new L x))),
             )
 
 pub is_short : IsShort

@@ -16,12 +16,15 @@ use Rattle.dali_record.specs.Legal.{TxnState, Unbegun, Active, Committed as Endi
 use Rattle.dali_record.specs.Operations.{undo_op}
 use Rattle.dali_record.proofs.Ends.{by_push}
 use Rattle.dali_record.proofs.Pushes.{txn_state_push}
-use Rattle.dali_counts.proofs.Lists.{and_left, and_right, equal, self, length-push, some_same}
 use Rattle.dali_counts.proofs.Tallies.{tallies, next_some, tells_step}
-use Rattle.std.proofs.lemmas.Bool.{leb-true, cases_lt}
+use Rattle.std.proofs.lemmas.Bool.{leb-true, cases_lt, not-true, eqb-true}
 use Rattle.std.proofs.lemmas.List.Sums.{sum_by_push}
-use Rattle.std.proofs.lemmas.List.{nil_from_length}
-use Rattle.dali_record.proofs.EpochRules.{rules_before}
+use Rattle.std.proofs.lemmas.List.{nil_from_length, length_push}
+use Rattle.dali_lists.proofs.Lists.{length_filter}
+use Rattle.dali_lists.proofs.Numbers.{eqb-self}
+use Rattle.dali_lists.proofs.Options.{some_same}
+use Rattle.dali_lists.proofs.Tests.{left_true, right_true}
+use Rattle.dali_record.proofs.EpochRules.{rules_before, unless_failed}
 use Rattle.dali_counts.proofs.NewNumbers.{above}
 use Rattle.dali_counts.specs.Counts.{IsSmall, next_with}
 
@@ -116,14 +119,6 @@ less_back : (w : Working) (b : Block) (o : Option Pending) → last_of w.undos �
 less_back w b None e = less_none 1 (length w.undos + 2) 0
 less_back w b (Some p) e = less_allowed (is_of (undo_op p.undo) p b) (Some (Active _)) 1 (length w.undos + 2) 0 (λ h. omega (arith, drop_one w.undos p e))
 
-filter_few : {X : Type 0} (p : X → Bool) (xs : List X) → length (filter p xs) ≤ length xs
-filter_few p [] = omega arith
-filter_few p (x ∷ xs) = by_test (p x) (filter_few p xs)
-  where
-    by_test : (c : Bool) → length (filter p xs) ≤ length xs → length (cond c (x ∷ filter p xs) (filter p xs)) ≤ suc (length xs)
-    by_test true h = omega (arith, h)
-    by_test false h = omega (arith, h)
-
 less_freed : (b : Block) (ps : List Pending) → Less (freed b ps) 1 (length ps + 1) 0
 less_freed b [] = less_none 1 1 0
 less_freed b (p ∷ ps) = less_allowed (is_of (freeing_op p.undo) p b) (Some (Ending ps)) 1 (length (p ∷ ps) + 1) 0 (λ h. omega arith)
@@ -133,23 +128,19 @@ less_begin true w e h = omega (arith, e)
 less_begin false w e h = omega arith
 
 less_step : (s : Sizes) (t : ℕ) (x : TxnState) (r : Record) → Less (txn_step s t x r) (gone t r) (left_of (Some x)) (more t r)
-less_step s t Unbegun (Format i h) = same Unbegun
 less_step s t Unbegun (Begin u) = less_begin (u == t) _ refl
 less_step s t Unbegun (Forward u b) = never_more (u == t) (Some Unbegun) 0 1 (same Unbegun)
 less_step s t Unbegun (Done u c a) = less_allowed (not (u == t)) (Some Unbegun) 0 0 0 (same Unbegun)
 less_step s t Unbegun (Commit u) = never_gone (u == t) (Some Unbegun) 1 0 (same Unbegun)
 less_step s t Unbegun (Ended u) = never_gone (u == t) (Some Unbegun) 1 0 (same Unbegun)
 less_step s t Unbegun (Solo u p b) = less_test (u == t) _ _ (cond (p == t) 1 0) 0 0 (never_gone (p == t) (Some Over) 1 0 (same Over)) (never_gone (p == t) (Some Unbegun) 1 0 (same Unbegun))
-less_step s t Unbegun AuditBegin = same Unbegun
-less_step s t Unbegun (AuditClean b) = same Unbegun
-less_step s t Unbegun (AuditFail b rs) = same Unbegun
-less_step s t Unbegun (Restarted rs ds) = same Unbegun
 less_step s t Unbegun (Back u b) = never_gone (u == t) (Some Unbegun) 1 0 (same Unbegun)
+less_step s t Unbegun _ = same Unbegun
 less_step s t (Active w) (Format i h) = same (Active w)
 less_step s t (Active w) (Begin u) = never_more (u == t) (Some (Active w)) (length w.undos + 2) 2 (same (Active w))
 less_step s t (Active w) (Forward u b) = less_more (u == t) (forward s t w b) (Some (Active w)) (length w.undos + 2) 1 (less_forward s t w b) (same (Active w))
 less_step s t (Active w) (Done u c a) = less_test (u == t) _ (Some (Active w)) 0 (length w.undos + 2) 0 (less_allowed (is_answer s w c a) (Some (rested w)) 0 (length w.undos + 2) 0 (λ h. omega arith)) (same (Active w))
-less_step s t (Active w) (Commit u) = less_gone (u == t) _ (Some (Active w)) 1 (length w.undos + 2) (less_allowed (is_level w) (Some (Ending (dead_of w.undos))) 1 (length w.undos + 2) 0 (λ h. omega (arith, filter_few (λ (p : Pending). is_removal p.undo) w.undos))) (same (Active w))
+less_step s t (Active w) (Commit u) = less_gone (u == t) _ (Some (Active w)) 1 (length w.undos + 2) (less_allowed (is_level w) (Some (Ending (dead_of w.undos))) 1 (length w.undos + 2) 0 (λ h. omega (arith, length_filter (λ (p : Pending). is_removal p.undo) w.undos))) (same (Active w))
 less_step s t (Active w) (Ended u) = less_gone (u == t) _ (Some (Active w)) 1 (length w.undos + 2) (less_allowed (is_none_left w.undos) (Some Over) 1 (length w.undos + 2) 0 (λ h. omega arith)) (same (Active w))
 less_step s t (Active w) (Solo u p b) = never_both (u == t) (p == t) (Some (Active w)) 1 (length w.undos + 2) (same (Active w))
 less_step s t (Active w) AuditBegin = same (Active w)
@@ -169,18 +160,14 @@ less_step s t (Ending ps) (AuditClean b) = same (Ending ps)
 less_step s t (Ending ps) (AuditFail b rs) = same (Ending ps)
 less_step s t (Ending ps) (Restarted rs ds) = λ h. omega arith
 less_step s t (Ending ps) (Back u b) = never_gone (u == t) (Some (Ending ps)) 1 (length ps + 1) (same (Ending ps))
-less_step s t Over (Format i h) = same Over
 less_step s t Over (Begin u) = never_more (u == t) (Some Over) 0 2 (same Over)
 less_step s t Over (Forward u b) = never_more (u == t) (Some Over) 0 1 (same Over)
 less_step s t Over (Done u c a) = less_allowed (not (u == t)) (Some Over) 0 0 0 (same Over)
 less_step s t Over (Commit u) = never_gone (u == t) (Some Over) 1 0 (same Over)
 less_step s t Over (Ended u) = never_gone (u == t) (Some Over) 1 0 (same Over)
 less_step s t Over (Solo u p b) = never_both (u == t) (p == t) (Some Over) 1 0 (same Over)
-less_step s t Over AuditBegin = same Over
-less_step s t Over (AuditClean b) = same Over
-less_step s t Over (AuditFail b rs) = same Over
-less_step s t Over (Restarted rs ds) = same Over
 less_step s t Over (Back u b) = never_gone (u == t) (Some Over) 1 0 (same Over)
+less_step s t Over _ = same Over
 
 -- ---- all transactions below a number
 pub sum_below : (ℕ → ℕ) → ℕ → ℕ
@@ -204,7 +191,7 @@ apart_below u k zero h = refl
 apart_below u k (suc n) h = by_test (u == n) refl (apart_below u k n (omega (arith, h)))
   where
     by_test : (c : Bool) → (u == n) ≡ c → sum_below (λ t. cond (u == t) k 0) n ≡ 0 → sum_below (λ t. cond (u == t) k 0) n + cond c k 0 ≡ 0
-    by_test true e none = absurd (omega (arith, equal u n e, h))
+    by_test true e none = absurd (omega (arith, eqb-true u n e, h))
     by_test false e none = omega (arith, none)
 
 pub sum_at : (u k n : ℕ) → u < n → sum_below (λ t. cond (u == t) k 0) n ≡ k
@@ -219,10 +206,10 @@ sum_at u k (suc n) h = by_test (u == n) refl (λ lt. sum_at u k n lt)
     cases (suc a) (suc b) l = ⊎_elim (λ lt. inl (omega (arith, lt))) (λ is. inr (ap suc is)) (cases a b (omega (arith, l)))
 
     other : (u == n) ≡ false → u < n
-    other f = ⊎_elim (λ lt. lt) (λ is. absurd (let g : (u == n) ≡ true = subst (λ m. (u == m) ≡ true) is (self u) in cc)) (cases u n h)
+    other f = ⊎_elim (λ lt. lt) (λ is. absurd (let g : (u == n) ≡ true = subst (λ m. (u == m) ≡ true) is (eqb-self u) in cc)) (cases u n h)
 
     by_test : (c : Bool) → (u == n) ≡ c → (u < n → sum_below (λ t. cond (u == t) k 0) n ≡ k) → sum_below (λ t. cond (u == t) k 0) n + cond c k 0 ≡ k
-    by_test true e rest = omega (arith, apart_below u k n (omega (arith, equal u n e)))
+    by_test true e rest = omega (arith, apart_below u k n (omega (arith, eqb-true u n e)))
     by_test false e rest = omega (arith, rest (other e))
 
 -- ---- audits that were begun and not ended
@@ -263,7 +250,7 @@ closes_one b closed (a ∷ audits) h n = by_test (a == b) refl h (λ k. closes_o
     here false d e f = absurd (cc)
 
     by_test : (c : Bool) → (a == b) ≡ c → (c || has audits b) ≡ true → (has audits b ≡ true → length (filter (λ x. not ((b == x) || has closed x)) audits) + 1 ≤ length (filter (λ x. not (has closed x)) audits)) → length (filter (λ x. not ((b == x) || has closed x)) (a ∷ audits)) + 1 ≤ length (filter (λ x. not (has closed x)) (a ∷ audits))
-    by_test true e k more = here (b == a) (has closed a) (subst (λ x. (b == x) ≡ true) (sym (equal a b e)) (self b)) (subst (λ x. has closed x ≡ false) (sym (equal a b e)) n)
+    by_test true e k more = here (b == a) (has closed a) (subst (λ x. (b == x) ≡ true) (sym (eqb-true a b e)) (eqb-self b)) (subst (λ x. has closed x ≡ false) (sym (eqb-true a b e)) n)
     by_test false e k more = by_had (b == a) (has closed a) (more k)
 
 pub opens_one : (a : ℕ) (closed audits : List ℕ) → open_audits (a ∷ audits) closed ≤ open_audits audits closed + 1
@@ -306,12 +293,8 @@ one_restart : (b : Bool) → not b ≡ true → ◌≡◌ {A = ℕ} (cond b 0 1)
 one_restart true e = absurd (cc)
 one_restart false e = refl
 
-is_not : (b : Bool) → not b ≡ true → b ≡ false
-is_not true e = absurd (cc)
-is_not false e = refl
-
 pub ends_audit : (h : Rules) (b : ℕ) → (has h.audits b && not (has h.closed b)) ≡ true → 2 * open_audits h.audits (b ∷ h.closed) + 2 ≤ 2 * open_audits h.audits h.closed
-ends_audit h b e = omega (arith, closes_one b h.closed h.audits (and_left (has h.audits b) _ e) (is_not (has h.closed b) (and_right (has h.audits b) _ e)))
+ends_audit h b e = omega (arith, closes_one b h.closed h.audits (left_true (has h.audits b) _ e) (not-true (has h.closed b) (right_true (has h.audits b) _ e)))
 
 waits_runs : (s : Sizes) (h : Rules) (x : Record) → Waits (runs s h x) h x
 waits_runs s h (Format i n) g e = absurd (cc)
@@ -323,7 +306,7 @@ waits_runs s h (Ended t) g e = waits_some (passes h (Ended t)) h (Ended t) (omeg
 waits_runs s h (Solo t p b) g e = waits_kept _ (record (passes h (Solo t p b)) { next = h.next + 1 }) h (Solo t p b) (λ k. omega arith) g e
 waits_runs s h AuditBegin g e = waits_kept _ (record (passes h AuditBegin) { audits = h.count ∷ h.audits }) h AuditBegin (λ k. omega (arith, opens_one h.count h.closed h.audits)) g e
 waits_runs s h (AuditClean b) g e = waits_kept _ (record (passes h (AuditClean b)) { closed = b ∷ h.closed }) h (AuditClean b) (λ k. omega (arith, ends_audit h b k)) g e
-waits_runs s h (AuditFail b rs) g e = waits_kept _ (record (passes h (AuditFail b rs)) { closed = b ∷ h.closed; failed = true }) h (AuditFail b rs) (λ k. omega (arith, ends_audit h b (and_left (has h.audits b && not (has h.closed b)) _ k))) g e
+waits_runs s h (AuditFail b rs) g e = waits_kept _ (record (passes h (AuditFail b rs)) { closed = b ∷ h.closed; failed = true }) h (AuditFail b rs) (λ k. omega (arith, ends_audit h b (left_true (has h.audits b && not (has h.closed b)) _ k))) g e
 waits_runs s h (Restarted rs ds) g e = absurd (cc)
 waits_runs s h (Back t b) g e = waits_kept _ (passes h (Back t b)) h (Back t b) (λ k. omega arith) g e
 
@@ -365,64 +348,26 @@ room_for : (h : Rules) (x : Record) → has_room h x ≡ true → HasRoomFor h x
 room_for h x e = inr (leb-true (h.weight + record_length x) room e)
 
 room_runs : (s : Sizes) (h g : Rules) (x : Record) → runs s h x ≡ Some g → HasRoomFor h x
-room_runs s h g (Format i n) e = inl refl
-room_runs s h g (Begin t) e = room_for h (Begin t) (and_right (t == h.next) _ (of_kept _ _ g e))
-room_runs s h g (Forward t b) e = room_for h (Forward t b) (and_right _ (has_room h (Forward t b)) (of_kept _ _ g e))
+room_runs s h g (Begin t) e = room_for h (Begin t) (right_true (t == h.next) _ (of_kept _ _ g e))
+room_runs s h g (Forward t b) e = room_for h (Forward t b) (right_true _ (has_room h (Forward t b)) (of_kept _ _ g e))
 room_runs s h g (Done t c a) e = room_for h (Done t c a) (of_kept _ _ g e)
-room_runs s h g (Commit t) e = inl refl
-room_runs s h g (Ended t) e = inl refl
-room_runs s h g (Solo t p b) e = inl refl
 room_runs s h g AuditBegin e = room_for h AuditBegin (of_kept _ _ g e)
-room_runs s h g (AuditClean b) e = inl refl
-room_runs s h g (AuditFail b rs) e = inl refl
-room_runs s h g (Restarted rs ds) e = inl refl
-room_runs s h g (Back t b) e = inl refl
-
-pub not_failed : (c : Bool) (o : Option Rules) (g : Rules) → cond c None o ≡ Some g → o ≡ Some g
-not_failed true o g e = absurd (cc)
-not_failed false o g e = e
+room_runs s h g _ e = inl refl
 
 pub room_behind : (s : Sizes) (h g : Rules) (x : Record) → rules_behind s h x ≡ Some g → HasRoomFor h x
-room_behind s h g (Format i n) e = inl refl
-room_behind s h g (Begin t) e = room_runs s h g (Begin t) (not_failed h.failed _ g e)
-room_behind s h g (Forward t b) e = room_runs s h g (Forward t b) (not_failed h.failed _ g e)
-room_behind s h g (Done t c a) e = room_runs s h g (Done t c a) (not_failed h.failed _ g e)
-room_behind s h g (Commit t) e = inl refl
-room_behind s h g (Ended t) e = inl refl
-room_behind s h g (Solo t p b) e = inl refl
-room_behind s h g AuditBegin e = room_runs s h g AuditBegin (not_failed h.failed _ g e)
-room_behind s h g (AuditClean b) e = inl refl
-room_behind s h g (AuditFail b rs) e = inl refl
-room_behind s h g (Restarted rs ds) e = inl refl
-room_behind s h g (Back t b) e = inl refl
+room_behind s h g (Begin t) e = room_runs s h g (Begin t) (unless_failed h.failed _ g e)
+room_behind s h g (Forward t b) e = room_runs s h g (Forward t b) (unless_failed h.failed _ g e)
+room_behind s h g (Done t c a) e = room_runs s h g (Done t c a) (unless_failed h.failed _ g e)
+room_behind s h g AuditBegin e = room_runs s h g AuditBegin (unless_failed h.failed _ g e)
+room_behind s h g _ e = inl refl
 
 pub some_length : (x : Record) → 1 ≤ record_length x
 some_length (Format i n) = omega arith
-some_length (Begin t) = omega arith
-some_length (Forward t b) = omega arith
-some_length (Done t c a) = omega arith
-some_length (Commit t) = omega arith
-some_length (Ended t) = omega arith
-some_length (Solo t p b) = omega arith
-some_length AuditBegin = omega arith
-some_length (AuditClean b) = omega arith
-some_length (AuditFail b rs) = omega arith
-some_length (Restarted rs ds) = omega arith
-some_length (Back t b) = omega arith
+some_length _ = omega arith
 
 pub uses_few : (x : Record) → uses x ≤ 1
 uses_few (Format i n) = omega arith
-uses_few (Begin t) = omega arith
-uses_few (Forward t b) = omega arith
-uses_few (Done t c a) = omega arith
-uses_few (Commit t) = omega arith
-uses_few (Ended t) = omega arith
-uses_few (Solo t p b) = omega arith
-uses_few AuditBegin = omega arith
-uses_few (AuditClean b) = omega arith
-uses_few (AuditFail b rs) = omega arith
-uses_few (Restarted rs ds) = omega arith
-uses_few (Back t b) = omega arith
+uses_few _ = omega arith
 
 pub uses_weight : (L : List Record) → sum_by uses L ≤ sum_by record_length L
 uses_weight = by_push (λ L. sum_by uses L ≤ sum_by record_length L) (omega arith) (λ L x here. omega (arith, here, some_length x, uses_few x, sum_by_push uses L x, sum_by_push record_length L x))
@@ -441,14 +386,14 @@ was_given s L h u x e some none = ⊎_elim (λ lt. lt) (λ ge. absurd (late ge))
         absurd (cc)
 
 pub never_back : (u : ℕ) (o : Option TxnState) → allowed (not (u == u)) o ≡ None
-never_back u o = rw (self u) refl
+never_back u o = rw (eqb-self u) refl
 
 pub never_solo : (s : Sizes) (n p : ℕ) (b : Block) → txn_step s p Unbegun (Solo n p b) ≡ None
 never_solo s n p b = by_test (n == p)
   where
     by_test : (c : Bool) → cond c (allowed (not (p == p)) (Some Over)) (allowed (not (p == p)) (Some Unbegun)) ≡ None
-    by_test true = rw (self p) refl
-    by_test false = rw (self p) refl
+    by_test true = rw (eqb-self p) refl
+    by_test false = rw (eqb-self p) refl
 
 pub sum_most : (u k n : ℕ) → sum_below (λ t. cond (u == t) k 0) n ≤ k
 sum_most u k n = ⊎_elim (λ lt. omega (arith, sum_at u k n lt)) (λ ge. omega (arith, apart_below u k n ge)) (cases_lt u n)
@@ -475,7 +420,7 @@ pub none_sum : (n : ℕ) → sum_below (λ t. 0) n ≡ 0
 none_sum n = sum_none (λ t. 0) n (λ t. refl)
 
 balance : (s : Sizes) (L : List Record) (h g : Rules) (x : Record) (n : ℕ) → rules_state s L ≡ Some h → h.next ≤ n → rules_behind s h x ≡ Some g → ((t : ℕ) → IsSome (txn_state s t (L ++ x ∷ []))) → Balance s L x n
-balance s L h g (Format i m) n e l r some = absurd (let f : None ≡ Some g = not_failed h.failed None g r in cc)
+balance s L h g (Format i m) n e l r some = absurd (let f : None ≡ Some g = unless_failed h.failed None g r in cc)
 balance s L h g (Begin t) n e l r some = omega (arith, lefts_step s L (Begin t) n some, sum_most t 2 n, none_sum n)
 balance s L h g (Forward t b) n e l r some = omega (arith, lefts_step s L (Forward t b) n some, sum_most t 1 n, none_sum n)
 balance s L h g (Done t c a) n e l r some = omega (arith, lefts_step s L (Done t c a) n some, none_sum n)
@@ -489,21 +434,12 @@ balance s L h g (Restarted rs ds) n e l r some = omega (arith, lefts_step s L (R
 balance s L h g (Back t b) n e l r some = omega (arith, lefts_step s L (Back t b) n some, none_sum n, sum_at t 1 n (omega (arith, l, was_given s L h t (Back t b) e (some t) (never_back t (Some Unbegun)))))
 
 pub next_within : (x : Record) (n m : ℕ) → next_with x n ≤ m → n ≤ m
-next_within (Format i h) n m l = l
 next_within (Begin t) n m l = omega (arith, l)
-next_within (Forward t b) n m l = l
-next_within (Done t c a) n m l = l
-next_within (Commit t) n m l = l
-next_within (Ended t) n m l = l
 next_within (Solo t p b) n m l = omega (arith, l)
-next_within AuditBegin n m l = l
-next_within (AuditClean b) n m l = l
-next_within (AuditFail b rs) n m l = l
-next_within (Restarted rs ds) n m l = l
-next_within (Back t b) n m l = l
+next_within _ n m l = l
 
 behind_bound : (s : Sizes) (L : List Record) (x : Record) → IsBound s L → (h g : Rules) → rules_state s L ≡ Some h → rules_behind s h x ≡ Some g → rules_state s (L ++ x ∷ []) ≡ Some g → ((t : ℕ) → IsSome (txn_state s t (L ++ x ∷ []))) → (n : ℕ) → h.next ≤ n → (length (L ++ x ∷ []) + 2 * lefts s (L ++ x ∷ []) n + waits g ≤ 6 * sum_by uses (L ++ x ∷ []) + 2) × (sum_by uses (L ++ x ∷ []) ≤ 269484032)
-behind_bound s L x ih h g e r f some n l = (omega (arith, before.0, balance s L h g x n e l r some, waits_behind s h x g r, length-push L x, sum_by_push uses L x), ⊎_elim (λ none. omega (arith, none, before.1, sum_by_push uses L x)) (λ fits. omega (arith, fits, uses_few x, some_length x, uses_weight L, (tallies s L h e).1, sum_by_push uses L x)) (room_behind s h g x r))
+behind_bound s L x ih h g e r f some n l = (omega (arith, before.0, balance s L h g x n e l r some, waits_behind s h x g r, length_push L x, sum_by_push uses L x), ⊎_elim (λ none. omega (arith, none, before.1, sum_by_push uses L x)) (λ fits. omega (arith, fits, uses_few x, some_length x, uses_weight L, (tallies s L h e).1, sum_by_push uses L x)) (room_behind s h g x r))
   where
     before : (length L + 2 * lefts s L n + waits h ≤ 6 * sum_by uses L + 2) × (sum_by uses L ≤ 269484032)
     before = ih h e (λ t. next_some s t (txn_state s t L) x (rw (txn_state_push s t L x) at (some t))) n l
@@ -522,16 +458,7 @@ first_bound s (Format i m) g r n = (omega (arith, none, waits_one (passes rules_
     none : sum_below (λ t. left_of (txn_state s t (Format i m ∷ []))) n ≡ 0
     none = sum_none (λ t. left_of (txn_state s t (Format i m ∷ []))) n (λ t. refl)
 first_bound s (Begin t) g r n = absurd (cc)
-first_bound s (Forward t b) g r n = absurd (cc)
-first_bound s (Done t c a) g r n = absurd (cc)
-first_bound s (Commit t) g r n = absurd (cc)
-first_bound s (Ended t) g r n = absurd (cc)
-first_bound s (Solo t p b) g r n = absurd (cc)
-first_bound s AuditBegin g r n = absurd (cc)
-first_bound s (AuditClean b) g r n = absurd (cc)
-first_bound s (AuditFail b rs) g r n = absurd (cc)
-first_bound s (Restarted rs ds) g r n = absurd (cc)
-first_bound s (Back t b) g r n = absurd (cc)
+first_bound s _ g r n = absurd (cc)
 
 pub bound : (s : Sizes) (L : List Record) → IsBound s L
 unfolding lefts open_audits
@@ -546,7 +473,7 @@ bound s = by_push (IsBound s) (λ g e some n l. (at_start g e n, omega arith)) s
         by_test b.0 b.1 (b.0.count == 0) refl b.2
       where
         by_test : (h : Rules) → rules_state s L ≡ Some h → (c : Bool) → (h.count == 0) ≡ c → cond c (rules_first s h x) (rules_behind s h x) ≡ Some g → (length (L ++ x ∷ []) + 2 * lefts s (L ++ x ∷ []) n + waits g ≤ 6 * sum_by uses (L ++ x ∷ []) + 2) × (sum_by uses (L ++ x ∷ []) ≤ 269484032)
-        by_test h was true f r = from_start L (nil_from_length L (sym (tallies s L h was).0 ∙ equal h.count 0 f)) was r
+        by_test h was true f r = from_start L (nil_from_length L (sym (tallies s L h was).0 ∙ eqb-true h.count 0 f)) was r
           where
             from_start : (M : List Record) → M ≡ [] → rules_state s M ≡ Some h → rules_first s h x ≡ Some g → (length (M ++ x ∷ []) + 2 * lefts s (M ++ x ∷ []) n + waits g ≤ 6 * sum_by uses (M ++ x ∷ []) + 2) × (sum_by uses (M ++ x ∷ []) ≤ 269484032)
             from_start [] q v r = let is : rules_start ≡ h = cc in first_bound s x g (subst (λ z. rules_first s z x ≡ Some g) (sym is) r) n

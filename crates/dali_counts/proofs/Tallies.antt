@@ -8,11 +8,9 @@ use Rattle.dali_record.specs.declared.records.Record.TheVariants.{Format, Begin,
 use Rattle.dali_record.specs.Spelling.{record_length}
 use Rattle.dali_record.specs.Legal.{Rules, rules_state, rules_next, rules_step, rules_first, rules_behind, runs, kept_if, passes, restarts, TxnState, txn_next}
 use Rattle.dali_record.proofs.Ends.{by_push}
-use Rattle.dali_record.proofs.Pushes.{rules_state_push, cut_push}
-use Rattle.dali_counts.proofs.Lists.{length-push}
-use Rattle.dali_record.specs.Epochs.{Cut, cut, cut_step, next_number, last_epoch}
+use Rattle.dali_record.proofs.Pushes.{rules_state_push}
 use Rattle.dali_record.specs.Files.{draws, next_after}
-use Rattle.std.proofs.lemmas.List.{append-nil}
+use Rattle.std.proofs.lemmas.List.{append-nil, length_push}
 use Rattle.std.proofs.lemmas.List.Elements.{filter_map-append}
 use Rattle.dali_counts.specs.Counts.{next_with}
 
@@ -79,17 +77,7 @@ tells_behind s g (Back t b) = tells_if g.failed _ _ _ (runs s g (Back t b)) (tel
 
 tells_first : (s : Sizes) (g : Rules) (x : Record) → Tells (g.count + 1) (g.weight + record_length x) (next_with x g.next) (rules_first s g x)
 tells_first s g (Format i h) = tells_kept _ (passes g (Format i h))
-tells_first s g (Begin t) = none_tells _ _ _
-tells_first s g (Forward t b) = none_tells _ _ _
-tells_first s g (Done t c a) = none_tells _ _ _
-tells_first s g (Commit t) = none_tells _ _ _
-tells_first s g (Ended t) = none_tells _ _ _
-tells_first s g (Solo t p b) = none_tells _ _ _
-tells_first s g AuditBegin = none_tells _ _ _
-tells_first s g (AuditClean b) = none_tells _ _ _
-tells_first s g (AuditFail b rs) = none_tells _ _ _
-tells_first s g (Restarted rs ds) = none_tells _ _ _
-tells_first s g (Back t b) = none_tells _ _ _
+tells_first s g _ = none_tells _ _ _
 
 pub tells_step : (s : Sizes) (g : Rules) (x : Record) → Tells (g.count + 1) (g.weight + record_length x) (next_with x g.next) (rules_step s g x)
 tells_step s g x = tells_either (g.count == 0) _ _ _ (rules_first s g x) (rules_behind s g x) (tells_first s g x) (tells_behind s g x)
@@ -106,26 +94,7 @@ tallies s = by_push (λ L. Tells (length L) (sum_by record_length L) (numbers L)
     step L x here g (Some h) e f =
         let before : (h.count ≡ length L) × (h.weight ≡ sum_by record_length L) × (h.next ≡ numbers L) = here h e in
         let now : (g.count ≡ h.count + 1) × (g.weight ≡ h.weight + record_length x) × (g.next ≡ next_with x h.next) = tells_step s h x g f in
-        (now.0 ∙ (ap (λ n. n + 1) before.0 ∙ sym (length-push L x)), now.1 ∙ (ap (λ n. n + record_length x) before.1 ∙ sym (sum_by_push record_length L x)), now.2 ∙ (ap (next_with x) before.2 ∙ sym (numbers_push L x)))
-
--- ---- epochs
-cut_number : (c : Cut) (x : Record) → next_number (cut_step c x).now ≡ next_number c.now + 1
-cut_number c (Format i h) = omega arith
-cut_number c (Begin t) = omega (arith, length-push c.now.records (Begin t))
-cut_number c (Forward t b) = omega (arith, length-push c.now.records (Forward t b))
-cut_number c (Done t q r) = omega (arith, length-push c.now.records (Done t q r))
-cut_number c (Commit t) = omega (arith, length-push c.now.records (Commit t))
-cut_number c (Ended t) = omega (arith, length-push c.now.records (Ended t))
-cut_number c (Solo t p b) = omega (arith, length-push c.now.records (Solo t p b))
-cut_number c AuditBegin = omega (arith, length-push c.now.records AuditBegin)
-cut_number c (AuditClean b) = omega (arith, length-push c.now.records (AuditClean b))
-cut_number c (AuditFail b rs) = omega (arith, length-push c.now.records (AuditFail b rs))
-cut_number c (Restarted rs ds) = omega arith
-cut_number c (Back t b) = omega (arith, length-push c.now.records (Back t b))
-
--- the next record's number is the length
-pub number_is : (L : List Record) → next_number (last_epoch L) ≡ length L
-number_is = by_push (λ L. next_number (last_epoch L) ≡ length L) refl (λ L x here. ap (λ c. next_number c.now) (cut_push L x) ∙ (cut_number (cut L) x ∙ (ap (λ n. n + 1) here ∙ sym (length-push L x))))
+        (now.0 ∙ (ap (λ n. n + 1) before.0 ∙ sym (length_push L x)), now.1 ∙ (ap (λ n. n + record_length x) before.1 ∙ sym (sum_by_push record_length L x)), now.2 ∙ (ap (next_with x) before.2 ∙ sym (numbers_push L x)))
 
 -- ---- transactions
 pub next_some : (s : Sizes) (t : ℕ) (o : Option TxnState) (x : Record) → IsSome (txn_next s t o x) → IsSome o
@@ -138,12 +107,12 @@ drawn_push L x n e = ap (λ l. length l + 1) (filter_map-append draws L (x ∷ [
   where
     one : (y : Record) → length (filter_map draws L ++ filter_map draws (y ∷ [])) + 1 ≡ next_with y n
     one (Format i h) = omega (arith, e, ap length (append-nil (filter_map draws L)))
-    one (Begin t) = omega (arith, e, length-push (filter_map draws L) t)
+    one (Begin t) = omega (arith, e, length_push (filter_map draws L) t)
     one (Forward t b) = omega (arith, e, ap length (append-nil (filter_map draws L)))
     one (Done t c a) = omega (arith, e, ap length (append-nil (filter_map draws L)))
     one (Commit t) = omega (arith, e, ap length (append-nil (filter_map draws L)))
     one (Ended t) = omega (arith, e, ap length (append-nil (filter_map draws L)))
-    one (Solo t p b) = omega (arith, e, length-push (filter_map draws L) t)
+    one (Solo t p b) = omega (arith, e, length_push (filter_map draws L) t)
     one AuditBegin = omega (arith, e, ap length (append-nil (filter_map draws L)))
     one (AuditClean b) = omega (arith, e, ap length (append-nil (filter_map draws L)))
     one (AuditFail b rs) = omega (arith, e, ap length (append-nil (filter_map draws L)))

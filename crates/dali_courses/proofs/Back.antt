@@ -1,11 +1,12 @@
 -- Behind an abort and behind a clean-up the records are as before.
-use Rattle.std.proofs.Common.{◌≡◌, ℕ, Bool, true, false, ◌&&◌, ◌||◌, List, [], ◌∷◌, ◌++◌, Option, Some, None, refl, ap, sym, subst, ◌∙◌}
+use Rattle.std.proofs.Common.{◌≡◌, ℕ, Bool, true, false, ◌||◌, List, [], ◌∷◌, ◌++◌, Some, refl, ap, sym, subst, ◌∙◌}
 use Rattle.std.specs.Prelude.{◌==◌}
 use Rattle.std.specs.List.{list_any, list_all}
 use Rattle.std.proofs.lemmas.Bool.Decides.{Decides-eqb}
 use Rattle.std.proofs.lemmas.List.{append-nil}
 use Rattle.std.proofs.lemmas.List.Elements.{filter_map-append}
 use Rattle.std.proofs.lemmas.List.Folds.{list_any-append}
+use Rattle.std.proofs.lemmas.Bool.{or_parts, and_parts}
 use Rattle.dali_record.specs.declared.records.Record.{Record}
 use Rattle.dali_record.specs.declared.records.Record.TheVariants.{Begin, Forward, Done, Ended, Solo, AuditBegin, Back}
 use Rattle.dali_record.specs.Log.{commit_by, committed}
@@ -16,12 +17,14 @@ use Rattle.dali_att.specs.declared.state.State.{State}
 use Rattle.dali_att.specs.declared.state.State.TheVariants.{Live, Dead}
 use Rattle.dali_history.specs.Recovered.{base_of}
 use Rattle.dali_headline.proofs.Running.{front_of}
-use Rattle.dali_system.specs.State.{TxnRow, CoreState, row_of, state_of, state_in}
+use Rattle.dali_system.specs.State.{TxnRow, CoreState, row_of, state_of}
 use Rattle.dali_system.specs.Run.{RunsOn, no_image, is_committed}
 use Rattle.dali_system.specs.Steps.{audit_record}
 use Rattle.dali_system.specs.Regions.{RegionStep, Latch, NoteReads, Update, TakeBack, Poke, Check, Die, Clean}
-use Rattle.dali_system.specs.Courses.{Step, Begins, Operates, TakesBack, Frees, Answers, Commits, Ends, AuditBegins, AuditEnds, Locks, Refuses, OnRegion, Passes, Dies, Claims, GivesBack as GivesTxnBack, Recovers, Stops, Checkpoints, Takes, Flushes, Faults, ReadFails, Moment, IsStep, IsCourse, RunsAt}
+use Rattle.dali_system.specs.Courses.{Step, Begins, Operates, TakesBack, Frees, Answers, Commits, Ends, AuditBegins, AuditEnds, Locks, Refuses, OnRegion, Passes, Claims, GivesBack as GivesTxnBack, Recovers, Takes, Faults, Moment, IsStep, IsCourse, RunsAt}
 use Rattle.dali_system.proofs.Courses.{bare_course_keeps}
+use Rattle.dali_system.proofs.QuietSteps.{row_with}
+use Rattle.dali_system.proofs.Touching.{join}
 use Rattle.dali_facts.proofs.Commits.{committed_is_logged}
 use Rattle.dali_crash.specs.Unpoked.{is_poke, pokes}
 use Rattle.dali_crash.specs.Traces.{core_start}
@@ -31,7 +34,6 @@ use Rattle.dali_during.proofs.UnpokedCourses.{unpoked_courses}
 use Rattle.dali_single.specs.Single.{is_end, Leads}
 use Rattle.dali_clean.specs.Steps.{is_own_change, is_own_step}
 use Rattle.dali_clean.specs.Cleaned.{core, IsEnded as IsCleanedUp}
-use Rattle.dali_clean.proofs.Courses.{join}
 use Rattle.dali_clean.proofs.Steps.{own_steps}
 use Rattle.dali_courses.specs.Back.{ComesQuietly, GivesBack, AbortGivesBack, bases_behind, CleanUpGivesBack}
 use Rattle.dali_courses.proofs.Making.{abort_makes}
@@ -62,40 +64,27 @@ step_commits L M c d (Locks t k m) e s = ap committed s.2.0
 step_commits L M c d (Refuses t k m h) e s = ap committed s.2.0
 step_commits L M c d (OnRegion r x) e s = ap committed s.3.0
 step_commits L M c d (Passes b r) e s = ap committed s.2.0
-step_commits L M c d (Dies t o) e s = ap committed s.1.0
 step_commits L M c d (Claims t) e s = ap committed s.2.0
-step_commits L M c d (GivesTxnBack t o) e s = ap committed s.1.0
 step_commits L M c d (Recovers r) e s = ap committed s.3.0
-step_commits L M c d Stops e s = ap committed s.1.0
-step_commits L M c d (Checkpoints b) e s = ap committed s.1.0
 step_commits L M c d Takes e s = ap committed s.0
-step_commits L M c d Flushes e s = ap committed s.1.0
 step_commits L M c d (Faults n) e s = ap committed s.2.0
-step_commits L M c d (ReadFails n) e s = ap committed s.1.0
-
-neither : (a b : Bool) → (a || b) ≡ false → (a ≡ false) × (b ≡ false)
-neither true b e = absurd cc
-neither false b e = (refl, e)
+step_commits L M c d _ e s = ap committed s.1.0
 
 course_commits : (m n : Moment) (xs : List Step) → list_any is_commit xs ≡ false → IsCourse m xs n → committed n.log ≡ committed m.log
 course_commits m n [] e course = ap (λ (k : Moment). committed k.log) (sym course)
 course_commits m n (x ∷ xs) e course =
-    let both = neither (is_commit x) (list_any is_commit xs) e in
+    let both = or_parts (is_commit x) (list_any is_commit xs) e in
     course_commits course.0 n xs both.1 course.2 ∙ step_commits m.log course.0.log m.core course.0.core x both.0 course.1.0
 
 -- ---- behind the end
 has_right : (xs ys : List ℕ) (t : ℕ) → has (xs ++ ys) t ≡ false → has ys t ≡ false
 has_right [] ys t e = e
-has_right (x ∷ xs) ys t e = has_right xs ys t (neither (x == t) (has (xs ++ ys) t) e).1
+has_right (x ∷ xs) ys t e = has_right xs ys t (or_parts (x == t) (has (xs ++ ys) t) e).1
 
 in_last : (M : List Record) (t : ℕ) → has (committed M) t ≡ false → has (committed (last_epoch M).records) t ≡ false
 in_last M t e =
     let front = front_of M in
     has_right (committed front.0) (committed (last_epoch M).records) t (ap (λ l. has l t) (sym (filter_map-append commit_by front.0 (last_epoch M).records) ∙ ap committed (sym front.1.splits)) ∙ e)
-
-row_there : (row : Option TxnRow) (st : State) → state_in row ≡ Some st → (r : TxnRow) × (row ≡ Some r) × (r.state ≡ st)
-row_there None st e = absurd (let never : None ≡ Some st = e in cc)
-row_there (Some r) st e = (r, refl, cc)
 
 behind : (n m : Moment) (xs : List Step) (M : List Record) (t : ℕ) (st : State) → ComesQuietly n → IsCourse n xs m → list_any pokes xs ≡ false → list_any is_commit xs ≡ false → m.log ≡ M ++ Ended t ∷ []
     → state_of n.core.system t ≡ Some st → is_committed st ≡ false → GivesBack M m.core t
@@ -115,7 +104,7 @@ behind n m xs M t st q course quiet none log state runs =
     run = subst (λ K. RunsOn (bases_behind q.log) K n.core) (sym there.log) there.run.runs
 
     row : (r : TxnRow) × (row_of n.core.system t ≡ Some r) × (r.state ≡ st)
-    row = row_there (row_of n.core.system t) st state
+    row = row_with (row_of n.core.system t) st state
 
     before : has (committed n.log) t ≡ false
     before = sym (committed_is_logged (bases_behind q.log) n.log n.core run t row.0 row.1) ∙ (ap is_committed row.2 ∙ runs)
@@ -126,28 +115,7 @@ behind n m xs M t st q course quiet none log state runs =
 -- ---- an abort
 end_commits : (x : Step) → is_end x ≡ false → is_commit x ≡ false
 end_commits (Commits t) e = absurd cc
-end_commits Begins e = refl
-end_commits (Operates t b) e = refl
-end_commits (TakesBack t b) e = refl
-end_commits (Frees p b) e = refl
-end_commits (Answers t k a) e = refl
-end_commits (Ends t) e = refl
-end_commits AuditBegins e = refl
-end_commits (AuditEnds b found) e = refl
-end_commits (Locks t k m) e = refl
-end_commits (Refuses t k m h) e = refl
-end_commits (OnRegion r x) e = refl
-end_commits (Passes b r) e = refl
-end_commits (Dies t o) e = refl
-end_commits (Claims t) e = refl
-end_commits (GivesTxnBack t o) e = refl
-end_commits (Recovers r) e = refl
-end_commits Stops e = refl
-end_commits (Checkpoints b) e = refl
-end_commits Takes e = refl
-end_commits Flushes e = refl
-end_commits (Faults n) e = refl
-end_commits (ReadFails n) e = refl
+end_commits _ e = refl
 
 leads_commit : (precheck : Bool) (t : ℕ) (L M : List Record) (c d : CoreState) (xs : List Step) → Leads precheck t L c xs M d → list_any is_commit xs ≡ false
 leads_commit precheck t L M c d [] leads = refl
@@ -179,14 +147,10 @@ own_pokes t (GivesTxnBack u o) e = (refl, refl)
 own_pokes t (OnRegion r x) e = (own_is_quiet t x e, refl)
 own_pokes t x e = absurd cc
 
-both_true : (a b : Bool) → (a && b) ≡ true → (a ≡ true) × (b ≡ true)
-both_true true b e = (refl, e)
-both_true false b e = absurd cc
-
 all_pokes : (t : ℕ) (xs : List Step) → list_all (is_own_step t) xs ≡ true → (list_any pokes xs ≡ false) × (list_any is_commit xs ≡ false)
 all_pokes t [] e = (refl, refl)
 all_pokes t (x ∷ xs) e =
-    let both = both_true (is_own_step t x) (list_all (is_own_step t) xs) e in
+    let both = and_parts (is_own_step t x) (list_all (is_own_step t) xs) e in
     let here = own_pokes t x both.0 in
     let rest = all_pokes t xs both.1 in
     (ap (λ b. b || list_any pokes xs) here.0 ∙ rest.0, ap (λ b. b || list_any is_commit xs) here.1 ∙ rest.1)

@@ -5,22 +5,16 @@ use Rattle.dali_record.specs.declared.records.Record.{Record}
 use Rattle.dali_region.specs.State.{RegionState}
 use Rattle.dali_system.specs.State.{CoreState}
 use Rattle.dali_system.specs.Passes.{Audits}
-use Rattle.dali_system.specs.Regions.{RegionStep, Latch, NoteReads, Update, TakeBack, Poke, Check, Die, Clean}
-use Rattle.dali_system.specs.Courses.{Step, Begins, Operates, TakesBack, Frees, Answers, Commits, Ends, AuditBegins, AuditEnds, Locks, Refuses, OnRegion, Passes, Dies, Claims, GivesBack, Recovers, Stops, Checkpoints, Takes, Flushes, Faults, ReadFails, AuditsBy, IsStep}
+use Rattle.dali_system.specs.Regions.{RegionStep, Poke}
+use Rattle.dali_system.specs.Courses.{Step, Operates, TakesBack, Frees, Answers, Commits, Ends, Locks, OnRegion, AuditsBy, IsStep}
 use Rattle.dali_crash.specs.Unpoked.{is_poke, pokes}
 use Rattle.dali_single.specs.Operated.{IsOwn}
 use Rattle.dali_single.specs.Single.{IsOwnStep, Leads}
 use Rattle.dali_courses.specs.Alone.{moment, Makes, OwnStepsAreACourse, AnswerEndsACourse, AbortEndsACourse, SettlingEndsACourse}
 
 own_change : (t : ℕ) (x : RegionStep) (g : RegionState) → IsOwn t x g → is_poke x ≡ false
-own_change t (Latch u) g own = refl
-own_change t (NoteReads mask) g own = refl
-own_change t (Update word value) g own = refl
-own_change t TakeBack g own = refl
 own_change t (Poke word mask) g own = absurd own
-own_change t Check g own = refl
-own_change t Die g own = refl
-own_change t (Clean side) g own = refl
+own_change t _ g own = refl
 
 own_change_at : (t : ℕ) (x : RegionStep) (o : Option RegionState) → IsSomeAnd o (IsOwn t x) → is_poke x ≡ false
 own_change_at t x None own = absurd own
@@ -35,21 +29,7 @@ own_step precheck t L c (Commits u) a own = (refl, refl)
 own_step precheck t L c (Ends u) a own = (refl, refl)
 own_step precheck t L c (Locks u k m) a own = (refl, refl)
 own_step precheck t L c (OnRegion r x) a own = (refl, own_change_at t x (slice_get c.regions r) own)
-own_step precheck t L c Begins a own = absurd own
-own_step precheck t L c AuditBegins a own = absurd own
-own_step precheck t L c (AuditEnds b found) a own = absurd own
-own_step precheck t L c (Refuses u k m h) a own = absurd own
-own_step precheck t L c (Passes b r) a own = absurd own
-own_step precheck t L c (Dies u o) a own = absurd own
-own_step precheck t L c (Claims u) a own = absurd own
-own_step precheck t L c (GivesBack u o) a own = absurd own
-own_step precheck t L c (Recovers r) a own = absurd own
-own_step precheck t L c Stops a own = absurd own
-own_step precheck t L c (Checkpoints b) a own = absurd own
-own_step precheck t L c Takes a own = absurd own
-own_step precheck t L c Flushes a own = absurd own
-own_step precheck t L c (Faults n) a own = absurd own
-own_step precheck t L c (ReadFails n) a own = absurd own
+own_step precheck t L c _ a own = absurd own
 
 -- these steps, and one more
 makes_on : (precheck : Bool) (t : ℕ) (L K M : List Record) (c e d : CoreState) (xs : List Step) (x : Step) (a : Audits) → Leads precheck t L c xs K e → IsStep K e x M d → AuditsBy a a K e x → pokes x ≡ false

@@ -9,7 +9,6 @@ use Rattle.dali_record.specs.Files.{Files}
 use Rattle.dali_region.specs.declared.Side.TheVariants.{A}
 use Rattle.dali_region.specs.State.{RegionState, loaded, checked}
 use Rattle.dali_region.specs.Answers.{cleaned}
-use Rattle.dali_counts.proofs.Lists.{some_same}
 use Rattle.dali_system.specs.Steps.{begun, commit_logged, ended_logged, audit_begun, audit_ended, taken}
 use Rattle.dali_att.specs.declared.state.State.TheVariants.{Live, Committed}
 use Rattle.dali_system.specs.State.{state_of}
@@ -33,6 +32,8 @@ use Rattle.dali_crash.specs.StoreRuns.{CrashIsRightWith}
 use Rattle.dali_crash.proofs.Traces.{fresh_rests, unpoked_trace_is_right}
 use Rattle.dali_history.specs.History.{IsHistory}
 use Rattle.std.specs.List.{list_any}
+use Rattle.dali_lists.proofs.Numbers.{both_below_two}
+use Rattle.dali_lists.proofs.Options.{some_same}
 
 -- ---- the moments
 -- the files of the format; behind the first flush; and behind the second
@@ -204,11 +205,6 @@ step_16 = (refl, ((refl, (refl, refl)), refl), refl)
 pub step_17 : IsPointStep m16 Syncs m17
 step_17 = (record { runs = refl; under_way = refl }, refl)
 
-both : (P : ℕ → Type 0) → P 0 → P 1 → (r : ℕ) → r < 2 → P r
-both P a b zero h = a
-both P a b (suc zero) h = b
-both P a b (suc (suc r)) h = absurd (omega (arith, h))
-
 pub may : MayTurn m17 new_head 4 5
 may = record {
   begun = refl;
@@ -217,7 +213,7 @@ may = record {
   clean = refl;
   ends = omega arith;
   flushed = omega arith;
-  copies = both (λ r. (c : Copy) × (m17.copies (target m17) r ≡ Some c) × IsCertified new_head 4 c) (record { at = 4; passed = true }, refl, record { since = omega arith; until = omega arith; passed = refl }) (record { at = 4; passed = true }, refl, record { since = omega arith; until = omega arith; passed = refl });
+  copies = both_below_two (λ r. (c : Copy) × (m17.copies (target m17) r ≡ Some c) × IsCertified new_head 4 c) (record { at = 4; passed = true }, refl, record { since = omega arith; until = omega arith; passed = refl }) (record { at = 4; passed = true }, refl, record { since = omega arith; until = omega arith; passed = refl });
 }
 
 step_18 : IsPointStep m17 Turns m18

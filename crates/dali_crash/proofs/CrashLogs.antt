@@ -2,7 +2,7 @@
 use Rattle.std.proofs.Common.{◌≡◌, ℕ, ◌+◌, ◌-◌, ◌<◌, ◌≤◌, true, List, [], ◌∷◌, ◌++◌, length, take, Some, refl, ap, sym, subst, ◌∙◌, ◌⊎◌, inl, inr, ⊎_elim, arith}
 use Rattle.std.specs.Prelude.{slice_get}
 use Rattle.std.specs.List.{AllByRecursion}
-use Rattle.std.proofs.lemmas.List.{take_all, take-append-le}
+use Rattle.std.proofs.lemmas.List.{take_all, take-append-le, length_push}
 use Rattle.std.proofs.lemmas.Bool.{cases_lt}
 use Rattle.dali_record.specs.declared.records.Record.{Record}
 use Rattle.dali_record.specs.declared.records.Record.TheVariants.{Format, Begin, Forward, Done, Commit, Ended, Solo, AuditBegin, AuditClean, AuditFail, Restarted, Back}
@@ -20,9 +20,9 @@ use Rattle.dali_crash.specs.CrashLogs.{cut_to, CrashLogs}
 use Rattle.dali_system.proofs.OneMore.{is_inside, step_inside}
 use Rattle.dali_crash.proofs.Honest.{stops_honest}
 use Rattle.dali_counts.proofs.Fronts.{prefix_legal}
-use Rattle.dali_counts.proofs.Lists.{get_take, length-push, length_take}
-use Rattle.dali_counts.proofs.Tallies.{number_is}
 use Rattle.std.proofs.lemmas.Option.{slice_get_within}
+use Rattle.dali_lists.proofs.Lists.{get_take, length_take}
+use Rattle.dali_record.proofs.Batches.{number_is_length}
 
 -- the epochs of a log that is cut off in its last epoch
 cut_off : ℕ → Cut → Cut
@@ -37,24 +37,14 @@ CutsOff L = (n : ℕ) → (last_epoch L).first ≤ n → n ≤ length L → cut 
 
 pub first_before : (c : Cut) (x : Record) → (c.now.first ≤ (cut_step c x).now.first)
 first_before c (Format i h) = omega arith
-first_before c (Begin t) = omega arith
-first_before c (Forward t b) = omega arith
-first_before c (Done t q r) = omega arith
-first_before c (Commit t) = omega arith
-first_before c (Ended t) = omega arith
-first_before c (Solo t p b) = omega arith
-first_before c AuditBegin = omega arith
-first_before c (AuditClean b) = omega arith
-first_before c (AuditFail b rs) = omega arith
-first_before c (Restarted rs ds) = omega arith
-first_before c (Back t b) = omega arith
+first_before c _ = omega arith
 
 cuts_off : (L : List Record) → CutsOff L
 unfolding CutsOff cut_off
-cuts_off = by_push CutsOff (λ n f h. at_start n h) (λ L x here n f h. ⊎_elim (λ lt. earlier L x here n (omega (arith, lt, length-push L x)) f) (λ ge. whole (L ++ x ∷ []) n (omega (arith, ge, h))) (cases_lt n (length (L ++ x ∷ []))))
+cuts_off = by_push CutsOff (λ n f h. at_start n h) (λ L x here n f h. ⊎_elim (λ lt. earlier L x here n (omega (arith, lt, length_push L x)) f) (λ ge. whole (L ++ x ∷ []) n (omega (arith, ge, h))) (cases_lt n (length (L ++ x ∷ []))))
   where
     whole : (M : List Record) (n : ℕ) → n ≡ length M → cut (take n M) ≡ cut_off n (cut M)
-    whole M n e = ap cut (take_all n M (omega (arith, e))) ∙ sym (cut_whole n (cut M) (e ∙ sym (number_is M)))
+    whole M n e = ap cut (take_all n M (omega (arith, e))) ∙ sym (cut_whole n (cut M) (e ∙ sym (number_is_length M)))
 
     at_start : (n : ℕ) → n ≤ length {A = Record} [] → cut (take n []) ≡ cut_off n (cut [])
     at_start n h = whole [] n (omega (arith, h))
@@ -82,11 +72,11 @@ cuts_off = by_push CutsOff (λ n f h. at_start n h) (λ L x here n f h. ⊎_elim
         let f2 : (cut_step (cut L) x).now.first ≤ n = subst (λ (c : Cut). c.now.first ≤ n) (cut_push L x) f in
         ap cut (take-append-le n L (x ∷ []) h)
         ∙ (here n (omega (arith, f2, first_before (cut L) x)) h
-        ∙ (⊎_elim (λ inside. same_cut (cut L) x n inside (omega (arith, h, number_is L))) (λ out. absurd (omega (arith, out, f2, h, number_is L))) (inside_or (cut L) x)
+        ∙ (⊎_elim (λ inside. same_cut (cut L) x n inside (omega (arith, h, number_is_length L))) (λ out. absurd (omega (arith, out, f2, h, number_is_length L))) (inside_or (cut L) x)
         ∙ ap (cut_off n) (sym (cut_push L x))))
 
 -- lock-legal where it is cut off
-locks_cut : (m : ℕ) (E : List Record) → IsLockLegalIn E → IsLockLegalIn (take m E)
+pub locks_cut : (m : ℕ) (E : List Record) → IsLockLegalIn E → IsLockLegalIn (take m E)
 locks_cut m E legal i j a b lt p q c =
     let jm : j < m = omega (arith, touch_within (take m E) j b q, length_take m E) in
     let w : EndedBetween a.owner i j E = legal i j a b lt (ap touch_in (sym (get_take m i E (omega (arith, lt, jm)))) ∙ p) (ap touch_in (sym (get_take m j E jm)) ∙ q) c in

@@ -4,12 +4,12 @@ use Rattle.std.specs.Prelude.{◌||◌, nat_le, nat_lt}
 use Rattle.std.specs.List.{find}
 use Rattle.std.proofs.lemmas.List.{take_all, ext_get_or}
 use Rattle.std.proofs.lemmas.Bool.{leb-true, ltb-true}
+use Rattle.dali_lists.proofs.Options.{some_same}
 use Rattle.dali_geometry.specs.Places.{regions}
 use Rattle.dali_record.specs.declared.records.Record.{Record}
 use Rattle.dali_record.specs.Epochs.{Epoch, next_number, epochs, clean_place}
 use Rattle.dali_record.specs.Settled.{words_in, redo_all}
 use Rattle.dali_record.specs.Files.{is_epoch_for}
-use Rattle.dali_counts.proofs.Lists.{some_same}
 use Rattle.dali_system.proofs.OneMoreTouch.{length-redo_all}
 use Rattle.dali_system.proofs.Redone.{redone_to}
 use Rattle.dali_crash.specs.Fitting.{ButIsWhole, RedoesTheEpoch}

@@ -1,14 +1,14 @@
 -- What the flag of a checkpoint tells, what a step leaves where none is under way, and what stays of a synced file.
 use Rattle.std.proofs.Common.{◌≡◌, ℕ, Bool, true, false, cond, List, [], ◌∷◌, Option, Some, None, refl, ap, sym, subst, ◌∙◌, inl, inr, ⊎_elim}
 use Rattle.std.specs.Prelude.{◌&&◌, ◌==◌, is_some}
+use Rattle.dali_lists.proofs.Options.{some_same}
 use Rattle.dali_record.specs.declared.records.Record.{Record}
 use Rattle.dali_record.specs.Files.{Files}
 use Rattle.dali_region.specs.declared.Side.{Side}
-use Rattle.dali_counts.proofs.Lists.{some_same}
 use Rattle.dali_system.specs.State.{CoreState}
 use Rattle.dali_system.specs.ImageSteps.{same_side, told_with}
 use Rattle.dali_system.specs.Flushes.{frame_of, with_batch}
-use Rattle.dali_system.specs.Courses.{Step, Begins, Operates, TakesBack, Frees, Answers, Commits, Ends, AuditBegins, AuditEnds, Locks, Refuses, OnRegion, Passes, Dies, Claims, GivesBack, Recovers, Stops, Checkpoints, Takes, Flushes, Faults, ReadFails, Moment, IsStepAt}
+use Rattle.dali_system.specs.Courses.{Step, Begins, Operates, Answers, AuditEnds, OnRegion, Dies, GivesBack, Recovers, Stops, Checkpoints, Takes, Flushes, ReadFails, Moment, IsStepAt}
 use Rattle.dali_crash.specs.Checkpoints.{Head, Copy, Point, pass_copy, passes_region, target, head_with, synced_with, StoreStep, Does, Starts, Keeps, Copies, Skips, WritesHead, Syncs, Turns, CopyFails, HeadFails, SyncFails, TurnFails, Finishes, is_of_checkpoint, IsPointCourse, Came, IsPointStep, moment_of}
 use Rattle.dali_crash.specs.StoreRuns.{point_start, FlagTells, FlagStays, CourseFlagTells, FlagChanges, LeavesImages, IdleLeavesImages, KeptStays, IsLeft, SyncedStays}
 use Rattle.dali_crash.proofs.StepLeaves.{vault_goes, core_came}
@@ -20,27 +20,18 @@ flag c = c.system.checking
 same_flag : (m n : Moment) (x : Step) → is_of_checkpoint x ≡ false → IsStepAt m x n → flag n.core ≡ flag m.core
 same_flag m n Begins quiet s = ap flag s.0.1.1
 same_flag m n (Operates t b) quiet s = ap flag s.0.3.1
-same_flag m n (TakesBack t b) quiet s = ap flag s.0.2.1
-same_flag m n (Frees p b) quiet s = ap flag s.0.2.1
 same_flag m n (Answers t k a) quiet s = ap flag s.0.3.1
-same_flag m n (Commits t) quiet s = ap flag s.0.2.1
-same_flag m n (Ends t) quiet s = ap flag s.0.2.1
-same_flag m n AuditBegins quiet s = ap flag s.0.2.1
 same_flag m n (AuditEnds b found) quiet s = ap flag s.0.1.1
-same_flag m n (Locks t k mode) quiet s = ap flag s.0.2.1
-same_flag m n (Refuses t k mode h) quiet s = ap flag s.0.2.1
 same_flag m n (OnRegion r x) quiet s = ap flag s.0.3.1
-same_flag m n (Passes b r) quiet s = ap flag s.0.2.1
 same_flag m n (Dies t o) quiet s = ap flag s.0.1.1
-same_flag m n (Claims t) quiet s = ap flag s.0.2.1
 same_flag m n (GivesBack t o) quiet s = ap flag s.0.1.1
 same_flag m n (Recovers r) quiet s = ap flag s.0.3.1
 same_flag m n Stops quiet s = ap flag s.0.1.1
 same_flag m n (Checkpoints b) quiet s = absurd (cc)
 same_flag m n Takes quiet s = ap flag s.0.1
 same_flag m n Flushes quiet s = ap flag s.0.1.1
-same_flag m n (Faults k) quiet s = ap flag s.0.2.1
 same_flag m n (ReadFails k) quiet s = ap flag s.0.1.1
+same_flag m n _ quiet s = ap flag s.0.2.1
 
 -- flag and what was kept are as before
 as_before : (st new : Point) → flag new.core ≡ flag st.core → new.begun ≡ st.begun → FlagTells st → FlagTells new
@@ -79,7 +70,7 @@ flag_changes st new (SyncFails n) s = ap flag_of s.1
 flag_changes st new (TurnFails n) s = ap flag_of s.5
 flag_changes st new Finishes s = (s.0, ap flag_of s.1)
 
-along : (st new : Point) (xs : List StoreStep) → FlagTells st → IsPointCourse st xs new → FlagTells new
+pub along : (st new : Point) (xs : List StoreStep) → FlagTells st → IsPointCourse st xs new → FlagTells new
 along st new [] tells course = subst FlagTells course tells
 along st new (x ∷ xs) tells course = along course.0 new xs (flag_stays st course.0 x tells course.1) course.2
 
@@ -125,18 +116,13 @@ idle_leaves st new Finishes idle s = by_equal st new _ s.1 (record { told = refl
 -- a crash image has all but its batches from before
 idle_came : (st new : Point) (x : StoreStep) → st.begun ≡ None → IsPointStep st x new → (D F : Files) → Came st x D F → F ≡ record D { batches = F.batches }
 idle_came st new (Does x) idle s D F came = ⊎_elim (λ e. batched D F D.batches e) (λ e. batched D F (with_batch D.batches (frame_of st.log st.core)) e) (core_came st.log st.core x D F came)
-idle_came st new Starts idle s D F came = batched D F D.batches came
-idle_came st new Keeps idle s D F came = batched D F D.batches came
 idle_came st new (Copies r n) idle s D F came = absurd (none_under_way _ s.2.under_way idle)
-idle_came st new (Skips r n) idle s D F came = batched D F D.batches came
 idle_came st new (WritesHead h) idle s D F came = absurd (none_under_way _ s.0.under_way idle)
-idle_came st new Syncs idle s D F came = batched D F D.batches came
 idle_came st new Turns idle s D F came = absurd (none_under_way _ s.3.under_way idle)
 idle_came st new (CopyFails r ws n) idle s D F came = absurd (none_under_way _ s.3.may.under_way idle)
 idle_came st new (HeadFails h n) idle s D F came = absurd (none_under_way _ s.0.may.under_way idle)
-idle_came st new (SyncFails n) idle s D F came = batched D F D.batches came
 idle_came st new (TurnFails n) idle s D F came = absurd (none_under_way _ s.3.may.under_way idle)
-idle_came st new Finishes idle s D F came = batched D F D.batches came
+idle_came st new _ idle s D F came = batched D F D.batches came
 
 pub idle_leaves_images : IdleLeavesImages
 idle_leaves_images st new x idle s = (idle_leaves st new x idle s, idle_came st new x idle s)
@@ -144,18 +130,14 @@ idle_leaves_images st new x idle s = (idle_leaves st new x idle s, idle_came st 
 -- ---- what a checkpoint kept
 pub kept_stays : KeptStays
 kept_stays st new (Does x) h e s = inl (ap (λ (z : Point). z.begun) s.2 ∙ e)
-kept_stays st new Starts h e s = inl (ap (λ (z : Point). z.begun) s.1 ∙ e)
 kept_stays st new Keeps h e s = absurd (none_under_way st.begun (ap is_some e) s.2)
 kept_stays st new (Copies r n) h e s = inl (ap (λ (z : Point). z.begun) s.5 ∙ e)
 kept_stays st new (Skips r n) h e s = inl (ap (λ (z : Point). z.begun) s.5 ∙ e)
-kept_stays st new (WritesHead k) h e s = inl (ap (λ (z : Point). z.begun) s.1 ∙ e)
-kept_stays st new Syncs h e s = inl (ap (λ (z : Point). z.begun) s.1 ∙ e)
 kept_stays st new Turns h e s = inr (ap (λ (z : Point). z.begun) s.5)
 kept_stays st new (CopyFails r ws n) h e s = inl (ap (λ (z : Point). z.begun) s.4 ∙ e)
-kept_stays st new (HeadFails k n) h e s = inl (ap (λ (z : Point). z.begun) s.1 ∙ e)
-kept_stays st new (SyncFails n) h e s = inl (ap (λ (z : Point). z.begun) s.1 ∙ e)
 kept_stays st new (TurnFails n) h e s = inr (ap (λ (z : Point). z.begun) s.5)
 kept_stays st new Finishes h e s = inr (ap (λ (z : Point). z.begun) s.1)
+kept_stays st new _ h e s = inl (ap (λ (z : Point). z.begun) s.1 ∙ e)
 
 -- ---- what is synced
 -- the place of one region, or the head, of the target is written

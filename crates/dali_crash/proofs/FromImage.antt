@@ -2,10 +2,11 @@
 use Rattle.std.proofs.Common.{◌≡◌, ℕ, zero, suc, ◌+◌, ◌-◌, ◌<◌, ◌≤◌, Bool, true, false, cond, List, [], ◌∷◌, ◌++◌, length, take, drop, map, Option, Some, None, refl, ap, sym, ◌∙◌, append_assoc, arith}
 use Rattle.std.specs.Prelude.{◌&&◌, ◌||◌, ◌==◌, not, fold, nat_le}
 use Rattle.std.specs.List.{list_any}
-use Rattle.std.proofs.lemmas.List.{append-nil, take-append-drop, take-append-le, drop-append-le, ext_get_or, length-map}
+use Rattle.std.proofs.lemmas.List.{append-nil, take-append-drop, take-append-le, drop-append-le, ext_get_or, length-map, length_push}
 use Rattle.std.proofs.lemmas.List.Sums.{fold-append}
 use Rattle.std.proofs.lemmas.List.Folds.{list_any-append}
-use Rattle.std.proofs.lemmas.Bool.{leb-true}
+use Rattle.std.proofs.lemmas.Bool.{leb-true, or_parts}
+use Rattle.dali_lists.proofs.Lists.{length_take, length_take_least}
 use Rattle.dali_geometry.specs.Sizes.{Sizes}
 use Rattle.dali_record.specs.declared.records.Record.{Record}
 use Rattle.dali_record.specs.Log.{Touch, touch_of, txn_of}
@@ -16,11 +17,9 @@ use Rattle.dali_record.specs.Settled.{redo, redo_all}
 use Rattle.dali_record.proofs.Ends.{by_push}
 use Rattle.dali_record.proofs.Pushes.{marks_push}
 use Rattle.dali_record.proofs.Chains.{marks-records}
+use Rattle.dali_record.proofs.Batches.{clean_grows}
 use Rattle.dali_history.specs.Recovered.{roll_back, freed, losers, undos_left}
-use Rattle.dali_counts.proofs.Lists.{or_false, length-push, length_take}
 use Rattle.dali_system.proofs.OneMoreTouch.{length-redo_all}
-use Rattle.dali_system.proofs.Redone.{long_enough}
-use Rattle.dali_system.proofs.FlushedImages.{clean_rises}
 use Rattle.dali_crash.specs.Fitting.{FitsWhole, RecoversFromImage}
 use Rattle.dali_crash.proofs.Fitting.{found_is, within_epoch}
 
@@ -33,7 +32,7 @@ none_marked ms = list_any (λ m. m.1) ms
 
 pub not_linked : (before : List Record) (ms : Marks) (b : Touch) → none_marked ms ≡ false → is_linked before ms b ≡ false
 not_linked before [] b h = refl
-not_linked before (m ∷ ms) b h = let parts = or_false m.1 (none_marked ms) h in rw (parts.0, not_linked (before ++ m.0 ∷ []) ms b parts.1) refl
+not_linked before (m ∷ ms) b h = let parts = or_parts m.1 (none_marked ms) h in rw (parts.0, not_linked (before ++ m.0 ∷ []) ms b parts.1) refl
 
 too_early : (d : Damage) (p : ℕ) (a : Touch) → d.first + p < d.clean → is_first d p a ≡ false
 too_early d p a h = by_test (nat_le d.clean (d.first + p)) refl
@@ -54,13 +53,13 @@ length-marks d E = sym (length-map (marks d E) (λ m. m.0)) ∙ ap length (marks
 
 pub none_early : (d : Damage) (E : List Record) → d.first + length E ≤ d.clean → none_marked (marks d E) ≡ false
 none_early d = by_push (λ E. d.first + length E ≤ d.clean → none_marked (marks d E) ≡ false) (λ h. refl) (λ E r here h.
-    let old : none_marked (marks d E) ≡ false = here (omega (arith, h, length-push E r)) in
-    ap none_marked (marks_push d E r) ∙ (list_any-append (λ m. m.1) (marks d E) _ ∙ rw (old, not_marked d (marks d E) r old (omega (arith, h, length-push E r, length-marks d E))) refl))
+    let old : none_marked (marks d E) ≡ false = here (omega (arith, h, length_push E r)) in
+    ap none_marked (marks_push d E r) ∙ (list_any-append (λ m. m.1) (marks d E) _ ∙ rw (old, not_marked d (marks d E) r old (omega (arith, h, length_push E r, length-marks d E))) refl))
 
 -- ---- so all records there are kept
 none_corrupt : (ms : Marks) (t : ℕ) → none_marked ms ≡ false → has_corrupt ms t ≡ false
 none_corrupt [] t h = refl
-none_corrupt (m ∷ ms) t h = let parts = or_false m.1 (none_marked ms) h in rw (parts.0, none_corrupt ms t parts.1) refl
+none_corrupt (m ∷ ms) t h = let parts = or_parts m.1 (none_marked ms) h in rw (parts.0, none_corrupt ms t parts.1) refl
 
 none_dropped : (ms : Marks) (r : Record) → none_marked ms ≡ false → is_dropped ms r ≡ false
 none_dropped ms r h = by_txn (txn_of r)
@@ -72,7 +71,7 @@ none_dropped ms r h = by_txn (txn_of r)
 pub all_kept : (before ms : Marks) → none_marked before ≡ false → none_marked ms ≡ false → kept_from before ms ≡ map (λ m. m.0) ms
 all_kept before [] h g = refl
 all_kept before (m ∷ ms) h g =
-    let parts = or_false m.1 (none_marked ms) g in
+    let parts = or_parts m.1 (none_marked ms) g in
     let more : none_marked (before ++ m ∷ []) ≡ false = list_any-append (λ n. n.1) before (m ∷ []) ∙ rw (h, parts.0) refl in
     rw (none_dropped (before ++ m ∷ []) m.0 more) (ap (λ l. m.0 ∷ l) (all_kept (before ++ m ∷ []) ms more parts.1))
 
@@ -97,7 +96,7 @@ marks_more d n E = let w = step_more d (marks d (take n E)) (drop n E) in (w.0, 
 pub none_of : (n : ℕ) (ms : Marks) → none_marked ms ≡ false → (none_marked (take n ms) ≡ false) × (none_marked (drop n ms) ≡ false)
 none_of zero ms h = (refl, h)
 none_of (suc n) [] h = (refl, refl)
-none_of (suc n) (m ∷ ms) h = let parts = or_false m.1 (none_marked ms) h in let w = none_of n ms parts.1 in (rw (parts.0, w.0) refl, w.1)
+none_of (suc n) (m ∷ ms) h = let parts = or_parts m.1 (none_marked ms) h in let w = none_of n ms parts.1 in (rw (parts.0, w.0) refl, w.1)
 
 map_drop : (n : ℕ) (ms : Marks) → map (λ m. m.0) (drop n ms) ≡ drop n (map (λ m. m.0) ms)
 map_drop zero ms = refl
@@ -138,10 +137,10 @@ redone_from_image s base K F e fit = redone
     clean = none_early d front (omega (arith, length_take c E, fit.fits.certified, above))
       where
         above : e.first ≤ clean_place e
-        above = clean_rises e.first E
+        above = clean_grows e.first E
 
     within : k ≤ length front
-    within = long_enough k c E (omega (arith, fit.fits.certified)) (within_epoch F.first e (found_is F.first (epochs K) e fit.fits.epoch))
+    within = length_take_least k c E (omega (arith, fit.fits.certified)) (within_epoch F.first e (found_is F.first (epochs K) e fit.fits.epoch))
 
     within_marks : k ≤ length A
     within_marks = omega (arith, within, length-marks d front)

@@ -1,10 +1,9 @@
 -- What only grows along steps.
 use Rattle.std.proofs.Common.{◌≡◌, ℕ, ◌≤◌, Bool, true, false, List, [], ◌∷◌, ◌++◌, length, take, drop, refl, ap, sym, subst, ◌∙◌, append_assoc, ⊎_elim, arith}
 use Rattle.std.specs.Prelude.{Contains}
-use Rattle.std.proofs.lemmas.List.{append-nil, take-append-le, take-append-drop}
+use Rattle.std.proofs.lemmas.List.{append-nil, take-append-le, take-append-drop, take-take}
 use Rattle.dali_record.specs.declared.records.Record.{Record}
 use Rattle.dali_record.specs.Log.{committed}
-use Rattle.dali_counts.proofs.Lists.{take_take}
 use Rattle.dali_history.proofs.Chained.{keeps_committed}
 use Rattle.dali_history.specs.Acknowledged.{KeepsCommitted}
 use Rattle.dali_system.specs.State.{VaultState, stable}
@@ -101,7 +100,7 @@ course_grows bases before st new xs run course = record {
 
     front : take m st.log ++ drop m (take n new.log) ≡ take n new.log
     front =
-        ap (λ l. l ++ drop m (take n new.log)) (sym (take_take m n new.log flushed ∙ records))
+        ap (λ l. l ++ drop m (take n new.log)) (sym (take-take m n new.log flushed ∙ records))
         ∙ take-append-drop m (take n new.log)
 
     keeps : KeepsCommitted (take m st.log) (take n new.log)

@@ -1,13 +1,15 @@
 -- From a run in which no damage escapes, the last epoch is honest.
 use Rattle.std.proofs.Common.{◌≡◌, ℕ, ◌+◌, ◌-◌, ◌<◌, ◌≤◌, Bool, true, false, cond, List, [], ◌∷◌, ◌++◌, take, drop, Option, Some, None, refl, ap, sym, subst, ◌∙◌, inl, inr, ⊎_elim, arith}
 use Rattle.std.specs.Prelude.{IsSome, ◌==◌, slice_get, fold, nat_lt, nat_le}
-use Rattle.std.proofs.lemmas.List.{take-append-drop}
+use Rattle.std.proofs.lemmas.List.{take-append-drop, take-take}
 use Rattle.std.proofs.lemmas.List.Sums.{fold-append}
 use Rattle.std.proofs.lemmas.Bool.{cases_lt, ltb-true}
+use Rattle.dali_lists.proofs.Lists.{get_within, get_take, length_take}
+use Rattle.dali_lists.proofs.Tests.{left_true, right_true}
 use Rattle.dali_geometry.specs.Sizes.{Sizes}
 use Rattle.dali_geometry.specs.Places.{regions, is_index, is_heap}
 use Rattle.dali_record.specs.declared.operations.Op.{Op}
-use Rattle.dali_record.specs.declared.operations.Op.TheVariants.{Look, Add, KillEntry, Put, Read, Change, KillCell, FreeCell, ReviveCell, Restore, FreeEntry, ReviveEntry}
+use Rattle.dali_record.specs.declared.operations.Op.TheVariants.{Look, Add, KillEntry, FreeEntry, ReviveEntry}
 use Rattle.dali_record.specs.declared.operations.Block.{Block}
 use Rattle.dali_record.specs.declared.records.Record.{Record}
 use Rattle.dali_record.specs.declared.records.Record.TheVariants.{Format, Begin, Forward, Done, Commit, Ended, Solo, AuditBegin, AuditClean, AuditFail, Restarted, Back}
@@ -17,37 +19,21 @@ use Rattle.dali_record.specs.Settled.{IsSoundAt}
 use Rattle.dali_record.specs.Legal.{Rules, rules_state, rules_next, rules_first, rules_behind, runs, on_kind, has_room}
 use Rattle.dali_record.proofs.Ends.{by_push}
 use Rattle.dali_record.proofs.Pushes.{touch_push_cases, touch_within, rules_state_push, cut_push}
+use Rattle.dali_record.proofs.Batches.{clean_grows}
 use Rattle.dali_region.specs.State.{RegionState}
+use Rattle.dali_history.proofs.ByEpochs.{next_from}
 use Rattle.dali_system.specs.Run.{base_at, RegionRun, blocks_on}
 use Rattle.dali_crash.specs.CrashLogs.{cut_to, StopsHonest, UnpokedHonest, UnpokedEscapesNone}
 use Rattle.dali_system.proofs.OneMore.{is_inside, step_inside}
 use Rattle.dali_system.proofs.OneMoreTouch.{before_less, blocks_on-take}
-use Rattle.dali_counts.proofs.Lists.{and_left, and_right, found, get_take, length_take, take_take}
 use Rattle.dali_counts.proofs.Tallies.{if_kept, if_none}
 
 -- ---- the clean place only rises
-clean_rises : (n : ℕ) (x : Record) → n ≤ clean_step n x
-clean_rises n (Format i h) = omega arith
-clean_rises n (Begin t) = omega arith
-clean_rises n (Forward t b) = omega arith
-clean_rises n (Done t a b) = omega arith
-clean_rises n (Commit t) = omega arith
-clean_rises n (Ended t) = omega arith
-clean_rises n (Solo t p b) = omega arith
-clean_rises n AuditBegin = omega arith
-clean_rises n (AuditClean b) = omega arith
-clean_rises n (AuditFail b rs) = omega arith
-clean_rises n (Restarted rs ds) = omega arith
-clean_rises n (Back t b) = omega arith
-
-fold_rises : (n : ℕ) (E : List Record) → n ≤ fold clean_step n E
-fold_rises n [] = omega arith
-fold_rises n (x ∷ E) = omega (arith, clean_rises n x, fold_rises (clean_step n x) E)
 
 clean_cut : (m : ℕ) (e : Epoch) → clean_place (cut_to m e) ≤ clean_place e
 clean_cut m e =
     let parts : clean_place e ≡ fold clean_step (clean_place (cut_to m e)) (drop m e.records) = ap (fold clean_step e.first) (sym (take-append-drop m e.records)) ∙ fold-append clean_step e.first (take m e.records) (drop m e.records) in
-    omega (arith, parts, fold_rises (clean_place (cut_to m e)) (drop m e.records))
+    omega (arith, parts, clean_grows (clean_place (cut_to m e)) (drop m e.records))
 
 -- ---- each block is on a region of the geometry
 abbrev InRange : Sizes → Record → Type 0
@@ -57,66 +43,34 @@ index_within : (s : Sizes) (r : ℕ) → is_index s r ≡ true → r < regions s
 index_within s r e = omega (arith, ltb-true r s.index e)
 
 heap_within : (s : Sizes) (r : ℕ) → is_heap s r ≡ true → r < regions s
-heap_within s r e = ltb-true r (regions s) (and_right (nat_le s.index r) (nat_lt r (regions s)) e)
+heap_within s r e = ltb-true r (regions s) (right_true (nat_le s.index r) (nat_lt r (regions s)) e)
 
 kind_within : (s : Sizes) (r : ℕ) (o : Op) → on_kind s r o ≡ true → r < regions s
 kind_within s r Look e = index_within s r e
 kind_within s r (Add p) e = index_within s r e
 kind_within s r (KillEntry n) e = index_within s r e
-kind_within s r (Put v) e = heap_within s r e
-kind_within s r (Read c) e = heap_within s r e
-kind_within s r (Change c v) e = heap_within s r e
-kind_within s r (KillCell c) e = heap_within s r e
-kind_within s r (FreeCell c) e = heap_within s r e
-kind_within s r (ReviveCell c) e = heap_within s r e
-kind_within s r (Restore c n vs) e = heap_within s r e
 kind_within s r (FreeEntry n) e = index_within s r e
 kind_within s r (ReviveEntry n) e = index_within s r e
+kind_within s r _ e = heap_within s r e
 
 of_block : (s : Sizes) (t p : ℕ) (b : Block) → b.region < regions s → (a : Touch) → Some (record { txn = t; owner = p; block = b }) ≡ Some a → a.block.region < regions s
 of_block s t p b h a e = let same : record { txn = t; owner = p; block = b } ≡ a = cc in subst (λ (q : Touch). q.block.region < regions s) same h
 
 ran_within : (s : Sizes) (g : Rules) (x : Record) → IsSome (runs s g x) → InRange s x
-ran_within s g (Format i h) k a e = absurd (cc)
-ran_within s g (Begin t) k a e = absurd (cc)
-ran_within s g (Forward t b) k a e = of_block s t t b (kind_within s b.region b.op (and_left (on_kind s b.region b.op) (has_room g (Forward t b)) (if_kept _ _ k))) a e
-ran_within s g (Done t c r) k a e = absurd (cc)
-ran_within s g (Commit t) k a e = absurd (cc)
-ran_within s g (Ended t) k a e = absurd (cc)
-ran_within s g (Solo t p b) k a e = of_block s t p b (kind_within s b.region b.op (and_right (t == g.next) (on_kind s b.region b.op) (if_kept _ _ k))) a e
-ran_within s g AuditBegin k a e = absurd (cc)
-ran_within s g (AuditClean b) k a e = absurd (cc)
-ran_within s g (AuditFail b rs) k a e = absurd (cc)
-ran_within s g (Restarted rs ds) k a e = absurd (cc)
+ran_within s g (Forward t b) k a e = of_block s t t b (kind_within s b.region b.op (left_true (on_kind s b.region b.op) (has_room g (Forward t b)) (if_kept _ _ k))) a e
+ran_within s g (Solo t p b) k a e = of_block s t p b (kind_within s b.region b.op (right_true (t == g.next) (on_kind s b.region b.op) (if_kept _ _ k))) a e
 ran_within s g (Back t b) k a e = of_block s t t b (kind_within s b.region b.op (if_kept _ _ k)) a e
+ran_within s g _ k a e = absurd (cc)
 
 behind_within : (s : Sizes) (g : Rules) (x : Record) → IsSome (rules_behind s g x) → InRange s x
-behind_within s g (Format i h) k a e = absurd (cc)
-behind_within s g (Begin t) k a e = absurd (cc)
 behind_within s g (Forward t b) k a e = ran_within s g (Forward t b) (if_none g.failed _ k) a e
-behind_within s g (Done t c r) k a e = absurd (cc)
-behind_within s g (Commit t) k a e = absurd (cc)
-behind_within s g (Ended t) k a e = absurd (cc)
 behind_within s g (Solo t p b) k a e = ran_within s g (Solo t p b) (if_none g.failed _ k) a e
-behind_within s g AuditBegin k a e = absurd (cc)
-behind_within s g (AuditClean b) k a e = absurd (cc)
-behind_within s g (AuditFail b rs) k a e = absurd (cc)
-behind_within s g (Restarted rs ds) k a e = absurd (cc)
 behind_within s g (Back t b) k a e = ran_within s g (Back t b) (if_none g.failed _ k) a e
+behind_within s g _ k a e = absurd (cc)
 
 first_within : (s : Sizes) (g : Rules) (x : Record) → IsSome (rules_first s g x) → InRange s x
 first_within s g (Format i h) k a e = absurd (cc)
-first_within s g (Begin t) k a e = absurd (cc)
-first_within s g (Forward t b) k a e = absurd (cc)
-first_within s g (Done t c r) k a e = absurd (cc)
-first_within s g (Commit t) k a e = absurd (cc)
-first_within s g (Ended t) k a e = absurd (cc)
-first_within s g (Solo t p b) k a e = absurd (cc)
-first_within s g AuditBegin k a e = absurd (cc)
-first_within s g (AuditClean b) k a e = absurd (cc)
-first_within s g (AuditFail b rs) k a e = absurd (cc)
-first_within s g (Restarted rs ds) k a e = absurd (cc)
-first_within s g (Back t b) k a e = absurd (cc)
+first_within s g _ k a e = absurd (cc)
 
 next_within : (s : Sizes) (o : Option Rules) (x : Record) → IsSome (rules_next s o x) → InRange s x
 next_within s None x k = absurd (cc)
@@ -125,10 +79,6 @@ next_within s (Some g) x k = by_test (g.count == 0) k
     by_test : (c : Bool) → IsSome (cond c (rules_first s g x) (rules_behind s g x)) → InRange s x
     by_test true h = first_within s g x h
     by_test false h = behind_within s g x h
-
-some_before : (s : Sizes) (o : Option Rules) (x : Record) → IsSome (rules_next s o x) → IsSome o
-some_before s None x k = k
-some_before s (Some g) x k = refl
 
 pub blocks_within : (s : Sizes) (L : List Record) → IsSome (rules_state s L) → (i : ℕ) (a : Touch) → touch_at (last_epoch L).records i ≡ Some a → a.block.region < regions s
 blocks_within s = by_push (λ L. IsSome (rules_state s L) → (i : ℕ) (a : Touch) → touch_at (last_epoch L).records i ≡ Some a → a.block.region < regions s) (λ h i a e. absurd (cc)) (λ L x here h. step L x here (rw (rules_state_push s L x) at h))
@@ -149,7 +99,7 @@ blocks_within s = by_push (λ L. IsSome (rules_state s L) → (i : ℕ) (a : Tou
     in_cut c (Back t b) old new false e i a f = absurd (cc)
 
     step : (L : List Record) (x : Record) → (IsSome (rules_state s L) → (i : ℕ) (a : Touch) → touch_at (last_epoch L).records i ≡ Some a → a.block.region < regions s) → IsSome (rules_next s (rules_state s L) x) → (i : ℕ) (a : Touch) → touch_at (last_epoch (L ++ x ∷ [])).records i ≡ Some a → a.block.region < regions s
-    step L x here h i a e = in_cut (cut L) x (here (some_before s (rules_state s L) x h)) (next_within s (rules_state s L) x h) (is_inside x) refl i a (subst (λ (q : Cut). touch_at q.now.records i ≡ Some a) (cut_push L x) e)
+    step L x here h i a e = in_cut (cut L) x (here (next_from s (rules_state s L) x h)) (next_within s (rules_state s L) x h) (is_inside x) refl i a (subst (λ (q : Cut). touch_at q.now.records i ≡ Some a) (cut_push L x) e)
 
 -- ---- honest
 pub stops_honest : StopsHonest
@@ -168,7 +118,7 @@ stops_honest bases L c m run safe i a e = ⊎_elim (λ lt. inl (as_before (regio
     old = ap touch_in (sym (get_take m i E short)) ∙ e
 
     has_region : (g : RegionState) × (slice_get c.regions r ≡ Some g)
-    has_region = found c.regions r (omega (arith, blocks_within c.system.sizes L (rw run.counts.rules refl) i a old, run.whole))
+    has_region = get_within c.regions r (omega (arith, blocks_within c.system.sizes L (rw run.counts.rules refl) i a old, run.whole))
 
     g : RegionState
     g = has_region.0
@@ -180,10 +130,10 @@ stops_honest bases L c m run safe i a e = ⊎_elim (λ lt. inl (as_before (regio
     region = run.regions r g at
 
     as_before : IsSoundAt (base_at bases L) E i → IsSoundAt (base_at bases L) (take m E) i
-    as_before h = rw (take_take i m E (omega (arith, short)), get_take m i E short) h
+    as_before h = rw (take-take i m E (omega (arith, short)), get_take m i E short) h
 
     more : blocks_on r (take i E) < blocks_on r (take m E)
-    more = rw (take_take i m E (omega (arith, short))) at (before_less r 0 (take m E) i a e refl)
+    more = rw (take-take i m E (omega (arith, short))) at (before_less r 0 (take m E) i a e refl)
 
     -- were the block before the clean place, it would be among the first that are sound
     after_clean : g.sound ≤ blocks_on r (take i E) → clean_place (cut_to m (last_epoch L)) ≤ (last_epoch L).first + i
@@ -194,7 +144,7 @@ stops_honest bases L c m run safe i a e = ⊎_elim (λ lt. inl (as_before (regio
             let n : ℕ = clean_place (last_epoch L) - (last_epoch L).first in
             let in_n : i < n = omega (arith, lt, clean_cut m (last_epoch L)) in
             let there : touch_at (take n E) i ≡ Some a = ap touch_in (get_take n i E in_n) ∙ old in
-            let less : blocks_on r (take i E) < blocks_on r (take n E) = rw (take_take i n E (omega (arith, in_n))) at (before_less r 0 (take n E) i a there refl) in
+            let less : blocks_on r (take i E) < blocks_on r (take n E) = rw (take-take i n E (omega (arith, in_n))) at (before_less r 0 (take n E) i a there refl) in
             let sure : blocks_on r (take n E) ≤ g.sound = region.certified (safe.seen r g at) in
             omega (arith, less, sure, ge)
 
@@ -206,7 +156,7 @@ unpoked_honest bases L c run clean i a e = region.sound i a e refl (omega (arith
     r = a.block.region
 
     has_region : (g : RegionState) × (slice_get c.regions r ≡ Some g)
-    has_region = found c.regions r (omega (arith, blocks_within c.system.sizes L (rw run.counts.rules refl) i a e, run.whole))
+    has_region = get_within c.regions r (omega (arith, blocks_within c.system.sizes L (rw run.counts.rules refl) i a e, run.whole))
 
     region : RegionRun (base_at bases L) (last_epoch L) r has_region.0
     region = run.regions r has_region.0 has_region.1

@@ -1,21 +1,19 @@
 -- What a checkpoint kept, and what is known of places in image files, goes on to hold.
-use Rattle.std.proofs.Common.{◌≡◌, ℕ, zero, suc, ◌+◌, ◌-◌, ◌<◌, ◌≤◌, Bool, true, false, List, [], ◌∷◌, ◌++◌, length, take, Some, refl, ap, sym, subst, ◌∙◌, ◌⊎◌, inl, inr, ⊎_elim, arith}
+use Rattle.std.proofs.Common.{◌≡◌, ℕ, ◌+◌, ◌-◌, ◌<◌, ◌≤◌, Bool, true, false, List, [], ◌∷◌, ◌++◌, length, take, Some, ap, sym, subst, ◌∙◌, ◌⊎◌, inl, inr, ⊎_elim, arith}
 use Rattle.std.specs.Prelude.{◌^◌, ◌||◌, map, filter, not, slice_get, flat_map, sum_by}
 use Rattle.std.specs.List.{list_any}
-use Rattle.std.proofs.lemmas.List.{length-append, take_all, take-append-le}
-use Rattle.std.proofs.lemmas.Bool.{cases_lt}
+use Rattle.std.proofs.lemmas.List.{length-append, take_all, take-append-le, length_push}
+use Rattle.std.proofs.lemmas.Bool.{cases_lt, or_cases}
 use Rattle.dali_record.specs.declared.records.Record.{Record}
-use Rattle.dali_record.specs.declared.records.Record.TheVariants.{Format, Begin, Forward, Done, Commit, Ended, Solo, AuditBegin, AuditClean, AuditFail, Restarted, Back}
 use Rattle.dali_record.specs.Log.{begun, ended}
 use Rattle.dali_record.specs.Epochs.{separates, Epoch, last_epoch}
 use Rattle.dali_record.specs.Damage.{has}
 use Rattle.dali_record.specs.Spelling.{record_length}
 use Rattle.dali_record.specs.Settled.{words_in, redo_all}
-use Rattle.dali_record.specs.Files.{Files, batch_length, is_restarted, is_restarted_first, row_of, next_after, table_before}
+use Rattle.dali_record.specs.Files.{Files, batch_length, is_restarted_first, row_of, next_after, table_before}
 use Rattle.dali_record.proofs.Ends.{get_push_cases}
+use Rattle.dali_record.proofs.Batches.{first_of_plain, got_none, number_is_length}
 use Rattle.dali_region.specs.State.{RegionState}
-use Rattle.dali_counts.proofs.Lists.{or_false, length-push}
-use Rattle.dali_counts.proofs.Tallies.{number_is}
 use Rattle.dali_system.specs.State.{VaultState}
 use Rattle.dali_system.specs.Run.{Bases, log_in}
 use Rattle.dali_system.specs.Flushes.{with_batch, with_frame}
@@ -27,39 +25,11 @@ use Rattle.dali_crash.specs.Checkpoints.{Head, Copy}
 use Rattle.dali_crash.specs.StoreRuns.{IsSettledAt, IsCopied, IsPlace, IsKept}
 use Rattle.dali_crash.proofs.StepLeaves.{Onward}
 
--- ---- a frame has no Restarted
-not_restarted : (r : Record) → separates r ≡ false → is_restarted r ≡ false
-not_restarted (Format i h) e = absurd (cc)
-not_restarted (Begin t) e = refl
-not_restarted (Forward t b) e = refl
-not_restarted (Done t k a) e = refl
-not_restarted (Commit t) e = refl
-not_restarted (Ended t) e = refl
-not_restarted (Solo t p b) e = refl
-not_restarted AuditBegin e = refl
-not_restarted (AuditClean b) e = refl
-not_restarted (AuditFail b rs) e = refl
-not_restarted (Restarted rs ds) e = absurd (cc)
-not_restarted (Back t b) e = refl
-
-none_restarted : (B : List Record) → list_any separates B ≡ false → list_any is_restarted B ≡ false
-none_restarted [] h = refl
-none_restarted (r ∷ B) h = let g = or_false (separates r) (list_any separates B) h in rw (not_restarted r g.0) (none_restarted B g.1)
-
-first_of_plain : (B : List Record) → list_any separates B ≡ false → is_restarted_first B ≡ true
-first_of_plain [] h = refl
-first_of_plain (r ∷ B) h = ap not (none_restarted B (or_false (separates r) (list_any separates B) h).1)
-
 -- ---- the place with one batch more
 abbrev Placed : List (List Record) → ℕ → List Record → Type 0
 Placed bs place front =
     (k : ℕ) × (flat_map (λ b. b) (take k bs) ≡ front) × (place ≡ sum_by batch_length (take k bs))
     × ((j : ℕ) (b : List Record) → k ≤ j → slice_get bs j ≡ Some b → is_restarted_first b ≡ true)
-
-pub got_none : (cs : List (List Record)) (j : ℕ) (b : List Record) → length cs ≤ j → slice_get cs j ≡ Some b → ⊥
-got_none [] j b le at = cc
-got_none (c ∷ cs) zero b le at = omega (arith, le)
-got_none (c ∷ cs) (suc j) b le at = got_none cs j b (omega (arith, le)) at
 
 placed_within : (bs : List (List Record)) (B front : List Record) (place : ℕ) → is_restarted_first B ≡ true → (p : Placed bs place front) → p.0 ≤ length bs → Placed (bs ++ B ∷ []) place front
 placed_within bs B front place first p le =
@@ -112,7 +82,7 @@ kept_goes m n h v w old new frame kept goes current inside store = ⊎_elim same
     more s = subst (λ L. IsKept L w new h) (sym s.2) (record {
       number = kept.number ∙ ap (λ c. c + 1) (sym current);
       from = subst (λ (e : Epoch). e.first ≤ h.first) (sym last) kept.from;
-      to = omega (arith, kept.to, length-push m.log s.0);
+      to = omega (arith, kept.to, length_push m.log s.0);
       weight = kept.weight ∙ ap (sum_by record_length) (sym front);
       next = kept.next ∙ ap next_after (sym front);
       table = kept.table ∙ sym (ap (λ (e : Epoch). table_before e h.first) last ∙ ap (λ P. map (row_of P) (filter (λ t. not (has (ended P) t)) (begun P))) rows);
@@ -129,12 +99,12 @@ kept_goes m n h v w old new frame kept goes current inside store = ⊎_elim same
         front = take-append-le h.first m.log (s.0 ∷ []) kept.to
 
         rows : take (h.first - (last_epoch m.log).first) ((last_epoch m.log).records ++ s.0 ∷ []) ≡ take (h.first - (last_epoch m.log).first) (last_epoch m.log).records
-        rows = take-append-le (h.first - (last_epoch m.log).first) (last_epoch m.log).records (s.0 ∷ []) (omega (arith, kept.to, number_is m.log))
+        rows = take-append-le (h.first - (last_epoch m.log).first) (last_epoch m.log).records (s.0 ∷ []) (omega (arith, kept.to, number_is_length m.log))
 
 -- ---- what is known of a place
 pub settled_more : (base : List (List ℕ)) (e : Epoch) (x : Record) (r n : ℕ) (ws : List ℕ) → IsSettledAt base e r n ws → IsSettledAt base (one_more e x) r n ws
 settled_more base e x r n ws is = record {
-  to = omega (arith, is.to, length-push e.records x);
+  to = omega (arith, is.to, length_push e.records x);
   words = is.words ∙ ap (λ E. words_in (redo_all base E) r) (sym (take-append-le (n - e.first) e.records (x ∷ []) (omega (arith, is.to))));
 }
 
@@ -146,10 +116,6 @@ copied_goes bases m n r g k ws goes is = ⊎_elim
     (λ e. subst (λ L. IsCopied (bases (last_epoch L).first) (last_epoch L) r g k ws) (sym e) is)
     (λ s. subst (λ L. IsCopied (bases (last_epoch L).first) (last_epoch L) r g k ws) (sym s.2) (subst (λ (e : Epoch). IsCopied (bases e.first) e r g k ws) (sym (last_epoch-push m.log s.0 s.1)) (copied_more (bases (last_epoch m.log).first) (last_epoch m.log) s.0 r g k ws is)))
     goes.log
-
-or_cases : (a b : Bool) → (a || b) ≡ true → (a ≡ true) ⊎ (b ≡ true)
-or_cases true b e = inl refl
-or_cases false b e = inr e
 
 -- the region goes on, and an audit may pass it
 pub copied_onward : (base : List (List ℕ)) (e : Epoch) (r : ℕ) (passes : Bool) (g h : RegionState) (k : Copy) (ws : List ℕ) → Onward passes g h → IsCopied base e r g k ws → IsCopied base e r h (record k { passed = k.passed || passes }) ws

@@ -3,6 +3,7 @@ use Rattle.std.proofs.Common.{◌≡◌, ℕ, zero, suc, Bool, true, false, cond
 use Rattle.std.specs.Prelude.{◌==◌, ◌/◌, fold, reverse, replicate, slice_get, slice_set, zip}
 use Rattle.std.specs.List.{AllByRecursion}
 use Rattle.std.proofs.lemmas.List.{length-append, length-map, length-replicate, length-set, reverse-append}
+use Rattle.dali_lists.proofs.Members.{all_append}
 use Rattle.dali_words.specs.Words.{has_first, first_or, rest_of, write_under}
 use Rattle.dali_words.specs.Effects.{write_all}
 use Rattle.dali_geometry.specs.Sizes.{Sizes}
@@ -24,13 +25,11 @@ use Rattle.dali_record.specs.Spelling.{Is64, IsUndo, MayBeUndo, CanBeSpelled}
 use Rattle.dali_record.specs.Legal.{sizes_of}
 use Rattle.dali_history.specs.Recovered.{undo_into, roll_back, free_word, freed, losers, undos_left, recover, base_of, recovered, recovered_now}
 use Rattle.dali_history.specs.History.{AreSpelled}
-use Rattle.dali_words.proofs.Masks.{length-write_all, length-write_under}
+use Rattle.dali_words.proofs.Masks.{length-write_under}
+use Rattle.dali_history.proofs.Images.{length-undo}
 use Rattle.dali_system.specs.Run.{AllAreWords}
 
 -- ---- lists
-all_append : {X : Type 0} (P : X → Type 0) (xs ys : List X) → AllByRecursion P xs → AllByRecursion P ys → AllByRecursion P (xs ++ ys)
-all_append P [] ys h g = g
-all_append P (x ∷ xs) ys h g = (h.0, all_append P xs ys h.1 g)
 
 all_take : {X : Type 0} (P : X → Type 0) (n : ℕ) (xs : List X) → AllByRecursion P xs → AllByRecursion P (take n xs)
 all_take P zero xs h = tt
@@ -55,7 +54,7 @@ all_reverse : {X : Type 0} (P : X → Type 0) (xs : List X) → AllByRecursion P
 all_reverse P [] h = tt
 all_reverse P (x ∷ xs) h = subst (AllByRecursion P) (sym (reverse-append (x ∷ []) xs)) (all_append P (reverse xs) (x ∷ []) (all_reverse P xs h.1) (h.0, tt))
 
-all_drop_last : {X : Type 0} (P : X → Type 0) (xs : List X) → AllByRecursion P xs → AllByRecursion P (drop_last xs)
+pub all_drop_last : {X : Type 0} (P : X → Type 0) (xs : List X) → AllByRecursion P xs → AllByRecursion P (drop_last xs)
 all_drop_last P [] h = tt
 all_drop_last P (x ∷ []) h = tt
 all_drop_last P (x ∷ y ∷ xs) h = (h.0, all_drop_last P (y ∷ xs) h.1)
@@ -96,18 +95,10 @@ block_fits : (image : List (List ℕ)) (b : Block) → AreFit image → Fit b.af
 block_fits image b h g = all_set Fit image b.region _ h (write_fits b.write b.after (words_in image b.region) g (fit_in image b.region h))
 
 redo_fits : (image : List (List ℕ)) (r : Record) → AreFit image → CanBeSpelled r → AreFit (redo image r)
-redo_fits image (Format i n) h s = h
-redo_fits image (Begin t) h s = h
 redo_fits image (Forward t b) h s = block_fits image b h s.1.after
-redo_fits image (Done t c a) h s = h
-redo_fits image (Commit t) h s = h
-redo_fits image (Ended t) h s = h
 redo_fits image (Solo t p b) h s = block_fits image b h s.2.after
-redo_fits image AuditBegin h s = h
-redo_fits image (AuditClean b) h s = h
-redo_fits image (AuditFail b rs) h s = h
-redo_fits image (Restarted rs ds) h s = h
 redo_fits image (Back t b) h s = block_fits image b h s.1.after
+redo_fits image _ h s = h
 
 abbrev AllSpelled : List Record → Type 0
 AllSpelled E = AllByRecursion CanBeSpelled E
@@ -132,18 +123,12 @@ step_fits t us (Forward u b) h s = by_test (u == t)
     by_test true = added_fits us b b.undo h s.1.undo
     by_test false = h
 step_fits t us (Done u c a) h s = h
-step_fits t us (Commit u) h s = h
-step_fits t us (Ended u) h s = h
-step_fits t us (Solo u p b) h s = h
-step_fits t us AuditBegin h s = h
-step_fits t us (AuditClean b) h s = h
-step_fits t us (AuditFail b rs) h s = h
-step_fits t us (Restarted rs ds) h s = h
 step_fits t us (Back u b) h s = by_test (u == t)
   where
     by_test : (c : Bool) → AreUndos (cond c (drop_last us) us)
     by_test true = all_drop_last (λ p. IsUndo p.undo) us h
     by_test false = h
+step_fits t us _ h s = h
 
 undos_fit : (t : ℕ) (E : List Record) → AllSpelled E → AreUndos (undos_of t E)
 undos_fit t E s = all_fold CanBeSpelled AreUndos (undo_step t) [] E (λ us r h p. step_fits t us r h p) s tt
@@ -292,28 +277,13 @@ same_block : (image : List (List ℕ)) (b : Block) → shape (slice_set image b.
 same_block image b = same_set image b.region _ (length-write_under b.write b.after (words_in image b.region))
 
 same_redo : (image : List (List ℕ)) (r : Record) → shape (redo image r) ≡ shape image
-same_redo image (Format i n) = refl
-same_redo image (Begin t) = refl
 same_redo image (Forward t b) = same_block image b
-same_redo image (Done t c a) = refl
-same_redo image (Commit t) = refl
-same_redo image (Ended t) = refl
 same_redo image (Solo t p b) = same_block image b
-same_redo image AuditBegin = refl
-same_redo image (AuditClean b) = refl
-same_redo image (AuditFail b rs) = refl
-same_redo image (Restarted rs ds) = refl
 same_redo image (Back t b) = same_block image b
-
-undo_length : (u : Undo) (key : ℕ) (ws : List ℕ) → length (effect (undo_op u) key ws).0.after ≡ length ws
-undo_length (UndoFreeCell c) key ws = length-set ws (cell.state_word c) 0
-undo_length (UndoReviveCell c) key ws = length-set ws (cell.state_word c) 1
-undo_length (UndoRestore c n vs) key ws = length-write_all ws (zip (cell.length_word c ∷ cell.value_words c) (n ∷ vs))
-undo_length (UndoFreeEntry e) key ws = length-set ws (entry.state_word e) 0
-undo_length (UndoReviveEntry e) key ws = length-set ws (entry.state_word e) 1
+same_redo image _ = refl
 
 same_rolled : (image : List (List ℕ)) (us : List Pending) → shape (roll_back image us) ≡ shape image
-same_rolled image us = same_fold undo_into shape (λ z p. same_set z p.region _ (undo_length p.undo p.key (words_in z p.region))) (reverse us) image
+same_rolled image us = same_fold undo_into shape (λ z p. same_set z p.region _ (length-undo p.undo p.key (words_in z p.region))) (reverse us) image
 
 free_length : (ws : List ℕ) (i : ℕ) → length (free_word ws i) ≡ length ws
 free_length ws i = by_test (get_or ws i 0 == 2)

@@ -1,5 +1,5 @@
 -- The worked run behind a restart: each premise of each step is met.
-use Rattle.std.proofs.Common.{◌≡◌, zero, suc, ◌<◌, Bool, true, false, List, [], ◌∷◌, ◌++◌, map, take, Option, Some, None, refl, ap, sym, ◌∙◌, inr, arith}
+use Rattle.std.proofs.Common.{◌≡◌, zero, suc, ◌<◌, Bool, true, false, List, [], ◌∷◌, ◌++◌, map, take, Option, Some, refl, ap, sym, ◌∙◌, inr, arith}
 use Rattle.std.specs.Prelude.{is_some, replicate}
 use Rattle.std.specs.List.{list_any, All}
 use Rattle.std.specs.FinMap.{get, empty}
@@ -18,8 +18,8 @@ use Rattle.dali_heap.specs.Cells.{cells}
 use Rattle.dali_words.specs.Values.{IsValue}
 use Rattle.dali_region.specs.State.{RegionState, loaded, touched}
 use Rattle.dali_locks.specs.declared.mode.Mode.{Mode}
-use Rattle.dali_locks.specs.declared.mode.Mode.TheVariants.{Shared, Exclusive}
-use Rattle.dali_locks.specs.Locks.{stronger_mode, locks_with}
+use Rattle.dali_locks.specs.declared.mode.Mode.TheVariants.{Exclusive}
+use Rattle.dali_locks.specs.Locks.{locks_with}
 use Rattle.dali_locks.proofs.Changes.{get-locks_with}
 use Rattle.dali_att.specs.Table.{fresh_row}
 use Rattle.dali_history.specs.Recovered.{recovered}
@@ -36,7 +36,7 @@ use Rattle.dali_system.proofs.Tables.{added}
 use Rattle.dali_system.proofs.RowStates.{begun_state, op_state}
 use Rattle.dali_att.specs.declared.state.State.TheVariants.{Live}
 use Rattle.dali_system.proofs.Touching.{with_one, after_all, touches, is_flush, join_traces, quiet_trace}
-use Rattle.dali_system.proofs.Worked.{logging, logs_by, alive_by}
+use Rattle.dali_system.proofs.Worked.{logging, logs_by, alive_by, strongest}
 use Rattle.dali_crash.specs.Starts.{IsRestarted}
 use Rattle.dali_crash.specs.Checkpoints.{Point, Does, Traced, moment_of}
 use Rattle.dali_crash.specs.StoreRuns.{CrashIsRightWith}
@@ -138,11 +138,6 @@ begins = ((record { runs = refl; room = omega arith }, (refl, refl)), refl)
 
 asks : IsStepAt begun_2 (Asks 2 5 Exclusive) locked
 asks = ((ap (λ (row : Option TxnRow). is_some row) (added first.core.system.table 2 fresh_row 2), (λ u n d e. absurd (no_lock u 5 n e)), (refl, refl)), refl)
-
-strongest : (o : Option Mode) (d : Bool) → covers (Some (stronger_mode o Exclusive)) d ≡ true
-strongest None d = refl
-strongest (Some Shared) d = refl
-strongest (Some Exclusive) d = refl
 
 covered : (d : Bool) → covers (get (locks_with empty 2 5 Exclusive) (2, 5)) d ≡ true
 covered d = ap (λ (o : Option Mode). covers o d) (get-locks_with empty 2 5 Exclusive 2 5) ∙ strongest (get empty (2, 5)) d

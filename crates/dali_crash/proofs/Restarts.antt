@@ -1,8 +1,9 @@
 -- The log of a crash image of a run is a history, and a restart from it is right.
 use Rattle.std.proofs.Common.{refl, ◌≡◌, ℕ, zero, suc, ◌-◌, ◌<◌, ◌≤◌, List, [], ◌∷◌, ◌++◌, take, drop, Some, ap, sym, subst, ◌∙◌, arith}
 use Rattle.std.specs.Prelude.{fold, slice_get, nat_le}
-use Rattle.std.proofs.lemmas.List.{take-append-drop}
+use Rattle.std.proofs.lemmas.List.{take-append-drop, take-take}
 use Rattle.std.proofs.lemmas.Bool.{leb-true}
+use Rattle.dali_lists.proofs.Tests.{left_true}
 use Rattle.dali_geometry.specs.Sizes.{Sizes}
 use Rattle.dali_geometry.specs.Places.{formatted_image}
 use Rattle.dali_record.specs.declared.records.Record.{Record}
@@ -20,7 +21,6 @@ use Rattle.dali_history.proofs.Restarts.{restarted, honest_push}
 use Rattle.dali_history.proofs.Chained.{keeps_committed}
 use Rattle.dali_headline.proofs.NothingToFree.{recovered-restarted_history, recovered-base}
 use Rattle.dali_headline.proofs.Headline.{restart_is_right}
-use Rattle.dali_counts.proofs.Lists.{take_take, and_left}
 use Rattle.dali_system.specs.State.{CoreState, stable, log_after}
 use Rattle.dali_system.specs.Run.{Bases, base_at, log_in, IsRun, IsPrefix, only}
 use Rattle.dali_crash.specs.CrashLogs.{cut_to, IsCrashLog}
@@ -44,7 +44,7 @@ begins_behind s [] e = absurd (cc)
 begins_behind s (x ∷ L) e = let same : x ≡ Format s.index s.heap = cc in subst (λ y. 0 < (last_epoch (y ∷ L)).first) (sym same) (omega (arith, first_rises (cut_step (record { closed = []; now = record { first = 0; records = [] } }) (Format s.index s.heap)) L))
 
 pub some_sizes : (s : Sizes) → CanBeSpelled (Format s.index s.heap) → (0 < s.index) × (0 < s.heap)
-some_sizes s e = (omega (arith, leb-true 1 s.index (and_left (nat_le 1 s.index) _ e.0)), omega (arith, leb-true 1 s.heap (and_left (nat_le 1 s.heap) _ e.1)))
+some_sizes s e = (omega (arith, leb-true 1 s.index (left_true (nat_le 1 s.index) _ e.0)), omega (arith, leb-true 1 s.heap (left_true (nat_le 1 s.heap) _ e.1)))
 
 HonestCut : Sizes → Cut → Type 0
 HonestCut s c = AreHonest s (formatted_image s) (c.closed ++ c.now ∷ [])
@@ -75,7 +75,7 @@ crash_is_right bases L c n run right from to safe = restart_is_right (take n L) 
 
 -- ---- a run
 goes_on_to : (L K : List Record) (k n : ℕ) → k ≤ n → K ≡ take n L → take k L ++ drop k (take n L) ≡ K
-goes_on_to L K k n h e = ap (λ l. l ++ drop k (take n L)) (sym (take_take k n L h)) ∙ (take-append-drop k (take n L) ∙ sym e)
+goes_on_to L K k n h e = ap (λ l. l ++ drop k (take n L)) (sym (take-take k n L h)) ∙ (take-append-drop k (take n L) ∙ sym e)
 
 -- what stands in a beginning of the log stands in a longer one, and survives there unless a chain deletes it
 keeps_in : (L K : List Record) (k n : ℕ) → k ≤ n → K ≡ take n L → RestartIsRight K → KeepsCommitted (take k L) K

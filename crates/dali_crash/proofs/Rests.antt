@@ -12,7 +12,7 @@ use Rattle.dali_record.specs.Legal.{sizes_of, Rules, rules_next, rules_state}
 use Rattle.dali_record.proofs.Ends.{by_push, last_of_push}
 use Rattle.dali_record.proofs.Pushes.{cut_push, rules_state_push}
 use Rattle.dali_record.proofs.EpochRules.{format_first}
-use Rattle.dali_counts.proofs.Tallies.{number_is}
+use Rattle.dali_record.proofs.Batches.{number_is_length}
 use Rattle.dali_crash.proofs.Fitting.{found_is}
 use Rattle.dali_crash.specs.Traces.{FitsAtLast}
 
@@ -85,6 +85,6 @@ fits_at_last L base D e is none fits behind = ⊎_elim by_recovered (λ same. in
             let next : next_number (last_epoch L) ≡ (last_epoch L).first = ap (λ E. (last_epoch L).first + length E) none ∙ (let z : (last_epoch L).first + 0 ≡ (last_epoch L).first = omega arith in z) in
             let ends : next_number e ≡ next_number d = ap next_number same in
             no_length e.records (⊎_elim
-            (λ le. omega (arith, le, behind, number_is L, next, linked, ends))
-            (λ lt. absurd (omega (arith, lt, behind, number_is L, next, linked, ends)))
+            (λ le. omega (arith, le, behind, number_is_length L, next, linked, ends))
+            (λ lt. absurd (omega (arith, lt, behind, number_is_length L, next, linked, ends)))
             (epoch_cases D.first e (found_is D.first _ e fits.epoch)))

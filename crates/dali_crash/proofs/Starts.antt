@@ -1,7 +1,8 @@
 -- The files right after a format or a restart fit their log.
 use Rattle.std.proofs.Common.{◌≡◌, ℕ, zero, suc, ◌+◌, ◌-◌, ◌<◌, ◌≤◌, Bool, true, List, [], ◌∷◌, ◌++◌, length, take, drop, Some, refl, ap, sym, subst, ◌∙◌, inl, inr, ⊎_elim, arith}
 use Rattle.std.specs.Prelude.{map, filter, slice_get, sum_by, flat_map, not}
-use Rattle.std.proofs.lemmas.List.{take_all, take-append-le}
+use Rattle.std.proofs.lemmas.List.{take_all, take-append-le, length_push}
+use Rattle.dali_lists.proofs.Members.{all_push}
 use Rattle.dali_geometry.specs.Sizes.{Sizes}
 use Rattle.dali_geometry.specs.Places.{regions, formatted_image}
 use Rattle.dali_record.specs.declared.records.Record.{Record}
@@ -15,14 +16,12 @@ use Rattle.dali_record.specs.Legal.{sizes_of}
 use Rattle.dali_record.specs.Files.{Files, batch_length, is_restarted_first, next_after, epoch_from, row_of}
 use Rattle.dali_record.proofs.Ends.{get_push_cases}
 use Rattle.dali_record.proofs.Pushes.{cut_push}
-use Rattle.dali_record.proofs.EpochRules.{all_push}
+use Rattle.dali_record.proofs.Batches.{number_is_length}
 use Rattle.dali_history.specs.Recovered.{recovered}
 use Rattle.dali_history.specs.History.{IsHistory}
 use Rattle.dali_history.specs.Promise.{RestartsAs}
 use Rattle.dali_crash.proofs.RecoveredWords.{recovered_count}
 use Rattle.dali_headline.proofs.Headline.{restart_is_right}
-use Rattle.dali_counts.proofs.Lists.{length-push}
-use Rattle.dali_counts.proofs.Tallies.{number_is}
 use Rattle.dali_system.specs.Run.{Bases, base_at, log_in}
 use Rattle.dali_system.specs.Images.{FitsBut}
 use Rattle.dali_system.proofs.LastEpochs.{found_for, sooner, end_before}
@@ -40,12 +39,12 @@ drop_none : (n : ℕ) → drop n no_records ≡ no_records
 drop_none zero = refl
 drop_none (suc n) = refl
 
-nothing_redone : (image base : List (List ℕ)) (a b r : ℕ) → words_in image r ≡ words_in base r → words_in (redo_all image (drop a (take b []))) r ≡ words_in (redo_all base (take b [])) r
+pub nothing_redone : (image base : List (List ℕ)) (a b r : ℕ) → words_in image r ≡ words_in base r → words_in (redo_all image (drop a (take b []))) r ≡ words_in (redo_all base (take b [])) r
 nothing_redone image base a b r e =
     ap (λ E. words_in (redo_all image E) r) (ap (drop a) (take_none b) ∙ drop_none a)
     ∙ (e ∙ ap (λ E. words_in (redo_all base E) r) (sym (take_none b)))
 
-no_rows : (b : ℕ) → [] ≡ map (row_of (take b [])) (filter (λ t. not (has (ended (take b [])) t)) (begun (take b [])))
+pub no_rows : (b : ℕ) → [] ≡ map (row_of (take b [])) (filter (λ t. not (has (ended (take b [])) t)) (begun (take b [])))
 no_rows b = ap (λ P. map (row_of P) (filter (λ t. not (has (ended P) t)) (begun P))) (sym (take_none b))
 
 -- ---- after a format
@@ -88,7 +87,7 @@ restarted_fits s bases missed L F is base whole log = subst (FitsBut s bases mis
     is.place ∙ sym (ap (λ bs. sum_by batch_length bs) older),
     λ j b h e. behind j b h (ap (λ bs. slice_get bs j) (sym is.batches) ∙ e),
   );
-  count = omega (arith, is.first, ap length is.log, length-push M x);
+  count = omega (arith, is.first, ap length is.log, length_push M x);
   lengths = is.weight ∙ sym (ap (sum_by record_length) front);
   numbers = is.next ∙ sym (ap next_after front);
   fresh = λ h. absurd (omega (arith, h, is.gates));
@@ -96,7 +95,7 @@ restarted_fits s bases missed L F is base whole log = subst (FitsBut s bases mis
   whole = whole;
   epoch = found;
   recent = inr (sym last);
-  certified = omega (arith, is.first, number_is M);
+  certified = omega (arith, is.first, number_is_length M);
   table_is = is.table ∙ no_rows (F.first - e.first);
   words = λ r h n. nothing_redone F.image (bases e.first) (F.first - e.first) (e.first - e.first) r (ap (λ (im : List (List ℕ)). words_in im r) (base ∙ ap (λ (d : Epoch). bases d.first) last));
 })
@@ -133,9 +132,9 @@ restarted_fits s bases missed L F is base whole log = subst (FitsBut s bases mis
         ap (λ (c : Cut). epoch_from F.first (c.closed ++ c.now ∷ [])) parts
         ∙ found_for F.first ((cut M).closed ++ (cut M).now ∷ []) e
         (all_push (λ (d : Epoch). (next_number d ≤ F.first) × (d.first < F.first)) (cut M).closed (cut M).now
-        (sooner (last_epoch M).first F.first (cut M).closed (omega (arith, is.first, number_is M)) (end_before M))
-        (omega (arith, is.first, number_is M), omega (arith, is.first, number_is M, some)))
-        (inl (omega (arith, is.first, number_is M)))
+        (sooner (last_epoch M).first F.first (cut M).closed (omega (arith, is.first, number_is_length M)) (end_before M))
+        (omega (arith, is.first, number_is_length M), omega (arith, is.first, number_is_length M, some)))
+        (inl (omega (arith, is.first, number_is_length M)))
 
 pub fresh_fits : FreshFits
 fresh_fits bases L F missed base is = subst (λ K. FitsBut (sizes_of L) bases missed K F (last_epoch K)) (sym is.log) (⊎_elim formatted restarted is.kind)

@@ -1,15 +1,16 @@
 -- A step that is none of a checkpoint clears no region's flag.
 use Rattle.std.proofs.Common.{◌≡◌, ℕ, false, List, Some, None, refl, ap, sym, ◌∙◌, ⊎_elim}
 use Rattle.std.specs.Prelude.{slice_get, slice_set}
+use Rattle.std.proofs.lemmas.Bool.{or_parts}
+use Rattle.dali_lists.proofs.Lists.{set_cases}
 use Rattle.dali_region.specs.declared.Side.{Side}
 use Rattle.dali_region.specs.declared.Side.TheVariants.{A, B}
 use Rattle.dali_region.specs.State.{RegionState, touched, checked, wrote}
 use Rattle.dali_region.specs.Answers.{is_dirty}
-use Rattle.dali_counts.proofs.Lists.{or_false, set_cases}
 use Rattle.dali_system.specs.State.{CoreState}
 use Rattle.dali_system.specs.Regions.{RegionStep, Latch, NoteReads, Update, TakeBack, Poke, Check, Die, Clean, region_after}
 use Rattle.dali_system.specs.ImageSteps.{clears}
-use Rattle.dali_system.specs.Courses.{Step, Begins, Operates, TakesBack, Frees, Answers, Commits, Ends, AuditBegins, AuditEnds, Locks, Refuses, OnRegion, Passes, Dies, Claims, GivesBack, Recovers, Stops, Checkpoints, Takes, Flushes, Faults, ReadFails, Moment, IsStepAt}
+use Rattle.dali_system.specs.Courses.{Step, Begins, Operates, TakesBack, Frees, Answers, AuditEnds, OnRegion, Passes, Dies, Claims, GivesBack, Recovers, Stops, Checkpoints, Takes, Flushes, Faults, ReadFails, Moment, IsStepAt}
 use Rattle.dali_system.proofs.Deaths.{region_with, dead_at}
 use Rattle.dali_crash.specs.Checkpoints.{is_of_checkpoint}
 
@@ -30,8 +31,8 @@ one old new r q g k h is at clear e = ⊎_elim
     (set_cases old r k q h (ap (λ rs. slice_get rs q) (sym is) ∙ e))
 
 after_touch : (g : RegionState) → WasClear g (touched g)
-after_touch g A c = (or_false g.dirty_a (wrote g) c).0
-after_touch g B c = (or_false g.dirty_b (wrote g) c).0
+after_touch g A c = (or_parts g.dirty_a (wrote g) c).0
+after_touch g B c = (or_parts g.dirty_b (wrote g) c).0
 
 after : (x : RegionStep) (g : RegionState) → clears x ≡ false → WasClear g (region_after x g)
 after (Latch t) g quiet A c = c
@@ -59,12 +60,7 @@ flags_go m n (Operates t b) q h s quiet e = one m.core.regions n.core.regions b.
 flags_go m n (TakesBack t b) q h s quiet e = one m.core.regions n.core.regions b.region q s.0.0 (touched s.0.0) h (ap regions_of s.0.2.1) s.0.1.at (after_touch s.0.0) e
 flags_go m n (Frees p b) q h s quiet e = one m.core.regions n.core.regions b.region q s.0.0 (touched s.0.0) h (ap regions_of s.0.2.1) s.0.1.at (after_touch s.0.0) e
 flags_go m n (Answers t k a) q h s quiet e = left m.core.regions n.core.regions q h (ap regions_of s.0.3.1) e
-flags_go m n (Commits t) q h s quiet e = left m.core.regions n.core.regions q h (ap regions_of s.0.2.1) e
-flags_go m n (Ends t) q h s quiet e = left m.core.regions n.core.regions q h (ap regions_of s.0.2.1) e
-flags_go m n AuditBegins q h s quiet e = left m.core.regions n.core.regions q h (ap regions_of s.0.2.1) e
 flags_go m n (AuditEnds b found) q h s quiet e = left m.core.regions n.core.regions q h (ap regions_of s.0.1.1) e
-flags_go m n (Locks t k mode) q h s quiet e = left m.core.regions n.core.regions q h (ap regions_of s.0.2.1) e
-flags_go m n (Refuses t k mode o) q h s quiet e = left m.core.regions n.core.regions q h (ap regions_of s.0.2.1) e
 flags_go m n (OnRegion r x) q h s quiet e = one m.core.regions n.core.regions r q s.0.0 (region_after x s.0.0) h (ap regions_of s.0.3.1) s.0.1 (after x s.0.0 quiet) e
 flags_go m n (Passes b r) q h s quiet e = one m.core.regions n.core.regions r q s.0.0 (checked s.0.0) h (ap regions_of s.0.2.1) s.0.1 (after Check s.0.0 refl) e
 flags_go m n (Dies t None) q h s quiet e = left m.core.regions n.core.regions q h (ap regions_of s.0.1.1) e
@@ -81,3 +77,4 @@ flags_go m n Takes q h s quiet e = left m.core.regions n.core.regions q h (ap re
 flags_go m n Flushes q h s quiet e = left m.core.regions n.core.regions q h (ap regions_of s.0.1.1) e
 flags_go m n (Faults k) q h s quiet e = left m.core.regions n.core.regions q h (ap regions_of s.0.2.1) e
 flags_go m n (ReadFails k) q h s quiet e = left m.core.regions n.core.regions q h (ap regions_of s.0.1.1) e
+flags_go m n _ q h s quiet e = left m.core.regions n.core.regions q h (ap regions_of s.0.2.1) e

@@ -1,11 +1,13 @@
 -- What each step leaves of the vault, of the crash images and of each region.
 use Rattle.std.proofs.Common.{◌≡◌, ◌≢◌, ℕ, ◌≤◌, arith, Bool, true, false, List, [], ◌∷◌, Some, None, refl, ap, sym, subst, ◌∙◌, ◌⊎◌, inl, inr, ⊎_elim}
-use Rattle.std.specs.Prelude.{◌==◌, ◌&&◌, ◌||◌, slice_get, slice_set}
+use Rattle.std.specs.Prelude.{◌==◌, ◌&&◌, slice_get, slice_set}
+use Rattle.std.proofs.lemmas.Bool.{or_left, or_right, eqb-true}
+use Rattle.dali_lists.proofs.Lists.{set_cases}
+use Rattle.dali_lists.proofs.Tests.{right_true}
 use Rattle.dali_record.specs.declared.records.Record.{Record}
 use Rattle.dali_record.specs.Files.{Files}
 use Rattle.dali_region.specs.declared.Side.TheVariants.{A, B}
 use Rattle.dali_region.specs.State.{RegionState, touched, checked}
-use Rattle.dali_counts.proofs.Lists.{equal, and_right, set_cases}
 use Rattle.dali_system.specs.State.{VaultState, CoreState}
 use Rattle.dali_system.specs.Regions.{RegionStep, Latch, NoteReads, Update, TakeBack, Poke, Check, Die, Clean, region_after}
 use Rattle.dali_system.specs.Flushes.{frame_of, with_frame, longer}
@@ -29,7 +31,7 @@ same_vault m n e is same =
       runs = λ h. ap (λ (v : VaultState). v.stopped) (sym vault) ∙ h;
     }
 
-longer_parts : (v : VaultState) (frame : List Record) → (longer v frame).current ≡ v.current
+pub longer_parts : (v : VaultState) (frame : List Record) → (longer v frame).current ≡ v.current
 longer_parts v [] = refl
 longer_parts v (r ∷ rs) = refl
 
@@ -113,14 +115,6 @@ touched_one : (old new : List RegionState) (r q : ℕ) (g h : RegionState) → n
 unfolding never
 touched_one old new r q g h is at e = one_changed old new r q g (touched g) h never is at (stays g (touched g) refl refl) (λ p apart. refl) e
 
-pub or_left : (a b : Bool) → a ≡ true → (a || b) ≡ true
-or_left true b e = refl
-or_left false b e = absurd (cc)
-
-or_right : (a b : Bool) → b ≡ true → (a || b) ≡ true
-or_right true b e = refl
-or_right false b e = e
-
 after_check : (b : Bool) (g : RegionState) → (b ≡ true → (g.stray == 0) ≡ true) → Onward b g (checked g)
 after_check b g none = record {
   poked = λ e. e;
@@ -147,12 +141,12 @@ region_goes Check c new r q g h is at e = quiet_one Check c new r q g h is at (a
 pass_goes : (c : CoreState) (new : List RegionState) (b r q : ℕ) (g h : RegionState) → new ≡ slice_set c.regions r (checked g) → slice_get c.regions r ≡ Some g → slice_get new q ≡ Some h → RegionGoes (passes_region c (Passes b r) q) c.regions q h
 pass_goes c new b r q g h is at e =
     one_changed c.regions new r q g (checked g) h (passes_region c (Passes b r)) is at
-    (after_check (passes_region c (Passes b r) r) g (λ passes. ap answers_none (sym at) ∙ and_right (r == r) (answers_none (slice_get c.regions r)) passes))
+    (after_check (passes_region c (Passes b r) r) g (λ passes. ap answers_none (sym at) ∙ right_true (r == r) (answers_none (slice_get c.regions r)) passes))
     (λ p apart. other p apart (p == r) refl)
     e
   where
     other : (p : ℕ) → r ≢ p → (b : Bool) → (p == r) ≡ b → (b && answers_none (slice_get c.regions r)) ≡ false
-    other p apart true f = absurd (apart (sym (equal p r f)))
+    other p apart true f = absurd (apart (sym (eqb-true p r f)))
     other p apart false f = refl
 
 pub regions_go : (m n : Moment) (x : Step) (q : ℕ) (h : RegionState) → IsStepAt m x n → slice_get n.core.regions q ≡ Some h → RegionGoes (passes_region m.core x q) m.core.regions q h

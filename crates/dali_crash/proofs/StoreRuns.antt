@@ -5,6 +5,10 @@ use Rattle.std.specs.List.{range_with_len}
 use Rattle.std.proofs.lemmas.List.{length-map, take_all, length-take-le}
 use Rattle.std.proofs.lemmas.List.Elements.{recursion_from_All}
 use Rattle.std.proofs.lemmas.List.FromFn.{length-range_with_len, get_or-map-range_with_len}
+use Rattle.std.proofs.lemmas.Bool.{eqb-true, eq-eqb}
+use Rattle.dali_lists.proofs.Lists.{set_cases, get_within}
+use Rattle.dali_lists.proofs.Options.{some_of_test, some_same}
+use Rattle.dali_lists.proofs.Tests.{left_true, right_true}
 use Rattle.dali_geometry.specs.Places.{regions}
 use Rattle.dali_record.specs.declared.records.Record.{Record}
 use Rattle.dali_record.specs.Epochs.{Epoch, last_epoch}
@@ -15,8 +19,7 @@ use Rattle.dali_region.specs.declared.Side.{Side}
 use Rattle.dali_region.specs.declared.Side.TheVariants.{A, B}
 use Rattle.dali_region.specs.State.{RegionState}
 use Rattle.dali_region.specs.Answers.{is_dirty, cleaned}
-use Rattle.dali_counts.proofs.Lists.{equal, same_number, and_left, and_right, set_cases, some_same, found}
-use Rattle.dali_counts.proofs.Tallies.{numbers, number_is, tallies, numbers_drawn}
+use Rattle.dali_counts.proofs.Tallies.{numbers, tallies, numbers_drawn}
 use Rattle.dali_system.specs.State.{VaultState, CoreState, stable, log_after}
 use Rattle.dali_system.specs.Run.{Bases, log_in, RunsOn, IsPrefix, VaultRun, HasRisen, no_image, only}
 use Rattle.dali_system.specs.Regions.{Clean}
@@ -25,32 +28,33 @@ use Rattle.dali_system.specs.Flushes.{faulted, frame_of, with_frame}
 use Rattle.dali_system.specs.Courses.{Step, OnRegion, Checkpoints, Flushes, Faults, Moment, IsStepAt, RunsAt}
 use Rattle.dali_system.specs.Images.{Told, FilesRun, FitsBut, is_missed, ImageRun}
 use Rattle.dali_system.specs.ImageSteps.{same_side, told_with}
-use Rattle.dali_system.proofs.Courses.{Goes, step_goes, LeavesBy, fewer, step_keeps_none, step_runs}
+use Rattle.dali_system.proofs.Courses.{Goes, step_goes, LeavesBy, fewer, step_keeps_none, step_runs, runs_on}
 use Rattle.dali_system.proofs.Flushes.{risen_since, no_less, fault_keeps}
 use Rattle.dali_record.specs.declared.records.Record.TheVariants.{Format}
 use Rattle.dali_system.proofs.FlushedImages.{frame_inside, faulted_images, flushed_images}
 use Rattle.dali_crash.specs.Checkpoints.{Head, Copy, Point, Does, Starts, Keeps, IsUntouched, copy_at, Copies, Skips, WritesHead, Syncs, Turns, CopyFails, HeadFails, SyncFails, TurnFails, Finishes, side_of, image_side, target, copies_with, head_now, pass_copy, passes_region, copies_after, is_of_checkpoint, image_in, MayHold, turned, MayTurn, IsFault, with_fault, with_current, with_flag, Came, IsOverwritten, IsPointStep, StoreStep, moment_of}
 use Rattle.dali_crash.specs.StoreRuns.{IsCopied, IsKept, AreWritten, StoreRun, CurrentIsSmall, StoreStepKeeps, StoreCourseKeeps, TurnEnds, BareStoreCourseKeeps, TurnLeaves}
 use Rattle.dali_record.specs.Blocks.{AreWords}
+use Rattle.dali_record.proofs.Batches.{number_is_length, got_none}
 use Rattle.dali_counts.proofs.SmallLogs.{is_small}
 use Rattle.dali_crash.proofs.StepFlags.{flags_go}
 use Rattle.dali_crash.proofs.StepLeaves.{VaultGoes, vault_goes, RegionGoes, regions_go, core_came}
-use Rattle.dali_crash.proofs.Kept.{got_none, held_frame, kept_goes, copied_goes, copied_onward}
+use Rattle.dali_crash.proofs.Kept.{held_frame, kept_goes, copied_goes, copied_onward}
 use Rattle.dali_crash.proofs.Turned.{IsRightPlace, turned_fits}
 use Rattle.dali_crash.proofs.Untouched.{untouched_words}
 use Rattle.dali_system.proofs.ImageSteps.{copy_kept, images_fewer, images_kept}
 
 -- ---- sides
 -- the next checkpoint isn't written where the current image stands
-other_side : (c : ℕ) → image_side c ≡ Some (side_of (c + 1)) → ⊥
+pub other_side : (c : ℕ) → image_side c ≡ Some (side_of (c + 1)) → ⊥
 other_side c e = by_tests (c == 0) (c % 2 == 1) ((c + 1) % 2 == 1) refl refl e
   where
     by_tests : (a b d : Bool) → (c % 2 == 1) ≡ b → ((c + 1) % 2 == 1) ≡ d → cond a None (Some (cond b A B)) ≡ Some (cond d A B) → ⊥
     by_tests true b d p q f = cc
-    by_tests false true true p q f = let x : c % 2 ≡ 1 = equal (c % 2) 1 p in let y : (c + 1) % 2 ≡ 1 = equal ((c + 1) % 2) 1 q in omega (arith, x, y)
+    by_tests false true true p q f = let x : c % 2 ≡ 1 = eqb-true (c % 2) 1 p in let y : (c + 1) % 2 ≡ 1 = eqb-true ((c + 1) % 2) 1 q in omega (arith, x, y)
     by_tests false true false p q f = cc
     by_tests false false true p q f = cc
-    by_tests false false false p q f = odd_or (λ x. absurd (clash (same_number (c % 2) 1 x) p)) (λ y. absurd (clash (same_number ((c + 1) % 2) 1 y) q))
+    by_tests false false false p q f = odd_or (λ x. absurd (clash (eq-eqb (c % 2) 1 x) p)) (λ y. absurd (clash (eq-eqb ((c + 1) % 2) 1 y) q))
       where
         clash : {b : Bool} → b ≡ true → b ≡ false → ⊥
         clash g h = cc
@@ -174,7 +178,7 @@ some_copy : (b : Bool) (o : Option Copy) (k : Copy) → pass_copy b o ≡ Some k
 some_copy b None k e = absurd (cc)
 some_copy b (Some c) k e = (c, refl, sym (some_same e))
 
-still_copied : (b : Bool) (o : Option Copy) → is_some o ≡ true → is_some (pass_copy b o) ≡ true
+pub still_copied : (b : Bool) (o : Option Copy) → is_some o ≡ true → is_some (pass_copy b o) ≡ true
 still_copied b None e = absurd (cc)
 still_copied b (Some c) e = refl
 
@@ -251,7 +255,7 @@ keeps_other bases before leave st o run kept = record { run = run.run; images = 
 keeps_now : (bases : Bases) (before : List Record) (leave : Files → Type 0) (m : Moment) → RunsAt bases before leave m → m.core.vault.stopped ≡ false → stable m.core ≡ m.core.system.records → m.core.vault.current ≤ stable m.core + 2 ^ 61 → IsKept m.log m.core.vault leave (head_now m.log m.core)
 keeps_now bases before leave m at runs all few = record {
   number = refl;
-  from = omega (arith, number_is m.log, count);
+  from = omega (arith, number_is_length m.log, count);
   to = omega (arith, count);
   weight = run.counts.end ∙ (tell.1 ∙ ap (sum_by record_length) (sym whole));
   next = run.counts.next ∙ (tell.2 ∙ (numbers_drawn m.log ∙ ap next_after (sym whole)));
@@ -296,12 +300,9 @@ up_to_date bases L c r n g ws run at still same = by_test g.poked refl
     by_test : (b : Bool) → g.poked ≡ b → IsCopied (bases (last_epoch L).first) (last_epoch L) r g (copy_at n) ws
     by_test true e = inr (record { poked = e; missed = λ f. absurd (cc) })
     by_test false e = inl (record {
-      to = omega (arith, number_is L, still.within);
+      to = omega (arith, number_is_length L, still.within);
       words = same e ∙ ((run.regions r g at).settled e ∙ untouched_words (bases (last_epoch L).first) L r n still.none);
     })
-
-runs_at : (bases : Bases) (before : List Record) (leave : Files → Type 0) (m : Moment) → RunsAt bases before leave m → RunsOn bases m.log m.core
-runs_at bases before leave m at = subst (λ L. RunsOn bases L m.core) (sym at.log) at.run.runs
 
 -- the places of the others are as they were
 abbrev IsKnown : Bases → List Record → List RegionState → (Side → ℕ → Option Copy) → Told → Type 0
@@ -319,7 +320,7 @@ known_with bases L old new copies told t r o ws known same here side q k h e at 
     by_test :
         (b : Bool) → (same_side side t && (q == r)) ≡ b → cond b o (copies side q) ≡ Some k
         → IsCopied (bases (last_epoch L).first) (last_epoch L) q h k (cond b ws (told side q))
-    by_test true f d = subst (λ p. IsCopied (bases (last_epoch L).first) (last_epoch L) p h k ws) (sym (equal q r (and_right (same_side side t) (q == r) f))) (here k h d (subst (λ p. slice_get new p ≡ Some h) (equal q r (and_right (same_side side t) (q == r) f)) at))
+    by_test true f d = subst (λ p. IsCopied (bases (last_epoch L).first) (last_epoch L) p h k ws) (sym (eqb-true q r (right_true (same_side side t) (q == r) f))) (here k h d (subst (λ p. slice_get new p ≡ Some h) (eqb-true q r (right_true (same_side side t) (q == r) f)) at))
     by_test false f d = let w = same q h at in ⊎_elim
         (λ a. inl (record { to = a.to; words = a.words }))
         (λ a. inr (record { poked = w.2 ∙ a.poked; missed = λ p. w.3 ∙ a.missed p }))
@@ -369,7 +370,7 @@ written_now rs copies told t r n g was at words = record {
     clean_there : (side : Side) (q : ℕ) (h : RegionState) → slice_get (slice_set rs r (cleaned t g)) q ≡ Some h → is_dirty h side ≡ false → (a b : Bool) → same_side side t ≡ a → (q == r) ≡ b → is_some (cond (a && b) (Some (copy_at n)) (copies side q)) ≡ true
     clean_there side q h e clear true true f d = refl
     clean_there side q h e clear true false f d = ⊎_elim
-        (λ w. absurd (let same : (q == r) ≡ true = same_number q r w.0 in cc))
+        (λ w. absurd (let same : (q == r) ≡ true = eq-eqb q r w.0 in cc))
         (λ w. was.clean side q h w.1 clear)
         (set_cases rs r (cleaned t g) q h e)
     clean_there side q h e clear false b f d = ⊎_elim
@@ -393,15 +394,11 @@ written_torn rs copies told t r g ws was at dirty = record {
 
     clean_there : (side : Side) (q : ℕ) (h : RegionState) → slice_get rs q ≡ Some h → is_dirty h side ≡ false → (a b : Bool) → same_side side t ≡ a → (q == r) ≡ b → is_some (cond (a && b) None (copies side q)) ≡ true
     clean_there side q h e clear true true f d =
-        let same : h ≡ g = some_same (sym e ∙ (ap (slice_get rs) (equal q r d) ∙ at)) in
+        let same : h ≡ g = some_same (sym e ∙ (ap (slice_get rs) (eqb-true q r d) ∙ at)) in
         let stands : is_dirty h side ≡ true = ap (λ (z : RegionState). is_dirty z side) same ∙ (ap (is_dirty g) (side_is side t f) ∙ dirty) in
         absurd (cc)
     clean_there side q h e clear true false f d = was.clean side q h e clear
     clean_there side q h e clear false b f d = was.clean side q h e clear
-
-pub of_some : (o : Option Copy) → is_some o ≡ true → (k : Copy) × (o ≡ Some k)
-of_some None e = absurd (cc)
-of_some (Some k) e = (k, refl)
 
 -- a region that is skipped, whose flag is clear
 written_skipped :
@@ -418,7 +415,7 @@ written_skipped rs copies told t r n g was at clear = record {
     clean_there side q false e = e
 
     copied_there : (side : Side) (q : ℕ) (k : Copy) (a b : Bool) → same_side side t ≡ a → (q == r) ≡ b → cond (a && b) (Some (copy_at n)) (copies side q) ≡ Some k → AreWords (told side q)
-    copied_there side q k true true f d e = let w = of_some (copies side q) (was.clean side q g (ap (slice_get rs) (equal q r d) ∙ at) (ap (is_dirty g) (side_is side t f) ∙ clear)) in was.copied side q w.0 w.1
+    copied_there side q k true true f d e = let w = some_of_test (copies side q) (was.clean side q g (ap (slice_get rs) (eqb-true q r d) ∙ at) (ap (is_dirty g) (side_is side t f) ∙ clear)) in was.copied side q w.0 w.1
     copied_there side q k true false f d e = was.copied side q k e
     copied_there side q k false b f d e = was.copied side q k e
 
@@ -438,7 +435,7 @@ copies_keep bases before old new st r n g synced run at still less = record {
   anchor = λ e F h. run.anchor e F (less F h);
   kept = λ h e. kept_less st.log st.core.vault st.core.vault old new h refl less (run.kept h e);
   copied = known;
-  written = written_now st.core.regions st.copies st.told (target st) r n g run.written at (are_words bases st.log st.core r g (runs_at bases before old (moment_of st) run.run) at);
+  written = written_now st.core.regions st.copies st.told (target st) r n g run.written at (are_words bases st.log st.core r g (runs_on bases before old (moment_of st) run.run) at);
   moved = run.moved;
   few = λ F h. run.few F (less F h);
 }
@@ -449,7 +446,7 @@ copies_keep bases before old new st r n g synced run at still less = record {
         let same : w.0 ≡ g = some_same (sym w.1 ∙ at) in
         subst (λ z. IsCopied (bases (last_epoch st.log).first) (last_epoch st.log) r h z g.back) (some_same e)
         (copied_same (bases (last_epoch st.log).first) (last_epoch st.log) r g h _ g.back (w.2 ∙ ap (λ (z : RegionState). z.poked) same) (w.3 ∙ ap (λ (z : RegionState). z.missed) same)
-        (up_to_date bases st.log st.core r n g g.back (runs_at bases before old (moment_of st) run.run) at still (λ p. refl))))
+        (up_to_date bases st.log st.core r n g g.back (runs_on bases before old (moment_of st) run.run) at still (λ p. refl))))
 
 -- ---- steps that leave the core, but for a fault
 still :
@@ -490,7 +487,7 @@ dirty_told told c t r g ws at dirty files s q h e clean cleared = by_test (same_
   where
     by_test : (a b : Bool) → same_side s t ≡ a → (q == r) ≡ b → cond (a && b) ws (told s q) ≡ h.back
     by_test true true f d =
-        let same : h ≡ g = some_same (sym e ∙ (ap (slice_get c.regions) (equal q r d) ∙ at)) in
+        let same : h ≡ g = some_same (sym e ∙ (ap (slice_get c.regions) (eqb-true q r d) ∙ at)) in
         let stands : is_dirty h s ≡ true = ap (λ (z : RegionState). is_dirty z s) same ∙ (ap (is_dirty g) (side_is s t f) ∙ dirty) in
         absurd (cc)
     by_test true false f d = files s q h e clean cleared
@@ -502,7 +499,7 @@ later_than : (bases : Bases) (before : List Record) (old : Files → Type 0) (st
 later_than bases before old st h b k run may = let w = may.copies 0 some in omega (arith, w.2.since, w.2.until)
   where
     on : RunsOn bases st.log st.core
-    on = runs_at bases before old (moment_of st) run.run
+    on = runs_on bases before old (moment_of st) run.run
 
     some : 0 < regions st.core.system.sizes
     some = by_index st.core.system.sizes.index (on.log.spelled 0 (Format st.core.system.sizes.index st.core.system.sizes.heap) on.log.format).0
@@ -557,7 +554,7 @@ turn_fits bases before old st h b k D head image run runs may l hold =
     places : (r : ℕ) → r < regions c.system.sizes → is_missed (slice_get c.regions r) ≡ false → IsRightPlace (bases (last_epoch L).first) (last_epoch L) h b r (words_in image r)
     places r hr seen =
         let w = may.copies r hr in
-        let region : (g : RegionState) × (slice_get c.regions r ≡ Some g) = found c.regions r (omega (arith, hr, (runs_at bases before old (moment_of st) run.run).whole)) in
+        let region : (g : RegionState) × (slice_get c.regions r ≡ Some g) = get_within c.regions r (omega (arith, hr, (runs_on bases before old (moment_of st) run.run).whole)) in
         let read : words_in image r ≡ st.told (target st) r = ap (λ im. words_in im r) words ∙ get_or-map-range_with_len (st.told (target st)) 0 (regions c.system.sizes) r r [] hr (omega arith) in
         ⊎_elim
         (λ a. record { at = w.0.at; from = w.2.since; to = omega (arith, w.2.until); settled = record { to = a.to; words = read ∙ a.words } })
@@ -639,12 +636,12 @@ store_step_runs bases before old leave st new (Skips r n) run s l =
             → IsCopied (bases (last_epoch st.log).first) (last_epoch st.log) q h k (st.told side q)
         by_test false f d = run.copied side q k h d at
         by_test true f d =
-            let there : side ≡ target st = side_is side (target st) (and_left (same_side side (target st)) (q == r) f) in
-            let here : q ≡ r = equal q r (and_right (same_side side (target st)) (q == r) f) in
+            let there : side ≡ target st = side_is side (target st) (left_true (same_side side (target st)) (q == r) f) in
+            let here : q ≡ r = eqb-true q r (right_true (same_side side (target st)) (q == r) f) in
             let same : h ≡ s.0 = some_same (sym at ∙ (ap (slice_get st.core.regions) here ∙ s.1)) in
             let clear : is_dirty h side ≡ false = ap (λ (z : RegionState). is_dirty z side) same ∙ (ap (is_dirty s.0) there ∙ s.3) in
             subst (λ z. IsCopied (bases (last_epoch st.log).first) (last_epoch st.log) q h z (st.told side q)) (some_same d)
-            (up_to_date bases st.log st.core q n h (st.told side q) (runs_at bases before old (moment_of st) run.run) at (subst (λ p. IsUntouched st.log p n) (sym here) s.4) (λ p. run.images.files side q h at p clear))
+            (up_to_date bases st.log st.core q n h (st.told side q) (runs_on bases before old (moment_of st) run.run) at (subst (λ p. IsUntouched st.log p n) (sym here) s.4) (λ p. run.images.files side q h at p clear))
 store_step_runs bases before old leave st new (WritesHead h) run s l = subst (StoreRun bases before leave) (sym s.1) (still bases before old leave st _ _ run (unwritten bases before old leave st run s.0.runs l))
 store_step_runs bases before old leave st new Syncs run s l = subst (StoreRun bases before leave) (sym s.1) (still bases before old leave st st.heads _ run (fewer old leave l))
 store_step_runs bases before old leave st new Turns run s l = subst (StoreRun bases before leave) (sym s.5) (turns bases before old leave st s.0 s.1 s.2 run s.3.runs s.4 l)

@@ -16,7 +16,7 @@ use Rattle.dali_system.specs.Run.{Bases}
 use Rattle.dali_system.specs.Courses.{Moment}
 use Rattle.dali_system.proofs.Courses.{Goes, step_goes}
 use Rattle.dali_crash.specs.Restarts.{HasRightBase}
-use Rattle.dali_crash.specs.Checkpoints.{Point, StoreStep, Does, Starts, Keeps, Copies, Skips, WritesHead, Syncs, Turns, CopyFails, HeadFails, SyncFails, TurnFails, Finishes, IsPointStep, IsPointCourse, moment_of}
+use Rattle.dali_crash.specs.Checkpoints.{Point, StoreStep, Does, Keeps, Copies, Skips, Turns, CopyFails, TurnFails, IsPointStep, IsPointCourse, moment_of}
 use Rattle.dali_crash.proofs.Courses.{base_goes}
 
 -- ---- where a core is made
@@ -33,18 +33,13 @@ same_log m n sizes log = record { sizes = sizes; log = inl log }
 
 pub store_goes : (st new : Point) (x : StoreStep) → IsPointStep st x new → Goes (moment_of st) (moment_of new)
 store_goes st new (Does x) s = step_goes (moment_of st) (moment_of new) x s.1
-store_goes st new Starts s = same_log (moment_of st) (moment_of new) (ap (λ (z : Point). z.core.system.sizes) s.1) (ap (λ (z : Point). z.log) s.1)
 store_goes st new Keeps s = same_log (moment_of st) (moment_of new) (ap (λ (z : Point). z.core.system.sizes) s.4) (ap (λ (z : Point). z.log) s.4)
 store_goes st new (Copies r n) s = same_log (moment_of st) (moment_of new) (ap (λ (z : Point). z.core.system.sizes) s.5) (ap (λ (z : Point). z.log) s.5)
 store_goes st new (Skips r n) s = same_log (moment_of st) (moment_of new) (ap (λ (z : Point). z.core.system.sizes) s.5) (ap (λ (z : Point). z.log) s.5)
-store_goes st new (WritesHead h) s = same_log (moment_of st) (moment_of new) (ap (λ (z : Point). z.core.system.sizes) s.1) (ap (λ (z : Point). z.log) s.1)
-store_goes st new Syncs s = same_log (moment_of st) (moment_of new) (ap (λ (z : Point). z.core.system.sizes) s.1) (ap (λ (z : Point). z.log) s.1)
 store_goes st new Turns s = same_log (moment_of st) (moment_of new) (ap (λ (z : Point). z.core.system.sizes) s.5) (ap (λ (z : Point). z.log) s.5)
 store_goes st new (CopyFails r ws n) s = same_log (moment_of st) (moment_of new) (ap (λ (z : Point). z.core.system.sizes) s.4) (ap (λ (z : Point). z.log) s.4)
-store_goes st new (HeadFails h n) s = same_log (moment_of st) (moment_of new) (ap (λ (z : Point). z.core.system.sizes) s.1) (ap (λ (z : Point). z.log) s.1)
-store_goes st new (SyncFails n) s = same_log (moment_of st) (moment_of new) (ap (λ (z : Point). z.core.system.sizes) s.1) (ap (λ (z : Point). z.log) s.1)
 store_goes st new (TurnFails n) s = same_log (moment_of st) (moment_of new) (ap (λ (z : Point). z.core.system.sizes) s.5) (ap (λ (z : Point). z.log) s.5)
-store_goes st new Finishes s = same_log (moment_of st) (moment_of new) (ap (λ (z : Point). z.core.system.sizes) s.1) (ap (λ (z : Point). z.log) s.1)
+store_goes st new _ s = same_log (moment_of st) (moment_of new) (ap (λ (z : Point). z.core.system.sizes) s.1) (ap (λ (z : Point). z.log) s.1)
 
 pub store_base : (bases : Bases) (st new : Point) (xs : List StoreStep) → HasRightBase bases st.core.system.sizes st.log → IsPointCourse st xs new → HasRightBase bases new.core.system.sizes new.log
 store_base bases st new [] right course = subst (λ (k : Point). HasRightBase bases k.core.system.sizes k.log) course right

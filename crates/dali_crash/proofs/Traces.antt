@@ -15,7 +15,6 @@ use Rattle.dali_record.specs.Spelling.{record_length}
 use Rattle.dali_region.specs.Answers.{is_dirty}
 use Rattle.dali_history.specs.Recovered.{recover, base_of, recovered}
 use Rattle.dali_headline.proofs.NothingToFree.{recovered-base}
-use Rattle.dali_counts.proofs.Lists.{found, or_false}
 use Rattle.dali_system.specs.State.{CoreState, VaultState, stable, log_after}
 use Rattle.dali_system.specs.Run.{Bases, LogRun, HasRisen, IsPrefix, log_in, VaultRun, no_image, only}
 use Rattle.dali_system.specs.Crashes.{NoneEscapes}
@@ -42,6 +41,8 @@ use Rattle.dali_crash.proofs.Unpoked.{none_loaded, NoneFails, none_escapes, dele
 use Rattle.dali_crash.specs.Traces.{MayRun, FewGates, EveryCoreTraceIsRight, TraceGoesOn, Start, IsRestingImage, FreshRests, CrashRests, StartsAt, start_point, bases_of, EveryTraceIsRight, EveryMomentIsRight, FlushedTraces, AcknowledgedTraces, UnpokedTraceIsRight, StartRuns, UnpokedCoreTraceIsRight, core_start, BareStartRuns}
 use Rattle.dali_system.proofs.Touching.{trace_course}
 use Rattle.std.specs.List.{list_any}
+use Rattle.std.proofs.lemmas.Bool.{or_parts}
+use Rattle.dali_lists.proofs.Lists.{get_within}
 use Rattle.dali_history.specs.History.{IsHistory}
 
 -- ---- any steps
@@ -60,7 +61,7 @@ stepped p x n = record p { log = n.log; core = n.core; audits = n.audits; copies
 pub does_traced : (p : Point) (xs : List Step) (n : Moment) (D F : Files) → list_any is_of_checkpoint xs ≡ false → CoreTraced (moment_of p) D xs n F → (q : Point) × (moment_of q ≡ n) × Traced p D (map Does xs) q F
 does_traced p [] n D F quiet t = (p, t.0, (refl, t.1))
 does_traced p (x ∷ xs) n D F quiet t =
-    let parts = or_false (is_of_checkpoint x) (list_any is_of_checkpoint xs) quiet in
+    let parts = or_parts (is_of_checkpoint x) (list_any is_of_checkpoint xs) quiet in
     let rest = does_traced (stepped p x t.0) xs n t.1 F parts.1 t.4 in
     (rest.0, rest.1, (stepped p x t.0, t.1, (parts.0, t.2, refl), t.3, rest.2))
 
@@ -246,7 +247,7 @@ every_trace_is_right s D from xs p F t = record {
     whole : IsHistory s.log → NoneEscapes (last_epoch (log_in F)) c → FitsWhole c.system.sizes (base_of c.system.sizes (log_in F)) (log_in F) F (last_epoch (log_in F))
     whole h safe = subst (λ b. FitsWhole c.system.sizes b (log_in F) F (last_epoch (log_in F))) (base h)
         (but_is_whole c.system.sizes (bases_of s) _ (log_in F) F (last_epoch (log_in F)) (there.images.fits F refl) there.run.run.runs.base
-        (λ r k. let region = found c.regions r (omega (arith, k, there.run.run.runs.whole)) in ap is_missed region.1 ∙ safe.seen r region.0 region.1))
+        (λ r k. let region = get_within c.regions r (omega (arith, k, there.run.run.runs.whole)) in ap is_missed region.1 ∙ safe.seen r region.0 region.1))
 
 pub flushed_traces : FlushedTraces
 flushed_traces s D from xs p F t k x before there =

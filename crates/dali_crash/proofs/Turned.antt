@@ -1,7 +1,8 @@
 -- Once the anchor moved, the files fit the log that a crash leaves.
 use Rattle.std.proofs.Common.{◌≡◌, ℕ, zero, suc, ◌+◌, ◌-◌, ◌<◌, ◌≤◌, Bool, false, List, [], ◌∷◌, length, take, drop, Some, refl, ap, sym, subst, ◌∙◌, inr, arith}
 use Rattle.std.specs.Prelude.{map, filter, not, slice_get, fold, sum_by}
-use Rattle.std.proofs.lemmas.List.{length-take-le}
+use Rattle.std.proofs.lemmas.List.{length-take-le, take-take}
+use Rattle.dali_lists.proofs.Lists.{get_drop, get_take}
 use Rattle.dali_geometry.specs.Sizes.{Sizes}
 use Rattle.dali_geometry.specs.Places.{regions}
 use Rattle.dali_record.specs.declared.records.Record.{Record}
@@ -12,28 +13,22 @@ use Rattle.dali_record.specs.Damage.{has}
 use Rattle.dali_record.specs.Spelling.{record_length}
 use Rattle.dali_record.specs.Settled.{words_in, redo_all, settled_before}
 use Rattle.dali_record.specs.Files.{Files, row_of, next_after, table_before}
-use Rattle.dali_counts.proofs.Lists.{take_take, get_take}
-use Rattle.dali_counts.proofs.Tallies.{number_is}
+use Rattle.dali_record.proofs.Batches.{number_is_length, clean_grows}
 use Rattle.dali_system.specs.State.{VaultState}
 use Rattle.dali_system.specs.Run.{Bases, log_in}
 use Rattle.dali_system.specs.Images.{FitsBut}
 use Rattle.dali_system.proofs.Redone.{copied_then}
 use Rattle.dali_system.proofs.LastEpochs.{is_behind, epoch_of}
-use Rattle.dali_system.proofs.FlushedImages.{clean_rises}
 use Rattle.dali_crash.specs.CrashLogs.{cut_to}
 use Rattle.dali_crash.specs.Checkpoints.{Head, turned}
 use Rattle.dali_crash.specs.StoreRuns.{IsSettledAt, IsKept}
 use Rattle.dali_crash.proofs.CrashLogs.{cut_parts}
 
 -- ---- the clean place behind an audit's end
-get_drop : {X : Type 0} (a i : ℕ) (xs : List X) → slice_get (drop a xs) i ≡ slice_get xs (a + i)
-get_drop zero i xs = let same : i ≡ 0 + i = omega arith in ap (slice_get xs) same
-get_drop (suc a) i [] = refl
-get_drop (suc a) i (x ∷ xs) = let same : suc (a + i) ≡ suc a + i = omega arith in get_drop a i xs ∙ ap (slice_get (x ∷ xs)) same
 
 clean_at : (p : ℕ) (E : List Record) (i b : ℕ) → slice_get E i ≡ Some (AuditClean b) → b ≤ fold clean_step p E
 clean_at p [] i b e = absurd (cc)
-clean_at p (x ∷ E) zero b e = let same : x ≡ AuditClean b = cc in subst (λ y. b ≤ fold clean_step (clean_step p y) E) (sym same) (omega (arith, clean_rises (clean_step p (AuditClean b)) E))
+clean_at p (x ∷ E) zero b e = let same : x ≡ AuditClean b = cc in subst (λ y. b ≤ fold clean_step (clean_step p y) E) (sym same) (omega (arith, clean_grows (clean_step p (AuditClean b)) E))
 clean_at p (x ∷ E) (suc i) b e = clean_at (clean_step p x) E i b e
 
 -- ---- the image
@@ -60,10 +55,10 @@ turned_fits s bases missed L v leave D h image b k m kept l at within clean late
   fresh = λ g. absurd (omega (arith, g));
   current = λ g. number;
   whole = whole;
-  epoch = epoch_of K h.first (subst (λ (d : Epoch). d.first ≤ h.first) (sym last) kept.from) (omega (arith, number_is K, size, later, ends, flushed));
+  epoch = epoch_of K h.first (subst (λ (d : Epoch). d.first ≤ h.first) (sym last) kept.from) (omega (arith, number_is_length K, size, later, ends, flushed));
   recent = inr refl;
   certified = subst (λ (d : Epoch). h.first ≤ clean_place d) (sym last) (omega (arith, later, above));
-  table_is = subst (λ (d : Epoch). h.table ≡ table_before d h.first) (sym last) (kept.table ∙ ap (λ P. map (row_of P) (filter (λ t. not (has (ended P) t)) (begun P))) (sym (take_take (h.first - e.first) (m - e.first) e.records (omega (arith, later, ends, flushed)))));
+  table_is = subst (λ (d : Epoch). h.table ≡ table_before d h.first) (sym last) (kept.table ∙ ap (λ P. map (row_of P) (filter (λ t. not (has (ended P) t)) (begun P))) (sym (take-take (h.first - e.first) (m - e.first) e.records (omega (arith, later, ends, flushed)))));
   words = λ r hr n. subst (λ (d : Epoch). words_in (redo_all image (drop (h.first - d.first) (take (clean_place d - d.first) d.records))) r ≡ settled_before (bases d.first) d r (clean_place d)) (sym last) (words r (places r hr n));
 }
   where
@@ -83,7 +78,7 @@ turned_fits s bases missed L v leave D h image b k m kept l at within clean late
     size = ap length at ∙ length-take-le m L within
 
     front : take h.first L ≡ take h.first K
-    front = sym (ap (take h.first) at ∙ take_take h.first m L (omega (arith, later, ends, flushed)))
+    front = sym (ap (take h.first) at ∙ take-take h.first m L (omega (arith, later, ends, flushed)))
 
     whole_place : e.first + (k - e.first) ≡ k
     whole_place = omega (arith, kept.from, later, ends)
@@ -99,9 +94,9 @@ turned_fits s bases missed L v leave D h image b k m kept l at within clean late
     above = clean_at f.first f.records (k - e.first) b there
 
     some : length f.records ≡ m - e.first
-    some = length-take-le (m - e.first) e.records (omega (arith, number_is L, within))
+    some = length-take-le (m - e.first) e.records (omega (arith, number_is_length L, within))
 
     words : (r : ℕ) → IsRightPlace (bases e.first) e h b r (words_in image r) → words_in (redo_all image (drop (h.first - f.first) (take (clean_place f - f.first) f.records))) r ≡ settled_before (bases f.first) f r (clean_place f)
     words r p = copied_then (bases e.first) image f.records (h.first - e.first) (p.at - e.first) (clean_place f - e.first) r
         (omega (arith, p.from)) (omega (arith, p.to, above)) (omega (arith, some, later, ends, flushed))
-        (p.settled.words ∙ ap (λ E. words_in (redo_all (bases e.first) E) r) (sym (take_take (p.at - e.first) (m - e.first) e.records (omega (arith, p.to, ends, flushed)))))
+        (p.settled.words ∙ ap (λ E. words_in (redo_all (bases e.first) E) r) (sym (take-take (p.at - e.first) (m - e.first) e.records (omega (arith, p.to, ends, flushed)))))

@@ -3,9 +3,11 @@ use Rattle.std.proofs.Common.{◌≡◌, ℕ, zero, suc, ◌-◌, ◌<◌, ◌�
 use Rattle.std.specs.Prelude.{map, fold, slice_get, slice_set, ⊤, nat_lt}
 use Rattle.std.specs.List.{list_any, list_all}
 use Rattle.dali_geometry.specs.Places.{regions}
-use Rattle.std.proofs.lemmas.Bool.{or_parts, ltb-true}
+use Rattle.std.proofs.lemmas.Bool.{or_parts, ltb-true, eq-eqb}
+use Rattle.dali_lists.proofs.Lists.{set_cases, get_within as found}
+use Rattle.dali_lists.proofs.Tests.{left_true}
 use Rattle.dali_record.specs.declared.records.Record.{Record}
-use Rattle.dali_record.specs.declared.records.Record.TheVariants.{Format, Begin, Forward, Done, Commit, Ended, Solo, AuditBegin, AuditClean, AuditFail, Restarted, Back}
+use Rattle.dali_record.specs.declared.records.Record.TheVariants.{Begin, Forward, Done, Commit, Ended, Solo, AuditBegin, AuditClean, AuditFail, Back}
 use Rattle.dali_record.specs.Epochs.{Epoch, Cut, last_epoch, failing_step}
 use Rattle.dali_record.specs.Damage.{deleted_list, has}
 use Rattle.dali_record.specs.Files.{Files}
@@ -14,7 +16,6 @@ use Rattle.dali_region.specs.declared.Side.TheVariants.{A, B}
 use Rattle.dali_region.specs.State.{RegionState, loaded, touched, taken_back, checked, dead}
 use Rattle.dali_region.specs.Answers.{cleaned}
 use Rattle.dali_headline.proofs.Undamaged.{undamaged_deleted}
-use Rattle.dali_counts.proofs.Lists.{set_cases, found, same_number, and_left}
 use Rattle.dali_system.specs.State.{CoreState, stable}
 use Rattle.dali_system.specs.Run.{Bases, log_in, RunsOn, IsPrefix, no_image}
 use Rattle.dali_system.specs.Crashes.{NoneEscapes}
@@ -25,11 +26,11 @@ use Rattle.dali_system.proofs.Deaths.{region_with, dead_at}
 use Rattle.dali_system.proofs.AuditEnds.{may_end_audit}
 use Rattle.dali_system.proofs.OneMore.{is_inside, last_epoch-push}
 use Rattle.dali_crash.specs.CrashLogs.{cut_to, IsUnpoked}
-use Rattle.dali_crash.specs.Checkpoints.{Point, StoreStep, Does, Starts, Keeps, Copies, Skips, WritesHead, Syncs, Turns, CopyFails, HeadFails, SyncFails, TurnFails, Finishes, target, IsPointStep, IsPointCourse, moment_of}
+use Rattle.dali_crash.specs.Checkpoints.{Point, StoreStep, Does, Keeps, Copies, Skips, Turns, CopyFails, TurnFails, target, IsPointStep, IsPointCourse, moment_of}
 use Rattle.dali_crash.specs.Unpoked.{is_poke, pokes, store_pokes, DeletesNobody}
 use Rattle.dali_crash.proofs.CrashLogs.{cut_parts}
 use Rattle.dali_crash.proofs.Honest.{unpoked_escapes_none}
-use Rattle.dali_system.proofs.Courses.{step_keeps_none}
+use Rattle.dali_system.proofs.Courses.{step_keeps_none, runs_on}
 use Rattle.dali_crash.proofs.StoreRuns.{store_step_none}
 
 -- ---- no region is poked
@@ -113,18 +114,8 @@ none_fails_take (suc n) [] h = tt
 none_fails_take (suc n) (x ∷ E) h = (h.0, none_fails_take n E h.1)
 
 step_none : (x : Record) → is_fail x ≡ false → failing_step [] x ≡ []
-step_none (Format i h) e = refl
-step_none (Begin t) e = refl
-step_none (Forward t b) e = refl
-step_none (Done t q r) e = refl
-step_none (Commit t) e = refl
-step_none (Ended t) e = refl
-step_none (Solo t p b) e = refl
-step_none AuditBegin e = refl
-step_none (AuditClean b) e = refl
 step_none (AuditFail b rs) e = absurd (cc)
-step_none (Restarted rs ds) e = refl
-step_none (Back t b) e = refl
+step_none _ e = refl
 
 pub none_failing : (E : List Record) → NoneFails E → fold failing_step [] E ≡ []
 none_failing [] h = refl
@@ -139,21 +130,18 @@ clean_adds m n e x inside isnt adds h = subst (λ (k : Epoch). NoneFails k.recor
 clean_on : (m n : Moment) → n.log ≡ m.log → IsClean m → IsClean n
 clean_on m n same h = subst (λ L. NoneFails (last_epoch L).records) (sym same) h
 
-runs_at : (bases : Bases) (before : List Record) (leave : Files → Type 0) (m : Moment) → RunsAt bases before leave m → RunsOn bases m.log m.core
-runs_at bases before leave m at = subst (λ M. RunsOn bases M m.core) (sym at.log) at.run.runs
-
 -- an audit names only a region to which a stray write came
 names_none : (bases : Bases) (before : List Record) (leave : Files → Type 0) (m : Moment) (b r : ℕ) (rs : List ℕ) → RunsAt bases before leave m → NonePoked m.core.regions → MayEndAudit m.log m.core b (r ∷ rs) → ⊥
 names_none bases before leave m b r rs at none may = not_both (none r region.0 region.1) (may.stray r region.0 region.1 named)
   where
     within : r < length m.core.regions
-    within = omega (arith, ltb-true r (regions m.core.system.sizes) (and_left (nat_lt r (regions m.core.system.sizes)) (list_all (λ q. nat_lt q (regions m.core.system.sizes)) rs) may.may.numbers), (runs_at bases before leave m at).whole)
+    within = omega (arith, ltb-true r (regions m.core.system.sizes) (left_true (nat_lt r (regions m.core.system.sizes)) (list_all (λ q. nat_lt q (regions m.core.system.sizes)) rs) may.may.numbers), (runs_on bases before leave m at).whole)
 
     region : (g : RegionState) × (slice_get m.core.regions r ≡ Some g)
     region = found m.core.regions r within
 
     named : has (r ∷ rs) r ≡ true
-    named = rw (same_number r r refl) refl
+    named = rw (eq-eqb r r refl) refl
 
     not_both : {p : Bool} → p ≡ false → p ≡ true → ⊥
     not_both e f = cc
@@ -168,7 +156,7 @@ step_clean bases before leave m n (Commits t) at none s = clean_adds m n _ (Comm
 step_clean bases before leave m n (Ends t) at none s = clean_adds m n _ (Ended t) refl refl s.0.2
 step_clean bases before leave m n AuditBegins at none s = clean_adds m n _ AuditBegin refl refl s.0.2
 step_clean bases before leave m n (AuditEnds b []) at none s = clean_adds m n _ (AuditClean b) refl refl s.0.1
-step_clean bases before leave m n (AuditEnds b (r ∷ rs)) at none s = absurd (names_none bases before leave m b r rs at none (may_end_audit m.log m.core m.audits b (r ∷ rs) (runs_at bases before leave m at).whole at.audits s.0.0 s.1.0))
+step_clean bases before leave m n (AuditEnds b (r ∷ rs)) at none s = absurd (names_none bases before leave m b r rs at none (may_end_audit m.log m.core m.audits b (r ∷ rs) (runs_on bases before leave m at).whole at.audits s.0.0 s.1.0))
 step_clean bases before leave m n (Locks t k mode) at none s = clean_on m n s.0.2.0
 step_clean bases before leave m n (Refuses t k mode o) at none s = clean_on m n s.0.2.0
 step_clean bases before leave m n (OnRegion r x) at none s = clean_on m n s.0.3.0
@@ -218,18 +206,13 @@ cleaned_poked B g = refl
 
 store_unpoked : (st new : Point) (x : StoreStep) → store_pokes x ≡ false → IsPointStep st x new → NonePoked st.core.regions → NonePoked new.core.regions
 store_unpoked st new (Does x) quiet s = step_unpoked (moment_of st) (moment_of new) x quiet s.1
-store_unpoked st new Starts quiet s = as_was st.core.regions new.core.regions (ap (λ (z : Point). z.core.regions) s.1)
 store_unpoked st new Keeps quiet s = as_was st.core.regions new.core.regions (ap (λ (z : Point). z.core.regions) s.4)
 store_unpoked st new (Copies r n) quiet s = one_set st.core.regions new.core.regions r s.0 (cleaned (target st) s.0) (ap (λ (z : Point). z.core.regions) s.5) s.1 (cleaned_poked (target st) s.0)
 store_unpoked st new (Skips r n) quiet s = as_was st.core.regions new.core.regions (ap (λ (z : Point). z.core.regions) s.5)
-store_unpoked st new (WritesHead h) quiet s = as_was st.core.regions new.core.regions (ap (λ (z : Point). z.core.regions) s.1)
-store_unpoked st new Syncs quiet s = as_was st.core.regions new.core.regions (ap (λ (z : Point). z.core.regions) s.1)
 store_unpoked st new Turns quiet s = as_was st.core.regions new.core.regions (ap (λ (z : Point). z.core.regions) s.5)
 store_unpoked st new (CopyFails r ws n) quiet s = as_was st.core.regions new.core.regions (ap (λ (z : Point). z.core.regions) s.4)
-store_unpoked st new (HeadFails h n) quiet s = as_was st.core.regions new.core.regions (ap (λ (z : Point). z.core.regions) s.1)
-store_unpoked st new (SyncFails n) quiet s = as_was st.core.regions new.core.regions (ap (λ (z : Point). z.core.regions) s.1)
 store_unpoked st new (TurnFails n) quiet s = as_was st.core.regions new.core.regions (ap (λ (z : Point). z.core.regions) s.5)
-store_unpoked st new Finishes quiet s = as_was st.core.regions new.core.regions (ap (λ (z : Point). z.core.regions) s.1)
+store_unpoked st new _ quiet s = as_was st.core.regions new.core.regions (ap (λ (z : Point). z.core.regions) s.1)
 
 pub store_course_unpoked : (st new : Point) (xs : List StoreStep) → list_any store_pokes xs ≡ false → IsPointCourse st xs new → NonePoked st.core.regions → NonePoked new.core.regions
 store_course_unpoked st new [] quiet s none = subst (λ (k : Point). NonePoked k.core.regions) s none
@@ -237,18 +220,13 @@ store_course_unpoked st new (x ∷ xs) quiet s none = let p = or_parts (store_po
 
 store_clean : (bases : Bases) (before : List Record) (st new : Point) (x : StoreStep) → RunsAt bases before no_image (moment_of st) → NonePoked st.core.regions → IsPointStep st x new → IsClean (moment_of st) → IsClean (moment_of new)
 store_clean bases before st new (Does x) run none s = step_clean bases before no_image (moment_of st) (moment_of new) x run none s.1
-store_clean bases before st new Starts run none s = clean_on (moment_of st) (moment_of new) (ap (λ (z : Point). z.log) s.1)
 store_clean bases before st new Keeps run none s = clean_on (moment_of st) (moment_of new) (ap (λ (z : Point). z.log) s.4)
 store_clean bases before st new (Copies r n) run none s = clean_on (moment_of st) (moment_of new) (ap (λ (z : Point). z.log) s.5)
 store_clean bases before st new (Skips r n) run none s = clean_on (moment_of st) (moment_of new) (ap (λ (z : Point). z.log) s.5)
-store_clean bases before st new (WritesHead h) run none s = clean_on (moment_of st) (moment_of new) (ap (λ (z : Point). z.log) s.1)
-store_clean bases before st new Syncs run none s = clean_on (moment_of st) (moment_of new) (ap (λ (z : Point). z.log) s.1)
 store_clean bases before st new Turns run none s = clean_on (moment_of st) (moment_of new) (ap (λ (z : Point). z.log) s.5)
 store_clean bases before st new (CopyFails r ws n) run none s = clean_on (moment_of st) (moment_of new) (ap (λ (z : Point). z.log) s.4)
-store_clean bases before st new (HeadFails h n) run none s = clean_on (moment_of st) (moment_of new) (ap (λ (z : Point). z.log) s.1)
-store_clean bases before st new (SyncFails n) run none s = clean_on (moment_of st) (moment_of new) (ap (λ (z : Point). z.log) s.1)
 store_clean bases before st new (TurnFails n) run none s = clean_on (moment_of st) (moment_of new) (ap (λ (z : Point). z.log) s.5)
-store_clean bases before st new Finishes run none s = clean_on (moment_of st) (moment_of new) (ap (λ (z : Point). z.log) s.1)
+store_clean bases before st new _ run none s = clean_on (moment_of st) (moment_of new) (ap (λ (z : Point). z.log) s.1)
 
 pub store_course_clean : (bases : Bases) (before : List Record) (st new : Point) (xs : List StoreStep) → RunsAt bases before no_image (moment_of st) → list_any store_pokes xs ≡ false → IsPointCourse st xs new → NonePoked st.core.regions → IsClean (moment_of st) → IsClean (moment_of new)
 store_course_clean bases before st new [] run quiet s none clean = subst (λ (k : Point). IsClean (moment_of k)) s clean

@@ -1,32 +1,24 @@
 -- A region that no block of some records is on has the same words with them and without them.
-use Rattle.std.proofs.Common.{◌≡◌, ℕ, zero, suc, ◌+◌, ◌-◌, ◌≤◌, Bool, true, false, cond, List, [], ◌∷◌, take, drop, Option, Some, None, refl, ap, sym, ◌∙◌, arith}
+use Rattle.std.proofs.Common.{◌≡◌, ℕ, zero, suc, ◌+◌, ◌-◌, Bool, true, false, cond, List, [], ◌∷◌, take, drop, Option, Some, None, refl, ap, sym, ◌∙◌, arith}
 use Rattle.std.specs.Prelude.{◌==◌, fold}
 use Rattle.std.proofs.lemmas.List.{take-append-drop, drop-drop}
 use Rattle.std.proofs.lemmas.List.Sums.{fold-append}
+use Rattle.std.proofs.lemmas.Bool.{eq-eqb}
 use Rattle.dali_record.specs.declared.records.Record.{Record}
 use Rattle.dali_record.specs.Log.{Touch, touch_of}
 use Rattle.dali_record.specs.Damage.{any_touch}
 use Rattle.dali_record.specs.Epochs.{last_epoch}
 use Rattle.dali_record.specs.Settled.{words_in, redo, redo_touch, redo_all}
 use Rattle.dali_record.proofs.Recovery.{words_redo-other}
-use Rattle.dali_counts.proofs.Lists.{same_number}
 use Rattle.dali_system.specs.Run.{on_region, on_step, blocks_on}
 use Rattle.dali_system.proofs.LastEpochs.{is_behind}
-
--- a count of blocks never falls
-count_rises : (r n : ℕ) (E : List Record) → n ≤ fold (on_step r) n E
-count_rises r n [] = omega arith
-count_rises r n (x ∷ E) = by_test (on_region r x) (count_rises r (n + 1) E) (count_rises r n E)
-  where
-    by_test : (b : Bool) → n + 1 ≤ fold (on_step r) (n + 1) E → n ≤ fold (on_step r) n E → n ≤ fold (on_step r) (cond b (n + 1) n) E
-    by_test true more same = omega (arith, more)
-    by_test false more same = same
+use Rattle.dali_system.proofs.OneMoreTouch.{fold_grows}
 
 none_here : (r : ℕ) (x : Record) (E : List Record) → blocks_on r (x ∷ E) ≡ 0 → (on_region r x ≡ false) × (blocks_on r E ≡ 0)
 none_here r x E h = by_test (on_region r x) refl h
   where
     by_test : (b : Bool) → on_region r x ≡ b → fold (on_step r) (cond b 1 0) E ≡ 0 → (on_region r x ≡ false) × (blocks_on r E ≡ 0)
-    by_test true e k = absurd (omega (arith, k, count_rises r 1 E))
+    by_test true e k = absurd (omega (arith, k, fold_grows r 1 E))
     by_test false e k = (e, k)
 
 none_dropped : (r k : ℕ) (E : List Record) → blocks_on r E ≡ 0 → blocks_on r (drop k E) ≡ 0
@@ -36,7 +28,7 @@ none_dropped r (suc k) (x ∷ E) h = none_dropped r k E (none_here r x E h).1
 
 left_touch : (image : List (List ℕ)) (o : Option Touch) (r : ℕ) → any_touch (λ a. a.block.region == r) o ≡ false → words_in (redo_touch image o) r ≡ words_in image r
 left_touch image None r h = refl
-left_touch image (Some a) r h = words_redo-other image a r (λ e. let f : (a.block.region == r) ≡ true = same_number a.block.region r (sym e) in absurd (cc))
+left_touch image (Some a) r h = words_redo-other image a r (λ e. let f : (a.block.region == r) ≡ true = eq-eqb a.block.region r (sym e) in absurd (cc))
 
 left_words : (image : List (List ℕ)) (E : List Record) (r : ℕ) → blocks_on r E ≡ 0 → words_in (redo_all image E) r ≡ words_in image r
 left_words image [] r h = refl

@@ -1,8 +1,7 @@
 -- The worked run: each premise of each step is met.
-use Rattle.std.proofs.Common.{◌≡◌, true, List, [], ◌∷◌, refl, ap, ℕ, ◌++◌, sym, arith, zero, suc, ◌<◌, Some, false, Option, None, ◌∙◌}
+use Rattle.std.proofs.Common.{◌≡◌, true, List, [], ◌∷◌, refl, ap, ℕ, ◌++◌, sym, arith, zero, suc, ◌<◌, Some, false, Option, ◌∙◌}
 use Rattle.std.specs.Prelude.{replicate, slice_get, is_some}
 use Rattle.dali_record.specs.declared.records.Record.TheVariants.{Format, Begin, Commit, Done, Forward}
-use Rattle.dali_counts.proofs.Lists.{some_same}
 use Rattle.dali_system.specs.Worked.{small, first_log, first_vault, start, first_files, formatted_files}
 use Rattle.dali_system.proofs.Worked.{logs_by, alive_by, first_store}
 use Rattle.dali_crash.specs.Worked.{look, steps, WorkedRun}
@@ -10,7 +9,7 @@ use Rattle.dali_record.specs.declared.records.Call.TheVariants.{Get}
 use Rattle.dali_record.specs.declared.records.Answer.TheVariants.{Missing}
 use Rattle.dali_record.specs.Files.{Files}
 use Rattle.dali_region.specs.State.{RegionState, loaded, latched, with_reads, touched}
-use Rattle.dali_locks.specs.declared.mode.Mode.TheVariants.{Shared, Exclusive}
+use Rattle.dali_locks.specs.declared.mode.Mode.TheVariants.{Shared}
 use Rattle.dali_system.specs.Run.{log_in, blocks_on, covers}
 use Rattle.dali_system.specs.Steps.{begun, commit_logged, op_logged, done_logged, granted, taken}
 use Rattle.dali_system.specs.Keeps.{with_system, with_region, with_touched}
@@ -29,14 +28,15 @@ use Rattle.dali_record.specs.Epochs.{last_epoch}
 use Rattle.dali_crash.proofs.Courses.{format_is_history}
 use Rattle.dali_crash.specs.Restarts.{RestartsRight}
 use Rattle.std.specs.FinMap.{get}
+use Rattle.dali_lists.proofs.Options.{some_same}
 use Rattle.dali_att.specs.Table.{fresh_row}
 use Rattle.dali_system.proofs.Tables.{added}
 use Rattle.dali_system.proofs.RowStates.{begun_state, op_state}
 use Rattle.dali_att.specs.declared.state.State.TheVariants.{Live}
 use Rattle.dali_system.specs.State.{TxnRow, state_of, lock_of}
 use Rattle.dali_locks.specs.declared.mode.Mode.{Mode}
-use Rattle.dali_locks.specs.Locks.{stronger_mode}
 use Rattle.dali_locks.proofs.Changes.{get-locks_with}
+use Rattle.dali_system.proofs.Damage.{shared}
 use Rattle.dali_crash.proofs.Traces.{every_core_trace_is_right}
 
 -- ---- the moments
@@ -125,11 +125,6 @@ are_words = (refl, omega arith)
 is_look : IsBlock look
 unfolding look
 is_look = made_is_block Look 5 0 words tt (omega arith) (omega arith) are_words
-
-shared : (o : Option Mode) → covers (Some (stronger_mode o Shared)) false ≡ true
-shared None = refl
-shared (Some Shared) = refl
-shared (Some Exclusive) = refl
 
 has_lock : covers (lock_of locked.core.system 2 5) false ≡ true
 has_lock = ap (λ (o : Option Mode). covers o false) (get-locks_with begun_2.core.system.locks 2 5 Shared 2 5) ∙ shared (get begun_2.core.system.locks (2, 5))

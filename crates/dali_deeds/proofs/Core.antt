@@ -16,12 +16,13 @@ use Rattle.dali_record.specs.Damage.{has}
 use Rattle.dali_geometry.specs.Places.{regions}
 use Rattle.dali_history.proofs.Members.{Contains-from_has, has_from_Contains}
 use Rattle.dali_region.specs.State.{RegionState, touched}
+use Rattle.dali_locks.specs.declared.mode.Mode.{Mode}
 use Rattle.dali_att.specs.declared.state.State.{State}
 use Rattle.dali_att.specs.declared.state.State.TheVariants.{Committed}
 use Rattle.dali_att.specs.Table.{without_last}
 use Rattle.dali_system.specs.declared.causes.Cause.{Cause}
 use Rattle.dali_system.specs.Run.{Bases, RunsOn, no_image}
-use Rattle.dali_system.specs.State.{CoreState, state_of}
+use Rattle.dali_system.specs.State.{CoreState, state_of, lock_of}
 use Rattle.dali_system.specs.Steps.{begun, op_logged, back_logged, solo_logged, done_logged, commit_logged, committed_row, ended_logged, audit_begun, audit_ended, audit_record, stop_by_audit}
 use Rattle.dali_system.specs.Keeps.{with_system, with_touched, HasRoom, may_log_in}
 use Rattle.dali_system.specs.Passes.{audits_with}
@@ -29,13 +30,14 @@ use Rattle.dali_system.specs.Courses.{AuditEnds, IsStepAt, AuditTells}
 use Rattle.dali_system.proofs.Courses.{audit_end_tells}
 use Rattle.dali_crash.specs.Checkpoints.{Point, moment_of}
 use Rattle.dali_crash.specs.StoreRuns.{StoreRun}
-use Rattle.dali_transcripts.specs.World.{Deed, Logs, World, IsLogged, logged_by, log_of, log_at, state_step, span_step, stray_after, under_way}
+use Rattle.dali_transcripts.specs.World.{Deed, Logs, World, IsLogged, logged_by, log_of, log_at, state_step, lock_step, IsNoWeaker, span_step, stray_after, under_way}
 use Rattle.dali_transcripts.specs.Rounds.{by, WasRight}
 use Rattle.dali_transcripts.specs.Together.{RoomBy, RightNow}
 use Rattle.dali_transcripts.proofs.Looks.{at_once_tells}
 use Rattle.dali_deeds.specs.Deeds.{WereRight, BeganHere}
 use Rattle.dali_deeds.specs.Tells.{after, AreRightThen, WasPassed, PassesAreTold, Tells, Goes}
 use Rattle.dali_deeds.proofs.States.{begun_state, ended_state, kept_state, new_state, undone_state}
+use Rattle.dali_deeds.proofs.Held.{ended_lock}
 use Rattle.dali_deeds.proofs.Strays.{Stays, same_regions, one_region}
 use Rattle.dali_deeds.proofs.Told.{Onward, plain, push_cases, push_before, log_is, passed_on, passes_on, OwesNow, goes_by, by_deed, by_none, looks_by_deed, looks_by_none}
 
@@ -62,12 +64,17 @@ no_end R e b found same =
     let no : false ≡ true = sym e ∙ end in
     absurd (cc)
 
+-- what a transaction has of locks it has still
+abbrev pub LocksStay : CoreState → CoreState → Type 0
+LocksStay c d = (t k : ℕ) (o : Option Mode) → IsNoWeaker (lock_of c.system t k) o → IsNoWeaker (lock_of d.system t k) o
+
 -- what a step that logs R owes
 pub record Wrote (w : World) (c : ℕ) (R : Record) (d : CoreState) : Type 0 where
   pub onward : Onward w.core d
   pub stays : Stays w.core.regions d.regions
   pub vault : d.vault ≡ w.core.vault
   pub states : (t : ℕ) → state_of d.system t ≡ state_step t (state_of w.core.system t) (Logs R, c)
+  pub locks : (t k : ℕ) (o : Option Mode) → IsNoWeaker (lock_of w.core.system t k) o → IsNoWeaker (lock_of d.system t k) (lock_step t k o (Logs R, c))
   pub refusals : d.system.refusals ≡ w.core.system.refusals
   pub checking : d.system.checking ≡ w.core.system.checking
   pub room : RoomBy w (Logs R)
@@ -84,6 +91,7 @@ module _ (w : World) (c : ℕ) (p q : Point) (told : Tells w p) where
       poke = λ r g at. h.stays.each r g at;
       verdict = λ b found e. h.verdict b found e;
       state = h.states;
+      lock = h.locks;
       fault = (ap (λ v. v.stopped) h.vault, ap (λ v. v.faults) h.vault);
       refusal = h.refusals ∙ sym (append-nil w.core.system.refusals);
       room = h.room;
@@ -130,12 +138,13 @@ module _ (bases : Bases) (before : List Record) (w0 : World) (c : ℕ) (p q : Po
   -- what a step that logs a record owes, where it leaves the rest
   simple : (R : Record) (d : CoreState) → is_end R ≡ false → d.system.sizes ≡ p.core.system.sizes → d.system.limit ≡ p.core.system.limit → d.system.first ≡ p.core.system.first → d.system.stop ≡ p.core.system.stop
       → d.system.refusals ≡ p.core.system.refusals → d.vault ≡ p.core.vault → d.system.checking ≡ p.core.system.checking → length d.regions ≡ length p.core.regions → Stays p.core.regions d.regions
-      → ((t : ℕ) → state_of d.system t ≡ state_step t (state_of p.core.system t) (Logs R, c)) → RoomBy w (Logs R) → (w0.precheck ≡ true → RightNow w (Logs R)) → Wrote w c R d
-  simple R d none sizes limit first stop refusals vault checking count stays states room right = record {
+      → ((t : ℕ) → state_of d.system t ≡ state_step t (state_of p.core.system t) (Logs R, c)) → ((t k : ℕ) (o : Option Mode) → IsNoWeaker (lock_of p.core.system t k) o → IsNoWeaker (lock_of d.system t k) (lock_step t k o (Logs R, c))) → RoomBy w (Logs R) → (w0.precheck ≡ true → RightNow w (Logs R)) → Wrote w c R d
+  simple R d none sizes limit first stop refusals vault checking count stays states locks room right = record {
     onward = plain p.core d sizes limit first stop refusals vault count;
     stays = stays;
     vault = vault;
     states = states;
+    locks = locks;
     refusals = refusals;
     checking = checking;
     room = room;
@@ -155,7 +164,7 @@ module _ (bases : Bases) (before : List Record) (w0 : World) (c : ℕ) (p q : Po
       → Goes w c p (Logs (Begin p.core.system.next) ∷ []) (after w c (Logs (Begin p.core.system.next) ∷ []) q.core) q
   begins room is log audits proper =
       told_plain w c p q told (Begin p.core.system.next) (with_system p.core (begun p.core.system)) refl is log audits
-      (simple _ _ refl refl refl refl refl refl refl refl refl (same_regions p.core.regions) (λ t. begun_state p.core.system.table p.core.system.next t) (within 9 room.room) (λ e. tt))
+      (simple _ _ refl refl refl refl refl refl refl refl refl (same_regions p.core.regions) (λ t. begun_state p.core.system.table p.core.system.next t) (λ t k o e. e) (within 9 room.room) (λ e. tt))
       proper
 
   stray_at : (r : ℕ) (g : RegionState) (o : Option RegionState) → o ≡ Some g → IfSome o (λ (h : RegionState). h.stray ≡ 0) → g.stray ≡ 0
@@ -172,7 +181,7 @@ module _ (bases : Bases) (before : List Record) (w0 : World) (c : ℕ) (p q : Po
       → Goes w c p (Logs (Forward t b) ∷ []) (after w c (Logs (Forward t b) ∷ []) q.core) q
   operates t b g room at right is log audits proper =
       told_plain w c p q told (Forward t b) (with_touched p.core (op_logged p.core.system t b) b.region g) refl is log audits
-      (simple _ _ refl refl refl refl refl refl refl refl (length-set p.core.regions b.region (touched g)) (touched_region b.region g at) (λ u. undone_state p.core.system.table t b b.undo u) (within (record_length (Forward t b)) room.room) (right_there b.region g at right))
+      (simple _ _ refl refl refl refl refl refl refl refl (length-set p.core.regions b.region (touched g)) (touched_region b.region g at) (λ u. undone_state p.core.system.table t b b.undo u) (λ t k o e. e) (within (record_length (Forward t b)) room.room) (right_there b.region g at right))
       proper
 
   pub takes_back : (t : ℕ) (b : Block) (g : RegionState) → slice_get p.core.regions b.region ≡ Some g
@@ -180,7 +189,7 @@ module _ (bases : Bases) (before : List Record) (w0 : World) (c : ℕ) (p q : Po
       → Goes w c p (Logs (Back t b) ∷ []) (after w c (Logs (Back t b) ∷ []) q.core) q
   takes_back t b g at is log audits proper =
       told_plain w c p q told (Back t b) (with_touched p.core (back_logged p.core.system t b) b.region g) refl is log audits
-      (simple _ _ refl refl refl refl refl refl refl refl (length-set p.core.regions b.region (touched g)) (touched_region b.region g at) (λ u. kept_state p.core.system.table t without_last (λ row. refl) u) refl (λ e. tt))
+      (simple _ _ refl refl refl refl refl refl refl refl (length-set p.core.regions b.region (touched g)) (touched_region b.region g at) (λ u. kept_state p.core.system.table t without_last (λ row. refl) u) (λ t k o e. e) refl (λ e. tt))
       proper
 
   pub frees : (t : ℕ) (b : Block) (g : RegionState) → slice_get p.core.regions b.region ≡ Some g
@@ -188,7 +197,7 @@ module _ (bases : Bases) (before : List Record) (w0 : World) (c : ℕ) (p q : Po
       → Goes w c p (Logs (Solo p.core.system.next t b) ∷ []) (after w c (Logs (Solo p.core.system.next t b) ∷ []) q.core) q
   frees t b g at is log audits proper =
       told_plain w c p q told (Solo p.core.system.next t b) (with_touched p.core (solo_logged p.core.system t b) b.region g) refl is log audits
-      (simple _ _ refl refl refl refl refl refl refl refl (length-set p.core.regions b.region (touched g)) (touched_region b.region g at) (λ u. refl) refl (λ e. tt))
+      (simple _ _ refl refl refl refl refl refl refl refl (length-set p.core.regions b.region (touched g)) (touched_region b.region g at) (λ u. refl) (λ t k o e. e) refl (λ e. tt))
       proper
 
   pub answers : (t : ℕ) (call : Call) (a : Answer) → HasRoom p.core.system (Done t call a)
@@ -196,7 +205,7 @@ module _ (bases : Bases) (before : List Record) (w0 : World) (c : ℕ) (p q : Po
       → Goes w c p (Logs (Done t call a) ∷ []) (after w c (Logs (Done t call a) ∷ []) q.core) q
   answers t call a room is log audits proper =
       told_plain w c p q told (Done t call a) (with_system p.core (done_logged p.core.system t call a)) refl is log audits
-      (simple _ _ refl refl refl refl refl refl refl refl refl (same_regions p.core.regions) (λ u. refl) (within (record_length (Done t call a)) room.room) (λ e. tt))
+      (simple _ _ refl refl refl refl refl refl refl refl refl (same_regions p.core.regions) (λ u. refl) (λ t k o e. e) (within (record_length (Done t call a)) room.room) (λ e. tt))
       proper
 
   pub commits : (t : ℕ) → may_log_in (state_of p.core.system t) (Commit t) ≡ true
@@ -205,14 +214,14 @@ module _ (bases : Bases) (before : List Record) (w0 : World) (c : ℕ) (p q : Po
   commits t may is log audits proper =
       let was = state_there (state_of p.core.system t) (Commit t) may in
       told_plain w c p q told (Commit t) (with_system p.core (commit_logged p.core.system t)) refl is log audits
-      (simple _ _ refl refl refl refl refl refl refl refl refl (same_regions p.core.regions) (λ u. new_state p.core.system.table t committed_row Committed (λ row. refl) was.0 was.1 u) refl (λ e. tt))
+      (simple _ _ refl refl refl refl refl refl refl refl refl (same_regions p.core.regions) (λ u. new_state p.core.system.table t committed_row Committed (λ row. refl) was.0 was.1 u) (λ t k o e. e) refl (λ e. tt))
       proper
 
   pub ends_txn : (t : ℕ) → q.core ≡ with_system p.core (ended_logged p.core.system t) → q.log ≡ p.log ++ Ended t ∷ [] → q.audits ≡ p.audits → AreRightThen w c (Logs (Ended t) ∷ []) q.core
       → Goes w c p (Logs (Ended t) ∷ []) (after w c (Logs (Ended t) ∷ []) q.core) q
   ends_txn t is log audits proper =
       told_plain w c p q told (Ended t) (with_system p.core (ended_logged p.core.system t)) refl is log audits
-      (simple _ _ refl refl refl refl refl refl refl refl refl (same_regions p.core.regions) (λ u. ended_state p.core.system.table t u) refl (λ e. tt))
+      (simple _ _ refl refl refl refl refl refl refl refl refl (same_regions p.core.regions) (λ u. ended_state p.core.system.table t u) (λ u k o e. ended_lock p.core.system.locks t u k o e) refl (λ e. tt))
       proper
 
   -- an audit begins: it has passed nothing
@@ -230,7 +239,7 @@ module _ (bases : Bases) (before : List Record) (w0 : World) (c : ℕ) (p q : Po
       → Goes w c p (Logs AuditBegin ∷ []) (after w c (Logs AuditBegin ∷ []) q.core) q
   audit_begins room is log audits proper =
       told_log w c p q told AuditBegin (with_system p.core (audit_begun p.core.system)) is log
-      (simple _ _ refl refl refl refl refl refl refl refl refl (same_regions p.core.regions) (λ u. refl) (le-leb _ _ (omega (arith, room, end_is, limit_is))) (λ e. tt))
+      (simple _ _ refl refl refl refl refl refl refl refl refl (same_regions p.core.regions) (λ u. refl) (λ t k o e. e) (le-leb _ _ (omega (arith, room, end_is, limit_is))) (λ e. tt))
       (subst (λ A. PassesAreTold (after w c (Logs AuditBegin ∷ []) (with_system p.core (audit_begun p.core.system))) A) (sym audits) (begun_passes (with_system p.core (audit_begun p.core.system))))
       proper
 
@@ -297,6 +306,10 @@ module _ (bases : Bases) (before : List Record) (w0 : World) (c : ℕ) (p q : Po
   end_state b [] t o = refl
   end_state b (r ∷ rs) t o = refl
 
+  end_lock : (b : ℕ) (found : List ℕ) (t k : ℕ) (o : Option Mode) → IsNoWeaker (lock_of p.core.system t k) o → IsNoWeaker (lock_of p.core.system t k) (lock_step t k o (Logs (audit_record b found), c))
+  end_lock b [] t k o e = e
+  end_lock b (r ∷ rs) t k o e = e
+
   not_begin : (b : ℕ) (found : List ℕ) → is_begin (audit_record b found) ≡ false
   not_begin b [] = refl
   not_begin b (r ∷ rs) = refl
@@ -311,6 +324,7 @@ module _ (bases : Bases) (before : List Record) (w0 : World) (c : ℕ) (p q : Po
         stays = same_regions p.core.regions;
         vault = refl;
         states = λ t. end_state b found t (state_of p.core.system t);
+        locks = end_lock b found;
         refusals = refl;
         checking = refl;
         room = end_room b found;
@@ -335,12 +349,13 @@ module _ (bases : Bases) (before : List Record) (w0 : World) (c : ℕ) (p q : Po
   none_began d b at = subst (λ l. slice_get l b ≡ Some AuditBegin) (log_is w c [] d ∙ append-nil (log_of w)) at
 
   pub unseen : (d : CoreState) → q.core ≡ d → q.log ≡ p.log → Onward p.core d → Stays p.core.regions d.regions → ((t : ℕ) → state_of d.system t ≡ state_of p.core.system t)
+      → LocksStay p.core d
       → d.vault.current ≡ p.core.vault.current → d.vault.stopped ≡ p.core.vault.stopped → d.vault.faults ≡ p.core.vault.faults → d.system.refusals ≡ p.core.system.refusals
       → d.system.checking ≡ p.core.system.checking → PassesAreTold (after w c [] d) q.audits
       → Goes w c p [] (after w c [] q.core) q
-  unseen d is log on stays states current stopped faults refusals checking passes =
+  unseen d is log on stays states locks current stopped faults refusals checking passes =
       goes_by w c p q told [] d is on (log ∙ sym (append-nil p.log))
-      (by_none w c p q told d on (record { anchor = current; poke = λ r h at. stays.each r h at; states = states; stopped = stopped; faults = faults; refusals = refusals }))
+      (by_none w c p q told d on (record { anchor = current; poke = λ r h at. stays.each r h at; states = states; locks = locks; stopped = stopped; faults = faults; refusals = refusals }))
       (looks_by_none w c p q told d on) (checking ∙ told.flag) passes tt
 
   pub unseen_passes : (d : CoreState) → q.audits ≡ p.audits → PassesAreTold (after w c [] d) q.audits
@@ -348,10 +363,10 @@ module _ (bases : Bases) (before : List Record) (w0 : World) (c : ℕ) (p q : Po
 
   -- where the vault and the table are left
   pub quiet : (d : CoreState) → q.core ≡ d → q.log ≡ p.log → q.audits ≡ p.audits → Onward p.core d → Stays p.core.regions d.regions → ((t : ℕ) → state_of d.system t ≡ state_of p.core.system t)
-      → d.vault ≡ p.core.vault → d.system.refusals ≡ p.core.system.refusals → d.system.checking ≡ p.core.system.checking
+      → LocksStay p.core d → d.vault ≡ p.core.vault → d.system.refusals ≡ p.core.system.refusals → d.system.checking ≡ p.core.system.checking
       → Goes w c p [] (after w c [] q.core) q
-  quiet d is log audits on stays states vault refusals checking =
-      unseen d is log on stays states (ap (λ v. v.current) vault) (ap (λ v. v.stopped) vault) (ap (λ v. v.faults) vault) refusals checking (unseen_passes d audits)
+  quiet d is log audits on stays states locks vault refusals checking =
+      unseen d is log on stays states locks (ap (λ v. v.current) vault) (ap (λ v. v.stopped) vault) (ap (λ v. v.faults) vault) refusals checking (unseen_passes d audits)
 
   -- ---- deeds that are no records
   other_began : (x : Deed) (d : CoreState) → logged_by (by c (x ∷ [])) ≡ [] → (b : ℕ) → IsLogged (after w c (x ∷ []) d) b AuditBegin → IsLogged w b AuditBegin

@@ -24,7 +24,7 @@ by_append : (c : ℕ) (ds es : List Deed) → by c (ds ++ es) ≡ by c ds ++ by 
 by_append c [] es = refl
 by_append c (d ∷ ds) es = ap (λ l. (d, c) ∷ l) (by_append c ds es)
 
-after_after : (w : World) (c : ℕ) (ds es : List Deed) (d e : CoreState) → after (after w c ds d) c es e ≡ after w c (ds ++ es) e
+pub after_after : (w : World) (c : ℕ) (ds es : List Deed) (d e : CoreState) → after (after w c ds d) c es e ≡ after w c (ds ++ es) e
 after_after w c ds es d e = ap (λ l. record w { happened = l; core = e }) (append_assoc w.happened (by c ds) (by c es) ∙ ap (λ l. w.happened ++ l) (sym (by_append c ds es)))
 
 pub goes_on : GoesOn

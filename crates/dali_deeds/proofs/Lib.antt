@@ -1,4 +1,5 @@
 pub mod States
+pub mod Held
 pub mod Strays
 pub mod Told
 pub mod Core

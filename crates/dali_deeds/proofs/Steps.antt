@@ -1,10 +1,12 @@
 -- Each step of a core, and each of a core with its store, by its kind.
 use Rattle.std.proofs.Common.{◌≡◌, ℕ, zero, suc, ◌+◌, ◌≤◌, Bool, true, false, List, [], ◌∷◌, ◌++◌, length, Option, Some, None, refl, ap, sym, subst, ◌∙◌, ◌⊎◌, inl, inr, ⊎_elim, arith}
-use Rattle.std.specs.Prelude.{is_some, slice_get, take, if◌then◌else◌, ◌==◌}
+use Rattle.std.specs.Prelude.{slice_get, take, if◌then◌else◌, ◌==◌}
 use Rattle.std.specs.Option.{option_map_or}
 use Rattle.std.proofs.lemmas.Option.{slice_get_within}
 use Rattle.std.proofs.lemmas.List.{append-nil, length-set, length-append, take_all}
 use Rattle.std.proofs.lemmas.List.Elements.{Contains-append_left}
+use Rattle.dali_lists.proofs.Lists.{get_append_cases}
+use Rattle.dali_lists.proofs.Options.{none_of_test}
 use Rattle.dali_counts.proofs.Lists.{some_same, equal}
 use Rattle.dali_record.specs.declared.records.Record.{Record}
 use Rattle.dali_record.specs.declared.records.Record.TheVariants.{AuditBegin}
@@ -16,11 +18,10 @@ use Rattle.dali_region.specs.Answers.{cleaned}
 use Rattle.dali_locks.specs.declared.mode.Mode.{Mode}
 use Rattle.dali_att.specs.declared.state.State.TheVariants.{Live, Dead, Cleaning}
 use Rattle.dali_att.specs.Table.{with_state}
-use Rattle.dali_system.specs.declared.causes.Cause.{Cause}
 use Rattle.dali_system.specs.declared.refusals.Refusal.{Refusal}
 use Rattle.dali_system.specs.Run.{Bases, HasRisen, no_image}
-use Rattle.dali_system.specs.State.{CoreState, VaultState, state_of, hold_in}
-use Rattle.dali_system.specs.Steps.{audit_record, granted, refused, in_state, stopped_by, store_stopped, taken}
+use Rattle.dali_system.specs.State.{CoreState, VaultState, state_of, lock_of, hold_in}
+use Rattle.dali_system.specs.Steps.{audit_record, granted, refused, in_state, store_stopped, taken}
 use Rattle.dali_system.specs.Flushes.{frame_of, with_vault, longer, faulted}
 use Rattle.dali_system.specs.ImageSteps.{clears}
 use Rattle.dali_system.specs.Regions.{RegionStep, Latch, NoteReads, Update, TakeBack, Poke, Check, Die, Clean, region_after}
@@ -30,29 +31,19 @@ use Rattle.dali_system.specs.Courses.{Step, Begins, Operates, TakesBack, Frees, 
 use Rattle.dali_crash.specs.Checkpoints.{StoreStep, Does, Starts, Keeps, Copies, Skips, WritesHead, Syncs, Turns, CopyFails, HeadFails, SyncFails, TurnFails, Finishes, Point, IsPointStep, moment_of, target, with_current, with_flag, with_fault, is_of_checkpoint, IsFault}
 use Rattle.dali_crash.specs.StoreRuns.{StoreRun}
 use Rattle.dali_transcripts.specs.Words.{Why, StoppedBy, Full, Damaged, StoreFailed, UnderWay}
-use Rattle.dali_transcripts.specs.World.{Deed, Logs, Strays, DiesOn, Claims as ClaimsTxn, GivesBack as GivesTxnBack, GetsLock, Yields, FindsDead, StartsCheckpoint, MovesAnchor, EndsCheckpoint, Meets, World, IsLogged, logged_by, state_step, stray_step, poked_step, stray_after, refused_by, under_way, log_of}
+use Rattle.dali_transcripts.specs.World.{Deed, Logs, Strays, DiesOn, Claims as ClaimsTxn, GivesBack as GivesTxnBack, GetsLock, Yields, FindsDead, StartsCheckpoint, MovesAnchor, EndsCheckpoint, Meets, World, IsLogged, logged_by, state_step, lock_step, IsNoWeaker, stray_step, poked_step, stray_after, refused_by, under_way, log_of}
 use Rattle.dali_transcripts.specs.Rounds.{WasRight}
 use Rattle.dali_transcripts.specs.Together.{SpanFits, AnchorIs, FaultsBy, RoomBy, RightNow}
 use Rattle.dali_transcripts.proofs.Looks.{at_once_tells}
+use Rattle.dali_transcripts.proofs.Grown.{keeps_stop}
 use Rattle.dali_deeds.specs.Deeds.{WereRight, AreOfCore, AreOf, refusal_now}
 use Rattle.dali_deeds.specs.Laws.{StepTells, IsNoFault}
 use Rattle.dali_deeds.specs.Tells.{after, AreRightThen, WasPassed, PassesAreTold, Tells, Goes}
 use Rattle.dali_deeds.proofs.States.{new_state, claim_state, release_state}
+use Rattle.dali_deeds.proofs.Held.{told_lock, untold_lock}
 use Rattle.dali_deeds.proofs.Strays.{Stays, same_regions, one_region, poked_region}
 use Rattle.dali_deeds.proofs.Told.{Onward, plain, passed_on, passes_on, log_is, OwesNow, goes_by, by_deed, looks_by_deed}
 use Rattle.dali_deeds.proofs.Core.{begins, operates, takes_back, frees, answers, commits, ends_txn, audit_begins, audit_ends, unseen, unseen_passes, quiet, seen, right_there}
-
-same : (c d : CoreState) → d.system.sizes ≡ c.system.sizes → d.system.limit ≡ c.system.limit → d.system.first ≡ c.system.first → d.system.stop ≡ c.system.stop
-    → d.system.refusals ≡ c.system.refusals → d.vault ≡ c.vault → length d.regions ≡ length c.regions → Onward c d
-same c d sizes limit first stop refusals vault count = plain c d sizes limit first stop refusals vault count
-
-keeps_stop : (o : Option Cause) (cause : Cause) → o ≡ Some cause → stopped_by o ≡ Some cause
-keeps_stop None cause e = absurd (cc)
-keeps_stop (Some c) cause e = e
-
-none_of : (o : Option ℕ) → is_some o ≡ false → o ≡ None
-none_of None e = refl
-none_of (Some n) e = absurd (cc)
 
 longer_is : (v : VaultState) (frame : List Record) → ((longer v frame).current ≡ v.current) × ((longer v frame).stopped ≡ v.stopped) × ((longer v frame).faults ≡ v.faults) × (v.flushed ≤ (longer v frame).flushed)
 longer_is v [] = (refl, refl, refl, omega arith)
@@ -61,11 +52,6 @@ longer_is v (r ∷ rs) = (refl, refl, refl, omega arith)
 cleaned_is : (side : Side) (g : RegionState) → ((cleaned side g).stray ≡ g.stray) × ((cleaned side g).poked ≡ g.poked)
 cleaned_is A g = (refl, refl)
 cleaned_is B g = (refl, refl)
-
-append_cases : {X : Type 0} (xs ys : List X) (i : ℕ) (y : X) → slice_get (xs ++ ys) i ≡ Some y → (slice_get xs i ≡ Some y) ⊎ ((j : ℕ) × (slice_get ys j ≡ Some y))
-append_cases [] ys i y e = inr (i, e)
-append_cases (x ∷ xs) ys zero y e = inl e
-append_cases (x ∷ xs) ys (suc i) y e = append_cases xs ys i y e
 
 -- the region in which a client dies
 dead_stays : (gs : List RegionState) (r : ℕ) → Stays gs (dead_in gs (Some r)) × (length (dead_in gs (Some r)) ≡ length gs)
@@ -83,16 +69,18 @@ module _ (bases : Bases) (before : List Record) (w0 : World) (c : ℕ) (p q : Po
   plain_owes : (x : Deed) (d : CoreState) → SpanFits (under_way w0.happened) (x, c) → AnchorIs p.core.vault.current (x, c) d.vault.current
       → ((r : ℕ) (h : RegionState) → slice_get d.regions r ≡ Some h → (g : RegionState) × (slice_get p.core.regions r ≡ Some g) × (h.stray ≡ stray_step r g.stray (x, c)) × (h.poked ≡ poked_step r g.poked (x, c)))
       → ((b : ℕ) (found : List ℕ) → x ≡ Logs (audit_record b found) → ⊥)
-      → ((t : ℕ) → state_of d.system t ≡ state_step t (state_of p.core.system t) (x, c)) → FaultsBy w (after w c (x ∷ []) d) x
+      → ((t : ℕ) → state_of d.system t ≡ state_step t (state_of p.core.system t) (x, c))
+      → ((t k : ℕ) (o : Option Mode) → IsNoWeaker (lock_of p.core.system t k) o → IsNoWeaker (lock_of d.system t k) (lock_step t k o (x, c))) → FaultsBy w (after w c (x ∷ []) d) x
       → d.system.refusals ≡ p.core.system.refusals ++ refused_by ((x, c) ∷ []) → RoomBy w x → (w0.precheck ≡ true → RightNow w x)
       → OwesNow w (after w c (x ∷ []) d) c x
-  plain_owes x d span anchor poke none state fault refusal room right = record {
+  plain_owes x d span anchor poke none state lock fault refusal room right = record {
     owes = record {
       span = span;
       anchor = anchor;
       poke = poke;
       verdict = λ b found e. absurd (none b found e);
       state = state;
+      lock = lock;
       fault = fault;
       refusal = refusal;
       room = room;
@@ -105,9 +93,9 @@ module _ (bases : Bases) (before : List Record) (w0 : World) (c : ℕ) (p q : Po
       → q.core ≡ with_system p.core (refused p.core.system t k m h) → q.log ≡ p.log → q.audits ≡ p.audits → AreRightThen w c (x ∷ []) q.core → Goes w c p (x ∷ []) (after w c (x ∷ []) q.core) q
   refuses t k m h x one is log audits right = ⊎_elim
       (λ e. subst (λ y. Goes w c p (y ∷ []) (after w c (y ∷ []) q.core) q) (sym e) (seen bases before w0 c p q run told (Yields f) d refl is log audits on
-      (plain_owes (Yields f) d tt refl (λ r g at. (g, at, refl, refl)) (λ b found e'. absurd (cc)) (λ u. refl) (refl, refl) refl tt (λ e'. tt)) told.flag (subst (λ y. AreRightThen w c (y ∷ []) q.core) e right)))
+      (plain_owes (Yields f) d tt refl (λ r g at. (g, at, refl, refl)) (λ b found e'. absurd (cc)) (λ u. refl) (λ u j o e. e) (refl, refl) refl tt (λ e'. tt)) told.flag (subst (λ y. AreRightThen w c (y ∷ []) q.core) e right)))
       (λ e. subst (λ y. Goes w c p (y ∷ []) (after w c (y ∷ []) q.core) q) (sym e) (seen bases before w0 c p q run told (FindsDead f) d refl is log audits on
-      (plain_owes (FindsDead f) d tt refl (λ r g at. (g, at, refl, refl)) (λ b found e'. absurd (cc)) (λ u. refl) (refl, refl) refl tt (λ e'. tt)) told.flag (subst (λ y. AreRightThen w c (y ∷ []) q.core) e right)))
+      (plain_owes (FindsDead f) d tt refl (λ r g at. (g, at, refl, refl)) (λ b found e'. absurd (cc)) (λ u. refl) (λ u j o e. e) (refl, refl) refl tt (λ e'. tt)) told.flag (subst (λ y. AreRightThen w c (y ∷ []) q.core) e right)))
       one
     where
       f : Refusal
@@ -123,23 +111,23 @@ module _ (bases : Bases) (before : List Record) (w0 : World) (c : ℕ) (p q : Po
   gets_lock : (t k : ℕ) (m : Mode) → q.core ≡ with_system p.core (granted p.core.system t k m) → q.log ≡ p.log → q.audits ≡ p.audits → AreRightThen w c (GetsLock t k m ∷ []) q.core
       → Goes w c p (GetsLock t k m ∷ []) (after w c (GetsLock t k m ∷ []) q.core) q
   gets_lock t k m is log audits right =
-      seen bases before w0 c p q run told (GetsLock t k m) (with_system p.core (granted p.core.system t k m)) refl is log audits (same _ _ refl refl refl refl refl refl refl)
-      (plain_owes (GetsLock t k m) _ tt refl (λ r g at. (g, at, refl, refl)) (λ b found e'. absurd (cc)) (λ u. refl) (refl, refl) (sym (append-nil p.core.system.refusals)) tt (λ e'. tt))
+      seen bases before w0 c p q run told (GetsLock t k m) (with_system p.core (granted p.core.system t k m)) refl is log audits (plain _ _ refl refl refl refl refl refl refl)
+      (plain_owes (GetsLock t k m) _ tt refl (λ r g at. (g, at, refl, refl)) (λ b found e'. absurd (cc)) (λ u. refl) (λ u j o e. told_lock p.core.system.locks t k m u j o e) (refl, refl) (sym (append-nil p.core.system.refusals)) tt (λ e'. tt))
       told.flag right
 
   -- ---- regions
   changed_region : (r : ℕ) (g new : RegionState) → slice_get p.core.regions r ≡ Some g → new.stray ≡ g.stray → new.poked ≡ g.poked
       → q.core ≡ with_region p.core r new → q.log ≡ p.log → q.audits ≡ p.audits → Goes w c p [] (after w c [] q.core) q
   changed_region r g new at stray poked is log audits =
-      quiet bases before w0 c p q run told (with_region p.core r new) is log audits (same _ _ refl refl refl refl refl refl (length-set p.core.regions r new))
-      (one_region p.core.regions r g new at stray poked) (λ t. refl) refl refl refl
+      quiet bases before w0 c p q run told (with_region p.core r new) is log audits (plain _ _ refl refl refl refl refl refl (length-set p.core.regions r new))
+      (one_region p.core.regions r g new at stray poked) (λ t. refl) (λ t k o e. e) refl refl refl
 
   strays : (r i mask : ℕ) (g : RegionState) → slice_get p.core.regions r ≡ Some g → q.core ≡ with_region p.core r (region_after (Poke i mask) g) → q.log ≡ p.log → q.audits ≡ p.audits
       → Goes w c p (Strays r i mask ∷ []) (after w c (Strays r i mask ∷ []) q.core) q
   strays r i mask g at is log audits =
       seen bases before w0 c p q run told (Strays r i mask) (with_region p.core r (region_after (Poke i mask) g)) refl is log audits
-      (same _ _ refl refl refl refl refl refl (length-set p.core.regions r (region_after (Poke i mask) g)))
-      (plain_owes (Strays r i mask) _ tt refl (λ q' h at'. (poked_region p.core.regions r i mask g at).each q' h at') (λ b found e'. absurd (cc)) (λ u. refl) (refl, refl) (sym (append-nil p.core.system.refusals)) tt (λ e'. tt))
+      (plain _ _ refl refl refl refl refl refl (length-set p.core.regions r (region_after (Poke i mask) g)))
+      (plain_owes (Strays r i mask) _ tt refl (λ q' h at'. (poked_region p.core.regions r i mask g at).each q' h at') (λ b found e'. absurd (cc)) (λ u. refl) (λ u j o e. e) (refl, refl) (sym (append-nil p.core.system.refusals)) tt (λ e'. tt))
       told.flag (tt, tt)
 
   on_region : (r : ℕ) (x : RegionStep) (g : RegionState) (ds : List Deed) → AreOfCore w p (OnRegion r x) ds → clears x ≡ false → slice_get p.core.regions r ≡ Some g
@@ -184,14 +172,14 @@ module _ (bases : Bases) (before : List Record) (w0 : World) (c : ℕ) (p q : Po
       by_test true e there = ⊎_elim
           (λ h. passed_on w c [] d b' x (told.passes b' i x since began (ap (λ n. slice_get (p.audits n) i) (equal b' b e) ∙ h)))
           (λ h. passed_now d b' r h.0 x began h.1)
-          (append_cases (p.audits b) (pass_now p.core r) i x there)
+          (get_append_cases (p.audits b) (pass_now p.core r) i x there)
       by_test false e there = passed_on w c [] d b' x (told.passes b' i x since began there)
 
   passes : (b r : ℕ) (g : RegionState) → slice_get p.core.regions r ≡ Some g → q.core ≡ with_region p.core r (checked g) → q.log ≡ p.log
       → q.audits ≡ audits_with p.audits b (p.audits b ++ pass_now p.core r) → Goes w c p [] (after w c [] q.core) q
   passes b r g at is log audits =
-      unseen bases before w0 c p q run told (with_region p.core r (checked g)) is log (same _ _ refl refl refl refl refl refl (length-set p.core.regions r (checked g)))
-      (one_region p.core.regions r g (checked g) at refl refl) (λ t. refl) refl refl refl refl refl
+      unseen bases before w0 c p q run told (with_region p.core r (checked g)) is log (plain _ _ refl refl refl refl refl refl (length-set p.core.regions r (checked g)))
+      (one_region p.core.regions r g (checked g) at refl refl) (λ t. refl) (λ t k o e. e) refl refl refl refl refl
       (subst (λ A. PassesAreTold (after w c [] (with_region p.core r (checked g))) A) (sym audits) (passes_more (with_region p.core r (checked g)) b r))
 
   -- ---- deaths and claims
@@ -199,8 +187,8 @@ module _ (bases : Bases) (before : List Record) (w0 : World) (c : ℕ) (p q : Po
       → Goes w c p (DiesOn t r ∷ []) (after w c (DiesOn t r ∷ []) q.core) q
   dies t r may right is log audits =
       let stays = dead_stays p.core.regions r in
-      seen bases before w0 c p q run told (DiesOn t r) (died p.core t (Some r)) refl is log audits (same _ _ refl refl refl refl refl refl stays.1)
-      (plain_owes (DiesOn t r) _ tt refl (λ q' h at. stays.0.each q' h at) (λ b found e'. absurd (cc)) (λ u. new_state p.core.system.table t (with_state (Dead (Some r))) (Dead (Some r)) (λ row. refl) Live may.lives u) (refl, refl) (sym (append-nil p.core.system.refusals)) tt
+      seen bases before w0 c p q run told (DiesOn t r) (died p.core t (Some r)) refl is log audits (plain _ _ refl refl refl refl refl refl stays.1)
+      (plain_owes (DiesOn t r) _ tt refl (λ q' h at. stays.0.each q' h at) (λ b found e'. absurd (cc)) (λ u. new_state p.core.system.table t (with_state (Dead (Some r))) (Dead (Some r)) (λ row. refl) Live may.lives u) (λ u j o e. e) (refl, refl) (sym (append-nil p.core.system.refusals)) tt
       (λ e' g0 was. right_here e' g0 was))
       told.flag (tt, tt)
     where
@@ -217,15 +205,15 @@ module _ (bases : Bases) (before : List Record) (w0 : World) (c : ℕ) (p q : Po
   claims : (t : ℕ) (o : Option ℕ) → state_of p.core.system t ≡ Some (Dead o) → q.core ≡ with_system p.core (in_state p.core.system t (Cleaning o)) → q.log ≡ p.log → q.audits ≡ p.audits → AreRightThen w c (ClaimsTxn t ∷ []) q.core
       → Goes w c p (ClaimsTxn t ∷ []) (after w c (ClaimsTxn t ∷ []) q.core) q
   claims t o dead_now is log audits right =
-      seen bases before w0 c p q run told (ClaimsTxn t) (with_system p.core (in_state p.core.system t (Cleaning o))) refl is log audits (same _ _ refl refl refl refl refl refl refl)
-      (plain_owes (ClaimsTxn t) _ tt refl (λ r g at. (g, at, refl, refl)) (λ b found e'. absurd (cc)) (λ u. claim_state p.core.system.table t o dead_now u) (refl, refl) (sym (append-nil p.core.system.refusals)) tt (λ e'. tt))
+      seen bases before w0 c p q run told (ClaimsTxn t) (with_system p.core (in_state p.core.system t (Cleaning o))) refl is log audits (plain _ _ refl refl refl refl refl refl refl)
+      (plain_owes (ClaimsTxn t) _ tt refl (λ r g at. (g, at, refl, refl)) (λ b found e'. absurd (cc)) (λ u. claim_state p.core.system.table t o dead_now u) (λ u j o e. e) (refl, refl) (sym (append-nil p.core.system.refusals)) tt (λ e'. tt))
       told.flag right
 
   gives_back : (t : ℕ) (o was : Option ℕ) → state_of p.core.system t ≡ Some (Cleaning was) → q.core ≡ with_system p.core (in_state p.core.system t (Dead o)) → q.log ≡ p.log → q.audits ≡ p.audits → AreRightThen w c (GivesTxnBack t o ∷ []) q.core
       → Goes w c p (GivesTxnBack t o ∷ []) (after w c (GivesTxnBack t o ∷ []) q.core) q
   gives_back t o was claimed_now is log audits right =
-      seen bases before w0 c p q run told (GivesTxnBack t o) (with_system p.core (in_state p.core.system t (Dead o))) refl is log audits (same _ _ refl refl refl refl refl refl refl)
-      (plain_owes (GivesTxnBack t o) _ tt refl (λ r g at. (g, at, refl, refl)) (λ b found e'. absurd (cc)) (λ u. release_state p.core.system.table t o was claimed_now u) (refl, refl) (sym (append-nil p.core.system.refusals)) tt (λ e'. tt))
+      seen bases before w0 c p q run told (GivesTxnBack t o) (with_system p.core (in_state p.core.system t (Dead o))) refl is log audits (plain _ _ refl refl refl refl refl refl refl)
+      (plain_owes (GivesTxnBack t o) _ tt refl (λ r g at. (g, at, refl, refl)) (λ b found e'. absurd (cc)) (λ u. release_state p.core.system.table t o was claimed_now u) (λ u j o e. e) (refl, refl) (sym (append-nil p.core.system.refusals)) tt (λ e'. tt))
       told.flag right
 
   -- ---- flushes
@@ -234,14 +222,14 @@ module _ (bases : Bases) (before : List Record) (w0 : World) (c : ℕ) (p q : Po
       let l = longer_is p.core.vault (frame_of p.log p.core) in
       unseen bases before w0 c p q run told (with_vault p.core (longer p.core.vault (frame_of p.log p.core))) is log
       (record { sizes = refl; limit = refl; flushed = omega (arith, l.3); failed = λ e. l.1 ∙ e; sealed = λ e. let no : true ≡ false = sym e ∙ runs_on in absurd (cc); stop = λ z e. e; refusals = λ f h. h; count = refl })
-      (same_regions p.core.regions) (λ t. refl) l.0 l.1 l.2 refl refl (unseen_passes bases before w0 c p q run told _ audits)
+      (same_regions p.core.regions) (λ t. refl) (λ t k o e. e) l.0 l.1 l.2 refl refl (unseen_passes bases before w0 c p q run told _ audits)
 
   fails : (d : CoreState) (n : ℕ) → d.regions ≡ p.core.regions → d.system ≡ p.core.system → d.vault ≡ faulted p.core.vault n → p.core.vault.stopped ≡ false → HasRisen p.core.vault.faults n
       → q.core ≡ d → q.log ≡ p.log → q.audits ≡ p.audits → Goes w c p (Meets StoreFailed ∷ []) (after w c (Meets StoreFailed ∷ []) q.core) q
   fails d n regions system vault runs_on rose is log audits =
       seen bases before w0 c p q run told (Meets StoreFailed) (with_vault p.core (faulted p.core.vault n)) refl (is ∙ whole) log audits
       (record { sizes = refl; limit = refl; flushed = omega arith; failed = λ e. refl; sealed = λ e. refl; stop = λ z e. e; refusals = λ f h. h; count = refl })
-      (plain_owes (Meets StoreFailed) _ tt refl (λ r g at. (g, at, refl, refl)) (λ b found e'. absurd (cc)) (λ u. refl) (runs_on, refl, rose) (sym (append-nil p.core.system.refusals)) tt (λ e'. tt))
+      (plain_owes (Meets StoreFailed) _ tt refl (λ r g at. (g, at, refl, refl)) (λ b found e'. absurd (cc)) (λ u. refl) (λ u j o e. e) (runs_on, refl, rose) (sym (append-nil p.core.system.refusals)) tt (λ e'. tt))
       told.flag (tt, tt)
     where
       whole : d ≡ with_vault p.core (faulted p.core.vault n)
@@ -276,6 +264,7 @@ meets w0 c p why told none right =
         poke = λ r h at. (h, at, refl, refl);
         verdict = λ b found e. absurd (cc);
         state = λ t. refl;
+        lock = λ t k o h. h;
         fault = fault why none;
         refusal = sym (append-nil p.core.system.refusals);
         room = tt;
@@ -298,7 +287,7 @@ module _ (bases : Bases) (before : List Record) (w0 : World) (c : ℕ) (p q : Po
   at_core AuditBegins ds other (s, audits) e right = subst (λ es. Goes (record w0 { core = p.core }) c p es (after w0 c es q.core) q) (sym e) (audit_begins bases before w0 c p q run told s.1 s.2.1 s.2.0 audits (subst (λ es. AreRightThen (record w0 { core = p.core }) c es q.core) e right))
   at_core (AuditEnds b found) ds other (s, audits) e right = subst (λ es. Goes (record w0 { core = p.core }) c p es (after w0 c es q.core) q) (sym e.0) (audit_ends bases before w0 c p q run told b found e.1 (s, audits) s.0.runs s.1.1 s.1.0 audits.1 (subst (λ es. AreRightThen (record w0 { core = p.core }) c es q.core) e.0 right))
   at_core (Locks t k m) ds other (s, audits) e right = ⊎_elim
-      (λ f. subst (λ es. Goes (record w0 { core = p.core }) c p es (after w0 c es q.core) q) (sym f) (quiet bases before w0 c p q run told (with_system p.core (granted p.core.system t k m)) s.2.1 s.2.0 audits (same _ _ refl refl refl refl refl refl refl) (same_regions p.core.regions) (λ u. refl) refl refl refl))
+      (λ f. subst (λ es. Goes (record w0 { core = p.core }) c p es (after w0 c es q.core) q) (sym f) (quiet bases before w0 c p q run told (with_system p.core (granted p.core.system t k m)) s.2.1 s.2.0 audits (plain _ _ refl refl refl refl refl refl refl) (same_regions p.core.regions) (λ u. refl) (λ u j o h. untold_lock p.core.system.locks t k m u j o h) refl refl refl))
       (λ f. subst (λ es. Goes (record w0 { core = p.core }) c p es (after w0 c es q.core) q) (sym f) (gets_lock bases before w0 c p q run told t k m s.2.1 s.2.0 audits (subst (λ es. AreRightThen (record w0 { core = p.core }) c es q.core) f right)))
       e
   at_core (Refuses t k m h) ds other (s, audits) e right = ⊎_elim
@@ -315,9 +304,9 @@ module _ (bases : Bases) (before : List Record) (w0 : World) (c : ℕ) (p q : Po
   at_core Stops ds other (s, audits) e right = subst (λ es. Goes (record w0 { core = p.core }) c p es (after w0 c es q.core) q) (sym e)
       (quiet bases before w0 c p q run told (with_system p.core (store_stopped p.core.system)) s.1.1 s.1.0 audits
       (record { sizes = refl; limit = refl; flushed = omega arith; failed = λ f. f; sealed = λ f. refl; stop = λ z f. keeps_stop p.core.system.stop z f; refusals = λ g h. h; count = refl })
-      (same_regions p.core.regions) (λ u. refl) refl refl refl)
+      (same_regions p.core.regions) (λ u. refl) (λ u j o h. h) refl refl refl)
   at_core (Checkpoints b) ds other (s, audits) e right = absurd (cc)
-  at_core Takes ds other (s, audits) e right = subst (λ es. Goes (record w0 { core = p.core }) c p es (after w0 c es q.core) q) (sym e) (quiet bases before w0 c p q run told (with_system p.core (taken p.core.system)) s.1 s.0 audits (same _ _ refl refl refl refl refl refl refl) (same_regions p.core.regions) (λ u. refl) refl refl refl)
+  at_core Takes ds other (s, audits) e right = subst (λ es. Goes (record w0 { core = p.core }) c p es (after w0 c es q.core) q) (sym e) (quiet bases before w0 c p q run told (with_system p.core (taken p.core.system)) s.1 s.0 audits (plain _ _ refl refl refl refl refl refl refl) (same_regions p.core.regions) (λ u. refl) (λ u j o h. h) refl refl refl)
   at_core Flushes ds other (s, audits) e right = subst (λ es. Goes (record w0 { core = p.core }) c p es (after w0 c es q.core) q) (sym e) (flushes bases before w0 c p q run told s.1.1 s.0 s.1.0 audits)
   at_core (Faults n) ds other (s, audits) e right = subst (λ es. Goes (record w0 { core = p.core }) c p es (after w0 c es q.core) q) (sym e) (fails bases before w0 c p q run told (with_vault p.core (faulted p.core.vault n)) n refl refl refl s.0 s.1 s.2.1 s.2.0 audits)
   at_core (ReadFails n) ds other (s, audits) e right = absurd e
@@ -325,20 +314,20 @@ module _ (bases : Bases) (before : List Record) (w0 : World) (c : ℕ) (p q : Po
   -- ---- with its store: one that leaves the core
   left : (ds : List Deed) → ds ≡ [] → q.core ≡ p.core → q.log ≡ p.log → q.audits ≡ p.audits → Goes (record w0 { core = p.core }) c p ds (after w0 c ds q.core) q
   left ds e is log audits = subst (λ es. Goes (record w0 { core = p.core }) c p es (after w0 c es q.core) q) (sym e)
-      (quiet bases before w0 c p q run told p.core is log audits (same _ _ refl refl refl refl refl refl refl) (same_regions p.core.regions) (λ u. refl) refl refl refl)
+      (quiet bases before w0 c p q run told p.core is log audits (plain _ _ refl refl refl refl refl refl refl) (same_regions p.core.regions) (λ u. refl) (λ u j o h. h) refl refl refl)
 
   starts : p.core.system.checking ≡ false → q.core ≡ with_flag p.core true → q.log ≡ p.log → q.audits ≡ p.audits
       → Goes (record w0 { core = p.core }) c p (StartsCheckpoint ∷ []) (after w0 c (StartsCheckpoint ∷ []) q.core) q
   starts off is log audits =
-      seen bases before w0 c p q run told StartsCheckpoint (with_flag p.core true) refl is log audits (same _ _ refl refl refl refl refl refl refl)
-      (plain_owes bases before w0 c p q run told StartsCheckpoint _ (none_of (under_way w0.happened) (sym told.flag ∙ off)) refl (λ r g at. (g, at, refl, refl)) (λ b found e'. absurd (cc)) (λ u. refl) (refl, refl) (sym (append-nil p.core.system.refusals)) tt (λ e'. tt))
+      seen bases before w0 c p q run told StartsCheckpoint (with_flag p.core true) refl is log audits (plain _ _ refl refl refl refl refl refl refl)
+      (plain_owes bases before w0 c p q run told StartsCheckpoint _ (none_of_test (under_way w0.happened) (sym told.flag ∙ off)) refl (λ r g at. (g, at, refl, refl)) (λ b found e'. absurd (cc)) (λ u. refl) (λ u j o e. e) (refl, refl) (sym (append-nil p.core.system.refusals)) tt (λ e'. tt))
       refl (tt, tt)
 
   finishes : under_way w0.happened ≡ Some c → q.core ≡ with_flag p.core false → q.log ≡ p.log → q.audits ≡ p.audits
       → Goes (record w0 { core = p.core }) c p (EndsCheckpoint ∷ []) (after w0 c (EndsCheckpoint ∷ []) q.core) q
   finishes own is log audits =
-      seen bases before w0 c p q run told EndsCheckpoint (with_flag p.core false) refl is log audits (same _ _ refl refl refl refl refl refl refl)
-      (plain_owes bases before w0 c p q run told EndsCheckpoint _ own refl (λ r g at. (g, at, refl, refl)) (λ b found e'. absurd (cc)) (λ u. refl) (refl, refl) (sym (append-nil p.core.system.refusals)) tt (λ e'. tt))
+      seen bases before w0 c p q run told EndsCheckpoint (with_flag p.core false) refl is log audits (plain _ _ refl refl refl refl refl refl refl)
+      (plain_owes bases before w0 c p q run told EndsCheckpoint _ own refl (λ r g at. (g, at, refl, refl)) (λ b found e'. absurd (cc)) (λ u. refl) (λ u j o e. e) (refl, refl) (sym (append-nil p.core.system.refusals)) tt (λ e'. tt))
       refl (tt, tt)
 
   turns : q.core ≡ with_current p.core → q.log ≡ p.log → q.audits ≡ p.audits
@@ -346,7 +335,7 @@ module _ (bases : Bases) (before : List Record) (w0 : World) (c : ℕ) (p q : Po
   turns is log audits =
       seen bases before w0 c p q run told (MovesAnchor (p.core.vault.current + 1)) (with_current p.core) refl is log audits
       (record { sizes = refl; limit = refl; flushed = omega arith; failed = λ e. e; sealed = λ e. refl; stop = λ z e. e; refusals = λ f h. h; count = refl })
-      (plain_owes bases before w0 c p q run told (MovesAnchor (p.core.vault.current + 1)) _ tt (refl, refl) (λ r g at. (g, at, refl, refl)) (λ b found e'. absurd (cc)) (λ u. refl) (refl, refl) (sym (append-nil p.core.system.refusals)) tt (λ e'. tt))
+      (plain_owes bases before w0 c p q run told (MovesAnchor (p.core.vault.current + 1)) _ tt (refl, refl) (λ r g at. (g, at, refl, refl)) (λ b found e'. absurd (cc)) (λ u. refl) (λ u j o e. e) (refl, refl) (sym (append-nil p.core.system.refusals)) tt (λ e'. tt))
       told.flag (tt, tt)
 
   faults_in : (ds : List Deed) (n : ℕ) → ds ≡ Meets StoreFailed ∷ [] → IsFault p n → q.core ≡ with_fault p.core n → q.log ≡ p.log → q.audits ≡ p.audits

@@ -1,13 +1,15 @@
 -- The numbers of transactions rise along a log, so the lists of the deleted ascend across its epochs, and are a replay's list.
 --     Up xs                    each number of xs is below all later ones
 --     Begun n L                the Begins of L rise, and are below n
-use Rattle.std.proofs.Common.{◌≡◌, ℕ, zero, suc, ◌+◌, ◌<◌, ◌≤◌, Bool, true, false, cond, List, [], ◌∷◌, ◌++◌, length, Option, Some, None, refl, ap, sym, subst, ◌∙◌, ⊎_elim, arith, append-nil}
-use Rattle.std.specs.Prelude.{◌&&◌, ◌==◌, ◌||◌, ⊤, IsSome, filter, flat_map, slice_index, slice_index_or}
+use Rattle.std.proofs.Common.{◌≡◌, ℕ, zero, suc, ◌+◌, ◌<◌, ◌≤◌, Bool, true, false, cond, List, [], ◌∷◌, ◌++◌, Option, Some, None, refl, ap, sym, subst, ◌∙◌, ⊎_elim, arith, append-nil}
+use Rattle.std.specs.Prelude.{◌&&◌, ◌==◌, ◌||◌, ⊤, IsSome, filter, flat_map, slice_index}
 use Rattle.std.specs.List.{AllByRecursion, AllPairs}
 use Rattle.std.specs.List.Sorted.{IsStrictlyIncreasing}
-use Rattle.std.proofs.lemmas.Bool.{or_cases, eq-eqb, eqb-true}
+use Rattle.std.proofs.lemmas.Bool.{or_cases, eqb-true, true≢false}
 use Rattle.std.proofs.lemmas.List.Elements.{filter_map-append}
 use Rattle.std.proofs.lemmas.List.Kept.{AllPairs-from_increasing}
+use Rattle.dali_lists.proofs.Members.{all_greater}
+use Rattle.dali_lists.proofs.Tests.{left_true}
 use Rattle.dali_geometry.specs.Sizes.{Sizes}
 use Rattle.dali_record.specs.declared.records.Record.{Record}
 use Rattle.dali_record.specs.declared.records.Record.TheVariants.{Format, Begin, Forward, Done, Commit, Ended, Solo, AuditBegin, AuditClean, AuditFail, Restarted, Back}
@@ -18,9 +20,9 @@ use Rattle.dali_record.specs.Legal.{Rules, rules_state, rules_next, rules_step, 
 use Rattle.dali_record.proofs.Ends.{by_push}
 use Rattle.dali_record.proofs.Pushes.{rules_state_push}
 use Rattle.dali_counts.specs.Counts.{next_with}
-use Rattle.dali_counts.proofs.Lists.{and_left}
 use Rattle.dali_counts.proofs.Tallies.{tells_step, if_kept, if_none}
 use Rattle.dali_history.proofs.ByEpochs.{in_epochs}
+use Rattle.dali_history.proofs.Members.{here_too}
 
 -- ---- numbers that rise
 abbrev pub Up : List ℕ → Type 0
@@ -77,17 +79,11 @@ increasing (x ∷ y ∷ zs) up (suc k) h =
     let next : suc k + 1 ≡ suc (k + 1) = omega arith in
     subst (λ (n : ℕ). slice_index (y ∷ zs) k < slice_index (x ∷ y ∷ zs) n) (sym next) (increasing (y ∷ zs) up.1 k (omega (arith, h)))
 
-all_from : (x : ℕ) (xs : List ℕ) → ((j : ℕ) → j < length xs → x < slice_index_or xs j 0) → AllByRecursion (λ y. x < y) xs
-all_from x [] h = tt
-all_from x (y ∷ ys) h = (h 0 (omega arith), all_from x ys (λ j l. h (suc j) (omega (arith, l))))
-
 up_from : (xs : List ℕ) → AllPairs (λ x y. x < y) xs → Up xs
 up_from [] h = tt
-up_from (x ∷ xs) h = (all_from x xs (λ j l. h 0 (suc j) 0 (omega arith) (omega (arith, l))), up_from xs (λ i j d a b. h (suc i) (suc j) d (omega (arith, a)) (omega (arith, b))))
+up_from (x ∷ xs) h = (all_greater x xs (λ j l. h 0 (suc j) 0 (omega arith) (omega (arith, l))), up_from xs (λ i j d a b. h (suc i) (suc j) d (omega (arith, a)) (omega (arith, b))))
 
 -- ---- lists that rise and have the same numbers
-here : (x : ℕ) (xs : List ℕ) → has (x ∷ xs) x ≡ true
-here x xs = ap (λ (b : Bool). b || has xs x) (eq-eqb x x refl)
 
 above : (x : ℕ) (xs : List ℕ) (t : ℕ) → AllByRecursion (λ y. x < y) xs → has xs t ≡ true → x < t
 above x [] t all h = absurd (cc)
@@ -104,16 +100,13 @@ same_head : (x : ℕ) (xs : List ℕ) (y : ℕ) (ys : List ℕ) → Up (x ∷ xs
 same_head x xs y ys up vp same =
     ⊎_elim
     (λ e. sym (eqb-true y x e))
-    (λ k. ⊎_elim (λ e. eqb-true x y e) (λ j. absurd (omega (arith, above y ys x vp.0 k, above x xs y up.0 j))) (or_cases (x == y) (has xs y) (same y ∙ here y ys)))
-    (or_cases (y == x) (has ys x) (sym (same x) ∙ here x xs))
-
-true_false : ◌≡◌ {A = Bool} true false → ⊥
-true_false e = cc (e)
+    (λ k. ⊎_elim (λ e. eqb-true x y e) (λ j. absurd (omega (arith, above y ys x vp.0 k, above x xs y up.0 j))) (or_cases (x == y) (has xs y) (same y ∙ here_too y ys)))
+    (or_cases (y == x) (has ys x) (sym (same x) ∙ here_too x xs))
 
 pub same_up : (xs ys : List ℕ) → Up xs → Up ys → ((t : ℕ) → has xs t ≡ has ys t) → xs ≡ ys
 same_up [] [] up vp same = refl
-same_up [] (y ∷ ys) up vp same = absurd (true_false (sym (here y ys) ∙ sym (same y)))
-same_up (x ∷ xs) [] up vp same = absurd (true_false (sym (here x xs) ∙ same x))
+same_up [] (y ∷ ys) up vp same = absurd (true≢false (sym (here_too y ys) ∙ sym (same y)))
+same_up (x ∷ xs) [] up vp same = absurd (true≢false (sym (here_too x xs) ∙ same x))
 same_up (x ∷ xs) (y ∷ ys) up vp same =
     let one : x ≡ y = same_head x xs y ys up vp same in
     ap (λ (z : ℕ). z ∷ xs) one ∙ ap (λ (l : List ℕ). y ∷ l) (same_up xs ys up.1 vp.1 (λ t. by_test one t (x == t) refl))
@@ -129,12 +122,12 @@ pub same_increasing : (xs ys : List ℕ) → Up xs → IsStrictlyIncreasing ys �
 same_increasing xs ys up vp same = same_up xs ys up (up_from ys (AllPairs-from_increasing ys vp)) same
 
 -- ---- the Begins of a log
-begin_number : (s : Sizes) (h : Rules) (u : ℕ) → IsSome (rules_step s h (Begin u)) → u ≡ h.next
+pub begin_number : (s : Sizes) (h : Rules) (u : ℕ) → IsSome (rules_step s h (Begin u)) → u ≡ h.next
 begin_number s h u k = by_test (h.count == 0) k
   where
     by_test : (c : Bool) → IsSome (cond c (rules_first s h (Begin u)) (rules_behind s h (Begin u))) → u ≡ h.next
     by_test true k = absurd (cc)
-    by_test false k = eqb-true u h.next (and_left (u == h.next) (has_room h (Begin u)) (if_kept _ _ (if_none h.failed (runs s h (Begin u)) k)))
+    by_test false k = eqb-true u h.next (left_true (u == h.next) (has_room h (Begin u)) (if_kept _ _ (if_none h.failed (runs s h (Begin u)) k)))
 
 record Begun (n : ℕ) (L : List Record) : Type 0 where
   up : Up (begun L)

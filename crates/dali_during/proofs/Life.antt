@@ -2,6 +2,7 @@
 use Rattle.std.proofs.Common.{◌≡◌, ℕ, zero, suc, ◌<◌, true, false, List, [], ◌∷◌, ◌++◌, map, Some, None, refl, ap, inl, arith}
 use Rattle.std.specs.List.{list_any}
 use Rattle.std.proofs.lemmas.Bool.{or_parts}
+use Rattle.dali_lists.proofs.Numbers.{both_below_two}
 use Rattle.dali_record.specs.declared.records.Record.{Record}
 use Rattle.dali_record.specs.declared.records.Record.TheVariants.{Format, AuditBegin, AuditClean}
 use Rattle.dali_record.specs.Legal.{rules_state}
@@ -209,11 +210,6 @@ t14 : IsPointStep s13 Syncs s14
 unfolding look put add found kill_cell kill_entry free_cell free_entry look_free put_again unput entries cells
 t14 = (record { runs = refl; under_way = refl }, refl)
 
-both : (P : ℕ → Type 0) → P 0 → P 1 → (r : ℕ) → r < 2 → P r
-both P a b zero h = a
-both P a b (suc zero) h = b
-both P a b (suc (suc r)) h = absurd (omega (arith, h))
-
 may : MayTurn s14 new_head 24 25
 unfolding look put add found kill_cell kill_entry free_cell free_entry look_free put_again unput entries cells
 may = record {
@@ -223,7 +219,7 @@ may = record {
   clean = refl;
   ends = omega arith;
   flushed = omega arith;
-  copies = both (λ r. (c : Copy) × (s14.copies (target s14) r ≡ Some c) × IsCertified new_head 24 c) (record { at = 24; passed = true }, refl, record { since = omega arith; until = omega arith; passed = refl }) (record { at = 24; passed = true }, refl, record { since = omega arith; until = omega arith; passed = refl });
+  copies = both_below_two (λ r. (c : Copy) × (s14.copies (target s14) r ≡ Some c) × IsCertified new_head 24 c) (record { at = 24; passed = true }, refl, record { since = omega arith; until = omega arith; passed = refl }) (record { at = 24; passed = true }, refl, record { since = omega arith; until = omega arith; passed = refl });
 }
 
 t15 : IsPointStep s14 Turns s15

@@ -4,17 +4,18 @@ use Rattle.std.specs.Prelude.{◌==◌}
 use Rattle.std.proofs.lemmas.List.Sums.{fold-append}
 use Rattle.std.proofs.lemmas.List.Elements.{filter-append}
 use Rattle.std.proofs.lemmas.Bool.{eq-eqb}
+use Rattle.dali_lists.proofs.Lists.{push-not_nil}
+use Rattle.dali_lists.proofs.Options.{some_of}
 use Rattle.dali_geometry.specs.Sizes.{Sizes}
 use Rattle.dali_record.specs.declared.operations.Op.{Op}
 use Rattle.dali_record.specs.declared.operations.Block.{Block}
 use Rattle.dali_record.specs.declared.operations.Undo.{Undo}
-use Rattle.dali_record.specs.declared.operations.Undo.TheVariants.{FreeCell as UndoFreeCell, ReviveCell as UndoReviveCell, Restore as UndoRestore, FreeEntry as UndoFreeEntry, ReviveEntry as UndoReviveEntry}
+use Rattle.dali_record.specs.declared.operations.Undo.TheVariants.{FreeCell as UndoFreeCell}
 use Rattle.dali_record.specs.declared.records.Call.{Call}
-use Rattle.dali_record.specs.declared.records.Call.TheVariants.{Insert, Update, Delete, Get}
 use Rattle.dali_record.specs.declared.records.Answer.{Answer}
 use Rattle.dali_record.specs.declared.records.Answer.TheVariants.{Odd}
 use Rattle.dali_record.specs.declared.records.Record.{Record}
-use Rattle.dali_record.specs.declared.records.Record.TheVariants.{Format, Begin, Forward, Done, Commit, Ended, Solo, AuditBegin, AuditClean, AuditFail, Restarted, Back}
+use Rattle.dali_record.specs.declared.records.Record.TheVariants.{Forward, Done, Solo, Back}
 use Rattle.dali_record.specs.Blocks.{IsSoundOn}
 use Rattle.dali_record.specs.Operations.{undo_op, effect}
 use Rattle.dali_record.specs.Calls.{Progress, Fresh, Walking, Nowhere, Somewhere, Storing, Adding, Removing, Finished, follow}
@@ -26,7 +27,8 @@ use Rattle.dali_record.proofs.Pushes.{touch_push_cases}
 use Rattle.dali_index.proofs.Worlds.{part, flags}
 use Rattle.dali_index.proofs.Parts.{Part}
 use Rattle.dali_index.proofs.Worlds.{Flags}
-use Rattle.dali_history.specs.Serial.{value_after, value_step, values_after, on_key, call_key}
+use Rattle.dali_history.specs.Serial.{value_step, values_after, on_key, call_key}
+use Rattle.dali_history.proofs.NoOdd.{odd_value}
 use Rattle.dali_slots.proofs.CallKey.{IsOff, off_on, follow_says}
 use Rattle.dali_slots.proofs.CallProgress.{Own, IsOn}
 use Rattle.dali_slots.proofs.RunningTxn.{Runs}
@@ -34,50 +36,29 @@ use Rattle.dali_kept.specs.Kept.{kept_state, AreKept}
 use Rattle.dali_kept.proofs.WithoutLast.{Touches, sound_before}
 use Rattle.dali_kept.proofs.Invariant.{IsClear, IsAlone, Knows}
 use Rattle.dali_kept.proofs.OperationsKeep.{Forwards, forward_is, gone_on, started}
-use Rattle.dali_kept.proofs.AnswersKeep.{rested_of}
-use Rattle.dali_kept.proofs.InvariantAlong.{forward_state, back_state, done_state, is_of_is, some_is}
-use Rattle.dali_kept.proofs.InvariantSteps.{Fine, Along, fine_before, fine_kept, along_all, along_start}
+use Rattle.dali_kept.proofs.AnswersKeep.{rested_of, done_own}
+use Rattle.dali_kept.proofs.InvariantAlong.{forward_state, back_state, done_state, is_of_is}
+use Rattle.dali_kept.proofs.InvariantSteps.{Fine, Along, fine_before, fine_kept, along_all, along_start, state_step}
 use Rattle.dali_kept.proofs.KnownTxns.{back_is, is_allowed}
-use Rattle.dali_kept.proofs.WithoutLast.{kept_state_push}
-use Rattle.dali_kept.specs.Kept.{kept_step, kept_next}
 use Rattle.dali_during.specs.During.{is_amiss, IsQuiet}
 use Rattle.dali_during.proofs.Follows.{Tells, follow_tells}
 use Rattle.dali_kept.proofs.InvariantSteps.{frees_is, solo_state}
 
-pub odd_refused : (o : Option (List ℕ)) (c : Call) (p : ℕ) → value_after o c (Odd p) ≡ None
-odd_refused None (Insert k v) p = refl
-odd_refused (Some w) (Insert k v) p = refl
-odd_refused None (Update k v) p = refl
-odd_refused (Some w) (Update k v) p = refl
-odd_refused None (Delete k) p = refl
-odd_refused (Some w) (Delete k) p = refl
-odd_refused None (Get k) p = refl
-odd_refused (Some w) (Get k) p = refl
-
 odd_step : (o : Option (Option (List ℕ))) (c : Call) (p : ℕ) → value_step o (c, Odd p) ≡ None
 odd_step None c p = refl
-odd_step (Some v) c p = odd_refused v c p
+odd_step (Some v) c p = odd_value v c p
 
 -- the last of the calls on its key
 last_call : (c : Call) (a : Answer) (cs : List (Call × Answer)) → on_key (call_key c) (cs ++ (c, a) ∷ []) ≡ on_key (call_key c) cs ++ (c, a) ∷ []
 last_call c a cs = filter-append (λ p. call_key p.0 == call_key c) cs ((c, a) ∷ []) ∙ rw (eq-eqb (call_key c) (call_key c) refl) refl
 
-not_nil : {X : Type 0} (xs : List X) (x : X) → xs ++ x ∷ [] ≡ [] → ⊥
-not_nil [] x e = cc (e)
-not_nil (y ∷ xs) x e = cc (e)
-
-state_next : (s : Sizes) (t : ℕ) (J : List Record) (r : Record) (x y : TxnState) → kept_state s t J ≡ Some x → kept_state s t (J ++ r ∷ []) ≡ Some y → kept_step s t x r ≡ Some y
-state_next s t J r x y e f = sym (kept_state_push s t J r ∙ ap (λ o. kept_next s t o r) e) ∙ f
-
 pub uncut : (t : ℕ) → Rattle.dali_record.specs.Damage.has [] t ≡ false
 uncut t = refl
 
 -- ---- answers
-done_own : (t : ℕ) (c : Call) (a : Answer) (J : List Record) → calls_of t (J ++ Done t c a ∷ []) ≡ calls_of t J ++ (c, a) ∷ []
-done_own t c a J = Rattle.dali_record.proofs.Pushes.calls_of_push t J (Done t c a) ∙ rw (eq-eqb t t refl) refl
 
 not_odd : (s : Sizes) (base : List (List ℕ)) (J : List Record) (t : ℕ) (c : Call) (p : ℕ) → Fine s base [] (J ++ Done t c (Odd p) ∷ []) → Along s base [] (J ++ Done t c (Odd p) ∷ []) → ⊥
-not_odd s base J t c p h along = go (some_is (kept_state s t J) ((fine_before s base [] J (Done t c (Odd p)) h).calls.txns t)) (some_is (kept_state s t (J ++ Done t c (Odd p) ∷ [])) (h.calls.txns t))
+not_odd s base J t c p h along = go (some_of (kept_state s t J) ((fine_before s base [] J (Done t c (Odd p)) h).calls.txns t)) (some_of (kept_state s t (J ++ Done t c (Odd p) ∷ [])) (h.calls.txns t))
   where
     K : List Record
     K = J ++ Done t c (Odd p) ∷ []
@@ -87,7 +68,7 @@ not_odd s base J t c p h along = go (some_is (kept_state s t J) ((fine_before s 
 
     go : (x : TxnState) × (kept_state s t J ≡ Some x) → (y : TxnState) × (kept_state s t (J ++ Done t c (Odd p) ∷ []) ≡ Some y) → ⊥
     go x y =
-        let z = done_state s t x.0 y.0 c (Odd p) (state_next s t J (Done t c (Odd p)) x.0 y.0 x.1 y.1) in
+        let z = done_state s t x.0 y.0 c (Odd p) (state_step s t J (Done t c (Odd p)) x.0 y.0 x.1 y.1) in
         let b = is_allowed (is_answer s z.0 c (Odd p)) (Active (rested_of z.0)) y.0 z.2 in
         ⊎_elim clear runs ((along.keyed (call_key c)).txns t (rested_of z.0) (y.1 ∙ ap (λ o. Some o) (sym b.1)) refl refl)
       where
@@ -95,7 +76,7 @@ not_odd s base J t c p h along = go (some_is (kept_state s t J) ((fine_before s 
         list = ap (on_key (call_key c)) (done_own t c (Odd p) J) ∙ last_call c (Odd p) (calls_of t J)
 
         clear : {w : Working} → IsClear (call_key c) (calls_of t (J ++ Done t c (Odd p) ∷ [])) w → ⊥
-        clear d = not_nil (on_key (call_key c) (calls_of t J)) (c, Odd p) (sym list ∙ d.none)
+        clear d = push-not_nil (on_key (call_key c) (calls_of t J)) (c, Odd p) (sym list ∙ d.none)
 
         runs : {w : Working} {F : Flags} {P : Part} {o : Option (List ℕ)} → Touches t (call_key c) (J ++ Done t c (Odd p) ∷ []) × IsAlone t (call_key c) (J ++ Done t c (Odd p) ∷ []) × Runs s F (call_key c) o P (calls_of t (J ++ Done t c (Odd p) ∷ [])) w → ⊥
         runs {o = o} d =
@@ -123,7 +104,7 @@ not_fresh o p h e = let no : Tells o Fresh = subst (λ q. Tells o q) e h in no
 pub forward_comes :
     (s : Sizes) (base : List (List ℕ)) (J : List Record) (t : ℕ) (b : Block) → Fine s base [] (J ++ Forward t b ∷ []) → Along s base [] J → Along s base [] (J ++ Forward t b ∷ [])
     → Comes s (flags (redo_all base (J ++ Forward t b ∷ []))) J t b (part s (redo_all base (J ++ Forward t b ∷ [])) b.key)
-forward_comes s base J t b h before_along along = go (some_is (kept_state s t J) ((fine_before s base [] J (Forward t b) h).calls.txns t)) (some_is (kept_state s t (J ++ Forward t b ∷ [])) (h.calls.txns t))
+forward_comes s base J t b h before_along along = go (some_of (kept_state s t J) ((fine_before s base [] J (Forward t b) h).calls.txns t)) (some_of (kept_state s t (J ++ Forward t b ∷ [])) (h.calls.txns t))
   where
     F : Flags
     F = flags (redo_all base (J ++ Forward t b ∷ []))
@@ -165,7 +146,7 @@ forward_comes s base J t b h before_along along = go (some_is (kept_state s t J)
 
     go : (x : TxnState) × (kept_state s t J ≡ Some x) → (y : TxnState) × (kept_state s t (J ++ Forward t b ∷ []) ≡ Some y) → Comes s (flags (redo_all base (J ++ Forward t b ∷ []))) J t b (part s (redo_all base (J ++ Forward t b ∷ [])) b.key)
     go x y =
-        let z = forward_state s t x.0 y.0 b (state_next s t J (Forward t b) x.0 y.0 x.1 y.1) in
+        let z = forward_state s t x.0 y.0 b (state_step s t J (Forward t b) x.0 y.0 x.1 y.1) in
         let f : Forwards s t z.0 b y.0 = forward_is s t z.0 b y.0 z.2 in
         let known : Knows t J (Some (Active z.0)) = subst (λ o. Knows t J o) (x.1 ∙ ap (λ o. Some o) z.1) (before_along.known t) in
         let unended = known.1 in
@@ -180,7 +161,7 @@ not_amiss s F k P R v o (Somewhere key region entry at) t h = t.0
 not_amiss s F k P R v o (Storing key w region tried) t h = t.0
 not_amiss s F k P R v o (Adding key w at region tried) t h = t
 not_amiss s F k P R v o (Removing key region entry at) t h = t
-not_amiss s F k P R v o (Finished c (Odd n)) t h = let no : None ≡ Some h.0 = sym (odd_refused v c n) ∙ h.1 in absurd (cc (no))
+not_amiss s F k P R v o (Finished c (Odd n)) t h = let no : None ≡ Some h.0 = sym (odd_value v c n) ∙ h.1 in absurd (cc (no))
 not_amiss s F k P R v o (Finished c Rattle.dali_record.specs.declared.records.Answer.TheVariants.Ok) t h = t.0
 not_amiss s F k P R v o (Finished c Rattle.dali_record.specs.declared.records.Answer.TheVariants.Exists) t h = t.0
 not_amiss s F k P R v o (Finished c Rattle.dali_record.specs.declared.records.Answer.TheVariants.Missing) t h = t.0
@@ -191,17 +172,11 @@ not_amiss s F k P R v o (Finished c Rattle.dali_record.specs.declared.records.An
 -- blocks that take back or free find nothing
 undo_quiet : (d : Undo) (key : ℕ) (ws : List ℕ) → is_amiss (effect (undo_op d) key ws).1 ≡ false
 undo_quiet (UndoFreeCell c) key ws = refl
-undo_quiet (UndoReviveCell c) key ws = refl
-undo_quiet (UndoRestore c n vs) key ws = refl
-undo_quiet (UndoFreeEntry e) key ws = refl
-undo_quiet (UndoReviveEntry e) key ws = refl
+undo_quiet _ key ws = refl
 
 free_quiet : (d : Undo) (key : ℕ) (ws : List ℕ) → is_amiss (effect (freeing_op d) key ws).1 ≡ false
 free_quiet (UndoFreeCell c) key ws = refl
-free_quiet (UndoReviveCell c) key ws = refl
-free_quiet (UndoRestore c n vs) key ws = refl
-free_quiet (UndoFreeEntry e) key ws = refl
-free_quiet (UndoReviveEntry e) key ws = refl
+free_quiet _ key ws = refl
 
 sound_quiet : (ws : List ℕ) (b : Block) (op : Op) → IsSoundOn ws b → b.op ≡ op → is_amiss (effect op b.key ws).1 ≡ false → is_amiss b.outcome ≡ false
 sound_quiet ws b op sound e h = ap (λ (x : Block). is_amiss x.outcome) (sym sound) ∙ ap (λ o. is_amiss (effect o b.key ws).1) e ∙ h
@@ -213,21 +188,21 @@ forward_quiet s base J t b h before along =
     not_amiss s (flags (redo_all base (J ++ Forward t b ∷ []))) b.key (part s (redo_all base (J ++ Forward t b ∷ [])) b.key) x.slots x.value b.outcome x.progress x.tells x.own
 
 back_quiet : (s : Sizes) (base : List (List ℕ)) (J : List Record) (t : ℕ) (b : Block) → Fine s base [] (J ++ Back t b ∷ []) → is_amiss b.outcome ≡ false
-back_quiet s base J t b h = go (some_is (kept_state s t J) ((fine_before s base [] J (Back t b) h).calls.txns t)) (some_is (kept_state s t (J ++ Back t b ∷ [])) (h.calls.txns t))
+back_quiet s base J t b h = go (some_of (kept_state s t J) ((fine_before s base [] J (Back t b) h).calls.txns t)) (some_of (kept_state s t (J ++ Back t b ∷ [])) (h.calls.txns t))
   where
     go : (x : TxnState) × (kept_state s t J ≡ Some x) → (y : TxnState) × (kept_state s t (J ++ Back t b ∷ []) ≡ Some y) → is_amiss b.outcome ≡ false
     go x y =
-        let z = back_state s t x.0 y.0 b (state_next s t J (Back t b) x.0 y.0 x.1 y.1) in
+        let z = back_state s t x.0 y.0 b (state_step s t J (Back t b) x.0 y.0 x.1 y.1) in
         let p = back_is z.0 b (last_of z.0.undos) y.0 z.2 in
         let is = is_of_is (undo_op p.0.undo) p.0 b p.2 in
         sound_quiet (words_in (redo_all base J) b.region) b (undo_op p.0.undo) (sound_before base J (Back t b) h.sound).1 is.2 (undo_quiet p.0.undo b.key (words_in (redo_all base J) b.region))
 
 solo_quiet : (s : Sizes) (base : List (List ℕ)) (J : List Record) (t u : ℕ) (b : Block) → Fine s base [] (J ++ Solo t u b ∷ []) → is_amiss b.outcome ≡ false
-solo_quiet s base J t u b h = go (some_is (kept_state s u J) ((fine_before s base [] J (Solo t u b) h).calls.txns u)) (some_is (kept_state s u (J ++ Solo t u b ∷ [])) (h.calls.txns u))
+solo_quiet s base J t u b h = go (some_of (kept_state s u J) ((fine_before s base [] J (Solo t u b) h).calls.txns u)) (some_of (kept_state s u (J ++ Solo t u b ∷ [])) (h.calls.txns u))
   where
     go : (x : TxnState) × (kept_state s u J ≡ Some x) → (y : TxnState) × (kept_state s u (J ++ Solo t u b ∷ []) ≡ Some y) → is_amiss b.outcome ≡ false
     go x y =
-        let z = solo_state s t u b x.0 y.0 (state_next s u J (Solo t u b) x.0 y.0 x.1 y.1) in
+        let z = solo_state s t u b x.0 y.0 (state_step s u J (Solo t u b) x.0 y.0 x.1 y.1) in
         let d = frees_is b z.0 y.0 z.2 in
         let is = is_of_is (freeing_op d.0.undo) d.0 b d.4 in
         sound_quiet (words_in (redo_all base J) b.region) b (freeing_op d.0.undo) (sound_before base J (Solo t u b) h.sound).1 is.2 (free_quiet d.0.undo b.key (words_in (redo_all base J) b.region))
@@ -236,15 +211,7 @@ touch_quiet : (s : Sizes) (base : List (List ℕ)) (J : List Record) (r : Record
 touch_quiet s base J (Forward t b) h before along a e = let same : record { txn = t; owner = t; block = b } ≡ a = cc (e) in subst (λ (x : Touch). is_amiss x.block.outcome ≡ false) same (forward_quiet s base J t b h before along)
 touch_quiet s base J (Back t b) h before along a e = let same : record { txn = t; owner = t; block = b } ≡ a = cc (e) in subst (λ (x : Touch). is_amiss x.block.outcome ≡ false) same (back_quiet s base J t b h)
 touch_quiet s base J (Solo t u b) h before along a e = let same : record { txn = t; owner = u; block = b } ≡ a = cc (e) in subst (λ (x : Touch). is_amiss x.block.outcome ≡ false) same (solo_quiet s base J t u b h)
-touch_quiet s base J (Format i n) h before along a e = absurd (cc (e))
-touch_quiet s base J (Begin t) h before along a e = absurd (cc (e))
-touch_quiet s base J (Done t c q) h before along a e = absurd (cc (e))
-touch_quiet s base J (Commit t) h before along a e = absurd (cc (e))
-touch_quiet s base J (Ended t) h before along a e = absurd (cc (e))
-touch_quiet s base J AuditBegin h before along a e = absurd (cc (e))
-touch_quiet s base J (AuditClean n) h before along a e = absurd (cc (e))
-touch_quiet s base J (AuditFail n rs) h before along a e = absurd (cc (e))
-touch_quiet s base J (Restarted rs ds) h before along a e = absurd (cc (e))
+touch_quiet s base J _ h before along a e = absurd (cc (e))
 
 pub kept_quiet : (s : Sizes) (base : List (List ℕ)) (K : List Record) → AreKept s base [] K → IsQuiet K
 kept_quiet s base K kept = by_push (λ J. Fine s base [] J → IsQuiet J) start step K (fine_kept s base [] K kept)

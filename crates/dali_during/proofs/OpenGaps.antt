@@ -19,6 +19,7 @@ use Rattle.dali_crash.specs.Restarted.{put, add}
 use Rattle.dali_crash.proofs.Courses.{format_is_history}
 use Rattle.dali_crash.specs.Unpoked.{pokes}
 use Rattle.std.specs.List.{list_any}
+use Rattle.dali_lists.proofs.Tests.{not_itself}
 use Rattle.dali_during.specs.During.{image_of, HasGap, IsIndexedNow}
 use Rattle.dali_during.specs.Gaps.{put_so_far, killed_so_far, CutInInsert, CutInDelete}
 use Rattle.dali_during.proofs.UnpokedCourses.{unpoked_courses}
@@ -73,10 +74,6 @@ none_but : (a : Bool) (q p : ℕ) → (not a || (q == p)) ≡ true → a ≡ tru
 none_but true q p h e = eqb-true q p h
 none_but false q p h e = absurd (cc (e))
 
-not_one : (a : Bool) → not a ≡ true → a ≡ true → ⊥
-not_one true h e = absurd (cc (h))
-not_one false h e = absurd (cc (e))
-
 cell_passes : (image : List (List ℕ)) (q : ℕ) → HasCell small image 5 q → is_cell image q ≡ true
 cell_passes image q h = rw (h.0, h.1) refl
 
@@ -90,7 +87,7 @@ insert_fits = record {
 }
   where
     nothing : (r e : ℕ) → HasEntry small (image_of cell_put.core) 5 r e → ⊥
-    nothing zero e h = not_one (is_entry (image_of cell_put.core) e) (below 21 (λ i. not (is_entry (image_of cell_put.core) i)) refl e h.1) (eq-eqb _ 1 h.2)
+    nothing zero e h = not_itself (is_entry (image_of cell_put.core) e) (below 21 (λ i. not (is_entry (image_of cell_put.core) i)) refl e h.1) (eq-eqb _ 1 h.2)
     nothing (suc r) e h = absurd (omega (arith, h.0))
 
 pub cut_in_insert : CutInInsert
@@ -112,7 +109,7 @@ delete_fits = record {
   entry = (omega arith, omega arith, refl, refl);
   one_entry = λ q e h. one q e h;
   dead = (refl, refl, refl);
-  no_cell = λ p h. not_one (is_cell (image_of cell_killed.core) p) (below 16 (λ i. not (is_cell (image_of cell_killed.core) i)) refl p (place_below p h.0)) (cell_passes (image_of cell_killed.core) p h);
+  no_cell = λ p h. not_itself (is_cell (image_of cell_killed.core) p) (below 16 (λ i. not (is_cell (image_of cell_killed.core) i)) refl p (place_below p h.0)) (cell_passes (image_of cell_killed.core) p h);
 }
   where
     one : (q e : ℕ) → HasEntry small (image_of cell_killed.core) 5 q e → (q ≡ 0) × (e ≡ 0)

@@ -39,7 +39,7 @@ same_holds (x ∷ gs) zero g h e same (suc q) = refl
 same_holds (x ∷ gs) (suc r) g h e same zero = refl
 same_holds (x ∷ gs) (suc r) g h e same (suc q) = same_holds gs r g h e same q
 
-cleaned_hold : (side : Side) (g : RegionState) → (cleaned side g).hold ≡ g.hold
+pub cleaned_hold : (side : Side) (g : RegionState) → (cleaned side g).hold ≡ g.hold
 cleaned_hold A g = refl
 cleaned_hold B g = refl
 

@@ -6,6 +6,8 @@ use Rattle.std.specs.Cmp.{both_ways}
 use Rattle.std.proofs.lemmas.Grind.{flat_map-append}
 use Rattle.std.proofs.lemmas.Bool.{or_left, or_right, or_cases, and_parts, and_from, eq-eqb, eqb-true}
 use Rattle.std.proofs.lemmas.List.{take_at, take_all}
+use Rattle.dali_lists.proofs.Lists.{get_push}
+use Rattle.dali_lists.proofs.Members.{contains_first, contains_more, contains_from_get}
 use Rattle.dali_geometry.specs.Sizes.{Sizes}
 use Rattle.dali_record.specs.declared.operations.Pending.{Pending}
 use Rattle.dali_record.specs.declared.records.Record.{Record}
@@ -15,18 +17,18 @@ use Rattle.dali_record.specs.Epochs.{Epoch, Cut, cut, cut_step, epochs, last_epo
 use Rattle.dali_record.specs.Damage.{has, deleted_list}
 use Rattle.dali_record.specs.Legal.{TxnState, Unbegun, Active, Over, Committed as Ending, txn_step, txn_state, allowed, IsLegalFor, sizes_of}
 use Rattle.dali_record.specs.Files.{Row, table_before, row_of as file_row}
-use Rattle.dali_record.proofs.Ends.{by_push, get_new}
+use Rattle.dali_record.proofs.Ends.{by_push}
 use Rattle.dali_record.proofs.Pushes.{cut_push}
 use Rattle.dali_record.proofs.Tracks.{active-undos}
 use Rattle.dali_record.proofs.Stages.{state_from, state_before}
+use Rattle.dali_record.proofs.Batches.{number_is_length}
 use Rattle.dali_history.specs.Serial.{is_deleted, is_deleted_in}
-use Rattle.dali_history.proofs.Places.{Contains-from_get, get_from_Contains}
+use Rattle.dali_history.proofs.Places.{get_from_Contains}
 use Rattle.dali_history.proofs.Members.{has_append, has-filter, has-filter_from, Contains-from_has, has_from_Contains}
 use Rattle.dali_history.proofs.Prefixes.{IsLegalFor-front}
 use Rattle.dali_history.proofs.Chained.{is_deleted_in_is_chain, is_deleted_is_chain}
 use Rattle.dali_history.proofs.Reported.{deleted_list_is}
 use Rattle.dali_history.proofs.Ascending.{deleted_list_ascends}
-use Rattle.dali_counts.proofs.Tallies.{number_is}
 use Rattle.dali_att.specs.declared.state.State.TheVariants.{Committed}
 use Rattle.dali_system.specs.State.{TxnRow, CoreState, row_of}
 use Rattle.dali_system.specs.Run.{Bases, RunsOn, is_committed, IsRow}
@@ -56,7 +58,7 @@ named_restart s M rs ds ih legal =
     ∙ ap (λ (c : Cut). flat_map deleted_list c.closed) (sym (cut_push M (Restarted rs ds)))
   where
     here : ds ≡ deleted_list (last_epoch M)
-    here = (legal.scans (length M) rs ds (get_new M (Restarted rs ds))).1 ∙ ap (λ K. deleted_list (last_epoch K)) (take_at M (Restarted rs ds ∷ []) (length M) refl)
+    here = (legal.scans (length M) rs ds (get_push M (Restarted rs ds))).1 ∙ ap (λ K. deleted_list (last_epoch K)) (take_at M (Restarted rs ds ∷ []) (length M) refl)
 
 named_step : (s : Sizes) (M : List Record) (r : Record) → Named s M → Named s (M ++ r ∷ [])
 named_step s M (Format i h) ih = named_more s M (Format i h) refl refl ih
@@ -79,18 +81,13 @@ epoch_by_epoch s L legal =
     ∙ sym (flat_map-append deleted_list (cut L).closed ((cut L).now ∷ []))
 
 -- ---- their members
-here_first : (e : Epoch) (es : List Epoch) → Contains (e ∷ es) e
-here_first e es = Contains-from_get (e ∷ es) 0 e refl
-
-here_later : (e f : Epoch) (es : List Epoch) → Contains es f → Contains (e ∷ es) f
-here_later e f es c = let g = get_from_Contains es f c in Contains-from_get (e ∷ es) (suc g.0) f g.1
 
 has_each : (t : ℕ) (es : List Epoch) → ((e : Epoch) → Contains es e → has (deleted_list e) t ≡ is_deleted_in t e) → has (flat_map deleted_list es) t ≡ list_any (is_deleted_in t) es
 has_each t [] same = refl
 has_each t (e ∷ es) same =
     has_append (deleted_list e) (flat_map deleted_list es) t
-    ∙ ap (λ b. b || has (flat_map deleted_list es) t) (same e (here_first e es))
-    ∙ ap (λ b. is_deleted_in t e || b) (has_each t es (λ f c. same f (here_later e f es c)))
+    ∙ ap (λ b. b || has (flat_map deleted_list es) t) (same e (contains_first e es))
+    ∙ ap (λ b. is_deleted_in t e || b) (has_each t es (λ f c. same f (contains_more e f es c)))
 
 has_own : (s : Sizes) (L : List Record) (t : ℕ) → IsLegalFor s L → (e : Epoch) → Contains (epochs L) e → has (deleted_list e) t ≡ is_deleted_in t e
 has_own s L t legal e c = both_ways (has (deleted_list e) t) (is_deleted_in t e)
@@ -213,7 +210,7 @@ table_is_kept bases L c run w = (to, from)
     rows P = map (file_row P) (filter (λ t. not (has (ended P) t)) (begun P))
 
     all : take (length L - (last_epoch L).first) (last_epoch L).records ≡ (last_epoch L).records
-    all = take_all (length L - (last_epoch L).first) (last_epoch L).records (omega (arith, number_is L))
+    all = take_all (length L - (last_epoch L).first) (last_epoch L).records (omega (arith, number_is_length L))
 
     is_row : (r : TxnRow) (t : ℕ) → row_of c.system t ≡ Some r → file_row (last_epoch L).records t ≡ kept_row t r
     is_row r t at = let q = row_from_epoch bases L c t r run at in same_row t (has (committed (last_epoch L).records) t) (is_committed r.state) _ r.undos (sym q.0) (sym q.1)
@@ -239,4 +236,4 @@ table_is_kept bases L c run w = (to, from)
         let some : IsSome (row_of c.system w.txn) = rw x.1 refl in
         let p = and_parts (has (begun (last_epoch L).records) w.txn) (not (has (ended (last_epoch L).records) w.txn)) ((holds_the_begun bases L c run w.txn).0 some) in
         let i = map_get (file_row (last_epoch L).records) (filter (λ t. not (has (ended (last_epoch L).records) t)) (begun (last_epoch L).records)) w.txn (has-filter_from (λ u. not (has (ended (last_epoch L).records) u)) (begun (last_epoch L).records) w.txn p.0 p.1) in
-        subst (λ P. Contains (rows P) w) (sym all) (Contains-from_get (rows (last_epoch L).records) i.0 w (i.1 ∙ ap (λ z. Some z) (is_row x.0 w.txn x.1 ∙ sym x.2)))
+        subst (λ P. Contains (rows P) w) (sym all) (contains_from_get (rows (last_epoch L).records) i.0 w (i.1 ∙ ap (λ z. Some z) (is_row x.0 w.txn x.1 ∙ sym x.2)))

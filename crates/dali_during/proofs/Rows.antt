@@ -1,7 +1,8 @@
 -- The table's rows in words of the last epoch's records.
 use Rattle.std.proofs.Common.{◌≡◌, ℕ, Bool, true, false, List, [], ◌∷◌, ◌++◌, Option, Some, None, refl, ap, sym, subst, ◌∙◌, ◌⊎◌, inl, inr, ⊎_elim}
 use Rattle.std.specs.Prelude.{◌==◌, ◌&&◌, ◌||◌, not, if◌then◌else◌, IsSome, is_some, slice_get, Contains, filter_map}
-use Rattle.std.proofs.lemmas.Bool.{both_ways, eq-eqb}
+use Rattle.std.proofs.lemmas.Bool.{both_ways, eq-eqb, not-true, or_parts}
+use Rattle.dali_lists.proofs.Options.{some_of}
 use Rattle.dali_geometry.specs.Sizes.{Sizes}
 use Rattle.dali_record.specs.declared.operations.Pending.{Pending}
 use Rattle.dali_record.specs.declared.records.Record.{Record}
@@ -19,7 +20,6 @@ use Rattle.dali_during.proofs.EpochNow.{StartsAt, starts_at}
 use Rattle.dali_record.proofs.EpochRules.{StandsThrough, stands_in_epochs, AllEpochs-contains}
 use Rattle.dali_kept.proofs.WithoutLast.{left, HasEnded, kept_state_push}
 use Rattle.dali_kept.proofs.Invariant.{Knows}
-use Rattle.dali_kept.proofs.InvariantAlong.{some_is}
 use Rattle.dali_kept.proofs.InvariantSteps.{along_kept}
 use Rattle.dali_system.specs.State.{CoreState}
 use Rattle.dali_system.specs.Run.{Bases, RunsOn}
@@ -39,7 +39,7 @@ twins bases L c t run = (x.0, a.0, x.1, subst (λ E. kept_state c.system.sizes t
     stands = AllEpochs-contains (StandsThrough c.system.sizes) L (last_epoch L) (stands_in_epochs c.system.sizes L run.log.legal) (last_in L)
 
     x : (z : TxnState) × (txn_state c.system.sizes t L ≡ Some z)
-    x = some_is (txn_state c.system.sizes t L) (run.log.legal.txns t)
+    x = some_of (txn_state c.system.sizes t L) (run.log.legal.txns t)
 
     a : After c.system.sizes undamaged t (last_epoch L).records x.0
     a = after c.system.sizes undamaged t start.0 (last_epoch L).records x.0 start.1 stands.0 (λ i b at. (epoch_whole c.system.sizes L run.log.legal run.log.spelled i b at).gives) (sym start.2 ∙ x.1)
@@ -55,10 +55,6 @@ Idle x = (x ≡ Unbegun) ⊎ (x ≡ Over)
 idle_allowed : (c d : Bool) (x y : TxnState) → Idle x → allowed c (Some x) ≡ Some y → Idle y × (c ≡ true)
 idle_allowed true d x y h e = let same : x ≡ y = cc (e) in (subst Idle same h, refl)
 idle_allowed false d x y h e = absurd (cc (e))
-
-not_true : (b : Bool) → not b ≡ true → b ≡ false
-not_true true e = absurd (cc (e))
-not_true false e = refl
 
 idle_same : (x y : TxnState) → Idle x → Some x ≡ Some y → Idle y
 idle_same x y h e = let same : x ≡ y = cc (e) in subst Idle same h
@@ -80,8 +76,8 @@ unbegun_idle s t (Begin u) y e n = (go (u == t) n e, refl)
     go : (b : Bool) → (b || false) ≡ false → Some (if b then Active (record { undos = []; mark = 0; progress = Rattle.dali_record.specs.Calls.Fresh; way = Rattle.dali_record.specs.Legal.Onward }) else Unbegun) ≡ Some y → Idle y
     go true f g = absurd (cc (f))
     go false f g = idle_same Unbegun y (inl refl) g
-unbegun_idle s t (Forward u b) y e n = let a = idle_allowed (not (u == t)) true Unbegun y (inl refl) e in (a.0, not_own t u _ [] (not_true (u == t) a.1))
-unbegun_idle s t (Back u b) y e n = let a = idle_allowed (not (u == t)) true Unbegun y (inl refl) e in (a.0, not_own t u _ [] (not_true (u == t) a.1))
+unbegun_idle s t (Forward u b) y e n = let a = idle_allowed (not (u == t)) true Unbegun y (inl refl) e in (a.0, not_own t u _ [] (not-true (u == t) a.1))
+unbegun_idle s t (Back u b) y e n = let a = idle_allowed (not (u == t)) true Unbegun y (inl refl) e in (a.0, not_own t u _ [] (not-true (u == t) a.1))
 unbegun_idle s t (Done u c q) y e n = ((idle_allowed (not (u == t)) true Unbegun y (inl refl) e).0, refl)
 unbegun_idle s t (Commit u) y e n = ((idle_allowed (not (u == t)) true Unbegun y (inl refl) e).0, refl)
 unbegun_idle s t (Ended u) y e n = ((idle_allowed (not (u == t)) true Unbegun y (inl refl) e).0, refl)
@@ -92,22 +88,14 @@ unbegun_idle s t (AuditFail b rs) y e n = (idle_same Unbegun y (inl refl) e, ref
 unbegun_idle s t (Restarted rs ds) y e n = (idle_same Unbegun y (inl refl) e, refl)
 
 over_idle : (s : Sizes) (t : ℕ) (r : Record) (y : TxnState) → kept_step s t Over r ≡ Some y → Leaves t r y
-over_idle s t (Format i h) y e = (idle_same Over y (inr refl) e, refl)
 over_idle s t (Begin u) y e = ((idle_allowed (not (u == t)) true Over y (inr refl) e).0, refl)
-over_idle s t (Forward u b) y e = let a = idle_allowed (not (u == t)) true Over y (inr refl) e in (a.0, not_own t u _ [] (not_true (u == t) a.1))
-over_idle s t (Back u b) y e = let a = idle_allowed (not (u == t)) true Over y (inr refl) e in (a.0, not_own t u _ [] (not_true (u == t) a.1))
+over_idle s t (Forward u b) y e = let a = idle_allowed (not (u == t)) true Over y (inr refl) e in (a.0, not_own t u _ [] (not-true (u == t) a.1))
+over_idle s t (Back u b) y e = let a = idle_allowed (not (u == t)) true Over y (inr refl) e in (a.0, not_own t u _ [] (not-true (u == t) a.1))
 over_idle s t (Done u c q) y e = ((idle_allowed (not (u == t)) true Over y (inr refl) e).0, refl)
 over_idle s t (Commit u) y e = ((idle_allowed (not (u == t)) true Over y (inr refl) e).0, refl)
 over_idle s t (Ended u) y e = ((idle_allowed (not (u == t)) true Over y (inr refl) e).0, refl)
 over_idle s t (Solo u p b) y e = ((idle_allowed (not (u == t) && not (p == t)) true Over y (inr refl) e).0, refl)
-over_idle s t AuditBegin y e = (idle_same Over y (inr refl) e, refl)
-over_idle s t (AuditClean b) y e = (idle_same Over y (inr refl) e, refl)
-over_idle s t (AuditFail b rs) y e = (idle_same Over y (inr refl) e, refl)
-over_idle s t (Restarted rs ds) y e = (idle_same Over y (inr refl) e, refl)
-
-or_parts_false : (a b : Bool) → (a || b) ≡ false → (a ≡ false) × (b ≡ false)
-or_parts_false true b e = absurd (cc (e))
-or_parts_false false b e = (refl, e)
+over_idle s t _ y e = (idle_same Over y (inr refl) e, refl)
 
 begun_push : (t : ℕ) (J : List Record) (r : Record) → has (begun (J ++ r ∷ [])) t ≡ (has (begun J) t || has (begun (r ∷ [])) t)
 begun_push t J r = ap (λ ts. has ts t) (Rattle.std.proofs.lemmas.List.Elements.filter_map-append begin_by J (r ∷ [])) ∙ Rattle.std.proofs.lemmas.List.Folds.list_any-append (λ u. u == t) (begun J) (begun (r ∷ []))
@@ -117,9 +105,9 @@ not_begun s t J = by_push (λ M. NotBegun s t M) (λ some n. (inl refl, refl)) s
   where
     step : (M : List Record) (r : Record) → NotBegun s t M → NotBegun s t (M ++ r ∷ [])
     step M r ih some n =
-        let y = some_is (kept_state s t (M ++ r ∷ [])) some in
-        let x = some_is (kept_state s t M) (Rattle.dali_kept.proofs.WithoutLast.kept_before s t M r some) in
-        let b = or_parts_false (has (begun M) t) (has (begun (r ∷ [])) t) (sym (begun_push t M r) ∙ n) in
+        let y = some_of (kept_state s t (M ++ r ∷ [])) some in
+        let x = some_of (kept_state s t M) (Rattle.dali_kept.proofs.WithoutLast.kept_before s t M r some) in
+        let b = or_parts (has (begun M) t) (has (begun (r ∷ [])) t) (sym (begun_push t M r) ∙ n) in
         let before = ih (rw (x.1) refl) b.0 in
         let moved : kept_next s t (kept_state s t M) r ≡ Some y.0 = sym (kept_state_push s t M r) ∙ y.1 in
         let l = ⊎_elim (λ e. unbegun_idle s t r y.0 (subst (λ o. kept_next s t o r ≡ Some y.0) e moved) b.1) (λ e. over_idle s t r y.0 (subst (λ o. kept_next s t o r ≡ Some y.0) e moved)) before.0 in

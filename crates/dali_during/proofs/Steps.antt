@@ -4,6 +4,7 @@ use Rattle.std.specs.Prelude.{◌==◌, ◌||◌, if◌then◌else◌}
 use Rattle.std.proofs.lemmas.List.Elements.{filter-append}
 use Rattle.std.proofs.lemmas.Bool.Decides.{eqb_tells}
 use Rattle.std.proofs.lemmas.Bool.{eq-eqb, ne_eqb}
+use Rattle.dali_lists.proofs.Options.{some_of}
 use Rattle.dali_geometry.specs.Sizes.{Sizes}
 use Rattle.dali_record.specs.declared.operations.Undo.{Undo}
 use Rattle.dali_record.specs.declared.operations.Pending.{Pending}
@@ -32,7 +33,7 @@ use Rattle.dali_kept.proofs.WithoutLast.{left, sound_before, yields_altered}
 use Rattle.dali_kept.proofs.Invariant.{IsAlone, Knows, yields_left, undo_changes}
 use Rattle.dali_kept.proofs.BacksKeep.{BackStep, back_finds, taken_back}
 use Rattle.dali_kept.proofs.SolosKeep.{frees_dead}
-use Rattle.dali_kept.proofs.InvariantAlong.{state_beside, back_state, region_within, image_region, does_of, is_of_is, some_is}
+use Rattle.dali_kept.proofs.InvariantAlong.{state_beside, back_state, region_within, image_region, does_of, is_of_is}
 use Rattle.dali_kept.proofs.InvariantSteps.{Fine, Along, fine_before, state_step, sound_changes, undone_changes, freeing_changes, frees_is, solo_state, frees_slot}
 use Rattle.dali_kept.proofs.KnownTxns.{back_is, committed_has}
 use Rattle.dali_during.proofs.NoneAmiss.{Comes, forward_comes}
@@ -145,7 +146,7 @@ move_forward s base J t b h along next k = (rises, by_key (eqb_tells b.key k))
 move_back :
     (s : Sizes) (base : List (List ℕ)) (J : List Record) (t : ℕ) (b : Block) → Fine s base [] (J ++ Back t b ∷ []) → Along s base [] J
     → (k : ℕ) → Rises (flags (redo_all base J)) (flags (redo_all base (J ++ Back t b ∷ []))) × Move s k J (Back t b) (part s (redo_all base J) k) (part s (redo_all base (J ++ Back t b ∷ [])) k) (flags (redo_all base (J ++ Back t b ∷ [])))
-move_back s base J t b h along k = go (some_is (kept_state s t J) (old.calls.txns t)) (some_is (kept_state s t (J ++ Back t b ∷ [])) (h.calls.txns t))
+move_back s base J t b h along k = go (some_of (kept_state s t J) (old.calls.txns t)) (some_of (kept_state s t (J ++ Back t b ∷ [])) (h.calls.txns t))
   where
     old : Fine s base [] J
     old = fine_before s base [] J (Back t b) h
@@ -229,7 +230,7 @@ move_back s base J t b h along k = go (some_is (kept_state s t J) (old.calls.txn
 move_solo :
     (s : Sizes) (base : List (List ℕ)) (J : List Record) (t u : ℕ) (b : Block) → Fine s base [] (J ++ Solo t u b ∷ []) → Along s base [] J → Along s base [] (J ++ Solo t u b ∷ [])
     → (k : ℕ) → Rises (flags (redo_all base J)) (flags (redo_all base (J ++ Solo t u b ∷ []))) × Move s k J (Solo t u b) (part s (redo_all base J) k) (part s (redo_all base (J ++ Solo t u b ∷ [])) k) (flags (redo_all base (J ++ Solo t u b ∷ [])))
-move_solo s base J t u b h along next k = go (some_is (kept_state s u J) (old.calls.txns u)) (some_is (kept_state s u (J ++ Solo t u b ∷ [])) (h.calls.txns u))
+move_solo s base J t u b h along next k = go (some_of (kept_state s u J) (old.calls.txns u)) (some_of (kept_state s u (J ++ Solo t u b ∷ [])) (h.calls.txns u))
   where
     old : Fine s base [] J
     old = fine_before s base [] J (Solo t u b) h
@@ -301,7 +302,7 @@ move_commit : (s : Sizes) (base : List (List ℕ)) (J : List Record) (t k : ℕ)
 move_commit s base J t k = inr (inr (inr (inl (record {
   txn = t;
   mine = ap (on k) none;
-  others = λ u apart. ap (on k) (let c : has (committed (J ++ Commit t ∷ [])) u ≡ has (committed J) u = committed_has u J (Commit t) ∙ rw (ne_eqb t u (λ e. apart (sym e))) (Rattle.dali_history.proofs.Places.or_none (has (committed J) u)) in let us : undos_of u (J ++ Commit t ∷ []) ≡ undos_of u J = undos_of_push u J (Commit t) in rw (c, us) refl);
+  others = λ u apart. ap (on k) (let c : has (committed (J ++ Commit t ∷ [])) u ≡ has (committed J) u = committed_has u J (Commit t) ∙ rw (ne_eqb t u (λ e. apart (sym e))) (mathlib.Core.Bool.or-false (has (committed J) u)) in let us : undos_of u (J ++ Commit t ∷ []) ≡ undos_of u J = undos_of_push u J (Commit t) in rw (c, us) refl);
   same = ap (λ image. part s image k) (redo_all_push base J (Commit t));
   commits = mine;
 }))))

@@ -2,6 +2,7 @@
 use Rattle.std.proofs.Common.{◌≡◌, ℕ, zero, suc, Bool, true, false, List, [], ◌∷◌, ◌++◌, Option, Some, None, refl, ap, sym, subst, ◌∙◌, arith}
 use Rattle.std.specs.Prelude.{◌==◌, ◌&&◌, is_some, if◌then◌else◌}
 use Rattle.std.specs.FinMap.{get, empty}
+use Rattle.dali_lists.proofs.Options.{some_same}
 use Rattle.dali_record.specs.declared.operations.Op.TheVariants.{Look, Put, KillEntry, KillCell, FreeCell, FreeEntry}
 use Rattle.dali_record.specs.declared.records.Call.TheVariants.{Insert, Delete}
 use Rattle.dali_record.specs.declared.records.Answer.TheVariants.{Ok as AnswerOk}
@@ -13,12 +14,12 @@ use Rattle.dali_index.specs.Entries.{entries}
 use Rattle.dali_region.specs.declared.Hold.{Hold}
 use Rattle.dali_region.specs.State.{RegionState, touched, taken_back, dead, reading}
 use Rattle.dali_locks.specs.declared.mode.Mode.{Mode}
-use Rattle.dali_locks.specs.declared.mode.Mode.TheVariants.{Shared, Exclusive}
+use Rattle.dali_locks.specs.declared.mode.Mode.TheVariants.{Exclusive}
 use Rattle.dali_locks.specs.Locks.{Locks, lock_cmp, IsFree as IsUnheld, stronger_mode, locks_with, locks_without}
-use Rattle.dali_locks.proofs.Changes.{get-locks_with, get-locks_without}
+use Rattle.dali_locks.proofs.Changes.{get-locks_with}
 use Rattle.dali_att.specs.declared.state.State.TheVariants.{Live, Dead, Cleaning, Committed}
 use Rattle.dali_att.specs.Table.{fresh_row}
-use Rattle.dali_counts.proofs.Lists.{some_same}
+use Rattle.dali_locks.proofs.Kept.{locks_without_at}
 use Rattle.dali_system.specs.State.{TxnRow, state_of, hold_of}
 use Rattle.dali_system.specs.Run.{covers}
 use Rattle.dali_system.specs.Steps.{begun, granted, back_logged, solo_logged, done_logged, commit_logged, ended_logged, in_state}
@@ -30,7 +31,7 @@ use Rattle.dali_system.proofs.Wholes.{slain}
 use Rattle.dali_system.proofs.RowStates.{begun_state, op_state, back_state, commit_state, turned_state}
 use Rattle.dali_system.proofs.Loads.{no_lock}
 use Rattle.dali_system.proofs.Touching.{join, with_one, after_all, touches}
-use Rattle.dali_system.proofs.Worked.{are_index, are_heap, logging, logs_by, alive_by}
+use Rattle.dali_system.proofs.Worked.{are_index, are_heap, logging, logs_by, alive_by, strongest}
 use Rattle.dali_crash.specs.Worked.{look}
 use Rattle.dali_crash.specs.Restarted.{put, add, put_writes, add_writes}
 use Rattle.dali_during.specs.Whole.{look_free, put_again, unput, before_checkpoint}
@@ -41,7 +42,7 @@ abbrev NoneHeld : Locks → Type 0
 NoneHeld l = (u k : ℕ) → get l (u, k) ≡ None
 
 none_held : (l : Locks) (t k : ℕ) → NoneHeld l → NoneHeld (locks_without (locks_with l t k Exclusive) t)
-none_held l t k free u j = get-locks_without (locks_with l t k Exclusive) t u j ∙ by_test (t == u) (get-locks_with l t k Exclusive u j)
+none_held l t k free u j = locks_without_at (locks_with l t k Exclusive) t u j ∙ by_test (t == u) (get-locks_with l t k Exclusive u j)
   where
     by_test : (b : Bool) → get (locks_with l t k Exclusive) (u, j) ≡ (if b && (k == j) then Some (stronger_mode (get l (u, j)) Exclusive) else get l (u, j)) → (if b then None else get (locks_with l t k Exclusive) (u, j)) ≡ None
     by_test true e = refl
@@ -50,13 +51,8 @@ none_held l t k free u j = get-locks_without (locks_with l t k Exclusive) t u j 
 unheld : (l : Locks) (t k : ℕ) → NoneHeld l → IsUnheld l t k Exclusive
 unheld l t k free u n d e = absurd (let no : None ≡ Some n = sym (free u k) ∙ e in cc)
 
-exclusive : (o : Option Mode) (d : Bool) → covers (Some (stronger_mode o Exclusive)) d ≡ true
-exclusive None d = refl
-exclusive (Some Shared) d = refl
-exclusive (Some Exclusive) d = refl
-
 held_by : (l : Locks) (t : ℕ) (d : Bool) → (t == t) ≡ true → covers (get (locks_with l t 5 Exclusive) (t, 5)) d ≡ true
-held_by l t d same = ap (λ (o : Option Mode). covers o d) (get-locks_with l t 5 Exclusive t 5 ∙ ap (λ b. if b && (5 == 5) then Some (stronger_mode (get l (t, 5)) Exclusive) else get l (t, 5)) same) ∙ exclusive (get l (t, 5)) d
+held_by l t d same = ap (λ (o : Option Mode). covers o d) (get-locks_with l t 5 Exclusive t 5 ∙ ap (λ b. if b && (5 == 5) then Some (stronger_mode (get l (t, 5)) Exclusive) else get l (t, 5)) same) ∙ strongest (get l (t, 5)) d
 
 -- ---- the blocks
 is_found : IsBlock found

@@ -2,7 +2,7 @@
 use Rattle.std.proofs.Common.{inl, inr, ◌≡◌, ◌≢◌, ℕ, zero, suc, ◌+◌, ◌<◌, ◌≤◌, Bool, true, false, ◌||◌, List, [], ◌∷◌, ◌++◌, Option, Some, None, IfSome, IsSomeAnd, Result, Ok, Err, refl, ap, sym, subst, ◌∙◌, arith, length, drop, get_or, slice_get, slice_set}
 use Rattle.std.specs.Prelude.{◌==◌, ◌⊎◌, ◌↔◌, if◌then◌else◌}
 use Rattle.std.specs.List.{AllByRecursion, list_all, list_any, fold}
-use Rattle.std.proofs.lemmas.Bool.{lt-ltb}
+use Rattle.std.proofs.lemmas.Bool.{lt-ltb, or_parts, and_parts}
 use Rattle.std.proofs.lemmas.Bool.Decides.{Decides-eqb}
 use Rattle.std.proofs.lemmas.List.{append-nil}
 use Rattle.std.proofs.lemmas.List.Sums.{fold-append}
@@ -13,6 +13,8 @@ use Rattle.dali_record.specs.declared.operations.Pending.{Pending}
 use Rattle.dali_record.specs.declared.records.Record.{Record}
 use Rattle.dali_record.specs.declared.records.Record.TheVariants.{Back, Ended}
 use Rattle.std.specs.FinMap.{get}
+use Rattle.std.proofs.lemmas.Option.{same_Some, slice_get-get_or, none-some}
+use Rattle.dali_lists.proofs.Lists.{get_set_other}
 use Rattle.dali_record.specs.Legal.{freeing_op, on_kind, Working, TxnState, Unbegun, Active, txn_next, txn_state, allowed, is_of, back, way_back}
 use Rattle.dali_record.specs.Log.{last_of as pop_of, drop_last}
 use Rattle.dali_record.specs.Operations.{undo_op}
@@ -46,21 +48,19 @@ use Rattle.dali_single.specs.Refusals.{IsAnswerTo, IsUnfreed, IsStuck, IsLatched
 use Rattle.dali_single.specs.Single.{is_end, IsOwnStep, Leads, OthersStay as RowsStay, AreCovered}
 use Rattle.dali_single.specs.Ending.{IsBackOf, IsAtWork, IsEnded, IsStillAtWork}
 use Rattle.dali_single.specs.Settling.{MayFree, IsPromised, IsSoloOf, IsCommitted, IsSettled}
-use Rattle.dali_single.proofs.Lists.{get_here}
 use Rattle.dali_single.proofs.Standing.{own_steps_stand}
 use Rattle.dali_courses.proofs.Making.{own_steps_make, abort_makes, settling_makes}
 use Rattle.dali_clean.specs.Cleaned.{core, moment, AreDead, InRun}
 use Rattle.dali_clean.specs.Others.{HoldStays, OthersStay, PromisesStay, IsGone}
-use Rattle.dali_clean.proofs.Lists.{get_apart}
 use Rattle.dali_clean.proofs.Courses.{runs_of, HasWork, work_of, kind_in, undos_in}
 use Rattle.dali_clean.proofs.Others.{others_further, promises_further}
 use Rattle.dali_clean.specs.Steps.{is_own_change}
 use Rattle.dali_ends.specs.Ended.{AreOfEnd, Walked}
 use Rattle.dali_ends.specs.Left.{held, is_on, HoldsStay, IsRunning, IsSettling, Left, none_of, Cleared, Settled}
 use Rattle.dali_ends.specs.Guards.{is_releasable, is_releasable_on}
-use Rattle.dali_ends.proofs.Walking.{and_true, walked_more, walked_on, run_on, walks_on, walks_more, walks_none}
+use Rattle.dali_ends.proofs.Walking.{walked_more, walked_on, run_on, walks_on, walks_more, walks_none}
 use Rattle.dali_ends.proofs.Guarding.{releasable_dead}
-use Rattle.dali_ends.proofs.Releasing.{none_some, hold_is_dead, dead_on, held_less, held_no_more}
+use Rattle.dali_ends.proofs.Releasing.{hold_is_dead, dead_on, held_less, held_no_more}
 
 -- ---- steps of a transaction's own
 change_own : (t : ℕ) (x : RegionStep) (o : Option RegionState) → IsSomeAnd o (IsOwn t x) → is_own_change t x ≡ true
@@ -82,7 +82,7 @@ own_front t c (Answers u k a) xs own e rest = absurd cc
 own_front t c (Commits u) xs own e rest = absurd cc
 own_front t c x xs own e rest = absurd own
 
-leads_front : (t : ℕ) (L M : List Record) (c d : CoreState) (xs : List Step) → Leads false t L c xs M d → AreOfEnd t xs
+pub leads_front : (t : ℕ) (L M : List Record) (c d : CoreState) (xs : List Step) → Leads false t L c xs M d → AreOfEnd t xs
 leads_front t L M c d [] leads = tt
 leads_front t L M c d (x ∷ xs) leads = own_front t c x xs leads.2.1 leads.2.2 (leads_front t leads.0 M leads.1 d xs leads.3)
 
@@ -95,7 +95,7 @@ module _ (bases : Bases) (before L : List Record) (gs : List RegionState) (y : S
       by_test false e = e
       by_test true e =
           let names = run.whole.dead r h there (hold_is_dead gs r h dead there) in
-          absurd (none_some r (sym none ∙ (ap latched_in (sym is) ∙ (ap (λ (n : ℕ). latched_in (state_of y n)) (sym ((Decides-eqb h.txn t).0 e)) ∙ names))))
+          absurd (none-some r (sym none ∙ (ap latched_in (sym is) ∙ (ap (λ (n : ℕ). latched_in (state_of y n)) (sym ((Decides-eqb h.txn t).0 e)) ∙ names))))
 
   pub work_here : state_of y t ≡ Some Live → IsAtWork L (core gs y v) t
   work_here lives =
@@ -133,7 +133,7 @@ holds_same t gs hs y z v L M xs leads before behind r = by_hold (hold_in (slice_
       where
         by_first : (o : Option Hold) → hold_in (slice_get gs r) ≡ o → hold_in (slice_get hs r) ≡ hold_in (slice_get gs r)
         by_first None f = e ∙ sym f
-        by_first (Some h) f = absurd (none_some h (sym e ∙ (stand h (other_way h (before r h f))).0 f))
+        by_first (Some h) f = absurd (none-some h (sym e ∙ (stand h (other_way h (before r h f))).0 f))
 
 -- ---- an abort
 abbrev Aborts : ℕ → List RegionState → SystemState → List RegionState → SystemState → Type 0
@@ -212,16 +212,11 @@ some_kept gs hs y z t running lives undoes =
     let still = undoes running.log running.vault at in
     holds_same t gs hs y z running.vault running.log still.log still.steps still.leads at.free still.at.free
 
--- its undos are some of those that it had
-either : (a b : Bool) → (a || b) ≡ false → (a ≡ false) × (b ≡ false)
-either true b e = absurd cc
-either false b e = (refl, e)
-
 less_any : (p : Pending → Bool) (us : List Pending) → list_any p us ≡ false → list_any p (drop_last us) ≡ false
 less_any p [] e = refl
 less_any p (u ∷ []) e = refl
 less_any p (u ∷ v ∷ us) e =
-    let both = either (p u) (list_any p (v ∷ us)) e in
+    let both = or_parts (p u) (list_any p (v ∷ us)) e in
     ap (λ b. b || list_any p (drop_last (v ∷ us))) both.0 ∙ less_any p (v ∷ us) both.1
 
 stuck_none : (s : Sizes) (t : ℕ) (xs : List Record) → fold (txn_next s t) None xs ≡ None
@@ -276,16 +271,16 @@ undos_fewer gs hs y z t p running lives undoes sizes none =
 
 -- ---- a region that has no undo on it
 any_of : (p : Pending → Bool) (us : List Pending) (i : ℕ) (u : Pending) → list_any p us ≡ false → slice_get us i ≡ Some u → p u ≡ false
-any_of p [] i u e at = absurd (none_some u at)
-any_of p (v ∷ us) zero u e at = let same : v ≡ u = cc in ap p (sym same) ∙ (either (p v) (list_any p us) e).0
-any_of p (v ∷ us) (suc i) u e at = any_of p us i u (either (p v) (list_any p us) e).1 at
+any_of p [] i u e at = absurd (none-some u at)
+any_of p (v ∷ us) zero u e at = let same : v ≡ u = cc in ap p (sym same) ∙ (or_parts (p v) (list_any p us) e).0
+any_of p (v ∷ us) (suc i) u e at = any_of p us i u (or_parts (p v) (list_any p us) e).1 at
 
 -- one region more is freed
 pub kept_but : (us vs : List Pending) (i : ℕ) (u : Pending) (gs hs : List RegionState) (h : RegionState) → HoldsStay us gs hs → ((r : ℕ) → list_any (is_on r) us ≡ false → list_any (is_on r) vs ≡ false) → slice_get vs i ≡ Some u → HoldsStay us gs (slice_set hs u.region h)
 kept_but us vs i u gs hs h stay fewer at r none =
     let off : (u.region == r) ≡ false = any_of (is_on r) vs i u (fewer r none) at in
     let apart : u.region ≢ r = λ e. let on : (u.region == r) ≡ true = (Decides-eqb u.region r).1 e in cc in
-    ap hold_in (get_apart hs u.region h r apart) ∙ stay r none
+    ap hold_in (get_set_other hs u.region h r apart) ∙ stay r none
 
 -- ---- a settling
 abbrev Settles : ℕ → List Pending → List RegionState → SystemState → List RegionState → SystemState → Type 0
@@ -375,7 +370,7 @@ none_logged : (L : List Record) (own : List Record) → AllByRecursion none_of o
 none_logged L [] never = append-nil (L ++ []) ∙ append-nil L
 none_logged L (x ∷ own) never = absurd never.0
 
-ending_on : (L M : List Record) (own : List Record) (t : ℕ) (us : List Pending) (y z : SystemState) → AllByRecursion none_of own → M ≡ L ++ own ++ [] → z.sizes ≡ y.sizes → IsEnding y.sizes L t us → IsEnding z.sizes M t us
+pub ending_on : (L M : List Record) (own : List Record) (t : ℕ) (us : List Pending) (y z : SystemState) → AllByRecursion none_of own → M ≡ L ++ own ++ [] → z.sizes ≡ y.sizes → IsEnding y.sizes L t us → IsEnding z.sizes M t us
 ending_on L M own t us y z never logged sizes ending =
     subst (λ (x : List Record). IsEnding z.sizes x t us) (sym (logged ∙ none_logged L own never)) (subst (λ x. IsEnding x L t us) (sym sizes) ending)
 
@@ -441,7 +436,7 @@ covered_on t gs hs s z c covered = subst (AllByRecursion (MayBePerformed z.state
 
 -- ---- who is in the way
 pub all_get : (P : Pending → Type 0) (us : List Pending) (i : ℕ) (u : Pending) → AllByRecursion P us → slice_get us i ≡ Some u → P u
-all_get P [] i u h e = absurd (none_some u e)
+all_get P [] i u h e = absurd (none-some u e)
 all_get P (v ∷ us) zero u h e = let same : v ≡ u = cc in subst P same h.0
 all_get P (v ∷ us) (suc i) u h e = all_get P us i u h.1 e
 
@@ -489,7 +484,7 @@ undo_within gs y t u whole covered last =
     let less = kind_in y.sizes u.region (undo_op u.undo) may.kind in
     omega (arith, less, whole)
 
-removal_within : (gs : List RegionState) (y : SystemState) (t : ℕ) (u : Pending) → length gs ≡ regions y.sizes → MayFree y t u → u.region < length gs
+pub removal_within : (gs : List RegionState) (y : SystemState) (t : ℕ) (u : Pending) → length gs ≡ regions y.sizes → MayFree y t u → u.region < length gs
 removal_within gs y t u whole may =
     let less = kind_in y.sizes u.region (freeing_op u.undo) may.kind in
     omega (arith, less, whole)
@@ -516,8 +511,8 @@ not_stuck gs hs z us n (LatchRefused e) unheld holds stuck latched = by_next (sl
         by_hold there (holds u.region)
       where
         by_hold : {k : Hold} → hold_in (slice_get hs u.region) ≡ Some k → HoldStays gs hs u.region → ⊥
-        by_hold {k = k} there (inl same) = none_some k (sym (unheld n u i) ∙ (sym same ∙ there))
-        by_hold {k = k} there (inr none) = none_some k (sym none ∙ there)
+        by_hold {k = k} there (inl same) = none-some k (sym (unheld n u i) ∙ (sym same ∙ there))
+        by_hold {k = k} there (inr none) = none-some k (sym none ∙ there)
 
 -- ---- for the calls
 pub covered_here : (gs : List RegionState) (y : SystemState) (t : ℕ) → IsRunning gs y → AreCovered y t
@@ -528,23 +523,20 @@ whole_here gs y r = r.run.whole.regions
 
 pub removal_there : (t : ℕ) (us : List Pending) (gs hs : List RegionState) (s z : Served) (i : ℕ) (d : Pending) → length hs ≡ regions z.state.sizes → AllByRecursion (MayFree s.state t) us → Cleared t gs s hs z → i < length us → (get_or us i d).region < length hs
 removal_there t us gs hs s z i d whole may c less =
-    removal_within hs z.state t (get_or us i d) whole (all_get (MayFree z.state t) us i (get_or us i d) (may_still t us gs hs s z c may) (get_here us i d less))
+    removal_within hs z.state t (get_or us i d) whole (all_get (MayFree z.state t) us i (get_or us i d) (may_still t us gs hs s z c may) (slice_get-get_or us i d less))
 
 -- the hold on a removal's region is dead, if there is one
 pub releasable_there : (us : List Pending) (gs hs : List RegionState) (i : ℕ) (u : Pending) (g : RegionState) → list_all (is_releasable_on gs) us ≡ true → ((r : ℕ) → HoldStays gs hs r) → slice_get us i ≡ Some u → slice_get hs u.region ≡ Some g → IfSome g.hold (λ h. h.dead ≡ true)
 releasable_there us gs hs i u g all holds at there = by_hold (holds u.region) (each us i all at)
   where
     each : (vs : List Pending) (j : ℕ) → list_all (is_releasable_on gs) vs ≡ true → slice_get vs j ≡ Some u → is_releasable_on gs u ≡ true
-    each [] j e f = absurd (none_some u f)
-    each (v ∷ vs) zero e f = let same : v ≡ u = cc in ap (is_releasable_on gs) (sym same) ∙ (and_true (is_releasable_on gs v) (list_all (is_releasable_on gs) vs) e).0
-    each (v ∷ vs) (suc j) e f = each vs j (and_true (is_releasable_on gs v) (list_all (is_releasable_on gs) vs) e).1 f
+    each [] j e f = absurd (none-some u f)
+    each (v ∷ vs) zero e f = let same : v ≡ u = cc in ap (is_releasable_on gs) (sym same) ∙ (and_parts (is_releasable_on gs v) (list_all (is_releasable_on gs) vs) e).0
+    each (v ∷ vs) (suc j) e f = each vs j (and_parts (is_releasable_on gs v) (list_all (is_releasable_on gs) vs) e).1 f
 
     by_hold : HoldStays gs hs u.region → is_releasable_on gs u ≡ true → IfSome g.hold (λ h. h.dead ≡ true)
     by_hold (inl same) e = releasable_dead g.hold (ap is_releasable (sym (ap hold_in there)) ∙ (ap is_releasable same ∙ e))
     by_hold (inr none) e = subst (λ (o : Option Hold). IfSome o (λ h. h.dead ≡ true)) (sym none ∙ ap hold_in there) tt
-
-some_is : (a b : Pending) → (let o : Option Pending = Some b in Some a ≡ o) → a ≡ b
-some_is a b p = cc
 
 pub unheld_on : (gs hs : List RegionState) (us : List Pending) (i : ℕ) (d : Pending) → ((j : ℕ) (u : Pending) → j < i → slice_get us j ≡ Some u → hold_in (slice_get gs u.region) ≡ None) → ((r : ℕ) → HoldStays gs hs r) → i < length us
     → hold_in (slice_get hs (get_or us i d).region) ≡ None → (j : ℕ) (u : Pending) → j < i + 1 → slice_get us j ≡ Some u → hold_in (slice_get hs u.region) ≡ None
@@ -557,7 +549,7 @@ unheld_on gs hs us i d before holds less now j u within at = by_test (j == i) re
     by_test : (b : Bool) → (j == i) ≡ b → hold_in (slice_get hs u.region) ≡ None
     by_test true e =
         let same : j ≡ i = (Decides-eqb j i).0 e in
-        let here : get_or us i d ≡ u = some_is (get_or us i d) u (sym (get_here us i d less) ∙ (ap (slice_get us) (sym same) ∙ at)) in
+        let here : get_or us i d ≡ u = same_Some (get_or us i d) u (sym (slice_get-get_or us i d less) ∙ (ap (slice_get us) (sym same) ∙ at)) in
         subst (λ (w : Pending). hold_in (slice_get hs w.region) ≡ None) here now
     by_test false e =
         let apart : j ≢ i = λ same. differs ((Decides-eqb j i).1 same) e in
@@ -571,11 +563,6 @@ promised_on t n gs hs s z c h = record {
   runs = c.stop ∙ h.runs;
   enough = subst (λ (m : Promised). n ≤ promised_to m t) (sym c.promised) h.enough;
 }
-
-pub in_bounds : (us : List Pending) (i : ℕ) (u : Pending) → slice_get us i ≡ Some u → i < length us
-in_bounds [] i u e = absurd (none_some u e)
-in_bounds (v ∷ us) zero u e = omega arith
-in_bounds (v ∷ us) (suc i) u e = let rest = in_bounds us i u e in omega (arith, rest)
 
 -- ---- a turn of an abort
 pub latch_held : (hs : List RegionState) (z : SystemState) (us : List Pending) (u : Pending) (e : LatchError) → last_of us ≡ Some u → IsStuck (next_undo us 0) hs z (LatchRefused e) → (g : RegionState) × (k : Hold) × (slice_get hs u.region ≡ Some g) × (g.hold ≡ Some k)

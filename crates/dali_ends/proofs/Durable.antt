@@ -5,10 +5,11 @@ use Rattle.std.specs.Prelude.{◌==◌, if◌then◌else◌, Err, IsErrOf}
 use Rattle.std.proofs.lemmas.Bool.{ne_eqb}
 use Rattle.std.proofs.lemmas.List.{length-drop}
 use Rattle.std.proofs.lemmas.Option.{IfSome_then}
+use Rattle.dali_lists.proofs.Members.{all_weaker}
 use Rattle.dali_record.specs.declared.operations.Pending.{Pending}
 use Rattle.dali_record.specs.declared.records.Record.{Record}
 use Rattle.dali_record.specs.declared.records.Record.TheVariants.{Commit, Ended}
-use Rattle.dali_record.specs.Legal.{Working, TxnState, Active, Committed, dead_of}
+use Rattle.dali_record.specs.Legal.{TxnState, Active, Committed, dead_of}
 use Rattle.dali_region.specs.State.{RegionState}
 use Rattle.dali_att.specs.declared.state.State.TheVariants.{Live}
 use Rattle.dali_att.specs.Table.{undos_at}
@@ -17,7 +18,6 @@ use Rattle.dali_system.specs.State.{SystemState, VaultState, CoreState, row_of, 
 use Rattle.dali_system.specs.Run.{IsRow, RunsOn, no_image}
 use Rattle.dali_system.specs.Steps.{commit_logged, taken}
 use Rattle.dali_system.specs.Keeps.{with_system}
-use Rattle.dali_system.specs.Flushes.{longer}
 use Rattle.dali_system.specs.Wholes.{IsWhole}
 use Rattle.dali_system.specs.Courses.{Commits as CommitsStep, Takes, Flushes, Faults, Stops, Moment, IsStep, IsCourse, RunsAt}
 use Rattle.dali_system.proofs.WholeSteps.{whole_course_keeps}
@@ -39,6 +39,7 @@ use Rattle.dali_clean.specs.Cleaned.{core, moment, AreDead}
 use Rattle.dali_clean.specs.Others.{OthersStay}
 use Rattle.dali_clean.proofs.Courses.{runs_of, undos_in}
 use Rattle.dali_clean.proofs.Others.{others_further}
+use Rattle.dali_steps.proofs.Frames.{longer_faults}
 use Rattle.dali_whole.specs.Flushed.{AllFlushed, FlushesAll, HasStopped, FlushFails}
 use Rattle.dali_whole.specs.Moments.{FlushLeaves, Within, flush_calls}
 use Rattle.dali_whole.proofs.Moments.{flush_right}
@@ -46,7 +47,7 @@ use Rattle.dali_ends.specs.Stands.{StandsAt, IsUp, IsBetween}
 use Rattle.dali_ends.specs.Ended.{Walked, HasCome}
 use Rattle.dali_ends.specs.Left.{HoldsStay, IsSettling, SettlesIn, Settled}
 use Rattle.dali_ends.specs.Committed.{IsLogged, CommitGoes, CommitFails, CommitIsRight}
-use Rattle.dali_ends.proofs.Walking.{Same, same_course, walked_of_end, all_more}
+use Rattle.dali_ends.proofs.Walking.{Same, same_course, walked_of_end}
 use Rattle.dali_ends.proofs.Alone.{rows_left, dead_still}
 use Rattle.dali_ends.proofs.Standing.{moment_here, run_at, come}
 
@@ -63,24 +64,17 @@ fault_course p q n c = (moment_of c.0, c.1.1, (moment_of c.2.0, c.2.1.1, (moment
 pub fault_logs_none : (p q : Point) (n : ℕ) → IsPointCourse p (Does Takes ∷ Does (Faults n) ∷ Does Stops ∷ []) q → q.log ≡ p.log
 fault_logs_none p q n c = ap (λ (x : Point). x.log) (sym c.2.2.2) ∙ (c.2.2.1.1.0.1.0 ∙ (c.2.1.1.0.2.0 ∙ c.1.1.0.0))
 
-longer_counts : (v : VaultState) (frame : List Record) → (longer v frame).faults ≡ v.faults
-longer_counts v [] = refl
-longer_counts v (r ∷ rs) = refl
-
 counted_over : (p q : Point) → IsPointCourse p (Does Takes ∷ Does Flushes ∷ []) q → q.core.vault.faults ≡ p.core.vault.faults
 counted_over p q c =
     ap (λ (x : Point). x.core.vault.faults) (sym c.2.2)
     ∙ (ap (λ (k : CoreState). k.vault.faults) c.2.1.1.0.1.1
-    ∙ (longer_counts c.0.core.vault _
+    ∙ (longer_faults c.0.core.vault _
     ∙ ap (λ (k : CoreState). k.vault.faults) c.1.1.0.1))
 
 -- ---- what the rules have
 -- the log behind the commit has its removals left
 abbrev pub Leaves : SystemState → SystemState → ℕ → List Pending → Type 0
 Leaves y y1 t us = (L : List Record) (rs : List RegionState) (u : VaultState) → MayCommit L (core_of rs y u) t → Commits L (core_of rs y u) t us (core_of rs y1 u)
-
-same_working : (a b : Working) → (let o : Option TxnState = Some (Active a) in o ≡ Some (Active b)) → a ≡ b
-same_working a b e = cc
 
 same_left : (us vs : List Pending) → (let o : Option TxnState = Some (Committed us) in o ≡ Some (Committed vs)) → us ≡ vs
 same_left us vs e = cc
@@ -365,7 +359,7 @@ fault_only VaultFault b stopped runs = refl
 fault_only VaultStopped b stopped runs = absurd (let so : b ≡ true = stopped refl in cc)
 
 pub may_taken : (y z : SystemState) (t : ℕ) (us : List Pending) → z ≡ taken y → AllByRecursion (MayFree y t) us → AllByRecursion (MayFree z t) us
-may_taken y z t us is h = subst (λ (x : SystemState). AllByRecursion (MayFree x t) us) (sym is) (all_more (MayFree y t) (MayFree (taken y) t) us (λ u may. record { removal = may.removal; spelled = may.spelled; kind = may.kind; lock = may.lock }) h)
+may_taken y z t us is h = subst (λ (x : SystemState). AllByRecursion (MayFree x t) us) (sym is) (all_weaker (MayFree y t) (MayFree (taken y) t) us (λ u may. record { removal = may.removal; spelled = may.spelled; kind = may.kind; lock = may.lock }) h)
 
 pub others_taken : (gs hs : List RegionState) (y y1 z z' : SystemState) (t : ℕ) → RowsStay y t y1 → z ≡ taken y1 → OthersStay gs z t hs z' → OthersStay gs y t hs z'
 others_taken gs hs y y1 z z' t rows is others =

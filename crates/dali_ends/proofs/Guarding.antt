@@ -3,6 +3,8 @@ use Rattle.std.proofs.Common.{◌≡◌, ℕ, ◌<◌, Bool, true, false, ◌&&�
 use Rattle.std.specs.Prelude.{if◌then◌else◌}
 use Rattle.std.specs.List.{AllByRecursion, list_all}
 use Rattle.std.specs.FinMap.{get}
+use Rattle.std.proofs.lemmas.Bool.{and_parts}
+use Rattle.std.proofs.lemmas.Option.{same_Some, slice_get-get_or}
 use Rattle.dali_record.specs.declared.operations.Pending.{Pending}
 use Rattle.dali_record.specs.Legal.{dead_of, is_removal}
 use Rattle.dali_record.specs.Spelling.{IsUndo}
@@ -16,12 +18,7 @@ use Rattle.dali_facts.specs.Undos.{MayBePerformed}
 use Rattle.dali_core.specs.Rows.{AreRows}
 use Rattle.dali_clean.specs.Cleaned.{AreDead}
 use Rattle.dali_clean.proofs.Courses.{undos_in}
-use Rattle.dali_single.proofs.Lists.{get_here}
 use Rattle.dali_ends.specs.Guards.{is_covered, is_releasable, is_releasable_on}
-
-both_true : (a b : Bool) → (a && b) ≡ true → (a ≡ true) × (b ≡ true)
-both_true true b e = (refl, e)
-both_true false b e = absurd cc
 
 -- ---- holds
 pub releasable_dead : (o : Option Hold) → is_releasable o ≡ true → IfSome o (λ h. h.dead ≡ true)
@@ -35,13 +32,10 @@ dead_releasable (Some k) h = h
 pub clash : {b : Bool} → b ≡ false → b ≡ true → ⊥
 clash e f = cc
 
-some_here : (a b : RegionState) → (let o : Option RegionState = Some b in Some a ≡ o) → a ≡ b
-some_here a b e = cc
-
 -- the region that was looked at
 pub released_here : (gs : List RegionState) (r : ℕ) (d e : RegionState) (o : Option Hold) (b : Bool) → r < length gs → o ≡ (get_or gs r d).hold → b ≡ is_releasable o → b ≡ true → IfSome (get_or gs r e).hold (λ h. h.dead ≡ true)
 released_here gs r d e o b less hold looked holds =
-    let same : get_or gs r d ≡ get_or gs r e = some_here (get_or gs r d) (get_or gs r e) (sym (get_here gs r d less) ∙ get_here gs r e less) in
+    let same : get_or gs r d ≡ get_or gs r e = same_Some (get_or gs r d) (get_or gs r e) (sym (slice_get-get_or gs r d less) ∙ slice_get-get_or gs r e less) in
     releasable_dead (get_or gs r e).hold (ap (λ (g : RegionState). is_releasable g.hold) (sym same) ∙ (ap is_releasable (sym hold) ∙ (sym looked ∙ holds)))
 
 pub none_alive : (gs : List RegionState) (us : List Pending) → AreDead gs → list_all (is_releasable_on gs) us ≡ true
@@ -55,7 +49,7 @@ none_alive gs (u ∷ us) dead = ap (λ (b : Bool). b && list_all (is_releasable_
 -- those of the removals
 pub of_removals : (p : Pending → Bool) (us : List Pending) → list_all p us ≡ true → list_all p (dead_of us) ≡ true
 of_removals p [] e = refl
-of_removals p (u ∷ us) e = let both = both_true (p u) (list_all p us) e in by_removal (is_removal u.undo) both.0 (of_removals p us both.1)
+of_removals p (u ∷ us) e = let both = and_parts (p u) (list_all p us) e in by_removal (is_removal u.undo) both.0 (of_removals p us both.1)
   where
     by_removal : (b : Bool) → p u ≡ true → list_all p (dead_of us) ≡ true → list_all p (if b then u ∷ dead_of us else dead_of us) ≡ true
     by_removal true own rest = ap (λ (b : Bool). b && list_all p (dead_of us)) own ∙ rest
@@ -72,8 +66,8 @@ spelled_in n t y rows = by_row (get y.table t) refl
 pub covered_of : (y : SystemState) (t : ℕ) (us : List Pending) → AllByRecursion (λ (u : Pending). IsUndo u.undo) us → list_all (is_covered y t) us ≡ true → AllByRecursion (MayBePerformed y t) us
 covered_of y t [] spelled e = tt
 covered_of y t (u ∷ us) spelled e =
-    let both = both_true (is_covered y t u) (list_all (is_covered y t) us) e in
-    let own = both_true (is_of_kind y.sizes u) (covers (lock_of y t u.key) true) both.0 in
+    let both = and_parts (is_covered y t u) (list_all (is_covered y t) us) e in
+    let own = and_parts (is_of_kind y.sizes u) (covers (lock_of y t u.key) true) both.0 in
     (record { spelled = spelled.0; kind = own.0; lock = own.1 }, covered_of y t us spelled.1 both.1)
 
 pub of_covered : (y : SystemState) (t : ℕ) (us : List Pending) → AllByRecursion (MayBePerformed y t) us → list_all (is_covered y t) us ≡ true

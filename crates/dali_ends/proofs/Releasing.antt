@@ -1,16 +1,19 @@
 -- What a dead client left open on a region is taken back.
-use Rattle.std.proofs.Common.{inl, inr, ◌≡◌, ℕ, zero, suc, ◌+◌, ◌<◌, ◌≤◌, Bool, true, false, List, [], ◌∷◌, ◌++◌, Option, Some, None, IfSome, is_some, refl, ap, sym, subst, ◌∙◌, arith, length, slice_get, slice_set, option_map}
+use Rattle.std.proofs.Common.{inl, inr, ◌≡◌, ℕ, zero, suc, ◌+◌, ◌<◌, ◌≤◌, Bool, true, false, List, [], ◌∷◌, ◌++◌, Option, Some, None, is_some, refl, ap, sym, subst, ◌∙◌, arith, length, slice_get, slice_set}
 use Rattle.std.specs.Prelude.{◌==◌, ◌⊎◌, if◌then◌else◌}
 use Rattle.std.specs.List.{list_all}
 use Rattle.std.proofs.lemmas.Bool.Decides.{Decides-eqb}
 use Rattle.std.proofs.lemmas.List.{append-nil}
+use Rattle.std.proofs.lemmas.Option.{none-some, same_Some}
+use Rattle.dali_lists.proofs.Lists.{set_same}
+use Rattle.dali_lists.proofs.Options.{if_some_at}
 use Rattle.dali_region.specs.declared.Hold.{Hold}
 use Rattle.dali_region.specs.State.{RegionState, taken_back}
 use Rattle.dali_att.specs.declared.state.State.{State}
 use Rattle.dali_att.specs.declared.state.State.TheVariants.{Live, Dead, Cleaning, Committed}
 use Rattle.dali_att.specs.Table.{with_state}
 use Rattle.dali_record.specs.declared.records.Record.{Record}
-use Rattle.dali_system.specs.State.{TxnRow, SystemState, VaultState, row_of, state_of, state_in, hold_in}
+use Rattle.dali_system.specs.State.{SystemState, VaultState, row_of, state_of, state_in, hold_in}
 use Rattle.dali_system.specs.Run.{Bases}
 use Rattle.dali_system.specs.Passes.{Audits}
 use Rattle.dali_system.specs.Steps.{in_state}
@@ -18,13 +21,13 @@ use Rattle.dali_system.specs.Regions.{is_alive}
 use Rattle.dali_system.specs.Keeps.{MayRecover, MayGiveBack}
 use Rattle.dali_system.specs.Wholes.{latched_in}
 use Rattle.dali_system.specs.Courses.{Step, Claims, Recovers, GivesBack, Moment, IsCourse}
+use Rattle.dali_system.proofs.Deaths.{region_with}
 use Rattle.dali_core.specs.Served.{Served}
 use Rattle.dali_clean.specs.Undone.{IsReclaimed, Released}
 use Rattle.dali_clean.specs.Cleaned.{core, moment, AreDead, InRun}
 use Rattle.dali_clean.specs.Others.{HoldStays}
-use Rattle.dali_clean.proofs.Lists.{set_same}
-use Rattle.dali_clean.proofs.Courses.{row_here, row_there, held_of, holder}
-use Rattle.dali_clean.proofs.Cleaning.{if_some_by}
+use Rattle.dali_clean.proofs.Courses.{row_here, row_there, held_of}
+use Rattle.dali_clean.proofs.Cleaning.{if_some_by, state_mapped}
 use Rattle.dali_clean.proofs.Steps.{dead_apart}
 use Rattle.dali_clean.proofs.Others.{release_others, released_locks, promises_same}
 use Rattle.dali_ends.specs.Ended.{AreOfEnd, Walks}
@@ -32,32 +35,17 @@ use Rattle.dali_ends.specs.Left.{held, none_of, Cleared}
 use Rattle.dali_ends.proofs.Guarding.{clash}
 use Rattle.dali_ends.proofs.Walking.{is_of_end}
 
--- ---- options
-pub none_some : {A : Type 0} (x : A) → (let n : Option A = None in n ≡ Some x) → ⊥
-none_some x e = cc
-
-same_some : {A : Type 0} (x y : A) → (let o : Option A = Some y in Some x ≡ o) → x ≡ y
-same_some x y e = cc
-
-if_some_at : {A : Type 0} (o : Option A) (P : A → Type 0) (x : A) → o ≡ Some x → IfSome o P → P x
-if_some_at o P x e h = subst (λ z. IfSome z P) e h
-
 -- ---- holds
 -- the hold of a region is dead
 pub hold_is_dead : (gs : List RegionState) (r : ℕ) (h : Hold) → AreDead gs → hold_in (slice_get gs r) ≡ Some h → h.dead ≡ true
-hold_is_dead gs r h dead there = let own = holder (slice_get gs r) h there in if_some_at own.0.hold _ h own.2 (dead r own.0 own.1)
+hold_is_dead gs r h dead there = let own = region_with (slice_get gs r) h there in if_some_at own.0.hold _ h own.2 (dead r own.0 own.1)
 
 pub dead_on : (gs hs : List RegionState) → AreDead gs → ((r : ℕ) → HoldStays gs hs r) → AreDead hs
 dead_on gs hs dead holds r g at = if_some_by g.hold _ (λ h there. by_hold h (ap hold_in at ∙ there) (holds r))
   where
     by_hold : (h : Hold) → hold_in (slice_get hs r) ≡ Some h → HoldStays gs hs r → h.dead ≡ true
     by_hold h there (inl same) = hold_is_dead gs r h dead (sym same ∙ there)
-    by_hold h there (inr none) = absurd (none_some h (sym none ∙ there))
-
--- ---- rows
-state_mapped : (st : State) (row : Option TxnRow) (old : State) → state_in row ≡ Some old → state_in (option_map (with_state st) row) ≡ Some st
-state_mapped st None old e = absurd (none_some old e)
-state_mapped st (Some row) old e = refl
+    by_hold h there (inr none) = absurd (none-some h (sym none ∙ there))
 
 -- ---- the steps
 module _ (gs : List RegionState) (y : SystemState) (r : ℕ) (g : RegionState) (k : Hold) (dead : AreDead gs) (at : slice_get gs r ≡ Some g) (there : g.hold ≡ Some k) where
@@ -97,13 +85,13 @@ module _ (gs : List RegionState) (y : SystemState) (r : ℕ) (g : RegionState) (
         was = o;
         claimed = now;
         left = record {
-          held = λ q e. absurd (none_some q e);
+          held = λ q e. absurd (none-some q e);
           only = λ q h is own late.
               let before = held_of gs r g (taken_back g) q h at refl is in
-              absurd (before.0 (same_some r q (sym names ∙ (ap (λ (n : ℕ). latched_in (state_of y n)) (sym own) ∙ run.whole.dead q h before.1 late))));
+              absurd (before.0 (same_Some r q (sym names ∙ (ap (λ (n : ℕ). latched_in (state_of y n)) (sym own) ∙ run.whole.dead q h before.1 late))));
         };
         idle = record {
-          held = λ q e. absurd (none_some q e);
+          held = λ q e. absurd (none-some q e);
           only = λ q h is own lives. absurd (clash lives (hold_is_dead gs q h dead (held_of gs r g (taken_back g) q h at refl is).1));
         };
       }
@@ -114,9 +102,9 @@ module _ (gs : List RegionState) (y : SystemState) (r : ℕ) (g : RegionState) (
   recovered_course not bases before L v a run = (moment behind y L v a, ((g, at, may (state_of y k.txn) refl (run.whole.dead r k (ap hold_in at ∙ there) gone), (refl, refl)), refl), refl)
     where
       may : (st : Option State) → state_of y k.txn ≡ st → latched_in st ≡ Some r → MayRecover (core gs y v) g
-      may None e l = absurd (none_some r l)
-      may (Some Live) e l = absurd (none_some r l)
-      may (Some Committed) e l = absurd (none_some r l)
+      may None e l = absurd (none-some r l)
+      may (Some Live) e l = absurd (none-some r l)
+      may (Some Committed) e l = absurd (none-some r l)
       may (Some (Dead latched)) e l = absurd (not latched e)
       may (Some (Cleaning latched)) e l = record { hold = k; at = there; dead = gone; latched = latched; claimed = e }
 
@@ -233,9 +221,9 @@ counted : (g : RegionState) (o : Option Hold) → g.hold ≡ o → count g ≡ (
 counted g o e = ap (λ (x : Option Hold). let n : ℕ = if is_some x then 1 else 0 in n) e
 
 pub held_less : (gs : List RegionState) (r : ℕ) (g h : RegionState) (k : Hold) → slice_get gs r ≡ Some g → g.hold ≡ Some k → h.hold ≡ None → held (slice_set gs r h) < held gs
-held_less [] r g h k at there none = absurd (none_some g at)
+held_less [] r g h k at there none = absurd (none-some g at)
 held_less (x ∷ gs) zero g h k at there none =
-    let one : count x ≡ 1 = counted x (Some k) (ap (λ (o : RegionState). o.hold) (same_some x g at) ∙ there) in
+    let one : count x ≡ 1 = counted x (Some k) (ap (λ (o : RegionState). o.hold) (same_Some x g at) ∙ there) in
     let zero_now : count h ≡ 0 = counted h None none in
     let now : held (h ∷ gs) ≡ count h + held gs = refl in
     let was : held (x ∷ gs) ≡ count x + held gs = refl in

@@ -114,6 +114,11 @@ module _ {V : Type 0} (told : V → Option Disk) (may_leave : V → Disk → Typ
       there : Arrived s B p v walk.steps walk.log hs z
       there = arrive s B p gs hs y z v walk.steps walk.log k (walked_of_end t own last here hs z walk) walk.course dead
 
+  pub come_log : (t : ℕ) (own : Record → Type 0) (last : List Record) (s : Start) (B : List (List Record)) (p : Point) (gs hs : List RegionState) (y z : SystemState) (v : Vaulted V) (k : StandsAt told may_leave faults s B p gs y v)
+      (walk : Walked t own last (moment gs y p.log p.core.vault p.audits) hs z) (dead : AreDead hs) → (come t own last s B p gs hs y z v k walk dead).to.log ≡ walk.log
+  unfolding come
+  come_log t own last s B p gs hs y z v k walk dead = (come t own last s B p gs hs y z v k walk dead).log ∙ sym walk.logged
+
   pub comes : (t : ℕ) (own : Record → Type 0) (last : List Record) (gs hs : List RegionState) (y z : SystemState) (v : Vaulted V) → Walks t own last gs y hs z → (AreDead gs → AreDead hs) → Comes told may_leave faults t own last gs y v hs z
   comes t own last gs hs y z v walks still s B p k = come t own last s B p gs hs y z v k (walks (bases_of s) s.log p.log p.core.vault p.audits (run_at s B p gs y v k) k.dead) (still k.dead)
 

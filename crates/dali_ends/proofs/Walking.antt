@@ -1,7 +1,7 @@
 -- Steps that end a transaction, one behind another, what they keep, and whose they are.
 use Rattle.std.proofs.Common.{◌≡◌, ℕ, Bool, true, false, not, ◌&&◌, List, [], ◌∷◌, ◌++◌, Option, Some, None, refl, ap, sym, subst, ◌∙◌}
 use Rattle.std.specs.Prelude.{◌==◌}
-use Rattle.std.specs.List.{AllByRecursion, list_all}
+use Rattle.std.specs.List.{list_all}
 use Rattle.std.proofs.lemmas.List.{append-nil, append_assoc}
 use Rattle.dali_record.specs.declared.operations.Block.{Block}
 use Rattle.dali_record.specs.declared.operations.Undo.{Undo}
@@ -10,33 +10,28 @@ use Rattle.dali_record.specs.Blocks.{pending}
 use Rattle.dali_region.specs.State.{RegionState}
 use Rattle.dali_att.specs.Table.{with_undo}
 use Rattle.std.specs.FinMap as map
+use Rattle.std.proofs.lemmas.Bool.{and_parts, and_from, not_from_false}
+use Rattle.dali_lists.proofs.Members.{all_weaker, all_append as all_both}
 use Rattle.dali_system.specs.State.{SystemState, VaultState, CoreState, state_of, state_in}
 use Rattle.dali_system.specs.Steps.{undo_kept}
 use Rattle.dali_system.specs.Run.{Bases}
 use Rattle.dali_system.specs.Regions.{RegionStep, Latch, NoteReads, Update, TakeBack, is_alive}
 use Rattle.dali_system.specs.Passes.{Audits}
 use Rattle.dali_system.specs.Courses.{Step, Operates, TakesBack, Frees, Ends, Locks, OnRegion, Claims, GivesBack, Recovers, Moment, IsStep, IsCourse}
+use Rattle.dali_system.proofs.Touching.{join}
 use Rattle.dali_steps.specs.Courses.{is_quiet}
-use Rattle.dali_single.proofs.Lists.{all_both}
 use Rattle.dali_clean.specs.Cleaned.{moment, AreDead, InRun}
 use Rattle.dali_clean.specs.Steps.{is_own_change, is_apart, is_apart_on, AreBeside}
 use Rattle.dali_clean.proofs.Lists.{append_twice}
-use Rattle.dali_clean.proofs.Courses.{join, in_run_on, row_there}
-use Rattle.dali_clean.proofs.Steps.{first_too, not_of, apart_change, dead_apart, region_leaves, recover_leaves, back_leaves, claim_leaves, give_leaves}
+use Rattle.dali_clean.proofs.Courses.{in_run_on, row_there}
+use Rattle.dali_clean.proofs.Steps.{apart_change, dead_apart, region_leaves, recover_leaves, back_leaves, claim_leaves, give_leaves}
 use Rattle.dali_ends.specs.Ended.{AreOfEnd, ends_of, Walked, Walks}
 
 -- ---- lists
-pub and_true : (a b : Bool) → (a && b) ≡ true → (a ≡ true) × (b ≡ true)
-and_true true b e = (refl, e)
-and_true false b e = absurd cc
 
 pub all_append : (p : Step → Bool) (xs ys : List Step) → list_all p xs ≡ true → list_all p ys ≡ true → list_all p (xs ++ ys) ≡ true
 all_append p [] ys a b = b
-all_append p (x ∷ xs) ys a b = let both = and_true (p x) (list_all p xs) a in ap (λ c. c && list_all p (xs ++ ys)) both.0 ∙ all_append p xs ys both.1 b
-
-pub all_more : {X : Type 0} (P Q : X → Type 0) (xs : List X) → ((x : X) → P x → Q x) → AllByRecursion P xs → AllByRecursion Q xs
-all_more P Q [] f h = tt
-all_more P Q (x ∷ xs) f h = (f x h.0, all_more P Q xs f h.1)
+all_append p (x ∷ xs) ys a b = let both = and_parts (p x) (list_all p xs) a in ap (λ c. c && list_all p (xs ++ ys)) both.0 ∙ all_append p xs ys both.1 b
 
 -- ---- which steps they are
 abbrev pub is_change : RegionStep → Bool
@@ -68,7 +63,7 @@ own_change t x e = absurd cc
 
 pub front_of_end : (t : ℕ) (xs : List Step) → AreOfEnd t xs → list_all is_of_end xs ≡ true
 front_of_end t [] p = refl
-front_of_end t (OnRegion r x ∷ xs) p = first_too (is_change x) _ (own_change t x p.0) (front_of_end t xs p.1)
+front_of_end t (OnRegion r x ∷ xs) p = and_from (is_change x) _ (own_change t x p.0) (front_of_end t xs p.1)
 front_of_end t (Operates u b ∷ xs) p = front_of_end t xs p.1
 front_of_end t (TakesBack u b ∷ xs) p = front_of_end t xs p.1
 front_of_end t (Frees u b ∷ xs) p = front_of_end t xs p.1
@@ -120,7 +115,7 @@ quiet_step x e = absurd cc
 
 pub quiet_steps : (xs : List Step) → list_all is_of_end xs ≡ true → list_all is_quiet xs ≡ true
 quiet_steps [] e = refl
-quiet_steps (x ∷ xs) e = let both = and_true (is_of_end x) (list_all is_of_end xs) e in ap (λ b. b && list_all is_quiet xs) (quiet_step x both.0) ∙ quiet_steps xs both.1
+quiet_steps (x ∷ xs) e = let both = and_parts (is_of_end x) (list_all is_of_end xs) e in ap (λ b. b && list_all is_quiet xs) (quiet_step x both.0) ∙ quiet_steps xs both.1
 
 -- the sizes, the stop, what was taken, and the first record
 pub record Same (y z : SystemState) : Type 0 where
@@ -147,7 +142,7 @@ same_step L M c d x e s = absurd cc
 pub same_course : (m n : Moment) (xs : List Step) → list_all is_of_end xs ≡ true → IsCourse m xs n → Same m.core.system n.core.system
 same_course m n [] e course = subst (λ (k : Moment). Same m.core.system k.core.system) course (record { sizes = refl; stop = refl; taken = refl; first = refl })
 same_course m n (x ∷ xs) e course =
-    let both = and_true (is_of_end x) (list_all is_of_end xs) e in
+    let both = and_parts (is_of_end x) (list_all is_of_end xs) e in
     let one = same_step m.log course.0.log m.core course.0.core x both.0 course.1.0 in
     let rest = same_course course.0 n xs both.1 course.2 in
     record { sizes = rest.sizes ∙ one.sizes; stop = rest.stop ∙ one.stop; taken = rest.taken ∙ one.taken; first = rest.first ∙ one.first }
@@ -166,23 +161,23 @@ front_apart : (t u : ℕ) (m n : Moment) (xs ys : List Step) → (t == u) ≡ fa
     → list_all (is_apart u) (xs ++ ys) ≡ true
 front_apart t u m n [] ys apart alive p last course = last
 front_apart t u m n (OnRegion r c ∷ xs) ys apart alive p last course =
-    first_too (is_apart_on u c) _ (apart_change t u c apart p.0)
+    and_from (is_apart_on u c) _ (apart_change t u c apart p.0)
     (front_apart t u course.0 n xs ys apart (ap is_alive (region_leaves u m.log course.0.log m.core course.0.core r c course.1.0) ∙ alive) p.1 last course.2)
 front_apart t u m n (Operates v b ∷ xs) ys apart alive p last course =
     let other : (v == u) ≡ false = ap (λ (k : ℕ). k == u) p.0 ∙ apart in
-    first_too (not (v == u)) _ (not_of (v == u) other)
+    and_from (not (v == u)) _ (not_from_false (v == u) other)
     (front_apart t u course.0 n xs ys apart (ap is_alive (operate_leaves u m.log course.0.log m.core course.0.core v b other course.1.0) ∙ alive) p.1 last course.2)
 front_apart t u m n (TakesBack v b ∷ xs) ys apart alive p last course =
     let other : (v == u) ≡ false = ap (λ (k : ℕ). k == u) p.0 ∙ apart in
-    first_too (not (v == u)) _ (not_of (v == u) other)
+    and_from (not (v == u)) _ (not_from_false (v == u) other)
     (front_apart t u course.0 n xs ys apart (ap is_alive (back_leaves u m.log course.0.log m.core course.0.core v b other course.1.0) ∙ alive) p.1 last course.2)
 front_apart t u m n (Frees v b ∷ xs) ys apart alive p last course =
     let other : (v == u) ≡ false = ap (λ (k : ℕ). k == u) p.0 ∙ apart in
-    first_too (not (v == u)) _ (not_of (v == u) other)
+    and_from (not (v == u)) _ (not_from_false (v == u) other)
     (front_apart t u course.0 n xs ys apart (ap (λ (k : CoreState). is_alive (state_of k.system u)) course.1.0.2.1 ∙ alive) p.1 last course.2)
 front_apart t u m n (Locks v k o ∷ xs) ys apart alive p last course =
     let other : (v == u) ≡ false = ap (λ (i : ℕ). i == u) p.0 ∙ apart in
-    first_too (not (v == u)) _ (not_of (v == u) other)
+    and_from (not (v == u)) _ (not_from_false (v == u) other)
     (front_apart t u course.0 n xs ys apart (ap (λ (e : CoreState). is_alive (state_of e.system u)) course.1.0.2.1 ∙ alive) p.1 last course.2)
 front_apart t u m n (Claims v ∷ Recovers r ∷ GivesBack w o ∷ xs) ys apart alive p last course =
     let m1 = course.0 in
@@ -193,14 +188,14 @@ front_apart t u m n (Claims v ∷ Recovers r ∷ GivesBack w o ∷ xs) ys apart 
     let alive1 = ap is_alive (claim_leaves u m.log m1.log m.core m1.core v other course.1.0) ∙ alive in
     let alive2 = ap is_alive (recover_leaves u m1.log m2.log m1.core m2.core r course.2.1.0) ∙ alive1 in
     let alive3 = ap is_alive (give_leaves u m2.log m3.log m2.core m3.core w o other2 course.2.2.1.0) ∙ alive2 in
-    first_too (not (v == u)) _ (not_of (v == u) other) (first_too (not (w == u)) _ (not_of (w == u) other2) (front_apart t u m3 n xs ys apart alive3 p.3 last course.2.2.2))
+    and_from (not (v == u)) _ (not_from_false (v == u) other) (and_from (not (w == u)) _ (not_from_false (w == u) other2) (front_apart t u m3 n xs ys apart alive3 p.3 last course.2.2.2))
 front_apart t u m n (Recovers r ∷ xs) ys apart alive p last course =
     front_apart t u course.0 n xs ys apart (ap is_alive (recover_leaves u m.log course.0.log m.core course.0.core r course.1.0) ∙ alive) p last course.2
 front_apart t u m n (x ∷ xs) ys apart alive p last course = absurd p
 
 ends_apart : (t u : ℕ) (last : List Record) → (t == u) ≡ false → list_all (is_apart u) (ends_of t last) ≡ true
 ends_apart t u [] apart = refl
-ends_apart t u (x ∷ xs) apart = first_too (not (t == u)) true (not_of (t == u) apart) refl
+ends_apart t u (x ∷ xs) apart = and_from (not (t == u)) true (not_from_false (t == u) apart) refl
 
 pub are_beside : (t : ℕ) (last : List Record) (m n : Moment) (front steps : List Step) → AreOfEnd t front → steps ≡ front ++ ends_of t last → IsCourse m steps n → AreBeside t m.core.system steps
 are_beside t last m n front steps by is course u apart alive =
@@ -208,7 +203,7 @@ are_beside t last m n front steps by is course u apart alive =
     (front_apart t u m n front (ends_of t last) apart alive by (ends_apart t u last apart) (subst (λ ys. IsCourse m ys n) is course))
 
 -- ---- one behind another
-pub walked_on : (t : ℕ) (own : Record → Type 0) (last : List Record) (m : Moment) (gs hs : List RegionState) (y z : SystemState) (a : Walked t own [] m gs y)
+abbrev pub walked_on : (t : ℕ) (own : Record → Type 0) (last : List Record) (m : Moment) (gs hs : List RegionState) (y z : SystemState) (a : Walked t own [] m gs y)
     → Walked t own last (moment gs y a.log m.core.vault m.audits) hs z → Walked t own last m hs z
 walked_on t own last m gs hs y z a b = record {
   log = b.log;
@@ -229,7 +224,7 @@ walked_on t own last m gs hs y z a b = record {
 }
 
 abbrev pub walked_more : (t : ℕ) (P Q : Record → Type 0) (last : List Record) (m : Moment) (hs : List RegionState) (z : SystemState) → ((x : Record) → P x → Q x) → Walked t P last m hs z → Walked t Q last m hs z
-walked_more t P Q last m hs z f a = record { log = a.log; front = a.front; by = a.by; steps = a.steps; is = a.is; course = a.course; records = a.records; are = all_more P Q a.records f a.are; logged = a.logged }
+walked_more t P Q last m hs z f a = record { log = a.log; front = a.front; by = a.by; steps = a.steps; is = a.is; course = a.course; records = a.records; are = all_weaker P Q a.records f a.are; logged = a.logged }
 
 -- the run goes on
 pub run_on : (t : ℕ) (own : Record → Type 0) (last : List Record) (bases : Bases) (before L : List Record) (v : VaultState) (au : Audits) (gs hs : List RegionState) (y z : SystemState) → InRun bases before (moment gs y L v au)

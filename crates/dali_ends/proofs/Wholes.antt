@@ -1,7 +1,10 @@
 -- What steps leave of a whole core and its image files.
-use Rattle.std.proofs.Common.{◌≡◌, ◌≢◌, ℕ, Bool, true, false, not, ◌||◌, ◌==◌, List, [], ◌∷◌, Option, Some, None, Result, Ok, Err, OnOk, OnErr, IfSome, map, refl, ap, sym, subst, ◌∙◌, slice_get, slice_set}
+use Rattle.std.proofs.Common.{◌≡◌, ◌≢◌, ℕ, Bool, true, false, not, ◌==◌, List, [], ◌∷◌, Option, Some, None, Result, Ok, Err, OnOk, OnErr, IfSome, map, refl, ap, sym, subst, ◌∙◌, slice_get, slice_set}
 use Rattle.std.specs.List.{list_all}
 use Rattle.std.proofs.lemmas.Bool.Decides.{Decides-eqb}
+use Rattle.std.proofs.lemmas.Bool.{and_parts}
+use Rattle.dali_lists.proofs.Lists.{get_set, get_set_other}
+use Rattle.dali_lists.proofs.Tests.{left_false}
 use Rattle.dali_record.specs.declared.records.Record.{Record}
 use Rattle.dali_record.specs.declared.records.Record.TheVariants.{Ended}
 use Rattle.dali_record.specs.declared.operations.Pending.{Pending}
@@ -17,7 +20,7 @@ use Rattle.dali_system.specs.Wholes.{IsWhole}
 use Rattle.dali_system.specs.Keeps.{dead_in}
 use Rattle.dali_system.specs.ImageSteps.{clears}
 use Rattle.dali_system.specs.Regions.{RegionStep, Clean, region_after}
-use Rattle.dali_system.specs.Courses.{Step, Begins, Operates, TakesBack, Frees, Answers, Commits, Ends, AuditBegins, AuditEnds, Locks, Refuses, OnRegion, Passes, Dies, Claims, GivesBack, Recovers, Stops, Checkpoints, Takes, Flushes, Faults, ReadFails, Moment, IsStep, IsCourse}
+use Rattle.dali_system.specs.Courses.{Step, Begins, Operates, TakesBack, Frees, Answers, AuditEnds, OnRegion, Passes, Dies, GivesBack, Recovers, Stops, Checkpoints, Takes, Flushes, ReadFails, Moment, IsStep, IsCourse}
 use Rattle.dali_crash.specs.Checkpoints.{Point, Does, IsPointCourse, is_of_checkpoint, moment_of}
 use Rattle.dali_crash.specs.Traces.{Start}
 use Rattle.dali_vault.specs.Vaulted.{Vaulted}
@@ -25,13 +28,12 @@ use Rattle.dali_steps.specs.Courses.{calls_none, is_quiet}
 use Rattle.dali_core.specs.Served.{Served}
 use Rattle.dali_single.specs.Settling.{IsSoloOf}
 use Rattle.dali_clean.specs.Cleaned.{core}
-use Rattle.dali_clean.proofs.Lists.{get_set, get_apart}
 use Rattle.dali_whole.specs.Cores.{HoldsPlaces, IsWholeCore}
 use Rattle.dali_ends.specs.Stands.{StandsAt, IsUp, IsBetween}
 use Rattle.dali_ends.specs.Ended.{HasCome}
 use Rattle.dali_ends.specs.Left.{Left}
 use Rattle.dali_ends.specs.Committed.{CommitGoes}
-use Rattle.dali_ends.proofs.Walking.{and_true, is_of_end, quiet_steps}
+use Rattle.dali_ends.proofs.Walking.{is_of_end, quiet_steps}
 use Rattle.dali_ends.proofs.Standing.{run_at, Arrived, arrived_of, come_of_end, comes_left}
 use Rattle.dali_ends.proofs.Durable.{Leaves, logged, logged_as, flushed_stands}
 
@@ -42,13 +44,9 @@ IsNoCleaner g h = (side : Side) → is_dirty h side ≡ false → is_dirty g sid
 abbrev pub AreNoCleaner : List RegionState → List RegionState → Type 0
 AreNoCleaner gs hs = (r : ℕ) (h : RegionState) → slice_get hs r ≡ Some h → (g : RegionState) × (slice_get gs r ≡ Some g) × IsNoCleaner g h
 
-or_false : (a b : Bool) → (a || b) ≡ false → a ≡ false
-or_false false b e = refl
-or_false true b e = absurd cc
-
 pub touched_no_cleaner : (g : RegionState) → IsNoCleaner g (touched g)
-touched_no_cleaner g A e = or_false g.dirty_a (wrote g) e
-touched_no_cleaner g OtherSide e = or_false g.dirty_b (wrote g) e
+touched_no_cleaner g A e = left_false g.dirty_a (wrote g) e
+touched_no_cleaner g OtherSide e = left_false g.dirty_b (wrote g) e
 
 pub kept_no_cleaner : (g h : RegionState) → h.dirty_a ≡ g.dirty_a → h.dirty_b ≡ g.dirty_b → IsNoCleaner g h
 kept_no_cleaner g h a b A e = sym a ∙ e
@@ -75,7 +73,7 @@ set_no_cleaner gs r g h at than q k there = by_test (r == q) refl
         let same : r ≡ q = (Decides-eqb r q).0 e in
         let is : h ≡ k = same_some h k (sym (get_set gs r g h at) ∙ (ap (λ (n : ℕ). slice_get (slice_set gs r h) n) same ∙ there)) in
         (g, ap (λ (n : ℕ). slice_get gs n) (sym same) ∙ at, subst (λ (x : RegionState). IsNoCleaner g x) is than)
-    by_test false e = (k, sym (get_apart gs r h q (apart e)) ∙ there, λ side f. f)
+    by_test false e = (k, sym (get_set_other gs r h q (apart e)) ∙ there, λ side f. f)
 
 by_core : (c d e : CoreState) → d ≡ e → AreNoCleaner c.regions e.regions → AreNoCleaner c.regions d.regions
 by_core c d e is than = subst (λ (k : CoreState). AreNoCleaner c.regions k.regions) (sym is) than
@@ -101,24 +99,18 @@ step_no_cleaner L M c d (Operates t b) e s = by_core c d _ s.3.1 (set_no_cleaner
 step_no_cleaner L M c d (TakesBack t b) e s = by_core c d _ s.2.1 (set_no_cleaner c.regions b.region s.0 (touched s.0) s.1.at (touched_no_cleaner s.0))
 step_no_cleaner L M c d (Frees t b) e s = by_core c d _ s.2.1 (set_no_cleaner c.regions b.region s.0 (touched s.0) s.1.at (touched_no_cleaner s.0))
 step_no_cleaner L M c d (Answers t k a) e s = by_core c d _ s.3.1 (same_no_cleaner c.regions)
-step_no_cleaner L M c d (Commits t) e s = by_core c d _ s.2.1 (same_no_cleaner c.regions)
-step_no_cleaner L M c d (Ends t) e s = by_core c d _ s.2.1 (same_no_cleaner c.regions)
-step_no_cleaner L M c d AuditBegins e s = by_core c d _ s.2.1 (same_no_cleaner c.regions)
 step_no_cleaner L M c d (AuditEnds b found) e s = by_core c d _ s.1.1 (same_no_cleaner c.regions)
-step_no_cleaner L M c d (Locks t k m) e s = by_core c d _ s.2.1 (same_no_cleaner c.regions)
-step_no_cleaner L M c d (Refuses t k m h) e s = by_core c d _ s.2.1 (same_no_cleaner c.regions)
 step_no_cleaner L M c d (OnRegion r x) e s = by_core c d _ s.3.1 (set_no_cleaner c.regions r s.0 (region_after x s.0) s.1 (change_no_cleaner x s.0 e))
 step_no_cleaner L M c d (Passes b r) e s = by_core c d _ s.2.1 (set_no_cleaner c.regions r s.0 (checked s.0) s.1 (kept_no_cleaner s.0 (checked s.0) refl refl))
 step_no_cleaner L M c d (Dies t o) e s = by_core c d _ s.1.1 (dead_no_cleaner c.regions o)
-step_no_cleaner L M c d (Claims t) e s = by_core c d _ s.2.1 (same_no_cleaner c.regions)
 step_no_cleaner L M c d (GivesBack t o) e s = by_core c d _ s.1.1 (same_no_cleaner c.regions)
 step_no_cleaner L M c d (Recovers r) e s = by_core c d _ s.3.1 (set_no_cleaner c.regions r s.0 (taken_back s.0) s.1 (kept_no_cleaner s.0 (taken_back s.0) refl refl))
 step_no_cleaner L M c d Stops e s = by_core c d _ s.1.1 (same_no_cleaner c.regions)
 step_no_cleaner L M c d (Checkpoints b) e s = absurd cc
 step_no_cleaner L M c d Takes e s = by_core c d _ s.1 (same_no_cleaner c.regions)
 step_no_cleaner L M c d Flushes e s = by_core c d _ s.1.1 (same_no_cleaner c.regions)
-step_no_cleaner L M c d (Faults n) e s = by_core c d _ s.2.1 (same_no_cleaner c.regions)
 step_no_cleaner L M c d (ReadFails n) e s = by_core c d _ s.1.1 (same_no_cleaner c.regions)
+step_no_cleaner L M c d _ e s = by_core c d _ s.2.1 (same_no_cleaner c.regions)
 
 further : (fs gs hs : List RegionState) → AreNoCleaner fs gs → AreNoCleaner gs hs → AreNoCleaner fs hs
 further fs gs hs p q r h at =
@@ -127,7 +119,7 @@ further fs gs hs p q r h at =
     (first.0, first.1, λ side e. first.2 side (mid.2 side e))
 
 of_none : (x : Step) → is_quiet x ≡ true → is_of_checkpoint x ≡ false
-of_none x e = by_flag (is_of_checkpoint x) (and_true (not (is_of_checkpoint x)) (calls_none x) e).0
+of_none x e = by_flag (is_of_checkpoint x) (and_parts (not (is_of_checkpoint x)) (calls_none x) e).0
   where
     by_flag : (b : Bool) → not b ≡ true → b ≡ false
     by_flag true e = absurd cc
@@ -136,7 +128,7 @@ of_none x e = by_flag (is_of_checkpoint x) (and_true (not (is_of_checkpoint x)) 
 pub course_no_cleaner : (m n : Moment) (xs : List Step) → list_all is_quiet xs ≡ true → IsCourse m xs n → AreNoCleaner m.core.regions n.core.regions
 course_no_cleaner m n [] e course = subst (λ (k : Moment). AreNoCleaner m.core.regions k.core.regions) course (same_no_cleaner m.core.regions)
 course_no_cleaner m n (x ∷ xs) e course =
-    let both = and_true (is_quiet x) (list_all is_quiet xs) e in
+    let both = and_parts (is_quiet x) (list_all is_quiet xs) e in
     further m.core.regions course.0.core.regions n.core.regions (step_no_cleaner m.log course.0.log m.core course.0.core x (of_none x both.0) course.1.0) (course_no_cleaner course.0 n xs both.1 course.2)
 
 -- ---- the image files

@@ -2,6 +2,8 @@
 --     is_covered y t u         the undo u of t is on a region of its kind, and t has its key alone
 --     is_releasable o            a hold is of a client that died, if there is one
 --     is_releasable_on gs u      so is that on the region of the undo u
+--     MayFreeOn gs y t u       t is committed, the regions are those of the system's sizes, the removal u may be freed, and no client that is alive has
+--                              latched its region
 --     MayEnd gs y t            t is live, the regions are those of the system's sizes, its undos may be performed, and no client that is alive has latched
 --                              the region of one
 --     MayFlush v               the end of the vault's log leaves room for its next frame
@@ -15,13 +17,14 @@ use Rattle.dali_record.specs.declared.operations.Pending.{Pending}
 use Rattle.dali_region.specs.declared.Hold.{Hold}
 use Rattle.dali_region.specs.State.{RegionState}
 use Rattle.dali_att.specs.Table.{undos_at}
-use Rattle.dali_att.specs.declared.state.State.TheVariants.{Live}
+use Rattle.dali_att.specs.declared.state.State.TheVariants.{Live, Committed}
 use Rattle.dali_store.specs.Store.{Files as Disk}
 use Rattle.dali_system.specs.State.{SystemState, state_of, lock_of, hold_in}
 use Rattle.dali_system.specs.Run.{covers}
 use Rattle.dali_system.specs.Wholes.{is_of_kind}
 use Rattle.dali_vault.specs.Vaulted.{Vaulted}
 use Rattle.dali_single.specs.Single.{AreCovered}
+use Rattle.dali_single.specs.Settling.{MayFree}
 use Rattle.dali_clean.specs.Cleaned.{AreDead}
 use Rattle.dali_ends.specs.Stands.{IsUp}
 
@@ -39,6 +42,12 @@ pub record MayEnd (gs : List RegionState) (y : SystemState) (t : ℕ) : Type 0 w
   pub lives : state_of y t ≡ Some Live
   pub covered : AreCovered y t
   pub releasable : list_all (is_releasable_on gs) (undos_at y.table t) ≡ true
+
+pub record MayFreeOn (gs : List RegionState) (y : SystemState) (t : ℕ) (u : Pending) : Type 0 where
+  pub whole : length gs ≡ regions y.sizes
+  pub committed : state_of y t ≡ Some Committed
+  pub may : MayFree y t u
+  pub releasable : is_releasable_on gs u ≡ true
 
 abbrev pub MayFlush : {V : Type 0} → Vaulted V → Type 0
 MayFlush v = v.end < 2 ^ 62

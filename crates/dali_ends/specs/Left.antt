@@ -7,6 +7,7 @@
 --     Left own last t gs s hs z    an end of t, or a part of it, led from the one to the other, and logged own records and these last ones
 --     Cleared t gs s hs z      what dead clients had left open was taken back, and nothing was logged
 --     Settled t us gs s hs z   what the committed t removed was freed, and its end logged
+--     FreesIn t u gs y hs z    the first removal u of those that are left to the committed t was freed, and the others are left
 use Rattle.std.specs.Prelude.{◌≡◌, ◌==◌, ℕ, ◌+◌, Bool, false, if◌then◌else◌, is_some, List, [], ◌∷◌, slice_get}
 use Rattle.std.specs.List.{list_any}
 use Rattle.dali_record.specs.declared.operations.Pending.{Pending}
@@ -67,6 +68,11 @@ abbrev pub SettlesIn : ℕ → List Pending → List RegionState → SystemState
 SettlesIn t us gs y hs z =
     (bases : Bases) (before L : List Record) (v : VaultState) (a : Audits) → InRun bases before (moment gs y L v a) → AreDead gs → IsEnding y.sizes L t us
     → Walked t (IsSoloOf t) (Ended t ∷ []) (moment gs y L v a) hs z
+
+abbrev pub FreesIn : ℕ → Pending → List RegionState → SystemState → List RegionState → SystemState → Type 0
+FreesIn t u gs y hs z =
+    (us : List Pending) (bases : Bases) (before L : List Record) (v : VaultState) (a : Audits) → InRun bases before (moment gs y L v a) → AreDead gs → IsEnding y.sizes L t (u ∷ us)
+    → (w : Walked t (IsSoloOf t) [] (moment gs y L v a) hs z) × IsEnding z.sizes w.log t us
 
 pub record Settled (t : ℕ) (us : List Pending) (gs : List RegionState) (s : Served) (hs : List RegionState) (z : Served) : Type 0 where
   pub walks : SettlesIn t us gs s.state hs z.state

@@ -2,15 +2,17 @@
 //! to them, as behind files that another program wrote, it may not be.
 ghost use Rattle.std.specs.Prelude.{◌≡◌, true, Some};
 ghost use Rattle.std.specs.List.{list_all};
-ghost use Rattle.dali_att.specs.declared.state.State.TheVariants.{Live};
+ghost use Rattle.dali_att.specs.declared.state.State.TheVariants.{Live, Committed};
 ghost use Rattle.dali_system.specs.State.{state_of};
-ghost use Rattle.dali_ends.specs.Guards.{is_covered as is_covered_in, is_releasable as is_releasable_by, is_releasable_on as is_releasable_in, MayEnd};
+ghost use Rattle.dali_record.specs.Legal.{is_removal as is_removal_of};
+ghost use Rattle.dali_record.specs.Spelling.{IsUndo};
+ghost use Rattle.dali_ends.specs.Guards.{MayFreeOn, is_covered as is_covered_in, is_releasable as is_releasable_by, is_releasable_on as is_releasable_in, MayEnd};
 
 use dali_att::State;
 use dali_clean::is_of_kind;
 use dali_core::System;
 use dali_locks::Mode;
-use dali_record::Pending;
+use dali_record::{Pending, Undo};
 use dali_region::{Hold, Region};
 
 // Whether the undo is on a region of its kind, and the transaction has its key alone.
@@ -94,4 +96,44 @@ pub fn may_end(regions: &[Region], system: &System, txn: u64) -> bool
         return false;
     }
     are_releasable(regions, undos)
+}
+
+// Whether the undo puts a killed cell or entry back, one that a region has.
+fn is_removal(undo: &Undo) -> bool
+    ensures { result ≡ true → (is_removal_of undo.now ≡ true) × IsUndo undo.now }
+{
+    match undo {
+        Undo::ReviveCell { cell } => 1 <= *cell && *cell <= 7,
+        Undo::ReviveEntry { entry } => *entry < 21,
+        _ => false,
+    }
+}
+
+// Whether the transaction is committed.
+fn is_committed(system: &System, txn: u64) -> bool
+    ensures { result ≡ true → state_of system.now.state txn ≡ Some Committed }
+{
+    match system.state(txn) {
+        Some(State::Committed) => true,
+        _ => false,
+    }
+}
+
+/// Whether a committed transaction may free the removal.
+pub fn may_free(regions: &[Region], system: &System, txn: u64, removal: &Pending) -> bool
+    ensures { result ≡ true → MayFreeOn regions.now system.now.state txn removal.now }
+{
+    if regions.len() != system.geometry().regions() as usize {
+        return false;
+    }
+    if !is_committed(system, txn) {
+        return false;
+    }
+    if !is_removal(&removal.undo) {
+        return false;
+    }
+    if !is_covered(system, txn, removal) {
+        return false;
+    }
+    is_releasable_on(regions, removal)
 }

@@ -7,7 +7,9 @@ mod error;
 mod guards;
 pub mod laws;
 mod parts;
+mod steps;
 
 pub use aborting::abort;
 pub use committing::commit;
 pub use error::{AbortError, CommitError};
+pub use steps::{end_commit, free_removal, log_commit};

@@ -10,11 +10,11 @@ ghost use Rattle.dali_core.specs.Promised.{promised_to};
 ghost use Rattle.dali_calls.specs.Flags.{FlagsStay};
 ghost use Rattle.dali_single.specs.Ending.{IsBackOf};
 ghost use Rattle.dali_single.specs.Settling.{MayFree, IsPromised, settle_room};
-ghost use Rattle.dali_clean.specs.Others.{IsGone};
+ghost use Rattle.dali_clean.specs.Others.{OthersStay, IsGone};
 ghost use Rattle.dali_ends.specs.declared.error.AbortError.TheVariants.{OutOfMemory};
 ghost use Rattle.dali_att.specs.Table.{undos_at};
-ghost use Rattle.dali_ends.specs.Left.{HoldsStay, IsRunning, Left, Settled};
-ghost use Rattle.dali_ends.specs.Guards.{is_releasable_on, MayEnd};
+ghost use Rattle.dali_ends.specs.Left.{HoldsStay, IsRunning, Left, none_of, FreesIn, Settled};
+ghost use Rattle.dali_ends.specs.Guards.{is_releasable_on, MayEnd, MayFreeOn};
 
 use crate::error::{AbortError, abort_refused};
 use crate::guards::is_releasable;
@@ -22,7 +22,7 @@ use dali_clean::release;
 use dali_core::System;
 use dali_record::Pending;
 use dali_region::Region;
-use dali_single::{StepError, settle};
+use dali_single::{StepError, free, settle};
 
 /// Takes a transaction back that may be ended, while the engine runs.
 pub fn take_back(regions: &mut [Region], system: &mut System, txn: u64) -> Result<(), AbortError>
@@ -70,5 +70,28 @@ pub fn free_removals(regions: &mut [Region], system: &mut System, txn: u64, remo
     match settle(regions, system, txn, removals) {
         Ok(()) => {}
         Err(_) => unreachable!(),
+    }
+}
+
+/// Frees for good one removal of a committed transaction. Where that is refused nothing is logged.
+pub fn free_one(
+    regions: &mut [Region],
+    system: &mut System,
+    txn: u64,
+    removal: &Pending,
+) -> Result<(), StepError>
+    requires { MayFreeOn regions.old system.old.state txn removal.now }
+    ensures freed { OnOk result (FreesIn txn removal.now regions.old system.old.state regions.new system.new.state) }
+    ensures left { OnErr result (Left none_of [] txn regions.old system.old regions.new system.new) }
+    ensures others { OthersStay regions.old system.old.state txn regions.new system.new.state }
+    ensures still { state_of system.new.state txn ≡ Some Committed }
+    ensures locks { system.new.state.locks ≡ system.old.state.locks }
+    ensures flags { FlagsStay regions.old regions.new }
+{
+    let place = removal.region as usize;
+    release(&mut regions[place], system);
+    match free(removal, &mut regions[place], system, txn) {
+        Ok(_) => Ok(()),
+        Err(error) => Err(error),
     }
 }

@@ -10,6 +10,7 @@ use Rattle.std.proofs.lemmas.List.{length_push}
 use Rattle.std.proofs.lemmas.Bool.{and_parts, or_cases, both_ways, ltb-true, ne_eqb, cases_lt, agree_below, agree_below_at}
 use Rattle.std.proofs.lemmas.Bool.Decides.{Decides-eqb}
 use Rattle.std.proofs.lemmas.Option.{slice_get_within}
+use Rattle.dali_lists.proofs.Lists.{get_front}
 use Rattle.dali_bytes.specs.Cursor.{IsBytes}
 use Rattle.dali_geometry.specs.Sizes.{Sizes}
 use Rattle.dali_record.specs.declared.operations.Block.{Block}
@@ -27,7 +28,6 @@ use Rattle.dali_record.proofs.Spelled.{record_taken}
 use Rattle.dali_record.proofs.Chains.{any_get}
 use Rattle.dali_history.specs.Recovered.{IsHonestIn}
 use Rattle.dali_history.specs.History.{AreSpelled}
-use Rattle.dali_history.proofs.Places.{get_front}
 use Rattle.dali_history.proofs.Restarts.{is_restart}
 
 -- ---- each transaction
@@ -87,7 +87,7 @@ tells_by_test (r ∷ L) h zero rs ds e =
 tells_by_test (r ∷ L) h (suc n) rs ds e = absurd (none L n (Rattle.std.proofs.lemmas.Bool.or_parts (is_restart r) (list_any is_restart L) h).1 e)
   where
     none : (M : List Record) (k : ℕ) → list_any is_restart M ≡ false → slice_get M k ≡ Some (Restarted rs ds) → ⊥
-    none M k g f = both_ways (list_any is_restart M) g (Rattle.dali_record.proofs.Chains.get_any is_restart M k (Restarted rs ds) f refl)
+    none M k g f = both_ways (list_any is_restart M) g (Rattle.std.proofs.lemmas.Map.Keys.any_passes_from_place is_restart M k (Restarted rs ds) f refl)
 
 -- ---- locks
 abbrev pub is_end : ℕ → Record → Bool
@@ -111,18 +111,8 @@ is_locked [] = true
 is_locked (r ∷ E) = is_locked_by (touch_of r) E && is_locked E
 
 end_is : (t : ℕ) (r : Record) → is_end t r ≡ true → r ≡ Ended t
-end_is t (Format i k) e = absurd (cc)
-end_is t (Begin u) e = absurd (cc)
-end_is t (Forward u b) e = absurd (cc)
-end_is t (Done u c a) e = absurd (cc)
-end_is t (Commit u) e = absurd (cc)
 end_is t (Ended u) e = ap (λ v. Ended v) ((Decides-eqb u t).0 e)
-end_is t (Solo u p b) e = absurd (cc)
-end_is t AuditBegin e = absurd (cc)
-end_is t (AuditClean b) e = absurd (cc)
-end_is t (AuditFail b rs) e = absurd (cc)
-end_is t (Restarted rs ds) e = absurd (cc)
-end_is t (Back u b) e = absurd (cc)
+end_is t _ e = absurd (cc)
 
 ended_before : (a b : Touch) (between rest : List Record) → holds_off a between (Some b) ≡ true → conflicts a b ≡ true → (k : ℕ) × (slice_get (between ++ rest) k ≡ Some (Ended a.owner)) × (k < length between)
 ended_before a b between rest h c =

@@ -3,6 +3,7 @@ use Rattle.std.proofs.Common.{◌≡◌, ℕ, Bool, true, false, cond, List, [],
 use Rattle.std.specs.Prelude.{◌==◌, ◌&&◌, ◌||◌, not, ⊤, is_some, filter_map}
 use Rattle.std.proofs.lemmas.List.{append-nil}
 use Rattle.std.proofs.lemmas.List.Elements.{filter_map-append}
+use mathlib.Core.Bool.{or-false, or-true}
 use Rattle.dali_geometry.specs.Sizes.{Sizes}
 use Rattle.dali_record.specs.declared.operations.Block.{Block}
 use Rattle.dali_record.specs.declared.operations.Pending.{Pending}
@@ -109,37 +110,26 @@ st_between s t (Ending ps) (Solo u p q) b e k h = st_allowed (not (u == t)) _ b 
 st_between s t (Ending ps) AuditBegin b e k h = h
 st_between s t (Ending ps) (AuditClean a) b e k h = h
 st_between s t (Ending ps) (AuditFail a rs) b e k h = h
-st_between s t Over (Forward u q) b e k h = st_allowed _ (Some Over) b e h
-st_between s t Over (Back u q) b e k h = st_allowed _ (Some Over) b e h
-st_between s t Over (Done u c a) b e k h = st_allowed _ (Some Over) b e h
-st_between s t Over (Commit u) b e k h = st_allowed _ (Some Over) b e h
-st_between s t Over (Solo u p q) b e k h = st_allowed _ (Some Over) b e h
 st_between s t Over AuditBegin b e k h = h
 st_between s t Over (AuditClean a) b e k h = h
 st_between s t Over (AuditFail a rs) b e k h = h
+st_between s t Over _ b e k h = st_allowed _ (Some Over) b e h
 
 -- ---- a Begin and an Ended
-or_none : (b : Bool) → (b || false) ≡ b
-or_none true = refl
-or_none false = refl
-
-or_some : (b : Bool) → (b || true) ≡ true
-or_some true = refl
-or_some false = refl
 
 over_ended : (b e : Bool) → (b && not (e || true)) ≡ false
-over_ended true e = ap not (or_some e)
+over_ended true e = ap not (or-true e)
 over_ended false e = refl
 
 same_flags : (o : Option TxnState) (b e : Bool) → Stands o b e → Stands o (b || false) (e || false)
-same_flags o b e h = subst (λ c. Stands o c (e || false)) (sym (or_none b)) (subst (λ c. Stands o b c) (sym (or_none e)) h)
+same_flags o b e h = subst (λ c. Stands o c (e || false)) (sym (or-false b)) (subst (λ c. Stands o b c) (sym (or-false e)) h)
 
 never_now : (c : Bool) (o : Option TxnState) (b e : Bool) → Stands o b e → Stands (allowed (not c) o) (b || c) (e || false)
 never_now true o b e h = tt
 never_now false o b e h = same_flags o b e h
 
 begins_now : (c : Bool) (w : Working) (b e : Bool) → Stands (Some Unbegun) b e → Stands (Some (cond c (Active w) Unbegun)) (b || c) (e || false)
-begins_now true w b e h = (or_some b, or_none e ∙ h.1)
+begins_now true w b e h = (or-true b, or-false e ∙ h.1)
 begins_now false w b e h = same_flags (Some Unbegun) b e h
 
 st_begin : (s : Sizes) (t u : ℕ) (x : TxnState) (b e : Bool) → Stands (Some x) b e → Stands (txn_step s t x (Begin u)) (b || (u == t)) (e || false)
@@ -193,7 +183,7 @@ filter_hits : (h : Record → Option ℕ) (E : List Record) (x : Record) (t : �
 filter_hits h E x t = ap (λ l. has l t) (filter_map-append h E (x ∷ [])) ∙ by_value (h x) refl
   where
     by_value : (o : Option ℕ) → h x ≡ o → has (filter_map h E ++ filter_map h (x ∷ [])) t ≡ (has (filter_map h E) t || hits o t)
-    by_value None e = rw e (ap (λ l. has l t) (append-nil (filter_map h E)) ∙ sym (or_none (has (filter_map h E) t)))
+    by_value None e = rw e (ap (λ l. has l t) (append-nil (filter_map h E)) ∙ sym (or-false (has (filter_map h E) t)))
     by_value (Some u) e = rw e (has_push (filter_map h E) u t)
 
 abbrev pub StandsIn : Sizes → ℕ → List Record → Type 0

@@ -17,7 +17,8 @@ use Rattle.dali_att.specs.declared.state.State.TheVariants.{Committed as Committ
 use Rattle.dali_system.specs.Run.{IsRow, is_committed}
 use Rattle.dali_facts.specs.Facts.{CommittedIsLogged}
 use Rattle.std.proofs.lemmas.List.{append-nil}
-use Rattle.dali_counts.proofs.Lists.{equal, self}
+use Rattle.std.proofs.lemmas.Bool.{eqb-true}
+use Rattle.dali_lists.proofs.Numbers.{eqb-self}
 
 abbrev pub Com : Option TxnState → Bool → Type 0
 Com None c = ⊤
@@ -71,18 +72,14 @@ is_commit t _ = false
 -- a record that is no Commit of t
 com_same : (s : Sizes) (t : ℕ) (x : TxnState) (r : Record) (c : Bool) → is_commit t r ≡ false → Com (Some x) c → Com (txn_step s t x r) c
 unfolding is_commit
-com_same s t Unbegun (Format m n) c e h = h
 com_same s t Unbegun (Begin u) c e h = com_state (u == t) _ Unbegun c h h
 com_same s t Unbegun (Forward u b) c e h = com_allowed _ (Some Unbegun) c h
 com_same s t Unbegun (Done u k a) c e h = com_allowed _ (Some Unbegun) c h
 com_same s t Unbegun (Commit u) c e h = com_allowed _ (Some Unbegun) c h
 com_same s t Unbegun (Ended u) c e h = com_allowed _ (Some Unbegun) c h
 com_same s t Unbegun (Solo u p b) c e h = com_cond (u == t) _ _ c (com_allowed _ (Some Over) c tt) (com_allowed _ (Some Unbegun) c h)
-com_same s t Unbegun AuditBegin c e h = h
-com_same s t Unbegun (AuditClean b) c e h = h
-com_same s t Unbegun (AuditFail b rs) c e h = h
-com_same s t Unbegun (Restarted rs ds) c e h = h
 com_same s t Unbegun (Back u b) c e h = com_allowed _ (Some Unbegun) c h
+com_same s t Unbegun _ c e h = h
 com_same s t (Active w) (Format m n) c e h = h
 com_same s t (Active w) (Begin u) c e h = com_allowed _ (Some (Active w)) c h
 com_same s t (Active w) (Forward u b) c e h = com_cond (u == t) (forward s t w b) (Some (Active w)) c (com_forward s t w b c h) h
@@ -96,37 +93,27 @@ com_same s t (Active w) (AuditFail b rs) c e h = h
 com_same s t (Active w) (Restarted rs ds) c e h = tt
 com_same s t (Active w) (Back u b) c e h = com_cond (u == t) _ (Some (Active w)) c (com_back w b (last_of w.undos) c h) h
 com_same s t (Ending ps) (Format m n) c e h = h
-com_same s t (Ending ps) (Begin u) c e h = com_allowed _ (Some (Ending ps)) c h
-com_same s t (Ending ps) (Forward u b) c e h = com_allowed _ (Some (Ending ps)) c h
-com_same s t (Ending ps) (Done u k a) c e h = com_allowed _ (Some (Ending ps)) c h
-com_same s t (Ending ps) (Commit u) c e h = com_allowed _ (Some (Ending ps)) c h
 com_same s t (Ending ps) (Ended u) c e h = com_cond (u == t) _ (Some (Ending ps)) c (com_allowed _ (Some Over) c tt) h
 com_same s t (Ending ps) (Solo u p b) c e h = com_allowed (not (u == t)) (cond (p == t) (freed b ps) (Some (Ending ps))) c (com_cond (p == t) (freed b ps) (Some (Ending ps)) c (com_freed b ps c h) h)
 com_same s t (Ending ps) AuditBegin c e h = h
 com_same s t (Ending ps) (AuditClean b) c e h = h
 com_same s t (Ending ps) (AuditFail b rs) c e h = h
 com_same s t (Ending ps) (Restarted rs ds) c e h = tt
-com_same s t (Ending ps) (Back u b) c e h = com_allowed _ (Some (Ending ps)) c h
+com_same s t (Ending ps) _ c e h = com_allowed _ (Some (Ending ps)) c h
 com_same s t Over (Format m n) c e h = tt
-com_same s t Over (Begin u) c e h = com_allowed _ (Some Over) c tt
-com_same s t Over (Forward u b) c e h = com_allowed _ (Some Over) c tt
-com_same s t Over (Done u k a) c e h = com_allowed _ (Some Over) c tt
-com_same s t Over (Commit u) c e h = com_allowed _ (Some Over) c tt
-com_same s t Over (Ended u) c e h = com_allowed _ (Some Over) c tt
-com_same s t Over (Solo u p b) c e h = com_allowed _ (Some Over) c tt
 com_same s t Over AuditBegin c e h = tt
 com_same s t Over (AuditClean b) c e h = tt
 com_same s t Over (AuditFail b rs) c e h = tt
 com_same s t Over (Restarted rs ds) c e h = tt
-com_same s t Over (Back u b) c e h = com_allowed _ (Some Over) c tt
+com_same s t Over _ c e h = com_allowed _ (Some Over) c tt
 
 -- a Commit of t
 com_commit : (s : Sizes) (t : ℕ) (o : Option TxnState) → Com (txn_next s t o (Commit t)) true
 com_commit s t None = tt
-com_commit s t (Some Unbegun) = rw (self t) tt
-com_commit s t (Some (Active w)) = rw (self t) (com_allowed (is_level w) (Some (Ending (dead_of w.undos))) true refl)
-com_commit s t (Some (Ending ps)) = rw (self t) tt
-com_commit s t (Some Over) = rw (self t) tt
+com_commit s t (Some Unbegun) = rw (eqb-self t) tt
+com_commit s t (Some (Active w)) = rw (eqb-self t) (com_allowed (is_level w) (Some (Ending (dead_of w.undos))) true refl)
+com_commit s t (Some (Ending ps)) = rw (eqb-self t) tt
+com_commit s t (Some Over) = rw (eqb-self t) tt
 
 com_next : (s : Sizes) (t : ℕ) (o : Option TxnState) (r : Record) (c : Bool) → is_commit t r ≡ false → Com o c → Com (txn_next s t o r) c
 com_next s t None r c e h = tt
@@ -171,18 +158,8 @@ commits_push L x t = ap (λ l. has l t) (committed_push L x) ∙ by_kind x
 
 is_its_commit : (t : ℕ) (x : Record) → is_commit t x ≡ true → x ≡ Commit t
 unfolding is_commit
-is_its_commit t (Commit u) e = ap Commit (equal u t e)
-is_its_commit t (Format m n) e = absurd (cc)
-is_its_commit t (Begin u) e = absurd (cc)
-is_its_commit t (Forward u b) e = absurd (cc)
-is_its_commit t (Done u k a) e = absurd (cc)
-is_its_commit t (Ended u) e = absurd (cc)
-is_its_commit t (Solo u p b) e = absurd (cc)
-is_its_commit t AuditBegin e = absurd (cc)
-is_its_commit t (AuditClean b) e = absurd (cc)
-is_its_commit t (AuditFail b rs) e = absurd (cc)
-is_its_commit t (Restarted rs ds) e = absurd (cc)
-is_its_commit t (Back u b) e = absurd (cc)
+is_its_commit t (Commit u) e = ap Commit (eqb-true u t e)
+is_its_commit t _ e = absurd (cc)
 
 pub com_all : (s : Sizes) (t : ℕ) (L : List Record) → Com (txn_state s t L) (has (committed L) t)
 com_all s t = by_push (λ L. Com (txn_state s t L) (has (committed L) t)) refl (λ L x here. subst (λ o. Com o (has (committed (L ++ x ∷ [])) t)) (sym (txn_state_push s t L x)) (subst (λ c. Com (txn_next s t (txn_state s t L) x) c) (sym (commits_push L x t)) (by_commit L x here (is_commit t x) refl)))

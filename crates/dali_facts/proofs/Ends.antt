@@ -2,6 +2,8 @@
 use Rattle.std.proofs.Common.{◌≡◌, ℕ, Bool, true, false, cond, List, [], ◌∷◌, ◌++◌, Option, Some, None, refl, ap, sym, subst, ◌∙◌, inl, inr, arith}
 use Rattle.std.specs.Prelude.{◌==◌, ◌||◌, not, IsSome, is_some}
 use Rattle.std.proofs.lemmas.Slice.Eq.{bytes_eq-Decides}
+use Rattle.std.proofs.lemmas.Bool.{eqb-true}
+use Rattle.dali_lists.proofs.Numbers.{eqb-self}
 use Rattle.dali_geometry.specs.Sizes.{Sizes}
 use Rattle.dali_record.specs.declared.operations.Block.{Block}
 use Rattle.dali_record.specs.declared.operations.Pending.{Pending}
@@ -11,8 +13,8 @@ use Rattle.dali_record.specs.declared.records.Record.{Record}
 use Rattle.dali_record.specs.declared.records.Record.TheVariants.{Format, Begin, Forward, Done, Commit, Ended, Solo, AuditBegin, AuditClean, AuditFail, Restarted, Back}
 use Rattle.dali_record.specs.Calls.{Fresh}
 use Rattle.dali_record.specs.Legal.{Working, TxnState, Unbegun, Active, Committed, Over, Onward, txn_state, txn_next, txn_step, allowed, freed, concerns, is_level, is_none_left, is_of, same_op, dead_of, freeing_op}
-use Rattle.dali_record.proofs.Pushes.{txn_state_push}
-use Rattle.dali_counts.proofs.Lists.{self, equal, or_false}
+use Rattle.dali_record.proofs.Pushes.{txn_state_push, txn_step-other}
+use Rattle.dali_record.proofs.Moves.{none_left}
 use Rattle.dali_att.specs.declared.state.State.TheVariants.{Committed as RowCommitted}
 use Rattle.dali_system.specs.State.{TxnRow, CoreState, row_of, state_of, state_in}
 use Rattle.dali_system.specs.Run.{Bases, IsRow, RunsOn}
@@ -31,7 +33,7 @@ begin_follows s L t e = record { working = fresh; at_work = at_work; undos = ref
     fresh = record { undos = []; mark = 0; progress = Fresh; way = Onward }
 
     at_work : AtWork s (L ++ Begin t ∷ []) t fresh
-    at_work = stepped s t L (Begin t) Unbegun e ∙ ap (λ c. let o : Option TxnState = Some (cond c (Active fresh) Unbegun) in o) (self t)
+    at_work = stepped s t L (Begin t) Unbegun e ∙ ap (λ c. let o : Option TxnState = Some (cond c (Active fresh) Unbegun) in o) (eqb-self t)
 
 pub next_is_unbegun : NextIsUnbegun
 next_is_unbegun bases L c run = run.counts.fresh c.system.next (omega (arith, run.counts.next))
@@ -39,49 +41,49 @@ next_is_unbegun bases L c run = run.counts.fresh c.system.next (omega (arith, ru
 pub commit_follows : CommitFollows
 commit_follows s L t w e level =
     stepped s t L (Commit t) (Active w) e
-    ∙ (ap (λ c. cond c (allowed (is_level w) (Some (Committed (dead_of w.undos)))) (Some (Active w))) (self t) ∙ ap (λ c. allowed c (Some (Committed (dead_of w.undos)))) level)
+    ∙ (ap (λ c. cond c (allowed (is_level w) (Some (Committed (dead_of w.undos)))) (Some (Active w))) (eqb-self t) ∙ ap (λ c. allowed c (Some (Committed (dead_of w.undos)))) level)
 
 -- ---- what frees for good
 same_freeing : (u : Undo) → same_op (freeing_op u) (freeing_op u) ≡ true
-same_freeing (UndoFreeCell c) = self c
-same_freeing (UndoReviveCell c) = self c
-same_freeing (UndoRestore c n vs) = rw (self c, self n, (bytes_eq-Decides vs vs).1 refl) refl
-same_freeing (UndoFreeEntry e) = self e
-same_freeing (UndoReviveEntry e) = self e
+same_freeing (UndoFreeCell c) = eqb-self c
+same_freeing (UndoReviveCell c) = eqb-self c
+same_freeing (UndoRestore c n vs) = rw (eqb-self c, eqb-self n, (bytes_eq-Decides vs vs).1 refl) refl
+same_freeing (UndoFreeEntry e) = eqb-self e
+same_freeing (UndoReviveEntry e) = eqb-self e
 
 frees_it : (u : Pending) (b : Block) → IsFreed u b → is_of (freeing_op u.undo) u b ≡ true
-frees_it u b f = rw (f.key, f.region, f.op, self u.key, self u.region, same_freeing u.undo) refl
+frees_it u b f = rw (f.key, f.region, f.op, eqb-self u.key, eqb-self u.region, same_freeing u.undo) refl
 
 -- one that is committed has a record, and so another number than one without
 apart : (s : Sizes) (L : List Record) (p t : ℕ) (dead : List Pending) → txn_state s p L ≡ Some (Committed dead) → txn_state s t L ≡ Some Unbegun → (t == p) ≡ false
 apart s L p t dead e f = by_test (t == p) refl
   where
     by_test : (c : Bool) → (t == p) ≡ c → c ≡ false
-    by_test true q = absurd (let g : Some (Committed dead) ≡ Some Unbegun = sym e ∙ (ap (λ n. txn_state s n L) (sym (equal t p q)) ∙ f) in cc)
+    by_test true q = absurd (let g : Some (Committed dead) ≡ Some Unbegun = sym e ∙ (ap (λ n. txn_state s n L) (sym (eqb-true t p q)) ∙ f) in cc)
     by_test false q = refl
 
 pub solo_follows : SoloFollows
 solo_follows s L p t u us b e f is = record {
   left = stepped s p L (Solo t p b) (Committed (u ∷ us)) e
       ∙ (ap (λ c. allowed (not c) (cond (p == p) (freed b (u ∷ us)) (Some (Committed (u ∷ us))))) (apart s L p t (u ∷ us) e f)
-      ∙ (ap (λ c. cond c (freed b (u ∷ us)) (Some (Committed (u ∷ us)))) (self p)
+      ∙ (ap (λ c. cond c (freed b (u ∷ us)) (Some (Committed (u ∷ us)))) (eqb-self p)
       ∙ ap (λ c. allowed c (Some (Committed us))) (frees_it u b is)));
   over = stepped s t L (Solo t p b) Unbegun f
-      ∙ (ap (λ c. cond c (allowed (not (p == t)) (Some Over)) (allowed (not (p == t)) (Some Unbegun))) (self t)
+      ∙ (ap (λ c. cond c (allowed (not (p == t)) (Some Over)) (allowed (not (p == t)) (Some Unbegun))) (eqb-self t)
       ∙ ap (λ c. allowed (not c) (Some Over)) (other (p == t) refl));
 }
   where
     other : (c : Bool) → (p == t) ≡ c → c ≡ false
-    other true q = absurd (let g : Some Unbegun ≡ Some (Committed (u ∷ us)) = sym f ∙ (ap (λ n. txn_state s n L) (sym (equal p t q)) ∙ e) in cc)
+    other true q = absurd (let g : Some Unbegun ≡ Some (Committed (u ∷ us)) = sym f ∙ (ap (λ n. txn_state s n L) (sym (eqb-true p t q)) ∙ e) in cc)
     other false q = refl
 
 pub end_follows : EndFollows
-end_follows s L t e = stepped s t L (Ended t) (Committed []) e ∙ ap (λ c. cond c (Some Over) (Some (Committed []))) (self t)
+end_follows s L t e = stepped s t L (Ended t) (Committed []) e ∙ ap (λ c. cond c (Some Over) (Some (Committed []))) (eqb-self t)
 
 pub empty_ends : EmptyEnds
 empty_ends s L t w e none =
     stepped s t L (Ended t) (Active w) e
-    ∙ (ap (λ c. cond c (allowed (is_none_left w.undos) (Some Over)) (Some (Active w))) (self t) ∙ ap (λ us. allowed (is_none_left us) (Some Over)) none)
+    ∙ (ap (λ c. cond c (allowed (is_none_left w.undos) (Some Over)) (Some (Active w))) (eqb-self t) ∙ ap (λ us. allowed (is_none_left us) (Some Over)) none)
 
 -- ---- nothing else
 allowed_true : (c : Bool) (o : Option TxnState) → IsSome (allowed c o) → (c ≡ true) × IsSome o
@@ -91,10 +93,6 @@ allowed_true false o h = absurd (cc)
 never : {A : Type 0} (c : Bool) (o : Option TxnState) → c ≡ true → IsSome (allowed (not c) o) → A
 never true o e h = absurd (cc)
 never false o e h = absurd (cc)
-
-none_is : (dead : List Pending) → is_none_left dead ≡ true → dead ≡ []
-none_is [] e = refl
-none_is (u ∷ us) e = absurd (cc)
 
 first_is : (t n : ℕ) (b : Block) (dead : List Pending) → IsSome (freed b dead) → FreesFirst t dead (Solo n t b)
 first_is t n b [] h = absurd (cc)
@@ -107,14 +105,14 @@ after_commit s t dead (Forward u b) e k = never (u == t) (Some (Committed dead))
 after_commit s t dead (Done u c a) e k = never (u == t) (Some (Committed dead)) e k
 after_commit s t dead (Commit u) e k = never (u == t) (Some (Committed dead)) e k
 after_commit s t dead (Ended u) e k =
-    let same : u ≡ t = equal u t e in
+    let same : u ≡ t = eqb-true u t e in
     let there : IsSome (allowed (is_none_left dead) (Some Over)) = subst (λ c. IsSome (cond c (allowed (is_none_left dead) (Some Over)) (Some (Committed dead)))) e k in
-    inl (ap Ended same, none_is dead (allowed_true (is_none_left dead) (Some Over) there).0)
+    inl (ap Ended same, none_left dead (allowed_true (is_none_left dead) (Some Over) there).0)
 after_commit s t dead (Solo u p b) e k = by_number (u == t) (p == t) refl e k
   where
     by_number : (c d : Bool) → (p == t) ≡ d → (c || d) ≡ true → IsSome (allowed (not c) (cond d (freed b dead) (Some (Committed dead)))) → MayFollowCommit t dead (Solo u p b)
     by_number true d q f h = absurd (cc)
-    by_number false true q f h = inr (inl (subst (λ n. FreesFirst t dead (Solo u n b)) (sym (equal p t q)) (first_is t u b dead h)))
+    by_number false true q f h = inr (inl (subst (λ n. FreesFirst t dead (Solo u n b)) (sym (eqb-true p t q)) (first_is t u b dead h)))
     by_number false false q f h = absurd (cc)
 after_commit s t dead AuditBegin e k = absurd (cc)
 after_commit s t dead (AuditClean b) e k = absurd (cc)
@@ -126,62 +124,13 @@ pub only_these : OnlyThese
 only_these s L t dead x e concerned next = after_commit s t dead x concerned (subst (λ o. IsSome o) (stepped s t L x (Committed dead) e) next)
 
 -- ---- others
-other_step : (s : Sizes) (t : ℕ) (y : TxnState) (x : Record) → concerns t x ≡ false → txn_step s t y x ≡ Some y
-other_step s t Unbegun (Format i h) e = refl
-other_step s t Unbegun (Begin u) e = rw e refl
-other_step s t Unbegun (Forward u b) e = rw e refl
-other_step s t Unbegun (Done u c a) e = rw e refl
-other_step s t Unbegun (Commit u) e = rw e refl
-other_step s t Unbegun (Ended u) e = rw e refl
-other_step s t Unbegun (Solo u p b) e = let w = or_false (u == t) (p == t) e in rw (w.0, w.1) refl
-other_step s t Unbegun AuditBegin e = refl
-other_step s t Unbegun (AuditClean b) e = refl
-other_step s t Unbegun (AuditFail b rs) e = refl
-other_step s t Unbegun (Restarted rs ds) e = absurd (cc)
-other_step s t Unbegun (Back u b) e = rw e refl
-other_step s t (Active w) (Format i h) e = refl
-other_step s t (Active w) (Begin u) e = rw e refl
-other_step s t (Active w) (Forward u b) e = rw e refl
-other_step s t (Active w) (Done u c a) e = rw e refl
-other_step s t (Active w) (Commit u) e = rw e refl
-other_step s t (Active w) (Ended u) e = rw e refl
-other_step s t (Active w) (Solo u p b) e = let f = or_false (u == t) (p == t) e in rw (f.0, f.1) refl
-other_step s t (Active w) AuditBegin e = refl
-other_step s t (Active w) (AuditClean b) e = refl
-other_step s t (Active w) (AuditFail b rs) e = refl
-other_step s t (Active w) (Restarted rs ds) e = absurd (cc)
-other_step s t (Active w) (Back u b) e = rw e refl
-other_step s t (Committed ps) (Format i h) e = refl
-other_step s t (Committed ps) (Begin u) e = rw e refl
-other_step s t (Committed ps) (Forward u b) e = rw e refl
-other_step s t (Committed ps) (Done u c a) e = rw e refl
-other_step s t (Committed ps) (Commit u) e = rw e refl
-other_step s t (Committed ps) (Ended u) e = rw e refl
-other_step s t (Committed ps) (Solo u p b) e = let w = or_false (u == t) (p == t) e in rw (w.0, w.1) refl
-other_step s t (Committed ps) AuditBegin e = refl
-other_step s t (Committed ps) (AuditClean b) e = refl
-other_step s t (Committed ps) (AuditFail b rs) e = refl
-other_step s t (Committed ps) (Restarted rs ds) e = absurd (cc)
-other_step s t (Committed ps) (Back u b) e = rw e refl
-other_step s t Over (Format i h) e = refl
-other_step s t Over (Begin u) e = rw e refl
-other_step s t Over (Forward u b) e = rw e refl
-other_step s t Over (Done u c a) e = rw e refl
-other_step s t Over (Commit u) e = rw e refl
-other_step s t Over (Ended u) e = rw e refl
-other_step s t Over (Solo u p b) e = let w = or_false (u == t) (p == t) e in rw (w.0, w.1) refl
-other_step s t Over AuditBegin e = refl
-other_step s t Over (AuditClean b) e = refl
-other_step s t Over (AuditFail b rs) e = refl
-other_step s t Over (Restarted rs ds) e = absurd (cc)
-other_step s t Over (Back u b) e = rw e refl
 
 pub others_leave : OthersLeave
 others_leave s L t x e = txn_state_push s t L x ∙ by_state (txn_state s t L)
   where
     by_state : (o : Option TxnState) → txn_next s t o x ≡ o
     by_state None = refl
-    by_state (Some y) = other_step s t y x e
+    by_state (Some y) = txn_step-other s t y x e
 
 -- ---- the steps of a run
 is_next : (s : Sizes) (L : List Record) (t : ℕ) (x : Record) (y : TxnState) → txn_state s t (L ++ x ∷ []) ≡ Some y → IsNext s L t x

@@ -1,6 +1,7 @@
 -- A run's table, locks and counts in words of the log; and a legal log cut off.
 use Rattle.std.proofs.Common.{◌≡◌, ℕ, Bool, true, false, List, [], Option, Some, None, refl, ap, sym, subst, ◌∙◌, ◌⊎◌, inl, inr, ⊎_elim}
 use Rattle.std.specs.Prelude.{IsSome, is_some, ◌==◌, not, slice_get}
+use Rattle.dali_lists.proofs.Numbers.{eqb-self}
 use Rattle.dali_geometry.specs.Sizes.{Sizes}
 use Rattle.dali_record.specs.declared.records.Record.{Record}
 use Rattle.dali_record.specs.declared.records.Record.TheVariants.{Format, Begin, Forward, Done, Commit, Ended, Solo, AuditBegin, AuditClean, AuditFail, Restarted, Back}
@@ -16,7 +17,6 @@ use Rattle.dali_system.specs.Run.{IsRow, is_committed}
 use Rattle.dali_facts.specs.Facts.{HoldsItsKeys, HasItsUndos, HasCounts}
 use Rattle.dali_system.proofs.OneMore.{is_inside, step_inside}
 use Rattle.dali_counts.proofs.Tallies.{tallies, next_some, numbers_drawn}
-use Rattle.dali_counts.proofs.Lists.{self}
 
 -- ---- Ended ends a transaction for good
 if_allowed : (c : Bool) (x : TxnState) → IsSome (allowed c (Some x)) → allowed c (Some x) ≡ Some x
@@ -25,17 +25,11 @@ if_allowed false x h = absurd (cc)
 
 over_stays : (t : ℕ) (x : Record) → IsSome (over_step t x) → over_step t x ≡ Some Over
 over_stays t (Format i h) k = refl
-over_stays t (Begin u) k = if_allowed _ Over k
-over_stays t (Forward u b) k = if_allowed _ Over k
-over_stays t (Done u c a) k = if_allowed _ Over k
-over_stays t (Commit u) k = if_allowed _ Over k
-over_stays t (Ended u) k = if_allowed _ Over k
-over_stays t (Solo u p b) k = if_allowed _ Over k
 over_stays t AuditBegin k = refl
 over_stays t (AuditClean b) k = refl
 over_stays t (AuditFail b rs) k = refl
 over_stays t (Restarted rs ds) k = refl
-over_stays t (Back u b) k = if_allowed _ Over k
+over_stays t _ k = if_allowed _ Over k
 
 never : (c : Bool) (x : TxnState) → c ≡ true → IsSome (allowed (not c) (Some x)) → ⊥
 never true x e h = cc
@@ -43,10 +37,10 @@ never false x e h = cc
 
 ends : (s : Sizes) (t : ℕ) (o : Option TxnState) → IsSome (txn_next s t o (Ended t)) → txn_next s t o (Ended t) ≡ Some Over
 ends s t None h = absurd (cc)
-ends s t (Some Unbegun) h = absurd (never (t == t) Unbegun (self t) h)
-ends s t (Some (Active w)) h = let h2 = rw (self t) at h in rw (self t) (if_allowed (is_none_left w.undos) Over h2)
-ends s t (Some (Ending ps)) h = let h2 = rw (self t) at h in rw (self t) (if_allowed (is_none_left ps) Over h2)
-ends s t (Some Over) h = absurd (never (t == t) Over (self t) h)
+ends s t (Some Unbegun) h = absurd (never (t == t) Unbegun (eqb-self t) h)
+ends s t (Some (Active w)) h = let h2 = rw (eqb-self t) at h in rw (eqb-self t) (if_allowed (is_none_left w.undos) Over h2)
+ends s t (Some (Ending ps)) h = let h2 = rw (eqb-self t) at h in rw (eqb-self t) (if_allowed (is_none_left ps) Over h2)
+ends s t (Some Over) h = absurd (never (t == t) Over (eqb-self t) h)
 
 over_next : (s : Sizes) (t : ℕ) (o : Option TxnState) (x : Record) → o ≡ Some Over → IsSome (txn_next s t o x) → txn_next s t o x ≡ Some Over
 over_next s t o x e h = let h2 : IsSome (txn_next s t (Some Over) x) = subst (λ p. IsSome (txn_next s t p x)) e h in ap (λ p. txn_next s t p x) e ∙ over_stays t x h2
@@ -85,7 +79,7 @@ ended_over s t = by_push (EndsIt s t) (λ h k e. absurd (cc)) (λ L x here h k e
         (λ new. subst (λ z. txn_next s t (txn_state s t L) z ≡ Some Over) (sym new) (ends s t (txn_state s t L) (subst (λ z. IsSome (txn_next s t (txn_state s t L) z)) new h)))
         (in_cut (cut L) x k e)
 
-over_row : (o : Option TxnState) (row : Option TxnRow) → IsRow o row → o ≡ Some Over → row ≡ None
+pub over_row : (o : Option TxnState) (row : Option TxnRow) → IsRow o row → o ≡ Some Over → row ≡ None
 over_row None row r e = absurd r
 over_row (Some Unbegun) row r e = r
 over_row (Some (Active w)) row r e = absurd (cc)

@@ -1,21 +1,19 @@
 -- Where the state of a transaction's row comes from, step by step.
-use Rattle.std.proofs.Common.{◌≡◌, ℕ, Bool, true, false, cond, List, Option, Some, None, refl, ap, sym, subst, ◌∙◌, inl, inr, arith}
+use Rattle.std.proofs.Common.{◌≡◌, ℕ, Bool, true, false, cond, List, Option, Some, None, refl, ap, sym, subst, ◌∙◌, inl, inr}
 use Rattle.std.specs.Prelude.{◌==◌}
 use Rattle.std.specs.FinMap.{get}
 use Rattle.std.specs.Option.{option_map}
+use Rattle.std.proofs.lemmas.Bool.{eqb-true}
+use Rattle.dali_lists.proofs.Options.{some_same}
 use Rattle.dali_record.specs.declared.operations.Pending.{Pending}
-use Rattle.dali_record.specs.declared.records.Record.{Record}
-use Rattle.dali_record.specs.Legal.{TxnState}
 use Rattle.dali_att.specs.declared.state.State.{State}
 use Rattle.dali_att.specs.declared.state.State.TheVariants.{Live, Dead, Cleaning, Committed}
 use Rattle.dali_att.specs.Table.{Table, fresh_row, with_state}
-use Rattle.dali_counts.proofs.Lists.{equal, some_same}
 use Rattle.dali_system.specs.State.{TxnRow, CoreState, row_of, state_in, state_of}
-use Rattle.dali_system.specs.Run.{Bases, IsRow, RunsOn}
 use Rattle.dali_system.specs.Steps.{committed_row}
-use Rattle.dali_system.specs.Courses.{Begins, Operates, TakesBack, Frees, Answers, Commits, Ends, AuditBegins, AuditEnds, Locks, Refuses, OnRegion, Passes, Dies, Claims, GivesBack, Recovers, Stops, Checkpoints, Takes, Flushes, Faults, ReadFails}
+use Rattle.dali_system.specs.Courses.{Begins, Operates, TakesBack, Answers, Commits, Ends, AuditEnds, OnRegion, Dies, Claims, GivesBack, Recovers, Stops, Checkpoints, Takes, Flushes, ReadFails}
 use Rattle.dali_system.proofs.Tables.{Puts, with_undos, changed, added, ended, kept, dropped}
-use Rattle.dali_system.proofs.WholeSteps.{commits_live}
+use Rattle.dali_system.proofs.WholeSteps.{commits_live, none_yet}
 use Rattle.dali_facts.specs.States.{CameFrom, StatesComeFrom}
 
 abbrev Comes : Option TxnRow → Option TxnRow → Type 0
@@ -35,7 +33,7 @@ one_row : (old new : Table Pending) (t : ℕ) (row : Option TxnRow) → Puts old
 one_row old new t row puts comes u = subst (λ (o : Option TxnRow). Comes (get old u) o) (sym (puts u)) (by_test (t == u) refl)
   where
     by_test : (b : Bool) → (t == u) ≡ b → Comes (get old u) (cond b row (get old u))
-    by_test true e = subst (λ v. Comes (get old v) row) (equal t u e) comes
+    by_test true e = subst (λ v. Comes (get old v) row) (eqb-true t u e) comes
     by_test false e = comes_same (get old u) (get old u) refl
 
 undos_only : (f : List Pending → List Pending) (o : Option TxnRow) → Comes o (with_undos f o)
@@ -63,10 +61,6 @@ turns : (o : Option TxnRow) (old new : State) → state_in o ≡ Some old → Ca
 turns None old new was may st e = absurd (cc)
 turns (Some row) old new was may st e = subst (λ (p : Option State). CameFrom p st) (sym was) (subst (CameFrom (Some old)) (some_same e) may)
 
--- the next number has no row
-none_yet : (bases : Bases) (L : List Record) (c : CoreState) → RunsOn bases L c → row_of c.system c.system.next ≡ None
-none_yet bases L c run = subst (λ (o : Option TxnState). IsRow o (row_of c.system c.system.next)) (run.counts.fresh c.system.next (omega (arith, run.counts.next))) (run.table c.system.next)
-
 same_table : (c d : CoreState) (t : ℕ) → d.system.table ≡ c.system.table → Comes (row_of c.system t) (row_of d.system t)
 same_table c d t same = comes_same (row_of c.system t) (row_of d.system t) (ap (λ (z : Table Pending). state_in (get z t)) same)
 
@@ -80,16 +74,11 @@ pub states_come_from : StatesComeFrom
 states_come_from bases L M c d Begins run s t = one_changed c d _ c.system.next _ t (ap table_of s.1.1) (added c.system.table c.system.next fresh_row) (begins (row_of c.system c.system.next) (none_yet bases L c run))
 states_come_from bases L M c d (Operates u b) run s t = one_changed c d _ u _ t (ap table_of s.3.1) (kept c.system.table u b b.undo) (undos_only _ (row_of c.system u))
 states_come_from bases L M c d (TakesBack u b) run s t = one_changed c d _ u _ t (ap table_of s.2.1) (dropped c.system.table u) (undos_only _ (row_of c.system u))
-states_come_from bases L M c d (Frees p b) run s t = same_table c d t (ap table_of s.2.1)
 states_come_from bases L M c d (Answers u k a) run s t = same_table c d t (ap table_of s.3.1)
 states_come_from bases L M c d (Commits u) run s t = one_changed c d _ u _ t (ap table_of s.2.1) (changed c.system.table u committed_row) (commits (row_of c.system u) (commits_live (state_of c.system u) u s.1.by))
 states_come_from bases L M c d (Ends u) run s t = one_changed c d _ u _ t (ap table_of s.2.1) (ended c.system.table u) (ends (row_of c.system u))
-states_come_from bases L M c d AuditBegins run s t = same_table c d t (ap table_of s.2.1)
 states_come_from bases L M c d (AuditEnds b found) run s t = same_table c d t (ap table_of s.1.1)
-states_come_from bases L M c d (Locks u k m) run s t = same_table c d t (ap table_of s.2.1)
-states_come_from bases L M c d (Refuses u k m h) run s t = same_table c d t (ap table_of s.2.1)
 states_come_from bases L M c d (OnRegion r x) run s t = same_table c d t (ap table_of s.3.1)
-states_come_from bases L M c d (Passes b r) run s t = same_table c d t (ap table_of s.2.1)
 states_come_from bases L M c d (Dies u o) run s t = one_changed c d _ u _ t (ap table_of s.1.1) (changed c.system.table u (with_state (Dead o))) (turns (row_of c.system u) Live (Dead o) s.0.lives (inr (inl refl)))
 states_come_from bases L M c d (Claims u) run s t = one_changed c d _ u _ t (ap table_of s.2.1) (changed c.system.table u (with_state (Cleaning s.0))) (turns (row_of c.system u) (Dead s.0) (Cleaning s.0) s.1 (inr refl))
 states_come_from bases L M c d (GivesBack u o) run s t = one_changed c d _ u _ t (ap table_of s.1.1) (changed c.system.table u (with_state (Dead o))) (turns (row_of c.system u) (Cleaning s.0.was) (Dead o) s.0.claimed (inr (inr (s.0.was, refl))))
@@ -98,5 +87,5 @@ states_come_from bases L M c d Stops run s t = same_table c d t (ap table_of s.1
 states_come_from bases L M c d (Checkpoints b) run s t = same_table c d t (ap table_of s.1.1)
 states_come_from bases L M c d Takes run s t = same_table c d t (ap table_of s.1)
 states_come_from bases L M c d Flushes run s t = same_table c d t (ap table_of s.1.1)
-states_come_from bases L M c d (Faults n) run s t = same_table c d t (ap table_of s.2.1)
 states_come_from bases L M c d (ReadFails n) run s t = same_table c d t (ap table_of s.1.1)
+states_come_from bases L M c d _ run s t = same_table c d t (ap table_of s.2.1)

@@ -1,9 +1,10 @@
 -- What a run tells of refused requests, of the stop, and of the regions.
 use Rattle.std.proofs.Common.{◌≡◌, ℕ, List, [], ◌∷◌, take, Option, Some, None, refl, ap, sym, ◌∙◌, inl, inr, ⊎_elim}
-use Rattle.std.specs.Prelude.{IsSome, fold, slice_index}
+use Rattle.std.specs.Prelude.{fold, slice_index}
+use Rattle.dali_lists.proofs.Options.{some_of}
 use Rattle.dali_geometry.specs.Sizes.{Sizes}
 use Rattle.dali_record.specs.declared.records.Record.{Record}
-use Rattle.dali_record.specs.declared.records.Record.TheVariants.{Format, Begin, Forward, Done, Commit, Ended, Solo, AuditBegin, AuditClean, AuditFail, Restarted, Back}
+use Rattle.dali_record.specs.declared.records.Record.TheVariants.{Format}
 use Rattle.dali_record.specs.Log.{begun, ended}
 use Rattle.dali_record.specs.Epochs.{last_epoch, failing, failing_step}
 use Rattle.dali_record.specs.Damage.{has}
@@ -19,9 +20,6 @@ use Rattle.dali_facts.proofs.Begun.{stands, running_stands, holds_the_begun}
 
 -- ---- refused requests
 -- the rules of a beginning of the log
-some_rules : (o : Option Rules) → IsSome o → (g : Rules) × (o ≡ Some g)
-some_rules None h = absurd (cc)
-some_rules (Some g) h = (g, refl)
 
 pub refusals_tell : RefusalsTell
 refusals_tell bases L c run n f at = record {
@@ -42,22 +40,12 @@ refusals_tell bases L c run n f at = record {
     old = run.locks.refused n f at
 
     rules : (g : Rules) × (rules_state s front ≡ Some g)
-    rules = some_rules (rules_state s front) (prefix_legal s L f.at run.log.legal).rules
+    rules = some_of (rules_state s front) (prefix_legal s L f.at run.log.legal).rules
 
 -- ---- the stop
 same_step : (rs : List ℕ) (x : Record) → first_of (failing_step rs x) ≡ fail_step (first_of rs) x
 same_step rs (Format i h) = refl
-same_step rs (Begin t) = refl
-same_step rs (Forward t b) = refl
-same_step rs (Done t k a) = refl
-same_step rs (Commit t) = refl
-same_step rs (Ended t) = refl
-same_step rs (Solo t p b) = refl
-same_step rs AuditBegin = refl
-same_step rs (AuditClean b) = refl
-same_step rs (AuditFail b fs) = refl
-same_step rs (Restarted ts ds) = refl
-same_step rs (Back t b) = refl
+same_step rs _ = refl
 
 first_failing : (rs : List ℕ) (E : List Record) → first_of (fold failing_step rs E) ≡ fold fail_step (first_of rs) E
 first_failing rs [] = refl

@@ -1,9 +1,10 @@
 -- Each undo of a row is that of a block of its transaction in the present epoch.
-use Rattle.std.proofs.Common.{◌≡◌, ℕ, Bool, true, false, cond, List, [], ◌∷◌, ◌++◌, Option, Some, None, refl, ap, sym, subst, ◌∙◌, zero, suc}
+use Rattle.std.proofs.Common.{◌≡◌, ℕ, Bool, true, false, cond, List, [], ◌∷◌, ◌++◌, Option, Some, None, refl, ap, sym, subst, ◌∙◌}
 use Rattle.std.specs.Prelude.{◌==◌, ◌&&◌, not, ⊤, IsSome, length, slice_get}
 use Rattle.std.specs.List.{AllByRecursion}
 use Rattle.std.specs.Option.{option_map_or}
 use Rattle.std.proofs.lemmas.Bool.{and_parts, eqb-true}
+use Rattle.dali_lists.proofs.Members.{all_append, all_weaker}
 use Rattle.dali_geometry.specs.Sizes.{Sizes}
 use Rattle.dali_record.specs.declared.operations.Block.{Block}
 use Rattle.dali_record.specs.declared.operations.Pending.{Pending}
@@ -20,6 +21,7 @@ use Rattle.dali_record.proofs.Ends.{by_push}
 use Rattle.dali_record.proofs.Pushes.{txn_state_push, rules_state_push, cut_push, touch_old, touch_new, touch_within}
 use Rattle.dali_record.proofs.EpochRules.{format_first, EachTouch, IsOnKind, rules_kinds, touches_in_epochs}
 use Rattle.dali_record.proofs.Undos.{undo_changes}
+use Rattle.dali_record.proofs.Fronts.{touch_get}
 use Rattle.dali_att.specs.Table.{undos_at}
 use Rattle.dali_system.specs.State.{TxnRow, CoreState, row_of, lock_of}
 use Rattle.dali_system.specs.Run.{Bases, RunsOn, IsRow, covers, holds}
@@ -59,11 +61,7 @@ comes_old E x t (Some (Active w)) h = all_old E x t w.undos h
 comes_old E x t (Some (Ending ps)) h = tt
 comes_old E x t (Some Over) h = tt
 
-all_joined : (Q : Pending → Type 0) (us vs : List Pending) → AllByRecursion Q us → AllByRecursion Q vs → AllByRecursion Q (us ++ vs)
-all_joined Q [] vs h g = g
-all_joined Q (u ∷ us) vs h g = (h.0, all_joined Q us vs h.1 g)
-
-all_dropped : (Q : Pending → Type 0) (us : List Pending) → AllByRecursion Q us → AllByRecursion Q (drop_last us)
+pub all_dropped : (Q : Pending → Type 0) (us : List Pending) → AllByRecursion Q us → AllByRecursion Q (drop_last us)
 all_dropped Q [] h = tt
 all_dropped Q (u ∷ []) h = tt
 all_dropped Q (u ∷ v ∷ us) h = (h.0, all_dropped Q (v ∷ us) h.1)
@@ -114,7 +112,7 @@ c_begin E t false w e = tt
 forward_now : (s : Sizes) (E : List Record) (t u : ℕ) (w : Working) (q : Block) → AllFrom E t w.undos → (u == t) ≡ true → Comes (E ++ Forward u q ∷ []) t (forward s t w q)
 forward_now s E t u w q h e =
     let same : u ≡ t = eqb-true u t e in
-    c_forward s (E ++ Forward u q ∷ []) t w q (all_joined (FromBlock (E ++ Forward u q ∷ []) t) w.undos (undo_added q q.undo)
+    c_forward s (E ++ Forward u q ∷ []) t w q (all_append (FromBlock (E ++ Forward u q ∷ []) t) w.undos (undo_added q q.undo)
     (all_old E (Forward u q) t w.undos h)
     (subst (λ v. AllFrom (E ++ Forward u q ∷ []) v (undo_added q q.undo)) same (now_added E u q q.undo refl)))
 
@@ -210,26 +208,13 @@ comes s t = by_push (ComesIn s t) (λ g e. tt) (λ L x ih. comes_push s t L x ih
 
 -- ---- the rows of a run
 spelled_touch : (x : Record) (a : Touch) → touch_of x ≡ Some a → CanBeSpelled x → IsBlock a.block
-spelled_touch (Format i n) a e h = absurd (cc)
-spelled_touch (Begin u) a e h = absurd (cc)
 spelled_touch (Forward u b) a e h = let same : record { txn = u; owner = u; block = b } ≡ a = cc in subst (λ (z : Touch). IsBlock z.block) same h.1
-spelled_touch (Done u c r) a e h = absurd (cc)
-spelled_touch (Commit u) a e h = absurd (cc)
-spelled_touch (Ended u) a e h = absurd (cc)
 spelled_touch (Solo u p b) a e h = let same : record { txn = u; owner = p; block = b } ≡ a = cc in subst (λ (z : Touch). IsBlock z.block) same h.2
-spelled_touch AuditBegin a e h = absurd (cc)
-spelled_touch (AuditClean b) a e h = absurd (cc)
-spelled_touch (AuditFail b rs) a e h = absurd (cc)
-spelled_touch (Restarted rs ds) a e h = absurd (cc)
 spelled_touch (Back u b) a e h = let same : record { txn = u; owner = u; block = b } ≡ a = cc in subst (λ (z : Touch). IsBlock z.block) same h.1
-
-touch_record : (L : List Record) (i : ℕ) (a : Touch) → touch_at L i ≡ Some a → (x : Record) × (slice_get L i ≡ Some x) × (touch_of x ≡ Some a)
-touch_record [] i a e = absurd (cc)
-touch_record (x ∷ L) zero a e = (x, refl, e)
-touch_record (x ∷ L) (suc i) a e = touch_record L i a e
+spelled_touch _ a e h = absurd (cc)
 
 each_spelled : (L : List Record) → ((i : ℕ) (x : Record) → slice_get L i ≡ Some x → CanBeSpelled x) → EachTouch (λ a. IsBlock a.block) L
-each_spelled L h i a e = let x = touch_record L i a e in spelled_touch x.0 a x.2 (h i x.0 x.1)
+each_spelled L h i a e = let x = touch_get L i a e in spelled_touch x.0 a x.2 (h i x.0 x.1)
 
 undo_spelled : (o : Option Undo) (u : Undo) → o ≡ Some u → MayBeUndo o → IsUndo u
 undo_spelled None u e h = absurd (cc)
@@ -237,10 +222,6 @@ undo_spelled (Some v) u e h = subst IsUndo (ap_some e) h
   where
     ap_some : Some v ≡ Some u → v ≡ u
     ap_some q = cc
-
-pub all_by : (P Q : Pending → Type 0) (us : List Pending) → ((u : Pending) → P u → Q u) → AllByRecursion P us → AllByRecursion Q us
-all_by P Q [] f h = tt
-all_by P Q (u ∷ us) f h = (f u h.0, all_by P Q us f h.1)
 
 performed : (bases : Bases) (L : List Record) (c : CoreState) → RunsOn bases L c → (t : ℕ) → IsSome (row_of c.system t)
     → (u : Pending) → FromBlock (last_epoch L).records t u → MayBePerformed c.system t u
@@ -266,7 +247,7 @@ row_performed : (Q : Pending → Type 0) (o : Option TxnState) (row : Option Txn
     → AllByRecursion Q (option_map_or (λ r. r.undos) row [])
 row_performed Q None row E t i h f = absurd i
 row_performed Q (Some Unbegun) row E t i h f = rw i tt
-row_performed Q (Some (Active w)) row E t i h f = subst (λ (o : Option TxnRow). (IsSome o → (u : Pending) → FromBlock E t u → Q u) → AllByRecursion Q (option_map_or (λ r. r.undos) o [])) (sym i.2) (λ g. all_by (FromBlock E t) Q w.undos (g refl) h) f
+row_performed Q (Some (Active w)) row E t i h f = subst (λ (o : Option TxnRow). (IsSome o → (u : Pending) → FromBlock E t u → Q u) → AllByRecursion Q (option_map_or (λ r. r.undos) o [])) (sym i.2) (λ g. all_weaker (FromBlock E t) Q w.undos (g refl) h) f
 row_performed Q (Some (Ending ps)) row E t i h f = rw i tt
 row_performed Q (Some Over) row E t i h f = rw i tt
 

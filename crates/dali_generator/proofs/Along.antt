@@ -6,16 +6,16 @@ use Rattle.std.proofs.lemmas.Bool.{eqb-true, eqb-false, eq-eqb}
 use Rattle.std.proofs.lemmas.List.Elements.{filter-append}
 use Rattle.std.proofs.lemmas.List.Sums.{fold-append}
 use Rattle.std.proofs.lemmas.Nat.{div-add-mod'}
+use Rattle.dali_lists.proofs.Members.{contains_first, contains_more}
 use Rattle.dali_record.specs.declared.records.Call.{Call}
 use Rattle.dali_record.specs.declared.records.Answer.{Answer}
 use Rattle.dali_record.specs.declared.records.Record.{Record}
 use Rattle.dali_record.specs.Log.{calls_of}
 use Rattle.dali_history.specs.Serial.{empty_map, call_key, value_step, values_after, on_key, calls_in_order}
-use Rattle.dali_history.proofs.ByKey.{serial-calls, calls_after-each}
+use Rattle.dali_history.proofs.ByKey.{serial-calls, calls_after-each, no_value_stays}
 use Rattle.dali_generator.specs.Generated.{key_of}
 use Rattle.dali_generator.specs.Left.{calls_at, stands_behind, transactions_of, IsGenerated, LeavesThem}
 use Rattle.dali_generator.proofs.Steps.{step, foreign, stands_first}
-use Rattle.dali_generator.proofs.Keys.{first_in, later_in}
 
 -- ---- places within bounds
 range_below : (n a b : ℕ) → a + n ≤ b → AllByRecursion (λ x. x < b) (range_with_len a n)
@@ -41,12 +41,8 @@ record IsOne (number : ℕ) (L : List Record) (client i t : ℕ) : Type 0 where
   generated : IsGenerated number L client i t
   within : i < 1000000
 
-no_value_stays : (cs : List (Call × Answer)) → values_after None cs ≡ None
-no_value_stays [] = refl
-no_value_stays (p ∷ cs) = no_value_stays cs
-
 -- where the calls lead on, they lead to some value in between
-between : (s o : Option (List ℕ)) (cs ds : List (Call × Answer)) → values_after (Some s) (cs ++ ds) ≡ Some o
+pub between : (s o : Option (List ℕ)) (cs ds : List (Call × Answer)) → values_after (Some s) (cs ++ ds) ≡ Some o
     → (u : Option (List ℕ)) × ((values_after (Some s) cs ≡ Some u) × (values_after (Some u) ds ≡ Some o))
 between s o cs ds e = by_value (values_after (Some s) cs) refl
   where
@@ -70,11 +66,11 @@ along number c i L client place [] a zero o h each order e =
     stays ∙ ap (stands_behind number c i) last
 along number c i L client place [] a (suc n) o h each order e = absurd cc
 along number c i L client place (t ∷ ts) a n o h each order e =
-    let here = each t (first_in t ts) in
+    let here = each t (contains_first t ts) in
     let parts = filter-append (λ p. call_key p.0 == key_of c i) (calls_of t L) (calls_in_order ts L) in
     let apart : values_after (Some (stands_behind number c i a)) (on_key (key_of c i) (calls_of t L) ++ on_key (key_of c i) (calls_in_order ts L)) ≡ Some o = subst (λ l. values_after (Some (stands_behind number c i a)) l ≡ Some o) parts e in
     let mid = between (stands_behind number c i a) o (on_key (key_of c i) (calls_of t L)) (on_key (key_of c i) (calls_in_order ts L)) apart in
-    by_client (λ b m q g. along number c i L client place ts b m o h (λ u g. each u (later_in t u ts g)) q g) (client t == c) refl here n mid.0 order mid.1.0 mid.1.1
+    by_client (λ b m q g. along number c i L client place ts b m o h (λ u g. each u (contains_more t u ts g)) q g) (client t == c) refl here n mid.0 order mid.1.0 mid.1.1
   where
     by_client : ((b m : ℕ) → map place (filter (λ v. client v == c) ts) ≡ range_with_len b m → values_after (Some (stands_behind number c i b)) (on_key (key_of c i) (calls_in_order ts L)) ≡ Some o → o ≡ stands_behind number c i (b + m))
         → (x : Bool) → (client t == c) ≡ x → IsOne number L (client t) (place t) t → (m : ℕ) (u : Option (List ℕ))
@@ -99,7 +95,7 @@ along number c i L client place (t ∷ ts) a n o h each order e =
         ih a m g (subst (λ s. values_after (Some s) (on_key (key_of c i) (calls_in_order ts L)) ≡ Some o) stays q)
 
 -- ---- all of them
-size_below : (clients size c : ℕ) → transactions_of clients size c ≤ size
+pub size_below : (clients size c : ℕ) → transactions_of clients size c ≤ size
 size_below clients size c = chosen (leb 1 c) (leb c clients)
   where
     chosen : (x y : Bool) → cond (x && y) size 0 ≤ size

@@ -6,6 +6,7 @@ use Rattle.std.specs.List.Sorted.{IsStrictlyIncreasing}
 use Rattle.std.proofs.lemmas.Bool.{lt-leb, le-leb, cases_lt, cases_eq}
 use Rattle.std.proofs.lemmas.Nat.{div-add-mod', div-mul-add, mod-mul-add}
 use Rattle.std.proofs.lemmas.List.Elements.{All-contains, All-from_recursion, Contains-append_left, Contains-append_right}
+use Rattle.dali_lists.proofs.Members.{contains_cases, contains_first, contains_more, all_append}
 use Rattle.dali_generator.specs.Generated.{key_of, AreWithin}
 use Rattle.dali_generator.specs.Left.{stands_behind, transactions_of, left, keys_of, keys_left, HasTheirKeys}
 use Rattle.dali_generator.proofs.Steps.{stands_none, stands_first}
@@ -30,19 +31,10 @@ up_all [] h = tt
 up_all (x ∷ xs) h = (omega arith, up_behind x xs h)
 
 -- ---- members
-among : (x k : ℕ) (xs : List ℕ) → Contains (x ∷ xs) k → (x ≡ k) ⊎ Contains xs k
-among x k xs (zero, l, e) = inl e
-among x k xs (suc j, l, e) = inr (j, omega (arith, l), e)
-
-pub first_in : (x : ℕ) (xs : List ℕ) → Contains (x ∷ xs) x
-first_in x xs = (0, omega arith, refl)
-
-pub later_in : (x k : ℕ) (xs : List ℕ) → Contains xs k → Contains (x ∷ xs) k
-later_in x k xs h = (suc h.0, omega (arith, h.1), h.2)
 
 low : (b k : ℕ) (xs : List ℕ) → Up b xs → Contains xs k → b ≤ k
 low b k [] up h = absurd (omega (arith, h.1))
-low b k (x ∷ xs) up h = ⊎_elim (λ e. omega (arith, up.0, e)) (λ g. omega (arith, up.0, low (x + 1) k xs up.1 g)) (among x k xs h)
+low b k (x ∷ xs) up h = ⊎_elim (λ e. omega (arith, up.0, e)) (λ g. omega (arith, up.0, low (x + 1) k xs up.1 g)) (contains_cases x k xs h)
 
 -- ---- one list alone has these members
 -- the first is b
@@ -56,12 +48,12 @@ begins b [] up h = absurd (omega (arith, h.1))
 begins b (x ∷ xs) up h = ⊎_elim
     (λ e. record { rest = xs; is = ap (λ y. y ∷ xs) e; up = subst (λ y. Up (y + 1) xs) e up.1 })
     (λ g. let after = low (x + 1) b xs up.1 g in absurd (omega (arith, up.0)))
-    (among x b xs h)
+    (contains_cases x b xs h)
 
 above : (p : ℕ → Bool) (b : ℕ) (xs : List ℕ) → Up b xs → p b ≡ false → ((k : ℕ) → Contains xs k → p k ≡ true) → Up (b + 1) xs
 above p b [] up off on = tt
 above p b (x ∷ xs) up off on =
-    let apart : x ≢ b = λ e. never (sym (ap p e) ∙ on x (first_in x xs)) in
+    let apart : x ≢ b = λ e. never (sym (ap p e) ∙ on x (contains_first x xs)) in
     (omega (arith, up.0), up.1)
   where
     never : p b ≡ true → ⊥
@@ -70,17 +62,17 @@ above p b (x ∷ xs) up off on =
 only : (p : ℕ → Bool) (n b : ℕ) (xs : List ℕ) → Up b xs → ((k : ℕ) → Contains xs k → p k ≡ true) → ((k : ℕ) → Contains xs k → k < b + n)
     → ((k : ℕ) → b ≤ k → k < b + n → p k ≡ true → Contains xs k) → xs ≡ filter p (range_with_len b n)
 only p zero b [] up on high all = refl
-only p zero b (x ∷ xs) up on high all = absurd (omega (arith, up.0, high x (first_in x xs)))
+only p zero b (x ∷ xs) up on high all = absurd (omega (arith, up.0, high x (contains_first x xs)))
 only p (suc n) b xs up on high all = by_test (λ ys u. only p n (b + 1) ys u) (p b) refl
   where
     behind : (x k : ℕ) (ys : List ℕ) → x + 1 ≤ k → Contains (x ∷ ys) k → Contains ys k
-    behind x k ys l h = ⊎_elim (λ e. absurd (omega (arith, e, l))) (λ g. g) (among x k ys h)
+    behind x k ys l h = ⊎_elim (λ e. absurd (omega (arith, e, l))) (λ g. g) (contains_cases x k ys h)
 
     by_test : ((ys : List ℕ) → Up (b + 1) ys → ((k : ℕ) → Contains ys k → p k ≡ true) → ((k : ℕ) → Contains ys k → k < b + 1 + n) → ((k : ℕ) → b + 1 ≤ k → k < b + 1 + n → p k ≡ true → Contains ys k) → ys ≡ filter p (range_with_len (b + 1) n))
         → (t : Bool) → p b ≡ t → xs ≡ cond t (b ∷ filter p (range_with_len (b + 1) n)) (filter p (range_with_len (b + 1) n))
     by_test ih true f =
         let first = begins b xs up (all b (omega arith) (omega arith) f) in
-        let inside : (k : ℕ) → Contains first.rest k → Contains xs k = λ k h. subst (λ l. Contains l k) (sym first.is) (later_in b k first.rest h) in
+        let inside : (k : ℕ) → Contains first.rest k → Contains xs k = λ k h. subst (λ l. Contains l k) (sym first.is) (contains_more b k first.rest h) in
         first.is ∙ ap (λ l. b ∷ l) (ih first.rest first.up (λ k h. on k (inside k h)) (λ k h. omega (arith, high k (inside k h))) (λ k l h g. behind b k first.rest l (subst (λ l. Contains l k) first.is (all k (omega (arith, l)) (omega (arith, h)) g))))
     by_test ih false f = ih xs (above p b xs up f on) on (λ k h. omega (arith, high k h)) (λ k l h g. all k (omega (arith, l)) (omega (arith, h)) g)
 
@@ -123,11 +115,11 @@ in_part f q zero a i l h e = absurd (omega arith)
 in_part f q (suc n) a i l h e = by_order (λ g. in_part f q n (a + 1) i g (omega arith) e) (cases_eq a i)
   where
     later : (t : Bool) → Contains (map f (filter q (range_with_len (a + 1) n))) (f i) → Contains (map f (cond t (a ∷ filter q (range_with_len (a + 1) n)) (filter q (range_with_len (a + 1) n)))) (f i)
-    later true g = later_in (f a) (f i) (map f (filter q (range_with_len (a + 1) n))) g
+    later true g = contains_more (f a) (f i) (map f (filter q (range_with_len (a + 1) n))) g
     later false g = g
 
     here : (t : Bool) → t ≡ true → a ≡ i → Contains (map f (cond t (a ∷ filter q (range_with_len (a + 1) n)) (filter q (range_with_len (a + 1) n)))) (f i)
-    here true g same = subst (λ x. Contains (f a ∷ map f (filter q (range_with_len (a + 1) n))) (f x)) same (first_in (f a) (map f (filter q (range_with_len (a + 1) n))))
+    here true g same = subst (λ x. Contains (f a ∷ map f (filter q (range_with_len (a + 1) n))) (f x)) same (contains_first (f a) (map f (filter q (range_with_len (a + 1) n))))
     here false g same = absurd cc
 
     by_order : (a + 1 ≤ i → Contains (map f (filter q (range_with_len (a + 1) n))) (f i)) → (a ≡ i) ⊎ (a ≢ i) → Contains (map f (cond (q a) (a ∷ filter q (range_with_len (a + 1) n)) (filter q (range_with_len (a + 1) n)))) (f i)
@@ -150,26 +142,22 @@ all_in_part P f q (suc n) a h = by_test (all_in_part P f q n (a + 1) (λ i l g e
     by_test later true e = (h a (omega arith) (omega arith) e, later)
     by_test later false e = later
 
-both_all : (P : ℕ → Type 0) (xs ys : List ℕ) → AllByRecursion P xs → AllByRecursion P ys → AllByRecursion P (xs ++ ys)
-both_all P [] ys h g = g
-both_all P (x ∷ xs) ys h g = (h.0, both_all P xs ys h.1 g)
-
 all_in_all : (P : ℕ → Type 0) (g : ℕ → List ℕ) (n c : ℕ) → ((d : ℕ) → c ≤ d → d < c + n → AllByRecursion P (g d)) → AllByRecursion P (flat_map g (range_with_len c n))
 all_in_all P g zero c h = tt
-all_in_all P g (suc n) c h = both_all P (g c) (flat_map g (range_with_len (c + 1) n)) (h c (omega arith) (omega arith)) (all_in_all P g n (c + 1) (λ d l k. h d (omega arith) (omega arith)))
+all_in_all P g (suc n) c h = all_append P (g c) (flat_map g (range_with_len (c + 1) n)) (h c (omega arith) (omega arith)) (all_in_all P g n (c + 1) (λ d l k. h d (omega arith) (omega arith)))
 
 -- ---- the keys that are left
-all_transactions : (clients size c : ℕ) → 1 ≤ c → c ≤ clients → transactions_of clients size c ≡ size
+pub all_transactions : (clients size c : ℕ) → 1 ≤ c → c ≤ clients → transactions_of clients size c ≡ size
 all_transactions clients size c l h = rw (le-leb 1 c l, le-leb c clients h) refl
 
-none_beyond : (clients size c : ℕ) → clients < c → transactions_of clients size c ≡ 0
+pub none_beyond : (clients size c : ℕ) → clients < c → transactions_of clients size c ≡ 0
 none_beyond clients size c h = rw (lt-leb c clients h) (by_first (leb 1 c))
   where
     by_first : (x : Bool) → cond (x && false) size 0 ≡ 0
     by_first true = refl
     by_first false = refl
 
-none_before : (clients size c : ℕ) → c < 1 → transactions_of clients size c ≡ 0
+pub none_before : (clients size c : ℕ) → c < 1 → transactions_of clients size c ≡ 0
 none_before clients size c h = rw (lt-leb 1 c h) refl
 
 -- where something is left, the client is one, and the place is one of its own

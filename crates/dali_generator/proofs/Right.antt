@@ -1,5 +1,5 @@
 -- A generated round is such as a script may have.
-use Rattle.std.proofs.Common.{◌≡◌, ℕ, zero, suc, ◌+◌, ◌-◌, ◌%◌, ◌^◌, ◌<◌, ◌≤◌, ◌==◌, Bool, true, false, List, [], ◌∷◌, ◌++◌, length, flat_map, sym, ◌∙◌, ap, append_assoc, arith, rules, tests}
+use Rattle.std.proofs.Common.{◌≡◌, ℕ, zero, suc, ◌+◌, ◌-◌, ◌%◌, ◌^◌, ◌<◌, ◌≤◌, ◌==◌, Bool, true, false, List, [], ◌∷◌, ◌++◌, length, flat_map, sym, ◌∙◌, ap, append_assoc, arith}
 use Rattle.std.specs.Prelude.{if◌then◌else◌}
 use Rattle.std.specs.List.{range_with_len}
 use Rattle.std.specs.Fmt.{decimal}
@@ -7,7 +7,8 @@ use Rattle.std.proofs.lemmas.Fmt.{length-decimal-le, IsAscii-decimal}
 use Rattle.std.proofs.lemmas.List.Elements.{All-cons, All-weaker}
 use Rattle.std.proofs.lemmas.Str.Ascii.{All-from_ascii}
 use Rattle.dali_geometry.specs.Sizes.{AreInRange}
-use Rattle.dali_words.specs.Values.{is_size, IsValue}
+use Rattle.dali_words.specs.Values.{IsValue}
+use Rattle.dali_words.proofs.Fields.{size_is}
 use Rattle.dali_script.specs.Scripts.{AreInPlace, IsRightRound}
 use Rattle.dali_script.specs.declared.commands.Block.{Block}
 use Rattle.dali_script.specs.declared.commands.ClientCommand.{ClientCommand}
@@ -17,8 +18,6 @@ use Rattle.dali_generator.proofs.Ranges.{at}
 use Rattle.dali_generator.proofs.Parts.{few}
 
 -- ---- values
-sized : (n : ℕ) → 1 ≤ n → n ≤ 40 → is_size n ≡ true
-sized n some few = search (rules, tests)
 
 pub short : (drawn : ℕ) → length (decimal (drawn % 1000000)) ≤ 6
 short drawn = length-decimal-le 6 (drawn % 1000000) (omega arith) (omega arith) (omega arith)
@@ -27,7 +26,7 @@ right_value : (drawn : ℕ) → IsValue (value_of drawn)
 right_value drawn =
     let digits = decimal (drawn % 1000000) in
     let ascii = All-from_ascii digits (IsAscii-decimal (drawn % 1000000) (omega arith)) in
-    (sized (length (value_of drawn)) (omega arith) (omega (arith, short drawn)), All-cons (λ b. b < 256) 118 digits (omega arith) (All-weaker (λ b. b < 128) (λ b. b < 256) (λ b h. omega arith) digits ascii))
+    (size_is (length (value_of drawn)) (omega arith) (omega (arith, short drawn)), All-cons (λ b. b < 256) 118 digits (omega arith) (All-weaker (λ b. b < 128) (λ b. b < 256) (λ b h. omega arith) digits ascii))
 
 -- ---- commands
 chosen : (a b c : Bool) (key : ℕ) (value : List ℕ) (later : List ClientCommand) → key < 2 ^ 64 → IsValue value → AreInPlace true later

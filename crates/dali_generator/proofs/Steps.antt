@@ -6,7 +6,7 @@ use Rattle.std.proofs.lemmas.Bool.{lt-ltb, le-ltb, eq-eqb, ne_eqb, cases_order, 
 use Rattle.dali_record.specs.declared.records.Call.{Call}
 use Rattle.dali_record.specs.declared.records.Call.TheVariants as calls
 use Rattle.dali_record.specs.declared.records.Answer.{Answer}
-use Rattle.dali_record.specs.declared.records.Answer.TheVariants.{Ok as AnswerOk, Exists, Missing, Got, FullHeap, FullIndex, Odd}
+use Rattle.dali_record.specs.declared.records.Answer.TheVariants.{Ok as AnswerOk, Got}
 use Rattle.dali_history.specs.Serial.{value_after, call_key, values_after, on_key}
 use Rattle.dali_script.specs.declared.commands.ClientCommand.TheVariants.{Update, Delete, Get, Commit}
 use Rattle.dali_generator.specs.Generated.{draw, key_of, value_of}
@@ -55,34 +55,19 @@ one_on c k (p ∷ q ∷ ps) s o e f g = absurd cc
 -- ---- what calls lead to that are allowed where there is a record
 updated : (a : Answer) (k : ℕ) (v w : List ℕ) (o : Option (List ℕ)) → value_after (Some w) (calls.Update k v) a ≡ Some o → o ≡ Some v
 updated AnswerOk k v w o e = cc
-updated Exists k v w o e = absurd cc
-updated Missing k v w o e = absurd cc
-updated (Got x) k v w o e = absurd cc
-updated FullHeap k v w o e = absurd cc
-updated FullIndex k v w o e = absurd cc
-updated (Odd x) k v w o e = absurd cc
+updated _ k v w o e = absurd cc
 
 deleted : (a : Answer) (k : ℕ) (w : List ℕ) (o : Option (List ℕ)) → value_after (Some w) (calls.Delete k) a ≡ Some o → o ≡ None
 deleted AnswerOk k w o e = cc
-deleted Exists k w o e = absurd cc
-deleted Missing k w o e = absurd cc
-deleted (Got x) k w o e = absurd cc
-deleted FullHeap k w o e = absurd cc
-deleted FullIndex k w o e = absurd cc
-deleted (Odd x) k w o e = absurd cc
+deleted _ k w o e = absurd cc
 
 same_if : (b : Bool) (w : List ℕ) (o : Option (List ℕ)) → (if b then Some (Some w) else None) ≡ Some o → o ≡ Some w
 same_if true w o e = cc
 same_if false w o e = absurd cc
 
 got : (a : Answer) (k : ℕ) (w : List ℕ) (o : Option (List ℕ)) → value_after (Some w) (calls.Get k) a ≡ Some o → o ≡ Some w
-got AnswerOk k w o e = absurd cc
-got Exists k w o e = absurd cc
-got Missing k w o e = absurd cc
 got (Got x) k w o e = same_if (bytes_eq w x) w o e
-got FullHeap k w o e = absurd cc
-got FullIndex k w o e = absurd cc
-got (Odd x) k w o e = absurd cc
+got _ k w o e = absurd cc
 
 -- ---- the second call
 no_calls : (ps : List (Call × Answer)) → map (λ p. p.0) ps ≡ [] → ps ≡ []

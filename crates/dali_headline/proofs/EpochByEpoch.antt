@@ -9,6 +9,7 @@ use Rattle.std.proofs.lemmas.Grind.{flat_map-append}
 use Rattle.std.proofs.lemmas.Bool.{not-true}
 use Rattle.dali_geometry.specs.Sizes.{Sizes}
 use Rattle.dali_geometry.specs.Places.{formatted_image}
+use Rattle.dali_index.proofs.Forms.{formatted_is_image, formatted_is_indexed, formatted_is_tidy}
 use Rattle.dali_record.specs.declared.records.Record.{Record}
 use Rattle.dali_record.specs.Log.{calls_of, committed}
 use Rattle.dali_record.specs.Epochs.{Epoch, cut, epochs}
@@ -22,7 +23,7 @@ use Rattle.dali_history.specs.History.{IsHistory, HasExpected}
 use Rattle.dali_history.specs.Marked.{marks_of, kept_of}
 use Rattle.dali_headline.specs.Holds.{Holds}
 use Rattle.dali_headline.specs.Bridge.{cuts_of, EpochIsKept}
-use Rattle.dali_history.proofs.Formatted.{formatted_is_image, formatted_is_indexed, formatted_is_tidy, formatted_has_none}
+use Rattle.dali_history.proofs.Formatted.{formatted_has_none}
 use Rattle.dali_history.proofs.Members.{has-filter, fold_within}
 use Rattle.dali_history.proofs.Maps.{map_is}
 use Rattle.dali_history.proofs.Survivors.{survivors_in, calls_of_own, survivors_in_epochs}

@@ -1,12 +1,12 @@
 -- What a restart promises, put together.
 use Rattle.std.proofs.Common.{◌≡◌, ℕ, List, [], ◌∷◌, length, refl, ap, sym, subst, ◌∙◌}
 use Rattle.std.proofs.lemmas.List.{take_at}
+use Rattle.dali_lists.proofs.Lists.{get_push}
 use Rattle.dali_record.specs.declared.records.Record.{Record}
 use Rattle.dali_record.specs.declared.records.Record.TheVariants.{Restarted}
 use Rattle.dali_record.specs.Epochs.{last_epoch, recovered_epoch}
 use Rattle.dali_record.specs.Damage.{rolled_list, deleted_list}
 use Rattle.dali_record.specs.Legal.{sizes_of, TellsScan}
-use Rattle.dali_record.proofs.Ends.{get_new}
 use Rattle.dali_history.specs.History.{IsHistory, RestartGives}
 use Rattle.dali_history.specs.Acknowledged.{KeepsCommitted}
 use Rattle.dali_history.specs.Promise.{RestartIsRight}
@@ -21,7 +21,7 @@ use Rattle.dali_history.proofs.NoOdd.{survivors_have_no_odd}
 -- a log that ends with Restarted is reported by the lists in it
 pub named_at_end : (A : List Record) (rs ds : List ℕ) → TellsScan (restarted A rs ds) → (rs ≡ rolled_list (recovered_epoch (restarted A rs ds))) × (ds ≡ deleted_list (recovered_epoch (restarted A rs ds)))
 named_at_end A rs ds tells =
-    let lists = tells (length A) rs ds (get_new A (Restarted rs ds)) in
+    let lists = tells (length A) rs ds (get_push A (Restarted rs ds)) in
     let before : last_epoch A ≡ recovered_epoch (restarted A rs ds) = sym (recovered_epoch-restarted A rs ds) in
     let there = take_at A (Restarted rs ds ∷ []) (length A) refl in
     (lists.0 ∙ ap (λ L. rolled_list (last_epoch L)) there ∙ ap rolled_list before, lists.1 ∙ ap (λ L. deleted_list (last_epoch L)) there ∙ ap deleted_list before)

@@ -3,7 +3,7 @@ use Rattle.std.proofs.Common.{◌≡◌, ◌≢◌, ℕ, suc, ◌<◌, ◌≤◌
 use Rattle.std.specs.Prelude.{slice_get, not, ◌&&◌, ◌||◌, ◌==◌}
 use Rattle.std.proofs.lemmas.List.{length-take-le}
 use Rattle.std.proofs.lemmas.Option.{slice_get_within}
-use Rattle.std.proofs.lemmas.Bool.{cases_lt}
+use Rattle.std.proofs.lemmas.Bool.{cases_lt, and_parts, eqb-true}
 use Rattle.dali_record.specs.declared.records.Record.{Record}
 use Rattle.dali_record.specs.declared.records.Record.TheVariants.{Ended}
 use Rattle.dali_record.specs.Blocks.{changes_item}
@@ -11,8 +11,8 @@ use Rattle.dali_record.specs.Log.{Touch, touch_of, touch_in, touch_at, undos_of}
 use Rattle.dali_record.specs.Damage.{Damage, has, marks, has_corrupt, before_corrupt, Links, IsCorrupt}
 use Rattle.dali_record.specs.Locks.{EndedBetween, IsLockLegalIn}
 use Rattle.dali_record.proofs.Pushes.{touch_within}
-use Rattle.dali_record.proofs.Chains.{and_true, IsCorrupt-then}
-use Rattle.dali_record.proofs.Scans.{keys, test_same, take_get, first_of_txn}
+use Rattle.dali_record.proofs.Chains.{IsCorrupt-then}
+use Rattle.dali_record.proofs.Scans.{keys, take_get, first_of_txn}
 use Rattle.dali_record.proofs.Keeping.{drops, kept_in, PlacedAt, placed, kept_before-mono, kept_before-strict, kept_place, undos_of-kept}
 use Rattle.dali_record.proofs.Recovery.{corrupt_has, has_to_corrupt}
 use Rattle.dali_record.proofs.Fronts.{touch_get, touch_below, IsCorrupt-whole, kept_place-clean}
@@ -86,7 +86,7 @@ kept_locks d E cuts cut locks i j a b lt p q c = by_drop (drops d (take W.0 E) (
         undone true g = absurd (kept_place-clean d E B.place gb.0 b B.get gb.2 B.stays B.place b (omega arith) at_b refl (IsCorrupt-then d E F.0 B.place F.5 link))
           where
             key : a.block.key ≡ b.block.key
-            key = test_same _ _ (and_true (a.block.key == b.block.key) (not (a.owner == b.owner)) (and_true ((a.block.key == b.block.key) && not (a.owner == b.owner)) (changes_item a.block || changes_item b.block) c).0).0
+            key = eqb-true _ _ (and_parts (a.block.key == b.block.key) (not (a.owner == b.owner)) (and_parts ((a.block.key == b.block.key) && not (a.owner == b.owner)) (changes_item a.block || changes_item b.block) c).0).0
 
             left : has (keys (undos_of a.owner (take F.0 E))) a.block.key ≡ true
             left = subst (λ us. has (keys us) a.block.key ≡ true) (undos_of-kept d E a.owner ∙ ap (undos_of a.owner) F.6) g

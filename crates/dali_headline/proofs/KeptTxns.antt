@@ -1,26 +1,23 @@
 -- Among the kept records each transaction keeps the rules: its state there goes with its state in the epoch.
 use Rattle.std.proofs.Common.{◌≡◌, ℕ, Bool, true, false, List, [], ◌∷◌, ◌++◌, Option, Some, None, refl, ap, sym, subst, ◌∙◌, ◌⊎◌, inl, inr, ⊎_elim, append_assoc}
 use Rattle.std.specs.Prelude.{◌==◌, ⊤, IsSome}
-use Rattle.std.proofs.lemmas.List.Sums.{fold_push}
 use Rattle.dali_geometry.specs.Sizes.{Sizes}
 use Rattle.dali_record.specs.declared.operations.Block.{Block}
 use Rattle.dali_record.specs.declared.operations.Pending.{Pending}
 use Rattle.dali_record.specs.declared.records.Record.{Record}
-use Rattle.dali_record.specs.declared.records.Record.TheVariants.{Format, Begin, Forward, Done, Commit, Ended, Solo, AuditBegin, AuditClean, AuditFail, Restarted, Back}
+use Rattle.dali_record.specs.declared.records.Record.TheVariants.{Ended, Solo}
 use Rattle.dali_record.specs.Log.{touch_of, undos_of}
 use Rattle.dali_record.specs.Damage.{Damage, any_touch, marks, has_corrupt}
 use Rattle.dali_record.specs.Legal.{Working, TxnState, Unbegun, Active, Committed, Over, txn_step, concerns, is_of, freeing_op}
 use Rattle.dali_record.proofs.Ends.{by_push}
 use Rattle.dali_record.proofs.Pushes.{separates, txn_step-other, touch_old, touch_within}
-use Rattle.dali_record.proofs.Scans.{same_test}
 use Rattle.dali_record.proofs.Keeping.{drops, kept_in, is_of_txn, drops_own, kept-dropped, kept-kept, has_corrupt-other, has_corrupt-stays}
 use Rattle.dali_record.proofs.Moves.{Moved, begins, alone, works, commits, leaves, frees, ends, moves}
 use Rattle.dali_record.proofs.Stages.{state_from, state_before, IsStart, IsWithin, IsWithin-front, Stage, stage, Gives, Covers, solo_falls, others-touch}
 use Rattle.dali_kept.specs.Kept.{freed_later, kept_step, kept_next, kept_state}
-use Rattle.std.proofs.lemmas.Bool.{or_parts}
-
-kept_state_push : (s : Sizes) (t : ℕ) (K : List Record) (r : Record) → kept_state s t (K ++ r ∷ []) ≡ kept_next s t (kept_state s t K) r
-kept_state_push s t K r = fold_push (kept_next s t) (Some Unbegun) K r
+use Rattle.std.proofs.lemmas.Bool.{eq-eqb}
+use Rattle.dali_kept.proofs.InvariantAlong.{step_beside}
+use Rattle.dali_kept.proofs.WithoutLast.{kept_state_push}
 
 kept_step-unbegun : (s : Sizes) (t : ℕ) (r : Record) → kept_step s t Unbegun r ≡ txn_step s t Unbegun r
 kept_step-unbegun s t r = refl
@@ -30,24 +27,6 @@ kept_step-active s t w r = refl
 
 kept_step-over : (s : Sizes) (t : ℕ) (r : Record) → kept_step s t Over r ≡ txn_step s t Over r
 kept_step-over s t r = refl
-
--- a record that doesn't concern t leaves its state
-kept_step-other : (s : Sizes) (t : ℕ) (y : TxnState) (r : Record) → concerns t r ≡ false → kept_step s t y r ≡ Some y
-kept_step-other s t Unbegun r e = txn_step-other s t Unbegun r e
-kept_step-other s t (Active w) r e = txn_step-other s t (Active w) r e
-kept_step-other s t Over r e = txn_step-other s t Over r e
-kept_step-other s t (Committed ps) (Format i h) e = refl
-kept_step-other s t (Committed ps) (Begin u) e = rw e refl
-kept_step-other s t (Committed ps) (Forward u b) e = rw e refl
-kept_step-other s t (Committed ps) (Done u c a) e = rw e refl
-kept_step-other s t (Committed ps) (Commit u) e = rw e refl
-kept_step-other s t (Committed ps) (Ended u) e = rw e refl
-kept_step-other s t (Committed ps) (Solo u p b) e = let f = or_parts (u == t) (p == t) e in rw (f.0, f.1) refl
-kept_step-other s t (Committed ps) AuditBegin e = refl
-kept_step-other s t (Committed ps) (AuditClean b) e = refl
-kept_step-other s t (Committed ps) (AuditFail b rs) e = refl
-kept_step-other s t (Committed ps) (Restarted rs ds) e = absurd (cc)
-kept_step-other s t (Committed ps) (Back u b) e = rw e refl
 
 -- ---- the two states of a transaction
 -- without a corrupt block they are the same, but that some removals may not be freed yet, and that one which was over before the epoch never began in it
@@ -109,12 +88,12 @@ twin_step s d t E r x z gives within S e before = by_concern (concerns t r) refl
     twin f = subst (λ c. Twin c x y) f before.2
 
     by_move : Moved t x r z → After s d t (E ++ r ∷ []) z
-    by_move (begins w a b c) = own (subst (λ q. is_of_txn t q ≡ true) (sym b) (same_test t t refl)) (λ f. (
+    by_move (begins w a b c) = own (subst (λ q. is_of_txn t q ≡ true) (sym b) (eq-eqb t t refl)) (λ f. (
       z,
       (let g : y ≡ Unbegun = subst (λ u. Twin false u y) a (twin f) in subst (λ u. kept_step s t u r ≡ Some z) (sym g) (subst (λ u. txn_step s t u r ≡ Some z) a e)),
       subst (λ u. Twin false u u) (sym c) refl,
     ))
-    by_move (alone p b a g c) = own (subst (λ q. is_of_txn t q ≡ true) (sym g) (same_test t t refl)) (λ f. (
+    by_move (alone p b a g c) = own (subst (λ q. is_of_txn t q ≡ true) (sym g) (eq-eqb t t refl)) (λ f. (
       z,
       (let h : y ≡ Unbegun = subst (λ u. Twin false u y) a (twin f) in subst (λ u. kept_step s t u r ≡ Some z) (sym h) (subst (λ u. txn_step s t u r ≡ Some z) a e)),
       subst (λ u. Twin false u u) (sym c) (inl refl),
@@ -124,19 +103,19 @@ twin_step s d t E r x z gives within S e before = by_concern (concerns t r) refl
       (let h : y ≡ Active w = subst (λ u. Twin false u y) a (twin f) in subst (λ u. kept_step s t u r ≡ Some z) (sym h) (subst (λ u. txn_step s t u r ≡ Some z) a e)),
       subst (λ u. Twin false u u) (sym c) refl,
     ))
-    by_move (commits w a b c) = own (subst (λ q. is_of_txn t q ≡ true) (sym b) (same_test t t refl)) (λ f. (
+    by_move (commits w a b c) = own (subst (λ q. is_of_txn t q ≡ true) (sym b) (eq-eqb t t refl)) (λ f. (
       z,
       (let h : y ≡ Active w = subst (λ u. Twin false u y) a (twin f) in subst (λ u. kept_step s t u r ≡ Some z) (sym h) (subst (λ u. txn_step s t u r ≡ Some z) a e)),
       subst (λ u. Twin false u u) (sym c) ([], refl),
     ))
-    by_move (leaves w a b c) = own (subst (λ q. is_of_txn t q ≡ true) (sym b) (same_test t t refl)) (λ f. (
+    by_move (leaves w a b c) = own (subst (λ q. is_of_txn t q ≡ true) (sym b) (eq-eqb t t refl)) (λ f. (
       z,
       (let h : y ≡ Active w = subst (λ u. Twin false u y) a (twin f) in subst (λ u. kept_step s t u r ≡ Some z) (sym h) (subst (λ u. txn_step s t u r ≡ Some z) a e)),
       subst (λ u. Twin false u u) (sym c) (inl refl),
     ))
-    by_move (ends a b c) = own (subst (λ q. is_of_txn t q ≡ true) (sym b) (same_test t t refl)) (λ f.
+    by_move (ends a b c) = own (subst (λ q. is_of_txn t q ≡ true) (sym b) (eq-eqb t t refl)) (λ f.
         let h : Twin false (Committed []) y = subst (λ u. Twin false u y) a (twin f) in
-        let same : (t == t) ≡ true = same_test t t refl in
+        let same : (t == t) ≡ true = eq-eqb t t refl in
         let k : kept_step s t (Committed (h.0 ++ [])) (Ended t) ≡ Some Over = rw same refl in
         (Over, subst (λ u. kept_step s t u r ≡ Some Over) (sym h.1) (subst (λ q. kept_step s t (Committed (h.0 ++ [])) q ≡ Some Over) (sym b) k), subst (λ u. Twin false u Over) (sym c) (inl refl)))
     by_move (frees p ps u b a g ne is c) = by_corrupt (has_corrupt (marks d E) t) refl
@@ -157,7 +136,7 @@ twin_step s d t E r x z gives within S e before = by_concern (concerns t r) refl
             by_drop true i = (y, stays i, subst (λ k. Twin k z y) (sym (corrupt ∙ f)) (subst (λ v. Twin false v y) (sym c) (h.0 ++ p ∷ [], h.1 ∙ ap Committed (sym (append_assoc h.0 (p ∷ []) ps)))))
             by_drop false i =
                 let w = freed_later_finds b h.0 ps p is in
-                let same : (t == t) ≡ true = same_test t t refl in
+                let same : (t == t) ≡ true = eq-eqb t t refl in
                 let k : kept_step s t (Committed (h.0 ++ p ∷ ps)) (Solo u t b) ≡ Some (Committed (w.0 ++ ps)) = rw (ne, same) w.1 in (
                   Committed (w.0 ++ ps),
                   goes (Committed (w.0 ++ ps)) i (subst (λ v. kept_step s t v r ≡ Some (Committed (w.0 ++ ps))) (sym h.1) (subst (λ q. kept_step s t (Committed (h.0 ++ p ∷ ps)) q ≡ Some (Committed (w.0 ++ ps))) (sym g) k)),
@@ -176,7 +155,7 @@ twin_step s d t E r x z gives within S e before = by_concern (concerns t r) refl
 
         at : (k : Bool) → drops d E r ≡ k → kept_state s t (kept_in d (E ++ r ∷ [])) ≡ Some y
         at true g = stays g
-        at false g = goes y g (kept_step-other s t y r f)
+        at false g = goes y g (step_beside s t y r f)
 
 pub after : (s : Sizes) (d : Damage) (t : ℕ) (x0 : TxnState) (E : List Record) (x : TxnState) → IsStart x0 → IsWithin E → Gives E → state_from s t x0 E ≡ Some x → After s d t E x
 after s d t x0 E x start within gives e = by_push (λ L. IsWithin L → Gives L → (z : TxnState) → state_from s t x0 L ≡ Some z → After s d t L z) first step E within gives x e

@@ -1,8 +1,10 @@
 -- What a restart gives is what the restart of the log with its Restarted record gives, and no second Restarted may follow.
-use Rattle.std.proofs.Common.{◌≡◌, ℕ, ◌+◌, ◌<◌, ◌≤◌, Bool, true, false, List, [], ◌∷◌, ◌++◌, length, Option, Some, None, refl, ap, sym, ◌∙◌, ◌⊎◌, inl, inr, ⊎_elim, arith}
+use Rattle.std.proofs.Common.{◌≡◌, ℕ, ◌+◌, ◌<◌, ◌≤◌, Bool, true, false, List, [], ◌∷◌, length, Option, Some, None, refl, ap, sym, ◌∙◌, ◌⊎◌, inl, inr, ⊎_elim, arith}
 use Rattle.std.specs.Prelude.{◌==◌, ⊤, IsSome, ◌↔◌}
 use Rattle.std.proofs.lemmas.List.Folds.{fold_along}
 use Rattle.std.proofs.lemmas.Bool.{ne_eqb}
+use Rattle.dali_lists.proofs.Lists.{push-not_nil}
+use Rattle.dali_lists.proofs.Options.{some_of}
 use Rattle.dali_geometry.specs.Sizes.{Sizes}
 use Rattle.dali_record.specs.declared.records.Record.{Record}
 use Rattle.dali_record.specs.declared.records.Record.TheVariants.{Format, Restarted}
@@ -15,7 +17,7 @@ use Rattle.dali_history.specs.Recovered.{recovered}
 use Rattle.dali_history.specs.History.{IsHistory, HasExpected, RestartGives}
 use Rattle.dali_history.specs.Promise.{RestartsAs}
 use Rattle.dali_history.proofs.OwnEpoch.{cut_step_more}
-use Rattle.dali_history.proofs.ByEpochs.{counts_all, counts_step, format_at_head, some_of, next_from}
+use Rattle.dali_history.proofs.ByEpochs.{counts_all, counts_step, format_at_head, next_from}
 use Rattle.dali_history.proofs.Restarts.{ends_step, restarted, sizes_of-restarted, survivors-restarted, expected-restarted, recovered-same, recovered_epoch-same, IsHistory-restarted}
 use Rattle.dali_headline.proofs.EpochByEpoch.{recovered_is_expected}
 
@@ -68,10 +70,6 @@ abbrev IsBehind : Option Rules → Cut → Type 0
 IsBehind None c = ⊤
 IsBehind (Some g) c = c.now.records ≡ [] → (g.restarted ≡ true) ⊎ (g.count ≤ 1)
 
-never_empty : (E : List Record) (r : Record) → E ++ r ∷ [] ≡ [] → ⊥
-never_empty [] r e = absurd (cc)
-never_empty (x ∷ E) r e = absurd (cc)
-
 with_records : (o : Option Rules) (c : Cut) → (c.now.records ≡ [] → ⊥) → IsBehind o c
 with_records None c h = tt
 with_records (Some g) c h = λ e. absurd (h e)
@@ -88,7 +86,7 @@ behind_format s g i n (Some h) c e =
     λ f. inr (omega (arith, first, size))
 
 behind_kind : (s : Sizes) (g : Rules) (c : Cut) (r : Record) (b : Bool) → separates r ≡ b → IsBehind (rules_step s g r) (cut_step c r)
-behind_kind s g c r false f = with_records (rules_step s g r) (cut_step c r) (λ e. never_empty c.now.records r (rw (cut_step_more c r f) at e))
+behind_kind s g c r false f = with_records (rules_step s g r) (cut_step c r) (λ e. push-not_nil c.now.records r (rw (cut_step_more c r f) at e))
 behind_kind s g c (Format i n) true f = behind_format s g i n (rules_step s g (Format i n)) (cut_step c (Format i n)) refl
 behind_kind s g c (Restarted rs ds) true f = behind_restart s g rs ds (rules_step s g (Restarted rs ds)) (cut_step c (Restarted rs ds)) refl
 behind_kind s g c r true f = absurd (cc)

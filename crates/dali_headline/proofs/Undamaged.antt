@@ -67,7 +67,7 @@ none_dropped : (ms : List (Record × Bool)) (o : Option ℕ) → AreUnmarked ms 
 none_dropped ms None h = refl
 none_dropped ms (Some t) h = no_corrupt ms t h
 
-all_kept : (before ms : List (Record × Bool)) → AreUnmarked before → AreUnmarked ms → kept_from before ms ≡ recs ms
+pub all_kept : (before ms : List (Record × Bool)) → AreUnmarked before → AreUnmarked ms → kept_from before ms ≡ recs ms
 all_kept before [] g h = refl
 all_kept before (m ∷ ms) g h =
     let p = or_parts m.1 (list_any is_marked ms) h in

@@ -3,8 +3,8 @@ use Rattle.std.proofs.Common.{◌≡◌, ◌≢◌, ℕ, zero, suc, ◌+◌, ◌
 use Rattle.std.specs.Prelude.{◌==◌, zip}
 use Rattle.std.specs.Int.{bit_at}
 use Rattle.std.proofs.lemmas.Bool.Decides.{eqb_tells}
-use Rattle.std.proofs.lemmas.Nat.Bits.{bit_at-lt}
 use Rattle.std.proofs.lemmas.List.{set-set, set-get_or, get_or-set_same, get_or-set_other, drop_more, length-take-le}
+use Rattle.dali_lists.proofs.Numbers.{bit_none, here_or_later}
 use Rattle.dali_words.specs.declared.Effect.{Effect}
 use Rattle.dali_words.specs.declared.KillOutcome.TheVariants.{NotLive as KillNotLive, OtherKey as KillOtherKey, OddLength as KillOddLength, Killed}
 use Rattle.dali_words.specs.Words.{mask_of, row_of}
@@ -58,7 +58,7 @@ chosen true false z full odd other dead = refl
 chosen false y z full odd other dead = refl
 
 -- an answer that depends on its reads has an effect that does
-answers_depends : {O : Type 0} (f : List ℕ → Effect × O) (ws : List ℕ) → AnswersByReads f ws → DependsOnReads (λ us. (f us).0) ws
+pub answers_depends : {O : Type 0} (f : List ℕ → Effect × O) (ws : List ℕ) → AnswersByReads f ws → DependsOnReads (λ us. (f us).0) ws
 answers_depends {O} f ws a us g = ap (λ (r : Effect × O). r.0) (a us g)
 
 in_eight : (c : ℕ) (ws : List ℕ) (writes : List (ℕ × ℕ)) → InCell c (effect_of ws (cell_words c) writes)
@@ -114,9 +114,6 @@ operations_stay = record {
   };
 }
 
-pub bit_none : (m i : ℕ) → (bit_at m i ≡ 1 → ⊥) → bit_at m i ≡ 0
-bit_none m i h = let low = bit_at-lt m i in grind arith
-
 pub cells_commute : CellsCommute
 cells_commute f g c d ne sf sg ws = apart_commute f g ws (sf.depends ws) (sg.depends ws) (sf.within ws) (sg.within ws) (record { left = λ i w. bit_none (g ws).read i (λ r. other i (sf.reads ws i ((sf.within ws).inside i w)) (sg.reads ws i r)); right = λ i w. bit_none (f ws).read i (λ r. other i (sf.reads ws i r) (sg.reads ws i ((sg.within ws).inside i w))) })
   where
@@ -132,12 +129,9 @@ abbrev pub Walked : List ℕ → ℕ → List ℕ → ℕ → ℕ → Effect →
 Walked ws key v k n e (Put c) = (k ≤ c) × (c < k + n) × (state_of ws c ≡ 0) × ((d : ℕ) → k ≤ d → d < c → state_of ws d ≢ 0) × (e.after ≡ write_all ws (zip (cell_words c) (1 ∷ key ∷ length v ∷ packed v)))
 Walked ws key v k n e NoCell = ((d : ℕ) → k ≤ d → d < k + n → state_of ws d ≢ 0) × (e.after ≡ ws)
 
-from_next : (P : ℕ → Type 0) (k d : ℕ) → P k → (k + 1 ≤ d → P d) → k ≤ d → P d
-from_next P k d here later low = ⊎_elim (λ a. subst P (sym a.1) here) (λ a. later (omega (arith, a.1))) (eqb_tells d k)
-
 widen : (ws : List ℕ) (key : ℕ) (v : List ℕ) (k n : ℕ) (e : Effect) (o : PutOutcome) → state_of ws k ≢ 0 → Walked ws key v (k + 1) n e o → Walked ws key v k (suc n) e o
-widen ws key v k n e (Put c) used h = (omega arith, omega arith, h.2, (λ d low high. from_next (λ x. x < c → state_of ws x ≢ 0) k d (λ _. used) (λ a b. h.3 d a b) low high), h.4)
-widen ws key v k n e NoCell used h = ((λ d low high. from_next (λ x. x < k + suc n → state_of ws x ≢ 0) k d (λ _. used) (λ a b. h.0 d a (omega arith)) low high), h.1)
+widen ws key v k n e (Put c) used h = (omega arith, omega arith, h.2, (λ d low high. here_or_later (λ x. x < c → state_of ws x ≢ 0) k d (λ _. used) (λ a b. h.3 d a b) low high), h.4)
+widen ws key v k n e NoCell used h = ((λ d low high. here_or_later (λ x. x < k + suc n → state_of ws x ≢ 0) k d (λ _. used) (λ a b. h.0 d a (omega arith)) low high), h.1)
 
 walk : (ws : List ℕ) (key : ℕ) (v seen : List ℕ) (k n : ℕ) → Walked ws key v k n (rows.put_among ws key v seen (row_of k n)).0 (rows.put_among ws key v seen (row_of k n)).1
 walk ws key v seen k zero = ((λ d a b. absurd (omega arith)), refl)

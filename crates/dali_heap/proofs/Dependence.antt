@@ -1,6 +1,7 @@
 -- What each operation on a heap region does depends on the words that it reads alone.
 use Rattle.std.proofs.Common.{◌≡◌, ℕ, zero, suc, ◌+◌, ◌*◌, ◌<◌, Bool, true, false, cond, List, [], ◌∷◌, ◌++◌, length, refl, ap, sym, subst, ◌∙◌, inl, inr, arith, get_or, map}
 use Rattle.std.specs.Prelude.{◌==◌, zip}
+use Rattle.dali_lists.proofs.Numbers.{eqb_carried}
 use Rattle.dali_words.specs.declared.Effect.{Effect}
 use Rattle.dali_words.specs.declared.KillOutcome.{KillOutcome}
 use Rattle.dali_words.specs.declared.KillOutcome.TheVariants.{NotLive as KillNotLive, OtherKey as KillOtherKey, OddLength as KillOddLength, Killed}
@@ -18,8 +19,6 @@ use Rattle.dali_heap.specs.Cells.{state_word, key_word, length_word, value_words
 use Rattle.dali_heap.specs.Rows as rows
 
 -- ---- tests of words that agree
-test_same : (x y v : ℕ) (c : Bool) → x ≡ y → (x == v) ≡ c → (y == v) ≡ c
-test_same x y v c e f = ap (λ z. z == v) (sym e) ∙ f
 
 abbrev Within : List ℕ → List ℕ → Type 0
 Within xs ys = (i : ℕ) → IsIn xs i → IsIn ys i
@@ -41,10 +40,10 @@ tested_row :
 tested_row {O} c key full odd other dead ws a a3 b b3 d d2 e e1 = by_tests (state_of ws c == 1) (key_of ws c == key) (is_size (length_of ws c)) refl refl refl
   where
     state_same : (us reads : List ℕ) (t : Bool) → Agree reads ws us → IsIn reads (state_word c) → (state_of ws c == 1) ≡ t → (state_of us c == 1) ≡ t
-    state_same us reads t g h p = test_same _ _ 1 t (g.1 (state_word c) h) p
+    state_same us reads t g h p = eqb_carried _ _ 1 t (g.1 (state_word c) h) p
 
     key_same : (us reads : List ℕ) (t : Bool) → Agree reads ws us → IsIn reads (key_word c) → (key_of ws c == key) ≡ t → (key_of us c == key) ≡ t
-    key_same us reads t g h p = test_same _ _ key t (g.1 (key_word c) h) p
+    key_same us reads t g h p = eqb_carried _ _ key t (g.1 (key_word c) h) p
 
     size_same : (us reads : List ℕ) (t : Bool) → Agree reads ws us → IsIn reads (length_word c) → is_size (length_of ws c) ≡ t → is_size (length_of us c) ≡ t
     size_same us reads t g h p = ap is_size (sym (g.1 (length_word c) h)) ∙ p
@@ -160,11 +159,11 @@ put_row ws key v seen (c ∷ cs) = by_test (put_row ws key v (seen ++ state_word
     by_test later true q = (record { reads = seen ++ cell_words c; writes = zip (cell_words c) (1 ∷ key ∷ length v ∷ packed v); out = Put c; inside = in_right seen (cell_words c); gives = gives }, in_left seen _)
       where
         gives : (us : List ℕ) → Agree (seen ++ cell_words c) ws us → rows.put_among us key v seen (c ∷ cs) ≡ (effect_of us (seen ++ cell_words c) (zip (cell_words c) (1 ∷ key ∷ length v ∷ packed v)), Put c)
-        gives us a = let f : (state_of us c == 0) ≡ true = test_same _ _ 0 true (a.1 (state_word c) (in_right seen _ (state_word c) (inl refl))) q in rw f refl
+        gives us a = let f : (state_of us c == 0) ≡ true = eqb_carried _ _ 0 true (a.1 (state_word c) (in_right seen _ (state_word c) (inl refl))) q in rw f refl
     by_test later false q = (record { reads = later.0.reads; writes = later.0.writes; out = later.0.out; inside = later.0.inside; gives = gives }, λ i h. later.1 i (in_left seen _ i h))
       where
         gives : (us : List ℕ) → Agree later.0.reads ws us → rows.put_among us key v seen (c ∷ cs) ≡ (effect_of us later.0.reads later.0.writes, later.0.out)
-        gives us a = let f : (state_of us c == 0) ≡ false = test_same _ _ 0 false (a.1 (state_word c) (later.1 (state_word c) (in_right seen _ (state_word c) (inl refl)))) q in rw f (later.0.gives us a)
+        gives us a = let f : (state_of us c == 0) ≡ false = eqb_carried _ _ 0 false (a.1 (state_word c) (later.1 (state_word c) (in_right seen _ (state_word c) (inl refl)))) q in rw f (later.0.gives us a)
 
 pub put_by_reads : (key : ℕ) (v ws : List ℕ) → AnswersByReads (λ us. rows.put us key v) ws
 put_by_reads key v ws = row_answers (λ us. rows.put us key v) ws (put_row ws key v [] cells).0

@@ -4,6 +4,7 @@ use Rattle.std.specs.Prelude.{◌==◌, zip}
 use Rattle.std.specs.Int.{bit_at}
 use Rattle.std.proofs.lemmas.Bool.Decides.{eqb_tells}
 use Rattle.std.proofs.lemmas.Nat.Bits.{bit_at-zero}
+use Rattle.dali_lists.proofs.Numbers.{bit_none}
 use Rattle.dali_words.specs.declared.Effect.{Effect}
 use Rattle.dali_words.specs.Words.{mask_of, row_of}
 use Rattle.dali_words.specs.Values.{packed}
@@ -20,7 +21,7 @@ use Rattle.dali_heap.specs.Rows as rows
 use Rattle.dali_heap.specs.Operations.{CellOperation, Read, Change, Kill, Free, Revive, Restore, HasRead, HasChanged, HasKilled, Undone, done}
 use Rattle.dali_heap.specs.Laws.{InCell, TakesFirst}
 use Rattle.dali_heap.specs.Orders.{states_before, PutReads, OperationsCommute, StaysFirst, PutCommutes, Passes, PutTakesFreed}
-use Rattle.dali_heap.proofs.CellLaws.{bit_none, operations_stay, puts_within, put_takes_first}
+use Rattle.dali_heap.proofs.CellLaws.{operations_stay, puts_within, put_takes_first}
 use Rattle.dali_heap.proofs.Dependence.{read_by_reads, change_by_reads, kill_by_reads, free_by_reads, revive_by_reads, restore_by_reads}
 use Rattle.dali_heap.proofs.Walk.{cell_row}
 
@@ -82,7 +83,7 @@ pub record IsOn (c : ℕ) (o : CellOperation) (ws : List ℕ) : Type 0 where
   pub answers : AnswersByReads (done o c) ws
 
 -- what an outcome is called in the type of all
-called : {O P : Type 0} (f : List ℕ → Effect × O) (name : O → P) (ws : List ℕ) → AnswersByReads f ws → AnswersByReads (λ us. ((f us).0, name (f us).1)) ws
+pub called : {O P : Type 0} (f : List ℕ → Effect × O) (name : O → P) (ws : List ℕ) → AnswersByReads f ws → AnswersByReads (λ us. ((f us).0, name (f us).1)) ws
 called {O} f name ws a us g = ap (λ (r : Effect × O). (r.0, name r.1)) (a us g)
 
 pub is_on : (o : CellOperation) (c : ℕ) (ws : List ℕ) → IsOn c o ws

@@ -3,6 +3,7 @@ use Rattle.std.proofs.Common.{◌≡◌, ℕ, Bool, true, false, cond, List, [],
 use Rattle.std.specs.Prelude.{◌==◌, ◌||◌, not, ⊤, IsSome}
 use Rattle.std.proofs.lemmas.List.Elements.{filter_map-append}
 use Rattle.std.proofs.lemmas.Bool.{both_ways, or_left, or_right}
+use mathlib.Core.Bool.{or-false}
 use Rattle.dali_geometry.specs.Sizes.{Sizes}
 use Rattle.dali_record.specs.declared.operations.Block.{Block}
 use Rattle.dali_record.specs.declared.operations.Pending.{Pending}
@@ -13,7 +14,6 @@ use Rattle.dali_record.specs.Damage.{has}
 use Rattle.dali_record.specs.Legal.{Working, TxnState, Unbegun, Active, Committed, Over, txn_step, txn_next, txn_state, allowed, freed}
 use Rattle.dali_record.proofs.Ends.{by_push}
 use Rattle.dali_record.proofs.Pushes.{txn_state_push}
-use Rattle.dali_history.proofs.Places.{or_none}
 use Rattle.dali_history.proofs.Members.{has_append}
 
 -- ---- what committed had begun
@@ -53,32 +53,28 @@ commits t r = has (committed (r ∷ [])) t
 
 began_begins : (d : Bool) (x : Working) (b c : Bool) → (c ≡ true → b ≡ true) → Began (Some (cond d (Active x) Unbegun)) (b || (d || false)) (c || false)
 began_begins true x b c h = or_right b true refl
-began_begins false x b c h = λ e. rw (or_none b) (h (rw (or_none c) at e))
+began_begins false x b c h = λ e. rw (or-false b) (h (rw (or-false c) at e))
 
 -- a Commit of another transaction
 commit_other : (d : Bool) (x : TxnState) (b c : Bool) → Began (Some x) b c → ((b c : Bool) → (c ≡ true → b ≡ true) → Began (Some x) b c) → (c ≡ true → b ≡ true) → Began (allowed (not d) (Some x)) (b || false) (c || (d || false))
 commit_other true x b c h same k = tt
-commit_other false x b c h same k = same (b || false) (c || false) (λ e. rw (or_none b) (k (rw (or_none c) at e)))
+commit_other false x b c h same k = same (b || false) (c || false) (λ e. rw (or-false b) (k (rw (or-false c) at e)))
 
 kept_on : (b c : Bool) → (c ≡ true → b ≡ true) → (c || false) ≡ true → (b || false) ≡ true
-kept_on b c h e = rw (or_none b) (h (rw (or_none c) at e))
+kept_on b c h e = rw (or-false b) (h (rw (or-false c) at e))
 
 more_begun : (d : Bool) (b c : Bool) → (c ≡ true → b ≡ true) → (c || false) ≡ true → (b || (d || false)) ≡ true
-more_begun d b c h e = or_left b (d || false) (h (rw (or_none c) at e))
+more_begun d b c h e = or_left b (d || false) (h (rw (or-false c) at e))
 
 began_step : (s : Sizes) (t : ℕ) (x : TxnState) (b c : Bool) (r : Record) → Began (Some x) b c → Began (txn_step s t x r) (b || begins t r) (c || commits t r)
-began_step s t Unbegun b c (Format i h) e = kept_on b c e
 began_step s t Unbegun b c (Begin u) e = began_begins (u == t) _ b c e
 began_step s t Unbegun b c (Forward u k) e = began_allowed _ (Some Unbegun) _ _ (kept_on b c e)
 began_step s t Unbegun b c (Done u q a) e = began_allowed _ (Some Unbegun) _ _ (kept_on b c e)
 began_step s t Unbegun b c (Commit u) e = commit_other (u == t) Unbegun b c e (λ p q h. h) e
 began_step s t Unbegun b c (Ended u) e = began_allowed _ (Some Unbegun) _ _ (kept_on b c e)
 began_step s t Unbegun b c (Solo u p k) e = began_either (u == t) _ _ _ _ (began_allowed _ (Some Over) _ _ (kept_on b c e)) (began_allowed _ (Some Unbegun) _ _ (kept_on b c e))
-began_step s t Unbegun b c AuditBegin e = kept_on b c e
-began_step s t Unbegun b c (AuditClean k) e = kept_on b c e
-began_step s t Unbegun b c (AuditFail k rs) e = kept_on b c e
-began_step s t Unbegun b c (Restarted rs ds) e = kept_on b c e
 began_step s t Unbegun b c (Back u k) e = began_allowed _ (Some Unbegun) _ _ (kept_on b c e)
+began_step s t Unbegun b c _ e = kept_on b c e
 began_step s t (Active w) b c (Format i h) e = or_left b false e
 began_step s t (Active w) b c (Begin u) e = began_any (txn_step s t (Active w) (Begin u)) _ _ (or_left b _ e)
 began_step s t (Active w) b c (Forward u k) e = began_any (txn_step s t (Active w) (Forward u k)) _ _ (or_left b _ e)
@@ -91,30 +87,22 @@ began_step s t (Active w) b c (AuditClean k) e = or_left b false e
 began_step s t (Active w) b c (AuditFail k rs) e = or_left b false e
 began_step s t (Active w) b c (Restarted rs ds) e = began_any (txn_step s t (Active w) (Restarted rs ds)) _ _ (or_left b _ e)
 began_step s t (Active w) b c (Back u k) e = began_any (txn_step s t (Active w) (Back u k)) _ _ (or_left b _ e)
-began_step s t (Committed ps) b c (Format i h) e = kept_on b c e
 began_step s t (Committed ps) b c (Begin u) e = began_allowed _ (Some (Committed ps)) _ _ (more_begun (u == t) b c e)
 began_step s t (Committed ps) b c (Forward u k) e = began_allowed _ (Some (Committed ps)) _ _ (kept_on b c e)
 began_step s t (Committed ps) b c (Done u q a) e = began_allowed _ (Some (Committed ps)) _ _ (kept_on b c e)
 began_step s t (Committed ps) b c (Commit u) e = commit_other (u == t) (Committed ps) b c e (λ p q h. h) e
 began_step s t (Committed ps) b c (Ended u) e = began_either (u == t) _ (Some (Committed ps)) _ _ (began_allowed _ (Some Over) _ _ (kept_on b c e)) (kept_on b c e)
 began_step s t (Committed ps) b c (Solo u p k) e = began_allowed _ _ _ _ (began_either (p == t) (freed k ps) (Some (Committed ps)) _ _ (began_freed k ps _ _ (kept_on b c e)) (kept_on b c e))
-began_step s t (Committed ps) b c AuditBegin e = kept_on b c e
-began_step s t (Committed ps) b c (AuditClean k) e = kept_on b c e
-began_step s t (Committed ps) b c (AuditFail k rs) e = kept_on b c e
-began_step s t (Committed ps) b c (Restarted rs ds) e = kept_on b c e
 began_step s t (Committed ps) b c (Back u k) e = began_allowed _ (Some (Committed ps)) _ _ (kept_on b c e)
-began_step s t Over b c (Format i h) e = kept_on b c e
+began_step s t (Committed ps) b c _ e = kept_on b c e
 began_step s t Over b c (Begin u) e = began_allowed _ (Some Over) _ _ (more_begun (u == t) b c e)
 began_step s t Over b c (Forward u k) e = began_allowed _ (Some Over) _ _ (kept_on b c e)
 began_step s t Over b c (Done u q a) e = began_allowed _ (Some Over) _ _ (kept_on b c e)
 began_step s t Over b c (Commit u) e = commit_other (u == t) Over b c e (λ p q h. h) e
 began_step s t Over b c (Ended u) e = began_allowed _ (Some Over) _ _ (kept_on b c e)
 began_step s t Over b c (Solo u p k) e = began_allowed _ (Some Over) _ _ (kept_on b c e)
-began_step s t Over b c AuditBegin e = kept_on b c e
-began_step s t Over b c (AuditClean k) e = kept_on b c e
-began_step s t Over b c (AuditFail k rs) e = kept_on b c e
-began_step s t Over b c (Restarted rs ds) e = kept_on b c e
 began_step s t Over b c (Back u k) e = began_allowed _ (Some Over) _ _ (kept_on b c e)
+began_step s t Over b c _ e = kept_on b c e
 
 abbrev BeganIn : ℕ → Option TxnState → List Record → Type 0
 BeganIn t o L = Began o (has (begun L) t) (has (committed L) t)

@@ -5,16 +5,19 @@ use Rattle.std.specs.List.{list_any}
 use Rattle.std.proofs.lemmas.List.Elements.{filter_map-append, Contains-append_left}
 use Rattle.std.proofs.lemmas.Bool.{both_ways, or_cases, or_left, or_right, and_parts, and_from, not-true}
 use Rattle.std.proofs.lemmas.Bool.Decides.{Decides-eqb}
+use Rattle.std.proofs.lemmas.Map.Keys.{any_passes_from_place}
+use Rattle.dali_lists.proofs.Lists.{get_within}
+use Rattle.dali_lists.proofs.Members.{contains_from_get}
 use Rattle.dali_record.specs.declared.records.Record.{Record}
 use Rattle.dali_record.specs.declared.records.Record.TheVariants.{Commit}
 use Rattle.dali_record.specs.Log.{Touch, touch_of, touch_at, committed, commit_by}
 use Rattle.dali_record.specs.Epochs.{Epoch, epochs}
 use Rattle.dali_record.specs.Damage.{Damage, damage_of, has, marks, mark_at, is_corrupt_of, has_corrupt, HasCorrupt, IsDeleted}
 use Rattle.dali_record.proofs.Pushes.{touch_within}
-use Rattle.dali_record.proofs.Chains.{any_get, get_any, touch_true, true_touch, recs, touch_at-recs, mark_at-get, get_within, marks-records, marks_are_chains}
+use Rattle.dali_record.proofs.Chains.{any_get, touch_true, true_touch, recs, touch_at-recs, mark_at-get, marks-records, marks_are_chains}
 use Rattle.dali_history.specs.Serial.{is_deleted_in, is_deleted, survivors}
 use Rattle.dali_history.specs.Acknowledged.{IsDeletedByChain, KeepsCommitted}
-use Rattle.dali_history.proofs.Places.{Contains-from_get, get_from_Contains}
+use Rattle.dali_history.proofs.Places.{get_from_Contains}
 use Rattle.dali_history.proofs.Members.{has-filter, Contains-from_has, has_from_Contains, has-filter_from}
 use Rattle.dali_record.proofs.Survivors.{commit_is}
 
@@ -52,7 +55,7 @@ filtered_is_Contains h made gives from_h E t = (to, from)
     to k =
         let g = filter_map_get h (λ x. x == t) E k in
         let same : g.1 ≡ made t = from_h g.1 t (g.4 ∙ ap (λ x. Some x) ((Decides-eqb g.2 t).0 g.5)) in
-        Contains-from_get E g.0 (made t) (g.3 ∙ ap (λ x. Some x) same)
+        contains_from_get E g.0 (made t) (g.3 ∙ ap (λ x. Some x) same)
 
     from : Contains E (made t) → has (filter_map h E) t ≡ true
     from c = let g = get_from_Contains E (made t) c in get_filter_map h (λ x. x == t) E g.0 (made t) t g.1 (gives t) ((Decides-eqb t t).1 refl)
@@ -89,7 +92,7 @@ has_corrupt_is_chain d E t = (to, from)
         let touch : touch_of g.0.0 ≡ Some c.1 = sym (touch_at-recs (marks d E) c.0 g.0 g.1) ∙ ap (λ M. touch_at M c.0) same ∙ c.2 in
         let mark : g.0.1 ≡ true = sym (mark_at-get (marks d E) c.0 g.0 g.1) ∙ (marks_are_chains d E c.0 (touch_within E c.0 c.1 c.2)).1 c.4 in
         let one : is_corrupt_of t g.0 ≡ true = and_from g.0.1 _ mark (true_touch (λ a. a.txn == t) (touch_of g.0.0) c.1 touch ((Decides-eqb c.1.txn t).1 c.3)) in
-        get_any (is_corrupt_of t) (marks d E) c.0 g.0 g.1 one
+        any_passes_from_place (is_corrupt_of t) (marks d E) c.0 g.0 g.1 one
 
 -- t is deleted in an epoch where a chain deletes it there
 pub is_deleted_in_is_chain : (e : Epoch) (t : ℕ) → (is_deleted_in t e ≡ true) ↔ IsDeleted (damage_of e) e.records t
@@ -103,10 +106,10 @@ pub is_deleted_is_chain : (L : List Record) (t : ℕ) → (is_deleted L t ≡ tr
 is_deleted_is_chain L t = (to, from)
   where
     to : is_deleted L t ≡ true → IsDeletedByChain L t
-    to h = let g = any_get (is_deleted_in t) (epochs L) h in (g.1, Contains-from_get (epochs L) g.0 g.1 g.2, (is_deleted_in_is_chain g.1 t).0 g.3)
+    to h = let g = any_get (is_deleted_in t) (epochs L) h in (g.1, contains_from_get (epochs L) g.0 g.1 g.2, (is_deleted_in_is_chain g.1 t).0 g.3)
 
     from : IsDeletedByChain L t → is_deleted L t ≡ true
-    from d = let g = get_from_Contains (epochs L) d.0 d.1 in get_any (is_deleted_in t) (epochs L) g.0 d.0 g.1 ((is_deleted_in_is_chain d.0 t).1 d.2)
+    from d = let g = get_from_Contains (epochs L) d.0 d.1 in any_passes_from_place (is_deleted_in t) (epochs L) g.0 d.0 g.1 ((is_deleted_in_is_chain d.0 t).1 d.2)
 
 -- ---- survivors
 -- a survivor committed, and no chain deletes it

@@ -4,7 +4,6 @@ use Rattle.std.specs.Prelude.{fold, map, zip, slice_set, slice_index, All, ◌==
 use Rattle.std.proofs.lemmas.List.{length-set, length-map, length-take, length-drop, length-append, set_past}
 use Rattle.std.proofs.lemmas.List.Elements.{All-set, All-same, All-get_or, All-map, All-take, All-drop, All-append, All-weaker}
 use Rattle.std.proofs.lemmas.Bool.{cases_lt}
-use Rattle.dali_words.specs.Effects.{write_all}
 use Rattle.dali_geometry.specs.Sizes.{Sizes}
 use Rattle.dali_heap.specs.Cells as cell
 use Rattle.dali_index.specs.Entries as entry
@@ -19,14 +18,11 @@ use Rattle.dali_record.specs.Settled.{words_in, redo, redo_touch, redo_all}
 use Rattle.dali_history.specs.Recovered.{undo_into, free_word, freed}
 use Rattle.dali_index.specs.Invariant.{IsImage}
 use Rattle.dali_history.specs.Undos.{undone}
-use Rattle.dali_words.proofs.Masks.{length-write_under}
+use Rattle.dali_words.proofs.Masks.{length-write_under, length-write_all}
 
 -- ---- the length of a region
-length-write_all : (ws : List ℕ) (ps : List (ℕ × ℕ)) → length (write_all ws ps) ≡ length ws
-length-write_all ws [] = refl
-length-write_all ws (p ∷ ps) = length-write_all (slice_set ws p.0 p.1) ps ∙ length-set ws p.0 p.1
 
-length-undo : (u : Undo) (key : ℕ) (ws : List ℕ) → length (effect (undo_op u) key ws).0.after ≡ length ws
+pub length-undo : (u : Undo) (key : ℕ) (ws : List ℕ) → length (effect (undo_op u) key ws).0.after ≡ length ws
 length-undo (UndoFreeCell c) key ws = length-write_all ws ((cell.state_word c, 0) ∷ [])
 length-undo (UndoReviveCell c) key ws = length-write_all ws ((cell.state_word c, 1) ∷ [])
 length-undo (UndoRestore c n vs) key ws = length-write_all ws (zip (cell.length_word c ∷ cell.value_words c) (n ∷ vs))

@@ -4,9 +4,11 @@ use Rattle.std.specs.Prelude.{Contains, ◌==◌, ◌||◌, filter, fold}
 use Rattle.std.proofs.lemmas.List.Folds.{list_any-append}
 use Rattle.std.proofs.lemmas.Bool.Decides.{Decides-eqb}
 use Rattle.std.proofs.lemmas.Bool.{or_cases, or_left, or_right, both_ways}
+use Rattle.std.proofs.lemmas.Map.Keys.{any_passes_from_place}
+use Rattle.dali_lists.proofs.Members.{contains_from_get}
 use Rattle.dali_record.specs.Damage.{has}
-use Rattle.dali_record.proofs.Chains.{any_get, get_any}
-use Rattle.dali_history.proofs.Places.{Contains-from_get, get_from_Contains}
+use Rattle.dali_record.proofs.Chains.{any_get}
+use Rattle.dali_history.proofs.Places.{get_from_Contains}
 
 -- a number is in the one list or in the other
 pub has_append : (xs ys : List ℕ) (t : ℕ) → has (xs ++ ys) t ≡ (has xs t || has ys t)
@@ -23,16 +25,8 @@ has-filter p (x ∷ xs) t h = by_test (λ g. let r = has-filter p xs t g in (or_
         ⊎_elim (λ k. (or_left (x == t) (has xs t) k, subst (λ y. p y ≡ true) ((Decides-eqb x t).0 k) e)) later (or_cases (x == t) (has (filter p xs) t) g)
     by_test later false e = later (rw e at h)
 
-here_too : (x : ℕ) (xs : List ℕ) → has (x ∷ xs) x ≡ true
+pub here_too : (x : ℕ) (xs : List ℕ) → has (x ∷ xs) x ≡ true
 here_too x xs = or_left (x == x) (has xs x) ((Decides-eqb x x).1 refl)
-
--- tests that agree at each element keep the same
-pub filter_within : (p q : ℕ → Bool) (xs : List ℕ) → ((t : ℕ) → has xs t ≡ true → p t ≡ q t) → filter p xs ≡ filter q xs
-filter_within p q [] agree = refl
-filter_within p q (x ∷ xs) agree =
-    let rest : filter p xs ≡ filter q xs = filter_within p q xs (λ t h. agree t (or_right (x == t) (has xs t) h)) in
-    let same : p x ≡ q x = agree x (here_too x xs) in
-    rw (same, rest) refl
 
 -- steps that agree at each element lead to the same
 pub fold_within : {X : Type 0} (f g : X → ℕ → X) (xs : List ℕ) → ((t : ℕ) → has xs t ≡ true → (x : X) → f x t ≡ g x t) → (x : X) → fold f x xs ≡ fold g x xs
@@ -44,11 +38,11 @@ fold_within f g (t ∷ ts) agree x = ap (λ y. fold f y ts) (agree t (here_too t
 pub Contains-from_has : (xs : List ℕ) (t : ℕ) → has xs t ≡ true → Contains xs t
 Contains-from_has xs t h =
     let g = any_get (λ x. x == t) xs h in
-    Contains-from_get xs g.0 t (g.2 ∙ ap (λ x. Some x) ((Decides-eqb g.1 t).0 g.3))
+    contains_from_get xs g.0 t (g.2 ∙ ap (λ x. Some x) ((Decides-eqb g.1 t).0 g.3))
 
 -- what a list contains passes the test
 pub has_from_Contains : (xs : List ℕ) (t : ℕ) → Contains xs t → has xs t ≡ true
-has_from_Contains xs t c = let g = get_from_Contains xs t c in get_any (λ x. x == t) xs g.0 t g.1 ((Decides-eqb t t).1 refl)
+has_from_Contains xs t c = let g = get_from_Contains xs t c in any_passes_from_place (λ x. x == t) xs g.0 t g.1 ((Decides-eqb t t).1 refl)
 
 -- an element that passes stays
 pub has-filter_from : (p : ℕ → Bool) (xs : List ℕ) (t : ℕ) → has xs t ≡ true → p t ≡ true → has (filter p xs) t ≡ true

@@ -17,7 +17,7 @@ use Rattle.dali_history.proofs.Places.{get_from_Contains}
 use Rattle.dali_history.proofs.Members.{has_from_Contains}
 use Rattle.dali_history.proofs.ByKey.{none_stays}
 
-odd_value : (o : Option (List ℕ)) (c : Call) (p : ℕ) → value_after o c (Odd p) ≡ None
+pub odd_value : (o : Option (List ℕ)) (c : Call) (p : ℕ) → value_after o c (Odd p) ≡ None
 odd_value None (Insert k v) p = refl
 odd_value (Some w) (Insert k v) p = refl
 odd_value None (Update k v) p = refl

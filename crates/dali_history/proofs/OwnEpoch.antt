@@ -9,6 +9,7 @@ use Rattle.std.proofs.lemmas.List.Folds.{fold_along, list_any-append}
 use Rattle.std.proofs.lemmas.List.Elements.{filter-append, filter_map-append}
 use Rattle.std.proofs.lemmas.List.{length-append}
 use Rattle.std.proofs.lemmas.Bool.{or_from, or_parts, both_ways}
+use mathlib.Core.Bool.{or-false}
 use Rattle.dali_geometry.specs.Sizes.{Sizes}
 use Rattle.dali_record.specs.declared.operations.Block.{Block}
 use Rattle.dali_record.specs.declared.operations.Pending.{Pending}
@@ -20,7 +21,6 @@ use Rattle.dali_record.specs.Epochs.{Epoch, Cut, cut, cut_step, epochs}
 use Rattle.dali_record.specs.Damage.{any_txn, has}
 use Rattle.dali_record.specs.Calls.{Progress, Fresh, follow}
 use Rattle.dali_record.proofs.Pushes.{separates}
-use Rattle.dali_history.proofs.Places.{or_none}
 use Rattle.dali_record.specs.Legal.{Working, TxnState, Unbegun, Active, Committed, Over, txn_step, txn_next, txn_state, allowed, either_state, goes_on, starts, forward, back, is_of, is_onward, is_level, is_answer, is_none_left, dead_of, freed, rested}
 
 abbrev pub is_by : ℕ → Record → Bool
@@ -130,17 +130,13 @@ stays_step s t (Active w) n b (AuditFail k rs) f e = e
 stays_step s t (Active w) n b (Restarted rs ds) f e = absurd (cc)
 stays_step s t (Active w) n b (Back u k) f e = either_way (u == t) (back w k (last_of w.undos)) (Some (Active w)) n _ (in_back w k (last_of w.undos) n _ e) e
 stays_step s t (Committed ps) n b (Format i h) f e = absurd (cc)
-stays_step s t (Committed ps) n b (Begin u) f e = in_allowed _ (Some (Committed ps)) n _ e
-stays_step s t (Committed ps) n b (Forward u k) f e = in_allowed _ (Some (Committed ps)) n _ e
-stays_step s t (Committed ps) n b (Done u c a) f e = in_allowed _ (Some (Committed ps)) n _ e
-stays_step s t (Committed ps) n b (Commit u) f e = in_allowed _ (Some (Committed ps)) n _ e
 stays_step s t (Committed ps) n b (Ended u) f e = either_way (u == t) _ (Some (Committed ps)) n _ (in_allowed _ (Some Over) n _ (inl e)) e
 stays_step s t (Committed ps) n b (Solo u p k) f e = in_allowed _ _ n _ (either_way (p == t) (freed k ps) (Some (Committed ps)) n _ (in_freed k ps n _ e) e)
 stays_step s t (Committed ps) n b AuditBegin f e = e
 stays_step s t (Committed ps) n b (AuditClean k) f e = e
 stays_step s t (Committed ps) n b (AuditFail k rs) f e = e
 stays_step s t (Committed ps) n b (Restarted rs ds) f e = absurd (cc)
-stays_step s t (Committed ps) n b (Back u k) f e = in_allowed _ (Some (Committed ps)) n _ e
+stays_step s t (Committed ps) n b _ f e = in_allowed _ (Some (Committed ps)) n _ e
 stays_step s t Over n b (Format i h) f e = absurd (cc)
 stays_step s t Over n b (Begin u) f e = over_other (u == t) n b e
 stays_step s t Over n b (Forward u k) f e = over_other (u == t) n b e
@@ -190,7 +186,7 @@ louds_push : (t : ℕ) (es : List Epoch) (e : Epoch) → louds t (es ++ e ∷ []
 louds_push t es e = louds-append t es (e ∷ []) ∙ ap (λ n. louds t es + n) (one_epoch t e)
 
 loud_push : (t : ℕ) (E : List Record) (r : Record) → list_any (is_by t) (E ++ r ∷ []) ≡ (list_any (is_by t) E || is_by t r)
-loud_push t E r = list_any-append (is_by t) E (r ∷ []) ∙ ap (λ b. list_any (is_by t) E || b) (or_none (is_by t r))
+loud_push t E r = list_any-append (is_by t) E (r ∷ []) ∙ ap (λ b. list_any (is_by t) E || b) (or-false (is_by t r))
 
 abbrev StaysIn : ℕ → Option TxnState → Cut → Type 0
 StaysIn t o c = Stays o (louds t c.closed) (is_loud t c.now)
@@ -198,17 +194,8 @@ StaysIn t o c = Stays o (louds t c.closed) (is_loud t c.now)
 -- a record that separates no epochs goes to the end of the open one
 pub cut_step_more : (c : Cut) (r : Record) → separates r ≡ false → cut_step c r ≡ record { closed = c.closed; now = record { first = c.now.first; records = c.now.records ++ r ∷ [] } }
 cut_step_more c (Format i h) f = absurd (cc)
-cut_step_more c (Begin u) f = refl
-cut_step_more c (Forward u k) f = refl
-cut_step_more c (Done u a b) f = refl
-cut_step_more c (Commit u) f = refl
-cut_step_more c (Ended u) f = refl
-cut_step_more c (Solo u p k) f = refl
-cut_step_more c AuditBegin f = refl
-cut_step_more c (AuditClean k) f = refl
-cut_step_more c (AuditFail k rs) f = refl
 cut_step_more c (Restarted rs ds) f = absurd (cc)
-cut_step_more c (Back u k) f = refl
+cut_step_more c _ f = refl
 
 stays_same : (s : Sizes) (t : ℕ) (x : TxnState) (i h : ℕ) → txn_step s t x (Format i h) ≡ Some x
 stays_same s t Unbegun i h = refl
@@ -265,18 +252,8 @@ others_are_quiet s t L A e B legal split loud =
 
 -- ---- what a quiet epoch doesn't have
 quiet_call : (t : ℕ) (r : Record) → is_by t r ≡ false → call_by t r ≡ None
-quiet_call t (Format i h) f = refl
-quiet_call t (Begin u) f = refl
-quiet_call t (Forward u k) f = refl
 quiet_call t (Done u a b) f = rw f refl
-quiet_call t (Commit u) f = refl
-quiet_call t (Ended u) f = refl
-quiet_call t (Solo u p k) f = refl
-quiet_call t AuditBegin f = refl
-quiet_call t (AuditClean k) f = refl
-quiet_call t (AuditFail k rs) f = refl
-quiet_call t (Restarted rs ds) f = refl
-quiet_call t (Back u k) f = refl
+quiet_call t _ f = refl
 
 -- no call of t was answered in it
 pub quiet_calls : (t : ℕ) (E : List Record) → list_any (is_by t) E ≡ false → calls_of t E ≡ []
@@ -284,18 +261,8 @@ quiet_calls t [] f = refl
 quiet_calls t (r ∷ E) f = let p = or_parts (is_by t r) (list_any (is_by t) E) f in rw (quiet_call t r p.0) (quiet_calls t E p.1)
 
 quiet_commit : (t : ℕ) (r : Record) → is_by t r ≡ false → has (committed (r ∷ [])) t ≡ false
-quiet_commit t (Format i h) f = refl
-quiet_commit t (Begin u) f = refl
-quiet_commit t (Forward u k) f = refl
-quiet_commit t (Done u a b) f = refl
 quiet_commit t (Commit u) f = rw f refl
-quiet_commit t (Ended u) f = refl
-quiet_commit t (Solo u p k) f = refl
-quiet_commit t AuditBegin f = refl
-quiet_commit t (AuditClean k) f = refl
-quiet_commit t (AuditFail k rs) f = refl
-quiet_commit t (Restarted rs ds) f = refl
-quiet_commit t (Back u k) f = refl
+quiet_commit t _ f = refl
 
 -- t has no Commit in it
 pub quiet_committed : (t : ℕ) (E : List Record) → list_any (is_by t) E ≡ false → has (committed E) t ≡ false

@@ -6,6 +6,8 @@ use Rattle.std.proofs.lemmas.List.{append-nil, take-append-le}
 use Rattle.std.proofs.lemmas.List.Folds.{fold_stays}
 use Rattle.std.proofs.lemmas.List.Sums.{fold-append}
 use Rattle.std.proofs.lemmas.Option.{slice_get_within}
+use Rattle.dali_lists.proofs.Lists.{get_front}
+use Rattle.dali_lists.proofs.Members.{all_parts}
 use Rattle.dali_geometry.specs.Sizes.{Sizes}
 use Rattle.dali_record.specs.declared.records.Record.{Record}
 use Rattle.dali_record.specs.declared.records.Record.TheVariants.{Format, Restarted}
@@ -17,19 +19,18 @@ use Rattle.dali_record.proofs.Ends.{get_old}
 use Rattle.dali_record.proofs.Pushes.{rules_state_push, cut_push, touch_old, touch_within, separates}
 use Rattle.dali_history.specs.Recovered.{IsHonest}
 use Rattle.dali_history.specs.History.{IsHistory}
-use Rattle.dali_history.proofs.Places.{get_front}
 use Rattle.dali_history.proofs.Spelled.{AreSpelled-front}
 use Rattle.dali_history.proofs.OwnEpoch.{cut_step_more}
 use Rattle.dali_history.proofs.ByEpochs.{counts_all, format_alone}
 
 -- ---- places
-touch_front : (A B : List Record) (i : ℕ) (a : Touch) → touch_at A i ≡ Some a → touch_at (A ++ B) i ≡ Some a
+pub touch_front : (A B : List Record) (i : ℕ) (a : Touch) → touch_at A i ≡ Some a → touch_at (A ++ B) i ≡ Some a
 touch_front [] B i a e = absurd (cc)
 touch_front (r ∷ A) B zero a e = e
 touch_front (r ∷ A) B (suc i) a e = touch_front A B i a e
 
 -- ---- the rules
-rules_front : (s : Sizes) (o : Option Rules) (B : List Record) → IsSome (fold (rules_next s) o B) → IsSome o
+pub rules_front : (s : Sizes) (o : Option Rules) (B : List Record) → IsSome (fold (rules_next s) o B) → IsSome o
 rules_front s None B h = rw (fold_stays (rules_next s) None (λ r. refl) B) at h
 rules_front s (Some g) B h = refl
 
@@ -65,10 +66,6 @@ locks_in_pop E r legal i j a b lt p q c =
     let w = legal i j a b lt (touch_old E r i in_i ∙ p) (touch_old E r j in_j ∙ q) c in
     (w.0, w.1, w.2, sym (get_old E r w.0 (omega (arith, w.2, in_j))) ∙ w.3)
 
-all_front : {X : Type 0} (P : X → Type 0) (xs ys : List X) → AllByRecursion P (xs ++ ys) → AllByRecursion P xs × AllByRecursion P ys
-all_front P [] ys h = (tt, h)
-all_front P (x ∷ xs) ys h = let r = all_front P xs ys h.1 in ((h.0, r.0), r.1)
-
 AreLocked : Cut → Type 0
 AreLocked c = AllByRecursion (λ e. IsLockLegalIn e.records) c.closed × IsLockLegalIn c.now.records
 
@@ -79,7 +76,7 @@ locks_kind s L (Format i n) true f k h =
     let none : L ≡ [] = format_alone s L (rules_state s L) i n (counts_all s L) k in
     let nothing : AreLocked (cut []) = (tt, λ i j a b lt p q c. absurd (cc)) in
     subst (λ M. AreLocked (cut M)) (sym none) nothing
-locks_kind s L (Restarted rs ds) true f k h = let p = all_front (λ (e : Epoch). IsLockLegalIn e.records) (cut L).closed ((cut L).now ∷ []) h.0 in (p.0, p.1.0)
+locks_kind s L (Restarted rs ds) true f k h = let p = all_parts (λ (e : Epoch). IsLockLegalIn e.records) (cut L).closed ((cut L).now ∷ []) h.0 in (p.0, p.1.0)
 locks_kind s L r true f k h = absurd (cc)
 
 locks_pop : (s : Sizes) (L : List Record) (r : Record) → IsSome (rules_state s (L ++ r ∷ [])) → IsLockLegal (L ++ r ∷ []) → IsLockLegal L

@@ -5,15 +5,17 @@ use Rattle.std.specs.List.{list_any}
 use Rattle.std.proofs.lemmas.List.Elements.{filter_map-append, Contains-append_left, Contains-append_right}
 use Rattle.std.proofs.lemmas.Grind.{flat_map-append}
 use Rattle.std.proofs.lemmas.Bool.{both_ways, and_parts, and_from, or_left, or_right, or_parts, or_from, not-true, not_from_false, false_from_ne_true}
+use mathlib.Core.Bool.{or-false}
 use Rattle.dali_geometry.specs.Sizes.{Sizes}
 use Rattle.dali_record.specs.declared.records.Record.{Record}
-use Rattle.dali_record.specs.declared.records.Record.TheVariants.{Format, Begin, Forward, Done, Commit, Ended, Solo, AuditBegin, AuditClean, AuditFail, Restarted, Back}
+use Rattle.dali_record.specs.declared.records.Record.TheVariants.{Begin, Commit, Ended}
 use Rattle.dali_record.specs.Log.{last_of, begun, begin_by, committed, ended, ended_by}
 use Rattle.dali_record.specs.Epochs.{Epoch, cut, epochs, recovered_or, recovered_epoch}
 use Rattle.dali_record.specs.Damage.{has, damage_of, IsDeleted, deleted_list, rolled_list}
 use Rattle.dali_record.specs.Legal.{IsLegalFor}
+use Rattle.dali_record.proofs.Survivors.{begin_is}
 use Rattle.dali_history.specs.Serial.{is_deleted_in}
-use Rattle.dali_history.proofs.Places.{or_none, split_at}
+use Rattle.dali_history.proofs.Places.{split_at}
 use Rattle.dali_history.proofs.Members.{has-filter, Contains-from_has, has_from_Contains, has-filter_from, has_append}
 use Rattle.dali_history.proofs.OwnEpoch.{is_by, AreQuiet, others_are_quiet, loud_from_committed}
 use Rattle.dali_history.proofs.ByEpochs.{in_epochs, committed_in_epochs}
@@ -22,18 +24,8 @@ use Rattle.dali_history.proofs.Began.{begun_from_committed}
 
 -- ---- a Begin in the same epoch
 quiet_begin : (t : ℕ) (r : Record) → is_by t r ≡ false → has (begun (r ∷ [])) t ≡ false
-quiet_begin t (Format i h) f = refl
 quiet_begin t (Begin u) f = rw f refl
-quiet_begin t (Forward u k) f = refl
-quiet_begin t (Done u a b) f = refl
-quiet_begin t (Commit u) f = refl
-quiet_begin t (Ended u) f = refl
-quiet_begin t (Solo u p k) f = refl
-quiet_begin t AuditBegin f = refl
-quiet_begin t (AuditClean k) f = refl
-quiet_begin t (AuditFail k rs) f = refl
-quiet_begin t (Restarted rs ds) f = refl
-quiet_begin t (Back u k) f = refl
+quiet_begin t _ f = refl
 
 quiet_begun : (t : ℕ) (E : List Record) → list_any (is_by t) E ≡ false → has (begun E) t ≡ false
 quiet_begun t [] f = refl
@@ -52,7 +44,7 @@ has_in_own t A e B quiet =
     ∙ ap (λ b. b || has (flat_map (λ f. begun f.records) (e ∷ B)) t) (none_begun t A quiet.0)
     ∙ has_append (begun e.records) (flat_map (λ f. begun f.records) B) t
     ∙ ap (λ b. has (begun e.records) t || b) (none_begun t B quiet.1)
-    ∙ or_none (has (begun e.records) t)
+    ∙ or-false (has (begun e.records) t)
 
 has_committed : (t : ℕ) (A : List Epoch) (e : Epoch) (B : List Epoch) → has (committed e.records) t ≡ true → has (flat_map (λ f. committed f.records) (A ++ e ∷ B)) t ≡ true
 has_committed t A e B h =
@@ -84,37 +76,14 @@ deleted_list_is s L e t legal here = (to, from)
         Contains-from_has (deleted_list e) t (has-filter_from (λ u. is_deleted_in u e) (begun e.records) t (begun_in_own s L e t legal here (and_parts (has (committed e.records) t) _ h).0) h)
 
 -- ---- the rolled back
-begin_from : (r : Record) (t : ℕ) → begin_by r ≡ Some t → r ≡ Begin t
-begin_from (Format i h) t e = absurd (cc)
-begin_from (Begin u) t e = let same : u ≡ t = cc in ap (λ v. Begin v) same
-begin_from (Forward u k) t e = absurd (cc)
-begin_from (Done u a b) t e = absurd (cc)
-begin_from (Commit u) t e = absurd (cc)
-begin_from (Ended u) t e = absurd (cc)
-begin_from (Solo u p k) t e = absurd (cc)
-begin_from AuditBegin t e = absurd (cc)
-begin_from (AuditClean k) t e = absurd (cc)
-begin_from (AuditFail k rs) t e = absurd (cc)
-begin_from (Restarted rs ds) t e = absurd (cc)
-begin_from (Back u k) t e = absurd (cc)
 
-ended_from : (r : Record) (t : ℕ) → ended_by r ≡ Some t → r ≡ Ended t
-ended_from (Format i h) t e = absurd (cc)
-ended_from (Begin u) t e = absurd (cc)
-ended_from (Forward u k) t e = absurd (cc)
-ended_from (Done u a b) t e = absurd (cc)
-ended_from (Commit u) t e = absurd (cc)
+pub ended_from : (r : Record) (t : ℕ) → ended_by r ≡ Some t → r ≡ Ended t
 ended_from (Ended u) t e = let same : u ≡ t = cc in ap (λ v. Ended v) same
-ended_from (Solo u p k) t e = absurd (cc)
-ended_from AuditBegin t e = absurd (cc)
-ended_from (AuditClean k) t e = absurd (cc)
-ended_from (AuditFail k rs) t e = absurd (cc)
-ended_from (Restarted rs ds) t e = absurd (cc)
-ended_from (Back u k) t e = absurd (cc)
+ended_from _ t e = absurd (cc)
 
 -- t has begun where the list has its Begin
 pub begun_is_Contains : (E : List Record) (t : ℕ) → (has (begun E) t ≡ true) ↔ Contains E (Begin t)
-begun_is_Contains E t = filtered_is_Contains begin_by (λ u. Begin u) (λ u. refl) begin_from E t
+begun_is_Contains E t = filtered_is_Contains begin_by (λ u. Begin u) (λ u. refl) begin_is E t
 
 -- t has ended where the list has its Ended
 pub ended_is_Contains : (E : List Record) (t : ℕ) → (has (ended E) t ≡ true) ↔ Contains E (Ended t)

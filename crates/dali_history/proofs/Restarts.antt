@@ -6,10 +6,12 @@ use Rattle.std.proofs.lemmas.List.{append-nil}
 use Rattle.std.proofs.lemmas.List.Folds.{fold_along, list_any-append}
 use Rattle.std.proofs.lemmas.List.Elements.{filter_agree}
 use Rattle.std.proofs.lemmas.Bool.{both_ways, ne_eqb}
+use mathlib.Core.Bool.{or-false}
+use Rattle.dali_lists.proofs.Options.{some_of}
 use Rattle.dali_geometry.specs.Sizes.{Sizes}
 use Rattle.dali_geometry.specs.Places.{formatted_image}
 use Rattle.dali_record.specs.declared.records.Record.{Record}
-use Rattle.dali_record.specs.declared.records.Record.TheVariants.{Format, Begin, Forward, Done, Commit, Ended, Solo, AuditBegin, AuditClean, AuditFail, Restarted, Back}
+use Rattle.dali_record.specs.declared.records.Record.TheVariants.{Format, Commit, Ended, Restarted}
 use Rattle.dali_record.specs.Log.{calls_of, committed}
 use Rattle.dali_record.specs.Epochs.{Epoch, Cut, cut, cut_step, last_epoch, recovered_or, recovered_epoch, epochs}
 use Rattle.dali_record.specs.Damage.{rolled_list, deleted_list}
@@ -19,12 +21,11 @@ use Rattle.dali_record.proofs.Pushes.{cut_push, committed_push, calls_of_push, I
 use Rattle.dali_history.specs.Serial.{empty_map, calls_after, serial, is_deleted_in, is_deleted, survivors, expected}
 use Rattle.dali_history.specs.Recovered.{recover, base_of, recovered, recovered_now, IsHonestIn, AreHonest, IsHonest}
 use Rattle.dali_history.specs.History.{IsHistory}
-use Rattle.dali_history.proofs.Places.{or_none}
 use Rattle.dali_history.proofs.Bases.{recovered-restarted}
 use Rattle.dali_history.proofs.Members.{fold_within}
 use Rattle.dali_history.proofs.Spelled.{AreSpelled-push}
 use Rattle.dali_history.proofs.SpelledRestart.{restarted_is_spelled}
-use Rattle.dali_history.proofs.ByEpochs.{counts_all, some_of}
+use Rattle.dali_history.proofs.ByEpochs.{counts_all}
 
 -- ---- the rules know whether the log ends with Restarted
 abbrev pub is_restart : Record → Bool
@@ -45,17 +46,10 @@ ends_either false b o p h g = g
 
 ends_runs : (s : Sizes) (g : Rules) (r : Record) → Ends false (runs s g r)
 ends_runs s g (Format i h) = tt
-ends_runs s g (Begin t) = ends_if _ false _ refl
-ends_runs s g (Forward t b) = ends_if _ false _ refl
-ends_runs s g (Back t b) = ends_if _ false _ refl
-ends_runs s g (Done t c a) = ends_if _ false _ refl
 ends_runs s g (Commit t) = refl
 ends_runs s g (Ended t) = refl
-ends_runs s g (Solo t p b) = ends_if _ false _ refl
-ends_runs s g AuditBegin = ends_if _ false _ refl
-ends_runs s g (AuditClean b) = ends_if _ false _ refl
-ends_runs s g (AuditFail b rs) = ends_if _ false _ refl
 ends_runs s g (Restarted rs ds) = tt
+ends_runs s g _ = ends_if _ false _ refl
 
 ends_first : (s : Sizes) (g : Rules) (r : Record) → Ends (is_restart r) (rules_first s g r)
 ends_first s g (Format i h) = ends_if _ false _ refl
@@ -98,11 +92,11 @@ behind s L = fold_along (rules_next s) cut_step IsEmptyBehind (λ o c r. behind_
 restart_allowed : (s : Sizes) (g : Rules) (rs ds : List ℕ) → (g.count == 0) ≡ false → g.restarted ≡ false → IsSome (rules_step s g (Restarted rs ds))
 restart_allowed s g rs ds e f = rw (e, f) refl
 
-none_in_nothing : (L : List Record) (r : Record) (E : List Record) → (last_epoch L).records ≡ r ∷ E → 0 < length L
+pub none_in_nothing : (L : List Record) (r : Record) (E : List Record) → (last_epoch L).records ≡ r ∷ E → 0 < length L
 none_in_nothing [] r E e = absurd (cc)
 none_in_nothing (x ∷ L) r E e = omega arith
 
-rules_allow : (s : Sizes) (L : List Record) (r : Record) (E : List Record) (rs ds : List ℕ) → IsSome (rules_state s L) → (last_epoch L).records ≡ r ∷ E → IsSome (rules_next s (rules_state s L) (Restarted rs ds))
+pub rules_allow : (s : Sizes) (L : List Record) (r : Record) (E : List Record) (rs ds : List ℕ) → IsSome (rules_state s L) → (last_epoch L).records ≡ r ∷ E → IsSome (rules_next s (rules_state s L) (Restarted rs ds))
 rules_allow s L r E rs ds legal some = rw state.1 (restart_allowed s state.0 rs ds (ne_eqb state.0.count 0 not_first) (not_restarted state.0.restarted refl))
   where
     state : (g : Rules) × (rules_state s L ≡ Some g)
@@ -118,7 +112,7 @@ rules_allow s L r E rs ds legal some = rw state.1 (restart_allowed s state.0 rs 
         let never : r ∷ E ≡ [] = sym some ∙ empty e in
         absurd (cc)
 
-txn_allows : (s : Sizes) (t : ℕ) (o : Option TxnState) (rs ds : List ℕ) → IsSome o → IsSome (txn_next s t o (Restarted rs ds))
+pub txn_allows : (s : Sizes) (t : ℕ) (o : Option TxnState) (rs ds : List ℕ) → IsSome o → IsSome (txn_next s t o (Restarted rs ds))
 txn_allows s t None rs ds h = h
 txn_allows s t (Some Unbegun) rs ds h = refl
 txn_allows s t (Some (Active w)) rs ds h = refl
@@ -146,7 +140,7 @@ same_deleted : (L : List Record) (rs ds : List ℕ) (t : ℕ) → is_deleted (re
 same_deleted L rs ds t =
     ap (λ (c : Cut). list_any (is_deleted_in t) (c.closed ++ c.now ∷ [])) (cut_push L (Restarted rs ds))
     ∙ list_any-append (is_deleted_in t) (epochs L) ((cut_step (cut L) (Restarted rs ds)).now ∷ [])
-    ∙ or_none (is_deleted L t)
+    ∙ or-false (is_deleted L t)
 
 -- the same transactions survive
 pub survivors-restarted : (L : List Record) (rs ds : List ℕ) → survivors (restarted L rs ds) ≡ survivors L

@@ -1,7 +1,8 @@
 -- What a log keeps whose records can be spelled.
 use Rattle.std.proofs.Common.{◌≡◌, ℕ, List, [], ◌∷◌, ◌++◌, Some, subst, ⊎_elim}
+use Rattle.dali_lists.proofs.Lists.{get_front}
 use Rattle.dali_record.specs.declared.operations.Op.{Op}
-use Rattle.dali_record.specs.declared.operations.Op.TheVariants.{Look, Add, KillEntry, Put, Read, Change, KillCell, FreeCell, ReviveCell, Restore, FreeEntry, ReviveEntry}
+use Rattle.dali_record.specs.declared.operations.Op.TheVariants.{Put, Change}
 use Rattle.dali_record.specs.declared.records.Record.{Record}
 use Rattle.dali_record.specs.declared.records.Record.TheVariants.{Format, Begin, Forward, Done, Commit, Ended, Solo, AuditBegin, AuditClean, AuditFail, Restarted, Back}
 use Rattle.dali_record.specs.Spelling.{IsOperation, IsBlock, CanBeSpelled}
@@ -12,7 +13,6 @@ use Rattle.dali_record.proofs.Fronts.{touch_get}
 use Rattle.dali_record.proofs.Undos.{undo_changes}
 use Rattle.dali_history.specs.Blocks.{HasValue, HasValues, HasWholeBlocks}
 use Rattle.dali_history.specs.History.{AreSpelled}
-use Rattle.dali_history.proofs.Places.{get_front}
 
 -- ---- fronts, and one more record
 pub AreSpelled-front : (A B : List Record) → AreSpelled (A ++ B) → AreSpelled A
@@ -49,18 +49,9 @@ pub block_at : (L : List Record) → AreSpelled L → (i : ℕ) (a : Touch) → 
 block_at L h i a e = let g = touch_get L i a e in block_is_spelled g.0 a g.2 (h i g.0 g.1)
 
 value_of_operation : (op : Op) → IsOperation op → HasValue op
-value_of_operation Look h = tt
-value_of_operation (Add p) h = tt
-value_of_operation (KillEntry e) h = tt
 value_of_operation (Put v) h = h
-value_of_operation (Read c) h = tt
 value_of_operation (Change c v) h = h.1
-value_of_operation (KillCell c) h = tt
-value_of_operation (FreeCell c) h = tt
-value_of_operation (ReviveCell c) h = tt
-value_of_operation (Restore c n ws) h = tt
-value_of_operation (FreeEntry e) h = tt
-value_of_operation (ReviveEntry e) h = tt
+value_of_operation _ h = tt
 
 -- its operations name values
 pub spelled_values : (L : List Record) → AreSpelled L → HasValues L

@@ -6,6 +6,7 @@ use Rattle.std.specs.List.Sorted.{IsStrictlyIncreasing}
 use Rattle.std.proofs.lemmas.List.{length-append}
 use Rattle.std.proofs.lemmas.List.Elements.{filter_map-append, Contains-append_right}
 use Rattle.std.proofs.lemmas.Bool.{and_parts, and_from, lt-ltb, leb-true}
+use Rattle.dali_lists.proofs.Lists.{length_filter, get_push}
 use Rattle.dali_geometry.specs.Sizes.{Sizes}
 use Rattle.dali_record.specs.declared.records.Record.{Record}
 use Rattle.dali_record.specs.declared.records.Record.TheVariants.{Format, Begin, Forward, Done, Commit, Ended, Solo, AuditBegin, AuditClean, AuditFail, Restarted, Back}
@@ -14,7 +15,7 @@ use Rattle.dali_record.specs.Log.{begun, begin_by, committed, ended}
 use Rattle.dali_record.specs.Epochs.{Cut, cut, last_epoch}
 use Rattle.dali_record.specs.Damage.{has, damage_of, marks, has_corrupt, rolled_list, deleted_list}
 use Rattle.dali_record.specs.Legal.{Rules, rules_state, rules_next, rules_first, rules_behind, runs, kept_if, passes, has_room, room}
-use Rattle.dali_record.proofs.Ends.{by_push, get_new}
+use Rattle.dali_record.proofs.Ends.{by_push}
 use Rattle.dali_record.proofs.Pushes.{cut_push, rules_state_push, separates}
 use Rattle.dali_history.specs.History.{AreSpelled}
 use Rattle.dali_history.proofs.OwnEpoch.{cut_step_more}
@@ -108,7 +109,7 @@ spelled_now L = by_push (λ M. AreSpelled M → AreSpelled (last_epoch M).record
     none i x e = absurd (cc)
 
     by_kind : (M : List Record) (r : Record) (b : Bool) → separates r ≡ b → (AreSpelled M → AreSpelled (last_epoch M).records) → AreSpelled (M ++ r ∷ []) → AreSpelled (last_epoch (M ++ r ∷ [])).records
-    by_kind M r false f ih h = subst AreSpelled (sym (more_now M r f)) (AreSpelled-push (last_epoch M).records r (ih (AreSpelled-front M (r ∷ []) h)) (h (length M) r (get_new M r)))
+    by_kind M r false f ih h = subst AreSpelled (sym (more_now M r f)) (AreSpelled-push (last_epoch M).records r (ih (AreSpelled-front M (r ∷ []) h)) (h (length M) r (get_push M r)))
     by_kind M r true f ih h = subst AreSpelled (sym (none_now M r f)) none
 
 -- ---- lists
@@ -134,14 +135,6 @@ begun_are_64 p (r ∷ E) h = by_record r (h 0 r refl) (begun_are_64 p E (λ i x 
     by_record (Restarted rs ds) k rest = rest
     by_record (Back t b) k rest = rest
 
-pub fewer : (p : ℕ → Bool) (xs : List ℕ) → length (filter p xs) ≤ length xs
-fewer p [] = omega arith
-fewer p (x ∷ xs) = by_test (p x) (filter p xs) (fewer p xs)
-  where
-    by_test : (b : Bool) (ys : List ℕ) → length ys ≤ length xs → length (cond b (x ∷ ys) ys) ≤ length (x ∷ xs)
-    by_test true ys h = omega (arith, h)
-    by_test false ys h = omega (arith, h)
-
 ascends_from : (xs : List ℕ) → IsStrictlyIncreasing xs → ascends xs ≡ true
 ascends_from [] h = refl
 ascends_from (x ∷ []) h = refl
@@ -154,7 +147,7 @@ picked : (s : Sizes) (L : List Record) (p : ℕ → Bool) → IsSome (rules_stat
 picked s L p legal spelled up = (few, begun_are_64 p (last_epoch L).records (spelled_now L spelled), ascends_from (filter p (begun (last_epoch L).records)) up)
   where
     few : length (filter p (begun (last_epoch L).records)) < 2 ^ 32
-    few = omega (arith, fewer p (begun (last_epoch L).records), begun_within L, few_begun (length (begun L)) (rules_state s L) legal (weighs_all s L))
+    few = omega (arith, length_filter p (begun (last_epoch L).records), begun_within L, few_begun (length (begun L)) (rules_state s L) legal (weighs_all s L))
 
 -- the record that a restart of the log adds
 pub restarted_is_spelled : (s : Sizes) (L : List Record) → IsSome (rules_state s L) → AreSpelled L → CanBeSpelled (Restarted (rolled_list (last_epoch L)) (deleted_list (last_epoch L)))

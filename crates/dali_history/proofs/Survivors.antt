@@ -6,17 +6,17 @@ use Rattle.std.proofs.lemmas.List.{append-nil}
 use Rattle.std.proofs.lemmas.List.Folds.{list_any-append}
 use Rattle.std.proofs.lemmas.List.Elements.{filter-append}
 use Rattle.std.proofs.lemmas.Grind.{flat_map-append}
+use mathlib.Core.Bool.{or-false}
 use Rattle.dali_geometry.specs.Sizes.{Sizes}
 use Rattle.dali_record.specs.declared.records.Record.{Record}
 use Rattle.dali_record.specs.Log.{calls_of, committed}
 use Rattle.dali_record.specs.Epochs.{Epoch, epochs}
 use Rattle.dali_record.specs.Damage.{has}
 use Rattle.dali_record.specs.Legal.{IsLegalFor}
+use Rattle.dali_record.proofs.Survivors.{filter_same}
 use Rattle.dali_history.specs.Serial.{is_deleted_in, is_deleted, survivors}
-use Rattle.dali_history.proofs.Places.{or_none}
 use Rattle.dali_history.proofs.OwnEpoch.{AreQuiet, others_are_quiet, quiet_calls, quiet_committed, loud_from_committed}
 use Rattle.dali_history.proofs.ByEpochs.{calls_in_epochs, committed_in_epochs}
-use Rattle.dali_history.proofs.Members.{filter_within}
 
 -- the committed transactions of an epoch without those that are deleted in it
 abbrev pub survivors_in : Epoch → List ℕ
@@ -48,7 +48,7 @@ is_deleted_own s L A e B t legal split h =
     ∙ list_any-append (is_deleted_in t) A (e ∷ B)
     ∙ ap (λ b. b || list_any (is_deleted_in t) (e ∷ B)) (none_deleted t A quiet.0)
     ∙ ap (λ b. is_deleted_in t e || b) (none_deleted t B quiet.1)
-    ∙ or_none (is_deleted_in t e)
+    ∙ or-false (is_deleted_in t e)
 
 -- those of the epochs from one on
 from : (s : Sizes) (L : List Record) (A B : List Epoch) → IsLegalFor s L → epochs L ≡ A ++ B → filter (λ t. not (is_deleted L t)) (flat_map (λ e. committed e.records) B) ≡ flat_map survivors_in B
@@ -56,7 +56,7 @@ from s L A [] legal split = refl
 from s L A (e ∷ B) legal split =
     filter-append (λ t. not (is_deleted L t)) (committed e.records) (flat_map (λ f. committed f.records) B)
     ∙ ap (λ ts. ts ++ filter (λ t. not (is_deleted L t)) (flat_map (λ f. committed f.records) B))
-    (filter_within (λ t. not (is_deleted L t)) (λ t. not (is_deleted_in t e)) (committed e.records) (λ t h. ap not (is_deleted_own s L A e B t legal split h)))
+    (filter_same (λ t. not (is_deleted L t)) (λ t. not (is_deleted_in t e)) (committed e.records) (λ t h. ap not (is_deleted_own s L A e B t legal split h)))
     ∙ ap (λ ts. survivors_in e ++ ts) (from s L (A ++ e ∷ []) B legal (split ∙ sym (append_assoc A (e ∷ []) B)))
 
 -- the survivors are those of each epoch, in the order of the epochs

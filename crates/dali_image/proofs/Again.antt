@@ -3,7 +3,7 @@ use Rattle.std.proofs.Common.{◌≡◌, ℕ, ◌<◌, ◌≤◌, ◌^◌, Bool,
 use Rattle.std.specs.Prelude.{◌==◌, ◌&&◌, ◌||◌, not, nat_lt, nat_le, flat_map, map}
 use Rattle.std.specs.List.{AllByRecursion}
 use Rattle.std.specs.FinMap.{empty}
-use Rattle.std.proofs.lemmas.Bool.{lt-ltb}
+use Rattle.std.proofs.lemmas.Bool.{lt-ltb, and_from, and_parts}
 use Rattle.std.proofs.lemmas.Bool.Decides.{nat_tests}
 use Rattle.std.proofs.lemmas.List.{append-nil, drop-drop, drop_at}
 use Rattle.std.proofs.lemmas.List.Concat.{flat_map-cons}
@@ -129,10 +129,7 @@ undo_gets s r (ReviveEntry n) c rest h e = record { kind = kind_gets c 5 (n ∷ 
 -- a region of either kind is in range
 in_range : (s : Sizes) (r : ℕ) (u : Undo) → undoes_on s r u ≡ true → nat_lt r (regions s) ≡ true
 in_range s r (FreeCell n) h = grind (arith, nat_tests, h)
-in_range s r (ReviveCell n) h = grind (arith, nat_tests, h)
-in_range s r (Restore n k ws) h = grind (arith, nat_tests, h)
-in_range s r (FreeEntry n) h = grind (arith, nat_tests, h)
-in_range s r (ReviveEntry n) h = grind (arith, nat_tests, h)
+in_range s r _ h = grind (arith, nat_tests, h)
 
 region_gets : (s : Sizes) (c : Cursor) (r : ℕ) (rest : List ℕ) → Is32 r → nat_lt r (regions s) ≡ true → left c ≡ number32 r ++ rest → Gets c r rest (region_from s c)
 unfolding region_from
@@ -156,9 +153,6 @@ pendings_gets s c (u ∷ us) rest h e =
     then c u (flat_map pending_bytes us ++ rest) rest _ (pending_from s c) _ (pending_gets s c u _ h.0 (e ∙ ap (λ l. l ++ rest) (flat_map-cons pending_bytes u us) ∙ append_assoc (pending_bytes u) (flat_map pending_bytes us) rest)) (λ d1 e1.
     then d1 us rest rest _ (pendings_from s (length us) d1) _ (pendings_gets s d1 us rest h.1 e1) (λ d2 e2. ends d2 _ rest e2))
 
-both : (a b : Bool) → a ≡ true → b ≡ true → (a && b) ≡ true
-both a b e f = rw (e, f) refl
-
 none_or : (b : Bool) (n : ℕ) → (b ≡ true → n ≡ 0) → (not b || (n == 0)) ≡ true
 none_or true n h = rw (h refl) refl
 none_or false n h = refl
@@ -170,7 +164,7 @@ row_gets s next last c row rest small h above e =
     let fits : Is64 row.txn = omega (arith, h.txn, small) in
     then c row.txn ((flag_bytes row.is_committed ++ (number32 (length row.undos) ++ undos)) ++ rest) rest _ (txn_from next last c) _
     (then c row.txn _ _ row.txn (number64_from c) _ (number64_gets c row.txn _ fits (split c (number64 row.txn) (flag_bytes row.is_committed ++ (number32 (length row.undos) ++ undos)) rest e))
-    (λ d f. passed d row.txn _ (is_above last row.txn && nat_lt row.txn next) c.at (both _ _ above (lt-ltb row.txn next h.txn)) f)) (λ d1 e1.
+    (λ d f. passed d row.txn _ (is_above last row.txn && nat_lt row.txn next) c.at (and_from _ _ above (lt-ltb row.txn next h.txn)) f)) (λ d1 e1.
     then d1 row.is_committed ((number32 (length row.undos) ++ undos) ++ rest) rest _ (flag_from d1) _ (flag_gets d1 row.is_committed _ (split d1 (flag_bytes row.is_committed) (number32 (length row.undos) ++ undos) rest e1)) (λ d2 e2.
     then d2 (length row.undos) (undos ++ rest) rest _ (count_from row.is_committed d2) _
     (then d2 (length row.undos) _ _ (length row.undos) (number32_from d2) _ (number32_gets d2 (length row.undos) _ h.count (split d2 (number32 (length row.undos)) undos rest e2))
@@ -184,13 +178,9 @@ rows_gets s next last m c (row ∷ rows) rest small h rise e =
     then c row (flat_map row_bytes rows ++ rest) rest _ (row_from s next last c) _ (row_gets s next last c row _ small h.0 rise.0 (e ∙ ap (λ l. l ++ rest) (flat_map-cons row_bytes row rows) ∙ append_assoc (row_bytes row) (flat_map row_bytes rows) rest)) (λ d1 e1.
     rows_gets s next (Some row.txn) (with_row m row) d1 rows rest small h.1 rise.1 e1)
 
-apart : (a b : Bool) → (a && b) ≡ true → (a ≡ true) × (b ≡ true)
-apart true b e = (refl, e)
-apart false b e = absurd (cc)
-
 rise_on : (last : ℕ) (rows : List Row) → ascends (last ∷ map txn_in rows) ≡ true → Rises (Some last) rows
 rise_on last [] h = tt
-rise_on last (row ∷ rows) h = let g = apart (nat_lt last row.txn) (ascends (row.txn ∷ map txn_in rows)) h in (g.0, rise_on row.txn rows g.1)
+rise_on last (row ∷ rows) h = let g = and_parts (nat_lt last row.txn) (ascends (row.txn ∷ map txn_in rows)) h in (g.0, rise_on row.txn rows g.1)
 
 pub rise_of : (rows : List Row) → ascends (map txn_in rows) ≡ true → Rises None rows
 rise_of [] h = tt

@@ -7,6 +7,7 @@ use Rattle.dali_bytes.proofs.Numbers.{number32_again, number64_again, length-num
 use Rattle.dali_record.specs.Spelling.{Is32, Is64}
 use Rattle.dali_record.proofs.Readers.{some_is}
 use Rattle.dali_traces.specs.Disks.{mark}
+use Rattle.dali_traces.proofs.Images.{eight_fields}
 use Rattle.dali_image.specs.Headers.{heading, NoHeading}
 use Rattle.dali_image.specs.Laws.{HeadersAreBytes, IsHeader, OneHeader}
 use Rattle.dali_image.specs.declared.header.Header.{Header}
@@ -63,19 +64,16 @@ spread h rest =
 small32 : (h : Header) → IsHeader h → Is32 h.geometry.index × Is32 h.geometry.heap
 small32 h f = (omega (arith, f.sizes.few_index), omega (arith, f.sizes.few_heap))
 
-sum_of : (a b : List ℕ) (m n : ℕ) → length a ≡ m → length b ≡ n → length (a ++ b) ≡ m + n
-sum_of a b m n e f = length-append a b ∙ (ap (λ k. k + length b) e ∙ ap (λ k. m + k) f)
-
 pub heading_is_64 : (h : Header) → length (heading h) ≡ 64
 heading_is_64 h =
-    sum_of (codes "DALIIMG1") _ 8 56 refl
-    (sum_of (number32 h.geometry.index) _ 4 52 (length-number32 h.geometry.index)
-    (sum_of (number32 h.geometry.heap) _ 4 48 (length-number32 h.geometry.heap)
-    (sum_of (number64 h.number) _ 8 40 (length-number64 h.number)
-    (sum_of (number64 h.place) _ 8 32 (length-number64 h.place)
-    (sum_of (number64 h.first) _ 8 24 (length-number64 h.first)
-    (sum_of (number64 h.weight) _ 8 16 (length-number64 h.weight)
-    (sum_of (number64 h.next) _ 8 8 (length-number64 h.next)
+    eight_fields (codes "DALIIMG1") _ 8 56 refl
+    (eight_fields (number32 h.geometry.index) _ 4 52 (length-number32 h.geometry.index)
+    (eight_fields (number32 h.geometry.heap) _ 4 48 (length-number32 h.geometry.heap)
+    (eight_fields (number64 h.number) _ 8 40 (length-number64 h.number)
+    (eight_fields (number64 h.place) _ 8 32 (length-number64 h.place)
+    (eight_fields (number64 h.first) _ 8 24 (length-number64 h.first)
+    (eight_fields (number64 h.weight) _ 8 16 (length-number64 h.weight)
+    (eight_fields (number64 h.next) _ 8 8 (length-number64 h.next)
     (length-number64 h.table))))))))
 
 same_header : (h k : Header) (x y : List ℕ) → IsHeader h → IsHeader k → heading h ++ x ≡ heading k ++ y → h ≡ k

@@ -3,6 +3,7 @@ use Rattle.std.proofs.Common.{◌≡◌, ℕ, ◌^◌, Bool, true, false, cond, 
 use Rattle.std.specs.Prelude.{◌||◌, ◌==◌, not, nat_lt, nat_le}
 use Rattle.std.proofs.lemmas.Bool.Decides.{nat_tests}
 use Rattle.std.proofs.lemmas.List.{take_at}
+use Rattle.std.proofs.lemmas.Bool.{or_parts}
 use Rattle.dali_record.specs.Spelling.{Is64}
 use Rattle.dali_crash.specs.Checkpoints.{Head}
 use Rattle.dali_traces.specs.Disks.{table_bytes}
@@ -18,10 +19,6 @@ none_then : (b : Bool) (at : ℕ) (o : Option ℕ) → cond b (Some at) o ≡ No
 none_then true at o e = absurd cc
 none_then false at o e = (refl, e)
 
-neither : (a b : Bool) → (a || b) ≡ false → (a ≡ false) × (b ≡ false)
-neither false b e = (refl, e)
-neither true b e = absurd (cc)
-
 same_numbers : (a b : ℕ) → not (a == b) ≡ false → a ≡ b
 same_numbers a b e = grind (arith, nat_tests, e)
 
@@ -33,10 +30,10 @@ wanted h x e =
     let d = none_then (nat_le (2 ^ 40) h.first || (h.first == 0)) 32 _ c.1 in
     let f = none_then (nat_le (2 ^ 40) h.weight) 40 _ d.1 in
     let g = none_then (nat_le (2 ^ 40) h.next || (h.next == 0)) 48 _ f.1 in
-    let s = neither (not (h.geometry.index == x.geometry.index)) (not (h.geometry.heap == x.geometry.heap)) a.0 in
-    let p = neither (nat_lt h.place 15) (nat_le x.log h.place) c.0 in
-    let q = neither (nat_le (2 ^ 40) h.first) (h.first == 0) d.0 in
-    let n = neither (nat_le (2 ^ 40) h.next) (h.next == 0) g.0 in
+    let s = or_parts (not (h.geometry.index == x.geometry.index)) (not (h.geometry.heap == x.geometry.heap)) a.0 in
+    let p = or_parts (nat_lt h.place 15) (nat_le x.log h.place) c.0 in
+    let q = or_parts (nat_le (2 ^ 40) h.first) (h.first == 0) d.0 in
+    let n = or_parts (nat_le (2 ^ 40) h.next) (h.next == 0) g.0 in
     let index : h.geometry.index ≡ x.geometry.index = same_numbers _ _ s.0 in
     let heap : h.geometry.heap ≡ x.geometry.heap = same_numbers _ _ s.1 in
     record {

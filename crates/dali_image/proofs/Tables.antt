@@ -7,7 +7,8 @@ use Rattle.std.specs.Cmp.{nat_cmp_total}
 use Rattle.std.specs.FinMap.{get, insert, empty, get-empty, same_map, nat_cmp-IsAntisymmetric}
 use Rattle.std.proofs.lemmas.Bool.{lt-ltb, ltb-true}
 use Rattle.std.proofs.lemmas.List.{take_more, take_all}
-use Rattle.std.proofs.lemmas.Bool.Decides.{nat_tests, Decides-eqb}
+use Rattle.std.proofs.lemmas.Bool.Decides.{nat_tests}
+use Rattle.dali_lists.proofs.Numbers.{eqb-self}
 use Rattle.dali_att.specs.declared.state.State.TheVariants.{Live, Committed}
 use Rattle.dali_att.specs.Table.{Row as Entry, Table, with_undo, with_state, with_row as with_entry}
 use Rattle.dali_att.proofs.Changes.{get-added}
@@ -18,11 +19,8 @@ use Rattle.dali_image.specs.Rows.{kept, state_read}
 use Rattle.dali_image.specs.Decoding.{with_row}
 use Rattle.dali_image.proofs.Above.{IsAbove}
 
-same_self : (t : ℕ) → (t == t) ≡ true
-same_self t = (Decides-eqb t t).1 refl
-
 pub get_there : (m : Table Pending) (t : ℕ) (r : Entry Pending) → get (insert m t r) t ≡ Some r
-get_there m t r = get-added m t r t ∙ ap (λ b. cond b (Some r) (get m t)) (same_self t)
+get_there m t r = get-added m t r t ∙ ap (λ b. cond b (Some r) (get m t)) (eqb-self t)
 
 collapse : (b : Bool) (x y z : Option (Entry Pending)) → cond b x (cond b y z) ≡ cond b x z
 collapse true x y z = refl

@@ -3,7 +3,7 @@ use Rattle.std.proofs.Common.{◌≡◌, ℕ, zero, suc, ◌<◌, ◌≤◌, Boo
 use Rattle.std.specs.Prelude.{◌==◌, ◌&&◌, ◌||◌, not, nat_lt, nat_le, ⊤, flat_map, map}
 use Rattle.std.specs.List.{AllByRecursion}
 use Rattle.std.specs.FinMap.{empty}
-use Rattle.std.proofs.lemmas.Bool.{eqb-true, ltb-true}
+use Rattle.std.proofs.lemmas.Bool.{eqb-true, ltb-true, and_parts}
 use Rattle.std.proofs.lemmas.Bool.Decides.{nat_tests}
 use Rattle.std.proofs.lemmas.List.{append-nil, drop-drop, drop_at, drop_all, nil_from_length}
 use Rattle.std.proofs.lemmas.List.Concat.{flat_map-cons}
@@ -218,14 +218,10 @@ pendings_reads s (suc k) c fits =
     let h : AreSome s (suc k) (u ∷ us) (t1 ++ (t2 ++ [])) = (cat h1.0 (none_more h2.0) ∙ sym (flat_map-cons pending_bytes u us), ap suc h2.1, (h1.1, h2.2)) in
     nothing d2 (λ y more. AreSome s (suc k) y (t1 ++ (t2 ++ more))) (u ∷ us) h))
 
-both : (a b : Bool) → (a && b) ≡ true → (a ≡ true) × (b ≡ true)
-both true b e = (refl, e)
-both false b e = absurd (cc)
-
 txn_reads : (next : ℕ) (last : Option ℕ) (c : Cursor) → IsBytes c.all → Reads c (λ t text. (text ≡ number64 t) × (is_above last t ≡ true) × (t < next)) (txn_from next last c)
 unfolding txn_from
 txn_reads next last c fits = then c IsNumber64 _ (number64_from c) _ fits (number64_reads c fits) (λ t d text bs h.
-    tested d _ (is_above last t && nat_lt t next) c.at t (λ is. let g = both (is_above last t) (nat_lt t next) is in (none_more h.0, g.0, ltb-true t next g.1)))
+    tested d _ (is_above last t && nat_lt t next) c.at t (λ is. let g = and_parts (is_above last t) (nat_lt t next) is in (none_more h.0, g.0, ltb-true t next g.1)))
 
 none_of : (b : Bool) (n : ℕ) → (not b || (n == 0)) ≡ true → b ≡ true → n ≡ 0
 none_of true n e so = eqb-true n 0 e

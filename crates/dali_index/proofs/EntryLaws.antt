@@ -3,17 +3,18 @@ use Rattle.std.proofs.Common.{◌≡◌, ◌≢◌, ℕ, zero, suc, ◌+◌, ◌
 use Rattle.std.specs.Prelude.{◌==◌}
 use Rattle.std.specs.Int.{bit_at}
 use Rattle.std.proofs.lemmas.Bool.Decides.{eqb_tells}
-use Rattle.std.proofs.lemmas.Nat.Bits.{bit_at-lt}
 use Rattle.std.proofs.lemmas.List.{set-set, set-get_or, get_or-set_same, get_or-set_other}
+use Rattle.dali_lists.proofs.Numbers.{bit_none, here_or_later}
 use Rattle.dali_words.specs.declared.Effect.{Effect}
 use Rattle.dali_words.specs.declared.KillOutcome.{KillOutcome}
 use Rattle.dali_words.specs.declared.KillOutcome.TheVariants.{NotLive, OtherKey, Killed}
 use Rattle.dali_words.specs.Words.{mask_of, row_of}
-use Rattle.dali_words.specs.Effects.{effect_of, write_all, DependsOnReads, AnswersByReads}
+use Rattle.dali_words.specs.Effects.{effect_of, write_all}
 use Rattle.dali_words.proofs.Masks.{IsIn, in-mask_of, length-write_all}
 use Rattle.dali_words.proofs.Apart.{apart_commute}
 use Rattle.dali_words.proofs.Rows.{in_row, unwritten}
 use Rattle.dali_words.proofs.Dependence.{row_within, effect_within}
+use Rattle.dali_heap.proofs.CellLaws.{answers_depends}
 use Rattle.dali_index.specs.declared.LookOutcome.{LookOutcome}
 use Rattle.dali_index.specs.declared.LookOutcome.TheVariants.{Found, Absent}
 use Rattle.dali_index.specs.declared.AddOutcome.{AddOutcome}
@@ -38,9 +39,6 @@ in_two e ws writes = row_in_entry e 2 (state_word e ∷ key_word e ∷ []) (effe
 
 in_one : (e : ℕ) (ws : List ℕ) (writes : List (ℕ × ℕ)) → InEntry e (effect_of ws (state_word e ∷ []) writes)
 in_one e ws writes = row_in_entry e 1 (state_word e ∷ []) (effect_of ws (state_word e ∷ []) writes) refl refl (omega arith)
-
-answers_depends : {O : Type 0} (f : List ℕ → Effect × O) (ws : List ℕ) → AnswersByReads f ws → DependsOnReads (λ us. (f us).0) ws
-answers_depends {O} f ws a us g = ap (λ (r : Effect × O). r.0) (a us g)
 
 abbrev killed_by : List ℕ → ℕ → Bool → Bool → Effect × KillOutcome
 killed_by ws e x y = cond x (cond y (effect_of ws (state_word e ∷ key_word e ∷ []) ((state_word e, 2) ∷ []), Killed) (effect_of ws (state_word e ∷ key_word e ∷ []) [], OtherKey (key_of ws e))) (effect_of ws (state_word e ∷ []) [], NotLive (state_of ws e))
@@ -69,9 +67,6 @@ operations_stay = record {
   };
 }
 
-pub bit_none : (m i : ℕ) → (bit_at m i ≡ 1 → ⊥) → bit_at m i ≡ 0
-bit_none m i h = let low = bit_at-lt m i in grind arith
-
 pub entries_commute : EntriesCommute
 entries_commute f g d e ne sf sg ws = apart_commute f g ws (sf.depends ws) (sg.depends ws) (sf.within ws) (sg.within ws) (record { left = λ i w. bit_none (g ws).read i (λ r. other i (sf.reads ws i ((sf.within ws).inside i w)) (sg.reads ws i r)); right = λ i w. bit_none (f ws).read i (λ r. other i (sf.reads ws i r) (sg.reads ws i ((sg.within ws).inside i w))) })
   where
@@ -79,8 +74,6 @@ entries_commute f g d e ne sf sg ws = apart_commute f g ws (sf.depends ws) (sg.d
     other i a b = ne (omega arith)
 
 -- ---- walks
-from_next : (P : ℕ → Type 0) (k d : ℕ) → P k → (k + 1 ≤ d → P d) → k ≤ d → P d
-from_next P k d here later low = ⊎_elim (λ a. subst P (sym a.1) here) (λ a. later (omega (arith, a.1))) (eqb_tells d k)
 
 -- what a look among the n entries from k on finds
 abbrev pub Looked : List ℕ → ℕ → ℕ → ℕ → LookOutcome → Type 0
@@ -88,8 +81,8 @@ Looked ws key k n (Found e p) = (k ≤ e) × (e < k + n) × IsLiveOf ws key e ×
 Looked ws key k n (Absent overflow) = ((d : ℕ) → k ≤ d → d < k + n → ¬ IsLiveOf ws key d) × (overflow ≡ not (flag_of ws == 0))
 
 look_widen : (ws : List ℕ) (key k n : ℕ) (o : LookOutcome) → ¬ IsLiveOf ws key k → Looked ws key (k + 1) n o → Looked ws key k (suc n) o
-look_widen ws key k n (Found e p) un h = (omega arith, omega arith, h.2, h.3, λ d low high. from_next (λ x. x < e → ¬ IsLiveOf ws key x) k d (λ _. un) (λ a b. h.4 d a b) low high)
-look_widen ws key k n (Absent overflow) un h = ((λ d low high. from_next (λ x. x < k + suc n → ¬ IsLiveOf ws key x) k d (λ _. un) (λ a b. h.0 d a (omega arith)) low high), h.1)
+look_widen ws key k n (Found e p) un h = (omega arith, omega arith, h.2, h.3, λ d low high. here_or_later (λ x. x < e → ¬ IsLiveOf ws key x) k d (λ _. un) (λ a b. h.4 d a b) low high)
+look_widen ws key k n (Absent overflow) un h = ((λ d low high. here_or_later (λ x. x < k + suc n → ¬ IsLiveOf ws key x) k d (λ _. un) (λ a b. h.0 d a (omega arith)) low high), h.1)
 
 abbrev pub StaysSo : List ℕ → Effect → Type 0
 StaysSo ws e = (e.write ≡ 0) × (e.after ≡ ws)
@@ -131,8 +124,8 @@ Tried ws key p k n e (Added j) = (k ≤ j) × (j < k + n) × (state_of ws j ≡ 
 Tried ws key p k n e NoEntry = ((d : ℕ) → k ≤ d → d < k + n → state_of ws d ≢ 0) × (e.after ≡ cond (flag_of ws == 0) (set ws 0 1) ws)
 
 add_widen : (ws : List ℕ) (key p k n : ℕ) (e : Effect) (o : AddOutcome) → state_of ws k ≢ 0 → Tried ws key p (k + 1) n e o → Tried ws key p k (suc n) e o
-add_widen ws key p k n e (Added j) used h = (omega arith, omega arith, h.2, (λ d low high. from_next (λ x. x < j → state_of ws x ≢ 0) k d (λ _. used) (λ a b. h.3 d a b) low high), h.4)
-add_widen ws key p k n e NoEntry used h = ((λ d low high. from_next (λ x. x < k + suc n → state_of ws x ≢ 0) k d (λ _. used) (λ a b. h.0 d a (omega arith)) low high), h.1)
+add_widen ws key p k n e (Added j) used h = (omega arith, omega arith, h.2, (λ d low high. here_or_later (λ x. x < j → state_of ws x ≢ 0) k d (λ _. used) (λ a b. h.3 d a b) low high), h.4)
+add_widen ws key p k n e NoEntry used h = ((λ d low high. here_or_later (λ x. x < k + suc n → state_of ws x ≢ 0) k d (λ _. used) (λ a b. h.0 d a (omega arith)) low high), h.1)
 
 flag_after : (ws read : List ℕ) (b : Bool) → (effect_of ws read (cond b ((0, 1) ∷ []) [])).after ≡ cond b (set ws 0 1) ws
 flag_after ws read true = refl

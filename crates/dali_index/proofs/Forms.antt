@@ -3,6 +3,7 @@ use Rattle.std.proofs.Common.{◌≡◌, ◌≢◌, ℕ, zero, suc, ◌+◌, ◌
 use Rattle.std.specs.Prelude.{◌==◌, replicate, zip, filter_map, flat_map}
 use Rattle.std.proofs.lemmas.Bool.Decides.{eqb_tells}
 use Rattle.std.proofs.lemmas.List.{length-append, length-replicate}
+use Rattle.dali_lists.proofs.Numbers.{one_of_two}
 use Rattle.dali_words.specs.declared.Effect.{Effect}
 use Rattle.dali_words.specs.Values.{is_size, packed}
 use Rattle.dali_words.specs.Effects.{write_all}
@@ -33,9 +34,6 @@ use Rattle.dali_index.proofs.Keeping.{Kills, cell_kills, entry_kills, reads_stay
 two_or_less : (n : ℕ) → n < 3 → n ≢ 2 → n < 2
 two_or_less n a b = omega (arith, a, b)
 
-one_of : (n : ℕ) → n < 2 → n ≢ 0 → n ≡ 1
-one_of n a b = omega (arith, a, b)
-
 not_two : (n : ℕ) → n < 2 → n ≢ 2
 not_two n a e = omega (arith, a, e)
 
@@ -44,7 +42,7 @@ tidy_is_form = record {
   form = λ s image t. record {
     entries = λ r e a b. omega (arith, t.entries r e a b);
     cells = λ r c h a b. omega (arith, t.cells r c h a b);
-    sizes = λ r c h a b used. t.sizes r c (h, a, b, one_of (cell.state_of (words_of image r) c) (t.cells r c h a b) used);
+    sizes = λ r c h a b used. t.sizes r c (h, a, b, one_of_two (cell.state_of (words_of image r) c) (t.cells r c h a b) used);
   };
   no_dead = λ s image t. record {
     entries = λ r e a b. not_two (entry.state_of (words_of image r) e) (t.entries r e a b);
@@ -260,7 +258,7 @@ formatted_entry s r e = formatted_word s r (3 * e + 1) (omega arith)
 formatted_cell : (s : Sizes) (r c : ℕ) → 0 < c → cell.state_of (words_of (formatted_image s) r) c ≡ 0
 formatted_cell s r c h = formatted_word s r (8 * c) (omega (arith, h))
 
-formatted_is_image : (s : Sizes) → 0 < s.index → 0 < s.heap → IsImage s (formatted_image s)
+pub formatted_is_image : (s : Sizes) → 0 < s.index → 0 < s.heap → IsImage s (formatted_image s)
 formatted_is_image s a b = record {
   some_index = a;
   some_heap = b;
@@ -269,7 +267,7 @@ formatted_is_image s a b = record {
 }
 
 -- no entry and no cell is live
-formatted_is_indexed : (s : Sizes) → IsIndexed s (formatted_image s)
+pub formatted_is_indexed : (s : Sizes) → IsIndexed s (formatted_image s)
 formatted_is_indexed s = record {
   one_entry = λ r e q f a b k. absurd (omega (arith, a.2, formatted_entry s r e));
   reached = λ r e u. absurd (omega (arith, u.2, formatted_entry s r e));
@@ -277,7 +275,7 @@ formatted_is_indexed s = record {
   is_named = λ r c a. absurd (omega (arith, a.3, formatted_cell s r c a.1));
 }
 
-formatted_is_tidy : (s : Sizes) → IsTidy s (formatted_image s)
+pub formatted_is_tidy : (s : Sizes) → IsTidy s (formatted_image s)
 formatted_is_tidy s = record {
   entries = λ r e h g. omega (arith, formatted_entry s r e);
   cells = λ r c h a b. omega (arith, formatted_cell s r c a);
@@ -295,7 +293,7 @@ none_in : (f : ℕ → List (ℕ × List ℕ)) → ((r : ℕ) → f r ≡ []) �
 none_in f none [] = refl
 none_in f none (r ∷ rs) = rw (none r) (none_in f none rs)
 
-formatted_records : (s : Sizes) → records s (formatted_image s) ≡ []
+pub formatted_records : (s : Sizes) → records s (formatted_image s) ≡ []
 formatted_records s = none_in (λ r. filter_map (stored s (formatted_image s) r) entry.entries) (λ r. none_of (stored s (formatted_image s) r) (no_entry s r) entry.entries) (below s.index)
 
 pub formatted_is_empty : FormattedIsEmpty

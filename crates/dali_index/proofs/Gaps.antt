@@ -2,6 +2,7 @@
 use Rattle.std.proofs.Common.{◌≡◌, ◌≢◌, ℕ, ◌<◌, ◌≤◌, Bool, true, false, List, [], ◌∷◌, refl, ap, sym, subst, ◌∙◌, ◌⊎◌, inl, inr, ⊎_elim, arith}
 use Rattle.std.specs.Prelude.{nat_le, ◌&&◌}
 use Rattle.std.proofs.lemmas.Bool.Decides.{nat_tests}
+use Rattle.dali_lists.proofs.Numbers.{one_not_two}
 use Rattle.dali_geometry.specs.Sizes.{Sizes}
 use Rattle.dali_geometry.specs.Places.{is_heap, is_place, region_at, cell_at, place}
 use Rattle.dali_index.specs.Invariant.{Gap, Matched, CellAlone, EntryAlone}
@@ -74,8 +75,6 @@ FitsPart s P (CellAlone p) = PartCellAlone s P p
 FitsPart s P (EntryAlone r e) = PartEntryAlone s P r e
 
 -- ---- a slot that is put
-one_two : ◌≡◌ {A = ℕ} 1 2 → ⊥
-one_two e = omega (arith, e)
 
 -- an index region's slot isn't a cell's
 apart_cell : (s : Sizes) (r p : ℕ) → r < s.index → is_place s p ≡ true → region_at p ≢ r
@@ -147,7 +146,7 @@ gap_kill_cell s P q e p xs m h =
       entry = entry_stays s P (region_at p) (cell_at p) (2 ∷ xs) q e p heap.1 h;
       one_entry = λ q2 f2 o2 a. m.one_entry q2 f2 o2 q e p (entry_stood s P (region_at p) (cell_at p) (2 ∷ xs) q2 f2 o2 heap.1 a) h;
       dead = (named.0, xs, put_part-same P (region_at p) (cell_at p) (2 ∷ xs));
-      no_cell = λ o a. ⊎_elim (λ b. one_two (sym (same_state 2 1 xs b.2 b.3))) (λ b. none named.0 o b.0 b.1) (cell_after s P (region_at p) (cell_at p) (2 ∷ xs) o 1 a);
+      no_cell = λ o a. ⊎_elim (λ b. one_not_two (sym (same_state 2 1 xs b.2 b.3))) (λ b. none named.0 o b.0 b.1) (cell_after s P (region_at p) (cell_at p) (2 ∷ xs) o 1 a);
     }
   where
     none : is_place s p ≡ true → (o : ℕ) → (region_at o ≢ region_at p) ⊎ (cell_at o ≢ cell_at p) → StateOfCell s P o 1 → ⊥
@@ -167,7 +166,7 @@ gap_kill_entry s P r e xs alone = record {
 }
   where
     none : (q f o : ℕ) → LiveEntry s (put_part P r e (2 ∷ xs)) q f o → ⊥
-    none q f o h = ⊎_elim (λ a. one_two (sym (same_state 2 1 xs (o ∷ []) a.2))) (λ a. let x = alone.one_entry q f o a.1 in ⊎_elim (λ b. b x.0) (λ b. b x.1) a.0) (entry_after s P r e (2 ∷ xs) q f o h)
+    none q f o h = ⊎_elim (λ a. one_not_two (sym (same_state 2 1 xs (o ∷ []) a.2))) (λ a. let x = alone.one_entry q f o a.1 in ⊎_elim (λ b. b x.0) (λ b. b x.1) a.0) (entry_after s P r e (2 ∷ xs) q f o h)
 
 -- ---- the value of a cell changes: each gap stays
 state_kept : (s : Sizes) (P : Part) (r c x : ℕ) (ys zs : List ℕ) (p y : ℕ) → P r c ≡ x ∷ ys → StateOfCell s P p y → StateOfCell s (put_part P r c (x ∷ zs)) p y
@@ -225,7 +224,7 @@ gap_dead_cell s P p dead m =
     }
   where
     apart : (o : ℕ) → StateOfCell s P o 1 → (region_at o ≢ region_at p) ⊎ (cell_at o ≢ cell_at p)
-    apart o live = ⊎_elim (λ a. let there : CellOf P o ≡ CellOf P p = ap (λ z. P z (cell_at o)) a.0 ∙ ap (λ z. P (region_at p) z) a.1 in absurd (one_two (same_state 1 2 live.1 dead.1 (sym live.2 ∙ there ∙ dead.2)))) (λ a. a) (same_slot (region_at o) (cell_at o) (region_at p) (cell_at p))
+    apart o live = ⊎_elim (λ a. let there : CellOf P o ≡ CellOf P p = ap (λ z. P z (cell_at o)) a.0 ∙ ap (λ z. P (region_at p) z) a.1 in absurd (one_not_two (same_state 1 2 live.1 dead.1 (sym live.2 ∙ there ∙ dead.2)))) (λ a. a) (same_slot (region_at o) (cell_at o) (region_at p) (cell_at p))
 
 -- ---- the live entry is freed: its cell is alone
 pub gap_free_entry : (s : Sizes) (P : Part) (r e p : ℕ) → PartMatched s P → LiveEntry s P r e p → PartCellAlone s (put_part P r e []) p
@@ -245,7 +244,7 @@ gap_free_entry s P r e p m h = record {
 -- ---- a dead entry is freed: each gap stays
 module _ (s : Sizes) (P : Part) (r e : ℕ) (ys : List ℕ) (low : r < s.index) (was : P r e ≡ 2 ∷ ys) where
   dead_apart : (q f o : ℕ) → LiveEntry s P q f o → (q ≢ r) ⊎ (f ≢ e)
-  dead_apart q f o h = ⊎_elim (λ a. let there : P q f ≡ P r e = ap (λ z. P z f) a.0 ∙ ap (λ z. P r z) a.1 in absurd (one_two (same_state 1 2 (o ∷ []) ys (sym h.1 ∙ there ∙ was)))) (λ a. a) (same_slot q f r e)
+  dead_apart q f o h = ⊎_elim (λ a. let there : P q f ≡ P r e = ap (λ z. P z f) a.0 ∙ ap (λ z. P r z) a.1 in absurd (one_not_two (same_state 1 2 (o ∷ []) ys (sym h.1 ∙ there ∙ was)))) (λ a. a) (same_slot q f r e)
 
   live_kept : (q f o : ℕ) → LiveEntry s P q f o → LiveEntry s (put_part P r e []) q f o
   live_kept q f o h = entry_kept s P r e [] q f o (dead_apart q f o h) h

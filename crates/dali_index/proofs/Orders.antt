@@ -5,6 +5,7 @@ use Rattle.std.specs.Int.{bit_at}
 use Rattle.std.proofs.lemmas.Bool.{eq-eqb, ne_eqb}
 use Rattle.std.proofs.lemmas.Bool.Decides.{eqb_tells}
 use Rattle.std.proofs.lemmas.Nat.Bits.{bit_at-zero}
+use Rattle.dali_lists.proofs.Numbers.{bit_none}
 use Rattle.dali_words.specs.declared.Effect.{Effect}
 use Rattle.dali_words.specs.Words.{mask_of, row_of}
 use Rattle.dali_words.specs.Effects.{effect_of, carried, IsWithin, AnswersByReads}
@@ -14,6 +15,7 @@ use Rattle.dali_words.proofs.Apart.{agree_after, answers_commute}
 use Rattle.dali_words.proofs.Rows.{in_row}
 use Rattle.dali_words.proofs.Dependence.{answer_carried, depends_answers}
 use Rattle.dali_heap.proofs.CellLaws.{operations_stay as cells_stay, puts_within}
+use Rattle.dali_heap.proofs.Orders.{called}
 use Rattle.dali_index.specs.declared.LookOutcome.{LookOutcome}
 use Rattle.dali_index.specs.declared.LookOutcome.TheVariants.{Found, Absent}
 use Rattle.dali_index.specs.declared.AddOutcome.{AddOutcome}
@@ -24,7 +26,7 @@ use Rattle.dali_index.specs.Laws.{InEntry, IsLiveOf, FindsFirst, TakesFirst}
 use Rattle.dali_index.specs.Operations.{EntryOperation, Kill, Free, Revive, HasKilled, Undone, done}
 use Rattle.dali_index.specs.Orders.{states_before, passed_before, entry_words, LookReads, AddReads, OperationsCommute, StaysFound, StaysPassed, LookFinds, LookCommutes, StaysFirst, AddCommutes, Passes, AddTakesFreed, LookAfterAdd}
 use Rattle.dali_index.specs.Within.{WritesWithinReads}
-use Rattle.dali_index.proofs.EntryLaws.{bit_none, Tried, add_walked, operations_stay, walks_within, look_finds_first, add_takes_first}
+use Rattle.dali_index.proofs.EntryLaws.{Tried, add_walked, operations_stay, walks_within, look_finds_first, add_takes_first}
 use Rattle.dali_index.proofs.Dependence.{kill_by_reads, free_by_reads, revive_by_reads}
 use Rattle.dali_index.proofs.Slots.{word_kept, word_put}
 use Rattle.dali_index.proofs.Walks.{entry_row}
@@ -134,10 +136,6 @@ pub record IsOn (e : ℕ) (o : EntryOperation) (ws : List ℕ) : Type 0 where
   pub reads : InEntry e (done o e ws).0
   pub within : IsWithin ws (done o e ws).0
   pub answers : AnswersByReads (done o e) ws
-
--- what an outcome is called in the type of all
-called : {O P : Type 0} (f : List ℕ → Effect × O) (name : O → P) (ws : List ℕ) → AnswersByReads f ws → AnswersByReads (λ us. ((f us).0, name (f us).1)) ws
-called {O} f name ws a us g = ap (λ (r : Effect × O). (r.0, name r.1)) (a us g)
 
 pub is_on : (o : EntryOperation) (e : ℕ) (ws : List ℕ) → IsOn e o ws
 is_on (Kill key) e ws = let s = operations_stay.kill e key in record { reads = s.reads ws; within = s.within ws; answers = called (λ us. rows.kill us e key) HasKilled ws (kill_by_reads e key ws) }

@@ -31,7 +31,7 @@ use Rattle.dali_index.proofs.Fitting.{part_entry, part_cell, index_kind, index_b
 use Rattle.dali_index.proofs.Keeping.{Goes, Kills, plain_step, same_step, cell_step, entry_step, same_gap, value_step, cell_kills, entry_kills, reads_stay, changes_are}
 
 -- ---- no gaps
-place_at : (p : ℕ) → place (region_at p) (cell_at p) ≡ p
+pub place_at : (p : ℕ) → place (region_at p) (cell_at p) ≡ p
 place_at p = omega arith
 
 pub gaps_are_none : GapsAreNone

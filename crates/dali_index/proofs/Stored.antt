@@ -6,6 +6,7 @@ use Rattle.std.proofs.lemmas.Grind.{flat_map-append}
 use Rattle.std.proofs.lemmas.List.Elements.{Contains-append_left, Contains-append_right, Contains-append_cases}
 use Rattle.std.proofs.lemmas.Bool.{ne_eqb}
 use Rattle.std.proofs.lemmas.Bool.Decides.{eqb_tells}
+use Rattle.dali_lists.proofs.Members.{contains_first, contains_more, contains_cases, contains_none}
 use Rattle.dali_words.specs.Words.{row_of}
 use Rattle.dali_geometry.specs.Sizes.{Sizes}
 use Rattle.dali_geometry.specs.Places.{home}
@@ -14,20 +15,6 @@ use Rattle.dali_index.specs.Records.{words_of, is_reached, stored, records, belo
 use Rattle.dali_index.specs.Reached.{region_after, IsReached, WalksAreReached, RecordsAreStored}
 use Rattle.dali_index.proofs.Worlds.{flags}
 use Rattle.dali_index.proofs.Starts.{reach_tests, tests_reach}
-
--- ---- elements
-contains_first : {X : Type 0} (x : X) (xs : List X) → Contains (x ∷ xs) x
-contains_first x xs = (0, omega arith, refl)
-
-contains_more : {X : Type 0} (y x : X) (xs : List X) → Contains xs x → Contains (y ∷ xs) x
-contains_more y x xs h = (suc h.0, omega (arith, h.1), h.2)
-
-contains_cases : {X : Type 0} (y x : X) (xs : List X) → Contains (y ∷ xs) x → (y ≡ x) ⊎ Contains xs x
-contains_cases y x xs (zero, b, e) = inl e
-contains_cases y x xs (suc i, b, e) = inr (i, omega (arith, b), e)
-
-contains_none : {X : Type 0} (x : X) → Contains [] x → ⊥
-contains_none x h = omega (arith, h.1)
 
 -- ---- what a function gives of the entries in a row
 in_row_of : {Y : Type 0} (f : ℕ → Option Y) (k n i : ℕ) (y : Y) → k ≤ i → i < k + n → f i ≡ Some y → Contains (filter_map f (row_of k n)) y

@@ -41,7 +41,7 @@ pub record DoneStep (s : Sizes) (cuts : List ℕ) (J : List Record) (t : ℕ) (c
 done_other : (t u : ℕ) (c : Call) (a : Answer) (J : List Record) → u ≢ t → calls_of u (J ++ Done t c a ∷ []) ≡ calls_of u J
 done_other t u c a J h = calls_of_push u J (Done t c a) ∙ rw (ne_eqb t u (λ e. h (sym e))) (append-nil (calls_of u J))
 
-done_own : (t : ℕ) (c : Call) (a : Answer) (J : List Record) → calls_of t (J ++ Done t c a ∷ []) ≡ calls_of t J ++ (c, a) ∷ []
+pub done_own : (t : ℕ) (c : Call) (a : Answer) (J : List Record) → calls_of t (J ++ Done t c a ∷ []) ≡ calls_of t J ++ (c, a) ∷ []
 done_own t c a J = calls_of_push t J (Done t c a) ∙ rw (eq-eqb t t refl) refl
 
 -- the calls of transactions that t isn't among

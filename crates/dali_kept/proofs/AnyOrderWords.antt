@@ -82,10 +82,7 @@ writes (UndoReviveEntry e) = (entry.state_word e, 1) ∷ []
 
 undo_writes : (d : Undo) (key : ℕ) (ws : List ℕ) → (effect (undo_op d) key ws).0.after ≡ write_all ws (writes d)
 undo_writes (UndoFreeCell c) key ws = refl
-undo_writes (UndoReviveCell c) key ws = refl
-undo_writes (UndoRestore c n vs) key ws = refl
-undo_writes (UndoFreeEntry e) key ws = refl
-undo_writes (UndoReviveEntry e) key ws = refl
+undo_writes _ key ws = refl
 
 writes_inside : (d : Undo) → Inside (low d) (high d) (writes d)
 writes_inside (UndoFreeCell c) = (omega arith, omega arith, tt)

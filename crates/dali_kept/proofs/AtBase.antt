@@ -17,13 +17,12 @@ use Rattle.dali_index.proofs.Slots.{entry_is, cell_is, entry_none, cell_none, va
 use Rattle.dali_index.proofs.Worlds.{part, flags}
 use Rattle.dali_slots.proofs.BlockOnSlots.{IsLive, part_entry, part_cell}
 use Rattle.dali_slots.proofs.ValueSlots.{Reached, Lives, Stands}
-use Rattle.dali_slots.proofs.StoredRecords.{find_some, find_none, in_records, records_in}
+use Rattle.dali_slots.proofs.StoredRecords.{find_some, find_none}
 use Rattle.std.proofs.lemmas.List.{get_or_past}
+use Rattle.dali_lists.proofs.Numbers.{one_of_two}
 use Rattle.dali_index.proofs.Starts.{tests_reach}
 use Rattle.dali_index.proofs.Fitting.{index_below}
-
-lt_two : (x : ℕ) → x < 2 → x ≢ 0 → x ≡ 1
-lt_two x h n = omega (arith, n)
+use Rattle.dali_index.proofs.Stored.{in_records, records_in}
 
 -- an entry that is seen is live
 pub seen_entry : (s : Sizes) (image : List (List ℕ)) (k r i x : ℕ) (xs : List ℕ) → IsImage s image → IsTidy s image → is_index s r ≡ true → part s image k r i ≡ x ∷ xs → IsLiveEntry s image r i × (x ≡ 1) × (entry.key_of (words_in image r) i ≡ k) × (xs ≡ entry.place_of (words_in image r) i ∷ [])
@@ -32,7 +31,7 @@ seen_entry s image k r i x xs form tidy kind e =
     let is = entry_is k (words_in image r) i x xs at in
     let low : r < s.index = index_below s r kind in
     let small = entry_none k (words_in image r) i x xs (form.words r (omega (arith, low))) at in
-    let one = lt_two (entry.state_of (words_in image r) i) (tidy.entries r i low small) is.3 in
+    let one = one_of_two (entry.state_of (words_in image r) i) (tidy.entries r i low small) is.3 in
     ((low, small, one), sym is.0 ∙ one, is.2, sym is.1)
 
 -- each entry that is seen is reached
@@ -61,7 +60,7 @@ seen_cell s image k r c x xs form tidy kind e = ⊎_elim inside outside (split r
     inside low =
         let small = cell_none k (words_in image r) c x xs (form.words r low) (sym (part_cell s image k r c kind) ∙ e) in
         let heap = heap_is s r kind low in
-        let one = lt_two (cell.state_of (words_in image r) c) (tidy.cells r c heap small.0 small.1) is.3 in
+        let one = one_of_two (cell.state_of (words_in image r) c) (tidy.cells r c heap small.0 small.1) is.3 in
         ((heap, small.0, small.1, one), sym is.0 ∙ one, is.2)
 
     outside : s.index + s.heap ≤ r → IsLiveCell s image r c × (x ≡ 1) × (cell.key_of (words_in image r) c ≡ k)

@@ -21,11 +21,13 @@ use Rattle.dali_slots.proofs.BlockOnSlots.{part_entry, part_cell}
 use Rattle.dali_index.proofs.Parts.{Part, same_slot}
 use Rattle.dali_slots.proofs.ValueSlots.{Reached, Lives, Stands, lives_entry, stands_same}
 use Rattle.dali_index.proofs.Starts.{reach_tests}
-use Rattle.dali_slots.proofs.StoredRecords.{in_records, records_in}
 use Rattle.dali_kept.proofs.AtBase.{live_stored, live_stands}
-use Rattle.dali_kept.proofs.FreedImage.{freed_alive, flags_freed, image_freed, none_dead, stands_alive, reached_alive}
+use Rattle.dali_kept.proofs.FreedImage.{freed_alive, flags_freed, none_dead, stands_alive, reached_alive}
 use Rattle.dali_index.proofs.Fitting.{index_kind, heap_kind}
 use Rattle.dali_index.proofs.Gaps.{place_heap}
+use Rattle.dali_index.proofs.Steps.{place_at}
+use Rattle.dali_index.proofs.Stored.{in_records, records_in}
+use Rattle.dali_history.proofs.Images.{image_freed}
 
 pub record IsEnd (s : Sizes) (image : List (List ℕ)) (m : Map) : Type 0 where
   pub form : IsImage s image
@@ -157,9 +159,6 @@ names_cell s image m end r e live =
     let c = lives_cell s image (entry.key_of (words_in image r) e) x.0 x.1 in
     let here : Names s image (entry.key_of (words_in image r) e) x.1.at = (x.1.is_place, c.0, c.1) in
     subst (λ p. Names s image (entry.key_of (words_in image r) e) p) (sym x.5) here
-
-place_at : (p : ℕ) → place (region_at p) (cell_at p) ≡ p
-place_at p = omega arith
 
 is_named : (s : Sizes) (image : List (List ℕ)) (m : Map) → IsEnd s image m → (r c : ℕ) → IsLiveCell s image r c → (q e : ℕ) × IsLiveEntry s image q e × (entry.place_of (words_in image q) e ≡ place r c)
 is_named s image m end r c live =

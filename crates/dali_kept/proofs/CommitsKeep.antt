@@ -1,5 +1,5 @@
 -- A commit keeps what holds of each key: the value moves on by the transaction's calls.
-use Rattle.std.proofs.Common.{◌≡◌, ℕ, Bool, true, false, List, [], ◌∷◌, ◌++◌, Option, Some, refl, ap, sym, subst, ◌∙◌, ◌⊎◌, inl, inr, ⊎_elim, ◌≢◌, append-nil}
+use Rattle.std.proofs.Common.{◌≡◌, ℕ, true, false, List, [], ◌∷◌, ◌++◌, Option, Some, refl, ap, sym, subst, ◌∙◌, ◌⊎◌, inl, inr, ⊎_elim, ◌≢◌, append-nil}
 use Rattle.std.specs.Prelude.{◌==◌, ◌||◌, reverse, flat_map}
 use Rattle.std.proofs.lemmas.List.Sums.{fold-append}
 use Rattle.std.proofs.lemmas.List.Elements.{filter-append}
@@ -8,6 +8,7 @@ use Rattle.std.proofs.lemmas.Grind.{flat_map-append}
 use Rattle.std.proofs.lemmas.Bool.Decides.{eqb_tells}
 use Rattle.std.proofs.lemmas.Bool.{eq-eqb, ne_eqb}
 use mathlib.Core.Path.{fun_ext}
+use mathlib.Core.Bool.{or-true, or-false}
 use Rattle.dali_geometry.specs.Sizes.{Sizes}
 use Rattle.dali_record.specs.declared.operations.Pending.{Pending}
 use Rattle.dali_record.specs.declared.records.Call.{Call}
@@ -29,7 +30,6 @@ use Rattle.dali_kept.proofs.WithoutLast.{left, Touches, Alters, touches_push, al
 use Rattle.dali_kept.proofs.Invariant.{AreDead, IsClear, IsAlone, Keyed, Knows}
 use Rattle.dali_kept.proofs.OperationsKeep.{leads_alone, dead_none}
 use Rattle.dali_kept.proofs.Removals.{dead_of_none, leads_dead}
-use Rattle.dali_history.proofs.Places.{or_none}
 
 -- a commit of t, with what is known before it
 pub record CommitStep (s : Sizes) (cuts : List ℕ) (J : List Record) (t : ℕ) (w : Working) : Type 0 where
@@ -60,20 +60,17 @@ commit_values t J k start v h =
     ∙ ap (λ o. values_after o (on_key k (calls_of t J))) h
 
 -- ---- the undos that stand
-or_true : (b : Bool) → (b || true) ≡ true
-or_true true = refl
-or_true false = refl
 
 pub left_committed : (t : ℕ) (J : List Record) → left t (J ++ Commit t ∷ []) ≡ []
 left_committed t J =
     let e : has (committed (J ++ Commit t ∷ [])) t ≡ (has (committed J) t || true) = ap (λ ts. has ts t) (committed_push J (Commit t)) ∙ list_any-append (λ x. x == t) (committed J) (t ∷ []) ∙ rw (eq-eqb t t refl) refl in
-    rw (e, or_true (has (committed J) t)) refl
+    rw (e, or-true (has (committed J) t)) refl
 
 pub left_beside : (t u : ℕ) (J : List Record) → u ≢ t → left u (J ++ Commit t ∷ []) ≡ left u J
 left_beside t u J h =
     let e : has (committed (J ++ Commit t ∷ [])) u ≡ (has (committed J) u || false) = ap (λ ts. has ts u) (committed_push J (Commit t)) ∙ list_any-append (λ x. x == u) (committed J) (t ∷ []) ∙ rw (ne_eqb t u (λ i. h (sym i))) refl in
     let undos : undos_of u (J ++ Commit t ∷ []) ≡ undos_of u J = undos_of_push u J (Commit t) in
-    rw (e, or_none (has (committed J) u), undos) refl
+    rw (e, or-false (has (committed J) u), undos) refl
 
 module _ (s : Sizes) (cuts : List ℕ) (J : List Record) (W : World) (F : Flags) (t : ℕ) (w : Working) (x : CommitStep s cuts J t w) where
   own_undos : left t J ≡ w.undos

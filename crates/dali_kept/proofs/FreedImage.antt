@@ -7,6 +7,7 @@ use Rattle.std.specs.Prelude.{◌==◌, if◌then◌else◌}
 use Rattle.std.proofs.lemmas.Bool.Decides.{eqb_tells, nat_tests}
 use Rattle.std.proofs.lemmas.List.{get_or_past}
 use mathlib.Core.Path.{fun_ext}
+use Rattle.dali_lists.proofs.Lists.{length_of_halves, past_is_zero}
 use Rattle.dali_geometry.specs.Sizes.{Sizes}
 use Rattle.dali_geometry.specs.Places.{is_index}
 use Rattle.dali_heap.specs.Cells as cell
@@ -15,7 +16,7 @@ use Rattle.dali_record.specs.Settled.{words_in}
 use Rattle.dali_index.specs.Invariant.{IsImage}
 use Rattle.dali_history.specs.Recovered.{free_word, freed}
 use Rattle.dali_slots.proofs.OperationFinds.{from, entries-from, cells-from}
-use Rattle.dali_index.proofs.Slots.{seen, entry_part, cell_part, value_at, past}
+use Rattle.dali_index.proofs.Slots.{seen, entry_part, cell_part, value_at}
 use Rattle.dali_index.proofs.Worlds.{Flags, part, flags}
 use Rattle.dali_slots.proofs.BlockOnSlots.{part_entry, part_cell}
 use Rattle.dali_index.proofs.Parts.{Part}
@@ -47,7 +48,7 @@ free_same ws i = go (eqb_tells (get_or ws i 0) 2) (split i (length ws))
 
     go : (((get_or ws i 0 == 2) ≡ true) × (get_or ws i 0 ≡ 2)) ⊎ (((get_or ws i 0 == 2) ≡ false) × (get_or ws i 0 ≢ 2)) → (i < length ws) ⊎ (length ws ≤ i) → get_or (free_word ws i) i 0 ≡ cleared (get_or ws i 0)
     go (inl a) (inl b) = rw (a.0) (get_or-set_same ws i 0 0 b)
-    go (inl a) (inr b) = let none : get_or ws i 0 ≡ 0 = past ws i b in absurd (omega (arith, none, a.1))
+    go (inl a) (inr b) = let none : get_or ws i 0 ≡ 0 = past_is_zero ws i b in absurd (omega (arith, none, a.1))
     go (inr a) b = rw (a.0) refl
 
 length-free_word : (ws : List ℕ) (i : ℕ) → length (free_word ws i) ≡ length ws
@@ -104,7 +105,7 @@ entry_cleared ws e long = rw entries-from (⊎_elim inside outside (split e))
     inside b = free_cleared entry.state_word (λ i j h g. h (omega arith)) 0 21 ws e (omega arith) (omega arith)
 
     outside : 21 ≤ e → get_or (fold free_word ws (map entry.state_word (from 0 21))) (entry.state_word e) 0 ≡ cleared (entry.state_of ws e)
-    outside b = let none : get_or ws (3 * e + 1) 0 ≡ 0 = past ws (3 * e + 1) (omega arith) in free_kept entry.state_word 0 21 ws (entry.state_word e) (λ i l h. omega arith) ∙ none ∙ sym (ap cleared none)
+    outside b = let none : get_or ws (3 * e + 1) 0 ≡ 0 = past_is_zero ws (3 * e + 1) (omega arith) in free_kept entry.state_word 0 21 ws (entry.state_word e) (λ i l h. omega arith) ∙ none ∙ sym (ap cleared none)
 
 entry_left : (ws : List ℕ) (j : ℕ) → ((i : ℕ) → j ≢ 3 * i + 1) → get_or (freed_entries ws) j 0 ≡ get_or ws j 0
 entry_left ws j h = rw entries-from (free_kept entry.state_word 0 21 ws j (λ i a b. h i))
@@ -123,7 +124,7 @@ cell_cleared ws c long some = rw cells-from (⊎_elim inside outside (split c))
     inside b = free_cleared cell.state_word (λ i j h g. h (omega arith)) 1 7 ws c (omega (arith, some)) (omega arith)
 
     outside : 8 ≤ c → get_or (fold free_word ws (map cell.state_word (from 1 7))) (cell.state_word c) 0 ≡ cleared (cell.state_of ws c)
-    outside b = let none : get_or ws (8 * c) 0 ≡ 0 = past ws (8 * c) (omega arith) in free_kept cell.state_word 1 7 ws (cell.state_word c) (λ i l h. omega arith) ∙ none ∙ sym (ap cleared none)
+    outside b = let none : get_or ws (8 * c) 0 ≡ 0 = past_is_zero ws (8 * c) (omega arith) in free_kept cell.state_word 1 7 ws (cell.state_word c) (λ i l h. omega arith) ∙ none ∙ sym (ap cleared none)
 
 cell_left : (ws : List ℕ) (j : ℕ) → ((i : ℕ) → 1 ≤ i → j ≢ 8 * i) → get_or (freed_cells ws) j 0 ≡ get_or ws j 0
 cell_left ws j h = rw cells-from (free_kept cell.state_word 1 7 ws j (λ i a b. h i a))
@@ -156,17 +157,8 @@ regions_high f g (suc n) [] r a b = absurd (omega arith)
 regions_high f g (suc n) (x ∷ xs) zero a b = absurd (omega arith)
 regions_high f g (suc n) (x ∷ xs) (suc r) a b = regions_high f g n xs r (omega arith) (omega arith)
 
-map_length : (g : List ℕ → List ℕ) (xs : List (List ℕ)) → length (map g xs) ≡ length xs
-map_length g [] = refl
-map_length g (x ∷ xs) = ap suc (map_length g xs)
-
-regions_length : (f g : List ℕ → List ℕ) (n : ℕ) (xs : List (List ℕ)) → length (map f (take n xs) ++ map g (drop n xs)) ≡ length xs
-regions_length f g zero xs = map_length g xs
-regions_length f g (suc n) [] = refl
-regions_length f g (suc n) (x ∷ xs) = ap suc (regions_length f g n xs)
-
 pub length-freed : (s : Sizes) (image : List (List ℕ)) → length (freed s image) ≡ length image
-length-freed s image = regions_length freed_entries freed_cells s.index image
+length-freed s image = length_of_halves freed_entries freed_cells s.index image
 
 pub freed_index : (s : Sizes) (image : List (List ℕ)) (r : ℕ) → r < s.index → r < length image → words_in (freed s image) r ≡ freed_entries (words_in image r)
 freed_index s image r a b = regions_low freed_entries freed_cells s.index image r a b
@@ -225,18 +217,6 @@ flags_freed s image form = fun_ext (λ r. ap (λ x. not (x == 0)) (each r))
   where
     each : (r : ℕ) → entry.flag_of (words_in (freed s image) r) ≡ entry.flag_of (words_in image r)
     each r = ⊎_elim (λ a. ap entry.flag_of (a.1 ∙ sym a.0)) (λ a. ⊎_elim (λ b. ap entry.flag_of b.2 ∙ entry_left (words_in image r) 0 (λ i. omega arith)) (λ b. ap entry.flag_of b.2 ∙ cell_left (words_in image r) 0 (λ i l. omega arith)) a) (freed_at s image r form)
-
--- the form stays
-pub image_freed : (s : Sizes) (image : List (List ℕ)) → IsImage s image → IsImage s (freed s image)
-image_freed s image form = record {
-  some_index = form.some_index;
-  some_heap = form.some_heap;
-  count = length-freed s image ∙ form.count;
-  words = λ r b. each r b;
-}
-  where
-    each : (r : ℕ) → r < s.index + s.heap → length (words_in (freed s image) r) ≡ 64
-    each r b = ⊎_elim (λ a. ap length (a.1 ∙ sym a.0) ∙ form.words r b) (λ a. ⊎_elim (λ c. ap length c.2 ∙ length-free (words_in image r) (map entry.state_word entry.entries) ∙ c.0) (λ c. ap length c.2 ∙ length-free (words_in image r) (map cell.state_word cell.cells) ∙ c.0) a) (freed_at s image r form)
 
 -- ---- slots without the dead ones
 -- what is left was there, and isn't dead

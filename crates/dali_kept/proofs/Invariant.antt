@@ -10,7 +10,7 @@ use Rattle.dali_geometry.specs.Sizes.{Sizes}
 use Rattle.dali_record.specs.declared.operations.Pending.{Pending}
 use Rattle.dali_record.specs.declared.operations.Undo.{Undo}
 use Rattle.dali_record.specs.declared.operations.Op.{Op}
-use Rattle.dali_record.specs.declared.operations.Op.TheVariants.{Look, Add, KillEntry, Put, Read, Change, KillCell, FreeCell, ReviveCell, Restore, FreeEntry, ReviveEntry}
+use Rattle.dali_record.specs.declared.operations.Op.TheVariants.{Look, Add, KillEntry, Put, Read, Change, KillCell}
 use Rattle.dali_record.specs.declared.operations.Outcome.{Outcome}
 use Rattle.dali_record.specs.declared.records.Call.{Call}
 use Rattle.dali_record.specs.declared.records.Answer.{Answer}
@@ -76,7 +76,7 @@ Knows t J (Some (IsOver ps)) = (has (committed J) t ≡ true) × (HasEnded t J �
 Knows t J (Some Over) = HasEnded t J → left t J ≡ []
 
 -- ---- locks, by what is known
-has_none : (k : ℕ) (us : List Pending) → has (map (λ (u : Pending). u.key) us) k ≡ false → NoneOn k us
+pub has_none : (k : ℕ) (us : List Pending) → has (map (λ (u : Pending). u.key) us) k ≡ false → NoneOn k us
 has_none k [] h = tt
 has_none k (u ∷ us) h = go (eqb_tells u.key k) (has_none k us)
   where
@@ -131,8 +131,4 @@ undo_changes s W V F G k r (Put v) o u d h f e = ⊎_elim (λ a. ap changes a.1)
 undo_changes s W V F G k r (Read c) o u d h f e = let x : None ≡ Some d = sym h.0.2 ∙ e in absurd (cc (x))
 undo_changes s W V F G k r (Change c v) o u d h f e = ⊎_elim (λ a. ap changes a.2) (λ a. let x : None ≡ Some d = sym a.0.2 ∙ e in absurd (cc (x))) (h f.0 f.1)
 undo_changes s W V F G k r (KillCell c) o u d h f e = ⊎_elim (λ a. ap changes a.2) (λ a. let x : None ≡ Some d = sym a.0.2 ∙ e in absurd (cc (x))) (h f.0 f.1)
-undo_changes s W V F G k r (FreeCell c) o u d h f e = absurd f
-undo_changes s W V F G k r (ReviveCell c) o u d h f e = absurd f
-undo_changes s W V F G k r (Restore c n vs) o u d h f e = absurd f
-undo_changes s W V F G k r (FreeEntry i) o u d h f e = absurd f
-undo_changes s W V F G k r (ReviveEntry i) o u d h f e = absurd f
+undo_changes s W V F G k r _ o u d h f e = absurd f

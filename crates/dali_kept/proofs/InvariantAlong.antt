@@ -1,9 +1,10 @@
 -- The invariant holds after each record of a list that keeps the law's premises.
-use Rattle.std.proofs.Common.{◌≡◌, ℕ, ◌+◌, ◌<◌, Bool, true, false, not, List, [], ◌∷◌, ◌++◌, length, Option, Some, None, refl, ap, sym, subst, ◌∙◌, arith}
+use Rattle.std.proofs.Common.{◌≡◌, ℕ, ◌+◌, ◌<◌, Bool, true, false, not, List, [], ◌∷◌, ◌++◌, length, Some, None, refl, ap, sym, subst, ◌∙◌, arith}
 use Rattle.std.specs.Prelude.{◌==◌, ◌&&◌, ◌||◌, if◌then◌else◌, IsSome, bytes_eq}
 use Rattle.std.proofs.lemmas.Bool.Decides.{nat_tests}
 use Rattle.std.proofs.lemmas.Bool.{eqb-true, eq-eqb, and_parts}
 use Rattle.std.proofs.lemmas.Slice.Eq.{bytes_eq-Decides}
+use Rattle.dali_lists.proofs.Options.{some_of}
 use Rattle.dali_geometry.specs.Sizes.{Sizes}
 use Rattle.dali_geometry.specs.Places.{is_index, is_heap}
 use Rattle.dali_record.specs.declared.operations.Op.{Op}
@@ -47,12 +48,8 @@ step_beside s t (IsOver ps) (AuditFail b rs) e = txn_step-other s t (IsOver ps) 
 step_beside s t (IsOver ps) (Restarted rs ds) e = txn_step-other s t (IsOver ps) (Restarted rs ds) e
 step_beside s t (IsOver ps) (Back u b) e = txn_step-other s t (IsOver ps) (Back u b) e
 
-pub some_is : {X : Type 0} (o : Option X) → IsSome o → (x : X) × (o ≡ Some x)
-some_is None h = absurd (cc (h))
-some_is (Some x) h = (x, refl)
-
 pub state_beside : (s : Sizes) (t : ℕ) (J : List Record) (r : Record) → IsSome (kept_state s t J) → concerns t r ≡ false → kept_state s t (J ++ r ∷ []) ≡ kept_state s t J
-state_beside s t J r h e = let x = some_is (kept_state s t J) h in kept_state_push s t J r ∙ ap (λ o. kept_next s t o r) x.1 ∙ step_beside s t x.0 r e ∙ sym x.1
+state_beside s t J r h e = let x = some_of (kept_state s t J) h in kept_state_push s t J r ∙ ap (λ o. kept_next s t o r) x.1 ∙ step_beside s t x.0 r e ∙ sym x.1
 
 -- ---- what a transaction's own record says of its state
 -- refused, where it is no record of a running one

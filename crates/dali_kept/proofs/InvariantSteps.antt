@@ -5,6 +5,7 @@ use Rattle.std.proofs.Common.{◌≡◌, ℕ, Bool, true, false, not, List, [], 
 use Rattle.std.specs.Prelude.{◌==◌, ◌&&◌, ◌||◌, if◌then◌else◌, IsSome}
 use Rattle.std.proofs.lemmas.Bool.Decides.{eqb_tells}
 use Rattle.std.proofs.lemmas.Bool.{eq-eqb, ne_eqb}
+use Rattle.dali_lists.proofs.Options.{some_of}
 use Rattle.dali_geometry.specs.Sizes.{Sizes}
 use Rattle.dali_record.specs.declared.operations.Op.{Op}
 use Rattle.dali_record.specs.declared.operations.Outcome.{Outcome}
@@ -46,7 +47,7 @@ use Rattle.dali_record.proofs.Ends.{by_push}
 use Rattle.dali_kept.proofs.SolosKeep.{Frees, SoloStep, frees_dead, keyed_solo}
 use Rattle.dali_kept.proofs.BacksKeep.{BackStep, keyed_back, back_finds, taken_back}
 use Rattle.dali_kept.proofs.KnownTxns.{knows_step, committed_has, back_is, is_allowed}
-use Rattle.dali_kept.proofs.InvariantAlong.{state_beside, forward_state, back_state, commit_state, done_state, refused, region_within, image_region, does_of, is_of_is, some_is}
+use Rattle.dali_kept.proofs.InvariantAlong.{state_beside, forward_state, back_state, commit_state, done_state, refused, region_within, image_region, does_of, is_of_is}
 
 pub record Fine (s : Sizes) (base : List (List ℕ)) (cuts : List ℕ) (J : List Record) : Type 0 where
   pub image : IsImage s base
@@ -86,8 +87,8 @@ state_step s t J r x y e f = sym (kept_state_push s t J r ∙ ap (λ o. kept_nex
 -- what is known goes on
 pub known_push : (s : Sizes) (J : List Record) (r : Record) → KeepsCalls s (J ++ r ∷ []) → ((u : ℕ) → Knows u J (kept_state s u J)) → (u : ℕ) → Knows u (J ++ r ∷ []) (kept_state s u (J ++ r ∷ []))
 known_push s J r calls h u =
-    let x = some_is (kept_state s u J) (kept_before s u J r (calls.txns u)) in
-    let y = some_is (kept_state s u (J ++ r ∷ [])) (calls.txns u) in
+    let x = some_of (kept_state s u J) (kept_before s u J r (calls.txns u)) in
+    let y = some_of (kept_state s u (J ++ r ∷ [])) (calls.txns u) in
     subst (λ o. Knows u (J ++ r ∷ []) o) (sym y.1) (knows_step s u J x.0 r y.0 (subst (λ o. Knows u J o) x.1 (h u)) (state_step s u J r x.0 y.0 x.1 y.1))
 
 -- ---- records that are blocks
@@ -98,7 +99,7 @@ block_does :
 block_does s base cuts J r a h e = (h.calls.kinds (length J) a (touch_new J r ∙ e), h.values (length J) a (touch_new J r ∙ e))
 
 along_forward : (s : Sizes) (base : List (List ℕ)) (cuts : List ℕ) (J : List Record) (t : ℕ) (b : Block) → Fine s base cuts (J ++ Forward t b ∷ []) → Along s base cuts J → (k : ℕ) → Keyed s cuts (J ++ Forward t b ∷ []) (part s (redo_all base (J ++ Forward t b ∷ []))) (flags (redo_all base (J ++ Forward t b ∷ []))) (map_of s base k) k
-along_forward s base cuts J t b h along k = subst (λ image. Keyed s cuts (J ++ Forward t b ∷ []) (part s image) (flags image) (map_of s base k) k) (sym (redo_all_push base J (Forward t b))) (go (some_is (kept_state s t J) (old.calls.txns t)) (some_is (kept_state s t (J ++ Forward t b ∷ [])) (h.calls.txns t)))
+along_forward s base cuts J t b h along k = subst (λ image. Keyed s cuts (J ++ Forward t b ∷ []) (part s image) (flags image) (map_of s base k) k) (sym (redo_all_push base J (Forward t b))) (go (some_of (kept_state s t J) (old.calls.txns t)) (some_of (kept_state s t (J ++ Forward t b ∷ [])) (h.calls.txns t)))
   where
     old : Fine s base cuts J
     old = fine_before s base cuts J (Forward t b) h
@@ -136,7 +137,7 @@ along_forward s base cuts J t b h along k = subst (λ image. Keyed s cuts (J ++ 
                 }) k (map_of s base k) (along.keyed k)
 
 along_commit : (s : Sizes) (base : List (List ℕ)) (cuts : List ℕ) (J : List Record) (t : ℕ) → Fine s base cuts (J ++ Commit t ∷ []) → Along s base cuts J → (k : ℕ) → Keyed s cuts (J ++ Commit t ∷ []) (part s (redo_all base (J ++ Commit t ∷ []))) (flags (redo_all base (J ++ Commit t ∷ []))) (map_of s base k) k
-along_commit s base cuts J t h along k = subst (λ image. Keyed s cuts (J ++ Commit t ∷ []) (part s image) (flags image) (map_of s base k) k) (sym (redo_all_push base J (Commit t))) (go (some_is (kept_state s t J) (old.calls.txns t)) (some_is (kept_state s t (J ++ Commit t ∷ [])) (h.calls.txns t)))
+along_commit s base cuts J t h along k = subst (λ image. Keyed s cuts (J ++ Commit t ∷ []) (part s image) (flags image) (map_of s base k) k) (sym (redo_all_push base J (Commit t))) (go (some_of (kept_state s t J) (old.calls.txns t)) (some_of (kept_state s t (J ++ Commit t ∷ [])) (h.calls.txns t)))
   where
     old : Fine s base cuts J
     old = fine_before s base cuts J (Commit t) h
@@ -170,7 +171,7 @@ along_commit s base cuts J t h along k = subst (λ image. Keyed s cuts (J ++ Com
         }) k (map_of s base k) (along.keyed k)
 
 along_done : (s : Sizes) (base : List (List ℕ)) (cuts : List ℕ) (J : List Record) (t : ℕ) (c : Call) (a : Answer) → Fine s base cuts (J ++ Done t c a ∷ []) → Along s base cuts J → (k : ℕ) → Keyed s cuts (J ++ Done t c a ∷ []) (part s (redo_all base (J ++ Done t c a ∷ []))) (flags (redo_all base (J ++ Done t c a ∷ []))) (map_of s base k) k
-along_done s base cuts J t c a h along k = subst (λ image. Keyed s cuts (J ++ Done t c a ∷ []) (part s image) (flags image) (map_of s base k) k) (sym (redo_all_push base J (Done t c a))) (go (some_is (kept_state s t J) (old.calls.txns t)) (some_is (kept_state s t (J ++ Done t c a ∷ [])) (h.calls.txns t)))
+along_done s base cuts J t c a h along k = subst (λ image. Keyed s cuts (J ++ Done t c a ∷ []) (part s image) (flags image) (map_of s base k) k) (sym (redo_all_push base J (Done t c a))) (go (some_of (kept_state s t J) (old.calls.txns t)) (some_of (kept_state s t (J ++ Done t c a ∷ [])) (h.calls.txns t)))
   where
     old : Fine s base cuts J
     old = fine_before s base cuts J (Done t c a) h
@@ -192,23 +193,17 @@ along_done s base cuts J t c a h along k = subst (λ image. Keyed s cuts (J ++ D
 -- the outcome of a block that takes back or frees
 pub undone_changes : (d : Undo) (key : ℕ) (ws : List ℕ) → changes (effect (undo_op d) key ws).1 ≡ true
 undone_changes (UndoFreeCell c) key ws = refl
-undone_changes (UndoReviveCell c) key ws = refl
-undone_changes (UndoRestore c n vs) key ws = refl
-undone_changes (UndoFreeEntry e) key ws = refl
-undone_changes (UndoReviveEntry e) key ws = refl
+undone_changes _ key ws = refl
 
 pub freeing_changes : (d : Undo) (key : ℕ) (ws : List ℕ) → changes (effect (freeing_op d) key ws).1 ≡ true
 freeing_changes (UndoFreeCell c) key ws = refl
-freeing_changes (UndoReviveCell c) key ws = refl
-freeing_changes (UndoRestore c n vs) key ws = refl
-freeing_changes (UndoFreeEntry e) key ws = refl
-freeing_changes (UndoReviveEntry e) key ws = refl
+freeing_changes _ key ws = refl
 
 pub sound_changes : (ws : List ℕ) (b : Block) (op : Op) → IsSoundOn ws b → b.op ≡ op → changes (effect op b.key ws).1 ≡ true → changes b.outcome ≡ true
 sound_changes ws b op sound e h = ap (λ (x : Block). changes x.outcome) (sym sound) ∙ ap (λ o. changes (effect o b.key ws).1) e ∙ h
 
 along_back : (s : Sizes) (base : List (List ℕ)) (cuts : List ℕ) (J : List Record) (t : ℕ) (b : Block) → Fine s base cuts (J ++ Back t b ∷ []) → Along s base cuts J → (k : ℕ) → Keyed s cuts (J ++ Back t b ∷ []) (part s (redo_all base (J ++ Back t b ∷ []))) (flags (redo_all base (J ++ Back t b ∷ []))) (map_of s base k) k
-along_back s base cuts J t b h along k = subst (λ image. Keyed s cuts (J ++ Back t b ∷ []) (part s image) (flags image) (map_of s base k) k) (sym (redo_all_push base J (Back t b))) (go (some_is (kept_state s t J) (old.calls.txns t)) (some_is (kept_state s t (J ++ Back t b ∷ [])) (h.calls.txns t)))
+along_back s base cuts J t b h along k = subst (λ image. Keyed s cuts (J ++ Back t b ∷ []) (part s image) (flags image) (map_of s base k) k) (sym (redo_all_push base J (Back t b))) (go (some_of (kept_state s t J) (old.calls.txns t)) (some_of (kept_state s t (J ++ Back t b ∷ [])) (h.calls.txns t)))
   where
     old : Fine s base cuts J
     old = fine_before s base cuts J (Back t b) h
@@ -350,7 +345,7 @@ frees_slot W V F G k r (UndoFreeEntry c) o u ys m h e = absurd (cc (m))
 frees_slot W V F G k r (UndoReviveEntry c) o u ys m h e = let a = h 2 ys e in (a.0, a.1)
 
 along_solo : (s : Sizes) (base : List (List ℕ)) (cuts : List ℕ) (J : List Record) (t u : ℕ) (b : Block) → Fine s base cuts (J ++ Solo t u b ∷ []) → Along s base cuts J → (k : ℕ) → Keyed s cuts (J ++ Solo t u b ∷ []) (part s (redo_all base (J ++ Solo t u b ∷ []))) (flags (redo_all base (J ++ Solo t u b ∷ []))) (map_of s base k) k
-along_solo s base cuts J t u b h along k = subst (λ image. Keyed s cuts (J ++ Solo t u b ∷ []) (part s image) (flags image) (map_of s base k) k) (sym (redo_all_push base J (Solo t u b))) (go (some_is (kept_state s u J) (old.calls.txns u)) (some_is (kept_state s u (J ++ Solo t u b ∷ [])) (h.calls.txns u)))
+along_solo s base cuts J t u b h along k = subst (λ image. Keyed s cuts (J ++ Solo t u b ∷ []) (part s image) (flags image) (map_of s base k) k) (sym (redo_all_push base J (Solo t u b))) (go (some_of (kept_state s u J) (old.calls.txns u)) (some_of (kept_state s u (J ++ Solo t u b ∷ [])) (h.calls.txns u)))
   where
     old : Fine s base cuts J
     old = fine_before s base cuts J (Solo t u b) h
@@ -372,8 +367,8 @@ along_solo s base cuts J t u b h along k = subst (λ image. Keyed s cuts (J ++ S
       where
         own : ((i == t) ≡ true) × (i ≡ t) → (kept_state s i (J ++ Solo t u b ∷ []) ≡ kept_state s i J) ⊎ (kept_state s i (J ++ Solo t u b ∷ []) ≡ Some Over)
         own a =
-            let x = some_is (kept_state s t J) (old.calls.txns t) in
-            let y = some_is (kept_state s t (J ++ Solo t u b ∷ [])) (h.calls.txns t) in
+            let x = some_of (kept_state s t J) (old.calls.txns t) in
+            let y = some_of (kept_state s t (J ++ Solo t u b ∷ [])) (h.calls.txns t) in
             inr (subst (λ z. kept_state s z (J ++ Solo t u b ∷ []) ≡ Some Over) (sym a.1) (y.1 ∙ ap (λ o. Some o) (solo_own s t u b x.0 y.0 (state_step s t J (Solo t u b) x.0 y.0 x.1 y.1))))
 
     go : (x : TxnState) × (kept_state s u J ≡ Some x) → (y : TxnState) × (kept_state s u (J ++ Solo t u b ∷ []) ≡ Some y) → Keyed s cuts (J ++ Solo t u b ∷ []) (part s (redo (redo_all base J) (Solo t u b))) (flags (redo (redo_all base J) (Solo t u b))) (map_of s base k) k
@@ -428,22 +423,22 @@ keyed_push s base cuts J (Restarted rs ds) h along = along_quiet s base cuts J (
   where
     states : (u : ℕ) → QuietState s J (Restarted rs ds) u
     states u =
-        let x = some_is (kept_state s u J) ((fine_before s base cuts J (Restarted rs ds) h).calls.txns u) in
-        let y = some_is (kept_state s u (J ++ Restarted rs ds ∷ [])) (h.calls.txns u) in
+        let x = some_of (kept_state s u J) ((fine_before s base cuts J (Restarted rs ds) h).calls.txns u) in
+        let y = some_of (kept_state s u (J ++ Restarted rs ds ∷ [])) (h.calls.txns u) in
         ⊎_elim (λ e. inl (y.1 ∙ ap (λ o. Some o) (sym e) ∙ sym x.1)) (λ e. inr (inl (y.1 ∙ ap (λ o. Some o) e))) (restarted_state s u x.0 y.0 rs ds (state_step s u J (Restarted rs ds) x.0 y.0 x.1 y.1))
 keyed_push s base cuts J (Ended t) h along = along_quiet s base cuts J (Ended t) refl (record { commits = refl; calls = λ u. refl; undos = λ u. undos_of_push u J (Ended t); states = quiet_own s J (Ended t) t (fine_before s base cuts J (Ended t) h).calls (λ u apart. ne_eqb t u (λ i. apart (sym i))) own }) along
   where
     own : QuietState s J (Ended t) t
     own =
-        let x = some_is (kept_state s t J) ((fine_before s base cuts J (Ended t) h).calls.txns t) in
-        let y = some_is (kept_state s t (J ++ Ended t ∷ [])) (h.calls.txns t) in
+        let x = some_of (kept_state s t J) ((fine_before s base cuts J (Ended t) h).calls.txns t) in
+        let y = some_of (kept_state s t (J ++ Ended t ∷ [])) (h.calls.txns t) in
         inr (inl (y.1 ∙ ap (λ o. Some o) (ended_state s t x.0 y.0 (state_step s t J (Ended t) x.0 y.0 x.1 y.1))))
 keyed_push s base cuts J (Begin t) h along = along_quiet s base cuts J (Begin t) refl (record { commits = refl; calls = λ u. refl; undos = λ u. undos_of_push u J (Begin t); states = quiet_own s J (Begin t) t (fine_before s base cuts J (Begin t) h).calls (λ u apart. ne_eqb t u (λ i. apart (sym i))) own }) along
   where
     own : QuietState s J (Begin t) t
     own =
-        let x = some_is (kept_state s t J) ((fine_before s base cuts J (Begin t) h).calls.txns t) in
-        let y = some_is (kept_state s t (J ++ Begin t ∷ [])) (h.calls.txns t) in
+        let x = some_of (kept_state s t J) ((fine_before s base cuts J (Begin t) h).calls.txns t) in
+        let y = some_of (kept_state s t (J ++ Begin t ∷ [])) (h.calls.txns t) in
         let z = begin_state s t x.0 y.0 (state_step s t J (Begin t) x.0 y.0 x.1 y.1) in
         let k : Knows t J (Some Unbegun) = subst (λ o. Knows t J o) (x.1 ∙ ap (λ o. Some o) z.0) (along.known t) in
         inr (inr (record { undos = []; mark = 0; progress = Fresh; way = Onward }, y.1 ∙ ap (λ o. Some o) z.1, refl, refl, k.2))
@@ -487,7 +482,7 @@ pub serial_kept : (s : Sizes) (base : List (List ℕ)) (cuts : List ℕ) (K : Li
 serial_kept s base cuts K h = (x.0, replay, each)
   where
     x : (m : Map) × (calls_after (Some (map_of s base)) (calls_in_order (committed K) K) ≡ Some m)
-    x = some_is (calls_after (Some (map_of s base)) (calls_in_order (committed K) K)) (calls_after-allowed (map_of s base) (calls_in_order (committed K) K) (λ k. subst (λ o. IsSome o) (sym ((along_kept s base cuts K h).keyed k).replayed) refl))
+    x = some_of (calls_after (Some (map_of s base)) (calls_in_order (committed K) K)) (calls_after-allowed (map_of s base) (calls_in_order (committed K) K) (λ k. subst (λ o. IsSome o) (sym ((along_kept s base cuts K h).keyed k).replayed) refl))
 
     replay : serial (map_of s base) (committed K) K ≡ Some x.0
     replay = serial-calls (map_of s base) (committed K) K ∙ x.1

@@ -5,6 +5,7 @@ use Rattle.std.proofs.lemmas.List.{length-append}
 use Rattle.std.proofs.lemmas.List.Folds.{list_any-append}
 use Rattle.std.proofs.lemmas.Bool.Decides.{eqb_tells, nat_tests}
 use Rattle.std.proofs.lemmas.Bool.{eqb-false, eq-eqb}
+use mathlib.Core.Bool.{or-false}
 use Rattle.dali_geometry.specs.Sizes.{Sizes}
 use Rattle.dali_record.specs.declared.operations.Pending.{Pending}
 use Rattle.dali_record.specs.declared.operations.Block.{Block}
@@ -17,12 +18,12 @@ use Rattle.dali_record.specs.Calls.{Fresh}
 use Rattle.dali_record.specs.Legal.{Working, Way, Onward, TakingBack, Unwinding, TxnState, Unbegun, Active, Over, allowed, forward, back, is_of, is_answer, is_level, is_none_left, dead_of, way_back, Committed as IsOver}
 use Rattle.dali_record.proofs.Ends.{get_push_cases}
 use Rattle.dali_record.proofs.Pushes.{undos_of_push, committed_push, calls_of_push}
+use Rattle.dali_record.proofs.Moves.{none_left}
 use Rattle.dali_kept.specs.Kept.{kept_step, freed_later}
 use Rattle.dali_slots.proofs.AnswersAndBacks.{last_split}
 use Rattle.dali_kept.proofs.WithoutLast.{left, HasEnded}
 use Rattle.dali_kept.proofs.Invariant.{FitsWay, Knows}
 use Rattle.dali_kept.proofs.OperationsKeep.{Forwards, forward_is, fits_still, onward_still}
-use Rattle.dali_history.proofs.Places.{or_none}
 
 -- a record of t itself
 abbrev own_of : ℕ → Record → Bool
@@ -44,7 +45,7 @@ ended_push t J r h = ⊎_elim (λ a. inl (h.0, a.1)) (λ a. inr a.1) (get_push_c
 
 same_from : (t : ℕ) (J : List Record) (r : Record) → undo_step t (undos_of t J) r ≡ undos_of t J → has (committed (r ∷ [])) t ≡ false → calls_of t (r ∷ []) ≡ [] → (r ≢ Ended t) → Same t J r
 same_from t J r undos commits calls ended =
-    (undos_of_push t J r ∙ undos, committed_has t J r ∙ ap (λ b. has (committed J) t || b) commits ∙ or_none (has (committed J) t), calls_of_push t J r ∙ ap (λ cs. calls_of t J ++ cs) calls ∙ append-nil (calls_of t J), λ h. ⊎_elim (λ a. a) (λ a. absurd (ended a)) (ended_push t J r h))
+    (undos_of_push t J r ∙ undos, committed_has t J r ∙ ap (λ b. has (committed J) t || b) commits ∙ or-false (has (committed J) t), calls_of_push t J r ∙ ap (λ cs. calls_of t J ++ cs) calls ∙ append-nil (calls_of t J), λ h. ⊎_elim (λ a. a) (λ a. absurd (ended a)) (ended_push t J r h))
 
 same_for : (t : ℕ) (J : List Record) (r : Record) → own_of t r ≡ false → Same t J r
 same_for t J (Format i h) e = same_from t J (Format i h) refl refl refl (λ x. cc (x))
@@ -152,7 +153,7 @@ knows_committed s t J ps (Commit u) y k e = stays t J (Commit u) (u == t) (IsOve
 knows_committed s t J ps (Ended u) y k e = either_own t u J (Ended u) (Some Over) (IsOver ps) y (λ z. z) k e (λ on g. let z : Over ≡ y = cc (g) in subst (λ v. Knows t (J ++ Ended u ∷ []) (Some v)) z (λ h. left_nil))
   where
     left_nil : left t (J ++ Ended u ∷ []) ≡ []
-    left_nil = let commits : has (committed (J ++ Ended u ∷ [])) t ≡ true = committed_has t J (Ended u) ∙ or_none (has (committed J) t) ∙ k.0 in rw commits refl
+    left_nil = let commits : has (committed (J ++ Ended u ∷ [])) t ≡ true = committed_has t J (Ended u) ∙ or-false (has (committed J) t) ∙ k.0 in rw commits refl
 knows_committed s t J ps (Solo u p b) y k e = go (not (u == t)) (p == t) e
   where
     m : Same t J (Solo u p b)
@@ -190,10 +191,6 @@ fits_back w p last fits = go (nat_lt w.mark (length w.undos)) refl
     go true e = rw e (let l = less w.mark (length w.undos) e in omega (arith, l, long))
     go false e = rw e (let l = more w.mark (length w.undos) e in omega (arith, l, long))
 
-none_left_is : (ps : List Pending) → is_none_left ps ≡ true → ps ≡ []
-none_left_is [] h = refl
-none_left_is (p ∷ ps) h = absurd (cc (h))
-
 knows_active : (s : Sizes) (t : ℕ) (J : List Record) (w : Working) (r : Record) (y : TxnState) → Knows t J (Some (Active w)) → kept_step s t (Active w) r ≡ Some y → Knows t (J ++ r ∷ []) (Some y)
 knows_active s t J w (Format i h) y k e = still t J (Format i h) (Active w) y refl k e
 knows_active s t J w (Begin u) y k e = stays t J (Begin u) (u == t) (Active w) y (λ z. refl) k e
@@ -206,7 +203,7 @@ knows_active s t J w (Forward u b) y k e = either_own t u J (Forward u b) (forwa
         undos = undos_of_push t J (Forward u b) ∙ rw (eq-eqb u t on) (ap (λ us. us ++ Rattle.dali_record.specs.Log.undo_added b b.undo) k.0)
 
         commits : has (committed (J ++ Forward u b ∷ [])) t ≡ false
-        commits = committed_has t J (Forward u b) ∙ or_none (has (committed J) t) ∙ k.1
+        commits = committed_has t J (Forward u b) ∙ or-false (has (committed J) t) ∙ k.1
 
         ended : HasEnded t (J ++ Forward u b ∷ []) → ⊥
         ended h = ⊎_elim k.2 (λ z. cc (z)) (ended_push t J (Forward u b) h)
@@ -220,7 +217,7 @@ knows_active s t J w (Done u c a) y k e = either_own t u J (Done u c a) (allowed
     own on g =
         let z = is_allowed (is_answer s w c a) (Active (record { undos = w.undos; mark = length w.undos; progress = Fresh; way = Onward })) y g in
         subst (λ v. Knows t (J ++ Done u c a ∷ []) (Some v)) z.1
-        (undos_of_push t J (Done u c a) ∙ k.0, committed_has t J (Done u c a) ∙ or_none (has (committed J) t) ∙ k.1, (λ h. ⊎_elim k.2 (λ i. cc (i)) (ended_push t J (Done u c a) h)), omega arith)
+        (undos_of_push t J (Done u c a) ∙ k.0, committed_has t J (Done u c a) ∙ or-false (has (committed J) t) ∙ k.1, (λ h. ⊎_elim k.2 (λ i. cc (i)) (ended_push t J (Done u c a) h)), omega arith)
 knows_active s t J w (Commit u) y k e = either_own t u J (Commit u) (allowed (is_level w) (Some (IsOver (dead_of w.undos)))) (Active w) y (λ z. z) k e own
   where
     own : u ≡ t → allowed (is_level w) (Some (IsOver (dead_of w.undos))) ≡ Some y → Knows t (J ++ Commit u ∷ []) (Some y)
@@ -234,8 +231,8 @@ knows_active s t J w (Ended u) y k e = either_own t u J (Ended u) (allowed (is_n
     own : u ≡ t → allowed (is_none_left w.undos) (Some Over) ≡ Some y → Knows t (J ++ Ended u ∷ []) (Some y)
     own on g =
         let z = is_allowed (is_none_left w.undos) Over y g in
-        let undos : undos_of t (J ++ Ended u ∷ []) ≡ [] = undos_of_push t J (Ended u) ∙ k.0 ∙ none_left_is w.undos z.0 in
-        let commits : has (committed (J ++ Ended u ∷ [])) t ≡ false = committed_has t J (Ended u) ∙ or_none (has (committed J) t) ∙ k.1 in
+        let undos : undos_of t (J ++ Ended u ∷ []) ≡ [] = undos_of_push t J (Ended u) ∙ k.0 ∙ none_left w.undos z.0 in
+        let commits : has (committed (J ++ Ended u ∷ [])) t ≡ false = committed_has t J (Ended u) ∙ or-false (has (committed J) t) ∙ k.1 in
         subst (λ v. Knows t (J ++ Ended u ∷ []) (Some v)) z.1 (λ h. rw (commits, undos) refl)
 knows_active s t J w (Solo u p b) y k e = let z = is_allowed (not (u == t) && not (p == t)) (Active w) y e in subst (λ v. Knows t (J ++ Solo u p b ∷ []) (Some v)) z.1 (keep t J (Solo u p b) (Active w) (same_for t J (Solo u p b) refl) k)
 knows_active s t J w AuditBegin y k e = still t J AuditBegin (Active w) y refl k e
@@ -249,7 +246,7 @@ knows_active s t J w (Back u b) y k e = either_own t u J (Back u b) (back w b (l
         let z = back_is w b (last_of w.undos) y g in
         let undos : undos_of t (J ++ Back u b ∷ []) ≡ drop_last w.undos = undos_of_push t J (Back u b) ∙ rw (eq-eqb u t on) (ap drop_last k.0) in
         subst (λ v. Knows t (J ++ Back u b ∷ []) (Some v)) z.3
-        (undos, committed_has t J (Back u b) ∙ or_none (has (committed J) t) ∙ k.1, (λ h. ⊎_elim k.2 (λ i. cc (i)) (ended_push t J (Back u b) h)), fits_back w z.0 z.1 k.3)
+        (undos, committed_has t J (Back u b) ∙ or-false (has (committed J) t) ∙ k.1, (λ h. ⊎_elim k.2 (λ i. cc (i)) (ended_push t J (Back u b) h)), fits_back w z.0 z.1 k.3)
 
 -- what is known of a transaction, after each record that it allows
 pub knows_step : (s : Sizes) (t : ℕ) (J : List Record) (x : TxnState) (r : Record) (y : TxnState) → Knows t J (Some x) → kept_step s t x r ≡ Some y → Knows t (J ++ r ∷ []) (Some y)

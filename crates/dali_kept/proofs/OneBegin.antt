@@ -5,6 +5,7 @@ use Rattle.std.specs.Prelude.{◌==◌, ◌&&◌, if◌then◌else◌}
 use Rattle.std.proofs.lemmas.List.Elements.{filter_map-append}
 use Rattle.std.proofs.lemmas.Bool.Decides.{eqb_tells}
 use Rattle.std.proofs.lemmas.Bool.{eq-eqb}
+use Rattle.dali_lists.proofs.Options.{some_of}
 use Rattle.dali_geometry.specs.Sizes.{Sizes}
 use Rattle.dali_record.specs.declared.operations.Pending.{Pending}
 use Rattle.dali_record.specs.declared.operations.Block.{Block}
@@ -21,7 +22,7 @@ use Rattle.dali_kept.specs.Kept.{KeepsCalls, kept_state, kept_step, kept_next, f
 use Rattle.dali_kept.proofs.WithoutLast.{kept_state_push, kept_before, calls_before}
 use Rattle.dali_kept.proofs.OperationsKeep.{forward_is}
 use Rattle.dali_kept.proofs.KnownTxns.{back_is, is_allowed, freed_is}
-use Rattle.dali_kept.proofs.InvariantAlong.{step_beside, forward_state, back_state, commit_state, done_state, refused, some_is}
+use Rattle.dali_kept.proofs.InvariantAlong.{step_beside, forward_state, back_state, commit_state, done_state, refused}
 use Rattle.dali_kept.proofs.Counts.{count, count-append}
 
 abbrev pub Once : ℕ → List Record → Type 0
@@ -60,31 +61,12 @@ held_stays t J r Over e f h = once_stays t J r e f h
 -- a record that doesn't concern t
 no_begin : (t : ℕ) (r : Record) → concerns t r ≡ false → count t (begun (r ∷ [])) ≡ 0
 no_begin t (Begin u) e = rw e refl
-no_begin t (Format i h) e = refl
-no_begin t (Forward u b) e = refl
-no_begin t (Done u c a) e = refl
-no_begin t (Commit u) e = refl
-no_begin t (Ended u) e = refl
-no_begin t (Solo u p b) e = refl
-no_begin t AuditBegin e = refl
-no_begin t (AuditClean b) e = refl
-no_begin t (AuditFail b rs) e = refl
-no_begin t (Restarted rs ds) e = refl
-no_begin t (Back u b) e = refl
+no_begin t _ e = refl
 
 no_undo : (t : ℕ) (us : List Pending) (r : Record) → concerns t r ≡ false → undo_step t us r ≡ us
-no_undo t us (Begin u) e = refl
-no_undo t us (Format i h) e = refl
 no_undo t us (Forward u b) e = rw e refl
-no_undo t us (Done u c a) e = refl
-no_undo t us (Commit u) e = refl
-no_undo t us (Ended u) e = refl
-no_undo t us (Solo u p b) e = refl
-no_undo t us AuditBegin e = refl
-no_undo t us (AuditClean b) e = refl
-no_undo t us (AuditFail b rs) e = refl
-no_undo t us (Restarted rs ds) e = refl
 no_undo t us (Back u b) e = rw e refl
+no_undo t us _ e = refl
 
 held_beside : (s : Sizes) (t : ℕ) (J : List Record) (r : Record) (x y : TxnState) → concerns t r ≡ false → Held t J (Some x) → kept_step s t x r ≡ Some y → Held t (J ++ r ∷ []) (Some y)
 held_beside s t J r x y n h e =
@@ -194,11 +176,11 @@ held_all s t K = by_push (λ J. KeepsCalls s J → Held t J (kept_state s t J)) 
   where
     step : (J : List Record) (r : Record) → (KeepsCalls s J → Held t J (kept_state s t J)) → KeepsCalls s (J ++ r ∷ []) → Held t (J ++ r ∷ []) (kept_state s t (J ++ r ∷ []))
     step J r ih h =
-        let x = some_is (kept_state s t J) (kept_before s t J r (h.txns t)) in
-        let y = some_is (kept_state s t (J ++ r ∷ [])) (h.txns t) in
+        let x = some_of (kept_state s t J) (kept_before s t J r (h.txns t)) in
+        let y = some_of (kept_state s t (J ++ r ∷ [])) (h.txns t) in
         let e : kept_step s t x.0 r ≡ Some y.0 = sym (kept_state_push s t J r ∙ ap (λ o. kept_next s t o r) x.1) ∙ y.1 in
         subst (λ o. Held t (J ++ r ∷ []) o) (sym y.1) (held_step s t J r x.0 y.0 (subst (λ o. Held t J o) x.1 (ih (calls_before s J r h))) e)
 
 -- a transaction has one Begin, or none and no undos
 pub once_kept : (s : Sizes) (t : ℕ) (K : List Record) → KeepsCalls s K → Once t K
-once_kept s t K h = let x = some_is (kept_state s t K) (h.txns t) in once t K x.0 (subst (λ o. Held t K o) x.1 (held_all s t K h))
+once_kept s t K h = let x = some_of (kept_state s t K) (h.txns t) in once t K x.0 (subst (λ o. Held t K o) x.1 (held_all s t K h))

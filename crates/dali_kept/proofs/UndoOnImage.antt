@@ -28,10 +28,7 @@ use Rattle.dali_index.proofs.Fitting.{heap_kind}
 -- the region of an undo that was left is of the undo's kind
 left_kind : (s : Sizes) (r : ℕ) (d : Undo) (xs : List ℕ) → Left s r d xs → on_kind s r (undo_op d) ≡ true
 left_kind s r (UndoFreeCell c) xs h = h.0
-left_kind s r (UndoReviveCell c) xs h = h.0
-left_kind s r (UndoRestore c n vs) xs h = h.0
-left_kind s r (UndoFreeEntry e) xs h = h.0
-left_kind s r (UndoReviveEntry e) xs h = h.0
+left_kind s r _ xs h = h.0
 
 -- an undo whose slot was left as it was changes that slot alone, and no flag
 pub undo_into_does : (s : Sizes) (image : List (List ℕ)) (p : Pending) → IsImage s image → Finds s p (part s image p.key) → (part s (undo_into image p) ≡ put_at (part s image) p.key p.region (slot_of p.undo) (undone_slot p.undo (part s image p.key p.region (slot_of p.undo)))) × (flags (undo_into image p) ≡ flags image)

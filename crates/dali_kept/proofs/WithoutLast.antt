@@ -11,7 +11,7 @@ use Rattle.std.proofs.lemmas.Bool.{eq-eqb, ne_eqb, or_left, or_right}
 use Rattle.dali_geometry.specs.Sizes.{Sizes}
 use Rattle.dali_record.specs.declared.operations.Pending.{Pending}
 use Rattle.dali_record.specs.declared.records.Record.{Record}
-use Rattle.dali_record.specs.declared.records.Record.TheVariants.{Format, Begin, Forward, Done, Commit, Ended, Solo, AuditBegin, AuditClean, AuditFail, Restarted, Back}
+use Rattle.dali_record.specs.declared.records.Record.TheVariants.{Forward, Ended, Back}
 use Rattle.dali_record.specs.Blocks.{changes_item}
 use Rattle.dali_record.specs.Log.{Touch, touch_of, touch_at, undos_of, undo_step, committed}
 use Rattle.dali_record.specs.Locks.{conflicts, EndedBetween}
@@ -45,18 +45,9 @@ values_before J r h i a e = h i a (touch_old J r i (touch_within J i a e) ∙ e)
 
 -- undos change by blocks of the transaction alone
 pub undos_other : (t : ℕ) (us : List Pending) (r : Record) → ((a : Touch) → touch_of r ≡ Some a → a.txn ≢ t) → undo_step t us r ≡ us
-undos_other t us (Format i h) n = refl
-undos_other t us (Begin u) n = refl
 undos_other t us (Forward u b) n = rw (ne_eqb u t (n (record { txn = u; owner = u; block = b }) refl)) refl
-undos_other t us (Done u c a) n = refl
-undos_other t us (Commit u) n = refl
-undos_other t us (Ended u) n = refl
-undos_other t us (Solo u p b) n = refl
-undos_other t us AuditBegin n = refl
-undos_other t us (AuditClean b) n = refl
-undos_other t us (AuditFail b rs) n = refl
-undos_other t us (Restarted rs ds) n = refl
 undos_other t us (Back u b) n = rw (ne_eqb u t (n (record { txn = u; owner = u; block = b }) refl)) refl
+undos_other t us _ n = refl
 
 pub cut_before : (cuts : List ℕ) (J : List Record) (r : Record) (t key j : ℕ) → j < length J → IsCutBefore cuts (J ++ r ∷ []) t key j → IsCutBefore cuts J t key j
 cut_before cuts J r t key j below h = (h.0, rw same at h.1, λ i x. h.2 i (x.0, touch_old J r i (touch_within J i x.0 x.1) ∙ x.1, x.2))

@@ -1,3 +1,3 @@
 mod Walk
 mod Rows
-mod Sorted
+pub mod Sorted

@@ -19,16 +19,16 @@ use Rattle.dali_listing.specs.Listing.{pair_of, pairs_of, order, IsListing}
 abbrev row_of : ℕ × List ℕ → Listed
 row_of p = record { key = p.0; value = p.1 }
 
-in_pairs : (rows : List Listed) (row : Listed) → Contains rows row → Contains (pairs_of rows) (pair_of row)
+pub in_pairs : (rows : List Listed) (row : Listed) → Contains rows row → Contains (pairs_of rows) (pair_of row)
 in_pairs rows row h = (h.0, subst (λ n. h.0 < n) (sym (length-map rows pair_of)) h.1, get_or-map pair_of rows h.0 row ∙ ap pair_of h.2)
 
-pairs_in : (rows : List Listed) (row : Listed) → Contains (pairs_of rows) (pair_of row) → Contains rows row
+pub pairs_in : (rows : List Listed) (row : Listed) → Contains (pairs_of rows) (pair_of row) → Contains rows row
 pairs_in rows row h = (h.0, subst (λ n. h.0 < n) (length-map rows pair_of) h.1, ap row_of (sym (get_or-map pair_of rows h.0 row) ∙ h.2))
 
 abbrev alike : Listed → Listed → Bool
 alike x y = (x.key == y.key) && pointwise nat_eq x.value y.value
 
-one_row : (x y : Listed) → x.key ≡ y.key → x.value ≡ y.value → x ≡ y
+pub one_row : (x y : Listed) → x.key ≡ y.key → x.value ≡ y.value → x ≡ y
 one_row x y k v i = record { key = k i; value = v i }
 
 pub alike_is_one : (x y : Listed) → alike x y ≡ true → x ≡ y

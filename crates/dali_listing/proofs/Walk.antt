@@ -3,6 +3,7 @@ use Rattle.std.proofs.Common.{◌≡◌, ◌≢◌, ◌⊎◌, inl, inr, ℕ, su
 use Rattle.std.specs.Prelude.{◌==◌, slice_index, slice_index_or, if◌then◌else◌}
 use Rattle.std.proofs.lemmas.Bool.{ne_eqb}
 use Rattle.std.proofs.lemmas.Bool.Decides.{eqb_tells}
+use Rattle.dali_lists.proofs.Options.{some_same}
 use Rattle.dali_geometry.specs.Sizes.{Sizes}
 use Rattle.dali_geometry.specs.Places.{next_index, cell_of, is_place, region_at, cell_at}
 use Rattle.dali_index.specs.Entries.{state_of, key_of, place_of, flag_of}
@@ -31,18 +32,11 @@ pub record IsAt (s : Sizes) (x : ℕ) (p : ℕ × ℕ) : Type 0 where
   pub region : region_at x ≡ p.0
   pub cell : cell_at x ≡ p.1
 
-some_is : {X : Type 0} {x y : X} → Some x ≡ Some y → x ≡ y
-some_is {x = x} e = ap (by_default x) e
-  where
-    by_default : {X : Type 0} → X → Option X → X
-    by_default d None = d
-    by_default d (Some z) = z
-
 pub at_place : (s : Sizes) (x : ℕ) (p : ℕ × ℕ) → cell_of s x ≡ Some p → IsAt s x p
 at_place s x p e = go (is_place s x) refl e
   where
     go : (b : Bool) → is_place s x ≡ b → (if b then Some (region_at x, cell_at x) else None) ≡ Some p → IsAt s x p
-    go true is e = let q = some_is e in record { placed = is; region = ap (λ z. z.0) q; cell = ap (λ z. z.1) q }
+    go true is e = let q = some_same e in record { placed = is; region = ap (λ z. z.0) q; cell = ap (λ z. z.1) q }
     go false is e = absurd (cc (e))
 
 pub stands_for : (s : Sizes) (image : List (List ℕ)) (r e : ℕ) (ws : List ℕ) (p : ℕ × ℕ) (o : Option (List ℕ)) → ws ≡ words_of image r → (state_of ws e == 1) ≡ true → cell_of s (slice_index ws (3 * e + 3)) ≡ Some p → is_reached s image (slice_index ws (3 * e + 2)) r ≡ true → o ≡ cell_value (words_of image p.0) p.1 (slice_index ws (3 * e + 2)) → pair_of (slice_index ws (3 * e + 2)) o ≡ stored s image r e

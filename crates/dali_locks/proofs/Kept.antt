@@ -8,6 +8,10 @@ use Rattle.std.specs.BTreeMap.{is_at}
 use Rattle.std.specs.FinMap.{get, insert, empty, find, from_entries, get-from_entries, get-insert, get-empty, get-retain_keys, same_map}
 use Rattle.std.proofs.lemmas.Map.Views.{exact_unsigned_eq}
 use Rattle.std.proofs.lemmas.Bool.Decides.{nat_tests}
+use Rattle.std.proofs.lemmas.Option.{same_Some}
+use mathlib.Core.Bool.{and_comm}
+use Rattle.dali_lists.proofs.Numbers.{eqb_turned}
+use Rattle.dali_lists.proofs.Tests.{left_true, right_true}
 use Rattle.dali_locks.specs.declared.mode.Mode.{Mode}
 use Rattle.dali_locks.specs.declared.mode.Mode.TheVariants.{Shared, Exclusive}
 use Rattle.dali_locks.specs.Locks.{Locks, lock_cmp, both_shared, stronger_mode, IsApart, IsFree, IsOldestConflict, locks_without}
@@ -51,19 +55,6 @@ same_kept held holders held' holders' kept one two = record {
 }
 
 -- ---- a lock that is granted
-pub left_of : (a b : Bool) → (a && b) ≡ true → a ≡ true
-left_of true b h = refl
-left_of false b h = h
-
-pub right_of : (a b : Bool) → (a && b) ≡ true → b ≡ true
-right_of true b h = h
-right_of false b h = cc
-
-and_comm : (a b : Bool) → (a && b) ≡ (b && a)
-and_comm true true = refl
-and_comm true false = refl
-and_comm false true = refl
-and_comm false false = refl
 
 at_pair : (t k u l : ℕ) → eq_by_cmp lock_cmp (u, l) (t, k) ≡ ((t == u) && (k == l))
 at_pair t k u l = (eq_by_cmp_equiv total).symm (u, l) (t, k) ∙ tied t k u l
@@ -85,7 +76,7 @@ pub taken_back : (old mid new : Pairs) (t k : ℕ) (m : Mode) → mode_at old t 
 taken_back old mid new t k m absent put gone u l = gone u l ∙ ap (λ o. if (t == u) && (k == l) then None else o) (put u l) ∙ taken_by ((t == u) && (k == l)) refl
   where
     taken_by : (b : Bool) → ((t == u) && (k == l)) ≡ b → (if b then None else (if b then Some m else mode_at old u l)) ≡ mode_at old u l
-    taken_by true here = sym absent ∙ ap (λ a. mode_at old a k) (exact_unsigned_eq t u (left_of _ _ here)) ∙ ap (mode_at old u) (exact_unsigned_eq k l (right_of _ _ here))
+    taken_by true here = sym absent ∙ ap (λ a. mode_at old a k) (exact_unsigned_eq t u (left_true _ _ here)) ∙ ap (mode_at old u) (exact_unsigned_eq k l (right_true _ _ here))
     taken_by false apart = refl
 
 both_comm : (m n : Mode) → both_shared m n ≡ both_shared n m
@@ -94,11 +85,8 @@ both_comm Shared Exclusive = refl
 both_comm Exclusive Shared = refl
 both_comm Exclusive Exclusive = refl
 
-same_some : (m n : Mode) → Some m ≡ Some n → m ≡ n
-same_some m n e = cc
-
 -- the stronger of two modes goes with what each of them goes with
-stronger_apart : (o : Option Mode) (m n : Mode) → ((h : Mode) → o ≡ Some h → both_shared h n ≡ true) → both_shared m n ≡ true → both_shared (stronger_mode o m) n ≡ true
+pub stronger_apart : (o : Option Mode) (m n : Mode) → ((h : Mode) → o ≡ Some h → both_shared h n ≡ true) → both_shared m n ≡ true → both_shared (stronger_mode o m) n ≡ true
 stronger_apart None m n h free = free
 stronger_apart (Some Shared) m n h free = free
 stronger_apart (Some Exclusive) m n h free = h Exclusive refl
@@ -109,9 +97,6 @@ one_of_them t u v a b c = grind (arith, nat_tests)
 not_both : (t u v : ℕ) → (t == u) ≡ true → (u == v) ≡ false → (t == v) ≡ false
 not_both t u v a b = grind (arith, nat_tests)
 
-turned_round : (u v : ℕ) → (u == v) ≡ false → (v == u) ≡ false
-turned_round u v a = grind (arith, nat_tests)
-
 module _ (old new : Pairs) (t k : ℕ) (m : Mode) (apart : AreApart old) (free : (u : ℕ) (n : Mode) → (t == u) ≡ false → mode_at old u k ≡ Some n → both_shared m n ≡ true) (put : IsSetTo (Some (stronger_mode (mode_at old t k) m)) t k old new) where
   -- another's lock of the key beside the new one
   beside : (u : ℕ) (n : Mode) → (t == u) ≡ false → mode_at old u k ≡ Some n → both_shared (stronger_mode (mode_at old t k) m) n ≡ true
@@ -119,13 +104,13 @@ module _ (old new : Pairs) (t k : ℕ) (m : Mode) (apart : AreApart old) (free :
 
   put_apart_by : (u v l : ℕ) (p q : Mode) (a b : Bool) → (u == v) ≡ false → ((t == u) && (k == l)) ≡ a → ((t == v) && (k == l)) ≡ b
       → (if a then Some (stronger_mode (mode_at old t k) m) else mode_at old u l) ≡ Some p → (if b then Some (stronger_mode (mode_at old t k) m) else mode_at old v l) ≡ Some q → both_shared p q ≡ true
-  put_apart_by u v l p q true true other here there one two = absurd (one_of_them t u v (left_of _ _ here) (left_of _ _ there) other)
+  put_apart_by u v l p q true true other here there one two = absurd (one_of_them t u v (left_true _ _ here) (left_true _ _ there) other)
   put_apart_by u v l p q true false other here there one two =
-      ap (λ r. both_shared r q) (sym (same_some _ _ one))
-      ∙ beside v q (not_both t u v (left_of _ _ here) other) (ap (λ a. mode_at old v a) (exact_unsigned_eq k l (right_of _ _ here)) ∙ two)
+      ap (λ r. both_shared r q) (sym (same_Some _ _ one))
+      ∙ beside v q (not_both t u v (left_true _ _ here) other) (ap (λ a. mode_at old v a) (exact_unsigned_eq k l (right_true _ _ here)) ∙ two)
   put_apart_by u v l p q false true other here there one two =
-      both_comm p q ∙ ap (λ r. both_shared r p) (sym (same_some _ _ two))
-      ∙ beside u p (not_both t v u (left_of _ _ there) (turned_round u v other)) (ap (λ a. mode_at old u a) (exact_unsigned_eq k l (right_of _ _ there)) ∙ one)
+      both_comm p q ∙ ap (λ r. both_shared r p) (sym (same_Some _ _ two))
+      ∙ beside u p (not_both t v u (left_true _ _ there) (eqb_turned u v other)) (ap (λ a. mode_at old u a) (exact_unsigned_eq k l (right_true _ _ there)) ∙ one)
   put_apart_by u v l p q false false other here there one two = apart u v l p q other one two
 
   pub put_apart : AreApart new
@@ -197,5 +182,5 @@ module _ (held holders : Pairs) (locks : Locks) (seen : from_entries held ≡ lo
       standing = sym (holder_has u) ∙ stands
 
       beside_by : (b : Bool) → (h == u) ≡ b → both_shared m p ≡ true
-      beside_by true same = ap (both_shared m) (same_some p n (sym standing ∙ ap (mode_at holders k) (sym (exact_unsigned_eq h u same)) ∙ least.holds)) ∙ beside
+      beside_by true same = ap (both_shared m) (same_Some p n (sym standing ∙ ap (mode_at holders k) (sym (exact_unsigned_eq h u same)) ∙ least.holds)) ∙ beside
       beside_by false apart = shared_through m n p beside (kept.apart h u k n p apart (sym (kept.mirror h k) ∙ least.holds) (sym (kept.mirror u k) ∙ standing))

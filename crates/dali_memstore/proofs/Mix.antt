@@ -1,6 +1,7 @@
 -- What stood before a write that a crash cut short.
 use Rattle.std.specs.Prelude.{◌<◌, ◌≡◌, ◌⊎◌, ℕ, zero, suc, ◌+◌, ◌≤◌, min, max, List, [], ◌∷◌, length, take, drop, refl}
 use Rattle.std.proofs.Common.{get_or, ap, subst, arith, inl, inr, ⊎_elim}
+use Rattle.std.proofs.lemmas.List.{drop_all}
 use Rattle.dali_store.specs.Store.{Torn}
 
 -- the bytes of c, but those of the file in n places from at, as far as both go
@@ -31,16 +32,9 @@ take-mix (suc at) n [] c le = absurd (omega arith)
 take-mix (suc at) n (x ∷ file) [] le = refl
 take-mix (suc at) n (x ∷ file) (y ∷ c) le = ap (λ (l : List ℕ). y ∷ l) (take-mix at n file c (omega arith))
 
--- nothing of a list stands past its end
-drop-past : (n : ℕ) (c : List ℕ) → length c ≤ n → drop n c ≡ []
-drop-past zero [] le = refl
-drop-past zero (x ∷ c) le = absurd (omega arith)
-drop-past (suc n) [] le = refl
-drop-past (suc n) (x ∷ c) le = drop-past n c (omega arith)
-
 drop-mix-zero : (n : ℕ) (file c : List ℕ) → length c ≤ max (length file) n → drop n c ≡ drop n (mix zero n file c)
 drop-mix-zero zero file c few = refl
-drop-mix-zero (suc n) [] c few = drop-past (suc n) c (omega arith)
+drop-mix-zero (suc n) [] c few = drop_all (suc n) c (omega arith)
 drop-mix-zero (suc n) (x ∷ file) [] few = refl
 drop-mix-zero (suc n) (x ∷ file) (y ∷ c) few = drop-mix-zero n file c (omega arith)
 

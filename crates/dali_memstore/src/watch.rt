@@ -22,7 +22,7 @@ pub trait Hook {
 }
 
 /// Tells the hook of each call before it is made, and passes every call on with its answer.
-/// It serves tests that count or hold the calls of a store.
+/// By it the program shows how far a long run is, and tests count or hold the calls of a store.
 #[derive(Drop)]
 pub struct Watch<V: Store, H: Hook> {
     store: V,

@@ -1,20 +1,14 @@
 -- Histories, hands and totals.
-use Rattle.std.proofs.Common.{◌≡◌, ◌≢◌, ◌⊎◌, ℕ, zero, suc, ◌+◌, ◌≤◌, ◌<◌, ◌==◌, true, false, List, [], ◌∷◌, ◌++◌, length, set, refl, sym, ap, ◌∙◌, subst, ⊎_elim, arith, append_assoc, inl, inr}
+use Rattle.std.proofs.Common.{◌≡◌, ◌≢◌, ◌⊎◌, ℕ, zero, suc, ◌+◌, ◌≤◌, ◌<◌, ◌==◌, false, List, [], ◌∷◌, ◌++◌, length, set, refl, sym, ap, ◌∙◌, subst, ⊎_elim, arith, append_assoc, inl, inr}
 use Rattle.std.proofs.lemmas.List.{append-nil}
-use Rattle.std.proofs.lemmas.Bool.Decides.{nat_tests}
 use mathlib.Core.Option.{some, some-ne-none, some-injective}
 use lib.ListN.{get_elem?}
+use Rattle.std.proofs.lemmas.Bool.{eq-eqb, ne_eqb}
 use native.Mathlib.Decide.{ℕ_discrete}
 use Rattle.atomic_table.proofs.Lists.{at_set}
 use Rattle.atomic_table.specs.Seated.{TableId}
 use Rattle.dali_notes.specs.History.{In, one_if, below, IsSeen, Sight, AreFresh, AreOf}
 use Rattle.dali_notes.specs.Kept.{total, hands_of, Fits, fresh_from, with_seen}
-
-pub same : (m n : ℕ) → m ≡ n → (m == n) ≡ true
-same m n e = grind (arith, nat_tests)
-
-pub other : (m n : ℕ) → m ≢ n → (m == n) ≡ false
-other m n e = grind (arith, nat_tests)
 
 pub below-low : (n c : ℕ) → n < c → below n c ≡ 1
 below-low zero zero h = absurd (omega arith)
@@ -65,7 +59,7 @@ module _ {E : Type 0} where
   pub fits_grow : (h ys : List (ℕ × E)) (v : List (ℕ × List (ℕ × E))) → Fits h v → ((n : ℕ) → 1 ≤ hands_of n v → (x : ℕ × E) → In ys x → (x.0 == n) ≡ false) → Fits (h ++ ys) v
   fits_grow h ys [] f none = tt
   fits_grow h ys (x ∷ xs) f none =
-      let one : one_if (x.0 == x.0) ≡ 1 = ap one_if (same x.0 x.0 refl) in
+      let one : one_if (x.0 == x.0) ≡ 1 = ap one_if (eq-eqb x.0 x.0 refl) in
       (seen_grow x.0 x.1 h ys f.0 (none x.0 (omega arith)), fits_grow h ys xs f.1 (λ n more. none n (omega arith)))
 
   pub hands-append : (n : ℕ) (v w : List (ℕ × List (ℕ × E))) → hands_of n (v ++ w) ≡ hands_of n v + hands_of n w
@@ -99,13 +93,13 @@ module _ (E : Type 0) where
 
   pub fresh_low : (n k m : ℕ) → n < k → hands_of n (fresh_from {E = E} k m) ≡ 0
   fresh_low n k zero h = refl
-  fresh_low n k (suc m) h = let no : one_if (k == n) ≡ 0 = ap one_if (other k n (λ e. omega arith)) in omega (arith, fresh_low n (suc k) m (omega arith))
+  fresh_low n k (suc m) h = let no : one_if (k == n) ≡ 0 = ap one_if (ne_eqb k n (λ e. omega arith)) in omega (arith, fresh_low n (suc k) m (omega arith))
 
   fresh_case : (n k m : ℕ) → Dec (k ≡ n) → k ≤ n → (suc k ≤ n → hands_of n (fresh_from {E = E} (suc k) m) ≡ below n (suc k + m)) → hands_of n (fresh_from {E = E} k (suc m)) ≡ below n (k + suc m)
-  fresh_case n k m (yes e) h more = let one : one_if (k == n) ≡ 1 = ap one_if (same k n e) in
+  fresh_case n k m (yes e) h more = let one : one_if (k == n) ≡ 1 = ap one_if (eq-eqb k n e) in
       let none : hands_of n (fresh_from {E = E} (suc k) m) ≡ 0 = fresh_low n (suc k) m (omega arith) in
       let there : below n (k + suc m) ≡ 1 = below-low n (k + suc m) (omega arith) in omega arith
-  fresh_case n k m (no e) h more = let one : one_if (k == n) ≡ 0 = ap one_if (other k n e) in
+  fresh_case n k m (no e) h more = let one : one_if (k == n) ≡ 0 = ap one_if (ne_eqb k n e) in
       let apart : suc k ≤ n = grind (arith, e) in
       let sum : below n (suc k + m) ≡ below n (k + suc m) = ap (below n) (omega arith) in omega (arith, more apart)
 

@@ -2,12 +2,13 @@
 use Rattle.std.proofs.Common.{◌≡◌, ◌≢◌, ℕ, zero, suc, ◌+◌, ◌-◌, ◌%◌, ◌≤◌, ◌<◌, ◌==◌, false, List, [], ◌∷◌, ◌++◌, length, slice_set, slice_index, refl, sym, ap, ◌∙◌, subst, ⊎_elim, arith, length-append}
 use mathlib.Core.Option.{Option, some, none, some-ne-none, some-injective}
 use lib.ListN.{get_elem?}
+use Rattle.std.proofs.lemmas.Bool.{eq-eqb, ne_eqb as other}
 use Rattle.atomic_table.specs.Table.{State, Me, Step, step, Act, keeps, opening, Allows, Splits, Joins}
 use Rattle.atomic_table.specs.Table
 use Rattle.atomic_table.proofs.Lists.{at_set, at_snoc}
 use Rattle.dali_notes.specs.History.{one_if, below, IsSeen, Added, Sight, AllSaw, notes_of}
 use Rattle.dali_notes.specs.Kept.{hands_of, Fits, fresh_from, with_seen, seen_of, number_of, first_of_hands, others_of_hands, IsKept, Kept, Looks, Counts, Enters}
-use Rattle.dali_notes.proofs.Lists.{same, other, below-low, below-is, all_append, all_one, all_none, seen_self, fits_grow, hands-append, fits-append, fits_with_seen, hands-with_seen, length-with_seen, hands-none, fits_fresh, fresh_each, length-fresh, total_set, total_snoc, total_one, total_two, alone, all_set}
+use Rattle.dali_notes.proofs.Lists.{below-low, below-is, all_append, all_one, all_none, seen_self, fits_grow, hands-append, fits-append, fits_with_seen, hands-with_seen, length-with_seen, hands-none, fits_fresh, fresh_each, length-fresh, total_set, total_snoc, total_one, total_two, alone, all_set}
 
 abbrev pub View : Type 0 → Type 0
 View E = List (ℕ × List (ℕ × E))
@@ -64,7 +65,7 @@ module _ {E : Type 0} where
   entered count id n e seen log s k at =
       let v : View E = (n, seen) ∷ [] in
       let w : View E = (n, log ++ (n, e) ∷ []) ∷ [] in
-      let one : one_if (n == n) ≡ 1 = ap one_if (same n n refl) in
+      let one : one_if (n == n) ≡ 1 = ap one_if (eq-eqb n n refl) in
       let low : n < count = below-is n count (omega (arith, total_one (hands_of n) s.views id v at, k.each n)) in
       record {
         word = ap (λ ws. slice_set ws 0 ((slice_index ws 0 + 1) % 18446744073709551616)) k.word ∙ ap (λ m. m ∷ []) (omega (arith, length-append log ((n, e) ∷ [])));

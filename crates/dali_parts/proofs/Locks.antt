@@ -1,56 +1,31 @@
 -- Each step on the locks keeps their part.
-use Rattle.std.proofs.Common.{◌≡◌, ℕ, Bool, true, false, cond, length, take, Option, Some, None, refl, ap, sym, subst, ◌∙◌, ◌⊎◌, inl, inr, ⊎_elim, arith}
-use Rattle.std.specs.Prelude.{IsSome, is_some, ◌==◌, ◌&&◌}
+use Rattle.std.proofs.Common.{◌≡◌, ℕ, Bool, true, false, cond, length, take, Some, None, refl, ap, sym, subst, ◌∙◌, ◌⊎◌, inl, inr, ⊎_elim, arith}
+use Rattle.std.specs.Prelude.{IsSome, ◌==◌, ◌&&◌}
 use Rattle.std.specs.FinMap.{get}
 use Rattle.std.proofs.lemmas.List.{take_all}
+use Rattle.std.proofs.lemmas.Bool.{eqb-true, eq-eqb}
+use Rattle.dali_lists.proofs.Numbers.{eqb_turned}
+use Rattle.dali_lists.proofs.Options.{some_same}
+use Rattle.dali_lists.proofs.Tests.{left_true, right_true}
 use Rattle.dali_record.specs.declared.records.Record.{Record}
-use Rattle.dali_record.specs.declared.records.Record.TheVariants.{Format, Begin, Forward, Done, Commit, Ended, Solo, AuditBegin, AuditClean, AuditFail, Restarted, Back}
+use Rattle.dali_record.specs.declared.records.Record.TheVariants.{Format, Ended, Restarted}
 use Rattle.dali_record.specs.Blocks.{changes_item}
 use Rattle.dali_record.specs.Epochs.{separates}
 use Rattle.dali_record.specs.Log.{Touch, touch_of}
-use Rattle.dali_record.specs.Legal.{TxnState, Unbegun, Active, Committed as Ending, Over, txn_state}
+use Rattle.dali_record.specs.Legal.{txn_state}
 use Rattle.dali_record.proofs.Ends.{get_push_cases}
 use Rattle.dali_locks.specs.declared.mode.Mode.{Mode}
-use Rattle.dali_locks.specs.declared.mode.Mode.TheVariants.{Shared, Exclusive}
 use Rattle.dali_locks.specs.Locks.{both_shared, IsConflict, Locks, stronger_mode, locks_with, locks_without}
-use Rattle.dali_locks.proofs.Changes.{get-locks_with, get-locks_without}
+use Rattle.dali_locks.proofs.Changes.{get-locks_with}
+use Rattle.dali_locks.proofs.Kept.{stronger_apart, locks_without_at}
 use Rattle.dali_system.specs.declared.refusals.Refusal.{Refusal}
-use Rattle.dali_system.specs.State.{TxnRow, lock_of, row_of}
-use Rattle.dali_system.specs.Run.{IsRow, covers, IsRefusal, is_running}
+use Rattle.dali_system.specs.State.{lock_of, row_of}
+use Rattle.dali_system.specs.Run.{covers, IsRefusal, is_running}
 use Rattle.dali_system.proofs.OneMore.{is_inside, LockRun-push}
-use Rattle.dali_counts.proofs.Lists.{equal, same_number, and_left, and_right, some_same}
+use Rattle.dali_system.proofs.QuietSteps.{stronger_covers, shared_sym, stronger_clash, row_running}
 use Rattle.dali_parts.specs.Locks.{LocksGrant, LocksRefuse, locks_after, LocksLog}
 
 -- ---- a lock that is granted
-stronger_covers : (o : Option Mode) (m : Mode) (d : Bool) → covers o d ≡ true → covers (Some (stronger_mode o m)) d ≡ true
-stronger_covers None m d e = absurd (cc)
-stronger_covers (Some Shared) Shared d e = e
-stronger_covers (Some Shared) Exclusive d e = refl
-stronger_covers (Some Exclusive) m d e = refl
-
-shared_sym : (m n : Mode) → both_shared m n ≡ true → both_shared n m ≡ true
-shared_sym Shared Shared e = refl
-shared_sym Shared Exclusive e = absurd (cc)
-shared_sym Exclusive n e = absurd (cc)
-
--- the mode that the transaction has then is apart from that of another holder
-stronger_apart : (o : Option Mode) (m n : Mode) → ((p : Mode) → o ≡ Some p → both_shared p n ≡ true) → both_shared m n ≡ true → both_shared (stronger_mode o m) n ≡ true
-stronger_apart None m n h e = e
-stronger_apart (Some Shared) m n h e = e
-stronger_apart (Some Exclusive) m n h e = h Exclusive refl
-
--- a mode that clashes with another one clashes with a stronger one
-stronger_clash : (n o m : Mode) → both_shared n o ≡ false → both_shared n (stronger_mode (Some o) m) ≡ false
-stronger_clash Shared Shared m e = absurd (cc)
-stronger_clash Shared Exclusive m e = refl
-stronger_clash Exclusive o m e = refl
-
-differ : (t u : ℕ) → (t == u) ≡ false → (u == t) ≡ false
-differ t u e = by_test (u == t) refl
-  where
-    by_test : (b : Bool) → (u == t) ≡ b → b ≡ false
-    by_test false f = refl
-    by_test true f = let g : (t == u) ≡ true = same_number t u (sym (equal u t f)) in absurd (cc)
 
 pub locks_grant : LocksGrant
 locks_grant s L y t k m run here free = record {
@@ -71,7 +46,7 @@ locks_grant s L y t k m run here free = record {
     still u l d false h = h
 
     owned : (u l : ℕ) (p : Mode) (b : Bool) → ((t == u) && (k == l)) ≡ b → cond b (Some (stronger_mode (lock_of y u l) m)) (lock_of y u l) ≡ Some p → IsSome (row_of y u)
-    owned u l p true e f = subst (λ v. IsSome (row_of y v)) (equal t u (and_left (t == u) (k == l) e)) here
+    owned u l p true e f = subst (λ v. IsSome (row_of y v)) (eqb-true t u (left_true (t == u) (k == l) e)) here
     owned u l p false e f = run.owned u l p f
 
     -- what was in the way of a request is in its way in a stronger mode too
@@ -98,26 +73,20 @@ locks_grant s L y t k m run here free = record {
     -- t has the lock, v another one's
     against : (u v l : ℕ) (p q : Mode) → (u == v) ≡ false → ((t == u) && (k == l)) ≡ true → Some (stronger_mode (lock_of y u l) m) ≡ Some p → lock_of y v l ≡ Some q → both_shared p q ≡ true
     against u v l p q d e f g =
-        let tu : t ≡ u = equal t u (and_left (t == u) (k == l) e) in
-        let kl : k ≡ l = equal k l (and_right (t == u) (k == l) e) in
+        let tu : t ≡ u = eqb-true t u (left_true (t == u) (k == l) e) in
+        let kl : k ≡ l = eqb-true k l (right_true (t == u) (k == l) e) in
         let is : stronger_mode (lock_of y u l) m ≡ p = some_same f in
         let apart_t : (t == v) ≡ false = ap (λ z. z == v) tu ∙ d in
         let at_k : lock_of y v k ≡ Some q = ap (λ z. lock_of y v z) kl ∙ g in
         subst (λ z. both_shared z q ≡ true) is (stronger_apart (lock_of y u l) m q (λ z h. run.apart u v l z q d h g) (free v q apart_t at_k))
 
     apart : (u v l : ℕ) (p q : Mode) → (u == v) ≡ false → (a : Bool) → ((t == u) && (k == l)) ≡ a → (b : Bool) → ((t == v) && (k == l)) ≡ b → cond a (Some (stronger_mode (lock_of y u l) m)) (lock_of y u l) ≡ Some p → cond b (Some (stronger_mode (lock_of y v l) m)) (lock_of y v l) ≡ Some q → both_shared p q ≡ true
-    apart u v l p q d true e true f g h = let same : u ≡ v = sym (equal t u (and_left (t == u) (k == l) e)) ∙ equal t v (and_left (t == v) (k == l) f) in let is : (u == v) ≡ true = same_number u v same in absurd (cc)
+    apart u v l p q d true e true f g h = let same : u ≡ v = sym (eqb-true t u (left_true (t == u) (k == l) e)) ∙ eqb-true t v (left_true (t == v) (k == l) f) in let is : (u == v) ≡ true = eq-eqb u v same in absurd (cc)
     apart u v l p q d true e false f g h = against u v l p q d e g h
-    apart u v l p q d false e true f g h = shared_sym q p (against v u l q p (differ u v d) f h g)
+    apart u v l p q d false e true f g h = shared_sym q p (against v u l q p (eqb_turned u v d) f h g)
     apart u v l p q d false e false f g h = run.apart u v l p q d g h
 
 -- ---- a lock that is refused
-row_running : (o : Option TxnState) (row : Option TxnRow) → IsRow o row → IsSome row → is_running o ≡ true
-row_running None row r h = absurd r
-row_running (Some Unbegun) row r h = let none : is_some row ≡ false = ap is_some r in absurd (cc)
-row_running (Some (Active w)) row r h = refl
-row_running (Some (Ending ps)) row r h = refl
-row_running (Some Over) row r h = let none : is_some row ≡ false = ap is_some r in absurd (cc)
 
 pub locks_refuse : LocksRefuse
 locks_refuse s L y t k h m run table all here_is busy = record {
@@ -146,70 +115,33 @@ locks_refuse s L y t k h m run table all here_is busy = record {
 -- ---- one record more
 pub inside_of : (x : Record) → separates x ≡ false → is_inside x ≡ true
 inside_of (Format i h) e = absurd (cc)
-inside_of (Begin t) e = refl
-inside_of (Forward t b) e = refl
-inside_of (Done t k a) e = refl
-inside_of (Commit t) e = refl
-inside_of (Ended t) e = refl
-inside_of (Solo n p b) e = refl
-inside_of AuditBegin e = refl
-inside_of (AuditClean b) e = refl
-inside_of (AuditFail b rs) e = refl
 inside_of (Restarted rs ds) e = absurd (cc)
-inside_of (Back t b) e = refl
+inside_of _ e = refl
 
 -- who ends, or what is held still
 stays : (x : Record) (K : Locks) (t k : ℕ) → (x ≡ Ended t) ⊎ (get (locks_after x K) (t, k) ≡ get K (t, k))
 stays (Ended u) K t k = by_test (u == t) refl
   where
     by_test : (b : Bool) → (u == t) ≡ b → (Ended u ≡ Ended t) ⊎ (get (locks_without K u) (t, k) ≡ get K (t, k))
-    by_test true e = inl (ap Ended (equal u t e))
-    by_test false e = inr (get-locks_without K u t k ∙ ap (λ (b : Bool). cond b None (get K (t, k))) e)
+    by_test true e = inl (ap Ended (eqb-true u t e))
+    by_test false e = inr (locks_without_at K u t k ∙ ap (λ (b : Bool). cond b None (get K (t, k))) e)
 stays (Format i h) K t k = inr refl
-stays (Begin u) K t k = inr refl
-stays (Forward u b) K t k = inr refl
-stays (Done u c a) K t k = inr refl
-stays (Commit u) K t k = inr refl
-stays (Solo n p b) K t k = inr refl
-stays AuditBegin K t k = inr refl
-stays (AuditClean b) K t k = inr refl
-stays (AuditFail b rs) K t k = inr refl
-stays (Restarted rs ds) K t k = inr refl
-stays (Back u b) K t k = inr refl
+stays _ K t k = inr refl
 
 -- no lock is new
 was_held : (x : Record) (K : Locks) (t k : ℕ) (m : Mode) → get (locks_after x K) (t, k) ≡ Some m → get K (t, k) ≡ Some m
-was_held (Ended u) K t k m e = by_test (u == t) (sym (get-locks_without K u t k) ∙ e)
+was_held (Ended u) K t k m e = by_test (u == t) (sym (locks_without_at K u t k) ∙ e)
   where
     by_test : (b : Bool) → cond b None (get K (t, k)) ≡ Some m → get K (t, k) ≡ Some m
     by_test true f = absurd (cc)
     by_test false f = f
 was_held (Format i h) K t k m e = e
-was_held (Begin u) K t k m e = e
-was_held (Forward u b) K t k m e = e
-was_held (Done u c a) K t k m e = e
-was_held (Commit u) K t k m e = e
-was_held (Solo n p b) K t k m e = e
-was_held AuditBegin K t k m e = e
-was_held (AuditClean b) K t k m e = e
-was_held (AuditFail b rs) K t k m e = e
-was_held (Restarted rs ds) K t k m e = e
-was_held (Back u b) K t k m e = e
+was_held _ K t k m e = e
 
 -- a record with a block ends nobody
 block_leaves : (x : Record) (a : Touch) (K : Locks) → touch_of x ≡ Some a → locks_after x K ≡ K
 block_leaves (Ended u) a K e = absurd (cc)
-block_leaves (Format i h) a K e = refl
-block_leaves (Begin u) a K e = refl
-block_leaves (Forward u b) a K e = refl
-block_leaves (Done u c q) a K e = refl
-block_leaves (Commit u) a K e = refl
-block_leaves (Solo n p b) a K e = refl
-block_leaves AuditBegin a K e = refl
-block_leaves (AuditClean b) a K e = refl
-block_leaves (AuditFail b rs) a K e = refl
-block_leaves (Restarted rs ds) a K e = refl
-block_leaves (Back u b) a K e = refl
+block_leaves _ a K e = refl
 
 pub locks_log : LocksLog
 locks_log s L x y z run inside locks refusals owned owner = LockRun-push s L x y z run (inside_of x inside) refusals

@@ -2,6 +2,7 @@
 use Rattle.std.proofs.Common.{◌≡◌, ℕ, true, false, List, [], ◌∷◌, ◌++◌, length, refl, sym, subst, ◌∙◌, inl, inr, ⊎_elim}
 use Rattle.std.specs.Prelude.{IsSome}
 use Rattle.std.proofs.lemmas.Option.{slice_get_within}
+use Rattle.dali_lists.proofs.Lists.{get_push}
 use Rattle.dali_geometry.specs.Sizes.{Sizes}
 use Rattle.dali_record.specs.declared.records.Record.{Record}
 use Rattle.dali_record.specs.declared.records.Record.TheVariants.{Begin, Forward, Done, Commit, Ended, Solo, AuditBegin, Back}
@@ -9,7 +10,7 @@ use Rattle.dali_record.specs.Epochs.{Epoch, last_epoch, separates}
 use Rattle.dali_record.specs.Locks.{EndedBetween, IsLockLegalIn}
 use Rattle.dali_record.specs.Spelling.{CanBeSpelled}
 use Rattle.dali_record.proofs.Batches.{last_push}
-use Rattle.dali_record.proofs.Ends.{get_old, get_new, get_push_cases}
+use Rattle.dali_record.proofs.Ends.{get_old, get_push_cases}
 use Rattle.dali_record.proofs.Pushes.{touch_new, touch_old, touch_within, txn_state_push, rules_state_push, IsLegalFor-push, IsLockLegal-push}
 use Rattle.dali_system.specs.Run.{LogRun}
 use Rattle.dali_system.specs.Steps.{audit_record}
@@ -37,7 +38,7 @@ was_allowed : (s : Sizes) (L : List Record) (x : Record) → separates x ≡ fal
 was_allowed s L x within log = record {
   rules = log.legal.rules;
   allowed = λ u c. log.legal.txns u;
-  spelled = log.spelled (length L) x (get_new L x);
+  spelled = log.spelled (length L) x (get_push L x);
   reads = λ a e. log.legal.reads (length L) a (touch_new L x ∙ e);
   free = free;
 }

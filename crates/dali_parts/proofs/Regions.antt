@@ -1,21 +1,23 @@
 -- Each step on a region keeps its part.
-use Rattle.std.proofs.Common.{◌≡◌, ◌≢◌, ℕ, zero, suc, ◌-◌, ◌<◌, ◌≤◌, Bool, true, false, List, [], ◌∷◌, ◌++◌, length, Some, None, refl, ap, sym, subst, ◌∙◌, ⊎_elim, arith}
-use Rattle.std.specs.Prelude.{slice_get, slice_set, ◌^◌, ◌==◌, ⊤, IsSome, take, is_some, max}
-use Rattle.std.proofs.lemmas.Bool.{cases_lt}
+use Rattle.std.proofs.Common.{◌≡◌, ℕ, zero, suc, ◌-◌, ◌<◌, ◌≤◌, Bool, true, false, List, [], ◌∷◌, ◌++◌, length, Some, None, refl, ap, sym, subst, ◌∙◌, arith}
+use Rattle.std.specs.Prelude.{slice_get, slice_set, ◌^◌, ◌==◌, ⊤, IsSome, take, is_some}
+use Rattle.std.proofs.lemmas.Bool.{eqb-true, eq-eqb}
 use Rattle.std.proofs.lemmas.List.{length-set, take-append-le}
+use Rattle.dali_lists.proofs.Lists.{get_set_other}
+use Rattle.dali_lists.proofs.Numbers.{max_cases}
+use Rattle.dali_lists.proofs.Options.{some_same}
 use Rattle.dali_record.specs.declared.records.Record.{Record}
 use Rattle.dali_record.specs.declared.records.Record.TheVariants.{Format, Begin, Forward, Done, Commit, Ended, Solo, AuditBegin, AuditClean, AuditFail, Restarted, Back}
 use Rattle.dali_record.specs.Log.{Touch, touch_of}
 use Rattle.dali_record.specs.Epochs.{Epoch, last_epoch, next_number, clean_place}
+use Rattle.dali_record.proofs.Batches.{number_is_length}
 use Rattle.dali_region.specs.declared.Hold.{Hold}
 use Rattle.dali_region.specs.State.{RegionState, IsLive, touched, checked, taken_back, dead}
 use Rattle.dali_system.specs.State.{CoreState, hold_of}
 use Rattle.dali_system.specs.Run.{RegionRun, blocks_on, certified_on}
 use Rattle.dali_system.specs.Regions.{IsOpen, RegionStep, region_after, MayChange, Check, Die, TakeBack}
 use Rattle.dali_system.specs.Courses.{Step, Begins, Operates, TakesBack, Frees, Answers, Commits, Ends, AuditBegins, AuditEnds, Locks, Refuses, OnRegion, Passes, Dies, Claims, GivesBack, Recovers, Stops, Checkpoints, Takes, Flushes, Faults, ReadFails}
-use Rattle.dali_counts.proofs.Lists.{equal, same_number, some_same}
 use Rattle.dali_counts.proofs.SmallLogs.{is_small}
-use Rattle.dali_counts.proofs.Tallies.{number_is}
 use Rattle.dali_system.proofs.OneMore.{is_plain, is_inside, last_epoch-push, plain_inside, clean_place-push}
 use Rattle.dali_system.proofs.OneMoreTouch.{RegionRun-off, RegionRun-other, RegionRun-touched}
 use Rattle.dali_system.proofs.QuietSteps.{RegionRun-after}
@@ -29,24 +31,15 @@ region_moves base e r g x run may = RegionRun-after base e r g x may run
 -- a record with a block ends neither an audit nor an epoch
 plain_touch : (x : Record) (a : Touch) → touch_of x ≡ Some a → is_plain x ≡ true
 plain_touch (Format i h) a e = absurd (cc)
-plain_touch (Begin t) a e = refl
-plain_touch (Forward t b) a e = refl
-plain_touch (Done t q b) a e = refl
-plain_touch (Commit t) a e = refl
-plain_touch (Ended t) a e = refl
-plain_touch (Solo t q b) a e = refl
-plain_touch AuditBegin a e = refl
 plain_touch (AuditClean b) a e = absurd (cc)
 plain_touch (AuditFail b rs) a e = absurd (cc)
 plain_touch (Restarted rs ds) a e = absurd (cc)
-plain_touch (Back t b) a e = refl
+plain_touch _ a e = refl
 
 pub region_touches : RegionTouches
 region_touches base e x a owner g run is is_open clean few within = RegionRun-touched base e x g a owner is run is_open (plain_touch x a is) clean within few
 
 -- ---- records that are no block on it
-max_cases : (P : ℕ → Type 0) (a b : ℕ) → P a → P b → P (max a b)
-max_cases P a b p q = ⊎_elim (λ h. let e : max a b ≡ b = omega (arith, h) in subst P (sym e) q) (λ h. let e : max a b ≡ a = omega (arith, h) in subst P (sym e) p) (cases_lt a b)
 
 certified_clean : (e : Epoch) (b r : ℕ) (g : RegionState) → clean_place e ≤ next_number e → b ≤ next_number e → (g.missed ≡ false → certified_on r e ≤ g.sound) → (g.missed ≡ false → blocks_on r (take (b - e.first) e.records) ≤ g.sound) → g.missed ≡ false → certified_on r (with_record e (AuditClean b)) ≤ g.sound
 certified_clean e b r g c n old here h =
@@ -74,15 +67,9 @@ region_misses base e AuditBegin r g run off clean may = RegionRun-other base e A
 region_misses base e (Back t b) r g run off clean may = RegionRun-other base e (Back t b) r g run off refl clean
 
 -- ---- a step of a core
-get_apart : {X : Type 0} (xs : List X) (r : ℕ) (x : X) (q : ℕ) → r ≢ q → slice_get (slice_set xs r x) q ≡ slice_get xs q
-get_apart [] r x q e = refl
-get_apart (y ∷ xs) zero x zero e = absurd (e refl)
-get_apart (y ∷ xs) zero x (suc q) e = refl
-get_apart (y ∷ xs) (suc r) x zero e = refl
-get_apart (y ∷ xs) (suc r) x (suc q) e = get_apart xs r x q (λ same. e (ap suc same))
 
 get_other : {X : Type 0} (xs : List X) (r : ℕ) (x : X) (q : ℕ) → (r == q) ≡ false → slice_get (slice_set xs r x) q ≡ slice_get xs q
-get_other xs r x q e = get_apart xs r x q (λ same. let is : (r == q) ≡ true = same_number r q same in absurd (cc))
+get_other xs r x q e = get_set_other xs r x q (λ same. let is : (r == q) ≡ true = eq-eqb r q same in absurd (cc))
 
 get_same : {X : Type 0} (xs : List X) (r : ℕ) (x y z : X) → slice_get xs r ≡ Some y → slice_get (slice_set xs r x) r ≡ Some z → z ≡ x
 get_same [] r x y z e f = absurd (cc)
@@ -100,7 +87,7 @@ here_or_left old new q r P k g h j is at holds change by e f = by_test (q == r) 
   where
     by_test : (b : Bool) → (q == r) ≡ b → WhereHere b g (P g) (change g) h
     by_test true same =
-        let place : q ≡ r = equal q r same in
+        let place : q ≡ r = eqb-true q r same in
         let was : j ≡ g = some_same (sym at ∙ (ap (slice_get old) place ∙ e)) in
         (subst P was holds, get_same old q k j h at (ap (slice_get (slice_set old q k)) place ∙ (ap (λ l. slice_get l r) (sym is) ∙ f)) ∙ (by ∙ ap change was))
     by_test false apart = some_same (sym f ∙ (ap (λ l. slice_get l r) is ∙ (get_other old q k r apart ∙ e)))
@@ -122,23 +109,16 @@ step_has_region L M c d (Dies t (Some q)) r g h s e f = here_or_left c.regions d
     region : (j : RegionState) × (slice_get c.regions q ≡ Some j) × (j.hold ≡ Some held.0)
     region = region_with (slice_get c.regions q) held.0 held.1
 step_has_region L M c d (Recovers q) r g h s e f = here_or_left c.regions d.regions q r (λ j. IsSome j.hold) (taken_back s.0) g h s.0 (ap regions_of s.3.1) s.1 (ap is_some s.2.at) taken_back refl e f
-step_has_region L M c d (Dies t None) r g h s e f = left_region c.regions d.regions r g h (ap regions_of s.1.1) e f
-step_has_region L M c d Begins r g h s e f = left_region c.regions d.regions r g h (ap regions_of s.1.1) e f
 step_has_region L M c d (Answers t k a) r g h s e f = left_region c.regions d.regions r g h (ap regions_of s.3.1) e f
 step_has_region L M c d (Commits t) r g h s e f = left_region c.regions d.regions r g h (ap regions_of s.2.1) e f
 step_has_region L M c d (Ends t) r g h s e f = left_region c.regions d.regions r g h (ap regions_of s.2.1) e f
 step_has_region L M c d AuditBegins r g h s e f = left_region c.regions d.regions r g h (ap regions_of s.2.1) e f
-step_has_region L M c d (AuditEnds b found) r g h s e f = left_region c.regions d.regions r g h (ap regions_of s.1.1) e f
 step_has_region L M c d (Locks t k m) r g h s e f = left_region c.regions d.regions r g h (ap regions_of s.2.1) e f
 step_has_region L M c d (Refuses t k m q) r g h s e f = left_region c.regions d.regions r g h (ap regions_of s.2.1) e f
 step_has_region L M c d (Claims t) r g h s e f = left_region c.regions d.regions r g h (ap regions_of s.2.1) e f
-step_has_region L M c d (GivesBack t o) r g h s e f = left_region c.regions d.regions r g h (ap regions_of s.1.1) e f
-step_has_region L M c d Stops r g h s e f = left_region c.regions d.regions r g h (ap regions_of s.1.1) e f
-step_has_region L M c d (Checkpoints b) r g h s e f = left_region c.regions d.regions r g h (ap regions_of s.1.1) e f
 step_has_region L M c d Takes r g h s e f = left_region c.regions d.regions r g h (ap regions_of s.1) e f
-step_has_region L M c d Flushes r g h s e f = left_region c.regions d.regions r g h (ap regions_of s.1.1) e f
 step_has_region L M c d (Faults n) r g h s e f = left_region c.regions d.regions r g h (ap regions_of s.2.1) e f
-step_has_region L M c d (ReadFails n) r g h s e f = left_region c.regions d.regions r g h (ap regions_of s.1.1) e f
+step_has_region L M c d _ r g h s e f = left_region c.regions d.regions r g h (ap regions_of s.1.1) e f
 
 -- ---- other regions
 abbrev Leaves : List RegionState → List RegionState → (ℕ → Bool) → Type 0
@@ -161,23 +141,16 @@ regions_leave L M c d (Dies t (Some q)) s =
     let region : (j : RegionState) × (slice_get c.regions q ≡ Some j) × (j.hold ≡ Some held.0) = region_with (slice_get c.regions q) held.0 held.1 in
     set_leaves c.regions d.regions q (dead region.0) (ap regions_of s.1.1 ∙ dead_at c.regions q region.0 region.1)
 regions_leave L M c d (Recovers q) s = set_leaves c.regions d.regions q (taken_back s.0) (ap regions_of s.3.1)
-regions_leave L M c d (Dies t None) s = none_leaves c.regions d.regions (ap regions_of s.1.1)
-regions_leave L M c d Begins s = none_leaves c.regions d.regions (ap regions_of s.1.1)
 regions_leave L M c d (Answers t k a) s = none_leaves c.regions d.regions (ap regions_of s.3.1)
 regions_leave L M c d (Commits t) s = none_leaves c.regions d.regions (ap regions_of s.2.1)
 regions_leave L M c d (Ends t) s = none_leaves c.regions d.regions (ap regions_of s.2.1)
 regions_leave L M c d AuditBegins s = none_leaves c.regions d.regions (ap regions_of s.2.1)
-regions_leave L M c d (AuditEnds b found) s = none_leaves c.regions d.regions (ap regions_of s.1.1)
 regions_leave L M c d (Locks t k m) s = none_leaves c.regions d.regions (ap regions_of s.2.1)
 regions_leave L M c d (Refuses t k m q) s = none_leaves c.regions d.regions (ap regions_of s.2.1)
 regions_leave L M c d (Claims t) s = none_leaves c.regions d.regions (ap regions_of s.2.1)
-regions_leave L M c d (GivesBack t o) s = none_leaves c.regions d.regions (ap regions_of s.1.1)
-regions_leave L M c d Stops s = none_leaves c.regions d.regions (ap regions_of s.1.1)
-regions_leave L M c d (Checkpoints b) s = none_leaves c.regions d.regions (ap regions_of s.1.1)
 regions_leave L M c d Takes s = none_leaves c.regions d.regions (ap regions_of s.1)
-regions_leave L M c d Flushes s = none_leaves c.regions d.regions (ap regions_of s.1.1)
 regions_leave L M c d (Faults n) s = none_leaves c.regions d.regions (ap regions_of s.2.1)
-regions_leave L M c d (ReadFails n) s = none_leaves c.regions d.regions (ap regions_of s.1.1)
+regions_leave L M c d _ s = none_leaves c.regions d.regions (ap regions_of s.1.1)
 
 -- ---- each step
 -- the epoch of a log with one record more
@@ -197,7 +170,7 @@ region_keeps base L M y z x r g h run system s within here certified = by_step x
     clean = system.counts.clean
 
     few : length e.records < 2 ^ 40
-    few = omega (arith, is_small y.sizes L system.log.legal, number_is L)
+    few = omega (arith, is_small y.sizes L system.log.legal, number_is_length L)
 
     -- a record without a block
     quiet : (x : Record) → is_plain x ≡ true → touch_of x ≡ None → M ≡ L ++ x ∷ [] → h ≡ g → RegionRun base (last_epoch M) r h
@@ -222,7 +195,7 @@ region_keeps base L M y z x r g h run system s within here certified = by_step x
 
         by_test : (b : Bool) → (a.block.region == r) ≡ b → WhereHere b g (IsOpen g owner a.block) (touched g) h → RegionRun base (last_epoch M) r h
         by_test true same w =
-            let place : a.block.region ≡ r = equal a.block.region r same in
+            let place : a.block.region ≡ r = eqb-true a.block.region r same in
             of_push base L M x r h log (plain_inside x plain)
             (subst (λ j. RegionRun base (with_record e x) r j) (sym w.1)
             (subst (λ q. RegionRun base (with_record e x) q (touched g)) place

@@ -14,9 +14,10 @@ use Rattle.dali_record.specs.Epochs.{Epoch, last_epoch}
 use Rattle.dali_region.specs.State.{RegionState, IsProtected, loaded}
 use Rattle.dali_region.proofs.Holds.{loaded_keeps}
 use Rattle.dali_locks.specs.Locks.{stronger_mode}
-use Rattle.dali_locks.proofs.Changes.{get-locks_with, get-locks_without}
+use Rattle.dali_locks.proofs.Changes.{get-locks_with}
 use Rattle.dali_att.specs.Table.{Table, fresh_row, with_state}
 use Rattle.dali_att.specs.declared.state.State.TheVariants.{Live, Dead, Cleaning}
+use Rattle.dali_locks.proofs.Kept.{locks_without_at}
 use Rattle.dali_system.specs.State.{TxnRow, SystemState, CoreState, lock_of}
 use Rattle.dali_system.specs.Run.{RegionRun, Bases, RunsOn, blocks_on}
 use Rattle.dali_system.specs.Steps.{begun, op_logged, back_logged, solo_logged, done_logged, commit_logged, ended_logged, audit_begun, audit_ended, granted, refused, in_state, store_stopped, in_checkpoint, taken, committed_row}
@@ -210,16 +211,11 @@ step_has_system bases L M c d (Operates t b) run s = (s.0, s.1, held bases L c (
 step_has_system bases L M c d (TakesBack t b) run s = (s.0, held bases L c (Back t b) t b s.0 run s.1, (s.2.0, ap system_of s.2.1))
 step_has_system bases L M c d (Frees p b) run s = (s.0, held bases L c (Solo c.system.next p b) p b s.0 run s.1, (s.2.0, ap system_of s.2.1))
 step_has_system bases L M c d (Answers t k a) run s = (s.0, s.1, s.2, (s.3.0, ap system_of s.3.1))
-step_has_system bases L M c d (Commits t) run s = (s.0, s.1, (s.2.0, ap system_of s.2.1))
 step_has_system bases L M c d (Ends t) run s = (s.0, s.1.0, (s.2.0, ap system_of s.2.1))
-step_has_system bases L M c d AuditBegins run s = (s.0, s.1, (s.2.0, ap system_of s.2.1))
 step_has_system bases L M c d (AuditEnds b found) run s = (record { runs = s.0.runs; auditing = s.0.auditing; spelled = s.0.spelled; numbers = s.0.numbers }, (s.1.0, ap system_of s.1.1))
-step_has_system bases L M c d (Locks t k m) run s = (s.0, s.1, (s.2.0, ap system_of s.2.1))
-step_has_system bases L M c d (Refuses t k m h) run s = (s.0, s.1, (s.2.0, ap system_of s.2.1))
 step_has_system bases L M c d (OnRegion r x) run s = (s.3.0, ap system_of s.3.1)
 step_has_system bases L M c d (Passes b r) run s = (s.2.0, ap system_of s.2.1)
 step_has_system bases L M c d (Dies t o) run s = (s.0.lives, (s.1.0, ap system_of s.1.1))
-step_has_system bases L M c d (Claims t) run s = (s.0, s.1, (s.2.0, ap system_of s.2.1))
 step_has_system bases L M c d (GivesBack t o) run s = (s.0.was, s.0.claimed, (s.1.0, ap system_of s.1.1))
 step_has_system bases L M c d (Recovers r) run s = (s.3.0, ap system_of s.3.1)
 step_has_system bases L M c d Stops run s = (s.1.0, ap system_of s.1.1)
@@ -228,13 +224,14 @@ step_has_system bases L M c d Takes run s = (s.0, ap system_of s.1)
 step_has_system bases L M c d Flushes run s = (s.1.0, ap system_of s.1.1)
 step_has_system bases L M c d (Faults n) run s = (s.2.0, ap system_of s.2.1)
 step_has_system bases L M c d (ReadFails n) run s = (s.1.0, ap system_of s.1.1)
+step_has_system bases L M c d _ run s = (s.0, s.1, (s.2.0, ap system_of s.2.1))
 
 -- ---- what a step leaves
 -- the system that a step leads to, in place of z
 left_at : (L M : List Record) (y z e : SystemState) (x : Step) → z ≡ e → IsLeft L y x M e → IsLeft L y x M z
 left_at L M y z e x is left = subst (λ q. IsLeft L y x M q) (sym is) left
 
-puts_other : (old : Table Pending) (t : ℕ) (row : Option TxnRow) (new : Table Pending) → Puts old t row new → (u : ℕ) → (t == u) ≡ false → get new u ≡ get old u
+pub puts_other : (old : Table Pending) (t : ℕ) (row : Option TxnRow) (new : Table Pending) → Puts old t row new → (u : ℕ) → (t == u) ≡ false → get new u ≡ get old u
 puts_other old t row new puts u apart = puts u ∙ ap (λ (b : Bool). cond b row (get old u)) apart
 
 none_counted : (L M : List Record) (y z : SystemState) → M ≡ L → z.since ≡ y.since → z.records ≡ y.records → z.end ≡ y.end → z.next ≡ y.next → CountsLeft L y M z
@@ -318,7 +315,7 @@ system_leaves L M y z (Ends t) s = left_at L M y z (ended_logged y t) (Ends t) s
   first = refl;
   limit = refl;
   rows = λ u h. puts_other y.table t None _ (ended y.table t) u h;
-  locks = λ u l h. get-locks_without y.locks t u l ∙ ap (λ (b : Bool). cond b None (lock_of y u l)) h;
+  locks = λ u l h. locks_without_at y.locks t u l ∙ ap (λ (b : Bool). cond b None (lock_of y u l)) h;
   counts = λ h. absurd (cc);
   stop = λ h. refl;
   refusals = λ h. refl;

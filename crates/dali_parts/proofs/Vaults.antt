@@ -6,7 +6,7 @@ use Rattle.dali_record.specs.declared.records.Record.{Record}
 use Rattle.dali_record.specs.Files.{Files}
 use Rattle.dali_record.specs.Spelling.{record_length}
 use Rattle.dali_system.specs.Run.{VaultRun, IsPrefix, IsFlushed, only, no_image}
-use Rattle.dali_system.specs.Courses.{Begins, Operates, TakesBack, Frees, Answers, Commits, Ends, AuditBegins, AuditEnds, Locks, Refuses, OnRegion, Passes, Dies, Claims, GivesBack, Recovers, Stops, Checkpoints, Takes, Flushes, Faults, ReadFails}
+use Rattle.dali_system.specs.Courses.{Begins, Operates, Answers, AuditEnds, OnRegion, Dies, GivesBack, Recovers, Stops, Checkpoints, Takes, Flushes, Faults, ReadFails}
 use Rattle.dali_system.specs.State.{VaultState, CoreState}
 use Rattle.dali_system.specs.Flushes.{with_frame}
 use Rattle.dali_system.proofs.Flushes.{flush_leaves, fault_leaves, read_leaves, end_within}
@@ -74,19 +74,10 @@ vault_of c = c.vault
 pub step_has_vault : StepHasVault
 step_has_vault L M c d Begins s = ap vault_of s.1.1
 step_has_vault L M c d (Operates t b) s = ap vault_of s.3.1
-step_has_vault L M c d (TakesBack t b) s = ap vault_of s.2.1
-step_has_vault L M c d (Frees p b) s = ap vault_of s.2.1
 step_has_vault L M c d (Answers t k a) s = ap vault_of s.3.1
-step_has_vault L M c d (Commits t) s = ap vault_of s.2.1
-step_has_vault L M c d (Ends t) s = ap vault_of s.2.1
-step_has_vault L M c d AuditBegins s = ap vault_of s.2.1
 step_has_vault L M c d (AuditEnds b found) s = ap vault_of s.1.1
-step_has_vault L M c d (Locks t k m) s = ap vault_of s.2.1
-step_has_vault L M c d (Refuses t k m h) s = ap vault_of s.2.1
 step_has_vault L M c d (OnRegion r x) s = ap vault_of s.3.1
-step_has_vault L M c d (Passes b r) s = ap vault_of s.2.1
 step_has_vault L M c d (Dies t o) s = ap vault_of s.1.1
-step_has_vault L M c d (Claims t) s = ap vault_of s.2.1
 step_has_vault L M c d (GivesBack t o) s = ap vault_of s.1.1
 step_has_vault L M c d (Recovers r) s = ap vault_of s.3.1
 step_has_vault L M c d Stops s = ap vault_of s.1.1
@@ -95,3 +86,4 @@ step_has_vault L M c d Takes s = ap vault_of s.1
 step_has_vault L M c d Flushes s = (s.0, ap vault_of s.1.1)
 step_has_vault L M c d (Faults n) s = (s.0, s.1, ap vault_of s.2.1)
 step_has_vault L M c d (ReadFails n) s = (s.0, ap vault_of s.1.1)
+step_has_vault L M c d _ s = ap vault_of s.2.1

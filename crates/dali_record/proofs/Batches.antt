@@ -5,8 +5,10 @@ use Rattle.std.specs.List.{AllByRecursion, list_any, find}
 use Rattle.std.proofs.lemmas.List.{append-nil, length-append, length_push, take_all, take-append-le, drop-append-le}
 use Rattle.std.proofs.lemmas.List.Sums.{fold-append}
 use Rattle.std.proofs.lemmas.List.Concat.{flat_map-append}
-use Rattle.std.proofs.lemmas.Bool.{cases_lt}
+use Rattle.std.proofs.lemmas.Bool.{cases_lt, or_parts, cases_eq}
 use Rattle.std.proofs.lemmas.Bool.Decides.{Decides-ltb}
+use Rattle.dali_lists.proofs.Members.{all_map, all_push}
+use Rattle.dali_lists.proofs.Lists.{take_further, length_take_least}
 use Rattle.dali_geometry.specs.Sizes.{Sizes}
 use Rattle.dali_record.specs.declared.records.Record.{Record}
 use Rattle.dali_record.specs.declared.records.Record.TheVariants.{Format, Begin, Forward, Done, Commit, Ended, Solo, AuditBegin, AuditClean, AuditFail, Restarted, Back}
@@ -19,12 +21,7 @@ use Rattle.dali_record.specs.Files.{Files, batch_length, is_restarted, is_restar
 use Rattle.dali_record.specs.Blocks.{rewritten}
 use Rattle.dali_record.proofs.Ends.{by_push, get_push_cases, last_of_push}
 use Rattle.dali_record.proofs.Pushes.{cut_push}
-use Rattle.dali_record.proofs.Recovery.{region_cases, words_redo-same, words_redo-other}
-use Rattle.dali_record.proofs.EpochRules.{all_push}
-
-or_false : (a b : Bool) → (a || b) ≡ false → (a ≡ false) × (b ≡ false)
-or_false true b e = absurd (cc)
-or_false false b e = (refl, e)
+use Rattle.dali_record.proofs.Recovery.{words_redo-same, words_redo-other}
 
 -- ---- epochs
 abbrev longer : Cut → List Record → Cut
@@ -32,22 +29,13 @@ longer c B = record { closed = c.closed; now = record { first = c.now.first; rec
 
 step_within : (c : Cut) (r : Record) → separates r ≡ false → cut_step c r ≡ longer c (r ∷ [])
 step_within c (Format i h) e = absurd (cc)
-step_within c (Begin t) e = refl
-step_within c (Forward t b) e = refl
-step_within c (Done t k a) e = refl
-step_within c (Commit t) e = refl
-step_within c (Ended t) e = refl
-step_within c (Solo t p b) e = refl
-step_within c AuditBegin e = refl
-step_within c (AuditClean b) e = refl
-step_within c (AuditFail b rs) e = refl
 step_within c (Restarted rs ds) e = absurd (cc)
-step_within c (Back t b) e = refl
+step_within c _ e = refl
 
 fold_within : (c : Cut) (B : List Record) → list_any separates B ≡ false → fold cut_step c B ≡ longer c B
 fold_within c [] h = sym (ap (λ (rs : List Record). record { closed = c.closed; now = record { first = c.now.first; records = rs } }) (append-nil c.now.records))
 fold_within c (r ∷ B) h =
-    let g = or_false (separates r) (list_any separates B) h in
+    let g = or_parts (separates r) (list_any separates B) h in
     ap (λ d. fold cut_step d B) (step_within c r g.0)
     ∙ fold_within (longer c (r ∷ [])) B g.1
     ∙ ap (λ (rs : List Record). record { closed = c.closed; now = record { first = c.now.first; records = rs } }) (append_assoc c.now.records (r ∷ []) B)
@@ -79,30 +67,18 @@ recovered_restarted L rs ds =
     ∙ ap (λ o. unwrap_or o (cut_step (cut L) (Restarted rs ds)).now) (last_of_push (cut L).closed (cut L).now)
 
 -- ---- the numbers of epochs
-weaker : {X : Type 0} (P Q : X → Type 0) → ((x : X) → P x → Q x) → (xs : List X) → AllByRecursion P xs → AllByRecursion Q xs
-weaker P Q f [] h = tt
-weaker P Q f (x ∷ xs) h = (f x h.0, weaker P Q f xs h.1)
 
 -- a closed epoch ends before the open one begins
 abbrev Before : Cut → Type 0
 Before c = AllByRecursion (λ e. next_number e < c.now.first) c.closed
 
 sooner : (c : Cut) → Before c → AllByRecursion (λ e. next_number e < next_number c.now + 1) c.closed
-sooner c b = weaker (λ e. next_number e < c.now.first) (λ e. next_number e < next_number c.now + 1) (λ e lt. omega (arith, lt)) c.closed b
+sooner c b = all_map (λ e. next_number e < c.now.first) (λ e. next_number e < next_number c.now + 1) (λ e lt. omega (arith, lt)) c.closed b
 
 before_step : (c : Cut) (r : Record) → Before c → Before (cut_step c r)
 before_step c (Format i h) b = sooner c b
-before_step c (Begin t) b = b
-before_step c (Forward t k) b = b
-before_step c (Done t k a) b = b
-before_step c (Commit t) b = b
-before_step c (Ended t) b = b
-before_step c (Solo t p k) b = b
-before_step c AuditBegin b = b
-before_step c (AuditClean k) b = b
-before_step c (AuditFail k rs) b = b
 before_step c (Restarted rs ds) b = all_push (λ e. next_number e < next_number c.now + 1) c.closed c.now (sooner c b) (omega arith)
-before_step c (Back t k) b = b
+before_step c _ b = b
 
 before : (L : List Record) → Before (cut L)
 before L = by_push (λ M. Before (cut M)) tt (λ M r b. subst Before (sym (cut_push M r)) (before_step (cut M) r b)) L
@@ -122,7 +98,7 @@ number_step c (Restarted rs ds) = omega arith
 number_step c (Back t k) = omega (arith, length_push c.now.records (Back t k))
 
 -- the next number of the open epoch is that of the log
-number_is_length : (L : List Record) → next_number (last_epoch L) ≡ length L
+pub number_is_length : (L : List Record) → next_number (last_epoch L) ≡ length L
 number_is_length L = by_push (λ M. next_number (last_epoch M) ≡ length M) refl step L
   where
     step : (M : List Record) (r : Record) → next_number (last_epoch M) ≡ length M → next_number (last_epoch (M ++ r ∷ [])) ≡ length (M ++ r ∷ [])
@@ -168,7 +144,7 @@ epoch_longer n e B h = by_test (nat_le n e.first) h
 
 epoch_still : (n : ℕ) (L B : List Record) → list_any separates B ≡ false → epoch_from n (epochs L) ≡ Some (last_epoch L) → epoch_from n (epochs (L ++ B)) ≡ Some (longer (cut L) B).now
 epoch_still n L B h e =
-    let others : AllByRecursion (λ z. z ≡ last_epoch L → ⊥) (cut L).closed = weaker (λ z. next_number z < (cut L).now.first) (λ z. z ≡ last_epoch L → ⊥) (λ z lt q. let lt' = subst (λ y. next_number y < (cut L).now.first) q lt in absurd (omega (arith, lt'))) (cut L).closed (before L) in
+    let others : AllByRecursion (λ z. z ≡ last_epoch L → ⊥) (cut L).closed = all_map (λ z. next_number z < (cut L).now.first) (λ z. z ≡ last_epoch L → ⊥) (λ z lt q. let lt' = subst (λ y. next_number y < (cut L).now.first) q lt in absurd (omega (arith, lt'))) (cut L).closed (before L) in
     let w = none_before (is_epoch_for n) (cut L).closed (last_epoch L) others e in
     ap (λ (c : Cut). epoch_from n (c.closed ++ c.now ∷ [])) (cut_within L B h)
     ∙ found_last (is_epoch_for n) (cut L).closed (longer (cut L) B).now w.0 (epoch_longer n (last_epoch L) B w.1)
@@ -176,29 +152,19 @@ epoch_still n L B h e =
 -- ---- the clean place
 clean_step_grows : (p : ℕ) (r : Record) → p ≤ clean_step p r
 clean_step_grows p (Format i h) = omega arith
-clean_step_grows p (Begin t) = omega arith
-clean_step_grows p (Forward t k) = omega arith
-clean_step_grows p (Done t k a) = omega arith
-clean_step_grows p (Commit t) = omega arith
-clean_step_grows p (Ended t) = omega arith
-clean_step_grows p (Solo t q k) = omega arith
-clean_step_grows p AuditBegin = omega arith
-clean_step_grows p (AuditClean b) = omega arith
-clean_step_grows p (AuditFail b rs) = omega arith
-clean_step_grows p (Restarted rs ds) = omega arith
-clean_step_grows p (Back t k) = omega arith
+clean_step_grows p _ = omega arith
 
-clean_grows : (p : ℕ) (B : List Record) → p ≤ fold clean_step p B
+pub clean_grows : (p : ℕ) (B : List Record) → p ≤ fold clean_step p B
 clean_grows p [] = omega arith
 clean_grows p (r ∷ B) = omega (arith, clean_step_grows p r, clean_grows (clean_step p r) B)
 
-clean_longer : (e : Epoch) (B : List Record) → clean_place e ≤ clean_place (record { first = e.first; records = e.records ++ B })
+pub clean_longer : (e : Epoch) (B : List Record) → clean_place e ≤ clean_place (record { first = e.first; records = e.records ++ B })
 clean_longer e B = subst (λ n. clean_place e ≤ n) (sym (fold-append clean_step e.first e.records B)) (clean_grows (clean_place e) B)
 
 -- ---- words
 same_touched : (A D : List (List ℕ)) (o : Option Touch) (r : ℕ) → words_in A r ≡ words_in D r → words_in (redo_touch A o) r ≡ words_in (redo_touch D o) r
 same_touched A D None r h = h
-same_touched A D (Some a) r h = ⊎_elim here other (region_cases r a.block.region)
+same_touched A D (Some a) r h = ⊎_elim here other (cases_eq r a.block.region)
   where
     here : r ≡ a.block.region → words_in (redo_touch A (Some a)) r ≡ words_in (redo_touch D (Some a)) r
     here e =
@@ -213,55 +179,33 @@ same_redone : (A D : List (List ℕ)) (L : List Record) (r : ℕ) → words_in A
 same_redone A D [] r h = h
 same_redone A D (x ∷ L) r h = same_redone (redo A x) (redo D x) L r (same_touched A D (touch_of x) r h)
 
--- more elements of a longer list
-more_taken : {X : Type 0} (m n : ℕ) (E B : List X) → m ≤ n → (Z : List X) × (take n (E ++ B) ≡ take m E ++ Z)
-more_taken zero n E B h = (take n (E ++ B), refl)
-more_taken (suc m) zero E B h = absurd (omega (arith, h))
-more_taken (suc m) (suc n) [] B h = (take (suc n) B, refl)
-more_taken (suc m) (suc n) (x ∷ E) B h = let w = more_taken m n E B (omega (arith, h)) in (w.0, ap (λ zs. x ∷ zs) w.1)
-
-long_enough : {X : Type 0} (k m : ℕ) (E : List X) → k ≤ m → k ≤ length E → k ≤ length (take m E)
-long_enough zero m E h g = omega arith
-long_enough (suc k) zero E h g = absurd (omega (arith, h))
-long_enough (suc k) (suc m) [] h g = absurd (omega (arith, g))
-long_enough (suc k) (suc m) (x ∷ E) h g = let w = long_enough k m E (omega (arith, h)) (omega (arith, g)) in omega (arith, w)
-
 words_still :
     (base image : List (List ℕ)) (E B : List Record) (k m n r : ℕ) → k ≤ m → m ≤ n → k ≤ length E
     → words_in (redo_all image (drop k (take m E))) r ≡ words_in (redo_all base (take m E)) r
     → words_in (redo_all image (drop k (take n (E ++ B)))) r ≡ words_in (redo_all base (take n (E ++ B))) r
 words_still base image E B k m n r km mn kE same =
-    let w = more_taken m n E B mn in
+    let w = take_further m n E B mn in
     let X = take m E in
     let Z = w.0 in
-    let split : drop k (X ++ Z) ≡ drop k X ++ Z = drop-append-le k X Z (long_enough k m E km kE) in
+    let split : drop k (X ++ Z) ≡ drop k X ++ Z = drop-append-le k X Z (length_take_least k m E km kE) in
     let left : words_in (redo_all image (drop k (X ++ Z))) r ≡ words_in (redo_all (redo_all image (drop k X)) Z) r = ap (λ D. words_in (redo_all image D) r) split ∙ ap (λ im. words_in im r) (fold-append redo image (drop k X) Z) in
     let right : words_in (redo_all base (X ++ Z)) r ≡ words_in (redo_all (redo_all base X) Z) r = ap (λ im. words_in im r) (fold-append redo base X Z) in
     let both : words_in (redo_all image (drop k (X ++ Z))) r ≡ words_in (redo_all base (X ++ Z)) r = left ∙ same_redone (redo_all image (drop k X)) (redo_all base X) Z r same ∙ sym right in
     subst (λ T. words_in (redo_all image (drop k T)) r ≡ words_in (redo_all base T) r) (sym w.1) both
 
 -- ---- batches
-not_restarted : (r : Record) → separates r ≡ false → is_restarted r ≡ false
+pub not_restarted : (r : Record) → separates r ≡ false → is_restarted r ≡ false
 not_restarted (Format i h) e = absurd (cc)
-not_restarted (Begin t) e = refl
-not_restarted (Forward t b) e = refl
-not_restarted (Done t k a) e = refl
-not_restarted (Commit t) e = refl
-not_restarted (Ended t) e = refl
-not_restarted (Solo t p b) e = refl
-not_restarted AuditBegin e = refl
-not_restarted (AuditClean b) e = refl
-not_restarted (AuditFail b rs) e = refl
 not_restarted (Restarted rs ds) e = absurd (cc)
-not_restarted (Back t b) e = refl
+not_restarted _ e = refl
 
 none_restarted : (B : List Record) → list_any separates B ≡ false → list_any is_restarted B ≡ false
 none_restarted [] h = refl
-none_restarted (r ∷ B) h = let g = or_false (separates r) (list_any separates B) h in rw (not_restarted r g.0) (none_restarted B g.1)
+none_restarted (r ∷ B) h = let g = or_parts (separates r) (list_any separates B) h in rw (not_restarted r g.0) (none_restarted B g.1)
 
-first_of_plain : (B : List Record) → list_any separates B ≡ false → is_restarted_first B ≡ true
+pub first_of_plain : (B : List Record) → list_any separates B ≡ false → is_restarted_first B ≡ true
 first_of_plain [] h = refl
-first_of_plain (r ∷ B) h = ap not (none_restarted B (or_false (separates r) (list_any separates B) h).1)
+first_of_plain (r ∷ B) h = ap not (none_restarted B (or_parts (separates r) (list_any separates B) h).1)
 
 abbrev all_of : List (List Record) → List Record
 all_of bs = flat_map (λ b. b) bs
@@ -280,7 +224,7 @@ placed_within bs B front place k le first all weight firsts =
     let same : take k (bs ++ B ∷ []) ≡ take k bs = take-append-le k bs (B ∷ []) le in
     (k, ap all_of same ∙ all, weight ∙ ap (λ cs. sum_by batch_length cs) (sym same), λ j b kj at. ⊎_elim (λ old. firsts j b kj old.1) (λ new. subst (λ x. is_restarted_first x ≡ true) new.1 first) (get_push_cases bs B j b at))
 
-got_none : (cs : List (List Record)) (j : ℕ) (b : List Record) → length cs ≤ j → slice_get cs j ≡ Some b → ⊥
+pub got_none : (cs : List (List Record)) (j : ℕ) (b : List Record) → length cs ≤ j → slice_get cs j ≡ Some b → ⊥
 got_none [] j b le at = cc
 got_none (c ∷ cs) zero b le at = omega (arith, le)
 got_none (c ∷ cs) (suc j) b le at = got_none cs j b (omega (arith, le)) at

@@ -5,7 +5,7 @@ use Rattle.std.proofs.lemmas.List.Concat.{flat_map-cons}
 use Rattle.dali_bytes.specs.Fields.{number32, number64}
 use Rattle.dali_bytes.proofs.Numbers.{length-number32, length-number64}
 use Rattle.dali_record.specs.declared.operations.Op.{Op}
-use Rattle.dali_record.specs.declared.operations.Op.TheVariants.{Look, Add, KillEntry, Put, Read, Change, KillCell, FreeCell, ReviveCell, Restore, FreeEntry, ReviveEntry}
+use Rattle.dali_record.specs.declared.operations.Op.TheVariants.{Add, Put, Change, Restore}
 use Rattle.dali_record.specs.declared.operations.Outcome.{Outcome}
 use Rattle.dali_record.specs.declared.operations.Outcome.TheVariants.{Found, Absent, Added, NoEntry, Killed, Put as PutIn, NoCell, Value, Changed, NotLive, OtherKey, OddLength, Undone}
 use Rattle.dali_record.specs.declared.operations.Undo.{Undo}
@@ -14,7 +14,7 @@ use Rattle.dali_record.specs.declared.operations.Block.{Block}
 use Rattle.dali_record.specs.declared.records.Call.{Call}
 use Rattle.dali_record.specs.declared.records.Call.TheVariants.{Insert, Update, Delete, Get}
 use Rattle.dali_record.specs.declared.records.Answer.{Answer}
-use Rattle.dali_record.specs.declared.records.Answer.TheVariants.{Ok as AnswerOk, Exists, Missing, Got, FullHeap, FullIndex, Odd}
+use Rattle.dali_record.specs.declared.records.Answer.TheVariants.{Got, Odd}
 use Rattle.dali_record.specs.declared.records.Record.{Record}
 use Rattle.dali_record.specs.declared.records.Record.TheVariants.{Format, Begin, Forward, Done, Commit, Ended, Solo, AuditBegin, AuditClean, AuditFail, Restarted, Back}
 use Rattle.dali_record.specs.Spelling.{spelling, CanBeSpelled, IsOperation, MayBeUndo, IsBlock, op_bytes, outcome_bytes, undo_bytes, block_bytes, call_bytes, answer_bytes, words_bytes, op_length, outcome_length, undo_length, block_length, call_length, answer_length, record_length}
@@ -27,28 +27,21 @@ number64_is_8 n = length-number64 n
 
 pub words_are_8 : (ns : List ℕ) → length (words_bytes ns) ≡ 8 * length ns
 words_are_8 [] = refl
-words_are_8 (n ∷ ns) = ap length (flat_map-cons number64 n ns) ∙ omega (arith, length-append (number64 n) (words_bytes ns), number64_is_8 n, words_are_8 ns)
+words_are_8 (n ∷ ns) = ap length (flat_map-cons number64 n ns) ∙ omega (arith, length-append (number64 n) (words_bytes ns), length-number64 n, words_are_8 ns)
 
 pub regions_are_4 : (ns : List ℕ) → length (flat_map number32 ns) ≡ 4 * length ns
 regions_are_4 [] = refl
-regions_are_4 (n ∷ ns) = ap length (flat_map-cons number32 n ns) ∙ omega (arith, length-append (number32 n) (flat_map number32 ns), number32_is_4 n, regions_are_4 ns)
+regions_are_4 (n ∷ ns) = ap length (flat_map-cons number32 n ns) ∙ omega (arith, length-append (number32 n) (flat_map number32 ns), length-number32 n, regions_are_4 ns)
 
 pub length-op : (op : Op) → IsOperation op → length (op_bytes op) ≡ op_length op
-length-op Look h = refl
-length-op (Add p) h = omega (arith, number64_is_8 p)
-length-op (KillEntry e) h = refl
+length-op (Add p) h = omega (arith, length-number64 p)
 length-op (Put v) h = omega arith
-length-op (Read c) h = refl
 length-op (Change c v) h = omega arith
-length-op (KillCell c) h = refl
-length-op (FreeCell c) h = refl
-length-op (ReviveCell c) h = refl
-length-op (Restore c n vs) h = omega (arith, length-append (number64 n) (words_bytes vs), number64_is_8 n, words_are_8 vs, h.2.0)
-length-op (FreeEntry e) h = refl
-length-op (ReviveEntry e) h = refl
+length-op (Restore c n vs) h = omega (arith, length-append (number64 n) (words_bytes vs), length-number64 n, words_are_8 vs, h.2.0)
+length-op _ h = refl
 
 pub length-outcome : (o : Outcome) → length (outcome_bytes o) ≡ outcome_length o
-length-outcome (Found e p) = omega (arith, number64_is_8 p)
+length-outcome (Found e p) = omega (arith, length-number64 p)
 length-outcome (Absent true) = refl
 length-outcome (Absent false) = refl
 length-outcome (Added e) = refl
@@ -58,16 +51,16 @@ length-outcome (PutIn c) = refl
 length-outcome NoCell = refl
 length-outcome (Value v) = omega arith
 length-outcome Changed = refl
-length-outcome (NotLive n) = omega (arith, number64_is_8 n)
-length-outcome (OtherKey n) = omega (arith, number64_is_8 n)
-length-outcome (OddLength n) = omega (arith, number64_is_8 n)
+length-outcome (NotLive n) = omega (arith, length-number64 n)
+length-outcome (OtherKey n) = omega (arith, length-number64 n)
+length-outcome (OddLength n) = omega (arith, length-number64 n)
 length-outcome Undone = refl
 
 pub length-undo : (u : Option Undo) → MayBeUndo u → length (undo_bytes u) ≡ undo_length u
 length-undo None h = refl
 length-undo (Some (UndoFreeCell c)) h = refl
 length-undo (Some (UndoReviveCell c)) h = refl
-length-undo (Some (UndoRestore c n vs)) h = omega (arith, length-append (number64 n) (words_bytes vs), number64_is_8 n, words_are_8 vs, h.2.0)
+length-undo (Some (UndoRestore c n vs)) h = omega (arith, length-append (number64 n) (words_bytes vs), length-number64 n, words_are_8 vs, h.2.0)
 length-undo (Some (UndoFreeEntry e)) h = refl
 length-undo (Some (UndoReviveEntry e)) h = refl
 
@@ -77,33 +70,29 @@ nine a b c d e f g h i = simp length-append
 pub length-block : (b : Block) → IsBlock b → length (block_bytes b) ≡ block_length b
 length-block b is =
     let all = nine (number64 b.key) (number32 b.region) (op_bytes b.op) (number64 b.read) (number64 b.xor) (number64 b.write) (words_bytes b.after) (outcome_bytes b.outcome) (undo_bytes b.undo) in
-    all ∙ omega (arith, number64_is_8 b.key, number32_is_4 b.region, length-op b.op is.op, number64_is_8 b.read, number64_is_8 b.xor, number64_is_8 b.write, words_are_8 b.after, length-outcome b.outcome, length-undo b.undo is.undo)
+    all ∙ omega (arith, length-number64 b.key, length-number32 b.region, length-op b.op is.op, length-number64 b.read, length-number64 b.xor, length-number64 b.write, words_are_8 b.after, length-outcome b.outcome, length-undo b.undo is.undo)
 
 pub length-call : (c : Call) → length (call_bytes c) ≡ call_length c
-length-call (Insert k v) = omega (arith, length-append (number64 k) (length v ∷ v), number64_is_8 k)
-length-call (Update k v) = omega (arith, length-append (number64 k) (length v ∷ v), number64_is_8 k)
-length-call (Delete k) = omega (arith, number64_is_8 k)
-length-call (Get k) = omega (arith, number64_is_8 k)
+length-call (Insert k v) = omega (arith, length-append (number64 k) (length v ∷ v), length-number64 k)
+length-call (Update k v) = omega (arith, length-append (number64 k) (length v ∷ v), length-number64 k)
+length-call (Delete k) = omega (arith, length-number64 k)
+length-call (Get k) = omega (arith, length-number64 k)
 
 pub length-answer : (a : Answer) → length (answer_bytes a) ≡ answer_length a
-length-answer AnswerOk = refl
-length-answer Exists = refl
-length-answer Missing = refl
 length-answer (Got v) = omega arith
-length-answer FullHeap = refl
-length-answer FullIndex = refl
-length-answer (Odd p) = omega (arith, number64_is_8 p)
+length-answer (Odd p) = omega (arith, length-number64 p)
+length-answer _ = refl
 
 pub length-spelling : (r : Record) → CanBeSpelled r → length (spelling r) ≡ record_length r
-length-spelling (Format i h) is = omega (arith, length-append (number32 i) (number32 h), number32_is_4 i, number32_is_4 h)
-length-spelling (Begin t) is = omega (arith, number64_is_8 t)
-length-spelling (Forward t b) is = omega (arith, length-append (number64 t) (block_bytes b), number64_is_8 t, length-block b is.1)
-length-spelling (Done t c a) is = omega (arith, length-append (number64 t) (call_bytes c ++ answer_bytes a), length-append (call_bytes c) (answer_bytes a), number64_is_8 t, length-call c, length-answer a)
-length-spelling (Commit t) is = omega (arith, number64_is_8 t)
-length-spelling (Ended t) is = omega (arith, number64_is_8 t)
-length-spelling (Solo t p b) is = omega (arith, length-append (number64 t) (number64 p ++ block_bytes b), length-append (number64 p) (block_bytes b), number64_is_8 t, number64_is_8 p, length-block b is.2)
+length-spelling (Format i h) is = omega (arith, length-append (number32 i) (number32 h), length-number32 i, length-number32 h)
+length-spelling (Begin t) is = omega (arith, length-number64 t)
+length-spelling (Forward t b) is = omega (arith, length-append (number64 t) (block_bytes b), length-number64 t, length-block b is.1)
+length-spelling (Done t c a) is = omega (arith, length-append (number64 t) (call_bytes c ++ answer_bytes a), length-append (call_bytes c) (answer_bytes a), length-number64 t, length-call c, length-answer a)
+length-spelling (Commit t) is = omega (arith, length-number64 t)
+length-spelling (Ended t) is = omega (arith, length-number64 t)
+length-spelling (Solo t p b) is = omega (arith, length-append (number64 t) (number64 p ++ block_bytes b), length-append (number64 p) (block_bytes b), length-number64 t, length-number64 p, length-block b is.2)
 length-spelling AuditBegin is = refl
-length-spelling (AuditClean n) is = omega (arith, number64_is_8 n)
-length-spelling (AuditFail n rs) is = omega (arith, length-append (number64 n) (number32 (length rs) ++ flat_map number32 rs), length-append (number32 (length rs)) (flat_map number32 rs), number64_is_8 n, number32_is_4 (length rs), regions_are_4 rs)
-length-spelling (Restarted rs ds) is = omega (arith, length-append (number32 (length rs) ++ words_bytes rs) (number32 (length ds) ++ words_bytes ds), length-append (number32 (length rs)) (words_bytes rs), length-append (number32 (length ds)) (words_bytes ds), number32_is_4 (length rs), number32_is_4 (length ds), words_are_8 rs, words_are_8 ds)
-length-spelling (Back t b) is = omega (arith, length-append (number64 t) (block_bytes b), number64_is_8 t, length-block b is.1)
+length-spelling (AuditClean n) is = omega (arith, length-number64 n)
+length-spelling (AuditFail n rs) is = omega (arith, length-append (number64 n) (number32 (length rs) ++ flat_map number32 rs), length-append (number32 (length rs)) (flat_map number32 rs), length-number64 n, length-number32 (length rs), regions_are_4 rs)
+length-spelling (Restarted rs ds) is = omega (arith, length-append (number32 (length rs) ++ words_bytes rs) (number32 (length ds) ++ words_bytes ds), length-append (number32 (length rs)) (words_bytes rs), length-append (number32 (length ds)) (words_bytes ds), length-number32 (length rs), length-number32 (length ds), words_are_8 rs, words_are_8 ds)
+length-spelling (Back t b) is = omega (arith, length-append (number64 t) (block_bytes b), length-number64 t, length-block b is.1)

@@ -3,7 +3,9 @@ use Rattle.std.proofs.Common.{◌≡◌, ℕ, suc, ◌+◌, ◌*◌, ◌^◌, �
 use Rattle.std.specs.Prelude.{◌==◌, nat_le, zip, drop}
 use Rattle.std.specs.List.{AllByRecursion}
 use Rattle.std.proofs.lemmas.Bool.{and_parts, leb-true, le-leb}
-use Rattle.std.proofs.lemmas.Bool.Decides.{Decides-eqb}
+use Rattle.dali_lists.proofs.Members.{all_append}
+use Rattle.dali_lists.proofs.Numbers.{eqb-self}
+use Rattle.dali_lists.proofs.Tests.{all_three_true}
 use Rattle.dali_words.specs.declared.Effect.{Effect}
 use Rattle.dali_words.specs.declared.KillOutcome.{KillOutcome}
 use Rattle.dali_words.specs.declared.KillOutcome.TheVariants.{NotLive as KillNotLive, OtherKey as KillOtherKey, OddLength as KillOddLength, Killed as KillKilled}
@@ -36,7 +38,7 @@ use Rattle.dali_record.specs.declared.operations.Undo.TheVariants.{FreeCell as U
 use Rattle.dali_record.specs.Spelling.{Is32, Is64, IsCell, IsEntry, AreFive, IsOperation, IsOutcome, MayBeUndo, is_outcome_of, undoes, is_within, IsBlock}
 use Rattle.dali_record.specs.Operations.{effect, looked, added, undo_of_add, killed, undo_of_kill, stored, undo_of_put, read, changed, undo_of_change}
 use Rattle.dali_record.specs.Blocks.{made, AreWords}
-use Rattle.dali_record.proofs.Makes.{all_append, all_get, all_take, all_drop, all_written, all_under, xor_small, mask_small, members, within, packed_words, unpacked_is}
+use Rattle.dali_record.proofs.Makes.{all_get, all_take, all_drop, all_written, all_under, xor_small, mask_small, members, within, packed_words, unpacked_is}
 
 -- what the operation does, reading and writing these words, can be spelled
 record Makes (ws : List ℕ) (op : Op) (e : Effect × Outcome × Option Undo) : Type 0 where
@@ -72,9 +74,6 @@ leaf ws op reads writes o u below inside values outcome undo of_op gives = recor
 -- one that writes nothing
 reads_only : (ws : List ℕ) (op : Op) (reads : List ℕ) (o : Outcome) → Below reads → IsOutcome o → is_outcome_of op o ≡ true → undoes op o None ≡ true → Makes ws op (effect_of ws reads [], o, None)
 reads_only ws op reads o below outcome of_op gives = leaf ws op reads [] o None below (λ i h. absurd h) tt outcome tt of_op gives
-
-self : (n : ℕ) → (n == n) ≡ true
-self n = (Decides-eqb n n).1 refl
 
 -- ---- cells and entries
 cell_low : (c : ℕ) → IsCell c → 1 ≤ c
@@ -143,7 +142,7 @@ add_makes ws key p seen (e ∷ es) words k q below high = by_test (add_makes ws 
         → AddMakes ws p (cond c (effect_of ws (seen ++ entry.state_word e ∷ entry.key_word e ∷ entry.place_word e ∷ []) ((entry.state_word e, 1) ∷ (entry.key_word e, key) ∷ (entry.place_word e, p) ∷ []), AddDone e) (index.add_among ws key p (seen ++ entry.state_word e ∷ []) es))
     by_test later true = leaf ws (Add p) (seen ++ entry.state_word e ∷ entry.key_word e ∷ entry.place_word e ∷ []) ((entry.state_word e, 1) ∷ (entry.key_word e, key) ∷ (entry.place_word e, p) ∷ []) (Added e) (Some (UndoFreeEntry e))
         (all_append (λ i. i < 64) seen (entry.state_word e ∷ entry.key_word e ∷ entry.place_word e ∷ []) below (entry_below e high.0))
-        (λ i h. in_right seen (entry.state_word e ∷ entry.key_word e ∷ entry.place_word e ∷ []) i h) (omega arith, (k, (q, tt))) (is_entry_of e high.0) (is_entry_of e high.0) refl (self e)
+        (λ i h. in_right seen (entry.state_word e ∷ entry.key_word e ∷ entry.place_word e ∷ []) i h) (omega arith, (k, (q, tt))) (is_entry_of e high.0) (is_entry_of e high.0) refl (eqb-self e)
     by_test later false = later
 
 entries_high : AllByRecursion (λ e. e ≤ 20) entries
@@ -157,7 +156,7 @@ kill_entry_makes ws e key words high = by_test (entry.state_of ws e == 1) (entry
     P r = Makes ws (KillEntry e) (r.0, killed r.1, undo_of_kill (UndoReviveEntry e) r.1)
 
     by_test : (a b : Bool) → P (cond a (cond b (effect_of ws (entry.state_word e ∷ entry.key_word e ∷ []) ((entry.state_word e, 2) ∷ []), KillKilled) (effect_of ws (entry.state_word e ∷ entry.key_word e ∷ []) [], KillOtherKey (entry.key_of ws e))) (effect_of ws (entry.state_word e ∷ []) [], KillNotLive (entry.state_of ws e)))
-    by_test true true = leaf ws (KillEntry e) (entry.state_word e ∷ entry.key_word e ∷ []) ((entry.state_word e, 2) ∷ []) Killed (Some (UndoReviveEntry e)) (omega (arith, high), (omega (arith, high), tt)) (λ i h. by_first i h) (omega arith, tt) tt (is_entry_of e high) refl (self e)
+    by_test true true = leaf ws (KillEntry e) (entry.state_word e ∷ entry.key_word e ∷ []) ((entry.state_word e, 2) ∷ []) Killed (Some (UndoReviveEntry e)) (omega (arith, high), (omega (arith, high), tt)) (λ i h. by_first i h) (omega arith, tt) tt (is_entry_of e high) refl (eqb-self e)
       where
         by_first : (i : ℕ) → IsIn (entry.state_word e ∷ []) i → IsIn (entry.state_word e ∷ entry.key_word e ∷ []) i
         by_first i (inl h) = inl h
@@ -190,7 +189,7 @@ put_makes ws key v seen (c ∷ cs) k is below all = by_test (put_makes ws key v 
         (all_append (λ i. i < 64) seen (cell.cell_words c) below (cell_below c (cell_high c all.0)))
         (λ i h. in_right seen (cell.cell_words c) i h)
         (omega arith, (k, (short v is, (words.0, (words.1.0, (words.1.1.0, (words.1.1.1.0, (words.1.1.1.1.0, tt))))))))
-        all.0 all.0 refl (self c)
+        all.0 all.0 refl (eqb-self c)
     by_test later false = later
 
 five_words : (ws : List ℕ) (c : ℕ) → length ws ≡ 64 → c ≤ 7 → length (cell.value_of ws c) ≡ 5
@@ -235,7 +234,7 @@ change_makes ws c key v words is value = by_test (cell.state_of ws c == 1) (cell
         → P (cond a (cond b (cond d (effect_of ws (cell.cell_words c) (zip (cell.length_word c ∷ cell.value_words c) (length v ∷ packed v)), ChangeDone) (effect_of ws (cell.state_word c ∷ cell.key_word c ∷ cell.length_word c ∷ []) [], ChangeOddLength (cell.length_of ws c))) (effect_of ws (cell.state_word c ∷ cell.key_word c ∷ []) [], ChangeOtherKey (cell.key_of ws c))) (effect_of ws (cell.state_word c ∷ []) [], ChangeNotLive (cell.state_of ws c)))
     by_test true true true = leaf ws (Change c v) (cell.cell_words c) (zip (cell.length_word c ∷ cell.value_words c) (length v ∷ packed v)) Changed (Some (UndoRestore c (cell.length_of ws c) (cell.value_of ws c)))
         (cell_below c high) (λ i h. in_cell c i h) (short v value, (news.0, (news.1.0, (news.1.1.0, (news.1.1.1.0, (news.1.1.1.1.0, tt))))))
-        tt (is, all_get ws (cell.length_word c) words.1, old_words ws c words high) refl (self c)
+        tt (is, all_get ws (cell.length_word c) words.1, old_words ws c words high) refl (eqb-self c)
     by_test true true false = reads_only ws (Change c v) (cell.state_word c ∷ cell.key_word c ∷ cell.length_word c ∷ []) (OddLength (cell.length_of ws c)) (head_below c high) (all_get ws (cell.length_word c) words.1) refl refl
     by_test true false d = reads_only ws (Change c v) (cell.state_word c ∷ cell.key_word c ∷ []) (OtherKey (cell.key_of ws c)) (omega (arith, high), (omega (arith, high), tt)) (all_get ws (cell.key_word c) words.1) refl refl
     by_test false b d = reads_only ws (Change c v) (cell.state_word c ∷ []) (NotLive (cell.state_of ws c)) (omega (arith, high), tt) (all_get ws (cell.state_word c) words.1) refl refl
@@ -256,7 +255,7 @@ kill_cell_makes ws c key words is = by_test (cell.state_of ws c == 1) (cell.key_
 
     by_test : (a b d : Bool)
         → P (cond a (cond b (cond d (effect_of ws (cell.state_word c ∷ cell.key_word c ∷ cell.length_word c ∷ []) ((cell.state_word c, 2) ∷ []), KillKilled) (effect_of ws (cell.state_word c ∷ cell.key_word c ∷ cell.length_word c ∷ []) [], KillOddLength (cell.length_of ws c))) (effect_of ws (cell.state_word c ∷ cell.key_word c ∷ []) [], KillOtherKey (cell.key_of ws c))) (effect_of ws (cell.state_word c ∷ []) [], KillNotLive (cell.state_of ws c)))
-    by_test true true true = leaf ws (KillCell c) (cell.state_word c ∷ cell.key_word c ∷ cell.length_word c ∷ []) ((cell.state_word c, 2) ∷ []) Killed (Some (UndoReviveCell c)) (head_below c high) (λ i h. in_head _ _ _ i h) (omega arith, tt) tt is refl (self c)
+    by_test true true true = leaf ws (KillCell c) (cell.state_word c ∷ cell.key_word c ∷ cell.length_word c ∷ []) ((cell.state_word c, 2) ∷ []) Killed (Some (UndoReviveCell c)) (head_below c high) (λ i h. in_head _ _ _ i h) (omega arith, tt) tt is refl (eqb-self c)
     by_test true true false = reads_only ws (KillCell c) (cell.state_word c ∷ cell.key_word c ∷ cell.length_word c ∷ []) (OddLength (cell.length_of ws c)) (head_below c high) (all_get ws (cell.length_word c) words) refl refl
     by_test true false d = reads_only ws (KillCell c) (cell.state_word c ∷ cell.key_word c ∷ []) (OtherKey (cell.key_of ws c)) (omega (arith, high), (omega (arith, high), tt)) (all_get ws (cell.key_word c) words) refl refl
     by_test false b d = reads_only ws (KillCell c) (cell.state_word c ∷ []) (NotLive (cell.state_of ws c)) (omega (arith, high), tt) (all_get ws (cell.state_word c) words) refl refl
@@ -290,12 +289,6 @@ makes (Restore c n vs) key ws is k words = restore_makes ws c n key vs is.0 is.1
 makes (FreeEntry e) key ws is k words = state_makes ws (FreeEntry e) (entry.state_word e) 0 (omega (arith, entry_high e is)) (omega arith) refl refl
 makes (ReviveEntry e) key ws is k words = state_makes ws (ReviveEntry e) (entry.state_word e) 1 (omega (arith, entry_high e is)) (omega arith) refl refl
 
-fits_from : (a b c : Bool) → a ≡ true → b ≡ true → c ≡ true → (a && b && c) ≡ true
-fits_from true true true p q r = refl
-fits_from true true false p q r = r
-fits_from true false c p q r = absurd cc
-fits_from false b c p q r = absurd cc
-
 below_in : (is : List ℕ) (i : ℕ) → Below is → IsIn is i → i < 64
 below_in [] i h g = absurd g
 below_in (j ∷ js) i h (inl e) = subst (λ n. n < 64) e h.0
@@ -318,7 +311,7 @@ made_is_block op key r ws is k region words = record {
   after = all_under (effect op key ws).0.write (effect op key ws).0.after later;
   outcome = m.outcome;
   undo = m.undo;
-  fit = fits_from _ _ _ inside m.of_op m.gives;
+  fit = all_three_true _ _ _ inside m.of_op m.gives;
 }
   where
     m : Makes ws op (effect op key ws)

@@ -12,6 +12,7 @@ use Rattle.std.proofs.lemmas.Bool.Decides.{Decides-eqb}
 use Rattle.std.proofs.lemmas.List.Elements.{All-from_recursion, recursion_from_All}
 use Rattle.std.proofs.lemmas.List.Concat.{flat_map-cons}
 use lib.Count.{ones_step}
+use Rattle.dali_lists.proofs.Members.{all_append}
 use Rattle.dali_words.specs.Words.{has_first, under, mask_of}
 use Rattle.dali_words.specs.Values.{is_size, IsValue, packed, number_after, bytes_of_word, bytes_of_words, unpacked}
 use Rattle.dali_words.specs.Effects.{write_all}
@@ -38,10 +39,6 @@ pub all_take : (P : ℕ → Type 0) (n : ℕ) (xs : List ℕ) → AllByRecursion
 all_take P zero xs h = tt
 all_take P (suc n) [] h = tt
 all_take P (suc n) (x ∷ xs) h = (h.0, all_take P n xs h.1)
-
-pub all_append : (P : ℕ → Type 0) (xs ys : List ℕ) → AllByRecursion P xs → AllByRecursion P ys → AllByRecursion P (xs ++ ys)
-all_append P [] ys h g = g
-all_append P (x ∷ xs) ys h g = (h.0, all_append P xs ys h.1 g)
 
 pub all_written : (ws : List ℕ) (ps : List (ℕ × ℕ)) → AllByRecursion Is64 ws → AllByRecursion (λ p. Is64 p.1) ps → AllByRecursion Is64 (write_all ws ps)
 all_written ws [] h g = h

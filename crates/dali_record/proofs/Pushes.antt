@@ -2,14 +2,16 @@
 use Rattle.std.proofs.Common.{◌≡◌, ℕ, zero, suc, ◌<◌, ◌≤◌, Bool, true, false, List, [], ◌∷◌, ◌++◌, length, Option, Some, None, refl, ap, sym, subst, ◌∙◌, ◌⊎◌, inl, inr, ⊎_elim, arith}
 use Rattle.std.specs.Prelude.{IsSome, not}
 use Rattle.std.specs.List.{AllByRecursion}
-use Rattle.std.specs.Prelude.{◌||◌, ◌==◌}
+use Rattle.std.specs.Prelude.{◌==◌}
 use Rattle.std.proofs.lemmas.List.{take-append-le, take_at, length-append}
-use Rattle.std.proofs.lemmas.Bool.{cases_lt}
+use Rattle.std.proofs.lemmas.Bool.{cases_lt, or_parts}
 use Rattle.std.proofs.lemmas.List.Sums.{fold_push}
 use Rattle.std.proofs.lemmas.List.Elements.{filter_map-append}
+use Rattle.dali_lists.proofs.Lists.{get_push}
+use Rattle.dali_lists.proofs.Members.{all_push}
 use Rattle.dali_geometry.specs.Sizes.{Sizes}
 use Rattle.dali_record.specs.declared.records.Record.{Record}
-use Rattle.dali_record.specs.declared.records.Record.TheVariants.{Format, Begin, Forward, Done, Commit, Ended, Solo, AuditBegin, AuditClean, AuditFail, Restarted, Back}
+use Rattle.dali_record.specs.declared.records.Record.TheVariants.{Format, Solo, AuditBegin, AuditClean, AuditFail, Restarted}
 use Rattle.dali_record.specs.Log.{Touch, touch_of, touch_in, touch_at, undos_of, undo_step, committed, commit_by, calls_of, call_by}
 pub use Rattle.dali_record.specs.Epochs.{separates}
 use Rattle.dali_record.specs.Epochs.{Epoch, Cut, cut, cut_step, last_epoch, AllEpochs}
@@ -17,7 +19,7 @@ use Rattle.dali_record.specs.Locks.{conflicts, EndedBetween, IsLockLegalIn, IsLo
 use Rattle.dali_record.specs.Damage.{Damage, marks, mark_step, mark_of, rolled_list, deleted_list}
 use Rattle.dali_record.specs.Settled.{redo, redo_all, IsSoundAt, IsSoundIn, AreSound}
 use Rattle.dali_record.specs.Legal.{TxnState, Unbegun, txn_state, txn_next, txn_step, concerns, Active, Committed, Over, rules_state, rules_next, rules_start, TellsScan, ReadsWords, IsLegalFor}
-use Rattle.dali_record.proofs.Ends.{get_old, get_new, get_push_cases}
+use Rattle.dali_record.proofs.Ends.{get_old, get_push_cases}
 
 -- ---- what is a fold takes one step
 pub undos_of_push : (t : ℕ) (L : List Record) (r : Record) → undos_of t (L ++ r ∷ []) ≡ undo_step t (undos_of t L) r
@@ -49,7 +51,7 @@ pub touch_old : (E : List Record) (r : Record) (i : ℕ) → i < length E → to
 touch_old E r i h = ap touch_in (get_old E r i h)
 
 pub touch_new : (E : List Record) (r : Record) → touch_at (E ++ r ∷ []) (length E) ≡ touch_of r
-touch_new E r = ap touch_in (get_new E r)
+touch_new E r = ap touch_in (get_push E r)
 
 pub touch_push_cases : (E : List Record) (r : Record) (j : ℕ) (b : Touch) → touch_at (E ++ r ∷ []) j ≡ Some b → ((j < length E) × (touch_at E j ≡ Some b)) ⊎ ((j ≡ length E) × (touch_of r ≡ Some b))
 touch_push_cases [] r zero b e = inr (refl, e)
@@ -107,66 +109,42 @@ TellsScan-push L r tells here n rs ds e =
     (λ new. rw (new.0, take_at L (r ∷ []) (length L) refl) (here rs ds new.1))
     (get_push_cases L r n (Restarted rs ds) e)
 
-or_false : (a b : Bool) → (a || b) ≡ false → (a ≡ false) × (b ≡ false)
-or_false true b e = absurd (cc)
-or_false false b e = (refl, e)
-
 -- a record that doesn't concern t leaves its state
 pub txn_step-other : (s : Sizes) (t : ℕ) (x : TxnState) (r : Record) → concerns t r ≡ false → txn_step s t x r ≡ Some x
 txn_step-other s t Unbegun (Format i h) e = refl
-txn_step-other s t Unbegun (Begin u) e = rw e refl
-txn_step-other s t Unbegun (Forward u b) e = rw e refl
-txn_step-other s t Unbegun (Done u c a) e = rw e refl
-txn_step-other s t Unbegun (Commit u) e = rw e refl
-txn_step-other s t Unbegun (Ended u) e = rw e refl
-txn_step-other s t Unbegun (Solo u p b) e = let f = or_false (u == t) (p == t) e in rw (f.0, f.1) refl
+txn_step-other s t Unbegun (Solo u p b) e = let f = or_parts (u == t) (p == t) e in rw (f.0, f.1) refl
 txn_step-other s t Unbegun AuditBegin e = refl
 txn_step-other s t Unbegun (AuditClean b) e = refl
 txn_step-other s t Unbegun (AuditFail b rs) e = refl
 txn_step-other s t Unbegun (Restarted rs ds) e = refl
-txn_step-other s t Unbegun (Back u b) e = rw e refl
+txn_step-other s t Unbegun _ e = rw e refl
 txn_step-other s t (Active w) (Format i h) e = refl
-txn_step-other s t (Active w) (Begin u) e = rw e refl
-txn_step-other s t (Active w) (Forward u b) e = rw e refl
-txn_step-other s t (Active w) (Done u c a) e = rw e refl
-txn_step-other s t (Active w) (Commit u) e = rw e refl
-txn_step-other s t (Active w) (Ended u) e = rw e refl
-txn_step-other s t (Active w) (Solo u p b) e = let f = or_false (u == t) (p == t) e in rw (f.0, f.1) refl
+txn_step-other s t (Active w) (Solo u p b) e = let f = or_parts (u == t) (p == t) e in rw (f.0, f.1) refl
 txn_step-other s t (Active w) AuditBegin e = refl
 txn_step-other s t (Active w) (AuditClean b) e = refl
 txn_step-other s t (Active w) (AuditFail b rs) e = refl
 txn_step-other s t (Active w) (Restarted rs ds) e = absurd (cc)
-txn_step-other s t (Active w) (Back u b) e = rw e refl
+txn_step-other s t (Active w) _ e = rw e refl
 txn_step-other s t (Committed ps) (Format i h) e = refl
-txn_step-other s t (Committed ps) (Begin u) e = rw e refl
-txn_step-other s t (Committed ps) (Forward u b) e = rw e refl
-txn_step-other s t (Committed ps) (Done u c a) e = rw e refl
-txn_step-other s t (Committed ps) (Commit u) e = rw e refl
-txn_step-other s t (Committed ps) (Ended u) e = rw e refl
-txn_step-other s t (Committed ps) (Solo u p b) e = let f = or_false (u == t) (p == t) e in rw (f.0, f.1) refl
+txn_step-other s t (Committed ps) (Solo u p b) e = let f = or_parts (u == t) (p == t) e in rw (f.0, f.1) refl
 txn_step-other s t (Committed ps) AuditBegin e = refl
 txn_step-other s t (Committed ps) (AuditClean b) e = refl
 txn_step-other s t (Committed ps) (AuditFail b rs) e = refl
 txn_step-other s t (Committed ps) (Restarted rs ds) e = absurd (cc)
-txn_step-other s t (Committed ps) (Back u b) e = rw e refl
+txn_step-other s t (Committed ps) _ e = rw e refl
 txn_step-other s t Over (Format i h) e = refl
-txn_step-other s t Over (Begin u) e = rw e refl
-txn_step-other s t Over (Forward u b) e = rw e refl
-txn_step-other s t Over (Done u c a) e = rw e refl
-txn_step-other s t Over (Commit u) e = rw e refl
-txn_step-other s t Over (Ended u) e = rw e refl
-txn_step-other s t Over (Solo u p b) e = let f = or_false (u == t) (p == t) e in rw (f.0, f.1) refl
+txn_step-other s t Over (Solo u p b) e = let f = or_parts (u == t) (p == t) e in rw (f.0, f.1) refl
 txn_step-other s t Over AuditBegin e = refl
 txn_step-other s t Over (AuditClean b) e = refl
 txn_step-other s t Over (AuditFail b rs) e = refl
 txn_step-other s t Over (Restarted rs ds) e = refl
-txn_step-other s t Over (Back u b) e = rw e refl
+txn_step-other s t Over _ e = rw e refl
 
 txn_next-other : (s : Sizes) (t : ℕ) (o : Option TxnState) (r : Record) → concerns t r ≡ false → IsSome o → IsSome (txn_next s t o r)
 txn_next-other s t None r e h = h
 txn_next-other s t (Some x) r e h = rw (txn_step-other s t x r e) refl
 
-txn_next-same : (s : Sizes) (t : ℕ) (o : Option TxnState) (r : Record) → concerns t r ≡ false → IsSome o → txn_next s t o r ≡ o
+pub txn_next-same : (s : Sizes) (t : ℕ) (o : Option TxnState) (r : Record) → concerns t r ≡ false → IsSome o → txn_next s t o r ≡ o
 txn_next-same s t None r e h = absurd (cc)
 txn_next-same s t (Some x) r e h = txn_step-other s t x r e
 
@@ -198,9 +176,6 @@ IsLegalFor-push s L r legal rule step scan reads = record {
     by_concern t false e = txn_next-other s t (txn_state s t L) r e (legal.txns t)
 
 -- ---- what holds of each epoch
-all_push : {X : Type 0} (P : X → Type 0) (xs : List X) (x : X) → AllByRecursion P xs → P x → AllByRecursion P (xs ++ x ∷ [])
-all_push P [] x h p = (p, tt)
-all_push P (y ∷ xs) x h p = (h.0, all_push P xs x h.1 p)
 
 AllCut : (Epoch → Type 0) → Cut → Type 0
 AllCut P c = AllByRecursion P c.closed × P c.now
@@ -208,17 +183,8 @@ AllCut P c = AllByRecursion P c.closed × P c.now
 cut_step_all : (P : Epoch → Type 0) → ((f : ℕ) → P (record { first = f; records = [] })) → (c : Cut) (r : Record) → AllCut P c → (separates r ≡ false → P (record { first = c.now.first; records = c.now.records ++ r ∷ [] })) → AllCut P (cut_step c r)
 unfolding AllCut
 cut_step_all P fresh c (Format i h) all more = (all.0, fresh _)
-cut_step_all P fresh c (Begin t) all more = (all.0, more refl)
-cut_step_all P fresh c (Forward t b) all more = (all.0, more refl)
-cut_step_all P fresh c (Done t a b) all more = (all.0, more refl)
-cut_step_all P fresh c (Commit t) all more = (all.0, more refl)
-cut_step_all P fresh c (Ended t) all more = (all.0, more refl)
-cut_step_all P fresh c (Solo t p b) all more = (all.0, more refl)
-cut_step_all P fresh c AuditBegin all more = (all.0, more refl)
-cut_step_all P fresh c (AuditClean b) all more = (all.0, more refl)
-cut_step_all P fresh c (AuditFail b rs) all more = (all.0, more refl)
 cut_step_all P fresh c (Restarted rs ds) all more = (all_push P c.closed c.now all.0 all.1, fresh _)
-cut_step_all P fresh c (Back t b) all more = (all.0, more refl)
+cut_step_all P fresh c _ all more = (all.0, more refl)
 
 pub AllEpochs-push :
     (P : Epoch → Type 0) → ((f : ℕ) → P (record { first = f; records = [] }))

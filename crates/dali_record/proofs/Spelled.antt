@@ -1,8 +1,8 @@
 -- Reading takes the spelling of the record that it gives, and a record that can be spelled is read again.
-use Rattle.std.proofs.Common.{◌≡◌, ℕ, ◌≤◌, arith, Bool, true, false, ◌==◌, ◌&&◌, leb, List, [], ◌∷◌, ◌++◌, length, Option, Some, None, refl, sym, ap, subst, ◌∙◌, append_assoc}
+use Rattle.std.proofs.Common.{◌≡◌, ℕ, ◌≤◌, arith, Bool, true, ◌==◌, leb, List, [], ◌∷◌, ◌++◌, length, Option, Some, None, refl, sym, ap, subst, ◌∙◌, append_assoc}
 use Rattle.std.specs.Prelude.{⊤, nat_lt, count_ones, IsSome}
 use Rattle.std.specs.List.{AllByRecursion}
-use Rattle.std.proofs.lemmas.Bool.{eqb-true, ltb-true, lt-ltb, leb-true}
+use Rattle.std.proofs.lemmas.Bool.{eqb-true, ltb-true, lt-ltb, leb-true, and_parts}
 use Rattle.dali_bytes.specs.Cursor.{IsBytes}
 use Rattle.dali_bytes.specs.Fields.{number32, number64}
 use Rattle.dali_bytes.specs.Reading.{number32_at, number64_at}
@@ -142,15 +142,11 @@ reader_done = tested_reader (reader_triple reader64 reader_call reader_answer) (
 reader_failing : IsReader (tested (λ rs. nat_lt 0 (length rs)) counted32_at) counted32 (λ rs. AreRegions rs × (nat_lt 0 (length rs) ≡ true))
 reader_failing = tested_reader reader_counted32 (λ rs. nat_lt 0 (length rs))
 
-both_true : (a b : Bool) → (a && b) ≡ true → (a ≡ true) × (b ≡ true)
-both_true true b e = (refl, e)
-both_true false b e = absurd cc
-
 is_index32 : (n : ℕ) → is_size_of_index n ≡ true → Is32 n
-is_index32 n e = let h = both_true (leb 1 n) (leb n 32768) e in let le : n ≤ 32768 = leb-true _ _ h.1 in omega (arith, le)
+is_index32 n e = let h = and_parts (leb 1 n) (leb n 32768) e in let le : n ≤ 32768 = leb-true _ _ h.1 in omega (arith, le)
 
 is_heap32 : (n : ℕ) → is_size_of_heap n ≡ true → Is32 n
-is_heap32 n e = let h = both_true (leb 1 n) (leb n 65536) e in let le : n ≤ 65536 = leb-true _ _ h.1 in omega (arith, le)
+is_heap32 n e = let h = and_parts (leb 1 n) (leb n 65536) e in let le : n ≤ 65536 = leb-true _ _ h.1 in omega (arith, le)
 
 pub reader_record : IsReader record_at spelling CanBeSpelled
 unfolding record_at format_at done_at audit_fail_at restarted_at

@@ -3,7 +3,7 @@ use Rattle.std.proofs.Common.{◌≡◌, ℕ, true, Option, Some, None, refl}
 use Rattle.std.specs.Prelude.{IsSome, is_none}
 use Rattle.std.proofs.lemmas.Bool.{and_parts}
 use Rattle.dali_record.specs.declared.operations.Op.{Op}
-use Rattle.dali_record.specs.declared.operations.Op.TheVariants.{Look, Add, KillEntry, Put, Read, Change, KillCell, FreeCell, ReviveCell, Restore, FreeEntry, ReviveEntry}
+use Rattle.dali_record.specs.declared.operations.Op.TheVariants.{Add, KillEntry, Put, Change, KillCell}
 use Rattle.dali_record.specs.declared.operations.Outcome.{Outcome}
 use Rattle.dali_record.specs.declared.operations.Outcome.TheVariants.{Found, Absent, Added, NoEntry, Killed, Put as PutIn, NoCell, Value, Changed, NotLive, OtherKey, OddLength, Undone}
 use Rattle.dali_record.specs.declared.operations.Undo.{Undo}
@@ -92,18 +92,12 @@ of_kill_cell cell (OddLength n) u e h = no_undo (OddLength n) u e h
 of_kill_cell cell Undone u e h = no_undo Undone u e h
 
 given_undo : (op : Op) (o : Outcome) (u : Option Undo) → undoes op o u ≡ true → IsSome u → changes o ≡ true
-given_undo Look o u e h = no_undo o u e h
 given_undo (Add place) o u e h = of_add o u e h
 given_undo (KillEntry entry) o u e h = of_kill_entry entry o u e h
 given_undo (Put v) o u e h = of_put o u e h
-given_undo (Read cell) o u e h = no_undo o u e h
 given_undo (Change cell v) o u e h = of_change cell o u e h
 given_undo (KillCell cell) o u e h = of_kill_cell cell o u e h
-given_undo (FreeCell cell) o u e h = no_undo o u e h
-given_undo (ReviveCell cell) o u e h = no_undo o u e h
-given_undo (Restore cell n words) o u e h = no_undo o u e h
-given_undo (FreeEntry entry) o u e h = no_undo o u e h
-given_undo (ReviveEntry entry) o u e h = no_undo o u e h
+given_undo _ o u e h = no_undo o u e h
 
 pub undo_changes : (b : Block) → IsBlock b → IsSome b.undo → changes_item b ≡ true
 undo_changes b is h = given_undo b.op b.outcome b.undo (and_parts _ _ is.fit).1 h

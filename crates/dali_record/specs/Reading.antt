@@ -2,7 +2,8 @@
 --     one f at, two f g .., chosen rows n bytes      ways to put readers together
 --     record_at bytes                                the record that begins there
 --     Gives result rest read                         what reading a record answered, unless memory was refused
---     Fills result x rest read                       what reading into a place answered, which has x then
+--     Puts result x rest read                        the same of reading into a place, which has x then
+--     Fills result x rest read                       the same where no memory is taken
 --     Passes result rest read                        what passing over a list answered: how many numbers it has
 use Rattle.std.specs.Prelude.{◌≡◌, ℕ, ⊤, Bool, true, false, List, [], ◌∷◌, Option, Some, None, Result, Ok, Err, IsSome, zero, suc, length, nat_lt, ◌==◌, if◌then◌else◌, count_ones}
 use Rattle.dali_words.specs.Values.{value_of}
@@ -255,7 +256,13 @@ Gives (Ok x) rest read = read ≡ Some (x, rest)
 Gives (Err NoSpelling) rest read = read ≡ None
 Gives (Err OutOfMemory) rest read = IsSome read
 
--- what reading into a place answered, which has x then
+-- the same of reading into a place, which has x then
+abbrev pub Puts : {U X : Type 0} → Result U Failure → X → List ℕ → Option (X × List ℕ) → Type 0
+Puts (Ok done) x rest read = read ≡ Some (x, rest)
+Puts (Err NoSpelling) x rest read = read ≡ None
+Puts (Err OutOfMemory) x rest read = IsSome read
+
+-- the same where no memory is taken
 abbrev pub Fills : {U X E : Type 0} → Result U E → X → List ℕ → Option (X × List ℕ) → Type 0
 Fills (Ok done) x rest read = read ≡ Some (x, rest)
 Fills (Err e) x rest read = read ≡ None

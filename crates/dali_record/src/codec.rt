@@ -6,7 +6,7 @@ mod reading;
 mod writing;
 
 pub use lengths::{length, op_record_length, solo_record_length};
-pub use reading::decode;
+pub use reading::{decode, decode_into};
 pub use writing::{encode, encode_back, encode_op, encode_solo};
 
 /// The one version of the format.

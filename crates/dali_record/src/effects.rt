@@ -1,5 +1,5 @@
 //! What each operation does to the words of a region.
-ghost use Rattle.std.specs.Prelude.{◌≡◌, ◌≤◌, None};
+ghost use Rattle.std.specs.Prelude.{◌≡◌, ◌≤◌, None, []};
 ghost use Rattle.dali_heap.specs.Rows as heap;
 ghost use Rattle.dali_index.specs.Rows as index;
 ghost use Rattle.dali_record.specs.Spelling.{IsOperation, IsBlock};
@@ -279,24 +279,51 @@ pub fn effect(op: &Op, key: u64, words: &[u64; 64]) -> (Effect, Outcome, Option<
 }
 
 impl Block {
+    /// A place for a block, with no new words.
+    pub fn blank() -> Self
+        ensures { result.after ≡ [] }
+    {
+        Block {
+            key: 0,
+            region: 0,
+            op: Op::Look,
+            read: 0,
+            xor: 0,
+            write: 0,
+            after: Words::new(),
+            outcome: Outcome::NoEntry,
+            undo: None,
+        }
+    }
+
+    /// Makes this the block of an operation on the words of a region, as they stand before it. It is made where it lies, since
+    /// it is large. Takes no memory.
+    pub fn make(&mut self, op: Op, key: u64, region: u32, words: &[u64; 64])
+        requires { IsOperation op }
+        ensures made { self.new ≡ made words.now key region op }
+        ensures spelled { IsBlock self.new }
+    {
+        let found = effect(&op, key, words);
+        self.key = key;
+        self.region = region;
+        self.op = op;
+        self.read = found.0.read;
+        self.xor = xor_under(words, found.0.read);
+        self.write = found.0.write;
+        self.after.fill_under(found.0.write, &found.0.after);
+        self.outcome = found.1;
+        self.undo = found.2;
+    }
+
     /// The block of an operation on the words of a region, as they stand before it. Takes no memory.
     pub fn new(op: Op, key: u64, region: u32, words: &[u64; 64]) -> Self
         requires { IsOperation op }
         ensures made { result ≡ made words.now key region op }
         ensures spelled { IsBlock result }
     {
-        let found = effect(&op, key, words);
-        Block {
-            key,
-            region,
-            op,
-            read: found.0.read,
-            xor: xor_under(words, found.0.read),
-            write: found.0.write,
-            after: Words::under(found.0.write, &found.0.after),
-            outcome: found.1,
-            undo: found.2,
-        }
+        let mut block = Block::blank();
+        block.make(op, key, region, words);
+        block
     }
 }
 

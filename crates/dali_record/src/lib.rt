@@ -10,7 +10,7 @@ pub mod operations;
 pub mod records;
 
 pub use codec::{
-    decode, encode, encode_back, encode_op, encode_solo, length, op_record_length,
+    decode, decode_into, encode, encode_back, encode_op, encode_solo, length, op_record_length,
     solo_record_length,
 };
 pub use effects::{effect, undo_op};

@@ -2,7 +2,7 @@
 ghost use Rattle.std.specs.Prelude.{◌≡◌, ◌<◌, ◌≤◌, [], ◌∷◌, ◌++◌, length};
 ghost use Rattle.dali_words.specs.Words.{under};
 
-use arrayvec::ArrayVec;
+use std::fmt;
 use std::marker::Model;
 
 /// How many words a region has.
@@ -10,19 +10,21 @@ const WORDS: usize = 64;
 
 /// The new words of a block, at most one for each of a region's 64 words. They lie in the value
 /// itself, so none of them takes memory.
-#[derive(Debug, Drop)]
+#[derive(Drop)]
 pub struct Words {
-    words: ArrayVec<u64, WORDS>,
+    // the words, and zeros or old words behind them
+    cells: [u64; WORDS],
+    count: usize,
 }
 
 impl Model for Words {
-    ghost use Rattle.std.specs.Prelude.{List, ℕ, ◌≤◌, length};
+    ghost use Rattle.std.specs.Prelude.{List, ℕ, ◌≡◌, ◌≤◌, length, take};
 
     ghost Value = { List ℕ };
 
-    ghost view = { λ w. w.words.items };
+    ghost view = { λ w. take w.count w.cells };
 
-    ghost invariant = { λ w. length w.words.items ≤ 64 };
+    ghost invariant = { λ w. (w.count ≤ 64) × (length w.cells ≡ 64) };
 }
 
 impl Words {
@@ -31,21 +33,28 @@ impl Words {
         ensures { result ≡ [] }
     {
         Words {
-            words: ArrayVec::new(),
+            cells: [0; WORDS],
+            count: 0,
         }
     }
 
-    /// The words of a region in the set `mask`, ascending. It goes from one word of the set to the next.
-    pub fn under(mask: u64, words: &[u64; 64]) -> Self
-        ensures { result ≡ under mask words.now }
+    /// The words of a region in the set `mask`, ascending, in place of these. It goes from one word of the set to the next.
+    pub fn fill_under(&mut self, mask: u64, words: &[u64; 64])
+        ensures { self.new ≡ under mask words.now }
     {
-        let mut chosen = Words::new();
+        self.clear();
         let mut left = mask;
         while left != 0 {
-            chosen.push(words[left.trailing_zeros() as usize]);
+            self.push(words[left.trailing_zeros() as usize]);
             left &= left - 1;
         }
-        chosen
+    }
+
+    /// Takes all words out.
+    pub fn clear(&mut self)
+        ensures { self.new ≡ [] }
+    {
+        self.count = 0;
     }
 
     /// Adds a word at the end.
@@ -53,7 +62,8 @@ impl Words {
         requires { length self.old < 64 }
         ensures { self.new ≡ self.old ++ word ∷ [] }
     {
-        self.words.push(word);
+        self.cells[self.count] = word;
+        self.count += 1;
     }
 
     /// The words.
@@ -61,7 +71,7 @@ impl Words {
         ensures words { result.now ≡ self.now }
         ensures few { length self.now ≤ 64 }
     {
-        self.words.as_slice()
+        &self.cells[..self.count]
     }
 }
 
@@ -83,6 +93,15 @@ impl Eq for Words {
     ghost use Rattle.std.specs.Cmp.Lexicographic.{nat_list_eq_equiv};
 
     ghost laws = { nat_list_eq_equiv };
+}
+
+impl fmt::Debug for Words {
+    // the words alone, without what lies in the cells behind them
+    fn fmt<W: fmt::Write>(&self, f: &mut fmt::Formatter<W>) -> fmt::Result {
+        f.debug_struct("Words")
+            .field("words", &self.as_slice())
+            .finish()
+    }
 }
 
 /// Numbers of transactions.

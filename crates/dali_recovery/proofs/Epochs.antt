@@ -1,11 +1,12 @@
 -- Records of a restart, and the log's end.
-use Rattle.std.proofs.Common.{◌≡◌, ℕ, ◌<◌, ◌+◌, ◌^◌, Bool, true, false, cond, List, [], ◌∷◌, length, Option, Some, None, refl, ap, sym, subst, ◌∙◌, arith}
+use Rattle.std.proofs.Common.{◌≡◌, ℕ, ◌<◌, ◌+◌, ◌^◌, Bool, true, false, cond, List, [], ◌∷◌, Option, Some, None, refl, ap, sym, subst, ◌∙◌, arith}
 use Rattle.std.specs.Prelude.{not, ◌&&◌, ◌||◌, ◌==◌, ◌↔◌, filter, fold, Err, IsErrOf}
 use Rattle.std.specs.List.{list_any}
 use Rattle.std.specs.FinMap as finite
 use Rattle.std.specs.Option.{option_map_or}
 use Rattle.std.specs.Ordering.{nat_cmp}
-use Rattle.std.proofs.lemmas.Bool.{and_parts, both_ways, eq-eqb}
+use Rattle.std.proofs.lemmas.Bool.{and_parts, both_ways, eq-eqb, not-false, eqb-true}
+use Rattle.std.proofs.lemmas.List.{nil_from_length}
 use Rattle.dali_geometry.specs.Sizes.{Sizes}
 use Rattle.dali_att.specs.declared.state.State.{State}
 use Rattle.dali_att.specs.declared.state.State.TheVariants.{Live, Dead, Cleaning, Committed}
@@ -23,7 +24,7 @@ use Rattle.dali_resume.specs.Onward.{Going, closed_image, going_at, going_next}
 use Rattle.dali_resume.specs.Resumed.{damage_from, deleted_by, recover_by, rolled_by, scan}
 use Rattle.dali_resume.specs.Tests.{Idle, Known, is_running, known_next, may_follow, same_numbers, tells_lists}
 use Rattle.dali_resume.proofs.OnePass.{undamaged_is_plain, unfailed_is_plain}
-use Rattle.dali_record.proofs.Scans.{test_same}
+use Rattle.dali_resume.proofs.Through.{numbers_same}
 use Rattle.dali_taint.specs.Following.{Begins as BeginsEpoch}
 use Rattle.dali_taint.specs.Tables.{has_number}
 use Rattle.dali_redo.specs.Following.{FollowsScan, Redoes}
@@ -104,15 +105,6 @@ pub applied_as : (x z : Redoing) (r q : Record) → r ≡ q → Applies x z r �
 applied_as x z r q e a = subst (Applies x z) e a
 
 -- ---- the end of an epoch whose damage is assumed rightly
-same_regions : (xs ys : List ℕ) → same_numbers xs ys ≡ true → xs ≡ ys
-same_regions [] [] e = refl
-same_regions [] (y ∷ ys) e = absurd (cc)
-same_regions (x ∷ xs) [] e = absurd (cc)
-same_regions (x ∷ xs) (y ∷ ys) e = let w = and_parts (x == y) (same_numbers xs ys) e in ap (λ v. v ∷ xs) (test_same x y w.0) ∙ ap (λ us. y ∷ us) (same_regions xs ys w.1)
-
-not_false : (a : Bool) → not a ≡ false → a ≡ true
-not_false true q = refl
-not_false false q = absurd (cc)
 
 -- what is computed with the damage that is assumed
 record IsCovered (s : Sizes) (c : Going) (d : Damage) : Type 0 where
@@ -131,12 +123,12 @@ covered s c (Some z) failed clean failing e f fails sound = record {
 }
   where
     parts : ((z.clean == clean) ≡ true) × (same_numbers z.failing.items failing ≡ true)
-    parts = and_parts (z.clean == clean) (same_numbers z.failing.items failing) (not_false ((z.clean == clean) && same_numbers z.failing.items failing) sound)
+    parts = and_parts (z.clean == clean) (same_numbers z.failing.items failing) (not-false ((z.clean == clean) && same_numbers z.failing.items failing) sound)
 
     same : assumed_by (Some z) c.known.first ≡ damage_from c.known.first c.known.seen
     same =
-        ap (λ m. let d : Damage = record { first = c.known.first; clean = m; failing = z.failing.items } in d) (test_same z.clean clean parts.0 ∙ e)
-        ∙ ap (λ rs. let d : Damage = record { first = c.known.first; clean = fold clean_step c.known.first c.known.seen; failing = rs } in d) (same_regions z.failing.items failing parts.1 ∙ f)
+        ap (λ m. let d : Damage = record { first = c.known.first; clean = m; failing = z.failing.items } in d) (eqb-true z.clean clean parts.0 ∙ e)
+        ∙ ap (λ rs. let d : Damage = record { first = c.known.first; clean = fold clean_step c.known.first c.known.seen; failing = rs } in d) (numbers_same z.failing.items failing parts.1 ∙ f)
 
 module _ (s : Sizes) (n : ℕ) (x : Recovery) (c : Going) (st : Stands s n x c) (sound : is_unscanned x ≡ false) where
   covers : IsCovered s c (assumed_by x.scan c.known.first)
@@ -363,10 +355,6 @@ first_is : (o : Option Scan) (p : ℕ) → (assumed_by o p).first ≡ p
 first_is None p = refl
 first_is (Some z) p = refl
 
-none_counted : (R : List Record) → length R ≡ 0 → R ≡ []
-none_counted [] e = refl
-none_counted (r ∷ R) e = absurd (omega (arith, e))
-
 pub scans_on : (x : Recovery) (z : Scan) (clean : ℕ) (failing : List ℕ) → x.number ≡ x.first → z.clean ≡ clean → z.failing.items ≡ failing
     → ((k : Known) (d : Damage) → d.clean ≡ clean → d.failing ≡ failing → BeginsEpoch d k x.redo.table → FollowsBy x.geometry (Some z) d.first k)
     → Scans x (record x { scan = Some z }) clean failing
@@ -398,7 +386,7 @@ scans_on x z clean failing first is also follows = record { stands = stands; ass
     }
       where
         none : c.known.seen ≡ []
-        none = none_counted c.known.seen (omega (arith, st.counted, st.number, st.first, first))
+        none = nil_from_length c.known.seen (omega (arith, st.counted, st.number, st.first, first))
 
 pub tells_damage : (x : Recovery) → TellsDamage x x.first x.clean x.failing.items
 tells_damage x s n c st =

@@ -1,7 +1,7 @@
 -- A record of a transaction, made again or left out.
 use Rattle.std.proofs.Common.{◌≡◌, ℕ, Bool, true, false, List, Option, Some, None, refl, ap, sym, subst, ◌∙◌}
 use Rattle.std.specs.Prelude.{not, ◌↔◌, Err, IsErrOf}
-use Rattle.std.proofs.lemmas.Bool.{both_ways, false_from_ne_true}
+use Rattle.std.proofs.lemmas.Bool.{both_ways, false_from_ne_true, not-true, not-false}
 use Rattle.dali_geometry.specs.Sizes.{Sizes}
 use Rattle.dali_record.specs.declared.records.Record.{Record}
 use Rattle.dali_record.specs.Epochs.{separates}
@@ -26,23 +26,15 @@ use Rattle.dali_recovery.specs.declared.scan.Scan.{Scan}
 use Rattle.dali_recovery.proofs.Passing.{may_not, may_sound}
 use Rattle.dali_recovery.proofs.Records.{is_quiet}
 
-not_true : (a : Bool) → not a ≡ true → a ≡ false
-not_true true q = absurd (cc)
-not_true false q = refl
-
-not_false : (a : Bool) → not a ≡ false → a ≡ true
-not_false true q = refl
-not_false false q = absurd (cc)
-
 module _ (a : Redoing) (o : Option Scan) (m : ℕ) (r : Record) (tested : is_tested r ≡ true) where
   rule : (s : Sizes) (n : ℕ) (base : List (List ℕ)) (p : ℕ) (k : Known) → IsAt s a o m base p k → breaks a.sizes k r ≡ not (allows s n k r)
   rule s n base p k w = ap (λ z. breaks z k r) w.sizes ∙ tests_rules s n k r tested
 
   pub may_tested : ((k : Known) → Knows a k → breaks a.sizes k r ≡ false) → MayBy true a o m r
-  may_tested fits s n base p k w = may_sound s n k r w.sound (not_false (allows s n k r) (sym (rule s n base p k w) ∙ fits k w.redoes.knows))
+  may_tested fits s n base p k w = may_sound s n k r w.sound (not-false (allows s n k r) (sym (rule s n base p k w) ∙ fits k w.redoes.knows))
 
   pub misfit_tested : ((k : Known) → Knows a k → breaks a.sizes k r ≡ true) → MayBy false a o m r
-  misfit_tested breaks_it s n base p k w = may_not s n k r (not_true (allows s n k r) (sym (rule s n base p k w) ∙ breaks_it k w.redoes.knows))
+  misfit_tested breaks_it s n base p k w = may_not s n k r (not-true (allows s n k r) (sym (rule s n base p k w) ∙ breaks_it k w.redoes.knows))
 
 -- ---- without a scan
 module _ (a b : Redoing) (m : ℕ) (r : Record) (tested : is_tested r ≡ true) where

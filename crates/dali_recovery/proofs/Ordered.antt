@@ -1,15 +1,15 @@
 -- What is so whatever records were taken.
-use Rattle.std.proofs.Common.{◌≡◌, ℕ, ◌<◌, ◌≤◌, ◌+◌, ◌^◌, Bool, true, false, List, [], ◌∷◌, Option, Some, None, Vec, Global, refl, ap, sym, subst, ◌∙◌, arith}
-use Rattle.std.specs.Prelude.{not, ◌&&◌, ◌↔◌, nat_lt, filter, length, Ok, Err, IsErrOf}
+use Rattle.std.proofs.Common.{◌≡◌, ℕ, ◌<◌, ◌≤◌, ◌+◌, ◌^◌, true, false, List, [], ◌∷◌, Option, Some, None, Vec, Global, refl, ap, sym, subst, ◌∙◌, arith}
+use Rattle.std.specs.Prelude.{◌&&◌, ◌↔◌, nat_lt, filter, length, Ok, Err, IsErrOf}
 use Rattle.std.specs.BTreeSet as tree
 use Rattle.std.specs.FinMap as finite
-use Rattle.std.proofs.lemmas.Bool.{and_from, lt-ltb, false_from_ne_true}
+use Rattle.std.proofs.lemmas.Bool.{and_from, lt-ltb, false_from_ne_true, not-false}
 use Rattle.dali_geometry.specs.Sizes.{Sizes}
 use Rattle.dali_geometry.specs.Places.{regions}
 use Rattle.dali_att.specs.Table.{Table}
 use Rattle.dali_record.specs.declared.operations.Pending.{Pending}
 use Rattle.dali_record.specs.declared.records.Record.{Record}
-use Rattle.dali_record.specs.declared.records.Record.TheVariants.{Format, Begin, Forward, Done, Commit, Ended, Solo, AuditBegin, AuditClean, AuditFail, Restarted, Back}
+use Rattle.dali_record.specs.declared.records.Record.TheVariants.{Begin, Solo, AuditBegin, AuditClean, AuditFail, Restarted}
 use Rattle.dali_record.specs.Spelling.{CanBeSpelled, ascends}
 use Rattle.dali_resume.specs.Tests.{Known, allows, is_running, known_next, next_behind}
 use Rattle.dali_taint.specs.declared.taint.Judgement.{Judgement}
@@ -43,28 +43,15 @@ ascend_copied us vs rs ds e f h = (ap ascends e ∙ h.0, ap ascends f ∙ h.1)
 number_stays : (n : ℕ) (r : Record) → next_behind 0 r ≤ 2 ^ 40 → n ≤ 2 ^ 40 → next_behind n r ≤ 2 ^ 40
 number_stays n (Begin t) low h = low
 number_stays n (Solo t p b) low h = low
-number_stays n (Format i j) low h = h
-number_stays n (Forward t b) low h = h
-number_stays n (Done t c a) low h = h
-number_stays n (Back t b) low h = h
-number_stays n (Commit t) low h = h
-number_stays n (Ended t) low h = h
-number_stays n AuditBegin low h = h
-number_stays n (AuditClean b) low h = h
-number_stays n (AuditFail b rs) low h = h
-number_stays n (Restarted rs ds) low h = h
+number_stays n _ low h = h
 
 knows_told : (a : Redoing) → Knows a (told a)
 knows_told a = record { next = refl; statuses = λ t. refl }
 
-not_false : (b : Bool) → not b ≡ false → b ≡ true
-not_false true e = refl
-not_false false e = absurd (cc)
-
 ordered_by : (a b : Redoing) (r : Record) → is_tested r ≡ true → ((k : Known) → Knows a k → breaks a.sizes k r ≡ false) → b.sizes ≡ a.sizes → ((k : Known) → Knows a k → Knows b (known_next k r)) → MakesOrdered a r b
 ordered_by a b r tested fits sizes knows = record {
   sizes = sizes;
-  low = number_low a.sizes 0 (told a) r (not_false (allows a.sizes 0 (told a) r) (sym (tests_rules a.sizes 0 (told a) r tested) ∙ fits (told a) (knows_told a)));
+  low = number_low a.sizes 0 (told a) r (not-false (allows a.sizes 0 (told a) r) (sym (tests_rules a.sizes 0 (told a) r tested) ∙ fits (told a) (knows_told a)));
   next = (knows (told a) (knows_told a)).next;
 }
 

@@ -1,27 +1,28 @@
 -- Behind a record within an epoch.
-use Rattle.std.proofs.Common.{◌≡◌, ℕ, ◌<◌, ◌≤◌, ◌+◌, Bool, true, false, cond, List, [], ◌∷◌, ◌++◌, refl, ap, sym, subst, ◌∙◌, arith, length}
+use Rattle.std.proofs.Common.{◌≡◌, ℕ, ◌<◌, ◌≤◌, ◌+◌, true, false, cond, [], ◌∷◌, ◌++◌, ap, sym, subst, ◌∙◌, arith, length}
 use Rattle.std.specs.Prelude.{not, ◌&&◌, ◌||◌, ◌==◌, fold}
 use Rattle.std.specs.List.{list_any}
 use Rattle.std.proofs.lemmas.Bool.{and_from}
 use Rattle.std.proofs.lemmas.List.{length-append}
 use Rattle.std.proofs.lemmas.List.Folds.{list_any-append}
 use Rattle.std.proofs.lemmas.List.Sums.{fold_push}
+use mathlib.Core.Bool.{and-false, or-false}
+use Rattle.dali_lists.proofs.Lists.{push-not_nil}
 use Rattle.dali_geometry.specs.Sizes.{Sizes}
 use Rattle.dali_record.specs.declared.records.Record.{Record}
-use Rattle.dali_record.specs.declared.records.Record.TheVariants.{Format, Begin, Forward, Done, Commit, Ended, Solo, AuditBegin, AuditClean, AuditFail, Restarted, Back}
 use Rattle.dali_record.specs.Damage.{has}
 use Rattle.dali_record.specs.Epochs.{clean_step, failing_step, separates}
 use Rattle.dali_record.specs.Files.{is_restarted}
+use Rattle.dali_record.proofs.Batches.{not_restarted}
 use Rattle.dali_resume.specs.Laws.{is_audit_fail}
-use Rattle.dali_resume.specs.Onward.{Going, closed_image, going_next, rolled_behind, deleted_behind}
+use Rattle.dali_resume.specs.Onward.{Going, closed_image, going_next}
 use Rattle.dali_resume.specs.Tests.{Known, allows, audits_behind, failed_behind, known_next, may_follow, next_behind}
 use Rattle.dali_resume.proofs.Followed.{failed_is}
+use Rattle.dali_resume.proofs.Reached.{lists_stay}
 use Rattle.dali_taint.specs.Following.{Begins as BeginsTables}
 use Rattle.dali_taint.specs.Tables.{has_number}
-use Rattle.dali_taint.proofs.Steps.{or_none}
 use Rattle.dali_redo.specs.Following.{Redoes}
 use Rattle.dali_redo.specs.Redoing.{Redoing}
-use Rattle.dali_redo.proofs.Follows.{unrestarted}
 use Rattle.dali_recovery.specs.Standing.{FollowsBy, Stands, StandsOn, assumed_by, passed, undamaged}
 use Rattle.dali_recovery.specs.declared.recovery.Recovery.{Recovery}
 
@@ -32,31 +33,10 @@ may_sound s n k r sound ok = and_from (allows s n k r) (not k.failed || is_resta
 pub may_not : (s : Sizes) (n : ℕ) (k : Known) (r : Record) → allows s n k r ≡ false → may_follow s n k r ≡ false
 may_not s n k r bad = ap (λ b. b && (not k.failed || is_restarted r)) bad
 
-and_none : (a : Bool) → (a && false) ≡ false
-and_none true = refl
-and_none false = refl
-
 pub may_not_failed : (s : Sizes) (n : ℕ) (k : Known) (r : Record) → k.failed ≡ true → is_restarted r ≡ false → may_follow s n k r ≡ false
-may_not_failed s n k r failed e = ap (λ b. allows s n k r && (not b || is_restarted r)) failed ∙ (ap (λ b. allows s n k r && b) e ∙ and_none (allows s n k r))
+may_not_failed s n k r failed e = ap (λ b. allows s n k r && (not b || is_restarted r)) failed ∙ (ap (λ b. allows s n k r && b) e ∙ and-false (allows s n k r))
 
 -- ---- what stays
-lists_stay : (ts us : List ℕ) (r : Record) → separates r ≡ false → (rolled_behind ts r ≡ ts) × (deleted_behind us r ≡ us)
-lists_stay ts us (Format i j) w = absurd (cc)
-lists_stay ts us (Begin t) w = (refl, refl)
-lists_stay ts us (Forward t b) w = (refl, refl)
-lists_stay ts us (Done t q a) w = (refl, refl)
-lists_stay ts us (Commit t) w = (refl, refl)
-lists_stay ts us (Ended t) w = (refl, refl)
-lists_stay ts us (Solo t p b) w = (refl, refl)
-lists_stay ts us AuditBegin w = (refl, refl)
-lists_stay ts us (AuditClean b) w = (refl, refl)
-lists_stay ts us (AuditFail b rs) w = (refl, refl)
-lists_stay ts us (Restarted rs ds) w = absurd (cc)
-lists_stay ts us (Back t b) w = (refl, refl)
-
-some_last : {X : Type 0} (xs : List X) (x : X) → xs ++ x ∷ [] ≡ [] → ⊥
-some_last [] x e = cc
-some_last (y ∷ xs) x e = cc
 
 -- all but the numbers, as they stand behind the record
 pub record IsNearly (s : Sizes) (n : ℕ) (w : Recovery) (c : Going) (r : Record) : Type 0 where
@@ -90,7 +70,7 @@ passes_on s n w c r inside f = record {
   counted = omega (arith, f.counted, first_is, ap length seen_is, length-append c.known.seen (r ∷ []));
   redoes = subst (λ im. Redoes im w.redo (assumed_by w.scan (known_next c.known r).first) (known_next c.known r)) (sym image_is) (subst (λ p. Redoes c.image w.redo (assumed_by w.scan p) (known_next c.known r)) (sym first_is) f.redoes);
   follows = subst (λ p. FollowsBy s w.scan p (known_next c.known r)) (sym first_is) f.follows;
-  begins = λ e. absurd (some_last c.known.seen r (sym seen_is ∙ e));
+  begins = λ e. absurd (push-not_nil c.known.seen r (sym seen_is ∙ e));
   first = f.first ∙ sym first_is;
   clean = f.clean ∙ (sym (fold_push clean_step c.known.first c.known.seen r) ∙ (ap (λ p. fold clean_step p (c.known.seen ++ r ∷ [])) (sym first_is) ∙ ap (fold clean_step (known_next c.known r).first) (sym seen_is)));
   failing = f.failing ∙ (sym (fold_push failing_step [] c.known.seen r) ∙ ap (fold failing_step []) (sym seen_is));
@@ -101,15 +81,15 @@ passes_on s n w c r inside f = record {
   fails =
       ap (list_any is_audit_fail) seen_is
       ∙ (list_any-append is_audit_fail c.known.seen (r ∷ [])
-      ∙ (ap (λ z. list_any is_audit_fail c.known.seen || z) (or_none (is_audit_fail r))
+      ∙ (ap (λ z. list_any is_audit_fail c.known.seen || z) (or-false (is_audit_fail r))
       ∙ (ap (λ z. z || is_audit_fail r) f.fails ∙ sym (failed_is c.known.failed r inside))));
-  restarted = sym (unrestarted r inside);
+  restarted = sym (not_restarted r inside);
   rolled = f.rolled ∙ sym (lists_stay c.rolled c.deleted r inside).0;
   deleted = f.deleted ∙ sym (lists_stay c.rolled c.deleted r inside).1;
 }
   where
     image_is : (going_next s n c r).image ≡ c.image
-    image_is = ap (λ b. cond (b && not (c.known.number == n)) (closed_image s c) c.image) (unrestarted r inside)
+    image_is = ap (λ b. cond (b && not (c.known.number == n)) (closed_image s c) c.image) (not_restarted r inside)
 
     first_is : (known_next c.known r).first ≡ c.known.first
     first_is = ap (λ b. cond b (c.known.number + 1) c.known.first) inside

@@ -7,7 +7,7 @@ use Rattle.std.proofs.lemmas.Bool.{and_parts, ltb-true, ne_eqb}
 use Rattle.dali_geometry.specs.Sizes.{Sizes}
 use Rattle.dali_geometry.specs.Places as places
 use Rattle.dali_record.specs.declared.records.Record.{Record}
-use Rattle.dali_record.specs.declared.records.Record.TheVariants.{Format, Begin, Forward, Done, Commit, Ended, Solo, AuditBegin, AuditClean, AuditFail, Restarted, Back}
+use Rattle.dali_record.specs.declared.records.Record.TheVariants.{Format, Begin, Solo, AuditBegin, AuditClean, AuditFail, Restarted}
 use Rattle.dali_record.specs.Damage.{Damage, has}
 use Rattle.dali_record.specs.Epochs.{clean_step, failing_step, separates}
 use Rattle.dali_record.specs.Files.{is_restarted}
@@ -42,17 +42,11 @@ pub record IsQuiet (r : Record) : Type 0 where
 
 pub is_quiet : (r : Record) → is_tested r ≡ true → IsQuiet r
 is_quiet (Format i j) w = absurd (cc)
-is_quiet (Begin t) w = record { inside = refl; audits = λ m bs. refl; failed = λ f. refl; clean = λ m. refl; failing = λ rs. refl }
-is_quiet (Forward t b) w = record { inside = refl; audits = λ m bs. refl; failed = λ f. refl; clean = λ m. refl; failing = λ rs. refl }
-is_quiet (Done t q a) w = record { inside = refl; audits = λ m bs. refl; failed = λ f. refl; clean = λ m. refl; failing = λ rs. refl }
-is_quiet (Commit t) w = record { inside = refl; audits = λ m bs. refl; failed = λ f. refl; clean = λ m. refl; failing = λ rs. refl }
-is_quiet (Ended t) w = record { inside = refl; audits = λ m bs. refl; failed = λ f. refl; clean = λ m. refl; failing = λ rs. refl }
-is_quiet (Solo t p b) w = record { inside = refl; audits = λ m bs. refl; failed = λ f. refl; clean = λ m. refl; failing = λ rs. refl }
 is_quiet AuditBegin w = absurd (cc)
 is_quiet (AuditClean b) w = absurd (cc)
 is_quiet (AuditFail b rs) w = absurd (cc)
 is_quiet (Restarted rs ds) w = absurd (cc)
-is_quiet (Back t b) w = record { inside = refl; audits = λ m bs. refl; failed = λ f. refl; clean = λ m. refl; failing = λ rs. refl }
+is_quiet _ w = record { inside = refl; audits = λ m bs. refl; failed = λ f. refl; clean = λ m. refl; failing = λ rs. refl }
 
 pub misfit_failed : (x : Recovery) (r : Record) → x.failed ≡ true → is_restarted r ≡ false → Follows false x r
 misfit_failed x r failed e s n c st = may_not_failed s n c.known r (sym st.failed ∙ failed) e
@@ -61,31 +55,12 @@ misfit_failed x r failed e s n c st = may_not_failed s n c.known r (sym st.faile
 pub number_low : (s : Sizes) (n : ℕ) (k : Known) (r : Record) → allows s n k r ≡ true → next_behind 0 r ≤ 2 ^ 40
 number_low s n k (Begin t) h = let low = ltb-true t (2 ^ 40) (and_parts (nat_lt t (2 ^ 40)) (nat_le k.next t) h).0 in omega (arith, low)
 number_low s n k (Solo t p b) h = let low = ltb-true t (2 ^ 40) (and_parts (nat_lt t (2 ^ 40)) (nat_le k.next t) (and_parts (draws_number k t) (is_waiting (k.statuses p) && on_kind s b.region b.op) h).0).0 in omega (arith, low)
-number_low s n k (Format i j) h = omega arith
-number_low s n k (Forward t b) h = omega arith
-number_low s n k (Done t c a) h = omega arith
-number_low s n k (Back t b) h = omega arith
-number_low s n k (Commit t) h = omega arith
-number_low s n k (Ended t) h = omega arith
-number_low s n k AuditBegin h = omega arith
-number_low s n k (AuditClean b) h = omega arith
-number_low s n k (AuditFail b rs) h = omega arith
-number_low s n k (Restarted rs ds) h = omega arith
+number_low s n k _ h = omega arith
 
 -- a record within an epoch is no restart's
 never : {A : Type 0} (r : Record) → separates r ≡ false → is_restarted r ≡ true → A
 never (Begin t) f e = absurd (cc)
-never (Solo t p b) f e = absurd (cc)
-never (Format i j) f e = absurd (cc)
-never (Forward t b) f e = absurd (cc)
-never (Done t c a) f e = absurd (cc)
-never (Back t b) f e = absurd (cc)
-never (Commit t) f e = absurd (cc)
-never (Ended t) f e = absurd (cc)
-never AuditBegin f e = absurd (cc)
-never (AuditClean b) f e = absurd (cc)
-never (AuditFail b rs) f e = absurd (cc)
-never (Restarted rs ds) f e = absurd (cc)
+never _ f e = absurd (cc)
 
 pub scanned_within : (x : Recovery) (r q : Record) → r ≡ q → separates q ≡ false → EndsScanned x r
 scanned_within x r q e f h = never q f (sym (ap is_restarted e) ∙ h)

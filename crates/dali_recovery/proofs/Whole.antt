@@ -1,19 +1,18 @@
 -- A recovery over whole lists of records.
 use Rattle.std.proofs.Common.{◌≡◌, ℕ, ◌<◌, ◌≤◌, ◌+◌, ◌^◌, Bool, true, false, cond, List, [], ◌∷◌, ◌++◌, Option, Some, None, refl, ap, sym, subst, ◌∙◌, arith, length, drop}
 use Rattle.std.specs.Prelude.{fold, not, ◌&&◌, IsSome, is_some, nat_le}
-use Rattle.std.proofs.lemmas.Bool.{le-leb, leb-true}
+use Rattle.std.proofs.lemmas.Bool.{le-leb, leb-true, eq-eqb}
 use Rattle.std.proofs.lemmas.List.Sums.{fold_push}
+use Rattle.dali_lists.proofs.Options.{some_of}
 use Rattle.dali_geometry.specs.Sizes.{Sizes}
 use Rattle.dali_record.specs.declared.records.Record.{Record}
 use Rattle.dali_record.specs.Files.{Files, is_restarted}
 use Rattle.dali_record.specs.Legal.{sizes_of}
-use Rattle.dali_record.proofs.Scans.{same_test}
 use Rattle.dali_history.specs.History.{RestartGives}
 use Rattle.dali_resume.specs.Again.{Outcome}
 use Rattle.dali_resume.specs.Batches.{bad_of, earlier, further, misplaced, records_of}
 use Rattle.dali_resume.specs.Onward.{Going, HandedOut, IsResumed, IsRightAtEnd, Misfit as NamedMisfit, Verdict, goes_through, going_at, going_next, hands_on, history_says, verdict_by}
 use Rattle.dali_resume.specs.Tests.{Known, first_bad, known_at, known_next, may_follow, one_later, same_numbers, test_next, tests}
-use Rattle.dali_resume.proofs.Onward.{some_is}
 use Rattle.dali_resume.proofs.Reached.{knows_alike, none_passes}
 use Rattle.dali_resume.proofs.Stopped.{resumes_histories}
 use Rattle.dali_resume.proofs.Through.{resumes_through}
@@ -23,7 +22,7 @@ use Rattle.dali_recovery.specs.declared.scan.Scan.{Scan}
 use Rattle.dali_recovery.specs.declared.recovery.Recovered.{Recovered}
 use Rattle.dali_recovery.specs.declared.recovery.Recovery.{Recovery}
 
-number_through : (s : Sizes) (n : ℕ) (Q : List Record) (c : Going) → (fold (going_next s n) c Q).known.number ≡ c.known.number + length Q
+pub number_through : (s : Sizes) (n : ℕ) (Q : List Record) (c : Going) → (fold (going_next s n) c Q).known.number ≡ c.known.number + length Q
 number_through s n [] c = omega arith
 number_through s n (r ∷ Q) c = omega (arith, number_through s n Q (going_next s n c r))
 
@@ -33,7 +32,7 @@ begins_behind s F x st = record { stands = st; passed = refl }
 -- what the tests know is what is gone through
 known_is : (s : Sizes) (F : Files) (Q : List Record) → IsSome (tests s F.first (known_at F.first F.next F.table) Q) → tests s F.first (known_at F.first F.next F.table) Q ≡ Some (goes_through s F Q).known
 known_is s F Q some =
-    let k = some_is (tests s F.first (known_at F.first F.next F.table) Q) some in
+    let k = some_of (tests s F.first (known_at F.first F.next F.table) Q) some in
     k.1 ∙ ap (λ z. Some z) (sym (knows_alike s F Q k.0 k.1))
 
 pub takes_further : TakesFurther
@@ -83,12 +82,12 @@ names_misfit s F L Q Z x y r b at f =
 
 same_list : (xs : List ℕ) → same_numbers xs xs ≡ true
 same_list [] = refl
-same_list (x ∷ xs) = ap (λ b. b && same_numbers xs xs) (same_test x x refl) ∙ same_list xs
+same_list (x ∷ xs) = ap (λ b. b && same_numbers xs xs) (eq-eqb x x refl) ∙ same_list xs
 
 assumes_right : (o : Option Scan) (failed : Bool) (clean m : ℕ) (failing rs : List ℕ) → IsFor clean failing o → m ≡ clean → rs ≡ failing → unscanned_by o failed m rs ≡ false
 assumes_right None failed clean m failing rs h e f = absurd h
 assumes_right (Some z) failed clean m failing rs h e f =
-    ap (λ b. not (b && same_numbers z.failing.items rs)) (same_test z.clean m (h.0 ∙ sym e))
+    ap (λ b. not (b && same_numbers z.failing.items rs)) (eq-eqb z.clean m (h.0 ∙ sym e))
     ∙ ap (λ b. not b) (ap (λ us. same_numbers us rs) (h.1 ∙ sym f) ∙ same_list rs)
 
 pub tells_unscanned : TellsUnscanned
@@ -218,7 +217,7 @@ recovers_legal s K Z F x o f b h =
       next = w.next ∙ all.next;
     }
 
-handed_same : (o p : Outcome) → HandedOut o ≡ HandedOut p → o ≡ p
+pub handed_same : (o p : Outcome) → HandedOut o ≡ HandedOut p → o ≡ p
 handed_same o p e = cc
 
 pub recovers_history : RecoversHistory

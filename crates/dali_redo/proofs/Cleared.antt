@@ -4,11 +4,11 @@ use Rattle.std.specs.Prelude.{◌==◌}
 use Rattle.std.specs.Option.{option_map, option_map_or}
 use Rattle.std.specs.Ordering.{nat_cmp}
 use Rattle.std.specs.FinMap.{empty, get, insert, remove, get-empty}
+use Rattle.std.proofs.lemmas.Bool.{eq-eqb}
 use Rattle.dali_att.specs.declared.state.State.{State}
 use Rattle.dali_att.specs.declared.state.State.TheVariants.{Live, Dead, Cleaning, Committed}
 use Rattle.dali_att.specs.Table.{Row, Table, fresh_row, with_row, with_undo, with_state, without_last, without_undos}
 use Rattle.dali_record.specs.declared.operations.Pending.{Pending}
-use Rattle.dali_record.proofs.Scans.{same_test}
 use Rattle.dali_resume.specs.Tests.{is_running}
 use Rattle.dali_system.proofs.Tables.{Puts, added, changed, ended}
 use Rattle.dali_redo.specs.Redoing.{status_by, status_at}
@@ -66,7 +66,7 @@ committed_cleared m t all =
     by_row (Some row) = λ e. refl
 
     here : get n t ≡ option_map without_undos (get m t)
-    here = changed m t without_undos t ∙ ap (λ b. cond b (option_map without_undos (get m t)) (get m t)) (same_test t t refl)
+    here = changed m t without_undos t ∙ ap (λ b. cond b (option_map without_undos (get m t)) (get m t)) (eq-eqb t t refl)
 
 pub ended_cleared : (m : Table Pending) (t : ℕ) → IsCleared m → IsCleared (remove m t)
 ended_cleared m t all = put_cleared m (remove m t) t None (ended m t) (λ e. refl) all

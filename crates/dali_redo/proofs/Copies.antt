@@ -1,12 +1,14 @@
 -- Lists that are copied into a table, and removed again.
 use Rattle.std.proofs.Common.{◌≡◌, ℕ, ◌≤◌, ◌<◌, Bool, true, false, cond, List, [], ◌∷◌, ◌++◌, Option, Some, None, IsSome, refl, ap, sym, subst, ◌∙◌, inl, inr, arith, append_assoc, get_or}
-use Rattle.std.specs.Prelude.{◌==◌, ◌+◌, fold, take, length, Result, Ok, Err, OnErr}
+use Rattle.std.specs.Prelude.{◌==◌, ◌+◌, fold, take, length}
 use Rattle.std.proofs.lemmas.List.Sums.{fold_more}
 use Rattle.std.specs.Option.{option_map}
 use Rattle.std.specs.Cmp.{nat_cmp_total}
 use Rattle.std.specs.Ordering.{nat_cmp}
 use Rattle.std.specs.FinMap.{empty, get, insert, remove, get-empty, same_map, nat_cmp-IsAntisymmetric}
 use Rattle.std.proofs.lemmas.List.{append-nil}
+use Rattle.std.proofs.lemmas.Bool.{false≢true, eq-eqb, eqb-true}
+use Rattle.dali_lists.proofs.Numbers.{eqb-self}
 use Rattle.dali_att.specs.declared.state.State.{State}
 use Rattle.dali_att.specs.declared.state.State.TheVariants.{Live}
 use Rattle.dali_att.specs.Table.{Row, Table, fresh_row, state_at, with_row, with_undo, IsFirst}
@@ -14,14 +16,10 @@ use Rattle.dali_record.specs.declared.operations.Pending.{Pending}
 use Rattle.dali_record.specs.declared.records.Record.{Record}
 use Rattle.dali_record.specs.Files.{is_restarted}
 use Rattle.dali_record.specs.Log.{txn_of}
-use Rattle.dali_record.proofs.Scans.{same_test, test_same}
 use Rattle.dali_resume.specs.Laws.{undos_in}
 use Rattle.dali_system.proofs.Tables.{added, changed, ended}
 use Rattle.dali_redo.specs.Redoing.{status_at, is_of}
 use Rattle.dali_redo.specs.Tables.{IsCopied, AddsAll, row_held, IsHeld, Holds, IsLeast}
-
-own : (t : ℕ) → (t == t) ≡ true
-own t = same_test t t refl
 
 abbrev pub all_added : Table Pending → ℕ → List Pending → Table Pending
 all_added m t us = fold (λ o p. with_row o t (with_undo p)) m us
@@ -29,7 +27,7 @@ all_added m t us = fold (λ o p. with_row o t (with_undo p)) m us
 row_at : (us : List Pending) (m : Table Pending) (t : ℕ) (row : Row Pending) → get m t ≡ Some row → get (all_added m t us) t ≡ Some (record { state = row.state; undos = row.undos ++ us })
 row_at [] m t row e = e ∙ ap (λ vs. Some (record { state = row.state; undos = vs })) (sym (append-nil row.undos))
 row_at (p ∷ us) m t row e =
-    row_at us (with_row m t (with_undo p)) t (with_undo p row) (changed m t (with_undo p) t ∙ rw (own t, e) refl)
+    row_at us (with_row m t (with_undo p)) t (with_undo p row) (changed m t (with_undo p) t ∙ rw (eqb-self t, e) refl)
     ∙ ap (λ vs. Some (record { state = row.state; undos = vs })) (append_assoc row.undos (p ∷ []) us)
 
 pub others_stay : (us : List Pending) (m : Table Pending) (t u : ℕ) → (t == u) ≡ false → get (all_added m t us) u ≡ get m u
@@ -41,28 +39,25 @@ apart t u h = by_test (t == u) refl
   where
     by_test : (b : Bool) → (t == u) ≡ b → b ≡ false
     by_test false e = refl
-    by_test true e = absurd (h (sym (test_same t u e)))
+    by_test true e = absurd (h (sym (eqb-true t u e)))
 
 pub apart_from : (t u : ℕ) → (t == u) ≡ false → u ≡ t → ⊥
-apart_from t u e h = let yes : (t == u) ≡ true = same_test t u (sym h) in cc
+apart_from t u e h = let yes : (t == u) ≡ true = eq-eqb t u (sym h) in cc
 
 pub stays_there : (m : Table Pending) (t : ℕ) (p : Pending) → IsSome (get m t) → IsSome (get (with_row m t (with_undo p)) t)
-stays_there m t p h = subst (λ (o : Option (Row Pending)). IsSome o) (sym (changed m t (with_undo p) t ∙ ap (λ b. cond b (option_map (with_undo p) (get m t)) (get m t)) (own t))) (by_row (get m t) h)
+stays_there m t p h = subst (λ (o : Option (Row Pending)). IsSome o) (sym (changed m t (with_undo p) t ∙ ap (λ b. cond b (option_map (with_undo p) (get m t)) (get m t)) (eqb-self t))) (by_row (get m t) h)
   where
     by_row : (o : Option (Row Pending)) → IsSome o → IsSome (option_map (with_undo p) o)
     by_row None e = e
     by_row (Some row) e = refl
-
-pub fresh_there : (m : Table Pending) (t : ℕ) → IsSome (get (insert m t fresh_row) t)
-fresh_there m t = subst (λ (o : Option (Row Pending)). IsSome o) (sym (added m t fresh_row t ∙ ap (λ b. cond b (Some fresh_row) (get m t)) (own t))) refl
 
 pub copied : (m n : Table Pending) (t : ℕ) (us : List Pending) → AddsAll (insert m t fresh_row) n t us → IsCopied m n t us
 copied m n t us is u = ap (λ o. get o u) is ∙ by_test (t == u) refl
   where
     by_test : (b : Bool) → (t == u) ≡ b → get (all_added (insert m t fresh_row) t us) u ≡ cond b (Some (record { state = Live; undos = us })) (get m u)
     by_test true e =
-        subst (λ v. get (all_added (insert m t fresh_row) t us) v ≡ Some (record { state = Live; undos = us })) (test_same t u e)
-        (row_at us (insert m t fresh_row) t fresh_row (added m t fresh_row t ∙ ap (λ b. cond b (Some fresh_row) (get m t)) (own t)))
+        subst (λ v. get (all_added (insert m t fresh_row) t us) v ≡ Some (record { state = Live; undos = us })) (eqb-true t u e)
+        (row_at us (insert m t fresh_row) t fresh_row (added m t fresh_row t ∙ ap (λ b. cond b (Some fresh_row) (get m t)) (eqb-self t)))
     by_test false e = others_stay us (insert m t fresh_row) t u e ∙ (added m t fresh_row u ∙ ap (λ b. cond b (Some fresh_row) (get m u)) e)
 
 -- what was added to a table that lacked it is removed again
@@ -70,7 +65,7 @@ pub removed_again : (m n : Table Pending) (t : ℕ) → get m t ≡ None → ((u
 removed_again m n t none same = same_map nat_cmp_total nat_cmp-IsAntisymmetric (remove n t) m (λ u. ended n t u ∙ by_test u (t == u) refl)
   where
     by_test : (u : ℕ) (b : Bool) → (t == u) ≡ b → cond b None (get n u) ≡ get m u
-    by_test u true e = sym (ap (get m) (sym (test_same t u e)) ∙ none)
+    by_test u true e = sym (ap (get m) (sym (eqb-true t u e)) ∙ none)
     by_test u false e = same u e
 
 pub removed_fresh : (m n : Table Pending) (t : ℕ) → get m t ≡ None → ((u : ℕ) → (u ≡ t → ⊥) → get n u ≡ get (insert m t fresh_row) u) → remove n t ≡ m
@@ -80,32 +75,16 @@ pub added_more : (m o n : Table Pending) (t : ℕ) (us : List Pending) (i : ℕ)
 added_more m o n t us i d within so_far e =
     e ∙ (ap (λ q. with_row q t (with_undo (get_or us i d))) so_far ∙ sym (fold_more (λ q p. with_row q t (with_undo p)) m us i d within))
 
-pub on_err_any : {T E P : Type 0} (r : Result T E) → P → OnErr r P
-on_err_any (Ok x) p = tt
-on_err_any (Err e) p = p
-
 -- ---- what is held
-no_row : (m : Table Pending) (t : ℕ) → state_at m t ≡ None → get m t ≡ None
-no_row m t e = by_row (get m t) e
-  where
-    by_row : (o : Option (Row Pending)) → option_map (λ row. row.state) o ≡ None → o ≡ None
-    by_row None f = refl
-    by_row (Some row) f = absurd (cc)
-
-pub lacks : (m : Table Pending) (t : ℕ) → state_at m t ≡ None → get m t ≡ None
-lacks m t e = no_row m t e
-
-never : ◌≡◌ {A = Bool} false true → ⊥
-never e = cc (e)
 
 held_old_row : (o : Table Pending) (b : Bool) (u : ℕ) (row : Option (Row Pending)) → (b ≡ true → IsSome row) → row ≡ row_held o b u row
-held_old_row o true u None h = absurd (never (h refl))
+held_old_row o true u None h = absurd (false≢true (h refl))
 held_old_row o false u None h = refl
 held_old_row o b u (Some row) h = refl
 
 pub held_old : (m o : Table Pending) (t : ℕ) (z : State) → state_at m t ≡ Some z → IsHeld m o (Some t) None m
 held_old m o t z e = record {
-  rows = λ u. held_old_row o (t == u) u (get m u) (λ g. subst (λ v. IsSome (get m v)) (test_same t u g) (by_row (get m t) e));
+  rows = λ u. held_old_row o (t == u) u (get m u) (λ g. subst (λ v. IsSome (get m v)) (eqb-true t u g) (by_row (get m t) e));
   none = λ h. refl;
   back = λ u h. absurd (cc);
 }
@@ -125,7 +104,7 @@ held_new m o n t none copy = record {
     some_same u v h = cc
 
     by_test : (u : ℕ) (b : Bool) → (t == u) ≡ b → cond b (Some (record { state = Live; undos = undos_in (status_at o t) })) (get m u) ≡ row_held o b u (get m u)
-    by_test u true e = subst (λ v. Some (record { state = Live; undos = undos_in (status_at o t) }) ≡ row_held o true v (get m v)) (test_same t u e) (sym (ap (row_held o true t) none))
+    by_test u true e = subst (λ v. Some (record { state = Live; undos = undos_in (status_at o t) }) ≡ row_held o true v (get m v)) (eqb-true t u e) (sym (ap (row_held o true t) none))
     by_test u false e = held_old_row o false u (get m u) (λ g. absurd (cc))
 
 pub held_none : (m o : Table Pending) → IsHeld m o None None m
@@ -153,7 +132,7 @@ none_in : (m : Table Pending) → m ≡ empty → (u : ℕ) → IsSome (get m u)
 none_in m e u h = by_row (get m u) (ap (λ o. get o u) e ∙ get-empty {X = Row Pending} nat_cmp u) h
   where
     by_row : (o : Option (Row Pending)) → o ≡ None → IsSome o → ⊥
-    by_row None f g = never g
+    by_row None f g = false≢true g
     by_row (Some row) f g = cc
 
 pub least_one : (m n : Table Pending) (a : ℕ) → IsFirst m a → n ≡ empty → IsLeast m n a

@@ -6,6 +6,8 @@ use Rattle.std.specs.FinMap as finite
 use Rattle.std.proofs.lemmas.Bool.{and_parts, and_from, both_ways, or_parts, false_from_ne_true}
 use Rattle.std.proofs.lemmas.List.{append-nil}
 use Rattle.std.proofs.lemmas.List.Kept.{IsStrictlyIncreasing-filter}
+use Rattle.std.proofs.lemmas.Option.{same_Some}
+use Rattle.dali_lists.proofs.Tests.{same_tests}
 use Rattle.dali_geometry.specs.Sizes.{Sizes}
 use Rattle.dali_record.specs.declared.records.Record.{Record}
 use Rattle.dali_record.specs.Damage.{Damage, has}
@@ -28,11 +30,6 @@ use Rattle.dali_redo.proofs.Statuses.{works_some}
 use Rattle.dali_redo.proofs.Follows.{performed_plain, applies_on, skips_on}
 use Rattle.dali_redo.proofs.Starts.{starts_redo}
 use Rattle.dali_redo.proofs.OnePass.{one_pass_keeps}
-
-same_bools : (a b : Bool) → (a ≡ true → b ≡ true) → (b ≡ true → a ≡ true) → a ≡ b
-same_bools true b g e = sym (g refl)
-same_bools false true g e = e refl
-same_bools false false g e = refl
 
 idle_undos : (k : Known) (t : ℕ) → is_running (k.statuses t) ≡ false → undos_in (k.statuses t) ≡ []
 idle_undos k t h = by_status (k.statuses t) h
@@ -96,7 +93,7 @@ module _ (base : List (List ℕ)) (x : Redoing) (d : Damage) (k : Known) (c : Sc
 
   -- ---- whom it names
   runs_is : (t : ℕ) → is_running (k.statuses t) ≡ (is_begun k t && (not (is_committed k t) && not (is_ended k t)))
-  runs_is t = same_bools (is_running (k.statuses t)) (is_begun k t && (not (is_committed k t) && not (is_ended k t))) up down
+  runs_is t = same_tests (is_running (k.statuses t)) (is_begun k t && (not (is_committed k t) && not (is_ended k t))) up down
     where
       all : (a b e : Bool) → a ≡ true → b ≡ false → e ≡ false → (a && (not b && not e)) ≡ true
       all true false false p q r = refl
@@ -120,7 +117,7 @@ module _ (base : List (List ℕ)) (x : Redoing) (d : Damage) (k : Known) (c : Sc
   named = same_up _ _ (up_filter (λ t. is_running (status_at x.table t)) (finite.keys x.table) (keys_up x.table)) (up_filter (λ t. not (committed_by k.table k.seen t) && not (is_ended k t)) (begun_by k.table k.seen) (up_from (begun_by k.table k.seen) f.orderly.ascend)) same
     where
       same : (t : ℕ) → has (filter (λ u. is_running (status_at x.table u)) (finite.keys x.table)) t ≡ has (rolled_by k.table k.seen) t
-      same t = same_bools _ _ forth back
+      same t = same_tests _ _ forth back
         where
           told : is_running (status_at x.table t) ≡ is_running (k.statuses t)
           told = ap is_running (f.knows.statuses t)
@@ -148,8 +145,6 @@ one_pass_recovers s base x y d k sound f r h p =
     recovers s base x y d k f r ∙ ((undamaged_is_plain s base d k.table k.seen sound).0 ∙ sym (unfailed_is_plain s base p k.table k.seen h).0)
 
 -- ---- an epoch's records
-some_known : (g k : Known) → Some g ≡ Some k → g ≡ k
-some_known g k e = cc
 
 record IsThrough (base : List (List ℕ)) (y : Redoing) (d : Damage) (g k : Known) (R : List Record) : Type 0 where
   follows : Redoes base y d k
@@ -164,7 +159,7 @@ judged s n base x y d g r f may inside false e j = applies_on s n base x y d g r
 through : (s : Sizes) (n : ℕ) (base : List (List ℕ)) (d : Damage) (R : List Record) (g k : Known) (x y : Redoing) → Redoes base x d g → tests s n g R ≡ Some k → list_any separates R ≡ false → RunsBy d g R x y
     → IsThrough base y d g k R
 through s n base d [] g k x y f e none same =
-    subst (λ q. IsThrough base y d g q []) (some_known g k e) (record { follows = subst (λ z. Redoes base z d g) (sym same) f; table = refl; seen = sym (append-nil g.seen) })
+    subst (λ q. IsThrough base y d g q []) (same_Some g k e) (record { follows = subst (λ z. Redoes base z d g) (sym same) f; table = refl; seen = sym (append-nil g.seen) })
 through s n base d (r ∷ R) g k x y f e none w = by_test (λ next q. through s n base d R (known_next g r) k w.0 y next q (or_parts (separates r) (list_any separates R) none).1 w.2) (may_follow s n g r) refl e
   where
     inside : separates r ≡ false

@@ -1,44 +1,30 @@
 -- A redo goes on to follow the scan.
 use Rattle.std.proofs.Common.{◌≡◌, ℕ, ◌≤◌, Bool, true, false, cond, List, [], Option, Some, None, refl, ap, sym, subst, ◌∙◌, ⊎_elim}
 use Rattle.std.specs.Prelude.{not, ◌&&◌, ◌||◌, ◌==◌}
-use Rattle.std.proofs.lemmas.Bool.{and_parts, both_ways, or_parts, false_from_ne_true}
+use Rattle.std.proofs.lemmas.Bool.{and_parts, both_ways, or_parts, false_from_ne_true, eqb-true}
 use Rattle.std.proofs.lemmas.List.Sums.{fold_push}
+use mathlib.Core.Bool.{or-false}
 use Rattle.dali_geometry.specs.Sizes.{Sizes}
 use Rattle.dali_att.specs.Table.{undos_at}
 use Rattle.dali_record.specs.declared.records.Record.{Record}
-use Rattle.dali_record.specs.declared.records.Record.TheVariants.{Format, Begin, Forward, Done, Commit, Ended, Solo, AuditBegin, AuditClean, AuditFail, Restarted, Back}
 use Rattle.dali_record.specs.Damage.{Damage, any_touch, any_txn}
 use Rattle.dali_record.specs.Epochs.{separates}
 use Rattle.dali_record.specs.Files.{is_restarted}
 use Rattle.dali_record.specs.Log.{Touch, touch_of, txn_of, undo_step}
 use Rattle.dali_record.specs.Settled.{redo, redo_all}
-use Rattle.dali_record.proofs.Scans.{test_same}
+use Rattle.dali_record.proofs.Batches.{not_restarted}
 use Rattle.dali_resume.specs.Laws.{undos_in}
 use Rattle.dali_resume.specs.Resumed.{Scan, scan_step, is_marked, corrupt_after, is_left_out, kept_after}
 use Rattle.dali_resume.specs.Tests.{Known, allows, is_running, known_next}
 use Rattle.dali_taint.specs.Tables.{is_commit_of}
 use Rattle.dali_taint.specs.Following.{scanned, is_begun, is_committed}
-use Rattle.dali_taint.proofs.Steps.{may_touch, or_none, is_begun_next, is_committed_next, scanned_next}
+use Rattle.dali_taint.proofs.Steps.{may_touch, is_begun_next, is_committed_next, scanned_next}
 use Rattle.dali_taint.proofs.Orderly.{by_block, left_by, orderly_next}
 use Rattle.dali_redo.specs.Redoing.{Redoing, status_at, is_left, performed, either, is_of}
 use Rattle.dali_redo.specs.Steps.{Applies, Skips}
 use Rattle.dali_redo.specs.Following.{FollowsScan}
 use Rattle.dali_redo.specs.Laws.{AppliesOn, SkipsOn}
 use Rattle.dali_redo.proofs.Settled.{settled_next, none_added, undos_next}
-
-pub unrestarted : (r : Record) → separates r ≡ false → is_restarted r ≡ false
-unrestarted (Format i j) e = refl
-unrestarted (Begin t) e = refl
-unrestarted (Forward t b) e = refl
-unrestarted (Done t c a) e = refl
-unrestarted (Commit t) e = refl
-unrestarted (Ended t) e = refl
-unrestarted (Solo t p b) e = refl
-unrestarted AuditBegin e = refl
-unrestarted (AuditClean i) e = refl
-unrestarted (AuditFail i rs) e = refl
-unrestarted (Restarted rs ds) e = absurd (cc)
-unrestarted (Back t b) e = refl
 
 -- who wasn't skipped has what is at work performed
 pub performed_plain : (x : Redoing) (t : ℕ) → is_left x t ≡ false → performed x t ≡ undos_in (status_at x.table t)
@@ -50,10 +36,10 @@ module _ (s : Sizes) (n : ℕ) (base : List (List ℕ)) (d : Damage) (k : Known)
   kept_clear t h = by_touch (touch_of r) refl
     where
       by_touch : (p : Option Touch) → touch_of r ≡ p → (c.corrupt t || any_touch (λ b. is_marked d c b && (b.txn == t)) p) ≡ c.corrupt t
-      by_touch None e = or_none (c.corrupt t)
+      by_touch None e = or-false (c.corrupt t)
       by_touch (Some b) e =
           let clear : is_marked d c b ≡ false = false_from_ne_true (is_marked d c b) (λ m. both_ways (is_left_out d c r) h (left_by s n d k c r f.orderly ok inside b e m)) in
-          rw clear (or_none (c.corrupt t))
+          rw clear (or-false (c.corrupt t))
 
   dropped_corrupt : (t : ℕ) → is_left_out d c r ≡ true → (c.corrupt t || is_of t r) ≡ corrupt_after d c r t
   dropped_corrupt t h = by_txn (txn_of r) refl
@@ -72,7 +58,7 @@ module _ (s : Sizes) (n : ℕ) (base : List (List ℕ)) (d : Damage) (k : Known)
           true_right false = refl
 
           by_test : (b : Bool) → (u == t) ≡ b → (c.corrupt t || b) ≡ corrupt_after d c r t
-          by_test true g = true_right (c.corrupt t) ∙ sym (subst (λ v. corrupt_after d c r v ≡ true) (test_same u t g) whole)
+          by_test true g = true_right (c.corrupt t) ∙ sym (subst (λ v. corrupt_after d c r v ≡ true) (eqb-true u t g) whole)
           by_test false g = ap (λ z. c.corrupt t || z) (sym (by_touch (touch_of r) refl))
             where
               none_and : (a : Bool) → (a && false) ≡ false
@@ -144,7 +130,7 @@ module _ (s : Sizes) (n : ℕ) (base : List (List ℕ)) (d : Damage) (k : Known)
   }
     where
       left : (t : ℕ) → is_left y t ≡ is_left x t
-      left t = a.left t ∙ ap (λ b. not b && is_left x t) (unrestarted r inside)
+      left t = a.left t ∙ ap (λ b. not b && is_left x t) (not_restarted r inside)
 
   pub follows_skipped : (y : Redoing) → is_left_out d c r ≡ true → Skips x y r → FollowsScan base y d (known_next k r) (scan_step d c r)
   follows_skipped y out a = record {
@@ -152,8 +138,8 @@ module _ (s : Sizes) (n : ℕ) (base : List (List ℕ)) (d : Damage) (k : Known)
     orderly = orderly_next s n d k c r f.orderly ok inside;
     settled = settled_next s n k c r f.orderly f.settled ok inside;
     image = a.image ∙ (f.image ∙ sym (ap (λ b. redo_all base (kept_after b c.kept r)) out));
-    left = λ t. a.left t ∙ (ap (λ b. not b && (is_left x t || is_of t r)) (unrestarted r inside) ∙ (ap (λ b. b || is_of t r) (f.left t) ∙ dropped_corrupt t out));
-    undos = λ t h. a.performed (unrestarted r inside) t ∙ (held t h ∙ still_corrupt t h);
+    left = λ t. a.left t ∙ (ap (λ b. not b && (is_left x t || is_of t r)) (not_restarted r inside) ∙ (ap (λ b. b || is_of t r) (f.left t) ∙ dropped_corrupt t out));
+    undos = λ t h. a.performed (not_restarted r inside) t ∙ (held t h ∙ still_corrupt t h);
     plain = plain_next;
     born = born_next;
   }

@@ -1,39 +1,34 @@
 -- Numbers that rise, and the keys of a table.
 --     Up xs                    each number of xs is below all later ones
-use Rattle.std.proofs.Common.{◌≡◌, ℕ, suc, ◌<◌, ◌≤◌, Bool, true, false, cond, List, [], ◌∷◌, length, map, refl, ap, sym, subst, ◌∙◌, ⊎_elim, arith}
-use Rattle.std.specs.Prelude.{◌&&◌, ◌==◌, ◌||◌, ⊤, T, slice_index_or, is_some, filter}
+use Rattle.std.proofs.Common.{◌≡◌, ℕ, suc, ◌<◌, ◌≤◌, Bool, true, false, cond, List, [], ◌∷◌, map, refl, ap, sym, subst, ◌∙◌, ⊎_elim, arith}
+use Rattle.std.specs.Prelude.{◌==◌, ◌||◌, ⊤, T, is_some, filter}
 use Rattle.std.specs.List.{AllByRecursion, AllPairs, list_any}
 use Rattle.std.specs.List.Sorted.{IsStrictlyIncreasing}
 use Rattle.std.proofs.Math.Path.{fun_ext}
 use Rattle.std.specs.FinMap as finite
 use Rattle.std.specs.FinMap.Entries.{is_sorted, below_all}
-use Rattle.std.specs.Ordering.{nat_cmp, is_lt, eq_by_cmp}
-use Rattle.std.specs.declared.cmp.Ordering.{Ordering}
-use Rattle.std.specs.declared.cmp.Ordering.TheVariants.{Less, Equal, Greater}
-use Rattle.std.specs.Cmp.{nat_cmp_total, eq_by_cmp_equiv, unsigned_tied, ranked}
-use Rattle.std.proofs.lemmas.Bool.{or_cases, eq-eqb, eqb-true}
+use Rattle.std.specs.Ordering.{nat_cmp, eq_by_cmp}
+use Rattle.std.specs.Cmp.{nat_cmp_total, eq_by_cmp_equiv, unsigned_tied}
+use Rattle.std.proofs.lemmas.Bool.{or_cases, eqb-true, true≢false}
 use Rattle.std.proofs.lemmas.List.Kept.{AllPairs-from_increasing}
+use Rattle.dali_lists.proofs.Members.{all_greater}
+use Rattle.dali_lists.proofs.Numbers.{cmp_less}
+use Rattle.dali_lists.proofs.Tests.{T_left, T_right}
 use Rattle.dali_att.specs.Table.{Table, Row}
 use Rattle.dali_record.specs.declared.operations.Pending.{Pending}
 use Rattle.dali_record.specs.Damage.{has}
+use Rattle.dali_history.proofs.Members.{here_too}
 
 abbrev pub Up : List ℕ → Type 0
 Up [] = ⊤
 Up (x ∷ xs) = AllByRecursion (λ y. x < y) xs × Up xs
 
-all_from : (x : ℕ) (xs : List ℕ) → ((j : ℕ) → j < length xs → x < slice_index_or xs j 0) → AllByRecursion (λ y. x < y) xs
-all_from x [] h = tt
-all_from x (y ∷ ys) h = (h 0 (omega arith), all_from x ys (λ j l. h (suc j) (omega (arith, l))))
-
 up_from_pairs : (xs : List ℕ) → AllPairs (λ x y. x < y) xs → Up xs
 up_from_pairs [] h = tt
-up_from_pairs (x ∷ xs) h = (all_from x xs (λ j l. h 0 (suc j) 0 (omega arith) (omega (arith, l))), up_from_pairs xs (λ i j d a b. h (suc i) (suc j) d (omega (arith, a)) (omega (arith, b))))
+up_from_pairs (x ∷ xs) h = (all_greater x xs (λ j l. h 0 (suc j) 0 (omega arith) (omega (arith, l))), up_from_pairs xs (λ i j d a b. h (suc i) (suc j) d (omega (arith, a)) (omega (arith, b))))
 
 pub up_from : (xs : List ℕ) → IsStrictlyIncreasing xs → Up xs
 up_from xs h = up_from_pairs xs (AllPairs-from_increasing xs h)
-
-here : (x : ℕ) (xs : List ℕ) → has (x ∷ xs) x ≡ true
-here x xs = ap (λ (b : Bool). b || has xs x) (eq-eqb x x refl)
 
 pub above : (x : ℕ) (xs : List ℕ) (t : ℕ) → AllByRecursion (λ y. x < y) xs → has xs t ≡ true → x < t
 above x [] t all h = absurd (cc)
@@ -51,16 +46,13 @@ same_head : (x : ℕ) (xs : List ℕ) (y : ℕ) (ys : List ℕ) → Up (x ∷ xs
 same_head x xs y ys up vp same =
     ⊎_elim
     (λ e. sym (eqb-true y x e))
-    (λ k. ⊎_elim (λ e. eqb-true x y e) (λ j. absurd (omega (arith, above y ys x vp.0 k, above x xs y up.0 j))) (or_cases (x == y) (has xs y) (same y ∙ here y ys)))
-    (or_cases (y == x) (has ys x) (sym (same x) ∙ here x xs))
-
-true_false : ◌≡◌ {A = Bool} true false → ⊥
-true_false e = cc (e)
+    (λ k. ⊎_elim (λ e. eqb-true x y e) (λ j. absurd (omega (arith, above y ys x vp.0 k, above x xs y up.0 j))) (or_cases (x == y) (has xs y) (same y ∙ here_too y ys)))
+    (or_cases (y == x) (has ys x) (sym (same x) ∙ here_too x xs))
 
 pub same_up : (xs ys : List ℕ) → Up xs → Up ys → ((t : ℕ) → has xs t ≡ has ys t) → xs ≡ ys
 same_up [] [] up vp same = refl
-same_up [] (y ∷ ys) up vp same = absurd (true_false (sym (here y ys) ∙ sym (same y)))
-same_up (x ∷ xs) [] up vp same = absurd (true_false (sym (here x xs) ∙ same x))
+same_up [] (y ∷ ys) up vp same = absurd (true≢false (sym (here_too y ys) ∙ sym (same y)))
+same_up (x ∷ xs) [] up vp same = absurd (true≢false (sym (here_too x xs) ∙ same x))
 same_up (x ∷ xs) (y ∷ ys) up vp same =
     let one : x ≡ y = same_head x xs y ys up vp same in
     ap (λ (z : ℕ). z ∷ xs) one ∙ ap (λ (l : List ℕ). y ∷ l) (same_up xs ys up.1 vp.1 (λ t. by_test one t (x == t) refl))
@@ -89,26 +81,14 @@ up_filter p (x ∷ xs) up = by_test (up_filter p xs up.1) (p x)
     by_test rest false = rest
 
 -- ---- the keys of a table rise
-first : (a b : Bool) → T (a && b) → T a
-first true b p = tt
-first false b p = p
-
-second : (a b : Bool) → T (a && b) → T b
-second true b p = p
-second false b p = absurd p
-
-less : (x y : ℕ) (o : Ordering) → o ≡ nat_cmp x y → T (is_lt o) → x < y
-less x y Less e p = ranked x y Less e
-less x y Equal e p = absurd p
-less x y Greater e p = absurd p
 
 keys_above : (x : ℕ) (es : List (ℕ × Row Pending)) → T (below_all nat_cmp x es) → AllByRecursion (λ y. x < y) (map (λ e. e.0) es)
 keys_above x [] p = tt
-keys_above x (e ∷ es) p = (less x e.0 (nat_cmp x e.0) refl (first _ _ p), keys_above x es (second _ _ p))
+keys_above x (e ∷ es) p = (cmp_less x e.0 (nat_cmp x e.0) refl (T_left _ _ p), keys_above x es (T_right _ _ p))
 
 entries_up : (es : List (ℕ × Row Pending)) → T (is_sorted nat_cmp es) → Up (map (λ e. e.0) es)
 entries_up [] p = tt
-entries_up (e ∷ es) p = (keys_above e.0 es (first _ _ p), entries_up es (second _ _ p))
+entries_up (e ∷ es) p = (keys_above e.0 es (T_left _ _ p), entries_up es (T_right _ _ p))
 
 pub keys_up : (m : Table Pending) → Up (finite.keys m)
 keys_up m = entries_up (finite.entries m) (finite.entries_sorted m)

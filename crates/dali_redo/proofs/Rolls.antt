@@ -9,11 +9,10 @@ use Rattle.std.specs.FinMap.{empty, get, remove, len, len-remove, get-empty, emp
 use Rattle.std.specs.Ordering.{nat_cmp}
 use Rattle.std.proofs.Math.ListN.{length-set}
 use Rattle.std.specs.Cmp.{nat_cmp_total}
-use Rattle.std.proofs.lemmas.Bool.{cases_lt, ne_eqb}
+use Rattle.std.proofs.lemmas.Bool.{cases_lt, ne_eqb, false≢true, eq-eqb, eqb-true}
 use Rattle.dali_att.specs.Table.{Row, Table}
 use Rattle.dali_record.specs.declared.operations.Pending.{Pending}
 use Rattle.dali_record.specs.Damage.{has}
-use Rattle.dali_record.proofs.Scans.{same_test, test_same}
 use Rattle.dali_history.specs.Recovered.{roll_back, undo_into}
 use Rattle.dali_history.proofs.Members.{fold_within}
 use Rattle.dali_resume.specs.Laws.{undos_in}
@@ -58,7 +57,7 @@ first_taken us vs t low gone (x ∷ xs) up covers image = ⊎_elim (before (λ h
       where
         by_test : (b : Bool) → (t == x) ≡ b → rolls us image (x ∷ xs) ≡ rolls vs (roll_back image (us t)) (x ∷ xs)
         by_test true e =
-            let same : t ≡ x = test_same t x e in
+            let same : t ≡ x = eqb-true t x e in
             let none : vs x ≡ [] = gone x ∙ ap (λ b. cond b [] (us x)) e in
             ap (λ u. rolls us (roll_back image (us u)) xs) (sym same)
             ∙ fold_within (λ im u. roll_back im (us u)) (λ im u. roll_back im (vs u)) xs (rest h) (roll_back image (us t))
@@ -72,7 +71,7 @@ first_taken us vs t low gone (x ∷ xs) up covers image = ⊎_elim (before (λ h
             ∙ sym (ap (λ ws. rolls vs (roll_back (roll_back image ws) (vs x)) xs) none)
           where
             differ : t ≡ x → (t == x) ≡ false → ⊥
-            differ g f = let yes : (t == x) ≡ true = same_test t x g in cc
+            differ g f = let yes : (t == x) ≡ true = eq-eqb t x g in cc
 
 -- ---- what is performed, by rows
 abbrev by_rows : Option (Row Pending) → Status → List Pending
@@ -122,9 +121,6 @@ so_far_next left0 table0 image0 left table image t s l = record {
     by_test true e = refl
     by_test false e = e
 
-never : ◌≡◌ {A = Bool} false true → ⊥
-never e = cc (e)
-
 -- ---- an undo list keeps the number of regions
 undone_length : (us : List Pending) (image : List (List ℕ)) → length (fold undo_into image us) ≡ length image
 undone_length [] image = refl
@@ -162,7 +158,7 @@ no_row : (t : ℕ) → IsSome (get (empty {X = Row Pending} {R = nat_cmp}) t) �
 no_row t h = by_row (get (empty {X = Row Pending} {R = nat_cmp}) t) (get-empty {X = Row Pending} nat_cmp t) h
   where
     by_row : (o : Option (Row Pending)) → o ≡ None → IsSome o → ⊥
-    by_row None e g = never g
+    by_row None e g = false≢true g
     by_row (Some row) e g = cc
 
 pub none_performed : (t : ℕ) → performed_in empty empty t ≡ []

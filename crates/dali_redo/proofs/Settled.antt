@@ -1,54 +1,35 @@
 -- Transactions where each record passed the tests: what is so of them stays so.
 use Rattle.std.proofs.Common.{◌≡◌, ◌⊎◌, ℕ, ◌^◌, Bool, true, false, cond, List, [], ◌∷◌, ◌++◌, refl, ap, sym, subst, ◌∙◌, inl, inr, ⊎_elim}
 use Rattle.std.specs.Prelude.{◌&&◌, ◌||◌, ◌==◌, nat_le, nat_lt}
-use Rattle.std.proofs.lemmas.Bool.{and_parts, both_ways, or_cases, or_parts, or_left, or_right, or_from, leb-true, false_from_ne_true}
+use Rattle.std.proofs.lemmas.Bool.{and_parts, both_ways, or_cases, or_parts, or_left, or_right, or_from, leb-true, false_from_ne_true, eq-eqb, eqb-true}
 use Rattle.std.proofs.lemmas.List.Elements.{filter_map-append}
+use mathlib.Core.Bool.{or-false}
 use Rattle.dali_geometry.specs.Sizes.{Sizes}
 use Rattle.dali_record.specs.declared.operations.Pending.{Pending}
 use Rattle.dali_record.specs.declared.records.Record.{Record}
 use Rattle.dali_record.specs.declared.records.Record.TheVariants.{Format, Begin, Forward, Done, Commit, Ended, Solo, AuditBegin, AuditClean, AuditFail, Restarted, Back}
 use Rattle.dali_record.specs.Damage.{has}
 use Rattle.dali_record.specs.Epochs.{separates}
-use Rattle.dali_record.specs.Legal.{is_none_left, on_kind}
+use Rattle.dali_record.specs.Legal.{on_kind}
 use Rattle.dali_record.specs.Log.{undo_step, undo_added, begun, ended, ended_by}
-use Rattle.dali_record.proofs.Scans.{same_test, test_same}
+use Rattle.dali_record.proofs.Moves.{none_left}
 use Rattle.dali_history.proofs.Members.{has_append}
 use Rattle.dali_resume.specs.Laws.{undos_in}
 use Rattle.dali_resume.specs.Resumed.{Scan}
 use Rattle.dali_resume.specs.Tests.{Known, Status, Idle, Running, Waiting, allows, is_running, is_waiting, may_end, known_next, status_next, draws_number}
 use Rattle.dali_taint.specs.Tables.{is_commit_of, is_end_of}
 use Rattle.dali_taint.specs.Following.{is_begun, is_committed, IsOrderly}
-use Rattle.dali_taint.proofs.Steps.{was, or_none, is_begun_next, is_committed_next}
+use Rattle.dali_taint.proofs.Steps.{was, is_begun_next, is_committed_next}
 use Rattle.dali_redo.specs.Following.{is_ended, IsSettled}
 
 -- ---- which record it is
 pub ended_is : (r : Record) (t : ℕ) → has (ended (r ∷ [])) t ≡ true → r ≡ Ended t
-ended_is (Ended u) t h = ap Ended (test_same u t (sym (or_none (u == t)) ∙ h))
-ended_is (Format i j) t h = absurd (cc)
-ended_is (Begin u) t h = absurd (cc)
-ended_is (Forward u b) t h = absurd (cc)
-ended_is (Done u c a) t h = absurd (cc)
-ended_is (Commit u) t h = absurd (cc)
-ended_is (Solo u p b) t h = absurd (cc)
-ended_is AuditBegin t h = absurd (cc)
-ended_is (AuditClean i) t h = absurd (cc)
-ended_is (AuditFail i rs) t h = absurd (cc)
-ended_is (Restarted rs ds) t h = absurd (cc)
-ended_is (Back u b) t h = absurd (cc)
+ended_is (Ended u) t h = ap Ended (eqb-true u t (sym (or-false (u == t)) ∙ h))
+ended_is _ t h = absurd (cc)
 
 pub begin_is : (r : Record) (t : ℕ) → has (begun (r ∷ [])) t ≡ true → r ≡ Begin t
-begin_is (Begin u) t h = ap Begin (test_same u t (sym (or_none (u == t)) ∙ h))
-begin_is (Format i j) t h = absurd (cc)
-begin_is (Forward u b) t h = absurd (cc)
-begin_is (Done u c a) t h = absurd (cc)
-begin_is (Commit u) t h = absurd (cc)
-begin_is (Ended u) t h = absurd (cc)
-begin_is (Solo u p b) t h = absurd (cc)
-begin_is AuditBegin t h = absurd (cc)
-begin_is (AuditClean i) t h = absurd (cc)
-begin_is (AuditFail i rs) t h = absurd (cc)
-begin_is (Restarted rs ds) t h = absurd (cc)
-begin_is (Back u b) t h = absurd (cc)
+begin_is (Begin u) t h = ap Begin (eqb-true u t (sym (or-false (u == t)) ∙ h))
+begin_is _ t h = absurd (cc)
 
 pub is_ended_next : (k : Known) (r : Record) → separates r ≡ false → (t : ℕ) → is_ended (known_next k r) t ≡ (is_ended k t || has (ended (r ∷ [])) t)
 is_ended_next k r e t =
@@ -63,16 +44,7 @@ idle_waited t (Begin u) h = by_test (u == t) h
     by_test true e = cc
     by_test false e = cc
 idle_waited t (Format i j) h = cc
-idle_waited t (Forward u b) h = cc
-idle_waited t (Done u c a) h = cc
-idle_waited t (Commit u) h = cc
-idle_waited t (Ended u) h = cc
-idle_waited t (Solo u p b) h = cc
-idle_waited t AuditBegin h = cc
-idle_waited t (AuditClean i) h = cc
-idle_waited t (AuditFail i rs) h = cc
-idle_waited t (Restarted rs ds) h = cc
-idle_waited t (Back u b) h = cc
+idle_waited t _ h = cc
 
 running_waited : (t : ℕ) (us : List Pending) (r : Record) → is_waiting (status_next t (Running us) r) ≡ true → is_commit_of t r ≡ true
 running_waited t us (Commit u) h = by_test (u == t) h
@@ -86,15 +58,7 @@ running_waited t us (Ended u) h = absurd (by_test (u == t) h)
     by_test true e = cc
     by_test false e = cc
 running_waited t us (Format i j) h = absurd (cc)
-running_waited t us (Begin u) h = absurd (cc)
-running_waited t us (Forward u b) h = absurd (cc)
-running_waited t us (Done u c a) h = absurd (cc)
-running_waited t us (Solo u p b) h = absurd (cc)
-running_waited t us AuditBegin h = absurd (cc)
-running_waited t us (AuditClean i) h = absurd (cc)
-running_waited t us (AuditFail i rs) h = absurd (cc)
-running_waited t us (Restarted rs ds) h = absurd (cc)
-running_waited t us (Back u b) h = absurd (cc)
+running_waited t us _ h = absurd (cc)
 
 waited : (t : ℕ) (z : Status) (r : Record) → is_waiting (status_next t z r) ≡ true → (is_waiting z ≡ true) ⊎ (is_commit_of t r ≡ true)
 waited t Idle r h = absurd (idle_waited t r h)
@@ -113,16 +77,8 @@ still_runs t us (Ended u) s c e = by_test (u == t) e
     by_test : (b : Bool) → (b || false) ≡ false → is_running (cond b Idle (Running us)) ≡ true
     by_test true g = absurd (cc)
     by_test false g = refl
-still_runs t us (Format i j) s c e = refl
-still_runs t us (Begin u) s c e = refl
-still_runs t us (Forward u b) s c e = refl
-still_runs t us (Done u d a) s c e = refl
-still_runs t us (Solo u p b) s c e = refl
-still_runs t us AuditBegin s c e = refl
-still_runs t us (AuditClean i) s c e = refl
-still_runs t us (AuditFail i rs) s c e = refl
 still_runs t us (Restarted rs ds) s c e = absurd (cc)
-still_runs t us (Back u b) s c e = refl
+still_runs t us _ s c e = refl
 
 runs_on : (t : ℕ) (z : Status) (r : Record) → is_running z ≡ true → separates r ≡ false → is_commit_of t r ≡ false → has (ended (r ∷ [])) t ≡ false → is_running (status_next t z r) ≡ true
 runs_on t Idle r h s c e = absurd (cc)
@@ -150,16 +106,7 @@ idle_undos t (Begin u) = by_test (u == t)
     by_test true = refl
     by_test false = refl
 idle_undos t (Format i j) = refl
-idle_undos t (Forward u b) = refl
-idle_undos t (Done u c a) = refl
-idle_undos t (Commit u) = refl
-idle_undos t (Ended u) = refl
-idle_undos t (Solo u p b) = refl
-idle_undos t AuditBegin = refl
-idle_undos t (AuditClean i) = refl
-idle_undos t (AuditFail i rs) = refl
-idle_undos t (Restarted rs ds) = refl
-idle_undos t (Back u b) = refl
+idle_undos t _ = refl
 
 waiting_undos : (t : ℕ) (r : Record) → undos_in (status_next t Waiting r) ≡ []
 waiting_undos t (Ended u) = by_test (u == t)
@@ -168,20 +115,7 @@ waiting_undos t (Ended u) = by_test (u == t)
     by_test true = refl
     by_test false = refl
 waiting_undos t (Format i j) = refl
-waiting_undos t (Begin u) = refl
-waiting_undos t (Forward u b) = refl
-waiting_undos t (Done u c a) = refl
-waiting_undos t (Commit u) = refl
-waiting_undos t (Solo u p b) = refl
-waiting_undos t AuditBegin = refl
-waiting_undos t (AuditClean i) = refl
-waiting_undos t (AuditFail i rs) = refl
-waiting_undos t (Restarted rs ds) = refl
-waiting_undos t (Back u b) = refl
-
-none_left : (us : List Pending) → is_none_left us ≡ true → us ≡ []
-none_left [] h = refl
-none_left (u ∷ us) h = absurd (cc)
+waiting_undos t _ = refl
 
 -- ---- one record more
 module _ (s : Sizes) (n : ℕ) (k : Known) (c : Scan) (r : Record) (o : IsOrderly k c) (w : IsSettled k) (ok : allows s n k r ≡ true) (inside : separates r ≡ false) where
@@ -226,7 +160,7 @@ module _ (s : Sizes) (n : ℕ) (k : Known) (c : Scan) (r : Record) (o : IsOrderl
           let is : r ≡ Begin t = begin_is r t e in
           let unbegun : is_begun k t ≡ false = drawn t is in
           let idle : k.statuses t ≡ Idle = idle_by (k.statuses t) (λ q. both_ways (is_begun k t) unbegun (o.works t q).0) (λ q. both_ways (is_begun k t) unbegun (o.begun t (w.waits t q))) in
-          ap (λ z. is_running (status_next t z r)) idle ∙ (ap (λ q. is_running (status_next t Idle q)) is ∙ ap (λ b. is_running (cond b (Running []) Idle)) (same_test t t refl))
+          ap (λ z. is_running (status_next t z r)) idle ∙ (ap (λ q. is_running (status_next t Idle q)) is ∙ ap (λ b. is_running (cond b (Running []) Idle)) (eq-eqb t t refl))
 
   pub settled_next : IsSettled (known_next k r)
   settled_next = record { ends = ends_begun; waits = waits_committed; works = works_unended; runs = runs_begun }
@@ -238,7 +172,7 @@ module _ (s : Sizes) (n : ℕ) (k : Known) (c : Scan) (r : Record) (o : IsOrderl
       by_test : (z : Bool) → (u == t) ≡ z → cond z ([] ++ undo_added b b.undo) [] ≡ []
       by_test true g =
           let now : (is_running (k.statuses u) && on_kind s b.region b.op) ≡ true = subst (λ q. allows s n k q ≡ true) e ok in
-          absurd (both_ways (is_running (k.statuses t)) h (subst (λ v. is_running (k.statuses v) ≡ true) (test_same u t g) (and_parts (is_running (k.statuses u)) (on_kind s b.region b.op) now).0))
+          absurd (both_ways (is_running (k.statuses t)) h (subst (λ v. is_running (k.statuses v) ≡ true) (eqb-true u t g) (and_parts (is_running (k.statuses u)) (on_kind s b.region b.op) now).0))
       by_test false g = refl
   unworked_step t (Back u b) e h = ap (undo_step t []) e ∙ either_way (u == t) []
   unworked_step t (Format i j) e h = ap (undo_step t []) e
@@ -258,7 +192,7 @@ module _ (s : Sizes) (n : ℕ) (k : Known) (c : Scan) (r : Record) (o : IsOrderl
   ends_empty : (t u : ℕ) (us : List Pending) → r ≡ Ended u → k.statuses t ≡ Running us → (u == t) ≡ true → us ≡ []
   ends_empty t u us e q g =
       let now : may_end (k.statuses u) ≡ true = subst (λ p. allows s n k p ≡ true) e ok in
-      none_left us (sym (ap may_end (ap k.statuses (test_same u t g) ∙ q)) ∙ now)
+      none_left us (sym (ap may_end (ap k.statuses (eqb-true u t g) ∙ q)) ∙ now)
 
   runs_step : (t : ℕ) (us : List Pending) (q : Record) → r ≡ q → k.statuses t ≡ Running us → is_commit_of t q ≡ false → separates q ≡ false → undos_in (status_next t (Running us) q) ≡ undo_step t us q
   runs_step t us (Commit u) e h f g = ap (λ b. undos_in (cond b Waiting (Running us))) (or_parts (u == t) false f).0

@@ -5,8 +5,9 @@ use Rattle.std.specs.List.Sorted.{IsStrictlyIncreasing}
 use Rattle.std.specs.Option.{option_map, option_map_or}
 use Rattle.std.specs.Ordering.{nat_cmp}
 use Rattle.std.specs.FinMap.{empty, get, get-empty}
-use Rattle.std.proofs.lemmas.Bool.{or_cases, or_left, or_right, or_parts, both_ways, false_from_ne_true, and_parts}
+use Rattle.std.proofs.lemmas.Bool.{or_cases, or_left, or_right, or_parts, both_ways, false_from_ne_true, and_parts, eqb-true}
 use Rattle.std.proofs.lemmas.List.{append-nil}
+use mathlib.Core.Bool.{or-false}
 use Rattle.dali_att.specs.declared.state.State.{State}
 use Rattle.dali_att.specs.declared.state.State.TheVariants.{Live, Dead, Cleaning, Committed}
 use Rattle.dali_att.specs.Table.{Row as Entry, Table, state_at, undos_at}
@@ -15,12 +16,10 @@ use Rattle.dali_record.specs.declared.records.Record.TheVariants.{Restarted}
 use Rattle.dali_record.specs.Damage.{Damage, has}
 use Rattle.dali_record.specs.Files.{Row}
 use Rattle.dali_record.specs.Log.{ended}
-use Rattle.dali_record.proofs.Scans.{test_same}
 use Rattle.dali_resume.specs.Laws.{undos_in}
 use Rattle.dali_resume.specs.Resumed.{scan, scan_start, row_undos, row_committed, begun_by, committed_by}
 use Rattle.dali_resume.specs.Tests.{Known, Status, Idle, Running, Waiting, is_running, is_waiting, known_next, status_in}
 use Rattle.dali_taint.specs.Following.{is_begun, is_committed, IsOrderly, Begins}
-use Rattle.dali_taint.proofs.Steps.{or_none}
 use Rattle.dali_redo.specs.Redoing.{Redoing, Knows, status_by, status_at, is_left}
 use Rattle.dali_redo.specs.Following.{is_ended, IsSettled, FollowsScan, Redoes}
 use Rattle.dali_redo.specs.Laws.{StartsRedo, EndsEpoch}
@@ -58,7 +57,7 @@ is_row (w ∷ ws) t up = by_test (w.txn == t) refl (is_row ws t up.1)
     by_test true e ih = by_committed w.is_committed refl
       where
         none : row_committed ws t ≡ false
-        none = false_from_ne_true (row_committed ws t) (λ g. both_ways (has (txns ws) t) (subst (λ u. has (txns ws) u ≡ false) (test_same w.txn t e) (not_below w.txn (txns ws) w.txn up.0 (omega arith))) (committed_there ws t g))
+        none = false_from_ne_true (row_committed ws t) (λ g. both_ways (has (txns ws) t) (subst (λ u. has (txns ws) u ≡ false) (eqb-true w.txn t e) (not_below w.txn (txns ws) w.txn up.0 (omega arith))) (committed_there ws t g))
 
         status : (c : Bool) → w.is_committed ≡ c → status_in (w ∷ ws) t ≡ cond c Waiting (Running w.undos)
         status c g = rw (e, g) refl
@@ -94,7 +93,7 @@ module _ (d : Damage) (k : Known) (m : Table Pending) (b : Begins d k m) where
   has_begun t = ap (λ ts. has ts t) begun_is
 
   committed_is : (t : ℕ) → is_committed k t ≡ row_committed k.table t
-  committed_is t = ap (λ R. committed_by k.table R t) b.seen ∙ or_none (row_committed k.table t)
+  committed_is t = ap (λ R. committed_by k.table R t) b.seen ∙ or-false (row_committed k.table t)
 
   row : (t : ℕ) → IsRow k.table t
   row t = is_row k.table t (up_from (txns k.table) b.ascend)

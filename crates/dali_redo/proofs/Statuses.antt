@@ -5,6 +5,8 @@ use Rattle.std.specs.Option.{option_map, option_map_or}
 use Rattle.std.specs.Ordering.{nat_cmp}
 use Rattle.std.specs.FinMap.{empty, get, insert, remove, get-empty}
 use Rattle.std.proofs.lemmas.List.{append-nil}
+use Rattle.std.proofs.lemmas.Bool.{eqb-true}
+use Rattle.dali_lists.proofs.Numbers.{eqb-self}
 use Rattle.dali_att.specs.declared.state.State.{State}
 use Rattle.dali_att.specs.declared.state.State.TheVariants.{Live, Dead, Cleaning, Committed}
 use Rattle.dali_att.specs.Table.{Row, Table, fresh_row, state_at, undos_at, with_row, with_undo, with_state, without_last, without_undos}
@@ -12,10 +14,9 @@ use Rattle.dali_record.specs.declared.operations.Block.{Block}
 use Rattle.dali_record.specs.declared.operations.Pending.{Pending}
 use Rattle.dali_record.specs.declared.operations.Undo.{Undo}
 use Rattle.dali_record.specs.declared.records.Record.{Record}
-use Rattle.dali_record.specs.declared.records.Record.TheVariants.{Format, Begin, Forward, Done, Commit, Ended, Solo, AuditBegin, AuditClean, AuditFail, Restarted, Back}
+use Rattle.dali_record.specs.declared.records.Record.TheVariants.{Begin, Forward, Commit, Ended, Restarted, Back}
 use Rattle.dali_record.specs.Files.{is_restarted}
 use Rattle.dali_record.specs.Log.{drop_last}
-use Rattle.dali_record.proofs.Scans.{same_test, test_same}
 use Rattle.dali_resume.specs.Tests.{Status, Idle, Running, Waiting, is_running, status_next}
 use Rattle.dali_system.proofs.Tables.{Puts, with_undos, added, changed, ended, dropped}
 use Rattle.dali_redo.specs.Redoing.{status_by, status_at, is_of}
@@ -33,46 +34,21 @@ put_status m n t row puts u = ap status_of (puts u) ∙ split (t == u)
 
 -- ---- a record of another
 pub still_idle : (u : ℕ) (r : Record) → is_of u r ≡ false → status_next u Idle r ≡ Idle
-still_idle u (Format i h) e = refl
 still_idle u (Begin t) e = rw e refl
-still_idle u (Forward t b) e = refl
-still_idle u (Done t c a) e = refl
-still_idle u (Commit t) e = refl
-still_idle u (Ended t) e = refl
-still_idle u (Solo t p b) e = refl
-still_idle u AuditBegin e = refl
-still_idle u (AuditClean b) e = refl
-still_idle u (AuditFail b rs) e = refl
-still_idle u (Restarted rs ds) e = refl
-still_idle u (Back t b) e = refl
+still_idle u _ e = refl
 
 still_running : (u : ℕ) (us : List Pending) (r : Record) → is_restarted r ≡ false → is_of u r ≡ false → status_next u (Running us) r ≡ Running us
-still_running u us (Format i h) s e = refl
-still_running u us (Begin t) s e = refl
 still_running u us (Forward t b) s e = rw e refl
-still_running u us (Done t c a) s e = refl
 still_running u us (Commit t) s e = rw e refl
 still_running u us (Ended t) s e = rw e refl
-still_running u us (Solo t p b) s e = refl
-still_running u us AuditBegin s e = refl
-still_running u us (AuditClean b) s e = refl
-still_running u us (AuditFail b rs) s e = refl
 still_running u us (Restarted rs ds) s e = absurd (cc)
 still_running u us (Back t b) s e = rw e refl
+still_running u us _ s e = refl
 
 still_waiting : (u : ℕ) (r : Record) → is_restarted r ≡ false → is_of u r ≡ false → status_next u Waiting r ≡ Waiting
-still_waiting u (Format i h) s e = refl
-still_waiting u (Begin t) s e = refl
-still_waiting u (Forward t b) s e = refl
-still_waiting u (Done t c a) s e = refl
-still_waiting u (Commit t) s e = refl
 still_waiting u (Ended t) s e = rw e refl
-still_waiting u (Solo t p b) s e = refl
-still_waiting u AuditBegin s e = refl
-still_waiting u (AuditClean b) s e = refl
-still_waiting u (AuditFail b rs) s e = refl
 still_waiting u (Restarted rs ds) s e = absurd (cc)
-still_waiting u (Back t b) s e = refl
+still_waiting u _ s e = refl
 
 pub still : (u : ℕ) (z : Status) (r : Record) → is_restarted r ≡ false → is_of u r ≡ false → status_next u z r ≡ z
 still u Idle r s e = still_idle u r e
@@ -85,7 +61,7 @@ pub at_one : (m n : Table Pending) (t : ℕ) (row : Option (Row Pending)) (r : R
 at_one m n t row r puts s other here u = put_status m n t row puts u ∙ by_test (t == u) refl
   where
     by_test : (b : Bool) → (t == u) ≡ b → cond b (status_of row) (status_at m u) ≡ status_next u (status_at m u) r
-    by_test true e = subst (λ v. status_of row ≡ status_next v (status_at m v) r) (test_same t u e) here
+    by_test true e = subst (λ v. status_of row ≡ status_next v (status_at m v) r) (eqb-true t u e) here
     by_test false e = sym (still u (status_at m u) r s (other u e))
 
 -- or no row is put, and its status stays
@@ -93,18 +69,15 @@ pub at_none : (m : Table Pending) (t : ℕ) (r : Record) → is_restarted r ≡ 
 at_none m t r s other here u = by_test (t == u) refl
   where
     by_test : (b : Bool) → (t == u) ≡ b → status_at m u ≡ status_next u (status_at m u) r
-    by_test true e = subst (λ v. status_at m v ≡ status_next v (status_at m v) r) (test_same t u e) here
+    by_test true e = subst (λ v. status_at m v ≡ status_next v (status_at m v) r) (eqb-true t u e) here
     by_test false e = sym (still u (status_at m u) r s (other u e))
-
-own : (t : ℕ) → (t == t) ≡ true
-own t = same_test t t refl
 
 -- ---- Begin
 pub begins_new : (m : Table Pending) (t : ℕ) → state_at m t ≡ None → Advances m (insert m t fresh_row) (Begin t)
 begins_new m t none = at_one m (insert m t fresh_row) t (Some fresh_row) (Begin t) (added m t fresh_row) refl (λ u e. e) here
   where
     here : Running [] ≡ status_next t (status_at m t) (Begin t)
-    here = rw (none, own t) refl
+    here = rw (none, eqb-self t) refl
 
 pub begins_old : (m : Table Pending) (t : ℕ) (z : State) → state_at m t ≡ Some z → Advances m m (Begin t)
 begins_old m t z some = at_none m t (Begin t) refl (λ u e. e) (rw some (same z))
@@ -136,7 +109,7 @@ adds_none m t b none = at_none m t (Forward t b) refl (λ u e. e) (by_status (st
   where
     by_status : (z : Status) → z ≡ status_next t z (Forward t b)
     by_status Idle = refl
-    by_status (Running us) = rw (own t, none, append-nil us) refl
+    by_status (Running us) = rw (eqb-self t, none, append-nil us) refl
     by_status Waiting = refl
 
 pub adds_one : (m : Table Pending) (t : ℕ) (b : Block) (undo : Undo) → is_running (status_at m t) ≡ true → b.undo ≡ Some undo
@@ -148,9 +121,9 @@ adds_one m t b undo h is = at_one m _ t (option_map (with_undo p) (get m t)) (Fo
 
     by_state : (s : State) (us : List Pending) → is_running (status_by (Some s) us) ≡ true
         → status_by (Some s) (us ++ record { key = b.key; region = b.region; undo = undo } ∷ []) ≡ status_next t (status_by (Some s) us) (Forward t b)
-    by_state Live us e = rw (own t, is) refl
-    by_state (Dead l) us e = rw (own t, is) refl
-    by_state (Cleaning l) us e = rw (own t, is) refl
+    by_state Live us e = rw (eqb-self t, is) refl
+    by_state (Dead l) us e = rw (eqb-self t, is) refl
+    by_state (Cleaning l) us e = rw (eqb-self t, is) refl
     by_state Committed us e = absurd (cc)
 
     by_row : (o : Option (Row Pending)) → is_running (status_of o) ≡ true → status_of (option_map (with_undo (record { key = b.key; region = b.region; undo = undo })) o) ≡ status_next t (status_of o) (Forward t b)
@@ -162,9 +135,9 @@ pub removes_one : (m : Table Pending) (t : ℕ) (b : Block) → Advances m (with
 removes_one m t b = at_one m _ t (with_undos drop_last (get m t)) (Back t b) (dropped m t) refl (λ u e. e) (by_row (get m t))
   where
     by_state : (s : State) (us : List Pending) → status_by (Some s) (drop_last us) ≡ status_next t (status_by (Some s) us) (Back t b)
-    by_state Live us = rw (own t) refl
-    by_state (Dead l) us = rw (own t) refl
-    by_state (Cleaning l) us = rw (own t) refl
+    by_state Live us = rw (eqb-self t) refl
+    by_state (Dead l) us = rw (eqb-self t) refl
+    by_state (Cleaning l) us = rw (eqb-self t) refl
     by_state Committed us = refl
 
     by_row : (o : Option (Row Pending)) → status_of (with_undos drop_last o) ≡ status_next t (status_of o) (Back t b)
@@ -183,7 +156,7 @@ some_row m t z e = by_row (get m t) refl e
     by_row (Some row) g f = (row, g)
 
 cleared_row : (m : Table Pending) (t : ℕ) (row : Row Pending) → get m t ≡ Some row → get (with_row m t without_undos) t ≡ Some (without_undos row)
-cleared_row m t row e = changed m t without_undos t ∙ rw (own t, e) refl
+cleared_row m t row e = changed m t without_undos t ∙ rw (eqb-self t, e) refl
 
 pub cleared_there : (m : Table Pending) (t : ℕ) (z : State) → state_at m t ≡ Some z → IsSome (get (with_row m t without_undos) t)
 cleared_there m t z e = let w = some_row m t z e in ap is_some (cleared_row m t w.0 w.1)
@@ -206,9 +179,9 @@ commits_one m t z e = at_one m _ t (Some (record { state = Committed; undos = []
         by_test false f = changed m t without_undos u ∙ rw f refl
 
     by_state : (y : State) → Waiting ≡ status_next t (status_by (Some y) (undos_at m t)) (Commit t)
-    by_state Live = rw (own t) refl
-    by_state (Dead l) = rw (own t) refl
-    by_state (Cleaning l) = rw (own t) refl
+    by_state Live = rw (eqb-self t) refl
+    by_state (Dead l) = rw (eqb-self t) refl
+    by_state (Cleaning l) = rw (eqb-self t) refl
     by_state Committed = refl
 
 -- ---- Ended
@@ -217,8 +190,8 @@ ends_one m t = at_one m (remove m t) t None (Ended t) (ended m t) refl (λ u e. 
   where
     by_status : (z : Status) → Idle ≡ status_next t z (Ended t)
     by_status Idle = refl
-    by_status (Running us) = rw (own t) refl
-    by_status Waiting = rw (own t) refl
+    by_status (Running us) = rw (eqb-self t) refl
+    by_status Waiting = rw (eqb-self t) refl
 
 -- ---- Restarted, and records that leave it as it is
 pub idle_behind : (u : ℕ) (z : Status) (rs ds : List ℕ) → Idle ≡ status_next u z (Restarted rs ds)

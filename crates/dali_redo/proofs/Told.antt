@@ -66,18 +66,12 @@ takes_running (Some Committed) us b h = absurd (cc)
 
 -- ---- what is known is what the table tells
 pub tests_rules : TestsRules
-tests_rules s n k (Begin t) h = refl
-tests_rules s n k (Forward t b) h = refl
-tests_rules s n k (Done t c a) h = refl
-tests_rules s n k (Back t b) h = refl
-tests_rules s n k (Commit t) h = refl
-tests_rules s n k (Ended t) h = refl
-tests_rules s n k (Solo t p b) h = refl
 tests_rules s n k (Format i j) h = absurd (cc)
 tests_rules s n k AuditBegin h = absurd (cc)
 tests_rules s n k (AuditClean b) h = absurd (cc)
 tests_rules s n k (AuditFail b rs) h = absurd (cc)
 tests_rules s n k (Restarted rs ds) h = absurd (cc)
+tests_rules s n k _ h = refl
 
 pub breaks_alike : (s : Sizes) (x : Redoing) (k : Known) (r : Record) → Knows x k → breaks s (told x) r ≡ breaks s k r
 breaks_alike s x k (Begin t) w = rw (w.next) refl
@@ -106,12 +100,4 @@ number_fits s m n (Solo t p b) h = let low = ltb-true t (2 ^ 40) (and_parts (nat
     not_false true q = refl
     not_false false q = absurd (cc)
 number_fits s m n (Format i j) h = omega arith
-number_fits s m n (Forward t b) h = omega arith
-number_fits s m n (Done t c a) h = omega arith
-number_fits s m n (Back t b) h = omega arith
-number_fits s m n (Commit t) h = omega arith
-number_fits s m n (Ended t) h = omega arith
-number_fits s m n AuditBegin h = omega arith
-number_fits s m n (AuditClean b) h = omega arith
-number_fits s m n (AuditFail b rs) h = omega arith
-number_fits s m n (Restarted rs ds) h = omega arith
+number_fits s m n _ h = omega arith

@@ -1,11 +1,11 @@
 -- What a call makes of the fields of a redo.
-use Rattle.std.proofs.Common.{◌≡◌, ℕ, zero, suc, Bool, true, false, cond, List, [], ◌∷◌, ◌++◌, length, map, take, drop, fold, Option, Some, None, refl, ap, sym, subst, ◌∙◌}
+use Rattle.std.proofs.Common.{◌≡◌, ℕ, Bool, true, false, cond, List, [], ◌∷◌, ◌++◌, length, map, fold, Option, Some, None, refl, ap, sym, subst, ◌∙◌}
 use Rattle.std.specs.Prelude.{not, ◌&&◌, ◌||◌, ◌==◌, is_some}
 use Rattle.std.specs.Option.{option_map, option_map_or}
 use Rattle.std.specs.Ordering.{nat_cmp}
 use Rattle.std.specs.FinMap.{empty, get, get-empty}
 use Rattle.std.proofs.Math.ListN.{length-set}
-use Rattle.std.proofs.lemmas.List.{length-map}
+use Rattle.dali_lists.proofs.Lists.{length_of_halves}
 use Rattle.dali_geometry.specs.Sizes.{Sizes}
 use Rattle.dali_geometry.specs.Places.{regions}
 use Rattle.dali_heap.specs.Cells as cell
@@ -110,16 +110,7 @@ idle_next t (Begin u) = by_test (u == t)
     by_test true = tt
     by_test false = tt
 idle_next t (Format i j) = tt
-idle_next t (Forward u b) = tt
-idle_next t (Done u c a) = tt
-idle_next t (Commit u) = tt
-idle_next t (Ended u) = tt
-idle_next t (Solo u p b) = tt
-idle_next t AuditBegin = tt
-idle_next t (AuditClean b) = tt
-idle_next t (AuditFail b rs) = tt
-idle_next t (Restarted rs ds) = tt
-idle_next t (Back u b) = tt
+idle_next t _ = tt
 
 running_next : (t : ℕ) (us : List Pending) (r : Record) → MayUndo r → AreUndos us → AreUndos (undos_in (status_next t (Running us) r))
 running_next t us (Forward u b) c h = by_test (u == t)
@@ -142,14 +133,8 @@ running_next t us (Ended u) c h = by_test (u == t)
     by_test : (z : Bool) → AreUndos (undos_in (cond z Idle (Running us)))
     by_test true = tt
     by_test false = h
-running_next t us (Format i j) c h = h
-running_next t us (Begin u) c h = h
-running_next t us (Done u d a) c h = h
-running_next t us (Solo u p b) c h = h
-running_next t us AuditBegin c h = h
-running_next t us (AuditClean b) c h = h
-running_next t us (AuditFail b rs) c h = h
 running_next t us (Restarted rs ds) c h = tt
+running_next t us _ c h = h
 
 waiting_next : (t : ℕ) (r : Record) → AreUndos (undos_in (status_next t Waiting r))
 waiting_next t (Ended u) = by_test (u == t)
@@ -158,16 +143,7 @@ waiting_next t (Ended u) = by_test (u == t)
     by_test true = tt
     by_test false = tt
 waiting_next t (Format i j) = tt
-waiting_next t (Begin u) = tt
-waiting_next t (Forward u b) = tt
-waiting_next t (Done u c a) = tt
-waiting_next t (Commit u) = tt
-waiting_next t (Solo u p b) = tt
-waiting_next t AuditBegin = tt
-waiting_next t (AuditClean b) = tt
-waiting_next t (AuditFail b rs) = tt
-waiting_next t (Restarted rs ds) = tt
-waiting_next t (Back u b) = tt
+waiting_next t _ = tt
 
 pub undos_next : (t : ℕ) (z : Status) (r : Record) → MayUndo r → AreUndos (undos_in z) → AreUndos (undos_in (status_next t z r))
 undos_next t Idle r c h = idle_next t r
@@ -248,17 +224,7 @@ redone_length im r = by_touch (touch_of r)
 
 pub spelled_undo : SpelledUndo
 spelled_undo (Forward t b) c = c.1.undo
-spelled_undo (Format i j) c = tt
-spelled_undo (Begin t) c = tt
-spelled_undo (Done t d a) c = tt
-spelled_undo (Commit t) c = tt
-spelled_undo (Ended t) c = tt
-spelled_undo (Solo t p b) c = tt
-spelled_undo AuditBegin c = tt
-spelled_undo (AuditClean b) c = tt
-spelled_undo (AuditFail b rs) c = tt
-spelled_undo (Restarted rs ds) c = tt
-spelled_undo (Back t b) c = tt
+spelled_undo _ c = tt
 
 -- ---- before the first record, and behind the last
 pub start_undos : (l m : Table Pending) (t : ℕ) → l ≡ empty → AreUndos (undos_at m t) → AreUndos (performed_in l m t)
@@ -280,13 +246,8 @@ as_many s im jm h e = e ∙ h
 pub as_many_at_start : (s : Sizes) (im jm : List (List ℕ)) → length im ≡ regions s → jm ≡ im → length jm ≡ regions s
 as_many_at_start s im jm h e = ap length e ∙ h
 
-halves_length : (f g : List ℕ → List ℕ) (n : ℕ) (xs : List (List ℕ)) → length (map f (take n xs) ++ map g (drop n xs)) ≡ length xs
-halves_length f g zero xs = length-map xs g
-halves_length f g (suc n) [] = refl
-halves_length f g (suc n) (x ∷ xs) = ap suc (halves_length f g n xs)
-
 pub as_many_freed : (s : Sizes) (im jm : List (List ℕ)) → length im ≡ regions s → jm ≡ freed s im → length jm ≡ regions s
-as_many_freed s im jm h e = ap length e ∙ (halves_length (λ ws. fold free_word ws (map entry.state_word entry.entries)) (λ ws. fold free_word ws (map cell.state_word cell.cells)) s.index im ∙ h)
+as_many_freed s im jm h e = ap length e ∙ (length_of_halves (λ ws. fold free_word ws (map entry.state_word entry.entries)) (λ ws. fold free_word ws (map cell.state_word cell.cells)) s.index im ∙ h)
 
 pub no_undos : (m : Table Pending) (t : ℕ) → m ≡ empty → AreUndos (undos_at m t)
 no_undos m t e = subst (λ o. AreUndos (undos_at o t)) (sym e) (subst (λ o. AreUndos (option_map_or (λ row. row.undos) o [])) (sym (no_rows t)) tt)

@@ -32,20 +32,20 @@ fn add_undo(table: &mut Att<Pending>, txn: u64, block: &Block) -> Result<(), All
     ensures cleared { OnOk result (IsCleared table.old → IsCleared table.new) }
     ensures err { OnErr result (table.new ≡ table.old) }
 {
+    let Some(undo) = block.undo else {
+        return Ok(());
+    };
     if !is_active(table, txn) {
         return Ok(());
     }
-    match block.undo {
-        Some(undo) => table.push(
-            txn,
-            Pending {
-                key: block.key,
-                region: block.region,
-                undo,
-            },
-        ),
-        None => Ok(()),
-    }
+    table.push(
+        txn,
+        Pending {
+            key: block.key,
+            region: block.region,
+            undo,
+        },
+    )
 }
 
 // Removes the last undo of the transaction.

@@ -1,5 +1,5 @@
 -- What a hold has written and read, and that each call keeps what is true of every region.
-use Rattle.std.proofs.Common.{◌≡◌, ◌≢◌, ℕ, zero, suc, ◌+◌, ◌-◌, ◌*◌, ◌<◌, ◌≤◌, ◌^◌, Bool, true, false, not, List, [], ◌∷◌, length, cond, refl, ap, sym, subst, ◌∙◌, ◌⊎◌, inl, inr, ⊎_elim, arith, get_or, set, max, Option, Some, None}
+use Rattle.std.proofs.Common.{◌≡◌, ◌≢◌, ℕ, zero, suc, ◌+◌, ◌-◌, ◌*◌, ◌<◌, ◌≤◌, ◌^◌, Bool, true, false, not, List, length, cond, refl, ap, sym, subst, ◌∙◌, ◌⊎◌, ⊎_elim, arith, get_or, set, max, Option, Some, None}
 use Rattle.std.specs.Prelude.{◌==◌, bit_and, bit_or, bit_xor, IsBitSet, IsSomeAnd, IfSome, All, slice_index, slice_set}
 use Rattle.std.specs.Option.{option_map_or}
 use Rattle.std.specs.Int.Bits.{xor_assoc, xor_self, xor_zero_r}
@@ -10,6 +10,8 @@ use Rattle.std.proofs.lemmas.Nat.Bits.{bit_at_or, bit_at_and, bit_at_not, bit_at
 use Rattle.std.proofs.lemmas.List.Elements.{All-set, All-get_or, All-from_get_or}
 use Rattle.std.proofs.lemmas.List.{length-set, ext_get_or, get_or-set_same, get_or-set_other}
 use Rattle.std.proofs.lemmas.Bool.Decides.{Decides-eqb, leb_tells}
+use Rattle.std.proofs.lemmas.Bool.{cases_eq}
+use Rattle.dali_lists.proofs.Lists.{past_is_zero}
 use Rattle.dali_words.specs.Words.{parity_of, xor_under}
 use Rattle.dali_region.specs.declared.Hold.{Hold}
 use Rattle.dali_region.specs.State.{RegionState, IsProtected, HasRead, IsUnwritten, latched, is_in, has_written, is_written, unread, damaged, poked, loaded, taken_back, counted, touched, updated, writing, map_hold}
@@ -17,12 +19,6 @@ use Rattle.dali_words.proofs.Lowest.{xor_under-nothing}
 use Rattle.dali_region.proofs.Words.{parity_of-set, twice, damage, xor_under-apart}
 
 -- ---- bits
-pub same_or_not : (i j : ℕ) → (i ≡ j) ⊎ (i ≢ j)
-same_or_not i j = by_test (i == j) refl
-  where
-    by_test : (c : Bool) → (i == j) ≡ c → (i ≡ j) ⊎ (i ≢ j)
-    by_test true e = inl ((Decides-eqb i j).0 e)
-    by_test false e = inr (λ h. let g : (i == j) ≡ true = (Decides-eqb i j).1 h in absurd (cc))
 
 bit_of_product : (b p : ℕ) → b < 2 → 0 < p → b * p ≡ 0 → b ≡ 0
 bit_of_product zero p lt pos e = refl
@@ -83,7 +79,7 @@ but-set f k v ws bs at same i h =
 
 -- the same change of any other word in both
 but-both : (f : ℕ → Bool) (k x : ℕ) (ws bs : List ℕ) → k < length ws → k < length bs → f k ≡ false → AgreeBut f ws bs → AgreeBut f (damaged k x ws) (damaged k x bs)
-but-both f k x ws bs lw lb out same i h = ⊎_elim here there (same_or_not i k)
+but-both f k x ws bs lw lb out same i h = ⊎_elim here there (cases_eq i k)
   where
     here : i ≡ k → get_or (damaged k x ws) i 0 ≡ get_or (damaged k x bs) i 0
     here e = ap (λ j. get_or (damaged k x ws) j 0) e ∙ get_or-set_same ws k _ 0 lw ∙ ap (λ n. bit_xor n x) (same k out) ∙ sym (get_or-set_same bs k _ 0 lb) ∙ ap (λ j. get_or (damaged k x bs) j 0) (sym e)
@@ -118,7 +114,7 @@ updated_keeps g h i v b p e lt is small has = record {
 }
   where
     writes : (k : ℕ) → bit_at (bit_or h.write (2 ^ i)) k ≡ 1 → bit_at h.read k ≡ 1
-    writes k w = ⊎_elim (λ a. ap (bit_at h.read) a ∙ has) (λ a. was k (omega (arith, w, bit_at_or h.write (2 ^ i) k, bit_at-pow_other i k a))) (same_or_not k i)
+    writes k w = ⊎_elim (λ a. ap (bit_at h.read) a ∙ has) (λ a. was k (omega (arith, w, bit_at_or h.write (2 ^ i) k, bit_at-pow_other i k a))) (cases_eq k i)
       where
         was : (j : ℕ) → bit_at h.write j ≡ 1 → bit_at h.read j ≡ 1
         was = subst (λ (o : Option Hold). IfSome o (λ x. (j : ℕ) → bit_at x.write j ≡ 1 → bit_at x.read j ≡ 1)) e p.writes
@@ -131,14 +127,9 @@ updated_keeps g h i v b p e lt is small has = record {
         let within : i < length g.words = omega (arith, p.size, lt) in
         ap (bit_xor (bit_xor g.codeword (bit_xor (slice_index g.words i) v))) (parity_of-set g.words i v within) ∙ twice g.codeword (parity_of g.words) (bit_xor (slice_index g.words i) v) ∙ p.codeword
 
-past : (ws : List ℕ) (i : ℕ) → length ws ≤ i → get_or ws i 0 ≡ 0
-past [] i h = refl
-past (w ∷ ws) zero h = absurd (omega arith)
-past (w ∷ ws) (suc i) h = past ws i (omega arith)
-
 -- the words in a region fit, whichever it is
 word_fits : (ws : List ℕ) (i : ℕ) → All (λ w. w < 2 ^ 64) ws → get_or ws i 0 < 2 ^ 64
-word_fits ws i all = ⊎_elim (λ t. subst (λ n. n < 2 ^ 64) (sym (past ws i t.1)) (omega arith)) (λ t. All-get_or (λ w. w < 2 ^ 64) ws i 0 t.1 all) (leb_tells (length ws) i)
+word_fits ws i all = ⊎_elim (λ t. subst (λ n. n < 2 ^ 64) (sym (past_is_zero ws i t.1)) (omega arith)) (λ t. All-get_or (λ w. w < 2 ^ 64) ws i 0 t.1 all) (leb_tells (length ws) i)
 
 pub poked_keeps : (g : RegionState) (i m : ℕ) → IsProtected g → i < 64 → m < 2 ^ 64 → IsProtected (poked i m g)
 poked_keeps g i m p lt small = by_test (is_written g i) refl

@@ -6,17 +6,15 @@ use Rattle.std.specs.Int.{bit_at}
 use Rattle.std.proofs.lemmas.Nat.Bits.{bit_at_or, bit_at-lt, bit_at-zero, bit_at-pow_same, bit_at-pow_other}
 use Rattle.std.proofs.lemmas.List.{length-set, ext_get_or, get_or-set_same, get_or-set_other}
 use Rattle.std.proofs.lemmas.List.Elements.{All-from_get_or, All-get_or}
+use Rattle.std.proofs.lemmas.Bool.{cases_Bool, cases_eq}
 use Rattle.dali_words.specs.Words.{under, write_under}
 use Rattle.dali_words.proofs.Masks.{length-write_under, write_under_other}
 use Rattle.dali_words.proofs.Writes.{write_under_in}
 use Rattle.dali_region.specs.declared.Hold.{Hold}
 use Rattle.dali_region.specs.State.{is_in, restored, written, has_written, kept, damaged}
-use Rattle.dali_region.proofs.Holds.{same_or_not, out_is_zero, zero_is_out}
+use Rattle.dali_region.proofs.Holds.{out_is_zero, zero_is_out}
 
 -- ---- bits
-true_or_false : (b : Bool) → (b ≡ true) ⊎ (b ≡ false)
-true_or_false true = inl refl
-true_or_false false = inr refl
 
 in_is_one : (m i : ℕ) → is_in m i ≡ true → bit_at m i ≡ 1
 in_is_one m i h = ⊎_elim (λ z. let no : is_in m i ≡ false = zero_is_out m i z in absurd (cc)) (λ z. z) (bits (bit_at m i) (bit_at-lt m i))
@@ -25,7 +23,7 @@ in_is_one m i h = ⊎_elim (λ z. let no : is_in m i ≡ false = zero_is_out m i
     bits b lt = grind arith
 
 one_is_in : (m i : ℕ) → bit_at m i ≡ 1 → is_in m i ≡ true
-one_is_in m i h = ⊎_elim (λ t. t) (λ f. let z = out_is_zero m i f in absurd (omega (arith, h, z))) (true_or_false (is_in m i))
+one_is_in m i h = ⊎_elim (λ t. t) (λ f. let z = out_is_zero m i f in absurd (omega (arith, h, z))) (cases_Bool (is_in m i))
 
 -- ---- words
 pub length-restored : (m : ℕ) (olds ws : List ℕ) → length (restored m olds ws) ≡ length ws
@@ -38,13 +36,13 @@ pub restored_out : (m : ℕ) (olds ws : List ℕ) (i : ℕ) → is_in m i ≡ fa
 restored_out m olds ws i h = write_under_other m (under m olds) ws i (out_is_zero m i h)
 
 pub restored_by : (m : ℕ) (olds ws xs : List ℕ) → length olds ≡ length ws → length xs ≡ length ws → ((i : ℕ) → is_in m i ≡ true → get_or xs i 0 ≡ get_or olds i 0) → ((i : ℕ) → is_in m i ≡ false → get_or xs i 0 ≡ get_or ws i 0) → xs ≡ restored m olds ws
-restored_by m olds ws xs e long inside outside = ext_get_or 0 xs (restored m olds ws) (long ∙ sym (length-restored m olds ws)) (λ i _. each i (true_or_false (is_in m i)))
+restored_by m olds ws xs e long inside outside = ext_get_or 0 xs (restored m olds ws) (long ∙ sym (length-restored m olds ws)) (λ i _. each i (cases_Bool (is_in m i)))
   where
     each : (i : ℕ) → (is_in m i ≡ true) ⊎ (is_in m i ≡ false) → get_or xs i 0 ≡ get_or (restored m olds ws) i 0
     each i (inl h) = inside i h ∙ sym (restored_in m olds ws i e h)
     each i (inr h) = outside i h ∙ sym (restored_out m olds ws i h)
 
-write_nothing : (news ws : List ℕ) → write_under 0 news ws ≡ ws
+pub write_nothing : (news ws : List ℕ) → write_under 0 news ws ≡ ws
 write_nothing news [] = refl
 write_nothing news (w ∷ ws) = ap (λ xs. w ∷ xs) (write_nothing news ws)
 
@@ -63,7 +61,7 @@ restored_written m i v olds ws e lt = sym (restored_by (bit_or m (2 ^ i)) (kept 
         by_test false = length-set olds i (get_or ws i 0) ∙ e
 
     inside : (k : ℕ) → is_in (bit_or m (2 ^ i)) k ≡ true → get_or (restored m olds ws) k 0 ≡ get_or (kept m i ws olds) k 0
-    inside k h = go (true_or_false (is_in m k)) (same_or_not k i) (true_or_false (is_in m i))
+    inside k h = go (cases_Bool (is_in m k)) (cases_eq k i) (cases_Bool (is_in m i))
       where
         go : (is_in m k ≡ true) ⊎ (is_in m k ≡ false) → (k ≡ i) ⊎ (k ≢ i) → (is_in m i ≡ true) ⊎ (is_in m i ≡ false) → get_or (restored m olds ws) k 0 ≡ get_or (kept m i ws olds) k 0
         go (inl a) same (inl c) = restored_in m olds ws k e a ∙ ap (λ b. get_or (cond b olds (set olds i (get_or ws i 0))) k 0) (sym c)
@@ -84,7 +82,7 @@ restored_written m i v olds ws e lt = sym (restored_by (bit_or m (2 ^ i)) (kept 
 
 -- ---- a word is damaged
 pub restored_damaged : (m i x : ℕ) (olds ws : List ℕ) → length olds ≡ length ws → i < length ws → restored m olds (damaged i x ws) ≡ cond (is_in m i) (restored m olds ws) (damaged i x (restored m olds ws))
-restored_damaged m i x olds ws e lt = by_test (true_or_false (is_in m i))
+restored_damaged m i x olds ws e lt = by_test (cases_Bool (is_in m i))
   where
     new : ℕ
     new = bit_xor (get_or ws i 0) x
@@ -107,7 +105,7 @@ restored_damaged m i x olds ws e lt = by_test (true_or_false (is_in m i))
             get_or-set_other (restored m olds ws) i k _ 0 apart ∙ restored_in m olds ws k e a
 
         outside : (k : ℕ) → is_in m k ≡ false → get_or (damaged i x (restored m olds ws)) k 0 ≡ get_or (damaged i x ws) k 0
-        outside k a = go (same_or_not k i)
+        outside k a = go (cases_eq k i)
           where
             go : (k ≡ i) ⊎ (k ≢ i) → get_or (damaged i x (restored m olds ws)) k 0 ≡ get_or (damaged i x ws) k 0
             go (inl q) =
@@ -117,7 +115,7 @@ restored_damaged m i x olds ws e lt = by_test (true_or_false (is_in m i))
 
 -- ---- each word fits
 pub all_restored : (P : ℕ → Type 0) (m : ℕ) (olds ws : List ℕ) → length olds ≡ length ws → All P olds → All P ws → All P (restored m olds ws)
-all_restored P m olds ws e a b = All-from_get_or P (restored m olds ws) 0 (λ i lt. each i (omega (arith, lt, length-restored m olds ws)) (true_or_false (is_in m i)))
+all_restored P m olds ws e a b = All-from_get_or P (restored m olds ws) 0 (λ i lt. each i (omega (arith, lt, length-restored m olds ws)) (cases_Bool (is_in m i)))
   where
     each : (i : ℕ) → i < length ws → (is_in m i ≡ true) ⊎ (is_in m i ≡ false) → P (get_or (restored m olds ws) i 0)
     each i lt (inl h) = subst P (sym (restored_in m olds ws i e h)) (All-get_or P olds i 0 (omega (arith, lt, e)) a)
@@ -142,7 +140,7 @@ pub record IsRestoredTo (m : ℕ) (olds ws cur : List ℕ) (k : ℕ) : Type 0 wh
   pub left : (i : ℕ) → k ≤ i → get_or cur i 0 ≡ get_or ws i 0
 
 from_next : (P : ℕ → Type 0) (k i : ℕ) → P k → (i < k → P i) → i < k + 1 → P i
-from_next P k i here before lt = ⊎_elim (λ e. subst P (sym e) here) (λ ne. before (omega (arith, ne, lt))) (same_or_not i k)
+from_next P k i here before lt = ⊎_elim (λ e. subst P (sym e) here) (λ ne. before (omega (arith, ne, lt))) (cases_eq i k)
 
 pub restores_one : (m k b : ℕ) (olds ws cur new : List ℕ) → IsRestoredTo m olds ws cur k → length olds ≡ length ws → k < length ws → b ≡ 2 ^ k → bit_and m b ≢ 0 → new ≡ set cur k (get_or olds k 0) → IsRestoredTo m olds ws new (k + 1)
 restores_one m k b olds ws cur new r e lt is_bit found is_new = rw is_new record {
@@ -152,7 +150,7 @@ restores_one m k b olds ws cur new r e lt is_bit found is_new = rw is_new record
 }
   where
     here : is_in m k ≡ true
-    here = ⊎_elim (λ t. t) (λ f. absurd (found (ap (bit_and m) is_bit ∙ zero_of f))) (true_or_false (is_in m k))
+    here = ⊎_elim (λ t. t) (λ f. absurd (found (ap (bit_and m) is_bit ∙ zero_of f))) (cases_Bool (is_in m k))
       where
         zero_of : is_in m k ≡ false → bit_and m (2 ^ k) ≡ 0
         zero_of f = ⊎_elim (λ p. p.1) (λ p. let no : is_in m k ≡ true = ap not p.0 in absurd (cc)) (eqb_tells (bit_and m (2 ^ k)) 0)

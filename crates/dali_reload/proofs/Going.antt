@@ -3,7 +3,7 @@ use Rattle.std.proofs.Common.{◌≡◌, ◌⊎◌, inl, inr, ⊎_elim, ℕ, ◌
 use Rattle.std.specs.Prelude.{sum_by, IfSome, IsSome}
 use Rattle.std.specs.List.{list_all, list_any}
 use Rattle.std.proofs.lemmas.Bool.{cases_eq}
-use Rattle.std.proofs.lemmas.List.{append-nil}
+use Rattle.std.proofs.lemmas.List.{append-nil, nil_from_length}
 use Rattle.std.proofs.lemmas.List.Sums.{sum_by-append}
 use Rattle.dali_geometry.specs.Sizes.{Sizes}
 use Rattle.dali_record.specs.declared.records.Record.{Record}
@@ -21,6 +21,7 @@ use Rattle.dali_resume.specs.Laws.{is_audit_fail}
 use Rattle.dali_resume.specs.Onward.{HandedOut, Misfit as NamedMisfit, goes_through}
 use Rattle.dali_resume.specs.Rules.{ends_restarted}
 use Rattle.dali_resume.specs.Tests.{known_at, tests}
+use Rattle.dali_resume.proofs.Batches.{is_a_restart}
 use Rattle.dali_recovery.specs.Laws.{IsBehind, damage_through, outcome_of}
 use Rattle.dali_recovery.specs.Standing.{Fails, HandsOn, TellsDamage, is_unscanned}
 use Rattle.dali_recovery.specs.declared.error.RecoveryError.TheVariants.{Misfit, Unscanned}
@@ -33,7 +34,7 @@ use Rattle.dali_reload.specs.Scanning.{AreFound, FindsDamage, ScansKnown, damage
 use Rattle.dali_reload.specs.declared.counts.BeforeRestart.{BeforeRestart}
 use Rattle.dali_reload.specs.declared.counts.Counts.{Counts}
 use Rattle.dali_reload.specs.declared.reading.Reloaded.{Reloaded}
-use Rattle.dali_reload.proofs.Passes.{AreAmong, Ends, IsScanning, Judges, Past, closing, end_is, found_here, is_a_restart, judges, known_by, next_is, none_read, past_on, scanning_on}
+use Rattle.dali_reload.proofs.Passes.{AreAmong, Ends, IsScanning, Judges, Past, closing, end_is, found_here, judges, known_by, next_is, none_read, past_on, scanning_on}
 use Rattle.dali_reload.proofs.Lists.{done_first, front_first, last_pushed, pushed_first, records_pushed, records_so_far, records_with, so_far, so_far_push, with_batch}
 use Rattle.dali_reload.proofs.Runs.{batches_long, before_record, behind_record, done_stands, record_stands}
 use Rattle.dali_reload.proofs.Tails.{closed_here}
@@ -87,9 +88,6 @@ scans_on log s F r x y n ds on z = record {
 }
 
 -- ---- one record more
-no_length : (rs : List Record) → length rs ≡ 0 → rs ≡ []
-no_length [] e = refl
-no_length (r ∷ rs) e = absurd (omega (arith, e))
 
 first_is_none : (done : List Record) → is_first done ≡ true → done ≡ []
 first_is_none [] e = refl
@@ -377,7 +375,7 @@ module _ (log : List ℕ) (s : Sizes) (F : Files) (ds : List Told) (r t : Readin
 
       new : (known_by s F all).number ≡ (known_by s F all).first → Judges ds (known_by s F all).first x
       new e =
-          let none : (known_by s F all).seen ≡ [] = no_length (known_by s F all).seen (omega (arith, e, b.stands.counted)) in
+          let none : (known_by s F all).seen ≡ [] = nil_from_length (known_by s F all).seen (omega (arith, e, b.stands.counted)) in
           let failed : (known_by s F all).failed ≡ true = ((tells_unscanned s F all x b).0 ((pass.1 found).scanning.fresh e)).0 bad in
           let good : (known_by s F all).failed ≡ false = sym b.stands.fails ∙ ap (list_any is_audit_fail) none in absurd (cc)
 

@@ -1,15 +1,16 @@
 -- Batches and the records of one more.
 use Rattle.std.proofs.Common.{◌≡◌, ℕ, Bool, true, false, List, [], ◌∷◌, ◌++◌, refl, ap, sym, ◌∙◌, drop, append_assoc}
-use Rattle.std.specs.Prelude.{◌&&◌, ◌||◌, not, replicate}
+use Rattle.std.specs.Prelude.{◌||◌, not, replicate}
 use Rattle.std.specs.List.{list_all, list_any}
 use Rattle.std.proofs.lemmas.List.{append-nil, drop_at, length-replicate}
 use Rattle.std.proofs.lemmas.List.Concat.{flat_map-append}
 use Rattle.std.proofs.lemmas.List.Folds.{list_all-append, list_any-append}
+use Rattle.std.proofs.lemmas.Bool.{and_from, not-true}
+use Rattle.dali_lists.proofs.Tests.{left_true, right_true}
 use Rattle.dali_record.specs.declared.records.Record.{Record}
 use Rattle.dali_record.specs.declared.records.Record.TheVariants.{AuditBegin}
 use Rattle.dali_record.specs.Files.{is_restarted, is_restarted_first}
 use Rattle.dali_record.specs.Log.{last_of}
-use Rattle.dali_counts.proofs.Lists.{and_left, and_right}
 use Rattle.dali_resume.specs.Batches.{records_of}
 use Rattle.dali_resume.specs.Rules.{ends_restarted}
 
@@ -42,30 +43,19 @@ records_pushed front done r =
 pub front_first : (front : List (List Record)) (done : List Record) → list_all is_restarted_first (so_far front done) ≡ true
     → list_all is_restarted_first front ≡ true
 front_first front [] e = e
-front_first front (d ∷ ds) e = and_left (list_all is_restarted_first front) _ (sym (list_all-append is_restarted_first front ((d ∷ ds) ∷ [])) ∙ e)
+front_first front (d ∷ ds) e = left_true (list_all is_restarted_first front) _ (sym (list_all-append is_restarted_first front ((d ∷ ds) ∷ [])) ∙ e)
 
 pub done_first : (front : List (List Record)) (done : List Record) → list_all is_restarted_first (so_far front done) ≡ true → is_restarted_first done ≡ true
 done_first front [] e = refl
-done_first front (d ∷ ds) e = and_left (is_restarted_first (d ∷ ds)) true (and_right (list_all is_restarted_first front) _ (sym (list_all-append is_restarted_first front ((d ∷ ds) ∷ [])) ∙ e))
-
-both : (a b : Bool) → a ≡ true → b ≡ true → (a && b) ≡ true
-both a b e f = ap (λ c. c && b) e ∙ f
+done_first front (d ∷ ds) e = left_true (is_restarted_first (d ∷ ds)) true (right_true (list_all is_restarted_first front) _ (sym (list_all-append is_restarted_first front ((d ∷ ds) ∷ [])) ∙ e))
 
 pub with_batch : (front : List (List Record)) (b : List Record) → list_all is_restarted_first front ≡ true → is_restarted_first b ≡ true
     → list_all is_restarted_first (front ++ b ∷ []) ≡ true
 with_batch front b e f =
-    list_all-append is_restarted_first front (b ∷ []) ∙ both (list_all is_restarted_first front) _ e (both (is_restarted_first b) true f refl)
-
-no_one_left : (a b : Bool) → (a || b) ≡ false → a ≡ false
-no_one_left true b e = absurd (cc)
-no_one_left false b e = refl
-
-not_false : (b : Bool) → not b ≡ true → b ≡ false
-not_false true e = absurd (cc)
-not_false false e = refl
+    list_all-append is_restarted_first front (b ∷ []) ∙ and_from (list_all is_restarted_first front) _ e (and_from (is_restarted_first b) true f refl)
 
 pub none_behind : (d : Record) (ds : List Record) → is_restarted_first (d ∷ ds) ≡ true → list_any is_restarted ds ≡ false
-none_behind d ds e = not_false (list_any is_restarted ds) e
+none_behind d ds e = not-true (list_any is_restarted ds) e
 
 pub pushed_first : (done : List Record) (r : Record) → is_restarted_first done ≡ true → (is_restarted r ≡ true → done ≡ [])
     → is_restarted_first (done ++ r ∷ []) ≡ true

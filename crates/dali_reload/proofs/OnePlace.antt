@@ -12,7 +12,7 @@ use Rattle.dali_batch.specs.Batch.{batch, batches}
 use Rattle.dali_batch.specs.Finding.{BatchAt, IsBad}
 use Rattle.dali_batch.specs.Log.{AreSpelled, BadBehind, IsRun, NoRecordAt, bodies, body_bytes}
 use Rattle.dali_batch.proofs.Fronts.{open_of_batch}
-use Rattle.dali_batch.proofs.Unique.{front_of, same_batch, same_place, some_bytes, whole_is_good}
+use Rattle.dali_batch.proofs.Unique.{front_of, same_batch, same_place, some_bytes, whole_is_good, no_batch}
 use Rattle.dali_resume.specs.Again.{Outcome}
 use Rattle.dali_resume.specs.Batches.{bad_of, earlier, misplaced, records_of, verdict_over}
 use Rattle.dali_resume.specs.Onward.{HandedOut, Misfit as NamedMisfit, goes_through, hands_on, verdict_by}
@@ -21,7 +21,7 @@ use Rattle.dali_resume.proofs.Batches.{finds_misplaced}
 use Rattle.dali_resume.proofs.Walks.{finds_first_bad}
 use Rattle.dali_reload.specs.Laws.{OneBadPlace}
 use Rattle.dali_reload.specs.Reading.{FailsAt, HasRecords, IsBadBehind, Passes}
-use Rattle.dali_reload.proofs.Tails.{More, both, no_batch, run_is}
+use Rattle.dali_reload.proofs.Tails.{More, both, run_is}
 
 -- ---- two runs from one place
 two_runs : (log : List ℕ) (p : ℕ) (L M : List (List Record)) (q r : ℕ) → IsRun log p L q → IsRun log p M r

@@ -6,23 +6,25 @@ use Rattle.std.proofs.lemmas.Bool.{cases_eq, eqb-true}
 use Rattle.std.proofs.lemmas.List.{append-nil}
 use Rattle.std.proofs.lemmas.List.Elements.{Contains-append_cases, Contains-append_right, Contains-push_cases}
 use Rattle.std.proofs.lemmas.List.Sums.{fold-append, fold_push}
+use Rattle.dali_lists.proofs.Members.{contains_none, contains_first}
+use Rattle.dali_lists.proofs.Tests.{left_true, right_true}
 use Rattle.dali_geometry.specs.Sizes.{Sizes}
 use Rattle.dali_record.specs.declared.records.Record.{Record}
 use Rattle.dali_record.specs.declared.records.Record.TheVariants.{Format, Begin, Forward, Done, Commit, Ended, Solo, AuditBegin, AuditClean, AuditFail, Restarted, Back}
 use Rattle.dali_record.specs.Damage.{Damage}
 use Rattle.dali_record.specs.Epochs.{separates}
 use Rattle.dali_record.specs.Files.{Files, is_restarted}
-use Rattle.dali_counts.proofs.Lists.{and_left, and_right}
 use Rattle.dali_batch.specs.Log.{TailOf}
 use Rattle.dali_resume.specs.Batches.{records_of}
 use Rattle.dali_resume.specs.Laws.{is_audit_fail}
 use Rattle.dali_resume.specs.Onward.{Going, goes_through, going_at, going_next}
 use Rattle.dali_resume.specs.Tests.{Known, may_follow}
+use Rattle.dali_resume.proofs.Batches.{is_a_restart}
 use Rattle.dali_recovery.specs.Laws.{IsBehind, damage_through}
 use Rattle.dali_recovery.specs.Standing.{EndsScanned, IsFor, SameDamage, Stands, Takes, is_unscanned}
 use Rattle.dali_recovery.specs.declared.recovery.Damage.{Damage as Told}
 use Rattle.dali_recovery.specs.declared.recovery.Recovery.{Recovery}
-use Rattle.dali_recovery.proofs.Whole.{plain_further, stays_assumed, tells_unscanned}
+use Rattle.dali_recovery.proofs.Whole.{plain_further, stays_assumed, tells_unscanned, number_through}
 use Rattle.dali_reload.specs.Laws.{FindsLater}
 use Rattle.dali_reload.specs.Reading.{HasRecords}
 use Rattle.dali_reload.specs.Scanning.{AreFound, AreSome, HasDamageFor, ScansKnown, damages_on, damages_through, told_of}
@@ -30,48 +32,36 @@ use Rattle.dali_reload.proofs.Lists.{records_with}
 use Rattle.dali_reload.proofs.Tails.{Meets, Ahead, Here, Behind, has_batch, meets, one_tail}
 
 -- ---- lists
-none_in : {X : Type 0} (x : X) → Contains [] x → ⊥
-none_in x c = omega (arith, c.1)
-
-here_in : {X : Type 0} (d : X) (ds : List X) → Contains (d ∷ ds) d
-here_in d ds = (0, omega arith, refl)
 
 later_in : {X : Type 0} (d : X) (ds : List X) (e : X) → Contains ds e → Contains (d ∷ ds) e
 later_in d ds e c = Contains-append_right (d ∷ []) ds e c
 
 cases_in : {X : Type 0} (d : X) (ds : List X) (e : X) → Contains (d ∷ ds) e → (d ≡ e) ⊎ Contains ds e
 cases_in d ds e c =
-    ⊎_elim (λ z. ⊎_elim (λ n. absurd (none_in e n)) (λ q. inl q) (Contains-push_cases [] d e z)) (λ z. inr z) (Contains-append_cases (d ∷ []) ds e c)
+    ⊎_elim (λ z. ⊎_elim (λ n. absurd (contains_none e n)) (λ q. inl q) (Contains-push_cases [] d e z)) (λ z. inr z) (Contains-append_cases (d ∷ []) ds e c)
 
 map_in : {X Y : Type 0} (f : X → Y) (xs : List X) (x : X) → Contains xs x → Contains (map f xs) (f x)
-map_in f [] x c = absurd (none_in x c)
+map_in f [] x c = absurd (contains_none x c)
 map_in f (y ∷ ys) x c =
-    ⊎_elim (λ (e : y ≡ x). subst (λ z. Contains (f y ∷ map f ys) (f z)) e (here_in (f y) (map f ys))) (λ z. later_in (f y) (map f ys) (f x) (map_in f ys x z)) (cases_in y ys x c)
+    ⊎_elim (λ (e : y ≡ x). subst (λ z. Contains (f y ∷ map f ys) (f z)) e (contains_first (f y) (map f ys))) (λ z. later_in (f y) (map f ys) (f x) (map_in f ys x z)) (cases_in y ys x c)
 
 map_from : {X Y : Type 0} (f : X → Y) (xs : List X) (y : Y) → Contains (map f xs) y → (x : X) × Contains xs x × (f x ≡ y)
-map_from f [] y c = absurd (none_in y c)
+map_from f [] y c = absurd (contains_none y c)
 map_from f (x ∷ xs) y c =
-    ⊎_elim (λ (e : f x ≡ y). (x, here_in x xs, e)) (λ z. let w = map_from f xs y z in (w.0, later_in x xs w.0 w.1, w.2)) (cases_in (f x) (map f xs) y c)
+    ⊎_elim (λ (e : f x ≡ y). (x, contains_first x xs, e)) (λ z. let w = map_from f xs y z in (w.0, later_in x xs w.0 w.1, w.2)) (cases_in (f x) (map f xs) y c)
 
 -- ---- kinds of record
-pub is_a_restart : (r : Record) → is_restarted r ≡ true → (rs ds : List ℕ) × (r ≡ Restarted rs ds)
-is_a_restart (Restarted rs ds) e = (rs, ds, refl)
-is_a_restart _ e = absurd (cc)
 
 not_none : (n : ℕ) → 0 < n → (n == 0) ≡ true → ⊥
 not_none n some e = omega (arith, some, eqb-true n 0 e)
 
 inside : (s : Sizes) (n : ℕ) (k : Known) (r : Record) → 0 < k.number → may_follow s n k r ≡ true → is_restarted r ≡ false → separates r ≡ false
 inside s n k (Restarted rs ds) some e f = absurd (cc)
-inside s n k (Format i h) some e f = absurd (not_none k.number some (and_left (k.number == 0) _ e))
+inside s n k (Format i h) some e f = absurd (not_none k.number some (left_true (k.number == 0) _ e))
 inside s n k _ some e f = refl
 
 abbrev pub closing : Record
 closing = Restarted [] []
-
-number_through : (s : Sizes) (n : ℕ) (Q : List Record) (c : Going) → (fold (going_next s n) c Q).known.number ≡ c.known.number + length Q
-number_through s n [] c = omega arith
-number_through s n (r ∷ Q) c = omega (arith, number_through s n Q (going_next s n c r))
 
 module _ (s : Sizes) (F : Files) where
   abbrev step : Going → Record → Going
@@ -137,7 +127,7 @@ module _ (s : Sizes) (F : Files) where
   closed_damage Q r e f = ap (λ b. cond b (damage_through s F Q ∷ []) []) (ap (λ b. b && (known_by Q).failed) e ∙ f)
 
   between : (Z Q : List Record) (e : Damage) → Contains (damages_on s F Q Z) e → ((known_by Q).first ≤ e.first) × (e.first < (known_by (Q ++ Z)).first)
-  between [] Q e c = absurd (none_in e c)
+  between [] Q e c = absurd (contains_none e c)
   between (r ∷ Z) Q e c = by_test (λ m. later (between Z (Q ++ r ∷ []) e m)) (is_restarted r && (known_by Q).failed) refl c
     where
       later : ((known_by (Q ++ r ∷ [])).first ≤ e.first) × (e.first < (known_by ((Q ++ r ∷ []) ++ Z)).first)
@@ -154,7 +144,7 @@ module _ (s : Sizes) (F : Files) where
       by_test : (Contains (damages_on s F (Q ++ r ∷ []) Z) e → ((known_by Q).first ≤ e.first) × (e.first < (known_by (Q ++ r ∷ Z)).first))
           → (b : Bool) → is_restarted r && (known_by Q).failed ≡ b → Contains (cond b (damage_through s F Q ∷ damages_on s F (Q ++ r ∷ []) Z) (damages_on s F (Q ++ r ∷ []) Z)) e
           → ((known_by Q).first ≤ e.first) × (e.first < (known_by (Q ++ r ∷ Z)).first)
-      by_test more true k m = ⊎_elim (here (and_left (is_restarted r) _ k)) more (cases_in (damage_through s F Q) (damages_on s F (Q ++ r ∷ []) Z) e m)
+      by_test more true k m = ⊎_elim (here (left_true (is_restarted r) _ k)) more (cases_in (damage_through s F Q) (damages_on s F (Q ++ r ∷ []) Z) e m)
       by_test more false k m = more m
 
   before : (Q : List Record) (e : Damage) → Contains (damages_through s F Q) e → e.first < (known_by Q).first
@@ -180,7 +170,7 @@ module _ (s : Sizes) (F : Files) where
   has_here Q Y w k f =
       Contains-append_right (damages_through s F Q) (damages_on s F Q (w ∷ Y)) (damage_through s F Q)
       (subst (λ b. Contains (cond b (damage_through s F Q ∷ damages_on s F (Q ++ w ∷ []) Y) (damages_on s F (Q ++ w ∷ []) Y)) (damage_through s F Q))
-      (sym (ap (λ b. b && (known_by Q).failed) k ∙ f)) (here_in (damage_through s F Q) (damages_on s F (Q ++ w ∷ []) Y)))
+      (sym (ap (λ b. b && (known_by Q).failed) k ∙ f)) (contains_first (damage_through s F Q) (damages_on s F (Q ++ w ∷ []) Y)))
 
 pub finds_later : FindsLater
 finds_later log s F es d f =
@@ -391,5 +381,5 @@ module _ (log : List ℕ) (s : Sizes) (F : Files) (ds : List Told) where
             by_judgement (inl w) (inr z) = let bad : is_unscanned y ≡ true = ((tells_unscanned s F Q y b).0 w.1).1 f in cc
 
         none_closed : (c : Bool) → is_restarted g && (known_by s F Q).failed ≡ c → cond c (damage_through s F Q ∷ []) [] ≡ []
-        none_closed true e = absurd (not_both (and_left (is_restarted g) _ e) (and_right (is_restarted g) _ e))
+        none_closed true e = absurd (not_both (left_true (is_restarted g) _ e) (right_true (is_restarted g) _ e))
         none_closed false e = refl

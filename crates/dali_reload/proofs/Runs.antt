@@ -2,6 +2,7 @@
 use Rattle.std.proofs.Common.{◌≡◌, ◌⊎◌, inl, inr, ℕ, ◌+◌, ◌≤◌, ◌<◌, List, [], ◌∷◌, ◌++◌, refl, ap, sym, subst, ◌∙◌, arith, length, take, drop, append_assoc, length-append, take-append-drop}
 use Rattle.std.specs.List.{AllByRecursion}
 use Rattle.std.proofs.lemmas.List.{append-nil, drop-drop, drop_at, take_at}
+use Rattle.dali_lists.proofs.Lists.{push-not_nil}
 use Rattle.dali_record.specs.declared.records.Record.{Record}
 use Rattle.dali_record.specs.Spelling.{spelling}
 use Rattle.dali_batch.specs.declared.reader.Placed.{Placed}
@@ -72,10 +73,6 @@ run_pop log p front b q run = record {
 within_has : (log : List ℕ) (p : ℕ) (front : List (List Record)) (done : List Record) (r : Reading) → IsWithin log p front done r → HasRecords log p front done
 within_has log p front done r w = record { place = w.place; run = w.good; spelled = w.spelled; rest = w.begins.0; batch = subst (BatchAt log w.place) w.begins.1 w.batch }
 
-no_push : (done : List Record) (r : Record) → done ++ r ∷ [] ≡ [] → ⊥
-no_push [] r e = cc
-no_push (d ∷ ds) r e = cc
-
 pub done_stands : (log : List ℕ) (p : ℕ) (front : List (List Record)) (done : List Record) (r : Reading) → IsReadFrom log p front done r
     → (done ≡ []) ⊎ HasRecords log p front done
 done_stands log p front done r read = by_place read.stands
@@ -93,7 +90,7 @@ record_stands log p front done g t h = by_sum h.goes
     more = done ++ g.entry ∷ []
 
     begun : ((t.at ≡ t.end) × IsRun log p front t.at × (more ≡ [])) ⊎ ((t.at < t.end) × IsWithin log p front more t) → HasRecords log p front more
-    begun (inl z) = absurd (no_push done g.entry z.2)
+    begun (inl z) = absurd (push-not_nil done g.entry z.2)
     begun (inr z) = within_has log p front more t z.1
 
     ended : ((t.at ≡ t.end) × IsRun log p (front ++ more ∷ []) t.at × (none ≡ [])) ⊎ ((t.at < t.end) × IsWithin log p (front ++ more ∷ []) [] t)
@@ -126,7 +123,7 @@ behind_record log p front done g t h = by_sum h.goes
 
     begun : ((t.at ≡ t.end) × IsRun log p front t.at × (more ≡ [])) ⊎ ((t.at < t.end) × IsWithin log p front more t)
         → place_of p front done + length (spelling g.entry) ≤ t.at
-    begun (inl z) = absurd (no_push done g.entry z.2)
+    begun (inl z) = absurd (push-not_nil done g.entry z.2)
     begun (inr z) = omega (arith, z.1.reached, z.1.good.place, long)
 
     ended : ((t.at ≡ t.end) × IsRun log p (front ++ more ∷ []) t.at × (none ≡ [])) ⊎ ((t.at < t.end) × IsWithin log p (front ++ more ∷ []) [] t)

@@ -6,10 +6,10 @@ use Rattle.dali_record.specs.declared.records.Record.{Record}
 use Rattle.dali_record.specs.Spelling.{spelling}
 use Rattle.dali_record.proofs.Spelled.{one_begins}
 use Rattle.dali_batch.specs.Batch.{IsBody, IsClosedAt, IsOpenAt, batch, batches}
-use Rattle.dali_batch.specs.Finding.{BatchAt, IsBad, NoBatch}
+use Rattle.dali_batch.specs.Finding.{BatchAt, IsBad}
 use Rattle.dali_batch.specs.Log.{AreSpelled, BadBehind, IsRun, NoRecordAt, TailOf, bodies, body_bytes}
 use Rattle.dali_batch.proofs.Fronts.{open_of_batch}
-use Rattle.dali_batch.proofs.Unique.{front_of, same_batch, same_records, whole_is_good}
+use Rattle.dali_batch.proofs.Unique.{front_of, same_batch, same_records, whole_is_good, no_batch}
 use Rattle.dali_resume.specs.Batches.{records_of}
 use Rattle.dali_reload.specs.Reading.{HasRecords}
 use Rattle.dali_reload.proofs.Lists.{records_with}
@@ -125,8 +125,6 @@ meets log p L M rs g r one two =
         Behind (omega (arith, ap (λ (z : List (List Record)). length (records_of z)) w.goes, ap length (records_with M w.next w.others), length-append (records_of M) (w.next ++ records_of w.others), length-append w.next (records_of w.others), ap length front.2, length-append (records_of L) rs))
 
 -- ---- no place is bad
-pub no_batch : (log : List ℕ) (q : ℕ) (body : List ℕ) → BatchAt log q body → NoBatch log q → ⊥
-no_batch log q body found none = none.none body found.1 found.0 (sym (drop-drop 1 q log) ∙ ap (λ (l : List ℕ). drop 1 l) found.2)
 
 pub none_bad : (log : List ℕ) (p : ℕ) (L M : List (List Record)) (e at : ℕ) → BadBehind log p L at → TailOf log p M e → ⊥
 none_bad log p L M e at b tail = ⊎_elim (λ w. ended w.1 b.bad) (λ w. goes w b.bad) (fork log p L M b.place e b.good tail)

@@ -3,16 +3,16 @@ use Rattle.std.proofs.Common.{◌≡◌, ◌≤◌, ℕ, ◌+◌, Bool, true, fa
 use Rattle.std.specs.Prelude.{◌||◌, fold, nat_le}
 use Rattle.std.specs.List.{list_all, list_any}
 use Rattle.std.proofs.lemmas.Bool.{leb-true, le-leb}
+use Rattle.dali_lists.proofs.Options.{some_same, some_of}
+use Rattle.dali_lists.proofs.Tests.{left_true, right_true}
 use Rattle.dali_geometry.specs.Sizes.{Sizes}
 use Rattle.dali_record.specs.declared.records.Record.{Record}
 use Rattle.dali_record.specs.Files.{Files, is_restarted, is_restarted_first}
-use Rattle.dali_counts.proofs.Lists.{and_left, and_right, some_same}
 use Rattle.dali_resume.specs.Again.{Outcome}
 use Rattle.dali_resume.specs.Batches.{bad_of, earlier, either_place, first_restarted, further, misplaced, misplaced_in, records_of, verdict_over}
 use Rattle.dali_resume.specs.Onward.{HandedOut, Misfit as NamedMisfit, goes_through, hands_on, verdict_by}
 use Rattle.dali_resume.specs.Tests.{Known, first_bad, known_at, known_next, may_follow, one_later, test_next, tests}
-use Rattle.dali_resume.proofs.Batches.{answers_over_batches, finds_misplaced}
-use Rattle.dali_resume.proofs.Onward.{some_is}
+use Rattle.dali_resume.proofs.Batches.{answers_over_batches, finds_misplaced, one_some, good_batch}
 use Rattle.dali_resume.proofs.Reached.{none_passes}
 use Rattle.dali_recovery.specs.Laws.{IsBehind, IsHandedOut, outcome_of}
 use Rattle.dali_recovery.specs.Standing.{Fails, HandsOn}
@@ -37,10 +37,6 @@ handed s F bs x o b first h =
 -- ---- places that come late
 abbrev IsLate : ℕ → Option ℕ → Type 0
 IsLate n o = (j : ℕ) → o ≡ Some j → n ≤ j
-
-one_some : (o : Option ℕ) (i : ℕ) → one_later o ≡ Some i → (j : ℕ) × (o ≡ Some j) × (i ≡ j + 1)
-one_some None i e = absurd (cc)
-one_some (Some j) i e = (j, refl, sym (some_same e))
 
 further_some : (n : ℕ) (o : Option ℕ) (i : ℕ) → further n o ≡ Some i → (j : ℕ) × (o ≡ Some j) × (i ≡ n + j)
 further_some n None i e = absurd (cc)
@@ -95,18 +91,6 @@ bad_here s F Q Z x y r b f =
     ∙ named F.first (length Q) (hands_on s (goes_through s F (drop F.first L))) (first_bad s F.first (known_at F.first F.next F.table) (drop F.first L)) (names_misfit s F L Q Z x y r b same f).0
 
 -- ---- the places of restarts
-any_none : (b : List Record) → list_any is_restarted b ≡ false → first_restarted b ≡ None
-any_none [] e = refl
-any_none (r ∷ b) e = by_test (is_restarted r) (any_none b) e
-  where
-    by_test : (c : Bool) → (list_any is_restarted b ≡ false → first_restarted b ≡ None) → (c || list_any is_restarted b) ≡ false
-        → cond c (Some 0) (one_later (first_restarted b)) ≡ None
-    by_test true rest f = absurd (cc)
-    by_test false rest f = ap one_later (rest f)
-
-good_batch : (b : List Record) → is_restarted_first b ≡ true → misplaced_in b ≡ None
-good_batch [] e = refl
-good_batch (r ∷ b) e = ap one_later (any_none b (none_behind r b e))
 
 further_zero : (o : Option ℕ) → o ≡ further 0 o
 further_zero None = refl
@@ -120,8 +104,8 @@ front_misplaced : (front more : List (List Record)) → list_all is_restarted_fi
     → misplaced (front ++ more) ≡ further (length (records_of front)) (misplaced more)
 front_misplaced [] more e = further_zero (misplaced more)
 front_misplaced (b ∷ front) more e =
-    ap (λ o. either_place o (further (length b) (misplaced (front ++ more)))) (good_batch b (and_left (is_restarted_first b) _ e))
-    ∙ (ap (further (length b)) (front_misplaced front more (and_right (is_restarted_first b) _ e))
+    ap (λ o. either_place o (further (length b) (misplaced (front ++ more)))) (good_batch b (left_true (is_restarted_first b) _ e))
+    ∙ (ap (further (length b)) (front_misplaced front more (right_true (is_restarted_first b) _ e))
     ∙ (further_twice (length b) (length (records_of front)) (misplaced more)
     ∙ ap (λ n. further n (misplaced more)) (sym (length-append b (records_of front)))))
 
@@ -175,7 +159,7 @@ module _ (s : Sizes) (F : Files) (front : List (List Record)) (done : List Recor
   verdict_at e = ap (verdict_by F.first (hands_on s (goes_through s F (records_of whole)))) e
 
   known : (k : Known) × (tests s F.first (known_at F.first F.next F.table) (records_of front ++ done) ≡ Some k)
-  known = some_is (tests s F.first (known_at F.first F.next F.table) (records_of front ++ done)) b.passed
+  known = some_of (tests s F.first (known_at F.first F.next F.table) (records_of front ++ done)) b.passed
 
   pub fails_rule : (y : Recovery) → Fails x y r Misfit → verdict_over s F whole ≡ NamedMisfit (F.first + number)
   fails_rule y f = verdict_at (earlier_first (bad_of s F whole) (misplaced whole) number bad late)

@@ -5,6 +5,7 @@ use Rattle.std.specs.List.{AllByRecursion}
 use Rattle.std.proofs.lemmas.List.{drop-append-le}
 use Rattle.std.proofs.lemmas.List.Concat.{flat_map-append}
 use Rattle.std.proofs.lemmas.List.Sums.{sum_by-cons}
+use Rattle.dali_lists.proofs.Members.{all_left}
 use Rattle.dali_geometry.specs.Sizes.{Sizes}
 use Rattle.dali_record.specs.declared.records.Record.{Record}
 use Rattle.dali_record.specs.Epochs.{last_epoch}
@@ -25,6 +26,7 @@ use Rattle.dali_resume.proofs.Batches.{answers_over_batches, fits_in_batches}
 use Rattle.dali_resume.proofs.Stopped.{resumes_histories}
 use Rattle.dali_resume.proofs.Through.{resumes_through}
 use Rattle.dali_recovery.specs.Laws.{outcome_of}
+use Rattle.dali_recovery.proofs.Whole.{handed_same}
 use Rattle.dali_reload.specs.Laws.{IsSpelledOut, IsWholeLog, OneReading, ReadsHistory, ReadsLegal}
 use Rattle.dali_reload.specs.Reading.{FailsAt, IsBadBehind, IsReloaded}
 use Rattle.dali_reload.specs.declared.reading.Reloaded.{Reloaded}
@@ -44,16 +46,9 @@ batches_length (rs ∷ L) all =
     length-append (batch (body_bytes rs)) (batches (bodies L))
     ∙ (ap (λ n. n + length (batches (bodies L))) one ∙ (ap (λ n. batch_length rs + n) (batches_length L all.1) ∙ sym (sum_by-cons batch_length rs L)))
 
-all_left : {X : Type 0} (P : X → Type 0) (L M : List X) → AllByRecursion P (L ++ M) → AllByRecursion P L
-all_left P [] M all = tt
-all_left P (x ∷ L) M all = (all.0, all_left P L M all.1)
-
 -- ---- any log that is read to an end
-apart : (o : Outcome) (m : ℕ) → HandedOut o ≡ NamedMisfit m → ⊥
+pub apart : (o : Outcome) (m : ℕ) → HandedOut o ≡ NamedMisfit m → ⊥
 apart o m e = cc
-
-handed_same : (a b : Outcome) → HandedOut a ≡ HandedOut b → a ≡ b
-handed_same a b e = cc
 
 good_tail : (log : List ℕ) (s : Sizes) (F : Files) (bs : List (List Record)) (end : ℕ) (o : Outcome) → TailOf log F.place bs end
     → verdict_over s F bs ≡ HandedOut o

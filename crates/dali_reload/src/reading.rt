@@ -53,15 +53,15 @@ fn take_at(recovery: &mut Recovery, given: &Placed) -> Result<(), ReloadError>
 pub(crate) fn take_next(
     recovery: &mut Recovery,
     counts: Counts,
-    given: Placed,
+    given: &Placed,
 ) -> Result<Counts, ReloadError>
-    requires { CanBeSpelled given.entry }
-    ensures ok { IfOk result (λ more. TakesNext recovery.old recovery.new counts given more) }
+    requires { CanBeSpelled given.now.entry }
+    ensures ok { IfOk result (λ more. TakesNext recovery.old recovery.new counts given.now more) }
     ensures ordered { OnOk result (KeepsOrder recovery.old recovery.new) }
-    ensures err { IfErr result (λ e. RefusesAt recovery.old recovery.new given e) }
+    ensures err { IfErr result (λ e. RefusesAt recovery.old recovery.new given.now e) }
 {
-    take_at(recovery, &given)?;
-    Ok(counts.with(&given))
+    take_at(recovery, given)?;
+    Ok(counts.with(given))
 }
 
 // What the recovery hands out at the log's end, which is this place.

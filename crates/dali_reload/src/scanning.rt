@@ -12,7 +12,8 @@ ghost use Rattle.dali_reload.specs.Scanning.{HasDamageFor, ScansKnown, IfWhole, 
 use crate::counts::Counts;
 use crate::error::ReloadError;
 use crate::reading::{Reloaded, finish_at, take_next};
-use dali_batch::LogReader;
+use dali_batch::{LogReader, Placed};
+use dali_record::Record;
 use dali_recovery::{Damage, Recovery};
 use dali_store::Store;
 
@@ -83,9 +84,15 @@ pub fn read_scanned<V: Store>(
 {
     let mut recovery = recovery;
     let mut counts = Counts::new();
-    'records: while let Some(given) = reader.next(store)? {
+    // one place for all records, so that none is moved
+    let mut given = Placed {
+        entry: Record::AuditBegin,
+        at: 0,
+        first: false,
+    };
+    'records: while reader.next_into(store, &mut given)? {
         scan_known(&mut recovery, known)?;
-        match take_next(&mut recovery, counts, given) {
+        match take_next(&mut recovery, counts, &given) {
             Ok(more) => counts = more,
             Err(ReloadError::Unscanned) => return Ok(Pass::Damaged(recovery.into_damage())),
             Err(error) => return Err(error),

@@ -2,8 +2,9 @@
 use Rattle.std.proofs.Common.{◌≡◌, ℕ, List, [], ◌∷◌, ◌++◌, length, ap, refl, arith, length-append}
 use Rattle.std.proofs.lemmas.List.{append-nil}
 use Rattle.dali_bytes.specs.Fields.{number32}
+use Rattle.dali_bytes.proofs.Numbers.{length-number32}
 use Rattle.dali_record.specs.Spelling.{words_bytes}
-use Rattle.dali_record.proofs.Lengths.{number32_is_4, words_are_8}
+use Rattle.dali_record.proofs.Lengths.{words_are_8}
 use Rattle.dali_store.specs.Store.{Files}
 use Rattle.dali_batch.specs.Batch.{IsClosedAt}
 use Rattle.dali_batch.specs.Appending.{SomeAdded}
@@ -20,8 +21,8 @@ body_length rs ds =
       length-append (number32 (length rs) ++ words_bytes rs) (number32 (length ds) ++ words_bytes ds),
       length-append (number32 (length rs)) (words_bytes rs),
       length-append (number32 (length ds)) (words_bytes ds),
-      number32_is_4 (length rs),
-      number32_is_4 (length ds),
+      length-number32 (length rs),
+      length-number32 (length ds),
       words_are_8 rs,
       words_are_8 ds,
     )

@@ -9,6 +9,7 @@ use Rattle.dali_record.specs.Spelling.{words_bytes}
 use Rattle.dali_record.proofs.Lengths.{words_are_8}
 use Rattle.dali_store.specs.declared.store.FileName.{FileName}
 use Rattle.dali_store.specs.Store.{Files, file_of, Holds, HoldsIn}
+use Rattle.dali_traces.proofs.Ordered.{reaches}
 
 -- nothing was written
 holds_none : (p : ℕ) (xs : List ℕ) → Holds xs p [] xs
@@ -37,10 +38,6 @@ holds_then p old mid new us bs within one two =
         ∙ (ap (drop (length bs)) behind
         ∙ (drop-drop (length bs) (p + length us) old
         ∙ ap (λ (k : ℕ). drop k old) (let e : p + length us + length bs ≡ p + length (us ++ bs) = omega (arith, length-append us bs) in e)))
-
-reaches : (old new bs : List ℕ) (p : ℕ) → p ≤ length old → Holds old p bs new → p + length bs ≤ length new
-reaches old new bs p within holds =
-    omega (arith, ap length holds, length-append (take p old ++ bs) (drop (p + length bs) old), length-append (take p old) bs, length-take-le p old within)
 
 -- ---- the same of one file among four
 pub held_none : (f : FileName) (p : ℕ) (t : Option Files) → HoldsIn f p [] t t

@@ -4,14 +4,13 @@ use Rattle.std.specs.Prelude.{is_some, sum_by}
 use Rattle.std.specs.List.{AllByRecursion}
 use Rattle.std.proofs.lemmas.List.{append-nil}
 use Rattle.std.proofs.lemmas.List.Sums.{sum_by-append}
+use Rattle.dali_lists.proofs.Lists.{get_push}
 use Rattle.dali_geometry.specs.Places.{regions}
 use Rattle.dali_record.specs.declared.records.Record.{Record}
 use Rattle.dali_record.specs.Blocks.{AreWords}
-use Rattle.dali_record.specs.Epochs.{last_epoch}
 use Rattle.dali_record.specs.Legal.{sizes_of, IsLegalFor}
 use Rattle.dali_record.specs.Spelling.{record_length, spelling}
 use Rattle.dali_record.specs.Files.{Files, batch_length, next_after}
-use Rattle.dali_record.proofs.Ends.{get_new}
 use Rattle.dali_history.specs.Recovered.{recovered}
 use Rattle.dali_region.specs.declared.Side.{Side}
 use Rattle.dali_region.specs.declared.Side.TheVariants.{A, B as SideB}
@@ -22,6 +21,7 @@ use Rattle.dali_store.proofs.Moments.{started, weaker, joins}
 use Rattle.dali_batch.specs.Appending.{next_place, SomeAdded, AllAdded}
 use Rattle.dali_batch.specs.Batch.{IsClosedAt, batches}
 use Rattle.dali_batch.specs.Log.{AreSpelled, bodies, records_in}
+use Rattle.dali_history.proofs.Restarts.{none_in_nothing}
 use Rattle.dali_system.specs.Run.{AllAreWords}
 use Rattle.dali_crash.specs.Checkpoints.{side_of}
 use Rattle.dali_crash.proofs.Closing.{lawful_restarts}
@@ -80,9 +80,6 @@ ready_by old new end n closed logs anchored = record {
 }
 
 -- ---- the image
-has_record : (L : List Record) (r : Record) (E : List Record) → (last_epoch L).records ≡ r ∷ E → 0 < length L
-has_record [] r E some = absurd cc
-has_record (x ∷ L) r E some = omega arith
 
 by_regions : (rs : List (List ℕ)) → AllAreWords rs → AllByRecursion AreWords rs
 by_regions [] each = tt
@@ -92,7 +89,7 @@ module _ (L : List Record) (B : List (List Record)) (n : ℕ) (p : Standing) (wo
   image_fits : p.current < 2 ^ 62 → p.place < 2 ^ 62 → length words ≡ regions p.geometry → CanBeImage p.geometry (head_in (header_at p)) words
   image_fits current place whole =
       heads_fit p.geometry L (head_in (header_at p)) words (subst (λ s. IsLegalFor s L) (sym is.sizes) is.restarting.lawful.legal) is.restarting.lawful.spelled
-      (has_record L is.restarting.some.0 is.restarting.some.1 is.restarting.some.2)
+      (none_in_nothing L is.restarting.some.0 is.restarting.some.1 is.restarting.some.2)
       (record { first = is.first; weight = is.weight; next = is.next; table = inr refl }) (omega (arith, current)) (omega (arith, place)) whole
       (subst (AllByRecursion AreWords) (sym is.image) (by_regions (recovered (sizes_of L) L) (recovered_words L is.restarting.lawful.spelled)))
 
@@ -235,4 +232,4 @@ ends_behind L B n p words rs ds is names =
     ∙ sym (sum_by-append batch_length B ((closing L ∷ []) ∷ []))))
   where
     spelled : AllByRecursion AreSpelled ((closing L ∷ []) ∷ [])
-    spelled = (((lawful_restarts L is.restarting.some.0 is.restarting.some.1 is.restarting.lawful is.restarting.some.2).spelled (length L) (closing L) (get_new L (closing L)), tt), tt)
+    spelled = (((lawful_restarts L is.restarting.some.0 is.restarting.some.1 is.restarting.lawful is.restarting.some.2).spelled (length L) (closing L) (get_push L (closing L)), tt), tt)

@@ -5,7 +5,7 @@ use Rattle.std.proofs.Math.ListN.{drop_of_length-le}
 use Rattle.std.proofs.lemmas.List.{append-nil, take_more, length-take-le, drop-append-le, drop-take, length-drop, take_all}
 use Rattle.std.proofs.lemmas.Grind.{flat_map-append}
 use Rattle.dali_record.specs.declared.records.Record.{Record}
-use Rattle.dali_record.specs.declared.records.Record.TheVariants.{Format, Begin, Forward, Done, Commit, Ended, Solo, AuditBegin, AuditClean, AuditFail, Restarted, Back}
+use Rattle.dali_record.specs.declared.records.Record.TheVariants.{Format, Restarted}
 use Rattle.dali_record.specs.Epochs.{Epoch, Cut, cut, cut_step, epochs}
 use Rattle.dali_record.proofs.Pushes.{cut_push, separates}
 use Rattle.dali_history.proofs.OwnEpoch.{cut_step_more}
@@ -14,17 +14,7 @@ use Rattle.dali_replay.specs.Cutting.{opens, closes, IsCutAt}
 
 opens_is : (r : Record) → opens r ≡ separates r
 opens_is (Format i h) = refl
-opens_is (Begin t) = refl
-opens_is (Forward t b) = refl
-opens_is (Done t c a) = refl
-opens_is (Commit t) = refl
-opens_is (Ended t) = refl
-opens_is (Solo t p b) = refl
-opens_is AuditBegin = refl
-opens_is (AuditClean b) = refl
-opens_is (AuditFail b rs) = refl
-opens_is (Restarted rs ds) = refl
-opens_is (Back t b) = refl
+opens_is _ = refl
 
 pub cut_start : (L : List Record) → IsCutAt L 0 0 []
 cut_start L = record { within = omega arith; number = refl; records = refl; deleted = refl }

@@ -1,11 +1,12 @@
 -- The deleted transactions of an epoch, and of a log.
-use Rattle.std.proofs.Common.{◌≡◌, ℕ, ◌+◌, ◌<◌, Bool, true, false, List, [], ◌∷◌, ◌++◌, length, take, get_or, refl, ap, sym, subst, ◌∙◌}
-use Rattle.std.specs.Prelude.{◌&&◌, ◌||◌, ◌==◌, ◌↔◌, filter, flat_map, fold, Contains, IsPermutation}
+use Rattle.std.proofs.Common.{◌≡◌, ℕ, ◌+◌, ◌<◌, Bool, List, [], ◌∷◌, ◌++◌, length, take, get_or, refl, ap, sym, subst, ◌∙◌}
+use Rattle.std.specs.Prelude.{◌||◌, ◌==◌, ◌↔◌, filter, flat_map, fold, Contains, IsPermutation}
 use Rattle.std.specs.List.{list_any}
 use Rattle.std.proofs.lemmas.List.{length-map, take_more}
 use Rattle.std.proofs.lemmas.List.Folds.{list_any-append}
 use Rattle.std.proofs.lemmas.List.Elements.{filter_map-append, filter_agree, filter-append}
 use Rattle.std.proofs.lemmas.List.Sorted.{Contains-permutation, IsPermutation-sym}
+use mathlib.Core.Bool.{and_comm}
 use Rattle.dali_record.specs.declared.records.Record.{Record}
 use Rattle.dali_record.specs.Log.{commit_by, committed}
 use Rattle.dali_record.specs.Epochs.{Epoch, epochs, clean_step, failing_step}
@@ -41,14 +42,9 @@ deleted_is d first E ks e k =
     ∙ ap (λ x. filter (λ t. has_corrupt (marks x E) t) (committed E)) e
 
 -- ---- the whole log
-turned : (a b : Bool) → (a && b) ≡ (b && a)
-turned true true = refl
-turned true false = refl
-turned false true = refl
-turned false false = refl
 
 deleted_in : (e : Epoch) (t : ℕ) → has (deleted_of e) t ≡ is_deleted_in t e
-deleted_in e t = has_filter (λ u. has_corrupt (marks (damage_of e) e.records) u) (committed e.records) t ∙ turned (has_corrupt (marks (damage_of e) e.records) t) (has (committed e.records) t)
+deleted_in e t = has_filter (λ u. has_corrupt (marks (damage_of e) e.records) u) (committed e.records) t ∙ and_comm (has_corrupt (marks (damage_of e) e.records) t) (has (committed e.records) t)
 
 deleted_among : (es : List Epoch) (t : ℕ) → has (flat_map deleted_of es) t ≡ list_any (is_deleted_in t) es
 deleted_among [] t = refl

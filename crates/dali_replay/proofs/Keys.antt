@@ -6,7 +6,7 @@ use Rattle.dali_record.specs.declared.operations.Block.{Block}
 use Rattle.dali_record.specs.declared.operations.Pending.{Pending}
 use Rattle.dali_record.specs.declared.operations.Undo.{Undo}
 use Rattle.dali_record.specs.declared.records.Record.{Record}
-use Rattle.dali_record.specs.declared.records.Record.TheVariants.{Format, Begin, Forward, Done, Commit, Ended, Solo, AuditBegin, AuditClean, AuditFail, Restarted, Back}
+use Rattle.dali_record.specs.declared.records.Record.TheVariants.{Format, Forward, Back}
 use Rattle.dali_record.specs.Log.{undo_added, undo_step, undos_of, drop_last}
 use Rattle.dali_record.proofs.Ends.{drop_last_push}
 use Rattle.dali_replay.specs.Marking.{key_added, key_step, undo_keys}
@@ -38,15 +38,7 @@ stepped u us (Back t b) = by_txn (t == u)
     by_txn true = map_drop_last (λ p. p.key) us
     by_txn false = refl
 stepped u us (Format i h) = refl
-stepped u us (Begin t) = refl
-stepped u us (Done t c a) = refl
-stepped u us (Commit t) = refl
-stepped u us (Ended t) = refl
-stepped u us (Solo t p b) = refl
-stepped u us AuditBegin = refl
-stepped u us (AuditClean b) = refl
-stepped u us (AuditFail b rs) = refl
-stepped u us (Restarted rs ds) = refl
+stepped u us _ = refl
 
 folded : (u : ℕ) (us : List Pending) (L : List Record) → fold (key_step u) (map (λ p. p.key) us) L ≡ map (λ p. p.key) (fold (undo_step u) us L)
 folded u us [] = refl

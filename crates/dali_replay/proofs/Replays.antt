@@ -9,6 +9,7 @@ use Rattle.std.specs.FinMap.{from_entries, get, find, get-from_entries}
 use Rattle.std.specs.List.Sorted.{IsStrictlyIncreasing}
 use Rattle.std.proofs.lemmas.List.Elements.{filter_agree}
 use Rattle.std.proofs.lemmas.Bool.{both_ways}
+use Rattle.dali_lists.proofs.Tests.{same_tests}
 use Rattle.dali_record.specs.declared.records.Record.{Record}
 use Rattle.dali_record.specs.Damage.{has}
 use Rattle.dali_record.specs.declared.records.Call.{Call}
@@ -23,22 +24,15 @@ use Rattle.dali_replay.specs.Following.{value_at, Comes, Follows, survive_among}
 use Rattle.dali_replay.specs.Replayed.{Replayed, IsReplay}
 use Rattle.dali_replay.proofs.Follows.{calls_then}
 
-find_lookup : (es : List (ℕ × List ℕ)) (q : ℕ) → find nat_cmp q es ≡ lookup (is_at (nat_cmp q)) es
+pub find_lookup : (es : List (ℕ × List ℕ)) (q : ℕ) → find nat_cmp q es ≡ lookup (is_at (nat_cmp q)) es
 find_lookup [] q = refl
 find_lookup (e ∷ es) q = ap (cond (is_at (nat_cmp q) e.0) (Some e.1)) (find_lookup es q)
 
 get_entries : (es : List (ℕ × List ℕ)) (q : ℕ) → get (from_entries {R = nat_cmp} es) q ≡ value_at es q
 get_entries es q = get-from_entries nat_cmp_total es q ∙ find_lookup es q
 
--- tests that are true where the same holds are one
-same_test : (a b : Bool) → (a ≡ true → b ≡ true) → (b ≡ true → a ≡ true) → a ≡ b
-same_test true true f g = refl
-same_test true false f g = sym (f refl)
-same_test false true f g = g refl
-same_test false false f g = refl
-
 among : (L : List Record) (ds : List ℕ) → ((t : ℕ) → Contains ds t ↔ IsDeletedByChain L t) → (t : ℕ) → has ds t ≡ is_deleted L t
-among L ds is t = same_test (has ds t) (is_deleted L t) (λ h. (is_deleted_is_chain L t).1 ((is t).0 (Contains-from_has ds t h))) (λ h. has_from_Contains ds t ((is t).1 ((is_deleted_is_chain L t).0 h)))
+among L ds is t = same_tests (has ds t) (is_deleted L t) (λ h. (is_deleted_is_chain L t).1 ((is t).0 (Contains-from_has ds t h))) (λ h. has_from_Contains ds t ((is t).1 ((is_deleted_is_chain L t).0 h)))
 
 survive : (L : List Record) (ds : List ℕ) → ((t : ℕ) → Contains ds t ↔ IsDeletedByChain L t) → survive_among ds (committed L) ≡ survivors L
 survive L ds is = filter_agree (λ t. not (has ds t)) (λ t. not (is_deleted L t)) (λ t. ap not (among L ds is t)) (committed L)

@@ -1,5 +1,5 @@
 -- What stood before is the front of the text; texts one behind the other.
-use Rattle.std.proofs.Common.{◌≡◌, ℕ, List, [], ◌∷◌, ◌++◌, OnErr, Result, Ok, Err, arith}
+use Rattle.std.proofs.Common.{◌≡◌, ℕ, List, [], ◌∷◌, ◌++◌, arith}
 use Rattle.std.specs.Fmt.{decimal}
 use Rattle.std.proofs.lemmas.Grind.{common_steps}
 use Rattle.dali_report.specs.Texts.{IsFront}
@@ -15,10 +15,6 @@ within (byte ∷ old) text (first ∷ new) front =
 -- where something was added first
 pub front_of : (old text mid new : List ℕ) → mid ≡ old ++ text → IsFront mid new → IsFront old new
 front_of old text mid new added front = within old text new (rw added at front)
-
-pub on_err : {T E P : Type 0} (r : Result T E) → P → OnErr r P
-on_err (Ok x) p = tt
-on_err (Err e) p = p
 
 -- a text, another one behind it, and a number
 pub three : (old name text named all : List ℕ) (number region : ℕ) → named ≡ old ++ (name ++ text) → all ≡ named ++ decimal number → number ≡ region → all ≡ old ++ (name ++ text ++ decimal region)

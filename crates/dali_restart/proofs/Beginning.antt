@@ -1,15 +1,15 @@
 -- Where the disk spells files that are found, their image is what stands there, and a recovery begins behind it.
-use Rattle.std.proofs.Common.{◌≡◌, inl, ℕ, zero, suc, ◌+◌, ◌*◌, ◌<◌, ◌≤◌, ◌^◌, Bool, true, false, List, [], ◌∷◌, ◌++◌, length, drop, take, replicate, None, refl, ap, sym, subst, ◌∙◌, arith, append_assoc, length-append, take-append-drop}
-use Rattle.std.specs.Prelude.{◌&&◌, flat_map, nat_le, sum_by}
+use Rattle.std.proofs.Common.{◌≡◌, inl, ℕ, zero, suc, ◌+◌, ◌*◌, ◌<◌, ◌≤◌, ◌^◌, List, [], ◌∷◌, ◌++◌, length, drop, take, replicate, None, refl, ap, sym, subst, ◌∙◌, arith, append_assoc, length-append, take-append-drop}
+use Rattle.std.specs.Prelude.{flat_map, nat_le, sum_by}
 use Rattle.std.specs.List.{AllByRecursion}
-use Rattle.std.proofs.lemmas.Bool.{leb-true}
+use Rattle.std.proofs.lemmas.Bool.{leb-true, and_parts}
 use Rattle.std.proofs.lemmas.List.{drop_at, drop-drop, take_at}
 use Rattle.std.proofs.lemmas.List.Sums.{sum_by-append, sum_by-cons}
+use Rattle.dali_lists.proofs.Members.{all_append}
 use Rattle.dali_geometry.specs.Sizes.{AreInRange, Sizes}
 use Rattle.dali_geometry.specs.Places.{formatted_image, regions}
 use Rattle.dali_bytes.specs.Cursor.{IsBytes}
-use Rattle.dali_bytes.specs.Fields.{number32, number64}
-use Rattle.dali_bytes.proofs.Numbers.{length-number64}
+use Rattle.dali_bytes.specs.Fields.{number32}
 use Rattle.dali_att.specs.Table.{Table}
 use Rattle.dali_record.specs.declared.operations.Pending.{Pending}
 use Rattle.dali_record.specs.declared.records.Record.{Record}
@@ -18,6 +18,7 @@ use Rattle.dali_record.specs.Blocks.{AreWords}
 use Rattle.dali_record.specs.Files.{Files, batch_length}
 use Rattle.dali_record.specs.Legal.{sizes_of}
 use Rattle.dali_record.specs.Spelling.{CanBeSpelled, words_bytes}
+use Rattle.dali_record.proofs.Lengths.{words_are_8}
 use Rattle.dali_store.specs.Store.{Files as Disk}
 use Rattle.dali_batch.specs.Batch.{IsBody, batch, batches}
 use Rattle.dali_batch.specs.Log.{AreSpelled, HasFormat, LogOf, bodies, body_bytes}
@@ -37,6 +38,7 @@ use Rattle.dali_image.proofs.Again.{tables_are_read_again}
 use Rattle.dali_image.proofs.OneHeader.{heading_is_64}
 use Rattle.dali_resume.specs.Onward.{going_at}
 use Rattle.dali_again.specs.Found.{FindsIt}
+use Rattle.dali_renewal.proofs.Images.{of_side}
 use Rattle.dali_recovery.specs.Standing.{Stands, Starts}
 use Rattle.dali_recovery.specs.declared.recovery.Recovery.{Recovery}
 use Rattle.dali_recovery.proofs.Whole.{begins_behind}
@@ -45,7 +47,6 @@ use Rattle.dali_restart.specs.Opening.{BeginsWith, IsImageIn, IsInRange, IsOpene
 use Rattle.dali_restart.specs.Laws.{IsOneOpening}
 use Rattle.dali_restart.specs.Restarting.{BeginsAt}
 use Rattle.dali_restart.proofs.Bytes.{table_is_bytes}
-use Rattle.dali_restart.proofs.Finding.{of_side}
 use Rattle.dali_restart.proofs.Once.{opens_as}
 use Rattle.dali_restart.proofs.Started.{are_started}
 use Rattle.dali_restart.proofs.Wanted.{right_header}
@@ -83,24 +84,17 @@ begins_by fs (b ∷ L) end log =
       };
     })
 
-both : (a b : Bool) → (a && b) ≡ true → (a ≡ true) × (b ≡ true)
-both true b e = (refl, e)
-both false b e = absurd cc
-
 pub size_in_range : (s : Sizes) → CanBeSpelled (Format s.index s.heap) → AreInRange s
 size_in_range s can =
-    let i = both (nat_le 1 s.index) (nat_le s.index 32768) can.0 in
-    let h = both (nat_le 1 s.heap) (nat_le s.heap 65536) can.1 in
+    let i = and_parts (nat_le 1 s.index) (nat_le s.index 32768) can.0 in
+    let h = and_parts (nat_le 1 s.heap) (nat_le s.heap 65536) can.1 in
     record { some_index = leb-true 1 s.index i.0; few_index = leb-true s.index 32768 i.1; some_heap = leb-true 1 s.heap h.0; few_heap = leb-true s.heap 65536 h.1 }
 
 -- ---- the image's file
-words_length : (ws : List ℕ) → length (words_bytes ws) ≡ 8 * length ws
-words_length [] = refl
-words_length (w ∷ ws) = omega (arith, length-append (number64 w) (words_bytes ws), length-number64 w, words_length ws)
 
 image_length : (image : List (List ℕ)) → AllByRecursion AreWords image → length (flat_map words_bytes image) ≡ 512 * length image
 image_length [] all = refl
-image_length (ws ∷ image) all = omega (arith, length-append (words_bytes ws) (flat_map words_bytes image), words_length ws, all.0.0, image_length image all.1)
+image_length (ws ∷ image) all = omega (arith, length-append (words_bytes ws) (flat_map words_bytes image), words_are_8 ws, all.0.0, image_length image all.1)
 
 -- a file that begins with the bytes of an image
 module _ (s : Sizes) (file : List ℕ) (h : Head) (image : List (List ℕ)) (is : IsImageOf s file h image) where
@@ -187,16 +181,12 @@ all_same : {X : Type 0} (P : X → Type 0) (n : ℕ) (x : X) → P x → AllByRe
 all_same P zero x is = tt
 all_same P (suc n) x is = (is, all_same P n x is)
 
-all_of_two : {X : Type 0} (P : X → Type 0) (xs ys : List X) → AllByRecursion P xs → AllByRecursion P ys → AllByRecursion P (xs ++ ys)
-all_of_two P [] ys p q = q
-all_of_two P (x ∷ xs) ys p q = (p.0, all_of_two P xs ys p.1 q)
-
 formatted_words : (s : Sizes) → AllByRecursion AreWords (formatted_image s)
 formatted_words s =
     let zeros : AllByRecursion (λ w. w < 2 ^ 64) (replicate 63 0) = all_same (λ w. w < 2 ^ 64) 63 0 (omega arith) in
     let blank : AreWords (replicate 64 0) = (refl, all_same (λ w. w < 2 ^ 64) 64 0 (omega arith)) in
     let head : AreWords (1 ∷ replicate 63 0) = (refl, (omega arith, zeros)) in
-    all_of_two AreWords (replicate s.index (replicate 64 0)) (replicate s.heap (1 ∷ replicate 63 0)) (all_same AreWords s.index (replicate 64 0) blank)
+    all_append AreWords (replicate s.index (replicate 64 0)) (replicate s.heap (1 ∷ replicate 63 0)) (all_same AreWords s.index (replicate 64 0) blank)
     (all_same AreWords s.heap (1 ∷ replicate 63 0) head)
 
 -- ---- a reader at a place

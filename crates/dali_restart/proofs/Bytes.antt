@@ -1,9 +1,10 @@
 -- Rows that a table can have are spelled in bytes.
-use Rattle.std.proofs.Common.{◌≡◌, ℕ, zero, suc, ◌<◌, ◌≤◌, Bool, true, false, List, [], ◌∷◌, ◌++◌, length, Some, arith}
-use Rattle.std.specs.Prelude.{◌&&◌, nat_le, flat_map}
+use Rattle.std.proofs.Common.{ℕ, zero, suc, ◌<◌, ◌≤◌, Bool, true, false, List, [], ◌∷◌, ◌++◌, length, Some, arith}
+use Rattle.std.specs.Prelude.{nat_le, flat_map}
 use Rattle.std.specs.List.{AllByRecursion}
 use Rattle.std.specs.Int.{byte_at}
 use Rattle.std.proofs.lemmas.Bool.{leb-true}
+use Rattle.dali_lists.proofs.Tests.{right_true}
 use Rattle.dali_geometry.specs.Sizes.{Sizes}
 use Rattle.dali_bytes.specs.Cursor.{IsBytes}
 use Rattle.dali_bytes.specs.Fields.{number32, number64}
@@ -47,12 +48,8 @@ in_flag : (b : Bool) → AreBytes (flag_bytes b)
 in_flag false = (omega arith, tt)
 in_flag true = (omega arith, tt)
 
-both : (a b : Bool) → (a && b) ≡ true → b ≡ true
-both true b e = e
-both false b e = absurd cc
-
 in_cell : (c : ℕ) → IsCell c → c < 256
-in_cell c is = let few : c ≤ 7 = leb-true c 7 (both (nat_le 1 c) (nat_le c 7) is) in omega (arith, few)
+in_cell c is = let few : c ≤ 7 = leb-true c 7 (right_true (nat_le 1 c) (nat_le c 7) is) in omega (arith, few)
 
 in_entry : (e : ℕ) → IsEntry e → e < 256
 in_entry e is = let few : e ≤ 20 = leb-true e 20 is in omega (arith, few)

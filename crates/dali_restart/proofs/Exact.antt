@@ -1,6 +1,5 @@
 -- A disk has one answer: it is bad at one place of one file at most, and nothing is found in it then.
 use Rattle.std.proofs.Common.{◌≡◌, ◌⊎◌, inl, inr, ⊎_elim, ℕ, zero, suc, ◌+◌, ◌≤◌, ◌<◌, List, [], ◌∷◌, ◌++◌, length, take, drop, Option, Some, None, IfSome, refl, ap, sym, subst, ◌∙◌, arith, length-append}
-use Rattle.std.proofs.lemmas.Bool.{cases_lt}
 use Rattle.std.proofs.lemmas.List.{append-nil}
 use Rattle.dali_geometry.specs.Sizes.{Sizes}
 use Rattle.dali_att.specs.Table.{Table}
@@ -8,8 +7,9 @@ use Rattle.dali_record.specs.declared.operations.Pending.{Pending}
 use Rattle.dali_record.specs.declared.records.Record.TheVariants.{Format}
 use Rattle.dali_record.specs.Spelling.{spelling}
 use Rattle.dali_record.specs.Legal.{sizes_of}
-use Rattle.dali_record.proofs.Lengths.{length-spelling, number32_is_4}
+use Rattle.dali_record.proofs.Lengths.{length-spelling}
 use Rattle.dali_bytes.specs.Fields.{number32}
+use Rattle.dali_bytes.proofs.Numbers.{length-number32}
 use Rattle.dali_store.specs.declared.store.FileName.{FileName}
 use Rattle.dali_store.specs.Store.{Files as Disk}
 use Rattle.dali_batch.specs.Batch.{batch}
@@ -20,6 +20,7 @@ use Rattle.dali_batch.proofs.Finds.{if_some_two, if_some_same}
 use Rattle.dali_batch.proofs.Fronts.{bad_of_first}
 use Rattle.dali_batch.proofs.Unique.{same_batch, same_records, one_place}
 use Rattle.dali_traces.specs.Disks.{IsAnchor}
+use Rattle.dali_traces.proofs.Once.{anchor_once}
 use Rattle.dali_image.specs.Headers.{NoHeading, bad_header}
 use Rattle.dali_image.specs.Reading.{NoAnchor, ReadsTable, NoTable}
 use Rattle.dali_image.specs.declared.header.Header.{Header}
@@ -52,7 +53,7 @@ one_size fs s z is other =
 -- the first batch has 15 bytes
 five_more : (log body rest : List ℕ) → log ≡ batch body ++ rest → length body + 5 ≤ length log
 five_more log body rest e =
-    omega (arith, ap length e, length-append (batch body) rest, length-append (number32 (length body)) body, number32_is_4 (length body))
+    omega (arith, ap length e, length-append (batch body) rest, length-append (number32 (length body)) body, length-number32 (length body))
 
 long_enough : (fs : Disk) (s : Sizes) → BeginsWith fs s → 15 ≤ length fs.log
 long_enough fs s is =
@@ -62,12 +63,6 @@ long_enough fs s is =
 -- ---- the anchor
 anchor_is_good : (bytes : List ℕ) (c at : ℕ) → IsAnchor bytes c → NoAnchor bytes at → ⊥
 anchor_is_good bytes c at is bad = is.closed.1 (bad.gates c (omega (arith, is.closed.0, bad.ends))).1
-
-pub one_anchor : (bytes : List ℕ) (c d : ℕ) → IsAnchor bytes c → IsAnchor bytes d → c ≡ d
-one_anchor bytes c d is other = ⊎_elim
-    (λ less. absurd (is.closed.1 (other.gates c less).1))
-    (λ more. ⊎_elim (λ less. absurd (other.closed.1 (is.gates d less).1)) (λ least. omega (arith, more, least)) (cases_lt d c))
-    (cases_lt c d)
 
 -- ---- the image
 one_no_heading : (bytes : List ℕ) (at bt : ℕ) → NoHeading bytes at → NoHeading bytes bt → at ≡ bt
@@ -136,7 +131,7 @@ module _ (fs : Disk) where
   one_image s c f g at bt a b = (a.name ∙ sym b.name, one_bad_image (file_in fs c) (expected s c (length fs.log)) at bt a.bad b.bad)
 
   one_behind : (f g : FileName) (at bt : ℕ) → IsBadCurrent fs f at → IsBadCurrent fs g bt → (f ≡ g) × (at ≡ bt)
-  one_behind f g at bt a b = one_image a.sizes a.current f g at bt a.bad (behind_same a.sizes b.sizes a.current b.current g bt (one_size fs a.sizes b.sizes a.log b.log) (one_anchor fs.anchor a.current b.current a.anchor b.anchor) b.bad)
+  one_behind f g at bt a b = one_image a.sizes a.current f g at bt a.bad (behind_same a.sizes b.sizes a.current b.current g bt (one_size fs a.sizes b.sizes a.log b.log) (anchor_once fs.anchor a.current b.current a.anchor b.anchor) b.bad)
 
   one_bad : (f g : FileName) (at bt : ℕ) → IsBadStore fs f at → IsBadStore fs g bt → (f ≡ g) × (at ≡ bt)
   one_bad f g at bt (inl a) (inl b) = (a.name ∙ sym b.name, one_place fs.log at bt (bad_of_first fs.log at a.bad) (bad_of_first fs.log bt b.bad))
@@ -158,7 +153,7 @@ module _ (fs : Disk) where
   nowhere_bad s c h image m r f at is (inl log) = first_is_good fs s at is.log log.bad
   nowhere_bad s c h image m r f at is (inr (inl anchor)) = anchor_is_good fs.anchor c at is.anchor anchor.bad
   nowhere_bad s c h image m r f at is (inr (inr b)) =
-      image_good s c h image m f at is.image_is (behind_same s b.sizes c b.current f at (one_size fs s b.sizes is.log b.log) (one_anchor fs.anchor c b.current is.anchor b.anchor) b.bad)
+      image_good s c h image m f at is.image_is (behind_same s b.sizes c b.current f at (one_size fs s b.sizes is.log b.log) (anchor_once fs.anchor c b.current is.anchor b.anchor) b.bad)
 
 pub one_answer : OneAnswer
 one_answer fs = record {

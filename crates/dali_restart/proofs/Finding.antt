@@ -6,9 +6,11 @@ use Rattle.std.specs.Option.{option_map_or}
 use Rattle.std.specs.Ordering.{nat_cmp}
 use Rattle.std.specs.FinMap.{get, get-empty}
 use Rattle.std.proofs.lemmas.List.{drop-drop}
+use Rattle.dali_lists.proofs.Options.{if_some_then}
 use Rattle.dali_geometry.specs.Sizes.{Sizes}
 use Rattle.dali_geometry.specs.Places.{regions}
 use Rattle.dali_bytes.specs.Fields.{number32}
+use Rattle.dali_bytes.proofs.Numbers.{length-number32}
 use Rattle.dali_att.specs.Table.{Row, Table, undos_at}
 use Rattle.dali_record.specs.declared.operations.Pending.{Pending}
 use Rattle.dali_record.specs.declared.records.Record.{Record}
@@ -17,15 +19,11 @@ use Rattle.dali_record.specs.Blocks.{AreWords}
 use Rattle.dali_record.specs.Spelling.{CanBeSpelled, words_bytes}
 use Rattle.dali_record.specs.Legal.{sizes_of}
 use Rattle.dali_record.specs.Files.{Files}
-use Rattle.dali_record.proofs.Lengths.{number32_is_4}
-use Rattle.dali_region.specs.declared.Side.{Side}
-use Rattle.dali_region.specs.declared.Side.TheVariants.{A as SideA, B as SideB}
 use Rattle.dali_store.specs.declared.store.FileName.{FileName}
-use Rattle.dali_store.specs.Store.{Files as Disk, file_of}
+use Rattle.dali_store.specs.Store.{Files as Disk}
 use Rattle.dali_batch.specs.Batch.{batch, batches, IsUnformatted}
 use Rattle.dali_batch.specs.Log.{IsRun, LogOf, HasFormat, body_bytes, bodies}
 use Rattle.dali_batch.specs.Stream.{Reading, IsReadFrom, IsWindow}
-use Rattle.dali_store.proofs.Moments.{if_some_each}
 use Rattle.dali_batch.proofs.Finds.{if_some_two, if_some_three, if_some_same}
 use Rattle.dali_batch.proofs.Unique.{same_batch, same_records}
 use Rattle.dali_crash.specs.Checkpoints.{Head, side_of}
@@ -37,6 +35,7 @@ use Rattle.dali_image.specs.Laws.{header_of, IsHeader, IsPassed}
 use Rattle.dali_image.proofs.Passed.{what_passes, wanted}
 use Rattle.dali_image.specs.declared.header.Header.{Header}
 use Rattle.dali_image.specs.declared.header.Expected.{Expected}
+use Rattle.dali_renewal.proofs.Images.{of_side}
 use Rattle.dali_restart.specs.Opening.{BeginsWith, BadImageAt, IsImageIn, IsInRange, IsNoImage, IsBadStore, IsBadLog, IsBadAnchor, IsBadImage, file_in, expected}
 use Rattle.dali_restart.specs.Laws.{WhatOpensIsSpelled, IsSpelledBy}
 use Rattle.dali_restart.proofs.Formatted.{image_length}
@@ -69,7 +68,7 @@ first_of fs s is =
 
 formatted_bytes : (log rest body : List ℕ) → log ≡ batch body ++ rest → IsUnformatted log → ⊥
 formatted_bytes [] rest body e un = absurd cc
-formatted_bytes (x ∷ []) rest body e un = absurd (omega (arith, ap length e, length-append (number32 (length body) ++ body) rest, length-append (number32 (length body)) body, number32_is_4 (length body)))
+formatted_bytes (x ∷ []) rest body e un = absurd (omega (arith, ap length e, length-append (number32 (length body) ++ body) rest, length-append (number32 (length body)) body, length-number32 (length body)))
 formatted_bytes (x ∷ y ∷ log) rest body e un = ⊎_elim (λ short. absurd (omega (arith, short))) (λ closed. closed (let is : x ≡ 165 = cc in is)) un
 
 pub begun : (fs : Disk) (s : Sizes) → BeginsWith fs s → IsUnformatted fs.log → ⊥
@@ -109,10 +108,6 @@ image_there bytes x h image m is p words =
           ∙ sym (append_assoc flat (table_bytes p.head.table) p.reads.rest))))
           ∙ sym (append_assoc (header_bytes s p.head) (flat ++ table_bytes p.head.table) p.reads.rest)));
     }
-
-pub of_side : (side : Side) (fs : Disk) → image_file side fs ≡ file_of (image_name side) fs
-of_side SideA fs = refl
-of_side SideB fs = refl
 
 abbrev pub files_in : ℕ → Head → List (List ℕ) → List (List Record) → Files
 files_in c h image B = record { batches = B; gates = c; number = h.number; place = h.place; first = h.first; weight = h.weight; next = h.next; image = image; table = h.table }
@@ -168,7 +163,7 @@ what_opens fs s (suc c) h image m r B end is log words =
 -- ---- all of it
 pub first_bad : (file : FileName) (at : ℕ) (o p : Option Disk) → p ≡ o → IfSome p (λ fs. IsBadLog fs file at ⊎ IsBadAnchor fs file at)
     → IfSome o (λ fs. IsBadStore fs file at)
-first_bad file at o p same bad = if_some_each _ _ o (if_some_same _ o p same bad) (λ fs is. ⊎_elim (λ log. inl log) (λ anchor. inr (inl anchor)) is)
+first_bad file at o p same bad = if_some_then _ _ o (if_some_same _ o p same bad) (λ fs is. ⊎_elim (λ log. inl log) (λ anchor. inr (inl anchor)) is)
 
 pub image_bad :
     (s : Sizes) (c : ℕ) (r0 : Reading) (file : FileName) (at : ℕ) (o p q : Option Disk) → p ≡ o → q ≡ p

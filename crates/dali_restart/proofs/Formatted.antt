@@ -8,9 +8,9 @@ use Rattle.dali_geometry.specs.Sizes.{Sizes}
 use Rattle.dali_geometry.specs.Places.{regions, formatted, formatted_image}
 use Rattle.dali_geometry.proofs.Regions.{region_is_formatted}
 use Rattle.dali_bytes.specs.Fields.{number32}
+use Rattle.dali_bytes.proofs.Numbers.{length-number32}
 use Rattle.dali_record.specs.Spelling.{CanBeSpelled}
 use Rattle.dali_record.specs.Legal.{passes, rules_start, Rules}
-use Rattle.dali_record.proofs.Lengths.{number32_is_4}
 use Rattle.dali_region.specs.State.{RegionState, loaded}
 use Rattle.dali_region.specs.Answers.{is_dirty}
 use Rattle.dali_store.specs.Store.{Files as Disk, LeavesOnly}
@@ -42,14 +42,14 @@ use Rattle.dali_restart.specs.Formatted.{first_record, first_body, formatted_reg
 
 -- ---- the first batch
 pub body_length : (s : Sizes) → length (first_body s) ≡ 10
-body_length s = omega (arith, length-append (number32 s.index) (number32 s.heap), number32_is_4 s.index, number32_is_4 s.heap)
+body_length s = omega (arith, length-append (number32 s.index) (number32 s.heap), length-number32 s.index, length-number32 s.heap)
 
 pub few_bytes : (s : Sizes) (frame bytes : List ℕ) → bytes ≡ first_body s → frame ≡ [] → length frame + length bytes ≤ 1073741824
 few_bytes s frame bytes is empty = omega (arith, ap length empty, ap length is, body_length s)
 
 pub first_end : (s : Sizes) → next_place 0 (first_body s ∷ []) ≡ 15
 first_end s =
-    omega (arith, length-append (batch (first_body s)) [], length-append (number32 (length (first_body s))) (first_body s), number32_is_4 (length (first_body s)), body_length s)
+    omega (arith, length-append (batch (first_body s)) [], length-append (number32 (length (first_body s))) (first_body s), length-number32 (length (first_body s)), body_length s)
 
 pub ends_at : (s : Sizes) (body : List ℕ) (r : Result ℕ StoreFault) → body ≡ first_body s → IfOk r (λ n. n ≡ next_place 0 (body ∷ [])) → IfOk r (λ n. n ≡ 15)
 ends_at s body (Ok n) is e = e ∙ ap (λ (b : List ℕ). next_place 0 (b ∷ [])) is ∙ first_end s

@@ -1,6 +1,7 @@
 -- What a restart hands out, and that a run begins with it.
 use Rattle.std.proofs.Common.{◌≡◌, ◌⊎◌, inl, inr, ⊎_elim, ℕ, ◌<◌, ◌≤◌, ◌^◌, Bool, List, [], ◌∷◌, map, Option, Some, None, IfSome, Result, Ok, Err, refl, ap, sym, subst, ◌∙◌, arith}
 use Rattle.std.specs.Prelude.{IsErrOf, is_some}
+use Rattle.dali_lists.proofs.Options.{if_some_then}
 use Rattle.dali_record.specs.Files.{Files}
 use Rattle.dali_record.specs.Legal.{Rules}
 use Rattle.dali_record.specs.declared.records.Record.{Record}
@@ -8,7 +9,7 @@ use Rattle.dali_region.specs.declared.Side.{Side}
 use Rattle.dali_region.specs.State.{RegionState, loaded}
 use Rattle.dali_store.specs.Store.{Files as Disk, LeavesOnly, Only}
 use Rattle.dali_store.specs.Calls.{PassesFewer}
-use Rattle.dali_store.proofs.Moments.{if_some_each, joins, weaker}
+use Rattle.dali_store.proofs.Moments.{joins, weaker}
 use Rattle.dali_batch.proofs.Finds.{if_some_any, if_some_same, if_some_two}
 use Rattle.dali_batch.specs.Batch.{IsUnformatted}
 use Rattle.dali_batch.specs.Reads.{OnlyReads}
@@ -166,7 +167,7 @@ module _ {V : Type 0} (told : V → Option Disk) (may_leave : V → Disk → Typ
       → faults old ≤ faults mid → faults mid ≤ faults new → PassesFewer (lets_pass old) (lets_pass mid) → PassesFewer (lets_pass mid) (lets_pass new)
       → IsLeft told may_leave moment left_since faults lets_pass old new
   left_settling old mid new counts now reads x is stops tells later then passes goes = record {
-    any_moment = if_some_each _ _ (told old) (if_some_same _ (told old) (told mid) reads.same stops) (λ fs alike. stops_settling told may_leave moment left_since fs old mid new reads alike);
+    any_moment = if_some_then _ _ (told old) (if_some_same _ (told old) (told mid) reads.same stops) (λ fs alike. stops_settling told may_leave moment left_since fs old mid new reads alike);
     comes_back =
         comes_settling told may_leave moment left_since mid new counts (told old) (told new)
         (if_some_two _ _ _ (told old) is (if_some_same _ (told old) (told mid) reads.same stops) (λ fs is alike. (is.only, alike))) now;

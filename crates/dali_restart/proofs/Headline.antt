@@ -1,16 +1,13 @@
 -- A restart of what a crash of a run leaves is right, however often it is stopped before.
-use Rattle.std.proofs.Common.{◌≡◌, inl, inr, ◌<◌, ℕ, Bool, true, false, cond, List, [], ◌∷◌, ◌++◌, length, refl, ap, sym, subst, ◌∙◌}
+use Rattle.std.proofs.Common.{◌≡◌, inl, inr, ◌<◌, ℕ, Bool, true, false, cond, List, [], length, refl, ap, sym, subst, ◌∙◌}
 use Rattle.std.specs.Prelude.{IsSome, nat_lt}
 use Rattle.std.specs.List.{list_any}
-use Rattle.std.proofs.lemmas.Bool.{both_ways, lt-ltb}
-use Rattle.dali_geometry.specs.Sizes.{Sizes}
+use Rattle.std.proofs.lemmas.Bool.{lt-ltb}
 use Rattle.dali_record.specs.declared.records.Record.{Record}
-use Rattle.dali_record.specs.declared.records.Record.TheVariants.{Restarted}
 use Rattle.dali_record.specs.Damage.{deleted_list, rolled_list}
 use Rattle.dali_record.specs.Epochs.{last_epoch, recovered_epoch}
 use Rattle.dali_record.specs.Files.{Files}
-use Rattle.dali_record.specs.Legal.{Rules, rules_state, sizes_of}
-use Rattle.dali_record.proofs.EpochRules.{rules_before}
+use Rattle.dali_record.specs.Legal.{rules_state, sizes_of}
 use Rattle.dali_history.specs.History.{HasExpected}
 use Rattle.dali_history.specs.Recovered.{recovered}
 use Rattle.dali_headline.proofs.EpochByEpoch.{recovered_is_expected}
@@ -25,21 +22,15 @@ use Rattle.dali_crash.specs.Unpoked.{store_pokes}
 use Rattle.dali_crash.proofs.Traces.{every_moment_is_right, every_trace_is_right, trace_runs, traced_course, unpoked_trace_is_right}
 use Rattle.dali_crash.proofs.Unpoked.{NonePoked, none_escapes, none_loaded, store_course_unpoked}
 use Rattle.dali_resume.specs.Again.{Outcome, closed_log}
-use Rattle.dali_resume.proofs.Onward.{restart_rule, some_is}
 use Rattle.dali_again.specs.Found.{FindsIt, NoneMissed}
 use Rattle.dali_again.proofs.Found.{crash_is_found}
 use Rattle.dali_again.proofs.Places.{start_has_place}
+use Rattle.dali_again.proofs.Telling.{not_twice}
 use Rattle.dali_restart.specs.Headline.{AnswersRight, CrashRestartsRight, EachRestart, IsRightAnswer, IsUndamaged, OnWayGoesOn, UnpokedRestartsRight}
 use Rattle.dali_restart.specs.Restarting.{GoesOnFrom, told_by, told_list}
 
 -- ---- restarts that are stopped
 -- a restart logs nothing right behind another
-not_twice : (s : Sizes) (N : List Record) (rs ds us vs : List ℕ) → IsSome (rules_state s ((N ++ Restarted rs ds ∷ []) ++ Restarted us vs ∷ [])) → ⊥
-not_twice s N rs ds us vs legal =
-    let h = some_is (rules_state s ((N ++ Restarted rs ds ∷ []) ++ Restarted us vs ∷ [])) legal in
-    let b = rules_before s (N ++ Restarted rs ds ∷ []) (Restarted us vs) h.0 h.1 in
-    let a = rules_before s N (Restarted rs ds) b.0 b.1 in
-    both_ways b.0.restarted (restart_rule s b.0 h.0 us vs b.2).0 (ap (λ (z : Rules). z.restarted) (restart_rule s a.0 b.0 rs ds a.2).1)
 
 goes_on : (L M N : List Record) → IsSome (rules_state (sizes_of N) N) → GoesOnFrom L M → GoesOnFrom M N → GoesOnFrom L N
 goes_on L M N legal (inl a) (inl b) = inl (b ∙ a)
@@ -61,7 +52,7 @@ on_way_goes_on F G H one two = record {
 }
 
 -- ---- one answer
-told_lists : (F : Files) (ts : List ℕ) → F.first < length (log_in F) → told_list F ts ≡ ts
+pub told_lists : (F : Files) (ts : List ℕ) → F.first < length (log_in F) → told_list F ts ≡ ts
 told_lists F ts lt = ap (λ b. cond b ts []) (lt-ltb F.first (length (log_in F)) lt)
 
 none_listed : (F : Files) (ts : List ℕ) → ts ≡ [] → told_list F ts ≡ []

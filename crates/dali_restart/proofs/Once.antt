@@ -21,6 +21,7 @@ use Rattle.dali_batch.specs.Stream.{Reading}
 use Rattle.dali_crash.specs.Checkpoints.{Head}
 use Rattle.dali_traces.specs.Disks.{CanBeImage, head_of, txn_in, unchecked}
 use Rattle.dali_traces.specs.Places.{place_of}
+use Rattle.dali_traces.proofs.Once.{anchor_once}
 use Rattle.dali_image.specs.Laws.{header_of, table_of}
 use Rattle.dali_image.specs.Reading.{ReadsTable}
 use Rattle.dali_image.specs.Rows.{rows_of}
@@ -31,14 +32,16 @@ use Rattle.dali_image.proofs.OneHeader.{one_header}
 use Rattle.dali_image.proofs.Passed.{what_passes, wanted}
 use Rattle.dali_resume.specs.Again.{Outcome}
 use Rattle.dali_resume.specs.Batches.{verdict_over}
-use Rattle.dali_resume.specs.Onward.{HandedOut, Misfit as NamedMisfit}
+use Rattle.dali_resume.specs.Onward.{HandedOut}
 use Rattle.dali_reload.specs.Reading.{FailsAt, IsBadBehind}
 use Rattle.dali_reload.proofs.Tails.{has_batch, none_bad, one_tail}
 use Rattle.dali_restart.specs.Opening.{IsFoundIn, IsImageIn, IsOpened, IsNoImage, expected, file_in}
 use Rattle.dali_restart.specs.Laws.{IsOneOpening, OpensOnce, ReadsOnce}
 use Rattle.dali_restart.specs.Restarting.{BeginsAt, IsBadAnywhere, IsReadAs}
-use Rattle.dali_restart.proofs.Exact.{nowhere_bad, one_anchor, one_size}
+use Rattle.dali_restart.proofs.Exact.{nowhere_bad, one_size}
 use Rattle.dali_restart.proofs.Finding.{begun, files_in}
+use Rattle.dali_recovery.proofs.Whole.{handed_same}
+use Rattle.dali_reload.proofs.Whole.{apart}
 
 -- ---- the words
 words_once : (xs ys : List (List ℕ)) → length xs ≡ length ys → AllByRecursion AreWords xs → AllByRecursion AreWords ys
@@ -93,7 +96,7 @@ pub opens_as :
     → (z : Sizes) (F : Files) → BeginsAt fs z F → IsOneOpening s z c h image m F
 opens_as fs s c h image m r is words z F b =
     let size : s ≡ z = one_size fs s z is.log b.opened.log in
-    let number : c ≡ F.gates = one_anchor fs.anchor c F.gates is.anchor b.opened.anchor in
+    let number : c ≡ F.gates = anchor_once fs.anchor c F.gates is.anchor b.opened.anchor in
     let other : IsFoundIn fs s c (header_of z (head_of F)) F.image (table_of F.table) =
     subst (λ (n : ℕ). IsFoundIn fs s n (header_of z (head_of F)) F.image (table_of F.table)) (sym number)
     (subst (λ (y : Sizes). IsFoundIn fs y F.gates (header_of z (head_of F)) F.image (table_of F.table)) (sym size) b.opened.image_is) in
@@ -184,11 +187,6 @@ begin_same fs s z F G a b =
     }
 
 -- ---- one reading
-pub handed_same : (a b : Outcome) → HandedOut a ≡ HandedOut b → a ≡ b
-handed_same a b e = cc
-
-handed_apart : (o : Outcome) (n : ℕ) → HandedOut o ≡ NamedMisfit n → ⊥
-handed_apart o n e = cc
 
 module _ (log : List ℕ) (s : Sizes) (F : Files) (B : List (List Record)) (end : ℕ) (o : Outcome) (tail : TailOf log F.place B end)
     (verdict : verdict_over s F B ≡ HandedOut o) where
@@ -201,7 +199,7 @@ module _ (log : List ℕ) (s : Sizes) (F : Files) (B : List (List Record)) (end 
       let h = has_batch log F.place b.front B (b.done ++ b.failing ∷ []) end b.stands tail in
       let same : B ≡ b.front ++ (b.done ++ b.failing ∷ h.0) ∷ h.1 =
       h.2 ∙ ap (λ z. b.front ++ z ∷ h.1) (append_assoc b.done (b.failing ∷ []) h.0) in
-      handed_apart o _ (sym verdict ∙ (ap (verdict_over s F) same ∙ b.verdict h.0 h.1))
+      apart o _ (sym verdict ∙ (ap (verdict_over s F) same ∙ b.verdict h.0 h.1))
 
 -- what is bad behind one row of files is so behind the other
 abbrev pub IsBadThere : List ℕ → ℕ → Sizes → Files → Type 0

@@ -1,12 +1,15 @@
 -- What each decision of a restart leaves is at rest, and at any moment says the same.
 use Rattle.std.proofs.Common.{◌≡◌, ℕ, zero, suc, ◌+◌, ◌*◌, ◌-◌, ◌<◌, ◌≤◌, ◌^◌, true, false, cond, List, [], ◌∷◌, ◌++◌, length, drop, Option, Some, None, append_assoc, filter_map, refl, ap, sym, subst, ◌∙◌, ◌⊎◌, inl, inr, ⊎_elim, arith}
-use Rattle.std.specs.Prelude.{◌==◌, nat_le, slice_get, sum_by}
+use Rattle.std.specs.Prelude.{◌==◌, nat_le, sum_by}
 use Rattle.std.specs.List.{AllByRecursion}
 use Rattle.std.proofs.lemmas.Bool.{both_ways, lt-leb, lt-ltb, ne_eqb}
-use Rattle.std.proofs.lemmas.List.{append-nil, length-append, length-drop}
+use Rattle.std.proofs.lemmas.List.{append-nil, length-append, length-drop, same_from_push}
 use Rattle.std.proofs.lemmas.List.Concat.{flat_map-append}
 use Rattle.std.proofs.lemmas.List.Elements.{filter_map-append}
 use Rattle.std.proofs.lemmas.List.Sums.{sum_by-append}
+use Rattle.dali_lists.proofs.Lists.{drop_front}
+use Rattle.dali_lists.proofs.Members.{all_left, all_right}
+use Rattle.dali_lists.proofs.Options.{some_of}
 use Rattle.dali_record.specs.declared.records.Record.{Record}
 use Rattle.dali_record.specs.declared.records.Record.TheVariants.{Restarted}
 use Rattle.dali_record.specs.Damage.{deleted_list, rolled_list}
@@ -22,24 +25,23 @@ use Rattle.dali_history.proofs.Restarts.{IsHistory-restarted}
 use Rattle.dali_history.specs.Recovered.{base_of, recovered}
 use Rattle.dali_store.specs.Store.{Files as Disk, Only}
 use Rattle.dali_store.proofs.Moments.{weaker}
-use Rattle.dali_batch.specs.Batch.{IsBody}
-use Rattle.dali_batch.specs.Log.{AreSpelled, bodies, body_bytes}
+use Rattle.dali_batch.specs.Log.{AreSpelled}
 use Rattle.dali_counts.proofs.ShortLogs.{batches_framed}
 use Rattle.dali_counts.proofs.Tallies.{numbers, numbers_drawn, tallies}
 use Rattle.dali_system.specs.Run.{log_in}
 use Rattle.dali_crash.specs.Fitting.{FitsWhole}
 use Rattle.dali_traces.specs.Disks.{AllSpell, Spells, sizes_in}
 use Rattle.dali_traces.proofs.Bridges.{batches_length}
+use Rattle.dali_traces.proofs.Ends.{some_in}
 use Rattle.dali_image.specs.declared.header.Header.{Header}
 use Rattle.dali_resume.specs.Again.{Outcome, closed_log, closing, outcome_is}
 use Rattle.dali_resume.specs.Batches.{records_of}
 use Rattle.dali_resume.specs.Rules.{ends_restarted}
-use Rattle.dali_resume.proofs.Onward.{some_is}
 use Rattle.dali_again.specs.Found.{FindsIt, IsResting}
 use Rattle.dali_again.specs.Rests.{EndsLogged, IsToBegin, SaysOf, StandsAlone, StandsTold}
 use Rattle.dali_again.specs.Stages.{IsAppending, IsLogged, IsMoving, IsRestarting, IsTurned}
 use Rattle.dali_again.proofs.Saying.{stages_say}
-use Rattle.dali_again.proofs.Stages.{closed_lawful, closing_log, same_sizes}
+use Rattle.dali_again.proofs.Stages.{closed_lawful, closing_log, same_sizes, turned_gates}
 use Rattle.dali_again.proofs.Telling.{tells_stage}
 use Rattle.dali_recovery.specs.Laws.{outcome_of}
 use Rattle.dali_reload.specs.Counting.{IsLast, StandsBefore}
@@ -68,45 +70,11 @@ last_drop (suc n) [] h = absurd (omega (arith, h))
 last_drop (suc n) (x ∷ []) h = absurd (omega (arith, h))
 last_drop (suc n) (x ∷ y ∷ xs) h = last_drop n (y ∷ xs) (omega (arith, h))
 
-drop_whole : {X : Type 0} (xs ys : List X) → drop (length xs) (xs ++ ys) ≡ ys
-drop_whole [] ys = refl
-drop_whole (x ∷ xs) ys = drop_whole xs ys
-
-not_none : {X : Type 0} (xs : List X) (x : X) → [] ≡ xs ++ x ∷ [] → ⊥
-not_none [] x e = cc
-not_none (y ∷ xs) x e = cc
-
--- lists with the same last element, and what stands before it
-same_end : {X : Type 0} (xs ys : List X) (x y : X) → xs ++ x ∷ [] ≡ ys ++ y ∷ [] → (xs ≡ ys) × (x ≡ y)
-same_end [] [] x y e = (refl, cc)
-same_end [] (b ∷ ys) x y e = let never : [] ≡ ys ++ y ∷ [] = cc in absurd (not_none ys y never)
-same_end (a ∷ xs) [] x y e = let never : xs ++ x ∷ [] ≡ [] = cc in absurd (not_none xs x (sym never))
-same_end (a ∷ xs) (b ∷ ys) x y e =
-    let first : a ≡ b = cc in
-    let w = same_end xs ys x y (let rest : xs ++ x ∷ [] ≡ ys ++ y ∷ [] = cc in rest) in
-    (ap (λ z. z ∷ xs) first ∙ ap (λ zs. b ∷ zs) w.0, w.1)
-
-all_left : {X : Type 0} (P : X → Type 0) (xs ys : List X) → AllByRecursion P (xs ++ ys) → AllByRecursion P xs
-all_left P [] ys all = tt
-all_left P (x ∷ xs) ys all = (all.0, all_left P xs ys all.1)
-
-all_right : {X : Type 0} (P : X → Type 0) (xs ys : List X) → AllByRecursion P (xs ++ ys) → AllByRecursion P ys
-all_right P [] ys all = all
-all_right P (x ∷ xs) ys all = all_right P xs ys all.1
-
 -- ---- batches that a disk has
-some_body : (b : List Record) → IsBody (body_bytes b) → 1 ≤ length b
-some_body [] body = absurd (omega (arith, body.0))
-some_body (r ∷ b) body = omega arith
-
-filled : (B : List (List Record)) → AllByRecursion IsBody (bodies B) → (i : ℕ) (b : List Record) → slice_get B i ≡ Some b → 1 ≤ length b
-filled [] all i b e = absurd (cc)
-filled (c ∷ B) all zero b e = let same : c ≡ b = cc in subst (λ z. 1 ≤ length z) same (some_body c all.0)
-filled (c ∷ B) all (suc i) b e = filled B all.1 i b e
 
 -- the file is no longer than its records, with a frame for each
 framed : (fs : Disk) (F : Files) → Spells fs F → sum_by batch_length F.batches ≤ sum_by record_length (log_in F) + 5 * length (log_in F)
-framed fs F is = batches_framed F.batches (filled F.batches is.log.front.sizes)
+framed fs F is = batches_framed F.batches (some_in F.batches is.log.front.sizes)
 
 -- ---- stages that say the same
 says_told : (M : List Record) (G : Files) → SaysOf M G → told_by G ≡ outcome_is M
@@ -154,9 +122,6 @@ any_says M B n G w (inr t) = (stages_say M B n G w).turned t
 turned_batches : (M : List Record) (B : List (List Record)) (n : ℕ) (G : Files) → IsTurned M B n G → G.batches ≡ B ++ (closing M ∷ []) ∷ []
 turned_batches M B n G t = ap (λ (z : Files). z.batches) t.2 ∙ ap (λ bs. bs ++ (closing M ∷ []) ∷ []) t.1.batches
 
-turned_gates : (M : List Record) (B : List (List Record)) (n : ℕ) (G : Files) → IsTurned M B n G → G.gates ≡ n + 1
-turned_gates M B n G t = ap (λ (z : Files). z.gates) t.2 ∙ ap (λ m. m + 1) t.1.gates
-
 turned_first : (M : List Record) (B : List (List Record)) (n : ℕ) (G : Files) → IsTurned M B n G → G.first ≡ length M
 turned_first M B n G t = ap (λ (z : Files). z.first) t.2
 
@@ -164,7 +129,7 @@ turned_alone : (M : List Record) (B : List (List Record)) (n : ℕ) (G : Files) 
 turned_alone M B n G w t = inr (
   rolled_list (last_epoch M),
   deleted_list (last_epoch M),
-  ap (λ k. drop k (log_in G)) (turned_first M B n G t) ∙ (ap (drop (length M)) (moving_log M B n G w (inr t)) ∙ drop_whole M (closing M ∷ [])),
+  ap (λ k. drop k (log_in G)) (turned_first M B n G t) ∙ (ap (drop (length M)) (moving_log M B n G w (inr t)) ∙ drop_front M (closing M ∷ [])),
 )
 
 -- the files rest: a run may start from them
@@ -237,7 +202,7 @@ module _ (fs : Disk) (F : Files) (is : Spells fs F) (finds : FindsIt F) (x : Fou
   image_is = ap (λ (o : Outcome). o.image) told.told
 
   g : (g : Rules) × (rules_state (sizes_of (log_in F)) (log_in F) ≡ Some g)
-  g = some_is (rules_state (sizes_of L) L) finds.lawful.legal.rules
+  g = some_of (rules_state (sizes_of L) L) finds.lawful.legal.rules
 
   at_log :
       (r : Resting) (current : ℕ) → r ≡ record (resting_of (at_end x)) { current = current } → current ≤ length (log_in F) + 2 ^ 61
@@ -384,7 +349,7 @@ module _ (fs : Disk) (F : Files) (is : Spells fs F) (finds : FindsIt F) (x : Fou
     way_to G stage = way_begun F G own_begun (any_says L F.batches F.gates G b.restarting stage)
 
     h : (h : Rules) × (rules_state (sizes_of (closed_log (log_in F))) (closed_log (log_in F)) ≡ Some h)
-    h = some_is (rules_state (sizes_of (closed_log L)) (closed_log L)) (closed_lawful L F.batches b.restarting).legal.rules
+    h = some_of (rules_state (sizes_of (closed_log L)) (closed_log L)) (closed_lawful L F.batches b.restarting).legal.rules
 
     room : HasRoom (at_end x) (end_of None (at_end x) rs ds) (log_in F)
     room = record {
@@ -436,7 +401,7 @@ module _ (fs : Disk) (F : Files) (is : Spells fs F) (finds : FindsIt F) (x : Fou
     batches_are = ap (λ (z : Files). z.batches) e.logged.2 ∙ ap (λ bs. bs ++ (closing e.log ∷ []) ∷ []) e.logged.1.batches
 
     parted : (tail.older ++ st.front ≡ e.batches) × ((Restarted st.rolled st.deleted ∷ []) ≡ closing e.log ∷ [])
-    parted = same_end (tail.older ++ st.front) e.batches (Restarted st.rolled st.deleted ∷ []) (closing e.log ∷ [])
+    parted = same_from_push (tail.older ++ st.front) e.batches (Restarted st.rolled st.deleted ∷ []) (closing e.log ∷ [])
         (append_assoc tail.older st.front ((Restarted st.rolled st.deleted ∷ []) ∷ [])
         ∙ (ap (λ l. tail.older ++ l) (sym st.alone) ∙ (sym tail.batches ∙ batches_are)))
 

@@ -5,6 +5,8 @@ use Rattle.std.specs.List.{AllByRecursion}
 use Rattle.std.proofs.lemmas.List.{length-append}
 use Rattle.std.proofs.lemmas.List.Elements.{filter_map-append}
 use Rattle.std.proofs.lemmas.Bool.{and_parts, leb-true}
+use Rattle.dali_lists.proofs.Lists.{length_filter}
+use Rattle.dali_lists.proofs.Members.{all_push}
 use Rattle.dali_geometry.specs.Sizes.{Sizes}
 use Rattle.dali_record.specs.declared.records.Record.{Record}
 use Rattle.dali_record.specs.declared.records.Record.TheVariants.{Format, Begin, Forward, Done, Commit, Ended, Solo, AuditBegin, AuditClean, AuditFail, Restarted, Back}
@@ -15,9 +17,8 @@ use Rattle.dali_record.specs.Legal.{Rules, has_room, kept_if, passes, room, rule
 use Rattle.dali_record.specs.Log.{begin_by, begun, committed, ended, last_of}
 use Rattle.dali_record.specs.Spelling.{record_length}
 use Rattle.dali_record.proofs.Ends.{by_push}
-use Rattle.dali_record.proofs.EpochRules.{all_push}
 use Rattle.dali_record.proofs.Pushes.{cut_push, rules_state_push}
-use Rattle.dali_history.proofs.SpelledRestart.{begun_push, few_begun, fewer, more_begun, weighs_all}
+use Rattle.dali_history.proofs.SpelledRestart.{begun_push, few_begun, more_begun, weighs_all}
 use Rattle.dali_system.specs.Run.{log_in}
 use Rattle.dali_again.specs.Found.{FindsIt}
 use Rattle.dali_restart.specs.Restarting.{told_list}
@@ -62,10 +63,10 @@ recovered_few n c (r ∷ E) few = few.1
 
 -- ---- the lists
 rolled_few : (e : Epoch) → length (rolled_list e) ≤ length (begun e.records)
-rolled_few e = fewer (λ t. not (has (committed e.records) t) && not (has (ended e.records) t)) (begun e.records)
+rolled_few e = length_filter (λ t. not (has (committed e.records) t) && not (has (ended e.records) t)) (begun e.records)
 
 deleted_few : (e : Epoch) → length (deleted_list e) ≤ length (begun e.records)
-deleted_few e = fewer (λ t. has (committed e.records) t && has_corrupt (marks (damage_of e) e.records) t) (begun e.records)
+deleted_few e = length_filter (λ t. has (committed e.records) t && has_corrupt (marks (damage_of e) e.records) t) (begun e.records)
 
 told_few : (F : Files) (ts : List ℕ) → length (told_list F ts) ≤ length ts
 told_few F ts = by_test (nat_lt F.first (length (log_in F)))

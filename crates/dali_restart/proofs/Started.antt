@@ -1,12 +1,12 @@
 -- The table that an image's rows are read as is the table of its files.
 use Rattle.std.proofs.Common.{◌≡◌, ℕ, ◌<◌, ◌≤◌, Bool, true, false, cond, List, [], ◌∷◌, Option, Some, None, refl, ap, sym, subst, ◌∙◌, arith}
-use Rattle.std.specs.Prelude.{◌==◌, ◌&&◌, ◌+◌, zero, suc, map, nat_lt, slice_index}
+use Rattle.std.specs.Prelude.{◌==◌, ◌+◌, zero, suc, map, nat_lt, slice_index}
 use Rattle.std.specs.List.{AllByRecursion}
 use Rattle.std.specs.List.Sorted.{IsStrictlyIncreasing}
 use Rattle.std.specs.Option.{option_map, option_map_or}
 use Rattle.std.specs.Ordering.{nat_cmp}
 use Rattle.std.specs.FinMap.{empty, get, get-empty}
-use Rattle.std.proofs.lemmas.Bool.{ltb-true, eqb-true}
+use Rattle.std.proofs.lemmas.Bool.{ltb-true, eqb-true, and_parts}
 use Rattle.std.proofs.lemmas.Bool.Decides.{nat_tests}
 use Rattle.dali_geometry.specs.Sizes.{Sizes}
 use Rattle.dali_att.specs.Table.{Row as Entry, Table}
@@ -37,15 +37,11 @@ else_in (Some e) o = Some e
 abbrev AreAbove : ℕ → List Row → Type 0
 AreAbove l rows = ascends (l ∷ map txn_in rows) ≡ true
 
-apart : (a b : Bool) → (a && b) ≡ true → (a ≡ true) × (b ≡ true)
-apart true b e = (refl, e)
-apart false b e = absurd cc
-
 none_in : (l t : ℕ) (rows : List Row) → t ≤ l → AreAbove l rows → found_in rows t ≡ None
 unfolding found_in
 none_in l t [] le up = refl
 none_in l t (row ∷ rows) le up =
-    let two = apart (nat_lt l row.txn) (ascends (row.txn ∷ map txn_in rows)) up in
+    let two = and_parts (nat_lt l row.txn) (ascends (row.txn ∷ map txn_in rows)) up in
     let lt : l < row.txn = ltb-true l row.txn two.0 in
     let other : (row.txn == t) ≡ false = grind (arith, nat_tests, lt, le) in
     ap (λ b. cond b (Some (kept row)) (found_in rows t)) other ∙ none_in row.txn t rows (omega (arith, lt, le)) two.1
@@ -55,7 +51,7 @@ above_of row rows up = up
 
 ascends_on : (row : Row) (rows : List Row) → AreAbove row.txn rows → ascends (map txn_in rows) ≡ true
 ascends_on row [] up = refl
-ascends_on row (next ∷ rows) up = (apart (nat_lt row.txn next.txn) (ascends (map txn_in (next ∷ rows))) up).1
+ascends_on row (next ∷ rows) up = (and_parts (nat_lt row.txn next.txn) (ascends (map txn_in (next ∷ rows))) up).1
 
 got : (m : Table Pending) (rows : List Row) (t : ℕ) → ascends (map txn_in rows) ≡ true
     → get (with_rows m rows) t ≡ else_in (found_in rows t) (get m t)
@@ -123,11 +119,11 @@ drawn_in s next (row ∷ rows) t all e = by_test (row.txn == t) refl (drawn_in s
 increasing : (xs : List ℕ) → ascends xs ≡ true → IsStrictlyIncreasing xs
 increasing [] up k lt = absurd (omega (arith, lt))
 increasing (x ∷ []) up k lt = absurd (omega (arith, lt))
-increasing (x ∷ y ∷ xs) up zero lt = ltb-true x y (apart (nat_lt x y) (ascends (y ∷ xs)) up).0
+increasing (x ∷ y ∷ xs) up zero lt = ltb-true x y (and_parts (nat_lt x y) (ascends (y ∷ xs)) up).0
 increasing (x ∷ y ∷ xs) up (suc k) lt =
     let next : suc k + 1 ≡ suc (k + 1) = omega arith in
     subst (λ i. slice_index (y ∷ xs) k < slice_index (x ∷ y ∷ xs) i) (sym next)
-    (increasing (y ∷ xs) (apart (nat_lt x y) (ascends (y ∷ xs)) up).1 k (omega (arith, lt)))
+    (increasing (y ∷ xs) (and_parts (nat_lt x y) (ascends (y ∷ xs)) up).1 k (omega (arith, lt)))
 
 -- the table of an image is that of its files, for whoever goes on behind it
 pub are_started : (s : Sizes) (F : Files) → CanBeTable s F.next F.table → 0 < F.first → Starts F (table_of F.table)

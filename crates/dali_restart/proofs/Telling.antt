@@ -1,10 +1,10 @@
 -- What is read of files that are found is what their log says.
 use Rattle.std.proofs.Common.{◌≡◌, ◌⊎◌, inl, inr, ⊎_elim, ℕ, ◌+◌, ◌<◌, ◌≤◌, ◌^◌, cond, List, [], ◌∷◌, ◌++◌, length, drop, take, None, refl, ap, sym, subst, ◌∙◌, arith, append_assoc, length-append, take-append-drop}
 use Rattle.std.specs.Prelude.{sum_by}
-use Rattle.std.specs.List.{AllByRecursion}
 use Rattle.std.proofs.lemmas.Bool.{cases_lt, lt-ltb, le-ltb}
 use Rattle.std.proofs.lemmas.List.{drop-append-le}
 use Rattle.std.proofs.lemmas.List.Concat.{flat_map-append}
+use Rattle.dali_lists.proofs.Members.{all_left}
 use Rattle.dali_geometry.specs.Sizes.{Sizes}
 use Rattle.dali_record.specs.declared.records.Record.{Record}
 use Rattle.dali_record.specs.Damage.{deleted_list, rolled_list}
@@ -42,14 +42,11 @@ use Rattle.dali_restart.specs.Restarting.{BeginsAt, Gives, IsBadAnywhere, IsRead
 use Rattle.dali_restart.proofs.Beginning.{begins}
 use Rattle.dali_restart.proofs.Exact.{nowhere_bad}
 use Rattle.dali_restart.proofs.Finding.{begun}
-use Rattle.dali_restart.proofs.Once.{bad_there, begin_same, handed_same, read_so}
+use Rattle.dali_restart.proofs.Once.{bad_there, begin_same, read_so}
 use Rattle.dali_restart.proofs.Short.{is_short_restart}
 use Rattle.dali_resume.proofs.Freed.{rests_free}
 use Rattle.dali_resume.proofs.Through.{resumes_through}
-
-all_left : {X : Type 0} (P : X → Type 0) (L M : List X) → AllByRecursion P (L ++ M) → AllByRecursion P L
-all_left P [] M all = tt
-all_left P (x ∷ L) M all = (all.0, all_left P L M all.1)
+use Rattle.dali_recovery.proofs.Whole.{handed_same}
 
 -- the batches from the image's place on
 pub record ReadsBehind (F : Files) (B : List (List Record)) : Type 0 where

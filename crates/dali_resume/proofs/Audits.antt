@@ -1,32 +1,23 @@
 -- The clean place and the failing regions of an epoch are found in the records from a checkpoint's number on.
-use Rattle.std.proofs.Common.{◌≡◌, ℕ, zero, suc, ◌+◌, ◌-◌, ◌<◌, ◌≤◌, Bool, true, false, cond, List, [], ◌∷◌, ◌++◌, length, Option, Some, None, refl, ap, sym, subst, ◌∙◌, ◌⊎◌, inl, inr, ⊎_elim, arith}
+use Rattle.std.proofs.Common.{◌≡◌, ℕ, suc, ◌+◌, ◌-◌, ◌<◌, ◌≤◌, Bool, true, false, cond, List, [], ◌∷◌, ◌++◌, length, Option, Some, None, refl, ap, sym, subst, ◌∙◌, ◌⊎◌, inl, inr, ⊎_elim, arith}
 use Rattle.std.specs.Prelude.{not, ◌&&◌, ◌==◌, fold, IsSome, max, slice_get}
 use Rattle.std.specs.List.{AllByRecursion}
 use Rattle.std.proofs.lemmas.List.Folds.{fold_stays}
 use Rattle.std.proofs.lemmas.List.Sums.{fold-append, fold_push}
-use Rattle.std.proofs.lemmas.Bool.{both_ways}
+use Rattle.std.proofs.lemmas.Bool.{both_ways, and_parts, or_cases}
 use Rattle.std.proofs.lemmas.Bool.Decides.{Decides-eqb}
+use Rattle.dali_lists.proofs.Members.{all_push}
 use Rattle.dali_geometry.specs.Sizes.{Sizes}
 use Rattle.dali_record.specs.declared.records.Record.{Record}
 use Rattle.dali_record.specs.declared.records.Record.TheVariants.{Format, Begin, Forward, Done, Commit, Ended, Solo, AuditBegin, AuditClean, AuditFail, Restarted, Back}
 use Rattle.dali_record.specs.Epochs.{Epoch, Cut, cut, cut_step, last_epoch, AllEpochs, separates, next_number, clean_step, clean_place, failing_step, failing}
 use Rattle.dali_record.specs.Damage.{has}
-use Rattle.dali_record.specs.Legal.{Rules, rules_start, kept_if, passes, restarts, runs, rules_behind, rules_first, rules_step, rules_next, rules_state}
+use Rattle.dali_record.specs.Legal.{Rules, rules_start, passes, restarts, runs, rules_behind, rules_first, rules_step, rules_next, rules_state}
 use Rattle.dali_record.proofs.Ends.{by_push, get_push_cases}
 use Rattle.dali_record.proofs.Pushes.{rules_state_push, cut_push}
-use Rattle.dali_record.proofs.Chains.{and_true, or_true}
-use Rattle.dali_record.proofs.EpochRules.{format_first, rules_before}
+use Rattle.dali_record.proofs.EpochRules.{format_first, rules_before, kept_if_some, some_rules}
 use Rattle.dali_record.proofs.Stages.{IsWithin, IsWithin-front}
-
-pub kept_some : (c : Bool) (g h : Rules) → kept_if c g ≡ Some h → (c ≡ true) × (h ≡ g)
-kept_some true g h e = (refl, same g h e)
-  where
-    same : (x y : Rules) → Some x ≡ Some y → y ≡ x
-    same x y q = cc
-kept_some false g h e = absurd (cc)
-
-pub some_rules : (g h : Rules) → Some g ≡ Some h → h ≡ g
-some_rules g h e = cc
+use Rattle.dali_resume.proofs.Standing.{IsWithin-parts}
 
 -- ---- what a record that separates no epochs does to audits
 abbrev pub Changes : Rules → Rules → Record → Type 0
@@ -37,21 +28,21 @@ Changes g h r = (h.count ≡ g.count + 1) × (h.audits ≡ g.audits) × (h.faile
 
 runs_changes : (s : Sizes) (g h : Rules) (r : Record) → separates r ≡ false → runs s g r ≡ Some h → Changes g h r
 runs_changes s g h (Format i n) w e = absurd (cc)
-runs_changes s g h (Begin t) w e = let k = (kept_some _ _ h e).1 in (ap (λ (x : Rules). x.count) k, ap (λ (x : Rules). x.audits) k, ap (λ (x : Rules). x.failed) k)
-runs_changes s g h (Forward t b) w e = let k = (kept_some _ _ h e).1 in (ap (λ (x : Rules). x.count) k, ap (λ (x : Rules). x.audits) k, ap (λ (x : Rules). x.failed) k)
-runs_changes s g h (Done t c a) w e = let k = (kept_some _ _ h e).1 in (ap (λ (x : Rules). x.count) k, ap (λ (x : Rules). x.audits) k, ap (λ (x : Rules). x.failed) k)
+runs_changes s g h (Begin t) w e = let k = (kept_if_some _ _ h e).1 in (ap (λ (x : Rules). x.count) k, ap (λ (x : Rules). x.audits) k, ap (λ (x : Rules). x.failed) k)
+runs_changes s g h (Forward t b) w e = let k = (kept_if_some _ _ h e).1 in (ap (λ (x : Rules). x.count) k, ap (λ (x : Rules). x.audits) k, ap (λ (x : Rules). x.failed) k)
+runs_changes s g h (Done t c a) w e = let k = (kept_if_some _ _ h e).1 in (ap (λ (x : Rules). x.count) k, ap (λ (x : Rules). x.audits) k, ap (λ (x : Rules). x.failed) k)
 runs_changes s g h (Commit t) w e = let k = some_rules _ h e in (ap (λ (x : Rules). x.count) k, ap (λ (x : Rules). x.audits) k, ap (λ (x : Rules). x.failed) k)
 runs_changes s g h (Ended t) w e = let k = some_rules _ h e in (ap (λ (x : Rules). x.count) k, ap (λ (x : Rules). x.audits) k, ap (λ (x : Rules). x.failed) k)
-runs_changes s g h (Solo t p b) w e = let k = (kept_some _ _ h e).1 in (ap (λ (x : Rules). x.count) k, ap (λ (x : Rules). x.audits) k, ap (λ (x : Rules). x.failed) k)
-runs_changes s g h AuditBegin w e = let k = (kept_some _ _ h e).1 in (ap (λ (x : Rules). x.count) k, ap (λ (x : Rules). x.audits) k, ap (λ (x : Rules). x.failed) k)
+runs_changes s g h (Solo t p b) w e = let k = (kept_if_some _ _ h e).1 in (ap (λ (x : Rules). x.count) k, ap (λ (x : Rules). x.audits) k, ap (λ (x : Rules). x.failed) k)
+runs_changes s g h AuditBegin w e = let k = (kept_if_some _ _ h e).1 in (ap (λ (x : Rules). x.count) k, ap (λ (x : Rules). x.audits) k, ap (λ (x : Rules). x.failed) k)
 runs_changes s g h (AuditClean b) w e =
-    let k = kept_some _ _ h e in
-    (ap (λ (x : Rules). x.count) k.1, ap (λ (x : Rules). x.audits) k.1, ap (λ (x : Rules). x.failed) k.1, (and_true (has g.audits b) (not (has g.closed b)) k.0).0)
+    let k = kept_if_some _ _ h e in
+    (ap (λ (x : Rules). x.count) k.1, ap (λ (x : Rules). x.audits) k.1, ap (λ (x : Rules). x.failed) k.1, (and_parts (has g.audits b) (not (has g.closed b)) k.0).0)
 runs_changes s g h (AuditFail b rs) w e =
-    let k = kept_some _ _ h e in
-    (ap (λ (x : Rules). x.count) k.1, ap (λ (x : Rules). x.audits) k.1, ap (λ (x : Rules). x.failed) k.1, (and_true (has g.audits b) (not (has g.closed b)) (and_true (has g.audits b && not (has g.closed b)) _ k.0).0).0)
+    let k = kept_if_some _ _ h e in
+    (ap (λ (x : Rules). x.count) k.1, ap (λ (x : Rules). x.audits) k.1, ap (λ (x : Rules). x.failed) k.1, (and_parts (has g.audits b) (not (has g.closed b)) (and_parts (has g.audits b && not (has g.closed b)) _ k.0).0).0)
 runs_changes s g h (Restarted rs ds) w e = absurd (cc)
-runs_changes s g h (Back t b) w e = let k = (kept_some _ _ h e).1 in (ap (λ (x : Rules). x.count) k, ap (λ (x : Rules). x.audits) k, ap (λ (x : Rules). x.failed) k)
+runs_changes s g h (Back t b) w e = let k = (kept_if_some _ _ h e).1 in (ap (λ (x : Rules). x.count) k, ap (λ (x : Rules). x.audits) k, ap (λ (x : Rules). x.failed) k)
 
 unless_failed : (c : Bool) (o : Option Rules) (h : Rules) → cond c None o ≡ Some h → (c ≡ false) × (o ≡ Some h)
 unless_failed true o h e = absurd (cc)
@@ -59,31 +50,12 @@ unless_failed false o h e = (refl, e)
 
 pub behind_runs : (s : Sizes) (g h : Rules) (r : Record) → separates r ≡ false → rules_behind s g r ≡ Some h → (g.failed ≡ false) × (runs s g r ≡ Some h)
 behind_runs s g h (Format i n) w e = absurd (cc)
-behind_runs s g h (Begin t) w e = unless_failed g.failed _ h e
-behind_runs s g h (Forward t b) w e = unless_failed g.failed _ h e
-behind_runs s g h (Done t c a) w e = unless_failed g.failed _ h e
-behind_runs s g h (Commit t) w e = unless_failed g.failed _ h e
-behind_runs s g h (Ended t) w e = unless_failed g.failed _ h e
-behind_runs s g h (Solo t p b) w e = unless_failed g.failed _ h e
-behind_runs s g h AuditBegin w e = unless_failed g.failed _ h e
-behind_runs s g h (AuditClean b) w e = unless_failed g.failed _ h e
-behind_runs s g h (AuditFail b rs) w e = unless_failed g.failed _ h e
 behind_runs s g h (Restarted rs ds) w e = absurd (cc)
-behind_runs s g h (Back t b) w e = unless_failed g.failed _ h e
+behind_runs s g h _ w e = unless_failed g.failed _ h e
 
 pub first_refuses : {A : Type 0} (s : Sizes) (g h : Rules) (r : Record) → separates r ≡ false → rules_first s g r ≡ Some h → A
 first_refuses s g h (Format i n) w e = absurd (cc)
-first_refuses s g h (Begin t) w e = absurd (cc)
-first_refuses s g h (Forward t b) w e = absurd (cc)
-first_refuses s g h (Done t c a) w e = absurd (cc)
-first_refuses s g h (Commit t) w e = absurd (cc)
-first_refuses s g h (Ended t) w e = absurd (cc)
-first_refuses s g h (Solo t p b) w e = absurd (cc)
-first_refuses s g h AuditBegin w e = absurd (cc)
-first_refuses s g h (AuditClean b) w e = absurd (cc)
-first_refuses s g h (AuditFail b rs) w e = absurd (cc)
-first_refuses s g h (Restarted rs ds) w e = absurd (cc)
-first_refuses s g h (Back t b) w e = absurd (cc)
+first_refuses s g h _ w e = absurd (cc)
 
 pub step_changes : (s : Sizes) (g h : Rules) (r : Record) → separates r ≡ false → rules_step s g r ≡ Some h → (g.failed ≡ false) × Changes g h r
 step_changes s g h r w e = by_test (g.count == 0) refl e
@@ -102,7 +74,7 @@ pub record Audited (e : Epoch) (g : Rules) : Type 0 where
 abbrev more : Epoch → Record → Epoch
 more e r = record { first = e.first; records = e.records ++ r ∷ [] }
 
-length_more : (L : List Record) (r : Record) → length (L ++ r ∷ []) ≡ suc (length L)
+pub length_more : (L : List Record) (r : Record) → length (L ++ r ∷ []) ≡ suc (length L)
 length_more [] r = refl
 length_more (x ∷ L) r = ap suc (length_more L r)
 
@@ -134,7 +106,7 @@ audited_step e g h (Ended t) w a f c = quiet e g h (Ended t) a f c.0 c.1 refl re
 audited_step e g h (Solo t p b) w a f c = quiet e g h (Solo t p b) a f c.0 c.1 refl refl
 audited_step e g h AuditBegin w a f c = record {
   count = omega (arith, c.0, a.count, number_more e AuditBegin);
-  below = λ b x. ⊎_elim (λ y. omega (arith, c.0, (Decides-eqb g.count b).0 y)) (λ y. omega (arith, c.0, a.below b y)) (or_true (g.count == b) (has g.audits b) (subst (λ xs. has xs b ≡ true) c.1 x));
+  below = λ b x. ⊎_elim (λ y. omega (arith, c.0, (Decides-eqb g.count b).0 y)) (λ y. omega (arith, c.0, a.below b y)) (or_cases (g.count == b) (has g.audits b) (subst (λ xs. has xs b ≡ true) c.1 x));
   clean = ⊎_elim (λ x. inl (clean_more e AuditBegin ∙ x)) (λ x. inr (omega (arith, x, clean_more e AuditBegin, number_more e AuditBegin))) a.clean;
   fails = λ x. failing_more e AuditBegin ∙ a.fails f;
 }
@@ -226,16 +198,6 @@ front_some s g P R h = by_state (fold (rules_next s) (Some g) P) refl (subst IsS
     by_state None f q = let z : false ≡ true = rw (fold_stays (rules_next s) None (λ r. refl) R) at q in absurd (cc)
     by_state (Some m) f q = (m, f, q)
 
-IsWithin-parts : (P R : List Record) → IsWithin (P ++ R) → IsWithin P × IsWithin R
-IsWithin-parts [] R h = ((λ i r e. absurd (cc)), h)
-IsWithin-parts (p ∷ P) R h =
-    let v = IsWithin-parts P R (λ i r e. h (suc i) r e) in
-    (front v.0, v.1)
-  where
-    front : IsWithin P → IsWithin (p ∷ P)
-    front k zero r e = h 0 r e
-    front k (suc i) r e = k i r e
-
 pub damage_is :
     (s : Sizes) (f n : ℕ) (P R : List Record) → Began s (record { first = f; records = P ++ R }) → IsWithin (P ++ R) → length P ≡ n - f → n ≤ clean_place (record { first = f; records = P ++ R })
     → (fold clean_step (max n f) R ≡ fold clean_step f (P ++ R)) × (fold failing_step [] R ≡ fold failing_step [] (P ++ R))
@@ -284,11 +246,7 @@ damage_is s f n P R began within size low = (clean_is, sym (fold-append failing_
 Now : Sizes → List Record → Cut → Type 0
 Now s L c = AllByRecursion (Began s) c.closed × ((g : Rules) × (g.count ≡ c.now.first) × (g.audits ≡ []) × (g.failed ≡ false) × (rules_state s L ≡ fold (rules_next s) (Some g) c.now.records)) × IsWithin c.now.records × (next_number c.now ≡ length L)
 
-all_push : {X : Type 0} (Q : X → Type 0) (xs : List X) (x : X) → AllByRecursion Q xs → Q x → AllByRecursion Q (xs ++ x ∷ [])
-all_push Q [] x h p = (p, tt)
-all_push Q (y ∷ xs) x h p = (h.0, all_push Q xs x h.1 p)
-
-within_push : (E : List Record) (r : Record) → IsWithin E → separates r ≡ false → IsWithin (E ++ r ∷ [])
+pub within_push : (E : List Record) (r : Record) → IsWithin E → separates r ≡ false → IsWithin (E ++ r ∷ [])
 within_push E r h e i q f = ⊎_elim (λ old. h i q old.1) (λ new. subst (λ z. separates z ≡ false) new.1 e) (get_push_cases E r i q f)
 
 within_none : IsWithin []
@@ -306,10 +264,10 @@ restart_step s g h rs ds e = by_test (g.count == 0) e
   where
     by_test : (c : Bool) → cond c (rules_first s g (Restarted rs ds)) (rules_behind s g (Restarted rs ds)) ≡ Some h → (h.count ≡ g.count + 1) × (h.audits ≡ []) × (h.failed ≡ false)
     by_test true q = absurd (cc)
-    by_test false q = let k = (kept_some (not g.restarted) (restarts g (Restarted rs ds)) h q).1 in (ap (λ (x : Rules). x.count) k, ap (λ (x : Rules). x.audits) k, ap (λ (x : Rules). x.failed) k)
+    by_test false q = let k = (kept_if_some (not g.restarted) (restarts g (Restarted rs ds)) h q).1 in (ap (λ (x : Rules). x.count) k, ap (λ (x : Rules). x.audits) k, ap (λ (x : Rules). x.failed) k)
 
 pub format_step : (s : Sizes) (i k : ℕ) (h : Rules) → rules_state s (Format i k ∷ []) ≡ Some h → (h.count ≡ 1) × (h.audits ≡ []) × (h.failed ≡ false)
-format_step s i k h e = let w = (kept_some _ (passes rules_start (Format i k)) h e).1 in (ap (λ (x : Rules). x.count) w, ap (λ (x : Rules). x.audits) w, ap (λ (x : Rules). x.failed) w)
+format_step s i k h e = let w = (kept_if_some _ (passes rules_start (Format i k)) h e).1 in (ap (λ (x : Rules). x.count) w, ap (λ (x : Rules). x.audits) w, ap (λ (x : Rules). x.failed) w)
 
 now_step : (s : Sizes) (L : List Record) (r : Record) (h : Rules) → rules_state s (L ++ r ∷ []) ≡ Some h → Now s L (cut L) → Now s (L ++ r ∷ []) (cut_step (cut L) r)
 unfolding Now Plain

@@ -2,39 +2,30 @@
 use Rattle.std.proofs.Common.{◌≡◌, ℕ, zero, suc, ◌+◌, ◌≤◌, Bool, true, false, List, [], ◌∷◌, ◌++◌, length, take, drop, Option, Some, None, refl, ap, sym, ◌∙◌, ◌⊎◌, inl, inr, ⊎_elim, cond, arith, take-append-drop, length-append}
 use Rattle.std.specs.Prelude.{sum_by, ◌&&◌, ◌||◌, not, slice_get, nat_le}
 use Rattle.std.specs.List.{list_all, list_any}
-use Rattle.std.proofs.lemmas.Bool.{leb-true, le-leb, cases_lt}
+use Rattle.std.proofs.lemmas.Bool.{leb-true, le-leb, cases_lt, not-true}
 use Rattle.std.proofs.lemmas.List.Concat.{flat_map-append}
-use Rattle.std.proofs.lemmas.List.{drop-append-le}
+use Rattle.std.proofs.lemmas.List.{drop-append-le, append_cancel_left}
+use Rattle.dali_lists.proofs.Options.{some_same}
+use Rattle.dali_lists.proofs.Tests.{left_true, right_true}
 use Rattle.dali_record.specs.Epochs.{last_epoch}
 use Rattle.dali_history.specs.Recovered.{base_of}
 use Rattle.dali_record.specs.declared.records.Record.{Record}
-use Rattle.dali_record.specs.declared.records.Record.TheVariants.{Format, Begin, Forward, Done, Commit, Ended, Solo, AuditBegin, AuditClean, AuditFail, Restarted, Back}
+use Rattle.dali_record.specs.declared.records.Record.TheVariants.{Restarted}
 use Rattle.dali_record.specs.Files.{Files, batch_length, is_restarted, is_restarted_first}
-use Rattle.dali_counts.proofs.Lists.{and_left, and_right, some_same}
 use Rattle.dali_resume.specs.Tests.{one_later, first_bad, known_at}
 use Rattle.dali_resume.specs.Onward.{Misfit, goes_through, hands_on, verdict_by}
 use Rattle.dali_resume.specs.Batches.{records_of, first_restarted, misplaced_in, further, either_place, misplaced, IsMisplaced, FindsMisplaced, FitsInBatches, earlier, bad_of, AnswersOverBatches, FrontAnswersOverBatches}
 
 -- ---- one batch
-is_a_restart : (r : Record) → is_restarted r ≡ true → (rs ds : List ℕ) × (r ≡ Restarted rs ds)
+pub is_a_restart : (r : Record) → is_restarted r ≡ true → (rs ds : List ℕ) × (r ≡ Restarted rs ds)
 is_a_restart (Restarted rs ds) e = (rs, ds, refl)
-is_a_restart (Format i h) e = absurd (cc)
-is_a_restart (Begin t) e = absurd (cc)
-is_a_restart (Forward t b) e = absurd (cc)
-is_a_restart (Done t c a) e = absurd (cc)
-is_a_restart (Commit t) e = absurd (cc)
-is_a_restart (Ended t) e = absurd (cc)
-is_a_restart (Solo t p b) e = absurd (cc)
-is_a_restart AuditBegin e = absurd (cc)
-is_a_restart (AuditClean b) e = absurd (cc)
-is_a_restart (AuditFail b rs) e = absurd (cc)
-is_a_restart (Back t b) e = absurd (cc)
+is_a_restart _ e = absurd (cc)
 
 one_none : (o : Option ℕ) → one_later o ≡ None → o ≡ None
 one_none None e = refl
 one_none (Some i) e = absurd (cc)
 
-one_some : (o : Option ℕ) (i : ℕ) → one_later o ≡ Some i → (j : ℕ) × (o ≡ Some j) × (i ≡ j + 1)
+pub one_some : (o : Option ℕ) (i : ℕ) → one_later o ≡ Some i → (j : ℕ) × (o ≡ Some j) × (i ≡ j + 1)
 one_some None i e = absurd (cc)
 one_some (Some j) i e = (j, refl, sym (some_same e))
 
@@ -71,17 +62,13 @@ stands_in (r ∷ b) j e = by_test (is_restarted r) refl (stands_in b) e
         let v = rest w.0 w.1 in
         (r ∷ v.0, v.1, v.2, v.3, ap (λ x. r ∷ x) v.4, omega (arith, w.2, v.5), ap (λ c. c || list_any is_restarted v.0) q ∙ v.6)
 
-not_false : (b : Bool) → not b ≡ true → b ≡ false
-not_false true e = absurd (cc)
-not_false false e = refl
-
 batch_good : (b : List Record) → misplaced_in b ≡ None → is_restarted_first b ≡ true
 batch_good [] e = refl
 batch_good (r ∷ b) e = ap not (none_any b (one_none (first_restarted b) e))
 
-good_batch : (b : List Record) → is_restarted_first b ≡ true → misplaced_in b ≡ None
+pub good_batch : (b : List Record) → is_restarted_first b ≡ true → misplaced_in b ≡ None
 good_batch [] e = refl
-good_batch (r ∷ b) e = ap one_later (any_none b (not_false (list_any is_restarted b) e))
+good_batch (r ∷ b) e = ap one_later (any_none b (not-true (list_any is_restarted b) e))
 
 -- ---- all of them
 further_none : (n : ℕ) (o : Option ℕ) → further n o ≡ None → o ≡ None
@@ -101,8 +88,8 @@ none_good (b ∷ bs) e =
 good_none : (bs : List (List Record)) → list_all is_restarted_first bs ≡ true → misplaced bs ≡ None
 good_none [] e = refl
 good_none (b ∷ bs) e =
-    ap (λ o. either_place o (further (length b) (misplaced bs))) (good_batch b (and_left (is_restarted_first b) _ e))
-    ∙ ap (further (length b)) (good_none bs (and_right (is_restarted_first b) _ e))
+    ap (λ o. either_place o (further (length b) (misplaced bs))) (good_batch b (left_true (is_restarted_first b) _ e))
+    ∙ ap (further (length b)) (good_none bs (right_true (is_restarted_first b) _ e))
 
 in_first : (b : List Record) (bs : List (List Record)) (i : ℕ) → misplaced_in b ≡ Some i → IsMisplaced (b ∷ bs) i
 in_first [] bs i e = absurd (cc)
@@ -160,11 +147,7 @@ good_behind (suc k) (b ∷ bs) each = good_behind k bs (λ j c le e. each (suc j
 
 pub both_good : (cs bs : List (List Record)) → list_all is_restarted_first cs ≡ true → list_all is_restarted_first bs ≡ true → list_all is_restarted_first (cs ++ bs) ≡ true
 both_good [] bs e f = f
-both_good (c ∷ cs) bs e f = ap (λ z. z && list_all is_restarted_first (cs ++ bs)) (and_left (is_restarted_first c) _ e) ∙ both_good cs bs (and_right (is_restarted_first c) _ e) f
-
-same_rest : {X : Type 0} (A B C : List X) → A ++ B ≡ A ++ C → B ≡ C
-same_rest [] B C e = e
-same_rest (a ∷ A) B C e = same_rest A B C (cc)
+both_good (c ∷ cs) bs e f = ap (λ z. z && list_all is_restarted_first (cs ++ bs)) (left_true (is_restarted_first c) _ e) ∙ both_good cs bs (right_true (is_restarted_first c) _ e) f
 
 pub fits_in_batches : FitsInBatches
 fits_in_batches s base L F e more fit good = (
@@ -181,7 +164,7 @@ fits_in_batches s base L F e more fit good = (
     whole = sym (flat_map-append (λ b. b) (take k F.batches) (drop k F.batches)) ∙ (ap records_of (take-append-drop k F.batches) ∙ fit.fits.log)
 
     behind : records_of (drop fit.fits.batch.0 F.batches) ≡ drop F.first L
-    behind = same_rest (take F.first L) (records_of (drop k F.batches)) (drop F.first L) (ap (λ z. z ++ records_of (drop k F.batches)) (sym fit.fits.batch.1) ∙ (whole ∙ sym (take-append-drop F.first L)))
+    behind = append_cancel_left (take F.first L) (records_of (drop k F.batches)) (drop F.first L) (ap (λ z. z ++ records_of (drop k F.batches)) (sym fit.fits.batch.1) ∙ (whole ∙ sym (take-append-drop F.first L)))
 
 -- ---- both kinds of test
 earlier_none : (o : Option ℕ) → earlier o None ≡ o

@@ -2,11 +2,16 @@
 use Rattle.std.specs.List.{list_any}
 use Rattle.std.specs.Prelude.{Contains, IsSome, filter_map, fold, nat_le, nat_lt, not, slice_get, ◌&&◌, ◌||◌, ◌==◌}
 use Rattle.std.proofs.Common.{Bool, List, None, Option, Some, ap, append_assoc, arith, cond, drop, false, length, refl, subst, suc, sym, take, true, zero, ℕ, ◌≡◌, ◌∷◌, ◌++◌, ◌∙◌, ◌≤◌, ◌^◌, ◌+◌, ◌-◌, ◌<◌, [], ⊎_elim}
-use Rattle.std.proofs.lemmas.Bool.{and_parts, both_ways, false_from_ne_true, or_cases, or_right}
+use Rattle.std.proofs.lemmas.Bool.{and_parts, both_ways, false_from_ne_true, or_cases, or_right, or_parts, le-leb, leb-true, eqb-true}
 use Rattle.std.proofs.lemmas.List.{append-nil, drop-append-le, length-append, take-append-le}
 use Rattle.std.proofs.lemmas.List.Elements.{filter_map-append}
 use Rattle.std.proofs.lemmas.List.Folds.{list_any-append}
 use Rattle.std.proofs.lemmas.List.Sums.{fold-append}
+use Rattle.std.proofs.lemmas.Option.{slice_get_past}
+use mathlib.Core.Bool.{or-false}
+use Rattle.dali_lists.proofs.Members.{contains_from_get}
+use Rattle.dali_lists.proofs.Numbers.{eqb-suc}
+use Rattle.dali_lists.proofs.Options.{some_of}
 use Rattle.dali_geometry.specs.Sizes.{Sizes}
 use Rattle.dali_record.specs.Damage.{has}
 use Rattle.dali_record.specs.Epochs.{Cut, Epoch, cut, epochs, last_epoch, separates}
@@ -15,57 +20,35 @@ use Rattle.dali_record.specs.Legal.{Active, Committed, IsLegalFor, Over, Rules, 
 use Rattle.dali_record.specs.Log.{begun, committed, ended, last_of, undo_step, undos_of}
 use Rattle.dali_record.specs.declared.records.Record.{Record}
 use Rattle.dali_record.specs.declared.records.Record.TheVariants.{AuditBegin, AuditClean, AuditFail, Back, Begin, Commit, Done, Ended, Format, Forward, Restarted, Solo}
-use Rattle.dali_record.proofs.Batches.{last_push}
+use Rattle.dali_record.proofs.Batches.{last_push, number_is_length}
 use Rattle.dali_record.proofs.Ends.{by_push}
 use Rattle.dali_record.proofs.EpochRules.{AllEpochs-contains, StandsThrough, stands_in_epochs}
 use Rattle.dali_record.proofs.Pushes.{cut_push, undos_of_push}
-use Rattle.dali_record.proofs.Scans.{le_test, same_test, test_le, test_same}
 use Rattle.dali_record.proofs.Stages.{IsStart, has_committed_push, stage, state_from}
 use Rattle.dali_record.proofs.Tracks.{Tracks}
-use Rattle.dali_history.proofs.Places.{Contains-from_get}
 use Rattle.dali_history.proofs.Prefixes.{IsLegalFor-front}
-use Rattle.dali_counts.proofs.Tallies.{number_is}
 use Rattle.dali_resume.specs.Laws.{is_audit_fail}
 use Rattle.dali_resume.specs.Resumed.{first_from, records_from}
 use Rattle.dali_resume.specs.Rules.{begins_audit, ends_restarted, is_active_in, is_new, may_stand, number_next, stands_by, waits_in}
 use Rattle.dali_resume.specs.Tests.{Idle, Known, audits_behind, failed_behind, known_next, may_follow, next_behind, status_in, status_next, test_next, tests, undoes_last}
-use Rattle.dali_resume.proofs.Onward.{epoch_restarted, idle_anyway, some_is}
+use Rattle.dali_resume.proofs.Onward.{epoch_restarted, idle_anyway}
 use Rattle.dali_resume.proofs.Reached.{next_step, none_passes}
 use Rattle.dali_resume.proofs.Resumes.{table_of}
 use Rattle.dali_resume.proofs.Ruled.{Formed, IsFreshFor, Told, by_records, rules_are, stat_step, status_is}
 use Rattle.dali_resume.proofs.Standing.{LiesIn, has_begun_push, has_ended_push, lies, nothing}
 
 -- ---- lists
-or_none : (a : Bool) → (a || false) ≡ a
-or_none true = refl
-or_none false = refl
-
-or_split : (a b : Bool) → (a || b) ≡ false → (a ≡ false) × (b ≡ false)
-or_split true b q = absurd (cc)
-or_split false b q = (refl, q)
 
 last_pushed : (xs : List Record) (r : Record) → last_of (xs ++ r ∷ []) ≡ Some r
 last_pushed [] r = refl
 last_pushed (x ∷ []) r = refl
 last_pushed (x ∷ y ∷ xs) r = last_pushed (y ∷ xs) r
 
-pub past_none : (xs : List Record) (b : ℕ) → length xs ≤ b → slice_get xs b ≡ None
-past_none [] b h = refl
-past_none (x ∷ xs) zero h = absurd (omega (arith, h))
-past_none (x ∷ xs) (suc b) h = past_none xs b (omega (arith, h))
-
-eq_suc : (a b : ℕ) → (suc a == suc b) ≡ (a == b)
-eq_suc a b = by_test (a == b) refl
-  where
-    by_test : (k : Bool) → (a == b) ≡ k → (suc a == suc b) ≡ k
-    by_test true e = same_test (suc a) (suc b) (ap suc (test_same a b e))
-    by_test false e = false_from_ne_true (suc a == suc b) (λ q. let h : suc a ≡ suc b = test_same (suc a) (suc b) q in both_ways (a == b) e (same_test a b (omega (arith, h))))
-
 not_zero : (a : ℕ) → (suc a == 0) ≡ false
-not_zero a = false_from_ne_true (suc a == 0) (λ q. let h : suc a ≡ 0 = test_same (suc a) 0 q in omega (arith, h))
+not_zero a = false_from_ne_true (suc a == 0) (λ q. let h : suc a ≡ 0 = eqb-true (suc a) 0 q in omega (arith, h))
 
 zero_not : (b : ℕ) → (0 == suc b) ≡ false
-zero_not b = false_from_ne_true (0 == suc b) (λ q. let h : 0 ≡ suc b = test_same 0 (suc b) q in omega (arith, h))
+zero_not b = false_from_ne_true (0 == suc b) (λ q. let h : 0 ≡ suc b = eqb-true 0 (suc b) q in omega (arith, h))
 
 begins_push : (Y : List Record) (r : Record) (b : ℕ) → begins_audit (Some r) ≡ false → begins_audit (slice_get (Y ++ r ∷ []) b) ≡ begins_audit (slice_get Y b)
 begins_push [] r zero h = h
@@ -77,7 +60,7 @@ begins_new : (Y : List Record) (b : ℕ) → begins_audit (slice_get (Y ++ Audit
 begins_new [] zero = refl
 begins_new [] (suc b) = rw (zero_not b) refl
 begins_new (y ∷ Y) zero = rw (not_zero (length Y)) refl
-begins_new (y ∷ Y) (suc b) = begins_new Y b ∙ ap (λ z. z || begins_audit (slice_get Y b)) (sym (eq_suc (length Y) b))
+begins_new (y ∷ Y) (suc b) = begins_new Y b ∙ ap (λ z. z || begins_audit (slice_get Y b)) (sym (eqb-suc (length Y) b))
 
 -- ---- what a record that may stand says of its transaction
 abbrev no_records : List Record
@@ -98,8 +81,8 @@ module _ (s : Sizes) (n : ℕ) (Y : List Record) where
   new_number : (r : Record) (t : ℕ) → stands_by s n Y r ≡ true → has (begun (r ∷ [])) t ≡ true → number_next Y ≤ t
   new_number (Format i h) t k e = absurd (cc)
   new_number (Begin u) t k e =
-      let same : u ≡ t = test_same u t (sym (or_none (u == t)) ∙ e) in
-      let le : number_next Y ≤ u = test_le (number_next Y) u (and_parts (nat_lt u (2 ^ 40)) (nat_le (number_next Y) u) k).1 in
+      let same : u ≡ t = eqb-true u t (sym (or-false (u == t)) ∙ e) in
+      let le : number_next Y ≤ u = leb-true (number_next Y) u (and_parts (nat_lt u (2 ^ 40)) (nat_le (number_next Y) u) k).1 in
       omega (arith, same, le)
   new_number (Forward u b) t k e = absurd (cc)
   new_number (Done u c a) t k e = absurd (cc)
@@ -114,13 +97,13 @@ module _ (s : Sizes) (n : ℕ) (Y : List Record) where
 
   rises : (r : Record) → stands_by s n Y r ≡ true → number_next Y ≤ next_behind (number_next Y) r
   rises (Format i h) k = omega arith
-  rises (Begin u) k = let le : number_next Y ≤ u = test_le (number_next Y) u (and_parts (nat_lt u (2 ^ 40)) (nat_le (number_next Y) u) k).1 in omega (arith, le)
+  rises (Begin u) k = let le : number_next Y ≤ u = leb-true (number_next Y) u (and_parts (nat_lt u (2 ^ 40)) (nat_le (number_next Y) u) k).1 in omega (arith, le)
   rises (Forward u b) k = omega arith
   rises (Done u c a) k = omega arith
   rises (Commit u) k = omega arith
   rises (Ended u) k = omega arith
   rises (Solo u p b) k =
-      let le : number_next Y ≤ u = test_le (number_next Y) u (and_parts (nat_lt u (2 ^ 40)) (nat_le (number_next Y) u) (and_parts (is_new Y u) (waits_in (last_epoch Y).records p && on_kind s b.region b.op) k).0).1 in
+      let le : number_next Y ≤ u = leb-true (number_next Y) u (and_parts (nat_lt u (2 ^ 40)) (nat_le (number_next Y) u) (and_parts (is_new Y u) (waits_in (last_epoch Y).records p && on_kind s b.region b.op) k).0).1 in
       omega (arith, le)
   rises AuditBegin k = omega arith
   rises (AuditClean b) k = omega arith
@@ -130,7 +113,7 @@ module _ (s : Sizes) (n : ℕ) (Y : List Record) where
 
   above : (r : Record) (t : ℕ) → has (begun (r ∷ [])) t ≡ true → t < next_behind (number_next Y) r
   above (Format i h) t e = absurd (cc)
-  above (Begin u) t e = let same : u ≡ t = test_same u t (sym (or_none (u == t)) ∙ e) in omega (arith, same)
+  above (Begin u) t e = let same : u ≡ t = eqb-true u t (sym (or-false (u == t)) ∙ e) in omega (arith, same)
   above (Forward u b) t e = absurd (cc)
   above (Done u c a) t e = absurd (cc)
   above (Commit u) t e = absurd (cc)
@@ -144,7 +127,7 @@ module _ (s : Sizes) (n : ℕ) (Y : List Record) where
 
   -- a transaction that hasn't begun has no record
   not_begun : {A : Type 0} (u t : ℕ) → (u == t) ≡ true → is_active_in (last_epoch Y).records u ≡ true → has (begun (last_epoch Y).records) t ≡ false → A
-  not_begun u t e k h = absurd (both_ways (has (begun E) t) h (subst (λ z. has (begun E) z ≡ true) (test_same u t e) (and_parts (has (begun E) u) (not (has (committed E) u) && not (has (ended E) u)) k).0))
+  not_begun u t e k h = absurd (both_ways (has (begun E) t) h (subst (λ z. has (begun E) z ≡ true) (eqb-true u t e) (and_parts (has (begun E) u) (not (has (committed E) u) && not (has (ended E) u)) k).0))
 
   Quiet : ℕ → Record → Type 0
   Quiet t r = (has (committed (r ∷ [])) t ≡ false) × (has (ended (r ∷ [])) t ≡ false) × (undo_step t [] r ≡ [])
@@ -168,7 +151,7 @@ module _ (s : Sizes) (n : ℕ) (Y : List Record) where
     where
       by_test : (z : Bool) → (u == t) ≡ z → Quiet t (Ended u)
       by_test true e = ⊎_elim
-          (λ a. absurd (both_ways (has (committed E) t) c (subst (λ z. has (committed E) z ≡ true) (test_same u t e) (and_parts (has (committed E) u) (not (has (ended E) u)) a).0)))
+          (λ a. absurd (both_ways (has (committed E) t) c (subst (λ z. has (committed E) z ≡ true) (eqb-true u t e) (and_parts (has (committed E) u) (not (has (ended E) u)) a).0)))
           (λ a. not_begun u t e (and_parts (is_active_in E u) (is_none_left (undos_of u E)) a).0 h)
           (or_cases (waits_in E u) (is_active_in E u && is_none_left (undos_of u E)) k)
       by_test false e = (refl, rw e refl, refl)
@@ -189,7 +172,7 @@ module _ (s : Sizes) (n : ℕ) (Y : List Record) where
   formed_push r k w = record {
     fresh = λ t h. ⊎_elim (λ a. let lt : t < number_next Y = w.fresh t a in omega (arith, lt, rises r k)) (λ a. above r t a) (or_cases (has (begun E) t) (has (begun (r ∷ [])) t) (sym (has_begun_push E r t) ∙ h));
     formed = λ t h.
-        let parts = or_split (has (begun E) t) (has (begun (r ∷ [])) t) (sym (has_begun_push E r t) ∙ h) in
+        let parts = or_parts (has (begun E) t) (has (begun (r ∷ [])) t) (sym (has_begun_push E r t) ∙ h) in
         let was = w.formed t parts.0 in
         let none = no_record r t k parts.0 was.0 in (
           has_committed_push E r t ∙ rw (was.0, none.0) refl,
@@ -201,31 +184,15 @@ module _ (s : Sizes) (n : ℕ) (Y : List Record) where
 -- ---- one record more
 pub failed_is : (f : Bool) (r : Record) → separates r ≡ false → failed_behind f r ≡ (f || is_audit_fail r)
 failed_is f (Format i h) w = absurd (cc)
-failed_is f (Begin t) w = sym (or_none f)
-failed_is f (Forward t b) w = sym (or_none f)
-failed_is f (Done t c a) w = sym (or_none f)
-failed_is f (Commit t) w = sym (or_none f)
-failed_is f (Ended t) w = sym (or_none f)
-failed_is f (Solo t p b) w = sym (or_none f)
-failed_is f AuditBegin w = sym (or_none f)
-failed_is f (AuditClean b) w = sym (or_none f)
 failed_is f (AuditFail b rs) w = sym (or_right f true refl)
 failed_is f (Restarted rs ds) w = absurd (cc)
-failed_is f (Back t b) w = sym (or_none f)
+failed_is f _ w = sym (or-false f)
 
 audits_same : (k : ℕ) (bs : List ℕ) (r : Record) → separates r ≡ false → begins_audit (Some r) ≡ false → audits_behind k bs r ≡ bs
 audits_same k bs (Format i h) w e = absurd (cc)
-audits_same k bs (Begin t) w e = refl
-audits_same k bs (Forward t b) w e = refl
-audits_same k bs (Done t c a) w e = refl
-audits_same k bs (Commit t) w e = refl
-audits_same k bs (Ended t) w e = refl
-audits_same k bs (Solo t p b) w e = refl
 audits_same k bs AuditBegin w e = absurd (cc)
-audits_same k bs (AuditClean b) w e = refl
-audits_same k bs (AuditFail b rs) w e = refl
 audits_same k bs (Restarted rs ds) w e = absurd (cc)
-audits_same k bs (Back t b) w e = refl
+audits_same k bs _ w e = refl
 
 -- where an epoch has just begun
 pub empty_told :
@@ -252,12 +219,12 @@ empty_told n Y g some past number next statuses audits failed restarted first ta
     none_at b = by_test (nat_le (length Y) b) refl
       where
         by_test : (z : Bool) → nat_le (length Y) b ≡ z → (z && begins_audit (slice_get Y b)) ≡ false
-        by_test true e = ap begins_audit (past_none Y b (test_le (length Y) b e))
+        by_test true e = ap begins_audit (slice_get_past Y b (leb-true (length Y) b e))
         by_test false e = refl
 
 module _ (s : Sizes) (n : ℕ) (Y : List Record) (g : Known) (w : Told n Y g) where
   size : (last_epoch Y).first + length (last_epoch Y).records ≡ length Y
-  size = number_is Y
+  size = number_is_length Y
 
   longer : (r : Record) → length (Y ++ r ∷ []) ≡ length Y + 1
   longer r = length-append Y (r ∷ [])
@@ -280,8 +247,8 @@ module _ (s : Sizes) (n : ℕ) (Y : List Record) (g : Known) (w : Told n Y g) wh
         where
           by_test : (z : Bool) → (length Y == b) ≡ z → (((g.number == b) || has g.audits b) || nat_lt b n) ≡ ((nat_le (last_epoch Y).first b && begins_audit (slice_get (Y ++ AuditBegin ∷ []) b)) || nat_lt b n)
           by_test true f =
-              let at : length Y ≡ b = test_same (length Y) b f in
-              rw (begins_new Y b, f, w.number, f, le_test (last_epoch Y).first b (omega (arith, at, size))) refl
+              let at : length Y ≡ b = eqb-true (length Y) b f in
+              rw (begins_new Y b, f, w.number, f, le-leb (last_epoch Y).first b (omega (arith, at, size))) refl
           by_test false f = rw (begins_new Y b, f, w.number, f) (w.audits b)
       by_kind (Format i j) h = absurd (cc)
       by_kind (Begin t) h = absurd (cc)
@@ -316,7 +283,7 @@ module _ (s : Sizes) (n : ℕ) (Y : List Record) (g : Known) (w : Told n Y g) wh
     failed =
         failed_is g.failed r sep
         ∙ (ap (λ z. z || is_audit_fail r) w.failed
-        ∙ (ap (λ z. list_any is_audit_fail (drop (n - (last_epoch Y).first) E) || z) (sym (or_none (is_audit_fail r)))
+        ∙ (ap (λ z. list_any is_audit_fail (drop (n - (last_epoch Y).first) E) || z) (sym (or-false (is_audit_fail r)))
         ∙ (sym (list_any-append is_audit_fail (drop (n - (last_epoch Y).first) E) (r ∷ []))
         ∙ (ap (list_any is_audit_fail) (sym (drop-append-le (n - (last_epoch Y).first) E (r ∷ []) inside))
         ∙ ap (λ (z : Epoch). list_any is_audit_fail (records_from n z)) (sym now)))));
@@ -345,7 +312,7 @@ module _ (s : Sizes) (n : ℕ) (Y : List Record) (g : Known) (w : Told n Y g) wh
   step r k = by_kind r (and_parts (stands_by s n Y r) (not (list_any is_audit_fail (records_from n (last_epoch Y))) || is_restarted r) k).0
     where
       by_kind : (q : Record) → stands_by s n Y q ≡ true → Told n (Y ++ q ∷ []) (known_next g q)
-      by_kind (Format i h) e = let none : length Y ≡ 0 = test_same (length Y) 0 e in absurd (omega (arith, none, w.some))
+      by_kind (Format i h) e = let none : length Y ≡ 0 = eqb-true (length Y) 0 e in absurd (omega (arith, none, w.some))
       by_kind (Begin t) e = plain (Begin t) refl e
       by_kind (Forward t b) e = plain (Forward t b) refl e
       by_kind (Done t c a) e = plain (Done t c a) refl e
@@ -381,7 +348,7 @@ drawn_is s Y u k e =
 
 pub number_same : (s : Sizes) (P : List Record) → IsLegalFor s P → number_next P ≡ next_after P
 number_same s = by_push (λ Y. IsLegalFor s Y → number_next Y ≡ next_after Y) (λ legal. refl) (λ Y r ih legal.
-    let k = some_is (rules_state s (Y ++ r ∷ [])) legal.rules in
+    let k = some_of (rules_state s (Y ++ r ∷ [])) legal.rules in
     fold-append next_behind 1 Y (r ∷ []) ∙ (ap (λ m. next_behind m r) (ih (IsLegalFor-front s Y (r ∷ []) legal)) ∙ next_step s Y r k.0 k.1))
 
 next_rises : (Y : List Record) (r : Record) → next_after Y ≤ next_after (Y ++ r ∷ [])
@@ -389,17 +356,8 @@ next_rises Y r = let w : length (filter_map draws (Y ++ r ∷ [])) ≡ length (f
 
 none_now : (Y : List Record) (r : Record) → separates r ≡ true → (last_epoch (Y ++ r ∷ [])).records ≡ []
 none_now Y (Format i j) e = ap (λ (c : Cut). c.now.records) (cut_push Y (Format i j))
-none_now Y (Begin t) e = absurd (cc)
-none_now Y (Forward t b) e = absurd (cc)
-none_now Y (Done t c a) e = absurd (cc)
-none_now Y (Commit t) e = absurd (cc)
-none_now Y (Ended t) e = absurd (cc)
-none_now Y (Solo t p b) e = absurd (cc)
-none_now Y AuditBegin e = absurd (cc)
-none_now Y (AuditClean b) e = absurd (cc)
-none_now Y (AuditFail b rs) e = absurd (cc)
 none_now Y (Restarted rs ds) e = ap (λ (c : Cut). c.now.records) (cut_push Y (Restarted rs ds))
-none_now Y (Back t b) e = absurd (cc)
+none_now Y _ e = absurd (cc)
 
 fresh_last : (s : Sizes) (P : List Record) → IsLegalFor s P → (t : ℕ) → has (begun (last_epoch P).records) t ≡ true → t < next_after P
 fresh_last s = by_push (λ Y. IsLegalFor s Y → (t : ℕ) → has (begun (last_epoch Y).records) t ≡ true → t < next_after Y) (λ legal t h. absurd (cc)) (λ Y r ih legal t h. by_kind Y r (ih (IsLegalFor-front s Y (r ∷ []) legal)) legal t (separates r) refl h)
@@ -407,9 +365,9 @@ fresh_last s = by_push (λ Y. IsLegalFor s Y → (t : ℕ) → has (begun (last_
     new : (Y : List Record) (r : Record) → IsLegalFor s (Y ++ r ∷ []) → (t : ℕ) → has (begun (r ∷ [])) t ≡ true → t < next_after (Y ++ r ∷ [])
     new Y (Format i j) legal t h = absurd (cc)
     new Y (Begin u) legal t h =
-        let k = some_is (rules_state s (Y ++ Begin u ∷ [])) legal.rules in
+        let k = some_of (rules_state s (Y ++ Begin u ∷ [])) legal.rules in
         let at : u + 1 ≡ next_after (Y ++ Begin u ∷ []) = next_step s Y (Begin u) k.0 k.1 in
-        let same : u ≡ t = test_same u t (sym (or_none (u == t)) ∙ h) in
+        let same : u ≡ t = eqb-true u t (sym (or-false (u == t)) ∙ h) in
         omega (arith, at, same)
     new Y (Forward u b) legal t h = absurd (cc)
     new Y (Done u c a) legal t h = absurd (cc)
@@ -430,7 +388,7 @@ fresh_last s = by_push (λ Y. IsLegalFor s Y → (t : ℕ) → has (begun (last_
         (or_cases (has (begun (last_epoch Y).records) t) (has (begun (r ∷ [])) t) (sym (has_begun_push (last_epoch Y).records r t) ∙ subst (λ (z : Epoch). has (begun z.records) t ≡ true) (last_push Y r e) h))
 
 contains_now : (Y : List Record) → Contains (epochs Y) (last_epoch Y)
-contains_now Y = Contains-from_get (epochs Y) (length (cut Y).closed) (last_epoch Y) (got_last (cut Y).closed (cut Y).now)
+contains_now Y = contains_from_get (epochs Y) (length (cut Y).closed) (last_epoch Y) (got_last (cut Y).closed (cut Y).now)
   where
     got_last : (es : List Epoch) (e : Epoch) → slice_get (es ++ e ∷ []) (length es) ≡ Some e
     got_last [] e = refl

@@ -1,7 +1,7 @@
 -- What is computed from the image and the records behind it is what the whole epoch says.
-use Rattle.std.proofs.Common.{◌≡◌, ℕ, zero, suc, ◌+◌, ◌-◌, ◌<◌, ◌≤◌, ◌^◌, true, false, List, [], ◌∷◌, ◌++◌, length, take, drop, Option, Some, None, refl, ap, sym, subst, ◌∙◌, ⊎_elim, append_assoc, arith}
+use Rattle.std.proofs.Common.{◌≡◌, ℕ, suc, ◌+◌, ◌-◌, ◌<◌, ◌≤◌, ◌^◌, true, false, List, [], ◌∷◌, ◌++◌, length, take, drop, Option, Some, None, refl, ap, sym, subst, ◌∙◌, ⊎_elim, append_assoc, arith}
 use Rattle.std.specs.Prelude.{◌↔◌, ◌&&◌, ◌||◌, not, max, fold, filter, IsSome, slice_get}
-use Rattle.std.proofs.lemmas.List.{append-nil, take-append-drop, length-append, length-drop}
+use Rattle.std.proofs.lemmas.List.{append-nil, take-append-drop, length-append, length-drop, length-take-le}
 use Rattle.dali_geometry.specs.Sizes.{Sizes}
 use Rattle.dali_record.specs.declared.records.Record.{Record}
 use Rattle.dali_record.specs.Log.{Touch, touch_of, touch_in, touch_at, begun, committed, ended}
@@ -19,6 +19,7 @@ use Rattle.dali_record.proofs.EpochRules.{StandsThrough, stands_in_epochs, AllEp
 use Rattle.dali_record.proofs.Recovery.{IsDropped-last, IsDropped-old}
 use Rattle.dali_history.specs.Recovered.{losers, undos_left, roll_back, freed}
 use Rattle.dali_record.specs.Settled.{redo_all}
+use Rattle.dali_history.proofs.Prefixes.{touch_front}
 use Rattle.dali_crash.specs.Fitting.{recover_from}
 use Rattle.dali_resume.specs.Resumed.{first_from, records_from, is_marked, is_left_out, scan, scan_step, scan_start, losers_by, rolled_by, deleted_by, recovered_by, recover_by}
 use Rattle.dali_resume.specs.Laws.{MayResume, damage_behind, scan_to, records_to, scan_all, FindsDamage, JudgesAlike, MarksAlike, DropsAlike, ReportsAlike, UndoesAlike, RecoversAlike}
@@ -28,22 +29,12 @@ use Rattle.dali_resume.proofs.Resumes.{table_of, carries, kept_is, rolled_is, de
 use Rattle.dali_resume.proofs.Audits.{Began, Audited, audited, begun_epochs, damage_is, clean_rises}
 use Rattle.dali_resume.proofs.Blocks.{IsFine, fine_in_epochs}
 
-length_took : {X : Type 0} (k : ℕ) (xs : List X) → k ≤ length xs → length (take k xs) ≡ k
-length_took zero xs h = refl
-length_took (suc k) [] h = absurd (omega (arith, h))
-length_took (suc k) (x ∷ xs) h = ap suc (length_took k xs (omega (arith, h)))
-
 length_none : {X : Type 0} (k : ℕ) (xs : List X) → k ≡ 0 → length (take k xs) ≡ 0
 length_none k xs e = rw e refl
 
 touch_left : (P R : List Record) (i : ℕ) (a : Touch) → touch_at R i ≡ Some a → touch_at (P ++ R) (length P + i) ≡ Some a
 touch_left [] R i a e = let same : 0 + i ≡ i = omega arith in rw same e
 touch_left (p ∷ P) R i a e = let same : suc (length P) + i ≡ suc (length P + i) = omega arith in rw same (touch_left P R i a e)
-
-touch_more : (A B : List Record) (i : ℕ) (a : Touch) → touch_at A i ≡ Some a → touch_at (A ++ B) i ≡ Some a
-touch_more [] B i a e = absurd (cc)
-touch_more (r ∷ A) B zero a e = e
-touch_more (r ∷ A) B (suc i) a e = touch_more A B i a e
 
 IsDropped-more : (d : Damage) (A B : List Record) (q : ℕ) → IsDropped d A q → IsDropped d (A ++ B) q
 IsDropped-more d A B q w = by_push (λ X. IsDropped d (A ++ X) q) (subst (λ E. IsDropped d E q) (sym (append-nil A)) w) (λ X r h. subst (λ E. IsDropped d E q) (append_assoc A X (r ∷ [])) (IsDropped-old d (A ++ X) r q h)) B
@@ -95,7 +86,7 @@ module _ (s : Sizes) (L : List Record) (e : Epoch) (n : ℕ) (may : MayResume s 
       by_state (Some m) f g = by_clean m (audited s e.first began.start began.count began.audits e.records through.0 m f)
 
   size : length (take (n - e.first) e.records) ≡ n - e.first
-  size = length_took (n - e.first) e.records fits
+  size = length-take-le (n - e.first) e.records fits
 
   pub found : (fold clean_step (max n e.first) (drop (n - e.first) e.records) ≡ clean_place e) × (fold failing_step [] (drop (n - e.first) e.records) ≡ failing e)
   found =
@@ -138,15 +129,15 @@ module _ (s : Sizes) (L : List Record) (e : Epoch) (n : ℕ) (may : MayResume s 
   -- ---- at each place
   knows_to : (i : ℕ) → Knows (damage_of e) (take (n - e.first) e.records) (table_of (take (n - e.first) e.records)) (records_to e n i) (fold (scan_step (damage_of e)) (scan_start (e.first + length (take (n - e.first) e.records)) (table_of (take (n - e.first) e.records))) (take i (drop (n - e.first) e.records)))
   knows_to i = knows_scan (damage_of e) P (table_of P) early (take i R)
-      (λ j a at. gives j a (subst (λ E. touch_at E j ≡ Some a) (append_assoc P (take i R) (drop i R) ∙ ap (λ X. P ++ X) (take-append-drop i R)) (touch_more (P ++ take i R) (drop i R) j a at)))
+      (λ j a at. gives j a (subst (λ E. touch_at E j ≡ Some a) (append_assoc P (take i R) (drop i R) ∙ ap (λ X. P ++ X) (take-append-drop i R)) (touch_front (P ++ take i R) (drop i R) j a at)))
       (λ j a at. small j a (front j a at))
       (λ j a at. carried j a (front j a at))
     where
       front : (j : ℕ) (a : Touch) → touch_at (take i R) j ≡ Some a → touch_at R j ≡ Some a
-      front j a at = subst (λ E. touch_at E j ≡ Some a) (take-append-drop i R) (touch_more (take i R) (drop i R) j a at)
+      front j a at = subst (λ E. touch_at E j ≡ Some a) (take-append-drop i R) (touch_front (take i R) (drop i R) j a at)
 
   gives_to : (i : ℕ) → GivesUndos (records_to e n i)
-  gives_to i j a at = gives j a (subst (λ E. touch_at E j ≡ Some a) (append_assoc P (take i R) (drop i R) ∙ ap (λ X. P ++ X) (take-append-drop i R)) (touch_more (P ++ take i R) (drop i R) j a at))
+  gives_to i j a at = gives j a (subst (λ E. touch_at E j ≡ Some a) (append_assoc P (take i R) (drop i R) ∙ ap (λ X. P ++ X) (take-append-drop i R)) (touch_front (P ++ take i R) (drop i R) j a at))
 
   small_at : (i : ℕ) (r : Record) → slice_get (drop (n - e.first) e.records) i ≡ Some r → (b : Touch) → touch_of r ≡ Some b → b.block.read < 2 ^ 64
   small_at i r at b touch = small i b (ap touch_in at ∙ touch)
@@ -177,7 +168,7 @@ module _ (s : Sizes) (L : List Record) (e : Epoch) (n : ℕ) (may : MayResume s 
       whole = ap (λ X. X ++ drop (suc i) R) (append_assoc P (take i R) (r ∷ []) ∙ ap (λ X. P ++ X) (sym (take_get R i r at))) ∙ (append_assoc P (take (suc i) R) (drop (suc i) R) ∙ (ap (λ X. P ++ X) (take-append-drop (suc i) R) ∙ split))
 
       place : length (records_to e n i) ≡ n - e.first + i
-      place = omega (arith, length-append P (take i R), size, length_took i R (omega (arith, touch_within R i b (ap touch_in at ∙ touch))))
+      place = omega (arith, length-append P (take i R), size, length-take-le i R (omega (arith, touch_within R i b (ap touch_in at ∙ touch))))
 
       behind : length (records_to e n i) < length (records_to e n i ++ r ∷ [])
       behind = omega (arith, length-append (records_to e n i) (r ∷ []))

@@ -2,10 +2,12 @@
 use Rattle.std.specs.List.{list_any}
 use Rattle.std.specs.Prelude.{IsNone, IsSome, fold, nat_le, nat_lt, slice_get, ◌&&◌, ◌||◌}
 use Rattle.std.proofs.Common.{Bool, List, None, Option, Some, ap, append_assoc, arith, cond, drop, false, inl, inr, length, refl, subst, suc, sym, take, true, zero, ℕ, ◌≡◌, ◌∷◌, ◌++◌, ◌∙◌, ◌≤◌, ◌+◌, ◌-◌, ◌<◌, [], ⊎_elim}
-use Rattle.std.proofs.lemmas.Bool.{cases_lt, ltb-false, or_right}
-use Rattle.std.proofs.lemmas.List.{append-nil, length-append, take-append-drop, take-append-le}
+use Rattle.std.proofs.lemmas.Bool.{cases_lt, ltb-false, or_right, eq-eqb}
+use Rattle.std.proofs.lemmas.List.{append-nil, length-append, take-append-drop, take-append-le, take_all, drop_all, drop_at, length-take-le}
 use Rattle.std.proofs.lemmas.List.Folds.{fold_stays}
 use Rattle.std.proofs.lemmas.List.Sums.{fold-append}
+use Rattle.std.proofs.lemmas.Option.{slice_get_past}
+use Rattle.dali_lists.proofs.Options.{some_of}
 use Rattle.dali_geometry.specs.Sizes.{Sizes}
 use Rattle.dali_record.specs.Epochs.{Cut, Epoch, epochs, last_epoch, next_number, separates}
 use Rattle.dali_record.specs.Files.{Files, table_before}
@@ -13,16 +15,15 @@ use Rattle.dali_record.specs.Legal.{IsLegalFor, rules_state}
 use Rattle.dali_record.specs.Log.{last_of}
 use Rattle.dali_record.specs.declared.records.Record.{Record}
 use Rattle.dali_record.specs.declared.records.Record.TheVariants.{AuditBegin, AuditClean, AuditFail, Back, Begin, Commit, Done, Ended, Format, Forward, Restarted, Solo}
-use Rattle.dali_record.proofs.Batches.{last_push}
+use Rattle.dali_record.proofs.Batches.{number_is_length}
 use Rattle.dali_record.proofs.EpochRules.{format_first}
 use Rattle.dali_record.proofs.Loops.{passed}
 use Rattle.dali_record.proofs.Pushes.{cut_push}
-use Rattle.dali_record.proofs.Scans.{same_test, take_get}
+use Rattle.dali_record.proofs.Scans.{take_get}
 use Rattle.dali_record.proofs.Stages.{IsWithin}
 use Rattle.dali_history.specs.Recovered.{base_of}
 use Rattle.dali_history.proofs.Prefixes.{IsLegalFor-front}
-use Rattle.dali_counts.proofs.Lists.{or_false}
-use Rattle.dali_counts.proofs.Tallies.{number_is}
+use Rattle.dali_system.proofs.LastEpochs.{last_epoch-append}
 use Rattle.dali_crash.specs.Fitting.{FitsWhole}
 use Rattle.dali_crash.proofs.Fitting.{found_is, within_epoch}
 use Rattle.dali_resume.specs.Again.{Outcome}
@@ -30,8 +31,8 @@ use Rattle.dali_resume.specs.Laws.{is_audit_fail}
 use Rattle.dali_resume.specs.Onward.{HandedOut, Misfit, goes_through, hands_on, verdict_by, verdict_of}
 use Rattle.dali_resume.specs.Rules.{AllMayStand, FindsMisfit, FrontsStand, IsImageBefore, IsImageIn, LegalStands, StandsAt, TestsAreRules, begins_audit, ends_restarted, may_stand, number_next}
 use Rattle.dali_resume.specs.Tests.{Known, first_bad, known_at, known_next, may_follow, next_behind, one_later, status_in, test_next, tests}
-use Rattle.dali_resume.proofs.Followed.{empty_told, formed_last, number_same, past_none, step, told_on}
-use Rattle.dali_resume.proofs.Onward.{epoch_restarted, idle_anyway, some_is}
+use Rattle.dali_resume.proofs.Followed.{empty_told, formed_last, number_same, step, told_on}
+use Rattle.dali_resume.proofs.Onward.{epoch_restarted, idle_anyway}
 use Rattle.dali_resume.proofs.Reading.{IsLed, Placed, get_then, placed}
 use Rattle.dali_resume.proofs.Resumes.{table_of}
 use Rattle.dali_resume.proofs.Ruled.{Told, rules_are}
@@ -40,32 +41,11 @@ use Rattle.dali_resume.proofs.Through.{resumes_through}
 use Rattle.dali_resume.proofs.Walks.{finds_first_bad}
 
 -- ---- lists
-take_whole : {X : Type 0} (k : ℕ) (xs : List X) → length xs ≤ k → take k xs ≡ xs
-take_whole zero [] h = refl
-take_whole zero (x ∷ xs) h = absurd (omega (arith, h))
-take_whole (suc k) [] h = refl
-take_whole (suc k) (x ∷ xs) h = ap (λ z. x ∷ z) (take_whole k xs (omega (arith, h)))
-
-drop_whole : {X : Type 0} (k : ℕ) (xs : List X) → length xs ≤ k → drop k xs ≡ []
-drop_whole zero [] h = refl
-drop_whole zero (x ∷ xs) h = absurd (omega (arith, h))
-drop_whole (suc k) [] h = refl
-drop_whole (suc k) (x ∷ xs) h = drop_whole k xs (omega (arith, h))
-
-drop_front : {X : Type 0} (xs ys : List X) (k : ℕ) → length xs ≡ k → drop k (xs ++ ys) ≡ ys
-drop_front [] ys k h = rw (sym h) refl
-drop_front (x ∷ xs) ys zero h = absurd (omega (arith, h))
-drop_front (x ∷ xs) ys (suc k) h = drop_front xs ys k (omega (arith, h))
 
 take_twice : {X : Type 0} (k : ℕ) (xs : List X) → take k (take k xs) ≡ take k xs
 take_twice zero xs = refl
 take_twice (suc k) [] = refl
 take_twice (suc k) (x ∷ xs) = ap (λ z. x ∷ z) (take_twice k xs)
-
-length_took : {X : Type 0} (k : ℕ) (xs : List X) → k ≤ length xs → length (take k xs) ≡ k
-length_took zero xs h = refl
-length_took (suc k) [] h = absurd (omega (arith, h))
-length_took (suc k) (x ∷ xs) h = ap suc (length_took k xs (omega (arith, h)))
 
 -- ---- where a restart starts
 record Started (s : Sizes) (P Q : List Record) (F : Files) : Type 0 where
@@ -82,10 +62,10 @@ started_in s P Q F some legal is = record {
     past = omega (arith, is.first);
     number = is.first;
     next = is.next ∙ sym (number_same s P legal);
-    statuses = λ t. ap (λ rows. status_in rows t) (is.table ∙ ap table_of (take_whole (length P - e.first) e.records (omega (arith, size))));
+    statuses = λ t. ap (λ rows. status_in rows t) (is.table ∙ ap table_of (take_all (length P - e.first) e.records (omega (arith, size))));
     audits = λ b. audits_at b;
     failed = sym (ap (list_any is_audit_fail) none_left);
-    restarted = sym (ap (λ X. ends_restarted (last_of X)) (drop_whole F.first P (omega (arith, is.first))));
+    restarted = sym (ap (λ X. ends_restarted (last_of X)) (drop_all F.first P (omega (arith, is.first))));
     first = omega (arith, is.first, size);
     table = is.table ∙ ap (table_before e) (sym is.first);
     seen = sym none_left;
@@ -99,13 +79,13 @@ started_in s P Q F some legal is = record {
     e = last_epoch P
 
     size : (last_epoch P).first + length (last_epoch P).records ≡ length P
-    size = number_is P
+    size = number_is_length P
 
     none_left : drop (F.first - (last_epoch P).first) (last_epoch P).records ≡ []
-    none_left = drop_whole (F.first - e.first) e.records (omega (arith, size, is.first))
+    none_left = drop_all (F.first - e.first) e.records (omega (arith, size, is.first))
 
     read : drop F.first (P ++ Q) ≡ Q
-    read = drop_front P Q F.first (sym is.first)
+    read = drop_at P Q F.first (sym is.first)
 
     both : (a : Bool) → ((a && false) || false) ≡ false
     both true = refl
@@ -118,7 +98,7 @@ started_in s P Q F some legal is = record {
         by_test true h = sym (or_right (nat_le (last_epoch P).first b && begins_audit (slice_get P b)) true refl)
         by_test false h =
             let ge : F.first ≤ b = ltb-false b F.first h in
-            sym (ap (λ o. (nat_le (last_epoch P).first b && begins_audit o) || false) (past_none P b (omega (arith, ge, is.first))) ∙ both (nat_le (last_epoch P).first b))
+            sym (ap (λ o. (nat_le (last_epoch P).first b && begins_audit o) || false) (slice_get_past P b (omega (arith, ge, is.first))) ∙ both (nat_le (last_epoch P).first b))
 
 started_before : (s : Sizes) (P Q : List Record) (F : Files) → IsLegalFor s P → IsImageBefore P F → Started s P Q F
 started_before s P Q F legal is = record {
@@ -126,9 +106,9 @@ started_before s P Q F legal is = record {
   told = empty_told F.first P (known_next (known_at F.first F.next F.table) (Restarted is.rolled is.deleted)) (omega (arith, size)) (omega (arith, size, is.first)) (omega (arith, size, is.first))
       (is.next ∙ (sym (number_same s is.front front_legal) ∙ sym (ap number_next is.log ∙ fold-append next_behind 1 is.front (Restarted is.rolled is.deleted ∷ []))))
       (λ t. idle_anyway t (status_in F.table t) is.rolled is.deleted) refl refl
-      (sym (ap (λ X. ends_restarted (last_of X)) (ap (drop F.first) is.log ∙ drop_front is.front (Restarted is.rolled is.deleted ∷ []) F.first (sym is.first))))
+      (sym (ap (λ X. ends_restarted (last_of X)) (ap (drop F.first) is.log ∙ drop_at is.front (Restarted is.rolled is.deleted ∷ []) F.first (sym is.first))))
       (omega (arith, size, is.first)) refl refl
-      (ap last_epoch is.log ∙ (epoch_restarted is.front is.rolled is.deleted ∙ ap (λ m. record { first = m; records = [] }) (omega (arith, number_is is.front, size))));
+      (ap last_epoch is.log ∙ (epoch_restarted is.front is.rolled is.deleted ∙ ap (λ m. record { first = m; records = [] }) (omega (arith, number_is_length is.front, size))));
   tests_are = ap (tests s F.first (known_at F.first F.next F.table)) read ∙ ap (λ b. fold (test_next s F.first) (cond b (Some (known_next (known_at F.first F.next F.table) (Restarted is.rolled is.deleted))) None) Q) passes;
   bad_is = λ o.
       ap (λ X. verdict_by F.first o (first_bad s F.first (known_at F.first F.next F.table) X)) read
@@ -143,10 +123,10 @@ started_before s P Q F legal is = record {
     size = ap length is.log ∙ length-append is.front (Restarted is.rolled is.deleted ∷ [])
 
     read : drop F.first (P ++ Q) ≡ Restarted is.rolled is.deleted ∷ Q
-    read = ap (λ X. drop F.first (X ++ Q)) is.log ∙ (ap (drop F.first) (append_assoc is.front (Restarted is.rolled is.deleted ∷ []) Q) ∙ drop_front is.front (Restarted is.rolled is.deleted ∷ Q) F.first (sym is.first))
+    read = ap (λ X. drop F.first (X ++ Q)) is.log ∙ (ap (drop F.first) (append_assoc is.front (Restarted is.rolled is.deleted ∷ []) Q) ∙ drop_at is.front (Restarted is.rolled is.deleted ∷ Q) F.first (sym is.first))
 
     passes : may_follow s F.first (known_at F.first F.next F.table) (Restarted is.rolled is.deleted) ≡ true
-    passes = rw (same_test F.first F.first refl) refl
+    passes = rw (eq-eqb F.first F.first refl) refl
 
     later : (o : Outcome) (b : Option ℕ) → verdict_by F.first o (one_later b) ≡ verdict_by (length P) o b
     later o None = refl
@@ -222,23 +202,16 @@ finds_misfit s P Q F some legal at = (handed, hands, misfit)
             (i, v.0, number, v.2, sym (rules_are s F.first (P ++ take i Q) v.1 there v.0) ∙ v.4, pass_stand s F.first (take i Q) P w.known w.told (rw v.3 refl))
 
 -- ---- files that fit a front
-last_within : (X Y : List Record) → list_any separates Y ≡ false → last_epoch (X ++ Y) ≡ record { first = (last_epoch X).first; records = (last_epoch X).records ++ Y }
-last_within X [] h = ap last_epoch (append-nil X) ∙ ap (λ E. record { first = (last_epoch X).first; records = E }) (sym (append-nil (last_epoch X).records))
-last_within X (r ∷ Y) h =
-    ap last_epoch (sym (append_assoc X (r ∷ []) Y))
-    ∙ (last_within (X ++ r ∷ []) Y (or_false (separates r) (list_any separates Y) h).1
-    ∙ (ap (λ (z : Epoch). record { first = z.first; records = z.records ++ Y }) (last_push X r (or_false (separates r) (list_any separates Y) h).0)
-    ∙ ap (λ E. record { first = (last_epoch X).first; records = E }) (append_assoc (last_epoch X).records (r ∷ []) Y)))
 
 led_epoch : (L : List Record) (f : ℕ) → IsLed L f → f ≤ length L → last_epoch (take f L) ≡ record { first = f; records = [] }
 led_epoch L zero w h = refl
 led_epoch L (suc f) w h = ap last_epoch (take_get L f w.0 w.1) ∙ by_kind w.0 w.2
   where
     size : length (take f L) ≡ f
-    size = length_took f L (omega (arith, h))
+    size = length-take-le f L (omega (arith, h))
 
     at : next_number (last_epoch (take f L)) + 1 ≡ suc f
-    at = omega (arith, number_is (take f L), size)
+    at = omega (arith, number_is_length (take f L), size)
 
     by_kind : (r : Record) → separates r ≡ true → last_epoch (take f L ++ r ∷ []) ≡ record { first = suc f; records = [] }
     by_kind (Format i j) e = ap (λ (c : Cut). c.now) (cut_push (take f L) (Format i j)) ∙ ap (λ m. record { first = m; records = [] }) at
@@ -279,7 +252,7 @@ module _ (s : Sizes) (K : List Record) (F : Files) (fit : FitsWhole s (base_of s
   )
     where
       size : length (take F.first K) ≡ F.first
-      size = length_took F.first K fit.fits.count
+      size = length-take-le F.first K fit.fits.count
 
       whole : K ≡ take (last_epoch K).first K ++ ((last_epoch K).records ++ here.0.behind)
       whole = sym (take-append-drop e.first K) ∙ ap (λ X. take e.first K ++ X) here.0.there
@@ -288,7 +261,7 @@ module _ (s : Sizes) (K : List Record) (F : Files) (fit : FitsWhole s (base_of s
       inside = within_epoch F.first e (found_is F.first (epochs K) e fit.fits.epoch)
 
       front_size : length (take (last_epoch K).first K) ≡ (last_epoch K).first
-      front_size = length_took e.first K here.0.low
+      front_size = length-take-le e.first K here.0.low
 
       front : take F.first K ≡ take (last_epoch K).first K ++ take (F.first - (last_epoch K).first) (last_epoch K).records
       front = ap (take F.first) whole ∙ (take_past (take e.first K) (e.records ++ here.0.behind) F.first (omega (arith, front_size, ge)) ∙ ap (λ X. take e.first K ++ X) (ap (λ m. take (F.first - m) (e.records ++ here.0.behind)) front_size ∙ take-append-le (F.first - e.first) e.records here.0.behind inside))
@@ -304,7 +277,7 @@ module _ (s : Sizes) (K : List Record) (F : Files) (fit : FitsWhole s (base_of s
       within = (IsWithin-parts (take (F.first - e.first) e.records) (drop (F.first - e.first) e.records) (subst IsWithin (sym (take-append-drop (F.first - e.first) e.records)) here.0.within)).0
 
       now : last_epoch (take F.first K) ≡ record { first = (last_epoch K).first; records = take (F.first - (last_epoch K).first) (last_epoch K).records }
-      now = ap last_epoch front ∙ (last_within (take e.first K) (take (F.first - e.first) e.records) (none_within (take (F.first - e.first) e.records) within) ∙ ap (λ (z : Epoch). record { first = z.first; records = z.records ++ take (F.first - e.first) e.records }) (led_epoch K e.first here.0.led here.0.low))
+      now = ap last_epoch front ∙ (last_epoch-append (take e.first K) (take (F.first - e.first) e.records) (none_within (take (F.first - e.first) e.records) within) ∙ ap (λ (z : Epoch). record { first = z.first; records = z.records ++ take (F.first - e.first) e.records }) (led_epoch K e.first here.0.led here.0.low))
 
   stands_before : F.first < (last_epoch K).first → (P Q : List Record) × (P ++ Q ≡ K) × (0 < length P) × StandsAt P F
   stands_before lt = by_kind led.0 refl led.2
@@ -319,7 +292,7 @@ module _ (s : Sizes) (K : List Record) (F : Files) (fit : FitsWhole s (base_of s
       led = subst (IsLed K) at here.0.led
 
       size : length (take F.first K) ≡ F.first
-      size = length_took F.first K fit.fits.count
+      size = length-take-le F.first K fit.fits.count
 
       whole : (take F.first K ++ led.0 ∷ []) ++ drop (suc F.first) K ≡ K
       whole = append_assoc (take F.first K) (led.0 ∷ []) (drop (suc F.first) K) ∙ (ap (λ Z. take F.first K ++ Z) (sym (get_then K F.first led.0 led.1)) ∙ take-append-drop F.first K)
@@ -335,7 +308,7 @@ module _ (s : Sizes) (K : List Record) (F : Files) (fit : FitsWhole s (base_of s
       by_kind (Format i j) is sep =
           let log : (take F.first K ++ Format i j ∷ []) ++ drop (suc F.first) K ≡ K = ap (λ z. (take F.first K ++ z ∷ []) ++ drop (suc F.first) K) (sym is) ∙ whole in
           let front : IsLegalFor s (take F.first K ++ Format i j ∷ []) = IsLegalFor-front s (take F.first K ++ Format i j ∷ []) (drop (suc F.first) K) (subst (IsLegalFor s) (sym log) legal) in
-          let g = some_is (rules_state s (take F.first K ++ Format i j ∷ [])) front.rules in
+          let g = some_of (rules_state s (take F.first K ++ Format i j ∷ [])) front.rules in
           absurd (omega (arith, some, size, ap length (format_first s (take F.first K) i j g.0 g.1)))
       by_kind (Begin t) is sep = absurd (cc)
       by_kind (Forward t b) is sep = absurd (cc)

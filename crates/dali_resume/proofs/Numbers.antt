@@ -1,13 +1,13 @@
 -- The number of records before an image that stands behind a batch, or in an epoch with a record.
 use Rattle.std.proofs.Common.{◌≡◌, ℕ, zero, suc, ◌<◌, List, [], ◌∷◌, length, take, Some, refl, ap, ◌∙◌, ⊎_elim, arith}
 use Rattle.std.specs.Prelude.{flat_map, sum_by}
+use Rattle.dali_lists.proofs.Options.{some_of}
 use Rattle.dali_record.specs.declared.records.Record.{Record}
 use Rattle.dali_record.specs.Epochs.{last_epoch, next_number}
 use Rattle.dali_record.specs.Files.{batch_length}
 use Rattle.dali_record.specs.Legal.{Rules, rules_state}
 use Rattle.dali_resume.specs.Numbers.{ImageStandsWithin, NumberIsSome}
 use Rattle.dali_resume.proofs.Audits.{Audited, audited_now}
-use Rattle.dali_resume.proofs.Onward.{some_is}
 
 -- behind the first batch stands a record
 none_before : (k : ℕ) (bs : List (List Record)) (r : Record) (b : List Record) (rest : List (List Record)) → bs ≡ (r ∷ b) ∷ rest → 0 < sum_by batch_length (take k bs) → flat_map (λ x. x) (take k bs) ≡ [] → ⊥
@@ -32,7 +32,7 @@ image_stands_within s base K F r E fit legal some =
     now.0.clean
   where
     g : (g : Rules) × (rules_state s K ≡ Some g)
-    g = some_is (rules_state s K) legal.rules
+    g = some_of (rules_state s K) legal.rules
 
     now : Audited (last_epoch K) g.0 × (next_number (last_epoch K) ≡ length K)
     now = audited_now s K g.0 g.1

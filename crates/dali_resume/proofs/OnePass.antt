@@ -22,8 +22,9 @@ use Rattle.dali_resume.proofs.Audits.{Began, begun_epochs, front_some, last_step
 use Rattle.dali_resume.proofs.Standing.{IsWithin-parts}
 use Rattle.dali_resume.proofs.Walks.{first_rule}
 use Rattle.dali_record.proofs.Ends.{by_push}
+use Rattle.dali_record.proofs.Survivors.{filter_same}
 use Rattle.dali_history.specs.Recovered.{roll_back, freed}
-use Rattle.dali_history.proofs.Members.{filter_within, fold_within}
+use Rattle.dali_history.proofs.Members.{fold_within}
 use Rattle.dali_resume.specs.Resumed.{row_undos, Scan, is_marked, corrupt_after, is_left_out, scan_step, scan_start, scan, begun_by, committed_by, losers_by}
 use Rattle.dali_resume.specs.Laws.{losers_of, UndamagedIsPlain}
 
@@ -84,7 +85,7 @@ undamaged_is_plain s image d rows R sound = (ap (freed s) image_is, filter_none 
     none false = refl
 
     losers_same : losers_by rows R (scan d rows R) ≡ losers_of rows R
-    losers_same = filter_within (λ t. (scan d rows R).corrupt t || not (committed_by rows R t)) (λ t. not (committed_by rows R t)) (begun_by rows R) (λ t h. rw (w.corrupt t) refl)
+    losers_same = filter_same (λ t. (scan d rows R).corrupt t || not (committed_by rows R t)) (λ t. not (committed_by rows R t)) (begun_by rows R) (λ t h. rw (w.corrupt t) refl)
 
     image_is : fold (λ im t. roll_back im ((scan d rows R).undos t)) (redo_all image (scan d rows R).kept) (losers_by rows R (scan d rows R)) ≡ fold (λ im t. roll_back im (fold (undo_step t) (row_undos rows t) R)) (redo_all image R) (losers_of rows R)
     image_is =

@@ -2,9 +2,13 @@
 use Rattle.dali_history.specs.Marked.{kept_of}
 use Rattle.std.specs.Prelude.{Contains, IsSome, fold, max, not, slice_get, ◌&&◌, ◌==◌}
 use Rattle.std.proofs.Common.{Bool, List, None, Option, Some, ap, append_assoc, arith, cond, drop, false, length, refl, subst, sym, take, true, ℕ, ◌≡◌, ◌∷◌, ◌++◌, ◌∙◌, ◌+◌, ◌-◌, ◌<◌, []}
-use Rattle.std.proofs.lemmas.Bool.{both_ways, false_from_ne_true, or_right}
+use Rattle.std.proofs.lemmas.Bool.{both_ways, false_from_ne_true, or_right, eq-eqb}
 use Rattle.std.proofs.lemmas.List.{append-nil}
-use Rattle.std.proofs.lemmas.List.Sums.{fold-append}
+use Rattle.std.proofs.lemmas.Option.{same_Some}
+use Rattle.dali_lists.proofs.Lists.{get_behind}
+use Rattle.dali_lists.proofs.Members.{contains_from_get}
+use Rattle.dali_lists.proofs.Numbers.{eqb_greater}
+use Rattle.dali_lists.proofs.Options.{some_of}
 use Rattle.dali_geometry.specs.Places.{formatted_image}
 use Rattle.dali_geometry.specs.Sizes.{Sizes}
 use Rattle.dali_record.specs.Damage.{damage_of, deleted_list, has, kept_from, marks, rolled_list}
@@ -14,17 +18,16 @@ use Rattle.dali_record.specs.Legal.{Active, Committed, IsLegalFor, Over, Rules, 
 use Rattle.dali_record.specs.Settled.{redo_all}
 use Rattle.dali_record.specs.declared.records.Record.{Record}
 use Rattle.dali_record.specs.declared.records.Record.TheVariants.{AuditBegin, AuditClean, AuditFail, Back, Begin, Commit, Done, Ended, Format, Forward, Restarted, Solo}
-use Rattle.dali_record.proofs.Batches.{last_push, recovered_push, recovered_restarted}
+use Rattle.dali_record.proofs.Batches.{last_push, recovered_push, recovered_restarted, number_is_length}
 use Rattle.dali_record.proofs.EpochRules.{format_first, rules_before}
 use Rattle.dali_record.proofs.Pushes.{cut_push, rules_state_push, txn_state_push}
-use Rattle.dali_record.proofs.Scans.{same_test, test_same}
 use Rattle.dali_history.specs.History.{AreSpelled}
 use Rattle.dali_history.specs.Recovered.{base_of, freed, losers, recover, roll_back, undos_left}
-use Rattle.dali_history.proofs.Places.{Contains-from_get}
 use Rattle.dali_history.proofs.Prefixes.{IsLegalFor-front}
 use Rattle.dali_history.proofs.Spelled.{AreSpelled-front}
+use Rattle.dali_history.proofs.Bases.{base_of-restarted}
 use Rattle.dali_counts.proofs.SmallLogs.{next_is_small}
-use Rattle.dali_counts.proofs.Tallies.{number_is, numbers_drawn, tallies}
+use Rattle.dali_counts.proofs.Tallies.{numbers_drawn, tallies}
 use Rattle.dali_crash.specs.Fitting.{recover_from}
 use Rattle.dali_resume.specs.Laws.{MayResume, damage_behind}
 use Rattle.dali_resume.specs.Onward.{Going, closed_image, going_next}
@@ -50,7 +53,7 @@ open_may s Y legal spelled = record {
     got_last (d ∷ es) e = got_last es e
 
     contains_last : (es : List Epoch) (e : Epoch) → Contains (es ++ e ∷ []) e
-    contains_last es e = Contains-from_get (es ++ e ∷ []) (length es) e (got_last es e)
+    contains_last es e = contains_from_get (es ++ e ∷ []) (length es) e (got_last es e)
 
 -- ---- what holds behind a Restarted that was read
 pub record Open (s : Sizes) (n : ℕ) (Y : List Record) (c : Going) : Type 0 where
@@ -103,23 +106,13 @@ module _ (s : Sizes) (Y : List Record) (legal : IsLegalFor s Y) (spelled : AreSp
       sym (subst (λ p. deleted_list e ≡ deleted_by [] e.records (scan (damage_from p e.records) [] e.records)) first_is flat)
 
 -- ---- one record more
-pub some_is : {X : Type 0} (o : Option X) → IsSome o → (x : X) × (o ≡ Some x)
-some_is None h = absurd (cc)
-some_is (Some x) h = (x, refl)
 
-same_some : {X : Type 0} (x y : X) → Some x ≡ Some y → x ≡ y
-same_some x y e = cc
-
-same_list : (xs ys : List ℕ) → xs ≡ ys → same_numbers xs ys ≡ true
+pub same_list : (xs ys : List ℕ) → xs ≡ ys → same_numbers xs ys ≡ true
 same_list xs ys h = subst (λ zs. same_numbers xs zs ≡ true) h (self xs)
   where
     self : (zs : List ℕ) → same_numbers zs zs ≡ true
     self [] = refl
-    self (z ∷ zs) = rw (same_test z z refl) (self zs)
-
-get_last : (A : List Record) (z : Record) (B : List Record) → slice_get (A ++ z ∷ B) (length A) ≡ Some z
-get_last [] z B = refl
-get_last (a ∷ A) z B = get_last A z B
+    self (z ∷ zs) = rw (eq-eqb z z refl) (self zs)
 
 take_front : (A B : List Record) → take (length A) (A ++ B) ≡ A
 take_front [] B = refl
@@ -128,14 +121,14 @@ take_front (a ∷ A) B = ap (λ X. a ∷ X) (take_front A B)
 -- the lists of a Restarted that a legal log has behind Y
 pub told_lists : (s : Sizes) (Y : List Record) (rs ds : List ℕ) → IsLegalFor s (Y ++ Restarted rs ds ∷ []) → (rs ≡ rolled_list (last_epoch Y)) × (ds ≡ deleted_list (last_epoch Y))
 told_lists s Y rs ds legal =
-    let w = legal.scans (length Y) rs ds (get_last Y (Restarted rs ds) []) in
+    let w = legal.scans (length Y) rs ds (get_behind Y (Restarted rs ds) []) in
     (w.0 ∙ ap (λ M. rolled_list (last_epoch M)) (take_front Y (Restarted rs ds ∷ [])), w.1 ∙ ap (λ M. deleted_list (last_epoch M)) (take_front Y (Restarted rs ds ∷ [])))
 
 idle_after : (s : Sizes) (t : ℕ) (x y : TxnState) (rs ds : List ℕ) → txn_step s t x (Restarted rs ds) ≡ Some y → status y ≡ Idle
-idle_after s t Unbegun y rs ds h = let same : Unbegun ≡ y = same_some Unbegun y h in ap status (sym same)
-idle_after s t (Active w) y rs ds h = let same : Over ≡ y = same_some Over y h in ap status (sym same)
-idle_after s t (Committed ps) y rs ds h = let same : Over ≡ y = same_some Over y h in ap status (sym same)
-idle_after s t Over y rs ds h = let same : Over ≡ y = same_some Over y h in ap status (sym same)
+idle_after s t Unbegun y rs ds h = let same : Unbegun ≡ y = same_Some Unbegun y h in ap status (sym same)
+idle_after s t (Active w) y rs ds h = let same : Over ≡ y = same_Some Over y h in ap status (sym same)
+idle_after s t (Committed ps) y rs ds h = let same : Over ≡ y = same_Some Over y h in ap status (sym same)
+idle_after s t Over y rs ds h = let same : Over ≡ y = same_Some Over y h in ap status (sym same)
 
 pub idle_anyway : (t : ℕ) (z : Status) (rs ds : List ℕ) → status_next t z (Restarted rs ds) ≡ Idle
 idle_anyway t Idle rs ds = refl
@@ -148,14 +141,11 @@ restart_rule s g h rs ds e = by_test (g.count == 0) e
   where
     by_kept : (c : Bool) → kept_if (not c) (restarts g (Restarted rs ds)) ≡ Some h → (c ≡ false) × (h ≡ restarts g (Restarted rs ds))
     by_kept true p = absurd (cc)
-    by_kept false p = (refl, sym (same_some (restarts g (Restarted rs ds)) h p))
+    by_kept false p = (refl, sym (same_Some (restarts g (Restarted rs ds)) h p))
 
     by_test : (c : Bool) → cond c (rules_first s g (Restarted rs ds)) (rules_behind s g (Restarted rs ds)) ≡ Some h → (g.restarted ≡ false) × (h ≡ restarts g (Restarted rs ds))
     by_test true p = absurd (cc)
     by_test false p = by_kept g.restarted p
-
-pub base_restarted : (s : Sizes) (Y : List Record) (rs ds : List ℕ) → base_of s (Y ++ Restarted rs ds ∷ []) ≡ recover s (base_of s Y) (last_epoch Y)
-base_restarted s Y rs ds = ap (λ (c : Cut). fold (recover s) (formatted_image s) c.closed) (cut_push Y (Restarted rs ds)) ∙ fold-append (recover s) (formatted_image s) (cut Y).closed ((cut Y).now ∷ [])
 
 pub epoch_restarted : (Y : List Record) (rs ds : List ℕ) → last_epoch (Y ++ Restarted rs ds ∷ []) ≡ record { first = next_number (last_epoch Y) + 1; records = [] }
 epoch_restarted Y rs ds = ap (λ (c : Cut). c.now) (cut_push Y (Restarted rs ds))
@@ -166,10 +156,10 @@ module _ (s : Sizes) (n : ℕ) (Y : List Record) (c : Going) (rs ds : List ℕ)
     (number : c.known.number ≡ length Y) (next : c.known.next ≡ next_after Y) (past : n < length Y + 1)
     (image : (going_next s n c (Restarted rs ds)).image ≡ recover s (base_of s Y) (last_epoch Y)) where
   h : (k : Rules) × (rules_state s (Y ++ Restarted rs ds ∷ []) ≡ Some k)
-  h = some_is (rules_state s (Y ++ Restarted rs ds ∷ [])) legal.rules
+  h = some_of (rules_state s (Y ++ Restarted rs ds ∷ [])) legal.rules
 
   x : (t : ℕ) → (y : TxnState) × (txn_state s t (Y ++ Restarted rs ds ∷ []) ≡ Some y)
-  x t = some_is (txn_state s t (Y ++ Restarted rs ds ∷ [])) (legal.txns t)
+  x t = some_of (txn_state s t (Y ++ Restarted rs ds ∷ [])) (legal.txns t)
 
   before : (g : Rules) × (rules_state s Y ≡ Some g) × (rules_step s g (Restarted rs ds) ≡ Some h.0)
   before = rules_before s Y (Restarted rs ds) h.0 h.1
@@ -205,8 +195,8 @@ module _ (s : Sizes) (n : ℕ) (Y : List Record) (c : Going) (rs ds : List ℕ)
       restarted = λ q. ap (λ (k : Rules). k.restarted) rule.1;
     };
     past = omega (arith, past, number);
-    image = image ∙ sym (base_restarted s Y rs ds);
-    first = omega (arith, number, number_is Y, ap (λ (z : Epoch). z.first) (epoch_restarted Y rs ds));
+    image = image ∙ sym (base_of-restarted s Y rs ds);
+    first = omega (arith, number, number_is_length Y, ap (λ (z : Epoch). z.first) (epoch_restarted Y rs ds));
     table = refl;
     seen = sym (ap (λ (z : Epoch). z.records) (epoch_restarted Y rs ds));
     told = λ q. (
@@ -219,20 +209,8 @@ module _ (s : Sizes) (n : ℕ) (Y : List Record) (c : Going) (rs ds : List ℕ)
 
 pub plain_closed : (c : Cut) (r : Record) → separates r ≡ false → (cut_step c r).closed ≡ c.closed
 plain_closed c (Format i j) w = absurd (cc)
-plain_closed c (Begin t) w = refl
-plain_closed c (Forward t b) w = refl
-plain_closed c (Done t q a) w = refl
-plain_closed c (Commit t) w = refl
-plain_closed c (Ended t) w = refl
-plain_closed c (Solo t p b) w = refl
-plain_closed c AuditBegin w = refl
-plain_closed c (AuditClean b) w = refl
-plain_closed c (AuditFail b rs) w = refl
 plain_closed c (Restarted rs ds) w = absurd (cc)
-plain_closed c (Back t b) w = refl
-
-not_at : (a b : ℕ) → b < a → (a == b) ≡ false
-not_at a b lt = false_from_ne_true (a == b) (λ q. omega (arith, lt, test_same a b q))
+plain_closed c _ w = refl
 
 -- ---- a step from such a state
 abbrev Step : Sizes → ℕ → List Record → Going → Record → Type 0
@@ -276,10 +254,10 @@ module _ (s : Sizes) (n : ℕ) (Y : List Record) (c : Going) (open' : Open s n Y
   )
     where
       h : (k : Rules) × (rules_state s (Y ++ r ∷ []) ≡ Some k)
-      h = some_is (rules_state s (Y ++ r ∷ [])) legal.rules
+      h = some_of (rules_state s (Y ++ r ∷ [])) legal.rules
 
       x : (t : ℕ) → (y : TxnState) × (txn_state s t (Y ++ r ∷ []) ≡ Some y)
-      x t = some_is (txn_state s t (Y ++ r ∷ [])) (legal.txns t)
+      x t = some_of (txn_state s t (Y ++ r ∷ [])) (legal.txns t)
 
       step : rules_step s open'.rules r ≡ Some h.0
       step = ap (λ o. rules_next s o r) (sym open'.rules_are) ∙ (sym (rules_state_push s Y r) ∙ h.1)
@@ -312,7 +290,7 @@ module _ (s : Sizes) (n : ℕ) (Y : List Record) (c : Going) (open' : Open s n Y
       next = open'.related.next ∙ tally.1
 
       h : (k : Rules) × (rules_state s (Y ++ Restarted rs ds ∷ []) ≡ Some k)
-      h = some_is (rules_state s (Y ++ Restarted rs ds ∷ [])) legal.rules
+      h = some_of (rules_state s (Y ++ Restarted rs ds ∷ [])) legal.rules
 
       rule : (open'.rules.restarted ≡ false) × (h.0 ≡ restarts open'.rules (Restarted rs ds))
       rule = restart_rule s open'.rules h.0 rs ds (ap (λ o. rules_next s o (Restarted rs ds)) (sym open'.rules_are) ∙ (sym (rules_state_push s Y (Restarted rs ds)) ∙ h.1))
@@ -334,12 +312,12 @@ module _ (s : Sizes) (n : ℕ) (Y : List Record) (c : Going) (open' : Open s n Y
 
       image : (going_next s n c (Restarted rs ds)).image ≡ recover s (base_of s Y) (last_epoch Y)
       image =
-          ap (λ b. cond (not b) (closed_image s c) c.image) (not_at c.known.number n open'.past)
+          ap (λ b. cond (not b) (closed_image s c) c.image) (eqb_greater c.known.number n open'.past)
           ∙ (rw (open'.table, open'.seen, open'.first, open'.image) refl ∙ open_recovers s Y front spelled (base_of s Y))
 
   format : (i k : ℕ) → IsLegalFor s (Y ++ Format i k ∷ []) → Step s n Y c (Format i k)
   format i k legal =
-      let h = some_is (rules_state s (Y ++ Format i k ∷ [])) legal.rules in
+      let h = some_of (rules_state s (Y ++ Format i k ∷ [])) legal.rules in
       let tally = tallies s Y open'.rules open'.rules_are in
       absurd (omega (arith, open'.past, open'.related.number, tally.0, ap length (format_first s Y i k h.0 h.1)))
 

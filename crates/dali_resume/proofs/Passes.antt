@@ -1,11 +1,13 @@
 -- The records behind the image of files that fit pass the tests of a restart.
-use Rattle.std.proofs.Common.{◌≡◌, ℕ, zero, suc, ◌+◌, ◌-◌, ◌<◌, ◌≤◌, ◌^◌, Bool, true, false, cond, List, [], ◌∷◌, ◌++◌, length, take, drop, map, Option, Some, None, refl, ap, sym, subst, ◌∙◌, ⊎_elim, append_assoc, arith}
-use Rattle.std.specs.Prelude.{not, ◌&&◌, ◌==◌, fold, filter_map, IsSome, slice_get, nat_lt, max}
-use Rattle.std.proofs.lemmas.List.{append-nil, take-append-drop, length-append, length-drop}
+use Rattle.std.proofs.Common.{◌≡◌, ℕ, suc, ◌+◌, ◌-◌, ◌<◌, ◌≤◌, ◌^◌, Bool, true, false, cond, List, [], ◌∷◌, ◌++◌, length, take, drop, map, Option, Some, None, refl, ap, sym, subst, ◌∙◌, ⊎_elim, append_assoc, arith}
+use Rattle.std.specs.Prelude.{not, ◌==◌, fold, filter_map, IsSome, slice_get, nat_lt, max}
+use Rattle.std.proofs.lemmas.List.{append-nil, take-append-drop, length-append, length-drop, take_at, drop_at, length-take-le}
 use Rattle.std.proofs.lemmas.List.Elements.{filter_map-append}
 use Rattle.std.proofs.lemmas.List.Folds.{fold_stays}
 use Rattle.std.proofs.lemmas.List.Sums.{fold-append}
-use Rattle.std.proofs.lemmas.Bool.{cases_lt, both_ways, false_from_ne_true, or_right, lt-ltb}
+use Rattle.std.proofs.lemmas.Bool.{cases_lt, both_ways, false_from_ne_true, or_right, lt-ltb, eq-eqb, eqb-true}
+use mathlib.Core.Bool.{and-false}
+use Rattle.dali_lists.proofs.Lists.{get_behind}
 use Rattle.dali_geometry.specs.Sizes.{Sizes}
 use Rattle.dali_record.specs.declared.records.Record.{Record}
 use Rattle.dali_record.specs.declared.records.Record.TheVariants.{Format, Begin, Forward, Done, Commit, Ended, Solo, AuditBegin, AuditClean, AuditFail, Restarted, Back}
@@ -15,20 +17,20 @@ use Rattle.dali_record.specs.Damage.{has, rolled_list, deleted_list}
 use Rattle.dali_record.specs.Legal.{TxnState, Unbegun, Active, Committed, Over, txn_next, Rules, rules_start, restarts, kept_if, rules_first, rules_behind, rules_step, rules_next, rules_state, IsLegalFor}
 use Rattle.dali_record.specs.Files.{Files, row_of, table_before, next_after, draws}
 use Rattle.dali_record.proofs.Pushes.{cut_push}
-use Rattle.dali_record.proofs.Scans.{same_test, test_same, take_get}
+use Rattle.dali_record.proofs.Scans.{take_get}
 use Rattle.dali_record.proofs.Tracks.{Tracks}
 use Rattle.dali_record.proofs.Stages.{state_from, IsWithin, stage}
 use Rattle.dali_record.proofs.Survivors.{StandsIn}
-use Rattle.dali_record.proofs.Batches.{recovered_restarted}
+use Rattle.dali_record.proofs.Batches.{recovered_restarted, number_is_length}
 use Rattle.dali_record.proofs.EpochRules.{StandsThrough, stands_in_epochs, AllEpochs-contains, format_first, rules_before}
 use Rattle.dali_history.specs.History.{AreSpelled}
 use Rattle.dali_history.proofs.Prefixes.{IsLegalFor-front}
-use Rattle.dali_counts.proofs.Tallies.{tallies, numbers_drawn, number_is}
+use Rattle.dali_counts.proofs.Tallies.{tallies, numbers_drawn}
 use Rattle.dali_counts.proofs.SmallLogs.{next_is_small}
 use Rattle.dali_crash.specs.Fitting.{FitsWhole}
 use Rattle.dali_crash.proofs.Fitting.{found_is, within_epoch}
 use Rattle.dali_resume.specs.Resumed.{records_from, damage_from, scan, rolled_by, deleted_by}
-use Rattle.dali_resume.specs.Tests.{Idle, Running, Waiting, Known, known_at, status_in, status_next, same_numbers, tells_lists, may_follow, known_next, test_next, tests}
+use Rattle.dali_resume.specs.Tests.{Idle, Running, Waiting, Known, known_at, status_in, status_next, tells_lists, may_follow, known_next, test_next, tests}
 use Rattle.dali_resume.specs.Laws.{MayResume, PassesTests}
 use Rattle.dali_resume.proofs.Standing.{LiesIn, lies, nothing, IsWithin-parts}
 use Rattle.dali_resume.proofs.Resumes.{running, table_of, has_running}
@@ -38,33 +40,7 @@ use Rattle.dali_resume.proofs.Joined.{reports_alike}
 use Rattle.dali_resume.proofs.FromFiles.{may_resume}
 use Rattle.dali_resume.proofs.Tested.{status, Related}
 use Rattle.dali_resume.proofs.Walks.{Walked, walk}
-
--- ---- lists
-take_len : {X : Type 0} (A B : List X) (k : ℕ) → length A ≡ k → take k (A ++ B) ≡ A
-take_len [] B k h = rw (sym h) refl
-take_len (a ∷ A) B zero h = absurd (omega (arith, h))
-take_len (a ∷ A) B (suc k) h = ap (λ X. a ∷ X) (take_len A B k (omega (arith, h)))
-
-drop_len : {X : Type 0} (A B : List X) (k : ℕ) → length A ≡ k → drop k (A ++ B) ≡ B
-drop_len [] B k h = rw (sym h) refl
-drop_len (a ∷ A) B zero h = absurd (omega (arith, h))
-drop_len (a ∷ A) B (suc k) h = drop_len A B k (omega (arith, h))
-
-length_took : {X : Type 0} (k : ℕ) (xs : List X) → k ≤ length xs → length (take k xs) ≡ k
-length_took zero xs h = refl
-length_took (suc k) [] h = absurd (omega (arith, h))
-length_took (suc k) (x ∷ xs) h = ap suc (length_took k xs (omega (arith, h)))
-
-get_at : {X : Type 0} (A : List X) (z : X) (B : List X) → slice_get (A ++ z ∷ B) (length A) ≡ Some z
-get_at [] z B = refl
-get_at (a ∷ A) z B = get_at A z B
-
-same_refl : (xs ys : List ℕ) → xs ≡ ys → same_numbers xs ys ≡ true
-same_refl xs ys e = subst (λ zs. same_numbers xs zs ≡ true) e (self xs)
-  where
-    self : (zs : List ℕ) → same_numbers zs zs ≡ true
-    self [] = refl
-    self (z ∷ zs) = rw (same_test z z refl) (self zs)
+use Rattle.dali_resume.proofs.Onward.{same_list}
 
 -- ---- the table's statuses
 pub status_in_is : (P : List Record) (ts : List ℕ) (t : ℕ) → status_in (map (row_of P) ts) t ≡ cond (has ts t) (cond (has (committed P) t) Waiting (Running (cond (has (committed P) t) [] (undos_of t P)))) Idle
@@ -73,18 +49,14 @@ status_in_is P (u ∷ ts) t = by_test (status_in_is P ts t) (u == t) refl
   where
     by_test : status_in (map (row_of P) ts) t ≡ cond (has ts t) (cond (has (committed P) t) Waiting (Running (cond (has (committed P) t) [] (undos_of t P)))) Idle → (b : Bool) → (u == t) ≡ b
         → status_in (map (row_of P) (u ∷ ts)) t ≡ cond (has (u ∷ ts) t) (cond (has (committed P) t) Waiting (Running (cond (has (committed P) t) [] (undos_of t P)))) Idle
-    by_test ih true e = rw e (ap (λ v. cond (has (committed P) v) Waiting (Running (cond (has (committed P) v) [] (undos_of v P)))) (test_same u t e))
+    by_test ih true e = rw e (ap (λ v. cond (has (committed P) v) Waiting (Running (cond (has (committed P) v) [] (undos_of v P)))) (eqb-true u t e))
     by_test ih false e = rw e ih
 
-none_and : (x : Bool) → (x && false) ≡ false
-none_and true = refl
-none_and false = refl
-
 pub status_row : (P : List Record) (t : ℕ) (x : TxnState) → LiesIn t P x → Tracks (Some x) (undos_of t P) → status_in (table_of P) t ≡ status x
-status_row P t Unbegun h k = status_in_is P (running P) t ∙ rw (has_running P t, h.0, none_and (not (has (ended P) t))) refl
+status_row P t Unbegun h k = status_in_is P (running P) t ∙ rw (has_running P t, h.0, and-false (not (has (ended P) t))) refl
 status_row P t (Active w) h k = status_in_is P (running P) t ∙ rw (has_running P t, h.0, h.1, h.2) (ap Running (sym k))
 status_row P t (Committed ps) h k = status_in_is P (running P) t ∙ rw (has_running P t, h.0, h.1, h.2) refl
-status_row P t Over h k = status_in_is P (running P) t ∙ ⊎_elim (λ a. rw (has_running P t, a.1) refl) (λ a. rw (has_running P t, a.0, none_and (not (has (ended P) t))) refl) h
+status_row P t Over h k = status_in_is P (running P) t ∙ ⊎_elim (λ a. rw (has_running P t, a.1) refl) (λ a. rw (has_running P t, a.0, and-false (not (has (ended P) t))) refl) h
 
 -- a transaction behind P, before R
 pub state_at : (s : Sizes) (P R : List Record) (t : ℕ) → IsWithin (P ++ R) → StandsIn s (P ++ R) t → (x : TxnState) × (status_in (table_of P) t ≡ status x) × IsSome (state_from s t x R)
@@ -108,7 +80,7 @@ finish s n g h x [] rel end few some format lists = refl
 finish s n g h x (y ∷ z ∷ C) rel end few some format lists = absurd (omega (arith, few))
 finish s n g h x (Format i k ∷ []) rel end few some format lists =
     let w = format i k refl in
-    let zero_is : (g.number == 0) ≡ true = same_test g.number 0 w.0 in
+    let zero_is : (g.number == 0) ≡ true = eq-eqb g.number 0 w.0 in
     rw (zero_is, w.1) refl
 finish s n g h x (Begin t ∷ []) rel end few some format lists = absurd (cc)
 finish s n g h x (Forward t b ∷ []) rel end few some format lists = absurd (cc)
@@ -151,7 +123,7 @@ restart_knows s h k rs ds e = by_test (h.count == 0) e
     by_test true p = absurd (cc)
     by_test false p = by_kept (not h.restarted) p
 
-undrawn : (X : List Record) (r : Record) → draws r ≡ None → next_after (X ++ r ∷ []) ≡ next_after X
+pub undrawn : (X : List Record) (r : Record) → draws r ≡ None → next_after (X ++ r ∷ []) ≡ next_after X
 undrawn X r none = ap (λ l. length l + 1) (filter_map-append draws X (r ∷ []) ∙ (ap (λ l. filter_map draws X ++ l) (rw none refl) ∙ append-nil (filter_map draws X)))
 
 module _ (s : Sizes) (base : List (List ℕ)) (L : List Record) (F : Files) (e : Epoch) (fit : FitsWhole s base L F e) (legal : IsLegalFor s L) (spelled : AreSpelled L) where
@@ -199,7 +171,7 @@ module _ (s : Sizes) (base : List (List ℕ)) (L : List Record) (F : Files) (e :
       ∙ take-append-drop e.first L)
 
   size : length (take e.first L ++ take (F.first - e.first) e.records) ≡ e.first + (F.first - e.first)
-  size = omega (arith, length-append (take e.first L) P, length_took e.first L here.0.low, length_took (F.first - e.first) e.records inside)
+  size = omega (arith, length-append (take e.first L) P, length-take-le e.first L here.0.low, length-take-le (F.first - e.first) e.records inside)
 
   rules : (h : Rules) × (rules_state s (take e.first L ++ take (F.first - e.first) e.records) ≡ Some h) × IsSome (fold (rules_next s) (Some h) (drop (F.first - e.first) e.records ++ here.0.behind))
   rules = front_some s rules_start X (R ++ C) (subst (λ M. IsSome (rules_state s M)) (sym whole) legal.rules)
@@ -224,7 +196,7 @@ module _ (s : Sizes) (base : List (List ℕ)) (L : List Record) (F : Files) (e :
       (λ r. sym (r ∙ (ap recovered_epoch (sym is) ∙ recovered_restarted Y rs ds)))
       (λ l.
       let now : e ≡ (cut_step (cut Y) (Restarted rs ds)).now = l ∙ (ap last_epoch (sym is) ∙ ap (λ c. c.now) (cut_push Y (Restarted rs ds))) in
-      absurd (omega (arith, ap (λ (z : Epoch). z.first) now, number_is Y, ap length is, length-append Y (Restarted rs ds ∷ []), here.0.low, length-drop e.first L, ap length here.0.there, length-append e.records here.0.behind, some)))
+      absurd (omega (arith, ap (λ (z : Epoch). z.first) now, number_is_length Y, ap length is, length-append Y (Restarted rs ds ∷ []), here.0.low, length-drop e.first L, ap length here.0.there, length-append e.records here.0.behind, some)))
       fit.fits.recent
 
   from : (g : Known) → Related F.first g rules.0 (λ t. (state t).0) → g.table ≡ table_before e F.first → g.seen ≡ [] → g.first ≡ max F.first e.first → IsSome (tests s F.first g (drop (F.first - e.first) e.records ++ here.0.behind))
@@ -256,16 +228,16 @@ module _ (s : Sizes) (base : List (List ℕ)) (L : List Record) (F : Files) (e :
           start = let q : Some v.rules ≡ Some rules_start = sym at_end ∙ ap (rules_state s) empty in cc
 
       lists : (rs ds : List ℕ) → here.0.behind ≡ Restarted rs ds ∷ [] → tells_lists v.known rs ds ≡ true
-      lists rs ds h = rw (same_refl rs (rolled_by v.known.table v.known.seen) rolled_same, same_refl ds (deleted_by v.known.table v.known.seen (scan (damage_from v.known.first v.known.seen) v.known.table v.known.seen)) deleted_same) refl
+      lists rs ds h = rw (same_list rs (rolled_by v.known.table v.known.seen) rolled_same, same_list ds (deleted_by v.known.table v.known.seen (scan (damage_from v.known.first v.known.seen) v.known.table v.known.seen)) deleted_same) refl
         where
           log_is : (X ++ R) ++ Restarted rs ds ∷ [] ≡ L
           log_is = ended_by (Restarted rs ds) h
 
           told : (rs ≡ rolled_list (last_epoch (take (length (X ++ R)) L))) × (ds ≡ deleted_list (last_epoch (take (length (X ++ R)) L)))
-          told = legal.scans (length (X ++ R)) rs ds (subst (λ M. slice_get M (length (X ++ R)) ≡ Some (Restarted rs ds)) log_is (get_at (X ++ R) (Restarted rs ds) []))
+          told = legal.scans (length (X ++ R)) rs ds (subst (λ M. slice_get M (length (X ++ R)) ≡ Some (Restarted rs ds)) log_is (get_behind (X ++ R) (Restarted rs ds) []))
 
           epoch_is : last_epoch (take (length (X ++ R)) L) ≡ e
-          epoch_is = ap (λ M. last_epoch (take (length (X ++ R)) M)) (sym log_is) ∙ (ap last_epoch (take_len (X ++ R) (Restarted rs ds ∷ []) (length (X ++ R)) refl) ∙ last_is rs ds (X ++ R) log_is (omega (arith, ap length h)))
+          epoch_is = ap (λ M. last_epoch (take (length (X ++ R)) M)) (sym log_is) ∙ (ap last_epoch (take_at (X ++ R) (Restarted rs ds ∷ []) (length (X ++ R)) refl) ∙ last_is rs ds (X ++ R) log_is (omega (arith, ap length h)))
 
           table_is : v.known.table ≡ table_before e F.first
           table_is = v.table ∙ table
@@ -290,10 +262,10 @@ module _ (s : Sizes) (base : List (List ℕ)) (L : List Record) (F : Files) (e :
       place = omega (arith, size, ge)
 
       read : drop F.first L ≡ R ++ C
-      read = ap (drop F.first) (sym whole) ∙ drop_len X (R ++ C) F.first place
+      read = ap (drop F.first) (sym whole) ∙ drop_at X (R ++ C) F.first place
 
       front : take F.first L ≡ X
-      front = ap (take F.first) (sym whole) ∙ take_len X (R ++ C) F.first place
+      front = ap (take F.first) (sym whole) ∙ take_at X (R ++ C) F.first place
 
       tally : (rules.0.count ≡ length X) × (rules.0.next ≡ next_after X)
       tally = let w = tallies s X rules.0 rules.1 in (w.0, w.2 ∙ numbers_drawn X)
@@ -329,7 +301,7 @@ module _ (s : Sizes) (base : List (List ℕ)) (L : List Record) (F : Files) (e :
     front = ap (λ Z. take e.first L ++ Z) empty ∙ (append-nil (take e.first L) ∙ (ap (λ k. take k L) at ∙ take_get L F.first led.0 led.1))
 
     read : drop F.first L ≡ led.0 ∷ (R ++ C)
-    read = get_then L F.first led.0 led.1 ∙ ap (λ Z. led.0 ∷ Z) (ap (drop (suc F.first)) (sym whole) ∙ drop_len X (R ++ C) (suc F.first) (omega (arith, size, at)))
+    read = get_then L F.first led.0 led.1 ∙ ap (λ Z. led.0 ∷ Z) (ap (drop (suc F.first)) (sym whole) ∙ drop_at X (R ++ C) (suc F.first) (omega (arith, size, at)))
 
     before_rule : (h : Rules) × (rules_state s (take F.first L) ≡ Some h) × (rules_step s h led.0 ≡ Some rules.0)
     before_rule = rules_before s (take F.first L) led.0 rules.0 (ap (rules_state s) (sym front) ∙ rules.1)
@@ -359,8 +331,8 @@ module _ (s : Sizes) (base : List (List ℕ)) (L : List Record) (F : Files) (e :
     by_head : (r : Record) → led.0 ≡ r → separates r ≡ true → IsSome (tests s F.first (known_at F.first F.next F.table) (drop F.first L))
     by_head (Format i k) is sep =
         let start : take F.first L ≡ [] = format_first s (take F.first L) i k rules.0 (ap (λ z. rules_state s (take F.first L ++ z ∷ [])) (sym is) ∙ (ap (rules_state s) (sym front) ∙ rules.1)) in
-        let first : F.first ≡ 0 = omega (arith, length_took F.first L fit.fits.count, ap length start) in
-        let zero_is : (F.first == 0) ≡ true = same_test F.first 0 first in
+        let first : F.first ≡ 0 = omega (arith, length-take-le F.first L fit.fits.count, ap length start) in
+        let zero_is : (F.first == 0) ≡ true = eq-eqb F.first 0 first in
         let alone : X ≡ Format i k ∷ [] = front ∙ (ap (λ Z. Z ++ led.0 ∷ []) start ∙ ap (λ z. z ∷ []) is) in
         let f = format_step s i k rules.0 (ap (rules_state s) (sym alone) ∙ rules.1) in
         goes_on (Format i k) is (rw zero_is refl) refl (record {
@@ -381,7 +353,7 @@ module _ (s : Sizes) (base : List (List ℕ)) (L : List Record) (F : Files) (e :
     by_head (AuditClean b) is sep = absurd (cc)
     by_head (AuditFail b rs) is sep = absurd (cc)
     by_head (Restarted rs ds) is sep =
-        let here_is : (F.first == F.first) ≡ true = same_test F.first F.first refl in
+        let here_is : (F.first == F.first) ≡ true = eq-eqb F.first F.first refl in
         let w = restart_knows s before_rule.0 rules.0 rs ds (ap (rules_step s before_rule.0) (sym is) ∙ before_rule.2) in
         goes_on (Restarted rs ds) is (rw here_is refl) refl (record {
           number = sym count_is;

@@ -1,28 +1,27 @@
 -- Where a restart stands at the end of its image's epoch.
 use Rattle.dali_history.specs.Marked.{kept_of}
 use Rattle.dali_resume.specs.OnTheWay.{rewritten_by}
-use Rattle.std.specs.Prelude.{IsSome, filter_map, fold, max, not, slice_get, ◌&&◌, ◌==◌}
+use Rattle.std.specs.Prelude.{IsSome, fold, max, not, slice_get, ◌&&◌, ◌==◌}
 use Rattle.std.proofs.Common.{Bool, List, None, Some, ap, append_assoc, arith, cond, drop, false, length, refl, subst, suc, sym, take, true, zero, ℕ, ◌≡◌, ◌∷◌, ◌++◌, ◌∙◌, ◌≤◌, ◌+◌, ◌-◌, ◌<◌, [], ⊎_elim}
-use Rattle.std.proofs.lemmas.Bool.{and_parts, both_ways, cases_lt}
-use Rattle.std.proofs.lemmas.List.{append-nil, length-append, length-drop, take-append-drop}
-use Rattle.std.proofs.lemmas.List.Elements.{filter_map-append}
+use Rattle.std.proofs.lemmas.Bool.{and_parts, both_ways, cases_lt, eq-eqb, eqb-true}
+use Rattle.std.proofs.lemmas.List.{append-nil, length-append, length-drop, take-append-drop, drop_all, nil_from_length}
 use Rattle.std.proofs.lemmas.List.Folds.{fold_stays}
+use Rattle.dali_lists.proofs.Options.{some_of}
 use Rattle.dali_geometry.specs.Sizes.{Sizes}
 use Rattle.dali_record.specs.Damage.{deleted_list, rolled_list}
 use Rattle.dali_record.specs.Epochs.{Epoch, cut, epochs, last_epoch, recovered_epoch, recovered_or, separates}
-use Rattle.dali_record.specs.Files.{Files, draws, is_restarted, next_after, table_before}
+use Rattle.dali_record.specs.Files.{Files, is_restarted, next_after, table_before}
 use Rattle.dali_record.specs.Legal.{IsLegalFor, Rules, has_room, on_kind, passes, rules_behind, rules_first, rules_state, rules_step, runs}
 use Rattle.dali_record.specs.Settled.{redo_all}
 use Rattle.dali_record.specs.declared.records.Record.{Record}
 use Rattle.dali_record.specs.declared.records.Record.TheVariants.{AuditBegin, AuditClean, AuditFail, Back, Begin, Commit, Done, Ended, Format, Forward, Restarted, Solo}
-use Rattle.dali_record.proofs.Batches.{recovered_restarted}
-use Rattle.dali_record.proofs.EpochRules.{format_first, rules_before}
-use Rattle.dali_record.proofs.Scans.{same_test, test_same}
+use Rattle.dali_record.proofs.Batches.{recovered_restarted, not_restarted, number_is_length}
+use Rattle.dali_record.proofs.EpochRules.{format_first, rules_before, kept_if_some}
 use Rattle.dali_record.proofs.Stages.{IsWithin}
 use Rattle.dali_history.specs.History.{AreSpelled}
 use Rattle.dali_history.specs.Recovered.{base_of, recover}
 use Rattle.dali_history.proofs.Prefixes.{IsLegalFor-front}
-use Rattle.dali_counts.proofs.Tallies.{number_is, numbers_drawn, tallies}
+use Rattle.dali_counts.proofs.Tallies.{numbers_drawn, tallies}
 use Rattle.dali_crash.specs.Fitting.{FitsWhole}
 use Rattle.dali_crash.proofs.Fitting.{found_is, redoes_the_epoch, within_epoch}
 use Rattle.dali_crash.proofs.FromImage.{recovers_from_image, redone_from_image}
@@ -30,13 +29,15 @@ use Rattle.dali_resume.specs.Laws.{MayResume}
 use Rattle.dali_resume.specs.Onward.{Going, KnowsAlike, closed_image, deleted_behind, goes_through, going_at, going_next, rolled_behind}
 use Rattle.dali_resume.specs.Resumed.{damage_from, deleted_by, rolled_by, scan}
 use Rattle.dali_resume.specs.Tests.{Known, known_at, known_next, may_follow, next_behind, test_next, tests}
-use Rattle.dali_resume.proofs.Audits.{behind_runs, first_refuses, kept_some}
+use Rattle.dali_resume.proofs.Audits.{behind_runs, first_refuses}
 use Rattle.dali_resume.proofs.FromFiles.{may_resume}
 use Rattle.dali_resume.proofs.Joined.{recovers_alike, reports_alike, some_left, kept_at}
-use Rattle.dali_resume.proofs.Onward.{some_is, told_lists}
+use Rattle.dali_resume.proofs.Onward.{told_lists}
 use Rattle.dali_resume.proofs.Reading.{IsLed, Placed, drop_more, get_then, placed}
 use Rattle.dali_resume.proofs.Resumes.{table_of}
 use Rattle.dali_resume.proofs.Standing.{IsWithin-parts, IsWithin-tail}
+use Rattle.dali_resume.proofs.Again.{drop_none, take_none}
+use Rattle.dali_resume.proofs.Passes.{undrawn}
 
 -- ---- what is known on the way
 known_through : (s : Sizes) (n : ℕ) (c : Going) (Q : List Record) → (fold (going_next s n) c Q).known ≡ fold known_next c.known Q
@@ -58,8 +59,6 @@ pub knows_alike : KnowsAlike
 knows_alike s F Q k e = known_through s F.first (going_at F) Q ∙ known_tested s F.first Q (known_at F.first F.next F.table) k e
 
 -- ---- numbers
-undrawn : (X : List Record) (r : Record) → draws r ≡ None → next_after (X ++ r ∷ []) ≡ next_after X
-undrawn X r none = ap (λ l. length l + 1) (filter_map-append draws X (r ∷ []) ∙ (ap (λ l. filter_map draws X ++ l) (rw none refl) ∙ append-nil (filter_map draws X)))
 
 ran : (s : Sizes) (h k : Rules) (r : Record) → separates r ≡ false → rules_step s h r ≡ Some k → runs s h r ≡ Some k
 ran s h k r w e = by_test (h.count == 0) e
@@ -73,10 +72,10 @@ next_step s Y (Format i j) k e = sym (undrawn Y (Format i j) refl)
 next_step s Y (Begin t) k e =
     let b = rules_before s Y (Begin t) k e in
     let p = passes b.0 (Begin t) in
-    let q : (((t == b.0.next) && has_room b.0 (Begin t)) ≡ true) × (k ≡ record p { next = b.0.next + 1 }) = kept_some ((t == b.0.next) && has_room b.0 (Begin t)) (record p { next = b.0.next + 1 }) k (ran s b.0 k (Begin t) refl b.2) in
+    let q : (((t == b.0.next) && has_room b.0 (Begin t)) ≡ true) × (k ≡ record p { next = b.0.next + 1 }) = kept_if_some ((t == b.0.next) && has_room b.0 (Begin t)) (record p { next = b.0.next + 1 }) k (ran s b.0 k (Begin t) refl b.2) in
     let old = tallies s Y b.0 b.1 in
     let new = tallies s (Y ++ Begin t ∷ []) k e in
-    omega (arith, test_same t b.0.next (and_parts (t == b.0.next) (has_room b.0 (Begin t)) q.0).0, ap (λ (z : Rules). z.next) q.1, old.2, numbers_drawn Y, new.2, numbers_drawn (Y ++ Begin t ∷ []))
+    omega (arith, eqb-true t b.0.next (and_parts (t == b.0.next) (has_room b.0 (Begin t)) q.0).0, ap (λ (z : Rules). z.next) q.1, old.2, numbers_drawn Y, new.2, numbers_drawn (Y ++ Begin t ∷ []))
 next_step s Y (Forward t b) k e = sym (undrawn Y (Forward t b) refl)
 next_step s Y (Done t c a) k e = sym (undrawn Y (Done t c a) refl)
 next_step s Y (Commit t) k e = sym (undrawn Y (Commit t) refl)
@@ -84,10 +83,10 @@ next_step s Y (Ended t) k e = sym (undrawn Y (Ended t) refl)
 next_step s Y (Solo t p c) k e =
     let b = rules_before s Y (Solo t p c) k e in
     let q' = passes b.0 (Solo t p c) in
-    let q : (((t == b.0.next) && on_kind s c.region c.op) ≡ true) × (k ≡ record q' { next = b.0.next + 1 }) = kept_some ((t == b.0.next) && on_kind s c.region c.op) (record q' { next = b.0.next + 1 }) k (ran s b.0 k (Solo t p c) refl b.2) in
+    let q : (((t == b.0.next) && on_kind s c.region c.op) ≡ true) × (k ≡ record q' { next = b.0.next + 1 }) = kept_if_some ((t == b.0.next) && on_kind s c.region c.op) (record q' { next = b.0.next + 1 }) k (ran s b.0 k (Solo t p c) refl b.2) in
     let old = tallies s Y b.0 b.1 in
     let new = tallies s (Y ++ Solo t p c ∷ []) k e in
-    omega (arith, test_same t b.0.next (and_parts (t == b.0.next) (on_kind s c.region c.op) q.0).0, ap (λ (z : Rules). z.next) q.1, old.2, numbers_drawn Y, new.2, numbers_drawn (Y ++ Solo t p c ∷ []))
+    omega (arith, eqb-true t b.0.next (and_parts (t == b.0.next) (on_kind s c.region c.op) q.0).0, ap (λ (z : Rules). z.next) q.1, old.2, numbers_drawn Y, new.2, numbers_drawn (Y ++ Solo t p c ∷ []))
 next_step s Y AuditBegin k e = sym (undrawn Y AuditBegin refl)
 next_step s Y (AuditClean b) k e = sym (undrawn Y (AuditClean b) refl)
 next_step s Y (AuditFail b rs) k e = sym (undrawn Y (AuditFail b rs) refl)
@@ -106,7 +105,7 @@ next_through s (r ∷ Q) Y g h legal =
     whole = subst (IsLegalFor s) (sym parts) legal
 
     k : (z : Rules) × (rules_state s (Y ++ r ∷ []) ≡ Some z)
-    k = some_is (rules_state s (Y ++ r ∷ [])) (IsLegalFor-front s (Y ++ r ∷ []) Q whole).rules
+    k = some_of (rules_state s (Y ++ r ∷ [])) (IsLegalFor-front s (Y ++ r ∷ []) Q whole).rules
 
 number_through : (Q : List Record) (g : Known) → (fold known_next g Q).number ≡ g.number + length Q
 number_through [] g = omega arith
@@ -122,33 +121,9 @@ record Within (s : Sizes) (n : ℕ) (c : Going) (R : List Record) (d : Going) : 
   deleted : d.deleted ≡ c.deleted
   restarted : 0 < length R → d.known.restarted ≡ false
 
-not_restart : (r : Record) → separates r ≡ false → is_restarted r ≡ false
-not_restart (Format i j) w = refl
-not_restart (Begin t) w = refl
-not_restart (Forward t b) w = refl
-not_restart (Done t q a) w = refl
-not_restart (Commit t) w = refl
-not_restart (Ended t) w = refl
-not_restart (Solo t p b) w = refl
-not_restart AuditBegin w = refl
-not_restart (AuditClean b) w = refl
-not_restart (AuditFail b rs) w = refl
-not_restart (Restarted rs ds) w = absurd (cc)
-not_restart (Back t b) w = refl
-
-lists_stay : (ts us : List ℕ) (r : Record) → separates r ≡ false → (rolled_behind ts r ≡ ts) × (deleted_behind us r ≡ us)
-lists_stay ts us (Format i j) w = (refl, refl)
-lists_stay ts us (Begin t) w = (refl, refl)
-lists_stay ts us (Forward t b) w = (refl, refl)
-lists_stay ts us (Done t q a) w = (refl, refl)
-lists_stay ts us (Commit t) w = (refl, refl)
-lists_stay ts us (Ended t) w = (refl, refl)
-lists_stay ts us (Solo t p b) w = (refl, refl)
-lists_stay ts us AuditBegin w = (refl, refl)
-lists_stay ts us (AuditClean b) w = (refl, refl)
-lists_stay ts us (AuditFail b rs) w = (refl, refl)
+pub lists_stay : (ts us : List ℕ) (r : Record) → separates r ≡ false → (rolled_behind ts r ≡ ts) × (deleted_behind us r ≡ us)
 lists_stay ts us (Restarted rs ds) w = absurd (cc)
-lists_stay ts us (Back t b) w = (refl, refl)
+lists_stay ts us _ w = (refl, refl)
 
 goes_within : (s : Sizes) (n : ℕ) (R : List Record) (c : Going) → IsWithin R → Within s n c R (fold (going_next s n) c R)
 goes_within s n [] c h = record { first = refl; table = refl; seen = sym (append-nil c.known.seen); image = refl; rolled = refl; deleted = refl; restarted = λ q. absurd (omega (arith, q)) }
@@ -162,14 +137,14 @@ goes_within s n (r ∷ R) c h = then R (goes_within s n R (going_next s n c r) w
       first = v.first ∙ ap (λ b. cond b (c.known.number + 1) c.known.first) w.0;
       table = v.table ∙ ap (λ b. cond b [] c.known.table) w.0;
       seen = v.seen ∙ (ap (λ b. cond b [] (c.known.seen ++ r ∷ []) ++ Q) w.0 ∙ append_assoc c.known.seen (r ∷ []) Q);
-      image = v.image ∙ ap (λ b. cond (b && not (c.known.number == n)) (closed_image s c) c.image) (not_restart r w.0);
+      image = v.image ∙ ap (λ b. cond (b && not (c.known.number == n)) (closed_image s c) c.image) (not_restarted r w.0);
       rolled = v.rolled ∙ (lists_stay c.rolled c.deleted r w.0).0;
       deleted = v.deleted ∙ (lists_stay c.rolled c.deleted r w.0).1;
       restarted = λ q. last Q v;
     }
       where
         last : (Q : List Record) → Within s n (going_next s n c r) Q (fold (going_next s n) (going_next s n c r) Q) → (fold (going_next s n) (going_next s n c r) Q).known.restarted ≡ false
-        last [] v = not_restart r w.0
+        last [] v = not_restarted r w.0
         last (x ∷ X) v = v.restarted (omega arith)
 
 -- ---- the end of the image's epoch
@@ -192,26 +167,6 @@ record Came (F : Files) (e : Epoch) (c : Going) : Type 0 where
   table : c.known.table ≡ table_before e F.first
   seen : c.known.seen ≡ drop (F.first - e.first) e.records
 
-drop_none : {X : Type 0} (k : ℕ) (E : List X) → E ≡ [] → drop k E ≡ []
-drop_none zero E h = h
-drop_none (suc k) [] h = refl
-drop_none (suc k) (x ∷ E) h = absurd (cc)
-
-take_none : {X : Type 0} (k : ℕ) (E : List X) → E ≡ [] → take k E ≡ []
-take_none zero E h = refl
-take_none (suc k) [] h = refl
-take_none (suc k) (x ∷ E) h = absurd (cc)
-
-drop_all : {X : Type 0} (k : ℕ) (xs : List X) → length xs ≤ k → drop k xs ≡ []
-drop_all zero [] h = refl
-drop_all zero (x ∷ xs) h = absurd (omega (arith, h))
-drop_all (suc k) [] h = refl
-drop_all (suc k) (x ∷ xs) h = drop_all k xs (omega (arith, h))
-
-no_records : {X : Type 0} (E : List X) → length E ≡ 0 → E ≡ []
-no_records [] h = refl
-no_records (x ∷ E) h = absurd (omega (arith, h))
-
 module _ (s : Sizes) (K : List Record) (F : Files) (fit : FitsWhole s (base_of s K) K F (last_epoch K)) (legal : IsLegalFor s K) (spelled : AreSpelled K) where
   abbrev e : Epoch
   e = last_epoch K
@@ -226,10 +181,10 @@ module _ (s : Sizes) (K : List Record) (F : Files) (fit : FitsWhole s (base_of s
   here = placed s K (last_epoch K) F.first legal.rules fit.fits.epoch
 
   size : e.first + length e.records ≡ length K
-  size = number_is K
+  size = number_is_length K
 
   nothing_behind : here.0.behind ≡ []
-  nothing_behind = no_records here.0.behind (omega (arith, size, here.0.low, length-drop e.first K, ap length here.0.there, length-append e.records here.0.behind))
+  nothing_behind = nil_from_length here.0.behind (omega (arith, size, here.0.low, length-drop e.first K, ap length here.0.there, length-append e.records here.0.behind))
 
   there : drop (last_epoch K).first K ≡ (last_epoch K).records
   there = here.0.there ∙ (ap (λ X. e.records ++ X) nothing_behind ∙ append-nil e.records)
@@ -270,7 +225,7 @@ module _ (s : Sizes) (K : List Record) (F : Files) (fit : FitsWhole s (base_of s
       empty h = by_size (length e.records) refl
         where
           by_size : (m : ℕ) → length (last_epoch K).records ≡ m → (last_epoch K).records ≡ []
-          by_size zero q = no_records e.records q
+          by_size zero q = nil_from_length e.records q
           by_size (suc m) q = absurd (omega (arith, some_left s K e n may (omega (arith, q)), length-drop (n - e.first) e.records, size, h))
 
   full : (r : Record) (E : List Record) → (last_epoch K).records ≡ r ∷ E → recovered_epoch K ≡ last_epoch K
@@ -325,7 +280,7 @@ module _ (s : Sizes) (K : List Record) (F : Files) (fit : FitsWhole s (base_of s
     v = goes_within s n e.records d here.0.within
 
     stays : (r : Record) → (going_next s F.first (going_at F) r).image ≡ F.image
-    stays r = rw (same_test n n refl) (by_kind (is_restarted r))
+    stays r = rw (eq-eqb n n refl) (by_kind (is_restarted r))
       where
         by_kind : (b : Bool) → cond (b && false) (closed_image s (going_at F)) F.image ≡ F.image
         by_kind true = refl
@@ -373,7 +328,7 @@ module _ (s : Sizes) (K : List Record) (F : Files) (fit : FitsWhole s (base_of s
         untold_by : (x : Record) → r ≡ x → separates x ≡ true → (last_epoch K).records ≡ [] → is_restarted x ≡ false → recovered_epoch K ≡ last_epoch K
         untold_by (Format i k) a w none q =
             let log : take n K ++ Format i k ∷ [] ≡ K = ap (λ z. take n K ++ z ∷ []) (sym a) ∙ log_is none in
-            let g = some_is (rules_state s (take n K ++ Format i k ∷ [])) (subst (λ M. IsSome (rules_state s M)) (sym log) legal.rules) in
+            let g = some_of (rules_state s (take n K ++ Format i k ∷ [])) (subst (λ M. IsSome (rules_state s M)) (sym log) legal.rules) in
             let alone : K ≡ Format i k ∷ [] = sym log ∙ ap (λ X. X ++ Format i k ∷ []) (format_first s (take n K) i k g.0 g.1) in
             subst (λ M. recovered_epoch M ≡ last_epoch M) (sym alone) refl
         untold_by (Begin t) a w none q = absurd (cc)

@@ -4,6 +4,9 @@ use Rattle.std.specs.Prelude.{◌||◌, max, nat_le, nat_lt, IsSome, slice_get, 
 use Rattle.std.specs.List.{AllByRecursion, find}
 use Rattle.std.proofs.lemmas.List.{append-nil, drop-append-le, length-append, length-drop}
 use Rattle.std.proofs.lemmas.Bool.{cases_lt, ltb-false}
+use Rattle.std.proofs.lemmas.Option.{same_Some}
+use Rattle.dali_lists.proofs.Lists.{push-not_nil, get_push}
+use Rattle.dali_lists.proofs.Members.{all_weaker, all_push}
 use Rattle.dali_geometry.specs.Sizes.{Sizes}
 use Rattle.dali_record.specs.declared.records.Record.{Record}
 use Rattle.dali_record.specs.declared.records.Record.TheVariants.{Format, Begin, Forward, Done, Commit, Ended, Solo, AuditBegin, AuditClean, AuditFail, Restarted, Back}
@@ -12,7 +15,7 @@ use Rattle.dali_record.specs.Epochs.{last_epoch, recovered_epoch, recovered_or}
 use Rattle.dali_record.specs.Log.{last_of}
 use Rattle.dali_record.specs.Files.{is_epoch_for, epoch_from}
 use Rattle.dali_record.specs.Legal.{Rules, rules_state}
-use Rattle.dali_record.proofs.Ends.{by_push, get_old, get_new, get_push_cases}
+use Rattle.dali_record.proofs.Ends.{by_push, get_old}
 use Rattle.dali_record.proofs.Pushes.{cut_push}
 use Rattle.dali_record.proofs.Stages.{IsWithin}
 use Rattle.dali_record.proofs.EpochRules.{format_first, rules_before}
@@ -20,6 +23,7 @@ use Rattle.dali_crash.proofs.Fitting.{found_is, within_epoch}
 use Rattle.dali_resume.specs.Resumed.{first_from, records_from}
 use Rattle.dali_resume.specs.Reading.{up_to_next, part_from, number_from}
 use Rattle.dali_resume.specs.Laws.{ReadsEpoch}
+use Rattle.dali_resume.proofs.Audits.{length_more, within_push}
 
 -- ---- where an epoch stands in its log
 -- what follows is nothing, or begins with what separates epochs
@@ -43,10 +47,6 @@ pub record Placed (L : List Record) (e : Epoch) : Type 0 where
 led_more : (L : List Record) (r : Record) (f : ℕ) → f ≤ length L → IsLed L f → IsLed (L ++ r ∷ []) f
 led_more L r zero h w = tt
 led_more L r (suc f) h w = (w.0, get_old L r f (omega (arith, h)) ∙ w.1, w.2)
-
-length_more : (L : List Record) (r : Record) → length (L ++ r ∷ []) ≡ suc (length L)
-length_more [] r = refl
-length_more (x ∷ L) r = ap suc (length_more L r)
 
 end_more : (Z : List Record) (r : Record) → IsEnd Z → (Z ≡ [] → separates r ≡ true) → IsEnd (Z ++ r ∷ [])
 end_more [] r h k = k refl
@@ -118,32 +118,17 @@ head_same : (es : List Epoch) (a b : Epoch) → a.first ≡ b.first → head_fir
 head_same [] a b h = h
 head_same (x ∷ es) a b h = refl
 
-all_weaker : {X : Type 0} (A B : X → Type 0) (xs : List X) → ((x : X) → A x → B x) → AllByRecursion A xs → AllByRecursion B xs
-all_weaker A B [] f h = tt
-all_weaker A B (x ∷ xs) f h = (f x h.0, all_weaker A B xs f h.1)
-
-all_push : {X : Type 0} (Q : X → Type 0) (xs : List X) (x : X) → AllByRecursion Q xs → Q x → AllByRecursion Q (xs ++ x ∷ [])
-all_push Q [] x h p = (p, tt)
-all_push Q (y ∷ xs) x h p = (h.0, all_push Q xs x h.1 p)
-
 drop_whole : {X : Type 0} (L : List X) (r : X) → drop (suc (length L)) (L ++ r ∷ []) ≡ []
 drop_whole [] r = refl
 drop_whole (x ∷ L) r = drop_whole L r
 
-within_push : (E : List Record) (r : Record) → IsWithin E → separates r ≡ false → IsWithin (E ++ r ∷ [])
-within_push E r h e i q f = ⊎_elim (λ old. h i q old.1) (λ new. subst (λ z. separates z ≡ false) new.1 e) (get_push_cases E r i q f)
-
 within_none : IsWithin []
 within_none i r e = absurd (cc)
-
-never_empty : (L : List Record) (r : Record) → L ++ r ∷ [] ≡ [] → ⊥
-never_empty [] r h = cc
-never_empty (z ∷ Z) r h = cc
 
 -- the epoch behind a record that separates
 fresh_place : (L : List Record) (r : Record) (f : ℕ) → separates r ≡ true → f ≡ suc (length L) → Placed (L ++ r ∷ []) (record { first = f; records = [] })
 fresh_place L r f sep h = record {
-  led = subst (IsLed (L ++ r ∷ [])) (sym h) (r, get_new L r, sep);
+  led = subst (IsLed (L ++ r ∷ [])) (sym h) (r, get_push L r, sep);
   behind = [];
   there = ap (λ k. drop k (L ++ r ∷ [])) h ∙ drop_whole L r;
   end = tt;
@@ -166,7 +151,7 @@ state_plain L c r w plain = record {
   count = omega (arith, w.count, length_more L r, length_more c.now.records r);
   linked = linked_same c.closed c.now (record { first = c.now.first; records = c.now.records ++ r ∷ [] }) refl w.linked;
   head = omega (arith, w.head, head_same c.closed c.now (record { first = c.now.first; records = c.now.records ++ r ∷ [] }) refl);
-  fresh = λ h. absurd (never_empty L r h);
+  fresh = λ h. absurd (push-not_nil L r h);
 }
 
 state_step : (s : Sizes) (L : List Record) (r : Record) (h : Rules) → rules_state s (L ++ r ∷ []) ≡ Some h → State L (cut L) → State (L ++ r ∷ []) (cut_step (cut L) r)
@@ -182,7 +167,7 @@ state_step s L (Format i k) h e w =
       count = omega (arith, w.count, length_more L (Format i k));
       linked = subst (λ es. AreLinked es (record { first = next_number (cut L).now + 1; records = [] })) (sym none) tt;
       head = omega (arith, w.count, size, ap (λ es. head_first es (record { first = next_number (cut L).now + 1; records = [] })) none);
-      fresh = λ x. absurd (never_empty L (Format i k) x);
+      fresh = λ x. absurd (push-not_nil L (Format i k) x);
     }
 state_step s L (Begin t) h e w = state_plain L (cut L) (Begin t) w refl
 state_step s L (Forward t b) h e w = state_plain L (cut L) (Forward t b) w refl
@@ -200,11 +185,11 @@ state_step s L (Restarted rs ds) h e w = record {
   count = omega (arith, w.count, length_more L (Restarted rs ds));
   linked = linked_push (cut L).closed (cut L).now (record { first = next_number (cut L).now + 1; records = [] }) w.linked refl;
   head = omega (arith, w.head, head_push (cut L).closed (cut L).now (record { first = next_number (cut L).now + 1; records = [] }));
-  fresh = λ x. absurd (never_empty L (Restarted rs ds) x);
+  fresh = λ x. absurd (push-not_nil L (Restarted rs ds) x);
 }
   where
     just : IsClosed (L ++ Restarted rs ds ∷ []) (cut L).now
-    just = (placed_more L (Restarted rs ds) (cut L).now w.now (λ z. refl), λ z. never_empty w.now.behind (Restarted rs ds) z)
+    just = (placed_more L (Restarted rs ds) (cut L).now w.now (λ z. refl), λ z. push-not_nil w.now.behind (Restarted rs ds) z)
 state_step s L (Back t b) h e w = state_plain L (cut L) (Back t b) w refl
 
 state_of : (s : Sizes) (L : List Record) → IsSome (rules_state s L) → State L (cut L)
@@ -229,8 +214,6 @@ state_of s L some = by_state (rules_state s L) refl some
     by_state (Some g) e q = by_push (λ M. (h : Rules) → rules_state s M ≡ Some h → State M (cut M)) start step L g e
 
 -- ---- the epoch that is found
-some_epoch : (a b : Epoch) → Some a ≡ Some b → a ≡ b
-some_epoch a b e = cc
 
 none_epoch : {A : Type 0} (b : Epoch) → None ≡ Some b → A
 none_epoch b e = absurd (cc)
@@ -239,7 +222,7 @@ found_low : (n : ℕ) (es : List Epoch) (now e : Epoch) → AreLinked es now →
 found_low n [] now e w h f = by_test (is_epoch_for n now) f
   where
     by_test : (b : Bool) → cond b (Some now) None ≡ Some e → e.first ≤ n + 1
-    by_test true g = omega (arith, h, ap (λ (z : Epoch). z.first) (some_epoch now e g))
+    by_test true g = omega (arith, h, ap (λ (z : Epoch). z.first) (same_Some now e g))
     by_test false g = none_epoch e g
 found_low n (d ∷ es) now e w h f = by_test (is_epoch_for n d) refl f (λ low. found_low n es now e (tail es w) low)
   where
@@ -257,7 +240,7 @@ found_low n (d ∷ es) now e w h f = by_test (is_epoch_for n d) refl f (λ low. 
     past false false p q k = omega (arith, ltb-false n (next_number d) q)
 
     by_test : (b : Bool) → is_epoch_for n d ≡ b → cond b (Some d) (find (is_epoch_for n) (es ++ now ∷ [])) ≡ Some e → (head_first es now ≤ n + 1 → find (is_epoch_for n) (es ++ now ∷ []) ≡ Some e → e.first ≤ n + 1) → e.first ≤ n + 1
-    by_test true k g later = omega (arith, h, ap (λ (z : Epoch). z.first) (some_epoch d e g))
+    by_test true k g later = omega (arith, h, ap (λ (z : Epoch). z.first) (same_Some d e g))
     by_test false k g later = later (omega (arith, next es w, past (nat_le n d.first) (nat_lt n (next_number d)) refl refl k)) g
 
 found_all : {X : Type 0} (Q : X → Type 0) (p : X → Bool) (xs : List X) (x : X) → AllByRecursion Q xs → find p xs ≡ Some x → Q x

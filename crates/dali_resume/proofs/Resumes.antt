@@ -1,26 +1,25 @@
 -- What a restart makes of an image is computed from its table and the records behind it.
 use Rattle.std.proofs.Common.{◌≡◌, ℕ, zero, suc, ◌+◌, ◌-◌, ◌≤◌, Bool, true, false, cond, List, [], ◌∷◌, ◌++◌, length, take, drop, Option, Some, None, refl, ap, sym, subst, ◌∙◌, ⊎_elim, arith}
 use Rattle.std.specs.Prelude.{not, ◌&&◌, ◌||◌, ◌==◌, fold, filter, map, nat_le}
-use Rattle.std.proofs.lemmas.List.{take-append-drop, take-append-le, take_all}
+use Rattle.std.proofs.lemmas.List.{take-append-drop, take-append-le, take_all, append_cancel_left}
 use Rattle.std.proofs.lemmas.List.Sums.{fold-append}
 use Rattle.std.proofs.lemmas.List.Elements.{filter-append, filter_map-append}
-use Rattle.std.proofs.lemmas.Bool.{or_left, or_right, or_cases, both_ways, false_from_ne_true}
+use Rattle.std.proofs.lemmas.Bool.{or_left, or_right, or_cases, both_ways, false_from_ne_true, and_parts, eq-eqb, eqb-true, leb-true}
 use Rattle.dali_geometry.specs.Sizes.{Sizes}
 use Rattle.dali_record.specs.declared.operations.Pending.{Pending}
 use Rattle.dali_record.specs.declared.records.Record.{Record}
-use Rattle.dali_record.specs.declared.records.Record.TheVariants.{Format, Begin, Forward, Done, Commit, Ended, Solo, AuditBegin, AuditClean, AuditFail, Restarted, Back}
+use Rattle.dali_record.specs.declared.records.Record.TheVariants.{Forward, Back}
 use Rattle.dali_record.specs.Log.{Touch, touch_of, touch_at, begun, begin_by, committed, commit_by, ended, ended_by, undos_of, undo_step}
 use Rattle.dali_record.specs.Damage.{Damage, has, any_touch, marks, mark_step, has_corrupt, kept_from, kept}
 use Rattle.dali_record.specs.Settled.{redo_all}
 use Rattle.dali_record.specs.Files.{Row, row_of}
 use Rattle.dali_record.specs.Scan.{GivesUndos}
-use Rattle.dali_record.proofs.Chains.{and_true, marks-records, chain_ascends}
-use Rattle.dali_record.proofs.Scans.{same_test, test_same, test_le}
+use Rattle.dali_record.proofs.Chains.{marks-records, chain_ascends}
 use Rattle.dali_record.proofs.Keeping.{before_corrupt-none}
 use Rattle.dali_record.proofs.Recovery.{has_to_corrupt}
-use Rattle.dali_record.proofs.Survivors.{has_filter}
+use Rattle.dali_record.proofs.Survivors.{has_filter, filter_same}
 use Rattle.dali_history.specs.Recovered.{roll_back, freed, undos_left}
-use Rattle.dali_history.proofs.Members.{has_append, has-filter, has-filter_from, filter_within, fold_within}
+use Rattle.dali_history.proofs.Members.{has_append, has-filter, has-filter_from, fold_within}
 use Rattle.dali_crash.proofs.FromImage.{kept_append, step_more}
 use Rattle.dali_resume.specs.Resumed.{row_undos, row_committed, Scan, scan_step, scan_start, begun_by, committed_by, losers_by, rolled_by, deleted_by, recovered_by}
 use Rattle.dali_resume.proofs.Scanned.{Knows, all_kept, Carries, ReadsSmall, knows_scan}
@@ -37,7 +36,7 @@ filter_skip p keep (x ∷ xs) h = by_keep (filter_skip p keep xs (λ t e. h t (o
 
     by_keep : filter p xs ≡ filter p (filter keep xs) → (k : Bool) → keep x ≡ k → filter p (x ∷ xs) ≡ filter p (filter keep (x ∷ xs))
     by_keep rest true e = rw e (by_test rest (p x))
-    by_keep rest false e = rw (e, h x (or_left (x == x) (has xs x) (same_test x x refl)) e) rest
+    by_keep rest false e = rw (e, h x (or_left (x == x) (has xs x) (eq-eqb x x refl)) e) rest
 
 fold_skip : {X : Type 0} (f : X → ℕ → X) (p keep : ℕ → Bool) (xs : List ℕ) → ((t : ℕ) → has xs t ≡ true → keep t ≡ false → p t ≡ true → (x : X) → f x t ≡ x) → (x : X) → fold f x (filter p xs) ≡ fold f x (filter p (filter keep xs))
 fold_skip f p keep [] h x = refl
@@ -48,19 +47,12 @@ fold_skip {X = X} f p keep (y ∷ xs) h x = by_keep (fold_skip f p keep xs (λ t
     by_both rest false = rest x
 
     by_one : keep y ≡ false → ((z : X) → fold f z (filter p xs) ≡ fold f z (filter p (filter keep xs))) → (b : Bool) → p y ≡ b → fold f x (cond b (y ∷ filter p xs) (filter p xs)) ≡ fold f x (filter p (filter keep xs))
-    by_one e rest true g = ap (λ z. fold f z (filter p xs)) (h y (or_left (y == y) (has xs y) (same_test y y refl)) e g x) ∙ rest x
+    by_one e rest true g = ap (λ z. fold f z (filter p xs)) (h y (or_left (y == y) (has xs y) (eq-eqb y y refl)) e g x) ∙ rest x
     by_one e rest false g = rest x
 
     by_keep : ((z : X) → fold f z (filter p xs) ≡ fold f z (filter p (filter keep xs))) → (k : Bool) → keep y ≡ k → fold f x (filter p (y ∷ xs)) ≡ fold f x (filter p (filter keep (y ∷ xs)))
     by_keep rest true e = rw e (by_both rest (p y))
     by_keep rest false e = rw e (by_one e rest (p y) refl)
-
-cancel : {X : Type 0} (P A B : List X) → P ++ A ≡ P ++ B → A ≡ B
-cancel [] A B e = e
-cancel (p ∷ P) A B e = cancel P A B (tails p (P ++ A) (P ++ B) e)
-  where
-    tails : {Y : Type 0} (y : Y) (ys zs : List Y) → y ∷ ys ≡ y ∷ zs → ys ≡ zs
-    tails y ys zs q = cc
 
 touch_behind : (P R : List Record) (n : ℕ) (a : Touch) → length P ≤ n → touch_at (P ++ R) n ≡ Some a → touch_at R (n - length P) ≡ Some a
 touch_behind [] R n a h e = let same : n - 0 ≡ n = omega arith in rw same e
@@ -84,7 +76,7 @@ row_undos_is P [] t = refl
 row_undos_is P (u ∷ ts) t = by_test (row_undos_is P ts t) (u == t) refl
   where
     by_test : row_undos (map (row_of P) ts) t ≡ cond (has ts t) (cond (has (committed P) t) [] (undos_of t P)) [] → (b : Bool) → (u == t) ≡ b → row_undos (map (row_of P) (u ∷ ts)) t ≡ cond (has (u ∷ ts) t) (cond (has (committed P) t) [] (undos_of t P)) []
-    by_test ih true e = rw e (ap (λ v. cond (has (committed P) v) [] (undos_of v P)) (test_same u t e))
+    by_test ih true e = rw e (ap (λ v. cond (has (committed P) v) [] (undos_of v P)) (eqb-true u t e))
     by_test ih false e = rw e ih
 
 row_committed_is : (P : List Record) (ts : List ℕ) (t : ℕ) → row_committed (map (row_of P) ts) t ≡ (has ts t && has (committed P) t)
@@ -97,7 +89,7 @@ row_committed_is P (u ∷ ts) t = by_test (row_committed_is P ts t) (u == t) ref
     same false false = refl
 
     by_test : row_committed (map (row_of P) ts) t ≡ (has ts t && has (committed P) t) → (b : Bool) → (u == t) ≡ b → row_committed (map (row_of P) (u ∷ ts)) t ≡ (has (u ∷ ts) t && has (committed P) t)
-    by_test ih true e = rw (e, ih) (ap (λ v. has (committed P) v || (has ts t && has (committed P) t)) (test_same u t e) ∙ same (has (committed P) t) (has ts t))
+    by_test ih true e = rw (e, ih) (ap (λ v. has (committed P) v || (has ts t && has (committed P) t)) (eqb-true u t e) ∙ same (has (committed P) t) (has ts t))
     by_test ih false e = rw (e, ih) refl
 
 pub has_running : (P : List Record) (t : ℕ) → has (running P) t ≡ (not (has (ended P) t) && has (begun P) t)
@@ -105,18 +97,9 @@ has_running P t = has_filter (λ u. not (has (ended P) u)) (begun P) t
 
 -- ---- records without a block of t
 undo_step-untouched : (t : ℕ) (us : List Pending) (r : Record) → any_touch (λ a. a.txn == t) (touch_of r) ≡ false → undo_step t us r ≡ us
-undo_step-untouched t us (Format i h) e = refl
-undo_step-untouched t us (Begin u) e = refl
 undo_step-untouched t us (Forward u b) e = rw e refl
-undo_step-untouched t us (Done u c a) e = refl
-undo_step-untouched t us (Commit u) e = refl
-undo_step-untouched t us (Ended u) e = refl
-undo_step-untouched t us (Solo u p b) e = refl
-undo_step-untouched t us AuditBegin e = refl
-undo_step-untouched t us (AuditClean b) e = refl
-undo_step-untouched t us (AuditFail b rs) e = refl
-undo_step-untouched t us (Restarted rs ds) e = refl
 undo_step-untouched t us (Back u b) e = rw e refl
+undo_step-untouched t us _ e = refl
 
 undos_untouched : (t : ℕ) (us : List Pending) (R : List Record) → HasNoBlock t R → fold (undo_step t) us R ≡ us
 undos_untouched t us [] h = refl
@@ -124,7 +107,7 @@ undos_untouched t us (r ∷ R) h = ap (λ vs. fold (undo_step t) vs R) (undo_ste
   where
     none : (o : Option Touch) → touch_of r ≡ o → any_touch (λ a. a.txn == t) o ≡ false
     none None e = refl
-    none (Some a) e = false_from_ne_true (a.txn == t) (λ g. h 0 a e (test_same a.txn t g))
+    none (Some a) e = false_from_ne_true (a.txn == t) (λ g. h 0 a e (eqb-true a.txn t g))
 
 -- ---- an epoch's records P before the image's number, and R from it on
 module _ (d : Damage) (P R : List Record) (early : d.first + length P ≤ d.clean) (gives : GivesUndos (P ++ R)) (small : ReadsSmall R) (stands : (t : ℕ) → Stood P R t) where
@@ -161,9 +144,9 @@ module _ (d : Damage) (P R : List Record) (early : d.first + length P ≤ d.clea
   corrupt_block t h none =
       let w = has_to_corrupt d (P ++ R) t h in
       let f = w.4.2 in
-      let p = and_true (nat_le d.clean (d.first + w.4.0) && has d.failing f.0.block.region) (not (f.0.block.read == 0)) f.2 in
-      let q = and_true (nat_le d.clean (d.first + w.4.0)) (has d.failing f.0.block.region) p.0 in
-      let late : length P ≤ w.0 = omega (arith, test_le d.clean (d.first + w.4.0) q.0, early, chain_ascends (P ++ R) w.4.0 w.4.1 w.0 w.4.3) in
+      let p = and_parts (nat_le d.clean (d.first + w.4.0) && has d.failing f.0.block.region) (not (f.0.block.read == 0)) f.2 in
+      let q = and_parts (nat_le d.clean (d.first + w.4.0)) (has d.failing f.0.block.region) p.0 in
+      let late : length P ≤ w.0 = omega (arith, leb-true d.clean (d.first + w.4.0) q.0, early, chain_ascends (P ++ R) w.4.0 w.4.1 w.0 w.4.3) in
       none (w.0 - length P) w.1 (touch_behind P R w.0 w.1 late w.2) w.3
 
   uncorrupted : (t : ℕ) → HasNoBlock t R → has_corrupt (marks d (P ++ R)) t ≡ false
@@ -171,7 +154,7 @@ module _ (d : Damage) (P R : List Record) (early : d.first + length P ≤ d.clea
 
   -- ---- the records that are written
   pub kept_is : kept_from (take (length P) (marks d (P ++ R))) (drop (length P) (marks d (P ++ R))) ≡ c.kept
-  kept_is = cancel P (kept_from (take (length P) ms) (drop (length P) ms)) c.kept
+  kept_is = append_cancel_left P (kept_from (take (length P) ms) (drop (length P) ms)) c.kept
       (ap (λ L. L ++ kept_from (take (length P) ms) (drop (length P) ms)) (sym front)
       ∙ (sym (kept_append [] (take (length P) ms) (drop (length P) ms))
       ∙ (ap kept (take-append-drop (length P) ms) ∙ knows.kept)))
@@ -226,8 +209,8 @@ module _ (d : Damage) (P R : List Record) (early : d.first + length P ≤ d.clea
       → filter p (begun (P ++ R)) ≡ filter q (begun_by (table_of P) R)
   filtered p q gone run new =
       ap (filter p) begun_is ∙ (filter-append p (begun P) (begun R)
-      ∙ (ap (λ ts. ts ++ filter p (begun R)) (filter_skip p (λ t. not (has (ended P) t)) (begun P) (λ t h e. gone t (is_true (has (ended P) t) e)) ∙ filter_within p q (running P) run)
-      ∙ (ap (λ ts. filter q (running P) ++ ts) (filter_within p q (begun R) new)
+      ∙ (ap (λ ts. ts ++ filter p (begun R)) (filter_skip p (λ t. not (has (ended P) t)) (begun P) (λ t h e. gone t (is_true (has (ended P) t) e)) ∙ filter_same p q (running P) run)
+      ∙ (ap (λ ts. filter q (running P) ++ ts) (filter_same p q (begun R) new)
       ∙ (sym (filter-append q (running P) (begun R)) ∙ ap (filter q) (sym begun_by_is)))))
     where
       is_true : (x : Bool) → not x ≡ false → x ≡ true
@@ -311,14 +294,14 @@ module _ (d : Damage) (P R : List Record) (early : d.first + length P ≤ d.clea
       first : fold f im (filter p (begun P)) ≡ fold g im (filter q (running P))
       first =
           fold_skip f p (λ t. not (has (ended P) t)) (begun P) (λ t h k l x. ap (roll_back x) (none_left t (is_true (has (ended P) t) k) l)) im
-          ∙ (ap (fold f im) (filter_within p q (running P) running_same)
+          ∙ (ap (fold f im) (filter_same p q (running P) running_same)
           ∙ fold_within f g (filter q (running P)) (λ t h x.
           let w = has-filter q (running P) t h in
           ap (roll_back x) (undos_is t (present t w.0 (uncommitted t (running_same t w.0 ∙ w.1))))) im)
 
       second : (x : List (List ℕ)) → fold f x (filter p (begun R)) ≡ fold g x (filter q (begun R))
       second y =
-          ap (fold f y) (filter_within p q (begun R) begun_same)
+          ap (fold f y) (filter_same p q (begun R) begun_same)
           ∙ fold_within f g (filter q (begun R)) (λ t h x. let w = has-filter q (begun R) t h in let b = (stands t).began w.0 in ap (roll_back x) (undos_is t (absent t b.0 b.3))) y
 
   -- ---- the image

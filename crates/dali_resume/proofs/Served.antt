@@ -2,21 +2,22 @@
 use Rattle.std.specs.List.{list_any}
 use Rattle.std.specs.Prelude.{fold, not, ◌&&◌, ◌||◌, ◌==◌}
 use Rattle.std.proofs.Common.{Bool, List, None, Some, ap, arith, cond, false, refl, subst, sym, true, ℕ, ◌≡◌, ◌+◌, ◌∷◌, ◌++◌, ◌∙◌, []}
-use Rattle.std.proofs.lemmas.Bool.{and_parts, both_ways, ne_eqb}
+use Rattle.std.proofs.lemmas.Bool.{and_parts, both_ways, ne_eqb, or_parts, eqb-true}
 use Rattle.std.proofs.lemmas.List.Folds.{list_any-append}
 use Rattle.std.proofs.lemmas.List.Sums.{fold-append}
+use mathlib.Core.Bool.{or-false}
 use Rattle.dali_geometry.specs.Sizes.{Sizes}
 use Rattle.dali_record.specs.Damage.{has}
 use Rattle.dali_record.specs.Epochs.{separates}
 use Rattle.dali_record.specs.Files.{Row, is_restarted}
-use Rattle.dali_record.specs.Legal.{is_none_left, on_kind}
+use Rattle.dali_record.specs.Legal.{on_kind}
 use Rattle.dali_record.specs.Log.{committed, undo_step}
 use Rattle.dali_record.specs.Settled.{redo_all}
 use Rattle.dali_record.specs.declared.operations.Pending.{Pending}
 use Rattle.dali_record.specs.declared.records.Record.{Record}
 use Rattle.dali_record.specs.declared.records.Record.TheVariants.{AuditBegin, AuditClean, AuditFail, Back, Begin, Commit, Done, Ended, Format, Forward, Restarted, Solo}
-use Rattle.dali_record.proofs.Scans.{test_same}
 use Rattle.dali_record.proofs.Stages.{has_committed_push}
+use Rattle.dali_record.proofs.Moves.{none_left}
 use Rattle.dali_history.specs.Recovered.{freed, roll_back}
 use Rattle.dali_history.proofs.Members.{fold_within, has-filter}
 use Rattle.dali_resume.specs.Laws.{is_audit_fail, losers_of, recover_plain, undos_in}
@@ -33,14 +34,6 @@ record Served (g : Known) : Type 0 where
   waits : (t : ℕ) → committed_by g.table g.seen t ≡ false → is_waiting (g.statuses t) ≡ false
   failed : g.failed ≡ list_any is_audit_fail g.seen
 
-or_none : (a : Bool) → (a || false) ≡ a
-or_none true = refl
-or_none false = refl
-
-or_split : (a b : Bool) → (a || b) ≡ false → (a ≡ false) × (b ≡ false)
-or_split true b q = absurd (cc)
-or_split false b q = (refl, q)
-
 -- ---- the image's table
 start_undos : (rows : List Row) (t : ℕ) → row_committed rows t ≡ false → (undos_in (status_in rows t) ≡ row_undos rows t) × (is_waiting (status_in rows t) ≡ false)
 start_undos [] t h = (refl, refl)
@@ -49,14 +42,14 @@ start_undos (w ∷ ws) t h = by_test (λ k. start_undos ws t k) (w.txn == t) ref
     by_test : (row_committed ws t ≡ false → (undos_in (status_in ws t) ≡ row_undos ws t) × (is_waiting (status_in ws t) ≡ false)) → (b : Bool) → (w.txn == t) ≡ b
         → (undos_in (status_in (w ∷ ws) t) ≡ row_undos (w ∷ ws) t) × (is_waiting (status_in (w ∷ ws) t) ≡ false)
     by_test ih true e =
-        let c : w.is_committed ≡ false = (or_split w.is_committed (row_committed ws t) (subst (λ z. ((z && w.is_committed) || row_committed ws t) ≡ false) e h)).0 in
+        let c : w.is_committed ≡ false = (or_parts w.is_committed (row_committed ws t) (subst (λ z. ((z && w.is_committed) || row_committed ws t) ≡ false) e h)).0 in
         rw (e, c) (refl, refl)
     by_test ih false e = let v = ih (subst (λ z. ((z && w.is_committed) || row_committed ws t) ≡ false) e h) in rw e v
 
 served_start : (n next : ℕ) (rows : List Row) → Served (known_at n next rows)
 served_start n next rows = record {
-  undos = λ t h. (start_undos rows t (sym (or_none (row_committed rows t)) ∙ h)).0;
-  waits = λ t h. (start_undos rows t (sym (or_none (row_committed rows t)) ∙ h)).1;
+  undos = λ t h. (start_undos rows t (sym (or-false (row_committed rows t)) ∙ h)).0;
+  waits = λ t h. (start_undos rows t (sym (or-false (row_committed rows t)) ∙ h)).1;
   failed = refl;
 }
 
@@ -64,13 +57,9 @@ served_start n next rows = record {
 abbrev Serves : ℕ → Status → Record → Type 0
 Serves t z r = (undos_in (status_next t z r) ≡ undo_step t (undos_in z) r) × (is_waiting (status_next t z r) ≡ false)
 
-none_left : (us : List Pending) → is_none_left us ≡ true → us ≡ []
-none_left [] h = refl
-none_left (u ∷ us) h = absurd (cc)
-
 module _ (s : Sizes) (n : ℕ) (g : Known) (t : ℕ) where
   same_status : (u : ℕ) (z : Status) → (u == t) ≡ true → g.statuses t ≡ z → g.statuses u ≡ z
-  same_status u z e h = ap g.statuses (test_same u t e) ∙ h
+  same_status u z e h = ap g.statuses (eqb-true u t e) ∙ h
 
   idle : (r : Record) → separates r ≡ false → g.statuses t ≡ Idle → allows s n g r ≡ true → Serves t Idle r
   idle (Format i h) w q k = absurd (cc)
@@ -103,7 +92,7 @@ module _ (s : Sizes) (n : ℕ) (g : Known) (t : ℕ) where
   runs us (Begin u) w q k c = (refl, refl)
   runs us (Forward u b) w q k c = (refl, refl)
   runs us (Done u d a) w q k c = (refl, refl)
-  runs us (Commit u) w q k c = let f : (u == t) ≡ false = (or_split (u == t) false c).0 in rw f (refl, refl)
+  runs us (Commit u) w q k c = let f : (u == t) ≡ false = (or_parts (u == t) false c).0 in rw f (refl, refl)
   runs us (Ended u) w q k c = by_test (u == t) refl
     where
       by_test : (b : Bool) → (u == t) ≡ b → Serves t (Running us) (Ended u)
@@ -132,7 +121,7 @@ module _ (s : Sizes) (n : ℕ) (g : Known) (w : Served g) where
     failed =
         failed_is g.failed r sep
         ∙ (ap (λ z. z || is_audit_fail r) w.failed
-        ∙ (ap (λ z. list_any is_audit_fail g.seen || z) (sym (or_none (is_audit_fail r)))
+        ∙ (ap (λ z. list_any is_audit_fail g.seen || z) (sym (or-false (is_audit_fail r)))
         ∙ (sym (list_any-append is_audit_fail g.seen (r ∷ [])) ∙ sym (ap (list_any is_audit_fail) (lists r sep)))));
   }
     where
@@ -148,8 +137,8 @@ module _ (s : Sizes) (n : ℕ) (g : Known) (w : Served g) where
       facts : (t : ℕ) → committed_by (known_next g r).table (known_next g r).seen t ≡ false → (committed_by g.table g.seen t ≡ false) × (has (committed (r ∷ [])) t ≡ false)
       facts t h =
           let all : (row_committed g.table t || (has (committed g.seen) t || has (committed (r ∷ [])) t)) ≡ false = ap (λ z. row_committed g.table t || z) (sym (has_committed_push g.seen r t)) ∙ (sym (ap2 (λ rows R. committed_by rows R t) (tables r sep) (lists r sep)) ∙ h) in
-          let a = or_split (row_committed g.table t) (has (committed g.seen) t || has (committed (r ∷ [])) t) all in
-          let b = or_split (has (committed g.seen) t) (has (committed (r ∷ [])) t) a.1 in
+          let a = or_parts (row_committed g.table t) (has (committed g.seen) t || has (committed (r ∷ [])) t) all in
+          let b = or_parts (has (committed g.seen) t) (has (committed (r ∷ [])) t) a.1 in
           (rw (a.0, b.0) refl, b.1)
 
       one : (t : ℕ) → committed_by g.table g.seen t ≡ false → has (committed (r ∷ [])) t ≡ false → Serves t (g.statuses t) r
@@ -179,17 +168,7 @@ behind_none m b = ap (λ c. c && b) (ne_eqb (m + 1) 0 (λ f. absurd (omega (arit
 -- only the first record may be one
 first_alone : (c : Bool) (r : Record) (Q : List Record) → c && begins_log (r ∷ Q) ≡ false → c && begins_log (r ∷ []) ≡ false
 first_alone c (Format i h) Q e = e
-first_alone c (Begin t) Q e = e
-first_alone c (Forward t b) Q e = e
-first_alone c (Done t d a) Q e = e
-first_alone c (Commit t) Q e = e
-first_alone c (Ended t) Q e = e
-first_alone c (Solo t p b) Q e = e
-first_alone c AuditBegin Q e = e
-first_alone c (AuditClean b) Q e = e
-first_alone c (AuditFail b rs) Q e = e
-first_alone c (Restarted rs ds) Q e = e
-first_alone c (Back t b) Q e = e
+first_alone c _ Q e = e
 
 served_through : (s : Sizes) (n : ℕ) (Q : List Record) (g k : Known) → (g.number == 0) && begins_log Q ≡ false → Served g → tests s n g Q ≡ Some k → Served k
 served_through s n [] g k none w e = let same : g ≡ k = some_known g k e in subst Served same w

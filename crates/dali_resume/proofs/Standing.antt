@@ -1,10 +1,12 @@
 -- Where each transaction stands at a place of its epoch, and what may come of it behind that place.
 use Rattle.std.proofs.Common.{◌≡◌, ℕ, zero, suc, Bool, true, false, List, [], ◌∷◌, ◌++◌, Option, Some, None, refl, ap, sym, subst, ◌∙◌, ◌⊎◌, inl, inr, ⊎_elim}
 use Rattle.std.specs.Prelude.{◌||◌, ◌==◌, fold, IsSome}
-use Rattle.std.proofs.lemmas.List.Folds.{list_any-append, fold_stays}
+use Rattle.std.proofs.lemmas.List.Folds.{list_any-append}
 use Rattle.std.proofs.lemmas.List.Sums.{fold-append}
 use Rattle.std.proofs.lemmas.List.Elements.{filter_map-append}
-use Rattle.std.proofs.lemmas.Bool.{or_from, or_left, or_right, both_ways}
+use Rattle.std.proofs.lemmas.Bool.{or_from, or_left, or_right, both_ways, eq-eqb}
+use Rattle.std.proofs.lemmas.Option.{same_Some}
+use mathlib.Core.Bool.{or-false}
 use Rattle.dali_geometry.specs.Sizes.{Sizes}
 use Rattle.dali_record.specs.declared.operations.Pending.{Pending}
 use Rattle.dali_record.specs.declared.records.Record.{Record}
@@ -14,15 +16,12 @@ use Rattle.dali_record.specs.Damage.{Damage, has, any_touch}
 use Rattle.dali_record.specs.Legal.{Working, TxnState, Unbegun, Active, Committed, Over, txn_step, txn_next, concerns, allowed, is_none_left, dead_of}
 use Rattle.dali_record.proofs.Ends.{by_push}
 use Rattle.dali_record.proofs.Pushes.{separates, undos_of_push, txn_step-other}
-use Rattle.dali_record.proofs.Scans.{same_test}
 use Rattle.dali_record.proofs.Keeping.{is_of_txn, undo_step-skips}
 use Rattle.dali_record.proofs.Tracks.{Tracks}
 use Rattle.dali_record.proofs.Moves.{Moved, begins, alone, works, commits, leaves, frees, ends, moves}
-use Rattle.dali_record.proofs.Stages.{state_from, state_before, IsStart, IsWithin, IsWithin-front, others-touch, others-own, has_committed_push, stage}
+use Rattle.dali_record.proofs.Stages.{state_from, state_before, IsStart, IsWithin, IsWithin-front, others-touch, others-own, has_committed_push, stage, others-commit}
 use Rattle.dali_record.proofs.Survivors.{StandsIn}
-
-some_same : {X : Type 0} (u v : X) → Some u ≡ Some v → u ≡ v
-some_same u v e = cc
+use Rattle.dali_counts.proofs.Fronts.{none_txn}
 
 -- ---- what one more record adds
 pub has_begun_push : (E : List Record) (r : Record) (t : ℕ) → has (begun (E ++ r ∷ [])) t ≡ (has (begun E) t || has (begun (r ∷ [])) t)
@@ -32,46 +31,12 @@ pub has_ended_push : (E : List Record) (r : Record) (t : ℕ) → has (ended (E 
 has_ended_push E r t = ap (λ ts. has ts t) (filter_map-append ended_by E (r ∷ [])) ∙ list_any-append (λ u. u == t) (ended E) (ended (r ∷ []))
 
 others_begin : (t : ℕ) (r : Record) → concerns t r ≡ false → has (begun (r ∷ [])) t ≡ false
-others_begin t (Format i h) e = refl
 others_begin t (Begin u) e = rw e refl
-others_begin t (Forward u b) e = refl
-others_begin t (Done u c a) e = refl
-others_begin t (Commit u) e = refl
-others_begin t (Ended u) e = refl
-others_begin t (Solo u p b) e = refl
-others_begin t AuditBegin e = refl
-others_begin t (AuditClean b) e = refl
-others_begin t (AuditFail b rs) e = refl
-others_begin t (Restarted rs ds) e = refl
-others_begin t (Back u b) e = refl
-
-others_commit : (t : ℕ) (r : Record) → concerns t r ≡ false → has (committed (r ∷ [])) t ≡ false
-others_commit t (Format i h) e = refl
-others_commit t (Begin u) e = refl
-others_commit t (Forward u b) e = refl
-others_commit t (Done u c a) e = refl
-others_commit t (Commit u) e = rw e refl
-others_commit t (Ended u) e = refl
-others_commit t (Solo u p b) e = refl
-others_commit t AuditBegin e = refl
-others_commit t (AuditClean b) e = refl
-others_commit t (AuditFail b rs) e = refl
-others_commit t (Restarted rs ds) e = refl
-others_commit t (Back u b) e = refl
+others_begin t _ e = refl
 
 others_end : (t : ℕ) (r : Record) → concerns t r ≡ false → has (ended (r ∷ [])) t ≡ false
-others_end t (Format i h) e = refl
-others_end t (Begin u) e = refl
-others_end t (Forward u b) e = refl
-others_end t (Done u c a) e = refl
-others_end t (Commit u) e = refl
 others_end t (Ended u) e = rw e refl
-others_end t (Solo u p b) e = refl
-others_end t AuditBegin e = refl
-others_end t (AuditClean b) e = refl
-others_end t (AuditFail b rs) e = refl
-others_end t (Restarted rs ds) e = refl
-others_end t (Back u b) e = refl
+others_end t _ e = refl
 
 none_begun : (t : ℕ) (r : Record) → begin_by r ≡ None → has (begun (r ∷ [])) t ≡ false
 none_begun t r e = rw e refl
@@ -114,12 +79,8 @@ Pushed t E r y = Lies (has (begun E) t || has (begun (r ∷ [])) t) (has (commit
 from_pushed : (t : ℕ) (E : List Record) (r : Record) (y : TxnState) → Pushed t E r y → LiesIn t (E ++ r ∷ []) y
 from_pushed t E r y h = rw (has_begun_push E r t, has_committed_push E r t, has_ended_push E r t, undos_of_push t E r) h
 
-or_none : (a : Bool) → (a || false) ≡ a
-or_none true = refl
-or_none false = refl
-
 this : (t : ℕ) → ((t == t) || false) ≡ true
-this t = or_left (t == t) false (same_test t t refl)
+this t = or_left (t == t) false (eq-eqb t t refl)
 
 lies_step : (s : Sizes) (t : ℕ) (E : List Record) (r : Record) (x y : TxnState) → separates r ≡ false → txn_step s t x r ≡ Some y → Tracks (Some x) (undos_of t E) → LiesIn t E x → LiesIn t (E ++ r ∷ []) y
 lies_step s t E r x y within e track h = from_pushed t E r y (by_concern (concerns t r) refl)
@@ -127,40 +88,40 @@ lies_step s t E r x y within e track h = from_pushed t E r y (by_concern (concer
     by_move : Moved t x r y → Pushed t E r y
     by_move (begins w a b c) =
         let was : LiesIn t E Unbegun = subst (LiesIn t E) a h in
-        subst (Pushed t E r) (sym c) (subst (λ q. Pushed t E q (Active w)) (sym b) (or_right (has (begun E) t) ((t == t) || false) (this t), or_none (has (committed E) t) ∙ was.1, or_none (has (ended E) t) ∙ was.2))
+        subst (Pushed t E r) (sym c) (subst (λ q. Pushed t E q (Active w)) (sym b) (or_right (has (begun E) t) ((t == t) || false) (this t), or-false (has (committed E) t) ∙ was.1, or-false (has (ended E) t) ∙ was.2))
     by_move (alone p k a b c) =
         let was : LiesIn t E Unbegun = subst (LiesIn t E) a h in
-        subst (Pushed t E r) (sym c) (subst (λ q. Pushed t E q Over) (sym b) (inr (or_none (has (begun E) t) ∙ was.0, or_none (has (committed E) t) ∙ was.1, or_none (has (ended E) t) ∙ was.2, was.3)))
+        subst (Pushed t E r) (sym c) (subst (λ q. Pushed t E q Over) (sym b) (inr (or-false (has (begun E) t) ∙ was.0, or-false (has (committed E) t) ∙ was.1, or-false (has (ended E) t) ∙ was.2, was.3)))
     by_move (works w v a own b k c) =
         let was : LiesIn t E (Active w) = subst (LiesIn t E) a h in
         let step : txn_step s t (Active w) r ≡ Some (Active v) = subst (λ z. txn_step s t (Active w) r ≡ Some z) c (subst (λ z. txn_step s t z r ≡ Some y) a e) in
         subst (Pushed t E r) (sym c) (or_left (has (begun E) t) (has (begun (r ∷ [])) t) was.0, or_from (has (committed E) t) (has (committed (r ∷ [])) t) was.1 (none_committed t r k), or_from (has (ended E) t) (has (ended (r ∷ [])) t) was.2 (none_ended s t w v r own step))
     by_move (commits w a b c) =
         let was : LiesIn t E (Active w) = subst (LiesIn t E) a h in
-        subst (Pushed t E r) (sym c) (subst (λ q. Pushed t E q (Committed (dead_of w.undos))) (sym b) (or_none (has (begun E) t) ∙ was.0, or_right (has (committed E) t) ((t == t) || false) (this t), or_none (has (ended E) t) ∙ was.2))
+        subst (Pushed t E r) (sym c) (subst (λ q. Pushed t E q (Committed (dead_of w.undos))) (sym b) (or-false (has (begun E) t) ∙ was.0, or_right (has (committed E) t) ((t == t) || false) (this t), or-false (has (ended E) t) ∙ was.2))
     by_move (leaves w a b c) =
         let was : LiesIn t E (Active w) = subst (LiesIn t E) a h in
         let tracked : w.undos ≡ undos_of t E = subst (λ z. Tracks (Some z) (undos_of t E)) a track in
         let step : txn_step s t (Active w) (Ended t) ≡ Some y = subst (λ q. txn_step s t (Active w) q ≡ Some y) b (subst (λ z. txn_step s t z r ≡ Some y) a e) in
-        let same : (t == t) ≡ true = same_test t t refl in
+        let same : (t == t) ≡ true = eq-eqb t t refl in
         let empty : allowed (is_none_left w.undos) (Some Over) ≡ Some y = rw same at step in
-        subst (Pushed t E r) (sym c) (subst (λ q. Pushed t E q Over) (sym b) (inl (or_none (has (begun E) t) ∙ was.0, or_right (has (ended E) t) ((t == t) || false) (this t), λ z. sym tracked ∙ none_left w.undos empty)))
+        subst (Pushed t E r) (sym c) (subst (λ q. Pushed t E q Over) (sym b) (inl (or-false (has (begun E) t) ∙ was.0, or_right (has (ended E) t) ((t == t) || false) (this t), λ z. sym tracked ∙ none_left w.undos empty)))
       where
         none_left : (us : List Pending) → allowed (is_none_left us) (Some Over) ≡ Some y → us ≡ []
         none_left [] q = refl
         none_left (u ∷ us) q = absurd (cc)
     by_move (frees p ps u k a b ne is c) =
         let was : LiesIn t E (Committed (p ∷ ps)) = subst (LiesIn t E) a h in
-        subst (Pushed t E r) (sym c) (subst (λ q. Pushed t E q (Committed ps)) (sym b) (or_none (has (begun E) t) ∙ was.0, or_none (has (committed E) t) ∙ was.1, or_none (has (ended E) t) ∙ was.2))
+        subst (Pushed t E r) (sym c) (subst (λ q. Pushed t E q (Committed ps)) (sym b) (or-false (has (begun E) t) ∙ was.0, or-false (has (committed E) t) ∙ was.1, or-false (has (ended E) t) ∙ was.2))
     by_move (ends a b c) =
         let was : LiesIn t E (Committed []) = subst (LiesIn t E) a h in
-        subst (Pushed t E r) (sym c) (subst (λ q. Pushed t E q Over) (sym b) (inl (or_none (has (begun E) t) ∙ was.0, or_right (has (ended E) t) ((t == t) || false) (this t), λ z. absurd (both_ways (has (committed E) t) (sym (or_none (has (committed E) t)) ∙ z) was.1))))
+        subst (Pushed t E r) (sym c) (subst (λ q. Pushed t E q Over) (sym b) (inl (or-false (has (begun E) t) ∙ was.0, or_right (has (ended E) t) ((t == t) || false) (this t), λ z. absurd (both_ways (has (committed E) t) (sym (or-false (has (committed E) t)) ∙ z) was.1))))
 
     by_concern : (k : Bool) → concerns t r ≡ k → Pushed t E r y
     by_concern true f = by_move (moves s t x r y f within e)
     by_concern false f =
-        let same : x ≡ y = some_same x y (sym (txn_step-other s t x r f) ∙ e) in
-        rw (others_begin t r f, others_commit t r f, others_end t r f, undo_step-skips t (undos_of t E) r (others-own t r f), or_none (has (begun E) t), or_none (has (committed E) t), or_none (has (ended E) t)) (subst (LiesIn t E) same h)
+        let same : x ≡ y = same_Some x y (sym (txn_step-other s t x r f) ∙ e) in
+        rw (others_begin t r f, others-commit t r f, others_end t r f, undo_step-skips t (undos_of t E) r (others-own t r f), or-false (has (begun E) t), or-false (has (committed E) t), or-false (has (ended E) t)) (subst (LiesIn t E) same h)
 
 pub nothing : Damage
 nothing = record { first = 0; clean = 0; failing = [] }
@@ -172,7 +133,7 @@ lies s t x0 P x start within e = by_push (λ L. IsWithin L → (y : TxnState) �
     first w y f = ⊎_elim (λ a. subst (LiesIn t []) (sym a ∙ same) (refl, refl, refl, refl)) (λ a. subst (LiesIn t []) (sym a ∙ same) (inr (refl, refl, refl, refl))) start
       where
         same : x0 ≡ y
-        same = some_same x0 y f
+        same = same_Some x0 y f
 
     step : (L : List Record) (r : Record) → (IsWithin L → (y : TxnState) → state_from s t x0 L ≡ Some y → LiesIn t L y) → IsWithin (L ++ r ∷ []) → (y : TxnState) → state_from s t x0 (L ++ r ∷ []) ≡ Some y → LiesIn t (L ++ r ∷ []) y
     step L r ih w y f =
@@ -204,7 +165,7 @@ begun_step s t x y r within e h = by_concern (concerns t r) refl
 
     by_concern : (k : Bool) → concerns t r ≡ k → (is_begun y ≡ true) × (has (begun (r ∷ [])) t ≡ false)
     by_concern true f = by_move (moves s t x r y f within e)
-    by_concern false f = (ap is_begun (sym (some_same x y (sym (txn_step-other s t x r f) ∙ e))) ∙ h, others_begin t r f)
+    by_concern false f = (ap is_begun (sym (same_Some x y (sym (txn_step-other s t x r f) ∙ e))) ∙ h, others_begin t r f)
 
 closed_step : (s : Sizes) (t : ℕ) (x y : TxnState) (r : Record) → separates r ≡ false → txn_step s t x r ≡ Some y → is_closed x ≡ true → (is_closed y ≡ true) × (any_touch (λ a. a.txn == t) (touch_of r) ≡ false)
 closed_step s t x y r within e h = by_concern (concerns t r) refl
@@ -223,13 +184,10 @@ closed_step s t x y r within e h = by_concern (concerns t r) refl
 
     by_concern : (k : Bool) → concerns t r ≡ k → (is_closed y ≡ true) × (any_touch (λ a. a.txn == t) (touch_of r) ≡ false)
     by_concern true f = by_move (moves s t x r y f within e)
-    by_concern false f = (ap is_closed (sym (some_same x y (sym (txn_step-other s t x r f) ∙ e))) ∙ h, others-touch t r f)
-
-fold_none : (s : Sizes) (t : ℕ) (R : List Record) → fold (txn_next s t) None R ≡ None
-fold_none s t R = fold_stays (txn_next s t) None (λ r. refl) R
+    by_concern false f = (ap is_closed (sym (same_Some x y (sym (txn_step-other s t x r f) ∙ e))) ∙ h, others-touch t r f)
 
 none_some : {A : Type 0} (s : Sizes) (t : ℕ) (R : List Record) → IsSome (fold (txn_next s t) None R) → A
-none_some s t R g = let h : false ≡ true = rw (fold_none s t R) at g in absurd (cc)
+none_some s t R g = let h : false ≡ true = rw (none_txn s t R) at g in absurd (cc)
 
 -- the first step of a walk that is allowed
 pub first_step : (s : Sizes) (t : ℕ) (x : TxnState) (r : Record) (R : List Record) → IsSome (state_from s t x (r ∷ R)) → (y : TxnState) × (txn_step s t x r ≡ Some y) × IsSome (state_from s t y R)
@@ -261,7 +219,7 @@ no_blocks s t (r ∷ R) x within some h zero a e same =
     let f = first_step s t x r R some in
     let g = closed_step s t x f.0 r w.0 f.1 h in
     let own : any_touch (λ b. b.txn == t) (Some a) ≡ false = subst (λ o. any_touch (λ b. b.txn == t) o ≡ false) e g.1 in
-    both_ways (a.txn == t) own (same_test a.txn t same)
+    both_ways (a.txn == t) own (eq-eqb a.txn t same)
 no_blocks s t (r ∷ R) x within some h (suc i) a e same =
     let w = IsWithin-tail r R within in
     let f = first_step s t x r R some in

@@ -1,40 +1,38 @@
 -- From a history a restart hands out what is right however many restarts the log has, from a format on; and it may be stopped and made again.
-use Rattle.std.specs.Prelude.{filter, flat_map, map, not, slice_get, sum_by}
+use Rattle.std.specs.Prelude.{flat_map, not, slice_get, sum_by}
 use Rattle.std.proofs.Common.{Bool, List, None, Some, ap, append_assoc, arith, cond, drop, false, inl, inr, length, refl, subst, suc, sym, take, true, zero, ℕ, ◌≡◌, ◌∷◌, ◌++◌, ◌∙◌, ◌⊎◌, ◌≤◌, ◌-◌, ◌<◌, []}
-use Rattle.std.proofs.lemmas.Bool.{cases_lt}
+use Rattle.std.proofs.lemmas.Bool.{cases_lt, eq-eqb}
 use Rattle.std.proofs.lemmas.List.{append-nil, length-append}
 use Rattle.std.proofs.lemmas.List.Concat.{flat_map-append}
 use Rattle.dali_geometry.specs.Places.{formatted_image}
 use Rattle.dali_geometry.specs.Sizes.{Sizes}
-use Rattle.dali_record.specs.Damage.{deleted_list, has, rolled_list}
+use Rattle.dali_index.proofs.Forms.{formatted_is_image, formatted_is_tidy}
+use Rattle.dali_record.specs.Damage.{deleted_list, rolled_list}
 use Rattle.dali_record.specs.Epochs.{cut, epochs, last_epoch, recovered_epoch, recovered_or}
-use Rattle.dali_record.specs.Files.{batch_length, epoch_from, is_restarted_first, next_after, row_of}
+use Rattle.dali_record.specs.Files.{batch_length, epoch_from, is_restarted_first, next_after}
 use Rattle.dali_record.specs.Legal.{IsLegalFor, sizes_of}
-use Rattle.dali_record.specs.Log.{begun, ended}
-use Rattle.dali_record.specs.Settled.{redo_all, words_in}
+use Rattle.dali_record.specs.Settled.{words_in}
 use Rattle.dali_record.specs.Spelling.{record_length}
 use Rattle.dali_record.specs.declared.records.Record.{Record}
 use Rattle.dali_record.specs.declared.records.Record.TheVariants.{Format, Restarted}
 use Rattle.dali_record.proofs.Batches.{recovered_restarted}
-use Rattle.dali_record.proofs.Scans.{same_test}
 use Rattle.dali_history.specs.History.{AreSpelled, IsHistory, RestartGives}
 use Rattle.dali_history.specs.Recovered.{base_of, freed, recovered, recovered_now}
-use Rattle.dali_history.proofs.Formatted.{formatted_is_image, formatted_is_tidy}
 use Rattle.dali_history.proofs.Prefixes.{sizes_of-front}
 use Rattle.dali_history.proofs.Restarts.{IsHistory-restarted, recovered-same, sizes_of-restarted}
+use Rattle.dali_history.proofs.Bases.{base_of-restarted}
 use Rattle.dali_crash.specs.Fitting.{FitsWhole}
 use Rattle.dali_crash.specs.Starts.{IsRestarted}
 use Rattle.dali_system.specs.Images.{FitsBut}
 use Rattle.dali_system.specs.Run.{log_in}
 use Rattle.dali_crash.proofs.Fitting.{but_is_whole}
-use Rattle.dali_crash.proofs.Starts.{fresh_fits}
+use Rattle.dali_crash.proofs.Starts.{fresh_fits, nothing_redone, no_rows}
 use Rattle.dali_headline.proofs.EpochByEpoch.{recovered_holds}
 use Rattle.dali_headline.proofs.Headline.{restart_is_right}
 use Rattle.dali_headline.proofs.NothingToFree.{freed_tidy}
 use Rattle.dali_resume.specs.Again.{Outcome, closed_log, closing, outcome_is, turned}
 use Rattle.dali_resume.specs.Onward.{CrashIsAnswered, FormatFits, FormatHandsOut, Going, HandedOut, IsRightAtEnd, RestartsOnward, ResumesHistories, closed_image, formatted_outcome, goes_through, going_at, going_next, hands_on, history_says, image_now, verdict_by, verdict_of}
 use Rattle.dali_resume.specs.Tests.{first_bad, known_at, may_follow}
-use Rattle.dali_resume.proofs.Onward.{base_restarted}
 use Rattle.dali_resume.proofs.Reached.{reached}
 use Rattle.dali_resume.proofs.Through.{resumes_through}
 
@@ -73,24 +71,6 @@ resumes_histories K Z F history some front lt = (right, (restart_is_right L hist
     right = w.verdict ∙ ap HandedOut (same_outcome (hands_on (sizes_of K) (goes_through (sizes_of K) F (drop F.first (K ++ Z)))) (history_says (K ++ Z)) (w.resumed.image ∙ by_records (last_epoch (K ++ Z)).records refl) (w.resumed.rolled lt) (w.resumed.deleted lt))
 
 -- ---- a format
-abbrev no_records : List Record
-no_records = []
-
-drop_none : (k : ℕ) → drop k no_records ≡ no_records
-drop_none zero = refl
-drop_none (suc k) = refl
-
-take_none : (k : ℕ) → take k no_records ≡ no_records
-take_none zero = refl
-take_none (suc k) = refl
-
-nothing_redone : (image base : List (List ℕ)) (a b r : ℕ) → words_in image r ≡ words_in base r → words_in (redo_all image (drop a (take b []))) r ≡ words_in (redo_all base (take b [])) r
-nothing_redone image base a b r e =
-    ap (λ E. words_in (redo_all image E) r) (ap (drop a) (take_none b) ∙ drop_none a)
-    ∙ (e ∙ ap (λ E. words_in (redo_all base E) r) (sym (take_none b)))
-
-no_rows : (b : ℕ) → [] ≡ map (row_of (take b [])) (filter (λ t. not (has (ended (take b [])) t)) (begun (take b [])))
-no_rows b = ap (λ P. map (row_of P) (filter (λ t. not (has (ended P) t)) (begun P))) (sym (take_none b))
 
 pub format_fits : FormatFits
 format_fits s F some_index some_heap is = (
@@ -125,9 +105,6 @@ format_fits s F some_index some_heap is = (
     one (suc j) b h e = absurd (cc)
 
 -- ---- a restart that is stopped
-drop_whole : {X : Type 0} (xs ys : List X) → drop (length xs) (xs ++ ys) ≡ ys
-drop_whole [] ys = refl
-drop_whole (x ∷ xs) ys = drop_whole xs ys
 
 pub restarts_onward : RestartsOnward
 restarts_onward K Z F r E history some front spell full = record {
@@ -230,7 +207,7 @@ restarts_onward K Z F r E history some front spell full = record {
 
     -- the log and the image as they stand then
     base_is : base_of (sizes_of (closed_log (K ++ Z))) (closed_log (K ++ Z)) ≡ recovered (sizes_of (K ++ Z)) (K ++ Z)
-    base_is = ap (λ z. base_of z (closed_log L)) same_sizes ∙ (base_restarted (sizes_of L) L rs ds ∙ sym (ap (λ X. recovered_now (sizes_of L) (base_of (sizes_of L) L) (last_epoch L) X) full))
+    base_is = ap (λ z. base_of z (closed_log L)) same_sizes ∙ (base_of-restarted (sizes_of L) L rs ds ∙ sym (ap (λ X. recovered_now (sizes_of L) (base_of (sizes_of L) L) (last_epoch L) X) full))
 
     last : (verdict_of (sizes_of (closed_log (K ++ Z))) (turned (K ++ Z) F) (closed_log (K ++ Z) ++ []) ≡ HandedOut (history_says (closed_log (K ++ Z) ++ [])))
         × RestartGives (closed_log (K ++ Z) ++ []) (history_says (closed_log (K ++ Z) ++ [])).image (history_says (closed_log (K ++ Z) ++ [])).rolled (history_says (closed_log (K ++ Z) ++ [])).deleted
@@ -260,10 +237,10 @@ format_hands_out s F some_index some_heap is = (alone, behind)
         ∙ ap HandedOut (outcome (going_at F) is.image is.table refl refl refl)
 
     still : (going_next s F.first (going_at F) (Restarted [] [])).image ≡ formatted_image s
-    still = ap (λ b. cond (not b) (closed_image s (going_at F)) F.image) (same_test F.first F.first refl) ∙ is.image
+    still = ap (λ b. cond (not b) (closed_image s (going_at F)) F.image) (eq-eqb F.first F.first refl) ∙ is.image
 
     passes : may_follow s F.first (known_at F.first F.next F.table) (Restarted [] []) ≡ true
-    passes = rw (same_test F.first F.first refl) refl
+    passes = rw (eq-eqb F.first F.first refl) refl
 
     behind : verdict_of s F (Format s.index s.heap ∷ Restarted [] [] ∷ []) ≡ HandedOut (formatted_outcome s)
     behind = ap (λ n. verdict_by F.first (hands_on s (goes_through s F (drop n (Format s.index s.heap ∷ Restarted [] [] ∷ [])))) (first_bad s F.first (known_at F.first F.next F.table) (drop n (Format s.index s.heap ∷ Restarted [] [] ∷ [])))) is.first

@@ -2,7 +2,8 @@
 use Rattle.std.proofs.Common.{◌≡◌, ℕ, ◌+◌, ◌≤◌, ◌^◌, Bool, true, false, cond, List, [], ◌∷◌, Option, Some, None, refl, ap, sym, subst, ◌∙◌, ⊎_elim, arith}
 use Rattle.std.specs.Prelude.{not, ◌&&◌, ◌||◌, ◌==◌, nat_lt, nat_le}
 use Rattle.std.specs.List.{list_all}
-use Rattle.std.proofs.lemmas.Bool.{both_ways, false_from_ne_true, and_parts, and_from, or_left, or_right, or_cases, lt-ltb}
+use Rattle.std.proofs.lemmas.Bool.{both_ways, false_from_ne_true, and_parts, and_from, or_left, or_right, or_cases, lt-ltb, eq-eqb, eqb-true, le-leb}
+use Rattle.std.proofs.lemmas.Option.{same_Some}
 use Rattle.dali_geometry.specs.Sizes.{Sizes}
 use Rattle.dali_geometry.specs.Places.{regions}
 use Rattle.dali_record.specs.declared.operations.Block.{Block}
@@ -16,12 +17,12 @@ use Rattle.dali_record.specs.Damage.{has}
 use Rattle.dali_record.specs.Legal.{TxnState, Unbegun, Active, Committed, Over, txn_step, concerns, allowed, is_of, is_none_left, back, Rules, has_room, on_kind, runs, rules_step, rules_first, rules_behind}
 use Rattle.dali_record.specs.Files.{is_restarted}
 use Rattle.dali_record.proofs.Pushes.{txn_step-other}
-use Rattle.dali_record.proofs.Scans.{same_test, test_same, le_test}
 use Rattle.dali_record.proofs.Tracks.{Tracks, tracks_next}
 use Rattle.dali_record.proofs.Moves.{Moved, begins, alone, works, commits, leaves, frees, ends, moves}
+use Rattle.dali_record.proofs.EpochRules.{kept_if_some, some_rules}
 use Rattle.dali_resume.specs.Tests.{Status, Idle, Running, Waiting, Known, is_running, is_waiting, may_end, undoes_last, may_take_back, idle_next, running_next, waiting_next, status_next, draws_number, ends_audit, allows, may_follow, next_behind, audits_behind, failed_behind, known_next}
 use Rattle.dali_resume.proofs.Standing.{none_ended}
-use Rattle.dali_resume.proofs.Audits.{kept_some, some_rules, Changes, step_changes, behind_runs, first_refuses}
+use Rattle.dali_resume.proofs.Audits.{Changes, step_changes, behind_runs, first_refuses}
 
 -- ---- statuses
 abbrev pub status : TxnState → Status
@@ -29,9 +30,6 @@ status Unbegun = Idle
 status (Active w) = Running w.undos
 status (Committed ps) = Waiting
 status Over = Idle
-
-some_state : (x y : TxnState) → Some x ≡ Some y → x ≡ y
-some_state x y e = cc
 
 running_works : (t : ℕ) (us : List Pending) (r : Record) → separates r ≡ false → commit_by r ≡ None → has (ended (r ∷ [])) t ≡ false → running_next t us r ≡ Running (undo_step t us r)
 running_works t us (Format i h) w k e = refl
@@ -44,54 +42,25 @@ running_works t us (Ended u) w k e = let f : (u == t) ≡ false = (or_false (u =
     or_false : (a b : Bool) → (a || b) ≡ false → (a ≡ false) × (b ≡ false)
     or_false true b q = absurd (cc)
     or_false false b q = (refl, q)
-running_works t us (Solo u p b) w k e = refl
-running_works t us AuditBegin w k e = refl
-running_works t us (AuditClean b) w k e = refl
-running_works t us (AuditFail b rs) w k e = refl
 running_works t us (Restarted rs ds) w k e = absurd (cc)
-running_works t us (Back u b) w k e = refl
+running_works t us _ w k e = refl
 
 idle_quiet : (t : ℕ) (r : Record) → concerns t r ≡ false → idle_next t r ≡ Idle
-idle_quiet t (Format i h) e = refl
 idle_quiet t (Begin u) e = rw e refl
-idle_quiet t (Forward u b) e = refl
-idle_quiet t (Done u c a) e = refl
-idle_quiet t (Commit u) e = refl
-idle_quiet t (Ended u) e = refl
-idle_quiet t (Solo u p b) e = refl
-idle_quiet t AuditBegin e = refl
-idle_quiet t (AuditClean b) e = refl
-idle_quiet t (AuditFail b rs) e = refl
-idle_quiet t (Restarted rs ds) e = refl
-idle_quiet t (Back u b) e = refl
+idle_quiet t _ e = refl
 
 running_quiet : (t : ℕ) (us : List Pending) (r : Record) → concerns t r ≡ false → running_next t us r ≡ Running us
-running_quiet t us (Format i h) e = refl
-running_quiet t us (Begin u) e = refl
 running_quiet t us (Forward u b) e = rw e refl
-running_quiet t us (Done u c a) e = refl
 running_quiet t us (Commit u) e = rw e refl
 running_quiet t us (Ended u) e = rw e refl
-running_quiet t us (Solo u p b) e = refl
-running_quiet t us AuditBegin e = refl
-running_quiet t us (AuditClean b) e = refl
-running_quiet t us (AuditFail b rs) e = refl
 running_quiet t us (Restarted rs ds) e = absurd (cc)
 running_quiet t us (Back u b) e = rw e refl
+running_quiet t us _ e = refl
 
 waiting_quiet : (t : ℕ) (r : Record) → concerns t r ≡ false → waiting_next t r ≡ Waiting
-waiting_quiet t (Format i h) e = refl
-waiting_quiet t (Begin u) e = refl
-waiting_quiet t (Forward u b) e = refl
-waiting_quiet t (Done u c a) e = refl
-waiting_quiet t (Commit u) e = refl
 waiting_quiet t (Ended u) e = rw e refl
-waiting_quiet t (Solo u p b) e = refl
-waiting_quiet t AuditBegin e = refl
-waiting_quiet t (AuditClean b) e = refl
-waiting_quiet t (AuditFail b rs) e = refl
 waiting_quiet t (Restarted rs ds) e = absurd (cc)
-waiting_quiet t (Back u b) e = refl
+waiting_quiet t _ e = refl
 
 status_quiet : (t : ℕ) (x : TxnState) (r : Record) → concerns t r ≡ false → status_next t (status x) r ≡ status x
 status_quiet t Unbegun r e = idle_quiet t r e
@@ -103,7 +72,7 @@ pub status_step : (s : Sizes) (t : ℕ) (x y : TxnState) (r : Record) → separa
 status_step s t x y r within e = by_concern (concerns t r) refl
   where
     here : (t == t) ≡ true
-    here = same_test t t refl
+    here = eq-eqb t t refl
 
     by_move : Moved t x r y → status_next t (status x) r ≡ status y
     by_move (begins w a b c) =
@@ -122,11 +91,11 @@ status_step s t x y r within e = by_concern (concerns t r) refl
 
     by_concern : (k : Bool) → concerns t r ≡ k → status_next t (status x) r ≡ status y
     by_concern true f = by_move (moves s t x r y f within e)
-    by_concern false f = status_quiet t x r f ∙ ap status (some_state x y (sym (txn_step-other s t x r f) ∙ e))
+    by_concern false f = status_quiet t x r f ∙ ap status (same_Some x y (sym (txn_step-other s t x r f) ∙ e))
 
 -- ---- what a record asks of its transaction
 refused : {A : Type 0} (t : ℕ) (o : Option TxnState) (y : TxnState) → allowed (not (t == t)) o ≡ Some y → A
-refused t o y e = let g : allowed false o ≡ Some y = rw (same_test t t refl) at e in absurd (cc)
+refused t o y e = let g : allowed false o ≡ Some y = rw (eq-eqb t t refl) at e in absurd (cc)
 
 forward_runs : (s : Sizes) (t : ℕ) (b : Block) (x y : TxnState) → txn_step s t x (Forward t b) ≡ Some y → is_running (status x) ≡ true
 forward_runs s t b Unbegun y e = refused t _ y e
@@ -142,7 +111,7 @@ done_runs s t r Over y a b c e = refused t _ y (sym c ∙ e)
 
 back_takes : (s : Sizes) (t : ℕ) (b : Block) (x y : TxnState) → txn_step s t x (Back t b) ≡ Some y → may_take_back (status x) b ≡ true
 back_takes s t b Unbegun y e = refused t _ y e
-back_takes s t b (Active w) y e = let g : back w b (last_of w.undos) ≡ Some y = rw (same_test t t refl) at e in by_last (last_of w.undos) g
+back_takes s t b (Active w) y e = let g : back w b (last_of w.undos) ≡ Some y = rw (eq-eqb t t refl) at e in by_last (last_of w.undos) g
   where
     is_allowed : (c : Bool) (o : Option TxnState) → allowed c o ≡ Some y → c ≡ true
     is_allowed true o q = refl
@@ -156,7 +125,7 @@ back_takes s t b Over y e = refused t _ y e
 
 ended_ends : (s : Sizes) (t : ℕ) (x y : TxnState) → txn_step s t x (Ended t) ≡ Some y → may_end (status x) ≡ true
 ended_ends s t Unbegun y e = refused t _ y e
-ended_ends s t (Active w) y e = let g : allowed (is_none_left w.undos) (Some Over) ≡ Some y = rw (same_test t t refl) at e in is_allowed (is_none_left w.undos) (Some Over) g
+ended_ends s t (Active w) y e = let g : allowed (is_none_left w.undos) (Some Over) ≡ Some y = rw (eq-eqb t t refl) at e in is_allowed (is_none_left w.undos) (Some Over) g
   where
     is_allowed : (c : Bool) (o : Option TxnState) → allowed c o ≡ Some y → c ≡ true
     is_allowed true o q = refl
@@ -197,46 +166,46 @@ module _ (s : Sizes) (n : ℕ) (g : Known) (h k : Rules) (x y : ℕ → TxnState
   running t e = ap is_running (rel.statuses t) ∙ e
 
   draws : (t m : ℕ) → (t == h.next) ≡ true → k.next ≡ h.next + 1 → draws_number g t ≡ true
-  draws t m e f = let same : t ≡ h.next = test_same t h.next e in and_from (nat_lt t (2 ^ 40)) (nat_le g.next t) (lt-ltb t (2 ^ 40) (omega (arith, same, f, small))) (le_test g.next t (omega (arith, rel.next, same)))
+  draws t m e f = let same : t ≡ h.next = eqb-true t h.next e in and_from (nat_lt t (2 ^ 40)) (nat_le g.next t) (lt-ltb t (2 ^ 40) (omega (arith, same, f, small))) (le-leb g.next t (omega (arith, rel.next, same)))
 
   pub plain_allows : (r : Record) → separates r ≡ false → runs s h r ≡ Some k → ((t : ℕ) → txn_step s t (x t) r ≡ Some (y t)) → allows s n g r ≡ true
   plain_allows (Format i j) w e step = absurd (cc)
-  plain_allows (Begin t) w e step = let q = kept_some _ _ k e in draws t 0 (and_parts (t == h.next) (has_room h (Begin t)) q.0).0 (ap (λ (z : Rules). z.next) q.1)
+  plain_allows (Begin t) w e step = let q = kept_if_some _ _ k e in draws t 0 (and_parts (t == h.next) (has_room h (Begin t)) q.0).0 (ap (λ (z : Rules). z.next) q.1)
   plain_allows (Forward t b) w e step =
-      let q = kept_some _ _ k e in
+      let q = kept_if_some _ _ k e in
       and_from (is_running (g.statuses t)) (on_kind s b.region b.op) (running t (forward_runs s t b (x t) (y t) (step t))) (and_parts (on_kind s b.region b.op) (has_room h (Forward t b)) q.0).0
   plain_allows (Done t c a) w e step = running t (done_runs s t (Done t c a) (x t) (y t) (λ o. refl) (λ ps. refl) refl (step t))
   plain_allows (Commit t) w e step = running t (done_runs s t (Commit t) (x t) (y t) (λ o. refl) (λ ps. refl) refl (step t))
   plain_allows (Ended t) w e step = ap may_end (rel.statuses t) ∙ ended_ends s t (x t) (y t) (step t)
   plain_allows (Solo t p b) w e step =
-      let q = kept_some _ _ k e in
+      let q = kept_if_some _ _ k e in
       let both = and_parts (t == h.next) (on_kind s b.region b.op) q.0 in
       and_from (draws_number g t) (is_waiting (g.statuses p) && on_kind s b.region b.op) (draws t 0 both.0 (ap (λ (z : Rules). z.next) q.1))
       (and_from (is_waiting (g.statuses p)) (on_kind s b.region b.op) (ap is_waiting (rel.statuses p) ∙ parent_waits s t p b (x p) (y p) (step p)) both.1)
   plain_allows AuditBegin w e step = refl
-  plain_allows (AuditClean b) w e step = let q = kept_some _ _ k e in rel.audits b (and_parts (has h.audits b) (not (has h.closed b)) q.0).0
+  plain_allows (AuditClean b) w e step = let q = kept_if_some _ _ k e in rel.audits b (and_parts (has h.audits b) (not (has h.closed b)) q.0).0
   plain_allows (AuditFail b rs) w e step =
-      let q = kept_some _ _ k e in
+      let q = kept_if_some _ _ k e in
       let p = and_parts (has h.audits b && not (has h.closed b)) (list_all (λ r. nat_lt r (regions s)) rs) q.0 in
       and_from (ends_audit n g b) (list_all (λ r. nat_lt r (regions s)) rs) (rel.audits b (and_parts (has h.audits b) (not (has h.closed b)) p.0).0) p.1
   plain_allows (Restarted rs ds) w e step = absurd (cc)
   plain_allows (Back t b) w e step =
-      let q = kept_some _ _ k e in
+      let q = kept_if_some _ _ k e in
       and_from (may_take_back (g.statuses t) b) (on_kind s b.region b.op) (ap (λ z. may_take_back z b) (rel.statuses t) ∙ back_takes s t b (x t) (y t) (step t)) q.0
 
   next_runs : (r : Record) → separates r ≡ false → runs s h r ≡ Some k → next_behind g.next r ≡ k.next
   next_runs (Format i j) w e = absurd (cc)
-  next_runs (Begin t) w e = let q = kept_some _ _ k e in omega (arith, test_same t h.next (and_parts (t == h.next) (has_room h (Begin t)) q.0).0, ap (λ (z : Rules). z.next) q.1)
-  next_runs (Forward t b) w e = rel.next ∙ sym (ap (λ (z : Rules). z.next) (kept_some _ _ k e).1)
-  next_runs (Done t c a) w e = rel.next ∙ sym (ap (λ (z : Rules). z.next) (kept_some _ _ k e).1)
+  next_runs (Begin t) w e = let q = kept_if_some _ _ k e in omega (arith, eqb-true t h.next (and_parts (t == h.next) (has_room h (Begin t)) q.0).0, ap (λ (z : Rules). z.next) q.1)
+  next_runs (Forward t b) w e = rel.next ∙ sym (ap (λ (z : Rules). z.next) (kept_if_some _ _ k e).1)
+  next_runs (Done t c a) w e = rel.next ∙ sym (ap (λ (z : Rules). z.next) (kept_if_some _ _ k e).1)
   next_runs (Commit t) w e = rel.next ∙ sym (ap (λ (z : Rules). z.next) (some_rules _ k e))
   next_runs (Ended t) w e = rel.next ∙ sym (ap (λ (z : Rules). z.next) (some_rules _ k e))
-  next_runs (Solo t p b) w e = let q = kept_some _ _ k e in omega (arith, test_same t h.next (and_parts (t == h.next) (on_kind s b.region b.op) q.0).0, ap (λ (z : Rules). z.next) q.1)
-  next_runs AuditBegin w e = rel.next ∙ sym (ap (λ (z : Rules). z.next) (kept_some _ _ k e).1)
-  next_runs (AuditClean b) w e = rel.next ∙ sym (ap (λ (z : Rules). z.next) (kept_some _ _ k e).1)
-  next_runs (AuditFail b rs) w e = rel.next ∙ sym (ap (λ (z : Rules). z.next) (kept_some _ _ k e).1)
+  next_runs (Solo t p b) w e = let q = kept_if_some _ _ k e in omega (arith, eqb-true t h.next (and_parts (t == h.next) (on_kind s b.region b.op) q.0).0, ap (λ (z : Rules). z.next) q.1)
+  next_runs AuditBegin w e = rel.next ∙ sym (ap (λ (z : Rules). z.next) (kept_if_some _ _ k e).1)
+  next_runs (AuditClean b) w e = rel.next ∙ sym (ap (λ (z : Rules). z.next) (kept_if_some _ _ k e).1)
+  next_runs (AuditFail b rs) w e = rel.next ∙ sym (ap (λ (z : Rules). z.next) (kept_if_some _ _ k e).1)
   next_runs (Restarted rs ds) w e = absurd (cc)
-  next_runs (Back t b) w e = rel.next ∙ sym (ap (λ (z : Rules). z.next) (kept_some _ _ k e).1)
+  next_runs (Back t b) w e = rel.next ∙ sym (ap (λ (z : Rules). z.next) (kept_if_some _ _ k e).1)
 
   old_audits : k.audits ≡ h.audits → (b : ℕ) → has k.audits b ≡ true → ends_audit n g b ≡ true
   old_audits same b e = rel.audits b (subst (λ z. has z b ≡ true) same e)

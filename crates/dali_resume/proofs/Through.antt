@@ -3,11 +3,13 @@ use Rattle.dali_record.specs.Settled.{redo_all}
 use Rattle.std.specs.List.{list_any}
 use Rattle.std.specs.Prelude.{IsNone, IsSome, fold, not, sum_by, ◌&&◌, ◌||◌, ◌==◌}
 use Rattle.std.proofs.Common.{Bool, List, None, Option, Some, ap, append_assoc, arith, cond, drop, false, length, refl, subst, sym, take, true, ℕ, ◌+◌, ◌≡◌, ◌∷◌, ◌++◌, ◌∙◌, ◌<◌, []}
-use Rattle.std.proofs.lemmas.Bool.{and_parts, both_ways, false_from_ne_true}
+use Rattle.std.proofs.lemmas.Bool.{and_parts, both_ways, false_from_ne_true, eqb-true, or_parts}
 use Rattle.std.proofs.lemmas.List.{append-nil, drop-append-le, length-append, take-append-drop, take-append-le}
 use Rattle.std.proofs.lemmas.List.Sums.{fold-append, sum_by-append}
+use Rattle.dali_lists.proofs.Options.{some_of}
 use Rattle.dali_geometry.specs.Places.{formatted_image}
 use Rattle.dali_geometry.specs.Sizes.{Sizes}
+use Rattle.dali_index.proofs.Forms.{formatted_is_image, formatted_is_tidy}
 use Rattle.dali_record.specs.Damage.{deleted_list, rolled_list}
 use Rattle.dali_record.specs.Epochs.{Cut, Epoch, cut, last_epoch, recovered_epoch, separates}
 use Rattle.dali_record.specs.Files.{Files, is_restarted, with_batch}
@@ -18,13 +20,10 @@ use Rattle.dali_record.specs.declared.records.Record.TheVariants.{AuditBegin, Au
 use Rattle.dali_record.proofs.Batches.{fits_more, fits_restarted, last_push}
 use Rattle.dali_record.proofs.EpochRules.{format_first, rules_before}
 use Rattle.dali_record.proofs.Pushes.{cut_push}
-use Rattle.dali_record.proofs.Scans.{test_same}
 use Rattle.dali_history.specs.History.{AreSpelled}
 use Rattle.dali_history.specs.Recovered.{base_of, recover, recovered_now}
-use Rattle.dali_history.proofs.Formatted.{formatted_is_image, formatted_is_tidy}
 use Rattle.dali_history.proofs.Prefixes.{IsLegalFor-front}
 use Rattle.dali_history.proofs.Spelled.{AreSpelled-front}
-use Rattle.dali_counts.proofs.Lists.{or_false}
 use Rattle.dali_counts.proofs.Tallies.{numbers, numbers_drawn, tallies}
 use Rattle.dali_crash.specs.Fitting.{FitsWhole}
 use Rattle.dali_headline.proofs.NothingToFree.{recover_nothing}
@@ -33,7 +32,7 @@ use Rattle.dali_resume.specs.Onward.{FitsFront, Going, HandedOut, IsResumed, Lis
 use Rattle.dali_resume.specs.Refused.{follows}
 use Rattle.dali_resume.specs.Resumed.{damage_from, deleted_by, rolled_by, scan}
 use Rattle.dali_resume.specs.Tests.{Known, allows, first_bad, known_at, known_next, same_numbers, tells_lists, test_next, tests}
-use Rattle.dali_resume.proofs.Onward.{Open, Passed, open_deleted, open_recovers, open_rolled, opens, passes_on, plain_closed, restart_rule, some_is, open_kept}
+use Rattle.dali_resume.proofs.Onward.{Open, Passed, open_deleted, open_recovers, open_rolled, opens, passes_on, plain_closed, restart_rule, open_kept}
 use Rattle.dali_resume.proofs.Passes.{passes_tests}
 use Rattle.dali_resume.proofs.Reached.{Reached, knows_alike, reached}
 use Rattle.dali_resume.proofs.Reading.{IsEnd}
@@ -59,8 +58,8 @@ closed_within : (X Y : List Record) → list_any separates Y ≡ false → (cut 
 closed_within X [] h = ap (λ M. (cut M).closed) (append-nil X)
 closed_within X (r ∷ Y) h =
     ap (λ M. (cut M).closed) (sym (append_assoc X (r ∷ []) Y))
-    ∙ (closed_within (X ++ r ∷ []) Y (or_false (separates r) (list_any separates Y) h).1
-    ∙ (ap (λ (c : Cut). c.closed) (cut_push X r) ∙ plain_closed (cut X) r (or_false (separates r) (list_any separates Y) h).0))
+    ∙ (closed_within (X ++ r ∷ []) Y (or_parts (separates r) (list_any separates Y) h).1
+    ∙ (ap (λ (c : Cut). c.closed) (cut_push X r) ∙ plain_closed (cut X) r (or_parts (separates r) (list_any separates Y) h).0))
 
 base_within : (s : Sizes) (X Y : List Record) → list_any separates Y ≡ false → base_of s (X ++ Y) ≡ base_of s X
 base_within s X Y h = ap (fold (recover s) (formatted_image s)) (closed_within X Y h)
@@ -141,7 +140,7 @@ only_format s K rs ds legal some none = by_last (last_of_log K some)
         by_kind : (r : Record) → K ≡ w.0 ++ r ∷ [] → (i : ℕ) × (h : ℕ) × (K ≡ Format i h ∷ [])
         by_kind (Format i h) is =
             let front : IsLegalFor s K = IsLegalFor-front s K (Restarted rs ds ∷ []) legal in
-            let g = some_is (rules_state s (w.0 ++ Format i h ∷ [])) (subst (λ M. IsSome (rules_state s M)) is front.rules) in
+            let g = some_of (rules_state s (w.0 ++ Format i h ∷ [])) (subst (λ M. IsSome (rules_state s M)) is front.rules) in
             (i, h, is ∙ ap (λ X. X ++ Format i h ∷ []) (format_first s w.0 i h g.0 g.1))
         by_kind (Begin t) is = plain (Begin t) refl is
         by_kind (Forward t b) is = plain (Forward t b) refl is
@@ -153,7 +152,7 @@ only_format s K rs ds legal some none = by_last (last_of_log K some)
         by_kind (AuditClean b) is = plain (AuditClean b) refl is
         by_kind (AuditFail b fs) is = plain (AuditFail b fs) refl is
         by_kind (Restarted us vs) is =
-            let h = some_is (rules_state s (K ++ Restarted rs ds ∷ [])) legal.rules in
+            let h = some_of (rules_state s (K ++ Restarted rs ds ∷ [])) legal.rules in
             let b = rules_before s K (Restarted rs ds) h.0 h.1 in
             let a = rules_before s w.0 (Restarted us vs) b.0 (subst (λ M. rules_state s M ≡ Some b.0) is b.1) in
             let twice : b.0.restarted ≡ true = ap (λ (z : Rules). z.restarted) (restart_rule s a.0 b.0 us vs a.2).1 in
@@ -213,7 +212,7 @@ module _ (s : Sizes) (some_index : 0 < s.index) (some_heap : 0 < s.heap) (K : Li
         by_place : (b : Bool) → ((goes_through s F (drop F.first K)).known.number == F.first) ≡ b → cond (not b) (closed_image s (goes_through s F (drop F.first K))) (goes_through s F (drop F.first K)).image ≡ recover s (base_of s K) (last_epoch K)
         by_place false q = w.closes
         by_place true q =
-            let at : F.first ≡ length K = omega (arith, test_same c.known.number n q, w.number) in
+            let at : F.first ≡ length K = omega (arith, eqb-true c.known.number n q, w.number) in
             let still = w.still at in
             let format = only_format s K rs ds legal_next some still.1 in
             still.0 ∙ as_formatted (base_of s K) (base_format format.0 format.1 format.2) still.1
@@ -263,7 +262,7 @@ module _ (s : Sizes) (some_index : 0 < s.index) (some_heap : 0 < s.heap) (K : Li
   onward (Format i h ∷ Z) end legal spelled =
       let parts : (K ++ Format i h ∷ []) ++ Z ≡ K ++ Format i h ∷ Z = append_assoc K (Format i h ∷ []) Z in
       let front : IsLegalFor s (K ++ Format i h ∷ []) = IsLegalFor-front s (K ++ Format i h ∷ []) Z (subst (IsLegalFor s) (sym parts) legal) in
-      let g = some_is (rules_state s (K ++ Format i h ∷ [])) front.rules in
+      let g = some_of (rules_state s (K ++ Format i h ∷ [])) front.rules in
       absurd (omega (arith, some, ap length (format_first s K i h g.0 g.1)))
   onward (Begin t ∷ Z) end legal spelled = absurd (cc)
   onward (Forward t b ∷ Z) end legal spelled = absurd (cc)
@@ -308,13 +307,13 @@ resumes_through s K Z F some_index some_heap fit some legal spelled =
     whole = ap (sum_by record_length) (sym (take-append-drop F.first (K ++ Z))) ∙ sum_by-append record_length (take F.first (K ++ Z)) (drop F.first (K ++ Z))
 
 -- ---- the lists of a Restarted that may follow
-numbers_same : (xs ys : List ℕ) → same_numbers xs ys ≡ true → xs ≡ ys
+pub numbers_same : (xs ys : List ℕ) → same_numbers xs ys ≡ true → xs ≡ ys
 numbers_same [] [] h = refl
 numbers_same [] (y ∷ ys) h = absurd (cc)
 numbers_same (x ∷ xs) [] h = absurd (cc)
 numbers_same (x ∷ xs) (y ∷ ys) h =
     let w = and_parts (x == y) (same_numbers xs ys) h in
-    ap (λ z. z ∷ xs) (test_same x y w.0) ∙ ap (λ zs. y ∷ zs) (numbers_same xs ys w.1)
+    ap (λ z. z ∷ xs) (eqb-true x y w.0) ∙ ap (λ zs. y ∷ zs) (numbers_same xs ys w.1)
 
 pub lists_are_tested : ListsAreTested
 lists_are_tested s K Z F rs ds some_index some_heap fit some legal spelled before follows = (numbers_same rs (rolled_by g.table g.seen) both.0 ∙ w.rolled, numbers_same ds (deleted_by g.table g.seen (scan (damage_from g.first g.seen) g.table g.seen)) both.1 ∙ w.deleted)
@@ -326,7 +325,7 @@ lists_are_tested s K Z F rs ds some_index some_heap fit some legal spelled befor
     w = (through s K Z F some_index some_heap fit some legal spelled).1
 
     away : ((goes_through s F (drop F.first (K ++ Z))).known.number == F.first) ≡ false
-    away = false_from_ne_true ((goes_through s F (drop F.first (K ++ Z))).known.number == F.first) (λ q. omega (arith, test_same (goes_through s F (drop F.first (K ++ Z))).known.number F.first q, w.number, before))
+    away = false_from_ne_true ((goes_through s F (drop F.first (K ++ Z))).known.number == F.first) (λ q. omega (arith, eqb-true (goes_through s F (drop F.first (K ++ Z))).known.number F.first q, w.number, before))
 
     tells : (a : Bool) → (a || tells_lists (goes_through s F (drop F.first (K ++ Z))).known rs ds) ≡ true → a ≡ false → tells_lists (goes_through s F (drop F.first (K ++ Z))).known rs ds ≡ true
     tells true h q = absurd (cc)

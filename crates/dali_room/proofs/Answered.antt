@@ -5,6 +5,7 @@ use Rattle.std.specs.List.{cons_option}
 use Rattle.std.proofs.lemmas.Bool.{eq-eqb}
 use Rattle.std.proofs.lemmas.List.Sums.{sum_by-cons, fold_push}
 use Rattle.std.proofs.lemmas.List.Elements.{Contains-push_cases, Contains-push, filter_map-append, Contains-append_left}
+use Rattle.dali_lists.proofs.Options.{some_of}
 use Rattle.dali_geometry.specs.Sizes.{Sizes}
 use Rattle.dali_record.specs.declared.operations.Block.{Block}
 use Rattle.dali_record.specs.declared.records.Record.{Record}
@@ -20,7 +21,7 @@ use Rattle.dali_history.proofs.Members.{has_from_Contains}
 use Rattle.dali_kept.specs.Kept.{kept_state, kept_step, KeepsCalls}
 use Rattle.dali_kept.proofs.WithoutLast.{HasEnded, kept_before, calls_before, sound_before}
 use Rattle.dali_kept.proofs.Invariant.{Knows}
-use Rattle.dali_kept.proofs.InvariantAlong.{some_is, forward_state}
+use Rattle.dali_kept.proofs.InvariantAlong.{forward_state}
 use Rattle.dali_kept.proofs.InvariantSteps.{state_step, known_push}
 use Rattle.dali_room.specs.Room.{cell_by, entry_by, cells_taken, entries_taken, inserts_of, steady_next, IsSteady}
 use Rattle.dali_room.proofs.Steps.{Stepped, stays, begins, goes, backs, answers, commits, ends, closes, frees, alone, restarts, stepped}
@@ -46,7 +47,7 @@ module _ (s : Sizes) (base : List (List ℕ)) (t : ℕ) (takes : Block → ℕ) 
   tallies_push J r ih calls sound inside y e back' f = by_steady (fold (steady_next t) (Some false) J) refl (sym (fold_push (steady_next t) (Some false) J r) ∙ f)
     where
       was : (x : TxnState) × (kept_state s t J ≡ Some x)
-      was = some_is (kept_state s t J) (kept_before s t J r (calls.txns t))
+      was = some_of (kept_state s t J) (kept_before s t J r (calls.txns t))
 
       step : Stepped s t was.0 r y
       step = stepped s t was.0 r y (state_step s t J r was.0 y was.1 e)
@@ -74,7 +75,7 @@ runs_begun_push : (s : Sizes) (J : List Record) (r : Record) → RunsBegun s J �
 runs_begun_push s J r ih calls t v e = go (stepped s t was.0 r (Active v) (state_step s t J r was.0 (Active v) was.1 e))
   where
     was : (x : TxnState) × (kept_state s t J ≡ Some x)
-    was = some_is (kept_state s t J) (kept_before s t J r (calls.txns t))
+    was = some_of (kept_state s t J) (kept_before s t J r (calls.txns t))
 
     old : (w : Working) → was.0 ≡ Active w → Contains (begun (J ++ r ∷ [])) t
     old w f = begun_more J r t (ih (calls_before s J r calls) t w (was.1 ∙ ap (λ z. Some z) f))
@@ -103,10 +104,10 @@ works_begun_push : (s : Sizes) (J : List Record) (r : Record) → WorksBegun s J
 works_begun_push s J r ih calls u b h = begun_more J r u (⊎_elim (λ old. ih (calls_before s J r calls) u b old) new (Contains-push_cases J r (Forward u b) h))
   where
     was : (x : TxnState) × (kept_state s u J ≡ Some x)
-    was = some_is (kept_state s u J) (kept_before s u J r (calls.txns u))
+    was = some_of (kept_state s u J) (kept_before s u J r (calls.txns u))
 
     is : (x : TxnState) × (kept_state s u (J ++ r ∷ []) ≡ Some x)
-    is = some_is (kept_state s u (J ++ r ∷ [])) (calls.txns u)
+    is = some_of (kept_state s u (J ++ r ∷ [])) (calls.txns u)
 
     new : r ≡ Forward u b → Contains (begun J) u
     new same =
@@ -156,7 +157,7 @@ module _ (s : Sizes) (base : List (List ℕ)) (E : List Record) (calls : KeepsCa
   committed_few takes pend tells t c = go (kept_state s t E) refl (calls.txns t) (known_along s E calls t)
     where
       back : (b : Bool) × (fold (steady_next t) (Some false) E ≡ Some b)
-      back = some_is (fold (steady_next t) (Some false) E) (steady t)
+      back = some_of (fold (steady_next t) (Some false) E) (steady t)
 
       is : has (committed E) t ≡ true
       is = has_from_Contains (committed E) t c

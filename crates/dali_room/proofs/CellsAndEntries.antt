@@ -27,7 +27,7 @@ use Rattle.dali_record.specs.declared.operations.Block.{Block}
 use Rattle.dali_record.specs.declared.records.Call.{Call}
 use Rattle.dali_record.specs.declared.records.Call.TheVariants.{Insert, Update, Delete, Get}
 use Rattle.dali_record.specs.declared.records.Answer.{Answer}
-use Rattle.dali_record.specs.declared.records.Answer.TheVariants.{Ok as AnswerOk, Exists, Missing, Got, FullHeap, FullIndex, Odd}
+use Rattle.dali_record.specs.declared.records.Answer.TheVariants.{Ok as AnswerOk, Got, FullHeap, FullIndex, Odd}
 use Rattle.dali_record.specs.Blocks.{IsSoundOn}
 use Rattle.dali_record.specs.Log.{undo_added}
 use Rattle.dali_record.specs.Operations.{effect, looked, added, undo_of_add, killed, stored, undo_of_put, read, changed}
@@ -148,12 +148,7 @@ module _ (s : Sizes) (b : Block) where
 
 cell_few : (k : ℕ) (v : List ℕ) (a : Answer) → cell_kept (Insert k v) a ≤ 1
 cell_few k v AnswerOk = omega arith
-cell_few k v Exists = omega arith
-cell_few k v Missing = omega arith
-cell_few k v (Got w) = omega arith
-cell_few k v FullHeap = omega arith
-cell_few k v FullIndex = omega arith
-cell_few k v (Odd p) = omega arith
+cell_few k v _ = omega arith
 
 cell_call : (d c : Call) (a : Answer) → same_call d c ≡ true → cell_kept d a ≤ one_if (is_insert c)
 cell_call (Insert k v) (Insert l w) a e = cell_few k v a
@@ -165,14 +160,9 @@ cell_call (Delete k) c a e = omega arith
 cell_call (Get k) c a e = omega arith
 
 cell_answered : (s : Sizes) (p : Progress) (c : Call) (a : Answer) → answers s p c a ≡ true → cell_pends p ≤ one_if (is_insert c)
-cell_answered s Fresh c a e = omega arith
-cell_answered s (Walking key region looked) c a e = omega arith
-cell_answered s (Nowhere key) c a e = omega arith
-cell_answered s (Somewhere key region entry at) c a e = omega arith
-cell_answered s (Storing key v region tried) c a e = omega arith
 cell_answered s (Adding key v at region tried) c a e = absurd (cc (e))
-cell_answered s (Removing key region entry at) c a e = omega arith
 cell_answered s (Finished d b) c a e = cell_call d c b (and_parts (same_call d c) (same_answer b a) e).0
+cell_answered s _ c a e = omega arith
 
 -- an operation that takes one leaves an undo
 cell_undone : (ws : List ℕ) (b : Block) → IsSoundOn ws b → takes_cell b ≤ length (undo_added b b.undo)
@@ -342,12 +332,7 @@ module _ (s : Sizes) (b : Block) where
 
 entry_few : (k : ℕ) (v : List ℕ) (a : Answer) → entry_kept (Insert k v) a ≤ 1
 entry_few k v AnswerOk = omega arith
-entry_few k v Exists = omega arith
-entry_few k v Missing = omega arith
-entry_few k v (Got w) = omega arith
-entry_few k v FullHeap = omega arith
-entry_few k v FullIndex = omega arith
-entry_few k v (Odd p) = omega arith
+entry_few k v _ = omega arith
 
 entry_call : (d c : Call) (a : Answer) → same_call d c ≡ true → entry_kept d a ≤ one_if (is_insert c)
 entry_call (Insert k v) (Insert l w) a e = entry_few k v a
@@ -359,14 +344,9 @@ entry_call (Delete k) c a e = omega arith
 entry_call (Get k) c a e = omega arith
 
 entry_answered : (s : Sizes) (p : Progress) (c : Call) (a : Answer) → answers s p c a ≡ true → entry_pends p ≤ one_if (is_insert c)
-entry_answered s Fresh c a e = omega arith
-entry_answered s (Walking key region looked) c a e = omega arith
-entry_answered s (Nowhere key) c a e = omega arith
-entry_answered s (Somewhere key region entry at) c a e = omega arith
-entry_answered s (Storing key v region tried) c a e = omega arith
 entry_answered s (Adding key v at region tried) c a e = absurd (cc (e))
-entry_answered s (Removing key region entry at) c a e = omega arith
 entry_answered s (Finished d b) c a e = entry_call d c b (and_parts (same_call d c) (same_answer b a) e).0
+entry_answered s _ c a e = omega arith
 
 -- an operation that takes one leaves an undo
 entry_undone : (ws : List ℕ) (b : Block) → IsSoundOn ws b → takes_entry b ≤ length (undo_added b b.undo)

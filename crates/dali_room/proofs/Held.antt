@@ -6,6 +6,7 @@ use Rattle.std.proofs.Common.{◌≡◌, ℕ, Bool, true, false, List, [], ◌�
 use Rattle.std.specs.Prelude.{⊤, Contains, filter_map}
 use Rattle.std.proofs.lemmas.Bool.{and_parts}
 use Rattle.std.proofs.lemmas.List.Elements.{Contains-push, Contains-push_cases, filter_map-append}
+use Rattle.dali_lists.proofs.Options.{some_of}
 use Rattle.dali_geometry.specs.Sizes.{Sizes}
 use Rattle.dali_geometry.specs.Places.{is_index, formatted_image}
 use Rattle.dali_record.specs.declared.operations.Op.{Op}
@@ -41,7 +42,7 @@ use Rattle.dali_kept.specs.Kept.{kept_state, kept_step, KeepsCalls}
 use Rattle.dali_kept.proofs.WithoutLast.{kept_before, calls_before, sound_before}
 use Rattle.dali_kept.proofs.OperationsKeep.{Forwards, forward_is, gone_on, started}
 use Rattle.dali_kept.proofs.KnownTxns.{back_is, is_allowed}
-use Rattle.dali_kept.proofs.InvariantAlong.{some_is, forward_state, back_state, done_state, region_within, image_region, is_of_is}
+use Rattle.dali_kept.proofs.InvariantAlong.{forward_state, back_state, done_state, region_within, image_region, is_of_is}
 use Rattle.dali_kept.proofs.InvariantSteps.{state_step}
 use Rattle.dali_room.specs.Room.{cell_in, entry_in, cell_by, entry_by, cells_taken, entries_taken}
 use Rattle.dali_room.proofs.Slots.{IsTaken, TakesSlot, Revives, IsBackward, IsUsed, does_take, does_remove, used_taken, backward_take, formatted_free, no_cell, no_entry}
@@ -117,10 +118,7 @@ there_last s J (q ∷ r ∷ ps) p e h m = there_last s J (r ∷ ps) p e h.1 m
 
 backward_undo : (d : Undo) → IsBackward (undo_op d)
 backward_undo (UndoFreeCell c) = tt
-backward_undo (UndoReviveCell c) = tt
-backward_undo (UndoRestore c n vs) = tt
-backward_undo (UndoFreeEntry c) = tt
-backward_undo (UndoReviveEntry c) = tt
+backward_undo _ = tt
 
 revived : (d : Undo) (i : ℕ) → Revives (undo_op d) i → (is_removal d ≡ true) × (slot_of d ≡ i)
 revived (UndoFreeCell c) i h = absurd h
@@ -131,17 +129,11 @@ revived (UndoReviveEntry c) i h = (refl, h)
 
 backward_freeing : (d : Undo) → IsBackward (freeing_op d)
 backward_freeing (UndoFreeCell c) = tt
-backward_freeing (UndoReviveCell c) = tt
-backward_freeing (UndoRestore c n vs) = tt
-backward_freeing (UndoFreeEntry c) = tt
-backward_freeing (UndoReviveEntry c) = tt
+backward_freeing _ = tt
 
 freeing_revives : (d : Undo) (i : ℕ) → Revives (freeing_op d) i → ⊥
 freeing_revives (UndoFreeCell c) i h = h
-freeing_revives (UndoReviveCell c) i h = h
-freeing_revives (UndoRestore c n vs) i h = h
-freeing_revives (UndoFreeEntry c) i h = h
-freeing_revives (UndoReviveEntry c) i h = h
+freeing_revives _ i h = h
 
 -- ---- answers
 not_nowhere : (key : ℕ) (c : Call) (a : Answer) → takes_back a ≡ true → answers_nowhere key c a ≡ true → ⊥
@@ -181,22 +173,12 @@ index_nowhere s key at (Delete k) e = cc (e)
 index_nowhere s key at (Get k) e = cc (e)
 
 heap_answer : (b : Answer) → same_answer b FullHeap ≡ true → b ≡ FullHeap
-heap_answer AnswerOk e = absurd (cc (e))
-heap_answer Exists e = absurd (cc (e))
-heap_answer Missing e = absurd (cc (e))
-heap_answer (Got v) e = absurd (cc (e))
 heap_answer FullHeap e = refl
-heap_answer FullIndex e = absurd (cc (e))
-heap_answer (Odd p) e = absurd (cc (e))
+heap_answer _ e = absurd (cc (e))
 
 index_answer : (b : Answer) → same_answer b FullIndex ≡ true → b ≡ FullIndex
-index_answer AnswerOk e = absurd (cc (e))
-index_answer Exists e = absurd (cc (e))
-index_answer Missing e = absurd (cc (e))
-index_answer (Got v) e = absurd (cc (e))
-index_answer FullHeap e = absurd (cc (e))
 index_answer FullIndex e = refl
-index_answer (Odd p) e = absurd (cc (e))
+index_answer _ e = absurd (cc (e))
 
 answer_told : (s : Sizes) (J : List Record) (p : Progress) (c : Call) (a : Answer) → answers s p c a ≡ true → Seen s J p → Told s J a
 answer_told s J p c AnswerOk e h = tt
@@ -291,10 +273,10 @@ module _ (s : Sizes) (base : List (List ℕ)) (J : List Record) (image : IsImage
       fine = touch_fine s base J (Forward u b) (record { txn = u; owner = u; block = b }) image calls refl (sound_before base J (Forward u b) sound).1
 
       was : (y : TxnState) × (kept_state s u J ≡ Some y)
-      was = some_is (kept_state s u J) (kept_before s u J (Forward u b) (calls.txns u))
+      was = some_of (kept_state s u J) (kept_before s u J (Forward u b) (calls.txns u))
 
       is : (y : TxnState) × (kept_state s u (J ++ Forward u b ∷ []) ≡ Some y)
-      is = some_is (kept_state s u (J ++ Forward u b ∷ [])) (calls.txns u)
+      is = some_of (kept_state s u (J ++ Forward u b ∷ [])) (calls.txns u)
 
       forward : IsForward b.op
       forward =
@@ -312,10 +294,10 @@ module _ (s : Sizes) (base : List (List ℕ)) (J : List Record) (image : IsImage
       fine = touch_fine s base J (Solo u o b) (record { txn = u; owner = o; block = b }) image calls refl (sound_before base J (Solo u o b) sound).1
 
       was : (y : TxnState) × (kept_state s o J ≡ Some y)
-      was = some_is (kept_state s o J) (kept_before s o J (Solo u o b) (calls.txns o))
+      was = some_of (kept_state s o J) (kept_before s o J (Solo u o b) (calls.txns o))
 
       is : (y : TxnState) × (kept_state s o (J ++ Solo u o b ∷ []) ≡ Some y)
-      is = some_is (kept_state s o (J ++ Solo u o b ∷ [])) (calls.txns o)
+      is = some_of (kept_state s o (J ++ Solo u o b ∷ [])) (calls.txns o)
 
       f : HasFreed b was.0 is.0
       f = solo_frees s o u b was.0 is.0 (state_step s o J (Solo u o b) was.0 is.0 was.1 is.1)
@@ -332,10 +314,10 @@ module _ (s : Sizes) (base : List (List ℕ)) (J : List Record) (image : IsImage
       fine = touch_fine s base J (Back u b) (record { txn = u; owner = u; block = b }) image calls refl (sound_before base J (Back u b) sound).1
 
       was : (y : TxnState) × (kept_state s u J ≡ Some y)
-      was = some_is (kept_state s u J) (kept_before s u J (Back u b) (calls.txns u))
+      was = some_of (kept_state s u J) (kept_before s u J (Back u b) (calls.txns u))
 
       is : (y : TxnState) × (kept_state s u (J ++ Back u b ∷ []) ≡ Some y)
-      is = some_is (kept_state s u (J ++ Back u b ∷ [])) (calls.txns u)
+      is = some_of (kept_state s u (J ++ Back u b ∷ [])) (calls.txns u)
 
       f : (w : Working) × (was.0 ≡ Active w) × (back w b (last_of w.undos) ≡ Some is.0)
       f = back_state s u was.0 is.0 b (state_step s u J (Back u b) was.0 is.0 was.1 is.1)
@@ -354,7 +336,7 @@ module _ (s : Sizes) (base : List (List ℕ)) (J : List Record) (image : IsImage
 
   -- ---- the transactions
   state_at : (t : ℕ) (x : Record) → KeepsCalls s (J ++ x ∷ []) → (y : TxnState) × (kept_state s t J ≡ Some y)
-  state_at t x calls = some_is (kept_state s t J) (kept_before s t J x (calls.txns t))
+  state_at t x calls = some_of (kept_state s t J) (kept_before s t J x (calls.txns t))
 
   step_at : (t : ℕ) (x : Record) (calls : KeepsCalls s (J ++ x ∷ [])) (y : TxnState) → kept_state s t (J ++ x ∷ []) ≡ Some y → Stepped s t (state_at t x calls).0 x y
   step_at t x calls y e = stepped s t (state_at t x calls).0 x y (state_step s t J x (state_at t x calls).0 y (state_at t x calls).1 e)
@@ -434,7 +416,7 @@ module _ (s : Sizes) (base : List (List ℕ)) (J : List Record) (image : IsImage
   told_behind x calls t c a h = told_more s J x a (⊎_elim (λ old. held.told t c a old) new (Contains-push_cases J x (Done t c a) h))
     where
       is : (y : TxnState) × (kept_state s t (J ++ x ∷ []) ≡ Some y)
-      is = some_is (kept_state s t (J ++ x ∷ [])) (calls.txns t)
+      is = some_of (kept_state s t (J ++ x ∷ [])) (calls.txns t)
 
       new : x ≡ Done t c a → Told s J a
       new same =

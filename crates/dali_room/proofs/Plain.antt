@@ -3,6 +3,7 @@ use Rattle.std.proofs.Common.{◌≡◌, ℕ, ◌+◌, ◌*◌, ◌≤◌, false
 use Rattle.std.specs.Prelude.{Contains, filter, filter_map, flat_map, sum_by, IsSome}
 use Rattle.std.proofs.lemmas.List.Elements.{Contains-push_cases}
 use mathlib.Core.Path.{fun_ext}
+use Rattle.dali_lists.proofs.Lists.{push-not_nil}
 use Rattle.dali_geometry.specs.Sizes.{Sizes}
 use Rattle.dali_geometry.specs.Places.{formatted_image}
 use Rattle.dali_record.specs.declared.records.Call.{Call}
@@ -18,8 +19,8 @@ use Rattle.dali_record.proofs.Ends.{by_push}
 use Rattle.dali_record.proofs.Pushes.{cut_push}
 use Rattle.dali_record.proofs.Sole.{rules_earlier, format_empty, by_epochs}
 use Rattle.dali_index.specs.Invariant.{IsImage}
+use Rattle.dali_index.proofs.Forms.{formatted_is_image, formatted_is_indexed, formatted_is_tidy}
 use Rattle.dali_history.specs.Recovered.{IsHonestIn, AreHonest}
-use Rattle.dali_history.proofs.Formatted.{formatted_is_image, formatted_is_indexed, formatted_is_tidy}
 use Rattle.dali_kept.specs.Kept.{KeepsCalls}
 use Rattle.dali_headline.specs.Bridge.{EpochIsKept}
 use Rattle.dali_headline.proofs.KeptEpochs.{history_is_kept}
@@ -66,10 +67,6 @@ shape_longer s M r c none some (inl e) = absurd (no (subst (λ K. IsSome (rules_
     no h = let f = subst (λ o. IsSome o) none h in cc (f)
 shape_longer s M r c none some (inr (i, h, e)) = inr (i, h, ap (λ K. K ++ r ∷ []) e)
 
-not_nil : {X : Type 0} (xs : List X) (x : X) → xs ++ x ∷ [] ≡ [] → ⊥
-not_nil [] x e = cc (e)
-not_nil (y ∷ ys) x e = cc (e)
-
 abbrev Shaped : Sizes → List Record → Type 0
 Shaped s M = IsSome (rules_state s M) → (cut M).closed ≡ [] → Shape M (cut M)
 
@@ -81,7 +78,7 @@ shaped_push s M r ih some none = subst (λ c. Shape (M ++ r ∷ []) c) (sym (cut
 
     go : (x : Record) → IsSome (rules_state s (M ++ x ∷ [])) → (cut_step (cut M) x).closed ≡ [] → Shape (M ++ x ∷ []) (cut_step (cut M) x)
     go (Format i h) q e = inr (i, h, ap (λ K. K ++ Format i h ∷ []) (format_empty s M i h q))
-    go (Restarted rs ds) q e = absurd (not_nil (cut M).closed (cut M).now e)
+    go (Restarted rs ds) q e = absurd (push-not_nil (cut M).closed (cut M).now e)
     go (Begin u) q e = shape_longer s M (Begin u) (cut M) refl q (old (Begin u) q e)
     go (Forward u b) q e = shape_longer s M (Forward u b) (cut M) refl q (old (Forward u b) q e)
     go (Done u d a) q e = shape_longer s M (Done u d a) (cut M) refl q (old (Done u d a) q e)

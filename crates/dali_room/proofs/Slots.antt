@@ -198,12 +198,7 @@ words_after s r (FreeEntry c) key ws i back true e kind u = inl (free_word ws (3
 words_after s r (ReviveEntry c) key ws i back false e kind u = let g : false ≡ true = sym e ∙ kind in absurd (cc (g))
 words_after s r (ReviveEntry c) key ws i back true e kind u = ⊎_elim (λ a. inl a) (λ a. inr (omega (arith, a))) (live_word ws (3 * c + 1) (3 * i + 1) u)
 words_after s r Look key ws i back b e kind u = absurd back
-words_after s r (Add p) key ws i back b e kind u = absurd back
-words_after s r (KillEntry c) key ws i back b e kind u = absurd back
-words_after s r (Put v) key ws i back b e kind u = absurd back
-words_after s r (Read c) key ws i back b e kind u = absurd back
-words_after s r (Change c v) key ws i back b e kind u = absurd back
-words_after s r (KillCell c) key ws i back b e kind u = absurd back
+words_after s r _ key ws i back b e kind u = absurd back
 
 pub backward_take :
     (s : Sizes) (image : List (List ℕ)) (r : ℕ) (op : Op) (key : ℕ) → r < length image → IsBackward op → on_kind s r op ≡ true

@@ -77,32 +77,17 @@ inserts_are t (Back u b ∷ J) = none_added t J (Back u b) refl refl (inserts_ar
 
 -- ---- records of others
 others_weigh : (takes : Block → ℕ) (t : ℕ) (x : Record) → concerns t x ≡ false → (weight takes t x ≡ 0) × (insert_weight t x ≡ 0)
-others_weigh takes t (Format i h) e = (refl, refl)
-others_weigh takes t (Begin u) e = (refl, refl)
 others_weigh takes t (Forward u b) e = (rw e refl, refl)
 others_weigh takes t (Done u c a) e = (refl, rw e refl)
-others_weigh takes t (Commit u) e = (refl, refl)
-others_weigh takes t (Ended u) e = (refl, refl)
-others_weigh takes t (Solo u p b) e = (refl, refl)
-others_weigh takes t AuditBegin e = (refl, refl)
-others_weigh takes t (AuditClean b) e = (refl, refl)
-others_weigh takes t (AuditFail b rs) e = (refl, refl)
-others_weigh takes t (Restarted rs ds) e = (refl, refl)
-others_weigh takes t (Back u b) e = (refl, refl)
+others_weigh takes t _ e = (refl, refl)
 
 others_steady : (t : ℕ) (back : Bool) (x : Record) → concerns t x ≡ false → steady_step t back x ≡ Some back
-others_steady t back (Format i h) e = refl
-others_steady t back (Begin u) e = refl
 others_steady t back (Forward u b) e = rw e refl
 others_steady t back (Done u c a) e = rw e refl
 others_steady t back (Commit u) e = rw e refl
 others_steady t back (Ended u) e = rw e refl
-others_steady t back (Solo u p b) e = refl
-others_steady t back AuditBegin e = refl
-others_steady t back (AuditClean b) e = refl
-others_steady t back (AuditFail b rs) e = refl
-others_steady t back (Restarted rs ds) e = refl
 others_steady t back (Back u b) e = rw e refl
+others_steady t back _ e = refl
 
 -- ---- what holds of one transaction
 abbrev pub Little : (Block → ℕ) → ℕ → List Record → ℕ → Type 0

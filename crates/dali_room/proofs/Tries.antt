@@ -5,8 +5,8 @@
 --     Seen s J p                          what a call knows of full regions that has come to p
 use Rattle.std.proofs.Common.{◌≡◌, ℕ, ◌+◌, ◌-◌, ◌<◌, ◌≤◌, Bool, true, false, List, [], ◌∷◌, ◌++◌, Some, refl, ap, sym, subst, ◌∙◌, ◌⊎◌, inl, inr, ⊎_elim, ◌≢◌, arith}
 use Rattle.std.specs.Prelude.{◌%◌, ◌==◌, ◌&&◌, ⊤, if◌then◌else◌, nat_lt, bytes_eq, Contains}
-use Rattle.std.proofs.lemmas.Bool.{and_parts}
-use Rattle.std.proofs.lemmas.Bool.Decides.{eqb_tells, nat_tests}
+use Rattle.std.proofs.lemmas.Bool.{and_parts, ltb-true, ltb-false}
+use Rattle.std.proofs.lemmas.Bool.Decides.{eqb_tells}
 use Rattle.std.proofs.lemmas.List.Elements.{Contains-append_left, filter_map-append}
 use Rattle.dali_geometry.specs.Sizes.{Sizes}
 use Rattle.dali_geometry.specs.Places.{home, next_index, heap_start, next_heap, place, regions}
@@ -139,12 +139,6 @@ pub record Finds (J : List Record) (b : Block) : Type 0 where
   pub heap : (v : List ℕ) → b.op ≡ Put v → b.outcome ≡ NoCell → IsFullHeap b.region J
   pub index : (p : ℕ) → b.op ≡ Add p → b.outcome ≡ NoEntry → IsFullIndex b.region J
 
-less_of : (a b : ℕ) → nat_lt a b ≡ true → a < b
-less_of a b z = grind (arith, nat_tests)
-
-more_of : (a b : ℕ) → nat_lt a b ≡ false → b ≤ a
-more_of a b z = grind (arith, nat_tests)
-
 module _ (s : Sizes) (J : List Record) (some_index : 0 < s.index) (some_heap : 0 < s.heap) where
   look_seen : (key region looked : ℕ) (o : Outcome) (p : Progress) → after_look s key region looked o ≡ Some p → Seen s J p
   look_seen key region looked (Found entry at) p e = let same : p ≡ Somewhere key region entry at = cc (e) in rw same tt
@@ -169,8 +163,8 @@ module _ (s : Sizes) (J : List Record) (some_index : 0 < s.index) (some_heap : 0
   put_seen key v region tried NoCell p full h e = go (nat_lt (tried + 1) s.heap) refl e
     where
       go : (c : Bool) → nat_lt (tried + 1) s.heap ≡ c → Some (if c then Storing key v (next_heap s region) (tried + 1) else Finished (Insert key v) FullHeap) ≡ Some p → Seen s J p
-      go true l f = let same : p ≡ Storing key v (next_heap s region) (tried + 1) = cc (f) in rw same (next_try s.heap s.index (regions s) s.index (λ r. IsFullHeap r J) region tried refl refl h (full refl) (less_of (tried + 1) s.heap l))
-      go false l f = let same : p ≡ Finished (Insert key v) FullHeap = cc (f) in rw same (all_tried s.heap s.index (λ r. IsFullHeap r J) region tried h (full refl) (more_of (tried + 1) s.heap l))
+      go true l f = let same : p ≡ Storing key v (next_heap s region) (tried + 1) = cc (f) in rw same (next_try s.heap s.index (regions s) s.index (λ r. IsFullHeap r J) region tried refl refl h (full refl) (ltb-true (tried + 1) s.heap l))
+      go false l f = let same : p ≡ Finished (Insert key v) FullHeap = cc (f) in rw same (all_tried s.heap s.index (λ r. IsFullHeap r J) region tried h (full refl) (ltb-false (tried + 1) s.heap l))
   put_seen key v region tried _ p full h e = absurd (cc (e))
 
   add_seen :
@@ -183,8 +177,8 @@ module _ (s : Sizes) (J : List Record) (some_index : 0 < s.index) (some_heap : 0
       ends = omega arith
 
       go : (c : Bool) → nat_lt (tried + 1) s.index ≡ c → Some (if c then Adding key v at (next_index s region) (tried + 1) else Finished (Insert key v) FullIndex) ≡ Some p → Seen s J p
-      go true l f = let same : p ≡ Adding key v at (next_index s region) (tried + 1) = cc (f) in rw same (next_try s.index 0 s.index 0 (λ r. IsFullIndex r J) region tried ends refl h (full refl) (less_of (tried + 1) s.index l))
-      go false l f = let same : p ≡ Finished (Insert key v) FullIndex = cc (f) in rw same (all_tried s.index 0 (λ r. IsFullIndex r J) region tried h (full refl) (more_of (tried + 1) s.index l))
+      go true l f = let same : p ≡ Adding key v at (next_index s region) (tried + 1) = cc (f) in rw same (next_try s.index 0 s.index 0 (λ r. IsFullIndex r J) region tried ends refl h (full refl) (ltb-true (tried + 1) s.index l))
+      go false l f = let same : p ≡ Finished (Insert key v) FullIndex = cc (f) in rw same (all_tried s.index 0 (λ r. IsFullIndex r J) region tried h (full refl) (ltb-false (tried + 1) s.index l))
   add_seen key v at region tried _ p full h e = absurd (cc (e))
 
   read_seen : (key at : ℕ) (o : Outcome) (p : Progress) → after_read key at o ≡ Some p → Seen s J p

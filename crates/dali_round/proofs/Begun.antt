@@ -1,23 +1,26 @@
 -- A client that is in a transaction has begun it, so no two clients are in one.
-use Rattle.std.proofs.Common.{◌≡◌, ℕ, zero, suc, ◌+◌, ◌<◌, ◌≤◌, Bool, true, false, cond, List, [], ◌∷◌, ◌++◌, length, fold, Option, Some, None, refl, ap, sym, subst, ◌∙◌, ◌⊎◌, inl, inr, ⊎_elim, arith}
-use Rattle.std.specs.Prelude.{◌==◌, if◌then◌else◌, Contains, IsSome, slice_get}
+use Rattle.std.proofs.Common.{◌≡◌, ℕ, zero, suc, ◌+◌, ◌≤◌, Bool, true, false, List, [], ◌∷◌, length, fold, Option, Some, None, refl, ap, sym, subst, ◌∙◌, ◌⊎◌, inl, inr, ⊎_elim, arith}
+use Rattle.std.specs.Prelude.{if◌then◌else◌, Contains, IsSome, slice_get}
 use Rattle.std.specs.List.{AllByRecursion}
 use Rattle.std.proofs.lemmas.List.Concat.{flat_map-cons}
+use Rattle.std.proofs.lemmas.List.Elements.{Contains-append_right, Contains-append_left}
 use Rattle.dali_geometry.specs.Sizes.{Sizes}
 use Rattle.dali_counts.specs.Counts.{next_with}
-use Rattle.dali_counts.proofs.Lists.{and_left, equal, some_same}
-use Rattle.dali_counts.proofs.Tallies.{tells_step, if_kept, if_none}
+use Rattle.dali_counts.proofs.Lists.{some_same}
+use Rattle.dali_counts.proofs.Tallies.{tells_step}
 use Rattle.dali_record.specs.declared.records.Record.{Record}
-use Rattle.dali_record.specs.declared.records.Record.TheVariants.{Format, Begin, Forward, Back, Done, Commit, Ended, Solo, AuditBegin, AuditClean, AuditFail, Restarted}
-use Rattle.dali_record.specs.Legal.{Rules, rules_state, rules_next, rules_step, rules_first, rules_behind, runs, has_room}
-use Rattle.dali_transcripts.specs.Words.{Act, closes}
+use Rattle.dali_record.specs.declared.records.Record.TheVariants.{Begin}
+use Rattle.dali_record.specs.Legal.{Rules, rules_state, rules_next, rules_step}
+use Rattle.dali_counts.proofs.Fronts.{none_rules}
+use Rattle.dali_counts.proofs.NewNumbers.{next_grows}
+use Rattle.dali_transcripts.specs.Words.{closes}
 use Rattle.dali_transcripts.specs.World.{Logs, World, log_of}
 use Rattle.dali_transcripts.specs.Moves.{Receipt, Place, Outside, LeftOut, Within, Spot, Move, Begins, BeginsAgain, Skips, Answers, IsRefusedCall, IsArmed, from, own, to, start}
-use Rattle.dali_transcripts.specs.Causes.{HasCause}
 use Rattle.dali_transcripts.specs.Transcripts.{IsPath, own_by, deeds_of}
 use Rattle.dali_transcripts.specs.Rounds.{Standing, Stands}
 use Rattle.dali_transcripts.specs.Laws.{IsIn}
 use Rattle.dali_transcripts.proofs.Owned.{own_ascend, owned_by_one}
+use Rattle.dali_during.proofs.Ascends.{begin_number}
 
 abbrev pub in_txn : Place → Option ℕ
 in_txn (Within t tries cs d s) = Some t
@@ -43,15 +46,6 @@ by_move (IsArmed u tries cs d s count rest) t e = inl e
 by_move (Skips s act rest) t e = none_some (in_txn (if closes act then Outside s else LeftOut s)) t _ (skipped_out (closes act) s) e
 by_move x t e = absurd (cc)
 
-later : (xs ys : List Receipt) (x : Receipt) → Contains ys x → Contains (xs ++ ys) x
-later [] ys x h = h
-later (y ∷ xs) ys x h = let more = later xs ys x h in (suc more.0, omega (arith, more.1), more.2)
-
-sooner : (xs ys : List Receipt) (x : Receipt) → Contains xs x → Contains (xs ++ ys) x
-sooner [] ys x (k, below, is) = absurd (omega (arith, below))
-sooner (y ∷ xs) ys x (zero, below, is) = (zero, omega arith, is)
-sooner (y ∷ xs) ys x (suc k, below, is) = let more = sooner xs ys x (k, omega (arith, below), is) in (suc more.0, omega (arith, more.1), more.2)
-
 by_path : (w : World) (c t : ℕ) (p : Spot) (xs : List Move) (q : Spot) → IsPath w c p xs q → in_txn q.place ≡ Some t → (in_txn p.place ≡ Some t) ⊎ HasBegun t (own_by xs)
 by_path w c t p [] q path e = inl (ap (λ (z : Spot). in_txn z.place) path ∙ e)
 by_path w c t p (x ∷ xs) q path e =
@@ -59,39 +53,19 @@ by_path w c t p (x ∷ xs) q path e =
     (⊎_elim
     (λ here. ⊎_elim
     (λ before. inl (ap (λ (z : Spot). in_txn z.place) path.0 ∙ before))
-    (λ one. inr (one.0, sooner (own x) (own_by xs) _ one.1))
+    (λ one. inr (one.0, Contains-append_left (own x) (own_by xs) _ one.1))
     (by_move x t here))
-    (λ more. inr (more.0, later (own x) (own_by xs) _ more.1))
+    (λ more. inr (more.0, Contains-append_right (own x) (own_by xs) _ more.1))
     (by_path w c t (to x) xs q path.2 e))
 
 has_begun : (w : World) (a : Standing) (t : ℕ) → Stands w a → in_txn a.spot.place ≡ Some t → HasBegun t (deeds_of w a.client)
 has_begun w a t so e =
     ⊎_elim
     (λ at_start. absurd (cc))
-    (λ begun. (begun.0, subst (λ l. Contains l (begun.0, Logs (Begin t))) (sym so.did_are) (sooner (own_by so.moves) a.pending _ begun.1)))
+    (λ begun. (begun.0, subst (λ l. Contains l (begun.0, Logs (Begin t))) (sym so.did_are) (Contains-append_left (own_by so.moves) a.pending _ begun.1)))
     (by_path w a.client t (start a.acts) so.moves a.spot so.path e)
 
 -- ---- in the log
-begin_number : (s : Sizes) (h : Rules) (u : ℕ) → IsSome (rules_step s h (Begin u)) → u ≡ h.next
-begin_number s h u k = by_test (h.count == 0) k
-  where
-    by_test : (c : Bool) → IsSome (cond c (rules_first s h (Begin u)) (rules_behind s h (Begin u))) → u ≡ h.next
-    by_test true k = absurd (cc)
-    by_test false k = equal u h.next (and_left (u == h.next) (has_room h (Begin u)) (if_kept _ _ (if_none h.failed (runs s h (Begin u)) k)))
-
-next_grows : (x : Record) (n : ℕ) → n ≤ next_with x n
-next_grows (Format i h) n = omega arith
-next_grows (Begin t) n = omega arith
-next_grows (Forward t b) n = omega arith
-next_grows (Done t c a) n = omega arith
-next_grows (Commit t) n = omega arith
-next_grows (Ended t) n = omega arith
-next_grows (Solo t p b) n = omega arith
-next_grows AuditBegin n = omega arith
-next_grows (AuditClean b) n = omega arith
-next_grows (AuditFail b rs) n = omega arith
-next_grows (Restarted rs ds) n = omega arith
-next_grows (Back t b) n = omega arith
 
 record FirstStep (s : Sizes) (h : Rules) (x : Record) (xs : List Record) : Type 0 where
   behind : Rules
@@ -99,15 +73,11 @@ record FirstStep (s : Sizes) (h : Rules) (x : Record) (xs : List Record) : Type 
   rest : IsSome (fold (rules_next s) (Some behind) xs)
   next : behind.next ≡ next_with x h.next
 
-none_goes : (s : Sizes) (xs : List Record) → fold (rules_next s) None xs ≡ None
-none_goes s [] = refl
-none_goes s (x ∷ xs) = none_goes s xs
-
 first_step : (s : Sizes) (h : Rules) (x : Record) (xs : List Record) → IsSome (fold (rules_next s) (Some h) (x ∷ xs)) → FirstStep s h x xs
 first_step s h x xs some = by_step (rules_step s h x) refl some
   where
     by_step : (o : Option Rules) → rules_step s h x ≡ o → IsSome (fold (rules_next s) o xs) → FirstStep s h x xs
-    by_step None e more = let no_way : false ≡ true = subst (λ (o : Option Rules). IsSome o) (none_goes s xs) more in absurd (cc)
+    by_step None e more = let no_way : false ≡ true = subst (λ (o : Option Rules). IsSome o) (none_rules s xs) more in absurd (cc)
     by_step (Some g) e more = record { behind = g; step = e; rest = more; next = (tells_step s h x g e).2 }
 
 begins_above : (s : Sizes) (h : Rules) (xs : List Record) (i t : ℕ) → IsSome (fold (rules_next s) (Some h) xs) → slice_get xs i ≡ Some (Begin t) → h.next ≤ t

@@ -1,8 +1,7 @@
--- Somebody goes on while a client isn't done: a request waits for greater numbers alone, and each live transaction is a client's.
-use Rattle.std.proofs.Common.{◌≡◌, ℕ, zero, suc, ◌+◌, ◌<◌, ◌≤◌, Bool, true, false, List, length, map, Option, Some, None, refl, ap, sym, subst, ◌∙◌, ◌⊎◌, inl, inr, ⊎_elim, arith}
+-- Somebody goes on while a client isn't done: a request waits for greater numbers alone, and each open transaction is a client's.
+use Rattle.std.proofs.Common.{◌≡◌, ℕ, zero, suc, ◌+◌, ◌<◌, ◌≤◌, Bool, true, false, List, length, Option, Some, None, refl, sym, subst, ◌⊎◌, inl, inr, ⊎_elim, arith}
 use Rattle.std.specs.Prelude.{◌==◌, IsSome, is_some, slice_get}
 use Rattle.std.proofs.lemmas.Option.{slice_get_within}
-use Rattle.dali_record.specs.declared.records.Record.{Record}
 use Rattle.dali_region.specs.State.{RegionState}
 use Rattle.dali_locks.specs.declared.mode.Mode.{Mode}
 use Rattle.dali_locks.specs.declared.mode.LockAnswer.TheVariants.{Wait}
@@ -15,37 +14,29 @@ use Rattle.dali_facts.proofs.OlderRows.{rows_are_older}
 use Rattle.dali_crash.specs.Checkpoints.{Point}
 use Rattle.dali_crash.specs.Traces.{Start, bases_of}
 use Rattle.dali_vault.specs.Vaulted.{Vaulted}
-use Rattle.dali_transcripts.specs.World.{World, is_dead_in, is_claimed_in}
+use Rattle.dali_transcripts.specs.World.{is_dead_in, is_claimed_in}
 use Rattle.dali_transcripts.specs.Transcripts.{Told}
 use Rattle.dali_calls.specs.Steps.{call_key}
 use Rattle.dali_calls.specs.Plans.{mode_of}
 use Rattle.dali_turns.specs.declared.client.Client.{Client}
 use Rattle.dali_turns.specs.declared.client.State.{State}
-use Rattle.dali_turns.specs.declared.client.State.TheVariants.{Outside, LeftOut, Within, Calling, TakingBack, Waiting, Auditing, Copying, Certifying, Gone}
+use Rattle.dali_turns.specs.declared.client.State.TheVariants.{Outside, Within, Calling, TakingBack, Committing, Waiting}
 use Rattle.dali_turns.specs.Clients.{is_over}
 use Rattle.dali_turns.specs.Fits.{Owns}
-use Rattle.dali_turns.specs.Outside.{HasGone}
-use Rattle.dali_turns.specs.Stood.{IsQuiet}
 use Rattle.dali_turns.specs.Waits.{Waits, MakesNone}
+use Rattle.dali_turns.proofs.Busied.{open_one}
 use Rattle.dali_round.specs.Idle.{AreIdle}
 use Rattle.dali_round.specs.Played.{Played, AreOver, EachIsOwned}
+use Rattle.dali_rounds.specs.Went.{is_open}
 
 -- ---- rows
--- who has a row, isn't dead, claimed or committed, is alive
-alive : (o : Option TxnState) → is_some o ≡ true → is_dead_in o ≡ false → is_claimed_in o ≡ false → (o ≡ Some Committed → ⊥) → o ≡ Some Live
-alive None some dead claimed committed = absurd (cc)
-alive (Some Live) some dead claimed committed = refl
-alive (Some (Dead l)) some dead claimed committed = absurd (cc)
-alive (Some (Cleaning l)) some dead claimed committed = absurd (cc)
-alive (Some Committed) some dead claimed committed = absurd (committed refl)
-
 row_state : (o : Option TxnRow) → IsSome o → is_some (state_in o) ≡ true
 row_state None some = absurd (cc)
 row_state (Some row) some = refl
 
-live_row : (o : Option TxnRow) → state_in o ≡ Some Live → IsSome o
-live_row None e = absurd (cc)
-live_row (Some row) e = refl
+open_row : (o : Option TxnRow) → is_open (state_in o) ≡ true → IsSome o
+open_row None e = absurd (cc)
+open_row (Some row) e = refl
 
 -- who hasn't gone has a row, and isn't dead
 still_there : (o : Option TxnState) → ((o ≡ None) ⊎ (is_dead_in o ≡ true) → ⊥) → (is_some o ≡ true) × (is_dead_in o ≡ false)
@@ -59,29 +50,28 @@ record Rows (y : SystemState) : Type 0 where
   below : (t : ℕ) → IsSome (row_of y t) → t < y.next
   owned : (t k : ℕ) (m : Mode) → lock_of y t k ≡ Some m → IsSome (row_of y t)
   unclaimed : (t : ℕ) → is_claimed_in (state_of y t) ≡ false
-  settled : (t : ℕ) → state_of y t ≡ Some Committed → ⊥
 
 -- it waits for one whose client hasn't died
 abbrev WaitsFor : SystemState → ℕ → ℕ → Type 0
 WaitsFor y t h = (key : ℕ) × (mode : Mode) × IsAnswer y.locks t key mode (Wait h) × (is_dead_in (state_of y h) ≡ false)
 
 module _ (y : SystemState) (rows : Rows y) where
-  -- who it waits for is alive, and younger
-  holder_lives : (t h : ℕ) → WaitsFor y t h → (t < h) × (state_of y h ≡ Some Live)
+  -- who it waits for is open, and younger
+  holder_lives : (t h : ℕ) → WaitsFor y t h → (t < h) × (is_open (state_of y h) ≡ true)
   holder_lives t h (key, mode, answer, dead) =
       let conflict = answer.0.conflict in
       let row = rows.owned h key conflict.mode conflict.holds in
-      (answer.1, alive (state_of y h) (row_state (row_of y h) row) dead (rows.unclaimed h) (rows.settled h))
+      (answer.1, open_one (state_of y h) (row_state (row_of y h) row) dead (rows.unclaimed h))
 
-  module _ (waits : (t : ℕ) → state_of y t ≡ Some Live → (h : ℕ) × WaitsFor y t h) where
-    upto : (n t : ℕ) → y.next ≤ t + n → state_of y t ≡ Some Live → ⊥
-    upto zero t far lives = absurd (omega (arith, far, rows.below t (live_row (row_of y t) lives)))
+  module _ (waits : (t : ℕ) → is_open (state_of y t) ≡ true → (h : ℕ) × WaitsFor y t h) where
+    upto : (n t : ℕ) → y.next ≤ t + n → is_open (state_of y t) ≡ true → ⊥
+    upto zero t far lives = absurd (omega (arith, far, rows.below t (open_row (row_of y t) lives)))
     upto (suc n) t far lives =
         let next = waits t lives in
         let there = holder_lives t next.0 next.1 in
         upto n next.0 (omega (arith, far, there.0)) there.1
 
-    nobody_lives : (t : ℕ) → state_of y t ≡ Some Live → ⊥
+    nobody_lives : (t : ℕ) → is_open (state_of y t) ≡ true → ⊥
     nobody_lives t lives = upto y.next t (omega arith) lives
 
 -- ---- clients
@@ -90,13 +80,8 @@ busy : (state : State) (none : Bool) (t : ℕ) → Owns state t → is_over stat
 busy (Within x) none t owns over = absurd (cc)
 busy (Calling x plan) none t owns over = absurd (cc)
 busy (TakingBack x plan why) none t owns over = absurd (cc)
-busy Outside none t owns over = absurd owns
-busy LeftOut none t owns over = absurd owns
-busy (Waiting n h) none t owns over = absurd owns
-busy (Auditing a n) none t owns over = absurd owns
-busy (Copying c n) none t owns over = absurd owns
-busy (Certifying c a n) none t owns over = absurd owns
-busy Gone none t owns over = absurd owns
+busy (Committing x number removals next) none t owns over = absurd (cc)
+busy _ none t owns over = absurd owns
 
 owner_waits : (y : SystemState) (state : State) (t : ℕ) → Owns state t → Waits y state → (h : ℕ) × WaitsFor y t h
 owner_waits y (Within x) t owns (call, must) =
@@ -104,32 +89,21 @@ owner_waits y (Within x) t owns (call, must) =
     (holder, (call_key call, mode_of call, subst (λ u. IsAnswer y.locks u (call_key call) (mode_of call) (Wait holder)) owns answer, dead))
 owner_waits y (Calling x plan) t owns waits = absurd waits
 owner_waits y (TakingBack x plan why) t owns waits = absurd waits
-owner_waits y Outside t owns waits = absurd owns
-owner_waits y LeftOut t owns waits = absurd owns
-owner_waits y (Waiting n h) t owns waits = absurd owns
-owner_waits y (Auditing a n) t owns waits = absurd owns
-owner_waits y (Copying c n) t owns waits = absurd owns
-owner_waits y (Certifying c a n) t owns waits = absurd owns
-owner_waits y Gone t owns waits = absurd owns
+owner_waits y (Committing x number removals next) t owns waits = absurd waits
+owner_waits y _ t owns waits = absurd owns
 
--- who waits, waits for one that is alive
-waits_for_one : (y : SystemState) → Rows y → (state : State) → Waits y state → (h : ℕ) × (state_of y h ≡ Some Live)
+-- who waits, waits for one that is open
+waits_for_one : (y : SystemState) → Rows y → (state : State) → Waits y state → (h : ℕ) × (is_open (state_of y h) ≡ true)
 waits_for_one y rows (Within x) (call, must) =
     let (holder, answer, dead) = must in
     (holder, (holder_lives y rows x.txn holder (call_key call, mode_of call, answer, dead)).1)
 waits_for_one y rows (Waiting n h) gone =
-    let there = still_there (state_of y h) gone in (h, alive (state_of y h) there.0 there.1 (rows.unclaimed h) (rows.settled h))
+    let there = still_there (state_of y h) gone in (h, open_one (state_of y h) there.0 there.1 (rows.unclaimed h))
 waits_for_one y rows Outside waits = absurd waits
-waits_for_one y rows LeftOut waits = absurd waits
-waits_for_one y rows (Calling x plan) waits = absurd waits
-waits_for_one y rows (TakingBack x plan why) waits = absurd waits
-waits_for_one y rows (Auditing a n) waits = absurd waits
-waits_for_one y rows (Copying c n) waits = absurd waits
-waits_for_one y rows (Certifying c a n) waits = absurd waits
-waits_for_one y rows Gone waits = absurd waits
+waits_for_one y rows _ waits = absurd waits
 
 module _ (y : SystemState) (ks : List Client) (owned : EachIsOwned ks y) (idle : (i : ℕ) (k : Client) → slice_get ks i ≡ Some k → MakesNone y k.state (length k.rest.now == 0)) where
-  waits_on : y.stop ≡ None → (t : ℕ) → state_of y t ≡ Some Live → (h : ℕ) × WaitsFor y t h
+  waits_on : y.stop ≡ None → (t : ℕ) → is_open (state_of y t) ≡ true → (h : ℕ) × WaitsFor y t h
   waits_on runs t lives =
       let (i, k, at, owns) = owned runs t lives in
       ⊎_elim (λ over. absurd (busy k.state (length k.rest.now == 0) t owns over)) (λ reason. owner_waits y k.state t owns reason.1) (idle i k at)
@@ -153,7 +127,6 @@ module _ {V : Type 0} (told : V → Option Disk) (may_leave : V → Disk → Typ
         below = λ t some. rows_are_older (bases_of s) _ played.to.core run t some;
         owned = run.locks.owned;
         unclaimed = subst (λ (m : SystemState). (t : ℕ) → is_claimed_in (state_of m t) ≡ false) (sym here) played.stood.quiet.unclaimed;
-        settled = subst (λ (m : SystemState). (t : ℕ) → state_of m t ≡ Some Committed → ⊥) (sym here) (played.stood.quiet.settled runs);
       })
 
   pub idle_are_over : AreIdle y ks (length ks) → AreOver ks

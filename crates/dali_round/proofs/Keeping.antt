@@ -1,38 +1,32 @@
 -- A step of one client leaves the image files as the steps of the others ask for, and none shorter, whatever log there is.
-use Rattle.std.proofs.Common.{◌≡◌, ℕ, ◌<◌, ◌≤◌, List, length, Option, Some, None, get_or, refl, sym, subst, ⊎_elim, arith}
+use Rattle.std.proofs.Common.{◌≡◌, ℕ, ◌<◌, List, length, Option, Some, get_or, refl, sym, subst, ⊎_elim}
 use Rattle.std.specs.Prelude.{IfSome, slice_get, slice_set}
 use Rattle.std.proofs.lemmas.Option.{slice_get-get_or}
 use Rattle.dali_counts.proofs.Lists.{set_cases}
-use Rattle.dali_region.specs.declared.Side.{Side}
 use Rattle.dali_region.specs.State.{RegionState}
 use Rattle.dali_store.specs.Store.{Files as Disk}
-use Rattle.dali_traces.specs.Disks.{image_file}
-use Rattle.dali_traces.specs.Places.{place_of}
 use Rattle.dali_vault.specs.Vaulted.{Vaulted}
-use Rattle.dali_whole.specs.Cores.{HoldsPlaces, NoShorter, IsNoShorter}
+use Rattle.dali_whole.specs.Cores.{HoldsPlaces, IsNoShorter}
 use Rattle.dali_whole.proofs.Lengths.{same_length, then_length}
 use Rattle.dali_checkpoint.specs.Kept.{side_in}
 use Rattle.dali_clients.specs.declared.command.Block.{Block}
+use Rattle.dali_checkpoint.proofs.Lengths.{reaches_told}
 use Rattle.dali_turns.specs.declared.client.Client.{Client}
 use Rattle.dali_turns.specs.declared.client.State.{State}
-use Rattle.dali_turns.specs.declared.client.State.TheVariants.{Outside, LeftOut, Within, Calling, TakingBack, Waiting, Auditing, Copying, Certifying, Gone}
-use Rattle.dali_turns.specs.Places.{ReachesNext, HasPlaces, PlacesGo}
-use Rattle.dali_round.specs.Played.{IsNew, AreNew, HavePlaces}
+use Rattle.dali_turns.specs.declared.client.State.TheVariants.{Outside, LeftOut, Within, Calling, TakingBack, Committing, Waiting, Auditing, Copying, Certifying, Gone}
+use Rattle.dali_turns.specs.Places.{KeepsRegions, ReachesNext, HasPlaces, PlacesGo}
+use Rattle.dali_round.specs.Played.{AreNew, HavePlaces}
 use Rattle.dali_round.proofs.Lists.{with_length}
-
-reach_in : (o p : Option Disk) (side : Side) (n : ℕ) → NoShorter o p → IfSome o (λ (fs : Disk). place_of n ≤ length (image_file side fs)) → IfSome p (λ (fs : Disk). place_of n ≤ length (image_file side fs))
-reach_in (Some a) (Some b) side n longer h = let more = longer side in omega (arith, more, h)
-reach_in (Some a) None side n longer h = absurd longer
-reach_in None p side n longer h = subst (λ (q : Option Disk). IfSome q (λ (fs : Disk). place_of n ≤ length (image_file side fs))) (sym longer) tt
 
 module _ {V : Type 0} (told : V → Option Disk) where
   next_on : (state : State) (v u : Vaulted V) → IsNoShorter told v u → ReachesNext told state v → ReachesNext told state u
-  next_on (Copying c next) v u longer h = reach_in (told v.store) (told u.store) (side_in c) next longer h
+  next_on (Copying c next) v u longer h = reaches_told (told v.store) (told u.store) (side_in c) next longer h
   next_on Outside v u longer h = tt
   next_on LeftOut v u longer h = tt
   next_on (Within x) v u longer h = tt
   next_on (Calling x plan) v u longer h = tt
   next_on (TakingBack x plan why) v u longer h = tt
+  next_on (Committing x number removals next) v u longer h = tt
   next_on (Waiting tries holder) v u longer h = tt
   next_on (Auditing audit next) v u longer h = tt
   next_on (Certifying c audit next) v u longer h = tt
@@ -53,6 +47,17 @@ module _ {V : Type 0} (told : V → Option Disk) where
             (λ away. next_on l.state v u go.longer (have.next n l away.1))
             (set_cases ks i j n l at_l);
       }
+
+  -- a client that is gone asks for nothing
+  pub gone_places : (state was is : State) (gs hs : List RegionState) (v u : Vaulted V) → is ≡ Gone → PlacesGo told state gs v was hs u → PlacesGo told state gs v is hs u
+  gone_places state was is gs hs v u gone go = record { longer = go.longer; places = λ h. record { files = (go.places h).files; next = subst (λ (st : State). ReachesNext told st u) (sym gone) tt }; regions = subst (λ (st : State). KeepsRegions st gs hs) (sym gone) tt }
+
+  -- a client is halted, and stands where it stood
+  pub halts_keep : (ks : List Client) (gs hs : List RegionState) (v u : Vaulted V) (i : ℕ) (k : Client) → slice_get ks i ≡ Some k → PlacesGo told k.state gs v k.state hs u → HavePlaces told ks gs v → HavePlaces told ks hs u
+  halts_keep ks gs hs v u i k at_k go have = record {
+    files = (go.places (record { files = have.files; next = have.next i k at_k })).files;
+    next = λ n l at_l. next_on l.state v u go.longer (have.next n l at_l);
+  }
 
   pub new_places : (bs : List Block) (ks : List Client) (gs : List RegionState) (v : Vaulted V) → AreNew bs ks → IfSome (told v.store) (HoldsPlaces gs) → HavePlaces told ks gs v
   new_places bs ks gs v new files = record {

@@ -1,15 +1,18 @@
-mod Unfinished
 mod Marks
 mod Begun
 mod Lists
 mod Places
+mod Between
 mod Seats
-mod Starts
+pub mod Starts
 mod Outcomes
 mod Made
+mod Halts
 mod Playing
+mod Moments
 mod Whole
 mod Keeping
 mod Handing
 mod Passing
 mod GoingOn
+mod Orders

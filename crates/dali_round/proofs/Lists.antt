@@ -1,8 +1,16 @@
 -- Lists that are changed or read at one place.
-use Rattle.std.proofs.Common.{◌≡◌, ℕ, zero, suc, ◌+◌, ◌<◌, Bool, true, false, List, [], ◌∷◌, ◌++◌, length, map, Option, Some, None, refl, ap, sym, subst, ◌∙◌, arith}
-use Rattle.std.specs.Prelude.{◌&&◌, slice_get, slice_set}
+use Rattle.std.proofs.Common.{◌≡◌, ℕ, zero, suc, ◌+◌, ◌<◌, Bool, true, List, [], ◌∷◌, ◌++◌, length, map, Some, refl, ap, sym, ◌∙◌, ◌⊎◌, inl, inr, ⊎_elim, arith}
+use Rattle.std.specs.Prelude.{slice_get, slice_set}
 use Rattle.std.specs.List.{list_all}
+use Rattle.std.proofs.lemmas.Bool.{and_from}
 use Rattle.dali_counts.proofs.Lists.{some_same, and_left, and_right}
+
+-- what is below the next number is below this one, or is it
+pub by_less : (a b : ℕ) → a < b + 1 → (a < b) ⊎ (a ≡ b)
+by_less zero zero h = inr refl
+by_less zero (suc b) h = inl (omega arith)
+by_less (suc a) zero h = absurd (omega (arith, h))
+by_less (suc a) (suc b) h = ⊎_elim (λ l. inl (omega (arith, l))) (λ e. inr (ap suc e)) (by_less a b (omega (arith, h)))
 
 pub get_map : {X Y : Type 0} (f : X → Y) (xs : List X) (i : ℕ) (x : X) → slice_get xs i ≡ Some x → slice_get (map f xs) i ≡ Some (f x)
 get_map f [] i x e = absurd (cc)
@@ -14,27 +22,12 @@ map_set f [] i x y e same = absurd (cc)
 map_set f (z ∷ xs) zero x y e same = ap (λ c. c ∷ map f xs) (same ∙ ap f (sym (some_same e)))
 map_set f (z ∷ xs) (suc i) x y e same = ap (λ l. f z ∷ l) (map_set f xs i x y e same)
 
-pub length_set : {X : Type 0} (xs : List X) (i : ℕ) (x : X) → length (slice_set xs i x) ≡ length xs
-length_set [] i x = refl
-length_set (y ∷ xs) zero x = refl
-length_set (y ∷ xs) (suc i) x = let e = length_set xs i x in omega (arith, e)
-
-pub get_set : {X : Type 0} (xs : List X) (i : ℕ) (x y : X) → slice_get xs i ≡ Some x → slice_get (slice_set xs i y) i ≡ Some y
-get_set [] i x y e = absurd (cc)
-get_set (z ∷ xs) zero x y e = refl
-get_set (z ∷ xs) (suc i) x y e = get_set xs i x y e
-
 pub get_set_other : {X : Type 0} (xs : List X) (i j : ℕ) (x y : X) → (j ≡ i → ⊥) → slice_get xs j ≡ Some x → slice_get (slice_set xs i y) j ≡ Some x
 get_set_other [] i j x y other e = absurd (cc)
 get_set_other (z ∷ xs) zero zero x y other e = absurd (other refl)
 get_set_other (z ∷ xs) zero (suc j) x y other e = e
 get_set_other (z ∷ xs) (suc i) zero x y other e = e
 get_set_other (z ∷ xs) (suc i) (suc j) x y other e = get_set_other xs i j x y (λ f. other (ap suc f)) e
-
-pub set_same : {X : Type 0} (xs : List X) (i : ℕ) (x : X) → slice_get xs i ≡ Some x → slice_set xs i x ≡ xs
-set_same [] i x e = absurd (cc)
-set_same (z ∷ xs) zero x e = ap (λ c. c ∷ xs) (sym (some_same e))
-set_same (z ∷ xs) (suc i) x e = ap (λ l. z ∷ l) (set_same xs i x e)
 
 -- lists of one length, of which one has an element where the other has one
 pub with_length : {X Y : Type 0} (xs : List X) (ys : List Y) (i : ℕ) (y : Y) → length ys ≡ length xs → slice_get ys i ≡ Some y → (x : X) × (slice_get xs i ≡ Some x)
@@ -50,11 +43,6 @@ same_map f g [] (y ∷ ys) e same = absurd (omega (arith, e))
 same_map f g (x ∷ xs) [] e same = absurd (omega (arith, e))
 same_map f g (x ∷ xs) (y ∷ ys) e same = ap (λ c. c ∷ map g ys) (same zero x y refl refl) ∙ ap (λ l. f x ∷ l) (same_map f g xs ys (omega (arith, e)) (λ i a b at_a at_b. same (suc i) a b at_a at_b))
 
-pub and_both : (a b : Bool) → a ≡ true → b ≡ true → (a && b) ≡ true
-and_both true true e f = refl
-and_both true false e f = f
-and_both false b e f = absurd (cc)
-
 pub all_append : {X : Type 0} (f : X → Bool) (xs ys : List X) → list_all f xs ≡ true → list_all f ys ≡ true → list_all f (xs ++ ys) ≡ true
 all_append f [] ys e g = g
-all_append f (x ∷ xs) ys e g = and_both (f x) (list_all f (xs ++ ys)) (and_left (f x) (list_all f xs) e) (all_append f xs ys (and_right (f x) (list_all f xs) e) g)
+all_append f (x ∷ xs) ys e g = and_from (f x) (list_all f (xs ++ ys)) (and_left (f x) (list_all f xs) e) (all_append f xs ys (and_right (f x) (list_all f xs) e) g)

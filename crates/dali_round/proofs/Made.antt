@@ -8,9 +8,10 @@ use Rattle.dali_clients.specs.declared.command.Block.{Block}
 use Rattle.dali_turns.specs.declared.client.Client.{Client}
 use Rattle.dali_turns.specs.Clients.{is_over}
 use Rattle.dali_round.specs.Played.{IsNew, AreNew, AreOver}
+use Rattle.dali_round.proofs.Lists.{by_less}
 
 -- an element of a list with one more behind it
-get_push : {X : Type 0} (xs : List X) (x y : X) (i : ℕ) → slice_get (xs ++ x ∷ []) i ≡ Some y → ((i < length xs) × (slice_get xs i ≡ Some y)) ⊎ ((i ≡ length xs) × (y ≡ x))
+pub get_push : {X : Type 0} (xs : List X) (x y : X) (i : ℕ) → slice_get (xs ++ x ∷ []) i ≡ Some y → ((i < length xs) × (slice_get xs i ≡ Some y)) ⊎ ((i ≡ length xs) × (y ≡ x))
 get_push [] x y zero e = inr (refl, sym (some_same e))
 get_push [] x y (suc i) e = absurd (cc)
 get_push (z ∷ xs) x y zero e = inl (omega arith, e)
@@ -70,12 +71,6 @@ one_over ks n k at_k over before i l less at_l =
     (λ h. before i l h at_l)
     (λ h. subst (λ (z : Client). is_over z.state (length z.rest.now == 0) ≡ true) (some_same (sym at_k ∙ (ap (slice_get ks) (sym h) ∙ at_l))) over)
     (by_less i n less)
-  where
-    by_less : (a b : ℕ) → a < b + 1 → (a < b) ⊎ (a ≡ b)
-    by_less zero zero h = inr refl
-    by_less zero (suc b) h = inl (omega arith)
-    by_less (suc a) zero h = absurd (omega (arith, h))
-    by_less (suc a) (suc b) h = ⊎_elim (λ l. inl (omega (arith, l))) (λ e. inr (ap suc e)) (by_less a b (omega (arith, h)))
 
 pub all_over : (ks : List Client) (n : ℕ) → OverTo n ks → length ks ≤ n → AreOver ks
 all_over ks n over h i k at_k = over i k (let within = slice_get_within ks i k at_k in omega (arith, within, h)) at_k

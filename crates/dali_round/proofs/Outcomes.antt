@@ -1,35 +1,33 @@
 -- Where a round ends: each client is done, or the round was cut.
-use Rattle.std.proofs.Common.{◌≡◌, ℕ, zero, suc, ◌+◌, Bool, true, false, List, [], ◌∷◌, ◌++◌, length, map, fold, Option, Some, None, is_some, refl, ap, sym, subst, ◌∙◌, arith}
+use Rattle.std.proofs.Common.{◌≡◌, ℕ, zero, suc, Bool, true, false, List, [], ◌∷◌, ◌++◌, length, map, fold, Option, Some, None, is_some, refl, ap, sym, subst, ◌∙◌, arith}
 use Rattle.std.specs.Prelude.{◌==◌, if◌then◌else◌, IfSome, IsSome, IsSomeAnd, slice_get}
 use Rattle.std.specs.List.{list_all}
-use Rattle.std.proofs.lemmas.List.{append-nil, append_assoc}
+use Rattle.std.proofs.lemmas.List.{append-nil}
 use Rattle.std.proofs.lemmas.List.Elements.{filter_map-append}
+use Rattle.dali_lists.proofs.Lists.{set_same}
+use Rattle.dali_lists.proofs.Options.{some_of_test}
 use Rattle.dali_counts.proofs.Lists.{equal, some_same, and_left, and_right}
-use Rattle.dali_record.specs.declared.records.Record.{Record}
 use Rattle.dali_region.specs.declared.Hold.{Hold}
 use Rattle.dali_region.specs.State.{RegionState, IsLive}
 use Rattle.dali_att.specs.declared.state.State.{State as TxnState}
 use Rattle.dali_att.specs.declared.state.State.TheVariants.{Live, Dead, Cleaning, Committed}
 use Rattle.dali_store.specs.Store.{Files as Disk}
-use Rattle.dali_system.specs.declared.causes.Cause.{Cause}
-use Rattle.dali_system.specs.State.{SystemState, CoreState, TxnRow, row_of, state_in, state_of, log_after}
+use Rattle.dali_system.specs.State.{SystemState, CoreState, TxnRow, row_of, state_in, state_of}
 use Rattle.dali_system.specs.Steps.{in_checkpoint}
-use Rattle.dali_crash.specs.Checkpoints.{StoreStep, Finishes, Point, IsPointCourse}
+use Rattle.dali_crash.specs.Checkpoints.{Finishes, Point, IsPointCourse}
 use Rattle.dali_crash.specs.Traces.{Start, bases_of}
 use Rattle.dali_vault.specs.Vaulted.{Vaulted}
 use Rattle.dali_during.proofs.Points.{point_whole_course_keeps}
 use Rattle.dali_clean.specs.Cleaned.{AreDead}
 use Rattle.dali_transcripts.specs.Words.{Said}
 use Rattle.dali_transcripts.specs.World.{Deed, Logs, Strays, DiesOn, Claims, GivesBack, GetsLock, Yields, FindsDead, StartsCheckpoint, MovesAnchor, EndsCheckpoint, Meets, Happening, World, log_of, is_dead_in, is_claimed_in, span_step, under_way, Grows}
-use Rattle.dali_transcripts.specs.Moves.{Receipt}
-use Rattle.dali_transcripts.specs.Transcripts.{Told, IsUnderWay, deeds_of, number_in, numbers_of, receipts_of, AreHanded, is_among, EachTells, AreTranscripts}
-use Rattle.dali_transcripts.specs.Rounds.{Standing, Stands, AllStand, IsDone, told_of, lines_in, IsAtRest, IsBetween, IsRound}
+use Rattle.dali_transcripts.specs.Transcripts.{Told, deeds_of, number_in, numbers_of, receipts_of, AreHanded, is_among, EachTells}
+use Rattle.dali_transcripts.specs.Rounds.{Standing, Stands, IsDone, told_of, lines_in, IsAtRest, IsBetween}
 use Rattle.dali_transcripts.proofs.Rounds.{round_is_done, round_is_cut, deeds_are_done}
 use Rattle.dali_deeds.specs.Tells.{after, Goes}
-use Rattle.dali_clients.specs.Told.{said_of}
 use Rattle.dali_turns.specs.declared.client.Client.{Client}
 use Rattle.dali_turns.specs.Stood.{Stood}
-use Rattle.dali_turns.specs.Fits.{rest_of, lines_of, Owns}
+use Rattle.dali_turns.specs.Fits.{lines_of}
 use Rattle.dali_turns.specs.Turns.{own_numbers}
 use Rattle.dali_turns.proofs.Deeds.{course_tells}
 use Rattle.dali_turns.proofs.Spans.{none_under_way}
@@ -38,13 +36,14 @@ use Rattle.dali_turns.proofs.Doing.{behind}
 use Rattle.dali_turns.proofs.Finishing.{finish_point, finishes_there, finished_at}
 use Rattle.dali_turns.proofs.Turning.{deeds_grown}
 use Rattle.dali_round.specs.Leads.{RoundLeads}
-use Rattle.dali_round.specs.Played.{AreOver, EachIsOwned, IsSeated, Played}
-use Rattle.dali_round.proofs.Lists.{get_map, set_same, with_length, same_map}
-use Rattle.dali_round.proofs.Unfinished.{under_way_on}
+use Rattle.dali_round.specs.Played.{AreOver, IsSeated, Played}
+use Rattle.dali_round.proofs.Lists.{with_length, same_map}
+use Rattle.dali_turns.proofs.Unfinished.{under_way_on}
 use Rattle.dali_round.proofs.Marks.{ends_under_way}
 use Rattle.dali_round.proofs.Places.{done_of, told_done, lines_done, over_stands, over_pending, over_owns}
 use Rattle.dali_round.proofs.Seats.{is_on, numbers_on, other_client, played_by}
 use Rattle.dali_round.proofs.Starts.{get_back}
+use Rattle.dali_rounds.specs.Went.{is_open}
 
 -- ---- lists
 find_among : (ss : List Standing) (c : ℕ) → is_among (map told_of ss) c ≡ true → (i : ℕ) × (a : Standing) × (slice_get ss i ≡ Some a) × (a.client ≡ c)
@@ -93,14 +92,6 @@ no_live gs dead r g e live = by_hold g.hold (dead r g e) live
     by_hold None d l = absurd l
     by_hold (Some h) d l = let no_way : true ≡ false = sym d ∙ l in absurd (cc)
 
-has_cause : (o : Option Cause) → is_some o ≡ true → (cause : Cause) × (o ≡ Some cause)
-has_cause None e = absurd (cc)
-has_cause (Some cause) e = (cause, refl)
-
-has_client : (o : Option ℕ) → is_some o ≡ true → (c : ℕ) × (o ≡ Some c)
-has_client None e = absurd (cc)
-has_client (Some c) e = (c, refl)
-
 module _ {V : Type 0} (told : V → Option Disk) (may_leave : V → Disk → Type 0) (faults : V → ℕ) where
   module _ (precheck : Bool) (s : Start) (p : Point) (bs : List Told) (ks : List Client) (gs : List RegionState) (y : SystemState) (v : Vaulted V) (ok : Bool) (f : Played told may_leave faults ok precheck s p bs ks gs y v) where
     -- ---- whose checkpoint is under way
@@ -116,7 +107,7 @@ module _ {V : Type 0} (told : V → Option Disk) (may_leave : V → Disk → Typ
     making set = record { place = one.0; standing = one.1; there = one.2; client = two.0; at_client = two.1; under = who.1 ∙ ap Some (sym one.3) }
       where
         who : (c : ℕ) × (under_way f.world.happened ≡ Some c)
-        who = has_client (under_way f.world.happened) (sym f.stood.tells.flag ∙ (ap (λ (c : CoreState). c.system.checking) f.stood.tells.core ∙ (ap (λ (m : SystemState). m.checking) f.stood.stands.at.system ∙ set)))
+        who = some_of_test (under_way f.world.happened) (sym f.stood.tells.flag ∙ (ap (λ (c : CoreState). c.system.checking) f.stood.tells.core ∙ (ap (λ (m : SystemState). m.checking) f.stood.stands.at.system ∙ set)))
 
         one : (i : ℕ) × (a : Standing) × (slice_get f.standings i ≡ Some a) × (a.client ≡ who.0)
         one = find_among f.standings who.0 (subst (λ l. is_among l who.0 ≡ true) (sym f.blocks) (started bs f.world.happened None who.0 who.1 f.owners (λ e. absurd (cc))))
@@ -127,7 +118,7 @@ module _ {V : Type 0} (told : V → Option Disk) (may_leave : V → Disk → Typ
     -- ---- what is promised behind each end
     rests : y.checking ≡ false → IsAtRest f.to.core
     rests clear = record {
-      stopped = λ e. has_cause f.to.core.system.stop (ap (λ (m : SystemState). is_some m.stop) f.stood.stands.at.system ∙ f.stood.stops (sym f.stood.stands.at.vault.vault.stopped ∙ e));
+      stopped = λ e. some_of_test f.to.core.system.stop (ap (λ (m : SystemState). is_some m.stop) f.stood.stands.at.system ∙ f.stood.stops (sym f.stood.stands.at.vault.vault.stopped ∙ e));
       holds = no_live f.to.core.regions (subst AreDead (sym f.stood.stands.at.regions) f.stood.stands.dead);
       flag = ap (λ (m : SystemState). m.checking) f.stood.stands.at.system ∙ clear;
       free = λ t. ap (λ (m : SystemState). is_claimed_in (state_of m t)) f.stood.stands.at.system ∙ f.stood.quiet.unclaimed t;
@@ -201,15 +192,18 @@ module _ {V : Type 0} (told : V → Option Disk) (may_leave : V → Disk → Typ
     dead_rows : y.stop ≡ None → (t : ℕ) → IsSome (row_of y t) → is_dead_in (state_of y t) ≡ true
     dead_rows up t some = by_row (row_of y t) refl some
       where
-        by_state : (x : TxnState) → state_of y t ≡ Some x → is_dead_in (Some x) ≡ true
-        by_state Live e = let h = f.owned refl up t e in absurd (over_owns h.1.state (length h.1.rest.now == 0) t (over h.0 h.1 h.2) h.3)
-        by_state (Dead latched) e = refl
+        owned_by_none : is_open (state_of y t) ≡ true → is_dead_in (state_of y t) ≡ true
+        owned_by_none is_so = let h = f.owned refl up t is_so in absurd (over_owns h.1.state (length h.1.rest.now == 0) t (over h.0 h.1 h.2) h.3)
+
+        by_state : (x : TxnState) → state_of y t ≡ Some x → is_dead_in (state_of y t) ≡ true
+        by_state Live e = owned_by_none (ap is_open e)
+        by_state (Dead latched) e = ap is_dead_in e
         by_state (Cleaning latched) e = let no_way : true ≡ false = sym (ap is_claimed_in e) ∙ f.stood.quiet.unclaimed t in absurd (cc)
-        by_state Committed e = absurd (f.stood.quiet.settled up t e)
+        by_state Committed e = owned_by_none (ap is_open e)
 
         by_row : (o : Option TxnRow) → row_of y t ≡ o → IsSome o → is_dead_in (state_of y t) ≡ true
         by_row None e h = absurd (cc)
-        by_row (Some row) e h = ap (λ r. is_dead_in (state_in r)) e ∙ by_state row.state (ap state_in e)
+        by_row (Some row) e h = by_state row.state (ap state_in e)
 
     is_between : IsBetween f.to.core
     is_between = record {
@@ -272,11 +266,12 @@ module _ {V : Type 0} (told : V → Option Disk) (may_leave : V → Disk → Typ
         dead = f.stood.stands.dead;
       };
       files = f.stood.files;
-      quiet = record { unclaimed = f.stood.quiet.unclaimed; settled = f.stood.quiet.settled };
+      quiet = record { unclaimed = f.stood.quiet.unclaimed };
       stops = f.stood.stops;
       tells = goes.tells;
       precheck_is = f.stood.precheck_is;
       began = f.stood.began;
+      since = f.stood.since;
       keeps = course_flag f.to q (Finishes ∷ []) course f.stood.keeps;
     }
 

@@ -1,5 +1,5 @@
 -- Where the standing of a client has it, by its state.
-use Rattle.std.proofs.Common.{◌≡◌, ℕ, Bool, true, false, List, [], ◌∷◌, length, map, Option, Some, None, refl, ap, sym, subst, ◌∙◌, arith}
+use Rattle.std.proofs.Common.{◌≡◌, ℕ, Bool, true, List, [], ◌∷◌, length, map, Option, Some, refl, ap, sym, subst, ◌∙◌, arith}
 use Rattle.std.specs.Prelude.{◌==◌}
 use Rattle.std.proofs.lemmas.List.{append-nil}
 use Rattle.dali_counts.proofs.Lists.{equal}
@@ -20,7 +20,7 @@ use Rattle.dali_clients.specs.declared.command.Command.{Command}
 use Rattle.dali_clients.specs.Told.{act_of}
 use Rattle.dali_turns.specs.declared.client.Client.{Client}
 use Rattle.dali_turns.specs.declared.client.State.{State}
-use Rattle.dali_turns.specs.declared.client.State.TheVariants.{Outside, LeftOut, Within, Calling, TakingBack, Waiting, Auditing, Copying, Certifying, Gone}
+use Rattle.dali_turns.specs.declared.client.State.TheVariants.{Outside, LeftOut, Within, Calling, TakingBack, Committing, Waiting, Auditing, Copying, Certifying, Gone}
 use Rattle.dali_turns.specs.Clients.{is_over}
 use Rattle.dali_turns.specs.Within.{AreGot}
 use Rattle.dali_turns.specs.Fits.{rest_of, InTxn, Owns, Fits}
@@ -87,6 +87,7 @@ module _ {V : Type 0} (told : V → Option Disk) (may_leave : V → Disk → Typ
   at_spot rest (Within x) f = subst (λ (l : List Act). Fits told may_leave faults s B p w gs y v a l (Within x)) (sym (ap (λ (q : Spot). q.rest) f.spot)) f
   at_spot rest (Calling x plan) f = subst (λ (l : List Act). Fits told may_leave faults s B p w gs y v a l (Calling x plan)) (sym (ap (λ (q : Spot). q.rest) f.spot)) f
   at_spot rest (TakingBack x plan why) f = subst (λ (l : List Act). Fits told may_leave faults s B p w gs y v a l (TakingBack x plan why)) (sym (ap (λ (q : Spot). q.rest) f.spot)) f
+  at_spot rest (Committing x number removals next) f = subst (λ (l : List Act). Fits told may_leave faults s B p w gs y v a l (Committing x number removals next)) (sym (ap (λ (q : Spot). q.rest) f.spot)) f
   at_spot rest (Waiting tries holder) f = subst (λ (l : List Act). Fits told may_leave faults s B p w gs y v a l (Waiting tries holder)) (sym (ap (λ (q : Spot). q.rest) f.spot)) f
   at_spot rest (Auditing audit next) f = subst (λ (l : List Act). Fits told may_leave faults s B p w gs y v a l (Auditing audit next)) (sym (ap (λ (q : Spot). q.rest) f.spot)) f
   at_spot rest (Copying c next) f = subst (λ (l : List Act). Fits told may_leave faults s B p w gs y v a l (Copying c next)) (sym (ap (λ (q : Spot). q.rest) f.making.spot)) f
@@ -97,12 +98,14 @@ module _ {V : Type 0} (told : V → Option Disk) (may_leave : V → Disk → Typ
   owns_within rest (Within x) t f owns = ap (λ (q : Spot). in_txn q.place) f.spot ∙ ap Some owns
   owns_within rest (Calling x plan) t f owns = ap (λ (q : Spot). in_txn q.place) f.spot ∙ ap Some owns
   owns_within rest (TakingBack x plan why) t f owns = ap (λ (q : Spot). in_txn q.place) f.spot ∙ ap Some owns
+  owns_within rest (Committing x number removals next) t f owns = ap (λ (q : Spot). in_txn q.place) f.spot ∙ ap Some owns
   owns_within rest state t f owns = absurd owns
 
   pub owns_in : (rest : List Act) (state : State) (t : ℕ) → Fits told may_leave faults s B p w gs y v a rest state → Owns state t → InTxn a.spot.place t
   owns_in rest (Within x) t f owns = subst (λ (q : Spot). InTxn q.place t) (sym f.spot) owns
   owns_in rest (Calling x plan) t f owns = subst (λ (q : Spot). InTxn q.place t) (sym f.spot) owns
   owns_in rest (TakingBack x plan why) t f owns = subst (λ (q : Spot). InTxn q.place t) (sym f.spot) owns
+  owns_in rest (Committing x number removals next) t f owns = subst (λ (q : Spot). InTxn q.place t) (sym f.spot) owns
   owns_in rest state t f owns = absurd owns
 
   -- its locks were granted to it
@@ -110,6 +113,7 @@ module _ {V : Type 0} (told : V → Option Disk) (may_leave : V → Disk → Typ
   owns_locks rest (Within x) t f owns = subst (AreGot p w a.client) owns f.locks
   owns_locks rest (Calling x plan) t f owns = subst (AreGot p w a.client) owns f.locks
   owns_locks rest (TakingBack x plan why) t f owns = subst (AreGot p w a.client) owns f.locks
+  owns_locks rest (Committing x number removals next) t f owns = subst (AreGot p w a.client) owns f.locks
   owns_locks rest state t f owns = absurd owns
 
 -- who is done is in no transaction

@@ -1,58 +1,47 @@
 -- A round goes on by a step of one of its clients.
-use Rattle.std.proofs.Common.{◌≡◌, ℕ, zero, suc, Bool, true, false, List, [], ◌∷◌, ◌++◌, length, map, Option, Some, None, is_some, refl, ap, sym, subst, ◌∙◌, ◌⊎◌, inl, inr, ⊎_elim}
+use Rattle.std.proofs.Common.{◌≡◌, arith, ℕ, zero, suc, Bool, true, false, List, [], ◌∷◌, ◌++◌, length, map, Option, Some, None, refl, ap, sym, subst, ◌∙◌, ◌⊎◌, inl, inr, ⊎_elim}
 use Rattle.std.specs.Prelude.{◌==◌, IsSome, slice_get, slice_set}
 use Rattle.std.specs.List.{list_all}
-use Rattle.std.proofs.lemmas.List.{append_assoc, append-nil}
+use Rattle.std.proofs.lemmas.List.{length-set}
+use Rattle.std.proofs.lemmas.Bool.{ne_eqb}
+use Rattle.dali_lists.proofs.Lists.{get_set}
 use Rattle.dali_counts.proofs.Lists.{self, equal, same_number, set_cases, some_same}
 use Rattle.dali_record.specs.declared.records.Record.{Record}
-use Rattle.dali_record.specs.Legal.{Rules, rules_state}
+use Rattle.dali_record.specs.Legal.{rules_state}
 use Rattle.dali_region.specs.State.{RegionState}
-use Rattle.dali_att.specs.declared.state.State.TheVariants.{Live}
+use Rattle.dali_rounds.specs.Went.{is_open}
 use Rattle.dali_store.specs.Store.{Files as Disk}
 use Rattle.dali_system.specs.declared.causes.Cause.{Cause}
-use Rattle.dali_system.specs.State.{SystemState, CoreState, state_of, lock_of}
+use Rattle.dali_system.specs.State.{SystemState, CoreState, state_of, lock_of, log_after}
 use Rattle.dali_crash.specs.Checkpoints.{StoreStep, Point, IsPointCourse}
 use Rattle.dali_crash.specs.Traces.{Start, bases_of}
 use Rattle.dali_vault.specs.Vaulted.{Vaulted}
 use Rattle.dali_checkpoint.proofs.Calls.{course_join}
 use Rattle.dali_transcripts.specs.World.{Deed, Happening, World, HasGot, log_of, Grows}
-use Rattle.dali_transcripts.specs.Moves.{Receipt}
 use Rattle.dali_transcripts.specs.Transcripts.{IsSoFar, owned, deeds_of, numbers_of, Told, is_among}
-use Rattle.dali_transcripts.specs.Rounds.{Standing, Stands, by, AreBlocks, told_of}
+use Rattle.dali_transcripts.specs.Rounds.{Standing, by, AreBlocks, told_of}
 use Rattle.dali_transcripts.proofs.Growing.{world_goes_on}
-use Rattle.dali_transcripts.proofs.Owned.{others_go_on}
-use Rattle.dali_deeds.specs.Tells.{after, Goes}
+use Rattle.dali_transcripts.proofs.Rounds.{others_stay}
+use Rattle.dali_deeds.specs.Tells.{Goes}
 use Rattle.dali_turns.specs.declared.client.Client.{Client}
-use Rattle.dali_turns.specs.declared.client.State.{State}
+use Rattle.dali_turns.specs.declared.client.State.TheVariants.{Gone}
 use Rattle.dali_turns.specs.Stood.{Stood}
-use Rattle.dali_turns.specs.Fits.{rest_of, Speaks, InTxn, OthersGot, IsOf, Owns, Fits}
-use Rattle.dali_turns.specs.Others.{LeavesOthers}
-use Rattle.dali_turns.specs.Goes.{Came, RowsTell, Went}
+use Rattle.dali_turns.specs.Fits.{rest_of, lines_of, Speaks, InTxn, OthersGot, IsOf, Owns}
+use Rattle.dali_turns.specs.Goes.{Went}
 use Rattle.dali_turns.specs.Turns.{own_numbers, AreReceipts, Turned, TurnGoes}
 use Rattle.dali_turns.proofs.Refusals.{runs_on_log}
 use Rattle.dali_turns.proofs.Staying.{others_fit}
-use Rattle.dali_turns.proofs.Cutting.{fits_under_way}
-use Rattle.dali_round.specs.Played.{EachIsOwned, IsSeated, Played, PlayGoes}
-use Rattle.dali_round.proofs.Lists.{get_map, map_set, length_set, get_set, get_set_other, with_length, all_append}
+use Rattle.dali_round.specs.Played.{EachIsOwned, IsSeated, IsHalting, Played, Halting}
+use Rattle.dali_round.proofs.Lists.{get_map, map_set, get_set_other, with_length, all_append}
 use Rattle.dali_round.proofs.Begun.{in_one}
 use Rattle.dali_round.proofs.Places.{at_spot, owns_within, owns_in, owns_locks}
 
 -- ---- the deeds of another client
-not_same : (m n : ℕ) → (m ≡ n → ⊥) → (m == n) ≡ false
-not_same m n other = by_test (m == n) refl
-  where
-    by_test : (b : Bool) → (m == n) ≡ b → (m == n) ≡ false
-    by_test true e = absurd (other (equal m n e))
-    by_test false e = e
-
-others_stay : (c d n : ℕ) (xs : List Happening) (ds : List Deed) → (d == c) ≡ false → owned c n (xs ++ by d ds) ≡ owned c n xs
-others_stay c d n xs [] other = ap (owned c n) (append-nil xs)
-others_stay c d n xs (x ∷ ds) other = ap (owned c n) (sym (append_assoc xs ((x, d) ∷ []) (by d ds))) ∙ (others_stay c d n (xs ++ (x, d) ∷ []) ds other ∙ others_go_on c d n xs x other)
 
 pub deeds_same : (w x : World) (c d : ℕ) (ds : List Deed) → (g : Grows w x) → g.more ≡ by d ds → (d ≡ c → ⊥) → deeds_of x c ≡ deeds_of w c
 deeds_same w x c d ds g more other =
     ap (λ (b : List Record). owned c (length b) x.happened) g.before
-    ∙ (ap (owned c (length w.before)) (g.happened ∙ ap (λ l. w.happened ++ l) more) ∙ others_stay c d (length w.before) w.happened ds (not_same d c other))
+    ∙ (ap (owned c (length w.before)) (g.happened ∙ ap (λ l. w.happened ++ l) more) ∙ others_stay c d (length w.before) w.happened ds (ne_eqb d c other))
 
 -- ---- whose they are
 among_later : (z : Told) (bs : List Told) (c : ℕ) → is_among bs c ≡ true → is_among (z ∷ bs) c ≡ true
@@ -74,37 +63,33 @@ pub all_by : (bs : List Told) (c : ℕ) (ds : List Deed) → is_among bs c ≡ t
 all_by bs c [] e = refl
 all_by bs c (x ∷ ds) e = rw e (all_by bs c ds e)
 
-module _ {V : Type 0} (told : V → Option Disk) (may_leave : V → Disk → Type 0) (faults : V → ℕ) where
-  -- ---- a client where the round is cut
-  pub cut_seat : (ok : Bool) (s : Start) (B : List (List Record)) (p : Point) (w : World) (gs : List RegionState) (y : SystemState) (v : Vaulted V) (a : Standing) (k : Client)
-      → IsSeated told may_leave faults true s B p w gs y v a k → IsSeated told may_leave faults ok s B p w gs y v a k
-  cut_seat true s B p w gs y v a k seat = seat
-  cut_seat false s B p w gs y v a k seat = record {
-    is = seat.is;
-    came = fits_under_way told may_leave faults s B p w gs y v a (rest_of k) k.state seat.came;
-    receipts = ([], sym seat.receipts ∙ sym (append-nil k.transcript.receipts));
+-- ---- by deeds of one of the clients
+module _ (bs : List Told) (are : AreBlocks bs) (standings : List Standing) (blocks : map told_of standings ≡ bs) (i : ℕ) (a : Standing) (at_a : slice_get standings i ≡ Some a) where
+  pub is_one : is_among bs a.client ≡ true
+  is_one = is_in bs i (told_of a) (subst (λ l. slice_get l i ≡ Some (told_of a)) blocks (get_map told_of standings i a at_a))
+
+  -- clients at other places are others
+  pub client_apart : (n : ℕ) (b : Standing) → slice_get standings n ≡ Some b → (n ≡ i → ⊥) → a.client ≡ b.client → ⊥
+  client_apart n b at_b apart same =
+      let one : slice_get bs i ≡ Some (told_of a) = subst (λ l. slice_get l i ≡ Some (told_of a)) blocks (get_map told_of standings i a at_a) in
+      let two : slice_get bs n ≡ Some (told_of b) = subst (λ l. slice_get l n ≡ Some (told_of b)) blocks (get_map told_of standings n b at_b) in
+      apart (sym (are.apart i n (told_of a) (told_of b) one two same))
+
+module _ (w x : World) (a : Standing) (p q : Point) (ds : List Deed) (goes : Goes w a.client p ds x q) (b : Standing) (l : Client) (other : a.client ≡ b.client → ⊥) (is : Speaks w b l) where
+  pub speaks_on : Speaks x b l
+  speaks_on = record {
+    client = is.client;
+    lines = is.lines;
+    stands = subst (λ did. IsSoFar x b.client b.acts b.lines did b.pending b.spot) (sym (deeds_same w x b.client a.client ds goes.grows goes.more other))
+        (world_goes_on w x b.client b.acts b.lines (deeds_of w b.client) b.pending b.spot goes.grows is.stands);
   }
 
-  pub cut_play : (precheck : Bool) (s : Start) (p : Point) (bs : List Told) (ks : List Client) (gs : List RegionState) (y : SystemState) (v : Vaulted V)
-      → Played told may_leave faults true precheck s p bs ks gs y v → Played told may_leave faults false precheck s p bs ks gs y v
-  cut_play precheck s p bs ks gs y v f = record {
-    are = f.are;
-    log = f.log;
-    to = f.to;
-    batches = f.batches;
-    steps = f.steps;
-    course = f.course;
-    world = f.world;
-    old_is = f.old_is;
-    before_is = f.before_is;
-    stood = f.stood;
-    owners = f.owners;
-    standings = f.standings;
-    blocks = f.blocks;
-    count = f.count;
-    seats = λ i a k at_a at_k. cut_seat false s f.batches f.to f.world gs y v a k (f.seats i a k at_a at_k);
-    owned = λ e. absurd (cc);
-  }
+  pub same_numbers : own_numbers x l ≡ own_numbers w l
+  same_numbers = ap numbers_of (deeds_same w x l.transcript.client a.client ds goes.grows goes.more (λ e. other (e ∙ sym is.client)))
+
+module _ {V : Type 0} (told : V → Option Disk) (may_leave : V → Disk → Type 0) (faults : V → ℕ) where
+  pub legal : (precheck : Bool) (s : Start) (w : World) (r : Point) (B : List (List Record)) (rs : List RegionState) (m : SystemState) (t : Vaulted V) → Stood told may_leave faults s B r w precheck rs m t → IsSome (rules_state r.core.system.sizes (log_of w))
+  legal precheck s w r B rs m t stood = subst (λ (L : List Record). IsSome (rules_state r.core.system.sizes L)) stood.tells.log (runs_on_log (bases_of s) s.log r stood.stands.at.vault.run).log.legal.rules
 
   -- ---- from one world to the next, by deeds of one client
   module _ (precheck : Bool) (s : Start) (p : Point) (bs : List Told) (ks : List Client) (gs : List RegionState) (y : SystemState) (v : Vaulted V) (was ok : Bool) (f : Played told may_leave faults was precheck s p bs ks gs y v)
@@ -112,25 +97,16 @@ module _ {V : Type 0} (told : V → Option Disk) (may_leave : V → Disk → Typ
       (C : List (List Record)) (q : Point) (steps : List StoreStep) (course : IsPointCourse f.to steps q) (ds : List Deed) (x : World) (goes : Goes f.world a.client f.to ds x q) (hs : List RegionState) (z : SystemState) (u : Vaulted V)
       (late : Stood told may_leave faults s C q x precheck hs z u) where
     among : is_among bs a.client ≡ true
-    among = is_in bs i (told_of a) (subst (λ l. slice_get l i ≡ Some (told_of a)) f.blocks (get_map told_of f.standings i a at_a))
+    among = is_one bs f.are f.standings f.blocks i a at_a
 
-    -- clients at other places are others
     pub other_client : (n : ℕ) (b : Standing) → slice_get f.standings n ≡ Some b → (n ≡ i → ⊥) → a.client ≡ b.client → ⊥
-    other_client n b at_b apart same =
-        let one : slice_get bs i ≡ Some (told_of a) = subst (λ l. slice_get l i ≡ Some (told_of a)) f.blocks (get_map told_of f.standings i a at_a) in
-        let two : slice_get bs n ≡ Some (told_of b) = subst (λ l. slice_get l n ≡ Some (told_of b)) f.blocks (get_map told_of f.standings n b at_b) in
-        apart (sym (f.are.apart i n (told_of a) (told_of b) one two same))
+    other_client n b at_b apart same = client_apart bs f.are f.standings f.blocks i a at_a n b at_b apart same
 
     pub is_on : (b : Standing) (l : Client) → (a.client ≡ b.client → ⊥) → Speaks f.world b l → Speaks x b l
-    is_on b l other is = record {
-      client = is.client;
-      lines = is.lines;
-      stands = subst (λ did. IsSoFar x b.client b.acts b.lines did b.pending b.spot) (sym (deeds_same f.world x b.client a.client ds goes.grows goes.more other))
-          (world_goes_on f.world x b.client b.acts b.lines (deeds_of f.world b.client) b.pending b.spot goes.grows is.stands);
-    }
+    is_on b l other is = speaks_on f.world x a f.to q ds goes b l other is
 
     pub numbers_on : (b : Standing) (l : Client) → (a.client ≡ b.client → ⊥) → Speaks f.world b l → own_numbers x l ≡ own_numbers f.world l
-    numbers_on b l other is = ap numbers_of (deeds_same f.world x l.transcript.client a.client ds goes.grows goes.more (λ e. other (e ∙ sym is.client)))
+    numbers_on b l other is = same_numbers f.world x a f.to q ds goes b l other is
 
     pub played_by : (b : Standing) (j : Client) → b.client ≡ a.client → b.acts ≡ a.acts → IsSeated told may_leave faults ok s C q x hs z u b j
         → ((n : ℕ) (c : Standing) (l : Client) → slice_get f.standings n ≡ Some c → slice_get ks n ≡ Some l → (n ≡ i → ⊥) → IsSeated told may_leave faults ok s C q x hs z u c l)
@@ -151,7 +127,7 @@ module _ {V : Type 0} (told : V → Option Disk) (may_leave : V → Disk → Typ
           (all_append (λ (h : Happening). is_among bs h.1) f.world.happened (by a.client ds) f.owners (all_by bs a.client ds among));
       standings = slice_set f.standings i b;
       blocks = map_set told_of f.standings i a b at_a same ∙ f.blocks;
-      count = length_set ks i j ∙ (f.count ∙ sym (length_set f.standings i b));
+      count = length-set ks i j ∙ (f.count ∙ sym (length-set f.standings i b));
       seats = λ n c l at_c at_l.
           ⊎_elim
           (λ here. ⊎_elim
@@ -169,13 +145,60 @@ module _ {V : Type 0} (told : V → Option Disk) (may_leave : V → Disk → Typ
         same : told_of b ≡ told_of a
         same = ap (λ c. record { client = c; acts = b.acts }) client ∙ ap (λ l. record { client = a.client; acts = l }) acts
 
+  -- the same where the round makes no steps more
+  module _ (precheck : Bool) (s : Start) (p : Point) (bs : List Told) (ks : List Client) (gs : List RegionState) (y : SystemState) (v : Vaulted V)
+      (are : AreBlocks bs) (log : p.log ≡ log_after s.log p.core.system) (to : Point) (batches : List (List Record)) (steps : List StoreStep) (course : IsPointCourse p steps to) (world : World) (old_is : world.old ≡ p.core) (before_is : world.before ≡ p.log)
+      (owners : list_all (λ (h : Happening). is_among bs h.1) world.happened ≡ true) (standings : List Standing) (blocks : map told_of standings ≡ bs) (count : length ks ≡ length standings)
+      (i : ℕ) (a : Standing) (k : Client) (at_a : slice_get standings i ≡ Some a) (at_k : slice_get ks i ≡ Some k)
+      (C : List (List Record)) (q : Point) (more : List StoreStep) (further : IsPointCourse to more q) (ds : List Deed) (x : World) (goes : Goes world a.client to ds x q) (hs : List RegionState) (z : SystemState) (u : Vaulted V)
+      (late : Stood told may_leave faults s C q x precheck hs z u) where
+    unfoldable pub halting_by : (b : Standing) (j : Client) → b.client ≡ a.client → b.acts ≡ a.acts → (upto : ℕ) → IsHalting told may_leave faults upto i s C q x hs z u b j
+        → ((n : ℕ) (c : Standing) (l : Client) → slice_get standings n ≡ Some c → slice_get ks n ≡ Some l → (n ≡ i → ⊥) → IsHalting told may_leave faults upto n s C q x hs z u c l)
+        → Halting told may_leave faults upto precheck s p bs (slice_set ks i j) hs z u
+    halting_by b j client acts upto seat others = record {
+      are = are;
+      log = log;
+      to = q;
+      batches = C;
+      steps = steps ++ more;
+      course = course_join p to q steps more course further;
+      world = x;
+      old_is = goes.grows.old ∙ old_is;
+      before_is = goes.grows.before ∙ before_is;
+      stood = late;
+      owners = subst (λ l. list_all (λ (h : Happening). is_among bs h.1) l ≡ true) (sym (goes.grows.happened ∙ ap (λ l. world.happened ++ l) goes.more))
+          (all_append (λ (h : Happening). is_among bs h.1) world.happened (by a.client ds) owners
+          (all_by bs a.client ds (is_one bs are standings blocks i a at_a)));
+      standings = slice_set standings i b;
+      blocks = map_set told_of standings i a b at_a (ap (λ c. record { client = c; acts = b.acts }) client ∙ ap (λ l. record { client = a.client; acts = l }) acts) ∙ blocks;
+      count = length-set ks i j ∙ (count ∙ sym (length-set standings i b));
+      seats = λ n c l at_c at_l.
+          ⊎_elim
+          (λ here. ⊎_elim
+          (λ also. subst (λ m. IsHalting told may_leave faults upto n s C q x hs z u c m) (sym also.1) (subst (λ d. IsHalting told may_leave faults upto n s C q x hs z u d j) (sym here.1)
+          (subst (λ m. IsHalting told may_leave faults upto m s C q x hs z u b j) (sym here.0) seat)))
+          (λ away. absurd (away.0 (sym here.0)))
+          (set_cases ks i j n l at_l))
+          (λ away. ⊎_elim
+          (λ here. absurd (away.0 (sym here.0)))
+          (λ also. others n c l away.1 also.1 (λ e. away.0 (sym e)))
+          (set_cases ks i j n l at_l))
+          (set_cases standings i b n c at_c);
+    }
+
+    pub halting_to : (b : Standing) (j : Client) (client : b.client ≡ a.client) (acts : b.acts ≡ a.acts) (upto : ℕ) (seat : IsHalting told may_leave faults upto i s C q x hs z u b j)
+        (others : (n : ℕ) (c : Standing) (l : Client) → slice_get standings n ≡ Some c → slice_get ks n ≡ Some l → (n ≡ i → ⊥) → IsHalting told may_leave faults upto n s C q x hs z u c l)
+        → (halting_by b j client acts upto seat others).to ≡ q
+    unfolding halting_by
+    halting_to b j client acts upto seat others = refl
+
   -- ---- a step of a client
   module _ (precheck : Bool) (s : Start) (p : Point) (bs : List Told) (ks : List Client) (gs : List RegionState) (y : SystemState) (v : Vaulted V) (f : Played told may_leave faults true precheck s p bs ks gs y v)
       (i : ℕ) (k : Client) (at_k : slice_get ks i ≡ Some k) where
-    there : (a : Standing) × (slice_get f.standings i ≡ Some a)
+    pub there : (a : Standing) × (slice_get f.standings i ≡ Some a)
     there = with_length f.standings ks i k f.count at_k
 
-    seat : IsSeated told may_leave faults true s f.batches f.to f.world gs y v there.0 k
+    pub seat : IsSeated told may_leave faults true s f.batches f.to f.world gs y v there.0 k
     seat = f.seats i there.0 k there.1 at_k
 
     system_there : f.world.core.system ≡ y
@@ -190,15 +213,15 @@ module _ {V : Type 0} (told : V → Option Disk) (may_leave : V → Disk → Typ
 
     -- whoever is in a transaction was granted its locks
     others : OthersGot f.world there.0
-    others runs t n lives has = by_place (owner.0 == i) refl
+    others runs t n mode lives has = by_place (owner.0 == i) refl
       where
         owner : (m : ℕ) × (l : Client) × (slice_get ks m ≡ Some l) × Owns l.state t
-        owner = f.owned refl (ap (λ (m : SystemState). m.stop) (sym system_there) ∙ runs) t (ap (λ (m : SystemState). state_of m t) (sym system_there) ∙ lives)
+        owner = f.owned refl (ap (λ (m : SystemState). m.stop) (sym system_there) ∙ runs) t (ap (λ (m : SystemState). is_open (state_of m t)) (sym system_there) ∙ lives)
 
-        held : is_some (lock_of f.to.core.system t n) ≡ true
-        held = ap (λ (c : CoreState). is_some (lock_of c.system t n)) (sym f.stood.tells.core) ∙ has
+        held : lock_of f.to.core.system t n ≡ Some mode
+        held = ap (λ (c : CoreState). lock_of c.system t n) (sym f.stood.tells.core) ∙ has
 
-        by_place : (b : Bool) → (owner.0 == i) ≡ b → InTxn there.0.spot.place t ⊎ ((d : ℕ) × ((d == there.0.client) ≡ false) × HasGot f.world.happened d t n)
+        by_place : (b : Bool) → (owner.0 == i) ≡ b → InTxn there.0.spot.place t ⊎ ((d : ℕ) × ((d == there.0.client) ≡ false) × HasGot f.world.happened d t n mode)
         by_place true e =
             let same : owner.1 ≡ k = some_same (sym owner.2 ∙ (ap (slice_get ks) (equal owner.0 i e) ∙ at_k)) in
             inl (owns_in told may_leave faults s f.batches f.to f.world gs y v there.0 (rest_of k) k.state t seat.came (subst (λ (l : Client). Owns l.state t) same owner.3))
@@ -207,11 +230,11 @@ module _ {V : Type 0} (told : V → Option Disk) (may_leave : V → Disk → Typ
             let its = f.seats owner.0 b.0 owner.1 b.1 owner.2 in
             inr (
               b.0.client,
-              not_same b.0.client there.0.client (apart owner.0 b.0 b.1 (λ here. let yes : (owner.0 == i) ≡ true = same_number owner.0 i here in let no : true ≡ false = sym yes ∙ e in absurd (cc))),
-              owns_locks told may_leave faults s f.batches f.to f.world gs y v b.0 (rest_of owner.1) owner.1.state t its.came owner.3 n held,
+              ne_eqb b.0.client there.0.client (apart owner.0 b.0 b.1 (λ here. let yes : (owner.0 == i) ≡ true = same_number owner.0 i here in let no : true ≡ false = sym yes ∙ e in absurd (cc))),
+              owns_locks told may_leave faults s f.batches f.to f.world gs y v b.0 (rest_of owner.1) owner.1.state t its.came owner.3 n mode held,
             )
 
-    is_of : IsOf f.world there.0 k
+    pub is_of : IsOf f.world there.0 k
     is_of = record { client = seat.is.client; lines = seat.is.lines; stands = seat.is.stands; others = others }
 
     module _ (ok : Bool) (j : Client) (hs : List RegionState) (z : SystemState) (u : Vaulted V) (turn : TurnGoes told may_leave faults precheck k gs y v ok j hs z u) where
@@ -220,9 +243,6 @@ module _ {V : Type 0} (told : V → Option Disk) (may_leave : V → Disk → Typ
 
       abbrev g : Went told may_leave faults precheck s f.batches f.to f.world there.0 k.state gs y v ok j hs z u
       g = t.went
-
-      legal : (w : World) (r : Point) (B : List (List Record)) (rs : List RegionState) (m : SystemState) (t : Vaulted V) → Stood told may_leave faults s B r w precheck rs m t → IsSome (rules_state r.core.system.sizes (log_of w))
-      legal w r B rs m t stood = subst (λ (L : List Record). IsSome (rules_state r.core.system.sizes L)) stood.tells.log (runs_on_log (bases_of s) s.log r stood.stands.at.vault.run).log.legal.rules
 
       ran_before : z.stop ≡ None → y.stop ≡ None
       ran_before up = by_stop y.stop refl
@@ -243,7 +263,7 @@ module _ {V : Type 0} (told : V → Option Disk) (may_leave : V → Disk → Typ
         came =
             others_fit told may_leave faults l.state k.state s f.batches g.batches f.to g.to f.world g.world gs hs y z v u precheck b there.0 (rest_of l) g.deeds f.stood g.stood old.is.stands seat.is.stands old.came
             (at_spot told may_leave faults s f.batches f.to f.world gs y v there.0 (rest_of k) k.state seat.came) (λ e. other (sym e)) (λ t mine yours. other (sym (in_one _ f.world b there.0 t
-            (legal f.world f.to f.batches gs y v f.stood) old.is.stands seat.is.stands
+            (legal precheck s f.world f.to f.batches gs y v f.stood) old.is.stands seat.is.stands
             (owns_within told may_leave faults s f.batches f.to f.world gs y v b (rest_of l) l.state t old.came mine)
             (owns_within told may_leave faults s f.batches f.to f.world gs y v there.0 (rest_of k) k.state t seat.came yours)))) g.goes g.others;
         receipts = old.receipts ∙ sym (numbers_on precheck s p bs ks gs y v true ok f i there.0 k there.1 at_k g.batches g.to g.steps g.course g.deeds g.world g.goes hs z u g.stood b l other old.is);
@@ -267,9 +287,34 @@ module _ {V : Type 0} (told : V → Option Disk) (may_leave : V → Disk → Typ
           (h.0, h.1, get_set_other ks i h.0 h.1 j (λ same. was.1 (subst (λ (c : Client). Owns c.state t) (some_same (sym h.2 ∙ (ap (slice_get ks) same ∙ at_k))) h.3)) h.2, h.3))
           (g.rows e up t lives)
 
-      pub turn_played : Played told may_leave faults ok precheck s p bs (slice_set ks i j) hs z u
-      turn_played =
-          played_by precheck s p bs ks gs y v true ok f i there.0 k there.1 at_k g.batches g.to g.steps g.course g.deeds g.world g.goes hs z u g.stood g.standing j g.client g.acts
-          (record { is = g.is; came = g.came; receipts = t.receipts })
-          (λ n b l at_b at_l apart. cut_seat ok s g.batches g.to g.world hs z u b l (other_seat n b l at_b at_l apart))
-          still_owned
+    pub turn_played : (j : Client) (hs : List RegionState) (z : SystemState) (u : Vaulted V) → TurnGoes told may_leave faults precheck k gs y v true j hs z u → Played told may_leave faults true precheck s p bs (slice_set ks i j) hs z u
+    turn_played j hs z u turn =
+        let step = g true j hs z u turn in
+        played_by precheck s p bs ks gs y v true true f i there.0 k there.1 at_k step.batches step.to step.steps step.course step.deeds step.world step.goes hs z u step.stood step.standing j step.client step.acts
+        (record { is = step.is; came = step.came; receipts = (t true j hs z u turn).receipts })
+        (λ n b l at_b at_l apart. other_seat true j hs z u turn n b l at_b at_l apart)
+        (still_owned true j hs z u turn)
+
+    pub turn_to : (j : Client) (hs : List RegionState) (z : SystemState) (u : Vaulted V) (turn : TurnGoes told may_leave faults precheck k gs y v true j hs z u) → (turn_played j hs z u turn).to ≡ (g true j hs z u turn).to
+    unfolding turn_played played_by
+    turn_to j hs z u turn = refl
+
+    -- memory was wanted in it: the client is gone
+    pub turn_halts : (j l : Client) (hs : List RegionState) (z : SystemState) (u : Vaulted V) → TurnGoes told may_leave faults precheck k gs y v false j hs z u → l ≡ record j { state = Gone } → Halting told may_leave faults 0 precheck s p bs (slice_set ks i l) hs z u
+    turn_halts j l hs z u turn is =
+        let step = g false j hs z u turn in
+        halting_by precheck s p bs ks gs y v f.are f.log f.to f.batches f.steps f.course f.world f.old_is f.before_is f.owners f.standings f.blocks f.count i there.0 k there.1 at_k
+        step.batches step.to step.steps step.course step.deeds step.world step.goes hs z u step.stood step.standing l step.client step.acts 0
+        (inl (
+          λ _. ap (λ (c : Client). c.state) is,
+          record {
+            is = record { client = step.is.client ∙ ap (λ (c : Client). c.transcript.client) (sym is); lines = step.is.lines ∙ ap lines_of (sym is); stands = step.is.stands };
+            came = step.came;
+            receipts = subst (λ (c : Client). AreReceipts false step.world c) (sym is) (t false j hs z u turn).receipts;
+          },
+        ))
+        (λ n b m at_b at_m apart. inr (omega arith, other_seat false j hs z u turn n b m at_b at_m apart))
+
+    pub halts_to : (j l : Client) (hs : List RegionState) (z : SystemState) (u : Vaulted V) (turn : TurnGoes told may_leave faults precheck k gs y v false j hs z u) (is : l ≡ record j { state = Gone }) → (turn_halts j l hs z u turn is).to ≡ (g false j hs z u turn).to
+    unfolding turn_halts halting_by
+    halts_to j l hs z u turn is = refl

@@ -2,3 +2,4 @@ pub mod Leads
 pub mod Played
 pub mod Ends
 pub mod Idle
+pub mod Moments

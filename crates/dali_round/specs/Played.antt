@@ -4,31 +4,35 @@
 --     AreOver ks               each client is done
 --     IsSeated ok ..           a client stands between two steps, or, where memory was wanted, in one that was cut short
 --     Played ok ..             the round of these blocks has come from the point p to where the core stands, with these clients
---     PlayGoes ok ..           it goes on from wherever it began
+--     IsHalting from i ..      a client stands in a step that may be cut there; or it isn't asked yet, and stands between two steps or is gone
+--     Halting from ..          the round makes no steps more, and the clients before this place were asked to end what can't be cut
+--     MoveGoes ok ..           a step of a client, or none; where memory was wanted it is gone then
+--     PlayGoes ok ..           the round goes on from wherever it began, or makes no steps more
+--     HaltsGo ..               then all are asked, wherever that was
 --     HavePlaces ks gs v       of each client and the image files is so what a step asks for, whatever log there is
-use Rattle.std.specs.Prelude.{◌≡◌, ℕ, Bool, true, false, ◌==◌, List, [], Option, Some, None, length, map, slice_get, IfSome}
+use Rattle.std.specs.Prelude.{◌≡◌, ◌⊎◌, ◌≤◌, ℕ, Bool, true, false, ◌==◌, List, Option, Some, None, length, map, slice_get, IfSome}
 use Rattle.std.specs.List.{list_all}
 use Rattle.dali_record.specs.declared.records.Record.{Record}
 use Rattle.dali_region.specs.State.{RegionState}
-use Rattle.dali_att.specs.declared.state.State.TheVariants.{Live}
 use Rattle.dali_store.specs.Store.{Files as Disk}
 use Rattle.dali_system.specs.State.{SystemState, state_of, log_after}
 use Rattle.dali_crash.specs.Checkpoints.{StoreStep, Point, IsPointCourse}
 use Rattle.dali_crash.specs.Traces.{Start}
 use Rattle.dali_vault.specs.Vaulted.{Vaulted}
 use Rattle.dali_whole.specs.Cores.{HoldsPlaces}
+use Rattle.dali_rounds.specs.Went.{is_open}
 use Rattle.dali_transcripts.specs.World.{Happening, World}
 use Rattle.dali_transcripts.specs.Transcripts.{Told, is_among}
 use Rattle.dali_transcripts.specs.Rounds.{Standing, AreBlocks, told_of}
 use Rattle.dali_clients.specs.declared.command.Block.{Block}
 use Rattle.dali_clients.specs.Said.{silent}
 use Rattle.dali_turns.specs.declared.client.Client.{Client}
-use Rattle.dali_turns.specs.declared.client.State.TheVariants.{Outside}
+use Rattle.dali_turns.specs.declared.client.State.TheVariants.{Outside, Gone}
 use Rattle.dali_turns.specs.Clients.{is_over}
 use Rattle.dali_turns.specs.Stood.{Stood}
 use Rattle.dali_turns.specs.Fits.{Speaks, Owns}
 use Rattle.dali_turns.specs.Goes.{Came}
-use Rattle.dali_turns.specs.Turns.{AreReceipts}
+use Rattle.dali_turns.specs.Turns.{AreReceipts, TurnGoes}
 use Rattle.dali_turns.specs.Places.{ReachesNext}
 
 pub record IsNew (b : Block) (k : Client) : Type 0 where
@@ -47,9 +51,9 @@ pub record HavePlaces {V : Type 0} (told : V → Option Disk) (ks : List Client)
   pub files : IfSome (told v.store) (HoldsPlaces gs)
   pub next : (i : ℕ) (k : Client) → slice_get ks i ≡ Some k → ReachesNext told k.state v
 
--- while the engine runs each live transaction is a client's
+-- while the engine runs each transaction that is live or committed is a client's
 abbrev pub EachIsOwned : List Client → SystemState → Type 0
-EachIsOwned ks y = y.stop ≡ None → (t : ℕ) → state_of y t ≡ Some Live → (i : ℕ) × (k : Client) × (slice_get ks i ≡ Some k) × Owns k.state t
+EachIsOwned ks y = y.stop ≡ None → (t : ℕ) → is_open (state_of y t) ≡ true → (i : ℕ) × (k : Client) × (slice_get ks i ≡ Some k) × Owns k.state t
 
 module _ {V : Type 0} (told : V → Option Disk) (may_leave : V → Disk → Type 0) (faults : V → ℕ) where
   pub record IsSeated (ok : Bool) (s : Start) (B : List (List Record)) (p : Point) (w : World) (gs : List RegionState) (y : SystemState) (v : Vaulted V) (a : Standing) (k : Client) : Type 0 where
@@ -76,5 +80,37 @@ module _ {V : Type 0} (told : V → Option Disk) (may_leave : V → Disk → Typ
     pub seats : (i : ℕ) (a : Standing) (k : Client) → slice_get standings i ≡ Some a → slice_get ks i ≡ Some k → IsSeated ok s batches to world gs y v a k
     pub owned : ok ≡ true → EachIsOwned ks y
 
+  -- ---- the round makes no steps more
+  abbrev pub IsHalting : (from i : ℕ) → Start → List (List Record) → Point → World → List RegionState → SystemState → Vaulted V → Standing → Client → Type 0
+  IsHalting from i s B p w gs y v a k = ((from ≤ i → k.state ≡ Gone) × IsSeated false s B p w gs y v a k) ⊎ ((from ≤ i) × IsSeated true s B p w gs y v a k)
+
+  pub record Halting (from : ℕ) (precheck : Bool) (s : Start) (p : Point) (bs : List Told) (ks : List Client) (gs : List RegionState) (y : SystemState) (v : Vaulted V) : Type 0 where
+    pub are : AreBlocks bs
+    pub log : p.log ≡ log_after s.log p.core.system
+    pub to : Point
+    pub batches : List (List Record)
+    pub steps : List StoreStep
+    pub course : IsPointCourse p steps to
+    pub world : World
+    pub old_is : world.old ≡ p.core
+    pub before_is : world.before ≡ p.log
+    pub stood : Stood told may_leave faults s batches to world precheck gs y v
+    pub owners : list_all (λ (x : Happening). is_among bs x.1) world.happened ≡ true
+    pub standings : List Standing
+    pub blocks : map told_of standings ≡ bs
+    pub count : length ks ≡ length standings
+    pub seats : (i : ℕ) (a : Standing) (k : Client) → slice_get standings i ≡ Some a → slice_get ks i ≡ Some k → IsHalting from i s batches to world gs y v a k
+
+  abbrev pub Plays : Bool → Bool → Start → Point → List Told → List Client → List RegionState → SystemState → Vaulted V → Type 0
+  Plays true precheck s p bs ks gs y v = Played true precheck s p bs ks gs y v
+  Plays false precheck s p bs ks gs y v = Halting 0 precheck s p bs ks gs y v
+
+  abbrev pub MoveGoes : Bool → Client → List RegionState → SystemState → Vaulted V → Bool → Client → List RegionState → SystemState → Vaulted V → Type 0
+  MoveGoes precheck k gs y v true j hs z u = TurnGoes told may_leave faults precheck k gs y v true j hs z u ⊎ ((j ≡ k) × (hs ≡ gs) × (z ≡ y) × (u ≡ v))
+  MoveGoes precheck k gs y v false j hs z u = (i : Client) × TurnGoes told may_leave faults precheck k gs y v false i hs z u × (j ≡ record i { state = Gone })
+
   abbrev pub PlayGoes : Bool → List Client → List RegionState → SystemState → Vaulted V → Bool → List Client → List RegionState → SystemState → Vaulted V → Type 0
-  PlayGoes precheck ks gs y v ok js hs z u = (s : Start) (p : Point) (bs : List Told) → Played true precheck s p bs ks gs y v → Played ok precheck s p bs js hs z u
+  PlayGoes precheck ks gs y v ok js hs z u = (s : Start) (p : Point) (bs : List Told) → Played true precheck s p bs ks gs y v → Plays ok precheck s p bs js hs z u
+
+  abbrev pub HaltsGo : Bool → List Client → List RegionState → SystemState → Vaulted V → List RegionState → SystemState → Vaulted V → Type 0
+  HaltsGo precheck ks gs y v hs z u = (s : Start) (p : Point) (bs : List Told) → Halting 0 precheck s p bs ks gs y v → Played false precheck s p bs ks hs z u

@@ -1,18 +1,22 @@
 //! A whole round.
-ghost use Rattle.std.specs.Prelude.{◌≡◌, ◌<◌, ◌⊎◌, [], false, true, Ok, map, length, vec_capacity, vec_len, is_ok, IfOk, IfSome, OnOk};
+ghost use Rattle.std.specs.Prelude.{◌≡◌, Bool, ◌<◌, ◌⊎◌, [], false, true, Ok, map, length, vec_capacity, vec_len, is_ok, IfOk, IfSome, OnOk};
 ghost use Rattle.dali_transcripts.specs.Rounds.{AreBlocks};
 ghost use Rattle.dali_clients.specs.Told.{told_of};
 ghost use Rattle.dali_whole.specs.Cores.{HoldsPlaces, IsNoShorter};
 ghost use Rattle.dali_round.specs.Leads.{is_done, RoundGoes};
-ghost use Rattle.dali_round.specs.Played.{AreNew, AreOver, HavePlaces, PlayGoes};
+ghost use Rattle.dali_turns.specs.Moments.{TurnLeavesRight};
+ghost use Rattle.dali_turns.specs.Places.{HasPlaces, PlacesGo};
+ghost use Rattle.dali_turns.specs.Waits.{StaysPut};
+ghost use Rattle.dali_round.specs.Played.{AreNew, AreOver, HavePlaces, MoveGoes, PlayGoes, HaltsGo};
 ghost use Rattle.dali_round.specs.Ends.{EndGoes, named};
-ghost use Rattle.dali_round.specs.Idle.{AreIdle, NoneHasCome};
+ghost use Rattle.dali_round.specs.Idle.{AreIdle, IsOrder, NoneHasCome};
+ghost use Rattle.dali_round.specs.Moments.{PlayEnds, HaltsEnd, PlayLeaves, RoundLeavesRight};
 
 use dali_bytes::OutOfMemory;
 use dali_clients::{Block, Transcript};
 use dali_stepwise::Gate;
 use dali_store::Store;
-use dali_turns::{Client, Setting, turn};
+use dali_turns::{Client, Paces, Setting, halt, turn};
 use dali_whole::Core;
 use std::alloc::Global;
 
@@ -27,36 +31,86 @@ pub enum RoundEnd {
     OutOfMemory,
 }
 
-// The clients of these blocks, in their order, and room for their transcripts.
+// The places of the clients of these blocks, by ascending number.
+fn order_of(alloc: Global, blocks: &[Block]) -> Result<Vec<usize>, OutOfMemory>
+    requires { AreBlocks (map told_of blocks.now) }
+    ensures { IfOk result (λ order. IsOrder order.items (length blocks.now)) }
+{
+    let mut order = Vec::with_capacity(alloc, blocks.len())?;
+    for number in 1..65 {
+        for place in 0..blocks.len() {
+            if blocks[place].client == number {
+                order.push(place)?;
+            }
+        }
+    }
+    Ok(order)
+}
+
+// The clients of these blocks, as the blocks stand, in which order they make their turns, and room for their transcripts.
 fn clients_of(
     alloc: Global,
     blocks: &[Block],
-) -> Result<(Vec<Client<'_>>, Vec<Transcript>), OutOfMemory>
+) -> Result<(Vec<Client<'_>>, Vec<usize>, Vec<Transcript>), OutOfMemory>
+    requires { AreBlocks (map told_of blocks.now) }
     ensures clients { IfOk result (λ made. AreNew blocks.now made.0.items) }
-    ensures room { IfOk result (λ made. (made.1.items ≡ []) × (vec_capacity made.1 ≡ length blocks.now)) }
+    ensures order { IfOk result (λ made. IsOrder made.1.items (length blocks.now)) }
+    ensures room { IfOk result (λ made. (made.2.items ≡ []) × (vec_capacity made.2 ≡ length blocks.now)) }
 {
     let mut clients = Vec::with_capacity(alloc, blocks.len())?;
     for block in blocks {
         clients.push(Client::new(alloc, block))?;
     }
-    Ok((clients, Vec::with_capacity(alloc, blocks.len())?))
+    let order = order_of(alloc, blocks)?;
+    Ok((clients, order, Vec::with_capacity(alloc, blocks.len())?))
 }
 
-// One step of each client that can make one, in their order. Answers whether any could.
-fn make_turns<V: Store, G: Gate>(
-    clients: &mut [Client<'_>],
+// The turn of a client, where it is due; else it goes on later. Where memory is wanting it does no more.
+fn make_turn<V: Store, G: Gate>(
+    client: &mut Client<'_>,
+    due: bool,
     core: &mut Core<V>,
     setting: &Setting<'_, G>,
 ) -> Result<bool, OutOfMemory>
-    requires { HavePlaces V.told clients.old core.old.regions.items core.old.vault }
+    requires { HasPlaces V.told client.old.state core.old.regions.items core.old.vault }
+    ensures goes { MoveGoes V.told V.may_leave V.faults setting.now.precheck client.old core.old.regions.items core.old.system.state core.old.vault (is_ok result) client.new core.new.regions.items core.new.system.state core.new.vault }
+    ensures places { PlacesGo V.told client.old.state core.old.regions.items core.old.vault client.new.state core.new.regions.items core.new.vault }
+    ensures idle { result ≡ Ok false → StaysPut core.old.system.state client.old.state client.old client.new × (core.new ≡ core.old) }
+    ensures any_moment { TurnLeavesRight V.told V.may_leave V.faults V.moment V.left_since setting.now.precheck client.old core.old.regions.items core.old.system.state core.old.vault core.new.system.state core.new.vault }
+{
+    if !due {
+        return Ok(true);
+    }
+    match turn(client, core, setting) {
+        Ok(moved) => Ok(moved),
+        Err(error) => {
+            client.leave();
+            Err(error)
+        }
+    }
+}
+
+// One turn of each client, in this order. Answers whether any could go on.
+fn make_turns<V: Store, G: Gate>(
+    clients: &mut [Client<'_>],
+    order: &[usize],
+    paces: &mut Paces,
+    core: &mut Core<V>,
+    setting: &Setting<'_, G>,
+) -> Result<bool, OutOfMemory>
+    requires places { HavePlaces V.told clients.old core.old.regions.items core.old.vault }
+    requires order { IsOrder order.now (length clients.old) }
     ensures goes { PlayGoes V.told V.may_leave V.faults setting.now.precheck clients.old core.old.regions.items core.old.system.state core.old.vault (is_ok result) clients.new core.new.regions.items core.new.system.state core.new.vault }
     ensures places { HavePlaces V.told clients.new core.new.regions.items core.new.vault }
     ensures longer { IsNoShorter V.told core.old.vault core.new.vault }
     ensures idle { result ≡ Ok false → AreIdle core.new.system.state clients.new (length clients.new) }
+    ensures any_moment { PlayEnds V.told V.may_leave V.faults V.moment V.left_since (is_ok result) setting.now.precheck clients.old core.old.regions.items core.old.system.state core.old.vault clients.new core.new.regions.items core.new.system.state core.new.vault }
 {
     let mut went_on = false;
-    for client in clients.iter_mut() {
-        let moved = turn(client, core, setting)?;
+    for place in order {
+        let client = &mut clients[*place];
+        let due = paces.is_due(*place, client, core);
+        let moved = make_turn(client, due, core, setting)?;
         went_on = went_on || moved;
     }
     Ok(went_on)
@@ -76,41 +130,62 @@ fn are_over(clients: &[Client<'_>]) -> bool
 }
 
 // Lets the clients make their turns until nobody goes on. Answers whether each is done then: so it is wherever a run has come,
-// since a request waits for younger transactions alone, and each live one is a client's.
+// since a request waits for younger transactions alone, and each open one is a client's.
 fn run<V: Store, G: Gate>(
     clients: &mut [Client<'_>],
+    order: &[usize],
     core: &mut Core<V>,
     setting: &Setting<'_, G>,
 ) -> Result<bool, OutOfMemory>
-    requires { HavePlaces V.told clients.old core.old.regions.items core.old.vault }
+    requires places { HavePlaces V.told clients.old core.old.regions.items core.old.vault }
+    requires order { IsOrder order.now (length clients.old) }
     ensures goes { PlayGoes V.told V.may_leave V.faults setting.now.precheck clients.old core.old.regions.items core.old.system.state core.old.vault (is_ok result) clients.new core.new.regions.items core.new.system.state core.new.vault }
     ensures places { HavePlaces V.told clients.new core.new.regions.items core.new.vault }
     ensures longer { IsNoShorter V.told core.old.vault core.new.vault }
     ensures over { result ≡ Ok true → AreOver clients.new }
     ensures stuck { result ≡ Ok false → NoneHasCome V.told V.may_leave V.faults setting.now.precheck clients.old core.old.regions.items core.old.system.state core.old.vault }
+    ensures any_moment { PlayEnds V.told V.may_leave V.faults V.moment V.left_since (is_ok result) setting.now.precheck clients.old core.old.regions.items core.old.system.state core.old.vault clients.new core.new.regions.items core.new.system.state core.new.vault }
 {
+    let mut paces = Paces::new(clients.len());
     for _ in 0..u64::MAX {
-        if !make_turns(clients, core, setting)? {
+        if !make_turns(clients, order, &mut paces, core, setting)? {
             return Ok(are_over(clients));
         }
     }
     Err(OutOfMemory)
 }
 
-// Runs the clients, and ends a checkpoint that was under way where the round is cut: it makes no image.
+// No client makes a step more: each commit that is logged is flushed, or has failed.
+fn halt_all<V: Store>(clients: &[Client<'_>], core: &mut Core<V>, alloc: Global)
+    requires { HavePlaces V.told clients.now core.old.regions.items core.old.vault }
+    ensures goes { (precheck : Bool) → HaltsGo V.told V.may_leave V.faults precheck clients.now core.old.regions.items core.old.system.state core.old.vault core.new.regions.items core.new.system.state core.new.vault }
+    ensures places { HavePlaces V.told clients.now core.new.regions.items core.new.vault }
+    ensures longer { IsNoShorter V.told core.old.vault core.new.vault }
+    ensures any_moment { (precheck : Bool) → HaltsEnd V.told V.may_leave V.faults V.moment V.left_since precheck clients.now core.old.regions.items core.old.system.state core.old.vault core.new.regions.items core.new.system.state core.new.vault }
+{
+    for client in clients {
+        halt(client, core, alloc);
+    }
+}
+
+// Runs the clients, and ends what was under way where the round is cut: commits are flushed, and a checkpoint makes no image.
 fn play<V: Store, G: Gate>(
     clients: &mut [Client<'_>],
+    order: &[usize],
     core: &mut Core<V>,
     setting: &Setting<'_, G>,
 ) -> RoundEnd
-    requires { HavePlaces V.told clients.old core.old.regions.items core.old.vault }
+    requires places { HavePlaces V.told clients.old core.old.regions.items core.old.vault }
+    requires order { IsOrder order.now (length clients.old) }
     ensures goes { EndGoes V.told V.may_leave V.faults setting.now.precheck clients.old core.old.regions.items core.old.system.state core.old.vault (is_done result) clients.new core.new.regions.items core.new.system.state core.new.vault }
     ensures places { IfSome (V.told core.new.vault.store) (HoldsPlaces core.new.regions.items) }
     ensures longer { IsNoShorter V.told core.old.vault core.new.vault }
+    ensures any_moment { PlayLeaves V.told V.may_leave V.faults V.moment V.left_since setting.now.precheck clients.old core.old.regions.items core.old.system.state core.old.vault core.new.regions.items core.new.system.state core.new.vault }
 {
-    match run(clients, core, setting) {
+    match run(clients, order, core, setting) {
         Ok(true) => RoundEnd::Done,
         Ok(false) | Err(_) => {
+            halt_all(clients, core, setting.alloc);
             core.system.end_copy();
             RoundEnd::OutOfMemory
         }
@@ -142,8 +217,8 @@ fn transcripts_of(
     transcripts
 }
 
-/// Runs the blocks of several clients, at most 64 with numbers from 1 to 64 that differ, until each is done: by turns, one
-/// step of each client, in no order that is promised. It hands out the core and the transcripts, in the order of the blocks.
+/// Runs the blocks of several clients, at most 64 with numbers from 1 to 64 that differ, until each is done. They make their
+/// turns by ascending number, which no clause promises. It hands out the core and the transcripts, in the order of the blocks.
 /// With `precheck` an operation that goes on with a call first compares its region's codeword with the words, in one step, so
 /// that nobody comes in between. The gate is told of each operation of a call behind its last update.
 ///
@@ -153,7 +228,7 @@ fn transcripts_of(
 ///
 /// It takes any core, whatever log it has: what is promised of a run is so where one has come to it, as behind a format, a
 /// restart, or a round that ended with `Done`. It ends with `OutOfMemory` where memory for a step, a line or a client was
-/// refused, or where a core that no run has come to has no step; no clause says so, and tests show that it doesn't come with
+/// refused, or where a core that no run has come to has no step. No clause says so, and tests show that it doesn't come with
 /// ample memory. Where there are no transcripts memory for the clients was refused, and nothing was done.
 pub fn round<V: Store, G: Gate>(
     alloc: Global,
@@ -169,9 +244,10 @@ pub fn round<V: Store, G: Gate>(
     ensures nothing { length result.1.items < length blocks.now → result.0 ≡ core }
     ensures files { IfSome (V.told result.0.vault.store) (HoldsPlaces result.0.regions.items) }
     ensures longer { IsNoShorter V.told core.vault result.0.vault }
+    ensures any_moment { RoundLeavesRight V.told V.may_leave V.faults V.moment V.left_since core.regions.items core.system.state core.vault result.0.regions.items result.0.system.state result.0.vault }
 {
     let mut core = core;
-    let Ok((mut clients, room)) = clients_of(alloc, blocks) else {
+    let Ok((mut clients, order, room)) = clients_of(alloc, blocks) else {
         return (core, Vec::new(alloc), RoundEnd::OutOfMemory);
     };
     let setting = Setting {
@@ -179,6 +255,6 @@ pub fn round<V: Store, G: Gate>(
         precheck,
         gate,
     };
-    let end = play(&mut clients, &mut core, &setting);
+    let end = play(&mut clients, &order, &mut core, &setting);
     (core, transcripts_of(clients, blocks, room), end)
 }

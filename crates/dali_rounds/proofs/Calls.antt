@@ -4,6 +4,8 @@ use Rattle.std.proofs.lemmas.List.{append-nil}
 use Rattle.std.specs.Prelude.{◌==◌}
 use Rattle.std.specs.List.{AllByRecursion, list_all}
 use Rattle.std.proofs.lemmas.Bool.Decides.{Decides-eqb}
+use Rattle.std.proofs.lemmas.Bool.{and_parts}
+use Rattle.std.proofs.lemmas.Option.{none-some}
 use Rattle.dali_record.specs.declared.records.Record.{Record}
 use Rattle.dali_record.specs.declared.records.Record.TheVariants.{Begin, Done}
 use Rattle.dali_record.specs.Legal.{TxnState, Unbegun, txn_state}
@@ -18,7 +20,7 @@ use Rattle.dali_system.specs.Run.{IsRow, RunsOn}
 use Rattle.dali_system.specs.Steps.{begun, in_state}
 use Rattle.dali_system.specs.Wholes.{latched_in}
 use Rattle.dali_system.specs.Keeps.{IsFree}
-use Rattle.dali_system.specs.Regions.{RegionStep, Latch, NoteReads, Update, TakeBack, Poke, Check, Die, Clean}
+use Rattle.dali_system.specs.Regions.{RegionStep, Latch, NoteReads, Update, TakeBack, Clean}
 use Rattle.dali_system.specs.Courses.{Step, Begins, Operates, TakesBack, Frees, Answers, Commits, Ends, Locks, Refuses, OnRegion, Dies, Claims, GivesBack, Recovers, Moment, AuditsBy, IsStep, IsCourse}
 use Rattle.dali_crash.specs.Checkpoints.{Point, moment_of}
 use Rattle.dali_crash.specs.Traces.{Start, bases_of}
@@ -35,7 +37,7 @@ use Rattle.dali_courses.proofs.Making.{own_steps_make, answer_makes}
 use Rattle.dali_clean.specs.Undone.{IsReclaimed}
 use Rattle.dali_clean.specs.Cleaned.{moment, AreDead}
 use Rattle.dali_clean.specs.Others.{HoldStays, OthersStay}
-use Rattle.dali_clean.proofs.Courses.{join, one, runs_of, row_here, row_there}
+use Rattle.dali_clean.proofs.Courses.{one, runs_of, row_here, row_there}
 use Rattle.dali_clean.proofs.Others.{release_others}
 use Rattle.dali_stepwise.specs.Beside.{is_apart, Grows}
 use Rattle.dali_stepwise.specs.Opened.{record_on}
@@ -43,9 +45,10 @@ use Rattle.dali_stepwise.specs.Stepwise.{LeadsOnce, DiesIn}
 use Rattle.dali_stepwise.proofs.Waiting.{own_apart}
 use Rattle.dali_stepwise.proofs.Growing.{led_grows}
 use Rattle.dali_att.specs.Table.{with_state}
+use Rattle.dali_system.proofs.Touching.{join}
 use Rattle.dali_ends.specs.Stands.{StandsAt}
 use Rattle.dali_ends.specs.Ended.{HasCome}
-use Rattle.dali_ends.proofs.Walking.{is_change, is_of_end, and_true, all_append}
+use Rattle.dali_ends.proofs.Walking.{is_change, is_of_end, all_append}
 use Rattle.dali_ends.proofs.Releasing.{hold_is_dead, dead_on, release_leads, release_of_end}
 use Rattle.dali_ends.proofs.Standing.{run_at, Arrived, arrived_of, come_of_end, arrive}
 use Rattle.dali_ends.proofs.Wholes.{AreNoCleaner, core_course, places_told, whole_here, arrived_no_cleaner}
@@ -56,14 +59,8 @@ use Rattle.dali_rounds.proofs.Beside.{course_onward, left_be}
 
 -- ---- steps of a transaction's own
 own_calm_on : (t r : ℕ) (x : RegionStep) (g : RegionState) → IsOwn t x g → is_calm (OnRegion r x) ≡ true
-own_calm_on t r (Latch u) g own = refl
-own_calm_on t r (NoteReads mask) g own = refl
-own_calm_on t r (Update word value) g own = refl
-own_calm_on t r TakeBack g own = refl
-own_calm_on t r (Poke word mask) g own = refl
-own_calm_on t r Check g own = refl
-own_calm_on t r Die g own = refl
 own_calm_on t r (Clean side) g own = absurd own
+own_calm_on t r _ g own = refl
 
 own_calm_in : (t r : ℕ) (x : RegionStep) (o : Option RegionState) → IsSomeAnd o (IsOwn t x) → is_calm (OnRegion r x) ≡ true
 own_calm_in t r x None own = absurd own
@@ -98,9 +95,6 @@ dead_mapped : (o : Option Hold) → IfSome (map_hold (λ h. record h { dead = tr
 dead_mapped None = tt
 dead_mapped (Some h) = refl
 
-none_some : {A : Type 0} (x : A) → (let n : Option A = None in n ≡ Some x) → ⊥
-none_some x e = cc
-
 -- ---- steps of an end
 calm_change : (r : ℕ) (x : RegionStep) → is_change x ≡ true → is_calm (OnRegion r x) ≡ true
 calm_change r (Latch t) e = refl
@@ -123,7 +117,7 @@ calm_one x e = absurd cc
 
 calm_apart : (xs : List Step) → list_all is_of_end xs ≡ true → list_all is_calm xs ≡ true
 calm_apart [] e = refl
-calm_apart (x ∷ xs) e = let both = and_true (is_of_end x) (list_all is_of_end xs) e in ap (λ b. b && list_all is_calm xs) (calm_one x both.0) ∙ calm_apart xs both.1
+calm_apart (x ∷ xs) e = let both = and_parts (is_of_end x) (list_all is_of_end xs) e in ap (λ b. b && list_all is_calm xs) (calm_one x both.0) ∙ calm_apart xs both.1
 
 module _ {V : Type 0} (told : V → Option Disk) (may_leave : V → Disk → Type 0) (faults : V → ℕ) where
   behind_may : (t u : ℕ) (own : List Record) (s : Start) (B : List (List Record)) (p : Point) (gs hs : List RegionState) (z : SystemState) (v : Vaulted V) (w : Went told may_leave faults t own s B p gs hs z v)
@@ -186,7 +180,7 @@ module _ {V : Type 0} (told : V → Option Disk) (may_leave : V → Disk → Typ
           by_test true e =
               let names : latched_in (state_of y h.txn) ≡ Some r = (run_at told may_leave faults s B p gs y v k).whole.dead r h held (hold_is_dead gs r h k.dead held) in
               let same : h.txn ≡ y.next = (Decides-eqb h.txn y.next).0 e in
-              absurd (none_some r (sym (ap (λ (n : ℕ). latched_in (state_of y n)) same ∙ ap (λ (o : Option TxnRow). latched_in (state_in o)) no_row) ∙ names))
+              absurd (none-some r (sym (ap (λ (n : ℕ). latched_in (state_of y n)) same ∙ ap (λ (o : Option TxnRow). latched_in (state_in o)) no_row) ∙ names))
           by_test false e = e
 
       may : MayCall (p.log ++ Begin y.next ∷ []) (core gs (begun y) p.core.vault) y.next
@@ -353,7 +347,7 @@ module _ {V : Type 0} (told : V → Option Disk) (may_leave : V → Disk → Typ
       (end_with [] s B p gs (slice_set gs r h) y z v t led.steps p.log k kind a (sym (append-nil p.log)) tt others).0
 
   pub release_tells : ReleaseTells told may_leave faults
-  release_tells s B p gs y z v r g h o k at there (inl none) = absurd (none_some o (sym none.0 ∙ there))
+  release_tells s B p gs y z v r g h o k at there (inl none) = absurd (none-some o (sym none.0 ∙ there))
   release_tells s B p gs y z v r g h o k at there (inr some) = subst (λ (x : Hold). IsLetGo y r x z) same (by_claim some.3)
     where
       inside : (a b : Hold) → (let x : Option Hold = Some b in Some a ≡ x) → a ≡ b
@@ -378,7 +372,7 @@ module _ {V : Type 0} (told : V → Option Disk) (may_leave : V → Disk → Typ
           )
         where
           mapped : (st : State) (row : Option TxnRow) (old : State) → state_in row ≡ Some old → state_in (option_map (with_state st) row) ≡ Some st
-          mapped st None old e = absurd (none_some old e)
+          mapped st None old e = absurd (none-some old e)
           mapped st (Some row) old e = refl
 
           twice : (l : Option ℕ) → state_of y some.0.txn ≡ Some (Dead l) → state_of (in_state (in_state y some.0.txn (Cleaning l)) some.0.txn (Dead None)) some.0.txn ≡ Some (Dead None)

@@ -1,20 +1,20 @@
 -- What steps leave that call no store, take no frame, and are none of a checkpoint.
 use Rattle.std.proofs.Common.{◌≡◌, true, ◌&&◌, List, [], ◌∷◌, refl, ap, sym, ◌∙◌}
 use Rattle.std.specs.List.{list_all}
+use Rattle.std.proofs.lemmas.Bool.{and_parts}
 use Rattle.dali_record.specs.declared.records.Record.{Record}
 use Rattle.dali_system.specs.State.{CoreState}
 use Rattle.dali_system.specs.Courses.{Step, Begins, Operates, TakesBack, Frees, Answers, Commits, Ends, AuditBegins, AuditEnds, Locks, Refuses, OnRegion, Passes, Dies, Claims, GivesBack, Recovers, Stops, Takes, Moment, IsStep, IsCourse}
 use Rattle.dali_steps.specs.Courses.{is_quiet}
-use Rattle.dali_ends.proofs.Walking.{and_true}
 use Rattle.dali_rounds.specs.Went.{is_calm}
 
-calm_quiet : (x : Step) → is_calm x ≡ true → is_quiet x ≡ true
+pub calm_quiet : (x : Step) → is_calm x ≡ true → is_quiet x ≡ true
 calm_quiet Takes e = absurd cc
 calm_quiet x e = e
 
 pub calm_steps : (xs : List Step) → list_all is_calm xs ≡ true → list_all is_quiet xs ≡ true
 calm_steps [] e = refl
-calm_steps (x ∷ xs) e = let both = and_true (is_calm x) (list_all is_calm xs) e in ap (λ b. b && list_all is_quiet xs) (calm_quiet x both.0) ∙ calm_steps xs both.1
+calm_steps (x ∷ xs) e = let both = and_parts (is_calm x) (list_all is_calm xs) e in ap (λ b. b && list_all is_quiet xs) (calm_quiet x both.0) ∙ calm_steps xs both.1
 
 by_core : (c d e : CoreState) → d ≡ e → e.system.taken ≡ c.system.taken → d.system.taken ≡ c.system.taken
 by_core c d e is same = ap (λ (k : CoreState). k.system.taken) is ∙ same
@@ -44,5 +44,5 @@ taken_step L M c d x e s = absurd cc
 pub taken_course : (m n : Moment) (xs : List Step) → list_all is_calm xs ≡ true → IsCourse m xs n → n.core.system.taken ≡ m.core.system.taken
 taken_course m n [] e course = ap (λ (k : Moment). k.core.system.taken) (sym course)
 taken_course m n (x ∷ xs) e course =
-    let both = and_true (is_calm x) (list_all is_calm xs) e in
+    let both = and_parts (is_calm x) (list_all is_calm xs) e in
     taken_course course.0 n xs both.1 course.2 ∙ taken_step m.log course.0.log m.core course.0.core x both.0 course.1.0

@@ -5,6 +5,9 @@ use Rattle.std.specs.List.{AllByRecursion, list_all}
 use Rattle.std.specs.FinMap as map
 use Rattle.std.proofs.lemmas.Bool.Decides.{Decides-eqb}
 use Rattle.std.proofs.lemmas.List.{append-nil}
+use Rattle.std.proofs.lemmas.Bool.{and_parts}
+use Rattle.dali_lists.proofs.Members.{all_append}
+use Rattle.dali_lists.proofs.Tests.{not_both_ways}
 use Rattle.dali_record.specs.declared.records.Record.{Record}
 use Rattle.dali_record.specs.declared.records.Record.TheVariants.{Ended, Back}
 use Rattle.dali_region.specs.State.{RegionState}
@@ -12,16 +15,14 @@ use Rattle.dali_att.specs.declared.state.State.{State}
 use Rattle.dali_att.specs.declared.state.State.TheVariants.{Dead, Cleaning}
 use Rattle.dali_att.specs.Table.{with_row, with_state, without_last}
 use Rattle.dali_store.specs.Store.{Files as Disk}
-use Rattle.dali_system.specs.State.{TxnRow, SystemState, CoreState, row_of, state_in, log_after}
+use Rattle.dali_system.specs.State.{TxnRow, SystemState, CoreState, row_of, state_in}
 use Rattle.dali_system.specs.Steps.{ended_logged}
 use Rattle.dali_system.specs.Keeps.{may_log_in}
-use Rattle.dali_system.specs.Regions.{RegionStep, Latch, NoteReads, Update, TakeBack}
 use Rattle.dali_system.specs.Courses.{Step, TakesBack, Ends, OnRegion, Claims, GivesBack, Recovers, Moment, IsStep, IsCourse}
 use Rattle.dali_crash.specs.Checkpoints.{Point}
 use Rattle.dali_crash.specs.Traces.{Start, bases_of}
 use Rattle.dali_vault.specs.Vaulted.{Vaulted}
 use Rattle.dali_single.specs.Ending.{IsBackOf}
-use Rattle.dali_single.proofs.Lists.{all_both}
 use Rattle.dali_single.proofs.Undoing.{ended_gone}
 use Rattle.dali_clean.specs.Steps.{is_own_step, IsCleanUp, AreBeside}
 use Rattle.dali_clean.specs.Cleaned.{moment, AreDead, IsEnded, IsGivenBack, Led}
@@ -29,7 +30,7 @@ use Rattle.dali_clean.proofs.Steps.{own_steps}
 use Rattle.dali_clean.specs.Others.{OthersStay}
 use Rattle.dali_clean.proofs.Courses.{row_here, row_there}
 use Rattle.dali_ends.specs.Stands.{StandsAt}
-use Rattle.dali_ends.proofs.Walking.{is_of_end, own_change, and_true}
+use Rattle.dali_ends.proofs.Walking.{is_of_end, own_change}
 use Rattle.dali_ends.proofs.Standing.{run_at, arrive}
 use Rattle.dali_rounds.specs.Went.{Went}
 use Rattle.dali_rounds.specs.Calls.{IsOfEnd, CleanGoes, LeftGoes}
@@ -47,7 +48,7 @@ of_end_one t x e = absurd cc
 
 of_end_all : (t : ℕ) (xs : List Step) → list_all (is_own_step t) xs ≡ true → list_all is_of_end xs ≡ true
 of_end_all t [] e = refl
-of_end_all t (x ∷ xs) e = let both = and_true (is_own_step t x) (list_all (is_own_step t) xs) e in ap (λ b. b && list_all is_of_end xs) (of_end_one t x both.0) ∙ of_end_all t xs both.1
+of_end_all t (x ∷ xs) e = let both = and_parts (is_own_step t x) (list_all (is_own_step t) xs) e in ap (λ b. b && list_all is_of_end xs) (of_end_one t x both.0) ∙ of_end_all t xs both.1
 
 -- ---- the row
 abbrev pub is_there : SystemState → ℕ → Bool
@@ -102,22 +103,19 @@ left_by t L M c d (GivesBack u o) e s = same_by t L M c d _ s.1.0 s.1.1 (kept_th
 left_by t L M c d (Recovers r) e s = same_by t L M c d _ s.3.0 s.3.1 refl
 left_by t L M c d x e s = absurd cc
 
-pub clash : {b : Bool} → b ≡ true → b ≡ false → ⊥
-clash e f = cc
-
 -- who has ended logs nothing more
 abbrev IsQuiet : ℕ → Moment → Moment → Type 0
 IsQuiet t m n = (n.log ≡ m.log) × (is_there n.core.system t ≡ false)
 
 over_one : (t : ℕ) (m k n : Moment) → LeftBy t m.log m.core.system k.log k.core.system → (is_there k.core.system t ≡ false → IsQuiet t k n) → is_there m.core.system t ≡ false → IsQuiet t m n
 over_one t m k n (inl same) rest gone = let more = rest (same.1 ∙ gone) in (more.0 ∙ same.0, more.1)
-over_one t m k n (inr (inl took)) rest gone = absurd (clash took.3 gone)
-over_one t m k n (inr (inr ended)) rest gone = absurd (clash ended.1 gone)
+over_one t m k n (inr (inl took)) rest gone = absurd (not_both_ways took.3 gone)
+over_one t m k n (inr (inr ended)) rest gone = absurd (not_both_ways ended.1 gone)
 
 over : (t : ℕ) (m n : Moment) (xs : List Step) → list_all (is_own_step t) xs ≡ true → IsCourse m xs n → is_there m.core.system t ≡ false → IsQuiet t m n
 over t m n [] own course gone = (ap (λ (k : Moment). k.log) (sym course), ap (λ (k : Moment). is_there k.core.system t) (sym course) ∙ gone)
 over t m n (x ∷ xs) own course gone =
-    let both = and_true (is_own_step t x) (list_all (is_own_step t) xs) own in
+    let both = and_parts (is_own_step t x) (list_all (is_own_step t) xs) own in
     over_one t m course.0 n (left_by t m.log course.0.log m.core course.0.core x both.0 course.1.0) (λ g. over t course.0 n xs both.1 course.2 g) gone
 
 -- takings back, and the end or not
@@ -145,7 +143,7 @@ logged_one t m k n (inr (inr ended)) rest after there = let more = after ended.2
 logged : (t : ℕ) (m n : Moment) (xs : List Step) → list_all (is_own_step t) xs ≡ true → IsCourse m xs n → is_there m.core.system t ≡ true → Logged t m n
 logged t m n [] own course there = ([], tt, inl (ap (λ (k : Moment). k.log) (sym course) ∙ sym (append-nil m.log), ap (λ (k : Moment). is_there k.core.system t) (sym course) ∙ there))
 logged t m n (x ∷ xs) own course there =
-    let both = and_true (is_own_step t x) (list_all (is_own_step t) xs) own in
+    let both = and_parts (is_own_step t x) (list_all (is_own_step t) xs) own in
     logged_one t m course.0 n (left_by t m.log course.0.log m.core course.0.core x both.0 course.1.0) (λ g. logged t course.0 n xs both.1 course.2 g) (λ g. over t course.0 n xs both.1 course.2 g) there
 
 -- ---- as an end
@@ -190,9 +188,9 @@ module _ {V : Type 0} (told : V → Option Disk) (may_leave : V → Disk → Typ
       n = moment hs z (e.log ++ Ended t ∷ []) p.core.vault p.audits
 
       by_logged : Logged t m n → (backs : List Record) × AllByRecursion (IsBackOf t) backs × (w : Went told may_leave faults t (backs ++ Ended t ∷ []) s B p gs hs z v) × IsCleanUp y t (Ends t) w.steps × AreBeside t y w.steps
-      by_logged (backs, are, inl l) = absurd (clash l.1 (ap is_some gone.0))
+      by_logged (backs, are, inl l) = absurd (not_both_ways l.1 (ap is_some gone.0))
       by_logged (backs, are, inr l) =
-          let w = steps_go (backs ++ Ended t ∷ []) s B p gs hs y z v t (e.log ++ Ended t ∷ []) e.steps k dead own e.course l.0 (all_both (IsOfEnd t) backs (Ended t ∷ []) (backs_of t backs are) (refl, tt)) others in
+          let w = steps_go (backs ++ Ended t ∷ []) s B p gs hs y z v t (e.log ++ Ended t ∷ []) e.steps k dead own e.course l.0 (all_append (IsOfEnd t) backs (Ended t ∷ []) (backs_of t backs are) (refl, tt)) others in
           (backs, are, w.0, subst (λ (xs : List Step). IsCleanUp y t (Ends t) xs) (sym w.1) e.by, subst (λ (xs : List Step). AreBeside t y xs) (sym w.1) e.beside)
 
   pub left_goes : LeftGoes told may_leave faults
@@ -214,7 +212,7 @@ module _ {V : Type 0} (told : V → Option Disk) (may_leave : V → Disk → Typ
       n = moment hs z e.log p.core.vault p.audits
 
       by_logged : Logged t m n → (backs : List Record) × AllByRecursion (IsBackOf t) backs × (w : Went told may_leave faults t backs s B p gs hs z v) × IsCleanUp y t (GivesBack t None) w.steps × AreBeside t y w.steps
-      by_logged (backs, are, inr l) = absurd (clash (alive_there (row_of z t) (Dead None) again) l.1)
+      by_logged (backs, are, inr l) = absurd (not_both_ways (alive_there (row_of z t) (Dead None) again) l.1)
       by_logged (backs, are, inl l) =
           let w = steps_go backs s B p gs hs y z v t e.log e.steps k dead own e.course l.0 (backs_of t backs are) others in
           (backs, are, w.0, subst (λ (xs : List Step). IsCleanUp y t (GivesBack t None) xs) (sym w.1) e.are, subst (λ (xs : List Step). AreBeside t y xs) (sym w.1) g.beside)

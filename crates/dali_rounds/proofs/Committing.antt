@@ -4,6 +4,7 @@ use Rattle.std.specs.Prelude.{◌==◌, Contains}
 use Rattle.std.specs.List.{AllByRecursion}
 use Rattle.std.proofs.lemmas.Bool.Decides.{Decides-eqb}
 use Rattle.std.proofs.lemmas.List.Elements.{Contains-append_right}
+use Rattle.dali_lists.proofs.Members.{all_append}
 use Rattle.dali_record.specs.declared.records.Record.{Record}
 use Rattle.dali_record.specs.declared.records.Record.TheVariants.{Commit, Ended, Solo}
 use Rattle.dali_region.specs.State.{RegionState}
@@ -11,41 +12,40 @@ use Rattle.dali_att.specs.declared.state.State.{State}
 use Rattle.dali_att.specs.declared.state.State.TheVariants.{Live, Dead}
 use Rattle.dali_att.specs.Table.{with_state}
 use Rattle.dali_store.specs.Store.{Files as Disk}
-use Rattle.dali_system.specs.State.{TxnRow, SystemState, CoreState, row_of, state_of, state_in}
-use Rattle.dali_system.specs.Courses.{Takes, Flushes, Faults, Stops}
+use Rattle.dali_system.specs.State.{TxnRow, SystemState, row_of, state_of, state_in}
+use Rattle.dali_system.specs.Steps.{commit_logged}
+use Rattle.dali_system.specs.Courses.{Commits, Takes, Flushes, Faults, Stops}
 use Rattle.dali_crash.specs.Checkpoints.{Point, Does, IsPointCourse, moment_of}
-use Rattle.dali_crash.specs.Traces.{bases_of}
+use Rattle.dali_crash.specs.Traces.{Start, bases_of}
 use Rattle.dali_vault.specs.Vaulted.{Vaulted}
 use Rattle.dali_single.specs.Single.{MayCall}
 use Rattle.dali_single.specs.Ending.{IsBackOf}
 use Rattle.dali_single.specs.Settling.{IsSoloOf}
-use Rattle.dali_single.proofs.Lists.{all_both}
 use Rattle.dali_clean.specs.Others.{RowStays, OthersStay}
 use Rattle.dali_stepwise.specs.Beside.{LeavesBe}
 use Rattle.dali_stepwise.proofs.Waiting.{call_waits}
 use Rattle.dali_ends.specs.Stands.{StandsAt}
+use Rattle.dali_ends.specs.Ended.{HasCome}
+use Rattle.dali_ends.specs.Committed.{IsLogged}
 use Rattle.dali_ends.proofs.Durable.{flush_logs_none}
 use Rattle.dali_ends.proofs.Standing.{come_of_end}
-use Rattle.dali_ends.proofs.Wholes.{core_course}
-use Rattle.dali_rounds.specs.Went.{AreBetween}
+use Rattle.dali_ends.proofs.Wholes.{core_course, whole_here}
+use Rattle.dali_rounds.specs.Went.{is_open, Went, AreBetween}
 use Rattle.dali_rounds.specs.Calls.{IsOfEnd, EndGoes, CommitLeaves, FailureLeaves}
 use Rattle.dali_rounds.specs.Keeps.{EndKeeps, CommitKeeps, FailureKeeps}
 use Rattle.dali_rounds.proofs.Going.{runs_here}
-use Rattle.dali_rounds.proofs.Beside.{Onward, onward_on, course_onward, left_be}
+use Rattle.dali_rounds.proofs.Beside.{Onward, onward_on, course_onward, left_be, by_core}
 use Rattle.dali_rounds.proofs.Calls.{end_goes}
 use Rattle.dali_rounds.proofs.Cleaning.{backs_of}
 use Rattle.dali_rounds.proofs.Runs.{live_is_uncommitted}
 
-solos_of : (t : ℕ) (xs : List Record) → AllByRecursion (IsSoloOf t) xs → AllByRecursion (IsOfEnd t) xs
+pub solos_of : (t : ℕ) (xs : List Record) → AllByRecursion (IsSoloOf t) xs → AllByRecursion (IsOfEnd t) xs
 solos_of t [] are = tt
 solos_of t (x ∷ xs) are = (on x are.0, solos_of t xs are.1)
   where
     on : (r : Record) → IsSoloOf t r → IsOfEnd t r
     on (Solo n u b) own = own
     on r own = absurd own
-
-by_core : (c d e : CoreState) → d ≡ e → Onward c.system e.system → Onward c.system d.system
-by_core c d e is onward = subst (λ (k : CoreState). Onward c.system k.system) (sym is) onward
 
 flush_onward : (p q : Point) → IsPointCourse p (Does Takes ∷ Does Flushes ∷ []) q → Onward p.core.system q.core.system
 flush_onward p q c =
@@ -83,7 +83,7 @@ was_live gs hs y z u (inr dead) lives = absurd (by_row (row_of y u) dead.2)
 module _ {V : Type 0} (told : V → Option Disk) (may_leave : V → Disk → Type 0) (faults : V → ℕ) where
   pub commit_leaves : CommitLeaves told may_leave faults
   commit_leaves s B p gs hs y z v w t k c others =
-      left_be told may_leave faults t (Commit t ∷ own) s B c.flushed.batches p c.settled.to gs hs y z v w k c.settled.stands log (refl, all_both (IsOfEnd t) c.settled.records (Ended t ∷ []) (solos_of t c.settled.records c.settled.are) (refl, tt)) onward others
+      left_be told may_leave faults t (Commit t ∷ own) s B c.flushed.batches p c.settled.to gs hs y z v w k c.settled.stands log (refl, all_append (IsOfEnd t) c.settled.records (Ended t ∷ []) (solos_of t c.settled.records c.settled.are) (refl, tt)) onward others
     where
       own : List Record
       own = c.settled.records ++ Ended t ∷ []
@@ -113,12 +113,33 @@ module _ {V : Type 0} (told : V → Option Disk) (may_leave : V → Disk → Typ
           let then = fault_onward c.logged.to c.stopped.to (faults w.store) c.stopped.course in
           subst (λ (x : SystemState). Onward y x) c.stands.at.system (onward_on y c.logged.to.core.system c.stopped.to.core.system first then)
 
+  -- ---- in steps
+  unfoldable pub commit_logs_go : (s : Start) (B : List (List Record)) (p : Point) (gs : List RegionState) (y : SystemState) (v : Vaulted V) (t : ℕ) → StandsAt told may_leave faults s B p gs y v → (l : IsLogged told may_leave faults s B p gs y v t)
+      → OthersStay gs y t gs (commit_logged y t) → Went told may_leave faults t (Commit t ∷ []) s B p gs gs (commit_logged y t) v
+  commit_logs_go s B p gs y v t k l others = record {
+    to = l.to;
+    steps = Commits t ∷ [];
+    calm = refl;
+    course = l.course;
+    log = l.log;
+    stands = l.stands;
+    keeps = l.keeps;
+    others = left_be told may_leave faults t (Commit t ∷ []) s B B p l.to gs gs y (commit_logged y t) v v k l.stands l.log (refl, tt) (refl, omega arith) others;
+    places = λ files. files;
+    whole = λ whole. whole_here told may_leave faults s B l.to gs (commit_logged y t) v l.stands whole.files;
+  }
+
+  pub solos_go : (last : List Record) (own : Record → Type 0) (s : Start) (B : List (List Record)) (p : Point) (gs hs : List RegionState) (y z : SystemState) (v : Vaulted V) (t : ℕ) → StandsAt told may_leave faults s B p gs y v
+      → (e : HasCome told may_leave faults t own last s B p v hs z) → AllByRecursion (IsOfEnd t) (e.records ++ last) → OthersStay gs y t hs z
+      → (w : Went told may_leave faults t (e.records ++ last) s B p gs hs z v) × (w.to ≡ e.to) × (w.steps ≡ e.steps)
+  solos_go last own s B p gs hs y z v t k e are others = end_goes told may_leave faults own last s B p gs hs y z v t k e are others
+
   pub backs_go : EndGoes told may_leave faults
-  backs_go last s B p gs hs y z v t k e ends others = end_goes told may_leave faults (IsBackOf t) last s B p gs hs y z v t k e (all_both (IsOfEnd t) e.records last (backs_of t e.records e.are) ends) others
+  backs_go last s B p gs hs y z v t k e ends others = end_goes told may_leave faults (IsBackOf t) last s B p gs hs y z v t k e (all_append (IsOfEnd t) e.records last (backs_of t e.records e.are) ends) others
 
   -- ---- between the calls
   others_between : (t : ℕ) (gs hs : List RegionState) (y z : SystemState) (v w : Vaulted V) (b : AreBetween told may_leave faults gs y v) (C : List (List Record)) (q : Point) → StandsAt told may_leave faults b.up.start C q hs z w
-      → ((u : ℕ) → (t == u) ≡ false → state_of b.up.point.core.system u ≡ Some Live → LeavesBe u b.up.point.log b.up.point.core q.log q.core) → OthersStay gs y t hs z → (state_of z t ≡ Some Live → ⊥)
+      → ((u : ℕ) → (t == u) ≡ false → is_open (state_of b.up.point.core.system u) ≡ true → LeavesBe u b.up.point.log b.up.point.core q.log q.core) → OthersStay gs y t hs z → (state_of z t ≡ Some Live → ⊥)
       → AreBetween told may_leave faults hs z w
   others_between t gs hs y z v w b C q stands leaves others not = record {
     up = record { start = b.up.start; batches = C; point = q; stands = stands };
@@ -129,12 +150,12 @@ module _ {V : Type 0} (told : V → Option Disk) (may_leave : V → Disk → Typ
       by_test u true e lives = absurd (not (ap (λ (n : ℕ). state_of z n) ((Decides-eqb t u).0 e) ∙ lives))
       by_test u false e lives =
           let was : state_of y u ≡ Some Live = was_live gs hs y z u (others.rows u e) lives in
-          call_waits b.up.point.log q.log b.up.point.core q.core u (leaves u e (ap (λ (x : SystemState). state_of x u) b.up.stands.at.system ∙ was)) (b.each u was)
+          call_waits b.up.point.log q.log b.up.point.core q.core u (leaves u e (ap (λ (x : SystemState). is_open (state_of x u)) b.up.stands.at.system ∙ ap is_open was)) (b.each u was)
 
   pub end_keeps : EndKeeps told may_leave faults
   end_keeps gs hs y z v t b comes others gone =
       let e = comes b.up.start b.up.batches b.up.point b.up.stands in
-      let w = (end_goes told may_leave faults (IsBackOf t) (Ended t ∷ []) b.up.start b.up.batches b.up.point gs hs y z v t b.up.stands e (all_both (IsOfEnd t) e.records (Ended t ∷ []) (backs_of t e.records e.are) (refl, tt)) others).0 in
+      let w = (end_goes told may_leave faults (IsBackOf t) (Ended t ∷ []) b.up.start b.up.batches b.up.point gs hs y z v t b.up.stands e (all_append (IsOfEnd t) e.records (Ended t ∷ []) (backs_of t e.records e.are) (refl, tt)) others).0 in
       others_between t gs hs y z v v b b.up.batches w.to w.stands w.others others (gone_is_dead z t gone.0)
 
   pub commit_keeps : CommitKeeps told may_leave faults

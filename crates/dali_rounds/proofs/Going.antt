@@ -1,12 +1,13 @@
 -- A list of calm steps from a point where the core stands, and a core between the calls of its clients.
-use Rattle.std.proofs.Common.{◌≡◌, ◌≢◌, ◌<◌, ℕ, Bool, true, false, List, ◌++◌, Option, Some, IfSome, refl, ap, sym, subst, ◌∙◌, slice_get, slice_set}
+use Rattle.std.proofs.Common.{◌≡◌, ◌≢◌, ◌<◌, ℕ, Bool, true, false, List, ◌++◌, Option, Some, IfSome, IsSome, None, refl, ap, sym, subst, ◌∙◌, slice_get, slice_set}
 use Rattle.std.specs.Prelude.{◌==◌}
 use Rattle.std.proofs.lemmas.Bool.Decides.{Decides-eqb}
+use Rattle.dali_lists.proofs.Lists.{get_set, get_set_other}
 use Rattle.dali_record.specs.declared.records.Record.{Record}
 use Rattle.dali_region.specs.State.{RegionState}
 use Rattle.dali_att.specs.declared.state.State.TheVariants.{Live}
 use Rattle.dali_store.specs.Store.{Files as Disk}
-use Rattle.dali_system.specs.State.{SystemState, CoreState, state_of, hold_in}
+use Rattle.dali_system.specs.State.{TxnRow, SystemState, CoreState, row_of, state_in, state_of, hold_in}
 use Rattle.dali_system.specs.Run.{RunsOn}
 use Rattle.dali_system.specs.Wholes.{IsWhole}
 use Rattle.dali_system.specs.Courses.{Step, Moment, IsCourse}
@@ -20,18 +21,16 @@ use Rattle.dali_steps.specs.Courses.{WentOn}
 use Rattle.dali_steps.proofs.Courses.{quiet_course}
 use Rattle.dali_single.specs.Stands.{AtPlan}
 use Rattle.dali_single.specs.Single.{MayCall}
-use Rattle.dali_single.proofs.Going.{row_there}
 use Rattle.dali_calls.specs.Plans.{Planned}
 use Rattle.dali_calls.specs.Followed.{HoldsCall}
 use Rattle.dali_clean.specs.Cleaned.{moment, AreDead}
 use Rattle.dali_clean.proofs.Courses.{runs_of}
-use Rattle.dali_clean.proofs.Lists.{get_set, get_apart}
 use Rattle.dali_stepwise.specs.Beside.{LeavesBe}
 use Rattle.dali_stepwise.proofs.Waiting.{course_leaves, call_waits}
 use Rattle.dali_ends.specs.Stands.{StandsAt}
 use Rattle.dali_ends.proofs.Standing.{moment_here}
 use Rattle.dali_ends.proofs.Wholes.{AreNoCleaner, course_no_cleaner, places_told, whole_here}
-use Rattle.dali_rounds.specs.Went.{CourseGoes, BetweenEach, BetweenGoes}
+use Rattle.dali_rounds.specs.Went.{is_open, CourseGoes, BetweenEach, BetweenGoes}
 use Rattle.dali_rounds.proofs.Calm.{calm_steps, taken_course}
 
 -- ---- where a plan or a transaction stands, by the log, the system and the regions
@@ -75,7 +74,12 @@ dead_set gs r g h at dead one q k there = by_test (r == q) refl
         let same : r ≡ q = (Decides-eqb r q).0 e in
         let is : h ≡ k = same_some h k (sym (get_set gs r g h at) ∙ (ap (λ (n : ℕ). slice_get (slice_set gs r h) n) same ∙ there)) in
         subst (λ (x : RegionState). IfSome x.hold (λ o. o.dead ≡ true)) is one
-    by_test false e = dead q k (sym (get_apart gs r h q (apart e)) ∙ there)
+    by_test false e = dead q k (sym (get_set_other gs r h q (apart e)) ∙ there)
+
+-- who is live or committed has a row
+open_row : (o : Option TxnRow) → is_open (state_in o) ≡ true → IsSome o
+open_row None begun = absurd (cc)
+open_row (Some row) begun = refl
 
 module _ {V : Type 0} (told : V → Option Disk) (may_leave : V → Disk → Type 0) (faults : V → ℕ) where
   pub runs_here : (s : Start) (B : List (List Record)) (p : Point) (gs : List RegionState) (y : SystemState) (v : Vaulted V) → StandsAt told may_leave faults s B p gs y v → RunsOn (bases_of s) p.log p.core
@@ -93,7 +97,7 @@ module _ {V : Type 0} (told : V → Option Disk) (may_leave : V → Disk → Typ
     log = ap (λ (m : Moment). m.log) went.moment;
     stands = stands;
     keeps = went.keeps;
-    others = λ u away lives. subst (λ (m : Moment). LeavesBe u p.log p.core m.log m.core) (sym went.moment) (course_leaves u (moment_of p) n steps (older u lives) (apart u away (ap (λ (x : SystemState). state_of x u) (sym k.at.system) ∙ lives)) course);
+    others = λ u away lives. subst (λ (m : Moment). LeavesBe u p.log p.core m.log m.core) (sym went.moment) (course_leaves u (moment_of p) n steps (older u lives) (apart u away (ap (λ (x : SystemState). is_open (state_of x u)) (sym k.at.system) ∙ lives)) course);
     places = λ files. places_told (told v.store) gs hs cleaner files;
     whole = λ is. whole_here told may_leave faults s B went.to hs z v stands (places_told (told v.store) gs hs cleaner is.files);
   }
@@ -119,8 +123,8 @@ module _ {V : Type 0} (told : V → Option Disk) (may_leave : V → Disk → Typ
         dead = dead;
       }
 
-      older : (u : ℕ) → state_of p.core.system u ≡ Some Live → u < p.core.system.next
-      older u lives = rows_are_older (bases_of s) p.log p.core (runs_here s B p gs y v k) u (row_there p.core.system u Live lives)
+      older : (u : ℕ) → is_open (state_of p.core.system u) ≡ true → u < p.core.system.next
+      older u lives = rows_are_older (bases_of s) p.log p.core (runs_here s B p gs y v k) u (open_row (row_of p.core.system u) lives)
 
       cleaner : AreNoCleaner gs hs
       cleaner = subst (λ (rs : List RegionState). AreNoCleaner rs hs) k.at.regions (course_no_cleaner (moment_of p) n steps (calm_steps steps calm) course)
@@ -141,4 +145,4 @@ module _ {V : Type 0} (told : V → Option Disk) (may_leave : V → Disk → Typ
           subst (λ (n : ℕ). MayCall w.to.log w.to.core n) same (may (ap (λ (n : ℕ). state_of z n) same ∙ lives))
       by_test u false e lives =
           let was : state_of y u ≡ Some Live = back u e lives in
-          call_waits b.up.point.log w.to.log b.up.point.core w.to.core u (w.others u e (ap (λ (x : SystemState). state_of x u) b.up.stands.at.system ∙ was)) (b.each u was)
+          call_waits b.up.point.log w.to.log b.up.point.core w.to.core u (w.others u e (ap (λ (x : SystemState). is_open (state_of x u)) b.up.stands.at.system ∙ ap is_open was)) (b.each u was)

@@ -5,6 +5,7 @@ use Rattle.std.proofs.lemmas.Bool.Decides.{Decides-eqb}
 use Rattle.std.proofs.lemmas.List.{append-nil}
 use Rattle.std.specs.FinMap.{get}
 use Rattle.std.proofs.lemmas.List.Elements.{Contains-append_left, Contains-append_right}
+use Rattle.dali_lists.proofs.Tests.{not_both_ways}
 use Rattle.dali_record.specs.declared.operations.Block.{Block}
 use Rattle.dali_record.specs.declared.operations.Undo.{Undo}
 use Rattle.dali_record.specs.declared.records.Record.{Record}
@@ -12,15 +13,17 @@ use Rattle.dali_record.specs.declared.records.Record.TheVariants.{Begin, Commit,
 use Rattle.dali_record.specs.Epochs.{last_epoch}
 use Rattle.dali_record.specs.Log.{begin_by, commit_by, ended_by, begun, committed, ended}
 use Rattle.dali_record.specs.Damage.{has}
+use Rattle.dali_record.proofs.Survivors.{begin_is, commit_is}
 use Rattle.dali_history.proofs.Chained.{filtered_is_Contains}
 use Rattle.dali_att.specs.declared.state.State.{State}
 use Rattle.dali_att.specs.declared.state.State.TheVariants.{Live, Dead, Cleaning}
 use Rattle.dali_att.specs.Table.{fresh_row, with_state, with_undo, without_last}
 use Rattle.dali_att.proofs.Changes.{get-added}
+use Rattle.dali_history.proofs.Reported.{ended_from}
 use Rattle.dali_system.specs.State.{TxnRow, SystemState, CoreState, row_of, state_in}
 use Rattle.dali_system.specs.Run.{is_committed}
 use Rattle.dali_system.specs.Steps.{begun as begun_system, undo_kept, ended_logged}
-use Rattle.dali_system.specs.Courses.{Step, Begins, Operates, TakesBack, Frees, Answers, Commits, Ends, AuditBegins, AuditEnds, Locks, Refuses, OnRegion, Passes, Dies, Claims, GivesBack, Recovers, Stops, Checkpoints, Takes, Flushes, Faults, ReadFails, Moment, IsStep, IsCourse}
+use Rattle.dali_system.specs.Courses.{Step, Begins, Operates, TakesBack, Frees, Answers, Commits, Ends, AuditEnds, OnRegion, Dies, Claims, GivesBack, Recovers, Stops, Checkpoints, Takes, Flushes, ReadFails, Moment, IsStep, IsCourse}
 use Rattle.dali_facts.specs.Facts.{runs_in}
 use Rattle.dali_facts.proofs.Begun.{holds_the_begun}
 use Rattle.dali_facts.proofs.Commits.{committed_is_logged}
@@ -28,20 +31,9 @@ use Rattle.dali_single.proofs.Undoing.{ended_others}
 use Rattle.dali_stepwise.specs.Beside.{Grows}
 use Rattle.dali_stepwise.proofs.Growing.{step_grows}
 use Rattle.dali_rounds.specs.Runs.{GoneHasEnded, LiveIsUncommitted, EndedSince}
-use Rattle.dali_rounds.proofs.Cleaning.{is_there, kept_there, clash}
+use Rattle.dali_rounds.proofs.Cleaning.{is_there, kept_there}
 
 -- ---- a list of numbers, and the records that give them
-begin_is : (r : Record) (t : ℕ) → begin_by r ≡ Some t → r ≡ Begin t
-begin_is (Begin u) t e = let same : u ≡ t = cc in ap (λ n. Begin n) same
-begin_is r t e = absurd cc
-
-commit_is : (r : Record) (t : ℕ) → commit_by r ≡ Some t → r ≡ Commit t
-commit_is (Commit u) t e = let same : u ≡ t = cc in ap (λ n. Commit n) same
-commit_is r t e = absurd cc
-
-ended_is : (r : Record) (t : ℕ) → ended_by r ≡ Some t → r ≡ Ended t
-ended_is (Ended u) t e = let same : u ≡ t = cc in ap (λ n. Ended n) same
-ended_is r t e = absurd cc
 
 no_row : (row : Option TxnRow) → row ≡ None → IsSome row → ⊥
 no_row row none some = let is : is_some row ≡ true = some in let not : is_some row ≡ false = ap is_some none in cc
@@ -61,7 +53,7 @@ gone_has_ended bases L c t run none begins = by_end (has (ended E) t) refl
     first = (filtered_is_Contains begin_by (λ n. Begin n) (λ u. refl) begin_is E t).1 begins
 
     by_end : (b : Bool) → has (ended E) t ≡ b → Contains E (Ended t)
-    by_end true e = (filtered_is_Contains ended_by (λ n. Ended n) (λ u. refl) ended_is E t).0 e
+    by_end true e = (filtered_is_Contains ended_by (λ n. Ended n) (λ u. refl) ended_from E t).0 e
     by_end false e =
         let runs : runs_in L t ≡ true = and_not (has (begun E) t) (has (ended E) t) first e in
         absurd (no_row (row_of c.system t) none ((holds_the_begun bases L c run t).1 runs))
@@ -77,7 +69,7 @@ pub live_is_uncommitted : LiveIsUncommitted
 live_is_uncommitted bases L c t run lives there =
     let row = live_row (row_of c.system t) lives in
     let has_it : has (committed L) t ≡ true = (filtered_is_Contains commit_by (λ n. Commit n) (λ u. refl) commit_is L t).1 there in
-    clash has_it (sym (committed_is_logged bases L c run t row.0 row.1) ∙ row.2)
+    not_both_ways has_it (sym (committed_is_logged bases L c run t row.0 row.1) ∙ row.2)
 
 -- ---- a row that goes
 abbrev StaysOr : ℕ → List Record → SystemState → List Record → SystemState → Type 0
@@ -109,12 +101,8 @@ step_there t L M c d (Ends u) s there = by_test (u == t) refl
     by_test : (b : Bool) → (u == t) ≡ b → StaysOr t L c.system M d.system
     by_test true e = let same : u ≡ t = (Decides-eqb u t).0 e in inr (s.2.0 ∙ ap (λ (n : ℕ). L ++ Ended n ∷ []) same)
     by_test false e = stays t L M c d _ s.2.1 (ap is_some (ended_others c.system (ended_logged c.system u) u refl t e).0 ∙ there)
-step_there t L M c d AuditBegins s there = stays t L M c d _ s.2.1 there
 step_there t L M c d (AuditEnds b found) s there = stays t L M c d _ s.1.1 there
-step_there t L M c d (Locks u k m) s there = stays t L M c d _ s.2.1 there
-step_there t L M c d (Refuses u k m h) s there = stays t L M c d _ s.2.1 there
 step_there t L M c d (OnRegion r x) s there = stays t L M c d _ s.3.1 there
-step_there t L M c d (Passes b r) s there = stays t L M c d _ s.2.1 there
 step_there t L M c d (Dies u o) s there = stays t L M c d _ s.1.1 (kept_there c.system u t (with_state (Dead o)) ∙ there)
 step_there t L M c d (Claims u) s there = stays t L M c d _ s.2.1 (kept_there c.system u t (with_state (Cleaning s.0)) ∙ there)
 step_there t L M c d (GivesBack u o) s there = stays t L M c d _ s.1.1 (kept_there c.system u t (with_state (Dead o)) ∙ there)
@@ -123,8 +111,8 @@ step_there t L M c d Stops s there = stays t L M c d _ s.1.1 there
 step_there t L M c d (Checkpoints b) s there = stays t L M c d _ s.1.1 there
 step_there t L M c d Takes s there = stays t L M c d _ s.1 there
 step_there t L M c d Flushes s there = stays t L M c d _ s.1.1 there
-step_there t L M c d (Faults n) s there = stays t L M c d _ s.2.1 there
 step_there t L M c d (ReadFails n) s there = stays t L M c d _ s.1.1 there
+step_there t L M c d _ s there = stays t L M c d _ s.2.1 there
 
 -- what a list of steps logs
 grown : (m n : Moment) (xs : List Step) → IsCourse m xs n → (own : List Record) × (n.log ≡ m.log ++ own)
@@ -148,7 +136,7 @@ ended_one t m k n one (inr over) rest all =
     (Ended t ∷ all.0, all.1 ∙ (ap (λ (l : List Record). l ++ all.0) over ∙ append_assoc m.log (Ended t ∷ []) all.0), Contains-append_left (Ended t ∷ []) all.0 (Ended t) (itself t))
 
 pub ended_since : EndedSince
-ended_since m n [] t course some none = absurd (clash some (ap (λ (k : Moment). is_there k.core.system t) course ∙ ap is_some none))
+ended_since m n [] t course some none = absurd (not_both_ways some (ap (λ (k : Moment). is_there k.core.system t) course ∙ ap is_some none))
 ended_since m n (x ∷ xs) t course some none =
     ended_one t m course.0 n (step_grows m.log course.0.log m.core course.0.core x course.1.0) (step_there t m.log course.0.log m.core course.0.core x course.1.0 some)
     (λ there. ended_since course.0 n xs t course.2 there none) (grown course.0 n xs course.2)

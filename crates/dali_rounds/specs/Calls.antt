@@ -7,8 +7,8 @@
 --     IsLetGo, ReleaseTells    its row then names no region any more, and no record says so; or another has claimed it
 --     CleanGoes, LeftGoes      a transaction whose client died was cleaned up; or some of its undos were performed, and it is dead again
 --     IsOfEnd t x              the record x is one of an end of t
---     EndGoes, LeavesOthers, CommitLeaves, FailureLeaves       an end leaves each other live transaction where it was
-use Rattle.std.specs.Prelude.{◌≡◌, ◌==◌, ◌⊎◌, ℕ, Bool, false, ⊤, List, [], ◌∷◌, ◌++◌, Option, Some, None, slice_get, slice_set}
+--     EndGoes, LeavesOthers, CommitLeaves, FailureLeaves       an end leaves each other transaction that is live or committed where it was
+use Rattle.std.specs.Prelude.{◌≡◌, ◌==◌, ◌⊎◌, ℕ, Bool, true, false, ⊤, List, [], ◌∷◌, ◌++◌, Option, Some, None, slice_get, slice_set}
 use Rattle.std.specs.List.{AllByRecursion}
 use Rattle.dali_record.specs.declared.records.Answer.{Answer}
 use Rattle.dali_record.specs.declared.records.Call.{Call}
@@ -18,7 +18,7 @@ use Rattle.dali_region.specs.declared.Hold.{Hold}
 use Rattle.dali_region.specs.State.{RegionState}
 use Rattle.dali_locks.specs.declared.mode.LockAnswer.{LockAnswer}
 use Rattle.dali_locks.specs.declared.mode.LockAnswer.TheVariants.{Granted, Wait, Busy}
-use Rattle.dali_att.specs.declared.state.State.TheVariants.{Live, Dead}
+use Rattle.dali_att.specs.declared.state.State.TheVariants.{Dead}
 use Rattle.dali_store.specs.Store.{Files as Disk}
 use Rattle.dali_system.specs.State.{SystemState, row_of, state_of}
 use Rattle.dali_system.specs.Steps.{begun}
@@ -41,7 +41,7 @@ use Rattle.dali_stepwise.specs.Stepwise.{IsAsked, OneFurther, IsDeath, AnswersNo
 use Rattle.dali_ends.specs.Stands.{StandsAt}
 use Rattle.dali_ends.specs.Ended.{HasCome}
 use Rattle.dali_ends.specs.Committed.{HasCommitted, HasFailed}
-use Rattle.dali_rounds.specs.Went.{Went}
+use Rattle.dali_rounds.specs.Went.{Went, is_open}
 
 -- a record of an end of t, or of a part of it
 abbrev pub IsOfEnd : ℕ → Record → Type 0
@@ -133,9 +133,9 @@ module _ {V : Type 0} (told : V → Option Disk) (may_leave : V → Disk → Typ
       → (e : HasCome told may_leave faults t (IsBackOf t) last s B p v hs z) → AllByRecursion (IsOfEnd t) last → OthersStay gs y t hs z
       → (w : Went told may_leave faults t (e.records ++ last) s B p gs hs z v) × (w.to ≡ e.to) × (w.steps ≡ e.steps)
 
-  -- each other live transaction is where it was
+  -- each other transaction that is live or committed is where it was
   abbrev pub LeavesOthers : ℕ → Point → Point → Type 0
-  LeavesOthers t p q = (u : ℕ) → (t == u) ≡ false → state_of p.core.system u ≡ Some Live → LeavesBe u p.log p.core q.log q.core
+  LeavesOthers t p q = (u : ℕ) → (t == u) ≡ false → is_open (state_of p.core.system u) ≡ true → LeavesBe u p.log p.core q.log q.core
 
   abbrev pub CommitLeaves : Type 0
   CommitLeaves =

@@ -1,7 +1,8 @@
 -- Where a core stands behind steps of one client, and what they leave of the others.
 --     is_calm x                the step x calls no store, takes no frame, and is none of a checkpoint
+--     is_open o                a row of a transaction that is live or committed
 --     Went t own s B p gs hs z v       such steps lead from the point p, with the regions gs, to one where the core stands with these regions and this system,
---                              and the vault as it was; behind the log stand these records; and each live transaction but t is left where it was
+--                              and the vault as it was; behind the log stand these records; and each transaction but t that is live or committed is left where it was
 --     CourseGoes               so it is of each list of such steps that leaves no live hold
 --     AreBetween gs y v        some run has come to a point where the core stands, and the rules of its log have each live transaction between two calls
 --     BetweenEach              so each of these may commit
@@ -10,7 +11,8 @@ use Rattle.std.specs.Prelude.{◌≡◌, ◌==◌, ℕ, Bool, true, false, List,
 use Rattle.std.specs.List.{list_all}
 use Rattle.dali_record.specs.declared.records.Record.{Record}
 use Rattle.dali_region.specs.State.{RegionState}
-use Rattle.dali_att.specs.declared.state.State.TheVariants.{Live}
+use Rattle.dali_att.specs.declared.state.State.{State as RowState}
+use Rattle.dali_att.specs.declared.state.State.TheVariants.{Live, Committed}
 use Rattle.dali_store.specs.Store.{Files as Disk}
 use Rattle.dali_system.specs.State.{SystemState, state_of}
 use Rattle.dali_system.specs.Passes.{Audits}
@@ -30,6 +32,11 @@ abbrev pub is_calm : Step → Bool
 is_calm Takes = false
 is_calm x = is_quiet x
 
+abbrev pub is_open : Option RowState → Bool
+is_open (Some Live) = true
+is_open (Some Committed) = true
+is_open o = false
+
 module _ {V : Type 0} (told : V → Option Disk) (may_leave : V → Disk → Type 0) (faults : V → ℕ) where
   pub record Went (t : ℕ) (own : List Record) (s : Start) (B : List (List Record)) (p : Point) (gs hs : List RegionState) (z : SystemState) (v : Vaulted V) : Type 0 where
     pub to : Point
@@ -39,7 +46,7 @@ module _ {V : Type 0} (told : V → Option Disk) (may_leave : V → Disk → Typ
     pub log : to.log ≡ p.log ++ own
     pub stands : StandsAt told may_leave faults s B to hs z v
     pub keeps : KeepsImage told may_leave faults p to v.store v.store
-    pub others : (u : ℕ) → (t == u) ≡ false → state_of p.core.system u ≡ Some Live → LeavesBe u p.log p.core to.log to.core
+    pub others : (u : ℕ) → (t == u) ≡ false → is_open (state_of p.core.system u) ≡ true → LeavesBe u p.log p.core to.log to.core
     -- the image files have the place of each region whose flag is clear
     pub places : IfSome (told v.store) (HoldsPlaces gs) → IfSome (told v.store) (HoldsPlaces hs)
     pub whole : IsWholeCore told gs p.core.system v → IsWholeCore told hs z v
@@ -49,7 +56,7 @@ module _ {V : Type 0} (told : V → Option Disk) (may_leave : V → Disk → Typ
       (t : ℕ) (own : List Record) (s : Start) (B : List (List Record)) (p : Point) (gs hs : List RegionState) (y z : SystemState) (v : Vaulted V) (a : Audits) (steps : List Step)
       → StandsAt told may_leave faults s B p gs y v → list_all is_calm steps ≡ true → AreDead hs
       → IsCourse (moment_of p) steps (moment hs z (p.log ++ own) p.core.vault a)
-      → ((u : ℕ) → (t == u) ≡ false → state_of y u ≡ Some Live → list_all (is_apart u) steps ≡ true)
+      → ((u : ℕ) → (t == u) ≡ false → is_open (state_of y u) ≡ true → list_all (is_apart u) steps ≡ true)
       → Went t own s B p gs hs z v
 
   -- ---- a core between the calls of its clients

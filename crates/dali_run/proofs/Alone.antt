@@ -16,7 +16,7 @@ module _ {V : Type 0} (told : V → Option Files) (may_leave : V → Files → T
   abbrev FailsSo : Halt → Command → Program V → Fuse V → Type 0
   FailsSo = Fails told may_leave moment left_since faults precheck
 
-  pub poke_ends : (halt : Halt) (region word mask : ℕ) (p : Program V) (f : Fuse V) → AloneEndsIn told may_leave faults precheck halt (Pokes region word mask) p f
+  pub poke_ends : (halt : Halt) (region word mask : ℕ) (p : Program V) (f : Fuse V) → AloneEndsIn told may_leave moment left_since faults precheck halt (Pokes region word mask) p f
       → Fails told may_leave moment left_since faults precheck halt (Poke region word mask) p f
   poke_ends halt region word mask (Down store) f e = subst (λ (h : Halt). FailsSo h (Poke region word mask) (Down store) f) (sym e.0) e.1
   poke_ends StoreFault region word mask (Up core) f e = e
@@ -31,7 +31,7 @@ module _ {V : Type 0} (told : V → Option Files) (may_leave : V → Files → T
   poke_ends Formatted region word mask (Up core) f e = absurd e
   poke_ends (LogFull end most) region word mask (Up core) f e = absurd e
 
-  pub audit_ends : (halt : Halt) (p : Program V) (f : Fuse V) → AloneEndsIn told may_leave faults precheck halt Audits p f → Fails told may_leave moment left_since faults precheck halt Audit p f
+  pub audit_ends : (halt : Halt) (p : Program V) (f : Fuse V) → AloneEndsIn told may_leave moment left_since faults precheck halt Audits p f → Fails told may_leave moment left_since faults precheck halt Audit p f
   audit_ends halt (Down store) f e = subst (λ (h : Halt). FailsSo h Audit (Down store) f) (sym e.0) e.1
   audit_ends StoreFault (Up core) f e = e
   audit_ends OutOfMemory (Up core) f e = e
@@ -45,7 +45,7 @@ module _ {V : Type 0} (told : V → Option Files) (may_leave : V → Files → T
   audit_ends Formatted (Up core) f e = absurd e
   audit_ends (LogFull end most) (Up core) f e = absurd e
 
-  pub checkpoint_ends : (halt : Halt) (p : Program V) (f : Fuse V) → AloneEndsIn told may_leave faults precheck halt Checkpoints p f
+  pub checkpoint_ends : (halt : Halt) (p : Program V) (f : Fuse V) → AloneEndsIn told may_leave moment left_since faults precheck halt Checkpoints p f
       → Fails told may_leave moment left_since faults precheck halt Checkpoint p f
   checkpoint_ends halt (Down store) f e = subst (λ (h : Halt). FailsSo h Checkpoint (Down store) f) (sym e.0) e.1
   checkpoint_ends StoreFault (Up core) f e = e

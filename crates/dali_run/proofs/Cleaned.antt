@@ -1,21 +1,14 @@
 -- Dead transactions are cleaned up, one after another.
 use Rattle.std.proofs.Common.{◌≡◌, ◌<◌, ◌+◌, ℕ, Bool, true, false, List, [], ◌∷◌, ◌++◌, Option, Some, None, length, take, slice_index_or, refl, sym, ◌∙◌, ap, subst, inl, inr}
-use Rattle.std.specs.Prelude.{◌==◌, ◌&&◌, ◌||◌, IfSome, is_some}
-use Rattle.std.specs.List.{list_any}
+use Rattle.std.specs.Prelude.{◌==◌, ◌&&◌, ◌||◌, is_some}
 use Rattle.std.specs.FinMap as finite
-use Rattle.std.specs.Ordering.{nat_cmp, eq_by_cmp}
-use Rattle.std.specs.Cmp.{nat_cmp_total, eq_by_cmp_equiv, unsigned_tied}
-use Rattle.std.proofs.Math.Path.{fun_ext}
 use Rattle.std.proofs.lemmas.Bool.{eqb-true}
 use Rattle.std.proofs.lemmas.List.{take_more}
-use Rattle.dali_record.specs.declared.operations.Pending.{Pending}
 use Rattle.dali_record.specs.Damage.{has}
 use Rattle.dali_record.proofs.Survivors.{has_filter}
 use Rattle.dali_region.specs.State.{RegionState}
 use Rattle.dali_att.specs.declared.state.State.{State}
 use Rattle.dali_att.specs.declared.state.State.TheVariants.{Dead}
-use Rattle.dali_att.specs.Table.{Table}
-use Rattle.dali_calls.specs.Flags.{FlagsStay}
 use Rattle.dali_memstore.specs.declared.fuse.Fuse.{Fuse}
 use Rattle.dali_store.specs.Store.{Files}
 use Rattle.dali_system.specs.declared.causes.Cause.{Cause}
@@ -25,37 +18,13 @@ use Rattle.dali_clean.specs.Cleaned.{IsDead}
 use Rattle.dali_clean.specs.Others.{RowStays}
 use Rattle.dali_core.specs.Served.{Served}
 use Rattle.dali_whole.specs.declared.whole.Core.{Core}
-use Rattle.dali_whole.specs.Cores.{HoldsPlaces}
 use Rattle.dali_report.specs.Lines.{texts}
 use Rattle.dali_report.specs.declared.printed.Line.TheVariants as lines
 use Rattle.dali_run.specs.declared.program.Program.TheVariants.{Up}
 use Rattle.dali_run.specs.Steps.{dead_in, IsSame, HasCleanedUp, CleansUp, CleansAll, CleanupIn, HasCleaned, Lists, ShowIn}
-
--- ---- the image files
-holds_places : (gs hs : List RegionState) (fs : Files) → FlagsStay gs hs → HoldsPlaces gs fs → HoldsPlaces hs fs
-holds_places gs hs fs stay holds = λ side r h there clear.
-    let was = stay.each r h there in holds side r was.0 was.1 (was.2 side clear)
-
-pub places_stay : (o : Option Files) (gs hs : List RegionState) → FlagsStay gs hs → IfSome o (HoldsPlaces gs) → IfSome o (HoldsPlaces hs)
-places_stay None gs hs stay holds = tt
-places_stay (Some fs) gs hs stay holds = holds_places gs hs fs stay holds
-
-pub flags_same : (gs : List RegionState) → FlagsStay gs gs
-flags_same gs = record { count = refl; each = λ r h there. (h, there, λ side e. e) }
-
-pub flags_then : (gs hs is : List RegionState) → FlagsStay gs hs → FlagsStay hs is → FlagsStay gs is
-flags_then gs hs is one two = record {
-  count = two.count ∙ one.count;
-  each = λ r k there.
-      let h = two.each r k there in
-      let g = one.each r h.0 h.1 in (g.0, g.1, λ side e. g.2 side (h.2 side e));
-}
+use Rattle.dali_checkpoint.proofs.Rows.{has_keys}
 
 -- ---- who is dead
-has_keys : (m : Table Pending) (t : ℕ) → has (finite.keys m) t ≡ is_some (finite.get m t)
-has_keys m t =
-    let tests : (λ (x : ℕ). x == t) ≡ eq_by_cmp nat_cmp t = fun_ext (λ x. sym ((eq_by_cmp_equiv nat_cmp_total).symm t x ∙ unsigned_tied x t)) in
-    ap (λ (p : ℕ → Bool). list_any p (finite.keys m)) tests ∙ sym (finite.contains_key-keys m t)
 
 some_row : (o : Option TxnRow) (latched : Option ℕ) → state_in o ≡ Some (Dead latched) → is_some o ≡ true
 some_row None latched e = absurd cc

@@ -29,7 +29,7 @@ use Rattle.dali_whole.specs.declared.whole.Core.{Core}
 use Rattle.dali_whole.specs.Cores.{HoldsPlaces, IsCoreAt}
 use Rattle.dali_run.specs.Program.{told_in, leaves_in, faults_in}
 use Rattle.dali_run.specs.Steps.{CleansAll, CleansUp, HasCleanedUp, IsSame}
-use Rattle.dali_run.proofs.Cleaned.{places_stay}
+use Rattle.dali_whole.proofs.Lengths.{flags_hold}
 
 -- ---- rows
 abbrev pub AllDead : SystemState → Type 0
@@ -119,7 +119,7 @@ module _ {V : Type 0} (told : V → Option Disk) (may_leave : V → Disk → Typ
             dead = dead;
           };
           files =
-              places_stay (told_in told d.vault.store) c.regions.items d.regions.items one.flags
+              flags_hold (told_in told d.vault.store) c.regions.items d.regions.items one.flags
               (subst (λ (w : Vaulted (Fuse V)). IfSome (told_in told w.store) (HoldsPlaces c.regions.items)) (sym one.vault) begins.files);
           keeps = flags.0;
           between = between_so p at.to d at.at.regions at.at.system (at.at.vault.vault.stopped ∙ runs) flags.1 begins.between dead here;

@@ -1,6 +1,6 @@
 -- How a comparison with a replay ends.
 use Rattle.std.proofs.Common.{◌≡◌, ℕ, Bool, List, Option, Some, None, Result, Err, refl, sym, ◌∙◌, ap}
-use Rattle.std.specs.Prelude.{IfSome, IsErrOf}
+use Rattle.std.specs.Prelude.{IsErrOf}
 use Rattle.dali_memstore.specs.declared.fuse.Fuse.{Fuse}
 use Rattle.dali_store.specs.Store.{Files}
 use Rattle.dali_system.specs.declared.causes.Cause.{Cause}
@@ -9,10 +9,6 @@ use Rattle.dali_verify.specs.declared.error.VerifyError.TheVariants.{Fault, BadL
 use Rattle.dali_whole.specs.declared.whole.Core.{Core}
 use Rattle.dali_run.specs.declared.program.Program.TheVariants.{Up}
 use Rattle.dali_run.specs.Steps.{EndsComparison, HasCleaned, VerifyIn}
-
-pub if_some_then : {A : Type 0} (P Q : A → Type 0) (o : Option A) → IfSome o P → ((x : A) → P x → Q x) → IfSome o Q
-if_some_then P Q None p f = tt
-if_some_then P Q (Some x) p f = f x p
 
 -- one error is no other
 is_other : (at : ℕ) → ◌≡◌ {A = Result Bool VerifyError} (Err (BadLog at)) (Err Fault) → ⊥

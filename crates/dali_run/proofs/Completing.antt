@@ -1,5 +1,5 @@
 -- A failure of the store that ends a run shows in its count, and a run that reads a script whose gate is found comes to its end.
-use Rattle.std.proofs.Common.{◌≡◌, ◌≤◌, ◌<◌, ℕ, ◌+◌, zero, suc, Bool, true, false, List, [], ◌∷◌, ◌++◌, Option, Some, None, length, take, refl, sym, ◌∙◌, ap, subst, inl, inr, arith}
+use Rattle.std.proofs.Common.{◌≡◌, ◌≤◌, ◌<◌, ℕ, ◌+◌, zero, suc, Bool, true, false, List, [], ◌∷◌, ◌++◌, Option, Some, None, length, take, refl, sym, ◌∙◌, ap, subst, arith}
 use Rattle.std.specs.Prelude.{IfSome, is_some}
 use Rattle.std.specs.List.{AllByRecursion}
 use Rattle.dali_arguments.specs.declared.task.Task.TheVariants.{Run}
@@ -8,13 +8,13 @@ use Rattle.dali_memstore.specs.Fuse.{inner, passes_of}
 use Rattle.dali_record.specs.declared.records.Record.{Record}
 use Rattle.dali_restart.specs.Formatted.{first_record}
 use Rattle.dali_script.specs.declared.commands.Command.{Command}
-use Rattle.dali_script.specs.declared.commands.Command.TheVariants.{Size, Open, Round, Poke, Audit, Checkpoint, Cleanup, Crash, Restart, Show, Verify, Next, Fuse as SetFuse}
+use Rattle.dali_script.specs.declared.commands.Command.TheVariants.{Size, Open}
 use Rattle.dali_script.specs.Grammar.{IsSpelled, IsWrong}
 use Rattle.dali_script.specs.Scripts.{BeginsOnce, begins}
 use Rattle.dali_script.proofs.Outcomes.{never_both, one_script}
 use Rattle.dali_script.proofs.RightScripts.{right_script}
-use Rattle.dali_store.specs.Faults.{Rose}
 use Rattle.dali_store.specs.Store.{Files as Disk}
+use Rattle.dali_store.proofs.Causes.{rose_before}
 use Rattle.dali_streams.specs.Streams.{ReadAll, ReadTooMany}
 use Rattle.dali_run.specs.declared.halt.Halt.TheVariants as halts
 use Rattle.dali_run.specs.declared.program.Program.{Program}
@@ -26,7 +26,7 @@ use Rattle.dali_run.specs.Fails.{IsSize, Opens}
 use Rattle.dali_run.specs.Program.{store_of}
 use Rattle.dali_run.specs.Run.{HasRun}
 use Rattle.dali_run.specs.Scripts.{Spells, SpellsNone}
-use Rattle.dali_run.specs.Survives.{BeginsWith, IsOwn, NoneEscapeThere, NoneEscapesBefore, NoneEscapesIn, ScriptIsHonest}
+use Rattle.dali_run.specs.Survives.{AnyFiles, BeginsWith, IsOwn, NoneEscapeThere, NoneEscapesBefore, NoneEscapesIn, NoneEscapesRead, SafeThere, ScriptIsHonest}
 use Rattle.dali_run.specs.Told.{sizes_of}
 use Rattle.dali_run.proofs.Failing.{fault_rises}
 use Rattle.dali_run.proofs.Surviving.{begins_down, grows, made_some, none_yet, own_store, script_survives, there}
@@ -40,11 +40,6 @@ too_many : (o : Option (List ℕ)) (bytes : List ℕ) (limit : ℕ) (rest : Opti
 too_many (Some all) bytes limit rest is short many = let same : all ≡ bytes = cc is in omega (arith, ap length same, short, many.0)
 too_many None bytes limit rest is short many = absurd cc
 
--- ---- a count that rose before
-risen_on : (a n b : ℕ) → Rose a n → n ≤ b → Rose a b
-risen_on a n b (inl more) later = inl (omega (arith, more, later))
-risen_on a n b (inr end) later = inr (omega (arith, end, later))
-
 -- ---- only the first command makes or opens a database
 at_place : (xs : List Command) (n : ℕ) (x : Command) → AllByRecursion (λ (c : Command). begins c ≡ false) xs → take (suc n) xs ≡ take n xs ++ x ∷ [] → begins x ≡ false
 at_place [] zero x all next = absurd (cc next)
@@ -54,18 +49,7 @@ at_place (y ∷ ys) (suc n) x all next = at_place ys n x all.1 (cc next)
 
 size_begins : (command : Command) → IsSize command → begins command ≡ true
 size_begins (Size index heap) is = refl
-size_begins Open is = absurd is
-size_begins (Round blocks) is = absurd is
-size_begins (Poke region word mask) is = absurd is
-size_begins Audit is = absurd is
-size_begins Checkpoint is = absurd is
-size_begins Cleanup is = absurd is
-size_begins (Crash choice) is = absurd is
-size_begins Restart is = absurd is
-size_begins Show is = absurd is
-size_begins Verify is = absurd is
-size_begins Next is = absurd is
-size_begins (SetFuse passes) is = absurd is
+size_begins _ is = absurd is
 
 -- a count that stands at nothing has the first command behind it
 first_is : (first x : Command) (later : List Command) → take 1 (first ∷ later) ≡ take 0 (first ∷ later) ++ x ∷ [] → first ≡ x
@@ -118,26 +102,29 @@ module _ {V : Type 0} (told : V → Option Disk) (may_leave : V → Disk → Typ
     never_unformatted : (script : List Command) (n : ℕ) (x : Command) (text : List ℕ) (state : Program V) → BeginsOnce script → FindsItsGate told base script c.store
         → take (n + 1) script ≡ take n script ++ x ∷ [] → Opens x
         → (run : HasRun told may_leave moment left_since faults limit cuts precheck c.store script n text state)
-        → NoneEscapeThere told may_leave moment left_since faults limit cuts precheck c.store script n text state run → NoneEscapesIn told may_leave state
+        → NoneEscapeThere told may_leave moment left_since faults limit cuts precheck c.store script n text state run
+        → NoneEscapesRead told (SafeThere told may_leave moment left_since faults limit cuts precheck c.store script n text state run) state
         → IfSome (told (inner (store_of state))) (λ fs. IsUnformatted fs.log) → ⊥
     unfolding there
     never_unformatted [] n x text state once gate next is run honest last none = once
     never_unformatted (Open ∷ later) n x text state once gate next is run honest last none =
         let gone = there told may_leave moment left_since faults reads_now counts_now limit cuts precheck base c.store (Open ∷ later) n text state run own honest in
-        let empty = none_yet told may_leave moment left_since faults reads_now counts_now gone.log (inner (store_of state))
-        (own_store told may_leave faults gone.log state gone.point last) none in
+        let safe = SafeThere told may_leave moment left_since faults limit cuts precheck c.store (Open ∷ later) n text state run in
+        let empty = none_yet told may_leave moment left_since faults reads_now counts_now (NoneEscapesIn safe state) gone.log (inner (store_of state))
+        (own_store told may_leave faults safe gone.log state gone.point) last none in
         some_first base gone.log
-        (grows told may_leave moment left_since faults reads_now counts_now limit cuts precheck (take n (Open ∷ later)) base run.first
+        (grows told may_leave moment left_since faults reads_now counts_now limit cuts precheck AnyFiles (take n (Open ∷ later)) base run.first
         (begins_down told may_leave faults base run.first c.store run.down own) text state run.runs gone.log gone.each) empty gate
     never_unformatted (Size index heap ∷ later) zero x text state once gate next is run honest last none =
         subst Opens (sym (first_is (Size index heap) x later next)) is
     never_unformatted (Size index heap ∷ later) (suc n) x text state once gate next is run honest last none =
         let a = begins_down told may_leave faults base run.first c.store run.down own in
         let gone = there told may_leave moment left_since faults reads_now counts_now limit cuts precheck base c.store (Size index heap ∷ later) (suc n) text state run own honest in
-        let empty = none_yet told may_leave moment left_since faults reads_now counts_now gone.log (inner (store_of state))
-        (own_store told may_leave faults gone.log state gone.point last) none in
+        let safe = SafeThere told may_leave moment left_since faults limit cuts precheck c.store (Size index heap ∷ later) (suc n) text state run in
+        let empty = none_yet told may_leave moment left_since faults reads_now counts_now (NoneEscapesIn safe state) gone.log (inner (store_of state))
+        (own_store told may_leave faults safe gone.log state gone.point) last none in
         some_first (first_record (sizes_of index heap) ∷ []) gone.log
-        (made_some told may_leave moment left_since faults reads_now counts_now limit cuts precheck index heap (take n later) base run.first text state run.runs a honest) empty (omega arith)
+        (made_some told may_leave moment left_since faults reads_now counts_now limit cuts precheck AnyFiles index heap (take n later) base run.first text state run.runs a honest) empty (omega arith)
     never_unformatted _ n x text state once gate next is run honest last none = gate
 
     -- a database is made by the first command, before which no fuse is set
@@ -156,7 +143,8 @@ module _ {V : Type 0} (told : V → Option Disk) (may_leave : V → Disk → Typ
         let stops = stopped.2 in
         let once = (right_script stopped.1.bytes stopped.0 stopped.1.spelled).once in
         let gone = there told may_leave moment left_since faults reads_now counts_now limit cuts precheck base c.store stopped.0 stops.count stops.text stops.state stops.run own honest in
-        fault_rises told may_leave moment left_since faults precheck stops.command gone.log stops.state stops.last gone.point
+        fault_rises told may_leave moment left_since faults precheck
+        (SafeThere told may_leave moment left_since faults limit cuts precheck c.store stopped.0 stops.count stops.text stops.state stops.run) stops.command gone.log stops.state stops.last gone.point
         (λ is. unfused stopped.0 stops.count stops.command stops.text stops.state once stops.next.next stops.run is) stops.fails
 
     script_is : (s script : List Command) → IsRead c script → Spells c.left s c.left' → s ≡ script
@@ -172,7 +160,7 @@ module _ {V : Type 0} (told : V → Option Disk) (may_leave : V → Disk → Typ
     may_end Done script read gate e honest calm = tt
     may_end OutOfMemory script read gate e honest calm = tt
     may_end ReadFault script read gate e honest calm = absurd (calm.source e.ended.0)
-    may_end WriteFault script read gate e honest calm = absurd (calm.sink (risen_on c.write_faults e.count c.write_faults' e.ended.0 e.later))
+    may_end WriteFault script read gate e honest calm = absurd (calm.sink (rose_before c.write_faults e.count c.write_faults' e.ended.0 e.later))
     may_end StoreFault script read gate e honest calm = absurd (calm.store (store_rises e honest.0))
     may_end BadWords script read gate e honest calm = e.ended
     may_end (BadScript line kind) script read gate e honest calm =

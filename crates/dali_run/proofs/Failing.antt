@@ -5,6 +5,7 @@ use Rattle.std.proofs.Common.{◌≡◌, ◌≤◌, ℕ, Bool, true, false, List
 use Rattle.std.specs.Prelude.{◌⊎◌, ◌||◌, ◌&&◌, ◌==◌, is_some}
 use Rattle.std.specs.List.{list_all, list_any}
 use Rattle.std.proofs.lemmas.List.Folds.{list_any-append}
+use Rattle.std.proofs.lemmas.Bool.{or_cases, or_right}
 use Rattle.dali_clients.specs.Said.{Transcribed}
 use Rattle.dali_memstore.specs.Fuse.{passes_of, failed_by, failed_of}
 use Rattle.dali_memstore.specs.declared.fuse.Fuse.{Fuse}
@@ -16,10 +17,11 @@ use Rattle.dali_store.specs.Faults.{Rose}
 use Rattle.dali_store.specs.Store.{Files as Disk}
 use Rattle.dali_system.specs.Run.{HasRisen}
 use Rattle.dali_system.specs.State.{CoreState}
-use Rattle.dali_transcripts.specs.Moves.{Receipt, Place, Outside, Spot, Move, Begins, BeginsAgain, IsRefusedBegin, Skips, Rests, Answers, IsRefusedCall, Dies, IsArmed, GivesWay, GivesUp, Commits, CommitFails, IsRefusedCommit, Aborts, IsRefusedAbort, Ends, StaysOpen, Pokes as PokesOnce, PokesNothing, Audits as AuditsOnce, IsRefusedAudit, Checkpoints as ChecksOnce, FailsCheckpoint, IsRefusedCheckpoint, from, said, own, to, start, spanned, refused_own}
+use Rattle.dali_transcripts.specs.Moves.{Receipt, Place, Outside, Spot, Move, Begins, IsRefusedBegin, Pokes as PokesOnce, PokesNothing, Audits as AuditsOnce, IsRefusedAudit, Checkpoints as ChecksOnce, FailsCheckpoint, IsRefusedCheckpoint, from, said, own, to, start, spanned, refused_own}
 use Rattle.dali_transcripts.specs.Transcripts.{EachTells, IsPath, MayBeCut, count_with, deeds_of, own_by, owned, owned_one, said_by}
 use Rattle.dali_transcripts.specs.Words.{Act, Pokes, Audits, Checkpoints, Said, Refused, Why, StoppedBy, Full, Damaged, StoreFailed, UnderWay}
 use Rattle.dali_transcripts.specs.World.{Deed, EndsCheckpoint, Happening, Meets, World, failing, has_failed}
+use Rattle.dali_transcripts.proofs.Together.{stays_failed}
 use Rattle.dali_whole.specs.declared.whole.Core.{Core}
 use Rattle.dali_run.specs.declared.program.Program.{Program}
 use Rattle.dali_run.specs.declared.program.Program.TheVariants.{Up, Down}
@@ -31,22 +33,15 @@ use Rattle.dali_run.specs.Texts.{is_failure, says_failure}
 use Rattle.dali_run.specs.Told.{alone}
 
 -- ---- a test of some element of a list
-either : (a b : Bool) → (a || b) ≡ true → (a ≡ true) ⊎ (b ≡ true)
-either true b e = inl refl
-either false b e = inr e
-
-with_right : (a b : Bool) → b ≡ true → (a || b) ≡ true
-with_right true b e = refl
-with_right false b e = e
 
 any_left : {X : Type 0} (p : X → Bool) (xs ys : List X) → list_any p xs ≡ true → list_any p (xs ++ ys) ≡ true
 any_left p xs ys e = list_any-append p xs ys ∙ ap (λ (b : Bool). b || list_any p ys) e
 
 any_right : {X : Type 0} (p : X → Bool) (xs ys : List X) → list_any p ys ≡ true → list_any p (xs ++ ys) ≡ true
-any_right p xs ys e = list_any-append p xs ys ∙ with_right (list_any p xs) (list_any p ys) e
+any_right p xs ys e = list_any-append p xs ys ∙ or_right (list_any p xs) (list_any p ys) e
 
 any_split : {X : Type 0} (p : X → Bool) (xs ys : List X) → list_any p (xs ++ ys) ≡ true → (list_any p xs ≡ true) ⊎ (list_any p ys ≡ true)
-any_split p xs ys e = either (list_any p xs) (list_any p ys) (sym (list_any-append p xs ys) ∙ e)
+any_split p xs ys e = or_cases (list_any p xs) (list_any p ys) (sym (list_any-append p xs ys) ∙ e)
 
 -- ---- the steps of a client that only pokes, audits and makes checkpoints
 abbrev is_failing : Receipt → Bool
@@ -83,23 +78,7 @@ Steps x = IsCalm (to x).place × (list_all is_lone (to x).rest ≡ true) × (lis
 
 steps : (x : Move) → IsCalm (from x).place → list_all is_lone (from x).rest ≡ true → Steps x
 steps (Begins t n rest) calm lone = absurd (cc lone)
-steps (BeginsAgain t n tries h rest) calm lone = absurd calm
 steps (IsRefusedBegin place s n why rest) calm lone = absurd (cc lone)
-steps (Skips s act rest) calm lone = absurd calm
-steps (Rests t act rest) calm lone = absurd calm
-steps (Answers t tries cs d work n call a rest) calm lone = absurd calm
-steps (IsRefusedCall t tries cs d s work n back call why rest) calm lone = absurd calm
-steps (Dies t tries cs d work n r call rest) calm lone = absurd calm
-steps (IsArmed t tries cs d s count rest) calm lone = absurd calm
-steps (GivesWay t tries cs d work call f back end rest) calm lone = absurd calm
-steps (GivesUp t tries cs d work call f back end rest) calm lone = absurd calm
-steps (Commits t tries cs d n behind rest) calm lone = absurd calm
-steps (CommitFails t tries cs d n m why rest) calm lone = absurd calm
-steps (IsRefusedCommit t tries cs d s n why rest) calm lone = absurd calm
-steps (Aborts t tries cs d work n rest) calm lone = absurd calm
-steps (IsRefusedAbort t tries cs d s work n why rest) calm lone = absurd calm
-steps (Ends t tries cs d work n) calm lone = absurd calm
-steps (StaysOpen t tries cs d s work n cause) calm lone = absurd calm
 steps (PokesOnce s n r w m rest) calm lone = (tt, lone, λ e. absurd (cc e))
 steps (PokesNothing s r w m rest) calm lone = (tt, lone, λ e. absurd (cc e))
 steps (AuditsOnce b n rs failed rest) calm lone = (tt, lone, λ e. absurd (cc e))
@@ -107,6 +86,7 @@ steps (IsRefusedAudit s work n why rest) calm lone = (tt, lone, λ e. any_right 
 steps (ChecksOnce since b n m until current rest) calm lone = (tt, lone, λ e. absurd (cc e))
 steps (FailsCheckpoint since b n until r rs failed rest) calm lone = (tt, lone, λ e. absurd (cc e))
 steps (IsRefusedCheckpoint s span late work n why rest) calm lone = (tt, lone, λ e. in_refused late span work (n, Meets why) (met Checkpoints n why e))
+steps _ calm lone = absurd calm
 
 path_fails : (w : World) (c : ℕ) (p q : Spot) (xs : List Move) → IsPath w c p xs q → IsCalm p.place → list_all is_lone p.rest ≡ true
     → list_any is_failure (said_by xs) ≡ true → list_any is_failing (own_by xs) ≡ true
@@ -119,13 +99,6 @@ path_fails w c p q (x ∷ xs) path calm lone says =
     (any_split is_failure (said x) (said_by xs) says)
 
 -- ---- its deeds are among those of the round
-stays_failed : (xs : List Happening) → has_failed true xs ≡ true
-stays_failed [] = refl
-stays_failed (y ∷ xs) = ap (λ b. has_failed b xs) (keeps y) ∙ stays_failed xs
-  where
-    keeps : (y : Happening) → failing true y ≡ true
-    keeps (Meets StoreFailed, c) = refl
-    keeps y = refl
 
 deed_fails : (n : ℕ) (x : Deed) (d : ℕ) (b : Bool) → is_failing (n, x) ≡ true → failing b (x, d) ≡ true
 deed_fails n (Meets StoreFailed) d b e = refl
@@ -133,7 +106,7 @@ deed_fails n x d b e = absurd (cc e)
 
 one_fails : (same : Bool) (n : ℕ) (x : Deed) (d : ℕ) (b : Bool) (ys : List Receipt) → list_any is_failing (owned_one same (n, x) ys) ≡ true
     → (failing b (x, d) ≡ true) ⊎ (list_any is_failing ys ≡ true)
-one_fails true n x d b ys e = ⊎_elim (λ first. inl (deed_fails n x d b first)) (λ later. inr later) (either (is_failing (n, x)) (list_any is_failing ys) e)
+one_fails true n x d b ys e = ⊎_elim (λ first. inl (deed_fails n x d b first)) (λ later. inr later) (or_cases (is_failing (n, x)) (list_any is_failing ys) e)
 one_fails false n x d b ys e = inr e
 
 owned_fails : (c n : ℕ) (b : Bool) (xs : List Happening) → list_any is_failing (owned c n xs) ≡ true → has_failed b xs ≡ true
@@ -157,7 +130,7 @@ round_fails : (w : World) (act : Act) (ts : List Transcribed) → is_lone act �
     → list_any says_failure ts ≡ true → has_failed false w.happened ≡ true
 round_fails w act [] lone tells says = absurd (cc says)
 round_fails w act (t ∷ []) lone tells says =
-    client_fails w 1 act (lines_in t) lone tells.0 (⊎_elim (λ it. it) (λ none. absurd (cc none)) (either (says_failure t) false says))
+    client_fails w 1 act (lines_in t) lone tells.0 (⊎_elim (λ it. it) (λ none. absurd (cc none)) (or_cases (says_failure t) false says))
 round_fails w act (t ∷ u ∷ ts) lone tells says = absurd tells.1
 
 pub rises : (a b n m : ℕ) → a ≡ n → b ≡ m → HasRisen a b → Rose n m
@@ -173,7 +146,7 @@ none_failed f e = unset (passes_of f) _ e
 
 module _ {V : Type 0} (told : V → Option Disk) (may_leave : V → Disk → Type 0) (moment : V → ℕ) (left_since : V → ℕ → Disk → Type 0) (faults : V → ℕ) (precheck : Bool) where
   alone_rises : (act : Act) → is_lone act ≡ true → (base : List Record) (c : Core (Fuse V)) (f : Fuse V) → IsPointOf told may_leave faults base c
-      → FailsAlone told may_leave faults precheck act c f → Rose (faults_in faults c.vault.store) (faults_in faults f)
+      → FailsAlone told may_leave moment left_since faults precheck act c f → Rose (faults_in faults c.vault.store) (faults_in faults f)
   alone_rises act lone base c f at fails =
       let leads = fails.plays at.start at.batches at.point at.begins in
       let round = leads.round in
@@ -188,26 +161,26 @@ module _ {V : Type 0} (told : V → Option Disk) (may_leave : V → Disk → Typ
   own_rises old f (inl more) few = inl (omega (arith, more, few))
   own_rises old f (inr end) few = inr end
 
-  in_act : (act : Act) → is_lone act ≡ true → (base : List Record) (old : Program V) (f : Fuse V) → IsAPoint told may_leave faults base old
-      → AloneFails told may_leave faults precheck act old f → OwnRose faults (store_of old) f
-  in_act act lone base (Up core) f at fails = own_rises core.vault.store f (alone_rises act lone base core f at fails) fails.none_by_fuse
-  in_act act lone base (Down store) f at fails = absurd fails
+  in_act : (Safe : Disk → Type 0) (act : Act) → is_lone act ≡ true → (base : List Record) (old : Program V) (f : Fuse V) → IsAPoint told may_leave faults Safe base old
+      → AloneFails told may_leave moment left_since faults precheck act old f → OwnRose faults (store_of old) f
+  in_act Safe act lone base (Up core) f at fails = own_rises core.vault.store f (alone_rises act lone base core f at fails) fails.none_by_fuse
+  in_act Safe act lone base (Down store) f at fails = absurd fails
 
-  pub fault_rises : (command : Command) (base : List Record) (old : Program V) (f : Fuse V) → IsAPoint told may_leave faults base old
+  pub fault_rises : (Safe : Disk → Type 0) (command : Command) (base : List Record) (old : Program V) (f : Fuse V) → IsAPoint told may_leave faults Safe base old
       → (IsSize command → passes_of (store_of old) ≡ None) → StoreFailsIn told may_leave moment left_since faults precheck command old f → OwnRose faults (store_of old) f
-  fault_rises (Size index heap) base old f at unfused fails =
+  fault_rises Safe (Size index heap) base old f at unfused fails =
       let counted : is_some (passes_of f) ≡ is_some (passes_of (store_of old)) = fails.1.passes.counted in
       let none = none_failed f (counted ∙ ap (λ (o : Option ℕ). is_some o) (unfused tt)) in
       own_rises (store_of old) f fails.0 (omega (arith, none))
-  fault_rises Open base old f at unfused fails = own_rises (store_of old) f fails.0.rose fails.0.none_by_fuse
-  fault_rises Restart base old f at unfused fails = own_rises (store_of old) f fails.0.rose fails.0.none_by_fuse
-  fault_rises Verify base old f at unfused fails = own_rises (store_of old) f fails.0.rose fails.0.none_by_fuse
-  fault_rises (Poke region word mask) base old f at unfused fails = in_act (Pokes region word mask) refl base old f at fails
-  fault_rises Audit base old f at unfused fails = in_act Audits refl base old f at fails
-  fault_rises Checkpoint base old f at unfused fails = in_act Checkpoints refl base old f at fails
-  fault_rises (Crash choice) base old f at unfused fails = ⊎_elim (λ more. inl more) (λ end. inr (omega (arith, end))) fails.0
-  fault_rises (Round blocks) base old f at unfused fails = absurd fails
-  fault_rises Cleanup base old f at unfused fails = absurd fails
-  fault_rises Show base old f at unfused fails = absurd fails
-  fault_rises Next base old f at unfused fails = absurd fails
-  fault_rises (SetFuse passes) base old f at unfused fails = absurd fails
+  fault_rises Safe Open base old f at unfused fails = own_rises (store_of old) f fails.0.rose fails.0.none_by_fuse
+  fault_rises Safe Restart base old f at unfused fails = own_rises (store_of old) f fails.0.rose fails.0.none_by_fuse
+  fault_rises Safe Verify base old f at unfused fails = own_rises (store_of old) f fails.0.rose fails.0.none_by_fuse
+  fault_rises Safe (Poke region word mask) base old f at unfused fails = in_act Safe (Pokes region word mask) refl base old f at fails
+  fault_rises Safe Audit base old f at unfused fails = in_act Safe Audits refl base old f at fails
+  fault_rises Safe Checkpoint base old f at unfused fails = in_act Safe Checkpoints refl base old f at fails
+  fault_rises Safe (Crash choice) base old f at unfused fails = ⊎_elim (λ more. inl more) (λ end. inr (omega (arith, end))) fails.0
+  fault_rises Safe (Round blocks) base old f at unfused fails = absurd fails
+  fault_rises Safe Cleanup base old f at unfused fails = absurd fails
+  fault_rises Safe Show base old f at unfused fails = absurd fails
+  fault_rises Safe Next base old f at unfused fails = absurd fails
+  fault_rises Safe (SetFuse passes) base old f at unfused fails = absurd fails

@@ -75,7 +75,7 @@ right_blocks bs right = record {
 }
 
 -- ---- a poke by itself
-only_one : (act : Act) (i : ℕ) (t : Told) → slice_get (alone act) i ≡ Some t → (i ≡ 0) × (t ≡ record { client = 1; acts = act ∷ [] })
+pub only_one : (act : Act) (i : ℕ) (t : Told) → slice_get (alone act) i ≡ Some t → (i ≡ 0) × (t ≡ record { client = 1; acts = act ∷ [] })
 only_one act zero t e = (refl, cc)
 only_one act (suc i) t e = absurd cc
 
@@ -89,18 +89,9 @@ right_poke r w m right = record {
 -- ---- a script
 fit : (command : Command) → IsRightCommand command → IsFit command
 fit (single.Size i h) right = record { some_index = right.0; few_index = right.1; some_heap = right.2; few_heap = right.3 }
-fit single.Open right = tt
 fit (single.Round blocks) right = right_blocks blocks right
 fit (single.Poke r w m) right = right_poke r w m right
-fit single.Audit right = tt
-fit single.Checkpoint right = tt
-fit single.Cleanup right = tt
-fit (single.Crash n) right = tt
-fit single.Restart right = tt
-fit single.Show right = tt
-fit single.Verify right = tt
-fit single.Next right = tt
-fit (single.Fuse n) right = tt
+fit _ right = tt
 
 fits : (script : List Command) → AllByRecursion IsRightCommand script → AreFit script
 fits [] right = tt

@@ -1,7 +1,7 @@
 -- A generated script that was run to some place.
 use Rattle.std.proofs.Common.{◌≡◌, ◌∙◌, ℕ, Bool, true, false, List, [], ◌∷◌, Option, Some, None, Result, Ok, Err, map, refl, sym, ap, subst}
 use Rattle.std.proofs.Common.{inl, inr}
-use Rattle.std.specs.Prelude.{IfErr, OnOk}
+use Rattle.std.specs.Prelude.{IfErr, OnOk, nat_lt}
 use Rattle.dali_clients.specs.Said.{Transcribed}
 use Rattle.dali_generator.specs.Generated.{generated, index_regions, heap_regions}
 use Rattle.dali_memstore.specs.Fuse.{inner}
@@ -23,10 +23,10 @@ use Rattle.dali_run.specs.declared.program.Program.{Program}
 use Rattle.dali_run.specs.declared.program.Program.TheVariants.{Up, Down}
 use Rattle.dali_run.specs.Ends.{Course, EndedGenerator, Generates, Unread}
 use Rattle.dali_run.specs.Fails.{Fails, Played}
-use Rattle.dali_run.specs.Generating.{EndedBy, FailsIn, IsCrashed, IsCutRound, IsMade, IsPlayed, IsRoundOf, NotRestarted, RoundStops, first_full, full_among, full_in, halt_of, halt_of_round, or_else}
+use Rattle.dali_run.specs.Generating.{EndedBy, FailsIn, IsCrashed, IsCutRound, IsMade, IsPlayed, IsRoundOf, NotRestarted, RoundStops, fails_by_fuse, first_full, full_among, full_in, halt_of, halt_of_round, or_else}
 use Rattle.dali_run.specs.Program.{IsDown, PlacesIn, store_of, told_in}
 use Rattle.dali_run.specs.Halts.{status_in, status_of}
-use Rattle.dali_run.specs.Steps.{Plays, Restarts, StepsRestart, StepsSize}
+use Rattle.dali_run.specs.Steps.{Plays, Restarts, RightWithin, StepsRestart, StepsSize}
 use Rattle.dali_run.specs.Stops.{GeneratorEnds, GeneratorHalts}
 use Rattle.dali_run.specs.Texts.{round_lines}
 use Rattle.dali_run.specs.Told.{told_by}
@@ -74,39 +74,43 @@ in_all : (ts : List Transcribed) → EndsNone (first_full ts)
 in_all [] = tt
 in_all (t ∷ later) = in_either (full_among (lines_in t)) (first_full later) (in_lines (lines_in t)) (in_all later)
 
-by_halt : (full : Option Halt) (stop : Option Cause) (halt : Halt) → EndsNone full → halt_of full stop ≡ Some halt → MayEnd halt
-by_halt (Some first) stop halt may is = let same : first ≡ halt = cc in subst MayEnd same may
-by_halt None (Some Store) halt may is = let same : StoreFault ≡ halt = cc in subst MayEnd same tt
-by_halt None (Some (Damage region)) halt may is = let same : OutOfMemory ≡ halt = cc in subst MayEnd same tt
-by_halt None None halt may is = absurd (cc)
+by_halt : (full : Option Halt) (stop : Option Cause) (by_fuse : Bool) (halt : Halt) → EndsNone full → halt_of full stop by_fuse ≡ Some halt → MayEnd halt
+by_halt (Some first) stop by_fuse halt may is = let same : first ≡ halt = cc in subst MayEnd same may
+by_halt None (Some Store) false halt may is = let same : StoreFault ≡ halt = cc in subst MayEnd same tt
+by_halt None (Some Store) true halt may is = let same : OutOfMemory ≡ halt = cc in subst MayEnd same tt
+by_halt None (Some (Damage region)) by_fuse halt may is = let same : OutOfMemory ≡ halt = cc in subst MayEnd same tt
+by_halt None None by_fuse halt may is = absurd (cc)
 
-may_end : (ts : List Transcribed) (stop : Option Cause) (halt : Halt) → halt_of_round ts stop ≡ Some halt → MayEnd halt
-may_end ts stop halt is = by_halt (first_full ts) stop halt (in_all ts) is
+may_end : (ts : List Transcribed) (stop : Option Cause) (by_fuse : Bool) (halt : Halt) → halt_of_round ts stop by_fuse ≡ Some halt → MayEnd halt
+may_end ts stop by_fuse halt is = by_halt (first_full ts) stop by_fuse halt (in_all ts) is
 
-module _ {V : Type 0} (told : V → Option Files) (may_leave : V → Files → Type 0) (faults : V → ℕ) where
+pub fused : (x y a b : ℕ) → x ≡ a → y ≡ b → nat_lt x y ≡ nat_lt a b
+fused x y a b xa yb = cc
+
+module _ {V : Type 0} (told : V → Option Files) (may_leave : V → Files → Type 0) (moment : V → ℕ) (left_since : V → ℕ → Files → Type 0) (faults : V → ℕ) where
   plays_so : (blocks blocks' : List Told) (c d : Core (Fuse V)) (ts : List Transcribed) (precheck : Bool) → precheck ≡ false → blocks' ≡ blocks
       → Plays told may_leave faults precheck true blocks' c ts d → Plays told may_leave faults false true blocks c ts d
   plays_so blocks blocks' c d ts precheck unchecked same plays =
       subst (λ (bs : List Told). Plays told may_leave faults false true bs c ts d) same (subst (λ (b : Bool). Plays told may_leave faults b true blocks' c ts d) unchecked plays)
 
-  pub is_round : (blocks blocks' : List Told) (c d : Core (Fuse V)) (ts ts' : List Transcribed) (stop : Option Cause) (ends result : Option Halt) (precheck : Bool)
-      → precheck ≡ false → blocks' ≡ blocks → Plays told may_leave faults precheck true blocks' c ts d → IsNoShorter (told_in told) c.vault d.vault → PlacesIn told d
-      → ts' ≡ ts → stop ≡ d.system.state.stop → result ≡ halt_of_round ts' stop → result ≡ ends → IsRoundOf told may_leave faults blocks c ends d
-  is_round blocks blocks' c d ts ts' stop ends result precheck unchecked same plays longer places read stopped computed is = record {
+  pub is_round : (blocks blocks' : List Told) (c d : Core (Fuse V)) (ts ts' : List Transcribed) (stop : Option Cause) (by_fuse : Bool) (ends result : Option Halt) (precheck : Bool)
+      → precheck ≡ false → blocks' ≡ blocks → Plays told may_leave faults precheck true blocks' c ts d → IsNoShorter (told_in told) c.vault d.vault
+      → RightWithin told may_leave moment left_since faults c d → PlacesIn told d → ts' ≡ ts → stop ≡ d.system.state.stop → by_fuse ≡ fails_by_fuse c d → result ≡ halt_of_round ts' stop by_fuse → result ≡ ends → IsRoundOf told may_leave moment left_since faults blocks c ends d
+  is_round blocks blocks' c d ts ts' stop by_fuse ends result precheck unchecked same plays longer moments places read stopped fused computed is = record {
     text = round_lines blocks (map lines_in ts);
-    round = record { transcripts = ts; plays = plays_so blocks blocks' c d ts precheck unchecked same plays; longer = longer; places = places; printed = refl };
-    is = ap (λ (s : Option Cause). halt_of_round ts s) (sym stopped) ∙ (ap (λ (l : List Transcribed). halt_of_round l stop) (sym read) ∙ (sym computed ∙ is));
+    round = record { transcripts = ts; plays = plays_so blocks blocks' c d ts precheck unchecked same plays; longer = longer; moments = moments; places = places; printed = refl };
+    is = ap (λ (s : Option Cause). halt_of_round ts s (fails_by_fuse c d)) (sym stopped) ∙ (ap (λ (b : Bool). halt_of_round ts stop b) (sym fused) ∙ (ap (λ (l : List Transcribed). halt_of_round l stop by_fuse) (sym read) ∙ (sym computed ∙ is)));
   }
 
   cut_so : (blocks blocks' : List Told) (c : Core (Fuse V)) (f : Fuse V) (precheck : Bool) → precheck ≡ false → blocks' ≡ blocks
-      → (played : Played told may_leave faults precheck blocks' c f) × (played.whole ≡ false) → (played : Played told may_leave faults false blocks c f) × (played.whole ≡ false)
+      → (played : Played told may_leave moment left_since faults precheck blocks' c f) × (played.whole ≡ false) → (played : Played told may_leave moment left_since faults false blocks c f) × (played.whole ≡ false)
   cut_so blocks blocks' c f precheck unchecked same cut =
-      subst (λ (bs : List Told). (played : Played told may_leave faults false bs c f) × (played.whole ≡ false)) same
-      (subst (λ (b : Bool). (played : Played told may_leave faults b blocks' c f) × (played.whole ≡ false)) unchecked cut)
+      subst (λ (bs : List Told). (played : Played told may_leave moment left_since faults false bs c f) × (played.whole ≡ false)) same
+      (subst (λ (b : Bool). (played : Played told may_leave moment left_since faults b blocks' c f) × (played.whole ≡ false)) unchecked cut)
 
   pub had_no_memory : (blocks blocks' : List Told) (c : Core (Fuse V)) (f : Fuse V) (precheck : Bool) (first halt : Halt) (end : V) → precheck ≡ false → blocks' ≡ blocks
-      → (played : Played told may_leave faults precheck blocks' c f) × (played.whole ≡ false) → first ≡ OutOfMemory → halt ≡ first → end ≡ inner f
-      → RoundStops told may_leave faults blocks c halt end
+      → (played : Played told may_leave moment left_since faults precheck blocks' c f) × (played.whole ≡ false) → first ≡ OutOfMemory → halt ≡ first → end ≡ inner f
+      → RoundStops told may_leave moment left_since faults blocks c halt end
   had_no_memory blocks blocks' c f precheck first halt end unchecked same cut wanting so stored =
       inr (f, inr (cut_so blocks blocks' c f precheck unchecked same cut), so ∙ wanting, sym stored)
 
@@ -137,13 +141,13 @@ module _ {V : Type 0} (told : V → Option Files) (may_leave : V → Files → T
   }
 
   abbrev pub is_played : (limit clients size number : ℕ) (start : V) (made played : Core (Fuse V)) (blocks : List Told) → blocks ≡ map told_by (generated clients size number)
-      → IsMade told may_leave moment left_since faults limit clients size start made → IsRoundOf told may_leave faults blocks made None played
+      → IsMade told may_leave moment left_since faults limit clients size start made → IsRoundOf told may_leave moment left_since faults blocks made None played
       → IsPlayed told may_leave moment left_since faults limit clients size number start None
   is_played limit clients size number start made played blocks same is_made round = record {
     made = made;
     is_made = is_made;
     played = played;
-    round = subst (λ (bs : List Told). IsRoundOf told may_leave faults bs made None played) same round;
+    round = subst (λ (bs : List Told). IsRoundOf told may_leave moment left_since faults bs made None played) same round;
   }
 
   pub restarts : (limit : ℕ) (old new : Program V) (text : List ℕ) (core : Core (Fuse V)) → new ≡ Up core
@@ -202,13 +206,13 @@ module _ {V : Type 0} (told : V → Option Files) (may_leave : V → Files → T
   refused Formatted start end run may same = absurd may
 
   pub ends_in_round : (halt : Halt) (start end : V) (made : Core (Fuse V)) (blocks : List Told) → blocks ≡ map told_by (generated clients size number)
-      → IsMade told may_leave moment left_since faults 67108864 clients size start made → RoundStops told may_leave faults blocks made halt end → EndsSo halt start end
+      → IsMade told may_leave moment left_since faults 67108864 clients size start made → RoundStops told may_leave moment left_since faults blocks made halt end → EndsSo halt start end
   ends_in_round halt start end made blocks same is_made (inl stops) =
-      let round = subst (λ (bs : List Told). IsRoundOf told may_leave faults bs made (Some halt) stops.0) same stops.1 in
-      refused halt start end (record { made = made; is_made = is_made; played = stops.0; round = round }) (may_end round.round.transcripts stops.0.system.state.stop halt round.is) stops.2
+      let round = subst (λ (bs : List Told). IsRoundOf told may_leave moment left_since faults bs made (Some halt) stops.0) same stops.1 in
+      refused halt start end (record { made = made; is_made = is_made; played = stops.0; round = round }) (may_end round.round.transcripts stops.0.system.state.stop (fails_by_fuse made stops.0) halt round.is) stops.2
   ends_in_round halt start end made blocks same is_made (inr lost) =
       subst (λ (h : Halt). EndsSo h start end) (sym lost.2)
-      (inr (inl (inr (record { made = made; is_made = is_made; left = lost.0; cut = subst (λ (bs : List Told). IsCutRound told may_leave faults bs made lost.0) same lost.1; store = lost.3 }))))
+      (inr (inl (inr (record { made = made; is_made = is_made; left = lost.0; cut = subst (λ (bs : List Told). IsCutRound told may_leave moment left_since faults bs made lost.0) same lost.1; store = lost.3 }))))
 
   -- the restart found no database
   pub ends_in_restart : (halt : Halt) (start end : V) (run : IsCrashed told may_leave moment left_since faults 67108864 clients size number cuts start)

@@ -4,6 +4,7 @@ use Rattle.std.specs.Prelude.{◌||◌, IfSome, filter_map, if◌then◌else◌,
 use Rattle.std.specs.List.{list_any, range_with_len}
 use Rattle.std.proofs.lemmas.Bool.{or_parts}
 use Rattle.std.proofs.lemmas.Option.{slice_get_within}
+use Rattle.dali_lists.proofs.Lists.{get_within}
 use Rattle.dali_arguments.specs.Laws.{IsInRange}
 use Rattle.dali_arguments.specs.Meaning.{meaning}
 use Rattle.dali_arguments.specs.declared.task.Task.{Task}
@@ -13,6 +14,7 @@ use Rattle.dali_clients.specs.Said.{Transcribed}
 use Rattle.dali_generator.specs.Generated.{AreWithin, block, draw, generated, index_regions, heap_regions, key_of, transaction, value_of}
 use Rattle.dali_generator.proofs.Right.{right_round, right_sizes}
 use Rattle.dali_geometry.specs.Places.{regions}
+use Rattle.dali_memstore.specs.Fuse.{inner}
 use Rattle.dali_memstore.specs.declared.fuse.Fuse.{Fuse}
 use Rattle.dali_record.specs.declared.records.Record.{Record}
 use Rattle.dali_region.specs.State.{RegionState}
@@ -36,22 +38,22 @@ use Rattle.dali_run.specs.declared.program.Program.TheVariants.{Up, Down}
 use Rattle.dali_run.specs.declared.status.Status.{Status}
 use Rattle.dali_run.specs.declared.status.Status.TheVariants.{Done, BadWords, BadScript, TooLong, ReadFault, WriteFault, StoreFault, BadStore, Unformatted, Formatted, OutOfMemory, LogFull}
 use Rattle.dali_run.specs.Ends.{Course, Ended, EndedGenerator, EndedScript, GeneratorFails, GeneratorFinds, GeneratorLoses, GeneratorStops, GeneratorWants, HasStopped, Untouched}
-use Rattle.dali_run.specs.Fails.{AloneFails, Breaks, Fails, Lost, StoreFailsIn}
-use Rattle.dali_run.specs.Generating.{IsCutRound, IsMade, IsPlayed}
-use Rattle.dali_run.specs.Honest.{NonePoked, PokesNowhere, RunsAreHonest, is_poke, pokes, pokes_in}
+use Rattle.dali_run.specs.Fails.{AloneFails, Breaks, Fails, Lost, Played, StoreFailsIn}
+use Rattle.dali_run.specs.Generating.{IsCrashed, IsCutRound, IsMade, IsPlayed}
+use Rattle.dali_run.specs.Honest.{AreHonest, CutIsHonest, FaultIsHonest, FoundIsHonest, GeneratorIsHonest, GeneratorStopIsHonest, LossIsHonest, BrokenIsHonest, FailIsHonest, FailedIsHonest, HaltEscapesNone, IsHonestWithin, LoneIsHonest, LostIsHonest, RoundsEscapeNone, StepIsHonest, StepsAreHonest, WantEscapesNone, NonePoked, PlayedIsHonest, PokesNowhere, RunsAreHonest, SafeAtEnd, SafeByHalt, SafeByWant, WantIsHonest, is_poke, pokes, pokes_in}
 use Rattle.dali_run.specs.Masks.{AreTold, IsNone, answer_in, done_on, has_any, masks_behind, masks_of, xor_of}
-use Rattle.dali_run.specs.Program.{IsDown, told_in}
+use Rattle.dali_run.specs.Program.{IsDown, store_of, told_in}
 use Rattle.dali_run.specs.Run.{HasRun, RunsAll}
 use Rattle.dali_run.specs.Scripts.{Spells}
-use Rattle.dali_run.specs.Steps.{Plays, Steps}
-use Rattle.dali_run.specs.Survives.{CutIsHonest, FaultIsHonest, FoundIsHonest, GeneratorIsHonest, GeneratorStopIsHonest, IsAPoint, IsHonest, IsOwn, IsPointOf, LossIsHonest, MemoryIsHonest, NoneEscape, NoneEscapesAlone, NoneEscapesAt, NoneEscapesBehind, NoneEscapesCut, NoneEscapesFailed, NoneEscapesIn, NoneEscapesLeft, NoneEscapesLost, PlayedIsHonest, ScriptIsHonest, StopIsHonest, WantIsHonest}
+use Rattle.dali_run.specs.Steps.{Plays, Steps, StepsRestart}
+use Rattle.dali_run.specs.Survives.{AnyFiles, IsAPoint, IsOwn, IsPointOf, NoneEscape, NoneEscapesAlone, NoneEscapesAt, NoneEscapesBehind, NoneEscapesCut, NoneEscapesFailed, NoneEscapesFound, NoneEscapesFrom, NoneEscapesIn, NoneEscapesLeft, NoneEscapesLost, NoneEscapesMaking, NoneEscapesRead, NoneEscapesRestarted, NoneEscapesStopped, NoneEscapesWanting, SafeAfter, SafeBehind, SafeCut, SafeRestarted, SafeThere, ScriptIsHonest}
 use Rattle.dali_run.specs.Told.{AreFit, IsFit, alone, told_by}
 use Rattle.dali_run.proofs.Fit.{all_fit, right_blocks}
 use Rattle.dali_run.proofs.Standing.{stands_of}
 use Rattle.dali_run.proofs.Sums.{masks_at, poked_is}
-use Rattle.dali_run.proofs.Surviving.{begins_down, next_fit, step_goes, tells_on}
-use Rattle.dali_run.proofs.Telling.{fit_front, step_told, there_is}
-use Rattle.dali_run.proofs.Unharmed.{cores_are_honest, stands_honest}
+use Rattle.dali_run.proofs.Surviving.{begins_down, next_fit, step_goes, tells_on, fit_front}
+use Rattle.dali_run.proofs.Telling.{step_told}
+use Rattle.dali_run.proofs.Unharmed.{cores_are_honest, stands_honest, within_honest}
 use Rattle.dali_run.proofs.Unstrayed.{AreQuiet, coming_none, done_none, quiet_round}
 
 -- ---- scripts without pokes
@@ -123,10 +125,10 @@ none_poked : {V : Type 0} (core : Core (Fuse V)) → AreTold nothing (Up core) �
 none_poked core are = λ r g e. (are r g e).1
 
 module _ {V : Type 0} (told : V → Option Disk) (may_leave : V → Disk → Type 0) (faults : V → ℕ) (precheck : Bool) where
-  -- a round, that was cut too
-  round_honest : (whole : Bool) (base : List Record) (blocks : List Blocks) (c d : Core (Fuse V)) (ts : List Transcribed) → AreQuiet blocks → IsNoShorter (told_in told) c.vault d.vault
-      → Plays told may_leave faults precheck whole blocks c ts d → IsPointOf told may_leave faults base c → NonePoked c.regions.items → NoneEscapesAt told may_leave d
-  round_honest whole base blocks c d ts quiet longer plays a calm =
+  -- a round, that was cut too, pokes no region
+  round_unpoked : (whole : Bool) (base : List Record) (blocks : List Blocks) (c d : Core (Fuse V)) (ts : List Transcribed) → AreQuiet blocks
+      → Plays told may_leave faults precheck whole blocks c ts d → IsPointOf told may_leave faults base c → NonePoked c.regions.items → NonePoked d.regions.items
+  round_unpoked whole base blocks c d ts quiet plays a calm = λ r h e.
       let led = plays a.start a.batches a.point a.begins in
       let round = led.round in
       let w = round.world in
@@ -137,34 +139,63 @@ module _ {V : Type 0} (told : V → Option Disk) (may_leave : V → Disk → Typ
       let count : length d.regions.items ≡ length c.regions.items =
       ap (λ (l : List RegionState). length l) (sym led.stands.at.regions)
       ∙ (led.stands.whole.regions ∙ (sizes ∙ (sym a.begins.stands.whole.regions ∙ ap (λ (l : List RegionState). length l) a.begins.stands.at.regions))) in
-      let still : NonePoked d.regions.items = λ r h e.
       let within = slice_get_within d.regions.items r h e in
-      let was = there_is c.regions.items r (omega (arith, within, count)) in
+      let was = get_within c.regions.items r (omega (arith, within, count)) in
       let pokes =
       round.together.pokes r was.0 h (ap (λ (l : List RegionState). slice_get l r) old_is ∙ was.1) (ap (λ (l : List RegionState). slice_get l r) new_is ∙ e) in
       pokes.1
       ∙ (poked_is r was.0.poked w.happened
-      ∙ (ap (λ (p : Bool). p || has_any (masks_at r w.happened)) (calm r was.0 was.1) ∙ ap has_any (quiet_round r whole w blocks (map lines_in ts) quiet round.transcripts))) in
-      stands_honest told may_leave faults d a.start led.batches led.to led.stands (tells_on (told_in told c.vault.store) (told_in told d.vault.store) longer a.tells) still
+      ∙ (ap (λ (p : Bool). p || has_any (masks_at r w.happened)) (calm r was.0 was.1) ∙ ap has_any (quiet_round r whole w blocks (map lines_in ts) quiet round.transcripts)))
+
+  round_honest : (whole : Bool) (base : List Record) (blocks : List Blocks) (c d : Core (Fuse V)) (ts : List Transcribed) → AreQuiet blocks → IsNoShorter (told_in told) c.vault d.vault
+      → Plays told may_leave faults precheck whole blocks c ts d → IsPointOf told may_leave faults base c → NonePoked c.regions.items → NoneEscapesAt may_leave d
+  round_honest whole base blocks c d ts quiet longer plays a calm =
+      let led = plays a.start a.batches a.point a.begins in
+      stands_honest told may_leave faults d a.start led.batches led.to led.stands (tells_on (told_in told c.vault.store) (told_in told d.vault.store) longer a.tells)
+      (round_unpoked whole base blocks c d ts quiet plays a calm)
+
+  -- nor does damage escape within it
+  round_within : (whole : Bool) (base : List Record) (blocks : List Blocks) (c d : Core (Fuse V)) (ts : List Transcribed) → AreQuiet blocks
+      → Plays told may_leave faults precheck whole blocks c ts d → IsPointOf told may_leave faults base c → NonePoked c.regions.items → IsHonestWithin told may_leave faults c d
+  round_within whole base blocks c d ts quiet plays a calm = within_honest told may_leave faults c d (round_unpoked whole base blocks c d ts quiet plays a calm)
 
 module _ {V : Type 0} (told : V → Option Disk) (may_leave : V → Disk → Type 0) (moment : V → ℕ) (left_since : V → ℕ → Disk → Type 0) (faults : V → ℕ)
     (reads_now : (s : V) → IfSome (told s) (λ fs. may_leave s fs)) (counts_now : (s : V) (t : ℕ) (c : Disk) → t ≤ moment s → may_leave s c → left_since s t c)
     (cuts : V → ℕ → Option Disk) where
   -- a point of a run where nobody wrote astray
-  record Calm (p : Program V) : Type 0 where
+  pub record Calm (Safe : Disk → Type 0) (p : Program V) : Type 0 where
     base : List Record
-    point : IsAPoint told may_leave faults base p
+    point : IsAPoint told may_leave faults Safe base p
     none : AreTold nothing p
+    safe : (c : Disk) → Safe c
 
-  none_in : (p : Program V) → Calm p → NoneEscapesIn told may_leave p
-  none_in (Up core) calm = cores_are_honest told may_leave faults calm.base core calm.point (none_poked core calm.none)
-  none_in (Down store) calm = tt
+  pub none_in : (Safe : Disk → Type 0) (p : Program V) → Calm Safe p → (c : Disk) → may_leave (inner (store_of p)) c → NoneEscapesIn Safe p c
+  none_in Safe (Up core) calm = cores_are_honest told may_leave faults calm.base core calm.point (none_poked core calm.none)
+  none_in Safe (Down store) calm = λ c may. calm.safe c
 
-  calm_down : (base : List Record) (p : Program V) (store : V) → IsDown p store → IsOwn told may_leave base store → Calm p
-  calm_down base p store down own = record { base = base; point = begins_down told may_leave faults base p store down own; none = subst (AreTold nothing) (sym down.down) tt }
+  pub some_read : (P : Disk → Type 0) (s : V) → ((c : Disk) → may_leave s c → P c) → IfSome (told s) P
+  some_read P s all = by_told (told s) (reads_now s)
+    where
+      by_told : (o : Option Disk) → IfSome o (λ fs. may_leave s fs) → IfSome o P
+      by_told None may = tt
+      by_told (Some fs) may = all fs may
 
-  calm_same : (p q : Program V) → q ≡ p → Calm p → Calm q
-  calm_same p q same calm = subst Calm (sym same) calm
+  none_read : (Safe : Disk → Type 0) (p : Program V) → Calm Safe p → NoneEscapesRead told Safe p
+  none_read Safe p calm = some_read (NoneEscapesIn Safe p) (inner (store_of p)) (none_in Safe p calm)
+
+  making_honest : (Safe : Disk → Type 0) (old : Program V) → Calm Safe old → (c : Disk) → NoneEscapesMaking told may_leave Safe old c
+  making_honest Safe old calm c = inr (none_read Safe old calm, none_in Safe old calm c)
+
+  pub calm_down : (base : List Record) (p : Program V) (store : V) → IsDown p store → IsOwn told may_leave base store → Calm AnyFiles p
+  calm_down base p store down own = record {
+    base = base;
+    point = begins_down told may_leave faults base p store down own;
+    none = subst (AreTold nothing) (sym down.down) tt;
+    safe = λ c. tt;
+  }
+
+  calm_same : (Safe : Disk → Type 0) (p q : Program V) → q ≡ p → Calm Safe p → Calm Safe q
+  calm_same Safe p q same calm = subst (Calm Safe) (sym same) calm
 
   module _ (limit : ℕ) (precheck : Bool) where
     none_behind : (command : Command) → pokes command ≡ false → (old : Program V) (text : List ℕ) (new : Program V)
@@ -185,151 +216,317 @@ module _ {V : Type 0} (told : V → Option Disk) (may_leave : V → Disk → Typ
     none_behind Next none old text new step r = refl
     none_behind (SetFuse passes) none old text new step r = refl
 
-    left_none : (command : Command) (old : Program V) → Calm old → NoneEscapesLeft told may_leave moment left_since faults limit cuts precheck command old
-    left_none (Size index heap) old calm = none_in old calm
-    left_none Open old calm = none_in old calm
-    left_none Restart old calm = none_in old calm
-    left_none (Crash choice) old calm = none_in old calm
-    left_none _ old calm = tt
+    restarted_none : (Safe : Disk → Type 0) (old : Program V) (text : List ℕ) (new : Program V) (step : StepsRestart told may_leave moment left_since faults limit old text new) → Calm Safe old
+        → NoneEscapesRestarted told may_leave moment left_since faults limit cuts precheck Safe old text new step
+    restarted_none Safe old text new (inl step) calm = none_read Safe old calm
+    restarted_none Safe old text new (inr stops) calm = tt
 
-    calm_step : (command : Command) → IsFit command → pokes command ≡ false → (old : Program V) (text : List ℕ) (new : Program V)
-        → Steps told may_leave moment left_since faults limit cuts precheck old command text new → Calm old → Calm new
-    calm_step command fit none old text new step calm =
-        let onward = step_goes told may_leave moment left_since faults reads_now counts_now limit cuts precheck command calm.base old new text step calm.point (left_none command old calm) in
-        let are = step_told told may_leave moment left_since faults reads_now counts_now limit cuts precheck command fit nothing old new text step (stands_of told may_leave faults calm.base old calm.point) calm.none in
+    left_none : (Safe : Disk → Type 0) (command : Command) (old : Program V) (text : List ℕ) (new : Program V)
+        → (step : Steps told may_leave moment left_since faults limit cuts precheck old command text new) → Calm Safe old
+        → NoneEscapesLeft told may_leave moment left_since faults limit cuts precheck Safe command old text new step
+    left_none Safe (Size index heap) old text new step calm = none_read Safe old calm
+    left_none Safe Open old text new step calm = restarted_none Safe old text new step calm
+    left_none Safe Restart old text new step calm = restarted_none Safe old text new step calm
+    left_none Safe (Crash choice) old text new step calm = some_read (NoneEscapesIn Safe old) step.store (λ c may. none_in Safe old calm c (step.left.crash c may))
+    left_none Safe _ old text new step calm = tt
+
+    safe_restarted : (Safe : Disk → Type 0) (old : Program V) (text : List ℕ) (new : Program V) (step : StepsRestart told may_leave moment left_since faults limit old text new) → Calm Safe old
+        → (c : Disk) → SafeRestarted told may_leave moment left_since faults limit cuts precheck Safe old text new step c
+    safe_restarted Safe old text new (inl step) calm c = tt
+    safe_restarted Safe old text new (inr stops) calm c = making_honest Safe old calm c
+
+    safe_behind : (Safe : Disk → Type 0) (command : Command) (old : Program V) (text : List ℕ) (new : Program V)
+        → (step : Steps told may_leave moment left_since faults limit cuts precheck old command text new) → Calm Safe old
+        → (c : Disk) → SafeBehind told may_leave moment left_since faults limit cuts precheck Safe command old text new step c
+    safe_behind Safe (Size index heap) old text new step calm c = tt
+    safe_behind Safe Open old text new step calm c = safe_restarted Safe old text new step calm c
+    safe_behind Safe Restart old text new step calm c = safe_restarted Safe old text new step calm c
+    safe_behind Safe (Crash choice) old text new step calm c = tt
+    safe_behind Safe _ old text new step calm c = calm.safe c
+
+    calm_step : (Safe : Disk → Type 0) (command : Command) → IsFit command → pokes command ≡ false → (old : Program V) (text : List ℕ) (new : Program V)
+        → (step : Steps told may_leave moment left_since faults limit cuts precheck old command text new) → Calm Safe old
+        → Calm (SafeBehind told may_leave moment left_since faults limit cuts precheck Safe command old text new step) new
+    calm_step Safe command fit none old text new step calm =
+        let onward = step_goes told may_leave moment left_since faults reads_now counts_now limit cuts precheck Safe command calm.base old new text step calm.point (left_none Safe command old text new step calm) in
+        let are = step_told told may_leave moment left_since faults reads_now counts_now limit cuts precheck command fit nothing old new text step (stands_of told may_leave faults Safe calm.base old calm.point) calm.none in
         record {
           base = onward.log;
           point = onward.point;
           none = none_told (masks_behind told may_leave moment left_since faults limit cuts precheck command old text new step nothing) new (none_behind command none old text new step) are;
+          safe = safe_behind Safe command old text new step calm;
         }
 
-    -- ---- a command that failed
-    lost_honest : (blocks : List Blocks) (old : Program V) (f : Fuse V) (lost : Lost told may_leave faults precheck blocks old f) → AreQuiet blocks → Calm old
-        → NoneEscapesCut told may_leave moment left_since faults limit cuts precheck blocks old f lost
-    lost_honest blocks (Up core) f (inl same) quiet calm = none_in (Up core) calm
-    lost_honest blocks (Up core) f (inr played) quiet calm =
-        round_honest told may_leave faults precheck played.whole calm.base blocks core played.core played.transcripts quiet played.longer played.plays calm.point (none_poked core calm.none)
-    lost_honest blocks (Down store) f lost quiet calm = tt
+    -- ---- a command that failed: no damage escapes from what a crash leaves of its store
+    lost_honest : (Safe : Disk → Type 0) (blocks : List Blocks) (old : Program V) (f : Fuse V) (lost : Lost told may_leave moment left_since faults precheck blocks old f) → AreQuiet blocks → Calm Safe old
+        → (c : Disk) → may_leave (inner f) c → NoneEscapesCut told may_leave moment left_since faults limit cuts precheck Safe blocks old f lost c
+    lost_honest Safe blocks (Up core) f (inl same) quiet calm = subst (λ (x : Fuse V). (c : Disk) → may_leave (inner x) c → NoneEscapesFrom core c) (sym same) (none_in Safe (Up core) calm)
+    lost_honest Safe blocks (Up core) f (inr played) quiet calm =
+        subst (λ (x : Fuse V). (c : Disk) → may_leave (inner x) c → NoneEscapesFrom played.core c) (sym played.store)
+        (round_honest told may_leave faults precheck played.whole calm.base blocks core played.core played.transcripts quiet played.longer played.plays calm.point (none_poked core calm.none))
+    lost_honest Safe blocks (Down store) f lost quiet calm = λ c may. calm.safe c
 
-    alone_honest : (act : Act) (old : Program V) (f : Fuse V) (fails : AloneFails told may_leave faults precheck act old f) → AreQuiet (alone act) → Calm old
-        → NoneEscapesAlone told may_leave moment left_since faults limit cuts precheck act old f fails
-    alone_honest act (Up core) f fails quiet calm =
-        round_honest told may_leave faults precheck true calm.base (alone act) core fails.core fails.transcripts quiet fails.longer fails.plays calm.point (none_poked core calm.none)
-    alone_honest act (Down store) f fails quiet calm = tt
+    alone_honest : (Safe : Disk → Type 0) (act : Act) (old : Program V) (f : Fuse V) (fails : AloneFails told may_leave moment left_since faults precheck act old f) → AreQuiet (alone act) → Calm Safe old
+        → (c : Disk) → may_leave (inner f) c → NoneEscapesAlone told may_leave moment left_since faults limit cuts precheck Safe act old f fails c
+    alone_honest Safe act (Up core) f fails quiet calm =
+        subst (λ (x : Fuse V). (c : Disk) → may_leave (inner x) c → NoneEscapesFrom fails.core c) (sym fails.store)
+        (round_honest told may_leave faults precheck true calm.base (alone act) core fails.core fails.transcripts quiet fails.longer fails.plays calm.point (none_poked core calm.none))
+    alone_honest Safe act (Down store) f fails quiet calm = λ c may. calm.safe c
 
-    broken_honest : (command : Command) → IsFit command → pokes command ≡ false → (old : Program V) (f : Fuse V) (breaks : Breaks told may_leave moment left_since faults precheck command old f)
-        → Calm old → NoneEscapesLost told may_leave moment left_since faults limit cuts precheck command old f breaks
-    broken_honest (Round blocks) fit none old f breaks calm = lost_honest (map told_by blocks) old f breaks (are_quiet blocks fit.placed none) calm
-    broken_honest (Poke region word mask) fit none old f breaks calm = absurd (cc none)
-    broken_honest Audit fit none old f breaks calm = lost_honest (alone Audits) old f breaks ((tt, refl), tt) calm
-    broken_honest Checkpoint fit none old f breaks calm = lost_honest (alone Checkpoints) old f breaks ((tt, refl), tt) calm
-    broken_honest _ fit none old f breaks calm = none_in old calm
+    -- where a crash leaves nothing else than before
+    less_honest : (Safe : Disk → Type 0) (old : Program V) (f : Fuse V) → ((c : Disk) → may_leave (inner f) c → may_leave (inner (store_of old)) c) → Calm Safe old
+        → (c : Disk) → may_leave (inner f) c → NoneEscapesIn Safe old c
+    less_honest Safe old f less calm c may = none_in Safe old calm c (less c may)
 
-    failed_honest : (command : Command) → pokes command ≡ false → (old : Program V) (f : Fuse V) (fails : StoreFailsIn told may_leave moment left_since faults precheck command old f)
-        → Calm old → NoneEscapesFailed told may_leave moment left_since faults limit cuts precheck command old f fails
-    failed_honest (Poke region word mask) none old f fails calm = absurd (cc none)
-    failed_honest Audit none old f fails calm = alone_honest Audits old f fails ((tt, refl), tt) calm
-    failed_honest Checkpoint none old f fails calm = alone_honest Checkpoints old f fails ((tt, refl), tt) calm
-    failed_honest _ none old f fails calm = none_in old calm
+    same_less : (s t : V) → t ≡ s → (c : Disk) → may_leave t c → may_leave s c
+    same_less s t same c may = subst (λ (x : V). may_leave x c) same may
 
-    behind_honest : (halt : Halt) (command : Command) → IsFit command → pokes command ≡ false → (old : Program V) (f : Fuse V) (fails : Fails told may_leave moment left_since faults precheck halt command old f)
-        → Calm old → NoneEscapesBehind told may_leave moment left_since faults limit cuts precheck halt command old f fails
-    behind_honest halts.StoreFault command fit none old f fails calm = failed_honest command none old f fails calm
-    behind_honest halts.OutOfMemory command fit none old f fails calm = broken_honest command fit none old f fails calm
-    behind_honest _ command fit none old f fails calm = none_in old calm
+    same_fuse : (old : Program V) (f : Fuse V) → f ≡ store_of old → (c : Disk) → may_leave (inner f) c → may_leave (inner (store_of old)) c
+    same_fuse old f same = same_less (inner (store_of old)) (inner f) (ap (λ (x : Fuse V). inner x) same)
+
+    broken_honest : (Safe : Disk → Type 0) (command : Command) → IsFit command → pokes command ≡ false → (old : Program V) (f : Fuse V)
+        → (breaks : Breaks told may_leave moment left_since faults precheck command old f) → Calm Safe old
+        → (c : Disk) → may_leave (inner f) c → NoneEscapesLost told may_leave moment left_since faults limit cuts precheck Safe command old f breaks c
+    broken_honest Safe (Size index heap) fit none old f breaks calm c may = making_honest Safe old calm c
+    broken_honest Safe Open fit none old f breaks calm c may = making_honest Safe old calm c
+    broken_honest Safe Restart fit none old f breaks calm c may = making_honest Safe old calm c
+    broken_honest Safe (Round blocks) fit none old f breaks calm c may = lost_honest Safe (map told_by blocks) old f breaks (are_quiet blocks fit.placed none) calm c may
+    broken_honest Safe (Poke region word mask) fit none old f breaks calm c may = absurd (cc none)
+    broken_honest Safe Audit fit none old f breaks calm c may = lost_honest Safe (alone Audits) old f breaks ((tt, refl), tt) calm c may
+    broken_honest Safe Checkpoint fit none old f breaks calm c may = lost_honest Safe (alone Checkpoints) old f breaks ((tt, refl), tt) calm c may
+    broken_honest Safe (Crash choice) fit none old f breaks calm c may = less_honest Safe old f breaks.0.crash calm c may
+    broken_honest Safe (SetFuse passes) fit none old f breaks calm c may = less_honest Safe old f (same_less (inner (store_of old)) (inner f) breaks) calm c may
+    broken_honest Safe Next fit none old f breaks calm c may = absurd breaks
+    broken_honest Safe Cleanup fit none old f breaks calm c may = less_honest Safe old f (same_fuse old f breaks) calm c may
+    broken_honest Safe Show fit none old f breaks calm c may = less_honest Safe old f (same_fuse old f breaks) calm c may
+    broken_honest Safe Verify fit none old f breaks calm c may = less_honest Safe old f breaks.0.crash calm c may
+
+    failed_honest : (Safe : Disk → Type 0) (command : Command) → pokes command ≡ false → (old : Program V) (f : Fuse V)
+        → (fails : StoreFailsIn told may_leave moment left_since faults precheck command old f) → Calm Safe old
+        → (c : Disk) → may_leave (inner f) c → NoneEscapesFailed told may_leave moment left_since faults limit cuts precheck Safe command old f fails c
+    failed_honest Safe (Size index heap) none old f fails calm c may = making_honest Safe old calm c
+    failed_honest Safe Open none old f fails calm c may = making_honest Safe old calm c
+    failed_honest Safe Restart none old f fails calm c may = making_honest Safe old calm c
+    failed_honest Safe (Poke region word mask) none old f fails calm c may = absurd (cc none)
+    failed_honest Safe Audit none old f fails calm c may = alone_honest Safe Audits old f fails ((tt, refl), tt) calm c may
+    failed_honest Safe Checkpoint none old f fails calm c may = alone_honest Safe Checkpoints old f fails ((tt, refl), tt) calm c may
+    failed_honest Safe (Crash choice) none old f fails calm c may = less_honest Safe old f fails.1.crash calm c may
+    failed_honest Safe Verify none old f fails calm c may = less_honest Safe old f fails.1.crash calm c may
+    failed_honest Safe (Round blocks) none old f fails calm c may = absurd fails
+    failed_honest Safe Cleanup none old f fails calm c may = absurd fails
+    failed_honest Safe Show none old f fails calm c may = absurd fails
+    failed_honest Safe Next none old f fails calm c may = absurd fails
+    failed_honest Safe (SetFuse passes) none old f fails calm c may = absurd fails
+
+    pub behind_honest : (Safe : Disk → Type 0) (halt : Halt) (command : Command) → IsFit command → pokes command ≡ false → (old : Program V) (f : Fuse V)
+        → (fails : Fails told may_leave moment left_since faults precheck halt command old f) → Calm Safe old
+        → (c : Disk) → may_leave (inner f) c → NoneEscapesBehind told may_leave moment left_since faults limit cuts precheck Safe halt command old f fails c
+    behind_honest Safe halts.StoreFault command fit none old f fails calm = failed_honest Safe command none old f fails calm
+    behind_honest Safe halts.OutOfMemory command fit none old f fails calm = broken_honest Safe command fit none old f fails calm
+    behind_honest Safe (halts.BadStore file at) command fit none old f fails calm = less_honest Safe old f fails.2.crash calm
+    behind_honest Safe halts.Unformatted command fit none old f fails calm = less_honest Safe old f fails.2.crash calm
+    behind_honest Safe halts.Formatted command fit none old f fails calm = less_honest Safe old f fails.2.crash calm
+    behind_honest Safe halts.BadWords command fit none old f fails calm = absurd fails
+    behind_honest Safe (halts.BadScript line kind) command fit none old f fails calm = absurd fails
+    behind_honest Safe halts.TooLong command fit none old f fails calm = absurd fails
+    behind_honest Safe halts.ReadFault command fit none old f fails calm = absurd fails
+    behind_honest Safe halts.WriteFault command fit none old f fails calm = absurd fails
+    behind_honest Safe (halts.LogFull end most) command fit none old f fails calm = absurd fails
+
+    -- ---- within a round of a script without pokes
+    step_honest : (Safe : Disk → Type 0) (command : Command) → IsFit command → pokes command ≡ false → (old : Program V) (text : List ℕ) (new : Program V)
+        → (step : Steps told may_leave moment left_since faults limit cuts precheck old command text new) → Calm Safe old
+        → StepIsHonest told may_leave moment left_since faults limit cuts precheck command old text new step
+    step_honest Safe (Round blocks) fit none (Up core) text new step calm =
+        round_within told may_leave faults precheck true calm.base (map told_by blocks) core step.0 step.1.transcripts (are_quiet blocks fit.placed none) step.1.plays calm.point (none_poked core calm.none)
+    step_honest Safe (Round blocks) fit none (Down store) text new step calm = tt
+    step_honest Safe (Poke region word mask) fit none old text new step calm = absurd (cc none)
+    step_honest Safe Audit fit none (Up core) text new step calm =
+        round_within told may_leave faults precheck true calm.base (alone Audits) core step.0 step.1.transcripts ((tt, refl), tt) step.1.plays calm.point (none_poked core calm.none)
+    step_honest Safe Audit fit none (Down store) text new step calm = tt
+    step_honest Safe Checkpoint fit none (Up core) text new step calm =
+        round_within told may_leave faults precheck true calm.base (alone Checkpoints) core step.0 step.1.transcripts ((tt, refl), tt) step.1.plays calm.point (none_poked core calm.none)
+    step_honest Safe Checkpoint fit none (Down store) text new step calm = tt
+    step_honest Safe (Size index heap) fit none old text new step calm = tt
+    step_honest Safe Open fit none old text new step calm = tt
+    step_honest Safe Restart fit none old text new step calm = tt
+    step_honest Safe Cleanup fit none old text new step calm = tt
+    step_honest Safe (Crash choice) fit none old text new step calm = tt
+    step_honest Safe Show fit none old text new step calm = tt
+    step_honest Safe Verify fit none old text new step calm = tt
+    step_honest Safe Next fit none old text new step calm = tt
+    step_honest Safe (SetFuse passes) fit none old text new step calm = tt
+
+    lost_within : (Safe : Disk → Type 0) (blocks : List Blocks) (old : Program V) (f : Fuse V) (lost : Lost told may_leave moment left_since faults precheck blocks old f) → AreQuiet blocks → Calm Safe old
+        → LostIsHonest told may_leave moment left_since faults limit cuts precheck blocks old f lost
+    lost_within Safe blocks (Up core) f (inl same) quiet calm = tt
+    lost_within Safe blocks (Up core) f (inr played) quiet calm =
+        round_within told may_leave faults precheck played.whole calm.base blocks core played.core played.transcripts quiet played.plays calm.point (none_poked core calm.none)
+    lost_within Safe blocks (Down store) f lost quiet calm = tt
+
+    lone_within : (Safe : Disk → Type 0) (act : Act) (old : Program V) (f : Fuse V) (fails : AloneFails told may_leave moment left_since faults precheck act old f) → AreQuiet (alone act) → Calm Safe old
+        → LoneIsHonest told may_leave moment left_since faults limit cuts precheck act old f fails
+    lone_within Safe act (Up core) f fails quiet calm =
+        round_within told may_leave faults precheck true calm.base (alone act) core fails.core fails.transcripts quiet fails.plays calm.point (none_poked core calm.none)
+    lone_within Safe act (Down store) f fails quiet calm = tt
+
+    broken_within : (Safe : Disk → Type 0) (command : Command) → IsFit command → pokes command ≡ false → (old : Program V) (f : Fuse V)
+        → (breaks : Breaks told may_leave moment left_since faults precheck command old f) → Calm Safe old
+        → BrokenIsHonest told may_leave moment left_since faults limit cuts precheck command old f breaks
+    broken_within Safe (Round blocks) fit none old f breaks calm = lost_within Safe (map told_by blocks) old f breaks (are_quiet blocks fit.placed none) calm
+    broken_within Safe (Poke region word mask) fit none old f breaks calm = absurd (cc none)
+    broken_within Safe Audit fit none old f breaks calm = lost_within Safe (alone Audits) old f breaks ((tt, refl), tt) calm
+    broken_within Safe Checkpoint fit none old f breaks calm = lost_within Safe (alone Checkpoints) old f breaks ((tt, refl), tt) calm
+    broken_within Safe _ fit none old f breaks calm = tt
+
+    failed_within : (Safe : Disk → Type 0) (command : Command) → pokes command ≡ false → (old : Program V) (f : Fuse V)
+        → (fails : StoreFailsIn told may_leave moment left_since faults precheck command old f) → Calm Safe old
+        → FailedIsHonest told may_leave moment left_since faults limit cuts precheck command old f fails
+    failed_within Safe (Poke region word mask) none old f fails calm = absurd (cc none)
+    failed_within Safe Audit none old f fails calm = lone_within Safe Audits old f fails ((tt, refl), tt) calm
+    failed_within Safe Checkpoint none old f fails calm = lone_within Safe Checkpoints old f fails ((tt, refl), tt) calm
+    failed_within Safe _ none old f fails calm = tt
+
+    fail_honest : (Safe : Disk → Type 0) (halt : Halt) (command : Command) → IsFit command → pokes command ≡ false → (old : Program V) (f : Fuse V)
+        → (fails : Fails told may_leave moment left_since faults precheck halt command old f) → Calm Safe old
+        → FailIsHonest told may_leave moment left_since faults limit cuts precheck halt command old f fails
+    fail_honest Safe halts.StoreFault command fit none old f fails calm = failed_within Safe command none old f fails calm
+    fail_honest Safe halts.OutOfMemory command fit none old f fails calm = broken_within Safe command fit none old f fails calm
+    fail_honest Safe _ command fit none old f fails calm = tt
 
     -- ---- some commands
-    record Walked (commands : List Command) (old : Program V) (text : List ℕ) (new : Program V)
+    record Walked (Safe : Disk → Type 0) (commands : List Command) (old : Program V) (text : List ℕ) (new : Program V)
         (runs : RunsAll told may_leave moment left_since faults limit cuts precheck old commands text new) : Type 0 where
-      each : NoneEscape told may_leave moment left_since faults limit cuts precheck commands old text new runs
-      calm : Calm new
+      each : NoneEscape told may_leave moment left_since faults limit cuts precheck Safe commands old text new runs
+      within : StepsAreHonest told may_leave moment left_since faults limit cuts precheck commands old text new runs
+      calm : Calm (SafeAfter told may_leave moment left_since faults limit cuts precheck Safe commands old text new runs) new
 
-    walk : (commands : List Command) → AreFit commands → list_any pokes commands ≡ false → (old : Program V) (text : List ℕ) (new : Program V)
-        → (runs : RunsAll told may_leave moment left_since faults limit cuts precheck old commands text new) → Calm old → Walked commands old text new runs
-    walk [] fit none old text new runs calm = record { each = tt; calm = calm_same old new runs.1 calm }
-    walk (command ∷ later) fit none old text new runs calm =
+    walk : (Safe : Disk → Type 0) (commands : List Command) → AreFit commands → list_any pokes commands ≡ false → (old : Program V) (text : List ℕ) (new : Program V)
+        → (runs : RunsAll told may_leave moment left_since faults limit cuts precheck old commands text new) → Calm Safe old → Walked Safe commands old text new runs
+    walk Safe [] fit none old text new runs calm = record { each = tt; within = tt; calm = calm_same Safe old new runs.1 calm }
+    walk Safe (command ∷ later) fit none old text new runs calm =
         let parts = or_parts (pokes command) (list_any pokes later) none in
-        let rest = walk later fit.1 parts.1 runs.1 runs.2 new runs.4 (calm_step command fit.0 parts.0 old runs.0 runs.1 runs.3 calm) in
-        record { each = (left_none command old calm, rest.each); calm = rest.calm }
+        let rest = walk (SafeBehind told may_leave moment left_since faults limit cuts precheck Safe command old runs.0 runs.1 runs.3) later fit.1 parts.1 runs.1 runs.2 new runs.4
+        (calm_step Safe command fit.0 parts.0 old runs.0 runs.1 runs.3 calm) in
+        record {
+          each = (left_none Safe command old runs.0 runs.1 runs.3 calm, rest.each);
+          within = (step_honest Safe command fit.0 parts.0 old runs.0 runs.1 runs.3 calm, rest.within);
+          calm = rest.calm;
+        }
 
     walked : (base : List Record) (start : V) (script : List Command) → AreFit script → list_any pokes script ≡ false → IsOwn told may_leave base start → (count : ℕ) (text : List ℕ) (new : Program V)
-        → (run : HasRun told may_leave moment left_since faults limit cuts precheck start script count text new) → Walked (take count script) run.first text new run.runs
+        → (run : HasRun told may_leave moment left_since faults limit cuts precheck start script count text new) → Walked AnyFiles (take count script) run.first text new run.runs
     walked base start script fit none own count text new run =
-        walk (take count script) (fit_front count script fit) (front_none count script none) run.first text new run.runs (calm_down base run.first start run.down own)
+        walk AnyFiles (take count script) (fit_front count script fit) (front_none count script none) run.first text new run.runs (calm_down base run.first start run.down own)
 
     -- ---- a script
     module _ (c : Course V) (mid : Option (List ℕ)) (count : ℕ) (base : List Record) (own : IsOwn told may_leave base c.store)
         (nowhere : (script : List Command) → Spells c.left script c.left' → list_any pokes script ≡ false) where
-      stop_honest : (halt : Halt) (stopped : HasStopped told may_leave moment left_since faults limit cuts precheck halt c mid)
-          → StopIsHonest told may_leave moment left_since faults limit cuts precheck c mid count halt stopped
+      -- along the commands, of the last one, and of the store that comes back
+      record StopsHonest (halt : Halt) (stopped : HasStopped told may_leave moment left_since faults limit cuts precheck halt c mid) : Type 0 where
+        before : NoneEscapesStopped told may_leave moment left_since faults limit cuts precheck c mid count halt stopped
+        found : NoneEscapesFound told may_leave moment left_since faults limit cuts precheck c mid count halt stopped
+        behind : (d : Disk) → may_leave c.store' d → SafeByHalt told may_leave moment left_since faults limit cuts precheck c mid count halt stopped d
+        within : HaltEscapesNone told may_leave moment left_since faults limit cuts precheck c mid count halt stopped
+
+      stop_honest : (halt : Halt) (stopped : HasStopped told may_leave moment left_since faults limit cuts precheck halt c mid) → StopsHonest halt stopped
       stop_honest halt stopped =
           let stops = stopped.2 in
           let fit = all_fit stopped.1.bytes stopped.0 stopped.1.spelled in
           let none = nowhere stopped.0 stopped.1 in
-          let gone = walked base c.store stopped.0 fit none own stops.count stops.text stops.state stops.run in (
-            gone.each,
-            behind_honest halt stops.command (next_fit stopped.0 stops.count stops.command fit stops.next.next) (next_none stopped.0 stops.count stops.command none stops.next.next) stops.state stops.last stops.fails gone.calm,
-          )
+          let safe = SafeThere told may_leave moment left_since faults limit cuts precheck c.store stopped.0 stops.count stops.text stops.state stops.run in
+          let gone = walked base c.store stopped.0 fit none own stops.count stops.text stops.state stops.run in
+          record {
+            before = gone.each;
+            found = none_read safe stops.state gone.calm;
+            behind = λ d may.
+                behind_honest safe halt stops.command (next_fit stopped.0 stops.count stops.command fit stops.next.next) (next_none stopped.0 stops.count stops.command none stops.next.next) stops.state stops.last
+                stops.fails gone.calm d (subst (λ (x : V). may_leave x d) (sym stops.store) may);
+            within = (
+              gone.within,
+              fail_honest safe halt stops.command (next_fit stopped.0 stops.count stops.command fit stops.next.next) (next_none stopped.0 stops.count stops.command none stops.next.next) stops.state stops.last
+                  stops.fails gone.calm,
+            );
+          }
+
+      abbrev RunIsHonest : (status : Status) → EndedScript told may_leave moment left_since faults limit cuts precheck c mid count status → Type 0
+      RunIsHonest status ended =
+          ScriptIsHonest told may_leave moment left_since faults limit cuts precheck c mid count status ended
+          × ((d : Disk) → may_leave c.store' d → SafeAtEnd told may_leave moment left_since faults limit cuts precheck c mid count status ended d)
+          × RoundsEscapeNone told may_leave moment left_since faults limit cuts precheck c mid count status ended
 
       memory_honest : (o : Untouched c mid ⊎ HasStopped told may_leave moment left_since faults limit cuts precheck halts.OutOfMemory c mid)
-          → MemoryIsHonest told may_leave moment left_since faults limit cuts precheck c mid count o
-      memory_honest (inl same) = tt
-      memory_honest (inr stopped) = stop_honest halts.OutOfMemory stopped
+          → NoneEscapesWanting told may_leave moment left_since faults limit cuts precheck c mid count o × ((d : Disk) → may_leave c.store' d → SafeByWant told may_leave moment left_since faults limit cuts precheck c mid count o d)
+          × WantEscapesNone told may_leave moment left_since faults limit cuts precheck c mid count o
+      memory_honest (inl same) = (tt, (λ d may. tt), tt)
+      memory_honest (inr stopped) = let stop = stop_honest halts.OutOfMemory stopped in (stop.before, stop.behind, stop.within)
 
-      script_honest : (status : Status) (ended : EndedScript told may_leave moment left_since faults limit cuts precheck c mid count status)
-          → ScriptIsHonest told may_leave moment left_since faults limit cuts precheck c mid count status ended
+      script_honest : (status : Status) (ended : EndedScript told may_leave moment left_since faults limit cuts precheck c mid count status) → RunIsHonest status ended
       script_honest Done ended =
           let ran = ended.2 in
+          let safe = SafeThere told may_leave moment left_since faults limit cuts precheck c.store ended.0 (length ended.0) ran.text ran.state ran.run in
           let gone = walked base c.store ended.0 (all_fit ended.1.bytes ended.0 ended.1.spelled) (nowhere ended.0 ended.1) own (length ended.0) ran.text ran.state ran.run in
-          (gone.each, none_in ran.state gone.calm)
+          ((gone.each, tt), (λ d may. none_in safe ran.state gone.calm d (subst (λ (x : V). may_leave x d) (sym ran.store) may)), gone.within)
       script_honest WriteFault ended =
           let script = ended.1.0 in
           let cut = ended.1.2 in
           let fit = all_fit ended.1.1.bytes script ended.1.1.spelled in
           let none = nowhere script ended.1.1 in
+          let there = SafeThere told may_leave moment left_since faults limit cuts precheck c.store script cut.count cut.text cut.earlier cut.ran in
+          let safe = SafeCut told may_leave moment left_since faults limit cuts precheck c.store script c.taken mid c.store' cut in
           let gone = walked base c.store script fit none own cut.count cut.text cut.earlier cut.ran in
-          let calm = calm_step cut.command (next_fit script cut.count cut.command fit cut.next.next) (next_none script cut.count cut.command none cut.next.next) cut.earlier cut.more cut.state cut.steps gone.calm in
-          (gone.each, left_none cut.command cut.earlier gone.calm, none_in cut.state calm)
-      script_honest StoreFault ended = stop_honest halts.StoreFault ended
-      script_honest (BadStore file at) ended = stop_honest (halts.BadStore file at) ended
-      script_honest Unformatted ended = stop_honest halts.Unformatted ended
-      script_honest Formatted ended = stop_honest halts.Formatted ended
-      script_honest OutOfMemory ended = memory_honest ended
-      script_honest BadWords ended = tt
-      script_honest (BadScript line kind) ended = tt
-      script_honest TooLong ended = tt
-      script_honest ReadFault ended = tt
-      script_honest (LogFull end most) ended = tt
+          let calm : Calm safe cut.state =
+          calm_step there cut.command (next_fit script cut.count cut.command fit cut.next.next) (next_none script cut.count cut.command none cut.next.next) cut.earlier cut.more cut.state cut.steps gone.calm in (
+            (gone.each, left_none there cut.command cut.earlier cut.more cut.state cut.steps gone.calm),
+            λ d may. none_in safe cut.state calm d (subst (λ (x : V). may_leave x d) (sym cut.store) may),
+            (
+              gone.within,
+              step_honest there cut.command (next_fit script cut.count cut.command fit cut.next.next) (next_none script cut.count cut.command none cut.next.next) cut.earlier cut.more cut.state cut.steps
+                  gone.calm,
+            ),
+          )
+      script_honest StoreFault ended = let stop = stop_honest halts.StoreFault ended in ((stop.before, tt), stop.behind, stop.within)
+      script_honest (BadStore file at) ended = let stop = stop_honest (halts.BadStore file at) ended in ((stop.before, stop.found), stop.behind, stop.within)
+      script_honest Unformatted ended = let stop = stop_honest halts.Unformatted ended in ((stop.before, stop.found), stop.behind, stop.within)
+      script_honest Formatted ended = let stop = stop_honest halts.Formatted ended in ((stop.before, tt), stop.behind, stop.within)
+      script_honest OutOfMemory ended = let memory = memory_honest ended in ((memory.0, tt), memory.1, memory.2)
+      script_honest BadWords ended = ((tt, tt), (λ d may. tt), tt)
+      script_honest (BadScript line kind) ended = ((tt, tt), (λ d may. tt), tt)
+      script_honest TooLong ended = ((tt, tt), (λ d may. tt), tt)
+      script_honest ReadFault ended = ((tt, tt), (λ d may. tt), tt)
+      script_honest (LogFull end most) ended = ((tt, tt), (λ d may. tt), tt)
 
   -- ---- a generated script
   module _ (clients size number : ℕ) (within : AreWithin clients size) (c : Course V) (base : List Record) (own : IsOwn told may_leave base c.store) where
     blocks_fit : AreBlocks (map told_by (generated clients size number))
     blocks_fit = right_blocks (generated clients size number) (right_round clients size number within)
 
-    calm_made : (made : Core (Fuse V)) → IsMade told may_leave moment left_since faults 67108864 clients size c.store made → Calm (Up made)
+    pub calm_made : (made : Core (Fuse V)) → IsMade told may_leave moment left_since faults 67108864 clients size c.store made → Calm AnyFiles (Up made)
     calm_made made is_made =
-        calm_step 67108864 false (Size (index_regions clients size) (heap_regions clients size)) (right_sizes clients size within) refl is_made.first [] (Up made) is_made.steps
+        calm_step 67108864 false AnyFiles (Size (index_regions clients size) (heap_regions clients size)) (right_sizes clients size within) refl is_made.first [] (Up made) is_made.steps
         (calm_down base is_made.first c.store is_made.down own)
 
-    calm_played : (ends : Option Halt) (run : IsPlayed told may_leave moment left_since faults 67108864 clients size number c.store ends) → Calm (Up run.played)
+    pub calm_played : (ends : Option Halt) (run : IsPlayed told may_leave moment left_since faults 67108864 clients size number c.store ends) → Calm AnyFiles (Up run.played)
     calm_played ends run =
-        calm_step 67108864 false (Round (generated clients size number)) blocks_fit (blocks_none number size clients 1) (Up run.made) run.round.text (Up run.played) (run.played, run.round.round, refl)
+        calm_step 67108864 false AnyFiles (Round (generated clients size number)) blocks_fit (blocks_none number size clients 1) (Up run.made) run.round.text (Up run.played) (run.played, run.round.round, refl)
         (calm_made run.made run.is_made)
 
     -- nobody wrote astray in the round
     pub played_unpoked : (ends : Option Halt) (run : IsPlayed told may_leave moment left_since faults 67108864 clients size number c.store ends) → NonePoked run.played.regions.items
     played_unpoked ends run = none_poked run.played (calm_played ends run).none
 
-    played_honest : (ends : Option Halt) (run : IsPlayed told may_leave moment left_since faults 67108864 clients size number c.store ends)
-        → PlayedIsHonest told may_leave moment left_since faults cuts clients size number c.store ends run
-    played_honest ends run = none_in (Up run.played) (calm_played ends run)
+    pub calm_crashed : (run : IsCrashed told may_leave moment left_since faults 67108864 clients size number cuts c.store) → Calm AnyFiles run.crashed
+    calm_crashed run = calm_step 67108864 false AnyFiles (Crash 0) tt refl (Up run.run.played) run.text run.crashed run.crash (calm_played None run.run)
 
-    found_honest : (core : Core (Fuse V)) (run : GeneratorFinds told may_leave moment left_since faults cuts clients size number c.store core)
+    pub played_honest : (ends : Option Halt) (run : IsPlayed told may_leave moment left_since faults 67108864 clients size number c.store ends)
+        → PlayedIsHonest told may_leave moment left_since faults cuts clients size number c.store ends run
+    played_honest ends run = none_in AnyFiles (Up run.played) (calm_played ends run)
+
+    pub found_honest : (core : Core (Fuse V)) (run : GeneratorFinds told may_leave moment left_since faults cuts clients size number c.store core)
         → FoundIsHonest told may_leave moment left_since faults cuts clients size number c.store core run
     found_honest core run =
-        let crashed = calm_step 67108864 false (Crash 0) tt refl (Up run.run.run.played) run.run.text run.run.crashed run.run.crash (calm_played None run.run.run) in
-        let found = calm_step 67108864 false Restart tt refl run.run.crashed run.text (Up core) (inl run.restart) crashed in
-        (played_honest None run.run.run, none_in (Up core) found)
+        let found = calm_step 67108864 false AnyFiles Restart tt refl run.run.crashed run.text (Up core) (inl run.restart) (calm_crashed run.run) in
+        (played_honest None run.run.run, none_in AnyFiles (Up core) found)
 
     stops_honest : (halt : Halt) (stops : GeneratorStops told may_leave moment left_since faults cuts clients size number halt c.store c.store')
         → GeneratorStopIsHonest told may_leave moment left_since faults cuts clients size number halt c.store c.store' stops
@@ -337,15 +534,23 @@ module _ {V : Type 0} (told : V → Option Disk) (may_leave : V → Disk → Typ
     stops_honest halt (inr (inl crash)) = played_honest None crash.0
     stops_honest halt (inr (inr restart)) = played_honest None restart.0.run
 
-    cut_honest : (made : Core (Fuse V)) (f : Fuse V) (cut : IsCutRound told may_leave faults (map told_by (generated clients size number)) made f) → Calm (Up made)
+    -- nor in one that was cut
+    pub cut_unpoked : (made : Core (Fuse V)) → IsMade told may_leave moment left_since faults 67108864 clients size c.store made → (f : Fuse V)
+        → (cut : Played told may_leave moment left_since faults false (map told_by (generated clients size number)) made f) → NonePoked cut.core.regions.items
+    cut_unpoked made is_made f cut =
+        let calm = calm_made made is_made in
+        round_unpoked told may_leave faults false cut.whole calm.base (map told_by (generated clients size number)) made cut.core cut.transcripts
+        (are_quiet (generated clients size number) blocks_fit.placed (blocks_none number size clients 1)) cut.plays calm.point (none_poked made calm.none)
+
+    cut_honest : (made : Core (Fuse V)) (f : Fuse V) (cut : IsCutRound told may_leave moment left_since faults (map told_by (generated clients size number)) made f) → Calm AnyFiles (Up made)
         → CutIsHonest told may_leave moment left_since faults cuts clients size number made f cut
-    cut_honest made f (inl none) calm = none_in (Up made) calm
+    cut_honest made f (inl none) calm = none_in AnyFiles (Up made) calm
     cut_honest made f (inr cut) calm =
         let played = cut.0 in
         round_honest told may_leave faults false played.whole calm.base (map told_by (generated clients size number)) made played.core played.transcripts
         (are_quiet (generated clients size number) blocks_fit.placed (blocks_none number size clients 1)) played.longer played.plays calm.point (none_poked made calm.none)
 
-    loss_honest : (lost : GeneratorLoses told may_leave moment left_since faults cuts clients size number c.store c.store')
+    pub loss_honest : (lost : GeneratorLoses told may_leave moment left_since faults cuts clients size number c.store c.store')
         → LossIsHonest told may_leave moment left_since faults cuts clients size number c.store c.store' lost
     loss_honest lost = cut_honest lost.made lost.left lost.cut (calm_made lost.made lost.is_made)
 
@@ -380,7 +585,7 @@ module _ {V : Type 0} (told : V → Option Disk) (may_leave : V → Disk → Typ
 
   -- ---- each task of the words
   honest : (c : Course V) (base : List Record) → IsOwn told may_leave base c.store → (words : List (List ℕ)) (mid : Option (List ℕ)) (count : ℕ) (task : Option Task) → meaning words ≡ task → PokesNowhere task c
-      → (status : Status) (ended : Ended told may_leave moment left_since faults cuts task c mid count status) → IsHonest told may_leave moment left_since faults cuts c mid count task status ended
+      → (status : Status) (ended : Ended told may_leave moment left_since faults cuts task c mid count status) → AreHonest told may_leave moment left_since faults cuts c mid count task status ended
   honest c base own words mid count None is nowhere status ended = tt
   honest c base own words mid count (Some Dump) is nowhere status ended = tt
   honest c base own words mid count (Some (Run precheck limit)) is nowhere status ended = script_honest limit precheck c mid count base own nowhere status ended

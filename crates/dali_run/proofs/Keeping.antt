@@ -1,14 +1,18 @@
 -- What was acknowledged is kept at each state of a run, and in the store that comes back.
-use Rattle.std.proofs.Common.{◌≡◌, ◌<◌, ◌≤◌, append-nil, ℕ, Bool, true, false, List, [], ◌∷◌, ◌++◌, Option, Some, None, length, map, take, refl, sym, ◌∙◌, ap, subst, inl, inr, ⊎_elim}
+use Rattle.std.proofs.Common.{◌≡◌, ◌<◌, ◌≤◌, ℕ, Bool, true, false, List, [], ◌∷◌, ◌++◌, Option, Some, None, length, map, take, refl, sym, ◌∙◌, ap, subst, inl, inr, ⊎_elim, arith}
 use Rattle.std.specs.Prelude.{◌⊎◌, Contains, IfSome, slice_get}
-use Rattle.std.proofs.lemmas.Bool.Decides.{Decides-ltb}
 use Rattle.std.proofs.lemmas.List.Elements.{Contains-append_cases}
+use Rattle.dali_lists.proofs.Members.{contains_first}
 use Rattle.dali_arguments.specs.Meaning.{meaning}
+use Rattle.dali_arguments.specs.Laws.{IsInRange}
 use Rattle.dali_arguments.specs.declared.task.Task.{Task}
 use Rattle.dali_arguments.specs.declared.task.Task.TheVariants.{Run, Generate, Dump}
+use Rattle.dali_arguments.proofs.InRange.{in_range}
 use Rattle.dali_again.specs.Found.{FindsIt}
+use Rattle.dali_batch.specs.Reads.{OnlyReads}
 use Rattle.dali_clients.specs.Said.{Transcribed}
-use Rattle.dali_generator.specs.Generated.{generated}
+use Rattle.dali_generator.specs.Generated.{AreWithin, generated, index_regions, heap_regions}
+use Rattle.dali_generator.proofs.Right.{right_sizes}
 use Rattle.dali_headline.proofs.Headline.{restart_is_right}
 use Rattle.dali_history.specs.History.{HasExpected, IsHistory}
 use Rattle.dali_history.proofs.Chained.{committed_stays}
@@ -18,7 +22,7 @@ use Rattle.dali_record.specs.declared.records.Record.{Record}
 use Rattle.dali_record.specs.Files.{Files}
 use Rattle.dali_record.specs.Log.{committed}
 use Rattle.dali_restart.specs.Headline.{EachRestart}
-use Rattle.dali_restart.specs.Restarting.{outcome, told_by as said_by, told_list, Gives, IsReadAs}
+use Rattle.dali_restart.specs.Restarting.{outcome, told_by as said_by, Gives, IsReadAs}
 use Rattle.dali_restart.proofs.Once.{reads_once}
 use Rattle.dali_resume.specs.Again.{Outcome}
 use Rattle.dali_round.specs.Leads.{lines_in}
@@ -28,8 +32,9 @@ use Rattle.dali_store.specs.Store.{Files as Disk}
 use Rattle.dali_system.specs.Run.{log_in}
 use Rattle.dali_system.specs.State.{CoreState, stable}
 use Rattle.dali_transcripts.specs.Transcripts.{Told as Blocks}
+use Rattle.dali_transcripts.specs.Words.{Act, Pokes, Audits, Checkpoints}
 use Rattle.dali_transcripts.specs.World.{log_of}
-use Rattle.dali_transcripts.proofs.Lists.{first_in, none_in}
+use Rattle.dali_transcripts.proofs.Lists.{none_in}
 use Rattle.dali_whole.specs.declared.whole.Core.{Core}
 use Rattle.dali_run.specs.declared.halt.Halt.{Halt}
 use Rattle.dali_run.specs.declared.halt.Halt.TheVariants as halts
@@ -37,18 +42,24 @@ use Rattle.dali_run.specs.declared.program.Program.{Program}
 use Rattle.dali_run.specs.declared.program.Program.TheVariants.{Up, Down}
 use Rattle.dali_run.specs.declared.status.Status.{Status}
 use Rattle.dali_run.specs.declared.status.Status.TheVariants.{Done, BadWords, BadScript, TooLong, ReadFault, WriteFault, StoreFault, BadStore, Unformatted, Formatted, OutOfMemory, LogFull}
-use Rattle.dali_run.specs.Ends.{Course, Ended, EndedGenerator, EndedScript, FindsNone, GeneratorFails, GeneratorFinds, GeneratorStops, GeneratorWants, HasStopped, Untouched}
-use Rattle.dali_run.specs.Generating.{IsCrashed, IsPlayed}
-use Rattle.dali_run.specs.Headline.{oks_of, KeepsIn, IsAnswer, HasKept, Keeps, KeepsLeft, KeptAt, oks_by, Restores, Answers, Along, StoppedKeeps, WantingKeeps, ScriptKeeps, oks_played, oks_stopped, oks_failed, oks_wanting, oks_generated, Kept, AcknowledgedSurvive}
-use Rattle.dali_run.specs.Program.{store_of}
+use Rattle.dali_run.specs.Ends.{Course, Ended, EndedGenerator, EndedScript, GeneratorFails, GeneratorFinds, GeneratorIsRefused, GeneratorLoses, GeneratorStops, GeneratorWants, HasStopped, Untouched}
+use Rattle.dali_run.specs.Generating.{FailsIn, IsCrashed, IsCutRound, IsMade, IsPlayed}
+use Rattle.dali_run.specs.Headline.{oks_of, KeepsIn, IsAnswer, HasKept, Keeps, KeepsLeft, KeepsWhere, KeepsWithin, KeepsBetween, KeptAt, KeptWithin, KeptLost, KeptBroken, KeptAlone, KeptFailed, KeptFailing, SafeWithin, oks_by, Restores, Answers, Along, StoppedKeeps, WantingKeeps, ScriptKeeps, KeepsSince, KeepsOn, oks_played, PlayedKeeps, CrashedKeeps, FoundKeeps, LastKeeps, StopKeeps, RefusedKeeps, LostKeeps, FaultKeeps, WantKeeps, GeneratorKeeps, Kept, AcknowledgedSurvive, WorkedLinesAcknowledge}
+use Rattle.dali_run.specs.Honest.{IsHonestWithin}
+use Rattle.dali_run.specs.Program.{IsDown, store_of, told_in, leaves_in, moment_in, since_in}
 use Rattle.dali_run.specs.Run.{RunsAll}
-use Rattle.dali_run.specs.Steps.{Plays, Restarts, Steps, StepsRestart}
-use Rattle.dali_run.specs.Survives.{BeginsWith, CrashedSurvives, FaultBack, FoundSurvives, GeneratorSurvives, Holds, IsAPoint, IsLogOf, IsLoggedBy, IsOwn, IsPointOf, NoneEscapesBehind, NoneEscapesIn, NoneEscapesLeft, NoneSurvives, PlayedSurvives, StopBack, WantBack}
-use Rattle.dali_run.specs.Told.{told_by}
+use Rattle.dali_run.specs.Steps.{LeavesLess, Plays, Restarts, RightWithin, Steps, StepsRestart}
+use Rattle.dali_run.specs.Survives.{AnyFiles, BeginsWith, CrashedSurvives, FaultBack, FoundBack, FoundSurvives, GeneratorSurvives, Holds, IsAPoint, IsLogOf, IsLoggedBy, IsOwn, IsOwnWhere, IsPointOf, LossBack, NoneEscapesBehind, NoneEscapesIn, NoneEscapesLeft, NoneEscapesMaking, NoneEscapesRestarted, PlayedBack, PlayedSurvives, SafeBehind, StopBack, WantBack}
+use Rattle.dali_run.specs.Fails.{AloneFails, Breaks, Fails, Lost, StoreFailsIn}
+use Rattle.dali_run.specs.Told.{AreFit, IsFit, alone, told_by}
 use Rattle.dali_run.proofs.Fit.{all_fit}
+use Rattle.dali_run.proofs.Honest.{calm_made, cut_unpoked, found_honest, none_in as calm_none, played_honest, played_unpoked}
 use Rattle.dali_run.proofs.Oks.{commit_in, round_stands}
-use Rattle.dali_run.proofs.Survived.{survives}
-use Rattle.dali_run.proofs.Surviving.{begins_down, begins_then, fails_own, next_fit, own_same, own_store, step_goes, step_logs}
+use Rattle.dali_run.proofs.Survived.{honest_own, survives}
+use Rattle.dali_run.proofs.Unharmed.{within_honest}
+use Rattle.dali_run.proofs.Within.{HoldsWithin, is_round, broken_within, failed_within, only_within, same_fuse, same_state, step_within}
+use Rattle.dali_run.proofs.Surviving.{begins_down, between_holds, told_there, begins_then, fails_own, fit_front, making_down, next_fit, none_down, own_same, own_store, step_goes, step_logs, where_same}
+use Rattle.dali_restart.proofs.Headline.{told_lists}
 
 -- ---- transactions of a log
 record AllIn (kept : List ℕ) (L : List Record) : Type 0 where
@@ -56,7 +67,7 @@ record AllIn (kept : List ℕ) (L : List Record) : Type 0 where
 
 none_kept : (kept : List ℕ) → ((t : ℕ) → Contains kept t → ⊥) → kept ≡ []
 none_kept [] none = refl
-none_kept (t ∷ kept) none = absurd (none t (first_in t kept))
+none_kept (t ∷ kept) none = absurd (none t (contains_first t kept))
 
 itself : (L : List Record) → AllIn (committed L) L
 itself L = record { each = λ t has. has }
@@ -77,14 +88,11 @@ keeps_in kept base L history begins all =
     let keeps = right.keeps base begins.0 (sym begins.1) in
     record { right = right; committed_all = λ t has. keeps.stays t (all.each t has); survive = λ t has. keeps.survives t (all.each t has); not_both = keeps.not_both }
 
-list_told : (F : Files) (ts : List ℕ) → F.first < length (log_in F) → told_list F ts ≡ ts
-list_told F ts below = rw ((Decides-ltb F.first (length (log_in F))).1 below) refl
-
 is_answer : (F : Files) (o : Outcome) → IsHistory (log_in F) → o ≡ said_by F → IsAnswer F o
 is_answer F o history same = record {
   records = subst (HasExpected (log_in F)) (sym (ap (λ (x : Outcome). x.image) same)) (restart_is_right (log_in F) history).gives.records;
-  rolled = λ below. ap (λ (x : Outcome). x.rolled) same ∙ list_told F _ below;
-  deleted = λ below. ap (λ (x : Outcome). x.deleted) same ∙ list_told F _ below;
+  rolled = λ below. ap (λ (x : Outcome). x.rolled) same ∙ told_lists F _ below;
+  deleted = λ below. ap (λ (x : Outcome). x.deleted) same ∙ told_lists F _ below;
 }
 
 each_answers : (F : Files) → FindsIt F → IsHistory (log_in F) → EachRestart F (IsAnswer F)
@@ -99,17 +107,20 @@ holds_keeps kept base c all (inr has) =
     inr (record { files = has.files; spells = has.spells; keeps = keeps_in kept base (log_in has.files) has.history has.begins all; each = each_answers has.files has.finds has.history })
 
 module _ {V : Type 0} (told : V → Option Disk) (may_leave : V → Disk → Type 0) (faults : V → ℕ) where
-  left_keeps : (kept : List ℕ) (base : List Record) (s : V) → AllIn kept base → IsOwn told may_leave base s → KeepsLeft told may_leave kept s
+  left_keeps : (kept : List ℕ) (base : List Record) (s : V) → AllIn kept base → IsOwn told may_leave base s → KeepsLeft may_leave kept s
   left_keeps kept base s all own c may = holds_keeps kept base c all (own.1 c may)
 
+  where_keeps : (P : Disk → Type 0) (kept : List ℕ) (base : List Record) (s : V) → AllIn kept base → IsOwnWhere told may_leave P base s → KeepsWhere may_leave P kept s
+  where_keeps P kept base s all own c may is = holds_keeps kept base c all (own.1 c may is)
+
   -- ---- a state of a run
-  record KnownAt (kept : List ℕ) (p : Program V) : Type 0 where
+  record KnownAt (Safe : Disk → Type 0) (kept : List ℕ) (p : Program V) : Type 0 where
     base : List Record
     all : AllIn kept base
-    point : IsAPoint told may_leave faults base p
+    point : IsAPoint told may_leave faults Safe base p
 
-  kept_at : (kept : List ℕ) (p : Program V) → KnownAt kept p → KeptAt told may_leave kept p
-  kept_at kept p known none = left_keeps kept known.base (inner (store_of p)) known.all (own_store told may_leave faults known.base p known.point none)
+  kept_at : (Safe : Disk → Type 0) (kept : List ℕ) (p : Program V) → KnownAt Safe kept p → KeptAt may_leave Safe kept p
+  kept_at Safe kept p known = where_keeps (NoneEscapesIn Safe p) kept known.base (inner (store_of p)) known.all (own_store told may_leave faults Safe known.base p known.point)
 
   -- what the lines of a round acknowledge is in the log that they tell
   round_all : (precheck : Bool) (base : List Record) (blocks : List Blocks) (c d : Core (Fuse V)) (ts : List Transcribed) (plays : Plays told may_leave faults precheck true blocks c ts d)
@@ -127,12 +138,14 @@ module _ {V : Type 0} (told : V → Option Disk) (may_leave : V → Disk → Typ
           (commit_in led.to.log stands.0 (stable led.to.core) t (ap (λ (l : List Record). slice_get l stands.0) same ∙ stands.1) flushed)
 
 module _ {V : Type 0} (told : V → Option Disk) (may_leave : V → Disk → Type 0) (moment : V → ℕ) (left_since : V → ℕ → Disk → Type 0) (faults : V → ℕ)
-    (reads_now : (s : V) → IfSome (told s) (λ fs. may_leave s fs)) (counts_now : (s : V) (t : ℕ) (c : Disk) → t ≤ moment s → may_leave s c → left_since s t c) where
+    (reads_now : (s : V) → IfSome (told s) (λ fs. may_leave s fs)) (counts_now : (s : V) (t : ℕ) (c : Disk) → t ≤ moment s → may_leave s c → left_since s t c)
+    (only_now : (s : V) (c : Disk) → left_since s (moment s) c → may_leave s c) where
   module _ (limit : ℕ) (cuts : V → ℕ → Option Disk) (precheck : Bool) where
     -- ---- a restart of the run
-    restores : (kept : List ℕ) (base : List Record) (old new : Program V) (text : List ℕ) (step : Restarts told may_leave moment left_since faults limit old text new) → AllIn kept base
-        → IsOwn told may_leave base (inner (store_of old)) → Restores told may_leave moment left_since faults limit cuts precheck kept old text new (inl step)
-    restores kept base old new text step all own = by_told (told (inner (store_of old))) (reads_now (inner (store_of old))) step.gives step.read
+    restores : (Q : Disk → Type 0) (kept : List ℕ) (base : List Record) (old new : Program V) (text : List ℕ) (step : Restarts told may_leave moment left_since faults limit old text new) → AllIn kept base
+        → IsOwnWhere told may_leave Q base (inner (store_of old)) → IfSome (told (inner (store_of old))) Q
+        → Restores told may_leave moment left_since faults limit cuts precheck kept old text new (inl step)
+    restores Q kept base old new text step all own none = by_told (told (inner (store_of old))) none (reads_now (inner (store_of old))) step.gives step.read
       where
         o : Outcome
         o = outcome step.core.regions.items step.report
@@ -144,83 +157,249 @@ module _ {V : Type 0} (told : V → Option Disk) (may_leave : V → Disk → Typ
           is_answer has.files o has.history (gives has.files has.spells has.finds).told,
         )
 
-        by_told : (d : Option Disk) → IfSome d (λ fs. may_leave (inner (store_of old)) fs) → IfSome d (λ fs. Gives fs o) → IfSome d (λ fs. IsReadAs fs o)
+        by_told : (d : Option Disk) → IfSome d Q → IfSome d (λ fs. may_leave (inner (store_of old)) fs) → IfSome d (λ fs. Gives fs o) → IfSome d (λ fs. IsReadAs fs o)
             → IfSome d (λ fs. (has : HasKept kept fs) × IsAnswer has.files o)
-        by_told None may gives read = tt
-        by_told (Some fs) may gives read = by_case fs gives read (own.1 fs may)
+        by_told None none may gives read = tt
+        by_told (Some fs) none may gives read = by_case fs gives read (own.1 fs may none)
 
-    restored : (kept : List ℕ) (base : List Record) (old new : Program V) (text : List ℕ) (step : StepsRestart told may_leave moment left_since faults limit old text new) → AllIn kept base
-        → IsOwn told may_leave base (inner (store_of old)) → Restores told may_leave moment left_since faults limit cuts precheck kept old text new step
-    restored kept base old new text (inl step) all own = restores kept base old new text step all own
-    restored kept base old new text (inr step) all own = tt
+    restored : (Safe : Disk → Type 0) (kept : List ℕ) (old new : Program V) (text : List ℕ) (step : StepsRestart told may_leave moment left_since faults limit old text new)
+        → KnownAt told may_leave faults Safe kept old → NoneEscapesRestarted told may_leave moment left_since faults limit cuts precheck Safe old text new step
+        → Restores told may_leave moment left_since faults limit cuts precheck kept old text new step
+    restored Safe kept old new text (inl step) known none =
+        restores (NoneEscapesIn Safe old) kept known.base old new text step known.all (own_store told may_leave faults Safe known.base old known.point) none
+    restored Safe kept old new text (inr step) known none = tt
 
-    answers : (kept : List ℕ) (command : Command) (old new : Program V) (text : List ℕ) (step : Steps told may_leave moment left_since faults limit cuts precheck old command text new)
-        → KnownAt told may_leave faults kept old → NoneEscapesLeft told may_leave moment left_since faults limit cuts precheck command old
+    answers : (Safe : Disk → Type 0) (kept : List ℕ) (command : Command) (old new : Program V) (text : List ℕ) (step : Steps told may_leave moment left_since faults limit cuts precheck old command text new)
+        → KnownAt told may_leave faults Safe kept old → NoneEscapesLeft told may_leave moment left_since faults limit cuts precheck Safe command old text new step
         → Answers told may_leave moment left_since faults limit cuts precheck kept command old text new step
-    answers kept Open old new text step known none = restored kept known.base old new text step known.all (own_store told may_leave faults known.base old known.point none)
-    answers kept Restart old new text step known none = restored kept known.base old new text step known.all (own_store told may_leave faults known.base old known.point none)
-    answers kept (Size index heap) old new text step known none = tt
-    answers kept (Round blocks) old new text step known none = tt
-    answers kept (Poke region word mask) old new text step known none = tt
-    answers kept Audit old new text step known none = tt
-    answers kept Checkpoint old new text step known none = tt
-    answers kept Cleanup old new text step known none = tt
-    answers kept (Crash choice) old new text step known none = tt
-    answers kept Show old new text step known none = tt
-    answers kept Verify old new text step known none = tt
-    answers kept Next old new text step known none = tt
-    answers kept (SetFuse passes) old new text step known none = tt
+    answers Safe kept Open old new text step known none = restored Safe kept old new text step known none
+    answers Safe kept Restart old new text step known none = restored Safe kept old new text step known none
+    answers Safe kept (Size index heap) old new text step known none = tt
+    answers Safe kept (Round blocks) old new text step known none = tt
+    answers Safe kept (Poke region word mask) old new text step known none = tt
+    answers Safe kept Audit old new text step known none = tt
+    answers Safe kept Checkpoint old new text step known none = tt
+    answers Safe kept Cleanup old new text step known none = tt
+    answers Safe kept (Crash choice) old new text step known none = tt
+    answers Safe kept Show old new text step known none = tt
+    answers Safe kept Verify old new text step known none = tt
+    answers Safe kept Next old new text step known none = tt
+    answers Safe kept (SetFuse passes) old new text step known none = tt
 
     -- ---- from state to state
-    oks_all : (command : Command) (base : List Record) (old new : Program V) (text : List ℕ) (step : Steps told may_leave moment left_since faults limit cuts precheck old command text new)
-        → (a : IsAPoint told may_leave faults base old) (log : List Record) → IsLoggedBy told may_leave moment left_since faults limit cuts precheck command base old text new step a log
+    oks_all : (Safe : Disk → Type 0) (command : Command) (base : List Record) (old new : Program V) (text : List ℕ) (step : Steps told may_leave moment left_since faults limit cuts precheck old command text new)
+        → (a : IsAPoint told may_leave faults Safe base old) (log : List Record) → IsLoggedBy told may_leave moment left_since faults limit cuts precheck Safe command base old text new step a log
         → AllIn (oks_by told may_leave moment left_since faults limit cuts precheck command old text new step) log
-    oks_all (Round blocks) base (Up core) new text step a log is =
+    oks_all Safe (Round blocks) base (Up core) new text step a log is =
         round_all told may_leave faults precheck base (map told_by blocks) core step.0 step.1.transcripts step.1.plays a log is
-    oks_all (Round blocks) base (Down store) new text step a log is = none_in_all log
-    oks_all (Size index heap) base old new text step a log is = none_in_all log
-    oks_all Open base old new text step a log is = none_in_all log
-    oks_all (Poke region word mask) base old new text step a log is = none_in_all log
-    oks_all Audit base old new text step a log is = none_in_all log
-    oks_all Checkpoint base old new text step a log is = none_in_all log
-    oks_all Cleanup base old new text step a log is = none_in_all log
-    oks_all (Crash choice) base old new text step a log is = none_in_all log
-    oks_all Restart base old new text step a log is = none_in_all log
-    oks_all Show base old new text step a log is = none_in_all log
-    oks_all Verify base old new text step a log is = none_in_all log
-    oks_all Next base old new text step a log is = none_in_all log
-    oks_all (SetFuse passes) base old new text step a log is = none_in_all log
+    oks_all Safe (Round blocks) base (Down store) new text step a log is = none_in_all log
+    oks_all Safe (Size index heap) base old new text step a log is = none_in_all log
+    oks_all Safe Open base old new text step a log is = none_in_all log
+    oks_all Safe (Poke region word mask) base old new text step a log is = none_in_all log
+    oks_all Safe Audit base old new text step a log is = none_in_all log
+    oks_all Safe Checkpoint base old new text step a log is = none_in_all log
+    oks_all Safe Cleanup base old new text step a log is = none_in_all log
+    oks_all Safe (Crash choice) base old new text step a log is = none_in_all log
+    oks_all Safe Restart base old new text step a log is = none_in_all log
+    oks_all Safe Show base old new text step a log is = none_in_all log
+    oks_all Safe Verify base old new text step a log is = none_in_all log
+    oks_all Safe Next base old new text step a log is = none_in_all log
+    oks_all Safe (SetFuse passes) base old new text step a log is = none_in_all log
 
-    step_keeps : (kept : List ℕ) (command : Command) (old new : Program V) (text : List ℕ) (step : Steps told may_leave moment left_since faults limit cuts precheck old command text new)
-        → KnownAt told may_leave faults kept old → NoneEscapesLeft told may_leave moment left_since faults limit cuts precheck command old
-        → KnownAt told may_leave faults (kept ++ oks_by told may_leave moment left_since faults limit cuts precheck command old text new step) new
-    step_keeps kept command old new text step known none =
-        let goes = step_goes told may_leave moment left_since faults reads_now counts_now limit cuts precheck command known.base old new text step known.point none in
-        let is = step_logs told may_leave moment left_since faults reads_now counts_now limit cuts precheck command known.base old new text step known.point none in
+    step_keeps : (Safe : Disk → Type 0) (kept : List ℕ) (command : Command) (old new : Program V) (text : List ℕ) (step : Steps told may_leave moment left_since faults limit cuts precheck old command text new)
+        → KnownAt told may_leave faults Safe kept old → NoneEscapesLeft told may_leave moment left_since faults limit cuts precheck Safe command old text new step
+        → KnownAt told may_leave faults (SafeBehind told may_leave moment left_since faults limit cuts precheck Safe command old text new step) (kept ++ oks_by told may_leave moment left_since faults limit cuts precheck command old text new step) new
+    step_keeps Safe kept command old new text step known none =
+        let goes = step_goes told may_leave moment left_since faults reads_now counts_now limit cuts precheck Safe command known.base old new text step known.point none in
+        let is = step_logs told may_leave moment left_since faults reads_now counts_now limit cuts precheck Safe command known.base old new text step known.point none in
         let oks = oks_by told may_leave moment left_since faults limit cuts precheck command old text new step in
         record {
           base = goes.log;
-          all = both_in kept oks goes.log (in_more kept known.base goes.log goes.more known.all) (oks_all command known.base old new text step known.point goes.log is);
+          all = both_in kept oks goes.log (in_more kept known.base goes.log goes.more known.all) (oks_all Safe command known.base old new text step known.point goes.log is);
           point = goes.point;
         }
 
-    along : (Behind : List ℕ → Type 0) (commands : List Command) (kept : List ℕ) (old : Program V) (text : List ℕ) (new : Program V)
-        → (runs : RunsAll told may_leave moment left_since faults limit cuts precheck old commands text new) → KnownAt told may_leave faults kept old
-        → ((now : List ℕ) → KnownAt told may_leave faults now new → Behind now)
-        → Along told may_leave moment left_since faults limit cuts precheck Behind commands kept old text new runs
-    along Behind [] kept old text new runs known then = (kept_at told may_leave faults kept old known, then kept (subst (KnownAt told may_leave faults kept) (sym runs.1) known))
-    along Behind (command ∷ later) kept old text new runs known then = (
-      kept_at told may_leave faults kept old known,
+    -- ---- within a command
+    abbrev KeptIn : (Disk → Type 0) → List ℕ → Program V → Fuse V → Type 0
+    KeptIn P kept old f = KeepsWithin moment left_since P kept old f
+
+    abbrev SafeIn : (Disk → Type 0) → Command → Program V → Disk → Type 0
+    SafeIn Safe command old = SafeWithin told may_leave moment left_since faults limit cuts precheck Safe command old
+
+    held : (P : Disk → Type 0) (kept : List ℕ) (base : List Record) (old : Program V) (f : Fuse V) → AllIn kept base
+        → HoldsWithin told may_leave moment left_since faults reads_now counts_now only_now P base old (inner f) → KeptIn P kept old f
+    held P kept base old f all holds c left is = holds_keeps kept base c all (holds c left is)
+
+    own_of : (Safe : Disk → Type 0) (kept : List ℕ) (old : Program V) (known : KnownAt told may_leave faults Safe kept old) → IsOwnWhere told may_leave (NoneEscapesIn Safe old) known.base (inner (store_of old))
+    own_of Safe kept old known = own_store told may_leave faults Safe known.base old known.point
+
+    -- within a round
+    round_keeps : (Safe : Disk → Type 0) (kept : List ℕ) (c d : Core (Fuse V)) → KnownAt told may_leave faults Safe kept (Up c) → RightWithin told may_leave moment left_since faults c d
+        → KeepsBetween told may_leave moment left_since faults kept c d
+    round_keeps Safe kept c d known right =
+        let a : IsPointOf told may_leave faults known.base c = known.point in
+        let ends = right a.start a.batches a.point a.begins in
+        record {
+          base = known.base;
+          at = a;
+          ends = ends;
+          keeps = λ disk left.
+              let D = (told_there (told_in told c.vault.store) a.tells ends.within).each disk left in
+              (D.0, D.1, D.2, λ none. holds_keeps kept known.base disk known.all (inr (between_holds told may_leave faults known.base c a ends.to disk D.0 D.1 D.2 none)));
+        }
+
+    -- where the program was down, or no round was begun, the store wasn't called
+    state_keeps : (Safe : Disk → Type 0) (kept : List ℕ) (old new : Program V) → new ≡ old → KnownAt told may_leave faults Safe kept old → KeptIn (NoneEscapesIn Safe old) kept old (store_of new)
+    state_keeps Safe kept old new same known =
+        held (NoneEscapesIn Safe old) kept known.base old (store_of new) known.all
+        (same_state told may_leave moment left_since faults reads_now counts_now only_now (NoneEscapesIn Safe old) known.base old new same (own_of Safe kept old known))
+
+    fuse_keeps : (Safe : Disk → Type 0) (kept : List ℕ) (old : Program V) (f : Fuse V) → f ≡ store_of old → KnownAt told may_leave faults Safe kept old → KeptIn (NoneEscapesIn Safe old) kept old f
+    fuse_keeps Safe kept old f same known =
+        held (NoneEscapesIn Safe old) kept known.base old f known.all
+        (same_fuse told may_leave moment left_since faults reads_now counts_now only_now (NoneEscapesIn Safe old) known.base old f same (own_of Safe kept old known))
+
+    others_keep : (Safe : Disk → Type 0) (kept : List ℕ) (command : Command) → IsFit command → is_round command ≡ false → (old new : Program V) (text : List ℕ)
+        → Steps told may_leave moment left_since faults limit cuts precheck old command text new → KnownAt told may_leave faults Safe kept old → KeptIn (SafeIn Safe command old) kept old (store_of new)
+    others_keep Safe kept command fit none old new text step known =
+        held (SafeIn Safe command old) kept known.base old (store_of new) known.all
+        (step_within told may_leave moment left_since faults reads_now counts_now only_now limit cuts precheck Safe command fit none known.base old new text step (own_of Safe kept old known))
+
+    kept_within : (Safe : Disk → Type 0) (kept : List ℕ) (command : Command) → IsFit command → (old new : Program V) (text : List ℕ)
+        → (step : Steps told may_leave moment left_since faults limit cuts precheck old command text new) → KnownAt told may_leave faults Safe kept old
+        → KeptWithin told may_leave moment left_since faults limit cuts precheck Safe kept command old text new step
+    kept_within Safe kept (Round blocks) fit (Up core) new text step known = round_keeps Safe kept core step.0 known step.1.moments
+    kept_within Safe kept (Round blocks) fit (Down store) new text step known = state_keeps Safe kept (Down store) new step.1 known
+    kept_within Safe kept (Poke region word mask) fit (Up core) new text step known = round_keeps Safe kept core step.0 known step.1.moments
+    kept_within Safe kept (Poke region word mask) fit (Down store) new text step known = state_keeps Safe kept (Down store) new step.1 known
+    kept_within Safe kept Audit fit (Up core) new text step known = round_keeps Safe kept core step.0 known step.1.moments
+    kept_within Safe kept Audit fit (Down store) new text step known = state_keeps Safe kept (Down store) new step.1 known
+    kept_within Safe kept Checkpoint fit (Up core) new text step known = round_keeps Safe kept core step.0 known step.1.moments
+    kept_within Safe kept Checkpoint fit (Down store) new text step known = state_keeps Safe kept (Down store) new step.1 known
+    kept_within Safe kept (Size index heap) fit old new text step known = others_keep Safe kept (Size index heap) fit refl old new text step known
+    kept_within Safe kept Open fit old new text step known = others_keep Safe kept Open fit refl old new text step known
+    kept_within Safe kept Restart fit old new text step known = others_keep Safe kept Restart fit refl old new text step known
+    kept_within Safe kept Cleanup fit old new text step known = others_keep Safe kept Cleanup fit refl old new text step known
+    kept_within Safe kept (Crash choice) fit old new text step known = others_keep Safe kept (Crash choice) fit refl old new text step known
+    kept_within Safe kept Show fit old new text step known = others_keep Safe kept Show fit refl old new text step known
+    kept_within Safe kept Verify fit old new text step known = others_keep Safe kept Verify fit refl old new text step known
+    kept_within Safe kept Next fit old new text step known = others_keep Safe kept Next fit refl old new text step known
+    kept_within Safe kept (SetFuse passes) fit old new text step known = others_keep Safe kept (SetFuse passes) fit refl old new text step known
+
+    -- ---- within one that failed
+    lost_within : (Safe : Disk → Type 0) (kept : List ℕ) (blocks : List Blocks) (old : Program V) (f : Fuse V) (lost : Lost told may_leave moment left_since faults precheck blocks old f)
+        → KnownAt told may_leave faults Safe kept old → KeptLost told may_leave moment left_since faults limit cuts precheck Safe kept blocks old f lost
+    lost_within Safe kept blocks (Up core) f (inl same) known = fuse_keeps Safe kept (Up core) f same known
+    lost_within Safe kept blocks (Up core) f (inr played) known = round_keeps Safe kept core played.core known played.moments
+    lost_within Safe kept blocks (Down store) f same known = fuse_keeps Safe kept (Down store) f same known
+
+    lone_within : (Safe : Disk → Type 0) (kept : List ℕ) (act : Act) (old : Program V) (f : Fuse V) (fails : AloneFails told may_leave moment left_since faults precheck act old f)
+        → KnownAt told may_leave faults Safe kept old → KeptAlone told may_leave moment left_since faults limit cuts precheck kept act old f fails
+    lone_within Safe kept act (Up core) f fails known = round_keeps Safe kept core fails.core known fails.moments
+    lone_within Safe kept act (Down store) f fails known = tt
+
+    others_broken : (Safe : Disk → Type 0) (kept : List ℕ) (command : Command) → IsFit command → is_round command ≡ false → (old : Program V) (f : Fuse V)
+        → Breaks told may_leave moment left_since faults precheck command old f → KnownAt told may_leave faults Safe kept old → KeptIn (SafeIn Safe command old) kept old f
+    others_broken Safe kept command fit none old f breaks known =
+        held (SafeIn Safe command old) kept known.base old f known.all
+        (broken_within told may_leave moment left_since faults reads_now counts_now only_now limit cuts precheck Safe command fit none known.base old f breaks (own_of Safe kept old known))
+
+    broken_keeps : (Safe : Disk → Type 0) (kept : List ℕ) (command : Command) → IsFit command → (old : Program V) (f : Fuse V)
+        → (breaks : Breaks told may_leave moment left_since faults precheck command old f) → KnownAt told may_leave faults Safe kept old
+        → KeptBroken told may_leave moment left_since faults limit cuts precheck Safe kept command old f breaks
+    broken_keeps Safe kept (Round blocks) fit old f breaks known = lost_within Safe kept (map told_by blocks) old f breaks known
+    broken_keeps Safe kept (Poke region word mask) fit old f breaks known = lost_within Safe kept (alone (Pokes region word mask)) old f breaks known
+    broken_keeps Safe kept Audit fit old f breaks known = lost_within Safe kept (alone Audits) old f breaks known
+    broken_keeps Safe kept Checkpoint fit old f breaks known = lost_within Safe kept (alone Checkpoints) old f breaks known
+    broken_keeps Safe kept (Size index heap) fit old f breaks known = others_broken Safe kept (Size index heap) fit refl old f breaks known
+    broken_keeps Safe kept Open fit old f breaks known = others_broken Safe kept Open fit refl old f breaks known
+    broken_keeps Safe kept Restart fit old f breaks known = others_broken Safe kept Restart fit refl old f breaks known
+    broken_keeps Safe kept Cleanup fit old f breaks known = others_broken Safe kept Cleanup fit refl old f breaks known
+    broken_keeps Safe kept (Crash choice) fit old f breaks known = others_broken Safe kept (Crash choice) fit refl old f breaks known
+    broken_keeps Safe kept Show fit old f breaks known = others_broken Safe kept Show fit refl old f breaks known
+    broken_keeps Safe kept Verify fit old f breaks known = others_broken Safe kept Verify fit refl old f breaks known
+    broken_keeps Safe kept Next fit old f breaks known = others_broken Safe kept Next fit refl old f breaks known
+    broken_keeps Safe kept (SetFuse passes) fit old f breaks known = others_broken Safe kept (SetFuse passes) fit refl old f breaks known
+
+    others_failed : (Safe : Disk → Type 0) (kept : List ℕ) (command : Command) → IsFit command → is_round command ≡ false → (old : Program V) (f : Fuse V)
+        → StoreFailsIn told may_leave moment left_since faults precheck command old f → KnownAt told may_leave faults Safe kept old → KeptIn (SafeIn Safe command old) kept old f
+    others_failed Safe kept command fit none old f fails known =
+        held (SafeIn Safe command old) kept known.base old f known.all
+        (failed_within told may_leave moment left_since faults reads_now counts_now only_now limit cuts precheck Safe command fit none known.base old f fails (own_of Safe kept old known))
+
+    failed_keeps : (Safe : Disk → Type 0) (kept : List ℕ) (command : Command) → IsFit command → (old : Program V) (f : Fuse V)
+        → (fails : StoreFailsIn told may_leave moment left_since faults precheck command old f) → KnownAt told may_leave faults Safe kept old
+        → KeptFailed told may_leave moment left_since faults limit cuts precheck Safe kept command old f fails
+    failed_keeps Safe kept (Round blocks) fit old f fails known = absurd fails
+    failed_keeps Safe kept (Poke region word mask) fit old f fails known = lone_within Safe kept (Pokes region word mask) old f fails known
+    failed_keeps Safe kept Audit fit old f fails known = lone_within Safe kept Audits old f fails known
+    failed_keeps Safe kept Checkpoint fit old f fails known = lone_within Safe kept Checkpoints old f fails known
+    failed_keeps Safe kept (Size index heap) fit old f fails known = others_failed Safe kept (Size index heap) fit refl old f fails known
+    failed_keeps Safe kept Open fit old f fails known = others_failed Safe kept Open fit refl old f fails known
+    failed_keeps Safe kept Restart fit old f fails known = others_failed Safe kept Restart fit refl old f fails known
+    failed_keeps Safe kept Cleanup fit old f fails known = absurd fails
+    failed_keeps Safe kept (Crash choice) fit old f fails known = others_failed Safe kept (Crash choice) fit refl old f fails known
+    failed_keeps Safe kept Show fit old f fails known = absurd fails
+    failed_keeps Safe kept Verify fit old f fails known = others_failed Safe kept Verify fit refl old f fails known
+    failed_keeps Safe kept Next fit old f fails known = absurd fails
+    failed_keeps Safe kept (SetFuse passes) fit old f fails known = absurd fails
+
+    -- the store was only read
+    reads_keep : (Safe : Disk → Type 0) (kept : List ℕ) (command : Command) (old : Program V) (f : Fuse V)
+        → OnlyReads (told_in told) (moment_in moment) (since_in left_since) (leaves_in may_leave) (store_of old) f → KnownAt told may_leave faults Safe kept old → KeptIn (SafeIn Safe command old) kept old f
+    reads_keep Safe kept command old f reads known =
+        held (SafeIn Safe command old) kept known.base old f known.all
+        (only_within told may_leave moment left_since faults reads_now counts_now only_now limit cuts precheck Safe command known.base old f reads (own_of Safe kept old known))
+
+    failing_keeps : (Safe : Disk → Type 0) (kept : List ℕ) (halt : Halt) (command : Command) → IsFit command → (old : Program V) (f : Fuse V)
+        → (fails : Fails told may_leave moment left_since faults precheck halt command old f) → KnownAt told may_leave faults Safe kept old
+        → KeptFailing told may_leave moment left_since faults limit cuts precheck Safe kept halt command old f fails
+    failing_keeps Safe kept halts.StoreFault command fit old f fails known = failed_keeps Safe kept command fit old f fails known
+    failing_keeps Safe kept halts.OutOfMemory command fit old f fails known = broken_keeps Safe kept command fit old f fails known
+    failing_keeps Safe kept (halts.BadStore file at) command fit old f fails known = reads_keep Safe kept command old f fails.2 known
+    failing_keeps Safe kept halts.Unformatted command fit old f fails known = reads_keep Safe kept command old f fails.2 known
+    failing_keeps Safe kept halts.Formatted command fit old f fails known = reads_keep Safe kept command old f fails.2 known
+    failing_keeps Safe kept halts.BadWords command fit old f fails known = absurd fails
+    failing_keeps Safe kept (halts.BadScript line kind) command fit old f fails known = absurd fails
+    failing_keeps Safe kept halts.TooLong command fit old f fails known = absurd fails
+    failing_keeps Safe kept halts.ReadFault command fit old f fails known = absurd fails
+    failing_keeps Safe kept halts.WriteFault command fit old f fails known = absurd fails
+    failing_keeps Safe kept (halts.LogFull end most) command fit old f fails known = absurd fails
+
+    -- one that isn't a round
+    other_fails : (Safe : Disk → Type 0) (kept : List ℕ) (halt : Halt) (command : Command) → IsFit command → is_round command ≡ false → (old : Program V) (f : Fuse V)
+        → Fails told may_leave moment left_since faults precheck halt command old f → KnownAt told may_leave faults Safe kept old → KeptIn (SafeIn Safe command old) kept old f
+    other_fails Safe kept halts.StoreFault command fit none old f fails known = others_failed Safe kept command fit none old f fails known
+    other_fails Safe kept halts.OutOfMemory command fit none old f fails known = others_broken Safe kept command fit none old f fails known
+    other_fails Safe kept (halts.BadStore file at) command fit none old f fails known = reads_keep Safe kept command old f fails.2 known
+    other_fails Safe kept halts.Unformatted command fit none old f fails known = reads_keep Safe kept command old f fails.2 known
+    other_fails Safe kept halts.Formatted command fit none old f fails known = reads_keep Safe kept command old f fails.2 known
+    other_fails Safe kept halts.BadWords command fit none old f fails known = absurd fails
+    other_fails Safe kept (halts.BadScript line kind) command fit none old f fails known = absurd fails
+    other_fails Safe kept halts.TooLong command fit none old f fails known = absurd fails
+    other_fails Safe kept halts.ReadFault command fit none old f fails known = absurd fails
+    other_fails Safe kept halts.WriteFault command fit none old f fails known = absurd fails
+    other_fails Safe kept (halts.LogFull end most) command fit none old f fails known = absurd fails
+
+    along : (Behind : (Disk → Type 0) → List ℕ → Type 0) (Safe : Disk → Type 0) (commands : List Command) → AreFit commands → (kept : List ℕ) (old : Program V) (text : List ℕ) (new : Program V)
+        → (runs : RunsAll told may_leave moment left_since faults limit cuts precheck old commands text new) → KnownAt told may_leave faults Safe kept old
+        → ((S : Disk → Type 0) (now : List ℕ) → KnownAt told may_leave faults S now new → Behind S now)
+        → Along told may_leave moment left_since faults limit cuts precheck Behind Safe commands kept old text new runs
+    along Behind Safe [] fit kept old text new runs known then =
+        (kept_at told may_leave faults Safe kept old known, then Safe kept (subst (KnownAt told may_leave faults Safe kept) (sym runs.1) known))
+    along Behind Safe (command ∷ later) fit kept old text new runs known then = (
+      kept_at told may_leave faults Safe kept old known,
+      kept_within Safe kept command fit.0 old runs.1 runs.0 runs.3 known,
       λ none. (
-        answers kept command old runs.1 runs.0 runs.3 known none,
-        along Behind later (kept ++ oks_by told may_leave moment left_since faults limit cuts precheck command old runs.0 runs.1 runs.3) runs.1 runs.2 new runs.4
-            (step_keeps kept command old runs.1 runs.0 runs.3 known none) then,
+        answers Safe kept command old runs.1 runs.0 runs.3 known none,
+        along Behind (SafeBehind told may_leave moment left_since faults limit cuts precheck Safe command old runs.0 runs.1 runs.3) later fit.1 (kept ++ oks_by told may_leave moment left_since faults limit cuts precheck command old runs.0 runs.1 runs.3) runs.1 runs.2 new runs.4
+            (step_keeps Safe kept command old runs.1 runs.0 runs.3 known none) then,
       ),
     )
 
     -- ---- each way in which a script's run ends
     module _ (c : Course V) (mid : Option (List ℕ)) (count : ℕ) (base : List Record) (own : IsOwn told may_leave base c.store) where
-      same_store : (kept : List ℕ) → AllIn kept base → c.store' ≡ c.store → KeepsLeft told may_leave kept c.store'
+      same_store : (kept : List ℕ) → AllIn kept base → c.store' ≡ c.store → KeepsLeft may_leave kept c.store'
       same_store kept all same = left_keeps told may_leave faults kept base c.store' all (own_same told may_leave faults base c.store c.store' (sym same) own)
 
       stopped : (halt : Halt) (stop : HasStopped told may_leave moment left_since faults limit cuts precheck halt c mid)
@@ -228,16 +407,19 @@ module _ {V : Type 0} (told : V → Option Disk) (may_leave : V → Disk → Typ
       stopped halt stop =
           let stops = stop.2 in
           along
-          (λ now. NoneEscapesBehind told may_leave moment left_since faults limit cuts precheck halt stops.command stops.state stops.last stops.fails → KeepsLeft told may_leave now c.store')
-          (take stops.count stop.0) (committed base) stops.run.first stops.text stops.state stops.run.runs
+          (λ S now. KeptFailing told may_leave moment left_since faults limit cuts precheck S now halt stops.command stops.state stops.last stops.fails
+          × KeepsWhere may_leave (NoneEscapesBehind told may_leave moment left_since faults limit cuts precheck S halt stops.command stops.state stops.last stops.fails) now c.store')
+          AnyFiles (take stops.count stop.0) (fit_front stops.count stop.0 (all_fit stop.1.bytes stop.0 stop.1.spelled)) (committed base) stops.run.first stops.text stops.state stops.run.runs
           (record { base = base; all = itself base; point = begins_down told may_leave faults base stops.run.first c.store stops.run.down own })
           (
-          λ now known behind.
-          left_keeps told may_leave faults now known.base c.store' known.all
-          (
-          own_same told may_leave faults known.base (inner stops.last) c.store' stops.store
-          (fails_own told may_leave moment left_since faults reads_now counts_now limit cuts precheck halt stops.command
-          (next_fit stop.0 stops.count stops.command (all_fit stop.1.bytes stop.0 stop.1.spelled) stops.next.next) known.base stops.state stops.last stops.fails known.point behind)
+          λ S now known. (
+            failing_keeps S now halt stops.command (next_fit stop.0 stops.count stops.command (all_fit stop.1.bytes stop.0 stop.1.spelled) stops.next.next) stops.state stops.last stops.fails known,
+            where_keeps told may_leave faults (NoneEscapesBehind told may_leave moment left_since faults limit cuts precheck S halt stops.command stops.state stops.last stops.fails) now known.base c.store' known.all
+                (
+                where_same told may_leave faults (NoneEscapesBehind told may_leave moment left_since faults limit cuts precheck S halt stops.command stops.state stops.last stops.fails) known.base (inner stops.last) c.store' stops.store
+                (fails_own told may_leave moment left_since faults reads_now counts_now limit cuts precheck S halt stops.command
+                (next_fit stop.0 stops.count stops.command (all_fit stop.1.bytes stop.0 stop.1.spelled) stops.next.next) known.base stops.state stops.last stops.fails known.point)
+                ),
           )
           )
 
@@ -250,29 +432,36 @@ module _ {V : Type 0} (told : V → Option Disk) (may_leave : V → Disk → Typ
           → ScriptKeeps told may_leave moment left_since faults limit cuts precheck c mid count (committed base) status ended
       script_keeps Done ended =
           let ran = ended.2 in
-          along (λ now. NoneEscapesIn told may_leave ran.state → KeepsLeft told may_leave now c.store') (take (length ended.0) ended.0) (committed base) ran.run.first ran.text ran.state ran.run.runs
+          along (λ S now. KeepsWhere may_leave (NoneEscapesIn S ran.state) now c.store') AnyFiles (take (length ended.0) ended.0) (fit_front (length ended.0) ended.0 (all_fit ended.1.bytes ended.0 ended.1.spelled)) (committed base) ran.run.first ran.text ran.state ran.run.runs
           (record { base = base; all = itself base; point = begins_down told may_leave faults base ran.run.first c.store ran.run.down own })
           (
-          λ now known none.
-          left_keeps told may_leave faults now known.base c.store' known.all
-          (own_same told may_leave faults known.base (inner (store_of ran.state)) c.store' ran.store (own_store told may_leave faults known.base ran.state known.point none))
+          λ S now known.
+          where_keeps told may_leave faults (NoneEscapesIn S ran.state) now known.base c.store' known.all
+          (where_same told may_leave faults (NoneEscapesIn S ran.state) known.base (inner (store_of ran.state)) c.store' ran.store
+          (own_store told may_leave faults S known.base ran.state known.point))
           )
       script_keeps WriteFault ended =
           let cut = ended.1.2 in
+          let fit = all_fit ended.1.1.bytes ended.1.0 ended.1.1.spelled in
           along
-          (λ now. NoneEscapesLeft told may_leave moment left_since faults limit cuts precheck cut.command cut.earlier
+          (λ S now. KeptWithin told may_leave moment left_since faults limit cuts precheck S now cut.command cut.earlier cut.more cut.state cut.steps
+          × (NoneEscapesLeft told may_leave moment left_since faults limit cuts precheck S cut.command cut.earlier cut.more cut.state cut.steps
           → Answers told may_leave moment left_since faults limit cuts precheck now cut.command cut.earlier cut.more cut.state cut.steps
-          × (NoneEscapesIn told may_leave cut.state
-          → KeepsLeft told may_leave (now ++ oks_by told may_leave moment left_since faults limit cuts precheck cut.command cut.earlier cut.more cut.state cut.steps) c.store'))
-          (take cut.count ended.1.0) (committed base) cut.ran.first cut.text cut.earlier cut.ran.runs
+          × KeepsWhere may_leave (NoneEscapesIn (SafeBehind told may_leave moment left_since faults limit cuts precheck S cut.command cut.earlier cut.more cut.state cut.steps) cut.state)
+          (now ++ oks_by told may_leave moment left_since faults limit cuts precheck cut.command cut.earlier cut.more cut.state cut.steps) c.store'))
+          AnyFiles (take cut.count ended.1.0) (fit_front cut.count ended.1.0 fit) (committed base) cut.ran.first cut.text cut.earlier cut.ran.runs
           (record { base = base; all = itself base; point = begins_down told may_leave faults base cut.ran.first c.store cut.ran.down own })
           (
-          λ now known left. (
-            answers now cut.command cut.earlier cut.state cut.more cut.steps known left,
-            λ none.
-                let behind = step_keeps now cut.command cut.earlier cut.state cut.more cut.steps known left in
-                left_keeps told may_leave faults _ behind.base c.store' behind.all
-                (own_same told may_leave faults behind.base (inner (store_of cut.state)) c.store' cut.store (own_store told may_leave faults behind.base cut.state behind.point none)),
+          λ S now known. (
+            kept_within S now cut.command (next_fit ended.1.0 cut.count cut.command fit cut.next.next) cut.earlier cut.state cut.more cut.steps known,
+            λ left. (
+              answers S now cut.command cut.earlier cut.state cut.more cut.steps known left,
+              let behind = step_keeps S now cut.command cut.earlier cut.state cut.more cut.steps known left in
+                  let safe : Disk → Type 0 = SafeBehind told may_leave moment left_since faults limit cuts precheck S cut.command cut.earlier cut.more cut.state cut.steps in
+                  where_keeps told may_leave faults (NoneEscapesIn safe cut.state) _ behind.base c.store' behind.all
+                  (where_same told may_leave faults (NoneEscapesIn safe cut.state) behind.base (inner (store_of cut.state)) c.store' cut.store
+                  (own_store told may_leave faults safe behind.base cut.state behind.point)),
+            ),
           )
           )
       script_keeps StoreFault ended = stopped halts.StoreFault ended
@@ -287,71 +476,263 @@ module _ {V : Type 0} (told : V → Option Disk) (may_leave : V → Disk → Typ
       script_keeps ReadFault ended = same_store (committed base) (itself base) ended.1.0
 
   -- ---- a generated script
-  module _ (cuts : V → ℕ → Option Disk) (clients size number : ℕ) (c : Course V) (mid : Option (List ℕ)) (count : ℕ) (base : List Record) where
-    played_all : (ends : Option Halt) (run : IsPlayed told may_leave moment left_since faults 67108864 clients size number c.store ends) (log : List Record)
-        → PlayedSurvives told may_leave moment left_since faults cuts clients size number base c.store ends run log
-        → AllIn (committed base ++ oks_played told may_leave moment left_since faults cuts clients size number c mid count ends run) log
-    played_all ends run log played =
-        both_in (committed base) _ log (in_more (committed base) base log (begins_then base played.first log played.more played.later) (itself base))
-        (round_all told may_leave faults false played.first (map told_by (generated clients size number)) run.made run.played run.round.round.transcripts run.round.round.plays played.made log played.logged)
+  module _ (cuts : V → ℕ → Option Disk) where
+    abbrev Since : List ℕ → V → V → Type 0
+    Since = KeepsSince told may_leave moment left_since faults cuts
 
-    crashed_all : (run : IsCrashed told may_leave moment left_since faults 67108864 clients size number cuts c.store) (log : List Record)
-        → CrashedSurvives told may_leave moment left_since faults cuts clients size number base c.store run log
-        → AllIn (committed base ++ oks_played told may_leave moment left_since faults cuts clients size number c mid count None run.run) log
-    crashed_all run log crashed = in_more _ crashed.earlier log crashed.more (played_all None run.run crashed.earlier crashed.before)
+    abbrev On : List ℕ → V → V → Type 0
+    On = KeepsOn told may_leave moment left_since faults cuts
 
-    found_all : (core : Core (Fuse V)) (run : GeneratorFinds told may_leave moment left_since faults cuts clients size number c.store core) (log : List Record)
-        → FoundSurvives told may_leave moment left_since faults cuts clients size number base c.store core run log
-        → AllIn (committed base ++ oks_played told may_leave moment left_since faults cuts clients size number c mid count None run.run.run) log
-    found_all core run log found = in_more _ found.earlier log found.more (crashed_all run.run found.earlier found.before)
+    -- a command over a program that is down: nothing is asked of damage there
+    from_down : (kept : List ℕ) (p : Program V) (old end : V) (f : Fuse V) → inner (store_of p) ≡ old → inner f ≡ end → ((c : Disk) → NoneEscapesMaking told may_leave AnyFiles p c)
+        → KeepsWithin moment left_since (NoneEscapesMaking told may_leave AnyFiles p) kept p f → Since kept old end
+    from_down kept p old end f was is none keeps c left =
+        keeps c (subst (λ (s : V). left_since s (moment (inner (store_of p))) c) (sym is) (subst (λ (s : V). left_since end (moment s) c) (sym was) left)) (none c)
 
-    none_all : (none : FindsNone told may_leave moment left_since faults cuts clients size number c.store c.store') (log : List Record)
-        → NoneSurvives told may_leave moment left_since faults cuts clients size number base c.store c.store' none log
-        → AllIn (committed base ++ oks_played told may_leave moment left_since faults cuts clients size number c mid count None none.run.run) log
-    none_all none log found = in_more _ found.earlier log found.more (crashed_all none.run found.earlier found.before)
+    -- a crash leaves nothing that it might not have left before
+    less_on : (kept : List ℕ) (base : List Record) (old new : V) → AllIn kept base → LeavesLess told may_leave moment left_since old new → IsOwn told may_leave base old → On kept old new
+    less_on kept base old new all less own = (
+      λ c left. holds_keeps kept base c all (own.1 c (⊎_elim (λ past. only_now old c past) (λ now. less.crash c now) (less.time.nothing_else (moment old) c (omega arith) left))),
+      λ c may. holds_keeps kept base c all (own.1 c (less.crash c may)),
+    )
 
-    -- nothing was acknowledged
-    base_only : (log : List Record) → BeginsWith base log → AllIn (committed base ++ []) log
-    base_only log more = both_in (committed base) [] log (in_more (committed base) base log more (itself base)) (none_in_all log)
+    crash_less : (halt : Halt) (choice : ℕ) (old : Program V) (f : Fuse V) → Fails told may_leave moment left_since faults false halt (Crash choice) old f
+        → LeavesLess told may_leave moment left_since (inner (store_of old)) (inner f)
+    crash_less halts.StoreFault choice old f fails = fails.1
+    crash_less halts.OutOfMemory choice old f fails = fails.0
+    crash_less (halts.BadStore file at) choice old f fails = absurd fails.0
+    crash_less halts.Unformatted choice old f fails = absurd fails.0
+    crash_less halts.Formatted choice old f fails = absurd fails.0
+    crash_less halts.BadWords choice old f fails = absurd fails
+    crash_less (halts.BadScript line kind) choice old f fails = absurd fails
+    crash_less halts.TooLong choice old f fails = absurd fails
+    crash_less halts.ReadFault choice old f fails = absurd fails
+    crash_less halts.WriteFault choice old f fails = absurd fails
+    crash_less (halts.LogFull end most) choice old f fails = absurd fails
 
-    stop_keeps : (halt : Halt) (s : GeneratorStops told may_leave moment left_since faults cuts clients size number halt c.store c.store')
-        → StopBack told may_leave moment left_since faults cuts clients size number c mid count base halt s
-        → KeepsLeft told may_leave (committed base ++ oks_stopped told may_leave moment left_since faults cuts clients size number c mid count halt s) c.store'
-    stop_keeps halt (inl first) back = left_keeps told may_leave faults _ base c.store' (base_only base ([], sym (append-nil base))) back
-    stop_keeps halt (inr (inl crash)) back = left_keeps told may_leave faults _ back.0 c.store' (played_all None crash.0 back.0 back.1) back.2
-    stop_keeps halt (inr (inr restart)) back = left_keeps told may_leave faults _ back.0 c.store' (crashed_all restart.0 back.0 back.1) back.2
+    -- a round in which nobody wrote astray
+    between_since : (kept : List ℕ) (c d : Core (Fuse V)) → KeepsBetween told may_leave moment left_since faults kept c d → IsHonestWithin told may_leave faults c d
+        → Since kept (inner c.vault.store) (inner d.vault.store)
+    between_since kept c d between honest disk left =
+        let there = between.keeps disk left in there.3 (honest between.base between.at between.ends.to there.0 between.ends.regions there.2)
 
-    fault_keeps : (f : GeneratorFails told may_leave moment left_since faults cuts clients size number c.store c.store')
-        → FaultBack told may_leave moment left_since faults cuts clients size number c mid count base f
-        → KeepsLeft told may_leave (committed base ++ oks_failed told may_leave moment left_since faults cuts clients size number c mid count f) c.store'
-    fault_keeps (inl s) back = stop_keeps halts.StoreFault s back
-    fault_keeps (inr (inl refused)) back = left_keeps told may_leave faults _ back.0 c.store' (played_all (Some halts.StoreFault) refused.run back.0 back.1) back.2
-    fault_keeps (inr (inr none)) back = left_keeps told may_leave faults _ back.0 c.store' (none_all none back.0 back.1) back.2
+    -- the store wasn't called
+    same_on : (kept : List ℕ) (old new : V) → new ≡ old → KeepsLeft may_leave kept old → On kept old new
+    same_on kept old new same keeps = subst (λ (s : V). On kept old s) (sym same) ((λ c left. keeps c (only_now old c left)), keeps)
 
-    want_keeps : (w : GeneratorWants told may_leave moment left_since faults cuts clients size number c.store c.store')
-        → WantBack told may_leave moment left_since faults cuts clients size number c mid count base w
-        → KeepsLeft told may_leave (committed base ++ oks_wanting told may_leave moment left_since faults cuts clients size number c mid count w) c.store'
-    want_keeps (inl same) back = left_keeps told may_leave faults _ base c.store' (base_only base ([], sym (append-nil base))) back
-    want_keeps (inr (inl (inl s))) back = stop_keeps halts.OutOfMemory s back
-    want_keeps (inr (inl (inr lost))) back = left_keeps told may_leave faults _ back.0 c.store' (base_only back.0 back.1.0) back.2
-    want_keeps (inr (inr (inl refused))) back = left_keeps told may_leave faults _ back.0 c.store' (played_all (Some halts.OutOfMemory) refused.run back.0 back.1) back.2
-    want_keeps (inr (inr (inr last))) back = left_keeps told may_leave faults _ back.0 c.store' (found_all last.0 last.1 back.0 back.1) back.2
+    module _ (clients size number : ℕ) (within : AreWithin clients size) (c : Course V) (mid : Option (List ℕ)) (count : ℕ) (base : List Record) (own : IsOwn told may_leave base c.store) where
+      abbrev Playing : Option Halt → Type 0
+      Playing ends = IsPlayed told may_leave moment left_since faults 67108864 clients size number c.store ends
 
-    generator_keeps : (status : Status) (ended : EndedGenerator told may_leave moment left_since faults cuts clients size number c mid count status)
-        → GeneratorSurvives told may_leave moment left_since faults cuts clients size number c mid count base status ended
-        → KeepsLeft told may_leave (committed base ++ oks_generated told may_leave moment left_since faults cuts clients size number c mid count status ended) c.store'
-    generator_keeps Done ended back = left_keeps told may_leave faults _ back.0 c.store' (found_all ended.1.found ended.1.run back.0 back.1) back.2
-    generator_keeps WriteFault ended back = left_keeps told may_leave faults _ back.0 c.store' (found_all ended.1.found ended.1.run back.0 back.1) back.2
-    generator_keeps StoreFault ended back = fault_keeps ended.0 back
-    generator_keeps (BadStore file at) ended back = absurd back
-    generator_keeps Unformatted ended back = stop_keeps halts.Unformatted ended.0 back
-    generator_keeps Formatted ended back = stop_keeps halts.Formatted ended.0 back
-    generator_keeps (LogFull end most) ended back = left_keeps told may_leave faults _ back.0 c.store' (played_all (Some (halts.LogFull end most)) ended.0.run back.0 back.1) back.2
-    generator_keeps OutOfMemory ended back = want_keeps ended.0 back
-    generator_keeps BadWords ended back = absurd ended
-    generator_keeps (BadScript line kind) ended back = absurd ended
-    generator_keeps TooLong ended back = absurd ended
-    generator_keeps ReadFault ended back = absurd ended
+      abbrev Crashing : Type 0
+      Crashing = IsCrashed told may_leave moment left_since faults 67108864 clients size number cuts c.store
+
+      abbrev oks : (ends : Option Halt) → Playing ends → List ℕ
+      oks ends run = oks_played told may_leave moment left_since faults cuts clients size number c.store ends run
+
+      abbrev PlaysOn : (ends : Option Halt) → Playing ends → List Record → Type 0
+      PlaysOn ends run log = PlayedSurvives told may_leave moment left_since faults cuts clients size number base c.store ends run log
+
+      abbrev CrashesOn : Crashing → List Record → Type 0
+      CrashesOn run log = CrashedSurvives told may_leave moment left_since faults cuts clients size number base c.store run log
+
+      abbrev making : Command
+      making = Size (index_regions clients size) (heap_regions clients size)
+
+      -- ---- what its states have in their logs
+      played_all : (ends : Option Halt) (run : Playing ends) (log : List Record) → PlaysOn ends run log → AllIn (committed base ++ oks ends run) log
+      played_all ends run log played =
+          both_in (committed base) _ log (in_more (committed base) base log (begins_then base played.first log played.more played.later) (itself base))
+          (round_all told may_leave faults false played.first (map told_by (generated clients size number)) run.made run.played run.round.round.transcripts run.round.round.plays played.made log played.logged)
+
+      crashed_all : (run : Crashing) (log : List Record) → CrashesOn run log → AllIn (committed base ++ oks None run.run) log
+      crashed_all run log crashed = in_more _ crashed.earlier log crashed.more (played_all None run.run crashed.earlier crashed.before)
+
+      first_at : (p : Program V) → IsDown p c.store → KnownAt told may_leave faults AnyFiles (committed base) p
+      first_at p down = record { base = base; all = itself base; point = begins_down told may_leave faults base p c.store down own }
+
+      made_at : (log : List Record) (made : Core (Fuse V)) → BeginsWith base log → IsPointOf told may_leave faults log made → KnownAt told may_leave faults AnyFiles (committed base) (Up made)
+      made_at log made more at = record { base = log; all = in_more (committed base) base log more (itself base); point = at }
+
+      crashed_at : (run : Crashing) (log : List Record) → CrashesOn run log → KnownAt told may_leave faults AnyFiles (committed base ++ oks None run.run) run.crashed
+      crashed_at run log crashed = record { base = log; all = crashed_all run log crashed; point = crashed.crashed }
+
+      -- ---- a database is made
+      was_first : (p : Program V) → IsDown p c.store → inner (store_of p) ≡ c.store
+      was_first p down = ap (λ (q : Program V). inner (store_of q)) down.down ∙ down.store_is
+
+      made_left : (log : List Record) (made : Core (Fuse V)) → BeginsWith base log → IsPointOf told may_leave faults log made → IsMade told may_leave moment left_since faults 67108864 clients size c.store made
+          → KeepsLeft may_leave (committed base) (inner made.vault.store)
+      made_left log made more at is_made =
+          left_keeps told may_leave faults (committed base) log (inner made.vault.store) (in_more (committed base) base log more (itself base))
+          (honest_own told may_leave moment left_since faults reads_now counts_now cuts log made at
+          (calm_none told may_leave moment left_since faults reads_now counts_now cuts AnyFiles (Up made)
+          (calm_made told may_leave moment left_since faults reads_now counts_now cuts clients size number within c base own made is_made)))
+
+      made_on : (log : List Record) (made : Core (Fuse V)) → BeginsWith base log → IsPointOf told may_leave faults log made → IsMade told may_leave moment left_since faults 67108864 clients size c.store made
+          → On (committed base) c.store (inner made.vault.store)
+      made_on log made more at is_made = (
+        from_down (committed base) is_made.first c.store (inner made.vault.store) made.vault.store (was_first is_made.first is_made.down) refl
+            (making_down told may_leave is_made.first c.store is_made.down)
+            (others_keep 67108864 cuts false AnyFiles (committed base) making (right_sizes clients size within) refl is_made.first (Up made) [] is_made.steps (first_at is_made.first is_made.down)),
+        made_left log made more at is_made,
+      )
+
+      -- ---- its round
+      played_left : (ends : Option Halt) (run : Playing ends) (log : List Record) → PlaysOn ends run log → IsOwn told may_leave log (inner run.played.vault.store)
+      played_left ends run log played =
+          honest_own told may_leave moment left_since faults reads_now counts_now cuts log run.played played.played
+          (played_honest told may_leave moment left_since faults reads_now counts_now cuts clients size number within c base own ends run)
+
+      played_keeps : (ends : Option Halt) (run : Playing ends) (log : List Record) → PlaysOn ends run log
+          → PlayedKeeps told may_leave moment left_since faults cuts clients size number (committed base) c.store ends run
+      played_keeps ends run log played = record {
+        making = made_on played.first run.made played.more played.made run.is_made;
+        round =
+            between_since (committed base) run.made run.played
+            (round_keeps 67108864 cuts false AnyFiles (committed base) run.made run.played (made_at played.first run.made played.more played.made) run.round.round.moments)
+            (within_honest told may_leave faults run.made run.played (played_unpoked told may_leave moment left_since faults reads_now counts_now cuts clients size number within c base own ends run));
+        behind = left_keeps told may_leave faults _ log (inner run.played.vault.store) (played_all ends run log played) (played_left ends run log played);
+      }
+
+      -- ---- the crash
+      crash_on : (run : Playing None) (log : List Record) → PlaysOn None run log → (new : V) → LeavesLess told may_leave moment left_since (inner run.played.vault.store) new
+          → On (committed base ++ oks None run) (inner run.played.vault.store) new
+      crash_on run log played new less = less_on _ log (inner run.played.vault.store) new (played_all None run log played) less (played_left None run log played)
+
+      crashed_keeps : (run : Crashing) (log : List Record) → CrashesOn run log → CrashedKeeps told may_leave moment left_since faults cuts clients size number (committed base) c.store run
+      crashed_keeps run log crashed = record {
+        before = played_keeps None run.run crashed.earlier crashed.before;
+        crash =
+            subst (On (committed base ++ oks None run.run) (inner run.run.played.vault.store))
+            (sym (ap (λ (q : Program V). inner (store_of q)) run.crash.down.down ∙ run.crash.down.store_is))
+            (crash_on run.run crashed.earlier crashed.before run.crash.store run.crash.left);
+      }
+
+      -- ---- the restart
+      none_making : (run : Crashing) (d : Disk) → NoneEscapesMaking told may_leave AnyFiles run.crashed d
+      none_making run = making_down told may_leave run.crashed run.crash.store run.crash.down
+
+      found_keeps : (core : Core (Fuse V)) (run : GeneratorFinds told may_leave moment left_since faults cuts clients size number c.store core) (log : List Record)
+          → FoundSurvives told may_leave moment left_since faults cuts clients size number base c.store core run log
+          → FoundKeeps told may_leave moment left_since faults cuts clients size number (committed base) c.store core run
+      found_keeps core run log found =
+          let known = crashed_at run.run found.earlier found.before in
+          record {
+            before = crashed_keeps run.run found.earlier found.before;
+            restart = (
+              from_down _ run.run.crashed (inner (store_of run.run.crashed)) (inner core.vault.store) core.vault.store refl refl (none_making run.run)
+                  (others_keep 67108864 cuts false AnyFiles _ Restart tt refl run.run.crashed (Up core) run.text (inl run.restart) known),
+              left_keeps told may_leave faults _ log (inner core.vault.store) (in_more _ found.earlier log found.more (crashed_all run.run found.earlier found.before))
+                  (honest_own told may_leave moment left_since faults reads_now counts_now cuts log core found.behind
+                  (found_honest told may_leave moment left_since faults reads_now counts_now cuts clients size number within c base own core run).1),
+            );
+            answers =
+                restored 67108864 cuts false AnyFiles _ run.run.crashed (Up core) run.text (inl run.restart) known (none_down told run.run.crashed run.run.crash.store run.run.crash.down);
+          }
+
+      -- ---- each way in which it ends
+      last_keeps : (core : Core (Fuse V)) (run : GeneratorFinds told may_leave moment left_since faults cuts clients size number c.store core)
+          → FoundBack told may_leave moment left_since faults cuts clients size number c mid count base core run
+          → LastKeeps told may_leave moment left_since faults cuts clients size number (committed base) c.store c.store' core run
+      last_keeps core run back = (
+        found_keeps core run back.0 back.1,
+        left_keeps told may_leave faults _ back.0 c.store' (in_more _ back.1.earlier back.0 back.1.more (crashed_all run.run back.1.earlier back.1.before)) back.2,
+      )
+
+      refused_keeps : (halt : Halt) (refused : GeneratorIsRefused told may_leave moment left_since faults cuts clients size number halt c.store c.store')
+          → PlayedBack told may_leave moment left_since faults cuts clients size number c mid count base (Some halt) refused.run
+          → RefusedKeeps told may_leave moment left_since faults cuts clients size number (committed base) c.store c.store' halt refused
+      refused_keeps halt refused back =
+          (played_keeps (Some halt) refused.run back.0 back.1, left_keeps told may_leave faults _ back.0 c.store' (played_all (Some halt) refused.run back.0 back.1) back.2)
+
+      first_keeps : (halt : Halt) (first : Program V) → IsDown first c.store → (fails : FailsIn told may_leave moment left_since faults halt making first c.store') → IsOwn told may_leave base c.store'
+          → On (committed base) c.store c.store'
+      first_keeps halt first down fails back = (
+        from_down (committed base) first c.store c.store' fails.last (was_first first down) fails.store (making_down told may_leave first c.store down)
+            (other_fails 67108864 cuts false AnyFiles (committed base) halt making (right_sizes clients size within) refl first fails.last fails.fails (first_at first down)),
+        left_keeps told may_leave faults (committed base) base c.store' (itself base) back,
+      )
+
+      stop_keeps : (halt : Halt) (s : GeneratorStops told may_leave moment left_since faults cuts clients size number halt c.store c.store')
+          → StopBack told may_leave moment left_since faults cuts clients size number c mid count base halt s
+          → StopKeeps told may_leave moment left_since faults cuts clients size number (committed base) c.store c.store' halt s
+      stop_keeps halt (inl first) back = first_keeps halt first.0 first.1 first.2 back
+      stop_keeps halt (inr (inl crash)) back = (
+        played_keeps None crash.0 back.0 back.1,
+        subst (On (committed base ++ oks None crash.0) (inner crash.0.played.vault.store)) crash.1.store
+            (crash_on crash.0 back.0 back.1 (inner crash.1.last) (crash_less halt 0 (Up crash.0.played) crash.1.last crash.1.fails)),
+      )
+      stop_keeps halt (inr (inr restart)) back = (
+        crashed_keeps restart.0 back.0 back.1,
+        (
+          from_down _ restart.0.crashed (inner (store_of restart.0.crashed)) c.store' restart.1.last refl restart.1.store (none_making restart.0)
+              (other_fails 67108864 cuts false AnyFiles _ halt Restart tt refl restart.0.crashed restart.1.last restart.1.fails (crashed_at restart.0 back.0 back.1)),
+          left_keeps told may_leave faults _ back.0 c.store' (crashed_all restart.0 back.0 back.1) back.2,
+        ),
+      )
+
+      -- the round had no memory
+      cut_since : (log : List Record) (made : Core (Fuse V)) → BeginsWith base log → IsPointOf told may_leave faults log made → IsMade told may_leave moment left_since faults 67108864 clients size c.store made
+          → (f : Fuse V) → IsCutRound told may_leave moment left_since faults (map told_by (generated clients size number)) made f → Since (committed base) (inner made.vault.store) (inner f)
+      cut_since log made more at is_made f (inl same) =
+          (same_on (committed base) (inner made.vault.store) (inner f) (ap (λ (x : Fuse V). inner x) same) (made_left log made more at is_made)).0
+      cut_since log made more at is_made f (inr cut) =
+          subst (λ (x : Fuse V). Since (committed base) (inner made.vault.store) (inner x)) (sym cut.0.store)
+          (between_since (committed base) made cut.0.core
+          (round_keeps 67108864 cuts false AnyFiles (committed base) made cut.0.core (made_at log made more at) cut.0.moments)
+          (within_honest told may_leave faults made cut.0.core
+          (cut_unpoked told may_leave moment left_since faults reads_now counts_now cuts clients size number within c base own made is_made f cut.0)))
+
+      lost_keeps : (lost : GeneratorLoses told may_leave moment left_since faults cuts clients size number c.store c.store')
+          → LossBack told may_leave moment left_since faults cuts clients size number c mid count base lost
+          → LostKeeps told may_leave moment left_since faults cuts clients size number (committed base) c.store c.store' lost
+      lost_keeps lost back = (
+        made_on back.0 lost.made back.1.0 back.1.1 lost.is_made,
+        (
+          subst (Since (committed base) (inner lost.made.vault.store)) lost.store (cut_since back.0 lost.made back.1.0 back.1.1 lost.is_made lost.left lost.cut),
+          left_keeps told may_leave faults (committed base) back.0 c.store' (in_more (committed base) base back.0 back.1.0 (itself base)) back.2,
+        ),
+      )
+
+      fault_keeps : (f : GeneratorFails told may_leave moment left_since faults cuts clients size number c.store c.store')
+          → FaultBack told may_leave moment left_since faults cuts clients size number c mid count base f
+          → FaultKeeps told may_leave moment left_since faults cuts clients size number (committed base) c.store c.store' f
+      fault_keeps (inl s) back = stop_keeps halts.StoreFault s back
+      fault_keeps (inr (inl refused)) back = refused_keeps halts.StoreFault refused back
+      fault_keeps (inr (inr none)) back = absurd back
+
+      want_keeps : (w : GeneratorWants told may_leave moment left_since faults cuts clients size number c.store c.store')
+          → WantBack told may_leave moment left_since faults cuts clients size number c mid count base w
+          → WantKeeps told may_leave moment left_since faults cuts clients size number (committed base) c.store c.store' w
+      want_keeps (inl same) back = left_keeps told may_leave faults (committed base) base c.store' (itself base) back
+      want_keeps (inr (inl (inl s))) back = stop_keeps halts.OutOfMemory s back
+      want_keeps (inr (inl (inr lost))) back = lost_keeps lost back
+      want_keeps (inr (inr (inl refused))) back = refused_keeps halts.OutOfMemory refused back
+      want_keeps (inr (inr (inr last))) back = last_keeps last.0 last.1 back
+
+      -- a database stood there
+      formatted_keeps : (s : GeneratorStops told may_leave moment left_since faults cuts clients size number halts.Formatted c.store c.store') → IsOwn told may_leave base c.store'
+          → On (committed base) c.store c.store'
+      formatted_keeps (inl first) back = first_keeps halts.Formatted first.0 first.1 first.2 back
+      formatted_keeps (inr (inl crash)) back = absurd crash.1.fails.0
+      formatted_keeps (inr (inr restart)) back = absurd restart.1.fails.0
+
+      generator_keeps : (status : Status) (ended : EndedGenerator told may_leave moment left_since faults cuts clients size number c mid count status)
+          → GeneratorSurvives told may_leave moment left_since faults cuts clients size number c mid count base status ended
+          → GeneratorKeeps told may_leave moment left_since faults cuts clients size number c mid count (committed base) status ended
+      generator_keeps Done ended back = last_keeps ended.1.found ended.1.run back
+      generator_keeps WriteFault ended back = last_keeps ended.1.found ended.1.run back
+      generator_keeps StoreFault ended back = fault_keeps ended.0 back
+      generator_keeps (BadStore file at) ended back = absurd back
+      generator_keeps Unformatted ended back = absurd back
+      generator_keeps Formatted ended back = formatted_keeps ended.0 back
+      generator_keeps (LogFull end most) ended back = refused_keeps (halts.LogFull end most) ended.0 back
+      generator_keeps OutOfMemory ended back = want_keeps ended.0 back
+      generator_keeps BadWords ended back = absurd ended
+      generator_keeps (BadScript line kind) ended back = absurd ended
+      generator_keeps TooLong ended back = absurd ended
+      generator_keeps ReadFault ended back = absurd ended
 
   module _ (cuts : V → ℕ → Option Disk) where
     keeps : (words : List (List ℕ)) (c : Course V) (base : List Record) (own : IsOwn told may_leave base c.store) (mid : Option (List ℕ)) (count : ℕ) (task : Option Task) → meaning words ≡ task
@@ -365,9 +746,14 @@ module _ {V : Type 0} (told : V → Option Disk) (may_leave : V → Disk → Typ
         (survives told may_leave moment left_since faults reads_now counts_now cuts c base own words mid count (Some Dump) is status ended tt)
     keeps words c base own mid count (Some (Run precheck limit)) is status ended = script_keeps limit cuts precheck c mid count base own status ended
     keeps words c base own mid count (Some (Generate clients size number)) is status ended =
-        λ honest.
-        generator_keeps cuts clients size number c mid count base status ended
-        (survives told may_leave moment left_since faults reads_now counts_now cuts c base own words mid count (Some (Generate clients size number)) is status ended honest)
+        let range : IsInRange (Generate clients size number) = in_range words (Generate clients size number) is in
+        generator_keeps cuts clients size number
+        (record { some_clients = range.0.0; few_clients = range.0.1; some_transactions = range.1.0; few_transactions = range.1.1 }) c mid count base own status ended
+        (survives told may_leave moment left_since faults reads_now counts_now cuts c base own words mid count (Some (Generate clients size number)) is status ended tt)
 
     pub acknowledged_survive : AcknowledgedSurvive told may_leave moment left_since faults cuts
     acknowledged_survive words c status base own e = keeps words c base own e.mid e.count (meaning words) refl status e.ended
+
+-- ---- the lines of a worked round
+pub worked_lines : WorkedLinesAcknowledge
+worked_lines = (refl, refl)

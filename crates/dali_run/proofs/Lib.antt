@@ -1,19 +1,21 @@
-mod Courses
+pub mod Courses
 mod Fronts
 mod Fuses
 mod Fusing
 mod Pieces
 mod RoundCalls
-mod Fit
+pub mod Fit
 mod RoundTexts
 mod Alone
+mod Lasting
 mod StoreCalls
 mod OnlyRead
 mod Standing
 mod Comparisons
-mod Surviving
+pub mod Surviving
 pub mod Survived
 mod Oks
+mod Within
 pub mod Keeping
 mod Serves
 mod Summarized
@@ -30,6 +32,11 @@ mod Pokings
 mod Sums
 mod Marks
 mod Telling
+mod Poked
 mod Unharmed
-mod Unstrayed
+pub mod Unstrayed
 mod Honest
+mod Made
+mod Going
+mod Shown
+mod Verifying

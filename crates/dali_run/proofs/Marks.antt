@@ -1,6 +1,6 @@
 -- A clean-up leaves each region's stray writes as they are, and the engine running.
-use Rattle.std.proofs.Common.{◌≡◌, ℕ, zero, suc, Bool, true, false, List, [], ◌∷◌, Option, Some, None, map, refl, sym, ◌∙◌, ap, subst, inl, inr, ⊎_elim}
-use Rattle.std.specs.Prelude.{◌⊎◌, ◌&&◌, slice_get, slice_set}
+use Rattle.std.proofs.Common.{◌≡◌, ℕ, zero, suc, true, false, List, [], ◌∷◌, Option, Some, None, map, refl, sym, ◌∙◌, ap, subst, inl, inr, ⊎_elim}
+use Rattle.std.specs.Prelude.{◌⊎◌, slice_get, slice_set}
 use Rattle.std.specs.List.{list_all}
 use Rattle.dali_clean.specs.Steps.{is_own_change, is_own_step}
 use Rattle.dali_clean.proofs.Steps.{own_steps}
@@ -12,10 +12,10 @@ use Rattle.dali_record.specs.declared.records.Record.{Record}
 use Rattle.dali_region.specs.State.{RegionState, loaded, taken_back, touched}
 use Rattle.dali_store.specs.Store.{Files as Disk}
 use Rattle.dali_system.specs.Courses.{Step, Begins, Operates, TakesBack, Frees, Answers, Commits, Ends, AuditBegins, AuditEnds, Locks, Refuses, OnRegion, Passes, Dies, Claims, GivesBack, Recovers, Stops, Checkpoints, Takes, Flushes, Faults, ReadFails, Moment, IsStepAt}
-use Rattle.dali_system.specs.Regions.{RegionStep, Latch, NoteReads, Update, TakeBack, Poke, Check, Die, Clean, region_after}
+use Rattle.dali_system.specs.Regions.{RegionStep, Poke, Clean, region_after}
 use Rattle.dali_system.specs.State.{CoreState, SystemState}
 use Rattle.dali_whole.specs.declared.whole.Core.{Core}
-use Rattle.std.proofs.lemmas.Bool.{eq-eqb}
+use Rattle.std.proofs.lemmas.Bool.{eq-eqb, and_parts as both}
 use Rattle.dali_run.specs.Steps.{dead_in, CleansAll, CleansUp, HasCleaned}
 use Rattle.dali_run.proofs.Cleanings.{AllDead, At, idle_runs, moved_one}
 use Rattle.dali_run.proofs.Standing.{IsStanding}
@@ -56,14 +56,9 @@ none_loaded (ws ∷ image) (suc r) g e = none_loaded image r g e
 
 -- ---- steps of a clean-up
 own_change : (t : ℕ) (x : RegionStep) (g : RegionState) → is_own_change t x ≡ true → SameMarks g (region_after x g)
-own_change t (Latch u) g own = (refl, refl)
-own_change t (NoteReads mask) g own = (refl, refl)
-own_change t (Update word value) g own = (refl, refl)
-own_change t TakeBack g own = (refl, refl)
 own_change t (Poke word mask) g own = absurd (cc own)
-own_change t Check g own = (refl, refl)
-own_change t Die g own = (refl, refl)
 own_change t (Clean side) g own = absurd (cc own)
+own_change t _ g own = (refl, refl)
 
 own_step : (t : ℕ) (m n : Moment) (x : Step) → is_own_step t x ≡ true → IsStepAt m x n → KeepMarks m.core.regions n.core.regions
 own_step t m n (TakesBack u b) own s =
@@ -100,27 +95,7 @@ own_step_runs t m n (Claims u) own s = ap (λ (c : CoreState). c.system.stop) s.
 own_step_runs t m n (GivesBack u o) own s = ap (λ (c : CoreState). c.system.stop) s.0.1.1
 own_step_runs t m n (Recovers r) own s = ap (λ (c : CoreState). c.system.stop) s.0.3.1
 own_step_runs t m n (OnRegion r x) own s = ap (λ (c : CoreState). c.system.stop) s.0.3.1
-own_step_runs t m n Begins own s = absurd (cc own)
-own_step_runs t m n (Operates u b) own s = absurd (cc own)
-own_step_runs t m n (Frees p b) own s = absurd (cc own)
-own_step_runs t m n (Answers u k a) own s = absurd (cc own)
-own_step_runs t m n (Commits u) own s = absurd (cc own)
-own_step_runs t m n AuditBegins own s = absurd (cc own)
-own_step_runs t m n (AuditEnds b found) own s = absurd (cc own)
-own_step_runs t m n (Locks u k mode) own s = absurd (cc own)
-own_step_runs t m n (Refuses u k mode o) own s = absurd (cc own)
-own_step_runs t m n (Passes b r) own s = absurd (cc own)
-own_step_runs t m n (Dies u o) own s = absurd (cc own)
-own_step_runs t m n Stops own s = absurd (cc own)
-own_step_runs t m n (Checkpoints b) own s = absurd (cc own)
-own_step_runs t m n Takes own s = absurd (cc own)
-own_step_runs t m n Flushes own s = absurd (cc own)
-own_step_runs t m n (Faults k) own s = absurd (cc own)
-own_step_runs t m n (ReadFails k) own s = absurd (cc own)
-
-both : (a b : Bool) → (a && b) ≡ true → (a ≡ true) × (b ≡ true)
-both true b e = (refl, e)
-both false b e = absurd (cc e)
+own_step_runs t m n _ own s = absurd (cc own)
 
 own_course : (t : ℕ) (p q : Point) (xs : List Step) → list_all (is_own_step t) xs ≡ true → IsPointCourse p (map Does xs) q → KeepMarks p.core.regions q.core.regions
 own_course t p q [] own same = keep_same p.core.regions q.core.regions (ap (λ (z : Point). z.core.regions) (sym same))

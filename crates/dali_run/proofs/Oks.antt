@@ -4,6 +4,7 @@ use Rattle.std.specs.Prelude.{Contains, if◌then◌else◌, option_to_list, sli
 use Rattle.std.proofs.Common.{⊎_elim}
 use Rattle.std.proofs.lemmas.List.Concat.{flat_map-cons}
 use Rattle.std.proofs.lemmas.List.Elements.{Contains-append_cases, Contains-append_left, Contains-append_right}
+use Rattle.dali_lists.proofs.Members.{contains_first}
 use Rattle.dali_record.specs.declared.records.Record.{Record}
 use Rattle.dali_record.specs.declared.records.Record.TheVariants.{Commit}
 use Rattle.dali_record.specs.Log.{commit_by, committed}
@@ -13,7 +14,7 @@ use Rattle.dali_transcripts.specs.Moves.{Receipt, Place, Outside, Within, LeftOu
 use Rattle.dali_transcripts.specs.Causes.{HasCause}
 use Rattle.dali_transcripts.specs.Transcripts.{IsPath, IsTranscript, EachTells, Told, said_by, own_by, deeds_of}
 use Rattle.dali_transcripts.specs.Laws.{IsIn}
-use Rattle.dali_transcripts.proofs.Lists.{all_get, first_in, none_in}
+use Rattle.dali_transcripts.proofs.Lists.{all_get, none_in}
 use Rattle.dali_transcripts.proofs.Owned.{own_ascend}
 use Rattle.dali_run.specs.Headline.{oks_in, oks_of}
 
@@ -48,7 +49,7 @@ first_flushed : (w : World) (n t : ℕ) (o : Option ℕ) (more : List Receipt) �
 first_flushed w n t o more same flushed = rw same (λ u has. by_first u has)
   where
     by_first : (u : ℕ) → Contains (t ∷ []) u → (m : ℕ) × Contains ((n, Logs (Commit t)) ∷ more) (m, Logs (Commit u)) × IsFlushed w m
-    by_first u (zero, within, is) = let same : t ≡ u = is in (n, subst (λ k. Contains ((n, Logs (Commit t)) ∷ more) (n, Logs (Commit k))) same (first_in (n, Logs (Commit t)) more), flushed)
+    by_first u (zero, within, is) = let same : t ≡ u = is in (n, subst (λ k. Contains ((n, Logs (Commit t)) ∷ more) (n, Logs (Commit k))) same (contains_first (n, Logs (Commit t)) more), flushed)
     by_first u (suc i, within, is) = absurd (omega (arith, within))
 
 ended_oks : (o : Option ℕ) (end : Ending) → oks_in o (end_line end ∷ []) ≡ []
@@ -137,7 +138,7 @@ round_stands w (b ∷ blocks) (said ∷ more) tells t has =
 pub commit_in : (L : List Record) (n k t : ℕ) → slice_get L n ≡ Some (Commit t) → n < k → Contains (committed (take k L)) t
 commit_in [] n k t at lt = absurd (cc at)
 commit_in (x ∷ L) n zero t at lt = absurd (omega (arith, lt))
-commit_in (x ∷ L) zero (suc k) t at lt = let same : x ≡ Commit t = cc at in subst (λ y. Contains (committed (y ∷ take k L)) t) (sym same) (first_in t (committed (take k L)))
+commit_in (x ∷ L) zero (suc k) t at lt = let same : x ≡ Commit t = cc at in subst (λ y. Contains (committed (y ∷ take k L)) t) (sym same) (contains_first t (committed (take k L)))
 commit_in (x ∷ L) (suc n) (suc k) t at lt = by_commit (commit_by x) refl (commit_in L n k t at (omega (arith, lt)))
   where
     by_commit : (o : Option ℕ) → commit_by x ≡ o → Contains (committed (take k L)) t → Contains (committed (x ∷ take k L)) t

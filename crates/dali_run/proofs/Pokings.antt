@@ -146,31 +146,11 @@ silent_end (TakenBack n) = refl
 silent_end (LeftBehind n cause) = refl
 
 quiet_said : (x : Move) → is_poke x ≡ false → answers_of (said x) ≡ []
-quiet_said (Begins t n rest) is = refl
-quiet_said (BeginsAgain t n tries h rest) is = refl
-quiet_said (IsRefusedBegin place s n why rest) is = refl
-quiet_said (Skips s act rest) is = refl
-quiet_said (Rests t act rest) is = refl
-quiet_said (Answers t tries cs d work n call a rest) is = refl
-quiet_said (IsRefusedCall t tries cs d s work n back call why rest) is = refl
-quiet_said (Dies t tries cs d work n q call rest) is = refl
-quiet_said (IsArmed t tries cs d s count rest) is = refl
 quiet_said (GivesWay t tries cs d work call f back end rest) is = silent_end end
 quiet_said (GivesUp t tries cs d work call f back end rest) is = silent_end end
-quiet_said (Commits t tries cs d n behind rest) is = refl
-quiet_said (CommitFails t tries cs d n m why rest) is = refl
-quiet_said (IsRefusedCommit t tries cs d s n why rest) is = refl
-quiet_said (Aborts t tries cs d work n rest) is = refl
-quiet_said (IsRefusedAbort t tries cs d s work n why rest) is = refl
-quiet_said (Ends t tries cs d work n) is = refl
-quiet_said (StaysOpen t tries cs d s work n why) is = refl
 quiet_said (Pokes s n region word mask rest) is = absurd (cc is)
 quiet_said (PokesNothing s region word mask rest) is = absurd (cc is)
-quiet_said (Audits b n rs failed rest) is = refl
-quiet_said (IsRefusedAudit s work n why rest) is = refl
-quiet_said (Checkpoints since b n m until current rest) is = refl
-quiet_said (FailsCheckpoint since b n until q rs failed rest) is = refl
-quiet_said (IsRefusedCheckpoint s span late work n why rest) is = refl
+quiet_said _ is = refl
 
 -- ---- commands
 abbrev pub coming : List Act → List (ℕ × ℕ)
@@ -248,11 +228,6 @@ fits_on w c (Dies t tries cs d work n q call rest) cause h = tt
 fits_on w c (IsArmed t tries cs d s count rest) cause h = (h.0.1, h.1, h.2)
 fits_on w c (GivesWay t tries cs d work call f back end rest) cause h = h.1
 fits_on w c (GivesUp t tries cs d work call f back end rest) cause h = behind_placed rest h.0.1
-fits_on w c (Commits t tries cs d n behind rest) cause h = h.0
-fits_on w c (CommitFails t tries cs d n m why rest) cause h = h.0
-fits_on w c (IsRefusedCommit t tries cs d s n why rest) cause h = h.0
-fits_on w c (Aborts t tries cs d work n rest) cause h = h.0
-fits_on w c (IsRefusedAbort t tries cs d s work n why rest) cause h = h.0
 fits_on w c (Ends t tries cs d work n) cause h = tt
 fits_on w c (StaysOpen t tries cs d s work n why) cause h = tt
 fits_on w c (Pokes s n region word mask rest) cause h = h.3
@@ -262,6 +237,7 @@ fits_on w c (IsRefusedAudit s work n why rest) cause h = h
 fits_on w c (Checkpoints since b n m until current rest) cause h = h
 fits_on w c (FailsCheckpoint since b n until q rs failed rest) cause h = h
 fits_on w c (IsRefusedCheckpoint s span late work n why rest) cause h = h
+fits_on w c _ cause h = h.0
 
 -- a client that died
 abbrev is_gone : Move → Bool
@@ -270,31 +246,14 @@ is_gone (Rests t act rest) = true
 is_gone x = false
 
 pub coming_stays : (x : Move) → is_poke x ≡ false → is_gone x ≡ false → Fits (from x) → coming (from x).rest ≡ coming (to x).rest
-coming_stays (Begins t n rest) is here h = refl
-coming_stays (BeginsAgain t n tries k rest) is here h = refl
-coming_stays (IsRefusedBegin place s n why rest) is here h = refl
 coming_stays (Skips s act rest) is here h = skip_coming act rest h
 coming_stays (Rests t act rest) is here h = absurd (cc here)
-coming_stays (Answers t tries cs d work n call a rest) is here h = refl
-coming_stays (IsRefusedCall t tries cs d s work n back call why rest) is here h = refl
 coming_stays (Dies t tries cs d work n q call rest) is here h = absurd (cc here)
-coming_stays (IsArmed t tries cs d s count rest) is here h = refl
 coming_stays (GivesWay t tries cs d work call f back end rest) is here h = sym h.2
 coming_stays (GivesUp t tries cs d work call f back end rest) is here h = behind_coming rest h.0.1
-coming_stays (Commits t tries cs d n behind rest) is here h = refl
-coming_stays (CommitFails t tries cs d n m why rest) is here h = refl
-coming_stays (IsRefusedCommit t tries cs d s n why rest) is here h = refl
-coming_stays (Aborts t tries cs d work n rest) is here h = refl
-coming_stays (IsRefusedAbort t tries cs d s work n why rest) is here h = refl
-coming_stays (Ends t tries cs d work n) is here h = refl
-coming_stays (StaysOpen t tries cs d s work n why) is here h = refl
 coming_stays (Pokes s n region word mask rest) is here h = absurd (cc is)
 coming_stays (PokesNothing s region word mask rest) is here h = absurd (cc is)
-coming_stays (Audits b n rs failed rest) is here h = refl
-coming_stays (IsRefusedAudit s work n why rest) is here h = refl
-coming_stays (Checkpoints since b n m until current rest) is here h = refl
-coming_stays (FailsCheckpoint since b n until q rs failed rest) is here h = refl
-coming_stays (IsRefusedCheckpoint s span late work n why rest) is here h = refl
+coming_stays _ is here h = refl
 
 -- ---- a client that died does and says nothing more
 abbrev AtEnd : Place → Type 0

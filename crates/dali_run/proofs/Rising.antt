@@ -1,7 +1,7 @@
 -- A generated run that ends with a failure of the store was ended by one of the handed-in store.
 use Rattle.std.proofs.Common.{◌≡◌, ◌≤◌, ℕ, Bool, true, false, List, [], ◌∷◌, Option, Some, None, refl, sym, ◌∙◌, ap, subst, inl, inr, ⊎_elim, arith}
-use Rattle.std.specs.Prelude.{IfSome, is_some, nat_lt}
-use Rattle.std.proofs.lemmas.Bool.{cases_lt}
+use Rattle.std.specs.Prelude.{IfSome, is_some}
+use Rattle.std.proofs.lemmas.Bool.{ltb-false}
 use Rattle.dali_clients.specs.Said.{Transcribed}
 use Rattle.dali_generator.specs.Generated.{index_regions, heap_regions}
 use Rattle.dali_memstore.specs.Fuse.{failed_of, passes_of}
@@ -23,14 +23,14 @@ use Rattle.dali_run.specs.declared.halt.Halt.{Halt}
 use Rattle.dali_run.specs.declared.halt.Halt.TheVariants.{StoreFault}
 use Rattle.dali_run.specs.declared.program.Program.{Program}
 use Rattle.dali_run.specs.declared.program.Program.TheVariants.{Up, Down}
-use Rattle.dali_run.specs.Complete.{RoundRose, StopRises, GeneratorFaultRises, GeneratorFaultsRise}
+use Rattle.dali_run.specs.Complete.{OwnRose, StopRises, GeneratorFaultRises, GeneratorFaultsRise}
 use Rattle.dali_run.specs.Ends.{Course, GeneratorFails, GeneratorStops}
-use Rattle.dali_run.specs.Generating.{IsMade, IsRoundOf, first_full, full_among, full_in, halt_of, or_else}
+use Rattle.dali_run.specs.Generating.{IsMade, IsRoundOf, fails_by_fuse, first_full, full_among, full_in, halt_of, or_else}
 use Rattle.dali_run.specs.Program.{IsDown, store_of, faults_in}
 use Rattle.dali_run.specs.Steps.{RestartStops}
-use Rattle.dali_run.specs.Survives.{IsOwn, IsPointOf, NoneEscapesIn}
+use Rattle.dali_run.specs.Survives.{AnyFiles, IsOwn, IsPointOf}
 use Rattle.dali_run.proofs.Failing.{fault_rises, none_failed, own_rises, rises}
-use Rattle.dali_run.proofs.Surviving.{begins_down, step_goes}
+use Rattle.dali_run.proofs.Surviving.{begins_down, none_down, step_goes}
 
 -- ---- what a round ends with
 abbrev IsNoFault : Option Halt → Type 0
@@ -70,11 +70,12 @@ in_all [] = tt
 in_all (t ∷ later) = in_either (full_among (lines_in t)) (first_full later) (in_lines (lines_in t)) (in_all later)
 
 -- the store stopped the engine
-by_store : (full : Option Halt) (stop : Option Cause) → IsNoFault full → halt_of full stop ≡ Some StoreFault → stop ≡ Some Store
-by_store (Some halt) stop none is = absurd (subst IsNoFault is none)
-by_store None (Some Store) none is = refl
-by_store None (Some (Damage region)) none is = absurd cc
-by_store None None none is = absurd cc
+by_store : (full : Option Halt) (stop : Option Cause) (by_fuse : Bool) → IsNoFault full → halt_of full stop by_fuse ≡ Some StoreFault → (stop ≡ Some Store) × (by_fuse ≡ false)
+by_store (Some halt) stop by_fuse none is = absurd (subst IsNoFault is none)
+by_store None (Some Store) false none is = (refl, refl)
+by_store None (Some Store) true none is = absurd cc
+by_store None (Some (Damage region)) by_fuse none is = absurd cc
+by_store None None by_fuse none is = absurd cc
 
 -- ---- fuses
 not_set : (o : Option ℕ) → o ≡ None → is_some o ≡ false
@@ -95,27 +96,25 @@ module _ {V : Type 0} (told : V → Option Disk) (may_leave : V → Disk → Typ
       let new : m.steps.core.vault.stopped ≡ false = ap (λ (v : Vaulted (Fuse V)). v.stopped) m.steps.fresh.vault in subst RunsIn (sym m.steps.up) new
 
   round_rises : (base : List Record) (blocks : List Blocks) (made played : Core (Fuse V)) → IsPointOf told may_leave faults base made → made.vault.stopped ≡ false
-      → IsRoundOf told may_leave faults blocks made (Some StoreFault) played → RoundRose faults made played
+      → IsRoundOf told may_leave moment left_since faults blocks made (Some StoreFault) played → OwnRose faults made.vault.store played.vault.store
   round_rises base blocks made played a runs round =
       let ts = round.round.transcripts in
-      let so = by_store (first_full ts) played.system.state.stop (in_all ts) round.is in
+      let so = by_store (first_full ts) played.system.state.stop (fails_by_fuse made played) (in_all ts) round.is in
       let led = round.round.plays a.start a.batches a.point a.begins in
       let is = led.round in
       let w = is.world in
-      let stop : led.to.core.system.stop ≡ Some Store = ap (λ (y : SystemState). y.stop) led.stands.at.system ∙ so in
+      let stop : led.to.core.system.stop ≡ Some Store = ap (λ (y : SystemState). y.stop) led.stands.at.system ∙ so.0 in
       let stopped : w.core.vault.stopped ≡ true = ap (λ (k : CoreState). k.vault.stopped) is.core_is ∙ led.stands.at.vault.run.run.run.runs.stop.store stop in
       let ran : w.old.vault.stopped ≡ false = ap (λ (k : CoreState). k.vault.stopped) is.old_is ∙ (a.begins.stands.at.vault.vault.stopped ∙ runs) in
       let failed : has_failed false w.happened ≡ true = ap (λ (b : Bool). has_failed b w.happened) (sym ran) ∙ (sym is.together.faults.stopped ∙ stopped) in
       let was : w.old.vault.faults ≡ faults_in faults made.vault.store = ap (λ (k : CoreState). k.vault.faults) is.old_is ∙ a.begins.stands.at.vault.vault.counted in
       let now : w.core.vault.faults ≡ faults_in faults played.vault.store = ap (λ (k : CoreState). k.vault.faults) is.core_is ∙ led.stands.at.vault.vault.counted in
-      ⊎_elim
-      (λ more. inr more)
-      (λ few. inl (own_rises told may_leave moment left_since faults false made.vault.store played.vault.store
-      (rises w.old.vault.faults w.core.vault.faults (faults_in faults made.vault.store) (faults_in faults played.vault.store) was now (is.together.faults.rose failed)) few))
-      (cases_lt (failed_of made.vault.store) (failed_of played.vault.store))
+      own_rises told may_leave moment left_since faults false made.vault.store played.vault.store
+      (rises w.old.vault.faults w.core.vault.faults (faults_in faults made.vault.store) (faults_in faults played.vault.store) was now (is.together.faults.rose failed))
+      (ltb-false (failed_of made.vault.store) (failed_of played.vault.store) so.1)
 
   -- no fuse is set, and none fails a call
-  never_stops : (limit : ℕ) (old new : Program V) (text : List ℕ) (store : V) → IsDown old store → RestartStops told may_leave moment left_since faults limit old text new → ⊥
+  pub never_stops : (limit : ℕ) (old new : Program V) (text : List ℕ) (store : V) → IsDown old store → RestartStops told may_leave moment left_since faults limit old text new → ⊥
   never_stops limit old new text store down stops =
       let counted : is_some (passes_of stops.store) ≡ is_some (passes_of (store_of old)) = stops.left.left.passes.counted in
       let none = none_failed stops.store (counted ∙ not_set (passes_of (store_of old)) (down_unset old store down)) in
@@ -129,7 +128,7 @@ module _ {V : Type 0} (told : V → Option Disk) (may_leave : V → Disk → Typ
       stop_rises : (s : GeneratorStops told may_leave moment left_since faults cuts clients size number StoreFault c.store c.store')
           → StopRises told may_leave moment left_since faults cuts clients size number c s
       stop_rises (inl first) =
-          fault_rises told may_leave moment left_since faults false making base first.0 first.2.last (begins_down told may_leave faults base first.0 c.store first.1 own)
+          fault_rises told may_leave moment left_since faults false AnyFiles making base first.0 first.2.last (begins_down told may_leave faults base first.0 c.store first.1 own)
           (λ is. down_unset first.0 c.store first.1) first.2.fails
       stop_rises (inr (inl crash)) = ⊎_elim (λ more. inl more) (λ end. inr (omega (arith, end))) crash.1.fails.0
       stop_rises (inr (inr restart)) =
@@ -141,8 +140,8 @@ module _ {V : Type 0} (told : V → Option Disk) (may_leave : V → Disk → Typ
       fault_rises_so (inr (inl refused)) =
           let m = refused.run.is_made in
           let goes =
-          step_goes told may_leave moment left_since faults reads_now counts_now 67108864 cuts false making base m.first (Up refused.run.made) [] m.steps
-          (begins_down told may_leave faults base m.first c.store m.down own) (subst (NoneEscapesIn told may_leave) (sym m.down.down) tt) in
+          step_goes told may_leave moment left_since faults reads_now counts_now 67108864 cuts false AnyFiles making base m.first (Up refused.run.made) [] m.steps
+          (begins_down told may_leave faults base m.first c.store m.down own) (none_down told m.first c.store m.down) in
           round_rises goes.log _ refused.run.made refused.run.played goes.point (made_runs 67108864 clients size c.store refused.run.made m) refused.run.round
       fault_rises_so (inr (inr none)) = never_stops 67108864 none.run.crashed none.down none.text none.run.crash.store none.run.crash.down none.restart
 

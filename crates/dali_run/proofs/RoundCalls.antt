@@ -1,5 +1,5 @@
 -- Rounds over a core.
-use Rattle.std.proofs.Common.{◌≡◌, ◌<◌, ◌≤◌, ℕ, Bool, true, false, List, [], ◌∷◌, Option, Result, Ok, Err, map, refl, sym, ◌∙◌, ap, subst, inl, inr, arith}
+use Rattle.std.proofs.Common.{◌≡◌, ◌<◌, ◌≤◌, ℕ, Bool, true, List, [], ◌∷◌, Option, Result, Ok, Err, map, refl, sym, ◌∙◌, ap, subst, inl, inr, arith}
 use Rattle.std.specs.Prelude.{◌⊎◌, ◌||◌, flat_map, IfOk, IfErr, OnErr}
 use Rattle.std.specs.List.{list_any}
 use Rattle.dali_clients.specs.declared.command.Block.{Block}
@@ -10,7 +10,7 @@ use Rattle.dali_memstore.specs.Fuse.{failed_of}
 use Rattle.dali_memstore.specs.declared.fuse.Fuse.{Fuse}
 use Rattle.dali_round.specs.declared.rounds.RoundEnd.{RoundEnd}
 use Rattle.dali_round.specs.declared.rounds.RoundEnd.TheVariants.{Done}
-use Rattle.dali_round.specs.Leads.{is_done, lines_in, RoundGoes}
+use Rattle.dali_round.specs.Leads.{is_done, RoundGoes}
 use Rattle.dali_script.specs.declared.commands.Block.{Block as Script}
 use Rattle.dali_script.specs.declared.names.Name.{Name}
 use Rattle.dali_store.specs.Store.{Files}
@@ -24,8 +24,8 @@ use Rattle.dali_run.specs.Fails.{FailsAlone, LostOver, Played}
 use Rattle.dali_run.specs.declared.program.Program.{Program}
 use Rattle.dali_run.specs.declared.program.Program.TheVariants.{Up}
 use Rattle.dali_run.specs.Program.{PlacesIn, told_in, leaves_in, faults_in}
-use Rattle.dali_run.specs.Steps.{ActsAlone, Plays, RunsRound, StepsAlone, StepsRound, TellAll}
-use Rattle.dali_run.specs.Texts.{alone_texts, round_lines, said_texts, is_failure, says_failure}
+use Rattle.dali_run.specs.Steps.{ActsAlone, Plays, RightWithin, RunsRound, StepsAlone, StepsRound, TellAll}
+use Rattle.dali_run.specs.Texts.{alone_texts, said_texts, is_failure, says_failure}
 use Rattle.dali_run.specs.Told.{alone, told_by}
 use Rattle.dali_run.proofs.RoundTexts.{round_said}
 
@@ -37,19 +37,10 @@ pub tell_all : (bs : List Block) (ts : List Transcribed) → (map (λ (t : Trans
 tell_all bs ts (inl e) = inl (e ∙ sym (same_clients bs))
 tell_all bs ts (inr none) = inr none
 
--- what holds of a value holds of a result that has it
-pub lift_ok : {T E : Type 0} (r : Result T E) (P Q : T → Type 0) → ((x : T) → P x → Q x) → IfOk r P → IfOk r Q
-lift_ok (Ok x) P Q by p = by x p
-lift_ok (Err e) P Q by p = tt
-
 -- what is said of a result that is known
 pub ok_holds : {T E : Type 0} (P : T → Type 0) (r : Result T E) (x : T) → r ≡ Ok x → IfOk r P → P x
 ok_holds P (Ok y) x e p = let same : y ≡ x = cc in subst P same p
 ok_holds P (Err f) x e p = absurd cc
-
-pub err_holds : {T E : Type 0} (P : E → Type 0) (r : Result T E) (x : E) → r ≡ Err x → IfErr r P → P x
-err_holds P (Ok y) x e p = absurd cc
-err_holds P (Err f) x e p = let same : f ≡ x = cc in subst P same p
 
 pub on_err_holds : {T E P : Type 0} (r : Result T E) (x : E) → r ≡ Err x → OnErr r P → P
 on_err_holds (Ok y) x e p = absurd cc
@@ -70,7 +61,7 @@ less_so a b x y ax by lt = omega (arith, ax, by, lt)
 pub most_so : (a b x y : ℕ) → x ≡ a → y ≡ b → x ≤ y → a ≤ b
 most_so a b x y ax by le = omega (arith, ax, by, le)
 
-module _ {V : Type 0} (told : V → Option Files) (may_leave : V → Files → Type 0) (faults : V → ℕ) (precheck : Bool) where
+module _ {V : Type 0} (told : V → Option Files) (may_leave : V → Files → Type 0) (moment : V → ℕ) (left_since : V → ℕ → Files → Type 0) (faults : V → ℕ) (precheck : Bool) where
   abbrev Goes : List Block → Core (Fuse V) → RoundEnd → List Transcribed → Core (Fuse V) → Type 0
   Goes bs c end ts d =
       RoundGoes (told_in told) (leaves_in may_leave) (faults_in faults) precheck bs c.regions.items c.system.state c.vault end ts d.regions.items d.system.state d.vault
@@ -79,47 +70,49 @@ module _ {V : Type 0} (told : V → Option Files) (may_leave : V → Files → T
       → Plays told may_leave faults precheck true (map told_of bs) c ts d
   plays_done bs c d end ts is goes = subst (λ (e : RoundEnd). Goes bs c e ts d) is goes
 
-  abbrev pub was_played : (bs : List Block) (c d : Core (Fuse V)) (end : RoundEnd) (ts : List Transcribed) → Goes bs c end ts d → IsNoShorter (told_in told) c.vault d.vault
-      → Played told may_leave faults precheck (map told_of bs) c d.vault.store
-  was_played bs c d end ts goes longer = record { whole = is_done end; transcripts = ts; core = d; plays = goes; longer = longer; store = refl }
+  abbrev pub was_played : (bs : List Block) (c d : Core (Fuse V)) (end : RoundEnd) (ts : List Transcribed) → Goes bs c end ts d → IsNoShorter (told_in told) c.vault d.vault → RightWithin told may_leave moment left_since faults c d
+      → Played told may_leave moment left_since faults precheck (map told_of bs) c d.vault.store
+  was_played bs c d end ts goes longer moments = record { whole = is_done end; transcripts = ts; core = d; plays = goes; longer = longer; moments = moments; store = refl }
 
   -- a round whose lines there is no memory for
   pub played_whole : (blocks : List Told) (c d : Core (Fuse V)) (ts : List Transcribed) → Plays told may_leave faults precheck true blocks c ts d → IsNoShorter (told_in told) c.vault d.vault
-      → LostOver told may_leave faults precheck blocks c d.vault.store
-  played_whole blocks c d ts plays longer = inr (record { whole = true; transcripts = ts; core = d; plays = plays; longer = longer; store = refl })
+      → RightWithin told may_leave moment left_since faults c d → LostOver told may_leave moment left_since faults precheck blocks c d.vault.store
+  played_whole blocks c d ts plays longer moments = inr (record { whole = true; transcripts = ts; core = d; plays = plays; longer = longer; moments = moments; store = refl })
 
   pub runs_round : (blocks : List Told) (c d : Core (Fuse V)) (ts : List Transcribed) (text : List ℕ) → Plays told may_leave faults precheck true blocks c ts d
-      → TellAll blocks ts → IsNoShorter (told_in told) c.vault d.vault → PlacesIn told d → text ≡ said_texts ts → RunsRound told may_leave faults precheck blocks c text d
-  runs_round blocks c d ts text plays tell longer places is = record { transcripts = ts; plays = plays; longer = longer; places = places; printed = is ∙ round_said blocks ts tell }
+      → TellAll blocks ts → IsNoShorter (told_in told) c.vault d.vault → RightWithin told may_leave moment left_since faults c d → PlacesIn told d → text ≡ said_texts ts → RunsRound told may_leave moment left_since faults precheck blocks c text d
+  runs_round blocks c d ts text plays tell longer moments places is = record { transcripts = ts; plays = plays; longer = longer; moments = moments; places = places; printed = is ∙ round_said blocks ts tell }
 
-  pub steps_round : (blocks : List Script) (q : Program V) (c d : Core (Fuse V)) (text : List ℕ) → q ≡ Up c → RunsRound told may_leave faults precheck (map told_by blocks) c text d
-      → StepsRound told may_leave faults precheck blocks q text (Up d)
-  steps_round blocks q c d text is runs = subst (λ (x : Program V). StepsRound told may_leave faults precheck blocks x text (Up d)) (sym is) (d, runs, refl)
+  pub steps_round : (blocks : List Script) (q : Program V) (c d : Core (Fuse V)) (text : List ℕ) → q ≡ Up c → RunsRound told may_leave moment left_since faults precheck (map told_by blocks) c text d
+      → StepsRound told may_leave moment left_since faults precheck blocks q text (Up d)
+  steps_round blocks q c d text is runs = subst (λ (x : Program V). StepsRound told may_leave moment left_since faults precheck blocks x text (Up d)) (sym is) (d, runs, refl)
 
-  pub steps_alone : (name : Name) (act : Act) (q : Program V) (c d : Core (Fuse V)) (text : List ℕ) → q ≡ Up c → ActsAlone told may_leave faults precheck act c text d
-      → StepsAlone told may_leave faults precheck name act q text (Up d)
-  steps_alone name act q c d text is acts = subst (λ (x : Program V). StepsAlone told may_leave faults precheck name act x text (Up d)) (sym is) (d, acts, refl)
+  pub steps_alone : (name : Name) (act : Act) (q : Program V) (c d : Core (Fuse V)) (text : List ℕ) → q ≡ Up c → ActsAlone told may_leave moment left_since faults precheck act c text d
+      → StepsAlone told may_leave moment left_since faults precheck name act q text (Up d)
+  steps_alone name act q c d text is acts = subst (λ (x : Program V). StepsAlone told may_leave moment left_since faults precheck name act x text (Up d)) (sym is) (d, acts, refl)
 
   pub acts_alone : (act : Act) (c d : Core (Fuse V)) (ts : List Transcribed) (text : List ℕ) (failure : Bool) → Plays told may_leave faults precheck true (alone act) c ts d
-      → IsNoShorter (told_in told) c.vault d.vault → PlacesIn told d → text ≡ flat_map alone_texts ts → failure ≡ list_any says_failure ts → (failure ≡ true → failed_of c.vault.store < failed_of d.vault.store)
-      → ActsAlone told may_leave faults precheck act c text d
-  acts_alone act c d ts text failure plays longer places is said by = record {
+      → IsNoShorter (told_in told) c.vault d.vault → RightWithin told may_leave moment left_since faults c d → PlacesIn told d → text ≡ flat_map alone_texts ts → failure ≡ list_any says_failure ts → (failure ≡ true → failed_of c.vault.store < failed_of d.vault.store)
+      → ActsAlone told may_leave moment left_since faults precheck act c text d
+  acts_alone act c d ts text failure plays longer moments places is said by = record {
     transcripts = ts;
     plays = plays;
     longer = longer;
+    moments = moments;
     places = places;
     printed = is;
     by_fuse = λ says. by (said ∙ says);
   }
 
   pub fails_alone : (act : Act) (c d : Core (Fuse V)) (ts : List Transcribed) (failure : Bool) → Plays told may_leave faults precheck true (alone act) c ts d → IsNoShorter (told_in told) c.vault d.vault
-      → failure ≡ list_any says_failure ts → failure ≡ true → failed_of d.vault.store ≤ failed_of c.vault.store
-      → FailsAlone told may_leave faults precheck act c d.vault.store
-  fails_alone act c d ts failure plays longer said is few = record {
+      → RightWithin told may_leave moment left_since faults c d → failure ≡ list_any says_failure ts → failure ≡ true → failed_of d.vault.store ≤ failed_of c.vault.store
+      → FailsAlone told may_leave moment left_since faults precheck act c d.vault.store
+  fails_alone act c d ts failure plays longer moments said is few = record {
     transcripts = ts;
     core = d;
     plays = plays;
     longer = longer;
+    moments = moments;
     said = sym said ∙ is;
     store = refl;
     none_by_fuse = few;

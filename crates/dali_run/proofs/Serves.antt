@@ -1,8 +1,8 @@
 -- The blocks of a generated round are those of whole transactions.
-use Rattle.std.proofs.Common.{◌≡◌, ℕ, zero, suc, ◌+◌, ◌-◌, ◌<◌, ◌≤◌, ◌==◌, ◌&&◌, Bool, true, false, cond, leb, List, [], ◌∷◌, ◌++◌, map, flat_map, length, Option, Some, None, refl, sym, ◌∙◌, ap, arith, inl, inr, ⊎_elim}
+use Rattle.std.proofs.Common.{◌≡◌, ℕ, zero, suc, ◌+◌, ◌-◌, ◌<◌, ◌≤◌, ◌==◌, Bool, true, false, cond, List, [], ◌∷◌, ◌++◌, map, flat_map, length, Option, Some, None, refl, sym, ◌∙◌, ap, arith, inl, inr, ⊎_elim}
 use Rattle.std.specs.Prelude.{◌⊎◌, ◌%◌, filter_map, if◌then◌else◌, slice_get}
 use Rattle.std.specs.List.{list_all, range_with_len}
-use Rattle.std.proofs.lemmas.Bool.{cases_lt, cases_eq, eq-eqb, le-leb, lt-leb}
+use Rattle.std.proofs.lemmas.Bool.{cases_lt, cases_eq, eq-eqb}
 use Rattle.std.proofs.lemmas.List.{length-map, map-append}
 use Rattle.dali_clients.specs.Said.{Transcribed}
 use Rattle.dali_generator.specs.Generated.{block, commands_of, draw, generated, key_of, transaction, value_of}
@@ -18,9 +18,11 @@ use Rattle.dali_served.specs.Served.{AreTold, acts_of}
 use Rattle.dali_served.specs.Generates.{calls_told}
 use Rattle.dali_transcripts.specs.Words.{AbortOk, Aborted, Act, Answered, AuditSaid, Begins, Begun, Busy, Calls, CheckpointFailed, CheckpointSaid, CommitOk, Commits, Damaged, Died, Full, LeftOpen, PokeOk, PokeOutOfRange, Refused, Said, StoppedBy, StoreFailed, UnderWay}
 use Rattle.dali_transcripts.specs.Transcripts.{Told, is_among}
+use Rattle.dali_generator.proofs.Keys.{all_transactions, none_beyond, none_before}
 use Rattle.dali_run.specs.declared.halt.Halt.{Halt}
 use Rattle.dali_run.specs.Generating.{first_full, full_among, full_in, or_else}
 use Rattle.dali_run.specs.Told.{act_by, told_by}
+use Rattle.dali_round.proofs.Starts.{get_back}
 
 -- ---- the lines
 both_none : (a b : Option Halt) → or_else a b ≡ None → (a ≡ None) × (b ≡ None)
@@ -83,18 +85,6 @@ all_acts number client (suc n) a =
     ∙ one_acts number client a (acts_of (map (calls_at number client) (range_with_len (a + 1) n))))
 
 -- ---- the clients
-all_transactions : (clients size c : ℕ) → 1 ≤ c → c ≤ clients → transactions_of clients size c ≡ size
-all_transactions clients size c l h = rw (le-leb 1 c l, le-leb c clients h) refl
-
-none_beyond : (clients size c : ℕ) → clients < c → transactions_of clients size c ≡ 0
-none_beyond clients size c h = rw (lt-leb c clients h) (by_first (leb 1 c))
-  where
-    by_first : (x : Bool) → cond (x && false) size 0 ≡ 0
-    by_first true = refl
-    by_first false = refl
-
-none_before : (clients size c : ℕ) → c < 1 → transactions_of clients size c ≡ 0
-none_before clients size c h = rw (lt-leb 1 c h) refl
 
 is_among_them : (number size n a c : ℕ) → a ≤ c → c < a + n → is_among (map told_by (map (block number size) (range_with_len a n))) c ≡ true
 is_among_them number size zero a c le lt = absurd (omega (arith, le, lt))
@@ -109,18 +99,12 @@ is_among_them number size (suc n) a c le lt = by_test (a == c) (λ away. is_amon
         or_so true e = refl
         or_so false e = e
 
--- one block
-got : {X Y : Type 0} (f : X → Y) (xs : List X) (i : ℕ) (y : Y) → slice_get (map f xs) i ≡ Some y → (x : X) × (slice_get xs i ≡ Some x) × (y ≡ f x)
-got f [] i y e = absurd cc
-got f (x ∷ xs) zero y e = let same : f x ≡ y = cc in (x, refl, sym same)
-got f (x ∷ xs) (suc i) y e = got f xs i y e
-
 pub are_told : (clients size number : ℕ) → AreTold (calls_told clients size number) (map told_by (generated clients size number))
 are_told clients size number = record { acts = acts; others = others }
   where
     acts : (i : ℕ) (b : Told) → slice_get (map told_by (generated clients size number)) i ≡ Some b → b.acts ≡ acts_of (calls_told clients size number b.client)
     acts i b e =
-        let one = got told_by (generated clients size number) i b e in
+        let one = get_back told_by (generated clients size number) i b e in
         let two = at (block number size) clients 1 i one.0 one.1 in
         let client : b.client ≡ 1 + i = ap (λ (t : Told). t.client) one.2 ∙ ap (λ (x : Block). x.client) two.1 in
         let told : b.acts ≡ map act_by (commands_of number size (1 + i)) = ap (λ (t : Told). t.acts) one.2 ∙ ap (λ (x : Block). map act_by x.commands) two.1 in

@@ -1,7 +1,7 @@
 -- A run goes on from command to command, whether damage escaped before or not.
 use Rattle.std.proofs.Common.{◌≡◌, ℕ, Bool, true, List, [], ◌∷◌, Option, Some, None, map, refl, sym, subst, inl, inr}
 use Rattle.std.specs.Prelude.{IfSome}
-use Rattle.dali_chain.proofs.Made.{format_begins, restart_begins}
+use Rattle.dali_run.proofs.Made.{format_begins, restart_begins}
 use Rattle.dali_clients.specs.Said.{Transcribed}
 use Rattle.dali_crash.specs.Checkpoints.{Point}
 use Rattle.dali_crash.specs.Traces.{Start, start_point}
@@ -46,9 +46,9 @@ module _ {V : Type 0} (told : V → Option Disk) (may_leave : V → Disk → Typ
   pub standing_of : (base : List Record) (core : Core (Fuse V)) → IsPointOf told may_leave faults base core → IsStanding core
   standing_of base core a = record { start = a.start; batches = a.batches; point = a.point; begins = a.begins }
 
-  pub stands_of : (base : List Record) (p : Program V) → IsAPoint told may_leave faults base p → Stands p
-  stands_of base (Up core) a = standing_of base core a
-  stands_of base (Down store) a = tt
+  pub stands_of : (Safe : Disk → Type 0) (base : List Record) (p : Program V) → IsAPoint told may_leave faults Safe base p → Stands p
+  stands_of Safe base (Up core) a = standing_of base core a
+  stands_of Safe base (Down store) a = tt
 
   up_stands : (core : Core (Fuse V)) (new : Program V) → new ≡ Up core → IsStanding core → Stands new
   up_stands core new up a = subst Stands (sym up) a
@@ -110,7 +110,7 @@ module _ {V : Type 0} (told : V → Option Disk) (may_leave : V → Disk → Typ
       subst Is (sym stops.read.same) (record { start = a.start; batches = a.batches; point = there.to; begins = there.begins })
 
   -- ---- each command
-  alone_stands : (name : Name) (act : Act) (old new : Program V) (text : List ℕ) → StepsAlone told may_leave faults precheck name act old text new → Are old → Are new
+  alone_stands : (name : Name) (act : Act) (old new : Program V) (text : List ℕ) → StepsAlone told may_leave moment left_since faults precheck name act old text new → Are old → Are new
   alone_stands name act (Up core) new text step a =
       up_stands told may_leave faults step.0 new step.2 (round_stands told may_leave faults precheck (alone act) core step.0 step.1.transcripts step.1.plays a)
   alone_stands name act (Down store) new text step a = down_stands told may_leave faults store new step.1

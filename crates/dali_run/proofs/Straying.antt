@@ -1,9 +1,9 @@
 -- An audit or a checkpoint outside of a round names just the regions whose stray writes don't cancel.
 use Rattle.std.proofs.Common.{◌≡◌, ◌≢◌, ◌<◌, ℕ, zero, suc, Bool, true, false, List, [], ◌∷◌, ◌++◌, Option, Some, None, length, map, take, refl, sym, ◌∙◌, ap, subst, inl, inr, ⊎_elim, arith}
-use Rattle.std.specs.Prelude.{◌⊎◌, ◌↔◌, ◌==◌, ◌&&◌, ◌||◌, Contains, IsSome, flat_map, fold, if◌then◌else◌, nat_lt, not, slice_get}
+use Rattle.std.specs.Prelude.{◌⊎◌, ◌↔◌, ◌==◌, ◌&&◌, Contains, IsSome, flat_map, fold, if◌then◌else◌, nat_lt, not, slice_get}
 use Rattle.std.specs.List.{AllByRecursion, list_all, list_any}
 use Rattle.std.proofs.lemmas.List.{append-nil}
-use Rattle.std.proofs.lemmas.Bool.{eqb-true, ltb-true}
+use Rattle.std.proofs.lemmas.Bool.{eqb-true, ltb-true, and_parts, or_parts}
 use Rattle.dali_clients.specs.Said.{Transcribed}
 use Rattle.dali_memstore.specs.declared.fuse.Fuse.{Fuse}
 use Rattle.dali_geometry.specs.Places.{regions}
@@ -17,6 +17,7 @@ use Rattle.dali_region.specs.State.{RegionState}
 use Rattle.dali_report.specs.Lines.{alone_text}
 use Rattle.dali_round.specs.Leads.{lines_in}
 use Rattle.dali_store.specs.Store.{Files as Disk}
+use Rattle.dali_history.proofs.Prefixes.{rules_front}
 use Rattle.dali_system.specs.Run.{LogRun}
 use Rattle.dali_system.specs.State.{CoreState}
 use Rattle.dali_system.specs.Steps.{audit_record}
@@ -188,14 +189,6 @@ only_one d e = eqb-true 1 d (by_test (1 == d) e)
 abbrev are_ones : List Happening → Bool
 are_ones xs = list_all (λ (x : Happening). is_among (alone Audits) x.1) xs
 
-both : (a b : Bool) → (a && b) ≡ true → (a ≡ true) × (b ≡ true)
-both true b e = (refl, e)
-both false b e = absurd (cc e)
-
-neither : (a b : Bool) → (a || b) ≡ false → (a ≡ false) × (b ≡ false)
-neither true b e = absurd (cc e)
-neither false b e = (refl, e)
-
 calm_step : (r s n c : ℕ) (x : Deed) → is_stray (n, x) ≡ false → stray_after r s ((x, c) ∷ []) ≡ s
 calm_step r s n c (Strays region word mask) none = absurd (cc none)
 calm_step r s n c x none = refl
@@ -205,15 +198,15 @@ stays r s n [] all none zero = refl
 stays r s n [] all none (suc j) = refl
 stays r s n (x ∷ xs) all none zero = refl
 stays r s n ((x, d) ∷ xs) all none (suc j) =
-    let parts = both (is_among (alone Audits) d) (are_ones xs) all in
+    let parts = and_parts (is_among (alone Audits) d) (are_ones xs) all in
     let here : list_any is_stray (owned 1 n ((x, 1) ∷ xs)) ≡ false = subst (λ (k : ℕ). list_any is_stray (owned 1 n ((x, k) ∷ xs)) ≡ false) (sym (only_one d parts.0)) none in
-    let quiet = neither (is_stray (n, x)) (list_any is_stray (owned 1 (count_with n x) xs)) here in
+    let quiet = or_parts (is_stray (n, x)) (list_any is_stray (owned 1 (count_with n x) xs)) here in
     ap (λ (k : ℕ). stray_after r k (take j xs)) (calm_step r s n d x quiet.0) ∙ stays r s (count_with n x) xs parts.1 quiet.1 j
 
 logged : (x : Record) (n : ℕ) (xs : List Happening) → are_ones xs ≡ true → HasRecord x (owned 1 n xs) → IsLogged x xs
 logged x n [] all has = absurd has
 logged x n ((y, d) ∷ xs) all has =
-    let parts = both (is_among (alone Audits) d) (are_ones xs) all in
+    let parts = and_parts (is_among (alone Audits) d) (are_ones xs) all in
     let same = only_one d parts.0 in
     let here : HasRecord x (owned 1 n ((y, 1) ∷ xs)) = subst (λ (k : ℕ). HasRecord x (owned 1 n ((y, k) ∷ xs))) (sym same) has in
     subst (λ (k : ℕ). IsLogged x ((y, k) ∷ xs)) same
@@ -250,15 +243,10 @@ rules_tell : (s : Sizes) (o : Option Rules) (b : ℕ) (rs : List ℕ) → IsSome
 rules_tell s None b rs is = absurd (cc is)
 rules_tell s (Some g) b rs is = kept_only (g.count == 0) g.failed (has g.audits b && not (has g.closed b)) (list_all (λ r. nat_lt r (regions s)) rs) _ is
 
-front_rules : (s : Sizes) (o : Option Rules) (L : List Record) → IsSome (fold (rules_next s) o L) → IsSome o
-front_rules s None [] is = is
-front_rules s None (x ∷ L) is = front_rules s None L is
-front_rules s (Some g) L is = refl
-
 rules_at : (s : Sizes) (o : Option Rules) (L : List Record) (n b : ℕ) (rs : List ℕ) → IsSome (fold (rules_next s) o L) → slice_get L n ≡ Some (AuditFail b rs) → AreBelow (regions s) rs
 rules_at s o [] n b rs is e = absurd (cc e)
 rules_at s o (x ∷ L) zero b rs is e =
-    let same : x ≡ AuditFail b rs = cc e in rules_tell s o b rs (subst (λ (y : Record). IsSome (rules_next s o y)) same (front_rules s (rules_next s o x) L is))
+    let same : x ≡ AuditFail b rs = cc e in rules_tell s o b rs (subst (λ (y : Record). IsSome (rules_next s o y)) same (rules_front s (rules_next s o x) L is))
 rules_at s o (x ∷ L) (suc n) b rs is e = rules_at s (rules_next s o x) L n b rs is e
 
 list_at : (s : Sizes) (L : List Record) (n b : ℕ) (found : List ℕ) → LogRun s L → slice_get L n ≡ Some (audit_record b found) → IsList (regions s) found
@@ -275,8 +263,8 @@ in_log L x ((n, y) ∷ xs) all has = ⊎_elim (λ here. (n, subst (λ (z : Deed)
 pub below_at : (count : ℕ) (found : List ℕ) (r : ℕ) → AreBelow count found → Contains found r → r < count
 below_at count [] r all (i, within, is) = absurd (omega (arith, within))
 below_at count (x ∷ xs) r all (zero, within, is) =
-    let same : x ≡ r = is in subst (λ (k : ℕ). k < count) same (ltb-true x count (both (nat_lt x count) (list_all (λ q. nat_lt q count) xs) all).0)
-below_at count (x ∷ xs) r all (suc i, within, is) = below_at count xs r (both (nat_lt x count) (list_all (λ q. nat_lt q count) xs) all).1 (i, omega (arith, within), is)
+    let same : x ≡ r = is in subst (λ (k : ℕ). k < count) same (ltb-true x count (and_parts (nat_lt x count) (list_all (λ q. nat_lt q count) xs) all).0)
+below_at count (x ∷ xs) r all (suc i, within, is) = below_at count xs r (and_parts (nat_lt x count) (list_all (λ q. nat_lt q count) xs) all).1 (i, omega (arith, within), is)
 
 -- ---- the text of a transcript
 pub record SaysOnce (w : World) (ts : List Transcribed) : Type 0 where
@@ -297,8 +285,8 @@ says_once w act (t ∷ []) lone tells =
       tells = once.tells;
     }
 
-module _ {V : Type 0} (told : V → Option Disk) (may_leave : V → Disk → Type 0) (faults : V → ℕ) (precheck : Bool) where
-  pub record LoneNames (act : Act) (c : Core (Fuse V)) (text : List ℕ) (d : Core (Fuse V)) (acts : ActsAlone told may_leave faults precheck act c text d) : Type 0 where
+module _ {V : Type 0} (told : V → Option Disk) (may_leave : V → Disk → Type 0) (moment : V → ℕ) (left_since : V → ℕ → Disk → Type 0) (faults : V → ℕ) (precheck : Bool) where
+  pub record LoneNames (act : Act) (c : Core (Fuse V)) (text : List ℕ) (d : Core (Fuse V)) (acts : ActsAlone told may_leave moment left_since faults precheck act c text d) : Type 0 where
     pub line : Said
     pub lines_are : map lines_in acts.transcripts ≡ (line ∷ []) ∷ []
     pub printed : text ≡ alone_text line
@@ -306,7 +294,7 @@ module _ {V : Type 0} (told : V → Option Disk) (may_leave : V → Disk → Typ
     pub names : (found : List ℕ) → list_in line ≡ Some found → (r : ℕ) (g : RegionState) → slice_get c.regions.items r ≡ Some g → Contains found r ↔ (g.stray ≢ 0)
 
   pub lone_names : (act : Act) (c d : Core (Fuse V)) (text : List ℕ) → is_lone act ≡ true → IsStanding told may_leave faults c
-      → (acts : ActsAlone told may_leave faults precheck act c text d) → LoneNames act c text d acts
+      → (acts : ActsAlone told may_leave moment left_since faults precheck act c text d) → LoneNames act c text d acts
   lone_names act c d text lone at acts =
       let led = acts.plays at.start at.batches at.point at.begins in
       let round = led.round in
@@ -334,7 +322,7 @@ module _ {V : Type 0} (told : V → Option Disk) (may_leave : V → Disk → Typ
             names_strays round.world round.together round.transcripts.owners tells.0 found tells.1 tells.2 r g (ap (λ (l : List RegionState). slice_get l r) start_is ∙ region);
       }
 
-  pub lone_audit_tells : LoneAuditTells told may_leave faults precheck
+  pub lone_audit_tells : LoneAuditTells told may_leave moment left_since faults precheck
   lone_audit_tells base c d text found at acts lines_are r g region =
       let once = lone_names Audits c d text refl (standing_of told may_leave faults base c at) acts in
       let same : once.line ≡ AuditSaid found = cc (sym once.lines_are ∙ lines_are) in

@@ -10,8 +10,8 @@ use Rattle.dali_arguments.specs.Meaning.{meaning}
 use Rattle.dali_arguments.specs.declared.task.Task.{Task}
 use Rattle.dali_arguments.specs.declared.task.Task.TheVariants.{Run, Generate, Dump}
 use Rattle.dali_arguments.proofs.InRange.{in_range}
-use Rattle.dali_chain.proofs.Made.{format_begins, restart_begins}
-use Rattle.dali_chain.proofs.Shown.{right_at}
+use Rattle.dali_run.proofs.Made.{format_begins, restart_begins}
+use Rattle.dali_run.proofs.Shown.{right_at}
 use Rattle.dali_again.proofs.Stages.{same_sizes}
 use Rattle.dali_crash.specs.Checkpoints.{Point}
 use Rattle.dali_crash.specs.CrashLogs.{IsUnpoked, cut_to}
@@ -64,23 +64,24 @@ use Rattle.dali_run.specs.declared.program.Program.{Program}
 use Rattle.dali_run.specs.declared.program.Program.TheVariants.{Up, Down}
 use Rattle.dali_run.specs.declared.status.Status.TheVariants.{Done}
 use Rattle.dali_run.specs.Ends.{Course, Ended, EndedGenerator, GeneratorFinds, LastLine}
-use Rattle.dali_run.specs.Generating.{first_full, halt_of, halt_of_round, sum_of_keys}
-use Rattle.dali_run.specs.Honest.{NonePoked, PokesNowhere}
+use Rattle.dali_run.specs.Generating.{fails_by_fuse, first_full, halt_of, halt_of_round, sum_of_keys}
+use Rattle.dali_run.specs.Honest.{AreHonest, FoundIsHonest, NonePoked, PokesNowhere}
 use Rattle.dali_run.specs.Program.{IsDown, store_of, told_in, leaves_in, faults_in}
 use Rattle.dali_run.specs.Steps.{Plays, Restarts, StepsSize}
 use Rattle.dali_run.specs.Summaries.{SummaryDepends}
-use Rattle.dali_run.specs.Survives.{FoundIsHonest, IsHonest, IsOwn, IsPointOf, NoneEscapesAt}
+use Rattle.dali_run.specs.Survives.{IsOwn, IsPointOf, NoneEscapesAt}
 use Rattle.dali_run.specs.Told.{told_by, sizes_of}
 use Rattle.dali_run.proofs.Honest.{played_unpoked, runs_are_honest}
 use Rattle.dali_run.proofs.Serves.{all_fit, are_told, one_each}
 use Rattle.dali_run.proofs.Surviving.{no_words, no_heads, none_synced, none_escapes, own_same, at_start, tells_on, told_there}
 
 -- ---- a round that ended nothing: its log had room, and nothing stopped it
-ended_none : (full : Option Halt) (stop : Option Cause) → halt_of full stop ≡ None → (full ≡ None) × (stop ≡ None)
-ended_none (Some halt) stop e = absurd cc
-ended_none None (Some Store) e = absurd cc
-ended_none None (Some (Damage region)) e = absurd cc
-ended_none None None e = (refl, refl)
+ended_none : (full : Option Halt) (stop : Option Cause) (by_fuse : Bool) → halt_of full stop by_fuse ≡ None → (full ≡ None) × (stop ≡ None)
+ended_none (Some halt) stop by_fuse e = absurd cc
+ended_none None (Some Store) false e = absurd cc
+ended_none None (Some Store) true e = absurd cc
+ended_none None (Some (Damage region)) by_fuse e = absurd cc
+ended_none None None by_fuse e = (refl, refl)
 
 -- ---- the whole log of a run where nobody wrote astray is a history
 take_whole : (L : List Record) → take (length L) L ≡ L
@@ -165,7 +166,7 @@ module _ {V : Type 0} (told : V → Option Disk) (may_leave : V → Disk → Typ
       served : HasServed calls (log_in files)
 
     served_behind : (made played : Core (Fuse V)) (ts : List Transcribed) → IsFirst (sizes_of (index_regions clients size) (heap_regions clients size)) made → Plays told may_leave faults false true blocks made ts played
-        → halt_of_round ts played.system.state.stop ≡ None → is_some (told_in told played.vault.store) ≡ true → NonePoked played.regions.items → NoneEscapesAt told may_leave played
+        → halt_of_round ts played.system.state.stop (fails_by_fuse made played) ≡ None → is_some (told_in told played.vault.store) ≡ true → NonePoked played.regions.items → NoneEscapesAt may_leave played
         → (c : Disk) → leaves_in may_leave played.vault.store c → IsLeftBy played c
     served_behind made played ts first plays ended tells quiet none c may =
         let s = sizes_of (index_regions clients size) (heap_regions clients size) in
@@ -177,7 +178,7 @@ module _ {V : Type 0} (told : V → Option Disk) (may_leave : V → Disk → Typ
         let one = each c may in
         let E = one.0 in
         let t = one.2 in
-        let escapes : NoneEscapes (last_epoch (log_in E)) led.to.core = none_escapes (last_epoch (log_in E)) played.regions.items played.system.state led.to.core.vault led.to.core stands.at.regions (none led.to.core.vault c E may one.1) in
+        let escapes : NoneEscapes (last_epoch (log_in E)) led.to.core = none_escapes (last_epoch (log_in E)) played.regions.items played.system.state led.to.core.vault led.to.core stands.at.regions (none c may led.to.core.vault E one.1) in
         let found = crash_is_found start t.first t.starts (start_has_place start t.first t.starts a.placed) t.steps led.to E t.trace escapes.seen in
         let right = (every_trace_is_right start t.first t.starts t.steps led.to E t.trace).right a.history escapes in
         let prefix = trace_prefix start t.first t.starts t.steps led.to E t.trace in
@@ -195,7 +196,7 @@ module _ {V : Type 0} (told : V → Option Disk) (may_leave : V → Disk → Typ
         let whole : IsHistory (log_of w) =
         subst (λ (K : List Record). IsHistory K) log (whole_history (bases_of start) led.to.log led.to.core runs (right_at start led.batches led.to a.history E t) from calm) in
         let rows : HasNoRows a.point.core = λ n. ap (λ (p : Point). row_of p.core.system n) first.point ∙ get-empty nat_cmp n in
-        let two = ended_none (first_full ts) played.system.state.stop ended in
+        let two = ended_none (first_full ts) played.system.state.stop (fails_by_fuse made played) ended in
         let all : AllServed (map lines_in ts) =
         generated_are_served clients size number start.log a.point.core led.to.core blocks (map lines_in ts) (map (λ (x : Transcribed). x.receipts) ts) within led.round before rows whole
         (are_told clients size number) (one_each clients size number) (ap (λ (z : SystemState). z.stop) stands.at.system ∙ two.1) (all_fit ts two.0) in
@@ -277,7 +278,7 @@ module _ {V : Type 0} (told : V → Option Disk) (may_leave : V → Disk → Typ
 
     of_task : (words : List (List ℕ)) (task : Option Task) → meaning words ≡ task → (clients size number : ℕ) → task ≡ Some (Generate clients size number)
         → (mid : Option (List ℕ)) (count : ℕ) (ended : Ended told may_leave moment left_since faults cuts task c mid count Done)
-        → IsHonest told may_leave moment left_since faults cuts c mid count task Done ended → Appends c.taken (summary_left clients size number) mid
+        → AreHonest told may_leave moment left_since faults cuts c mid count task Done ended → Appends c.taken (summary_left clients size number) mid
     of_task words None is clients size number same mid count ended honest = absurd cc
     of_task words (Some Dump) is clients size number same mid count ended honest = absurd cc
     of_task words (Some (Run precheck limit)) is clients size number same mid count ended honest = absurd cc

@@ -14,9 +14,10 @@ use Rattle.dali_crash.specs.Traces.{Start, bases_of, start_point}
 use Rattle.dali_crash.proofs.Courses.{format_is_history}
 use Rattle.dali_crash.proofs.Growth.{course_grows}
 use Rattle.dali_crash.proofs.Traces.{every_trace_is_right, trace_prefix}
-use Rattle.dali_again.proofs.Found.{crash_is_found}
+use Rattle.dali_again.proofs.Found.{crash_is_found, right_is_found}
 use Rattle.dali_again.proofs.Places.{start_has_place}
-use Rattle.dali_chain.proofs.Made.{format_begins, restart_begins}
+use Rattle.dali_run.proofs.Made.{format_begins, restart_begins}
+use Rattle.dali_checkpoint.proofs.Calls.{course_join}
 use Rattle.dali_ends.specs.Stands.{StandsAt}
 use Rattle.dali_geometry.specs.Sizes.{AreInRange, Sizes}
 use Rattle.dali_history.specs.History.{IsHistory}
@@ -40,9 +41,10 @@ use Rattle.dali_restart.proofs.Exact.{one_answer}
 use Rattle.dali_restart.proofs.Once.{reads_once}
 use Rattle.dali_restart.proofs.Telling.{found_good}
 use Rattle.dali_round.specs.Leads.{BeginsAt}
+use Rattle.dali_round.specs.Moments.{IsRightBetween}
 use Rattle.dali_store.specs.declared.store.FileName.{FileName}
 use Rattle.dali_store.specs.Faults.{Rose}
-use Rattle.dali_store.specs.Store.{Files as Disk, LeavesOnly}
+use Rattle.dali_store.specs.Store.{Files as Disk, LeavesOnly, Only}
 use Rattle.dali_system.specs.declared.causes.Cause.{Cause}
 use Rattle.dali_system.specs.Courses.{ReadFails}
 use Rattle.dali_system.specs.Crashes.{NoneEscapes}
@@ -50,7 +52,7 @@ use Rattle.dali_system.specs.Images.{Told}
 use Rattle.dali_system.specs.Run.{log_in, no_image}
 use Rattle.dali_system.specs.State.{CoreState, SystemState, VaultState, stable}
 use Rattle.dali_system.proofs.Loads.{format_rests}
-use Rattle.dali_traces.specs.Bridges.{IsNewVault, TracedTo, first_start}
+use Rattle.dali_traces.specs.Bridges.{IsNewVault, LeavesRightAt, TracedTo, first_start}
 use Rattle.dali_traces.proofs.Bridges.{format_starts}
 use Rattle.dali_traces.specs.Disks.{AllSpell, Spells, head_of}
 use Rattle.dali_traces.specs.NewFiles.{ReadsCopies}
@@ -75,7 +77,7 @@ use Rattle.dali_run.specs.Fails.{AloneFails, Breaks, Fails, IsBadFor, Lost, Stor
 use Rattle.dali_run.specs.Program.{IsDown, store_of, told_in, leaves_in, moment_in, since_in, faults_in}
 use Rattle.dali_run.specs.Run.{HasRun, RunsAll}
 use Rattle.dali_run.specs.Steps.{dead_in, CleansAll, CleansUp, CleanupIn, EndsComparison, HasCleaned, Makes, Plays, Rereads, Restarts, SetsFuse, ShowIn, Steps, StepsAlone, StepsRestart, StepsSize, VerifyIn}
-use Rattle.dali_run.specs.Survives.{AllSurvive, BeginsWith, HaltSurvives, HasLog, Holds, IsAPoint, IsLoggedBy, IsOwn, IsPointOf, MemoryIsHonest, MemorySurvives, NoneEscape, NoneEscapeThere, NoneEscapesAlone, NoneEscapesAt, NoneEscapesBehind, NoneEscapesCut, NoneEscapesFailed, NoneEscapesIn, NoneEscapesLeft, NoneEscapesLost, ScriptIsHonest, ScriptSurvives, StopIsHonest}
+use Rattle.dali_run.specs.Survives.{AllSurvive, AnyFiles, BeginsWith, HaltSurvives, HasLog, Holds, IsAPoint, IsLoggedBy, IsOwn, IsOwnWhere, IsPointOf, MemorySurvives, NoneEscape, NoneEscapeThere, NoneEscapesAlone, NoneEscapesBehind, NoneEscapesCut, NoneEscapesFailed, NoneEscapesFound, NoneEscapesFrom, NoneEscapesIn, NoneEscapesLeft, NoneEscapesLost, NoneEscapesMaking, NoneEscapesOld, NoneEscapesRead, NoneEscapesRestarted, NoneEscapesStopped, NoneEscapesWanting, SafeAfter, SafeBehind, SafeCut, SafeRestarted, SafeStopped, SafeThere, ScriptIsHonest, ScriptSurvives}
 use Rattle.dali_run.specs.Told.{AreFit, IsFit, told_by, alone, sizes_of}
 use Rattle.dali_run.proofs.Cleanings.{idle_runs, moved_all}
 use Rattle.dali_run.proofs.Fit.{all_fit}
@@ -142,39 +144,104 @@ crash_holds s B p E base c spells t placed history none flushed =
           (begins_then base (take (stable p.core) p.log) (take prefix.count p.log) flushed (front_of (stable p.core) prefix.count p.log prefix.flushed));
     }
 
+-- and each that restarts right at a point
+right_holds : (s : Start) (p : Point) (E : Files) (base : List Record) (c : Disk) → Spells c E → LeavesRightAt s p E → IsPlaced s → IsHistory s.log
+    → NoneEscapes (last_epoch (log_in E)) p.core → BeginsWith base (take (stable p.core) p.log) → HasLog base c
+right_holds s p E base c spells left placed history none flushed =
+    let right = left.right.right history none in
+    let prefix = left.prefix in
+    record {
+      files = E;
+      spells = spells;
+      finds = right_is_found s p E placed none.seen left;
+      history = right.restarts.history;
+      begins =
+          subst (BeginsWith base) (sym prefix.log)
+          (begins_then base (take (stable p.core) p.log) (take prefix.count p.log) flushed (front_of (stable p.core) prefix.count p.log prefix.flushed));
+    }
+
+same_none : (e : Epoch) (c d : CoreState) → c.regions ≡ d.regions → NoneEscapes e d → NoneEscapes e c
+same_none e c d same none = record {
+  seen = λ r g there. none.seen r g (subst (λ (l : List RegionState). slice_get l r ≡ Some g) same there);
+  named = λ r g there. none.named r g (subst (λ (l : List RegionState). slice_get l r ≡ Some g) same there);
+}
+
+-- where the program is down over the handed-in store nothing is asked of files
+some_any : (o : Option Disk) → IfSome o AnyFiles
+some_any None = tt
+some_any (Some fs) = tt
+
+pub none_down : {V : Type 0} (told : V → Option Disk) (p : Program V) (store : V) → IsDown p store → NoneEscapesRead told AnyFiles p
+none_down told p store down = subst (λ q. IfSome (told (inner (store_of q))) (NoneEscapesIn AnyFiles q)) (sym down.down) (some_any (told (inner down.fuse)))
+
+-- nor behind a database's making, or a restart, that failed
+pub making_down : {V : Type 0} (told : V → Option Disk) (may_leave : V → Disk → Type 0) (p : Program V) (store : V) → IsDown p store → (d : Disk) → NoneEscapesMaking told may_leave AnyFiles p d
+making_down told may_leave p store down d = inr (none_down told p store down, subst (λ q. NoneEscapesOld may_leave AnyFiles q d) (sym down.down) (λ may. tt))
+
 module _ {V : Type 0} (told : V → Option Disk) (may_leave : V → Disk → Type 0) (faults : V → ℕ) where
   -- wherever a core stands, behind a round that was cut too
   pub stands_own : (base : List Record) (core : Core (Fuse V)) (s : Start) (B : List (List Record)) (p : Point)
       → StandsAt (told_in told) (leaves_in may_leave) (faults_in faults) s B p core.regions.items core.system.state core.vault → IsPlaced s → IsHistory s.log
-      → BeginsWith base (take (stable p.core) p.log) → is_some (told_in told core.vault.store) ≡ true → NoneEscapesAt told may_leave core
-      → IsOwn told may_leave base (inner core.vault.store)
-  stands_own base core s B p stands placed history flushed tells none =
+      → BeginsWith base (take (stable p.core) p.log) → is_some (told_in told core.vault.store) ≡ true
+      → IsOwnWhere told may_leave (NoneEscapesFrom core) base (inner core.vault.store)
+  stands_own base core s B p stands placed history flushed tells =
       let all : AllSpell (leaves_in may_leave core.vault.store) (TracedTo s B p) = told_there (told_in told core.vault.store) tells stands.at.vault.files in (
         tells,
-        λ c may.
+        λ c may none.
             let one = all c may in
             inr
             (crash_holds s B p one.0 base c one.1 one.2 placed history
-            (none_escapes (last_epoch (log_in one.0)) core.regions.items core.system.state p.core.vault p.core stands.at.regions (none p.core.vault c one.0 may one.1))
+            (none_escapes (last_epoch (log_in one.0)) core.regions.items core.system.state p.core.vault p.core stands.at.regions (none p.core.vault one.0 one.1))
             flushed),
       )
 
-  pub own_store : (base : List Record) (p : Program V) → IsAPoint told may_leave faults base p → NoneEscapesIn told may_leave p → IsOwn told may_leave base (inner (store_of p))
-  own_store base (Up core) a none =
-      stands_own base core a.start a.batches a.point a.begins.stands a.placed a.history (subst (BeginsWith base) a.flushed (begins_all base)) a.tells none
-  own_store base (Down store) a none = a
+  pub own_store : (Safe : Disk → Type 0) (base : List Record) (p : Program V) → IsAPoint told may_leave faults Safe base p
+      → IsOwnWhere told may_leave (NoneEscapesIn Safe p) base (inner (store_of p))
+  own_store Safe base (Up core) a = stands_own base core a.start a.batches a.point a.begins.stands a.placed a.history (subst (BeginsWith base) a.flushed (begins_all base)) a.tells
+  own_store Safe base (Down store) a = a
 
   pub own_same : (base : List Record) (a b : V) → a ≡ b → IsOwn told may_leave base a → IsOwn told may_leave base b
   own_same base a b same own = subst (IsOwn told may_leave base) same own
 
-  pub begins_down : (base : List Record) (p : Program V) (store : V) → IsDown p store → IsOwn told may_leave base store → IsAPoint told may_leave faults base p
-  begins_down base p store down own =
-      subst (IsAPoint told may_leave faults base) (sym down.down) (own_same base store (inner down.fuse) (sym down.store_is) own)
+  pub where_same : (P : Disk → Type 0) (base : List Record) (a b : V) → a ≡ b → IsOwnWhere told may_leave P base a → IsOwnWhere told may_leave P base b
+  where_same P base a b same own = subst (IsOwnWhere told may_leave P base) same own
+
+  -- all files have P
+  pub own_all : (P : Disk → Type 0) (base : List Record) (s : V) → ((c : Disk) → may_leave s c → P c) → IsOwnWhere told may_leave P base s → IsOwn told may_leave base s
+  own_all P base s all own = (own.0, λ c may. own.1 c may (all c may))
+
+  pub any_own : (P : Disk → Type 0) (base : List Record) (s : V) → IsOwn told may_leave base s → IsOwnWhere told may_leave P base s
+  any_own P base s own = (own.0, λ c may is. own.1 c may)
+
+  -- files that were left before, from which none escapes, stay; of others that they come of the files as they read
+  abbrev pub IsKept : (Disk → Type 0) → V → Disk → Type 0
+  IsKept P old c = (may_leave old c × P c) ⊎ (IfSome (told old) P × (may_leave old c → P c))
+
+  pub was_before : (P : Disk → Type 0) (base : List Record) (old : V) (c : Disk) → IsOwnWhere told may_leave P base old
+      → (IfSome (told old) P → (may_leave old c → P c) → Holds base c) → IsKept P old c → Holds base c
+  was_before P base old c own comes (inl was) = own.1 c was.0 was.1
+  was_before P base old c own comes (inr none) = comes none.0 none.1
+
+  point_down : (Safe : Disk → Type 0) (base : List Record) (p : Program V) (store : V) → IsDown p store → IsOwn told may_leave base store → IsAPoint told may_leave faults Safe base p
+  point_down Safe base p store down own =
+      subst (IsAPoint told may_leave faults Safe base) (sym down.down) (any_own Safe base (inner down.fuse) (own_same base store (inner down.fuse) (sym down.store_is) own))
+
+  pub begins_down : (base : List Record) (p : Program V) (store : V) → IsDown p store → IsOwn told may_leave base store → IsAPoint told may_leave faults AnyFiles base p
+  begins_down base p store down own = point_down AnyFiles base p store down own
 
   -- ---- a crash, and the fuse
-  pub crash_own : (base : List Record) (old new : V) → is_some (told new) ≡ is_some (told old) → ((c : Disk) → may_leave new c → may_leave old c) → IsOwn told may_leave base old
-      → IsOwn told may_leave base new
-  crash_own base old new tells less own = (tells ∙ own.0, λ c may. own.1 c (less c may))
+  crash_own : (P : Disk → Type 0) (base : List Record) (old new : V) → is_some (told new) ≡ is_some (told old) → ((c : Disk) → may_leave new c → may_leave old c) → IsOwnWhere told may_leave P base old
+      → IsOwnWhere told may_leave P base new
+  crash_own P base old new tells less own = (tells ∙ own.0, λ c may is. own.1 c (less c may) is)
+
+  -- the files that it keeps have P
+  crash_keeps : (P : Disk → Type 0) (base : List Record) (old new : V) → is_some (told new) ≡ is_some (told old) → ((c : Disk) → may_leave new c → may_leave old c)
+      → IfSome (told new) (λ fs. Only fs (may_leave new)) → IfSome (told new) P → IsOwnWhere told may_leave P base old → IsOwn told may_leave base new
+  crash_keeps P base old new tells less durable none own = (tells ∙ own.0, by_told (told new) (tells ∙ own.0) durable none)
+    where
+      by_told : (o : Option Disk) → is_some o ≡ true → IfSome o (λ fs. Only fs (may_leave new)) → IfSome o P → (c : Disk) → may_leave new c → Holds base c
+      by_told None is only none c may = absurd cc
+      by_told (Some fs) is only none c may = own.1 c (less c may) (subst P (sym (only c may)) none)
 
   faults_same : (passes : ℕ) (f g : Fuse V) → SetsFuse passes f g → faults_in faults f ≡ faults_in faults g
   faults_same passes f g set = ap (λ (n : ℕ). faults (inner f) + n) (sym set.failed) ∙ ap (λ (s : V). faults s + failed_of g) (sym set.store)
@@ -251,6 +318,15 @@ module _ {V : Type 0} (told : V → Option Disk) (may_leave : V → Disk → Typ
         };
       }
 
+  -- what is left at a moment within it came from a point between
+  pub between_holds : (base : List Record) (c : Core (Fuse V)) (a : IsPointOf told may_leave faults base c) (q : Point) (disk : Disk) (E : Files) → Spells disk E
+      → (is : IsRightBetween a.start a.point q E) → NoneEscapes (last_epoch (log_in E)) is.between.core → HasLog base disk
+  between_holds base c a q disk E spells is none =
+      let course = course_join a.point is.between is.to is.before is.steps is.comes is.course in
+      let goes = course_grows (bases_of a.start) a.start.log a.point is.to (is.before ++ is.steps) a.begins.stands.at.vault.run.run course in
+      right_holds a.start is.to E base disk spells is.right a.placed a.history (same_none (last_epoch (log_in E)) is.to.core is.between.core is.regions none)
+      (grown_more a.point is.to base a.flushed goes.records goes.grown.flushed)
+
 -- ---- files without a database
 no_log : (base : List Record) (fs : Disk) → IsUnformatted fs.log → Holds base fs → base ≡ []
 no_log base fs without (inl none) = none.1
@@ -267,7 +343,7 @@ pub none_synced : Side → Bool
 none_synced side = false
 
 -- ---- a command of a script that is spelled
-fit_front : (n : ℕ) (script : List Command) → AreFit script → AreFit (take n script)
+pub fit_front : (n : ℕ) (script : List Command) → AreFit script → AreFit (take n script)
 fit_front zero script all = tt
 fit_front (suc n) [] all = tt
 fit_front (suc n) (c ∷ script) all = (all.0, fit_front n script all.1)
@@ -336,27 +412,27 @@ first_holds s range may c is =
 
 module _ {V : Type 0} (told : V → Option Disk) (may_leave : V → Disk → Type 0) (moment : V → ℕ) (left_since : V → ℕ → Disk → Type 0) (faults : V → ℕ)
     (reads_now : (s : V) → IfSome (told s) (λ fs. may_leave s fs)) (counts_now : (s : V) (t : ℕ) (c : Disk) → t ≤ moment s → may_leave s c → left_since s t c) where
-  pub none_yet : (base : List Record) (s : V) → IsOwn told may_leave base s → IfSome (told s) (λ fs. IsUnformatted fs.log) → base ≡ []
-  none_yet base s own without = by_told (told s) own.0 without (reads_now s)
+  pub none_yet : (P : Disk → Type 0) (base : List Record) (s : V) → IsOwnWhere told may_leave P base s → IfSome (told s) P → IfSome (told s) (λ fs. IsUnformatted fs.log) → base ≡ []
+  none_yet P base s own none without = by_told (told s) own.0 none without (reads_now s)
     where
-      by_told : (o : Option Disk) → is_some o ≡ true → IfSome o (λ fs. IsUnformatted fs.log) → IfSome o (λ fs. may_leave s fs) → base ≡ []
-      by_told None is without may = absurd cc
-      by_told (Some fs) is without may = no_log base fs without (own.1 fs may)
+      by_told : (o : Option Disk) → is_some o ≡ true → IfSome o P → IfSome o (λ fs. IsUnformatted fs.log) → IfSome o (λ fs. may_leave s fs) → base ≡ []
+      by_told None is none without may = absurd cc
+      by_told (Some fs) is none without may = no_log base fs without (own.1 fs may none)
 
   -- all that stood when the core was made is flushed
   pub at_start : (s : Start) → StoreRun (bases_of s) s.log no_image (start_point s) → s.log ≡ take (stable (start_point s).core) s.log
   at_start s run = sym (take_all (stable (start_point s).core) s.log (omega (arith, run.run.run.first)))
 
   -- ---- a database that was made
-  size_point : (limit index heap : ℕ) (base : List Record) (old new : Program V) (text : List ℕ) → IsOwn told may_leave base (inner (store_of old))
+  size_point : (limit index heap : ℕ) (old new : Program V) (text : List ℕ) → is_some (told (inner (store_of old))) ≡ true
       → (step : StepsSize told may_leave moment left_since faults limit index heap old text new) → IsPointOf told may_leave faults (first_record (sizes_of index heap) ∷ []) step.core
-  size_point limit index heap base old new text own step =
+  size_point limit index heap old new text tells step =
       let s = sizes_of index heap in
       let start = first_at (told_in told) (leaves_in may_leave) (faults_in faults) s limit step.core.vault no_words no_heads none_synced in
       let begins = format_begins (told_in told) (leaves_in may_leave) (faults_in faults) s limit step.core.regions.items step.core.system step.core.vault step.fresh step.whole step.begins no_words
       no_heads none_synced in
       record {
-        tells = step.left.tells ∙ own.0;
+        tells = step.left.tells ∙ tells;
         start = start;
         placed = begins.1;
         history = format_is_history s (begins.0.stands.at.vault.run.run.run.runs.log.spelled 0 (Format index heap) refl);
@@ -370,9 +446,9 @@ module _ {V : Type 0} (told : V → Option Disk) (may_leave : V → Disk → Typ
   abbrev Restarted : List Record → Core (Fuse V) → Type 0
   Restarted = Behind told may_leave faults
 
-  restart_point : (limit : ℕ) (base : List Record) (old new : Program V) (text : List ℕ) → IsOwn told may_leave base (inner (store_of old))
-      → (step : Restarts told may_leave moment left_since faults limit old text new) → Restarted base step.core
-  restart_point limit base old new text own step = by_told (told (inner (store_of old))) own.0 (reads_now (inner (store_of old))) step.read step.begins
+  restart_point : (limit : ℕ) (P : Disk → Type 0) (base : List Record) (old new : Program V) (text : List ℕ) → IsOwnWhere told may_leave P base (inner (store_of old))
+      → IfSome (told (inner (store_of old))) P → (step : Restarts told may_leave moment left_since faults limit old text new) → Restarted base step.core
+  restart_point limit P base old new text own none step = by_told (told (inner (store_of old))) own.0 none (reads_now (inner (store_of old))) step.read step.begins
     where
       from : (fs : Disk) → BeginsRun (told_in told) (leaves_in may_leave) (faults_in faults) limit fs step.core.regions.items step.core.system.state step.core.vault → HasLog base fs → Restarted base step.core
       from fs runs has =
@@ -398,10 +474,10 @@ module _ {V : Type 0} (told : V → Option Disk) (may_leave : V → Disk → Typ
       by_case fs read runs (inl none) = absurd ((reads_once fs (outcome step.core.regions.items step.report) read).2 none.0)
       by_case fs read runs (inr has) = from fs runs has
 
-      by_told : (o : Option Disk) → is_some o ≡ true → IfSome o (λ fs. may_leave (inner (store_of old)) fs) → IfSome o (λ fs. IsReadAs fs (outcome step.core.regions.items step.report))
+      by_told : (o : Option Disk) → is_some o ≡ true → IfSome o P → IfSome o (λ fs. may_leave (inner (store_of old)) fs) → IfSome o (λ fs. IsReadAs fs (outcome step.core.regions.items step.report))
           → IfSome o (λ fs. BeginsRun (told_in told) (leaves_in may_leave) (faults_in faults) limit fs step.core.regions.items step.core.system.state step.core.vault) → Restarted base step.core
-      by_told None is may read runs = absurd cc
-      by_told (Some fs) is may read runs = by_case fs read runs (own.1 fs may)
+      by_told None is none may read runs = absurd cc
+      by_told (Some fs) is none may read runs = by_case fs read runs (own.1 fs may none)
 
   -- one that is stopped leaves files that come of it, or what a crash might have left before
   on_way : (base : List Record) (F : Files) (c : Disk) → IsHistory (log_in F) → BeginsWith base (log_in F) → SpellsOnWay F c → HasLog base c
@@ -413,28 +489,62 @@ module _ {V : Type 0} (told : V → Option Disk) (may_leave : V → Disk → Typ
     begins = begins_then base (log_in F) (log_in way.0) begins (goes_on_from (log_in F) (log_in way.0) way.2.log);
   }
 
-  either_way : (base : List Record) (old : V) (F : Files) (c : Disk) → IsOwn told may_leave base old → IsHistory (log_in F) → BeginsWith base (log_in F) → may_leave old c ⊎ SpellsOnWay F c → Holds base c
-  either_way base old F c own history begins (inl was) = own.1 c was
-  either_way base old F c own history begins (inr way) = inr (on_way base F c history begins way)
+  abbrev StaysOwn : (Disk → Type 0) → List Record → V → V → Type 0
+  StaysOwn P base old new = IsOwnWhere told may_leave (IsKept told may_leave faults P old) base new
 
-  pub stops_own : (base : List Record) (old f : Fuse V) → Rereads told may_leave moment left_since faults old f → IsOwn told may_leave base (inner old) → IsOwn told may_leave base (inner f)
-  stops_own base old f rereads own = (rereads.left.tells ∙ own.0, by_told (told (inner old)) own.0 (reads_now (inner old)) rereads.left.any_moment rereads.none)
+  either_way : (P : Disk → Type 0) (base : List Record) (old : V) (F : Files) (c : Disk) → IsOwnWhere told may_leave P base old → IsHistory (log_in F) → BeginsWith base (log_in F) → (may_leave old c → P c)
+      → may_leave old c ⊎ SpellsOnWay F c → Holds base c
+  either_way P base old F c own history begins is (inl was) = own.1 c was (is was)
+  either_way P base old F c own history begins is (inr way) = inr (on_way base F c history begins way)
+
+  -- at any moment, also behind it
+  pub stops_within : (P : Disk → Type 0) (base : List Record) (old f : Fuse V) → Rereads told may_leave moment left_since faults old f → IsOwnWhere told may_leave P base (inner old)
+      → (c : Disk) → (moment (inner old) ≤ moment (inner f) → left_since (inner f) (moment (inner old)) c) → IfSome (told (inner old)) P → (may_leave (inner old) c → P c) → Holds base c
+  stops_within P base old f rereads own c left none was = by_told (told (inner old)) own.0 none (reads_now (inner old)) rereads.left.any_moment rereads.none
     where
       by_case : (fs : Disk) → StopsAlike (leaves_in may_leave) (moment_in moment) (since_in left_since) fs old f
-          → (IsUnformatted fs.log → OnlyReads (told_in told) (moment_in moment) (since_in left_since) (leaves_in may_leave) old f) → Holds base fs → (c : Disk) → may_leave (inner f) c → Holds base c
-      by_case fs stops only (inl none) c may = own.1 c ((only none.0).crash c may)
-      by_case fs stops only (inr has) c may =
+          → (IsUnformatted fs.log → OnlyReads (told_in told) (moment_in moment) (since_in left_since) (leaves_in may_leave) old f) → Holds base fs → Holds base c
+      by_case fs stops only (inl none) = let at = (only none.0).any_moment in let before = at.each c (left at.later) in own.1 c before (was before)
+      by_case fs stops only (inr has) =
           let at = stops has.files has.spells has.finds in
-          either_way base (inner old) has.files c own has.history has.begins (at.each c (counts_now (inner f) (moment (inner old)) c at.later may))
+          either_way P base (inner old) has.files c own has.history has.begins was (at.each c (left at.later))
 
-      by_told : (o : Option Disk) → is_some o ≡ true → IfSome o (λ fs. may_leave (inner old) fs) → IfSome o (λ fs. StopsAlike (leaves_in may_leave) (moment_in moment) (since_in left_since) fs old f)
-          → IfSome o (λ fs. IsUnformatted fs.log → OnlyReads (told_in told) (moment_in moment) (since_in left_since) (leaves_in may_leave) old f) → (c : Disk) → may_leave (inner f) c → Holds base c
-      by_told None is may stops only c left = absurd cc
-      by_told (Some fs) is may stops only c left = by_case fs stops only (own.1 fs may) c left
+      by_told : (o : Option Disk) → is_some o ≡ true → IfSome o P → IfSome o (λ fs. may_leave (inner old) fs) → IfSome o (λ fs. StopsAlike (leaves_in may_leave) (moment_in moment) (since_in left_since) fs old f)
+          → IfSome o (λ fs. IsUnformatted fs.log → OnlyReads (told_in told) (moment_in moment) (since_in left_since) (leaves_in may_leave) old f) → Holds base c
+      by_told None is none may stops only = absurd cc
+      by_told (Some fs) is none may stops only = by_case fs stops only (own.1 fs may none)
 
-  only_read_own : (base : List Record) (old f : Fuse V) → OnlyReads (told_in told) (moment_in moment) (since_in left_since) (leaves_in may_leave) old f → IsOwn told may_leave base (inner old)
-      → IsOwn told may_leave base (inner f)
-  only_read_own base old f reads own = (ap is_some reads.same ∙ own.0, λ c may. own.1 c (reads.crash c may))
+  stops_own : (P : Disk → Type 0) (base : List Record) (old f : Fuse V) → Rereads told may_leave moment left_since faults old f → IsOwnWhere told may_leave P base (inner old)
+      → StaysOwn P base (inner old) (inner f)
+  stops_own P base old f rereads own = (
+    rereads.left.tells ∙ own.0,
+    λ c may is.
+        was_before told may_leave faults P base (inner old) c own
+        (stops_within P base old f rereads own c (λ later. counts_now (inner f) (moment (inner old)) c later may)) is,
+  )
+
+  -- and of one that came to its end
+  pub restarts_within : (limit : ℕ) (P : Disk → Type 0) (base : List Record) (old new : Program V) (text : List ℕ) (step : Restarts told may_leave moment left_since faults limit old text new)
+      → IsOwnWhere told may_leave P base (inner (store_of old)) → (c : Disk) → left_since (inner step.core.vault.store) (moment (inner (store_of old))) c
+      → IfSome (told (inner (store_of old))) P → (may_leave (inner (store_of old)) c → P c) → Holds base c
+  restarts_within limit P base old new text step own c left none was =
+      by_told (told (inner (store_of old))) own.0 none (reads_now (inner (store_of old))) step.left.any_moment step.read
+    where
+      by_case : (fs : Disk) → StopsAlike (leaves_in may_leave) (moment_in moment) (since_in left_since) fs (store_of old) step.core.vault.store
+          → IsReadAs fs (outcome step.core.regions.items step.report) → Holds base fs → Holds base c
+      by_case fs stops read (inl none) = absurd ((reads_once fs (outcome step.core.regions.items step.report) read).2 none.0)
+      by_case fs stops read (inr has) =
+          either_way P base (inner (store_of old)) has.files c own has.history has.begins was ((stops has.files has.spells has.finds).each c left)
+
+      by_told : (o : Option Disk) → is_some o ≡ true → IfSome o P → IfSome o (λ fs. may_leave (inner (store_of old)) fs)
+          → IfSome o (λ fs. StopsAlike (leaves_in may_leave) (moment_in moment) (since_in left_since) fs (store_of old) step.core.vault.store)
+          → IfSome o (λ fs. IsReadAs fs (outcome step.core.regions.items step.report)) → Holds base c
+      by_told None is none may stops read = absurd cc
+      by_told (Some fs) is none may stops read = by_case fs stops read (own.1 fs may none)
+
+  only_read_own : (P : Disk → Type 0) (base : List Record) (old f : Fuse V) → OnlyReads (told_in told) (moment_in moment) (since_in left_since) (leaves_in may_leave) old f
+      → IsOwnWhere told may_leave P base (inner old) → IsOwnWhere told may_leave P base (inner f)
+  only_read_own P base old f reads own = (ap is_some reads.same ∙ own.0, λ c may is. own.1 c (reads.crash c may) is)
 
   -- ---- what is bad
   good_none : (fs : Disk) (file : FileName) (at : ℕ) → IsUnformatted fs.log → IsBadAnywhere fs file at → ⊥
@@ -466,49 +576,70 @@ module _ {V : Type 0} (told : V → Option Disk) (may_leave : V → Disk → Typ
   good_for Next base fs file at holds bad = good base fs file at holds bad
   good_for (SetFuse passes) base fs file at holds bad = good base fs file at holds bad
 
-  pub never_bad : (command : Command) (base : List Record) (s : V) (file : FileName) (at : ℕ) → IsOwn told may_leave base s → IfSome (told s) (λ fs. IsBadFor command fs file at) → ⊥
-  never_bad command base s file at own bad = by_told (told s) own.0 (reads_now s) bad
+  pub never_bad : (command : Command) (P : Disk → Type 0) (base : List Record) (s : V) (file : FileName) (at : ℕ) → IsOwnWhere told may_leave P base s → IfSome (told s) P
+      → IfSome (told s) (λ fs. IsBadFor command fs file at) → ⊥
+  never_bad command P base s file at own none bad = by_told (told s) own.0 none (reads_now s) bad
     where
-      by_told : (o : Option Disk) → is_some o ≡ true → IfSome o (λ fs. may_leave s fs) → IfSome o (λ fs. IsBadFor command fs file at) → ⊥
-      by_told None is may bad = absurd cc
-      by_told (Some fs) is may bad = good_for command base fs file at (own.1 fs may) bad
+      by_told : (o : Option Disk) → is_some o ≡ true → IfSome o P → IfSome o (λ fs. may_leave s fs) → IfSome o (λ fs. IsBadFor command fs file at) → ⊥
+      by_told None is none may bad = absurd cc
+      by_told (Some fs) is none may bad = good_for command base fs file at (own.1 fs may none) bad
 
   -- ---- rounds that were cut, or in which the store failed
   played_own : (precheck whole : Bool) (base : List Record) (blocks : List Blocks) (c d : Core (Fuse V)) (ts : List Transcribed) (f : Fuse V) → IsNoShorter (told_in told) c.vault d.vault
-      → Plays told may_leave faults precheck whole blocks c ts d → f ≡ d.vault.store → IsPointOf told may_leave faults base c → NoneEscapesAt told may_leave d
-      → IsOwn told may_leave base (inner f)
-  played_own precheck whole base blocks c d ts f longer plays is a none =
+      → Plays told may_leave faults precheck whole blocks c ts d → f ≡ d.vault.store → IsPointOf told may_leave faults base c → IsOwnWhere told may_leave (NoneEscapesFrom d) base (inner f)
+  played_own precheck whole base blocks c d ts f longer plays is a =
       let led = plays a.start a.batches a.point a.begins in
       let goes = course_grows (bases_of a.start) a.start.log a.point led.to led.steps a.begins.stands.at.vault.run.run led.course in
       let flushed : BeginsWith base (take (stable led.to.core) led.to.log) = grown_more a.point led.to base a.flushed goes.records goes.grown.flushed in
-      let own : IsOwn told may_leave base (inner d.vault.store) =
+      let own : IsOwnWhere told may_leave (NoneEscapesFrom d) base (inner d.vault.store) =
       stands_own told may_leave faults base d a.start led.batches led.to led.stands a.placed a.history flushed
-      (tells_on (told_in told c.vault.store) (told_in told d.vault.store) longer a.tells) none in subst (λ (x : Fuse V). IsOwn told may_leave base (inner x)) (sym is) own
+      (tells_on (told_in told c.vault.store) (told_in told d.vault.store) longer a.tells) in subst (λ (x : Fuse V). IsOwnWhere told may_leave (NoneEscapesFrom d) base (inner x)) (sym is) own
 
   -- ---- a format that was cut leaves no database, or one with its first record
-  made_own : (index heap : ℕ) → AreInRange (sizes_of index heap) → (base : List Record) (old f : Fuse V) → Makes told may_leave moment left_since faults index heap old f
-      → IsOwn told may_leave base (inner old) → IsOwn told may_leave base (inner f)
-  made_own index heap range base old f left own = (left.tells ∙ own.0, by_told (told (inner old)) own.0 (reads_now (inner old)) left.any_moment)
+  pub made_within : (index heap : ℕ) → AreInRange (sizes_of index heap) → (P : Disk → Type 0) (base : List Record) (old f : Fuse V) → Makes told may_leave moment left_since faults index heap old f
+      → IsOwnWhere told may_leave P base (inner old) → (c : Disk) → (moment (inner old) ≤ moment (inner f) → left_since (inner f) (moment (inner old)) c)
+      → IfSome (told (inner old)) P → (may_leave (inner old) c → P c) → Holds base c
+  made_within index heap range P base old f makes own c left none was = by_told (told (inner old)) own.0 none (reads_now (inner old)) makes.any_moment
     where
-      by_log : (fs c : Disk) → Holds base fs → IsUnformatted fs.log → FormatLeaves (may_leave (inner old)) (first_body (sizes_of index heap)) c
+      by_log : (fs : Disk) → Holds base fs → IsUnformatted fs.log → FormatLeaves (may_leave (inner old)) (first_body (sizes_of index heap)) c
           → IsUnformatted c.log ⊎ HasFirst (first_body (sizes_of index heap)) c → Holds base c
-      by_log fs c holds without form (inl none) = inl (none, no_log base fs without holds)
-      by_log fs c holds without form (inr first) =
+      by_log fs holds without form (inl none) = inl (none, no_log base fs without holds)
+      by_log fs holds without form (inr first) =
           inr
           (subst (λ (l : List Record). HasLog l c) (sym (no_log base fs without holds))
           (first_holds (sizes_of index heap) range (may_leave (inner old)) c (record { others = form.others; anchor = first.anchor; log = first.log })))
 
-      by_case : (fs c : Disk) → Holds base fs → may_leave (inner old) c ⊎ (IsUnformatted fs.log × FormatLeaves (may_leave (inner old)) (first_body (sizes_of index heap)) c) → Holds base c
-      by_case fs c holds (inl was) = own.1 c was
-      by_case fs c holds (inr form) = by_log fs c holds form.0 form.1 form.1.log
+      by_case : (fs : Disk) → Holds base fs → may_leave (inner old) c ⊎ (IsUnformatted fs.log × FormatLeaves (may_leave (inner old)) (first_body (sizes_of index heap)) c) → Holds base c
+      by_case fs holds (inl before) = own.1 c before (was before)
+      by_case fs holds (inr form) = by_log fs holds form.0 form.1 form.1.log
 
-      by_told : (o : Option Disk) → is_some o ≡ true → IfSome o (λ fs. may_leave (inner old) fs)
+      by_told : (o : Option Disk) → is_some o ≡ true → IfSome o P → IfSome o (λ fs. may_leave (inner old) fs)
           → IfSome o (λ fs. LeavesOnly (moment_in moment) (since_in left_since) old f (λ c. may_leave (inner old) c ⊎ (IsUnformatted fs.log × FormatLeaves (may_leave (inner old)) (first_body (sizes_of index heap)) c)))
-          → (c : Disk) → may_leave (inner f) c → Holds base c
-      by_told None is may makes c leaves = absurd cc
-      by_told (Some fs) is may makes c leaves = by_case fs c (own.1 fs may) (makes.each c (counts_now (inner f) (moment (inner old)) c makes.later leaves))
+          → Holds base c
+      by_told None is none may makes = absurd cc
+      by_told (Some fs) is none may makes = by_case fs (own.1 fs may none) (makes.each c (left makes.later))
+
+  made_own : (index heap : ℕ) → AreInRange (sizes_of index heap) → (P : Disk → Type 0) (base : List Record) (old f : Fuse V) → Makes told may_leave moment left_since faults index heap old f
+      → IsOwnWhere told may_leave P base (inner old) → StaysOwn P base (inner old) (inner f)
+  made_own index heap range P base old f makes own = (
+    makes.tells ∙ own.0,
+    λ c may is.
+        was_before told may_leave faults P base (inner old) c own
+        (made_within index heap range P base old f makes own c (λ later. counts_now (inner f) (moment (inner old)) c later may)) is,
+  )
 
   -- ---- dead transactions are cleaned up
+  one_vault : (t : ℕ) (c d : Core (Fuse V)) → CleansUp told may_leave faults t c d → d.vault ≡ c.vault
+  one_vault t c d (inl one) = one.vault
+  one_vault t c d (inr none) = none.1.vault
+
+  same_vault : (ts : List ℕ) (c d : Core (Fuse V)) → CleansAll told may_leave faults ts c d → d.vault ≡ c.vault
+  same_vault [] c d same = ap (λ (x : Core (Fuse V)). x.vault) same
+  same_vault (t ∷ ts) c d all = same_vault ts all.0 d all.2 ∙ one_vault t c all.0 all.1
+
+  pub cleaned_vault : (c d : Core (Fuse V)) → HasCleaned told may_leave faults c d → d.vault ≡ c.vault
+  cleaned_vault c d cleaned = same_vault (dead_in c.system.state) c d cleaned.each
+
   pub cleaned_point : (base : List Record) (c d : Core (Fuse V)) → HasCleaned told may_leave faults c d → c.system.state.stop ≡ None → IsPointOf told may_leave faults base c
       → Behind told may_leave faults base d
   cleaned_point base c d cleaned up a =
@@ -519,7 +650,7 @@ module _ {V : Type 0} (told : V → Option Disk) (may_leave : V → Disk → Typ
         log = take (stable moved.to.core) moved.to.log;
         more = grown_more a.point moved.to base a.flushed goes.records goes.grown.flushed;
         point = record {
-          tells = subst (λ (v : Vaulted (Fuse V)). is_some (told_in told v.store) ≡ true) (sym (same_vault (dead_in c.system.state) c d cleaned.each)) a.tells;
+          tells = subst (λ (v : Vaulted (Fuse V)). is_some (told_in told v.store) ≡ true) (sym (cleaned_vault c d cleaned)) a.tells;
           start = a.start;
           placed = a.placed;
           history = a.history;
@@ -529,14 +660,6 @@ module _ {V : Type 0} (told : V → Option Disk) (may_leave : V → Disk → Typ
           flushed = refl;
         };
       }
-    where
-      one_vault : (t : ℕ) (c d : Core (Fuse V)) → CleansUp told may_leave faults t c d → d.vault ≡ c.vault
-      one_vault t c d (inl one) = one.vault
-      one_vault t c d (inr none) = none.1.vault
-
-      same_vault : (ts : List ℕ) (c d : Core (Fuse V)) → CleansAll told may_leave faults ts c d → d.vault ≡ c.vault
-      same_vault [] c d same = ap (λ (x : Core (Fuse V)). x.vault) same
-      same_vault (t ∷ ts) c d all = same_vault ts all.0 d all.2 ∙ one_vault t c all.0 all.1
 
   -- ---- a core whose store was only read
   read_point : (base : List Record) (c : Core (Fuse V)) (f : Fuse V) → Reads told may_leave moment left_since faults c.vault.store f → faults_in faults f ≡ faults_in faults c.vault.store
@@ -583,261 +706,289 @@ module _ {V : Type 0} (told : V → Option Disk) (may_leave : V → Disk → Typ
       subst (Behind told may_leave faults base) (sym stops.read.same) (unread_point base c d.vault.store stops.read.reads stops.rose a)
 
   module _ (limit : ℕ) (cuts : V → ℕ → Option Disk) (precheck : Bool) where
-    pub record Onward (base : List Record) (new : Program V) : Type 0 where
+    pub record Onward (Safe : Disk → Type 0) (base : List Record) (new : Program V) : Type 0 where
       pub log : List Record
       pub more : BeginsWith base log
-      pub point : IsAPoint told may_leave faults log new
+      pub point : IsAPoint told may_leave faults Safe log new
 
-    same_point : (base : List Record) (old new : Program V) → new ≡ old → IsAPoint told may_leave faults base old → Onward base new
-    same_point base old new same a = record { log = base; more = begins_all base; point = subst (IsAPoint told may_leave faults base) (sym same) a }
+    same_point : (Safe : Disk → Type 0) (base : List Record) (old new : Program V) → new ≡ old → IsAPoint told may_leave faults Safe base old → Onward Safe base new
+    same_point Safe base old new same a = record { log = base; more = begins_all base; point = subst (IsAPoint told may_leave faults Safe base) (sym same) a }
 
-    up_goes : (base : List Record) (core : Core (Fuse V)) (new : Program V) → new ≡ Up core → Behind told may_leave faults base core → Onward base new
-    up_goes base core new up b = record { log = b.log; more = b.more; point = subst (IsAPoint told may_leave faults b.log) (sym up) b.point }
+    up_goes : (Safe : Disk → Type 0) (base : List Record) (core : Core (Fuse V)) (new : Program V) → new ≡ Up core → Behind told may_leave faults base core → Onward Safe base new
+    up_goes Safe base core new up b = record { log = b.log; more = b.more; point = subst (IsAPoint told may_leave faults Safe b.log) (sym up) b.point }
 
-    restarted : (base : List Record) (old new : Program V) (text : List ℕ) → StepsRestart told may_leave moment left_since faults limit old text new → IsOwn told may_leave base (inner (store_of old))
-        → Onward base new
-    restarted base old new text (inl step) own =
-        up_goes base step.core new step.up (restart_point limit base old new text own step)
-    restarted base old new text (inr step) own =
-        same_point base (Down step.store) new step.down (stops_own base (store_of old) step.store step.left own)
+    restarted : (Safe : Disk → Type 0) (base : List Record) (old new : Program V) (text : List ℕ) (step : StepsRestart told may_leave moment left_since faults limit old text new)
+        → IsAPoint told may_leave faults Safe base old → NoneEscapesRestarted told may_leave moment left_since faults limit cuts precheck Safe old text new step
+        → Onward (SafeRestarted told may_leave moment left_since faults limit cuts precheck Safe old text new step) base new
+    restarted Safe base old new text (inl step) a none =
+        up_goes AnyFiles base step.core new step.up (restart_point limit (NoneEscapesIn Safe old) base old new text (own_store told may_leave faults Safe base old a) none step)
+    restarted Safe base old new text (inr step) a none =
+        same_point (NoneEscapesMaking told may_leave Safe old) base (Down step.store) new step.down
+        (stops_own (NoneEscapesIn Safe old) base (store_of old) step.store step.left (own_store told may_leave faults Safe base old a))
 
-    alone_goes : (name : Name) (act : Act) (base : List Record) (old new : Program V) (text : List ℕ) → StepsAlone told may_leave faults precheck name act old text new
-        → IsAPoint told may_leave faults base old → Onward base new
-    alone_goes name act base (Up core) new text step a =
-        up_goes base step.0 new step.2 (round_point told may_leave faults precheck base (alone act) core step.0 step.1.transcripts step.1.longer step.1.plays a)
-    alone_goes name act base (Down store) new text step a = same_point base (Down store) new step.1 a
+    alone_goes : (Safe : Disk → Type 0) (name : Name) (act : Act) (base : List Record) (old new : Program V) (text : List ℕ) → StepsAlone told may_leave moment left_since faults precheck name act old text new
+        → IsAPoint told may_leave faults Safe base old → Onward Safe base new
+    alone_goes Safe name act base (Up core) new text step a =
+        up_goes Safe base step.0 new step.2 (round_point told may_leave faults precheck base (alone act) core step.0 step.1.transcripts step.1.longer step.1.plays a)
+    alone_goes Safe name act base (Down store) new text step a = same_point Safe base (Down store) new step.1 a
 
-    cleanup_goes : (stop : Option Cause) (base : List Record) (core : Core (Fuse V)) (new : Program V) (text : List ℕ) → core.system.state.stop ≡ stop → CleanupIn told may_leave faults stop core text new
-        → IsPointOf told may_leave faults base core → Onward base new
-    cleanup_goes (Some cause) base core new text is step a = same_point base (Up core) new step.1 a
-    cleanup_goes None base core new text is step a = up_goes base step.0 new step.2 (cleaned_point base core step.0 step.1 is a)
+    cleanup_goes : (Safe : Disk → Type 0) (stop : Option Cause) (base : List Record) (core : Core (Fuse V)) (new : Program V) (text : List ℕ) → core.system.state.stop ≡ stop → CleanupIn told may_leave faults stop core text new
+        → IsPointOf told may_leave faults base core → Onward Safe base new
+    cleanup_goes Safe (Some cause) base core new text is step a = same_point Safe base (Up core) new step.1 a
+    cleanup_goes Safe None base core new text is step a = up_goes Safe base step.0 new step.2 (cleaned_point base core step.0 step.1 is a)
 
-    show_goes : (stop : Option Cause) (base : List Record) (core : Core (Fuse V)) (new : Program V) (text : List ℕ) → core.system.state.stop ≡ stop → ShowIn told may_leave faults stop core text new
-        → IsPointOf told may_leave faults base core → Onward base new
-    show_goes (Some cause) base core new text is step a = same_point base (Up core) new step.1 a
-    show_goes None base core new text is step a = up_goes base step.0 new step.2 (cleaned_point base core step.0 step.1 is a)
+    show_goes : (Safe : Disk → Type 0) (stop : Option Cause) (base : List Record) (core : Core (Fuse V)) (new : Program V) (text : List ℕ) → core.system.state.stop ≡ stop → ShowIn told may_leave faults stop core text new
+        → IsPointOf told may_leave faults base core → Onward Safe base new
+    show_goes Safe (Some cause) base core new text is step a = same_point Safe base (Up core) new step.1 a
+    show_goes Safe None base core new text is step a = up_goes Safe base step.0 new step.2 (cleaned_point base core step.0 step.1 is a)
 
-    verify_goes : (stop : Option Cause) (base : List Record) (core : Core (Fuse V)) (new : Program V) (text : List ℕ) → core.system.state.stop ≡ stop
-        → VerifyIn told may_leave moment left_since faults stop core text new → IsPointOf told may_leave faults base core → Onward base new
-    verify_goes (Some cause) base core new text is step a = same_point base (Up core) new step.1 a
-    verify_goes None base core new text is step a =
+    verify_goes : (Safe : Disk → Type 0) (stop : Option Cause) (base : List Record) (core : Core (Fuse V)) (new : Program V) (text : List ℕ) → core.system.state.stop ≡ stop
+        → VerifyIn told may_leave moment left_since faults stop core text new → IsPointOf told may_leave faults base core → Onward Safe base new
+    verify_goes Safe (Some cause) base core new text is step a = same_point Safe base (Up core) new step.1 a
+    verify_goes Safe None base core new text is step a =
         let cleaned = cleaned_point base core step.0 step.2 is a in
         let compared = compared_point cleaned.log step.0 step.1 text step.3 cleaned.point in
-        up_goes base step.1 new step.4 (record { log = compared.log; more = begins_then base cleaned.log compared.log cleaned.more compared.more; point = compared.point })
+        up_goes Safe base step.1 new step.4 (record { log = compared.log; more = begins_then base cleaned.log compared.log cleaned.more compared.more; point = compared.point })
 
-    pub step_goes : (command : Command) (base : List Record) (old new : Program V) (text : List ℕ) → Steps told may_leave moment left_since faults limit cuts precheck old command text new
-        → IsAPoint told may_leave faults base old → NoneEscapesLeft told may_leave moment left_since faults limit cuts precheck command old → Onward base new
-    step_goes (Size index heap) base old new text step a none =
-        let own = own_store told may_leave faults base old a none in
-        let empty : base ≡ [] = none_yet base (inner (store_of old)) own step.unformatted in
+    pub step_goes : (Safe : Disk → Type 0) (command : Command) (base : List Record) (old new : Program V) (text : List ℕ)
+        → (step : Steps told may_leave moment left_since faults limit cuts precheck old command text new) → IsAPoint told may_leave faults Safe base old
+        → NoneEscapesLeft told may_leave moment left_since faults limit cuts precheck Safe command old text new step
+        → Onward (SafeBehind told may_leave moment left_since faults limit cuts precheck Safe command old text new step) base new
+    step_goes Safe (Size index heap) base old new text step a none =
+        let own = own_store told may_leave faults Safe base old a in
+        let empty : base ≡ [] = none_yet (NoneEscapesIn Safe old) base (inner (store_of old)) own none step.unformatted in
         let first : List Record = first_record (sizes_of index heap) ∷ [] in
         record {
           log = first;
           more = subst (λ (l : List Record). BeginsWith l first) (sym empty) (begins_none first);
-          point = subst (IsAPoint told may_leave faults first) (sym step.up) (size_point limit index heap base old new text own step);
+          point = subst (IsAPoint told may_leave faults AnyFiles first) (sym step.up) (size_point limit index heap old new text own.0 step);
         }
-    step_goes Open base old new text step a none = restarted base old new text step (own_store told may_leave faults base old a none)
-    step_goes Restart base old new text step a none = restarted base old new text step (own_store told may_leave faults base old a none)
-    step_goes (Round blocks) base (Up core) new text step a none =
-        up_goes base step.0 new step.2 (round_point told may_leave faults precheck base (map told_by blocks) core step.0 step.1.transcripts step.1.longer step.1.plays a)
-    step_goes (Round blocks) base (Down store) new text step a none = same_point base (Down store) new step.1 a
-    step_goes (Poke region word mask) base old new text step a none = alone_goes names.Poke (Pokes region word mask) base old new text step a
-    step_goes Audit base old new text step a none = alone_goes names.Audit Audits base old new text step a
-    step_goes Checkpoint base old new text step a none = alone_goes names.Checkpoint Checkpoints base old new text step a
-    step_goes Cleanup base (Up core) new text step a none = cleanup_goes core.system.state.stop base core new text refl step a
-    step_goes Cleanup base (Down store) new text step a none = same_point base (Down store) new step.1 a
-    step_goes (Crash choice) base old new text step a none =
-        let own = own_store told may_leave faults base old a none in
+    step_goes Safe Open base old new text step a none = restarted Safe base old new text step a none
+    step_goes Safe Restart base old new text step a none = restarted Safe base old new text step a none
+    step_goes Safe (Round blocks) base (Up core) new text step a none =
+        up_goes Safe base step.0 new step.2 (round_point told may_leave faults precheck base (map told_by blocks) core step.0 step.1.transcripts step.1.longer step.1.plays a)
+    step_goes Safe (Round blocks) base (Down store) new text step a none = same_point Safe base (Down store) new step.1 a
+    step_goes Safe (Poke region word mask) base old new text step a none = alone_goes Safe names.Poke (Pokes region word mask) base old new text step a
+    step_goes Safe Audit base old new text step a none = alone_goes Safe names.Audit Audits base old new text step a
+    step_goes Safe Checkpoint base old new text step a none = alone_goes Safe names.Checkpoint Checkpoints base old new text step a
+    step_goes Safe Cleanup base (Up core) new text step a none = cleanup_goes Safe core.system.state.stop base core new text refl step a
+    step_goes Safe Cleanup base (Down store) new text step a none = same_point Safe base (Down store) new step.1 a
+    step_goes Safe (Crash choice) base old new text step a none =
         record {
           log = base;
           more = begins_all base;
-          point = begins_down told may_leave faults base new step.store step.down (crash_own told may_leave faults base (inner (store_of old)) step.store step.left.tells step.left.crash own);
+          point =
+              begins_down told may_leave faults base new step.store step.down
+              (crash_keeps told may_leave faults (NoneEscapesIn Safe old) base (inner (store_of old)) step.store step.left.tells step.left.crash step.durable none
+              (own_store told may_leave faults Safe base old a));
         }
-    step_goes Show base (Up core) new text step a none = show_goes core.system.state.stop base core new text refl step a
-    step_goes Show base (Down store) new text step a none = same_point base (Down store) new step.1 a
-    step_goes Verify base (Up core) new text step a none = verify_goes core.system.state.stop base core new text refl step a
-    step_goes Verify base (Down store) new text step a none = same_point base (Down store) new step.1 a
-    step_goes Next base old new text step a none = same_point base old new step.1 a
-    step_goes (SetFuse passes) base (Up core) new text step a none =
-        same_point base (Up (record core { vault = with_store core.vault step.0.0 })) new step.0.2 (fused_point told may_leave faults base passes core step.0.0 step.0.1 a)
-    step_goes (SetFuse passes) base (Down store) new text step a none =
-        same_point base (Down step.0.0) new step.0.2 (own_same told may_leave faults base (inner store) (inner step.0.0) (sym step.0.1.store) a)
+    step_goes Safe Show base (Up core) new text step a none = show_goes Safe core.system.state.stop base core new text refl step a
+    step_goes Safe Show base (Down store) new text step a none = same_point Safe base (Down store) new step.1 a
+    step_goes Safe Verify base (Up core) new text step a none = verify_goes Safe core.system.state.stop base core new text refl step a
+    step_goes Safe Verify base (Down store) new text step a none = same_point Safe base (Down store) new step.1 a
+    step_goes Safe Next base old new text step a none = same_point Safe base old new step.1 a
+    step_goes Safe (SetFuse passes) base (Up core) new text step a none =
+        same_point Safe base (Up (record core { vault = with_store core.vault step.0.0 })) new step.0.2 (fused_point told may_leave faults base passes core step.0.0 step.0.1 a)
+    step_goes Safe (SetFuse passes) base (Down store) new text step a none =
+        same_point Safe base (Down step.0.0) new step.0.2 (where_same told may_leave faults Safe base (inner store) (inner step.0.0) (sym step.0.1.store) a)
 
     -- a round's flushed records are those of the log that it leads to
-    pub step_logs : (command : Command) (base : List Record) (old new : Program V) (text : List ℕ) (step : Steps told may_leave moment left_since faults limit cuts precheck old command text new)
-        → (a : IsAPoint told may_leave faults base old) (none : NoneEscapesLeft told may_leave moment left_since faults limit cuts precheck command old)
-        → IsLoggedBy told may_leave moment left_since faults limit cuts precheck command base old text new step a (step_goes command base old new text step a none).log
+    pub step_logs : (Safe : Disk → Type 0) (command : Command) (base : List Record) (old new : Program V) (text : List ℕ)
+        → (step : Steps told may_leave moment left_since faults limit cuts precheck old command text new) (a : IsAPoint told may_leave faults Safe base old)
+        → (none : NoneEscapesLeft told may_leave moment left_since faults limit cuts precheck Safe command old text new step)
+        → IsLoggedBy told may_leave moment left_since faults limit cuts precheck Safe command base old text new step a (step_goes Safe command base old new text step a none).log
     unfolding step_goes up_goes round_point
-    step_logs (Round blocks) base (Up core) new text step a none = refl
-    step_logs (Round blocks) base (Down store) new text step a none = tt
-    step_logs (Size index heap) base old new text step a none = tt
-    step_logs Open base old new text step a none = tt
-    step_logs (Poke region word mask) base old new text step a none = tt
-    step_logs Audit base old new text step a none = tt
-    step_logs Checkpoint base old new text step a none = tt
-    step_logs Cleanup base old new text step a none = tt
-    step_logs (Crash choice) base old new text step a none = tt
-    step_logs Restart base old new text step a none = tt
-    step_logs Show base old new text step a none = tt
-    step_logs Verify base old new text step a none = tt
-    step_logs Next base old new text step a none = tt
-    step_logs (SetFuse passes) base old new text step a none = tt
+    step_logs Safe (Round blocks) base (Up core) new text step a none = refl
+    step_logs Safe (Round blocks) base (Down store) new text step a none = tt
+    step_logs Safe (Size index heap) base old new text step a none = tt
+    step_logs Safe Open base old new text step a none = tt
+    step_logs Safe (Poke region word mask) base old new text step a none = tt
+    step_logs Safe Audit base old new text step a none = tt
+    step_logs Safe Checkpoint base old new text step a none = tt
+    step_logs Safe Cleanup base old new text step a none = tt
+    step_logs Safe (Crash choice) base old new text step a none = tt
+    step_logs Safe Restart base old new text step a none = tt
+    step_logs Safe Show base old new text step a none = tt
+    step_logs Safe Verify base old new text step a none = tt
+    step_logs Safe Next base old new text step a none = tt
+    step_logs Safe (SetFuse passes) base old new text step a none = tt
 
     -- ---- a command that failed
-    lost_own : (blocks : List Blocks) (base : List Record) (old : Program V) (f : Fuse V) (lost : Lost told may_leave faults precheck blocks old f) → IsAPoint told may_leave faults base old
-        → NoneEscapesCut told may_leave moment left_since faults limit cuts precheck blocks old f lost → IsOwn told may_leave base (inner f)
-    lost_own blocks base (Up core) f (inl same) a behind =
-        subst (λ (x : Fuse V). IsOwn told may_leave base (inner x)) (sym same) (own_store told may_leave faults base (Up core) a behind)
-    lost_own blocks base (Up core) f (inr played) a behind =
-        played_own precheck played.whole base blocks core played.core played.transcripts f played.longer played.plays played.store a behind
-    lost_own blocks base (Down store) f same a behind = subst (λ (x : Fuse V). IsOwn told may_leave base (inner x)) (sym same) a
+    lost_own : (Safe : Disk → Type 0) (blocks : List Blocks) (base : List Record) (old : Program V) (f : Fuse V) (lost : Lost told may_leave moment left_since faults precheck blocks old f)
+        → IsAPoint told may_leave faults Safe base old → IsOwnWhere told may_leave (NoneEscapesCut told may_leave moment left_since faults limit cuts precheck Safe blocks old f lost) base (inner f)
+    lost_own Safe blocks base (Up core) f (inl same) a =
+        subst (λ (x : Fuse V). IsOwnWhere told may_leave (NoneEscapesFrom core) base (inner x)) (sym same) (own_store told may_leave faults Safe base (Up core) a)
+    lost_own Safe blocks base (Up core) f (inr played) a =
+        played_own precheck played.whole base blocks core played.core played.transcripts f played.longer played.plays played.store a
+    lost_own Safe blocks base (Down store) f same a = subst (λ (x : Fuse V). IsOwnWhere told may_leave Safe base (inner x)) (sym same) a
 
-    alone_own : (act : Act) (base : List Record) (old : Program V) (f : Fuse V) (fails : AloneFails told may_leave faults precheck act old f) → IsAPoint told may_leave faults base old
-        → NoneEscapesAlone told may_leave moment left_since faults limit cuts precheck act old f fails → IsOwn told may_leave base (inner f)
-    alone_own act base (Up core) f fails a behind = played_own precheck true base (alone act) core fails.core fails.transcripts f fails.longer fails.plays fails.store a behind
-    alone_own act base (Down store) f fails a behind = absurd fails
+    alone_own : (Safe : Disk → Type 0) (act : Act) (base : List Record) (old : Program V) (f : Fuse V) (fails : AloneFails told may_leave moment left_since faults precheck act old f)
+        → IsAPoint told may_leave faults Safe base old → IsOwnWhere told may_leave (NoneEscapesAlone told may_leave moment left_since faults limit cuts precheck Safe act old f fails) base (inner f)
+    alone_own Safe act base (Up core) f fails a = played_own precheck true base (alone act) core fails.core fails.transcripts f fails.longer fails.plays fails.store a
+    alone_own Safe act base (Down store) f fails a = absurd fails
 
-    stays_own : (base : List Record) (old : Program V) (f : Fuse V) → f ≡ store_of old → IsAPoint told may_leave faults base old → NoneEscapesIn told may_leave old → IsOwn told may_leave base (inner f)
-    stays_own base old f same a behind = subst (λ (x : Fuse V). IsOwn told may_leave base (inner x)) (sym same) (own_store told may_leave faults base old a behind)
+    stays_own : (Safe : Disk → Type 0) (base : List Record) (old : Program V) (f : Fuse V) → f ≡ store_of old → IsAPoint told may_leave faults Safe base old
+        → IsOwnWhere told may_leave (NoneEscapesIn Safe old) base (inner f)
+    stays_own Safe base old f same a = subst (λ (x : Fuse V). IsOwnWhere told may_leave (NoneEscapesIn Safe old) base (inner x)) (sym same) (own_store told may_leave faults Safe base old a)
 
-    broken_own : (command : Command) → IsFit command → (base : List Record) (old : Program V) (f : Fuse V) (breaks : Breaks told may_leave moment left_since faults precheck command old f)
-        → IsAPoint told may_leave faults base old → NoneEscapesLost told may_leave moment left_since faults limit cuts precheck command old f breaks
-        → IsOwn told may_leave base (inner f)
-    broken_own (Size index heap) fit base old f breaks a behind = made_own index heap fit base (store_of old) f breaks.0 (own_store told may_leave faults base old a behind)
-    broken_own Open fit base old f breaks a behind = stops_own base (store_of old) f breaks.0 (own_store told may_leave faults base old a behind)
-    broken_own Restart fit base old f breaks a behind = stops_own base (store_of old) f breaks.0 (own_store told may_leave faults base old a behind)
-    broken_own (Round blocks) fit base old f breaks a behind = lost_own (map told_by blocks) base old f breaks a behind
-    broken_own (Poke region word mask) fit base old f breaks a behind = lost_own (alone (Pokes region word mask)) base old f breaks a behind
-    broken_own Audit fit base old f breaks a behind = lost_own (alone Audits) base old f breaks a behind
-    broken_own Checkpoint fit base old f breaks a behind = lost_own (alone Checkpoints) base old f breaks a behind
-    broken_own (Crash choice) fit base old f breaks a behind =
-        crash_own told may_leave faults base (inner (store_of old)) (inner f) breaks.0.tells breaks.0.crash (own_store told may_leave faults base old a behind)
-    broken_own (SetFuse passes) fit base old f breaks a behind = own_same told may_leave faults base (inner (store_of old)) (inner f) (sym breaks) (own_store told may_leave faults base old a behind)
-    broken_own Next fit base old f breaks a behind = absurd breaks
-    broken_own Cleanup fit base old f breaks a behind = stays_own base old f breaks a behind
-    broken_own Show fit base old f breaks a behind = stays_own base old f breaks a behind
-    broken_own Verify fit base old f breaks a behind = only_read_own base (store_of old) f breaks.0 (own_store told may_leave faults base old a behind)
+    broken_own : (Safe : Disk → Type 0) (command : Command) → IsFit command → (base : List Record) (old : Program V) (f : Fuse V)
+        → (breaks : Breaks told may_leave moment left_since faults precheck command old f) → IsAPoint told may_leave faults Safe base old
+        → IsOwnWhere told may_leave (NoneEscapesLost told may_leave moment left_since faults limit cuts precheck Safe command old f breaks) base (inner f)
+    broken_own Safe (Size index heap) fit base old f breaks a =
+        made_own index heap fit (NoneEscapesIn Safe old) base (store_of old) f breaks.0 (own_store told may_leave faults Safe base old a)
+    broken_own Safe Open fit base old f breaks a = stops_own (NoneEscapesIn Safe old) base (store_of old) f breaks.0 (own_store told may_leave faults Safe base old a)
+    broken_own Safe Restart fit base old f breaks a = stops_own (NoneEscapesIn Safe old) base (store_of old) f breaks.0 (own_store told may_leave faults Safe base old a)
+    broken_own Safe (Round blocks) fit base old f breaks a = lost_own Safe (map told_by blocks) base old f breaks a
+    broken_own Safe (Poke region word mask) fit base old f breaks a = lost_own Safe (alone (Pokes region word mask)) base old f breaks a
+    broken_own Safe Audit fit base old f breaks a = lost_own Safe (alone Audits) base old f breaks a
+    broken_own Safe Checkpoint fit base old f breaks a = lost_own Safe (alone Checkpoints) base old f breaks a
+    broken_own Safe (Crash choice) fit base old f breaks a =
+        crash_own told may_leave faults (NoneEscapesIn Safe old) base (inner (store_of old)) (inner f) breaks.0.tells breaks.0.crash (own_store told may_leave faults Safe base old a)
+    broken_own Safe (SetFuse passes) fit base old f breaks a =
+        where_same told may_leave faults (NoneEscapesIn Safe old) base (inner (store_of old)) (inner f) (sym breaks) (own_store told may_leave faults Safe base old a)
+    broken_own Safe Next fit base old f breaks a = absurd breaks
+    broken_own Safe Cleanup fit base old f breaks a = stays_own Safe base old f breaks a
+    broken_own Safe Show fit base old f breaks a = stays_own Safe base old f breaks a
+    broken_own Safe Verify fit base old f breaks a = only_read_own (NoneEscapesIn Safe old) base (store_of old) f breaks.0 (own_store told may_leave faults Safe base old a)
 
-    failed_own : (command : Command) → IsFit command → (base : List Record) (old : Program V) (f : Fuse V) (fails : StoreFailsIn told may_leave moment left_since faults precheck command old f)
-        → IsAPoint told may_leave faults base old → NoneEscapesFailed told may_leave moment left_since faults limit cuts precheck command old f fails
-        → IsOwn told may_leave base (inner f)
-    failed_own (Size index heap) fit base old f fails a behind = made_own index heap fit base (store_of old) f fails.1 (own_store told may_leave faults base old a behind)
-    failed_own Open fit base old f fails a behind = stops_own base (store_of old) f fails.1 (own_store told may_leave faults base old a behind)
-    failed_own Restart fit base old f fails a behind = stops_own base (store_of old) f fails.1 (own_store told may_leave faults base old a behind)
-    failed_own (Poke region word mask) fit base old f fails a behind = alone_own (Pokes region word mask) base old f fails a behind
-    failed_own Audit fit base old f fails a behind = alone_own Audits base old f fails a behind
-    failed_own Checkpoint fit base old f fails a behind = alone_own Checkpoints base old f fails a behind
-    failed_own (Crash choice) fit base old f fails a behind =
-        crash_own told may_leave faults base (inner (store_of old)) (inner f) fails.1.tells fails.1.crash (own_store told may_leave faults base old a behind)
-    failed_own (Round blocks) fit base old f fails a behind = absurd fails
-    failed_own Cleanup fit base old f fails a behind = absurd fails
-    failed_own Show fit base old f fails a behind = absurd fails
-    failed_own Verify fit base old f fails a behind = only_read_own base (store_of old) f fails.1 (own_store told may_leave faults base old a behind)
-    failed_own Next fit base old f fails a behind = absurd fails
-    failed_own (SetFuse passes) fit base old f fails a behind = absurd fails
+    failed_own : (Safe : Disk → Type 0) (command : Command) → IsFit command → (base : List Record) (old : Program V) (f : Fuse V)
+        → (fails : StoreFailsIn told may_leave moment left_since faults precheck command old f) → IsAPoint told may_leave faults Safe base old
+        → IsOwnWhere told may_leave (NoneEscapesFailed told may_leave moment left_since faults limit cuts precheck Safe command old f fails) base (inner f)
+    failed_own Safe (Size index heap) fit base old f fails a =
+        made_own index heap fit (NoneEscapesIn Safe old) base (store_of old) f fails.1 (own_store told may_leave faults Safe base old a)
+    failed_own Safe Open fit base old f fails a = stops_own (NoneEscapesIn Safe old) base (store_of old) f fails.1 (own_store told may_leave faults Safe base old a)
+    failed_own Safe Restart fit base old f fails a = stops_own (NoneEscapesIn Safe old) base (store_of old) f fails.1 (own_store told may_leave faults Safe base old a)
+    failed_own Safe (Poke region word mask) fit base old f fails a = alone_own Safe (Pokes region word mask) base old f fails a
+    failed_own Safe Audit fit base old f fails a = alone_own Safe Audits base old f fails a
+    failed_own Safe Checkpoint fit base old f fails a = alone_own Safe Checkpoints base old f fails a
+    failed_own Safe (Crash choice) fit base old f fails a =
+        crash_own told may_leave faults (NoneEscapesIn Safe old) base (inner (store_of old)) (inner f) fails.1.tells fails.1.crash (own_store told may_leave faults Safe base old a)
+    failed_own Safe (Round blocks) fit base old f fails a = absurd fails
+    failed_own Safe Cleanup fit base old f fails a = absurd fails
+    failed_own Safe Show fit base old f fails a = absurd fails
+    failed_own Safe Verify fit base old f fails a = only_read_own (NoneEscapesIn Safe old) base (store_of old) f fails.1 (own_store told may_leave faults Safe base old a)
+    failed_own Safe Next fit base old f fails a = absurd fails
+    failed_own Safe (SetFuse passes) fit base old f fails a = absurd fails
 
     -- ---- some commands
-    pub record Gone (commands : List Command) (base : List Record) (old : Program V) (at : IsAPoint told may_leave faults base old) (text : List ℕ) (new : Program V)
+    pub record Gone (Safe : Disk → Type 0) (commands : List Command) (base : List Record) (old : Program V) (at : IsAPoint told may_leave faults Safe base old) (text : List ℕ) (new : Program V)
         (runs : RunsAll told may_leave moment left_since faults limit cuts precheck old commands text new) : Type 0 where
       pub log : List Record
-      pub each : AllSurvive told may_leave moment left_since faults limit cuts precheck commands base old at text new runs log
-      pub point : IsAPoint told may_leave faults log new
+      pub each : AllSurvive told may_leave moment left_since faults limit cuts precheck Safe commands base old at text new runs log
+      pub point : IsAPoint told may_leave faults (SafeAfter told may_leave moment left_since faults limit cuts precheck Safe commands old text new runs) log new
 
-    pub all_go : (commands : List Command) (base : List Record) (old : Program V) (text : List ℕ) (new : Program V)
-        → (runs : RunsAll told may_leave moment left_since faults limit cuts precheck old commands text new) (a : IsAPoint told may_leave faults base old)
-        → NoneEscape told may_leave moment left_since faults limit cuts precheck commands old text new runs → Gone commands base old a text new runs
-    all_go [] base old text new runs a none = record {
+    pub all_go : (Safe : Disk → Type 0) (commands : List Command) (base : List Record) (old : Program V) (text : List ℕ) (new : Program V)
+        → (runs : RunsAll told may_leave moment left_since faults limit cuts precheck old commands text new) (a : IsAPoint told may_leave faults Safe base old)
+        → NoneEscape told may_leave moment left_since faults limit cuts precheck Safe commands old text new runs → Gone Safe commands base old a text new runs
+    all_go Safe [] base old text new runs a none = record {
       log = base;
       each = refl;
-      point = subst (IsAPoint told may_leave faults base) (sym runs.1) a;
+      point = subst (IsAPoint told may_leave faults Safe base) (sym runs.1) a;
     }
-    all_go (command ∷ later) base old text new runs a none =
-        let step = step_goes command base old runs.1 runs.0 runs.3 a none.0 in
-        let rest = all_go later step.log runs.1 runs.2 new runs.4 step.point none.1 in
+    all_go Safe (command ∷ later) base old text new runs a none =
+        let step = step_goes Safe command base old runs.1 runs.0 runs.3 a none.0 in
+        let rest = all_go (SafeBehind told may_leave moment left_since faults limit cuts precheck Safe command old runs.0 runs.1 runs.3) later step.log runs.1 runs.2 new runs.4 step.point none.1 in
         record {
           log = rest.log;
-          each = (step.log, step.more, step.point, step_logs command base old runs.1 runs.0 runs.3 a none.0, rest.each);
+          each = (step.log, step.more, step.point, step_logs Safe command base old runs.1 runs.0 runs.3 a none.0, rest.each);
           point = rest.point;
         }
 
     unfoldable pub there : (base : List Record) (start : V) (script : List Command) (count : ℕ) (text : List ℕ) (new : Program V)
         → (run : HasRun told may_leave moment left_since faults limit cuts precheck start script count text new) (own : IsOwn told may_leave base start)
         → NoneEscapeThere told may_leave moment left_since faults limit cuts precheck start script count text new run
-        → Gone (take count script) base run.first (begins_down told may_leave faults base run.first start run.down own) text new run.runs
-    there base start script count text new run own none = all_go (take count script) base run.first text new run.runs (begins_down told may_leave faults base run.first start run.down own) none
+        → Gone AnyFiles (take count script) base run.first (begins_down told may_leave faults base run.first start run.down own) text new run.runs
+    there base start script count text new run own none = all_go AnyFiles (take count script) base run.first text new run.runs (begins_down told may_leave faults base run.first start run.down own) none
 
     -- no command takes a record away
-    pub grows : (commands : List Command) (base : List Record) (old : Program V) (at : IsAPoint told may_leave faults base old) (text : List ℕ) (new : Program V)
+    pub grows : (Safe : Disk → Type 0) (commands : List Command) (base : List Record) (old : Program V) (at : IsAPoint told may_leave faults Safe base old) (text : List ℕ) (new : Program V)
         → (runs : RunsAll told may_leave moment left_since faults limit cuts precheck old commands text new) (base' : List Record)
-        → AllSurvive told may_leave moment left_since faults limit cuts precheck commands base old at text new runs base' → BeginsWith base base'
-    grows [] base old at text new runs base' same = subst (BeginsWith base) (sym same) (begins_all base)
-    grows (command ∷ later) base old at text new runs base' all =
-        begins_then base all.0 base' all.1 (grows later all.0 runs.1 all.2 runs.2 new runs.4 base' all.4)
+        → AllSurvive told may_leave moment left_since faults limit cuts precheck Safe commands base old at text new runs base' → BeginsWith base base'
+    grows Safe [] base old at text new runs base' same = subst (BeginsWith base) (sym same) (begins_all base)
+    grows Safe (command ∷ later) base old at text new runs base' all =
+        begins_then base all.0 base' all.1 (grows (SafeBehind told may_leave moment left_since faults limit cuts precheck Safe command old runs.0 runs.1 runs.3) later all.0 runs.1 all.2 runs.2 new runs.4 base' all.4)
 
     -- behind the making of a database there is one
-    pub made_some : (index heap : ℕ) (later : List Command) (base : List Record) (old : Program V) (text : List ℕ) (new : Program V)
-        → (runs : RunsAll told may_leave moment left_since faults limit cuts precheck old (Size index heap ∷ later) text new) (a : IsAPoint told may_leave faults base old)
-        → (none : NoneEscape told may_leave moment left_since faults limit cuts precheck (Size index heap ∷ later) old text new runs)
-        → BeginsWith (first_record (sizes_of index heap) ∷ []) (all_go (Size index heap ∷ later) base old text new runs a none).log
+    pub made_some : (Safe : Disk → Type 0) (index heap : ℕ) (later : List Command) (base : List Record) (old : Program V) (text : List ℕ) (new : Program V)
+        → (runs : RunsAll told may_leave moment left_since faults limit cuts precheck old (Size index heap ∷ later) text new) (a : IsAPoint told may_leave faults Safe base old)
+        → (none : NoneEscape told may_leave moment left_since faults limit cuts precheck Safe (Size index heap ∷ later) old text new runs)
+        → BeginsWith (first_record (sizes_of index heap) ∷ []) (all_go Safe (Size index heap ∷ later) base old text new runs a none).log
     unfolding all_go step_goes
-    made_some index heap later base old text new runs a none =
-        let step = step_goes (Size index heap) base old runs.1 runs.0 runs.3 a none.0 in
-        let rest = all_go later step.log runs.1 runs.2 new runs.4 step.point none.1 in
-        grows later step.log runs.1 step.point runs.2 new runs.4 rest.log rest.each
+    made_some Safe index heap later base old text new runs a none =
+        let step = step_goes Safe (Size index heap) base old runs.1 runs.0 runs.3 a none.0 in
+        let rest = all_go AnyFiles later step.log runs.1 runs.2 new runs.4 step.point none.1 in
+        grows AnyFiles later step.log runs.1 step.point runs.2 new runs.4 rest.log rest.each
 
-    pub fails_own : (halt : Halt) (command : Command) → IsFit command → (base : List Record) (old : Program V) (f : Fuse V) (fails : Fails told may_leave moment left_since faults precheck halt command old f)
-        → IsAPoint told may_leave faults base old → NoneEscapesBehind told may_leave moment left_since faults limit cuts precheck halt command old f fails
-        → IsOwn told may_leave base (inner f)
-    fails_own halts.StoreFault command fit base old f fails a behind = failed_own command fit base old f fails a behind
-    fails_own halts.OutOfMemory command fit base old f fails a behind = broken_own command fit base old f fails a behind
-    fails_own (halts.BadStore file at) command fit base old f fails a behind = only_read_own base (store_of old) f fails.2 (own_store told may_leave faults base old a behind)
-    fails_own halts.Unformatted command fit base old f fails a behind = only_read_own base (store_of old) f fails.2 (own_store told may_leave faults base old a behind)
-    fails_own halts.Formatted command fit base old f fails a behind = only_read_own base (store_of old) f fails.2 (own_store told may_leave faults base old a behind)
-    fails_own halts.BadWords command fit base old f fails a behind = absurd fails
-    fails_own (halts.BadScript line kind) command fit base old f fails a behind = absurd fails
-    fails_own halts.TooLong command fit base old f fails a behind = absurd fails
-    fails_own halts.ReadFault command fit base old f fails a behind = absurd fails
-    fails_own halts.WriteFault command fit base old f fails a behind = absurd fails
-    fails_own (halts.LogFull end most) command fit base old f fails a behind = absurd fails
+    -- of a database that was just made its first record is flushed
+    pub made_first : (Safe : Disk → Type 0) (index heap : ℕ) (base : List Record) (old new : Program V) (text : List ℕ)
+        → (step : StepsSize told may_leave moment left_since faults limit index heap old text new) (a : IsAPoint told may_leave faults Safe base old) (none : NoneEscapesRead told Safe old)
+        → (step_goes Safe (Size index heap) base old new text step a none).log ≡ first_record (sizes_of index heap) ∷ []
+    unfolding step_goes
+    made_first Safe index heap base old new text step a none = refl
+
+    pub fails_own : (Safe : Disk → Type 0) (halt : Halt) (command : Command) → IsFit command → (base : List Record) (old : Program V) (f : Fuse V)
+        → (fails : Fails told may_leave moment left_since faults precheck halt command old f) → IsAPoint told may_leave faults Safe base old
+        → IsOwnWhere told may_leave (NoneEscapesBehind told may_leave moment left_since faults limit cuts precheck Safe halt command old f fails) base (inner f)
+    fails_own Safe halts.StoreFault command fit base old f fails a = failed_own Safe command fit base old f fails a
+    fails_own Safe halts.OutOfMemory command fit base old f fails a = broken_own Safe command fit base old f fails a
+    fails_own Safe (halts.BadStore file at) command fit base old f fails a =
+        only_read_own (NoneEscapesIn Safe old) base (store_of old) f fails.2 (own_store told may_leave faults Safe base old a)
+    fails_own Safe halts.Unformatted command fit base old f fails a =
+        only_read_own (NoneEscapesIn Safe old) base (store_of old) f fails.2 (own_store told may_leave faults Safe base old a)
+    fails_own Safe halts.Formatted command fit base old f fails a =
+        only_read_own (NoneEscapesIn Safe old) base (store_of old) f fails.2 (own_store told may_leave faults Safe base old a)
+    fails_own Safe halts.BadWords command fit base old f fails a = absurd fails
+    fails_own Safe (halts.BadScript line kind) command fit base old f fails a = absurd fails
+    fails_own Safe halts.TooLong command fit base old f fails a = absurd fails
+    fails_own Safe halts.ReadFault command fit base old f fails a = absurd fails
+    fails_own Safe halts.WriteFault command fit base old f fails a = absurd fails
+    fails_own Safe (halts.LogFull end most) command fit base old f fails a = absurd fails
 
     module _ (c : Course V) (mid : Option (List ℕ)) (count : ℕ) (base : List Record) (own : IsOwn told may_leave base c.store) where
       untouched : c.store' ≡ c.store → IsOwn told may_leave base c.store'
       untouched same = own_same told may_leave faults base c.store c.store' (sym same) own
 
+      abbrev safe_there : (script : List Command) (n : ℕ) (text : List ℕ) (state : Program V) → HasRun told may_leave moment left_since faults limit cuts precheck c.store script n text state → Disk → Type 0
+      safe_there script n text state run = SafeThere told may_leave moment left_since faults limit cuts precheck c.store script n text state run
+
       stop_survives : (halt : Halt) (stopped : HasStopped told may_leave moment left_since faults limit cuts precheck halt c mid)
-          → StopIsHonest told may_leave moment left_since faults limit cuts precheck c mid count halt stopped
+          → NoneEscapesStopped told may_leave moment left_since faults limit cuts precheck c mid count halt stopped
           → HaltSurvives told may_leave moment left_since faults limit cuts precheck c mid count base halt stopped
       stop_survives halt stopped honest =
           let stops = stopped.2 in
-          let gone = there base c.store stopped.0 stops.count stops.text stops.state stops.run own honest.0 in
+          let gone = there base c.store stopped.0 stops.count stops.text stops.state stops.run own honest in
           record {
             base' = gone.log;
             run = record { at = begins_down told may_leave faults base stops.run.first c.store stops.run.down own; each = gone.each; behind = gone.point };
             comes_back =
-                own_same told may_leave faults gone.log (inner stops.last) c.store' stops.store
-                (fails_own halt stops.command (next_fit stopped.0 stops.count stops.command (all_fit stopped.1.bytes stopped.0 stopped.1.spelled) stops.next.next) gone.log stops.state stops.last stops.fails gone.point honest.1);
+                where_same told may_leave faults (SafeStopped told may_leave moment left_since faults limit cuts precheck halt c.store stopped.0 c.taken mid c.store' stops) gone.log (inner stops.last) c.store' stops.store
+                (fails_own (safe_there stopped.0 stops.count stops.text stops.state stops.run) halt stops.command
+                (next_fit stopped.0 stops.count stops.command (all_fit stopped.1.bytes stopped.0 stopped.1.spelled) stops.next.next) gone.log stops.state stops.last stops.fails gone.point);
           }
 
       unformatted_survives : (stopped : HasStopped told may_leave moment left_since faults limit cuts precheck halts.Unformatted c mid)
-          → StopIsHonest told may_leave moment left_since faults limit cuts precheck c mid count halts.Unformatted stopped
+          → NoneEscapesStopped told may_leave moment left_since faults limit cuts precheck c mid count halts.Unformatted stopped → NoneEscapesFound told may_leave moment left_since faults limit cuts precheck c mid count halts.Unformatted stopped
           → (survives : HaltSurvives told may_leave moment left_since faults limit cuts precheck c mid count base halts.Unformatted stopped) × (survives.base' ≡ [])
       unfolding stop_survives there
-      unformatted_survives stopped honest =
+      unformatted_survives stopped honest found =
           let stops = stopped.2 in
-          let gone = there base c.store stopped.0 stops.count stops.text stops.state stops.run own honest.0 in (
+          let safe = safe_there stopped.0 stops.count stops.text stops.state stops.run in
+          let gone = there base c.store stopped.0 stops.count stops.text stops.state stops.run own honest in (
             stop_survives halts.Unformatted stopped honest,
-            none_yet gone.log (inner (store_of stops.state)) (own_store told may_leave faults gone.log stops.state gone.point honest.1) stops.fails.1,
+            none_yet (NoneEscapesIn safe stops.state) gone.log (inner (store_of stops.state)) (own_store told may_leave faults safe gone.log stops.state gone.point) found stops.fails.1,
           )
 
       never_bad_store : (file : FileName) (at : ℕ) (stopped : HasStopped told may_leave moment left_since faults limit cuts precheck (halts.BadStore file at) c mid)
-          → StopIsHonest told may_leave moment left_since faults limit cuts precheck c mid count (halts.BadStore file at) stopped → ⊥
-      never_bad_store file at stopped honest =
+          → NoneEscapesStopped told may_leave moment left_since faults limit cuts precheck c mid count (halts.BadStore file at) stopped
+          → NoneEscapesFound told may_leave moment left_since faults limit cuts precheck c mid count (halts.BadStore file at) stopped → ⊥
+      never_bad_store file at stopped honest found =
           let stops = stopped.2 in
-          let gone = there base c.store stopped.0 stops.count stops.text stops.state stops.run own honest.0 in
-          never_bad stops.command gone.log (inner (store_of stops.state)) file at (own_store told may_leave faults gone.log stops.state gone.point honest.1) stops.fails.1
+          let safe = safe_there stopped.0 stops.count stops.text stops.state stops.run in
+          let gone = there base c.store stopped.0 stops.count stops.text stops.state stops.run own honest in
+          never_bad stops.command (NoneEscapesIn safe stops.state) gone.log (inner (store_of stops.state)) file at (own_store told may_leave faults safe gone.log stops.state gone.point) found stops.fails.1
 
       memory_survives : (o : Untouched c mid ⊎ HasStopped told may_leave moment left_since faults limit cuts precheck halts.OutOfMemory c mid)
-          → MemoryIsHonest told may_leave moment left_since faults limit cuts precheck c mid count o
+          → NoneEscapesWanting told may_leave moment left_since faults limit cuts precheck c mid count o
           → MemorySurvives told may_leave moment left_since faults limit cuts precheck c mid count base o
       memory_survives (inl same) honest = untouched same.0
       memory_survives (inr stopped) honest = stop_survives halts.OutOfMemory stopped honest
@@ -847,29 +998,35 @@ module _ {V : Type 0} (told : V → Option Disk) (may_leave : V → Disk → Typ
           → ScriptSurvives told may_leave moment left_since faults limit cuts precheck c mid count base status ended
       script_survives Done ended honest =
           let ran = ended.2 in
+          let safe = safe_there ended.0 (length ended.0) ran.text ran.state ran.run in
           let gone = there base c.store ended.0 (length ended.0) ran.text ran.state ran.run own honest.0 in
           record {
             base' = gone.log;
             run = record { at = begins_down told may_leave faults base ran.run.first c.store ran.run.down own; each = gone.each; behind = gone.point };
-            comes_back = own_same told may_leave faults gone.log (inner (store_of ran.state)) c.store' ran.store (own_store told may_leave faults gone.log ran.state gone.point honest.1);
+            comes_back =
+                where_same told may_leave faults (NoneEscapesIn safe ran.state) gone.log (inner (store_of ran.state)) c.store' ran.store
+                (own_store told may_leave faults safe gone.log ran.state gone.point);
           }
       script_survives WriteFault ended honest =
           let cut = ended.1.2 in
           let gone = there base c.store ended.1.0 cut.count cut.text cut.earlier cut.ran own honest.0 in
-          let step = step_goes cut.command gone.log cut.earlier cut.state cut.more cut.steps gone.point honest.1 in
+          let step = step_goes (safe_there ended.1.0 cut.count cut.text cut.earlier cut.ran) cut.command gone.log cut.earlier cut.state cut.more cut.steps gone.point honest.1 in
+          let safe = SafeCut told may_leave moment left_since faults limit cuts precheck c.store ended.1.0 c.taken mid c.store' cut in
           record {
             mid = gone.log;
             run = record { at = begins_down told may_leave faults base cut.ran.first c.store cut.ran.down own; each = gone.each; behind = gone.point };
             base' = step.log;
             more = step.more;
             last = step.point;
-            comes_back = own_same told may_leave faults step.log (inner (store_of cut.state)) c.store' cut.store (own_store told may_leave faults step.log cut.state step.point honest.2);
+            comes_back =
+                where_same told may_leave faults (NoneEscapesIn safe cut.state) step.log (inner (store_of cut.state)) c.store' cut.store
+                (own_store told may_leave faults safe step.log cut.state step.point);
           }
-      script_survives StoreFault ended honest = stop_survives halts.StoreFault ended honest
-      script_survives (BadStore file at) ended honest = never_bad_store file at ended honest
-      script_survives Unformatted ended honest = unformatted_survives ended honest
-      script_survives Formatted ended honest = stop_survives halts.Formatted ended honest
-      script_survives OutOfMemory ended honest = memory_survives ended honest
+      script_survives StoreFault ended honest = stop_survives halts.StoreFault ended honest.0
+      script_survives (BadStore file at) ended honest = never_bad_store file at ended honest.0 honest.1
+      script_survives Unformatted ended honest = unformatted_survives ended honest.0 honest.1
+      script_survives Formatted ended honest = stop_survives halts.Formatted ended honest.0
+      script_survives OutOfMemory ended honest = memory_survives ended honest.0
       script_survives (LogFull end most) ended honest = absurd ended
       script_survives BadWords ended honest = absurd ended
       script_survives (BadScript line kind) ended honest = untouched ended.1.0

@@ -1,8 +1,9 @@
 -- Along a run each region's stray writes are those that its lines tell, and a lone audit names just the regions that they change.
-use Rattle.std.proofs.Common.{◌≡◌, ◌≢◌, ◌<◌, ◌≤◌, ℕ, zero, suc, Bool, true, false, List, [], ◌∷◌, ◌++◌, Option, Some, None, length, map, take, refl, sym, ◌∙◌, ap, subst, inl, inr, arith}
+use Rattle.std.proofs.Common.{◌≡◌, ◌≢◌, ◌<◌, ◌≤◌, ℕ, Bool, true, false, List, [], ◌∷◌, ◌++◌, Option, Some, None, length, map, take, refl, sym, ◌∙◌, ap, subst, inl, inr, arith}
 use Rattle.std.specs.Prelude.{◌⊎◌, ◌↔◌, ◌||◌, Contains, IfSome, IsTrue, bit_xor, filter_map, is_some, slice_get}
 use Rattle.std.proofs.lemmas.List.{append-nil}
 use Rattle.std.proofs.lemmas.Option.{slice_get_within}
+use Rattle.dali_lists.proofs.Lists.{get_within}
 use Rattle.dali_clients.specs.Said.{Transcribed}
 use Rattle.dali_geometry.specs.Places.{regions}
 use Rattle.dali_listing.specs.Listing.{in_memory}
@@ -36,16 +37,17 @@ use Rattle.dali_run.specs.Program.{told_in}
 use Rattle.dali_run.specs.Run.{HasRun, RunsAll}
 use Rattle.dali_run.specs.Scripts.{Spells}
 use Rattle.dali_run.specs.Steps.{ActsAlone, CleanupIn, EndsComparison, HasCleaned, Plays, ShowIn, Steps, StepsAlone, StepsShow, StepsVerify, VerifyIn, verdict}
-use Rattle.dali_run.specs.Survives.{AllSurvive, IsAPoint, IsOwn, IsPointOf, NoneEscapeThere, NoneEscapesBefore, NoneEscapesStopped, NoneEscapesWanting}
+use Rattle.dali_run.specs.Survives.{AllSurvive, AnyFiles, IsAPoint, IsOwn, IsPointOf, NoneEscapeThere, NoneEscapesBefore, NoneEscapesStopped, NoneEscapesWanting, SafeBehind}
 use Rattle.dali_run.specs.Told.{AreFit, IsFit, alone, told_by}
 use Rattle.dali_run.specs.Unpoked.{HasServed}
-use Rattle.dali_run.proofs.Fit.{all_fit}
+use Rattle.dali_run.proofs.Fit.{all_fit, only_one}
 use Rattle.dali_run.proofs.Marks.{KeepMarks, cleaned_stays, keep_same, none_loaded}
 use Rattle.dali_run.proofs.Standing.{IsStanding, Stands, standing_of, stands_of, step_stands}
 use Rattle.dali_run.proofs.Straying.{below_at, is_lone, lone_names}
 use Rattle.dali_run.proofs.Sums.{any_both, poked_told, stray_told, xor_both}
-use Rattle.dali_run.proofs.Surviving.{begins_down, cleaned_point, there}
+use Rattle.dali_run.proofs.Surviving.{begins_down, cleaned_point, there, fit_front}
 use Rattle.dali_run.proofs.Unpoked.{unpoked_shows, unpoked_verifies}
+use Rattle.dali_run.proofs.Unstrayed.{done_none}
 
 -- ---- regions
 abbrev AreTheirs : (ℕ → List ℕ) → List RegionState → Type 0
@@ -59,15 +61,7 @@ kept masks gs hs keep theirs = λ r h e.
 new_ones : (image : List (List ℕ)) (gs : List RegionState) → gs ≡ map loaded image → AreTheirs (λ r. []) gs
 new_ones image gs same = λ r g e. none_loaded image r g (ap (λ (l : List RegionState). slice_get l r) (sym same) ∙ e)
 
-pub there_is : (gs : List RegionState) (r : ℕ) → r < length gs → (g : RegionState) × (slice_get gs r ≡ Some g)
-there_is [] r below = absurd (omega (arith, below))
-there_is (g ∷ gs) zero below = (g, refl)
-there_is (g ∷ gs) (suc r) below = there_is gs r (omega (arith, below))
-
 -- ---- blocks of one client
-only_one : (act : Act) (i : ℕ) (t : Blocks) → slice_get (alone act) i ≡ Some t → (i ≡ 0) × (t ≡ record { client = 1; acts = act ∷ [] })
-only_one act zero t e = (refl, cc)
-only_one act (suc i) t e = absurd cc
 
 lone_blocks : (act : Act) → IsPlaced false (act ∷ []) → AreBlocks (alone act)
 lone_blocks act placed = record {
@@ -76,21 +70,12 @@ lone_blocks act placed = record {
   apart = λ i j t u e f same. (only_one act i t e).0 ∙ sym (only_one act j u f).0;
 }
 
-none_done : (r : ℕ) (answers : List Bool) → done_on r answers [] ≡ []
-none_done r [] = refl
-none_done r (answer ∷ answers) = refl
-
 none_alone : (r : ℕ) (act : Act) → filter_map poke_in (act ∷ []) ≡ [] → (lines : List (List Said)) → masks_of r (alone act) lines ≡ []
 none_alone r act e [] = refl
 none_alone r act e (said ∷ more) =
-    append-nil (done_on r (filter_map answer_in said) (filter_map poke_in (act ∷ []))) ∙ (ap (done_on r (filter_map answer_in said)) e ∙ none_done r (filter_map answer_in said))
+    append-nil (done_on r (filter_map answer_in said) (filter_map poke_in (act ∷ []))) ∙ (ap (done_on r (filter_map answer_in said)) e ∙ done_none r (filter_map answer_in said))
 
-pub fit_front : (n : ℕ) (commands : List Command) → AreFit commands → AreFit (take n commands)
-fit_front zero commands fit = tt
-fit_front (suc n) [] fit = tt
-fit_front (suc n) (command ∷ commands) fit = (fit.0, fit_front n commands fit.1)
-
-module _ {V : Type 0} (told : V → Option Disk) (may_leave : V → Disk → Type 0) (faults : V → ℕ) (precheck : Bool) where
+module _ {V : Type 0} (told : V → Option Disk) (may_leave : V → Disk → Type 0) (moment : V → ℕ) (left_since : V → ℕ → Disk → Type 0) (faults : V → ℕ) (precheck : Bool) where
   -- ---- a round
   round_theirs : (blocks : List Blocks) (c d : Core (Fuse V)) (ts : List Transcribed) → AreBlocks blocks → Plays told may_leave faults precheck true blocks c ts d
       → IsStanding told may_leave faults c → (masks : ℕ → List ℕ) → AreTheirs masks c.regions.items → AreTheirs (λ r. masks r ++ masks_of r blocks (map lines_in ts)) d.regions.items
@@ -107,7 +92,7 @@ module _ {V : Type 0} (told : V → Option Disk) (may_leave : V → Disk → Typ
       ap (λ (l : List RegionState). length l) (sym led.stands.at.regions)
       ∙ (led.stands.whole.regions ∙ (sizes ∙ (sym a.begins.stands.whole.regions ∙ ap (λ (l : List RegionState). length l) a.begins.stands.at.regions))) in
       let within = slice_get_within d.regions.items r h e in
-      let was = there_is c.regions.items r (omega (arith, within, count)) in
+      let was = get_within c.regions.items r (omega (arith, within, count)) in
       let is = theirs r was.0 was.1 in
       let pokes =
       round.together.pokes r was.0 h (ap (λ (l : List RegionState). slice_get l r) old_is ∙ was.1) (ap (λ (l : List RegionState). slice_get l r) new_is ∙ e) in (
@@ -125,7 +110,7 @@ module _ {V : Type 0} (told : V → Option Disk) (may_leave : V → Disk → Typ
 
   -- a round of one client that pokes nothing
   lone_theirs : (act : Act) (c d : Core (Fuse V)) (text : List ℕ) → IsPlaced false (act ∷ []) → filter_map poke_in (act ∷ []) ≡ []
-      → ActsAlone told may_leave faults precheck act c text d → IsStanding told may_leave faults c → (masks : ℕ → List ℕ) → AreTheirs masks c.regions.items → AreTheirs masks d.regions.items
+      → ActsAlone told may_leave moment left_since faults precheck act c text d → IsStanding told may_leave faults c → (masks : ℕ → List ℕ) → AreTheirs masks c.regions.items → AreTheirs masks d.regions.items
   lone_theirs act c d text placed none acts a masks theirs = λ r h e.
       let is = round_theirs (alone act) c d acts.transcripts (lone_blocks act placed) acts.plays a masks theirs r h e in
       let same : masks r ++ masks_of r (alone act) (map lines_in acts.transcripts) ≡ masks r =
@@ -133,14 +118,14 @@ module _ {V : Type 0} (told : V → Option Disk) (may_leave : V → Disk → Typ
       (is.0 ∙ ap xor_of same, is.1 ∙ ap has_any same)
 
   -- ---- a lone audit
-  audit_names : (act : Act) (c d : Core (Fuse V)) (text : List ℕ) → is_lone act ≡ true → (acts : ActsAlone told may_leave faults precheck act c text d)
+  audit_names : (act : Act) (c d : Core (Fuse V)) (text : List ℕ) → is_lone act ≡ true → (acts : ActsAlone told may_leave moment left_since faults precheck act c text d)
       → IsStanding told may_leave faults c → (masks : ℕ → List ℕ) → AreTheirs masks c.regions.items
       → NamesOf masks (length c.regions.items) (map lines_in acts.transcripts) text
   audit_names act c d text lone acts a masks theirs =
-      let named = lone_names told may_leave faults precheck act c d text lone a acts in
+      let named = lone_names told may_leave moment left_since faults precheck act c d text lone a acts in
       let named_so : (found : List ℕ) → list_in named.line ≡ Some found → (r : ℕ) → r < length c.regions.items → Contains found r ↔ (xor_of (masks r) ≢ 0) =
       λ found e r below.
-      let region = there_is c.regions.items r below in
+      let region = get_within c.regions.items r below in
       subst (λ (k : ℕ). Contains found r ↔ (k ≢ 0)) (theirs r region.0 region.1).0 (named.names found e r region.0 region.1) in
       record {
         line = named.line;
@@ -158,14 +143,14 @@ module _ {V : Type 0} (told : V → Option Disk) (may_leave : V → Disk → Typ
       }
 
   lone_told : (name : Name) (act : Act) (masks : ℕ → List ℕ) (old new : Program V) (text : List ℕ) → IsPlaced false (act ∷ []) → filter_map poke_in (act ∷ []) ≡ []
-      → StepsAlone told may_leave faults precheck name act old text new → Stands told may_leave faults old → AreTold masks old → AreTold masks new
+      → StepsAlone told may_leave moment left_since faults precheck name act old text new → Stands told may_leave faults old → AreTold masks old → AreTold masks new
   lone_told name act masks (Up core) new text placed none step a are =
       subst (AreTold masks) (sym step.2) (lone_theirs act core step.0 text placed none step.1 a masks are)
   lone_told name act masks (Down store) new text placed none step a are = subst (AreTold masks) (sym step.1) tt
 
   lone_named : (name : Name) (act : Act) (masks : ℕ → List ℕ) (old new : Program V) (text : List ℕ) → is_lone act ≡ true
-      → (step : StepsAlone told may_leave faults precheck name act old text new) → Stands told may_leave faults old → AreTold masks old
-      → NamesTold told may_leave faults precheck masks name act old text new step
+      → (step : StepsAlone told may_leave moment left_since faults precheck name act old text new) → Stands told may_leave faults old → AreTold masks old
+      → NamesTold told may_leave moment left_since faults precheck masks name act old text new step
   lone_named name act masks (Up core) new text lone step a are = audit_names act core step.0 text lone step.1 a masks are
   lone_named name act masks (Down store) new text lone step a are = tt
 
@@ -211,15 +196,15 @@ module _ {V : Type 0} (told : V → Option Disk) (may_leave : V → Disk → Typ
   step_told Restart fit masks old new text (inr step) a are = subst (AreTold (λ r. [])) (sym step.down) tt
   step_told (Round blocks) fit masks (Up core) new text step a are =
       subst (AreTold (λ r. masks r ++ masks_of r (map told_by blocks) (map lines_in step.1.transcripts))) (sym step.2)
-      (round_theirs told may_leave faults precheck (map told_by blocks) core step.0 step.1.transcripts fit step.1.plays a masks are)
+      (round_theirs told may_leave moment left_since faults precheck (map told_by blocks) core step.0 step.1.transcripts fit step.1.plays a masks are)
   step_told (Round blocks) fit masks (Down store) new text step a are = subst (AreTold (λ r. masks r ++ [])) (sym step.1) tt
   step_told (Poke region word mask) fit masks (Up core) new text step a are =
       subst (AreTold (λ r. masks r ++ masks_of r (alone (Pokes region word mask)) (map lines_in step.1.transcripts))) (sym step.2)
-      (round_theirs told may_leave faults precheck (alone (Pokes region word mask)) core step.0 step.1.transcripts fit step.1.plays a masks are)
+      (round_theirs told may_leave moment left_since faults precheck (alone (Pokes region word mask)) core step.0 step.1.transcripts fit step.1.plays a masks are)
   step_told (Poke region word mask) fit masks (Down store) new text step a are = subst (AreTold (λ r. masks r ++ [])) (sym step.1) tt
-  step_told Audit fit masks old new text step a are = lone_told told may_leave faults precheck names.Audit Audits masks old new text tt refl step a are
+  step_told Audit fit masks old new text step a are = lone_told told may_leave moment left_since faults precheck names.Audit Audits masks old new text tt refl step a are
   step_told Checkpoint fit masks old new text step a are =
-      lone_told told may_leave faults precheck names.Checkpoint Checkpoints masks old new text tt refl step a are
+      lone_told told may_leave moment left_since faults precheck names.Checkpoint Checkpoints masks old new text tt refl step a are
   step_told Cleanup fit masks (Up core) new text step a are = cleanup_told core.system.state.stop masks core new text refl step a are
   step_told Cleanup fit masks (Down store) new text step a are = subst (AreTold masks) (sym step.1) tt
   step_told (Crash choice) fit masks old new text step a are = subst (AreTold (λ r. [])) (sym step.down.down) tt
@@ -249,14 +234,14 @@ module _ {V : Type 0} (told : V → Option Disk) (may_leave : V → Disk → Typ
             (poked, run.protected.none_missed poked);
       }
 
-  show_none : (masks : ℕ → List ℕ) (base : List Record) (old new : Program V) (text : List ℕ) → StepsShow told may_leave faults old text new → IsAPoint told may_leave faults base old
+  show_none : (Safe : Disk → Type 0) (masks : ℕ → List ℕ) (base : List Record) (old new : Program V) (text : List ℕ) → StepsShow told may_leave faults old text new → IsAPoint told may_leave faults Safe base old
       → AreTold masks old → ShowsNone told may_leave faults masks old text new
-  show_none masks base (Up core) new text step a are = λ ran none.
+  show_none Safe masks base (Up core) new text step a are = λ ran none.
       let shows : ShowIn told may_leave faults None core text new = subst (λ (o : Option Cause). ShowIn told may_leave faults o core text new) ran step in
       let served = none_poked masks base core shows.0 shows.1 ran a are none in
       let just = unpoked_shows told may_leave moment left_since faults reads_now counts_now base core shows.0 text served shows.3 in
       record { core = shows.0; up = shows.2; base = just.0; at = just.2; shows = just.3 }
-  show_none masks base (Down store) new text step a are = tt
+  show_none Safe masks base (Down store) new text step a are = tt
 
   agreed : (o : Option Disk) (L' : Disk → List Record → Type 0) (P : List Record → Type 0) (is : Bool) → is_some o ≡ true
       → IfSome o (λ fs. (L : List Record) × L' fs L × (IsTrue is ↔ P L)) → IfSome o (λ fs. (L : List Record) → L' fs L → P L) → is ≡ true
@@ -277,19 +262,19 @@ module _ {V : Type 0} (told : V → Option Disk) (may_leave : V → Disk → Typ
       inl (compares.printed ∙ ap (λ (b : Bool). texts (verdict b ∷ [])) is)
   verify_ends base core c d text served (inr stops) = inr stops.printed
 
-  verify_none : (masks : ℕ → List ℕ) (base : List Record) (old new : Program V) (text : List ℕ) → StepsVerify told may_leave moment left_since faults old text new
-      → IsAPoint told may_leave faults base old → AreTold masks old → VerifiesNone masks old text
-  verify_none masks base (Up core) new text step a are = λ ran none.
+  verify_none : (Safe : Disk → Type 0) (masks : ℕ → List ℕ) (base : List Record) (old new : Program V) (text : List ℕ) → StepsVerify told may_leave moment left_since faults old text new
+      → IsAPoint told may_leave faults Safe base old → AreTold masks old → VerifiesNone masks old text
+  verify_none Safe masks base (Up core) new text step a are = λ ran none.
       let verifies : VerifyIn told may_leave moment left_since faults None core text new =
       subst (λ (o : Option Cause). VerifyIn told may_leave moment left_since faults o core text new) ran step in
       verify_ends base core verifies.0 verifies.1 text (none_poked masks base core verifies.0 verifies.2 ran a are none) verifies.3
-  verify_none masks base (Down store) new text step a are = tt
+  verify_none Safe masks base (Down store) new text step a are = tt
 
   names_by : (command : Command) (masks : ℕ → List ℕ) (old new : Program V) (text : List ℕ)
       → (step : Steps told may_leave moment left_since faults limit cuts precheck old command text new) → Stands told may_leave faults old → AreTold masks old
       → NamesBy told may_leave moment left_since faults limit cuts precheck command masks old text new step
-  names_by Audit masks old new text step a are = lone_named told may_leave faults precheck names.Audit Audits masks old new text refl step a are
-  names_by Checkpoint masks old new text step a are = lone_named told may_leave faults precheck names.Checkpoint Checkpoints masks old new text refl step a are
+  names_by Audit masks old new text step a are = lone_named told may_leave moment left_since faults precheck names.Audit Audits masks old new text refl step a are
+  names_by Checkpoint masks old new text step a are = lone_named told may_leave moment left_since faults precheck names.Checkpoint Checkpoints masks old new text refl step a are
   names_by Show masks old new text step a are = tt
   names_by Verify masks old new text step a are = tt
   names_by (Size index heap) masks old new text step a are = tt
@@ -302,34 +287,34 @@ module _ {V : Type 0} (told : V → Option Disk) (may_leave : V → Disk → Typ
   names_by Next masks old new text step a are = tt
   names_by (SetFuse passes) masks old new text step a are = tt
 
-  step_tells : (command : Command) (masks : ℕ → List ℕ) (base : List Record) (old new : Program V) (text : List ℕ)
-      → (step : Steps told may_leave moment left_since faults limit cuts precheck old command text new) → IsAPoint told may_leave faults base old → AreTold masks old
+  step_tells : (Safe : Disk → Type 0) (command : Command) (masks : ℕ → List ℕ) (base : List Record) (old new : Program V) (text : List ℕ)
+      → (step : Steps told may_leave moment left_since faults limit cuts precheck old command text new) → IsAPoint told may_leave faults Safe base old → AreTold masks old
       → TellsBy told may_leave moment left_since faults limit cuts precheck command masks old text new step
-  step_tells Audit masks base old new text step a are = names_by Audit masks old new text step (stands_of told may_leave faults base old a) are
-  step_tells Checkpoint masks base old new text step a are = names_by Checkpoint masks old new text step (stands_of told may_leave faults base old a) are
-  step_tells Show masks base old new text step a are = show_none masks base old new text step a are
-  step_tells Verify masks base old new text step a are = verify_none masks base old new text step a are
-  step_tells (Size index heap) masks base old new text step a are = tt
-  step_tells Open masks base old new text step a are = tt
-  step_tells (Round blocks) masks base old new text step a are = tt
-  step_tells (Poke region word mask) masks base old new text step a are = tt
-  step_tells Cleanup masks base old new text step a are = tt
-  step_tells (Crash choice) masks base old new text step a are = tt
-  step_tells Restart masks base old new text step a are = tt
-  step_tells Next masks base old new text step a are = tt
-  step_tells (SetFuse passes) masks base old new text step a are = tt
+  step_tells Safe Audit masks base old new text step a are = names_by Audit masks old new text step (stands_of told may_leave faults Safe base old a) are
+  step_tells Safe Checkpoint masks base old new text step a are = names_by Checkpoint masks old new text step (stands_of told may_leave faults Safe base old a) are
+  step_tells Safe Show masks base old new text step a are = show_none Safe masks base old new text step a are
+  step_tells Safe Verify masks base old new text step a are = verify_none Safe masks base old new text step a are
+  step_tells Safe (Size index heap) masks base old new text step a are = tt
+  step_tells Safe Open masks base old new text step a are = tt
+  step_tells Safe (Round blocks) masks base old new text step a are = tt
+  step_tells Safe (Poke region word mask) masks base old new text step a are = tt
+  step_tells Safe Cleanup masks base old new text step a are = tt
+  step_tells Safe (Crash choice) masks base old new text step a are = tt
+  step_tells Safe Restart masks base old new text step a are = tt
+  step_tells Safe Next masks base old new text step a are = tt
+  step_tells Safe (SetFuse passes) masks base old new text step a are = tt
 
   -- ---- along a run
-  all_told : (commands : List Command) → AreFit commands → (masks : ℕ → List ℕ) (base : List Record) (old : Program V) (text : List ℕ) (new : Program V)
-      → (runs : RunsAll told may_leave moment left_since faults limit cuts precheck old commands text new) (a : IsAPoint told may_leave faults base old) (base' : List Record)
-      → AllSurvive told may_leave moment left_since faults limit cuts precheck commands base old a text new runs base' → AreTold masks old
+  all_told : (Safe : Disk → Type 0) (commands : List Command) → AreFit commands → (masks : ℕ → List ℕ) (base : List Record) (old : Program V) (text : List ℕ) (new : Program V)
+      → (runs : RunsAll told may_leave moment left_since faults limit cuts precheck old commands text new) (a : IsAPoint told may_leave faults Safe base old) (base' : List Record)
+      → AllSurvive told may_leave moment left_since faults limit cuts precheck Safe commands base old a text new runs base' → AreTold masks old
       → AllTold told may_leave moment left_since faults limit cuts precheck commands masks old text new runs
-  all_told [] fit masks base old text new runs a base' all are = are
-  all_told (command ∷ later) fit masks base old text new runs a base' all are = (
+  all_told Safe [] fit masks base old text new runs a base' all are = are
+  all_told Safe (command ∷ later) fit masks base old text new runs a base' all are = (
     are,
-    step_tells command masks base old runs.1 runs.0 runs.3 a are,
-    all_told later fit.1 (masks_behind told may_leave moment left_since faults limit cuts precheck command old runs.0 runs.1 runs.3 masks) all.0 runs.1 runs.2 new runs.4 all.2 base' all.4
-        (step_told command fit.0 masks old runs.1 runs.0 runs.3 (stands_of told may_leave faults base old a) are),
+    step_tells Safe command masks base old runs.1 runs.0 runs.3 a are,
+    all_told (SafeBehind told may_leave moment left_since faults limit cuts precheck Safe command old runs.0 runs.1 runs.3) later fit.1 (masks_behind told may_leave moment left_since faults limit cuts precheck command old runs.0 runs.1 runs.3 masks) all.0 runs.1 runs.2 new runs.4 all.2 base' all.4
+        (step_told command fit.0 masks old runs.1 runs.0 runs.3 (stands_of told may_leave faults Safe base old a) are),
   )
 
   all_named : (commands : List Command) → AreFit commands → (masks : ℕ → List ℕ) (old : Program V) (text : List ℕ) (new : Program V)
@@ -359,7 +344,7 @@ module _ {V : Type 0} (told : V → Option Disk) (may_leave : V → Disk → Typ
       → ToldThere told may_leave moment left_since faults limit cuts precheck start script count text new run
   told_there base start script count text new before after run own spells none =
       let gone = there told may_leave moment left_since faults reads_now counts_now limit cuts precheck base start script count text new run own none in
-      all_told (take count script) (fit_front count script (all_fit spells.bytes script spells.spelled)) (λ r. []) base run.first text new run.runs
+      all_told AnyFiles (take count script) (fit_front count script (all_fit spells.bytes script spells.spelled)) (λ r. []) base run.first text new run.runs
       (begins_down told may_leave faults base run.first start run.down own) gone.log gone.each (subst (AreTold (λ r. [])) (sym run.down.down) tt)
 
   module _ (c : Course V) (mid : Option (List ℕ)) (count : ℕ) (base : List Record) (own : IsOwn told may_leave base c.store) where

@@ -1,9 +1,9 @@
 -- Where nobody wrote astray, no damage escapes a crash.
-use Rattle.std.proofs.Common.{◌≡◌, ℕ, true, List, Option, refl, sym, ◌∙◌, ap, subst}
+use Rattle.std.proofs.Common.{◌≡◌, ℕ, true, List, Option, refl, sym, ◌∙◌, ap, subst, inl, inr}
 use Rattle.std.specs.Prelude.{is_some, slice_get}
 use Rattle.dali_crash.specs.Checkpoints.{Point, moment_of}
-use Rattle.dali_crash.specs.Traces.{Start, bases_of}
-use Rattle.dali_crash.proofs.Traces.{trace_runs}
+use Rattle.dali_crash.specs.Traces.{Start, bases_of, start_point}
+use Rattle.dali_crash.proofs.Traces.{moment_halts, trace_runs}
 use Rattle.dali_crash.proofs.Unpoked.{none_escapes}
 use Rattle.dali_ends.specs.Stands.{StandsAt}
 use Rattle.dali_memstore.specs.declared.fuse.Fuse.{Fuse}
@@ -15,13 +15,14 @@ use Rattle.dali_store.specs.Store.{Files as Disk}
 use Rattle.dali_system.specs.Crashes.{NoneEscapes}
 use Rattle.dali_system.specs.Run.{log_in, only}
 use Rattle.dali_system.specs.State.{CoreState}
-use Rattle.dali_traces.specs.Bridges.{TracedTo}
+use Rattle.dali_traces.specs.Bridges.{ComesTo, TracedTo}
 use Rattle.dali_traces.specs.Disks.{AllSpell}
 use Rattle.dali_traces.proofs.Once.{spells_one}
 use Rattle.dali_whole.specs.declared.whole.Core.{Core}
-use Rattle.dali_run.specs.Honest.{CoresAreHonest, NonePoked}
+use Rattle.dali_run.specs.Honest.{CoresAreHonest, IsHonestWithin, NonePoked, RoundsAreHonest}
 use Rattle.dali_run.specs.Program.{told_in, leaves_in, faults_in}
 use Rattle.dali_run.specs.Survives.{NoneEscapesAt}
+use Rattle.dali_run.proofs.Poked.{course_runs, course_unpoked}
 use Rattle.dali_run.proofs.Surviving.{told_there}
 
 same_regions : (e : Epoch) (c d : CoreState) → c.regions ≡ d.regions → NoneEscapes e c → NoneEscapes e d
@@ -34,8 +35,8 @@ module _ {V : Type 0} (told : V → Option Disk) (may_leave : V → Disk → Typ
   -- wherever a core stands, behind a round that was cut too
   pub stands_honest : (core : Core (Fuse V)) (s : Start) (B : List (List Record)) (p : Point)
       → StandsAt (told_in told) (leaves_in may_leave) (faults_in faults) s B p core.regions.items core.system.state core.vault
-      → is_some (told_in told core.vault.store) ≡ true → NonePoked core.regions.items → NoneEscapesAt told may_leave core
-  stands_honest core s B p stands tells none = λ v c E may spells.
+      → is_some (told_in told core.vault.store) ≡ true → NonePoked core.regions.items → NoneEscapesAt may_leave core
+  stands_honest core s B p stands tells none = λ c may v E spells.
       let all : AllSpell (leaves_in may_leave core.vault.store) (TracedTo s B p) = told_there (told_in told core.vault.store) tells stands.at.vault.files in
       let one = all c may in
       let t = one.2 in
@@ -48,3 +49,26 @@ module _ {V : Type 0} (told : V → Option Disk) (may_leave : V → Disk → Typ
 
   pub cores_are_honest : CoresAreHonest told may_leave faults
   cores_are_honest base core a none = stands_honest core a.start a.batches a.point a.begins.stands a.tells none
+
+  -- at a moment within a round
+  left_honest : (s : Start) (p : Point) (F : Files) → ComesTo s p F → NonePoked p.core.regions → NoneEscapes (last_epoch (log_in F)) p.core
+  left_honest s p F (inl along) quiet =
+      let t = along.1 in
+      none_escapes (bases_of s) s.log (only F) (moment_of p) F (trace_runs s t.first t.starts t.steps p F t.trace).run refl quiet
+  left_honest s p F (inr inside) quiet =
+      let i = inside.3 in
+      let t = i.traced in
+      let h = moment_halts (start_point s) p inside.1 t.first i.was F t.steps inside.0 t.trace inside.2 i.inside in
+      let same : h.point.core.regions ≡ p.core.regions = ap (λ (c : CoreState). c.regions) h.core in
+      same_regions (last_epoch (log_in F)) h.point.core p.core same
+      (none_escapes (bases_of s) s.log (only F) (moment_of h.point) F (trace_runs s t.first t.starts h.steps h.point F h.trace).run refl (subst NonePoked (sym same) quiet))
+
+  pub within_honest : (c d : Core (Fuse V)) → NonePoked d.regions.items → IsHonestWithin told may_leave faults c d
+  within_honest c d none base a q F same is =
+      let bases = bases_of a.start in
+      let runs = course_runs bases a.start.log a.point is.between is.before a.begins.stands.at.vault.run.run is.comes in
+      let between : NonePoked is.between.core.regions = course_unpoked bases a.start.log is.between q is.behind runs is.goes (subst NonePoked (sym same) none) in
+      same_regions (last_epoch (log_in F)) is.to.core is.between.core is.regions (left_honest a.start is.to F is.right.came (subst NonePoked (sym is.regions) between))
+
+  pub rounds_are_honest : RoundsAreHonest told may_leave faults
+  rounds_are_honest c d none = within_honest c d none

@@ -3,9 +3,9 @@ use Rattle.std.proofs.Common.{◌≡◌, ℕ, true, List, Option, Some, None, re
 use Rattle.std.specs.Prelude.{IfSome, IsSome}
 use Rattle.dali_att.specs.declared.state.State.{State}
 use Rattle.dali_att.specs.declared.state.State.TheVariants.{Live, Dead, Cleaning, Committed}
-use Rattle.dali_chain.specs.Shown.{IsServing, HoldsExpected}
-use Rattle.dali_chain.proofs.Shown.{shows_expected}
-use Rattle.dali_chain.proofs.Verifying.{verifies}
+use Rattle.dali_run.specs.Shown.{IsServing, HoldsExpected}
+use Rattle.dali_run.proofs.Shown.{shows_expected}
+use Rattle.dali_run.proofs.Verifying.{verifies}
 use Rattle.dali_clean.specs.Cleaned.{IsDead}
 use Rattle.dali_crash.specs.CrashLogs.{IsUnpoked}
 use Rattle.dali_memstore.specs.Fuse.{inner}

@@ -1,14 +1,14 @@
 -- A round whose clients poke nothing leaves each region as poked as it was, where it was cut too.
 use Rattle.std.proofs.Common.{◌≡◌, ℕ, Bool, true, false, List, [], ◌∷◌, ◌++◌, Option, map, refl, sym, ◌∙◌, ap, subst}
-use Rattle.std.specs.Prelude.{◌==◌, ◌&&◌, ◌⊎◌, filter_map, if◌then◌else◌, length}
+use Rattle.std.specs.Prelude.{◌==◌, ◌⊎◌, filter_map, if◌then◌else◌, length}
 use Rattle.std.specs.List.{AllByRecursion, list_all, list_any}
 use Rattle.std.proofs.Common.{inl, inr}
-use Rattle.std.proofs.lemmas.Bool.{eqb-true, eq-eqb}
+use Rattle.std.proofs.lemmas.Bool.{eqb-true, eq-eqb, and_parts}
 use Rattle.dali_record.specs.declared.records.Call.{Call}
 use Rattle.dali_record.specs.declared.records.Record.TheVariants.{AuditBegin}
 use Rattle.dali_script.specs.declared.commands.ClientCommand.{ClientCommand}
 use Rattle.dali_script.specs.declared.commands.ClientCommand.TheVariants as clients
-use Rattle.dali_transcripts.specs.Words.{Act, Begins as BeginAct, Calls, Arms, Commits as CommitAct, Aborts as AbortAct, Pokes as PokeAct, Audits as AuditAct, Checkpoints as CheckpointAct, Said}
+use Rattle.dali_transcripts.specs.Words.{Act, Calls, Aborts as AbortAct, Pokes as PokeAct, Audits as AuditAct, Checkpoints as CheckpointAct, Said}
 use Rattle.dali_transcripts.specs.World.{Logs, StartsCheckpoint, EndsCheckpoint, Meets, Yields, Happening, World}
 use Rattle.dali_transcripts.specs.Moves.{Receipt, Place, Outside, Within, Spot, Move, Rests, Dies, Pokes, PokesNothing, from, own, to, start}
 use Rattle.dali_transcripts.specs.Causes.{AreUnfinished, IsBegun, IsCutAside, IsCutWork, IsGivingWay, IsStarted, IsTurnedBack, IsUnanswered, MayBeOver}
@@ -37,14 +37,8 @@ coming_none (clients.Checkpoint ∷ later) none = coming_none later none
 
 -- ---- one client
 rests_none : (act : Act) (rest : List Act) → coming (act ∷ rest) ≡ [] → coming rest ≡ []
-rests_none BeginAct rest none = none
-rests_none (Calls call) rest none = none
-rests_none (Arms count) rest none = none
-rests_none CommitAct rest none = none
-rests_none AbortAct rest none = none
 rests_none (PokeAct region word mask) rest none = absurd (cc none)
-rests_none AuditAct rest none = none
-rests_none CheckpointAct rest none = none
+rests_none _ rest none = none
 
 quiet_move : (x : Move) → Fits (from x) → coming (from x).rest ≡ [] → (is_poking x ≡ false) × (coming (to x).rest ≡ [])
 quiet_move (Pokes s n region word mask rest) fits none = absurd (cc none)
@@ -147,15 +141,11 @@ first_quiet : (r : ℕ) (own : Bool) (x : Receipt) (xs : List Receipt) → own �
 first_quiet r true x xs is e = (none_left (mask_of r x) (own_masks r xs) e).0
 first_quiet r false x xs is e = absurd (cc is)
 
-both : (a b : Bool) → (a && b) ≡ true → (a ≡ true) × (b ≡ true)
-both true b e = (refl, e)
-both false b e = absurd (cc e)
-
 quiet_happened : (r n : ℕ) (bs : List Told) (xs : List Happening) → list_all (λ (x : Happening). is_among bs x.1) xs ≡ true
     → ((c : ℕ) → is_among bs c ≡ true → own_masks r (owned c n xs) ≡ []) → masks_at r xs ≡ []
 quiet_happened r n bs [] owners each = refl
 quiet_happened r n bs ((x, d) ∷ xs) owners each =
-    let parts = both (is_among bs d) (list_all (λ (y : Happening). is_among bs y.1) xs) owners in
+    let parts = and_parts (is_among bs d) (list_all (λ (y : Happening). is_among bs y.1) xs) owners in
     let m = count_with n x in
     let later = quiet_happened r m bs xs parts.1 (λ c among. later_quiet r (d == c) (n, x) (owned c m xs) (each c among)) in
     ap (λ (l : List ℕ). l ++ masks_at r xs) (first_quiet r (d == d) (n, x) (owned d m xs) (eq-eqb d d refl) (each d parts.0)) ∙ later

@@ -5,7 +5,6 @@
 --     OwnRose old f                the store's own count of faults rose, or it and the calls that the fuse failed come to their type's end together
 --     FaultRises                   so it is in the command that ended a run with a failure of the store
 --     StoreFaultsRise              of each run over files of this program
---     RoundRose made played        so it is in a round, or a fuse failed a call in it
 --     GeneratorFaultRises          so it is in the command that ended a generated run so, its round too
 --     GeneratorFaultsRise          of each generated run over files of this program
 --     NoneRises                    no count rose: the source's, the sink's, and the store's in the command that ended the run
@@ -15,7 +14,7 @@ use Rattle.std.specs.Prelude.{◌≡◌, ◌⊎◌, ◌<◌, ◌≤◌, ℕ, ◌
 use Rattle.std.proofs.Common.{inl, inr}
 use Rattle.dali_arguments.specs.declared.task.Task.TheVariants.{Run, Generate}
 use Rattle.dali_batch.specs.Batch.{IsUnformatted}
-use Rattle.dali_memstore.specs.Fuse.{failed_of, inner}
+use Rattle.dali_memstore.specs.Fuse.{inner}
 use Rattle.dali_memstore.specs.declared.fuse.Fuse.{Fuse}
 use Rattle.dali_record.specs.declared.records.Record.{Record}
 use Rattle.dali_script.specs.declared.commands.Command.{Command}
@@ -23,7 +22,6 @@ use Rattle.dali_script.specs.declared.commands.Command.TheVariants.{Size, Open}
 use Rattle.dali_script.specs.Grammar.{IsSpelled}
 use Rattle.dali_store.specs.Faults.{Rose}
 use Rattle.dali_store.specs.Store.{Files}
-use Rattle.dali_whole.specs.declared.whole.Core.{Core}
 use Rattle.dali_run.specs.declared.halt.Halt.TheVariants as halts
 use Rattle.dali_run.specs.declared.status.Status.{Status}
 use Rattle.dali_run.specs.declared.status.Status.TheVariants.{Done, StoreFault, OutOfMemory}
@@ -51,10 +49,6 @@ module _ {V : Type 0} (told : V → Option Files) where
 module _ {V : Type 0} (faults : V → ℕ) where
   abbrev pub OwnRose : Fuse V → Fuse V → Type 0
   OwnRose old f = (faults (inner old) < faults (inner f)) ⊎ (2 ^ 64 ≤ faults_in faults f + 1)
-
-  -- none is set in a generated run, but a round doesn't say that it stays so
-  abbrev pub RoundRose : Core (Fuse V) → Core (Fuse V) → Type 0
-  RoundRose made played = OwnRose made.vault.store played.vault.store ⊎ (failed_of made.vault.store < failed_of played.vault.store)
 
 module _ {V : Type 0} (told : V → Option Files) (may_leave : V → Files → Type 0) (moment : V → ℕ) (left_since : V → ℕ → Files → Type 0) (faults : V → ℕ) (limit : ℕ) (cuts : V → ℕ → Option Files) (precheck : Bool) where
   module _ (c : Course V) (mid : Option (List ℕ)) (count : ℕ) where
@@ -97,7 +91,7 @@ module _ {V : Type 0} (told : V → Option Files) (may_leave : V → Files → T
     -- no fuse is set: none fails a call of the restart
     abbrev pub GeneratorFaultRises : GeneratorFails told may_leave moment left_since faults cuts clients size number c.store c.store' → Type 0
     GeneratorFaultRises (inl stops) = StopRises stops
-    GeneratorFaultRises (inr (inl refused)) = RoundRose faults refused.run.made refused.run.played
+    GeneratorFaultRises (inr (inl refused)) = OwnRose faults refused.run.made.vault.store refused.run.played.vault.store
     GeneratorFaultRises (inr (inr none)) = ⊥
 
   abbrev pub GeneratorFaultsRise : Type 0

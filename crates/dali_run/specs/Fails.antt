@@ -39,7 +39,7 @@ use Rattle.dali_run.specs.declared.program.Program.{Program}
 use Rattle.dali_run.specs.declared.program.Program.TheVariants.{Up, Down}
 use Rattle.dali_run.specs.Halts.{halt_of_restart}
 use Rattle.dali_run.specs.Program.{store_of, told_in, leaves_in, moment_in, since_in, faults_in}
-use Rattle.dali_run.specs.Steps.{Plays, LeavesLess, Makes, Rereads}
+use Rattle.dali_run.specs.Steps.{Plays, RightWithin, LeavesLess, Makes, Rereads}
 use Rattle.dali_run.specs.Texts.{says_failure}
 use Rattle.dali_run.specs.Told.{told_by, alone}
 
@@ -75,43 +75,45 @@ module _ {V : Type 0} (told : V → Option Files) (may_leave : V → Files → T
     pub rose : Rose (faults_in faults old) (faults_in faults f)
     pub none_by_fuse : failed_of f ≤ failed_of old
 
-  module _ (precheck : Bool) where
-    pub record Played (blocks : List Told) (c : Core (Fuse V)) (f : Fuse V) : Type 0 where
-      pub whole : Bool
-      pub transcripts : List Transcribed
-      pub core : Core (Fuse V)
-      pub plays : Plays told may_leave faults precheck whole blocks c transcripts core
-      pub longer : IsNoShorter (told_in told) c.vault core.vault
-      pub store : f ≡ core.vault.store
+module _ {V : Type 0} (told : V → Option Files) (may_leave : V → Files → Type 0) (moment : V → ℕ) (left_since : V → ℕ → Files → Type 0) (faults : V → ℕ) (precheck : Bool) where
+  pub record Played (blocks : List Told) (c : Core (Fuse V)) (f : Fuse V) : Type 0 where
+    pub whole : Bool
+    pub transcripts : List Transcribed
+    pub core : Core (Fuse V)
+    pub plays : Plays told may_leave faults precheck whole blocks c transcripts core
+    pub longer : IsNoShorter (told_in told) c.vault core.vault
+    pub moments : RightWithin told may_leave moment left_since faults c core
+    pub store : f ≡ core.vault.store
 
-    abbrev pub LostOver : List Told → Core (Fuse V) → Fuse V → Type 0
-    LostOver blocks c f = (f ≡ c.vault.store) ⊎ Played blocks c f
+  abbrev pub LostOver : List Told → Core (Fuse V) → Fuse V → Type 0
+  LostOver blocks c f = (f ≡ c.vault.store) ⊎ Played blocks c f
 
-    abbrev pub Lost : List Told → Program V → Fuse V → Type 0
-    Lost blocks (Up core) f = LostOver blocks core f
-    Lost blocks (Down store) f = f ≡ store
+  abbrev pub Lost : List Told → Program V → Fuse V → Type 0
+  Lost blocks (Up core) f = LostOver blocks core f
+  Lost blocks (Down store) f = f ≡ store
 
-    pub record FailsAlone (act : Act) (c : Core (Fuse V)) (f : Fuse V) : Type 0 where
-      pub transcripts : List Transcribed
-      pub core : Core (Fuse V)
-      pub plays : Plays told may_leave faults precheck true (alone act) c transcripts core
-      pub longer : IsNoShorter (told_in told) c.vault core.vault
-      pub said : list_any says_failure transcripts ≡ true
-      pub store : f ≡ core.vault.store
-      pub none_by_fuse : failed_of f ≤ failed_of c.vault.store
+  pub record FailsAlone (act : Act) (c : Core (Fuse V)) (f : Fuse V) : Type 0 where
+    pub transcripts : List Transcribed
+    pub core : Core (Fuse V)
+    pub plays : Plays told may_leave faults precheck true (alone act) c transcripts core
+    pub longer : IsNoShorter (told_in told) c.vault core.vault
+    pub moments : RightWithin told may_leave moment left_since faults c core
+    pub said : list_any says_failure transcripts ≡ true
+    pub store : f ≡ core.vault.store
+    pub none_by_fuse : failed_of f ≤ failed_of c.vault.store
 
-    abbrev pub AloneFails : Act → Program V → Fuse V → Type 0
-    AloneFails act (Up core) f = FailsAlone act core f
-    AloneFails act (Down store) f = ⊥
+  abbrev pub AloneFails : Act → Program V → Fuse V → Type 0
+  AloneFails act (Up core) f = FailsAlone act core f
+  AloneFails act (Down store) f = ⊥
 
-    abbrev pub AloneEnds : Halt → Act → Core (Fuse V) → Fuse V → Type 0
-    AloneEnds StoreFault act c f = FailsAlone act c f
-    AloneEnds OutOfMemory act c f = LostOver (alone act) c f
-    AloneEnds _ act c f = ⊥
+  abbrev pub AloneEnds : Halt → Act → Core (Fuse V) → Fuse V → Type 0
+  AloneEnds StoreFault act c f = FailsAlone act c f
+  AloneEnds OutOfMemory act c f = LostOver (alone act) c f
+  AloneEnds _ act c f = ⊥
 
-    abbrev pub AloneEndsIn : Halt → Act → Program V → Fuse V → Type 0
-    AloneEndsIn halt act (Up core) f = AloneEnds halt act core f
-    AloneEndsIn halt act (Down store) f = (halt ≡ OutOfMemory) × (f ≡ store)
+  abbrev pub AloneEndsIn : Halt → Act → Program V → Fuse V → Type 0
+  AloneEndsIn halt act (Up core) f = AloneEnds halt act core f
+  AloneEndsIn halt act (Down store) f = (halt ≡ OutOfMemory) × (f ≡ store)
 
 module _ {V : Type 0} (told : V → Option Files) (may_leave : V → Files → Type 0) (moment : V → ℕ) (left_since : V → ℕ → Files → Type 0) (faults : V → ℕ) where
   -- how a comparison with a replay ends a run: the store was only read
@@ -146,10 +148,10 @@ module _ {V : Type 0} (told : V → Option Files) (may_leave : V → Files → T
       × IfSome (told_in told (store_of old)) (λ fs. IsUnformatted fs.log)
   Breaks Open old f = Rereads told may_leave moment left_since faults (store_of old) f × HidesNone (store_of old) f
   Breaks Restart old f = Rereads told may_leave moment left_since faults (store_of old) f × HidesNone (store_of old) f
-  Breaks (Round blocks) old f = Lost told may_leave faults precheck (map told_by blocks) old f
-  Breaks (Poke region word mask) old f = Lost told may_leave faults precheck (alone (Pokes region word mask)) old f
-  Breaks Audit old f = Lost told may_leave faults precheck (alone Audits) old f
-  Breaks Checkpoint old f = Lost told may_leave faults precheck (alone Checkpoints) old f
+  Breaks (Round blocks) old f = Lost told may_leave moment left_since faults precheck (map told_by blocks) old f
+  Breaks (Poke region word mask) old f = Lost told may_leave moment left_since faults precheck (alone (Pokes region word mask)) old f
+  Breaks Audit old f = Lost told may_leave moment left_since faults precheck (alone Audits) old f
+  Breaks Checkpoint old f = Lost told may_leave moment left_since faults precheck (alone Checkpoints) old f
   Breaks (Crash choice) old f = LeavesLess told may_leave moment left_since (inner (store_of old)) (inner f) × (faults (inner f) ≡ faults (inner (store_of old)))
   Breaks (SetFuse passes) old f = inner f ≡ inner (store_of old)
   Breaks Verify old f = OnlyRead (store_of old) f × HidesNone (store_of old) f
@@ -161,9 +163,9 @@ module _ {V : Type 0} (told : V → Option Files) (may_leave : V → Files → T
       Rose (faults_in faults (store_of old)) (faults_in faults f) × Makes told may_leave moment left_since faults index heap (store_of old) f
   StoreFailsIn Open old f = StoreFails told may_leave faults (store_of old) f × Rereads told may_leave moment left_since faults (store_of old) f
   StoreFailsIn Restart old f = StoreFails told may_leave faults (store_of old) f × Rereads told may_leave moment left_since faults (store_of old) f
-  StoreFailsIn (Poke region word mask) old f = AloneFails told may_leave faults precheck (Pokes region word mask) old f
-  StoreFailsIn Audit old f = AloneFails told may_leave faults precheck Audits old f
-  StoreFailsIn Checkpoint old f = AloneFails told may_leave faults precheck Checkpoints old f
+  StoreFailsIn (Poke region word mask) old f = AloneFails told may_leave moment left_since faults precheck (Pokes region word mask) old f
+  StoreFailsIn Audit old f = AloneFails told may_leave moment left_since faults precheck Audits old f
+  StoreFailsIn Checkpoint old f = AloneFails told may_leave moment left_since faults precheck Checkpoints old f
   StoreFailsIn Verify old f = StoreFails told may_leave faults (store_of old) f × OnlyRead (store_of old) f
   StoreFailsIn (Crash choice) old f =
       Rose (faults (inner (store_of old))) (faults (inner f)) × LeavesLess told may_leave moment left_since (inner (store_of old)) (inner f)

@@ -1,7 +1,8 @@
 -- How a generated script is run: a database is made, its one round is run, a crash follows and a restart, and what memory stores then is counted.
 --     full_among lines, first_full ts    the first line that says that the log is full, of a client and of all, by ascending number
---     halt_of_round ts stop              what ends such a run behind its round, whose engine is stopped so, or isn't: a full log; else the store, or damage, which is told
---                                        as want of memory, though nobody writes astray in it
+--     halt_of_round ts stop by_fuse      what ends such a run behind its round, whose engine is stopped so, or isn't: a full log; else the store. Damage is told as
+--                                        want of memory, though nobody writes astray in it, and so is a call that a fuse failed, though none is set
+--     fails_by_fuse made played          whether a fuse failed a call in the round
 --     script_of                          the script of these numbers
 --     IsMade, IsPlayed, IsCrashed, IsFound start ..    how far it was run
 --     Summarizes start text end          to its end, and this is the summary of what memory stores then
@@ -9,14 +10,14 @@
 --     NotFound start end                 the restart found no database, since a fuse failed a call of its store
 --     IsLost start end                   the round had no memory
 --     EndedBy halt start end             another command of the script ended the run: the database wasn't made, or behind a round that went well the crash or the restart failed
-use Rattle.std.specs.Prelude.{◌≡◌, ◌⊎◌, ℕ, ◌%◌, Bool, true, false, List, [], ◌∷◌, length, map, Option, Some, None}
+use Rattle.std.specs.Prelude.{◌≡◌, ◌⊎◌, ℕ, ◌%◌, Bool, true, false, nat_lt, List, [], ◌∷◌, length, map, Option, Some, None}
 use Rattle.std.specs.List.{sum_by}
 use Rattle.dali_clients.specs.Said.{Transcribed}
 use Rattle.dali_generator.specs.Generated.{generated, index_regions, heap_regions}
 use Rattle.dali_generator.specs.Summary.{summary_of}
 use Rattle.dali_listing.specs.declared.Listed.{Listed}
 use Rattle.dali_listing.specs.Listing.{IsListing, in_memory}
-use Rattle.dali_memstore.specs.Fuse.{inner}
+use Rattle.dali_memstore.specs.Fuse.{failed_of, inner}
 use Rattle.dali_memstore.specs.declared.fuse.Fuse.{Fuse}
 use Rattle.dali_round.specs.Leads.{lines_in}
 use Rattle.dali_script.specs.declared.commands.Command.{Command}
@@ -52,14 +53,18 @@ abbrev pub first_full : List Transcribed → Option Halt
 first_full [] = None
 first_full (t ∷ later) = or_else (full_among (lines_in t)) (first_full later)
 
-abbrev pub halt_of : Option Halt → Option Cause → Option Halt
-halt_of (Some halt) stop = Some halt
-halt_of None (Some Store) = Some StoreFault
-halt_of None (Some (Damage region)) = Some OutOfMemory
-halt_of None None = None
+abbrev pub halt_of : Option Halt → Option Cause → (by_fuse : Bool) → Option Halt
+halt_of (Some halt) stop by_fuse = Some halt
+halt_of None (Some Store) false = Some StoreFault
+halt_of None (Some Store) true = Some OutOfMemory
+halt_of None (Some (Damage region)) by_fuse = Some OutOfMemory
+halt_of None None by_fuse = None
 
-abbrev pub halt_of_round : List Transcribed → Option Cause → Option Halt
-halt_of_round ts stop = halt_of (first_full ts) stop
+abbrev pub halt_of_round : List Transcribed → Option Cause → (by_fuse : Bool) → Option Halt
+halt_of_round ts stop by_fuse = halt_of (first_full ts) stop by_fuse
+
+abbrev pub fails_by_fuse : {V : Type 0} → Core (Fuse V) → Core (Fuse V) → Bool
+fails_by_fuse made played = nat_lt (failed_of made.vault.store) (failed_of played.vault.store)
 
 -- modulo two to the 64th
 abbrev pub sum_of_keys : List Listed → ℕ
@@ -68,16 +73,16 @@ sum_of_keys rows = sum_by (λ row. row.key) rows % 18446744073709551616
 abbrev pub script_of : (clients size number : ℕ) → List Command
 script_of clients size number = Size (index_regions clients size) (heap_regions clients size) ∷ Round (generated clients size number) ∷ Crash 0 ∷ Restart ∷ []
 
-module _ {V : Type 0} (told : V → Option Files) (may_leave : V → Files → Type 0) (faults : V → ℕ) where
+module _ {V : Type 0} (told : V → Option Files) (may_leave : V → Files → Type 0) (moment : V → ℕ) (left_since : V → ℕ → Files → Type 0) (faults : V → ℕ) where
   -- the round was run to its end, and ends the run so, or not
   pub record IsRoundOf (blocks : List Told) (made : Core (Fuse V)) (ends : Option Halt) (played : Core (Fuse V)) : Type 0 where
     pub text : List ℕ
-    pub round : RunsRound told may_leave faults false blocks made text played
-    pub is : halt_of_round round.transcripts played.system.state.stop ≡ ends
+    pub round : RunsRound told may_leave moment left_since faults false blocks made text played
+    pub is : halt_of_round round.transcripts played.system.state.stop (fails_by_fuse made played) ≡ ends
 
   -- nothing was done of the round, or it was cut
   abbrev pub IsCutRound : List Told → Core (Fuse V) → Fuse V → Type 0
-  IsCutRound blocks made f = (f ≡ made.vault.store) ⊎ ((played : Played told may_leave faults false blocks made f) × (played.whole ≡ false))
+  IsCutRound blocks made f = (f ≡ made.vault.store) ⊎ ((played : Played told may_leave moment left_since faults false blocks made f) × (played.whole ≡ false))
 
   -- what the round left ended the run, or the round had no memory
   abbrev pub RoundStops : List Told → Core (Fuse V) → Halt → V → Type 0
@@ -85,7 +90,6 @@ module _ {V : Type 0} (told : V → Option Files) (may_leave : V → Files → T
       ((played : Core (Fuse V)) × IsRoundOf blocks made (Some halt) played × (inner played.vault.store ≡ end))
       ⊎ ((f : Fuse V) × IsCutRound blocks made f × (halt ≡ OutOfMemory) × (inner f ≡ end))
 
-module _ {V : Type 0} (told : V → Option Files) (may_leave : V → Files → Type 0) (moment : V → ℕ) (left_since : V → ℕ → Files → Type 0) (faults : V → ℕ) where
   pub record FailsIn (halt : Halt) (command : Command) (old : Program V) (end : V) : Type 0 where
     pub last : Fuse V
     pub fails : Fails told may_leave moment left_since faults false halt command old last
@@ -109,7 +113,7 @@ module _ {V : Type 0} (told : V → Option Files) (may_leave : V → Files → T
         pub made : Core (Fuse V)
         pub is_made : IsMade start made
         pub played : Core (Fuse V)
-        pub round : IsRoundOf told may_leave faults (map told_by (generated clients size number)) made ends played
+        pub round : IsRoundOf (map told_by (generated clients size number)) made ends played
 
       pub record RefusedIn (halt : Halt) (start end : V) : Type 0 where
         pub run : IsPlayed start (Some halt)
@@ -119,7 +123,7 @@ module _ {V : Type 0} (told : V → Option Files) (may_leave : V → Files → T
         pub made : Core (Fuse V)
         pub is_made : IsMade start made
         pub left : Fuse V
-        pub cut : IsCutRound told may_leave faults (map told_by (generated clients size number)) made left
+        pub cut : IsCutRound (map told_by (generated clients size number)) made left
         pub store : inner left ≡ end
 
       module _ (cuts : V → ℕ → Option Files) where

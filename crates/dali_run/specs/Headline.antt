@@ -9,12 +9,25 @@
 --     IsAnswer F o             o has the records and the lists that the log of the files F says
 --     HasKept kept c           files of such a log, of which each restart answers so, however many restarts were stopped before
 --     Keeps kept c             such files, or no database, where nothing was committed
---     KeptAt kept p            where no damage escapes a crash of the program, the crash leaves only such files
+--     KeepsLeft, KeepsWhere P  a crash leaves only such files; only such, if they have P
+--     KeptAt Safe kept p       so it is of the program: such are the files that a crash leaves, if no damage escapes from them, or Safe holds where it is down
+--     KeepsWithin P kept ..    such are the files with P that a crash at any moment within a command leaves
+--     KeepsBetween kept c d    within a round that led from the core c to d: what a crash at any moment leaves came along steps from a point between, at which the
+--                              steps of the round lead from the memory of c to that of d; and it is such, if no damage escapes from it at the memory of that point
+--     KeptWithin, KeptFailing  so it is within each command, of which a single `poke`, `audit` or `checkpoint` is a round too; and within one that failed
 --     Answers kept ..          a restart of the run itself hands out and prints what the files say that it found, and they are such
 --     Along Behind ..          so it is at each state of a run, as long as no damage escaped before; and behind the last one what Behind says
---     Kept task status         so it is of a run with each status, and of the store that comes back
+--     ScriptKeeps ..           of a script with each status: along it, within the command that ended it, and of the store that comes back
+--     KeepsSince kept s t      such are the files that a crash leaves at any moment from the store s on, until it is t
+--     KeepsOn kept s t         and those that one leaves of t
+--     oks_played ..            the transactions that the clients of a generated round commit
+--     PlayedKeeps, CrashedKeeps, FoundKeeps ..    so it is of a generated script from state to state, within its `size`, its round, its `crash` and its `restart`
+--     GeneratorKeeps ..        of a generated script with each status, and of the store that comes back
+--     Kept task status         so it is of what the words mean, with each status
 --     AcknowledgedSurvive      of each run
-use Rattle.std.specs.Prelude.{◌≡◌, ◌⊎◌, ◌<◌, ℕ, Bool, List, [], ◌∷◌, ◌++◌, Option, Some, None, Contains, IfSome, flat_map, length, map, option_to_list, take}
+--     WorkedLinesAcknowledge   the lines of the worked round of dali_transcripts, in which one client commits in its second try, acknowledge just this one
+--                              transaction, and of that round's log its commit is the only one
+use Rattle.std.specs.Prelude.{◌≡◌, ◌⊎◌, ◌<◌, ℕ, Bool, false, List, [], ◌∷◌, ◌++◌, Option, Some, None, Contains, IfSome, flat_map, length, map, option_to_list, take}
 use Rattle.std.proofs.Common.{inl, inr}
 use Rattle.dali_arguments.specs.Meaning.{meaning}
 use Rattle.dali_arguments.specs.declared.task.Task.{Task}
@@ -25,33 +38,41 @@ use Rattle.dali_history.specs.History.{HasExpected}
 use Rattle.dali_history.specs.Promise.{RestartIsRight}
 use Rattle.dali_history.specs.Serial.{survivors}
 use Rattle.dali_memstore.specs.Fuse.{inner}
+use Rattle.dali_memstore.specs.declared.fuse.Fuse.{Fuse}
 use Rattle.dali_record.specs.declared.records.Record.{Record}
 use Rattle.dali_record.specs.Damage.{deleted_list, rolled_list}
-use Rattle.dali_record.specs.Epochs.{recovered_epoch}
+use Rattle.dali_record.specs.Epochs.{last_epoch, recovered_epoch}
 use Rattle.dali_record.specs.Files.{Files}
 use Rattle.dali_record.specs.Log.{committed}
 use Rattle.dali_restart.specs.Headline.{EachRestart}
 use Rattle.dali_restart.specs.Restarting.{outcome}
 use Rattle.dali_resume.specs.Again.{Outcome}
 use Rattle.dali_round.specs.Leads.{lines_in}
+use Rattle.dali_round.specs.Moments.{EndsRight, IsRightBetween}
 use Rattle.dali_script.specs.declared.commands.Command.{Command}
-use Rattle.dali_script.specs.declared.commands.Command.TheVariants.{Open, Restart, Round}
+use Rattle.dali_script.specs.declared.commands.Command.TheVariants.{Size, Open, Round, Poke, Audit, Checkpoint, Restart}
 use Rattle.dali_store.specs.Store.{Files as Disk}
+use Rattle.dali_system.specs.Crashes.{NoneEscapes}
 use Rattle.dali_system.specs.Run.{log_in}
 use Rattle.dali_traces.specs.Disks.{Spells}
-use Rattle.dali_transcripts.specs.Words.{Said, Begun, CommitOk}
+use Rattle.dali_transcripts.specs.Transcripts.{Told}
+use Rattle.dali_transcripts.specs.Words.{Act, Said, Begun, CommitOk, Pokes, Audits, Checkpoints}
+use Rattle.dali_transcripts.specs.Worked.{lines_1, lines_2, log as worked_log}
+use Rattle.dali_whole.specs.declared.whole.Core.{Core}
 use Rattle.dali_run.specs.declared.halt.Halt.{Halt}
 use Rattle.dali_run.specs.declared.halt.Halt.TheVariants as halts
 use Rattle.dali_run.specs.declared.program.Program.{Program}
-use Rattle.dali_run.specs.declared.program.Program.TheVariants.{Up}
+use Rattle.dali_run.specs.declared.program.Program.TheVariants.{Up, Down}
 use Rattle.dali_run.specs.declared.status.Status.{Status}
 use Rattle.dali_run.specs.declared.status.Status.TheVariants.{Done, WriteFault, StoreFault, BadStore, Unformatted, Formatted, OutOfMemory, LogFull}
-use Rattle.dali_run.specs.Ends.{Course, Ended, EndedGenerator, EndedScript, GeneratorFails, GeneratorStops, GeneratorWants, HasEnded, HasStopped, Untouched}
-use Rattle.dali_run.specs.Generating.{IsPlayed}
-use Rattle.dali_run.specs.Program.{store_of}
+use Rattle.dali_run.specs.Ends.{Course, Ended, EndedGenerator, EndedScript, GeneratorFails, GeneratorFinds, GeneratorIsRefused, GeneratorLoses, GeneratorStops, GeneratorWants, HasEnded, HasStopped, Untouched}
+use Rattle.dali_run.specs.Fails.{AloneFails, Breaks, Fails, Lost, StoreFailsIn}
+use Rattle.dali_run.specs.Generating.{IsCrashed, IsPlayed}
+use Rattle.dali_run.specs.Program.{store_of, told_in, moment_in, since_in}
 use Rattle.dali_run.specs.Run.{RunsAll}
 use Rattle.dali_run.specs.Steps.{Steps, StepsRestart}
-use Rattle.dali_run.specs.Survives.{GeneratorIsHonest, IsOwn, NoneEscapesBehind, NoneEscapesIn, NoneEscapesLeft}
+use Rattle.dali_run.specs.Survives.{AnyFiles, IsOwn, IsPointOf, NoneEscapesBehind, NoneEscapesFrom, NoneEscapesIn, NoneEscapesLeft, NoneEscapesMaking, SafeBehind}
+use Rattle.dali_run.specs.Told.{alone, told_by}
 
 -- ---- what lines acknowledge
 abbrev pub oks_in : Option ℕ → List Said → List ℕ
@@ -85,14 +106,81 @@ pub record HasKept (kept : List ℕ) (c : Disk) : Type 0 where
 abbrev pub Keeps : List ℕ → Disk → Type 0
 Keeps kept c = (IsUnformatted c.log × (kept ≡ [])) ⊎ HasKept kept c
 
-module _ {V : Type 0} (told : V → Option Disk) (may_leave : V → Disk → Type 0) where
+module _ {V : Type 0} (may_leave : V → Disk → Type 0) where
   abbrev pub KeepsLeft : List ℕ → V → Type 0
   KeepsLeft kept s = (c : Disk) → may_leave s c → Keeps kept c
 
-  abbrev pub KeptAt : List ℕ → Program V → Type 0
-  KeptAt kept p = NoneEscapesIn told may_leave p → KeepsLeft kept (inner (store_of p))
+  abbrev pub KeepsWhere : (Disk → Type 0) → List ℕ → V → Type 0
+  KeepsWhere P kept s = (c : Disk) → may_leave s c → P c → Keeps kept c
+
+  abbrev pub KeptAt : (Disk → Type 0) → List ℕ → Program V → Type 0
+  KeptAt Safe kept p = KeepsWhere (NoneEscapesIn Safe p) kept (inner (store_of p))
+
+-- ---- within a command
+module _ {V : Type 0} (moment : V → ℕ) (left_since : V → ℕ → Disk → Type 0) where
+  abbrev pub KeepsWithin : (Disk → Type 0) → List ℕ → Program V → Fuse V → Type 0
+  KeepsWithin P kept old f = (c : Disk) → left_since (inner f) (moment (inner (store_of old))) c → P c → Keeps kept c
+
+module _ {V : Type 0} (told : V → Option Disk) (may_leave : V → Disk → Type 0) (moment : V → ℕ) (left_since : V → ℕ → Disk → Type 0) (faults : V → ℕ) where
+  -- the premise is asked of memory where the files came from
+  pub record KeepsBetween (kept : List ℕ) (c d : Core (Fuse V)) : Type 0 where
+    pub base : List Record
+    pub at : IsPointOf told may_leave faults base c
+    pub ends : EndsRight (told_in told) (moment_in moment) (since_in left_since) at.start at.point c.vault d.regions.items d.system.state d.vault
+    pub keeps : (disk : Disk) → left_since (inner d.vault.store) (moment (inner c.vault.store)) disk
+        → (E : Files) × Spells disk E × (is : IsRightBetween at.start at.point ends.to E) × (NoneEscapes (last_epoch (log_in E)) is.between.core → Keeps kept disk)
 
 module _ {V : Type 0} (told : V → Option Disk) (may_leave : V → Disk → Type 0) (moment : V → ℕ) (left_since : V → ℕ → Disk → Type 0) (faults : V → ℕ) (limit : ℕ) (cuts : V → ℕ → Option Disk) (precheck : Bool) where
+  -- in the making and the finding of a database: of files that might have been left before it, or of those as they read too
+  abbrev pub SafeWithin : (Disk → Type 0) → Command → Program V → Disk → Type 0
+  SafeWithin Safe (Size index heap) old = NoneEscapesMaking told may_leave Safe old
+  SafeWithin Safe Open old = NoneEscapesMaking told may_leave Safe old
+  SafeWithin Safe Restart old = NoneEscapesMaking told may_leave Safe old
+  SafeWithin Safe _ old = NoneEscapesIn Safe old
+
+  abbrev pub Within : (Disk → Type 0) → List ℕ → Command → Program V → Fuse V → Type 0
+  Within Safe kept command old f = KeepsWithin moment left_since (SafeWithin Safe command old) kept old f
+
+  abbrev pub Between : List ℕ → Core (Fuse V) → Core (Fuse V) → Type 0
+  Between kept c d = KeepsBetween told may_leave moment left_since faults kept c d
+
+  abbrev pub KeptWithin : (Safe : Disk → Type 0) (kept : List ℕ) (command : Command) (old : Program V) (text : List ℕ) (new : Program V)
+      → Steps told may_leave moment left_since faults limit cuts precheck old command text new → Type 0
+  KeptWithin Safe kept (Round blocks) (Up core) text new step = Between kept core step.0
+  KeptWithin Safe kept (Poke region word mask) (Up core) text new step = Between kept core step.0
+  KeptWithin Safe kept Audit (Up core) text new step = Between kept core step.0
+  KeptWithin Safe kept Checkpoint (Up core) text new step = Between kept core step.0
+  KeptWithin Safe kept command old text new step = Within Safe kept command old (store_of new)
+
+  -- where a round was cut, or the store failed in one of one client
+  abbrev pub KeptLost : (Safe : Disk → Type 0) (kept : List ℕ) (blocks : List Told) (old : Program V) (f : Fuse V) → Lost told may_leave moment left_since faults precheck blocks old f → Type 0
+  KeptLost Safe kept blocks (Up core) f (inl none) = KeepsWithin moment left_since (NoneEscapesFrom core) kept (Up core) f
+  KeptLost Safe kept blocks (Up core) f (inr played) = Between kept core played.core
+  KeptLost Safe kept blocks (Down store) f lost = KeepsWithin moment left_since Safe kept (Down store) f
+
+  abbrev pub KeptBroken : (Safe : Disk → Type 0) (kept : List ℕ) (command : Command) (old : Program V) (f : Fuse V) → Breaks told may_leave moment left_since faults precheck command old f → Type 0
+  KeptBroken Safe kept (Round blocks) old f breaks = KeptLost Safe kept (map told_by blocks) old f breaks
+  KeptBroken Safe kept (Poke region word mask) old f breaks = KeptLost Safe kept (alone (Pokes region word mask)) old f breaks
+  KeptBroken Safe kept Audit old f breaks = KeptLost Safe kept (alone Audits) old f breaks
+  KeptBroken Safe kept Checkpoint old f breaks = KeptLost Safe kept (alone Checkpoints) old f breaks
+  KeptBroken Safe kept command old f breaks = Within Safe kept command old f
+
+  abbrev pub KeptAlone : (kept : List ℕ) (act : Act) (old : Program V) (f : Fuse V) → AloneFails told may_leave moment left_since faults precheck act old f → Type 0
+  KeptAlone kept act (Up core) f fails = Between kept core fails.core
+  KeptAlone kept act (Down store) f fails = Unit {0}
+
+  abbrev pub KeptFailed : (Safe : Disk → Type 0) (kept : List ℕ) (command : Command) (old : Program V) (f : Fuse V) → StoreFailsIn told may_leave moment left_since faults precheck command old f → Type 0
+  KeptFailed Safe kept (Poke region word mask) old f fails = KeptAlone kept (Pokes region word mask) old f fails
+  KeptFailed Safe kept Audit old f fails = KeptAlone kept Audits old f fails
+  KeptFailed Safe kept Checkpoint old f fails = KeptAlone kept Checkpoints old f fails
+  KeptFailed Safe kept command old f fails = Within Safe kept command old f
+
+  abbrev pub KeptFailing : (Safe : Disk → Type 0) (kept : List ℕ) (halt : Halt) (command : Command) (old : Program V) (f : Fuse V)
+      → Fails told may_leave moment left_since faults precheck halt command old f → Type 0
+  KeptFailing Safe kept halts.StoreFault command old f fails = KeptFailed Safe kept command old f fails
+  KeptFailing Safe kept halts.OutOfMemory command old f fails = KeptBroken Safe kept command old f fails
+  KeptFailing Safe kept halt command old f fails = Within Safe kept command old f
+
   abbrev pub oks_by : (command : Command) (old : Program V) (text : List ℕ) (new : Program V) → Steps told may_leave moment left_since faults limit cuts precheck old command text new → List ℕ
   oks_by (Round blocks) (Up core) text new step = oks_of (map lines_in step.1.transcripts)
   oks_by _ old text new step = []
@@ -107,87 +195,138 @@ module _ {V : Type 0} (told : V → Option Disk) (may_leave : V → Disk → Typ
   Answers kept _ old text new step = Unit {0}
 
   -- ---- along a run
-  abbrev pub Along : (Behind : List ℕ → Type 0) (commands : List Command) (kept : List ℕ) (old : Program V) (text : List ℕ) (new : Program V)
+  abbrev pub Along : (Behind : (Disk → Type 0) → List ℕ → Type 0) (Safe : Disk → Type 0) (commands : List Command) (kept : List ℕ) (old : Program V) (text : List ℕ) (new : Program V)
       → RunsAll told may_leave moment left_since faults limit cuts precheck old commands text new → Type 0
-  Along Behind [] kept old text new runs = KeptAt told may_leave kept old × Behind kept
-  Along Behind (command ∷ later) kept old text new runs =
-      KeptAt told may_leave kept old
-      × (NoneEscapesLeft told may_leave moment left_since faults limit cuts precheck command old → Answers kept command old runs.0 runs.1 runs.3
-      × Along Behind later (kept ++ oks_by command old runs.0 runs.1 runs.3) runs.1 runs.2 new runs.4)
+  Along Behind Safe [] kept old text new runs = KeptAt may_leave Safe kept old × Behind Safe kept
+  Along Behind Safe (command ∷ later) kept old text new runs =
+      KeptAt may_leave Safe kept old × KeptWithin Safe kept command old runs.0 runs.1 runs.3
+      × (NoneEscapesLeft told may_leave moment left_since faults limit cuts precheck Safe command old runs.0 runs.1 runs.3 → Answers kept command old runs.0 runs.1 runs.3
+      × Along Behind (SafeBehind told may_leave moment left_since faults limit cuts precheck Safe command old runs.0 runs.1 runs.3) later (kept ++ oks_by command old runs.0 runs.1 runs.3)
+      runs.1 runs.2 new runs.4)
 
   -- ---- each way in which a script's run ends
   module _ (c : Course V) (mid : Option (List ℕ)) (count : ℕ) (kept : List ℕ) where
     abbrev pub StoppedKeeps : (halt : Halt) → HasStopped told may_leave moment left_since faults limit cuts precheck halt c mid → Type 0
     StoppedKeeps halt stopped =
         let stops = stopped.2 in
-        Along (λ now. NoneEscapesBehind told may_leave moment left_since faults limit cuts precheck halt stops.command stops.state stops.last stops.fails → KeepsLeft told may_leave now c.store')
-        (take stops.count stopped.0) kept stops.run.first stops.text stops.state stops.run.runs
+        Along
+        (λ Safe now. KeptFailing Safe now halt stops.command stops.state stops.last stops.fails
+        × KeepsWhere may_leave (NoneEscapesBehind told may_leave moment left_since faults limit cuts precheck Safe halt stops.command stops.state stops.last stops.fails) now c.store')
+        AnyFiles (take stops.count stopped.0) kept stops.run.first stops.text stops.state stops.run.runs
 
     abbrev pub WantingKeeps : Untouched c mid ⊎ HasStopped told may_leave moment left_since faults limit cuts precheck halts.OutOfMemory c mid → Type 0
-    WantingKeeps (inl untouched) = KeepsLeft told may_leave kept c.store'
+    WantingKeeps (inl untouched) = KeepsLeft may_leave kept c.store'
     WantingKeeps (inr stopped) = StoppedKeeps halts.OutOfMemory stopped
 
     abbrev pub ScriptKeeps : (status : Status) → EndedScript told may_leave moment left_since faults limit cuts precheck c mid count status → Type 0
     ScriptKeeps Done ended =
         let ran = ended.2 in
-        Along (λ now. NoneEscapesIn told may_leave ran.state → KeepsLeft told may_leave now c.store') (take (length ended.0) ended.0) kept ran.run.first ran.text ran.state ran.run.runs
+        Along (λ Safe now. KeepsWhere may_leave (NoneEscapesIn Safe ran.state) now c.store') AnyFiles (take (length ended.0) ended.0) kept ran.run.first ran.text ran.state ran.run.runs
     -- all lines of the last command are meant, also those that weren't written
     ScriptKeeps WriteFault ended =
         let cut = ended.1.2 in
         Along
-        (λ now. NoneEscapesLeft told may_leave moment left_since faults limit cuts precheck cut.command cut.earlier → Answers now cut.command cut.earlier cut.more cut.state cut.steps
-        × (NoneEscapesIn told may_leave cut.state → KeepsLeft told may_leave (now ++ oks_by cut.command cut.earlier cut.more cut.state cut.steps) c.store'))
-        (take cut.count ended.1.0) kept cut.ran.first cut.text cut.earlier cut.ran.runs
+        (λ Safe now. KeptWithin Safe now cut.command cut.earlier cut.more cut.state cut.steps
+        × (NoneEscapesLeft told may_leave moment left_since faults limit cuts precheck Safe cut.command cut.earlier cut.more cut.state cut.steps
+        → Answers now cut.command cut.earlier cut.more cut.state cut.steps
+        × KeepsWhere may_leave (NoneEscapesIn (SafeBehind told may_leave moment left_since faults limit cuts precheck Safe cut.command cut.earlier cut.more cut.state cut.steps) cut.state)
+        (now ++ oks_by cut.command cut.earlier cut.more cut.state cut.steps) c.store'))
+        AnyFiles (take cut.count ended.1.0) kept cut.ran.first cut.text cut.earlier cut.ran.runs
     ScriptKeeps StoreFault ended = StoppedKeeps halts.StoreFault ended
     ScriptKeeps (BadStore file at) ended = StoppedKeeps (halts.BadStore file at) ended
     ScriptKeeps Unformatted ended = StoppedKeeps halts.Unformatted ended
     ScriptKeeps Formatted ended = StoppedKeeps halts.Formatted ended
     ScriptKeeps OutOfMemory ended = WantingKeeps ended
-    ScriptKeeps _ ended = KeepsLeft told may_leave kept c.store'
+    ScriptKeeps _ ended = KeepsLeft may_leave kept c.store'
 
 module _ {V : Type 0} (told : V → Option Disk) (may_leave : V → Disk → Type 0) (moment : V → ℕ) (left_since : V → ℕ → Disk → Type 0) (faults : V → ℕ) (cuts : V → ℕ → Option Disk) where
-  -- ---- a generated script: its round writes no lines, and those that its clients were told count
-  module _ (clients size number : ℕ) (c : Course V) (mid : Option (List ℕ)) (count : ℕ) where
-    abbrev pub oks_played : (ends : Option Halt) → IsPlayed told may_leave moment left_since faults 67108864 clients size number c.store ends → List ℕ
-    oks_played ends run = oks_of (map lines_in run.round.round.transcripts)
+  -- ---- a generated script: nobody pokes in it, so nothing is asked of damage
+  abbrev pub KeepsSince : List ℕ → V → V → Type 0
+  KeepsSince kept old new = (c : Disk) → left_since new (moment old) c → Keeps kept c
 
-    abbrev pub oks_stopped : (halt : Halt) → GeneratorStops told may_leave moment left_since faults cuts clients size number halt c.store c.store' → List ℕ
-    oks_stopped halt (inl first) = []
-    oks_stopped halt (inr (inl crash)) = oks_played None crash.0
-    oks_stopped halt (inr (inr restart)) = oks_played None restart.0.run
+  abbrev pub KeepsOn : List ℕ → V → V → Type 0
+  KeepsOn kept old new = KeepsSince kept old new × KeepsLeft may_leave kept new
 
-    abbrev pub oks_failed : GeneratorFails told may_leave moment left_since faults cuts clients size number c.store c.store' → List ℕ
-    oks_failed (inl stops) = oks_stopped halts.StoreFault stops
-    oks_failed (inr (inl refused)) = oks_played (Some halts.StoreFault) refused.run
-    oks_failed (inr (inr none)) = oks_played None none.run.run
+  module _ (clients size number : ℕ) where
+    -- its round writes no lines, and those that its clients were told count
+    abbrev pub oks_played : (start : V) (ends : Option Halt) → IsPlayed told may_leave moment left_since faults 67108864 clients size number start ends → List ℕ
+    oks_played start ends run = oks_of (map lines_in run.round.round.transcripts)
 
-    abbrev pub oks_wanting : GeneratorWants told may_leave moment left_since faults cuts clients size number c.store c.store' → List ℕ
-    oks_wanting (inl same) = []
-    oks_wanting (inr (inl (inl stops))) = oks_stopped halts.OutOfMemory stops
-    oks_wanting (inr (inl (inr lost))) = []
-    oks_wanting (inr (inr (inl refused))) = oks_played (Some halts.OutOfMemory) refused.run
-    oks_wanting (inr (inr (inr last))) = oks_played None last.1.run.run
+    module _ (kept : List ℕ) (start : V) where
+      -- a database was made, and its round run
+      pub record PlayedKeeps (ends : Option Halt) (run : IsPlayed told may_leave moment left_since faults 67108864 clients size number start ends) : Type 0 where
+        pub making : KeepsOn kept start (inner run.made.vault.store)
+        pub round : KeepsSince kept (inner run.made.vault.store) (inner run.played.vault.store)
+        pub behind : KeepsLeft may_leave (kept ++ oks_played start ends run) (inner run.played.vault.store)
 
-    abbrev pub oks_generated : (status : Status) → EndedGenerator told may_leave moment left_since faults cuts clients size number c mid count status → List ℕ
-    oks_generated Done ended = oks_played None ended.1.run.run.run
-    oks_generated WriteFault ended = oks_played None ended.1.run.run.run
-    oks_generated StoreFault ended = oks_failed ended.0
-    oks_generated Unformatted ended = oks_stopped halts.Unformatted ended.0
-    oks_generated Formatted ended = oks_stopped halts.Formatted ended.0
-    oks_generated (LogFull end most) ended = oks_played (Some (halts.LogFull end most)) ended.0.run
-    oks_generated OutOfMemory ended = oks_wanting ended.0
-    oks_generated _ ended = []
+      -- what was kept behind its round, where that didn't end the run
+      abbrev pub kept_played : IsPlayed told may_leave moment left_since faults 67108864 clients size number start None → List ℕ
+      kept_played run = kept ++ oks_played start None run
+
+      pub record CrashedKeeps (run : IsCrashed told may_leave moment left_since faults 67108864 clients size number cuts start) : Type 0 where
+        pub before : PlayedKeeps None run.run
+        pub crash : KeepsOn (kept_played run.run) (inner run.run.played.vault.store) (inner (store_of run.crashed))
+
+      pub record FoundKeeps (found : Core (Fuse V)) (run : GeneratorFinds told may_leave moment left_since faults cuts clients size number start found) : Type 0 where
+        pub before : CrashedKeeps run.run
+        pub restart : KeepsOn (kept_played run.run.run) (inner (store_of run.run.crashed)) (inner found.vault.store)
+        pub answers : Restores told may_leave moment left_since faults 67108864 cuts false (kept_played run.run.run) run.run.crashed run.text (Up found) (inl run.restart)
+
+      module _ (end : V) where
+        -- ---- each way in which it ends, and the store that comes back
+        abbrev pub LastKeeps : (found : Core (Fuse V)) → GeneratorFinds told may_leave moment left_since faults cuts clients size number start found → Type 0
+        LastKeeps found run = FoundKeeps found run × KeepsLeft may_leave (kept_played run.run.run) end
+
+        -- a command of it failed, which isn't its round
+        abbrev pub StopKeeps : (halt : Halt) → GeneratorStops told may_leave moment left_since faults cuts clients size number halt start end → Type 0
+        StopKeeps halt (inl first) = KeepsOn kept start end
+        StopKeeps halt (inr (inl crash)) = PlayedKeeps None crash.0 × KeepsOn (kept_played crash.0) (inner crash.0.played.vault.store) end
+        StopKeeps halt (inr (inr restart)) = CrashedKeeps restart.0 × KeepsOn (kept_played restart.0.run) (inner (store_of restart.0.crashed)) end
+
+        -- a line of its round, or what stopped the engine in it, ended the run
+        abbrev pub RefusedKeeps : (halt : Halt) → GeneratorIsRefused told may_leave moment left_since faults cuts clients size number halt start end → Type 0
+        RefusedKeeps halt refused = PlayedKeeps (Some halt) refused.run × KeepsLeft may_leave (kept ++ oks_played start (Some halt) refused.run) end
+
+        -- its round had no memory, or was cut
+        abbrev pub LostKeeps : GeneratorLoses told may_leave moment left_since faults cuts clients size number start end → Type 0
+        LostKeeps lost = KeepsOn kept start (inner lost.made.vault.store) × KeepsOn kept (inner lost.made.vault.store) end
+
+        -- no fuse is set, so none fails a call of the restart
+        abbrev pub FaultKeeps : GeneratorFails told may_leave moment left_since faults cuts clients size number start end → Type 0
+        FaultKeeps (inl stops) = StopKeeps halts.StoreFault stops
+        FaultKeeps (inr (inl refused)) = RefusedKeeps halts.StoreFault refused
+        FaultKeeps (inr (inr none)) = ⊥
+
+        abbrev pub WantKeeps : GeneratorWants told may_leave moment left_since faults cuts clients size number start end → Type 0
+        WantKeeps (inl same) = KeepsLeft may_leave kept end
+        WantKeeps (inr (inl (inl stops))) = StopKeeps halts.OutOfMemory stops
+        WantKeeps (inr (inl (inr lost))) = LostKeeps lost
+        WantKeeps (inr (inr (inl refused))) = RefusedKeeps halts.OutOfMemory refused
+        WantKeeps (inr (inr (inr last))) = LastKeeps last.0 last.1
+
+    module _ (c : Course V) (mid : Option (List ℕ)) (count : ℕ) (kept : List ℕ) where
+      -- with no other status, as files that a database was just made in are found, and never bad
+      abbrev pub GeneratorKeeps : (status : Status) → EndedGenerator told may_leave moment left_since faults cuts clients size number c mid count status → Type 0
+      GeneratorKeeps Done ended = LastKeeps kept c.store c.store' ended.1.found ended.1.run
+      GeneratorKeeps WriteFault ended = LastKeeps kept c.store c.store' ended.1.found ended.1.run
+      GeneratorKeeps StoreFault ended = FaultKeeps kept c.store c.store' ended.0
+      GeneratorKeeps Formatted ended = KeepsOn kept c.store c.store'
+      GeneratorKeeps (LogFull end most) ended = RefusedKeeps kept c.store c.store' (halts.LogFull end most) ended.0
+      GeneratorKeeps OutOfMemory ended = WantKeeps kept c.store c.store' ended.0
+      GeneratorKeeps _ ended = ⊥
 
   module _ (c : Course V) (mid : Option (List ℕ)) (count : ℕ) (kept : List ℕ) where
     abbrev pub Kept : (task : Option Task) (status : Status) → Ended told may_leave moment left_since faults cuts task c mid count status → Type 0
     Kept (Some (Run precheck limit)) status ended = ScriptKeeps told may_leave moment left_since faults limit cuts precheck c mid count kept status ended
-    Kept (Some (Generate clients size number)) status ended =
-        GeneratorIsHonest told may_leave moment left_since faults cuts clients size number c mid count status ended
-        → KeepsLeft told may_leave (kept ++ oks_generated clients size number c mid count status ended) c.store'
-    Kept _ status ended = KeepsLeft told may_leave kept c.store'
+    Kept (Some (Generate clients size number)) status ended = GeneratorKeeps clients size number c mid count kept status ended
+    Kept _ status ended = KeepsLeft may_leave kept c.store'
 
   -- what base has committed is kept from the beginning
   abbrev pub AcknowledgedSurvive : Type 0
   AcknowledgedSurvive =
       (words : List (List ℕ)) (c : Course V) (status : Status) (base : List Record) → IsOwn told may_leave base c.store
       → (e : HasEnded told may_leave moment left_since faults cuts words c status) → Kept c e.mid e.count (committed base) (meaning words) status e.ended
+
+-- ---- an example
+abbrev pub WorkedLinesAcknowledge : Type 0
+WorkedLinesAcknowledge = (oks_of (lines_1 ∷ lines_2 ∷ []) ≡ 3 ∷ []) × (committed worked_log ≡ 3 ∷ [])

@@ -18,3 +18,5 @@ pub mod Survives
 pub mod Texts
 pub mod Told
 pub mod Unpoked
+pub mod Chain
+pub mod Shown

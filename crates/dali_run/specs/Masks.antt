@@ -141,16 +141,16 @@ pub record TellsFound {V : Type 0} (told : V → Option Files) (s : V) : Type 0 
   pub finds : FindsIt files
 
 -- ---- along a run
-module _ {V : Type 0} (told : V → Option Files) (may_leave : V → Files → Type 0) (faults : V → ℕ) (precheck : Bool) where
-  abbrev pub masks_in_round : (blocks : List Block) (old : Program V) (text : List ℕ) (new : Program V) → StepsRound told may_leave faults precheck blocks old text new → ℕ → List ℕ
+module _ {V : Type 0} (told : V → Option Files) (may_leave : V → Files → Type 0) (moment : V → ℕ) (left_since : V → ℕ → Files → Type 0) (faults : V → ℕ) (precheck : Bool) where
+  abbrev pub masks_in_round : (blocks : List Block) (old : Program V) (text : List ℕ) (new : Program V) → StepsRound told may_leave moment left_since faults precheck blocks old text new → ℕ → List ℕ
   masks_in_round blocks (Up core) text new step r = masks_of r (map told_by blocks) (map lines_in step.1.transcripts)
   masks_in_round blocks (Down store) text new step r = []
 
-  abbrev pub masks_alone : (name : Name) (act : Act) (old : Program V) (text : List ℕ) (new : Program V) → StepsAlone told may_leave faults precheck name act old text new → ℕ → List ℕ
+  abbrev pub masks_alone : (name : Name) (act : Act) (old : Program V) (text : List ℕ) (new : Program V) → StepsAlone told may_leave moment left_since faults precheck name act old text new → ℕ → List ℕ
   masks_alone name act (Up core) text new step r = masks_of r (alone act) (map lines_in step.1.transcripts)
   masks_alone name act (Down store) text new step r = []
 
-  abbrev pub NamesTold : (masks : ℕ → List ℕ) (name : Name) (act : Act) (old : Program V) (text : List ℕ) (new : Program V) → StepsAlone told may_leave faults precheck name act old text new → Type 0
+  abbrev pub NamesTold : (masks : ℕ → List ℕ) (name : Name) (act : Act) (old : Program V) (text : List ℕ) (new : Program V) → StepsAlone told may_leave moment left_since faults precheck name act old text new → Type 0
   NamesTold masks name act (Up core) text new step = NamesOf masks (length core.regions.items) (map lines_in step.1.transcripts) text
   NamesTold masks name act (Down store) text new step = Unit {0}
 
@@ -162,15 +162,15 @@ module _ {V : Type 0} (told : V → Option Files) (may_leave : V → Files → T
   masks_behind Open old text new step before r = []
   masks_behind Restart old text new step before r = []
   masks_behind (Crash choice) old text new step before r = []
-  masks_behind (Round blocks) old text new step before r = before r ++ masks_in_round told may_leave faults precheck blocks old text new step r
+  masks_behind (Round blocks) old text new step before r = before r ++ masks_in_round told may_leave moment left_since faults precheck blocks old text new step r
   masks_behind (Poke region word mask) old text new step before r =
-      before r ++ masks_alone told may_leave faults precheck names.Poke (Pokes region word mask) old text new step r
+      before r ++ masks_alone told may_leave moment left_since faults precheck names.Poke (Pokes region word mask) old text new step r
   masks_behind _ old text new step before r = before r
 
   abbrev pub NamesBy : (command : Command) (masks : ℕ → List ℕ) (old : Program V) (text : List ℕ) (new : Program V)
       → Steps told may_leave moment left_since faults limit cuts precheck old command text new → Type 0
-  NamesBy Audit masks old text new step = NamesTold told may_leave faults precheck masks names.Audit Audits old text new step
-  NamesBy Checkpoint masks old text new step = NamesTold told may_leave faults precheck masks names.Checkpoint Checkpoints old text new step
+  NamesBy Audit masks old text new step = NamesTold told may_leave moment left_since faults precheck masks names.Audit Audits old text new step
+  NamesBy Checkpoint masks old text new step = NamesTold told may_leave moment left_since faults precheck masks names.Checkpoint Checkpoints old text new step
   NamesBy _ masks old text new step = Unit {0}
 
   abbrev pub TellsBy : (command : Command) (masks : ℕ → List ℕ) (old : Program V) (text : List ℕ) (new : Program V)

@@ -1,6 +1,7 @@
 -- What each command does: a step from one state of the program to the next one, and the text that it prints.
 --     Prints line old text new    a line is printed, and nothing changes
 --     Plays whole blocks c ts d   a round of these blocks leads from the core c to d, with these transcripts, whatever run has come to c
+--     RightWithin c d             whatever a crash at a moment of a round leaves restarts right, as `round` says
 --     RunsRound, ActsAlone        a round; a poke, an audit or a checkpoint outside of one, which is a round of one client
 --     dead_in y                   the transactions whose clients died, ascending
 --     CleansUp t c d              one of them is cleaned up, unless another's clean-up has done so before
@@ -43,6 +44,7 @@ use Rattle.dali_transcripts.specs.World.{is_dead_in}
 use Rattle.dali_transcripts.specs.Transcripts.{Told}
 use Rattle.dali_clients.specs.Said.{Transcribed}
 use Rattle.dali_round.specs.Leads.{lines_in, BeginsAt, RoundLeads}
+use Rattle.dali_round.specs.Moments.{RoundLeavesRight}
 use Rattle.dali_listing.specs.declared.Listed.{Listed}
 use Rattle.dali_listing.specs.Listing.{in_memory, IsListing}
 use Rattle.dali_verify.specs.Verified.{IsWholeLog, IsVerified}
@@ -149,19 +151,29 @@ module _ {V : Type 0} (told : V → Option Files) (may_leave : V → Files → T
         → RoundLeads (told_in told) (leaves_in may_leave) (faults_in faults) precheck whole s p blocks (map lines_in transcripts) (map (λ t. t.receipts) transcripts)
         d.regions.items d.system.state d.vault
 
+module _ {V : Type 0} (told : V → Option Files) (may_leave : V → Files → Type 0) (moment : V → ℕ) (left_since : V → ℕ → Files → Type 0) (faults : V → ℕ) where
+  -- a crash at any moment of a round leaves files that restart right
+  abbrev pub RightWithin : Core (Fuse V) → Core (Fuse V) → Type 0
+  RightWithin c d =
+      RoundLeavesRight (told_in told) (leaves_in may_leave) (faults_in faults) (moment_in moment) (since_in left_since) c.regions.items c.system.state c.vault
+      d.regions.items d.system.state d.vault
+
+  module _ (precheck : Bool) where
     -- each client's lines behind its number, by ascending number
     pub record RunsRound (blocks : List Told) (c : Core (Fuse V)) (text : List ℕ) (d : Core (Fuse V)) : Type 0 where
       pub transcripts : List Transcribed
-      pub plays : Plays true blocks c transcripts d
+      pub plays : Plays told may_leave faults precheck true blocks c transcripts d
       pub longer : IsNoShorter (told_in told) c.vault d.vault
+      pub moments : RightWithin c d
       pub places : PlacesIn told d
       pub printed : text ≡ round_lines blocks (map lines_in transcripts)
 
     -- its lines without a number; where one says that the store failed, the fuse failed a call
     pub record ActsAlone (act : Act) (c : Core (Fuse V)) (text : List ℕ) (d : Core (Fuse V)) : Type 0 where
       pub transcripts : List Transcribed
-      pub plays : Plays true (alone act) c transcripts d
+      pub plays : Plays told may_leave faults precheck true (alone act) c transcripts d
       pub longer : IsNoShorter (told_in told) c.vault d.vault
+      pub moments : RightWithin c d
       pub places : PlacesIn told d
       pub printed : text ≡ flat_map alone_texts transcripts
       pub by_fuse : list_any says_failure transcripts ≡ true → failed_of c.vault.store < failed_of d.vault.store
@@ -287,10 +299,10 @@ module _ {V : Type 0} (told : V → Option Files) (may_leave : V → Files → T
         abbrev pub Steps : Program V → Command → List ℕ → Program V → Type 0
         Steps old (Size index heap) text new = StepsSize index heap old text new
         Steps old Open text new = StepsRestart old text new
-        Steps old (Round blocks) text new = StepsRound told may_leave faults precheck blocks old text new
-        Steps old (Poke region word mask) text new = StepsAlone told may_leave faults precheck names.Poke (Pokes region word mask) old text new
-        Steps old Audit text new = StepsAlone told may_leave faults precheck names.Audit Audits old text new
-        Steps old Checkpoint text new = StepsAlone told may_leave faults precheck names.Checkpoint Checkpoints old text new
+        Steps old (Round blocks) text new = StepsRound told may_leave moment left_since faults precheck blocks old text new
+        Steps old (Poke region word mask) text new = StepsAlone told may_leave moment left_since faults precheck names.Poke (Pokes region word mask) old text new
+        Steps old Audit text new = StepsAlone told may_leave moment left_since faults precheck names.Audit Audits old text new
+        Steps old Checkpoint text new = StepsAlone told may_leave moment left_since faults precheck names.Checkpoint Checkpoints old text new
         Steps old Cleanup text new = StepsCleanup told may_leave faults old text new
         Steps old (Crash choice) text new = StepsCrash choice old text new
         Steps old Restart text new = StepsRestart old text new

@@ -4,7 +4,7 @@
 --     ScriptStops halt ..         the same of a script
 --     GeneratorHalts halt ..      the same of a generated script, and its summary
 --     DumpStops halt ..           the log wasn't written out
-use Rattle.std.specs.Prelude.{◌≡◌, ◌⊎◌, ℕ, Bool, List, Option}
+use Rattle.std.specs.Prelude.{◌≡◌, ℕ, Bool, List, Option}
 use Rattle.dali_run.specs.declared.halt.Halt.{Halt}
 use Rattle.dali_run.specs.declared.halt.Halt.TheVariants.{BadScript, TooLong, ReadFault, WriteFault, StoreFault, LogFull, OutOfMemory}
 use Rattle.dali_run.specs.declared.program.Program.{Program}

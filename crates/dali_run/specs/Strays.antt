@@ -11,9 +11,9 @@ use Rattle.dali_whole.specs.declared.whole.Core.{Core}
 use Rattle.dali_run.specs.Steps.{ActsAlone}
 use Rattle.dali_run.specs.Survives.{IsPointOf}
 
-module _ {V : Type 0} (told : V → Option Files) (may_leave : V → Files → Type 0) (faults : V → ℕ) (precheck : Bool) where
+module _ {V : Type 0} (told : V → Option Files) (may_leave : V → Files → Type 0) (moment : V → ℕ) (left_since : V → ℕ → Files → Type 0) (faults : V → ℕ) (precheck : Bool) where
   abbrev pub LoneAuditTells : Type 0
   LoneAuditTells =
       (base : List Record) (c d : Core (Fuse V)) (text : List ℕ) (found : List ℕ) → IsPointOf told may_leave faults base c
-      → (acts : ActsAlone told may_leave faults precheck Audits c text d) → map lines_in acts.transcripts ≡ (AuditSaid found ∷ []) ∷ []
+      → (acts : ActsAlone told may_leave moment left_since faults precheck Audits c text d) → map lines_in acts.transcripts ≡ (AuditSaid found ∷ []) ∷ []
       → (r : ℕ) (g : RegionState) → slice_get c.regions.items r ≡ Some g → Contains found r ↔ (g.stray ≢ 0)

@@ -2,19 +2,28 @@
 --     HasLog base c            files that a crash leaves: a restart finds them, and their log is a history that begins with the records of base
 --     Holds base c             they have such a log, or no database, where base has no record
 --     IsOwn base s             the store tells its files, and a crash leaves only such
---     IsAPoint base p          the program is up, at a point of a run whose flushed records are base; or its store is such
---     NoneEscapesIn p          no damage escapes a crash of the program: each stray write was found by the audits that passed it, and each region that was
---                              read or written behind one is named by an audit of the log that the crash leaves
---     NoneEscapesLeft ..       so it is where a command gives the memory up: size, open, restart and crash
---     NoneEscapesBehind ..     and of the store that a command which failed leaves
---     NoneEscape ..            so it is along a run, at each state at which such a command follows
+--     IsOwnWhere P base s      so it is of the files with P that a crash leaves
+--     NoneEscapesFrom core c   no damage escapes a crash of the core that leaves the files c: each stray write was found by the audits that passed it, and each
+--                              region that was read or written behind one is named by an audit of the log of c
+--     NoneEscapesIn Safe p c   so it is while the program is up; while it is down Safe says what is asked of the files
+--     NoneEscapesRead Safe p   so it is of the files as they read
+--     NoneEscapesOld Safe p c  and of c, if a crash may leave it there
+--     NoneEscapesAt core       and of each of the files that a crash leaves
+--     NoneEscapesMaking ..     of the files c behind a command that makes or finds a database, and may fail: a crash might have left c before it, and no damage
+--                              escapes from c; or none does from the files as they read, nor from c, if it might have been left before
+--     IsAPoint Safe base p     the program is up, at a point of a run whose flushed records are base; or its store is such, but for files that aren't Safe
+--     SafeBehind Safe ..       what is asked of files behind a command, where it was Safe before: of those that a restart which failed leaves, NoneEscapesMaking
+--     NoneEscapesLeft ..       no damage escapes where a command gives the memory up: from the files that a crash keeps, and those that size, open and
+--                              restart go on from. Of a restart that failed nothing is asked here
+--     NoneEscapesBehind ..     and from the files c that a crash leaves behind a command which failed
+--     NoneEscape, SafeAfter .. so it is along a run, at each state at which such a command follows; and what is asked behind it
 --     NoneEscapesBefore ..     and so of the commands that a script's run with each status has run
---     IsHonest ..              of the store that comes back too
+--     IsHonest ..              and of the last one
 --     IsLogOf, IsLoggedBy ..   behind a round the flushed records are those of the log that its lines speak of
 --     AllSurvive ..            each state of a run is such a point, and what was flushed at the one before, or a crash has to leave of it, begins what is at it
 --     Survives ..              so it is of a run with each status, and the store that comes back has what was flushed at the last state
 --     RunsSurvive              so it is of each run
-use Rattle.std.specs.Prelude.{◌≡◌, ◌⊎◌, ℕ, Bool, true, false, List, [], ◌∷◌, ◌++◌, length, map, take, Option, Some, None, is_some}
+use Rattle.std.specs.Prelude.{◌≡◌, ◌⊎◌, ℕ, Bool, true, false, List, [], ◌∷◌, ◌++◌, length, map, take, Option, Some, None, IfSome, is_some}
 use Rattle.std.proofs.Common.{inl, inr}
 use Rattle.dali_arguments.specs.Meaning.{meaning}
 use Rattle.dali_arguments.specs.declared.task.Task.{Task}
@@ -49,13 +58,13 @@ use Rattle.dali_run.specs.declared.program.Program.{Program}
 use Rattle.dali_run.specs.declared.program.Program.TheVariants.{Up, Down}
 use Rattle.dali_run.specs.declared.status.Status.{Status}
 use Rattle.dali_run.specs.declared.status.Status.TheVariants.{Done, WriteFault, StoreFault, BadStore, Unformatted, Formatted, OutOfMemory, LogFull}
-use Rattle.dali_run.specs.Ends.{Course, Ended, EndedGenerator, EndedScript, FindsNone, GeneratorFails, GeneratorFinds, GeneratorLoses, GeneratorStops, GeneratorWants, HasEnded, HasStopped, Untouched}
+use Rattle.dali_run.specs.Ends.{Course, Ended, EndedGenerator, EndedScript, GeneratorFails, GeneratorFinds, GeneratorLoses, GeneratorStops, GeneratorWants, HasEnded, HasStopped, Untouched}
 use Rattle.dali_run.specs.Fails.{AloneFails, Breaks, Fails, Lost, StoreFailsIn}
-use Rattle.dali_run.specs.Generating.{IsCrashed, IsCutRound, IsPlayed}
-use Rattle.dali_run.specs.Program.{told_in, leaves_in, faults_in}
+use Rattle.dali_run.specs.Generating.{IsCrashed, IsPlayed}
+use Rattle.dali_run.specs.Program.{store_of, told_in, leaves_in, faults_in}
 use Rattle.dali_run.specs.Run.{HasRun, RunsAll}
 use Rattle.dali_run.specs.Scripts.{CutIn, RanWhole, StoppedIn}
-use Rattle.dali_run.specs.Steps.{Plays, Steps}
+use Rattle.dali_run.specs.Steps.{Plays, Steps, StepsRestart}
 use Rattle.dali_run.specs.Told.{told_by, alone}
 
 -- ---- the files that a crash leaves
@@ -72,19 +81,41 @@ pub record HasLog (base : List Record) (c : Disk) : Type 0 where
 abbrev pub Holds : List Record → Disk → Type 0
 Holds base c = (IsUnformatted c.log × (base ≡ [])) ⊎ HasLog base c
 
+-- ---- damage
+abbrev pub AnyFiles : Disk → Type 0
+AnyFiles c = Unit {0}
+
+module _ {V : Type 0} where
+  abbrev pub NoneEscapesFrom : Core (Fuse V) → Disk → Type 0
+  NoneEscapesFrom core c = (v : VaultState) (E : Files) → Spells c E → NoneEscapes (last_epoch (log_in E)) (record { regions = core.regions.items; system = core.system.state; vault = v })
+
+  abbrev pub NoneEscapesIn : (Disk → Type 0) → Program V → Disk → Type 0
+  NoneEscapesIn Safe (Up core) = NoneEscapesFrom core
+  NoneEscapesIn Safe (Down store) = Safe
+
+module _ {V : Type 0} (told : V → Option Disk) where
+  abbrev pub NoneEscapesRead : (Disk → Type 0) → Program V → Type 0
+  NoneEscapesRead Safe p = IfSome (told (inner (store_of p))) (NoneEscapesIn Safe p)
+
+module _ {V : Type 0} (may_leave : V → Disk → Type 0) where
+  abbrev pub NoneEscapesOld : (Disk → Type 0) → Program V → Disk → Type 0
+  NoneEscapesOld Safe p c = may_leave (inner (store_of p)) c → NoneEscapesIn Safe p c
+
+  -- from whatever a crash leaves
+  abbrev pub NoneEscapesAt : Core (Fuse V) → Type 0
+  NoneEscapesAt core = (c : Disk) → leaves_in may_leave core.vault.store c → NoneEscapesFrom core c
+
 module _ {V : Type 0} (told : V → Option Disk) (may_leave : V → Disk → Type 0) where
   abbrev pub IsOwn : List Record → V → Type 0
   IsOwn base s = (is_some (told s) ≡ true) × ((c : Disk) → may_leave s c → Holds base c)
 
-  -- of each crash image
-  abbrev pub NoneEscapesAt : Core (Fuse V) → Type 0
-  NoneEscapesAt core =
-      (v : VaultState) (c : Disk) (E : Files) → leaves_in may_leave core.vault.store c → Spells c E
-      → NoneEscapes (last_epoch (log_in E)) (record { regions = core.regions.items; system = core.system.state; vault = v })
+  abbrev pub IsOwnWhere : (Disk → Type 0) → List Record → V → Type 0
+  IsOwnWhere P base s = (is_some (told s) ≡ true) × ((c : Disk) → may_leave s c → P c → Holds base c)
 
-  abbrev pub NoneEscapesIn : Program V → Type 0
-  NoneEscapesIn (Up core) = NoneEscapesAt core
-  NoneEscapesIn (Down store) = Unit {0}
+  -- of the making or the finding of a database, which may fail: c was left before it; or it comes of the files as they read
+  abbrev pub NoneEscapesMaking : (Disk → Type 0) → Program V → Disk → Type 0
+  NoneEscapesMaking Safe old c =
+      (may_leave (inner (store_of old)) c × NoneEscapesIn Safe old c) ⊎ (NoneEscapesRead told Safe old × NoneEscapesOld may_leave Safe old c)
 
   module _ (faults : V → ℕ) where
     pub record IsPointOf (base : List Record) (core : Core (Fuse V)) : Type 0 where
@@ -97,9 +128,9 @@ module _ {V : Type 0} (told : V → Option Disk) (may_leave : V → Disk → Typ
       pub begins : BeginsAt (told_in told) (leaves_in may_leave) (faults_in faults) start batches point core.regions.items core.system.state core.vault
       pub flushed : base ≡ take (stable point.core) point.log
 
-    abbrev pub IsAPoint : List Record → Program V → Type 0
-    IsAPoint base (Up core) = IsPointOf base core
-    IsAPoint base (Down store) = IsOwn base (inner store)
+    abbrev pub IsAPoint : (Disk → Type 0) → List Record → Program V → Type 0
+    IsAPoint Safe base (Up core) = IsPointOf base core
+    IsAPoint Safe base (Down store) = IsOwnWhere Safe base (inner store)
 
 module _ {V : Type 0} (told : V → Option Disk) (may_leave : V → Disk → Type 0) (faults : V → ℕ) (precheck : Bool) where
   abbrev pub IsLogOf : (base : List Record) (blocks : List Told) (c : Core (Fuse V)) (transcripts : List Transcribed) (d : Core (Fuse V))
@@ -108,73 +139,112 @@ module _ {V : Type 0} (told : V → Option Disk) (may_leave : V → Disk → Typ
 
 module _ {V : Type 0} (told : V → Option Disk) (may_leave : V → Disk → Type 0) (moment : V → ℕ) (left_since : V → ℕ → Disk → Type 0) (faults : V → ℕ) (limit : ℕ) (cuts : V → ℕ → Option Disk) (precheck : Bool) where
   -- ---- along the chain of a run's own states
-  abbrev pub NoneEscapesLeft : Command → Program V → Type 0
-  NoneEscapesLeft (Size index heap) old = NoneEscapesIn told may_leave old
-  NoneEscapesLeft Open old = NoneEscapesIn told may_leave old
-  NoneEscapesLeft Restart old = NoneEscapesIn told may_leave old
-  NoneEscapesLeft (Crash choice) old = NoneEscapesIn told may_leave old
-  NoneEscapesLeft _ old = Unit {0}
+  abbrev pub SafeRestarted : (Disk → Type 0) → (old : Program V) (text : List ℕ) (new : Program V) → StepsRestart told may_leave moment left_since faults limit old text new → Disk → Type 0
+  SafeRestarted Safe old text new (inl step) = AnyFiles
+  SafeRestarted Safe old text new (inr stops) = NoneEscapesMaking told may_leave Safe old
 
-  abbrev pub NoneEscape : (commands : List Command) (old : Program V) (text : List ℕ) (new : Program V) → RunsAll told may_leave moment left_since faults limit cuts precheck old commands text new → Type 0
-  NoneEscape [] old text new runs = Unit {0}
-  NoneEscape (command ∷ later) old text new runs = NoneEscapesLeft command old × NoneEscape later runs.1 runs.2 new runs.4
+  abbrev pub SafeBehind : (Disk → Type 0) → (command : Command) (old : Program V) (text : List ℕ) (new : Program V) → Steps told may_leave moment left_since faults limit cuts precheck old command text new
+      → Disk → Type 0
+  SafeBehind Safe (Size index heap) old text new step = AnyFiles
+  SafeBehind Safe Open old text new step = SafeRestarted Safe old text new step
+  SafeBehind Safe Restart old text new step = SafeRestarted Safe old text new step
+  SafeBehind Safe (Crash choice) old text new step = AnyFiles
+  SafeBehind Safe _ old text new step = Safe
 
-  abbrev pub IsLoggedBy : (command : Command) (base : List Record) (old : Program V) (text : List ℕ) (new : Program V) → Steps told may_leave moment left_since faults limit cuts precheck old command text new
-      → IsAPoint told may_leave faults base old → List Record → Type 0
-  IsLoggedBy (Round blocks) base (Up core) text new step at base' = IsLogOf told may_leave faults precheck base (map told_by blocks) core step.1.transcripts step.0 step.1.plays at base'
-  IsLoggedBy _ base old text new step at base' = Unit {0}
+  abbrev pub NoneEscapesRestarted : (Disk → Type 0) → (old : Program V) (text : List ℕ) (new : Program V) → StepsRestart told may_leave moment left_since faults limit old text new → Type 0
+  NoneEscapesRestarted Safe old text new (inl step) = NoneEscapesRead told Safe old
+  NoneEscapesRestarted Safe old text new (inr stops) = Unit {0}
 
-  abbrev pub AllSurvive : (commands : List Command) (base : List Record) (old : Program V) → IsAPoint told may_leave faults base old → (text : List ℕ) (new : Program V)
+  abbrev pub NoneEscapesLeft : (Disk → Type 0) → (command : Command) (old : Program V) (text : List ℕ) (new : Program V) → Steps told may_leave moment left_since faults limit cuts precheck old command text new
+      → Type 0
+  NoneEscapesLeft Safe (Size index heap) old text new step = NoneEscapesRead told Safe old
+  NoneEscapesLeft Safe Open old text new step = NoneEscapesRestarted Safe old text new step
+  NoneEscapesLeft Safe Restart old text new step = NoneEscapesRestarted Safe old text new step
+  NoneEscapesLeft Safe (Crash choice) old text new step = IfSome (told step.store) (NoneEscapesIn Safe old)
+  NoneEscapesLeft Safe _ old text new step = Unit {0}
+
+  abbrev pub NoneEscape : (Disk → Type 0) → (commands : List Command) (old : Program V) (text : List ℕ) (new : Program V) → RunsAll told may_leave moment left_since faults limit cuts precheck old commands text new
+      → Type 0
+  NoneEscape Safe [] old text new runs = Unit {0}
+  NoneEscape Safe (command ∷ later) old text new runs =
+      NoneEscapesLeft Safe command old runs.0 runs.1 runs.3 × NoneEscape (SafeBehind Safe command old runs.0 runs.1 runs.3) later runs.1 runs.2 new runs.4
+
+  abbrev pub SafeAfter : (Disk → Type 0) → (commands : List Command) (old : Program V) (text : List ℕ) (new : Program V) → RunsAll told may_leave moment left_since faults limit cuts precheck old commands text new
+      → Disk → Type 0
+  SafeAfter Safe [] old text new runs = Safe
+  SafeAfter Safe (command ∷ later) old text new runs = SafeAfter (SafeBehind Safe command old runs.0 runs.1 runs.3) later runs.1 runs.2 new runs.4
+
+  abbrev pub IsLoggedBy : (Safe : Disk → Type 0) (command : Command) (base : List Record) (old : Program V) (text : List ℕ) (new : Program V)
+      → Steps told may_leave moment left_since faults limit cuts precheck old command text new → IsAPoint told may_leave faults Safe base old → List Record → Type 0
+  IsLoggedBy Safe (Round blocks) base (Up core) text new step at base' = IsLogOf told may_leave faults precheck base (map told_by blocks) core step.1.transcripts step.0 step.1.plays at base'
+  IsLoggedBy Safe _ base old text new step at base' = Unit {0}
+
+  abbrev pub AllSurvive : (Safe : Disk → Type 0) (commands : List Command) (base : List Record) (old : Program V) → IsAPoint told may_leave faults Safe base old → (text : List ℕ) (new : Program V)
       → RunsAll told may_leave moment left_since faults limit cuts precheck old commands text new → List Record → Type 0
-  AllSurvive [] base old at text new runs base' = base' ≡ base
-  AllSurvive (command ∷ later) base old at text new runs base' =
-      (mid : List Record) × BeginsWith base mid × (then : IsAPoint told may_leave faults mid runs.1) × IsLoggedBy command base old runs.0 runs.1 runs.3 at mid
-      × AllSurvive later mid runs.1 then runs.2 new runs.4 base'
+  AllSurvive Safe [] base old at text new runs base' = base' ≡ base
+  AllSurvive Safe (command ∷ later) base old at text new runs base' =
+      (mid : List Record) × BeginsWith base mid × (then : IsAPoint told may_leave faults (SafeBehind Safe command old runs.0 runs.1 runs.3) mid runs.1)
+      × IsLoggedBy Safe command base old runs.0 runs.1 runs.3 at mid
+      × AllSurvive (SafeBehind Safe command old runs.0 runs.1 runs.3) later mid runs.1 then runs.2 new runs.4 base'
 
   -- behind a command that failed: where a round was cut, or the store failed in one of one client; else where it began
-  abbrev pub NoneEscapesCut : (blocks : List Told) (old : Program V) (f : Fuse V) → Lost told may_leave faults precheck blocks old f → Type 0
-  NoneEscapesCut blocks (Up core) f (inl none) = NoneEscapesAt told may_leave core
-  NoneEscapesCut blocks (Up core) f (inr played) = NoneEscapesAt told may_leave played.core
-  NoneEscapesCut blocks (Down store) f lost = Unit {0}
+  abbrev pub NoneEscapesCut : (Disk → Type 0) → (blocks : List Told) (old : Program V) (f : Fuse V) → Lost told may_leave moment left_since faults precheck blocks old f → Disk → Type 0
+  NoneEscapesCut Safe blocks (Up core) f (inl none) = NoneEscapesFrom core
+  NoneEscapesCut Safe blocks (Up core) f (inr played) = NoneEscapesFrom played.core
+  NoneEscapesCut Safe blocks (Down store) f lost = Safe
 
-  abbrev pub NoneEscapesLost : (command : Command) (old : Program V) (f : Fuse V) → Breaks told may_leave moment left_since faults precheck command old f → Type 0
-  NoneEscapesLost (Round blocks) old f breaks = NoneEscapesCut (map told_by blocks) old f breaks
-  NoneEscapesLost (Poke region word mask) old f breaks = NoneEscapesCut (alone (Pokes region word mask)) old f breaks
-  NoneEscapesLost Audit old f breaks = NoneEscapesCut (alone Audits) old f breaks
-  NoneEscapesLost Checkpoint old f breaks = NoneEscapesCut (alone Checkpoints) old f breaks
-  NoneEscapesLost _ old f breaks = NoneEscapesIn told may_leave old
+  abbrev pub NoneEscapesLost : (Disk → Type 0) → (command : Command) (old : Program V) (f : Fuse V) → Breaks told may_leave moment left_since faults precheck command old f → Disk → Type 0
+  NoneEscapesLost Safe (Size index heap) old f breaks = NoneEscapesMaking told may_leave Safe old
+  NoneEscapesLost Safe Open old f breaks = NoneEscapesMaking told may_leave Safe old
+  NoneEscapesLost Safe Restart old f breaks = NoneEscapesMaking told may_leave Safe old
+  NoneEscapesLost Safe (Round blocks) old f breaks = NoneEscapesCut Safe (map told_by blocks) old f breaks
+  NoneEscapesLost Safe (Poke region word mask) old f breaks = NoneEscapesCut Safe (alone (Pokes region word mask)) old f breaks
+  NoneEscapesLost Safe Audit old f breaks = NoneEscapesCut Safe (alone Audits) old f breaks
+  NoneEscapesLost Safe Checkpoint old f breaks = NoneEscapesCut Safe (alone Checkpoints) old f breaks
+  NoneEscapesLost Safe _ old f breaks = NoneEscapesIn Safe old
 
-  abbrev pub NoneEscapesAlone : (act : Act) (old : Program V) (f : Fuse V) → AloneFails told may_leave faults precheck act old f → Type 0
-  NoneEscapesAlone act (Up core) f fails = NoneEscapesAt told may_leave fails.core
-  NoneEscapesAlone act (Down store) f fails = Unit {0}
+  abbrev pub NoneEscapesAlone : (Disk → Type 0) → (act : Act) (old : Program V) (f : Fuse V) → AloneFails told may_leave moment left_since faults precheck act old f → Disk → Type 0
+  NoneEscapesAlone Safe act (Up core) f fails = NoneEscapesFrom fails.core
+  NoneEscapesAlone Safe act (Down store) f fails = Safe
 
-  abbrev pub NoneEscapesFailed : (command : Command) (old : Program V) (f : Fuse V) → StoreFailsIn told may_leave moment left_since faults precheck command old f → Type 0
-  NoneEscapesFailed (Poke region word mask) old f fails = NoneEscapesAlone (Pokes region word mask) old f fails
-  NoneEscapesFailed Audit old f fails = NoneEscapesAlone Audits old f fails
-  NoneEscapesFailed Checkpoint old f fails = NoneEscapesAlone Checkpoints old f fails
-  NoneEscapesFailed _ old f fails = NoneEscapesIn told may_leave old
+  abbrev pub NoneEscapesFailed : (Disk → Type 0) → (command : Command) (old : Program V) (f : Fuse V) → StoreFailsIn told may_leave moment left_since faults precheck command old f → Disk → Type 0
+  NoneEscapesFailed Safe (Size index heap) old f fails = NoneEscapesMaking told may_leave Safe old
+  NoneEscapesFailed Safe Open old f fails = NoneEscapesMaking told may_leave Safe old
+  NoneEscapesFailed Safe Restart old f fails = NoneEscapesMaking told may_leave Safe old
+  NoneEscapesFailed Safe (Poke region word mask) old f fails = NoneEscapesAlone Safe (Pokes region word mask) old f fails
+  NoneEscapesFailed Safe Audit old f fails = NoneEscapesAlone Safe Audits old f fails
+  NoneEscapesFailed Safe Checkpoint old f fails = NoneEscapesAlone Safe Checkpoints old f fails
+  NoneEscapesFailed Safe _ old f fails = NoneEscapesIn Safe old
 
-  abbrev pub NoneEscapesBehind : (halt : Halt) (command : Command) (old : Program V) (f : Fuse V) → Fails told may_leave moment left_since faults precheck halt command old f → Type 0
-  NoneEscapesBehind halts.StoreFault command old f fails = NoneEscapesFailed command old f fails
-  NoneEscapesBehind halts.OutOfMemory command old f fails = NoneEscapesLost command old f fails
-  NoneEscapesBehind _ command old f fails = NoneEscapesIn told may_leave old
+  abbrev pub NoneEscapesBehind : (Disk → Type 0) → (halt : Halt) (command : Command) (old : Program V) (f : Fuse V) → Fails told may_leave moment left_since faults precheck halt command old f → Disk → Type 0
+  NoneEscapesBehind Safe halts.StoreFault command old f fails = NoneEscapesFailed Safe command old f fails
+  NoneEscapesBehind Safe halts.OutOfMemory command old f fails = NoneEscapesLost Safe command old f fails
+  NoneEscapesBehind Safe _ command old f fails = NoneEscapesIn Safe old
 
   -- some commands of a script were run
   abbrev pub NoneEscapeThere : (start : V) (script : List Command) (count : ℕ) (text : List ℕ) (new : Program V) → HasRun told may_leave moment left_since faults limit cuts precheck start script count text new → Type 0
-  NoneEscapeThere start script count text new run = NoneEscape (take count script) run.first text new run.runs
+  NoneEscapeThere start script count text new run = NoneEscape AnyFiles (take count script) run.first text new run.runs
+
+  abbrev pub SafeThere : (start : V) (script : List Command) (count : ℕ) (text : List ℕ) (new : Program V) → HasRun told may_leave moment left_since faults limit cuts precheck start script count text new → Disk → Type 0
+  SafeThere start script count text new run = SafeAfter AnyFiles (take count script) run.first text new run.runs
 
   pub record RunSurvives (base : List Record) (start : V) (script : List Command) (count : ℕ) (text : List ℕ) (new : Program V)
       (run : HasRun told may_leave moment left_since faults limit cuts precheck start script count text new) (base' : List Record) : Type 0 where
-    pub at : IsAPoint told may_leave faults base run.first
-    pub each : AllSurvive (take count script) base run.first at text new run.runs base'
-    pub behind : IsAPoint told may_leave faults base' new
+    pub at : IsAPoint told may_leave faults AnyFiles base run.first
+    pub each : AllSurvive AnyFiles (take count script) base run.first at text new run.runs base'
+    pub behind : IsAPoint told may_leave faults (SafeThere start script count text new run) base' new
 
   -- ---- each way in which a run ends
   pub record WholeSurvives (base : List Record) (start : V) (script : List Command) (before after : Option (List ℕ)) (end : V)
       (ran : RanWhole told may_leave moment left_since faults limit cuts precheck start script before after end) : Type 0 where
     pub base' : List Record
     pub run : RunSurvives base start script (length script) ran.text ran.state ran.run base'
-    pub comes_back : IsOwn told may_leave base' end
+    pub comes_back : IsOwnWhere told may_leave (NoneEscapesIn (SafeThere start script (length script) ran.text ran.state ran.run) ran.state) base' end
+
+  abbrev pub SafeCut : (start : V) (script : List Command) (before after : Option (List ℕ)) (end : V) → CutIn told may_leave moment left_since faults limit cuts precheck start script before after end
+      → Disk → Type 0
+  SafeCut start script before after end cut =
+      SafeBehind (SafeThere start script cut.count cut.text cut.earlier cut.ran) cut.command cut.earlier cut.more cut.state cut.steps
 
   pub record CutSurvives (base : List Record) (start : V) (script : List Command) (before after : Option (List ℕ)) (end : V)
       (cut : CutIn told may_leave moment left_since faults limit cuts precheck start script before after end) : Type 0 where
@@ -182,14 +252,19 @@ module _ {V : Type 0} (told : V → Option Disk) (may_leave : V → Disk → Typ
     pub run : RunSurvives base start script cut.count cut.text cut.earlier cut.ran mid
     pub base' : List Record
     pub more : BeginsWith mid base'
-    pub last : IsAPoint told may_leave faults base' cut.state
-    pub comes_back : IsOwn told may_leave base' end
+    pub last : IsAPoint told may_leave faults (SafeCut start script before after end cut) base' cut.state
+    pub comes_back : IsOwnWhere told may_leave (NoneEscapesIn (SafeCut start script before after end cut) cut.state) base' end
+
+  abbrev pub SafeStopped : (halt : Halt) (start : V) (script : List Command) (before after : Option (List ℕ)) (end : V)
+      → StoppedIn told may_leave moment left_since faults limit cuts precheck halt start script before after end → Disk → Type 0
+  SafeStopped halt start script before after end stops =
+      NoneEscapesBehind (SafeThere start script stops.count stops.text stops.state stops.run) halt stops.command stops.state stops.last stops.fails
 
   pub record StopSurvives (base : List Record) (halt : Halt) (start : V) (script : List Command) (before after : Option (List ℕ)) (end : V)
       (stops : StoppedIn told may_leave moment left_since faults limit cuts precheck halt start script before after end) : Type 0 where
     pub base' : List Record
     pub run : RunSurvives base start script stops.count stops.text stops.state stops.run base'
-    pub comes_back : IsOwn told may_leave base' end
+    pub comes_back : IsOwnWhere told may_leave (SafeStopped halt start script before after end stops) base' end
 
   module _ (c : Course V) (mid : Option (List ℕ)) (count : ℕ) where
     -- no damage escapes along the commands that were run
@@ -210,27 +285,21 @@ module _ {V : Type 0} (told : V → Option Disk) (may_leave : V → Disk → Typ
     NoneEscapesBefore OutOfMemory ended = NoneEscapesWanting ended
     NoneEscapesBefore _ ended = Unit {0}
 
-    -- nor from the store that comes back
-    abbrev pub StopIsHonest : (halt : Halt) → HasStopped told may_leave moment left_since faults limit cuts precheck halt c mid → Type 0
-    StopIsHonest halt stopped = let stops = stopped.2 in NoneEscapesStopped halt stopped × NoneEscapesBehind halt stops.command stops.state stops.last stops.fails
+    -- nor by the last one: it found the store bad, or without a database, or its lines weren't written
+    abbrev pub NoneEscapesFound : (halt : Halt) → HasStopped told may_leave moment left_since faults limit cuts precheck halt c mid → Type 0
+    NoneEscapesFound halt stopped =
+        let stops = stopped.2 in NoneEscapesRead told (SafeThere c.store stopped.0 stops.count stops.text stops.state stops.run) stops.state
 
-    abbrev pub MemoryIsHonest : Untouched c mid ⊎ HasStopped told may_leave moment left_since faults limit cuts precheck halts.OutOfMemory c mid → Type 0
-    MemoryIsHonest (inl untouched) = Unit {0}
-    MemoryIsHonest (inr stopped) = StopIsHonest halts.OutOfMemory stopped
+    abbrev pub NoneEscapesLast : (status : Status) → EndedScript told may_leave moment left_since faults limit cuts precheck c mid count status → Type 0
+    NoneEscapesLast WriteFault ended =
+        let cut = ended.1.2 in
+        NoneEscapesLeft (SafeThere c.store ended.1.0 cut.count cut.text cut.earlier cut.ran) cut.command cut.earlier cut.more cut.state cut.steps
+    NoneEscapesLast (BadStore file at) ended = NoneEscapesFound (halts.BadStore file at) ended
+    NoneEscapesLast Unformatted ended = NoneEscapesFound halts.Unformatted ended
+    NoneEscapesLast _ ended = Unit {0}
 
     abbrev pub ScriptIsHonest : (status : Status) → EndedScript told may_leave moment left_since faults limit cuts precheck c mid count status → Type 0
-    ScriptIsHonest Done ended =
-        let ran = ended.2 in NoneEscapeThere c.store ended.0 (length ended.0) ran.text ran.state ran.run × NoneEscapesIn told may_leave ran.state
-    ScriptIsHonest WriteFault ended =
-        let cut = ended.1.2 in NoneEscapeThere c.store ended.1.0 cut.count cut.text cut.earlier cut.ran
-        × NoneEscapesLeft cut.command cut.earlier
-        × NoneEscapesIn told may_leave cut.state
-    ScriptIsHonest StoreFault ended = StopIsHonest halts.StoreFault ended
-    ScriptIsHonest (BadStore file at) ended = StopIsHonest (halts.BadStore file at) ended
-    ScriptIsHonest Unformatted ended = StopIsHonest halts.Unformatted ended
-    ScriptIsHonest Formatted ended = StopIsHonest halts.Formatted ended
-    ScriptIsHonest OutOfMemory ended = MemoryIsHonest ended
-    ScriptIsHonest _ ended = Unit {0}
+    ScriptIsHonest status ended = NoneEscapesBefore status ended × NoneEscapesLast status ended
 
     module _ (base : List Record) where
       -- no command was run
@@ -259,48 +328,6 @@ module _ {V : Type 0} (told : V → Option Disk) (may_leave : V → Disk → Typ
 module _ {V : Type 0} (told : V → Option Disk) (may_leave : V → Disk → Type 0) (moment : V → ℕ) (left_since : V → ℕ → Disk → Type 0) (faults : V → ℕ) (cuts : V → ℕ → Option Disk) where
   -- ---- a generated script
   module _ (clients size number : ℕ) where
-    abbrev pub PlayedIsHonest : (start : V) (ends : Option Halt) → IsPlayed told may_leave moment left_since faults 67108864 clients size number start ends → Type 0
-    PlayedIsHonest start ends run = NoneEscapesAt told may_leave run.played
-
-    abbrev pub FoundIsHonest : (start : V) (found : Core (Fuse V)) → GeneratorFinds told may_leave moment left_since faults cuts clients size number start found → Type 0
-    FoundIsHonest start found run = PlayedIsHonest start None run.run.run × NoneEscapesAt told may_leave found
-
-    abbrev pub GeneratorStopIsHonest : (halt : Halt) (start end : V) → GeneratorStops told may_leave moment left_since faults cuts clients size number halt start end → Type 0
-    GeneratorStopIsHonest halt start end (inl first) = Unit {0}
-    GeneratorStopIsHonest halt start end (inr (inl crash)) = PlayedIsHonest start None crash.0
-    GeneratorStopIsHonest halt start end (inr (inr restart)) = PlayedIsHonest start None restart.0.run
-
-    abbrev pub CutIsHonest : (made : Core (Fuse V)) (f : Fuse V) → IsCutRound told may_leave faults (map told_by (generated clients size number)) made f → Type 0
-    CutIsHonest made f (inl none) = NoneEscapesAt told may_leave made
-    CutIsHonest made f (inr cut) = NoneEscapesAt told may_leave cut.0.core
-
-    abbrev pub LossIsHonest : (start end : V) → GeneratorLoses told may_leave moment left_since faults cuts clients size number start end → Type 0
-    LossIsHonest start end lost = CutIsHonest lost.made lost.left lost.cut
-
-    module _ (c : Course V) (mid : Option (List ℕ)) (count : ℕ) where
-      abbrev pub FaultIsHonest : GeneratorFails told may_leave moment left_since faults cuts clients size number c.store c.store' → Type 0
-      FaultIsHonest (inl stops) = GeneratorStopIsHonest halts.StoreFault c.store c.store' stops
-      FaultIsHonest (inr (inl refused)) = PlayedIsHonest c.store (Some halts.StoreFault) refused.run
-      FaultIsHonest (inr (inr none)) = PlayedIsHonest c.store None none.run.run
-
-      abbrev pub WantIsHonest : GeneratorWants told may_leave moment left_since faults cuts clients size number c.store c.store' → Type 0
-      WantIsHonest (inl same) = Unit {0}
-      WantIsHonest (inr (inl (inl stops))) = GeneratorStopIsHonest halts.OutOfMemory c.store c.store' stops
-      WantIsHonest (inr (inl (inr lost))) = LossIsHonest c.store c.store' lost
-      WantIsHonest (inr (inr (inl refused))) = PlayedIsHonest c.store (Some halts.OutOfMemory) refused.run
-      WantIsHonest (inr (inr (inr last))) = FoundIsHonest c.store last.0 last.1
-
-      abbrev pub GeneratorIsHonest : (status : Status) → EndedGenerator told may_leave moment left_since faults cuts clients size number c mid count status → Type 0
-      GeneratorIsHonest Done ended = FoundIsHonest c.store ended.1.found ended.1.run
-      GeneratorIsHonest WriteFault ended = FoundIsHonest c.store ended.1.found ended.1.run
-      GeneratorIsHonest StoreFault ended = FaultIsHonest ended.0
-      GeneratorIsHonest (BadStore file at) ended = GeneratorStopIsHonest (halts.BadStore file at) c.store c.store' ended.0
-      GeneratorIsHonest Unformatted ended = GeneratorStopIsHonest halts.Unformatted c.store c.store' ended.0
-      GeneratorIsHonest Formatted ended = GeneratorStopIsHonest halts.Formatted c.store c.store' ended.0
-      GeneratorIsHonest (LogFull end most) ended = PlayedIsHonest c.store (Some (halts.LogFull end most)) ended.0.run
-      GeneratorIsHonest OutOfMemory ended = WantIsHonest ended.0
-      GeneratorIsHonest _ ended = Unit {0}
-
     -- ---- each of its states: the database was made, its round run, the crash and the restart
     pub record PlayedSurvives (base : List Record) (start : V) (ends : Option Halt) (run : IsPlayed told may_leave moment left_since faults 67108864 clients size number start ends)
         (base' : List Record) : Type 0 where
@@ -316,7 +343,7 @@ module _ {V : Type 0} (told : V → Option Disk) (may_leave : V → Disk → Typ
       pub earlier : List Record
       pub before : PlayedSurvives base start None run.run earlier
       pub more : BeginsWith earlier base'
-      pub crashed : IsAPoint told may_leave faults base' run.crashed
+      pub crashed : IsAPoint told may_leave faults AnyFiles base' run.crashed
 
     pub record FoundSurvives (base : List Record) (start : V) (found : Core (Fuse V)) (run : GeneratorFinds told may_leave moment left_since faults cuts clients size number start found)
         (base' : List Record) : Type 0 where
@@ -324,13 +351,6 @@ module _ {V : Type 0} (told : V → Option Disk) (may_leave : V → Disk → Typ
       pub before : CrashedSurvives base start run.run earlier
       pub more : BeginsWith earlier base'
       pub behind : IsPointOf told may_leave faults base' found
-
-    pub record NoneSurvives (base : List Record) (start end : V) (none : FindsNone told may_leave moment left_since faults cuts clients size number start end)
-        (base' : List Record) : Type 0 where
-      pub earlier : List Record
-      pub before : CrashedSurvives base start none.run earlier
-      pub more : BeginsWith earlier base'
-      pub behind : IsAPoint told may_leave faults base' none.down
 
     module _ (c : Course V) (mid : Option (List ℕ)) (count : ℕ) (base : List Record) where
       -- the store that comes back has all that was flushed at the last state
@@ -351,10 +371,11 @@ module _ {V : Type 0} (told : V → Option Disk) (may_leave : V → Disk → Typ
       abbrev pub LossBack : GeneratorLoses told may_leave moment left_since faults cuts clients size number c.store c.store' → Type 0
       LossBack lost = ComesBack (λ base'. BeginsWith base base' × IsPointOf told may_leave faults base' lost.made)
 
+      -- no fuse is set, so none fails a call of the restart
       abbrev pub FaultBack : GeneratorFails told may_leave moment left_since faults cuts clients size number c.store c.store' → Type 0
       FaultBack (inl stops) = StopBack halts.StoreFault stops
       FaultBack (inr (inl refused)) = PlayedBack (Some halts.StoreFault) refused.run
-      FaultBack (inr (inr none)) = ComesBack (NoneSurvives base c.store c.store' none)
+      FaultBack (inr (inr none)) = ⊥
 
       abbrev pub WantBack : GeneratorWants told may_leave moment left_since faults cuts clients size number c.store c.store' → Type 0
       WantBack (inl same) = IsOwn told may_leave base c.store'
@@ -363,24 +384,21 @@ module _ {V : Type 0} (told : V → Option Disk) (may_leave : V → Disk → Typ
       WantBack (inr (inr (inl refused))) = PlayedBack (Some halts.OutOfMemory) refused.run
       WantBack (inr (inr (inr last))) = FoundBack last.0 last.1
 
-      -- files that a database was just made in are never bad
+      -- files that a database was just made in are never bad, and a restart finds it; no other status comes
       abbrev pub GeneratorSurvives : (status : Status) → EndedGenerator told may_leave moment left_since faults cuts clients size number c mid count status → Type 0
       GeneratorSurvives Done ended = FoundBack ended.1.found ended.1.run
       GeneratorSurvives WriteFault ended = FoundBack ended.1.found ended.1.run
       GeneratorSurvives StoreFault ended = FaultBack ended.0
-      GeneratorSurvives (BadStore file at) ended = ⊥
-      GeneratorSurvives Unformatted ended = StopBack halts.Unformatted ended.0
-      GeneratorSurvives Formatted ended = StopBack halts.Formatted ended.0
+      GeneratorSurvives Formatted ended = IsOwn told may_leave base c.store'
       GeneratorSurvives (LogFull end most) ended = PlayedBack (Some (halts.LogFull end most)) ended.0.run
       GeneratorSurvives OutOfMemory ended = WantBack ended.0
-      GeneratorSurvives _ ended = Unit {0}
+      GeneratorSurvives _ ended = ⊥
 
   -- ---- each task of the words
   module _ (c : Course V) (mid : Option (List ℕ)) (count : ℕ) where
-    -- no damage escapes along the run, nor from the store that comes back
+    -- no damage escapes along the run; in a generated one none does by itself
     abbrev pub IsHonest : (task : Option Task) (status : Status) → Ended told may_leave moment left_since faults cuts task c mid count status → Type 0
     IsHonest (Some (Run precheck limit)) status ended = ScriptIsHonest told may_leave moment left_since faults limit cuts precheck c mid count status ended
-    IsHonest (Some (Generate clients size number)) status ended = GeneratorIsHonest clients size number c mid count status ended
     IsHonest _ status ended = Unit {0}
 
     module _ (base : List Record) where

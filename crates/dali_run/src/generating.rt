@@ -82,16 +82,23 @@ fn first_full(transcripts: &[Transcript]) -> Option<Halt>
     None
 }
 
-// What ends the run behind its round: a full log, or else what stopped the engine, which is the store.
-fn halt_of_round(transcripts: &[Transcript], stop: Option<Cause>) -> Option<Halt>
-    ensures { result ≡ halt_of_round transcripts.now stop }
+// What ends the run behind its round: a full log, or else what stopped the engine, which is the store. Neither damage nor a
+// fuse stops it, since nobody writes astray, and no fuse is set.
+fn halt_of_round(transcripts: &[Transcript], stop: Option<Cause>, by_fuse: bool) -> Option<Halt>
+    ensures { result ≡ halt_of_round transcripts.now stop by_fuse }
 {
     let full = first_full(transcripts);
     if full.is_some() {
         return full;
     }
     match stop {
-        Some(Cause::Store) => Some(Halt::StoreFault),
+        Some(Cause::Store) => {
+            if by_fuse {
+                Some(Halt::OutOfMemory)
+            } else {
+                Some(Halt::StoreFault)
+            }
+        }
         Some(Cause::Damage { .. }) => Some(Halt::OutOfMemory),
         None => None,
     }
@@ -151,17 +158,19 @@ fn played<V: Store, G: Gate>(
     requires placed { AreBlocks (map told_by told.now) }
     requires places { PlacesIn V.told core }
     requires unchecked { setting.now.precheck ≡ false }
-    ensures plays { IfOk result (λ played. IsRoundOf V.told V.may_leave V.faults (map told_by told.now) core None played × PlacesIn V.told played) }
-    ensures stops { IfErr result (λ s. RoundStops V.told V.may_leave V.faults (map told_by told.now) core s.halt s.store) }
+    ensures plays { IfOk result (λ played. IsRoundOf V.told V.may_leave V.moment V.left_since V.faults (map told_by told.now) core None played × PlacesIn V.told played) }
+    ensures stops { IfErr result (λ s. RoundStops V.told V.may_leave V.moment V.left_since V.faults (map told_by told.now) core s.halt s.store) }
 {
     let Ok(blocks) = blocks_of(setting.alloc, told) else {
         return Err(give_up(core, Halt::OutOfMemory));
     };
+    let failed = core.vault.failed();
     let (core, transcripts) = play(setting, &blocks, core);
     match transcripts {
         Ok(transcripts) => {
             let stop = core.system.stopped();
-            match halt_of_round(&transcripts, stop) {
+            let by_fuse = failed < core.vault.failed();
+            match halt_of_round(&transcripts, stop, by_fuse) {
                 None => Ok(core),
                 Some(halt) => Err(give_up(core, halt)),
             }

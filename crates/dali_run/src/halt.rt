@@ -24,7 +24,7 @@ pub enum Halt {
     ReadFault,
     /// The sink failed in writing an answer.
     WriteFault,
-    /// The store failed by itself, outside a round.
+    /// The store failed by itself: outside a round, or in the round of `gen`.
     StoreFault,
     /// A file of the store isn't in its form, from this byte on.
     BadStore { file: FileName, at: u64 },

@@ -2,6 +2,7 @@
 #![tactic(auto)]
 
 mod blocks;
+pub mod chains;
 mod cleaning;
 mod commands;
 mod dumping;

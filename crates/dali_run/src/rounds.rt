@@ -7,7 +7,7 @@ ghost use Rattle.dali_whole.specs.Cores.{IsNoShorter};
 ghost use Rattle.dali_run.specs.declared.halt.Halt.TheVariants.{OutOfMemory};
 ghost use Rattle.dali_run.specs.Fails.{Lost, LostOver, Played, AloneEnds, AloneEndsIn};
 ghost use Rattle.dali_run.specs.Program.{PlacesIn, HoldsImages, store_of, told_in};
-ghost use Rattle.dali_run.specs.Steps.{Plays, RunsRound, ActsAlone, StepsRound, StepsAlone, TellAll};
+ghost use Rattle.dali_run.specs.Steps.{Plays, RightWithin, RunsRound, ActsAlone, StepsRound, StepsAlone, TellAll};
 ghost use Rattle.dali_run.specs.Texts.{is_failure, says_failure};
 ghost use Rattle.dali_run.specs.Told.{told_by, alone as told_alone};
 
@@ -36,8 +36,9 @@ pub fn play<V: Store, G: Gate>(
     requires places { PlacesIn V.told core }
     ensures plays { IfOk result.1 (λ transcripts. Plays V.told V.may_leave V.faults setting.now.precheck true (map told_of blocks.now) core transcripts.items result.0) }
     ensures tell { IfOk result.1 (λ transcripts. TellAll (map told_of blocks.now) transcripts.items) }
-    ensures lost { OnErr result.1 ((played : Played V.told V.may_leave V.faults setting.now.precheck (map told_of blocks.now) core result.0.vault.store) × (played.whole ≡ false)) }
+    ensures lost { OnErr result.1 ((played : Played V.told V.may_leave V.moment V.left_since V.faults setting.now.precheck (map told_of blocks.now) core result.0.vault.store) × (played.whole ≡ false)) }
     ensures longer { IsNoShorter (told_in V.told) core.vault result.0.vault }
+    ensures any_moment { RightWithin V.told V.may_leave V.moment V.left_since V.faults core result.0 }
     ensures memory { IfErr result.1 (λ halt. halt ≡ OutOfMemory) }
     ensures places { PlacesIn V.told result.0 }
 {
@@ -62,8 +63,8 @@ fn round_over<V: Store, G: Gate>(
 ) -> (Core<Fuse<V>>, Result<Vec<u8>, Halt>)
     requires placed { AreBlocks (map told_by told.now) }
     requires places { PlacesIn V.told core }
-    ensures runs { IfOk result.1 (λ text. RunsRound V.told V.may_leave V.faults setting.now.precheck (map told_by told.now) core text.items result.0) }
-    ensures lost { OnErr result.1 (LostOver V.told V.may_leave V.faults setting.now.precheck (map told_by told.now) core result.0.vault.store) }
+    ensures runs { IfOk result.1 (λ text. RunsRound V.told V.may_leave V.moment V.left_since V.faults setting.now.precheck (map told_by told.now) core text.items result.0) }
+    ensures lost { OnErr result.1 (LostOver V.told V.may_leave V.moment V.left_since V.faults setting.now.precheck (map told_by told.now) core result.0.vault.store) }
     ensures memory { IfErr result.1 (λ halt. halt ≡ OutOfMemory) }
     ensures places { PlacesIn V.told result.0 }
 {
@@ -88,8 +89,8 @@ pub fn round_of<V: Store, G: Gate>(
 ) -> (Program<V>, Result<Vec<u8>, Halt>)
     requires placed { AreBlocks (map told_by told.now) }
     requires images { HoldsImages V.told program }
-    ensures steps { IfOk result.1 (λ text. StepsRound V.told V.may_leave V.faults setting.now.precheck told.now program text.items result.0) }
-    ensures lost { OnErr result.1 (Lost V.told V.may_leave V.faults setting.now.precheck (map told_by told.now) program (store_of result.0)) }
+    ensures steps { IfOk result.1 (λ text. StepsRound V.told V.may_leave V.moment V.left_since V.faults setting.now.precheck told.now program text.items result.0) }
+    ensures lost { OnErr result.1 (Lost V.told V.may_leave V.moment V.left_since V.faults setting.now.precheck (map told_by told.now) program (store_of result.0)) }
     ensures memory { IfErr result.1 (λ halt. halt ≡ OutOfMemory) }
     ensures images { HoldsImages V.told result.0 }
 {
@@ -140,8 +141,8 @@ fn alone_over<V: Store, G: Gate>(
 ) -> (Core<Fuse<V>>, Result<Vec<u8>, Halt>)
     requires placed { AreBlocks (told_alone (act_of command.now)) }
     requires places { PlacesIn V.told core }
-    ensures acts { IfOk result.1 (λ text. ActsAlone V.told V.may_leave V.faults setting.now.precheck (act_of command.now) core text.items result.0) }
-    ensures ends { IfErr result.1 (λ halt. AloneEnds V.told V.may_leave V.faults setting.now.precheck halt (act_of command.now) core result.0.vault.store) }
+    ensures acts { IfOk result.1 (λ text. ActsAlone V.told V.may_leave V.moment V.left_since V.faults setting.now.precheck (act_of command.now) core text.items result.0) }
+    ensures ends { IfErr result.1 (λ halt. AloneEnds V.told V.may_leave V.moment V.left_since V.faults setting.now.precheck halt (act_of command.now) core result.0.vault.store) }
     ensures places { PlacesIn V.told result.0 }
 {
     let Ok(block) = block_alone(setting.alloc, command) else {
@@ -170,8 +171,8 @@ pub fn alone<V: Store, G: Gate>(
 ) -> (Program<V>, Result<Vec<u8>, Halt>)
     requires placed { AreBlocks (told_alone (act_of command.now)) }
     requires images { HoldsImages V.told program }
-    ensures steps { IfOk result.1 (λ text. StepsAlone V.told V.may_leave V.faults setting.now.precheck name (act_of command.now) program text.items result.0) }
-    ensures ends { IfErr result.1 (λ halt. AloneEndsIn V.told V.may_leave V.faults setting.now.precheck halt (act_of command.now) program (store_of result.0)) }
+    ensures steps { IfOk result.1 (λ text. StepsAlone V.told V.may_leave V.moment V.left_since V.faults setting.now.precheck name (act_of command.now) program text.items result.0) }
+    ensures ends { IfErr result.1 (λ halt. AloneEndsIn V.told V.may_leave V.moment V.left_since V.faults setting.now.precheck halt (act_of command.now) program (store_of result.0)) }
     ensures images { HoldsImages V.told result.0 }
 {
     match program {

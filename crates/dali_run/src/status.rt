@@ -17,7 +17,7 @@ pub enum Status {
     ReadFault,
     /// The sink failed.
     WriteFault,
-    /// The store failed by itself, outside a round.
+    /// The store failed by itself: outside a round, or in the round of `gen`.
     StoreFault,
     /// A file of the store isn't in its form, from this byte on.
     BadStore { file: FileName, at: u64 },

@@ -1,11 +1,10 @@
 -- The first line of a text.
-use Rattle.std.proofs.Common.{◌≡◌, ℕ, ◌+◌, ◌-◌, ◌<◌, ◌≤◌, Bool, true, false, cond, List, [], ◌∷◌, length, take, drop, Some, None, refl, sym, ◌∙◌, ap, arith}
+use Rattle.std.proofs.Common.{◌≡◌, ℕ, ◌+◌, ◌<◌, ◌≤◌, Bool, true, false, cond, List, [], ◌∷◌, length, take, drop, Some, None, refl, sym, ◌∙◌, ap, arith}
 use Rattle.std.specs.Prelude.{nat_lt, position}
 use Rattle.std.specs.List.{slice_split, position_or_len}
 use Rattle.std.proofs.lemmas.List.Splits.{slice_split_first, slice_split_none}
 use Rattle.std.proofs.lemmas.List.Sums.{fails_before_first}
 use Rattle.std.proofs.lemmas.Bool.{ltb-true, ltb-false}
-use Rattle.std.proofs.lemmas.List.{take_all, length-drop}
 
 pub cut_at : (p : ℕ → Bool) (xs : List ℕ) (k : ℕ) → position p xs ≡ Some k → slice_split p xs ≡ take k xs ∷ slice_split p (drop (k + 1) xs)
 cut_at p xs k e = by_test (nat_lt (position_or_len p xs) (length xs)) refl
@@ -30,7 +29,3 @@ cut_nowhere p xs e = by_test (nat_lt (position_or_len p xs) (length xs)) refl
     by_test false t =
         let past : length xs ≤ position_or_len p xs = ltb-false (position_or_len p xs) (length xs) t in
         slice_split_none p xs (λ k d inside. fails_before_first p xs k d (omega (arith, past, inside)))
-
--- a text from a place to its end
-pub to_the_end : (xs : List ℕ) (k : ℕ) → take (length xs - k) (drop k xs) ≡ drop k xs
-to_the_end xs k = take_all (length xs - k) (drop k xs) (omega (arith, length-drop k xs))

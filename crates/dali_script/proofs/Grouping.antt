@@ -79,18 +79,11 @@ sound_taken n (item.Fuse m) s sound e = let out = outside_is_out s.place e in su
 
 -- ---- no line leads back to the start
 pub never_at_start : (made : Item) (p : Place) → stands made p ≡ true → after made p ≡ place.Start → ⊥
-never_at_start (item.Size i h) p e at = absurd (cc)
-never_at_start item.Open p e at = absurd (cc)
-never_at_start (item.Client n) p e at = absurd (cc)
-never_at_start item.End p e at = absurd (cc)
-never_at_start item.Begin p e at = absurd (cc)
 never_at_start (item.Insert k v) p e at = let h : stands (item.Insert k v) place.Start ≡ true = ap (λ q. stands (item.Insert k v) q) (sym at) ∙ e in absurd (cc)
 never_at_start (item.Update k v) p e at = let h : stands (item.Update k v) place.Start ≡ true = ap (λ q. stands (item.Update k v) q) (sym at) ∙ e in absurd (cc)
 never_at_start (item.Delete k) p e at = let h : stands (item.Delete k) place.Start ≡ true = ap (λ q. stands (item.Delete k) q) (sym at) ∙ e in absurd (cc)
 never_at_start (item.Get k) p e at = let h : stands (item.Get k) place.Start ≡ true = ap (λ q. stands (item.Get k) q) (sym at) ∙ e in absurd (cc)
 never_at_start (item.Die m) p e at = let h : stands (item.Die m) place.Start ≡ true = ap (λ q. stands (item.Die m) q) (sym at) ∙ e in absurd (cc)
-never_at_start item.Commit p e at = absurd (cc)
-never_at_start item.Abort p e at = absurd (cc)
 never_at_start (item.Poke r w m) p e at = let h : stands (item.Poke r w m) place.Start ≡ true = ap (λ q. stands (item.Poke r w m) q) (sym at) ∙ e in absurd (cc)
 never_at_start item.Audit p e at = let h : stands item.Audit place.Start ≡ true = ap (λ q. stands item.Audit q) (sym at) ∙ e in absurd (cc)
 never_at_start item.Checkpoint p e at = let h : stands item.Checkpoint place.Start ≡ true = ap (λ q. stands item.Checkpoint q) (sym at) ∙ e in absurd (cc)
@@ -101,6 +94,7 @@ never_at_start item.Show p e at = let h : stands item.Show place.Start ≡ true 
 never_at_start item.Verify p e at = let h : stands item.Verify place.Start ≡ true = ap (λ q. stands item.Verify q) (sym at) ∙ e in absurd (cc)
 never_at_start item.Next p e at = let h : stands item.Next place.Start ≡ true = ap (λ q. stands item.Next q) (sym at) ∙ e in absurd (cc)
 never_at_start (item.Fuse n) p e at = let h : stands (item.Fuse n) place.Start ≡ true = ap (λ q. stands (item.Fuse n) q) (sym at) ∙ e in absurd (cc)
+never_at_start _ p e at = absurd (cc)
 
 -- ---- one grouping: a script is made again from its lines
 record Tree : Type 0 where
@@ -137,16 +131,7 @@ closed t = ended t.blocks t.commands
 
 grow_step : (k : ClientCommand) (n : ℕ) (steps : List ClientCommand) (bs : List Block) (cs : List Command) → grown (in_block n steps bs cs) (line_of_step k) ≡ in_block n (steps ++ k ∷ []) bs cs
 grow_step step.Begin n steps bs cs = refl
-grow_step (step.Insert k v) n steps bs cs = refl
-grow_step (step.Update k v) n steps bs cs = refl
-grow_step (step.Delete k) n steps bs cs = refl
-grow_step (step.Get k) n steps bs cs = refl
-grow_step (step.Die m) n steps bs cs = refl
-grow_step step.Commit n steps bs cs = refl
-grow_step step.Abort n steps bs cs = refl
-grow_step (step.Poke r w m) n steps bs cs = refl
-grow_step step.Audit n steps bs cs = refl
-grow_step step.Checkpoint n steps bs cs = refl
+grow_step _ n steps bs cs = refl
 
 grow_steps : (ks : List ClientCommand) (n : ℕ) (steps : List ClientCommand) (bs : List Block) (cs : List Command) (rest : List Item) → grow (map line_of_step ks ++ rest) (in_block n steps bs cs) ≡ grow rest (in_block n (steps ++ ks) bs cs)
 grow_steps [] n steps bs cs rest = ap (λ ks. grow rest (in_block n ks bs cs)) (sym (append-nil steps))

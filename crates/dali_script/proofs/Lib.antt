@@ -1,5 +1,6 @@
 pub mod MoreBytes
 pub mod CutLines
+pub mod Extended
 pub mod LinesLeft
 pub mod Ranges
 pub mod Verdicts

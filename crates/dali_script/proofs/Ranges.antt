@@ -12,7 +12,7 @@ use Rattle.dali_script.specs.declared.faults.Kind.TheVariants as kind
 use Rattle.dali_script.proofs.MoreBytes.{small_with_a_digit}
 
 -- ---- options in a row
-then_some : {A B : Type 0} (o : Option A) (f : A → Option B) (y : B) → (o >>= f) ≡ Some y → (x : A) × (o ≡ Some x) × (f x ≡ Some y)
+pub then_some : {A B : Type 0} (o : Option A) (f : A → Option B) (y : B) → (o >>= f) ≡ Some y → (x : A) × (o ≡ Some x) × (f x ≡ Some y)
 then_some (Some x) f y e = (x, refl, e)
 then_some None f y e = absurd (cc)
 

@@ -1,9 +1,9 @@
 -- A script that bytes spell is right: its numbers, its places, and the clients of its rounds.
-use Rattle.std.proofs.Common.{◌≡◌, ℕ, zero, suc, ◌<◌, ◌≤◌, Bool, true, false, not, ◌||◌, cond, List, [], ◌∷◌, ◌++◌, length, map, Some, refl, ap, sym, subst, ◌∙◌, arith}
+use Rattle.std.proofs.Common.{◌≡◌, ℕ, zero, suc, ◌<◌, ◌≤◌, Bool, true, false, cond, List, [], ◌∷◌, ◌++◌, length, map, Some, refl, ap, sym, subst, ◌∙◌, arith}
 use Rattle.std.specs.Prelude.{◌==◌, flat_map}
 use Rattle.std.specs.List.{slice_get, list_any, AllByRecursion}
-use Rattle.std.proofs.lemmas.Bool.Decides.{nat_tests}
 use Rattle.std.proofs.lemmas.List.Folds.{list_any-append}
+use Rattle.std.proofs.lemmas.Bool.{not-true, or_parts, eq-eqb}
 use Rattle.dali_script.specs.Lines.{command_lines}
 use Rattle.dali_script.specs.Items.{Text}
 use Rattle.dali_script.specs.Places.{is_start, is_in_block, after}
@@ -53,40 +53,15 @@ abbrev opened_by : ClientCommand → Bool → Bool
 opened_by step.Begin within = true
 opened_by step.Commit within = false
 opened_by step.Abort within = false
-opened_by (step.Insert k v) within = within
-opened_by (step.Update k v) within = within
-opened_by (step.Delete k) within = within
-opened_by (step.Get k) within = within
-opened_by (step.Die n) within = within
-opened_by (step.Poke r w m) within = within
-opened_by step.Audit within = within
-opened_by step.Checkpoint within = within
+opened_by _ within = within
 
 place_behind : (k : ClientCommand) (within : Bool) → after (line_of_step k) (place_in within) ≡ place_in (opened_by k within)
 place_behind step.Begin within = refl
-place_behind step.Commit within = refl
-place_behind step.Abort within = refl
-place_behind (step.Insert k v) within = refl
-place_behind (step.Update k v) within = refl
-place_behind (step.Delete k) within = refl
-place_behind (step.Get k) within = refl
-place_behind (step.Die n) within = refl
-place_behind (step.Poke r w m) within = refl
-place_behind step.Audit within = refl
-place_behind step.Checkpoint within = refl
+place_behind _ within = refl
 
 clients_behind : (k : ClientCommand) (c : Context) → is_in_block c.place ≡ true → clients_after (line_of_step k) c ≡ c.clients
 clients_behind step.Begin c e = ap (λ b. cond b c.clients []) e
-clients_behind step.Commit c e = ap (λ b. cond b c.clients []) e
-clients_behind step.Abort c e = ap (λ b. cond b c.clients []) e
-clients_behind (step.Insert k v) c e = ap (λ b. cond b c.clients []) e
-clients_behind (step.Update k v) c e = ap (λ b. cond b c.clients []) e
-clients_behind (step.Delete k) c e = ap (λ b. cond b c.clients []) e
-clients_behind (step.Get k) c e = ap (λ b. cond b c.clients []) e
-clients_behind (step.Die n) c e = ap (λ b. cond b c.clients []) e
-clients_behind (step.Poke r w m) c e = ap (λ b. cond b c.clients []) e
-clients_behind step.Audit c e = ap (λ b. cond b c.clients []) e
-clients_behind step.Checkpoint c e = ap (λ b. cond b c.clients []) e
+clients_behind _ c e = ap (λ b. cond b c.clients []) e
 
 -- one command more in front
 in_place : (within : Bool) (k : ClientCommand) (later : List ClientCommand) → stands (line_of_step k) (place_in within) ≡ true → IsRightLine (line_of_step k) → AreInPlace (opened_by k within) later → AreInPlace within (k ∷ later)
@@ -145,10 +120,6 @@ abbrev AreRightBlocks : List ℕ → List Block → Type 0
 AreRightBlocks seen [] = Unit {0}
 AreRightBlocks seen (b ∷ later) = IsRightBlock seen b × AreRightBlocks (seen ++ b.client ∷ []) later
 
-not_so : (b : Bool) → not b ≡ true → b ≡ false
-not_so true e = absurd (cc)
-not_so false e = refl
-
 record BlockIsRead (b : Block) (c d : Context) : Type 0 where
   right : IsRightBlock c.clients b
   clients : d.clients ≡ c.clients ++ b.client ∷ []
@@ -159,7 +130,7 @@ block_is_read b c (l ∷ ls) d r =
     let first = right_line c l.1 (item.Client b.client) r.0 in
     let rest = are_read false b.commands (next l.0 (item.Client b.client) c) ls d refl r.1 in
     record {
-      right = record { number = first.numbers; new = not_so (list_any (λ m. m == b.client) c.clients) first.new; placed = rest.placed };
+      right = record { number = first.numbers; new = not-true (list_any (λ m. m == b.client) c.clients) first.new; placed = rest.placed };
       clients = rest.clients;
     }
 
@@ -170,29 +141,21 @@ blocks_are_right (b ∷ later) c ls d r =
     let first = block_is_read b c two.first two.mid two.front in
     (first.right, subst (λ (seen : List ℕ). AreRightBlocks seen later) first.clients (blocks_are_right later two.mid two.second d two.rest))
 
--- a block behind others
-neither : (a b : Bool) → (a || b) ≡ false → (a ≡ false) × (b ≡ false)
-neither true b e = absurd (cc)
-neither false b e = (refl, e)
-
-same_number : (m n : ℕ) → m ≡ n → (m == n) ≡ true
-same_number m n e = grind (arith, nat_tests, e)
-
 at_place : (blocks : List Block) (seen : List ℕ) (i : ℕ) (b : Block) → AreRightBlocks seen blocks → slice_get blocks i ≡ Some b → IsRightBlock seen b
 at_place [] seen i b r e = absurd (cc)
 at_place (a ∷ later) seen zero b r e = let same : a ≡ b = cc in subst (λ (x : Block). IsRightBlock seen x) same r.0
 at_place (a ∷ later) seen (suc i) b r e =
     let right = at_place later (seen ++ a.client ∷ []) i b r.1 e in
-    let apart = neither (list_any (λ m. m == b.client) seen) (list_any (λ m. m == b.client) (a.client ∷ [])) (sym (list_any-append (λ m. m == b.client) seen (a.client ∷ [])) ∙ right.new) in
+    let apart = or_parts (list_any (λ m. m == b.client) seen) (list_any (λ m. m == b.client) (a.client ∷ [])) (sym (list_any-append (λ m. m == b.client) seen (a.client ∷ [])) ∙ right.new) in
     record { number = right.number; new = apart.0; placed = right.placed }
 
 -- a later block has another client
 differs : (a b : Block) (later : List Block) (seen : List ℕ) (i : ℕ) → AreRightBlocks (seen ++ a.client ∷ []) later → slice_get later i ≡ Some b → a.client ≡ b.client → ⊥
 differs a b later seen i r e same =
     let right = at_place later (seen ++ a.client ∷ []) i b r e in
-    let apart = neither (list_any (λ m. m == b.client) seen) (list_any (λ m. m == b.client) (a.client ∷ [])) (sym (list_any-append (λ m. m == b.client) seen (a.client ∷ [])) ∙ right.new) in
-    let other = neither (a.client == b.client) false apart.1 in
-    let both : true ≡ false = sym (same_number a.client b.client same) ∙ other.0 in
+    let apart = or_parts (list_any (λ m. m == b.client) seen) (list_any (λ m. m == b.client) (a.client ∷ [])) (sym (list_any-append (λ m. m == b.client) seen (a.client ∷ [])) ∙ right.new) in
+    let other = or_parts (a.client == b.client) false apart.1 in
+    let both : true ≡ false = sym (eq-eqb a.client b.client same) ∙ other.0 in
     cc
 
 are_apart : (blocks : List Block) (seen : List ℕ) → AreRightBlocks seen blocks → (i j : ℕ) (a b : Block) → slice_get blocks i ≡ Some a → slice_get blocks j ≡ Some b → a.client ≡ b.client → i ≡ j
@@ -216,18 +179,11 @@ line_right i c (l ∷ ls) d r = (right_line c l.1 i r.0).numbers
 
 command_right : (command : Command) (c : Context) (ls : Numbered) (d : Context) → Reads c ls (lines_of_command command) d → IsRightCommand command
 command_right (single.Size i h) c ls d r = line_right (item.Size i h) c ls d r
-command_right single.Open c ls d r = tt
 command_right (single.Round blocks) c ls d r = round_is_right blocks c.clients (blocks_are_right blocks c ls d r)
 command_right (single.Poke q w m) c ls d r = line_right (item.Poke q w m) c ls d r
-command_right single.Audit c ls d r = tt
-command_right single.Checkpoint c ls d r = tt
-command_right single.Cleanup c ls d r = tt
 command_right (single.Crash n) c ls d r = line_right (item.Crash n) c ls d r
-command_right single.Restart c ls d r = tt
-command_right single.Show c ls d r = tt
-command_right single.Verify c ls d r = tt
-command_right single.Next c ls d r = tt
 command_right (single.Fuse n) c ls d r = line_right (item.Fuse n) c ls d r
+command_right _ c ls d r = tt
 
 commands_right : (script : List Command) (c : Context) (ls : Numbered) (d : Context) → Reads c ls (lines_of_script script) d → AllByRecursion IsRightCommand script
 commands_right [] c ls d r = tt
@@ -258,17 +214,7 @@ begins_at_start i c (l ∷ ls) d only r = at_start c.place (only c.place (right_
 begins_none : (command : Command) (c : Context) (ls : Numbered) (d : Context) → IsBehind c → Reads c ls (lines_of_command command) d → begins command ≡ false
 begins_none (single.Size i h) c ls d off r = absurd (off (begins_at_start (item.Size i h) c ls d (λ p e. e) r))
 begins_none single.Open c ls d off r = absurd (off (begins_at_start item.Open c ls d (λ p e. e) r))
-begins_none (single.Round blocks) c ls d off r = refl
-begins_none (single.Poke q w m) c ls d off r = refl
-begins_none single.Audit c ls d off r = refl
-begins_none single.Checkpoint c ls d off r = refl
-begins_none single.Cleanup c ls d off r = refl
-begins_none (single.Crash n) c ls d off r = refl
-begins_none single.Restart c ls d off r = refl
-begins_none single.Show c ls d off r = refl
-begins_none single.Verify c ls d off r = refl
-begins_none single.Next c ls d off r = refl
-begins_none (single.Fuse n) c ls d off r = refl
+begins_none _ c ls d off r = refl
 
 none_begins : (script : List Command) (c : Context) (ls : Numbered) (d : Context) → IsBehind c → Reads c ls (lines_of_script script) d → AllByRecursion (λ k. begins k ≡ false) script
 none_begins [] c ls d off r = tt
@@ -311,16 +257,7 @@ behind_first (single.Size i h) c (l ∷ ls) d e r = stays_behind [] (next l.0 (i
 behind_first single.Open c [] d e r = absurd r
 behind_first single.Open c (l ∷ ls) d e r = stays_behind [] (next l.0 item.Open c) ls d (λ at. absurd (cc)) r.1
 behind_first (single.Round blocks) c ls d e r = absurd (cc)
-behind_first (single.Poke q w m) c ls d e r = absurd (cc)
-behind_first single.Audit c ls d e r = absurd (cc)
-behind_first single.Checkpoint c ls d e r = absurd (cc)
-behind_first single.Cleanup c ls d e r = absurd (cc)
-behind_first (single.Crash n) c ls d e r = absurd (cc)
-behind_first single.Restart c ls d e r = absurd (cc)
-behind_first single.Show c ls d e r = absurd (cc)
-behind_first single.Verify c ls d e r = absurd (cc)
-behind_first single.Next c ls d e r = absurd (cc)
-behind_first (single.Fuse n) c ls d e r = absurd (cc)
+behind_first _ c ls d e r = absurd (cc)
 
 begins_once : (script : List Command) (c : Context) (ls : Numbered) (d : Context) → c.place ≡ place.Start → d.place ≡ place.Outside → IsGroupedAfter false script → Reads c ls (lines_of_script script) d → BeginsOnce script
 begins_once [] c [] d at out g r = let both : place.Start ≡ place.Outside = sym at ∙ ap (λ (x : Context). x.place) r ∙ out in cc

@@ -32,7 +32,7 @@ text_of Next = codes "next"
 text_of Fuse = codes "fuse"
 
 abbrev pub names : List Name
-names = Size ∷ Open ∷ Client ∷ End ∷ Begin ∷ Insert ∷ Update ∷ Delete ∷ Get ∷ Die ∷ Commit ∷ Abort ∷ Poke ∷ Audit ∷ Checkpoint ∷ Cleanup ∷ Crash ∷ Restart ∷ Show ∷ Verify ∷ Next ∷ Fuse ∷ []
+names = Insert ∷ Commit ∷ Begin ∷ Get ∷ Update ∷ Delete ∷ Client ∷ End ∷ Abort ∷ Next ∷ Size ∷ Open ∷ Die ∷ Poke ∷ Audit ∷ Checkpoint ∷ Cleanup ∷ Crash ∷ Restart ∷ Show ∷ Verify ∷ Fuse ∷ []
 
 abbrev pub name_of : List ℕ → Option Name
 name_of word = find (λ name. pointwise nat_eq (text_of name) word) names

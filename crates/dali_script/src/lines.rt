@@ -1,23 +1,25 @@
 //! The lines of a script, and the words of a line.
-ghost use Rattle.std.specs.Prelude.{◌≡◌, ◌∷◌, ◌<◌, ◌==◌, IfOk, IfSome, map, length, position};
+ghost use Rattle.std.specs.Prelude.{◌≡◌, ◌∷◌, ◌<◌, ◌==◌, OnOk, IfSome, map, length, position};
 ghost use Rattle.dali_script.specs.Lines;
 ghost use Rattle.dali_script.specs.Lines.{words_of, lines_of, lines_left, is_comment};
 
-use std::alloc::{AllocError, Global};
+use std::alloc::AllocError;
 
 fn is_blank(byte: u8) -> bool
     ensures { result ≡ Lines.is_blank byte }
 {
-    matches!(byte, b' ' | b'\t' | b'\r')
+    byte <= b' ' && matches!(byte, b' ' | b'\t' | b'\r') // few bytes need more than the first test
 }
 
-/// The words of a line.
-pub fn words(alloc: Global, line: &[u8]) -> Result<Vec<&[u8]>, AllocError>
-    ensures { IfOk result (λ words. map (λ word. word.now) words.items ≡ words_of line.now) }
+/// Puts the words of a line in place of what was there: so one vector serves all lines.
+pub fn put_words<'a>(line: &'a [u8], words: &mut Vec<&'a [u8]>) -> Result<(), AllocError>
+    ensures { OnOk result (map (λ word. word.now) words.new.items ≡ words_of line.now) }
 {
-    line.split(|byte| is_blank(*byte))
-        .filter(|word| !word.is_empty())
-        .collect(alloc)
+    words.clear();
+    words.extend(
+        line.split(|byte| is_blank(*byte))
+            .filter(|word| !word.is_empty()),
+    )
 }
 
 /// Whether a line is a comment.

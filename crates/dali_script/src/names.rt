@@ -29,19 +29,21 @@ pub enum Name {
     Fuse,
 }
 
+// Those that a script has most come first, since a word is compared with one after another.
 const NAMES: [Name; 22] = [
-    Name::Size,
-    Name::Open,
-    Name::Client,
-    Name::End,
-    Name::Begin,
     Name::Insert,
+    Name::Commit,
+    Name::Begin,
+    Name::Get,
     Name::Update,
     Name::Delete,
-    Name::Get,
-    Name::Die,
-    Name::Commit,
+    Name::Client,
+    Name::End,
     Name::Abort,
+    Name::Next,
+    Name::Size,
+    Name::Open,
+    Name::Die,
     Name::Poke,
     Name::Audit,
     Name::Checkpoint,
@@ -50,7 +52,6 @@ const NAMES: [Name; 22] = [
     Name::Restart,
     Name::Show,
     Name::Verify,
-    Name::Next,
     Name::Fuse,
 ];
 

@@ -9,7 +9,7 @@ ghost use Rattle.dali_script.specs.Parser.{state_of};
 use crate::commands::{Block, Blocks, ClientCommand, ClientCommands, Command, Script};
 use crate::faults::{Kind, ScriptError};
 use crate::items::{Item, make_item};
-use crate::lines::{first_line, is_a_comment, words};
+use crate::lines::{first_line, is_a_comment, put_words};
 use crate::names::Name;
 use crate::places::Place;
 use std::alloc::{AllocError, Global};
@@ -163,18 +163,24 @@ impl Parser {
         Ok(item)
     }
 
-    // Reads a line.
-    fn read_line(&mut self, alloc: Global, line: u64, text: &[u8]) -> Result<(), ScriptError>
+    // Reads a line, whose words take the place of the last one's.
+    fn read_line<'a>(
+        &mut self,
+        alloc: Global,
+        line: u64,
+        text: &'a [u8],
+        words: &mut Vec<&'a [u8]>,
+    ) -> Result<(), ScriptError>
         ensures { Gives (λ _. state_of self.new) result (read_line line text.now (state_of self.old)) }
     {
         if is_a_comment(text) {
             return Ok(());
         }
-        let words = words(alloc, text)?;
+        put_words(text, words)?;
         if words.is_empty() {
             return Ok(());
         }
-        match self.verdict(&words) {
+        match self.verdict(words) {
             Ok(item) => Ok(self.take(alloc, line, item)?),
             Err(kind) => Err(ScriptError::BadLine { line, kind }),
         }
@@ -205,12 +211,13 @@ fn read(alloc: Global, bytes: &[u8]) -> Result<Script, ScriptError>
     ensures { Gives (λ script. script) result (outcome bytes.now) }
 {
     let mut parser = Parser::new(alloc);
+    let mut words = Vec::new(alloc);
     let mut rest = Some(bytes);
     let mut line = 0;
     while let Some(text) = rest {
         let (first, behind) = first_line(text);
         line += 1;
-        parser.read_line(alloc, line, first)?;
+        parser.read_line(alloc, line, first, &mut words)?;
         rest = behind;
     }
     parser.finish(alloc, line)

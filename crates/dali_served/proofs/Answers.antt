@@ -5,13 +5,13 @@ use Rattle.std.specs.List.{AllByRecursion}
 use Rattle.std.proofs.lemmas.Bool.{eq-eqb, ne_eqb}
 use Rattle.std.proofs.lemmas.List.{append-nil}
 use Rattle.std.proofs.lemmas.List.Elements.{filter_map-append}
+use Rattle.dali_lists.proofs.Members.{contains_first, contains_more}
 use Rattle.dali_record.specs.declared.records.Call.{Call}
 use Rattle.dali_record.specs.declared.records.Answer.{Answer}
 use Rattle.dali_record.specs.declared.records.Record.TheVariants.{Done, Commit}
 use Rattle.dali_transcripts.specs.World.{Logs}
 use Rattle.dali_transcripts.specs.Moves.{Receipt}
 use Rattle.dali_served.specs.Served.{has_room, Once}
-use Rattle.dali_served.proofs.Lists.{first_in, later_in}
 use Rattle.dali_served.proofs.Marks.{Dones, Marks}
 use Rattle.dali_served.proofs.Owners.{commit_in, answer_in}
 
@@ -63,15 +63,15 @@ module _ (f : ℕ) where
   no_answers u [] xs m none = ap (filter_map (answer_in u)) m
   no_answers u (cs ∷ css) xs m none =
       let all = commits_of cs css xs m in
-      let not_here : (m.0 == u) ≡ false = ne_eqb m.0 u (λ e. none (subst (λ l. Contains l u) (sym all) (subst (Contains (m.0 ∷ filter_map commit_in m.3)) e (first_in m.0 (filter_map commit_in m.3))))) in
+      let not_here : (m.0 == u) ≡ false = ne_eqb m.0 u (λ e. none (subst (λ l. Contains l u) (sym all) (subst (Contains (m.0 ∷ filter_map commit_in m.3)) e (contains_first m.0 (filter_map commit_in m.3))))) in
       answers_of u cs css xs m
       ∙ (ap (λ l. l ++ filter_map (answer_in u) m.3) (other_answers m.0 u cs m.2 not_here m.4)
-      ∙ no_answers u css m.3 m.6 (λ h. none (subst (λ l. Contains l u) (sym all) (later_in m.0 u (filter_map commit_in m.3) h))))
+      ∙ no_answers u css m.3 m.6 (λ h. none (subst (λ l. Contains l u) (sym all) (contains_more m.0 u (filter_map commit_in m.3) h))))
 
   got_in : (xs : List ℕ) (i t : ℕ) → slice_get xs i ≡ Some t → Contains xs t
   got_in [] i t e = absurd cc
-  got_in (x ∷ xs) zero t e = let same : x ≡ t = cc in subst (Contains (x ∷ xs)) same (first_in x xs)
-  got_in (x ∷ xs) (suc i) t e = later_in x t xs (got_in xs i t e)
+  got_in (x ∷ xs) zero t e = let same : x ≡ t = cc in subst (Contains (x ∷ xs)) same (contains_first x xs)
+  got_in (x ∷ xs) (suc i) t e = contains_more x t xs (got_in xs i t e)
 
   pub record HasCalls (css : List (List Call)) (i t : ℕ) (xs : List Receipt) : Type 0 where
     pub are : slice_get css i ≡ Some (asked (filter_map (answer_in t) xs))

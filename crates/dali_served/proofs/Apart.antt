@@ -1,5 +1,5 @@
 -- Where no two clients call one key, no request gives way.
-use Rattle.std.proofs.Common.{◌≡◌, ℕ, zero, suc, ◌+◌, ◌==◌, ◌⊎◌, Bool, true, false, List, [], ◌∷◌, length, Some, refl, sym, ◌∙◌, ap, subst, arith, inl, inr}
+use Rattle.std.proofs.Common.{◌≡◌, ℕ, zero, suc, ◌+◌, ◌==◌, Bool, true, false, List, [], ◌∷◌, length, Some, refl, sym, ◌∙◌, ap, subst, arith, inl, inr}
 use Rattle.std.specs.Prelude.{Contains, if◌then◌else◌, slice_get, take}
 use Rattle.std.specs.List.{AllByRecursion}
 use Rattle.std.proofs.lemmas.Bool.{eqb-true, eq-eqb}
@@ -9,8 +9,8 @@ use Rattle.dali_record.specs.declared.records.Record.{Record}
 use Rattle.dali_system.specs.State.{CoreState}
 use Rattle.dali_transcripts.specs.Rounds.{IsRound}
 use Rattle.dali_transcripts.specs.Words.{Said, key_of}
-use Rattle.dali_transcripts.specs.World.{Deed, GetsLock, HasGot, WasDead, Yields, Happening, World, logged_by}
-use Rattle.dali_transcripts.specs.Causes.{IsRight, AreRightFrom}
+use Rattle.dali_transcripts.specs.World.{Deed, GetsLock, Yields, Happening, World, logged_by}
+use Rattle.dali_transcripts.specs.Causes.{IsAnothers, IsRight, AreRightFrom}
 use Rattle.dali_transcripts.specs.Transcripts.{deeds_of, Told, EachTells, is_among}
 use Rattle.dali_transcripts.proofs.Lists.{all_get}
 use Rattle.dali_transcripts.proofs.Owned.{each_is_owned}
@@ -62,18 +62,18 @@ none_gives_way precheck before old new blocks lines receipts calls home round no
     let w = round.world in
     let here : 0 + i ≡ i = omega arith in
     let right : IsRight w c i (Yields f) = subst (λ k. IsRight w c k (Yields f)) here (right_from w 0 w.happened i c (Yields f) round.right at) in
-    by_right right.3
+    by_right right.3.by_another
   where
     of_deed : (c j : ℕ) (x : Deed) → slice_get round.world.happened j ≡ Some (x, c) → IsTold (IsHome home c) (length round.world.before + length (logged_by (take j round.world.happened)), x)
     of_deed c j x at =
         all_get (IsTold (IsHome home c)) (deeds_of round.world c) _ (told_by_each precheck before old new blocks lines receipts calls home round told at_home c)
         (each_is_owned c (length round.world.before) round.world.happened j x at)
 
-    by_right : WasDead round.world f.holder ⊎ ((d : ℕ) × ((d == c) ≡ false) × HasGot (take i round.world.happened) d f.holder f.key) → ⊥
+    by_right : IsAnothers round.world c i f.holder f.key → ⊥
     by_right (inl dead) = none_dead f.holder dead
-    by_right (inr (d, apart, granted)) =
-        let got = got_place i round.world.happened (GetsLock f.holder f.key granted.0, d) granted.1 in
+    by_right (inr (d, m, apart, granted)) =
+        let got = got_place i round.world.happened (GetsLock f.holder f.key m, d) granted in
         let mine : home f.key ≡ c = of_deed c i (Yields f) at in
-        let its : home f.key ≡ d = of_deed d got.0 (GetsLock f.holder f.key granted.0) got.1 in
+        let its : home f.key ≡ d = of_deed d got.0 (GetsLock f.holder f.key m) got.1 in
         let same : (d == c) ≡ true = eq-eqb d c (sym its ∙ mine) in
         let never : true ≡ false = sym same ∙ apart in absurd cc

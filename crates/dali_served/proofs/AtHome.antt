@@ -6,6 +6,7 @@ use Rattle.std.specs.Prelude.{if◌then◌else◌}
 use Rattle.std.specs.List.{AllByRecursion}
 use Rattle.std.proofs.lemmas.List.{append-nil}
 use Rattle.std.proofs.lemmas.List.Concat.{flat_map-cons}
+use Rattle.dali_lists.proofs.Members.{all_append}
 use Rattle.dali_record.specs.declared.records.Call.{Call}
 use Rattle.dali_record.specs.declared.records.Record.TheVariants.{AuditFail, Restarted}
 use Rattle.dali_system.specs.declared.refusals.Refusal.{Refusal}
@@ -15,7 +16,6 @@ use Rattle.dali_record.specs.declared.records.Record.TheVariants.{Forward, Back,
 use Rattle.dali_transcripts.specs.Moves.{Receipt, Place, Outside, LeftOut, Within, Ending, TakenBack, LeftBehind, Spot, Move, Begins, BeginsAgain, IsRefusedBegin, Skips, Rests, Answers, IsRefusedCall, Dies, GivesWay, GivesUp, Commits, CommitFails, IsRefusedCommit, Ends, StaysOpen, from, own, to, start, end_own, behind_close, operations, left}
 use Rattle.dali_transcripts.specs.Causes.{IsCleanUp, IsAside, AreAside, IsAsking, AreAsking, IsWork, AreWork, IsTried, AreTried, IsBehind, AreBehind, HasCause}
 use Rattle.dali_transcripts.specs.Transcripts.{IsPath, IsTranscript, own_by}
-use Rattle.dali_transcripts.proofs.Lists.{all_append}
 use Rattle.dali_served.specs.Served.{acts_of}
 
 module _ (P : ℕ → Type 0) where
@@ -56,18 +56,18 @@ module _ (P : ℕ → Type 0) where
     asides t [] h = tt
     asides t (x ∷ xs) h = (aside t x h.0, asides t xs h.1)
 
-    asking : (t : ℕ) (call : Call) → P (key_of call) → (x : Receipt) → IsAsking w c t call x → IsTold x
-    asking t call p (n, GetsLock u k m) h = subst P (sym h.1) p
-    asking t call p (n, FindsDead f) h = tt
-    asking t call p x h = aside t x h
+    asking : (t : ℕ) (call : Call) → (x : Receipt) → IsAsking w c t call x → IsTold x
+    asking t call (n, FindsDead f) h = tt
+    asking t call x h = aside t x h
 
-    askings : (t : ℕ) (call : Call) → P (key_of call) → (xs : List Receipt) → AreAsking w c t call xs → AreTold xs
-    askings t call p [] h = tt
-    askings t call p (x ∷ xs) h = (asking t call p x h.0, askings t call p xs h.1)
+    askings : (t : ℕ) (call : Call) → (xs : List Receipt) → AreAsking w c t call xs → AreTold xs
+    askings t call [] h = tt
+    askings t call (x ∷ xs) h = (asking t call x h.0, askings t call xs h.1)
 
     work : (t : ℕ) (call : Call) → P (key_of call) → (x : Receipt) → IsWork w c t call x → IsTold x
     work t call p (n, Logs (Forward u b)) h = tt
-    work t call p x h = asking t call p x h
+    work t call p (n, GetsLock u k m) h = subst P (sym h.1) p
+    work t call p x h = asking t call x h
 
     works : (t : ℕ) (call : Call) → P (key_of call) → (xs : List Receipt) → AreWork w c t call xs → AreTold xs
     works t call p [] h = tt
@@ -98,7 +98,7 @@ module _ (P : ℕ → Type 0) where
     gave_way : (t : ℕ) (call : Call) (xs ys : List Receipt) (f : Refusal) (e : Ending) → P (key_of call) → f.key ≡ key_of call → AreAsking w c t call xs → AreAside w c t ys
         → AreTold (xs ++ (f.at, Yields f) ∷ ys ++ end_own t e)
     gave_way t call xs ys f e p key h g =
-        all_append IsTold (xs ++ (f.at, Yields f) ∷ ys) (end_own t e) (all_append IsTold xs ((f.at, Yields f) ∷ ys) (askings t call p xs h) (subst P (sym key) p, asides t ys g)) (end t e)
+        all_append IsTold (xs ++ (f.at, Yields f) ∷ ys) (end_own t e) (all_append IsTold xs ((f.at, Yields f) ∷ ys) (askings t call xs h) (subst P (sym key) p, asides t ys g)) (end t e)
 
     -- ---- along a path
     abbrev commands_of : Place → List Act

@@ -6,8 +6,10 @@ use Rattle.dali_counts.specs.Counts.{next_with}
 use Rattle.dali_counts.proofs.Lists.{and_left, equal, some_same}
 use Rattle.dali_counts.proofs.Tallies.{tells_step, if_kept, if_none}
 use Rattle.dali_record.specs.declared.records.Record.{Record}
-use Rattle.dali_record.specs.declared.records.Record.TheVariants.{Format, Begin, Forward, Back, Done, Commit, Ended, Solo, AuditBegin, AuditClean, AuditFail, Restarted}
+use Rattle.dali_record.specs.declared.records.Record.TheVariants.{Begin}
 use Rattle.dali_record.specs.Legal.{Rules, rules_state, rules_next, rules_step, rules_first, rules_behind, runs, has_room}
+use Rattle.dali_counts.proofs.Fronts.{none_rules}
+use Rattle.dali_counts.proofs.NewNumbers.{next_grows}
 
 begin_number : (s : Sizes) (h : Rules) (u : ℕ) → IsSome (rules_step s h (Begin u)) → u ≡ h.next
 begin_number s h u k = by_test (h.count == 0) k
@@ -16,35 +18,17 @@ begin_number s h u k = by_test (h.count == 0) k
     by_test true k = absurd (cc)
     by_test false k = equal u h.next (and_left (u == h.next) (has_room h (Begin u)) (if_kept _ _ (if_none h.failed (runs s h (Begin u)) k)))
 
-next_grows : (x : Record) (n : ℕ) → n ≤ next_with x n
-next_grows (Format i h) n = omega arith
-next_grows (Begin t) n = omega arith
-next_grows (Forward t b) n = omega arith
-next_grows (Done t c a) n = omega arith
-next_grows (Commit t) n = omega arith
-next_grows (Ended t) n = omega arith
-next_grows (Solo t p b) n = omega arith
-next_grows AuditBegin n = omega arith
-next_grows (AuditClean b) n = omega arith
-next_grows (AuditFail b rs) n = omega arith
-next_grows (Restarted rs ds) n = omega arith
-next_grows (Back t b) n = omega arith
-
 record FirstStep (s : Sizes) (h : Rules) (x : Record) (xs : List Record) : Type 0 where
   behind : Rules
   step : rules_step s h x ≡ Some behind
   rest : IsSome (fold (rules_next s) (Some behind) xs)
   next : behind.next ≡ next_with x h.next
 
-none_goes : (s : Sizes) (xs : List Record) → fold (rules_next s) None xs ≡ None
-none_goes s [] = refl
-none_goes s (x ∷ xs) = none_goes s xs
-
 first_step : (s : Sizes) (h : Rules) (x : Record) (xs : List Record) → IsSome (fold (rules_next s) (Some h) (x ∷ xs)) → FirstStep s h x xs
 first_step s h x xs some = by_step (rules_step s h x) refl some
   where
     by_step : (o : Option Rules) → rules_step s h x ≡ o → IsSome (fold (rules_next s) o xs) → FirstStep s h x xs
-    by_step None e more = let no_way : false ≡ true = subst (λ (o : Option Rules). IsSome o) (none_goes s xs) more in absurd (cc)
+    by_step None e more = let no_way : false ≡ true = subst (λ (o : Option Rules). IsSome o) (none_rules s xs) more in absurd (cc)
     by_step (Some g) e more = record { behind = g; step = e; rest = more; next = (tells_step s h x g e).2 }
 
 begins_above : (s : Sizes) (h : Rules) (xs : List Record) (i t : ℕ) → IsSome (fold (rules_next s) (Some h) xs) → slice_get xs i ≡ Some (Begin t) → h.next ≤ t

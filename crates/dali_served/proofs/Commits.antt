@@ -3,6 +3,7 @@ use Rattle.std.proofs.Common.{◌≡◌, ℕ, ◌==◌, Bool, true, false, List,
 use Rattle.std.specs.Prelude.{◌⊎◌, Contains, IsSome, not, ◌&&◌, if◌then◌else◌}
 use Rattle.std.specs.List.{cons_option}
 use Rattle.std.proofs.lemmas.Bool.{eq-eqb}
+use Rattle.dali_lists.proofs.Members.{contains_cases, contains_none}
 use Rattle.dali_geometry.specs.Sizes.{Sizes}
 use Rattle.dali_record.specs.declared.operations.Pending.{Pending}
 use Rattle.dali_record.specs.declared.operations.Block.{Block}
@@ -10,8 +11,8 @@ use Rattle.dali_record.specs.declared.records.Record.{Record}
 use Rattle.dali_record.specs.declared.records.Record.TheVariants.{Begin, Forward, Done, Commit, Ended, Solo, Back}
 use Rattle.dali_record.specs.Legal.{TxnState, Unbegun, Active, Committed, Over, txn_step, txn_next, allowed, dead_of, freed, freeing_op, is_of, is_level, is_none_left, IsLegalFor}
 use Rattle.dali_record.specs.Log.{commit_by, committed}
+use Rattle.dali_record.proofs.Survivors.{commit_is}
 use Rattle.dali_served.specs.Served.{Once}
-use Rattle.dali_served.proofs.Lists.{among, none_in}
 
 abbrev IsPast : TxnState → Type 0
 IsPast (Committed ps) = Unit {0}
@@ -89,21 +90,17 @@ next s t x r K is = by_state (txn_step s t x r) refl is
     by_state None e h = absurd (none_stays s t K h)
     by_state (Some y) e h = record { state = y; is = e; leads = h }
 
-is_commit : (r : Record) (u : ℕ) → commit_by r ≡ Some u → r ≡ Commit u
-is_commit (Commit v) u e = let same : v ≡ u = cc in ap Commit same
-is_commit r u e = absurd cc
-
 -- one more in front
 in_front : (o : Option ℕ) (ts : List ℕ) (t : ℕ) → Contains (cons_option o ts) t → (o ≡ Some t) ⊎ Contains ts t
 in_front None ts t h = inr h
-in_front (Some u) ts t h = ⊎_elim (λ e. inl (ap (λ (x : ℕ). Some x) e)) (λ g. inr g) (among u t ts h)
+in_front (Some u) ts t h = ⊎_elim (λ e. inl (ap (λ (x : ℕ). Some x) e)) (λ g. inr g) (contains_cases u t ts h)
 
 past_never : (s : Sizes) (t : ℕ) (K : List Record) (x : TxnState) → IsPast x → IsSome (fold (txn_next s t) (Some x) K) → Contains (committed K) t → ⊥
-past_never s t [] x past is has = none_in t has
+past_never s t [] x past is has = contains_none t has
 past_never s t (r ∷ K) x past is has =
     let n = next s t x r K is in
     ⊎_elim
-    (λ e. let none : Some n.state ≡ None = sym n.is ∙ (ap (txn_step s t x) (is_commit r t e) ∙ not_again s t x past) in absurd cc)
+    (λ e. let none : Some n.state ≡ None = sym n.is ∙ (ap (txn_step s t x) (commit_is r t e) ∙ not_again s t x past) in absurd cc)
     (λ h. past_never s t K n.state (subst StaysPast n.is (past_stays s t x r past)) n.leads h)
     (in_front (commit_by r) (committed K) t has)
 
@@ -115,7 +112,7 @@ once_from : (s : Sizes) (K : List Record) → ((t : ℕ) → (x : TxnState) × I
 once_from s [] all = tt
 once_from s (r ∷ K) all =
     once_front (commit_by r) (committed K)
-    (λ t e h. let n = next s t (all t).0 r K (all t).1 in past_never s t K n.state (subst StaysPast (ap (txn_step s t (all t).0) (sym (is_commit r t e)) ∙ n.is) (commits_past s t (all t).0)) n.leads h)
+    (λ t e h. let n = next s t (all t).0 r K (all t).1 in past_never s t K n.state (subst StaysPast (ap (txn_step s t (all t).0) (sym (commit_is r t e)) ∙ n.is) (commits_past s t (all t).0)) n.leads h)
     (once_from s K (λ t. let n = next s t (all t).0 r K (all t).1 in (n.state, n.leads)))
 
 pub commits_once : (s : Sizes) (K : List Record) → IsLegalFor s K → Once (committed K)

@@ -1,9 +1,10 @@
 -- No more inserts are answered than the clients of a round are told.
 use Rattle.std.proofs.Common.{◌≡◌, ℕ, ◌+◌, ◌≤◌, ◌==◌, Bool, true, false, cond, List, [], ◌∷◌, length, Some, None, refl, sym, ◌∙◌, ap, subst, arith}
-use Rattle.std.specs.Prelude.{◌&&◌, Contains, filter, if◌then◌else◌, sum_by}
+use Rattle.std.specs.Prelude.{Contains, filter, if◌then◌else◌, sum_by}
 use Rattle.std.specs.List.{list_all, cons_option}
-use Rattle.std.proofs.lemmas.Bool.{ne_eqb, eqb-true, eq-eqb}
+use Rattle.std.proofs.lemmas.Bool.{ne_eqb, eqb-true, eq-eqb, and_parts}
 use Rattle.std.proofs.lemmas.List.Sums.{sum_by-cons}
+use Rattle.dali_lists.proofs.Members.{contains_first, contains_more}
 use Rattle.dali_record.specs.declared.records.Answer.{Answer}
 use Rattle.dali_record.specs.declared.records.Call.{Call}
 use Rattle.dali_record.specs.declared.records.Record.{Record}
@@ -13,11 +14,7 @@ use Rattle.dali_room.specs.Room.{is_insert, inserts_of}
 use Rattle.dali_transcripts.specs.World.{Deed, Logs, Happening, logged_by}
 use Rattle.dali_transcripts.specs.Transcripts.{owned_one, owned, count_with, Told, is_among}
 use Rattle.dali_served.specs.Served.{Once}
-use Rattle.dali_served.proofs.Lists.{first_in, later_in}
 use Rattle.dali_served.proofs.Whole.{answers_insert, insert_answers}
-
-same_of : (m n : ℕ) → (m == n) ≡ true → m ≡ n
-same_of m n e = eqb-true m n e
 
 turned : (m n : ℕ) → (m == n) ≡ true → (n == m) ≡ true
 turned m n e = eq-eqb n m (sym (eqb-true m n e))
@@ -66,7 +63,7 @@ answered_step r L = longer (answered r) r (filter answered L)
 -- one of different numbers at most
 gives_none : (r : Record) (ts : List ℕ) → ((t : ℕ) → Contains ts t → gives t r ≡ 0) → sum_by (λ t. gives t r) ts ≡ 0
 gives_none r [] none = refl
-gives_none r (t ∷ ts) none = omega (arith, sum_by-cons (λ u. gives u r) t ts, none t (first_in t ts), gives_none r ts (λ u h. none u (later_in t u ts h)))
+gives_none r (t ∷ ts) none = omega (arith, sum_by-cons (λ u. gives u r) t ts, none t (contains_first t ts), gives_none r ts (λ u h. none u (contains_more t u ts h)))
 
 gives_once : (r : Record) (ts : List ℕ) → Once ts → sum_by (λ t. gives t r) ts ≤ gives_most r
 unfolding gives gives_most
@@ -75,7 +72,7 @@ gives_once (Done u call a) (t ∷ ts) once = omega (arith, sum_by-cons (λ v. gi
   where
     by_test : sum_by (λ v. gives v (Done u call a)) ts ≤ one (is_insert call) → (b : Bool) → (u == t) ≡ b → (if b then one (is_insert call) else 0) + sum_by (λ v. gives v (Done u call a)) ts ≤ one (is_insert call)
     by_test later true e =
-        let same : u ≡ t = same_of u t e in
+        let same : u ≡ t = eqb-true u t e in
         let rest : sum_by (λ v. gives v (Done u call a)) ts ≡ 0 = gives_none (Done u call a) ts (λ v has. ap (λ (b : Bool). if b then one (is_insert call) else 0) (ne_eqb u v (λ f. once.0 (subst (Contains ts) (sym f ∙ same) has)))) in
         omega (arith, rest)
     by_test later false e = omega (arith, later)
@@ -99,10 +96,6 @@ few_inserts ts (r ∷ L) once =
     omega (arith, all, first, rest, step)
 
 -- ---- by clients
-both_true : (a b : Bool) → (a && b) ≡ true → (a ≡ true) × (b ≡ true)
-both_true true true e = (refl, refl)
-both_true true false e = absurd cc
-both_true false b e = absurd cc
 
 adds : Bool → Deed → ℕ
 adds true x = one (answers_insert (0, x))
@@ -143,7 +136,7 @@ some_adds (b ∷ bs) x is = omega (arith, sum_by-cons (λ (d : Told). adds (x.1 
 pub all_counted : (bs : List Told) (n : ℕ) (xs : List Happening) → list_all (λ (x : Happening). is_among bs x.1) xs ≡ true → all_answered (logged_by xs) ≤ sum_by (λ (b : Told). insert_answers (owned b.client n xs)) bs
 all_counted bs n [] all = omega arith
 all_counted bs n (x ∷ xs) all =
-    let parts = both_true (is_among bs x.1) (list_all (λ (y : Happening). is_among bs y.1) xs) all in
+    let parts = and_parts (is_among bs x.1) (list_all (λ (y : Happening). is_among bs y.1) xs) all in
     let sum = blocks_both (λ (b : Told). insert_answers (owned b.client n (x ∷ xs))) (λ (b : Told). adds (x.1 == b.client) x.0) (λ (b : Told). insert_answers (owned b.client (count_with n x.0) xs)) bs (λ b. owned_step b.client n x xs) in
     let first = some_adds bs x parts.0 in
     let rest = all_counted bs (count_with n x.0) xs parts.1 in

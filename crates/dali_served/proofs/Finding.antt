@@ -11,15 +11,6 @@ use Rattle.dali_transcripts.specs.Moves.{Receipt}
 use Rattle.dali_transcripts.specs.Transcripts.{owned_one, owned, count_with}
 
 -- ---- members
-pub there : {X : Type 0} (xs : List X) (x : X) → Contains xs x → (j : ℕ) × (slice_get xs j ≡ Some x)
-there [] x h = absurd (omega (arith, h.1))
-there (y ∷ ys) x (zero, l, e) = (0, ap (λ z. Some z) e)
-there (y ∷ ys) x (suc k, l, e) = let later = there ys x (k, omega (arith, l), e) in (suc later.0, later.1)
-
-pub within : {X : Type 0} (xs : List X) (j : ℕ) (x : X) → slice_get xs j ≡ Some x → Contains xs x
-within [] j x e = absurd cc
-within (y ∷ ys) zero x e = (0, omega arith, some_same e)
-within (y ∷ ys) (suc j) x e = let later = within ys j x e in (suc later.0, omega (arith, later.1), later.2)
 
 later_in : {X Y : Type 0} (f : X → Option Y) (x : X) (xs : List X) (y : Y) → (z : X) × Contains xs z × (f z ≡ Some y) → (z : X) × Contains (x ∷ xs) z × (f z ≡ Some y)
 later_in f x xs y g = (g.0, (suc g.1.0, omega (arith, g.1.1), g.1.2), g.2)
@@ -30,10 +21,6 @@ got_next f x xs y more None e h = later_in f x xs y (more h)
 got_next f x xs y more (Some u) e (zero, l, is) = (x, (0, omega arith, refl), e ∙ ap (λ z. Some z) is)
 got_next f x xs y more (Some u) e (suc k, l, is) = later_in f x xs y (more (k, omega (arith, l), is))
 
-pub got_from : {X Y : Type 0} (f : X → Option Y) (xs : List X) (y : Y) → Contains (filter_map f xs) y → (x : X) × Contains xs x × (f x ≡ Some y)
-got_from f [] y h = absurd (omega (arith, h.1))
-got_from f (x ∷ xs) y h = got_next f x xs y (got_from f xs y) (f x) refl h
-
 into_first : {Y : Type 0} (o : Option Y) (ys : List Y) (y : Y) → o ≡ Some y → Contains (cons_option o ys) y
 into_first None ys y e = absurd cc
 into_first (Some u) ys y e = (0, omega arith, some_same e)
@@ -41,11 +28,6 @@ into_first (Some u) ys y e = (0, omega arith, some_same e)
 into_later : {Y : Type 0} (o : Option Y) (ys : List Y) (y : Y) → Contains ys y → Contains (cons_option o ys) y
 into_later None ys y g = g
 into_later (Some u) ys y g = (suc g.0, omega (arith, g.1), g.2)
-
-pub goes_into : {X Y : Type 0} (f : X → Option Y) (xs : List X) (x : X) (y : Y) → Contains xs x → f x ≡ Some y → Contains (filter_map f xs) y
-goes_into f [] x y h e = absurd (omega (arith, h.1))
-goes_into f (z ∷ xs) x y (zero, l, is) e = into_first (f z) (filter_map f xs) y (ap f is ∙ e)
-goes_into f (z ∷ xs) x y (suc k, l, is) e = into_later (f z) (filter_map f xs) y (goes_into f xs x y (k, omega (arith, l), is) e)
 
 pub all_there : {X : Type 0} (P : X → Type 0) (xs : List X) → ((j : ℕ) (x : X) → slice_get xs j ≡ Some x → P x) → AllByRecursion P xs
 all_there P [] h = tt

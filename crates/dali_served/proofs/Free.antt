@@ -5,15 +5,18 @@ use Rattle.std.specs.List.{list_all, AllByRecursion}
 use Rattle.std.proofs.lemmas.Bool.{eqb-true}
 use Rattle.std.proofs.lemmas.List.{append-nil}
 use Rattle.std.proofs.lemmas.List.Sums.{fold-append}
+use Rattle.dali_lists.proofs.Members.{contains_from_get}
 use Rattle.dali_record.specs.declared.records.Answer.{Answer}
-use Rattle.dali_record.specs.declared.records.Answer.TheVariants.{Ok as AnswerOk, Exists, Missing, Got, FullHeap, FullIndex, Odd}
+use Rattle.dali_record.specs.declared.records.Answer.TheVariants.{FullHeap, FullIndex}
 use Rattle.dali_record.specs.declared.records.Call.{Call}
 use Rattle.dali_record.specs.declared.records.Record.{Record}
 use Rattle.dali_record.specs.declared.records.Record.TheVariants.{Format, Begin, Done, Commit, AuditFail, Restarted}
 use Rattle.dali_record.specs.Epochs.{Cut, cut_step, cut, last_epoch, failing, failing_step}
 use Rattle.dali_record.specs.Legal.{sizes_of}
 use Rattle.dali_record.specs.Log.{begin_by, begun, commit_by, committed}
+use Rattle.dali_record.proofs.Survivors.{begin_is}
 use Rattle.dali_history.specs.History.{IsHistory}
+use Rattle.dali_history.proofs.Places.{get_from_Contains}
 use Rattle.dali_room.specs.Room.{inserts, IsPlain, AllAnswer}
 use Rattle.dali_system.specs.Run.{first_of, fail_step, failed_first}
 use Rattle.dali_system.specs.State.{CoreState, TxnRow, row_of, state_in, state_of}
@@ -26,6 +29,7 @@ use Rattle.dali_transcripts.specs.Laws.{IsIn}
 use Rattle.dali_transcripts.proofs.Lists.{all_get}
 use Rattle.dali_transcripts.proofs.Owned.{each_is_owned, owned_by_one, own_ascend}
 use Rattle.dali_room.proofs.Plain as plain
+use Rattle.dali_room.proofs.Counting.{from_filter_map, in_filter_map}
 use Rattle.dali_served.specs.Served.{has_room, is_served, AllServed, acts_of, AreTold}
 use Rattle.dali_served.specs.Steady.{is_answered, steady_by, IsNoDeath, IsAlone}
 use Rattle.dali_served.specs.Apart.{AreAtHome}
@@ -37,7 +41,7 @@ use Rattle.dali_served.proofs.Begins.{one_begin}
 use Rattle.dali_served.proofs.Calm.{IsCalm, Made, all_made}
 use Rattle.dali_served.proofs.Commits.{commits_once}
 use Rattle.dali_served.proofs.Counted.{all_answered, few_inserts, all_counted, blocks_same}
-use Rattle.dali_served.proofs.Finding.{there, within, got_from, goes_into, all_there, logged_is, got_owned, beginner, began_there}
+use Rattle.dali_served.proofs.Finding.{all_there, logged_is, got_owned, beginner, began_there}
 use Rattle.dali_served.proofs.Law.{none_of}
 use Rattle.dali_served.proofs.Roomy.{HasRooms, path_served}
 use Rattle.dali_served.proofs.Steady.{own_is_steady}
@@ -121,18 +125,10 @@ committed_is : (x : Receipt) (t : ℕ) → commit_in x ≡ Some t → x ≡ (x.0
 committed_is (n, Logs (Commit u)) t e = let same : u ≡ t = cc in ap (λ v. (n, Logs (Commit v))) same
 committed_is x t e = absurd cc
 
-begin_is : (r : Record) (t : ℕ) → begin_by r ≡ Some t → r ≡ Begin t
-begin_is (Begin u) t e = let same : u ≡ t = cc in ap Begin same
-begin_is r t e = absurd cc
-
 room_of : (L : List Record) (t : ℕ) (call : Call) (a : Answer) → Contains L (Done t call a) → (Contains L (Done t call FullHeap) → ⊥) → (Contains L (Done t call FullIndex) → ⊥) → has_room a ≡ true
 room_of L t call FullHeap has heap index = absurd (heap has)
 room_of L t call FullIndex has heap index = absurd (index has)
-room_of L t call AnswerOk has heap index = refl
-room_of L t call Exists has heap index = refl
-room_of L t call Missing has heap index = refl
-room_of L t call (Got v) has heap index = refl
-room_of L t call (Odd p) has heap index = refl
+room_of L t call _ has heap index = refl
 
 module _ (before : List Record) (old new : CoreState) (blocks : List Told) (lines : List (List Said)) (receipts : List (List ℕ)) (calls : ℕ → List (List Call)) (home : ℕ → ℕ) (i h : ℕ)
     (round : IsRound false true before old new blocks lines receipts) (format : round.world.before ≡ Format i h ∷ []) (rows : HasNoRows old) (history : IsHistory (log_of round.world))
@@ -250,15 +246,15 @@ module _ (before : List Record) (old new : CoreState) (blocks : List Told) (line
 
   commits : (t : ℕ) → Contains (begun L) t → Contains (committed L) t
   commits t has =
-      let (r, there_r, is_r) = got_from begin_by (logged_by F) t (subst (λ l. Contains (begun l) t) log_is has) in
-      let (z, there_z, is_z) = got_from record_of F r there_r in
-      let (j, at_j) = there F z there_z in
+      let (r, there_r, is_r) = from_filter_map begin_by (logged_by F) t (subst (λ l. Contains (begun l) t) log_is has) in
+      let (z, there_z, is_z) = from_filter_map record_of F r there_r in
+      let (j, at_j) = get_from_Contains F z there_z in
       let same : z ≡ (Logs (Begin t), z.1) = logged_is z r is_z ∙ ap (λ x. (Logs x, z.1)) (begin_is r t is_r) in
       let owned_z = each_is_owned z.1 (length w.before) F j (Logs (Begin t)) (at_j ∙ ap (λ x. Some x) same) in
-      let begun_z : Contains (begun_in (deeds_of w z.1)) t = goes_into begin_in (deeds_of w z.1) _ t owned_z refl in
-      let (x, there_x, is_x) = got_from commit_in (deeds_of w z.1) t (subst (λ l. Contains l t) (whole z.1).closed begun_z) in
+      let begun_z : Contains (begun_in (deeds_of w z.1)) t = in_filter_map begin_in (deeds_of w z.1) _ t owned_z refl in
+      let (x, there_x, is_x) = from_filter_map commit_in (deeds_of w z.1) t (subst (λ l. Contains l t) (whole z.1).closed begun_z) in
       let logged = in_log z.1 x.0 (Commit t) (subst (Contains (deeds_of w z.1)) (committed_is x t is_x) there_x) in
-      goes_into commit_by L (Commit t) t (within L x.0 (Commit t) logged) refl
+      in_filter_map commit_by L (Commit t) t (contains_from_get L x.0 (Commit t) logged) refl
 
   -- whose a transaction is
   alone : (t : ℕ) → AllByRecursion (IsAlone t (beginner t F)) F
@@ -275,7 +271,7 @@ module _ (before : List Record) (old new : CoreState) (blocks : List Told) (line
       by_deed : (j d : ℕ) (x : Deed) → slice_get F j ≡ Some (x, d) → IsAlone t (beginner t F) (x, d)
       by_deed j d (Logs r) e = λ is.
           let has : Contains (begun_in (deeds_of w d)) t = all_get (IsOfThese (begun_in (deeds_of w d))) (deeds_of w d) _ (whole d).of (each_is_owned d (length w.before) F j (Logs r) e) t is in
-          let (x, there_x, is_x) = got_from begin_in (deeds_of w d) t has in
+          let (x, there_x, is_x) = from_filter_map begin_in (deeds_of w d) t has in
           begins_by d x.0 (subst (Contains (deeds_of w d)) (begun_is x t is_x) there_x)
       by_deed j d x e = tt
 
@@ -304,7 +300,7 @@ module _ (before : List Record) (old new : CoreState) (blocks : List Told) (line
 
   rooms : (c : ℕ) → HasRooms (deeds_of w c)
   rooms c n t call a has =
-      let here = within L n (Done t call a) (in_log c n (Done t call a) has) in
+      let here = contains_from_get L n (Done t call a) (in_log c n (Done t call a) has) in
       let none = plain.none_is_full L t call is_plain_log all_answer in
       room_of L t call a here
       (none.0 (subst (λ k. inserts L < 7 * k) (sym (ap (λ l. (sizes_of l).heap) log_is)) (omega (arith, few, heap))))

@@ -9,8 +9,9 @@ use Rattle.dali_record.specs.declared.records.Record.TheVariants.{Commit}
 use Rattle.dali_transcripts.specs.World.{Logs, Happening, logged_by}
 use Rattle.dali_transcripts.specs.Moves.{Receipt}
 use Rattle.dali_transcripts.specs.Transcripts.{owned}
+use Rattle.dali_transcripts.proofs.Rounds.{owned_append}
 use Rattle.dali_served.proofs.Marks.{is_mark, marks, Marks}
-use Rattle.dali_served.proofs.Owners.{owned_append, high}
+use Rattle.dali_served.proofs.Owners.{high}
 
 abbrev Ends : ℕ → List Receipt → Type 0
 Ends f [] = Unit {0}

@@ -1,5 +1,5 @@
 -- A generated round is one of whole transactions, whose clients call their own keys, and it has room for its inserts.
-use Rattle.std.proofs.Common.{◌≡◌, ℕ, zero, suc, ◌+◌, ◌-◌, ◌*◌, ◌/◌, ◌%◌, ◌<◌, ◌≤◌, ◌==◌, ◌&&◌, Bool, true, false, cond, leb, List, [], ◌∷◌, length, map, refl, sym, ◌∙◌, ap, subst, arith}
+use Rattle.std.proofs.Common.{◌≡◌, ℕ, zero, suc, ◌+◌, ◌-◌, ◌*◌, ◌/◌, ◌%◌, ◌<◌, ◌≤◌, ◌==◌, Bool, true, false, List, [], ◌∷◌, length, map, refl, sym, ◌∙◌, ap, subst, arith}
 use Rattle.std.specs.Prelude.{filter, flat_map}
 use Rattle.std.specs.List.{range_with_len, AllByRecursion}
 use Rattle.std.proofs.lemmas.List.{length-append}
@@ -14,6 +14,7 @@ use Rattle.dali_transcripts.specs.Transcripts.{Told}
 use Rattle.dali_generator.specs.Generated.{draw, key_of, value_of, index_regions, heap_regions}
 use Rattle.dali_generator.specs.Left.{calls_at, transactions_of}
 use Rattle.dali_generator.proofs.Steps.{second_in, calls_two}
+use Rattle.dali_generator.proofs.Along.{size_below}
 use Rattle.dali_served.specs.Free.{inserts_in, told_inserts}
 use Rattle.dali_served.specs.Generates.{calls_told, GeneratedAreServed}
 use Rattle.dali_served.proofs.Free.{rounds_are_served}
@@ -41,14 +42,6 @@ calls_home number c i below =
 all_home : (number c n a : ℕ) → a + n ≤ 1000000 → AllByRecursion (λ (cs : List Call). AllByRecursion (λ (call : Call). home (key_in call) ≡ c) cs) (map (calls_at number c) (range_with_len a n))
 all_home number c zero a below = tt
 all_home number c (suc n) a below = (calls_home number c a (omega (arith, below)), all_home number c n (a + 1) (omega (arith, below)))
-
-size_below : (clients size c : ℕ) → transactions_of clients size c ≤ size
-size_below clients size c = chosen (leb 1 c) (leb c clients)
-  where
-    chosen : (x y : Bool) → cond (x && y) size 0 ≤ size
-    chosen true true = omega arith
-    chosen true false = omega arith
-    chosen false y = omega arith
 
 -- ---- how many inserts they are told
 second_none : (k : ℕ) (v : List ℕ) (first a b d : Bool) → filter is_insert (second_in first a b d k v) ≡ []

@@ -1,26 +1,26 @@
 -- Each insert of a generated round is answered ok, where room was found for it.
-use Rattle.std.proofs.Common.{◌≡◌, ◌≢◌, ℕ, zero, suc, ◌+◌, ◌-◌, ◌<◌, ◌≤◌, ◌%◌, ◌==◌, ◌&&◌, Bool, true, false, cond, leb, List, [], ◌∷◌, ◌++◌, length, map, Option, Some, None, refl, sym, ◌∙◌, ap, subst, arith, inl, inr, ⊎_elim}
+use Rattle.std.proofs.Common.{◌≡◌, ◌≢◌, ℕ, zero, suc, ◌+◌, ◌-◌, ◌<◌, ◌%◌, ◌==◌, Bool, true, false, cond, List, [], ◌∷◌, ◌++◌, length, map, Option, Some, None, refl, sym, ◌∙◌, ap, subst, arith, inl, inr, ⊎_elim}
 use Rattle.std.specs.Prelude.{◌⊎◌, Contains, filter}
 use Rattle.std.specs.List.{range_with_len, AllByRecursion}
 use Rattle.std.proofs.lemmas.Bool.{eq-eqb, ne_eqb, cases_eq}
 use Rattle.std.proofs.lemmas.List.Elements.{filter-append}
-use Rattle.std.proofs.lemmas.List.Sums.{fold-append}
+use Rattle.dali_lists.proofs.Members.{contains_cases, contains_first, contains_more}
 use Rattle.dali_record.specs.declared.records.Call.{Call}
 use Rattle.dali_record.specs.declared.records.Call.TheVariants as calls
 use Rattle.dali_record.specs.declared.records.Answer.{Answer}
 use Rattle.dali_record.specs.declared.records.Answer.TheVariants.{Ok as AnswerOk, Missing, FullHeap, FullIndex}
 use Rattle.dali_record.specs.declared.records.Record.{Record}
 use Rattle.dali_record.specs.Log.{calls_of}
-use Rattle.dali_history.specs.Serial.{Map, empty_map, serial, call_key, value_after, value_step, values_after, on_key, calls_in_order}
-use Rattle.dali_history.proofs.ByKey.{serial-calls, calls_after-each}
+use Rattle.dali_history.specs.Serial.{Map, empty_map, serial, call_key, value_after, values_after, on_key, calls_in_order}
+use Rattle.dali_history.proofs.ByKey.{serial-calls, calls_after-each, no_value_stays}
 use Rattle.dali_generator.specs.Generated.{AreWithin, draw, key_of, value_of}
 use Rattle.dali_generator.specs.Left.{calls_at, transactions_of, inserted_by, IsInserted, HaveRun}
 use Rattle.dali_generator.proofs.Ranges.{at}
 use Rattle.dali_generator.proofs.Steps.{second_in, second_at, calls_two}
+use Rattle.dali_generator.proofs.Along.{between, size_below}
 use Rattle.dali_served.specs.Served.{has_room, HaveMade}
 use Rattle.dali_served.specs.Generates.{calls_told}
 use Rattle.dali_served.proofs.Answers.{HaveRoom, asked}
-use Rattle.dali_served.proofs.Lists.{among, first_in, later_in}
 
 -- ---- calls that insert nothing
 abbrev inserts : Call → Bool
@@ -55,22 +55,6 @@ all_inserted [] all = tt
 all_inserted (p ∷ ps) all = (one_inserted p.0 p.1 all.0, all_inserted ps all.1)
 
 -- ---- where nothing stands, such calls leave nothing
-no_value : (cs : List (Call × Answer)) → values_after None cs ≡ None
-no_value [] = refl
-no_value (p ∷ cs) = no_value cs
-
-between : (s o : Option (List ℕ)) (cs ds : List (Call × Answer)) → values_after (Some s) (cs ++ ds) ≡ Some o
-    → (u : Option (List ℕ)) × ((values_after (Some s) cs ≡ Some u) × (values_after (Some u) ds ≡ Some o))
-between s o cs ds e = by_value (values_after (Some s) cs) refl
-  where
-    split : values_after (values_after (Some s) cs) ds ≡ Some o
-    split = sym (fold-append value_step (Some s) cs ds) ∙ e
-
-    by_value : (v : Option (Option (List ℕ))) → values_after (Some s) cs ≡ v → (u : Option (List ℕ)) × ((values_after (Some s) cs ≡ Some u) × (values_after (Some u) ds ≡ Some o))
-    by_value None f =
-        let never : None ≡ Some o = sym (no_value ds) ∙ ap (λ w. values_after w ds) (sym f) ∙ split in
-        absurd cc
-    by_value (Some u) f = (u, (f, ap (λ w. values_after w ds) (sym f) ∙ split))
 
 leaves_none : (c : Call) (a : Answer) (u : Option (List ℕ)) → inserts c ≡ false → value_after None c a ≡ Some u → u ≡ None
 leaves_none (calls.Insert k v) a u e f = absurd cc
@@ -86,7 +70,7 @@ all_leave [] u all e = let same : None ≡ u = cc in sym same
 all_leave (p ∷ cs) u all e = by_value (λ g. all_leave cs u all.1 g) (value_after None p.0 p.1) refl e
   where
     by_value : (values_after (Some None) cs ≡ Some u → u ≡ None) → (o : Option (Option (List ℕ))) → value_after None p.0 p.1 ≡ o → values_after o cs ≡ Some u → u ≡ None
-    by_value ih None f g = let never : None ≡ Some u = sym (no_value cs) ∙ g in absurd cc
+    by_value ih None f g = let never : None ≡ Some u = sym (no_value_stays cs) ∙ g in absurd cc
     by_value ih (Some w) f g = ih (subst (λ x. values_after (Some x) cs ≡ Some u) (leaves_none p.0 p.1 w all.0 f) g)
 
 -- ---- the calls of one transaction
@@ -129,7 +113,7 @@ is_ok : (v : List ℕ) (a : Answer) (cs : List (Call × Answer)) (k : ℕ) (o : 
 is_ok v AnswerOk cs k o room e = refl
 is_ok v FullHeap cs k o room e = absurd cc
 is_ok v FullIndex cs k o room e = absurd cc
-is_ok v a cs k o room e = let never : None ≡ Some o = sym (no_value cs) ∙ e in absurd cc
+is_ok v a cs k o room e = let never : None ≡ Some o = sym (no_value_stays cs) ∙ e in absurd cc
 
 own_ok : (number c i : ℕ) (cs ds : List (Call × Answer)) (p : Parts number c i cs) (o : Option (List ℕ)) → has_room p.answer ≡ true
     → values_after (Some None) (on_key (key_of c i) (cs ++ ds)) ≡ Some o → p.answer ≡ AnswerOk
@@ -142,13 +126,6 @@ own_ok number c i cs ds p o room e =
     (subst (λ l. values_after (Some None) l ≡ Some o) (ap (λ l. on_key k (l ++ ds)) p.is ∙ all) e)
 
 -- ---- all of them
-size_below : (clients size c : ℕ) → transactions_of clients size c ≤ size
-size_below clients size c = chosen (leb 1 c) (leb c clients)
-  where
-    chosen : (x y : Bool) → cond (x && y) size 0 ≤ size
-    chosen true true = omega arith
-    chosen true false = omega arith
-    chosen false y = omega arith
 
 count_told : {X : Type 0} (f : ℕ → X) (n a : ℕ) → length (map f (range_with_len a n)) ≡ n
 count_told f zero a = refl
@@ -190,20 +167,20 @@ module _ (clients size number : ℕ) (within : AreWithin clients size) (K : List
   ok_along : (t : ℕ) (has : Contains ts t) (us : List ℕ) (o : Option (List ℕ)) → ((u : ℕ) → Contains us u → Contains ts u) → Contains us t
       → values_after (Some None) (on_key (key_of (made.client t) (made.place t)) (calls_in_order us K)) ≡ Some o → (one t has).parts.answer ≡ AnswerOk
   ok_along t has [] o all in_us e = absurd (omega (arith, in_us.1))
-  ok_along t has (u ∷ us) o all in_us e = by_case (λ g h. ok_along t has us o (λ w i. all w (later_in u w us i)) g h) (cases_eq u t)
+  ok_along t has (u ∷ us) o all in_us e = by_case (λ g h. ok_along t has us o (λ w i. all w (contains_more u w us i)) g h) (cases_eq u t)
     where
       k : ℕ
       k = key_of (made.client t) (made.place t)
 
       behind : u ≢ t → Contains us t
-      behind differ = ⊎_elim (λ same. absurd (differ same)) (λ h. h) (among u t us in_us)
+      behind differ = ⊎_elim (λ same. absurd (differ same)) (λ h. h) (contains_cases u t us in_us)
 
       by_case : (Contains us t → values_after (Some None) (on_key k (calls_in_order us K)) ≡ Some o → (one t has).parts.answer ≡ AnswerOk) → (u ≡ t) ⊎ (u ≢ t) → (one t has).parts.answer ≡ AnswerOk
       by_case ih (inl same) =
           own_ok number (made.client t) (made.place t) (calls_of t K) (calls_in_order us K) (one t has).parts o (room_of t (one t has))
           (subst (λ x. values_after (Some None) (on_key k (calls_of x K ++ calls_in_order us K)) ≡ Some o) same e)
       by_case ih (inr differ) =
-          let also = all u (first_in u us) in
+          let also = all u (contains_first u us) in
           let split : values_after (Some None) (on_key k (calls_of u K) ++ on_key k (calls_in_order us K)) ≡ Some o =
           subst (λ l. values_after (Some None) l ≡ Some o) (filter-append (λ p. call_key p.0 == k) (calls_of u K) (calls_in_order us K)) e in
           let mid = between None o (on_key k (calls_of u K)) (on_key k (calls_in_order us K)) split in

@@ -1,8 +1,8 @@
 -- What a round that served all leaves.
 use Rattle.std.proofs.Common.{◌≡◌, ℕ, suc, ◌+◌, ◌-◌, ◌<◌, ◌≤◌, ◌==◌, Bool, true, false, List, [], ◌∷◌, ◌++◌, length, take, Some, refl, sym, ◌∙◌, ap, subst, arith, ⊎_elim}
-use Rattle.std.specs.Prelude.{◌&&◌, Contains, slice_get, if◌then◌else◌}
+use Rattle.std.specs.Prelude.{Contains, slice_get, if◌then◌else◌}
 use Rattle.std.specs.List.{list_all, AllByRecursion}
-use Rattle.std.proofs.lemmas.Bool.{cases_lt, ne_eqb, eqb-true}
+use Rattle.std.proofs.lemmas.Bool.{cases_lt, ne_eqb, eqb-true, and_parts}
 use Rattle.std.proofs.lemmas.List.{append-nil, append_assoc, length-append, take_all, take-append-le}
 use Rattle.std.proofs.lemmas.List.Elements.{All-contains, All-from_recursion, filter_map-append}
 use Rattle.dali_record.specs.declared.records.Call.{Call}
@@ -15,11 +15,12 @@ use Rattle.dali_transcripts.specs.Words.{Said}
 use Rattle.dali_transcripts.specs.World.{World, Happening, record_of, logged_by, log_of}
 use Rattle.dali_transcripts.specs.Moves.{Receipt, at, start}
 use Rattle.dali_transcripts.specs.Transcripts.{IsPath, IsTranscript, own_by, owned, owned_one, count_with, deeds_of, Told, EachTells, is_among}
+use Rattle.dali_transcripts.proofs.Rounds.{owned_append}
 use Rattle.dali_served.specs.Served.{is_served, AllServed, acts_of, HaveMade, IsFront, Once, ServedRounds}
 use Rattle.dali_served.proofs.Marks.{marks, Marks, NoAlarm, all_marked}
 use Rattle.dali_served.proofs.Commits.{commits_once}
 use Rattle.dali_served.proofs.Fronts.{front_marked}
-use Rattle.dali_served.proofs.Owners.{fails, none_fails, owned_append, cut_at}
+use Rattle.dali_served.proofs.Owners.{fails, none_fails, cut_at}
 use Rattle.dali_served.proofs.Made.{have_made}
 
 -- ---- each client
@@ -47,16 +48,10 @@ module _ (w : World) (calls : ℕ → List (List Call)) where
   among [] (lines ∷ ls) tells served acts c is = absurd tells
   among (b ∷ bs) [] tells served acts c is = absurd tells
 
--- who isn't among them did nothing
-both_true : (a b : Bool) → (a && b) ≡ true → (a ≡ true) × (b ≡ true)
-both_true true true e = (refl, refl)
-both_true true false e = absurd cc
-both_true false b e = absurd cc
-
 pub none_of : (bs : List Told) (c n : ℕ) (xs : List Happening) → list_all (λ (x : Happening). is_among bs x.1) xs ≡ true → is_among bs c ≡ false → owned c n xs ≡ []
 none_of bs c n [] all none = refl
 none_of bs c n (x ∷ xs) all none =
-    let here = both_true (is_among bs x.1) (list_all (λ (y : Happening). is_among bs y.1) xs) all in
+    let here = and_parts (is_among bs x.1) (list_all (λ (y : Happening). is_among bs y.1) xs) all in
     let other : (x.1 == c) ≡ false = ne_eqb x.1 c (λ e. let never : true ≡ false = sym here.0 ∙ (ap (is_among bs) e ∙ none) in absurd cc) in
     ap (λ b. owned_one b (n, x.0) (owned c (count_with n x.0) xs)) other ∙ none_of bs c (count_with n x.0) xs here.1 none
 

@@ -2,25 +2,14 @@
 --     index_in us t        where t stands
 --     owner_in ps t        whom t belongs to
 --     owned_by c ps        what belongs to c
-use Rattle.std.proofs.Common.{◌≡◌, ℕ, zero, suc, ◌+◌, ◌==◌, Bool, true, false, cond, List, [], ◌∷◌, length, map, Some, refl, sym, ◌∙◌, ap, subst, arith, inl, inr, ⊎_elim}
+use Rattle.std.proofs.Common.{◌≡◌, ℕ, suc, ◌+◌, ◌==◌, Bool, true, false, cond, List, [], ◌∷◌, length, map, Some, refl, sym, ◌∙◌, ap, subst, arith, ⊎_elim}
 use Rattle.std.specs.Prelude.{◌⊎◌, Contains, filter, if◌then◌else◌, slice_get}
 use Rattle.std.specs.List.{range_with_len}
 use Rattle.std.proofs.lemmas.Bool.{eqb-true, eq-eqb, ne_eqb}
+use Rattle.dali_lists.proofs.Members.{contains_first, contains_more, contains_cases, contains_none}
 use Rattle.dali_served.specs.Served.{Once}
 
 -- ---- members
-pub first_in : (x : ℕ) (xs : List ℕ) → Contains (x ∷ xs) x
-first_in x xs = (0, omega arith, refl)
-
-pub later_in : (x k : ℕ) (xs : List ℕ) → Contains xs k → Contains (x ∷ xs) k
-later_in x k xs h = (suc h.0, omega (arith, h.1), h.2)
-
-pub among : (x k : ℕ) (xs : List ℕ) → Contains (x ∷ xs) k → (x ≡ k) ⊎ Contains xs k
-among x k xs (zero, l, e) = inl e
-among x k xs (suc j, l, e) = inr (j, omega (arith, l), e)
-
-pub none_in : (k : ℕ) → Contains [] k → ⊥
-none_in k h = omega (arith, h.1)
 
 -- what stands once isn't what stands behind it
 pub apart : (x k : ℕ) (xs : List ℕ) → (Contains xs x → ⊥) → Contains xs k → (x == k) ≡ false
@@ -30,13 +19,13 @@ apart x k xs none h = ne_eqb x k (λ e. none (subst (Contains xs) (sym e) h))
 pub map_same : (f g : ℕ → ℕ) (xs : List ℕ) → ((x : ℕ) → Contains xs x → f x ≡ g x) → map f xs ≡ map g xs
 map_same f g [] same = refl
 map_same f g (x ∷ xs) same =
-    ap (λ y. y ∷ map f xs) (same x (first_in x xs)) ∙ ap (λ l. g x ∷ l) (map_same f g xs (λ y h. same y (later_in x y xs h)))
+    ap (λ y. y ∷ map f xs) (same x (contains_first x xs)) ∙ ap (λ l. g x ∷ l) (map_same f g xs (λ y h. same y (contains_more x y xs h)))
 
 pub filter_same : (p q : ℕ → Bool) (xs : List ℕ) → ((x : ℕ) → Contains xs x → p x ≡ q x) → filter p xs ≡ filter q xs
 filter_same p q [] same = refl
 filter_same p q (x ∷ xs) same =
-    ap (λ b. cond b (x ∷ filter p xs) (filter p xs)) (same x (first_in x xs))
-    ∙ ap (λ l. cond (q x) (x ∷ l) l) (filter_same p q xs (λ y h. same y (later_in x y xs h)))
+    ap (λ b. cond b (x ∷ filter p xs) (filter p xs)) (same x (contains_first x xs))
+    ∙ ap (λ l. cond (q x) (x ∷ l) l) (filter_same p q xs (λ y h. same y (contains_more x y xs h)))
 
 -- ---- where a number stands
 abbrev pub index_in : List ℕ → ℕ → ℕ
@@ -57,8 +46,8 @@ pub all_numbered : (us : List ℕ) → Once us → map (index_in us) us ≡ rang
 all_numbered us once = map_same (index_in us) (λ t. 0 + index_in us t) us (λ t h. omega arith) ∙ numbered 0 us once
 
 pub indexed : (us : List ℕ) (t : ℕ) → Contains us t → slice_get us (index_in us t) ≡ Some t
-indexed [] t h = absurd (none_in t h)
-indexed (u ∷ us) t h = ⊎_elim (λ e. let same = eq-eqb u t e in rw same (ap (λ (x : ℕ). Some x) e)) (λ g. by_test (u == t) refl (indexed us t g)) (among u t us h)
+indexed [] t h = absurd (contains_none t h)
+indexed (u ∷ us) t h = ⊎_elim (λ e. let same = eq-eqb u t e in rw same (ap (λ (x : ℕ). Some x) e)) (λ g. by_test (u == t) refl (indexed us t g)) (contains_cases u t us h)
   where
     by_test : (b : Bool) → (u == t) ≡ b → slice_get us (index_in us t) ≡ Some t → slice_get (u ∷ us) (index_in (u ∷ us) t) ≡ Some t
     by_test true e g = let same : u ≡ t = eqb-true u t e in rw e (ap (λ (x : ℕ). Some x) same)
@@ -92,26 +81,26 @@ by_owner c (p ∷ ps) once =
 
 -- ---- members of a filter
 pub filtered_in : (p : ℕ → Bool) (xs : List ℕ) (t : ℕ) → Contains xs t → p t ≡ true → Contains (filter p xs) t
-filtered_in p [] t h e = absurd (none_in t h)
-filtered_in p (x ∷ xs) t h e = ⊎_elim (λ same. here (p x) (ap p same ∙ e) same) (λ g. behind (p x) (filtered_in p xs t g e)) (among x t xs h)
+filtered_in p [] t h e = absurd (contains_none t h)
+filtered_in p (x ∷ xs) t h e = ⊎_elim (λ same. here (p x) (ap p same ∙ e) same) (λ g. behind (p x) (filtered_in p xs t g e)) (contains_cases x t xs h)
   where
     here : (b : Bool) → b ≡ true → x ≡ t → Contains (cond b (x ∷ filter p xs) (filter p xs)) t
-    here true f same = subst (Contains (x ∷ filter p xs)) same (first_in x (filter p xs))
+    here true f same = subst (Contains (x ∷ filter p xs)) same (contains_first x (filter p xs))
     here false f same = absurd cc
 
     behind : (b : Bool) → Contains (filter p xs) t → Contains (cond b (x ∷ filter p xs) (filter p xs)) t
-    behind true g = later_in x t (filter p xs) g
+    behind true g = contains_more x t (filter p xs) g
     behind false g = g
 
 pub in_filter : (p : ℕ → Bool) (xs : List ℕ) (t : ℕ) → Contains (filter p xs) t → (p t ≡ true) × Contains xs t
-in_filter p [] t h = absurd (none_in t h)
+in_filter p [] t h = absurd (contains_none t h)
 in_filter p (x ∷ xs) t h = by_test (λ g. in_filter p xs t g) (p x) refl h
   where
     later : (p t ≡ true) × Contains xs t → (p t ≡ true) × Contains (x ∷ xs) t
-    later g = (g.0, later_in x t xs g.1)
+    later g = (g.0, contains_more x t xs g.1)
 
     by_test : (Contains (filter p xs) t → (p t ≡ true) × Contains xs t) → (b : Bool) → p x ≡ b → Contains (cond b (x ∷ filter p xs) (filter p xs)) t → (p t ≡ true) × Contains (x ∷ xs) t
-    by_test ih true e h = ⊎_elim (λ same. (ap p (sym same) ∙ e, subst (Contains (x ∷ xs)) same (first_in x xs))) (λ g. later (ih g)) (among x t (filter p xs) h)
+    by_test ih true e h = ⊎_elim (λ same. (ap p (sym same) ∙ e, subst (Contains (x ∷ xs)) same (contains_first x xs))) (λ g. later (ih g)) (contains_cases x t (filter p xs) h)
     by_test ih false e h = later (ih h)
 
 -- a part of what stands once stands once

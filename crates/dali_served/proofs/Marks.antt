@@ -3,11 +3,12 @@
 --     is_alarm x           the record of an audit that failed
 --     Dones t calls xs     t answered these calls, each with room
 --     Marks f css xs       transactions were begun one after another, each with its calls, and each commit is flushed
-use Rattle.std.proofs.Common.{◌≡◌, ℕ, ◌<◌, Bool, true, false, List, [], ◌∷◌, ◌++◌, ◌&&◌, cond, None, map, refl, sym, ◌∙◌, ap, subst}
+use Rattle.std.proofs.Common.{◌≡◌, ℕ, ◌<◌, Bool, true, false, List, [], ◌∷◌, ◌++◌, cond, None, map, refl, sym, ◌∙◌, ap, subst}
 use Rattle.std.specs.Prelude.{filter}
 use Rattle.std.specs.List.{list_all, AllByRecursion}
 use Rattle.std.proofs.lemmas.List.Concat.{flat_map-cons}
 use Rattle.std.proofs.lemmas.List.Elements.{filter-append}
+use Rattle.std.proofs.lemmas.Bool.{and_parts}
 use Rattle.dali_record.specs.declared.records.Call.{Call}
 use Rattle.dali_record.specs.declared.records.Answer.{Answer}
 use Rattle.dali_record.specs.declared.records.Record.TheVariants.{Forward, Done, Commit, Ended, Solo, AuditFail, Back}
@@ -86,15 +87,11 @@ behind w c t [] h = tt
 behind w c t (x ∷ xs) h = (one_behind w c t x h.0, behind w c t xs h.1)
 
 -- ---- along a path
-both_true : (a b : Bool) → (a && b) ≡ true → (a ≡ true) × (b ≡ true)
-both_true true true e = (refl, refl)
-both_true true false e = absurd cc
-both_true false b e = absurd cc
 
 all_split : (xs ys : List Said) → list_all is_served (xs ++ ys) ≡ true → (list_all is_served xs ≡ true) × (list_all is_served ys ≡ true)
 all_split [] ys e = (refl, e)
 all_split (x ∷ xs) ys e =
-    let one = both_true (is_served x) (list_all is_served (xs ++ ys)) e in
+    let one = and_parts (is_served x) (list_all is_served (xs ++ ys)) e in
     let rest = all_split xs ys one.1 in
     (rw (one.0) rest.0, rest.1)
 

@@ -12,8 +12,7 @@ use Rattle.dali_record.specs.declared.records.Record.TheVariants.{Done, Commit, 
 use Rattle.dali_record.specs.Log.{call_by, calls_of, commit_by, committed}
 use Rattle.dali_transcripts.specs.World.{Logs, Happening, logged_by}
 use Rattle.dali_transcripts.specs.Moves.{Receipt}
-use Rattle.dali_transcripts.specs.Transcripts.{count_with, owned_one, owned}
-use Rattle.dali_transcripts.proofs.Owned.{counts, one_append}
+use Rattle.dali_transcripts.specs.Transcripts.{owned_one, owned}
 use Rattle.dali_served.proofs.Lists.{firsts, owned_by}
 use Rattle.dali_served.proofs.Marks.{is_mark, is_alarm, marks, NoAlarm}
 
@@ -140,12 +139,6 @@ none_fails n ((Logs x, d) ∷ xs) calm =
 none_fails n ((x, d) ∷ xs) calm = none_fails n xs (λ c. alarm_behind (d == c) (n, x) (owned c n xs) (calm c))
 
 -- ---- a front of what happened
-pub owned_append : (c n : ℕ) (xs ys : List Happening) → owned c n (xs ++ ys) ≡ owned c n xs ++ owned c (n + length (logged_by xs)) ys
-owned_append c n [] ys = let at : n ≡ n + 0 = omega arith in ap (λ k. owned c k ys) at
-owned_append c n (x ∷ xs) ys =
-    ap (λ l. owned_one (x.1 == c) (n, x.0) l) (owned_append c (count_with n x.0) xs ys)
-    ∙ (one_append (x.1 == c) (n, x.0) (owned c (count_with n x.0) xs) (owned c (count_with n x.0 + length (logged_by xs)) ys)
-    ∙ ap (λ k. owned_one (x.1 == c) (n, x.0) (owned c (count_with n x.0) xs) ++ owned c k ys) (counts n x xs))
 
 -- numbers behind so many records
 high_one : (m : ℕ) (b : Bool) (x : Receipt) (xs : List Receipt) → m ≤ x.0 → AllByRecursion (λ (y : Receipt). m ≤ y.0) xs → AllByRecursion (λ (y : Receipt). m ≤ y.0) (owned_one b x xs)

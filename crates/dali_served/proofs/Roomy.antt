@@ -1,9 +1,10 @@
 -- Lines of answered calls, for which there was room.
-use Rattle.std.proofs.Common.{◌≡◌, ℕ, Bool, true, false, List, [], ◌∷◌, ◌++◌, refl, sym, ◌∙◌, ap, subst}
+use Rattle.std.proofs.Common.{◌≡◌, ℕ, Bool, true, List, [], ◌∷◌, ◌++◌, refl, sym, ◌∙◌, ap, subst}
 use Rattle.std.specs.Prelude.{◌&&◌, Contains}
 use Rattle.std.specs.List.{list_all}
 use Rattle.std.proofs.lemmas.List.Concat.{flat_map-cons}
-use Rattle.std.proofs.lemmas.List.Elements.{Contains-append_left, Contains-append_right}
+use Rattle.std.proofs.lemmas.List.Elements.{Contains-append_left, Contains-append_right, Contains-push}
+use Rattle.std.proofs.lemmas.Bool.{and_parts}
 use Rattle.dali_record.specs.declared.records.Answer.{Answer}
 use Rattle.dali_record.specs.declared.records.Call.{Call}
 use Rattle.dali_record.specs.declared.records.Record.TheVariants.{Done}
@@ -11,29 +12,23 @@ use Rattle.dali_transcripts.specs.Words.{Said}
 use Rattle.dali_transcripts.specs.World.{Logs}
 use Rattle.dali_transcripts.specs.Moves.{Receipt, TakenBack, LeftBehind, Move, Begins, BeginsAgain, Skips, Rests, Answers, IsArmed, GivesWay, Commits, said, own}
 use Rattle.dali_transcripts.specs.Transcripts.{said_by, own_by}
-use Rattle.dali_transcripts.proofs.Lists.{last_in}
 use Rattle.dali_served.specs.Served.{has_room, is_served}
 use Rattle.dali_served.specs.Steady.{is_answered}
 
 abbrev pub HasRooms : List Receipt → Type 0
 HasRooms xs = (n t : ℕ) (call : Call) (a : Answer) → Contains xs (n, Logs (Done t call a)) → has_room a ≡ true
 
-both_true : (a b : Bool) → (a && b) ≡ true → (a ≡ true) × (b ≡ true)
-both_true true true e = (refl, refl)
-both_true true false e = absurd cc
-both_true false b e = absurd cc
-
 all_split : (p : Said → Bool) (xs ys : List Said) → list_all p (xs ++ ys) ≡ true → (list_all p xs ≡ true) × (list_all p ys ≡ true)
 all_split p [] ys e = (refl, e)
 all_split p (x ∷ xs) ys e =
-    let one = both_true (p x) (list_all p (xs ++ ys)) e in
+    let one = and_parts (p x) (list_all p (xs ++ ys)) e in
     let two = all_split p xs ys one.1 in
     (ap (λ b. b && list_all p xs) one.0 ∙ two.0, two.1)
 
 all_join : (p : Said → Bool) (xs ys : List Said) → list_all p xs ≡ true → list_all p ys ≡ true → list_all p (xs ++ ys) ≡ true
 all_join p [] ys e f = f
 all_join p (x ∷ xs) ys e f =
-    let one = both_true (p x) (list_all p xs) e in
+    let one = and_parts (p x) (list_all p xs) e in
     ap (λ b. b && list_all p (xs ++ ys)) one.0 ∙ all_join p xs ys one.1 f
 
 one_served : (x : Move) → list_all is_answered (said x) ≡ true → HasRooms (own x) → list_all is_served (said x) ≡ true
@@ -42,7 +37,7 @@ one_served (BeginsAgain u n tries held rest) e h = refl
 one_served (Skips s act rest) e h = refl
 one_served (Rests u act rest) e h = refl
 one_served (IsArmed u tries cs d s count rest) e h = refl
-one_served (Answers u tries cs d work n call a rest) e h = ap (λ b. b && true) (h n u call a (last_in work (n, Logs (Done u call a))))
+one_served (Answers u tries cs d work n call a rest) e h = ap (λ b. b && true) (h n u call a (Contains-push work (n, Logs (Done u call a))))
 one_served (Commits u tries cs d n behind rest) e h = refl
 one_served (GivesWay u tries cs d work call f back (TakenBack n) rest) e h = absurd cc
 one_served (GivesWay u tries cs d work call f back (LeftBehind n z) rest) e h = absurd cc

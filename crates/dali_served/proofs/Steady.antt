@@ -1,5 +1,5 @@
 -- What a client's transactions take back they answer.
-use Rattle.std.proofs.Common.{◌≡◌, ℕ, ◌==◌, Bool, true, false, List, [], ◌∷◌, ◌++◌, Option, Some, fold, refl, sym, ◌∙◌, ap, subst, inl, inr}
+use Rattle.std.proofs.Common.{◌≡◌, ℕ, ◌==◌, Bool, true, false, List, [], ◌∷◌, ◌++◌, Some, fold, refl, sym, ◌∙◌, ap, subst, inl, inr}
 use Rattle.std.specs.Prelude.{◌&&◌, if◌then◌else◌}
 use Rattle.std.specs.List.{list_all, AllByRecursion}
 use Rattle.std.proofs.lemmas.List.{append-nil}
@@ -26,10 +26,6 @@ calm_append t xs ys h g = fold-append (steady_by t) (Some false) xs ys ∙ (ap (
 either : (b : Bool) → (if b then Some false else Some false) ≡ Some false
 either true = refl
 either false = refl
-
-otherwise : (b : Bool) (o q : Option Bool) → b ≡ false → (if b then o else q) ≡ q
-otherwise true o q e = absurd cc
-otherwise false o q e = refl
 
 module _ (w : World) (c : ℕ) (none : NoneClaimed w) where
   no_clean_up : (t n u : ℕ) (x : Deed) → IsCleaning w c t n u x → ⊥

@@ -3,7 +3,7 @@ use Rattle.std.proofs.Common.{◌≡◌, ℕ, true, false, List, [], ◌∷◌, 
 use Rattle.std.specs.List.{list_all}
 use Rattle.dali_record.specs.declared.records.Call.{Call}
 use Rattle.dali_record.specs.declared.records.Answer.{Answer}
-use Rattle.dali_record.specs.declared.records.Answer.TheVariants.{Ok as AnswerOk, Exists, Missing, Got, FullHeap, FullIndex, Odd}
+use Rattle.dali_record.specs.declared.records.Answer.TheVariants.{FullHeap, FullIndex}
 use Rattle.dali_record.specs.declared.records.Record.TheVariants.{Begin, Done, Commit}
 use Rattle.dali_transcripts.specs.Words.{Act, Begins as BeginAct, Calls, Commits as CommitAct, Answered}
 use Rattle.dali_transcripts.specs.World.{Logs, World, IsFlushed}
@@ -41,13 +41,9 @@ pub record HasCommitted (w : World) (c : ℕ) (x : Move) (txn : ℕ) (rest : Lis
   pub to_is : to x ≡ at (Outside false) rest
 
 room_of : (k : Call) (a : Answer) → list_all is_served (Answered k a ∷ []) ≡ true → has_room a ≡ true
-room_of k AnswerOk e = refl
-room_of k Exists e = refl
-room_of k Missing e = refl
-room_of k (Got v) e = refl
 room_of k FullHeap e = absurd cc
 room_of k FullIndex e = absurd cc
-room_of k (Odd p) e = refl
+room_of k _ e = refl
 
 module _ (w : World) (c : ℕ) where
   pub begins : (r : List Act) (x : Move) → HasCause w c x → Outside false ≡ (from x).place → BeginAct ∷ r ≡ (from x).rest → Serves x → HasBegun x r

@@ -9,16 +9,15 @@ use Rattle.std.proofs.lemmas.Bool.{eqb-true}
 use Rattle.std.proofs.lemmas.List.{length-append}
 use Rattle.std.proofs.lemmas.List.Concat.{flat_map-cons}
 use Rattle.std.proofs.lemmas.List.Elements.{filter-append, filter_map-append}
+use Rattle.dali_lists.proofs.Members.{all_append, all_map, contains_first}
 use Rattle.dali_record.specs.declared.records.Answer.{Answer}
 use Rattle.dali_record.specs.declared.records.Call.{Call}
 use Rattle.dali_record.specs.declared.records.Record.TheVariants.{Begin, Forward, Back, Solo, Done, Commit, Ended}
 use Rattle.dali_room.specs.Room.{is_insert}
 use Rattle.dali_transcripts.specs.World.{Logs}
 use Rattle.dali_transcripts.specs.Moves.{Receipt}
-use Rattle.dali_transcripts.proofs.Lists.{all_append, all_map}
 use Rattle.dali_served.specs.Steady.{is_of}
 use Rattle.dali_served.specs.Free.{inserts_in}
-use Rattle.dali_served.proofs.Lists.{first_in}
 use Rattle.dali_served.proofs.Calm.{OwnDeed, OwnEnd, Asked, Made}
 
 abbrev pub begin_in : Receipt → Option ℕ
@@ -143,7 +142,7 @@ is_made (cs ∷ css) xs (t, n, m, asked, end, later, are, ended, made, is) =
     let committed : committed_in whole ≡ t ∷ committed_in later =
     filter_map-append commit_in asked ((m, Logs (Commit t)) ∷ (end ++ later))
     ∙ (ap (λ l. l ++ t ∷ committed_in (end ++ later)) calls.none.committed ∙ ap (λ l. t ∷ l) (filter_map-append commit_in end later ∙ ap (λ l. l ++ committed_in later) tail.0.committed)) in
-    let here : Contains (t ∷ begun_in later) t = first_in t (begun_in later) in
+    let here : Contains (t ∷ begun_in later) t = contains_first t (begun_in later) in
     let told : inserts_in (cs ∷ css) ≡ length (filter is_insert cs) + inserts_in css =
     ap (λ l. length (filter is_insert l)) (flat_map-cons (λ (l : List Call). l) cs css) ∙ (ap length (filter-append is_insert cs (flat_map (λ l. l) css)) ∙ length-append (filter is_insert cs) (filter is_insert (flat_map (λ l. l) css))) in
     let these : AllByRecursion (IsOfThese (t ∷ begun_in later)) whole = (

@@ -5,11 +5,13 @@ use Rattle.std.specs.List.{AllByRecursion}
 use Rattle.std.specs.FinMap.{get}
 use Rattle.std.proofs.lemmas.Bool.Decides.{Decides-eqb}
 use Rattle.std.proofs.lemmas.List.{append-nil}
+use Rattle.dali_lists.proofs.Lists.{set_same}
+use Rattle.dali_lists.proofs.Members.{all_weaker, all_append}
 use Rattle.dali_geometry.specs.Sizes.{Sizes}
 use Rattle.dali_geometry.specs.Places.{regions}
 use Rattle.dali_record.specs.declared.operations.Op.{Op}
 use Rattle.dali_record.specs.declared.operations.Undo.{Undo}
-use Rattle.dali_record.specs.declared.operations.Undo.TheVariants.{FreeCell as UndoFreeCell, ReviveCell as UndoReviveCell, Restore as UndoRestore, FreeEntry as UndoFreeEntry, ReviveEntry as UndoReviveEntry}
+use Rattle.dali_record.specs.declared.operations.Undo.TheVariants.{FreeCell as UndoFreeCell}
 use Rattle.dali_record.specs.declared.operations.Pending.{Pending}
 use Rattle.dali_record.specs.Spelling.{IsUndo, IsOperation}
 use Rattle.dali_record.specs.declared.records.Answer.{Answer}
@@ -56,7 +58,6 @@ use Rattle.dali_facts.specs.Undos.{MayBePerformed}
 use Rattle.dali_single.specs.Single.{Leads, MayCall, IsAnswered, IsRefusedAt, IsAsBefore, IsHalfDone, Fails, AreCovered, Keeps}
 use Rattle.dali_single.specs.Operated.{IsLeftOf}
 use Rattle.dali_single.specs.Advanced.{Led, Advanced, Finished, AreLeftOf, Halts, GivenUp}
-use Rattle.dali_single.proofs.Lists.{set_same}
 use Rattle.dali_single.proofs.Leading.{leads_there, steps_on, stays_free}
 use Rattle.dali_single.proofs.Going.{row_there, alive, stays, none_operated, goes_further}
 
@@ -105,7 +106,7 @@ plan_begins s L t call w at level = record {
     none_more [] = refl
     none_more (u ∷ us) = ap (λ (l : List Pending). u ∷ l) (none_more us)
 
-plan_turns : (s : Sizes) (L : List Record) (p : Planned) → is_answered p.phase ≡ false → Follows s L p → Follows s L (refused p)
+pub plan_turns : (s : Sizes) (L : List Record) (p : Planned) → is_answered p.phase ≡ false → Follows s L p → Follows s L (refused p)
 plan_turns s L p e f = record {
   working = f.working;
   at_work = f.at_work;
@@ -126,7 +127,7 @@ pub rest_new : (rs : List RegionState) (y : SystemState) (t : ℕ) (call : Call)
     → IsAtRest rs (granted y t (call_key call) (mode_of call)) (new_plan y.sizes t call)
 rest_new rs y t call whole lives = record { sizes = refl; whole = whole; lives = lives; closed = refl }
 
-at_new : (L : List Record) (rs : List RegionState) (y : SystemState) (v : VaultState) (t : ℕ) (call : Call) → MayCall L (core rs y v) t
+pub at_new : (L : List Record) (rs : List RegionState) (y : SystemState) (v : VaultState) (t : ℕ) (call : Call) → MayCall L (core rs y v) t
     → AtPlan L (core rs (granted y t (call_key call) (mode_of call)) v) (new_plan y.sizes t call)
 at_new L rs y v t call may = record {
   follows = plan_begins y.sizes L t call may.working may.at_work may.level;
@@ -206,10 +207,7 @@ undo_still y z t k m u sizes locks may = record {
 
 undo_spelled : (u : Undo) → IsOperation (undo_op u) → IsUndo u
 undo_spelled (UndoFreeCell c) h = h
-undo_spelled (UndoReviveCell c) h = h
-undo_spelled (UndoRestore c n ws) h = h
-undo_spelled (UndoFreeEntry e) h = h
-undo_spelled (UndoReviveEntry e) h = h
+undo_spelled _ h = h
 
 undo_new : (z : SystemState) (s : Sizes) (t : ℕ) (call : Call) (u : Pending) → z.sizes ≡ s → covers (lock_of z t (call_key call)) true ≡ true → IsUndoOf s call u → MayBePerformed z t u
 undo_new z s t call u sizes lock of = record {
@@ -218,28 +216,20 @@ undo_new z s t call u sizes lock of = record {
   lock = ap (λ (k : ℕ). covers (lock_of z t k) true) of.key ∙ lock;
 }
 
-pub all_undos : (P Q : Pending → Type 0) (us : List Pending) → ((u : Pending) → P u → Q u) → AllByRecursion P us → AllByRecursion Q us
-all_undos P Q [] f h = tt
-all_undos P Q (u ∷ us) f h = (f u h.0, all_undos P Q us f h.1)
-
-both_undos : (P : Pending → Type 0) (us vs : List Pending) → AllByRecursion P us → AllByRecursion P vs → AllByRecursion P (us ++ vs)
-both_undos P [] vs h k = k
-both_undos P (u ∷ us) vs h k = (h.0, both_undos P us vs h.1 k)
-
 -- whatever the plan has changed
 new_covered : (z : SystemState) (q : Planned) (t : ℕ) → z.sizes ≡ q.geometry → (is_get q.call ≡ false → covers (lock_of z t (call_key q.call)) true ≡ true) → IsWhole q → AllByRecursion (MayBePerformed z t) q.changes
 new_covered z q t sizes lock w = by_call (is_get q.call) refl
   where
     by_call : (b : Bool) → is_get q.call ≡ b → AllByRecursion (MayBePerformed z t) q.changes
     by_call true e = subst (AllByRecursion (MayBePerformed z t)) (sym (w.gets e)) tt
-    by_call false e = all_undos (IsUndoOf q.geometry q.call) (MayBePerformed z t) q.changes (λ u of. undo_new z q.geometry t q.call u sizes (lock e) of) w.undoes
+    by_call false e = all_weaker (IsUndoOf q.geometry q.call) (MayBePerformed z t) q.changes (λ u of. undo_new z q.geometry t q.call u sizes (lock e) of) w.undoes
 
 pub stays_covered : (y z : SystemState) (t : ℕ) (call : Call) (q : Planned) → z.sizes ≡ y.sizes → z.locks ≡ locks_with y.locks t (call_key call) (mode_of call) → q.geometry ≡ z.sizes → q.call ≡ call → IsWhole q
     → undos_at z.table t ≡ undos_at y.table t ++ q.changes → AreCovered y t → AreCovered z t
 stays_covered y z t call q sizes locks geometry same w undos old =
     subst (AllByRecursion (MayBePerformed z t)) (sym undos)
-    (both_undos (MayBePerformed z t) (undos_at y.table t) q.changes
-    (all_undos (MayBePerformed y t) (MayBePerformed z t) (undos_at y.table t) (λ u may. undo_still y z t (call_key call) (mode_of call) u sizes locks may) old)
+    (all_append (MayBePerformed z t) (undos_at y.table t) q.changes
+    (all_weaker (MayBePerformed y t) (MayBePerformed z t) (undos_at y.table t) (λ u may. undo_still y z t (call_key call) (mode_of call) u sizes locks may) old)
     (new_covered z q t (sym geometry) (λ e. lock e) w))
   where
     lock : is_get q.call ≡ false → covers (lock_of z t (call_key q.call)) true ≡ true
@@ -496,7 +486,7 @@ busy_keeps y asked t k m a h busy is =
       sizes = refl;
       state = refl;
       others = λ u e. (refl, λ k. refl);
-      covered = all_undos (MayBePerformed y.state t) (MayBePerformed (not_granted y.state t k m h) t) (undos_at y.state.table t) (λ u may. record { spelled = may.spelled; kind = may.kind; lock = may.lock });
+      covered = all_weaker (MayBePerformed y.state t) (MayBePerformed (not_granted y.state t k m h) t) (undos_at y.state.table t) (λ u may. record { spelled = may.spelled; kind = may.kind; lock = may.lock });
     })
 
 pub keeps_same : (y z : Served) (t : ℕ) → z ≡ y → Keeps y.state t z.state

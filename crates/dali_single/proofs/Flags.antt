@@ -21,7 +21,7 @@ own_flag t x g own = absurd own
 same_flag : (g h : RegionState) → h ≡ g → FlagStays g h
 same_flag g h e = subst (λ (k : RegionState). FlagStays g k) (sym e) (flag_same g)
 
-goes_flag : (t : ℕ) (g : RegionState) (xs : List RegionStep) (h : RegionState) → Goes t g xs h → FlagStays g h
+pub goes_flag : (t : ℕ) (g : RegionState) (xs : List RegionStep) (h : RegionState) → Goes t g xs h → FlagStays g h
 goes_flag t g [] h goes = same_flag g h (sym goes)
 goes_flag t g (x ∷ xs) h goes = flag_further g (region_after x g) h (own_flag t x g goes.1) (goes_flag t (region_after x g) xs h goes.2)
 

@@ -1,11 +1,12 @@
 -- A plan goes on by one operation.
-use Rattle.std.proofs.Common.{inl, inr, ◌≡◌, ℕ, suc, take, ◌-◌, Bool, true, false, List, [], ◌∷◌, ◌++◌, Option, Some, None, IsSome, IfSome, refl, sym, ap, subst, ◌∙◌, arith, append_assoc, length, slice_get, slice_set, option_map}
-use Rattle.std.proofs.lemmas.List.{append-nil}
+use Rattle.std.proofs.Common.{inl, inr, ◌≡◌, ℕ, ◌-◌, Bool, true, false, List, [], ◌∷◌, ◌++◌, Option, Some, None, IsSome, IfSome, refl, sym, ap, subst, ◌∙◌, append_assoc, length, slice_get, slice_set, option_map}
+use Rattle.std.proofs.lemmas.List.{append-nil, set-set}
 use Rattle.std.specs.Prelude.{◌==◌, if◌then◌else◌}
 use Rattle.std.specs.Option.{option_map_or}
 use Rattle.std.specs.FinMap.{get}
-use Rattle.std.proofs.lemmas.Bool.Decides.{Decides-eqb}
 use Rattle.std.proofs.lemmas.List.{length-set}
+use Rattle.dali_lists.proofs.Lists.{set_same, get_set}
+use Rattle.dali_lists.proofs.Numbers.{eqb-self}
 use Rattle.dali_geometry.specs.Sizes.{Sizes}
 use Rattle.dali_geometry.specs.Places.{regions}
 use Rattle.dali_record.specs.declared.operations.Op.{Op}
@@ -25,6 +26,7 @@ use Rattle.dali_system.specs.Steps.{op_logged, back_logged, undo_kept}
 use Rattle.dali_system.specs.Keeps.{HasRoom, IsFree, with_region, with_touched}
 use Rattle.dali_system.specs.Regions.{RegionStep, IsOpen, is_alive}
 use Rattle.dali_system.specs.Courses.{Step, Operates, TakesBack, IsStep}
+use Rattle.dali_system.proofs.Tables.{but_last}
 use Rattle.dali_core.specs.declared.operation.Operation.{Operation}
 use Rattle.dali_core.proofs.Guards.{some_row}
 use Rattle.dali_calls.specs.Steps.{call_key, IsBlockOf}
@@ -37,15 +39,12 @@ use Rattle.dali_single.specs.Stands.{core, IsAtRest, AtPlan}
 use Rattle.dali_single.specs.Operated.{Goes, Operated, IsLeftOf}
 use Rattle.dali_single.specs.Single.{is_end, IsOwnStep, Leads}
 use Rattle.dali_single.specs.Advanced.{Led, Advanced}
-use Rattle.dali_single.proofs.Lists.{set_same, set_twice, get_set}
 use Rattle.dali_single.proofs.Leading.{leads_on, one_step, leads_there, steps_on, stays_free}
 
 -- ---- the row of the transaction
-self_same : (t : ℕ) → (t == t) ≡ true
-self_same t = (Decides-eqb t t).1 refl
 
 pub row_here : (m : Table Pending) (t : ℕ) (f : TxnRow → TxnRow) → get (with_row m t f) t ≡ option_map f (get m t)
-row_here m t f = get-with_row m t f t ∙ ap (λ (b : Bool). if b then option_map f (get m t) else get m t) (self_same t)
+row_here m t f = get-with_row m t f t ∙ ap (λ (b : Bool). if b then option_map f (get m t) else get m t) (eqb-self t)
 
 abbrev pub undos_in : Option TxnRow → List Pending
 undos_in row = option_map_or (λ (r : TxnRow). r.undos) row []
@@ -67,11 +66,6 @@ changes_kept : (m : Table Pending) (t : ℕ) (b : Block) (o : Option Undo) (us :
 changes_kept m t b None us = changes_none (get m t) us
 changes_kept m t b (Some u) us =
     subst (λ (row : Option TxnRow). Changes (get m t) row us (us ++ undo_added b (Some u))) (sym (row_here m t (with_undo (record { key = b.key; region = b.region; undo = u })))) (changes_added (get m t) us (record { key = b.key; region = b.region; undo = u }))
-
-but_last : (us : List Pending) → take (length us - 1) us ≡ drop_last us
-but_last [] = refl
-but_last (p ∷ []) = refl
-but_last (p ∷ q ∷ us) = let e : length (p ∷ q ∷ us) - 1 ≡ suc (length (q ∷ us) - 1) = omega arith in rw e (ap (λ vs. p ∷ vs) (but_last (q ∷ us)))
 
 changes_popped_in : (row : Option TxnRow) (us : List Pending) → Changes row (option_map without_last row) us (drop_last us)
 changes_popped_in None us = record { there = λ h. h; state = refl; undos = λ e h. absurd cc }
@@ -121,7 +115,7 @@ both_steps precheck L M rs y z v t r g opened xs x lives at goes own quiet step 
     leads_on precheck t L L M (core rs y v) (with_region (core rs y v) r opened) (core (slice_set rs r (touched opened)) z v) (steps_on r xs) (x ∷ [])
     (leads_there precheck L (core rs y v) t r g opened xs (alive (state_of y t) lives) at goes)
     (one_step precheck t L M (with_region (core rs y v) r opened) (core (slice_set rs r (touched opened)) z v) x
-    (subst (λ (gs : List RegionState). IsStep L (with_region (core rs y v) r opened) x M (core gs z v)) (set_twice rs r opened (touched opened)) step) own quiet)
+    (subst (λ (gs : List RegionState). IsStep L (with_region (core rs y v) r opened) x M (core gs z v)) (set-set rs r opened (touched opened)) step) own quiet)
 
 clean_there : (o : Option RegionState) (g : RegionState) → o ≡ Some g → g.stray ≡ 0 → IfSome o (λ g. g.stray ≡ 0)
 clean_there o g at clean = subst (λ (p : Option RegionState). IfSome p (λ g. g.stray ≡ 0)) (sym at) clean

@@ -66,15 +66,3 @@ waits_for s s2 s3 s4 t u us other may committed promised is next keeps same size
     let apart = apart_from u t other (u == t) refl in
     settling_waits s3 s4 t u us apart sizes others promises (settling_waits s2 s3 t u us apart keeps.sizes keeps.others (promises_same s2 s3 u same)
     (settling_waits s s2 t u us apart (ap (λ (x : Served). x.state.sizes) is) (begun_others s.state s2.state u (ap (λ (x : Served). x.state) is) next) (begun_promises s s2 u is) (record { may = may; committed = committed; promised = promised })))
-
--- ---- one operation of a plan that is driven by hand
-pub none_advanced : (precheck : Bool) (rs : List RegionState) (y : SystemState) (p : Planned) → IsAtRest rs y p → Advanced precheck rs y p rs y p
-none_advanced precheck rs y p rest = record {
-  rest = rest;
-  sizes = refl;
-  locks = refl;
-  rows = λ u e. refl;
-  same = refl;
-  undos = λ before e. e;
-  goes = λ L v at. record { log = L; steps = []; leads = (refl, refl); at = at };
-}

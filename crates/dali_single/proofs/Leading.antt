@@ -2,6 +2,8 @@
 use Rattle.std.proofs.Common.{◌≡◌, ℕ, Bool, true, false, List, [], ◌∷◌, ◌++◌, Option, Some, None, refl, sym, ap, subst, ◌∙◌, IsSomeAnd, slice_get, slice_set}
 use Rattle.std.specs.Prelude.{◌==◌}
 use Rattle.std.proofs.lemmas.Bool.Decides.{Decides-eqb}
+use Rattle.std.proofs.lemmas.List.{set-set}
+use Rattle.dali_lists.proofs.Lists.{set_same, get_set, get_set_other}
 use Rattle.dali_record.specs.declared.records.Record.{Record}
 use Rattle.dali_region.specs.declared.Hold.{Hold}
 use Rattle.dali_region.specs.State.{RegionState, IsLive, map_hold, writing}
@@ -11,7 +13,6 @@ use Rattle.dali_system.specs.Regions.{RegionStep, Latch, NoteReads, Update, Take
 use Rattle.dali_system.specs.Courses.{Step, OnRegion, IsStep}
 use Rattle.dali_single.specs.Operated.{IsHeldBy, IsOwn, Goes, AreUpdates}
 use Rattle.dali_single.specs.Single.{is_end, IsOwnStep, Leads}
-use Rattle.dali_single.proofs.Lists.{set_same, set_twice, get_set, get_apart}
 
 pub leads_on : (precheck : Bool) (t : ℕ) (L K M : List Record) (c d e : CoreState) (xs ys : List Step) → Leads precheck t L c xs K d → Leads precheck t K d ys M e → Leads precheck t L c (xs ++ ys) M e
 leads_on precheck t L K M c d e [] ys p q = subst (λ (l : List Record). Leads precheck t l c ys M e) (sym p.0) (subst (λ (x : CoreState). Leads precheck t K x ys M e) (sym p.1) q)
@@ -47,7 +48,7 @@ steps_on r [] = []
 steps_on r (x ∷ xs) = OnRegion r x ∷ steps_on r xs
 
 set_again : (c : CoreState) (r : ℕ) (g h : RegionState) → with_region (with_region c r g) r h ≡ with_region c r h
-set_again c r g h = ap (λ (gs : List RegionState). record { regions = gs; system = c.system; vault = c.vault }) (set_twice c.regions r g h)
+set_again c r g h = ap (λ (gs : List RegionState). record { regions = gs; system = c.system; vault = c.vault }) (set-set c.regions r g h)
 
 pub leads_there : (precheck : Bool) (L : List Record) (c : CoreState) (t r : ℕ) (g h : RegionState) (xs : List RegionStep) → is_alive (state_of c.system t) ≡ true → slice_get c.regions r ≡ Some g → Goes t g xs h → Leads precheck t L c (steps_on r xs) L (with_region c r h)
 leads_there precheck L c t r g h [] a at go =
@@ -78,7 +79,7 @@ held_of rs r g h q true at none e o held =
   where
     no_hold : (k : Hold) → (let o : Option Hold = Some k in None ≡ o) → ⊥
     no_hold k f = cc
-held_of rs r g h q false at none e o held = ap hold_in (sym (get_apart rs r h q (λ same. apart same e))) ∙ held
+held_of rs r g h q false at none e o held = ap hold_in (sym (get_set_other rs r h q (λ same. apart same e))) ∙ held
   where
     apart : r ≡ q → (r == q) ≡ false → ⊥
     apart f n = let is : (r == q) ≡ true = (Decides-eqb r q).1 f in cc

@@ -16,7 +16,7 @@ use Rattle.dali_record.specs.Log.{last_of, drop_last, undo_added}
 use Rattle.dali_region.specs.State.{RegionState}
 use Rattle.dali_system.specs.State.{SystemState}
 use Rattle.dali_calls.specs.declared.stage.Stage.{Stage}
-use Rattle.dali_calls.specs.declared.stage.Stage.TheVariants.{Fresh as StageFresh, Walking as StageWalking, Nowhere as StageNowhere, Somewhere as StageSomewhere, Storing as StageStoring, Adding as StageAdding, Removing as StageRemoving, Finished as StageFinished}
+use Rattle.dali_calls.specs.declared.stage.Stage.TheVariants.{Walking as StageWalking, Storing as StageStoring, Adding as StageAdding}
 use Rattle.dali_calls.specs.Steps.{progress_of, IsAt}
 use Rattle.dali_calls.specs.Plans.{Planned, undo_next, plan_next, is_back, went_back, GoesOn, IsWhole}
 use Rattle.dali_calls.proofs.Wholes.{back_next}
@@ -64,9 +64,6 @@ by_if : (s : Sizes) (n : ℕ) (b : Bool) (p q : Progress) → (b ≡ true → op
 by_if s n true p q f h = some s n p (f refl)
 by_if s n false p q f h = some s n q h
 
-by_lt : (a b : ℕ) → nat_lt a b ≡ true → a < b
-by_lt a b e = ltb-true a b e
-
 look_less : (s : Sizes) (key region looked n : ℕ) (o : Outcome) → s.index + s.heap + 4 < n → s.index + s.heap + 4 + (s.index - (looked + 1)) < n → Less s n (after_look s key region looked o)
 look_less s key region looked n (Found e at) h k = some s n (Somewhere key region e at) (omega (arith, h))
 look_less s key region looked n (Absent true) h k = by_if s n (nat_lt (looked + 1) s.index) (Walking key (next_index s region) (looked + 1)) (Nowhere key) (λ e. k) h
@@ -102,12 +99,12 @@ kill_entry_less s key at n _ h q e = none s n q e
 
 put_less : (s : Sizes) (key : ℕ) (v : List ℕ) (region tried n : ℕ) (o : Outcome) → s.index + 1 < n → (tried + 1 < s.heap → s.index + 2 + (s.heap - (tried + 1)) < n) → Less s n (after_put s key v region tried o)
 put_less s key v region tried n (PutIn cell) h k = some s n (Adding key v (place region cell) (home s key) 0) (omega (arith, h))
-put_less s key v region tried n NoCell h k = by_if s n (nat_lt (tried + 1) s.heap) _ _ (λ e. k (by_lt (tried + 1) s.heap e)) (omega (arith, h))
+put_less s key v region tried n NoCell h k = by_if s n (nat_lt (tried + 1) s.heap) _ _ (λ e. k (ltb-true (tried + 1) s.heap e)) (omega (arith, h))
 put_less s key v region tried n _ h k = none s n
 
 add_less : (s : Sizes) (key : ℕ) (v : List ℕ) (at region tried n : ℕ) (o : Outcome) → 0 < n → (tried + 1 < s.index → 1 + (s.index - (tried + 1)) < n) → Less s n (after_add s key v at region tried o)
 add_less s key v at region tried n (Added entry) h k = some s n _ h
-add_less s key v at region tried n NoEntry h k = by_if s n (nat_lt (tried + 1) s.index) _ _ (λ e. k (by_lt (tried + 1) s.index e)) h
+add_less s key v at region tried n NoEntry h k = by_if s n (nat_lt (tried + 1) s.index) _ _ (λ e. k (ltb-true (tried + 1) s.index e)) h
 add_less s key v at region tried n _ h k = none s n
 
 -- ---- by the operation
@@ -153,14 +150,10 @@ one_more_at_most b None = omega arith
 one_more_at_most b (Some u) = omega arith
 
 within : (s : Sizes) (call : Call) (stage : Stage) → IsAt s call stage → IsWithin s (progress_of call stage)
-within s call StageFresh at = tt
 within s call (StageWalking region looked) at = at.1
-within s call StageNowhere at = tt
-within s call (StageSomewhere region entry spot) at = tt
 within s call (StageStoring region tried) at = at.2
 within s call (StageAdding spot region tried) at = at.2
-within s call (StageRemoving region entry spot) at = tt
-within s call (StageFinished answer) at = tt
+within s call _ at = tt
 
 abbrev pub plan_left : Planned → ℕ
 plan_left p = 2 * ops_left p.geometry (progress_of p.call p.stage) + length p.changes

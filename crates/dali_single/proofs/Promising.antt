@@ -14,11 +14,11 @@ use Rattle.dali_core.specs.Refused.{stop_refusal}
 use Rattle.dali_core.specs.Served.{Served, promised_for}
 use Rattle.dali_core.specs.Promised.{Promised, promised_to, used}
 use Rattle.std.specs.FinMap.{get, insert, remove}
+use Rattle.dali_lists.proofs.Members.{all_weaker}
 use Rattle.dali_core.proofs.Totals.{own_changes, others_stay}
 use Rattle.dali_single.specs.Single.{OthersStay, PromisesStay}
 use Rattle.dali_single.specs.Settling.{MayFree, settle_room}
 use Rattle.dali_single.specs.Others.{SettlingWaits}
-use Rattle.dali_single.proofs.Calling.{all_undos}
 
 pub promises_same : (s z : Served) (t : ℕ) → z.promised ≡ s.promised → PromisesStay s t z
 promises_same s z t e u apart = ap (λ (m : Promised). promised_to m u) e
@@ -65,7 +65,7 @@ enough_to_commit s z t n e = subst (λ (x : Served). 9 ≤ promised_to x.promise
 -- ---- what is committed and waits
 pub settling_waits : SettlingWaits
 settling_waits s z t u us apart sizes others promises ready = record {
-  may = all_undos (MayFree s.state t) (MayFree z.state t) us (λ w may. record {
+  may = all_weaker (MayFree s.state t) (MayFree z.state t) us (λ w may. record {
     removal = may.removal;
     spelled = may.spelled;
     kind = ap (λ (n : Sizes). on_kind n w.region (freeing_op w.undo)) sizes ∙ may.kind;

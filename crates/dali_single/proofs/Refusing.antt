@@ -1,5 +1,6 @@
 -- What an operation was refused for, among all regions.
 use Rattle.std.proofs.Common.{inr, ◌≡◌, ℕ, Bool, false, List, [], Option, Some, None, IsSomeAnd, IfSome, Result, Err, refl, sym, ap, subst, ◌∙◌, slice_get, slice_set}
+use Rattle.dali_lists.proofs.Lists.{get_set}
 use Rattle.dali_record.specs.declared.operations.Pending.{Pending}
 use Rattle.dali_region.specs.declared.Hold.{Hold}
 use Rattle.dali_region.specs.declared.Receipt.{Receipt}
@@ -20,8 +21,8 @@ use Rattle.dali_single.specs.declared.error.StepError.TheVariants.{System}
 use Rattle.dali_single.specs.Operated.{IsLeftOf}
 use Rattle.dali_single.specs.Refusals.{IsAnswerTo, IsRefusedOn, IsRefusedIn, IsUnfreed, IsStuck}
 use Rattle.dali_single.specs.Advanced.{Advanced, Halts}
-use Rattle.dali_single.proofs.Lists.{get_set}
 use Rattle.dali_single.proofs.Undoing.{wanted_undo}
+use Rattle.dali_single.proofs.Writing.{error_is}
 
 -- ---- the plan that wanted the region
 pub halts : (precheck : Bool) (rs0 rs : List RegionState) (y0 y z : SystemState) (p0 p q : Planned) (r : ℕ) (g h : RegionState) (e : StepError) → Advanced precheck rs0 y0 p0 rs y p → IsWhole p → Region r ≡ want_of p → slice_get rs r ≡ Some g
@@ -37,8 +38,6 @@ halts precheck rs0 rs y0 y z p0 p q r g h e goes whole want at same still left w
     }))
 
 -- ---- what is taken back, freed or ended
-error_is : (a b : SystemError) → (let r : Result Receipt SystemError = Err b in let q : Result Receipt SystemError = Err a in q ≡ r) → a ≡ b
-error_is a b e = cc
 
 stops : (y : SystemState) (cause : SystemError) (o : Option SystemError) → stop_refusal y ≡ o
     → IfSome (stop_refusal y) (λ e. let r : Result Receipt SystemError = Err e in let q : Result Receipt SystemError = Err cause in q ≡ r) → (stop_refusal y ≡ None → cause ≡ Memory)

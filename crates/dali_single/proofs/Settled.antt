@@ -5,7 +5,9 @@ use Rattle.std.proofs.lemmas.Bool.Decides.{Decides-eqb}
 use Rattle.dali_geometry.specs.Sizes.{Sizes}
 use Rattle.std.specs.List.{AllByRecursion}
 use Rattle.std.specs.FinMap.{insert}
-use Rattle.std.proofs.lemmas.List.{length-set, append-nil}
+use Rattle.std.proofs.lemmas.List.{length-set, append-nil, drop_more, set-set}
+use Rattle.dali_lists.proofs.Lists.{set_same, get_set}
+use Rattle.dali_lists.proofs.Members.{all_append, all_weaker}
 use Rattle.dali_geometry.specs.Places.{regions}
 use Rattle.dali_record.specs.declared.operations.Op.{Op}
 use Rattle.dali_record.specs.declared.operations.Undo.{Undo}
@@ -44,10 +46,9 @@ use Rattle.dali_facts.specs.Undos.{MayBePerformed}
 use Rattle.dali_single.specs.Single.{OthersStay}
 use Rattle.dali_single.specs.Settling.{settle_room, IsPromised, MayFree, IsSoloOf, MayCommit, Commits, IsCommitted, IsSettled, IsLeft, left_behind, Freed, AreFreed}
 use Rattle.dali_single.proofs.Holding.{holds_put, holds_further}
-use Rattle.dali_single.proofs.Lists.{set_same, set_twice, get_set, all_both, logged_on}
+use Rattle.dali_single.proofs.Lists.{logged_on}
 use Rattle.dali_single.proofs.Leading.{leads_on, one_step, leads_there, steps_on, stays_free, goes_on}
 use Rattle.dali_single.proofs.Writing.{opened_by, held_open}
-use Rattle.dali_single.proofs.Calling.{all_undos}
 use Rattle.dali_single.proofs.Going.{row_here, row_apart}
 use Rattle.dali_single.proofs.Undoing.{ended_others, others_further}
 use Rattle.dali_single.proofs.Reaching.{kind_in}
@@ -97,14 +98,14 @@ differ : (s : Sizes) (L : List Record) (p n : ℕ) (us : List Pending) → IsEnd
 differ s L p n us e f true q = absurd (let g : Some (Ending us) ≡ Some Unbegun = sym e ∙ (ap (λ k. txn_state s k L) ((Decides-eqb p n).0 q) ∙ f) in cc)
 differ s L p n us e f false q = refl
 
-above : (m n : ℕ) → m + 1 ≤ n → (m == n) ≡ false
+pub above : (m n : ℕ) → m + 1 ≤ n → (m == n) ≡ false
 above m n h = by_test (m == n) refl
   where
     by_test : (b : Bool) → (m == n) ≡ b → (m == n) ≡ false
     by_test true q = absurd (let same : m ≡ n = (Decides-eqb m n).0 q in omega (arith, h, same))
     by_test false q = q
 
-freed_led : (L : List Record) (rs : List RegionState) (y : SystemState) (v : VaultState) (t : ℕ) (u : Pending) (us : List Pending) (b : Block) (ws : List ℕ) (g opened : RegionState) (xs : List RegionStep) → Is64 t
+pub freed_led : (L : List Record) (rs : List RegionState) (y : SystemState) (v : VaultState) (t : ℕ) (u : Pending) (us : List Pending) (b : Block) (ws : List ℕ) (g opened : RegionState) (xs : List RegionStep) → Is64 t
     → MayFree y t u → b ≡ made ws u.key u.region (freeing_op u.undo) → IsBlock b → slice_get rs u.region ≡ Some g → Goes t g xs opened → IsOpen opened t b → y.stop ≡ None → y.next < 2 ^ 64
     → state_of y t ≡ Some Committed → IsCommitted L (core rs y v) t (u ∷ us) → IsLeft L (core rs y v) t us (core (slice_set rs u.region (touched opened)) (solo_logged y t b) v)
 freed_led L rs y v t u us b ws g opened xs fits may made_on spelled at goes is runs next state work =
@@ -135,7 +136,7 @@ freed_led L rs y v t u us b ws g opened xs fits may made_on spelled at goes is r
       leads = leads_on false t L L (L ++ Solo y.next t b ∷ []) (core rs y v) c new (steps_on u.region xs) (Frees t b ∷ [])
           (leads_there false L (core rs y v) t u.region g opened xs (committed_alive (state_of y t) state) at goes)
           (one_step false t L (L ++ Solo y.next t b ∷ []) c new (Frees t b)
-          (subst (λ (gs : List RegionState). IsStep L c (Frees t b) (L ++ Solo y.next t b ∷ []) (core gs (solo_logged y t b) v)) (set_twice rs u.region opened (touched opened))
+          (subst (λ (gs : List RegionState). IsStep L c (Frees t b) (L ++ Solo y.next t b ∷ []) (core gs (solo_logged y t b) v)) (set-set rs u.region opened (touched opened))
           (subst (λ (n : ℕ). IsStep L c (Frees t b) (L ++ Solo y.next t b ∷ []) (with_touched c (solo_logged y t b) n opened)) region step)) refl refl);
       own = Solo y.next t b ∷ [];
       logged = refl;
@@ -153,7 +154,7 @@ pub none_freed : (rs : List RegionState) (y : SystemState) (t : ℕ) (us : List 
 none_freed rs y t us whole may state = record { whole = whole; sizes = refl; may = may; state = state; others = λ n e. (refl, λ k. refl); holds = λ q. inl refl; leads = λ L v work. record { log = L; steps = []; leads = (refl, refl); own = []; logged = sym (append-nil L); solos = tt; at = work } }
 
 same_may : (y : SystemState) (t u : ℕ) (b : Block) (us : List Pending) → AllByRecursion (MayFree y t) us → AllByRecursion (MayFree (solo_logged y u b) t) us
-same_may y t u b us h = all_undos (MayFree y t) (MayFree (solo_logged y u b) t) us (λ w may. record { removal = may.removal; spelled = may.spelled; kind = may.kind; lock = may.lock }) h
+same_may y t u b us h = all_weaker (MayFree y t) (MayFree (solo_logged y u b) t) us (λ w may. record { removal = may.removal; spelled = may.spelled; kind = may.kind; lock = may.lock }) h
 
 pub free_further : (rs0 rs : List RegionState) (y0 y z : SystemState) (t : ℕ) (all us : List Pending) (u : Pending) (g h : RegionState) → Is64 t → AreFreed rs0 y0 t all (u ∷ us) rs y
     → slice_get rs u.region ≡ Some g → Freed u g y t h z → AreFreed rs0 y0 t all us (slice_set rs u.region h) z
@@ -175,7 +176,7 @@ free_further rs0 rs y0 y z t all us u g h fits goes at o =
             leads = leads_on false t L one.log two.log (core rs0 y0 v) (core rs y v) (core (slice_set rs u.region (touched o.opened)) (solo_logged y t o.block) v) one.steps two.steps one.leads two.leads;
             own = one.own ++ two.own;
             logged = logged_on L one.log two.log one.own two.own one.logged two.logged;
-            solos = all_both (IsSoloOf t) one.own two.own one.solos two.solos;
+            solos = all_append (IsSoloOf t) one.own two.own one.solos two.solos;
             at = two.at;
           };
     }))
@@ -208,11 +209,6 @@ free_refused rs0 rs y0 s z t r all us g h goes at still (inr left) =
 pub free_there : (rs0 rs : List RegionState) (y0 y : SystemState) (t : ℕ) (all us : List Pending) (u : Pending) → AreFreed rs0 y0 t all (u ∷ us) rs y → u.region < length rs
 free_there rs0 rs y0 y t all us u goes = let less = kind_in y.sizes u.region (freeing_op u.undo) goes.may.0.kind in omega (arith, less, goes.whole)
 
-pub drop_here : (us : List Pending) (i : ℕ) (d : Pending) → i < length us → drop i us ≡ get_or us i d ∷ drop (i + 1) us
-drop_here [] i d h = absurd (omega (arith, h))
-drop_here (u ∷ us) zero d h = refl
-drop_here (u ∷ us) (suc i) d h = let e : suc i + 1 ≡ suc (i + 1) = omega arith in rw e (drop_here us i d (omega (arith, h)))
-
 pub settle_ends : (rs rs' : List RegionState) (y y1 z : SystemState) (t : ℕ) (us : List Pending) → AreFreed rs y t us [] rs' y1 → y1.stop ≡ None → z ≡ ended_logged y1 t
     → (L : List Record) (v : VaultState) → IsCommitted L (core rs y v) t us → IsSettled L (core rs y v) t (core rs' z v)
 settle_ends rs rs' y y1 z t us goes runs is L v work =
@@ -237,7 +233,7 @@ pub settled_others : (rs rs' : List RegionState) (y y1 z : SystemState) (t : ℕ
 settled_others rs rs' y y1 z t us left goes is = others_further y y1 z t goes.others (ended_others y1 z t is)
 
 pub removal_there : (rs0 rs : List RegionState) (y0 y : SystemState) (t i : ℕ) (all : List Pending) (d : Pending) → i < length all → AreFreed rs0 y0 t all (drop i all) rs y → AreFreed rs0 y0 t all (get_or all i d ∷ drop (i + 1) all) rs y
-removal_there rs0 rs y0 y t i all d h goes = subst (λ (us : List Pending). AreFreed rs0 y0 t all us rs y) (drop_here all i d h) goes
+removal_there rs0 rs y0 y t i all d h goes = subst (λ (us : List Pending). AreFreed rs0 y0 t all us rs y) (drop_more all i d h) goes
 
 -- ---- how many were freed
 drop_all : (us : List Pending) → drop (length us) us ≡ []
@@ -255,7 +251,7 @@ next_further y0 y z t i u g h e o = let one : z.next ≡ y.next + 1 = ap (λ (x 
 
 pub those_left : (rs rs' : List RegionState) (y : SystemState) (s z : Served) (t i : ℕ) (all : List Pending) (d : Pending) → i < length all → s.state.next ≡ y.next + i → z ≡ s → AreFreed rs y t all (get_or all i d ∷ drop (i + 1) all) rs' z.state
     → AreFreed rs y t all (left_behind y z.state all) rs' z.state
-those_left rs rs' y s z t i all d h e still goes = subst (λ (us : List Pending). AreFreed rs y t all us rs' z.state) (sym (left_is y z.state i all (next_still y s z i e still) ∙ drop_here all i d h)) goes
+those_left rs rs' y s z t i all d h e still goes = subst (λ (us : List Pending). AreFreed rs y t all us rs' z.state) (sym (left_is y z.state i all (next_still y s z i e still) ∙ drop_more all i d h)) goes
 
 pub none_behind : (y : SystemState) (s z : Served) (us : List Pending) → z ≡ s → s.state.next ≡ y.next + length us → slice_get (left_behind y z.state us) 0 ≡ None
 none_behind y s z us still e = ap (λ (left : List Pending). slice_get left 0) (left_is y z.state (length us) us (next_still y s z (length us) e still) ∙ drop_all us)
@@ -264,7 +260,7 @@ none_behind y s z us still e = ap (λ (left : List Pending). slice_get left 0) (
 pub removal_stuck : (rs : List RegionState) (y : SystemState) (s z : Served) (i : ℕ) (all : List Pending) (d : Pending) (g h : RegionState) (e : StepError) → i < length all → s.state.next ≡ y.next + i → z ≡ s
     → slice_get rs (get_or all i d).region ≡ Some g → IsUnfreed h z.state e → IsStuck (slice_get (left_behind y z.state all) 0) (slice_set rs (get_or all i d).region h) z.state e
 removal_stuck rs y s z i all d g h e less next still at why =
-    subst (λ (us : List Pending). IsStuck (slice_get us 0) (slice_set rs (get_or all i d).region h) z.state e) (sym (left_is y z.state i all (next_still y s z i next still) ∙ drop_here all i d less))
+    subst (λ (us : List Pending). IsStuck (slice_get us 0) (slice_set rs (get_or all i d).region h) z.state e) (sym (left_is y z.state i all (next_still y s z i next still) ∙ drop_more all i d less))
     (stuck_there rs (get_or all i d).region (get_or all i d) g h z.state e refl at why)
 
 pub settle_refused : (rs rs' : List RegionState) (y : SystemState) (s z : Served) (t : ℕ) (us : List Pending) → AreFreed rs y t us [] rs' s.state → z ≡ s → s.state.next ≡ y.next + length us

@@ -4,6 +4,8 @@ use Rattle.std.specs.Prelude.{◌==◌, ◌↔◌, nat_lt}
 use Rattle.std.proofs.lemmas.Bool.{ltb-true, ltb-false}
 use Rattle.dali_record.specs.declared.operations.Pending.{Pending}
 use Rattle.std.proofs.lemmas.Bool.Decides.{Decides-eqb}
+use Rattle.dali_lists.proofs.Lists.{get_set, get_set_other}
+use Rattle.dali_lists.proofs.Numbers.{eqb_greater}
 use Rattle.dali_geometry.specs.Sizes.{Sizes}
 use Rattle.dali_record.specs.declared.operations.Block.{Block}
 use Rattle.dali_record.specs.declared.records.Record.{Record}
@@ -23,12 +25,11 @@ use Rattle.dali_single.specs.Stands.{core}
 use Rattle.dali_single.specs.Operated.{IsOwn}
 use Rattle.dali_single.specs.Single.{IsOwnStep, Leads, HoldsStay, StandAside}
 use Rattle.dali_single.specs.Others.{OwnStepStandsAside, OwnStepsStandAside, CommittedWaits}
-use Rattle.dali_single.proofs.Lists.{get_set, get_apart}
 use Rattle.dali_single.proofs.Leading.{still_held}
 use Rattle.dali_single.proofs.Going.{row_apart, kept_apart}
 use Rattle.dali_single.proofs.Calling.{lock_apart}
 use Rattle.dali_single.proofs.Undoing.{ended_others}
-use Rattle.dali_single.proofs.Settled.{commit_others}
+use Rattle.dali_single.proofs.Settled.{commit_others, above}
 
 -- ---- the holds
 -- a hold that stands is one of t
@@ -68,7 +69,7 @@ holds_set t c y r g k at was now u q h e own = by_place (r == q) refl
         let behind : hold_in (slice_get (slice_set c.regions r k) q) ≡ k.hold = subst (λ (n : ℕ). hold_in (slice_get (slice_set c.regions r k) n) ≡ k.hold) same (ap hold_in (get_set c.regions r g k at)) in
         (λ is. absurd (never_other t u g.hold h was e own (sym before ∙ is)), λ is. absurd (never_other t u k.hold h now e own (sym behind ∙ is)))
     by_place false i =
-        let there : hold_in (slice_get (slice_set c.regions r k) q) ≡ hold_in (slice_get c.regions q) = ap hold_in (get_apart c.regions r k q (λ same. apart same i)) in
+        let there : hold_in (slice_get (slice_set c.regions r k) q) ≡ hold_in (slice_get c.regions q) = ap hold_in (get_set_other c.regions r k q (λ same. apart same i)) in
         (λ is. there ∙ is, λ is. sym there ∙ is)
       where
         apart : r ≡ q → (r == q) ≡ false → ⊥
@@ -86,20 +87,6 @@ later_with t L c m x apart u e more = others_leave c.system.sizes L u x (apart u
 
 same_holds : (t : ℕ) (c : CoreState) (y : SystemState) → HoldsStay t c (with_system c y)
 same_holds t c y u r h e own = (λ is. is, λ is. is)
-
-not_next : (n u : ℕ) → u < n → (n == u) ≡ false
-not_next n u less = by_test (n == u) refl
-  where
-    by_test : (b : Bool) → (n == u) ≡ b → (n == u) ≡ false
-    by_test true q = absurd (let same : n ≡ u = (Decides-eqb n u).0 q in omega (arith, less, same))
-    by_test false q = q
-
-not_next_behind : (n u : ℕ) → n + 1 ≤ u → (n == u) ≡ false
-not_next_behind n u more = by_test (n == u) refl
-  where
-    by_test : (b : Bool) → (n == u) ≡ b → (n == u) ≡ false
-    by_test true q = absurd (let same : n ≡ u = (Decides-eqb n u).0 q in omega (arith, more, same))
-    by_test false q = q
 
 put_behind : (t : ℕ) (L M : List Record) (c d e : CoreState) (K : List Record) → M ≡ K → d ≡ e → StandAside t L c K e → StandAside t L c M d
 put_behind t L M c d e K log now a = subst (λ (l : List Record). StandAside t L c l d) (sym log) (subst (λ (x : CoreState). StandAside t L c K x) (sym now) a)
@@ -140,8 +127,8 @@ freed t v L c b g own at is = record {
   next = omega arith;
   system = λ u e. (refl, λ k. refl);
   holds = holds_set t c (solo_logged c.system v b) b.region g (touched g) at (mine_open t v b g own is) (mine_none t None refl);
-  rules = rules_with t L c (Solo c.system.next v b) (λ u e less. ap (λ (b : Bool). b || (v == u)) (not_next c.system.next u less) ∙ apart_too t v u own e);
-  later = later_with t L c (c.system.next + 1) (Solo c.system.next v b) (λ u e more. ap (λ (b : Bool). b || (v == u)) (not_next_behind c.system.next u more) ∙ apart_too t v u own e);
+  rules = rules_with t L c (Solo c.system.next v b) (λ u e less. ap (λ (b : Bool). b || (v == u)) (eqb_greater c.system.next u less) ∙ apart_too t v u own e);
+  later = later_with t L c (c.system.next + 1) (Solo c.system.next v b) (λ u e more. ap (λ (b : Bool). b || (v == u)) (above c.system.next u more) ∙ apart_too t v u own e);
 }
 
 on_region : (t r : ℕ) (L : List Record) (c : CoreState) (g : RegionState) (x : RegionStep) → slice_get c.regions r ≡ Some g → IsMine t g.hold → IsMine t (region_after x g).hold

@@ -6,6 +6,8 @@ use Rattle.std.specs.List.{AllByRecursion}
 use Rattle.std.proofs.lemmas.List.{length-set, append-nil}
 use Rattle.std.proofs.lemmas.Bool.{lt-ltb}
 use Rattle.std.proofs.lemmas.Bool.Decides.{Decides-eqb}
+use Rattle.dali_lists.proofs.Lists.{set_same, get_set}
+use Rattle.dali_lists.proofs.Members.{all_append, all_weaker}
 use Rattle.dali_geometry.specs.Places.{regions}
 use Rattle.dali_record.specs.declared.operations.Block.{Block}
 use Rattle.dali_record.specs.declared.operations.Pending.{Pending}
@@ -19,7 +21,7 @@ use Rattle.dali_att.specs.declared.state.State.{State}
 use Rattle.dali_att.specs.declared.state.State.TheVariants.{Live}
 use Rattle.dali_att.specs.Table.{undos_at, without_last, last_of as table_last}
 use Rattle.dali_att.proofs.Changes.{get-ended}
-use Rattle.dali_locks.proofs.Changes.{get-locks_without}
+use Rattle.dali_locks.proofs.Kept.{locks_without_at}
 use Rattle.dali_system.specs.State.{SystemState, VaultState, state_of}
 use Rattle.dali_system.specs.Steps.{back_logged, ended_logged}
 use Rattle.dali_system.specs.Keeps.{may_log_in, with_region, with_touched}
@@ -37,16 +39,16 @@ use Rattle.dali_calls.proofs.Following.{last_all}
 use Rattle.dali_single.specs.Stands.{core}
 use Rattle.dali_single.specs.Operated.{IsHeldBy, AreWritten, Goes, IsLeftOf}
 use Rattle.dali_facts.specs.Undos.{MayBePerformed}
+use Rattle.dali_facts.proofs.Undos.{all_dropped}
 use Rattle.dali_single.specs.Single.{OthersStay, IsGone, AreCovered, Keeps}
 use Rattle.dali_single.specs.Ending.{IsBackOf, IsAtWork, IsEnded, IsStillAtWork, Undone, UndoesFrom}
 use Rattle.dali_single.proofs.Holding.{holds_put, holds_further}
-use Rattle.dali_single.proofs.Lists.{set_same, get_set, all_both, logged_on}
+use Rattle.dali_single.proofs.Lists.{logged_on}
 use Rattle.dali_single.proofs.Leading.{leads_on, leads_there, steps_on, stays_free, goes_on}
 use Rattle.dali_single.proofs.Writing.{IsWay, IsSameWay, opened_by, held_open}
 use Rattle.dali_single.proofs.Going.{changes_popped, both_steps, alive, row_apart, row_there}
 use Rattle.dali_single.proofs.Reaching.{kind_in}
 use Rattle.dali_single.proofs.Measure.{drop_one}
-use Rattle.dali_single.proofs.Calling.{all_undos}
 
 -- ---- the operation of an undo
 pub record Rewritten (p : TakeBack) (g : RegionState) (q : TakeBack) (h : RegionState) : Type 0 where
@@ -143,11 +145,6 @@ next_last us u e = by_test (nat_lt 0 (length us)) refl
         never : (let n : Option Pending = None in n ≡ Some u) → ⊥
         never f = cc
 
-dropped : (P : Pending → Type 0) (us : List Pending) → AllByRecursion P us → AllByRecursion P (drop_last us)
-dropped P [] h = tt
-dropped P (u ∷ []) h = tt
-dropped P (u ∷ v ∷ us) h = (h.0, dropped P (v ∷ us) h.1)
-
 -- ---- one undo, in a core
 one_led : (L : List Record) (rs : List RegionState) (y : SystemState) (v : VaultState) (t : ℕ) (u : Pending) (b : Block) (g opened : RegionState) (xs : List RegionStep) → Is64 t → state_of y t ≡ Some Live
     → last_of (undos_at y.table t) ≡ Some u → MayBePerformed y t u → IsMadeOf u b → y.stop ≡ None → slice_get rs u.region ≡ Some g → Goes t g xs opened → IsOpen opened t b
@@ -218,7 +215,7 @@ one_undone rs y z t r p q u g h fits whole lives covered txn next region is at o
       others = λ n e. (row_apart y.table t n without_last e, λ k. refl);
       stop = refl;
       holds = holds_put rs u.region g (touched o.opened) (ap (slice_get rs) region ∙ at) refl;
-      covered = subst (AllByRecursion (MayBePerformed (back_logged y t o.block) t)) (sym popped) (all_undos (MayBePerformed y t) (MayBePerformed (back_logged y t o.block) t) (drop_last (undos_at y.table t)) (λ w may. record { spelled = may.spelled; kind = may.kind; lock = may.lock }) (dropped (MayBePerformed y t) (undos_at y.table t) covered));
+      covered = subst (AllByRecursion (MayBePerformed (back_logged y t o.block) t)) (sym popped) (all_weaker (MayBePerformed y t) (MayBePerformed (back_logged y t o.block) t) (drop_last (undos_at y.table t)) (λ w may. record { spelled = may.spelled; kind = may.kind; lock = may.lock }) (all_dropped (MayBePerformed y t) (undos_at y.table t) covered));
       leads = λ L v work.
           one_led L rs y v t u o.block g o.opened o.steps fits lives last (last_all (MayBePerformed y t) (undos_at y.table t) u covered last) (subst (λ (n : Option Pending). IsUndoBlock n o.block) next o.of) o.runs
           (ap (slice_get rs) region ∙ at) (subst (λ (n : ℕ). Goes n g o.steps o.opened) txn o.goes) (subst (λ (n : ℕ). IsOpen o.opened n o.block) txn o.is_open) work;
@@ -264,7 +261,7 @@ undoes_further rs rs' rs'' y y' y'' t a b = record {
         leads = leads_on false t L one.log two.log (core rs y v) (core rs' y' v) (core rs'' y'' v) one.steps two.steps one.leads two.leads;
         own = one.own ++ two.own;
         logged = logged_on L one.log two.log one.own two.own one.logged two.logged;
-        backs = all_both (IsBackOf t) one.own two.own one.backs two.backs;
+        backs = all_append (IsBackOf t) one.own two.own one.backs two.backs;
         at = two.at;
       };
 }
@@ -288,12 +285,12 @@ abort_ends rs rs' y y1 z t u none runs is L v work =
 
 -- its row and its locks are gone, and those of others stay
 pub ended_others : (y z : SystemState) (t : ℕ) → z ≡ ended_logged y t → OthersStay y t z
-ended_others y z t is = subst (λ (x : SystemState). OthersStay y t x) (sym is) (λ n e. (get-ended y.table t n ∙ ap (λ (b : Bool). if b then None else get y.table n) e, λ k. get-locks_without y.locks t n k ∙ ap (λ (b : Bool). if b then None else get y.locks (n, k)) e))
+ended_others y z t is = subst (λ (x : SystemState). OthersStay y t x) (sym is) (λ n e. (get-ended y.table t n ∙ ap (λ (b : Bool). if b then None else get y.table n) e, λ k. locks_without_at y.locks t n k ∙ ap (λ (b : Bool). if b then None else get y.locks (n, k)) e))
 
 pub ended_gone : (y z : SystemState) (t : ℕ) → z ≡ ended_logged y t → IsGone z t
 ended_gone y z t is = subst (λ (x : SystemState). IsGone x t) (sym is) (
   get-ended y.table t t ∙ ap (λ (b : Bool). if b then None else get y.table t) self,
-  λ k. get-locks_without y.locks t t k ∙ ap (λ (b : Bool). if b then None else get y.locks (t, k)) self,
+  λ k. locks_without_at y.locks t t k ∙ ap (λ (b : Bool). if b then None else get y.locks (t, k)) self,
 )
   where
     self : (t == t) ≡ true

@@ -1,5 +1,5 @@
 -- The words of an operation are written, one after another, and the operation is logged.
-use Rattle.std.proofs.Common.{inr, ◌≡◌, ℕ, ◌+◌, ◌-◌, ◌<◌, Bool, true, false, List, [], ◌∷◌, ◌++◌, Option, Some, None, IsSome, IsSomeAnd, IfSome, OnErr, Result, Ok, Err, refl, sym, ap, subst, ◌∙◌, length, arith}
+use Rattle.std.proofs.Common.{inr, ◌≡◌, ℕ, ◌+◌, ◌-◌, ◌<◌, Bool, true, false, List, [], ◌∷◌, ◌++◌, Option, Some, None, IsSome, IsSomeAnd, IfSome, Result, Ok, Err, refl, sym, ap, subst, ◌∙◌, length, arith}
 use Rattle.std.specs.Prelude.{◌^◌, not, ◌&&◌}
 use Rattle.dali_record.specs.declared.operations.Block.{Block}
 use Rattle.dali_record.specs.declared.records.Record.TheVariants.{Forward}
@@ -35,10 +35,6 @@ IsWay o g = IsSomeAnd o (λ o. IsUnderWay o.txn o.block o.left o.taken g)
 
 abbrev pub IsSameWay : Option Operation → Option Operation → Type 0
 IsSameWay o p = IfSome o (λ o. IsSomeAnd p (λ p. (p.txn ≡ o.txn) × (p.block ≡ o.block)))
-
-pub on_err : {T E : Type 0} (r : Result T E) (P : Type 0) → P → OnErr r P
-on_err (Ok x) P p = tt
-on_err (Err e) P p = p
 
 -- ---- one word more
 pub more_written : (g0 g h : RegionState) → AreWritten g0 g → IsUpdated g h → AreWritten g0 h
@@ -128,7 +124,7 @@ left_over p q g h k w is =
 pub as_before : (p q r : Planned) (g h : RegionState) → p.operation ≡ None → Written p g q h → r ≡ with_operation q None → r ≡ p
 as_before p q r g h closed w is = is ∙ (ap (λ (x : Planned). with_operation x None) w.is ∙ ap (with_operation p) (sym closed))
 
-error_is : (a b : SystemError) → (let r : Result Receipt SystemError = Err b in let q : Result Receipt SystemError = Err a in q ≡ r) → a ≡ b
+pub error_is : (a b : SystemError) → (let r : Result Receipt SystemError = Err b in let q : Result Receipt SystemError = Err a in q ≡ r) → a ≡ b
 error_is a b e = cc
 
 pub refused_so : (precheck : Bool) (p q : Planned) (g h : RegionState) (y : SystemState) (cause : SystemError) → Written p g q h → Ok tt ≡ latch_answer (not (is_back p) && precheck) g

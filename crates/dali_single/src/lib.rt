@@ -11,7 +11,7 @@ mod settling;
 pub use call::perform;
 pub use ending::abort;
 pub use error::{CallError, StepError};
-pub use settling::{commit, settle};
+pub use settling::{commit, free, settle};
 
 #[cfg(test)]
 mod tests;

@@ -49,8 +49,9 @@ fn write_freed(operation: &mut Operation, region: &mut Region)
     while operation.update(region) {}
 }
 
-// Frees what one undo would put back, and logs its block. Answers the number of its record.
-fn free(
+/// Frees for good what one undo would put back, and logs its block. Answers the number that its record takes. Where that is
+/// refused the region is as before but for an operation that was taken back, and the system is as it was.
+pub fn free(
     removal: &Pending,
     region: &mut Region,
     system: &mut System,

@@ -7,6 +7,7 @@ use Rattle.std.proofs.lemmas.List.Elements.{filter-append}
 use Rattle.std.proofs.lemmas.Bool.Decides.{eqb_tells}
 use Rattle.std.proofs.lemmas.Bool.{eqb-true, eq-eqb, ne_eqb, and_parts}
 use Rattle.std.proofs.lemmas.Slice.Eq.{bytes_eq-Decides}
+use Rattle.dali_lists.proofs.Tests.{not_itself}
 use Rattle.dali_geometry.specs.Sizes.{Sizes}
 use Rattle.dali_geometry.specs.Places.{is_place}
 use Rattle.dali_record.specs.declared.operations.Pending.{Pending}
@@ -25,7 +26,6 @@ use Rattle.dali_slots.proofs.ValueSlots.{Stands, Reached}
 use Rattle.dali_slots.proofs.CallProgress.{Own, IsOn, somewhere}
 use Rattle.dali_slots.proofs.CallKey.{IsOff, off_other, off_on}
 use Rattle.dali_slots.proofs.RunningTxn.{Runs, Goes, OnOrOff, IsSafe, beyond, level_same}
-use Rattle.dali_record.proofs.Chains.{not_both}
 
 -- ---- equal calls and answers
 same_call_is : (d c : Call) → same_call d c ≡ true → d ≡ c
@@ -61,14 +61,10 @@ somewhere_on s key at (Get k) (Odd p) h = sym (eqb-true k key (and_parts (k == k
 somewhere_on s key at _ _ h = absurd (cc (h))
 
 pub answers_on : (s : Sizes) (q : Progress) (c : Call) (a : Answer) → answers s q c a ≡ true → IsOn (call_key c) q × (q ≢ Fresh)
-answers_on s Fresh c a h = absurd (cc (h))
-answers_on s (Walking key region looked) c a h = absurd (cc (h))
 answers_on s (Nowhere key) c a h = (nowhere_on key c a h, λ e. cc (e))
 answers_on s (Somewhere key region entry at) c a h = (somewhere_on s key at c a h, λ e. cc (e))
-answers_on s (Storing key w region tried) c a h = absurd (cc (h))
-answers_on s (Adding key w at region tried) c a h = absurd (cc (h))
-answers_on s (Removing key region entry at) c a h = absurd (cc (h))
 answers_on s (Finished d b) c a h = (ap call_key (same_call_is d c (and_parts (same_call d c) (same_answer b a) h).0), λ e. cc (e))
+answers_on s _ c a h = absurd (cc (h))
 
 -- what an answer says of the value, and of the slots where nothing is taken back
 abbrev pub Answered : Sizes → Flags → ℕ → Part → Option (List ℕ) → Call → Answer → Type 0
@@ -82,9 +78,9 @@ nowhere_answers s F k P v key _ _ none stands reached h = absurd (cc (h))
 
 somewhere_answers : (s : Sizes) (F : Flags) (k : ℕ) (P : Part) (v : Option (List ℕ)) (key at : ℕ) (x : List ℕ) (c : Call) (a : Answer) → v ≡ Some x → is_place s at ≡ true → Stands s P v → Reached s F k P → answers_somewhere s key at c a ≡ true → Answered s F k P v c a
 somewhere_answers s F k P v key at x (Insert l y) Exists some place stands reached h = (v, rw some refl, (λ z. refl), λ z. (stands, reached))
-somewhere_answers s F k P v key at x (Update l y) (Odd p) some place stands reached h = absurd (not_both (is_place s at) (and_parts ((l == key) && (p == at)) (not (is_place s at)) h).1 place)
-somewhere_answers s F k P v key at x (Delete l) (Odd p) some place stands reached h = absurd (not_both (is_place s at) (and_parts ((l == key) && (p == at)) (not (is_place s at)) h).1 place)
-somewhere_answers s F k P v key at x (Get l) (Odd p) some place stands reached h = absurd (not_both (is_place s at) (and_parts ((l == key) && (p == at)) (not (is_place s at)) h).1 place)
+somewhere_answers s F k P v key at x (Update l y) (Odd p) some place stands reached h = absurd (not_itself (is_place s at) (and_parts ((l == key) && (p == at)) (not (is_place s at)) h).1 place)
+somewhere_answers s F k P v key at x (Delete l) (Odd p) some place stands reached h = absurd (not_itself (is_place s at) (and_parts ((l == key) && (p == at)) (not (is_place s at)) h).1 place)
+somewhere_answers s F k P v key at x (Get l) (Odd p) some place stands reached h = absurd (not_itself (is_place s at) (and_parts ((l == key) && (p == at)) (not (is_place s at)) h).1 place)
 somewhere_answers s F k P v key at x _ _ some place stands reached h = absurd (cc (h))
 
 own_answers : (s : Sizes) (F : Flags) (k : ℕ) (P R : Part) (v : Option (List ℕ)) (q : Progress) (c : Call) (a : Answer) → Stands s R v → Reached s F k R → Own s F k P R v q → answers s q c a ≡ true → Answered s F k P v c a

@@ -31,24 +31,12 @@ IsOff k (Finished c a) = call_key c ≢ k
 -- a call on j is off k, or on it
 pub off_other : (j k : ℕ) (p : Progress) → IsOn j p → j ≢ k → IsOff k p
 off_other j k Fresh h n = tt
-off_other j k (Walking key region looked) h n = λ e. n (sym h ∙ e)
-off_other j k (Nowhere key) h n = λ e. n (sym h ∙ e)
-off_other j k (Somewhere key region entry at) h n = λ e. n (sym h ∙ e)
-off_other j k (Storing key w region tried) h n = λ e. n (sym h ∙ e)
-off_other j k (Adding key w at region tried) h n = λ e. n (sym h ∙ e)
-off_other j k (Removing key region entry at) h n = λ e. n (sym h ∙ e)
-off_other j k (Finished c a) h n = λ e. n (sym h ∙ e)
+off_other j k _ h n = λ e. n (sym h ∙ e)
 
 -- a call that is off k and on k has no block yet
 pub off_on : (k : ℕ) (p : Progress) → IsOff k p → IsOn k p → p ≡ Fresh
 off_on k Fresh n h = refl
-off_on k (Walking key region looked) n h = absurd (n h)
-off_on k (Nowhere key) n h = absurd (n h)
-off_on k (Somewhere key region entry at) n h = absurd (n h)
-off_on k (Storing key w region tried) n h = absurd (n h)
-off_on k (Adding key w at region tried) n h = absurd (n h)
-off_on k (Removing key region entry at) n h = absurd (n h)
-off_on k (Finished c a) n h = absurd (n h)
+off_on k _ n h = absurd (n h)
 
 -- ---- an operation of a call is on the key of the call
 look_on : (s : Sizes) (key region looked : ℕ) (o : Outcome) (p : Progress) → after_look s key region looked o ≡ Some p → IsOn key p

@@ -3,7 +3,7 @@
 use Rattle.std.proofs.Common.{◌≡◌, ℕ, zero, suc, ◌+◌, ◌<◌, ◌≤◌, Bool, true, false, List, [], ◌∷◌, length, Option, Some, None, refl, ap, sym, subst, ◌∙◌, ◌⊎◌, inl, inr, ⊎_elim, ◌≢◌, arith}
 use Rattle.std.specs.Prelude.{◌==◌, if◌then◌else◌, nat_le, nat_lt, bytes_eq, ⊤}
 use Rattle.std.proofs.lemmas.Bool.Decides.{eqb_tells, nat_tests}
-use Rattle.std.proofs.lemmas.Bool.{eqb-true, and_parts}
+use Rattle.std.proofs.lemmas.Bool.{eqb-true, and_parts, ltb-true}
 use Rattle.std.proofs.lemmas.Slice.Eq.{bytes_eq-Decides}
 use Rattle.dali_words.specs.Values.{packed, unpacked, is_size, IsValue}
 use Rattle.dali_geometry.specs.Sizes.{Sizes}
@@ -130,8 +130,6 @@ own_look s F k R v looked o p stands reached below none some (inr h) e = go (F (
             split n = grind arith
 
 -- ---- the operations behind the walk
-less_of : (a b : ℕ) → nat_lt a b ≡ true → a < b
-less_of a b z = grind (arith, nat_tests)
 
 -- a put where nothing stands
 pub own_put :
@@ -204,7 +202,7 @@ own_add s W V F G k P R v w at r tried o u p was own stands reached (inr h) some
         let y : Some (Adding k w at (next_index s r) (tried + 1)) ≡ Some p = rw l at x in
         let same : p ≡ Adding k w at (next_index s r) (tried + 1) = cc (y) in
         let one : suc tried ≡ tried + 1 = omega arith in
-        rw same ((own.0, own.1, own.2, now ∙ own.3, less_of (tried + 1) s.index l, ap (next_index s) own.5 ∙ ap (λ z. walk s z (home s k)) one, raised), refl)
+        rw same ((own.0, own.1, own.2, now ∙ own.3, ltb-true (tried + 1) s.index l, ap (next_index s) own.5 ∙ ap (λ z. walk s z (home s k)) one, raised), refl)
     by_count false l x =
         let y : Some (Finished (Insert k w) FullIndex) ≡ Some p = rw l at x in
         let same : p ≡ Finished (Insert k w) FullIndex = cc (y) in

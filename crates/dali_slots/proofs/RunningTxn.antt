@@ -16,7 +16,7 @@ use Rattle.dali_record.specs.declared.operations.Pending.{Pending}
 use Rattle.dali_record.specs.declared.records.Call.{Call}
 use Rattle.dali_record.specs.declared.records.Answer.{Answer}
 use Rattle.dali_record.specs.Log.{undo_added}
-use Rattle.dali_record.specs.Calls.{Progress, Fresh, Walking, Nowhere, Somewhere, Storing, Adding, Removing, Finished, follow, answers, takes_back}
+use Rattle.dali_record.specs.Calls.{Progress, Fresh, Adding, Finished, follow, answers, takes_back}
 use Rattle.dali_record.specs.Legal.{Working, Way, Onward, TakingBack, Unwinding, is_onward, is_unwinding, is_level, on_kind}
 use Rattle.dali_history.specs.Serial.{value_after, call_key, values_after, on_key}
 use Rattle.dali_history.specs.Blocks.{HasValue}
@@ -58,14 +58,9 @@ pub record Runs (s : Sizes) (F : Flags) (k : ℕ) (o : Option (List ℕ)) (P : P
 
 -- ---- flags rise
 own_rises : (s : Sizes) (F G : Flags) (k : ℕ) (P R : Part) (v : Option (List ℕ)) (q : Progress) → Rises F G → Own s F k P R v q → Own s G k P R v q
-own_rises s F G k P R v Fresh up h = h
-own_rises s F G k P R v (Walking key region looked) up h = h
-own_rises s F G k P R v (Nowhere key) up h = h
-own_rises s F G k P R v (Somewhere key region entry at) up h = h
-own_rises s F G k P R v (Storing key w region tried) up h = h
 own_rises s F G k P R v (Adding key w at region tried) up h = (h.0, h.1, h.2, h.3, h.4, h.5, λ m b. up (walk s m (Rattle.dali_geometry.specs.Places.home s k)) (h.6 m b))
-own_rises s F G k P R v (Removing key region entry at) up h = h
 own_rises s F G k P R v (Finished c a) up h = (h.0, h.1, h.2, λ e. let x = h.3 e in (x.0, reached_rises s F G k P up x.1))
+own_rises s F G k P R v _ up h = h
 
 goes_rises : (s : Sizes) (F G : Flags) (k : ℕ) (P R : Part) (v : Option (List ℕ)) (y : Way) (q : Progress) → Rises F G → Goes s F k P R v y q → Goes s G k P R v y q
 goes_rises s F G k P R v Onward q up h = ⊎_elim (λ a. inl (a.0, own_rises s F G k P R v q up a.1)) (λ a. inr a) h

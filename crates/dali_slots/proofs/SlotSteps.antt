@@ -6,7 +6,7 @@ use Rattle.std.proofs.lemmas.Bool.Decides.{eqb_tells}
 use Rattle.dali_words.specs.Values.{packed}
 use Rattle.dali_geometry.specs.Sizes.{Sizes}
 use Rattle.dali_record.specs.declared.operations.Op.{Op}
-use Rattle.dali_record.specs.declared.operations.Op.TheVariants.{Look, Add, KillEntry, Put, Read, Change, KillCell, FreeCell, ReviveCell, Restore, FreeEntry, ReviveEntry}
+use Rattle.dali_record.specs.declared.operations.Op.TheVariants.{Look, Add, KillEntry, Put, Read, Change, KillCell}
 use Rattle.dali_record.specs.declared.operations.Outcome.{Outcome}
 use Rattle.dali_record.specs.declared.operations.Undo.{Undo}
 use Rattle.dali_record.specs.declared.operations.Undo.TheVariants.{FreeCell as UndoFreeCell, ReviveCell as UndoReviveCell, Restore as UndoRestore, FreeEntry as UndoFreeEntry, ReviveEntry as UndoReviveEntry}
@@ -56,11 +56,7 @@ forward_changes s W V F G k r (Read c) o u h kind f = (inl (h.0.0, h.0.2), stay 
     stay e = λ q g. rw e g
 forward_changes s W V F G k r (Change c v) o u h kind f = ⊎_elim (λ a. (inr (UndoRestore c a.0 a.1, 1 ∷ length v ∷ packed v, a.3, a.5, (kind, length v ∷ packed v, refl, a.4.2), sym a.4.0), λ q g. rw (a.6) g)) (λ a. (inl (a.0.0, a.0.2), λ q g. rw (a.0.1) g)) (h f.0 f.1)
 forward_changes s W V F G k r (KillCell c) o u h kind f = ⊎_elim (λ a. (inr (UndoReviveCell c, 2 ∷ a.0 ∷ a.1, a.3, a.5, (kind, a.0 ∷ a.1, refl), sym a.4.0), λ q g. rw (a.6) g)) (λ a. (inl (a.0.0, a.0.2), λ q g. rw (a.0.1) g)) (h f.0 f.1)
-forward_changes s W V F G k r (FreeCell c) o u h kind f = absurd f
-forward_changes s W V F G k r (ReviveCell c) o u h kind f = absurd f
-forward_changes s W V F G k r (Restore c n vs) o u h kind f = absurd f
-forward_changes s W V F G k r (FreeEntry e) o u h kind f = absurd f
-forward_changes s W V F G k r (ReviveEntry e) o u h kind f = absurd f
+forward_changes s W V F G k r _ o u h kind f = absurd f
 
 -- the slots of other keys stay
 pub changed_beside : (s : Sizes) (W V : World) (k r : ℕ) (u : Option Undo) (q : ℕ) → Changed s W V k r u → q ≢ k → V q ≡ W q

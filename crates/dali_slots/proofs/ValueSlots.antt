@@ -3,6 +3,7 @@
 --     Reach s F k r            the walk of k comes to r: each region before it has its flag raised
 --     Stands s k P o           the slots P hold the value o of key k and nothing else that is live
 use Rattle.std.proofs.Common.{◌≡◌, ℕ, ◌<◌, true, List, [], ◌∷◌, length, Option, Some, None, refl, ap, sym, subst, ◌∙◌, ◌⊎◌, inl, ⊎_elim, ◌≢◌, arith}
+use Rattle.dali_lists.proofs.Numbers.{one_not_two}
 use Rattle.dali_words.specs.Values.{unpacked, is_size}
 use Rattle.dali_geometry.specs.Sizes.{Sizes}
 use Rattle.dali_geometry.specs.Places.{is_place, region_at, cell_at}
@@ -39,9 +40,6 @@ Reached s F k P = (r i x : ℕ) (xs : List ℕ) → r < s.index → P r i ≡ x 
 pub reached_rises : (s : Sizes) (F G : Flags) (k : ℕ) (P : Part) → Rises F G → Reached s F k P → Reached s G k P
 reached_rises s F G k P up h r i x xs below e = reach_rises s F G k r up (h r i x xs below e)
 
-one_two : ◌≡◌ {A = ℕ} 1 2 → ⊥
-one_two e = omega (arith, e)
-
 -- the live entry is the only one
 pub lives_entry : (s : Sizes) (P : Part) (v : List ℕ) (h : Lives s P v) (r i : ℕ) (xs : List ℕ) → r < s.index → P r i ≡ 1 ∷ xs → (r ≡ h.region) × (i ≡ h.slot) × (xs ≡ h.at ∷ [])
 lives_entry s P v h r i xs below e = ⊎_elim same other (same_slot r i h.region h.slot)
@@ -55,13 +53,13 @@ lives_entry s P v h r i xs below e = ⊎_elim same other (same_slot r i h.region
     other : (r ≢ h.region) ⊎ (i ≢ h.slot) → (r ≡ h.region) × (i ≡ h.slot) × (xs ≡ h.at ∷ [])
     other a =
         let heap = place_heap s h.at h.is_place in
-        absurd (one_two (h.others r i a (inl (λ x. omega arith)) 1 xs e))
+        absurd (one_not_two (h.others r i a (inl (λ x. omega arith)) 1 xs e))
 
 -- the slots stand for one value at most
 pub stands_same : (s : Sizes) (P : Part) (o p : Option (List ℕ)) → Stands s P o → Stands s P p → o ≡ p
 stands_same s P None None h g = refl
-stands_same s P None (Some v) h g = absurd (one_two (h g.region g.slot 1 (g.at ∷ []) g.entry))
-stands_same s P (Some v) None h g = absurd (one_two (g h.region h.slot 1 (h.at ∷ []) h.entry))
+stands_same s P None (Some v) h g = absurd (one_not_two (h g.region g.slot 1 (g.at ∷ []) g.entry))
+stands_same s P (Some v) None h g = absurd (one_not_two (g h.region h.slot 1 (h.at ∷ []) h.entry))
 stands_same s P (Some v) (Some w) h g =
     let e = lives_entry s P v h g.region g.slot (g.at ∷ []) g.in_index g.entry in
     let at : g.at ≡ h.at = let x = e.2 in cc (x) in
@@ -89,7 +87,7 @@ stands_freed s P (Some v) r i ys e h = record {
 }
   where
     apart : (q j : ℕ) (xs : List ℕ) → P q j ≡ 1 ∷ xs → (q ≢ r) ⊎ (j ≢ i)
-    apart q j xs g = ⊎_elim (λ a. let there : P q j ≡ P r i = ap (λ x. P x j) a.0 ∙ ap (λ x. P r x) a.1 in let no : 1 ∷ xs ≡ 2 ∷ ys = sym g ∙ there ∙ e in absurd (one_two (cc (no)))) (λ a. a) (same_slot q j r i)
+    apart q j xs g = ⊎_elim (λ a. let there : P q j ≡ P r i = ap (λ x. P x j) a.0 ∙ ap (λ x. P r x) a.1 in let no : 1 ∷ xs ≡ 2 ∷ ys = sym g ∙ there ∙ e in absurd (one_not_two (cc (no)))) (λ a. a) (same_slot q j r i)
 
 -- ---- what calls leave
 -- a value is put into the cell that an entry names

@@ -1,6 +1,7 @@
 -- A run goes on along steps that call no store.
 use Rattle.std.proofs.Common.{◌≡◌, ℕ, Bool, true, false, not, ◌&&◌, List, [], ◌∷◌, Option, refl}
 use Rattle.std.specs.List.{list_all}
+use Rattle.std.proofs.lemmas.Bool.{and_parts}
 use Rattle.dali_record.specs.declared.records.Record.{Record}
 use Rattle.dali_record.specs.Files.{Files}
 use Rattle.dali_store.specs.Store.{Files as Disk}
@@ -33,10 +34,6 @@ pub both_true : (a b : Bool) → (not a && b) ≡ true → (a ≡ false) × (b �
 both_true true b e = absurd cc
 both_true false b e = (refl, e)
 
-and_true : (a b : Bool) → (a && b) ≡ true → (a ≡ true) × (b ≡ true)
-and_true true b e = (refl, e)
-and_true false b e = absurd cc
-
 abbrev stepped : Point → Step → Moment → Point
 stepped p x n = record p { log = n.log; core = n.core; audits = n.audits; copies = copies_after p.core x p.copies }
 
@@ -65,7 +62,7 @@ module _ {V : Type 0} (told : V → Option Disk) (may_leave : V → Disk → Typ
   pub quiet_course : QuietCourse told may_leave faults
   quiet_course s B p n [] v at quiet course = record { to = p; course = refl; moment = course; is = at; keeps = record { under_way = λ h k way. way; whole = λ whole. whole; held = λ held. held } }
   quiet_course s B p n (x ∷ xs) v at quiet course =
-      let parts = and_true (is_quiet x) (list_all is_quiet xs) quiet in
+      let parts = and_parts (is_quiet x) (list_all is_quiet xs) quiet in
       let first = one_on s B p course.0 x v at parts.0 course.1 in
       let rest = quiet_course s B (stepped p x course.0) n xs v first.is parts.1 course.2 in
       record {

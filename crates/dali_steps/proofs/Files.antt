@@ -3,7 +3,6 @@ use Rattle.std.proofs.Common.{◌≡◌, ℕ, Bool, true, false, List, Option, S
 use Rattle.dali_vault.specs.declared.error.VaultError.{VaultError}
 use Rattle.dali_vault.specs.declared.error.VaultError.TheVariants.{Fault, Stopped}
 use Rattle.dali_store.specs.declared.store.FileName.{FileName}
-use Rattle.dali_store.specs.declared.store.FileName.TheVariants.{Anchor, ImageA, ImageB}
 use Rattle.dali_store.specs.Store.{Files as Disk, file_of, SameBut, Holds, HoldsIn, TornTold}
 use Rattle.dali_region.specs.declared.Side.{Side}
 use Rattle.dali_region.specs.declared.Side.TheVariants.{A, B}
@@ -12,11 +11,6 @@ use Rattle.dali_traces.specs.Disks.{image_file, image_name}
 pub named : (side : Side) (fs : Disk) → file_of (image_name side) fs ≡ image_file side fs
 named A fs = refl
 named B fs = refl
-
--- the anchor's move leaves both image files
-pub image_stays : (c d : Disk) (side : Side) → SameBut Anchor d c → image_file side c ≡ image_file side d
-image_stays c d A same = same ImageA (λ e. absurd (cc))
-image_stays c d B same = same ImageB (λ e. absurd (cc))
 
 -- the other files stay
 pub torn_over : (f : FileName) (at n : ℕ) (old new : Option Disk) (P Q : Disk → Type 0) → TornTold f at n old new → ((a b : Disk) → SameBut f a b → P a → Q b) → IfSome old P → IfSome new Q

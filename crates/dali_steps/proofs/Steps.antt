@@ -2,6 +2,7 @@
 use Rattle.std.proofs.Common.{◌≡◌, ℕ, ◌+◌, ◌<◌, ◌≤◌, ◌^◌, true, false, cond, List, [], ◌∷◌, length, Option, Some, None, IfSome, is_some, refl, ap, sym, subst, ◌∙◌, arith}
 use Rattle.std.specs.Prelude.{⊤, ◌==◌, ◌&&◌}
 use Rattle.std.proofs.lemmas.Option.{IfSome_then}
+use Rattle.std.proofs.lemmas.Bool.{eq-eqb}
 use Rattle.dali_geometry.specs.Places.{regions}
 use Rattle.dali_record.specs.declared.records.Record.{Record}
 use Rattle.dali_record.specs.Spelling.{words_bytes}
@@ -11,7 +12,6 @@ use Rattle.dali_system.specs.Keeps.{with_region}
 use Rattle.dali_store.specs.declared.store.FileName.TheVariants.{Log, Anchor}
 use Rattle.dali_store.specs.Store.{Files as Disk, file_of, Holds, TornIn}
 use Rattle.dali_store.specs.Faults.{Rose}
-use Rattle.dali_counts.proofs.Lists.{same_number}
 use Rattle.dali_batch.specs.Appending.{bodies_of, SomeAdded, AllAdded}
 use Rattle.dali_system.specs.State.{VaultState}
 use Rattle.dali_system.specs.Run.{HasRisen, no_image}
@@ -21,17 +21,19 @@ use Rattle.dali_system.specs.Courses.{Flushes, Faults, ReadFails}
 use Rattle.dali_crash.specs.Checkpoints.{Head, StoreStep, Does, Copies, Skips, CopyFails, WritesHead, HeadFails, Syncs, SyncFails, Turns, TurnFails, Point, target, head_with, synced_with, copies_with, copies_after, copy_at, with_fault, with_current, IsFault, IsPointStep}
 use Rattle.dali_crash.specs.StoreRuns.{StoreRun}
 use Rattle.dali_system.proofs.Flushes.{end_is_small}
+use Rattle.dali_system.proofs.ImageSteps.{side_self}
 use Rattle.dali_crash.proofs.StoreRuns.{bare_store_course_keeps, fewer_runs, current_is_small}
 use Rattle.dali_crash.proofs.Traces.{acknowledged_traces, start_runs}
 use Rattle.dali_crash.specs.Traces.{Start, bases_of, start_point}
+use Rattle.dali_crash.proofs.StepLeaves.{longer_parts}
 use Rattle.dali_traces.specs.Disks.{header_bytes, table_bytes, image_file, image_name, AllSpell}
 use Rattle.dali_traces.specs.Places.{place_of}
 use Rattle.dali_traces.specs.Anchors.{HasMoved, MayHaveMoved}
 use Rattle.dali_traces.specs.Bridges.{TracedTo, HoldsNext, body_at, batches_on, is_image_write}
 use Rattle.dali_traces.specs.Images.{next_file}
 use Rattle.dali_traces.specs.NewFiles.{ReadsCopies, IsUnderWay, IsWholeFile}
-use Rattle.dali_traces.proofs.Bridges.{flush_goes_on, fault_goes_on, quiet_goes_on, write_goes_on, turn_goes_on, turn_fault_goes_on, flush_is_right, are_right, store_starts, same_image, write_is_right, turn_is_right}
-use Rattle.dali_traces.proofs.Images.{same_self, quiet_is_read, held_goes_on, sync_holds}
+use Rattle.dali_traces.proofs.Bridges.{flush_goes_on, fault_goes_on, quiet_goes_on, write_goes_on, turn_goes_on, turn_fault_goes_on, flush_is_right, are_right, store_starts, same_image, write_is_right, turn_is_right, other_files}
+use Rattle.dali_traces.proofs.Images.{quiet_is_read, held_goes_on, sync_holds}
 use Rattle.dali_traces.proofs.NewFiles.{start_reads, quiet_reads, header_reads, copy_reads, table_reads, copy_continues, header_begins, table_ends, quiet_continues, skip_continues, has_places}
 use Rattle.dali_vault.specs.Vaulted.{Vaulted, grown, moved, with_store}
 use Rattle.dali_vault.specs.Vaulted as vaulted
@@ -39,8 +41,8 @@ use Rattle.dali_vault.proofs.Serving.{still, both}
 use Rattle.dali_steps.specs.At.{IsVault, IsAt}
 use Rattle.dali_steps.specs.Said.{IsOk, HasWritten}
 use Rattle.dali_steps.specs.Called.{KeepsImage, FlushGoes, FlushFaults, FlushIsRight, CopyGoes, CopyFaults, SkipGoes, WriteIsRight, TurnIsRight, HeaderGoes, TableGoes, HeadFaults, SyncGoes, SyncFaults, TurnGoes, TurnFaults, ReadStays, ReadFaults, QuietGoes, QuietKeeps, RunBegins, CrashIsRight, AcknowledgedStands, PlacesAreSmall, PlacesStand}
-use Rattle.dali_steps.proofs.Frames.{spelled_frame, frame_is_small, longer_is, longer_current}
-use Rattle.dali_steps.proofs.Files.{named, image_stays, torn_over, held_over, same_told, if_both}
+use Rattle.dali_steps.proofs.Frames.{spelled_frame, frame_is_small, longer_is}
+use Rattle.dali_steps.proofs.Files.{named, torn_over, held_over, same_told, if_both}
 
 -- ---- counts of faults
 risen_from : (u n m : ℕ) → u ≡ n → Rose n m → HasRisen u m
@@ -109,7 +111,7 @@ module _ {V : Type 0} (told : V → Option Disk) (may_leave : V → Disk → Typ
           (at.reads (ran v w said.ok (ap (λ (z : Vaulted V). z.stopped) said.vault)))
 
       current : q.core.vault.current ≡ p.core.vault.current
-      current = longer_current p.core.vault (frame_of p.log p.core)
+      current = longer_parts p.core.vault (frame_of p.log p.core)
 
       keeps : KeepsImage told may_leave faults p q v.store w.store
       keeps = record {
@@ -193,7 +195,7 @@ module _ {V : Type 0} (told : V → Option Disk) (may_leave : V → Disk → Typ
       files = writes s B p q (Copies r n) v w (place_of r) (length (words_bytes g.back)) said.ok.tells step refl (each_of (told v.store) said.crash) at.files
 
       back_is : g.back ≡ told_with p.told side r g.back side r
-      back_is = sym (ap (λ b. cond (b && (r == r)) g.back (p.told side r)) (same_self side) ∙ ap (λ b. cond b g.back (p.told side r)) (same_number r r refl))
+      back_is = sym (ap (λ b. cond (b && (r == r)) g.back (p.told side r)) (side_self side) ∙ ap (λ b. cond b g.back (p.told side r)) (eq-eqb r r refl))
 
       told_holds : (a b : Disk) → Holds (file_of (image_name side) a) (place_of r) (words_bytes g.back) (file_of (image_name side) b) → Holds (next_file p a) (place_of r) (words_bytes (q.told (target p) r)) (next_file p b)
       told_holds a b holds =
@@ -380,7 +382,7 @@ module _ {V : Type 0} (told : V → Option Disk) (may_leave : V → Disk → Typ
       }
 
       reads : IfSome (told w.store) (ReadsCopies q)
-      reads = torn_over Anchor v.current 2 (told v.store) (told w.store) (ReadsCopies p) (ReadsCopies q) said.torn (λ a b same. reads_stay s B p q Turns v a b at step refl (λ side. image_stays b a side same))
+      reads = torn_over Anchor v.current 2 (told v.store) (told w.store) (ReadsCopies p) (ReadsCopies q) said.torn (λ a b same. reads_stay s B p q Turns v a b at step refl (λ side. other_files b a side same))
           (at.reads (ran v w said.ok (ap (λ (z : Vaulted V). z.stopped) said.vault)))
 
       moves : ((c : Disk) → may_leave w.store c → HasMoved (may_leave v.store) v.current c) → (c : Disk) → may_leave w.store c → HasMoved (may_leave v.store) p.core.vault.current c

@@ -1,78 +1,33 @@
 -- A request for a lock, and an answer, in words of the log.
-use Rattle.std.proofs.Common.{◌≡◌, ℕ, Bool, true, false, not, ◌&&◌, List, Option, Some, None, IfOk, OnErr, Result, Ok, Err, refl, sym, ap, subst, ◌∙◌}
-use Rattle.std.specs.Prelude.{◌==◌, if◌then◌else◌}
-use Rattle.std.specs.FinMap.{get}
-use Rattle.std.proofs.lemmas.Bool.Decides.{Decides-eqb}
-use Rattle.std.proofs.lemmas.List.{append-nil}
+use Rattle.std.proofs.Common.{◌≡◌, ℕ, List, Some, IfOk, OnErr, Result, Ok, Err, refl, sym, ap, subst, ◌∙◌}
 use Rattle.dali_geometry.specs.Sizes.{Sizes}
 use Rattle.dali_record.specs.declared.records.Answer.{Answer}
-use Rattle.dali_record.specs.declared.records.Call.{Call}
 use Rattle.dali_record.specs.declared.records.Record.{Record}
 use Rattle.dali_record.specs.declared.records.Record.TheVariants.{Done}
-use Rattle.dali_record.specs.Legal.{Working, is_level}
 use Rattle.dali_region.specs.State.{RegionState}
 use Rattle.dali_locks.specs.declared.mode.Mode.{Mode}
-use Rattle.dali_locks.specs.declared.mode.Mode.TheVariants.{Shared, Exclusive}
 use Rattle.dali_locks.specs.declared.mode.LockAnswer.{LockAnswer}
 use Rattle.dali_locks.specs.declared.mode.LockAnswer.TheVariants.{Granted, Wait, Busy}
-use Rattle.dali_locks.specs.Locks.{stronger_mode, IsAnswer}
-use Rattle.dali_locks.proofs.Changes.{get-locks_with}
+use Rattle.dali_locks.specs.Locks.{IsAnswer}
 use Rattle.dali_att.specs.declared.state.State.TheVariants.{Live}
-use Rattle.dali_system.specs.State.{SystemState, VaultState, lock_of}
-use Rattle.dali_system.specs.Run.{covers}
+use Rattle.dali_system.specs.State.{SystemState, VaultState}
 use Rattle.dali_system.specs.Steps.{granted, done_logged}
 use Rattle.dali_system.specs.Keeps.{HasRoom}
 use Rattle.dali_core.specs.declared.error.SystemError.{SystemError}
 use Rattle.dali_core.specs.declared.want.Want.TheVariants.{Done as AnswerIsNext}
 use Rattle.dali_core.specs.Asked.{after_request}
-use Rattle.dali_facts.specs.Plans.{AtWork}
 use Rattle.dali_core.specs.Served.{Served}
-use Rattle.dali_calls.specs.Steps.{call_key, is_get, answer_of}
+use Rattle.dali_calls.specs.Steps.{call_key, answer_of}
 use Rattle.dali_calls.specs.Plans.{Planned, mode_of, want_of, IsWhole}
-use Rattle.dali_calls.specs.Followed.{Follows}
 use Rattle.dali_calls.proofs.Answering.{done_follows}
 use Rattle.dali_calls.proofs.Stepping.{done_is_step}
 use Rattle.dali_single.specs.Stands.{core, IsAtRest, AtPlan}
 use Rattle.dali_single.specs.Single.{MayCall, OthersStay}
 use Rattle.dali_single.proofs.Going.{row_there}
-use Rattle.dali_single.proofs.Calling.{new_plan, lock_apart}
+use Rattle.dali_single.proofs.Calling.{new_plan, lock_apart, at_new}
 use Rattle.dali_stepwise.specs.Stepwise.{IsNew, IsAsked, AnswersNow}
 
 -- ---- the request
-new_follows : (s : Sizes) (L : List Record) (t : ℕ) (call : Call) (w : Working) → AtWork s L t w → is_level w ≡ true → Follows s L (new_plan s t call)
-new_follows s L t call w at level = record {
-  working = w;
-  at_work = at;
-  before = w.undos;
-  undos = sym (append-nil w.undos);
-  rests = λ e. level;
-  progress = λ e. absurd (cc);
-  mark = λ e. absurd (cc);
-  winds = λ e. absurd (cc);
-  onward = λ e. absurd (cc);
-}
-
-covered : (o : Option Mode) (b : Bool) → covers (Some (stronger_mode o (if b then Shared else Exclusive))) (not b) ≡ true
-covered None true = refl
-covered None false = refl
-covered (Some Shared) true = refl
-covered (Some Shared) false = refl
-covered (Some Exclusive) true = refl
-covered (Some Exclusive) false = refl
-
-both_same : (t k : ℕ) → ((t == t) && (k == k)) ≡ true
-both_same t k = ap (λ (b : Bool). b && (k == k)) ((Decides-eqb t t).1 refl) ∙ (Decides-eqb k k).1 refl
-
--- it has its lock
-lock_held : (y : SystemState) (t : ℕ) (call : Call) → covers (lock_of (granted y t (call_key call) (mode_of call)) t (call_key call)) (not (is_get call)) ≡ true
-lock_held y t call =
-    ap (λ (o : Option Mode). covers o (not (is_get call)))
-    (get-locks_with y.locks t (call_key call) (mode_of call) t (call_key call) ∙ ap (λ (b : Bool). if b then Some (stronger_mode (get y.locks (t, call_key call)) (mode_of call)) else get y.locks (t, call_key call)) (both_same t (call_key call)))
-    ∙ covered (get y.locks (t, call_key call)) (is_get call)
-
-at_new : (L : List Record) (rs : List RegionState) (y : SystemState) (v : VaultState) (t : ℕ) (call : Call) → MayCall L (core rs y v) t
-    → AtPlan L (core rs (granted y t (call_key call) (mode_of call)) v) (new_plan y.sizes t call)
-at_new L rs y v t call may = record { follows = new_follows y.sizes L t call may.working may.at_work may.level; holds = lock_held y t call; free = may.free }
 
 is_new : (p : Planned) (s : Sizes) → IsNew p → p.geometry ≡ s → p ≡ new_plan s p.txn p.call
 is_new p s new sizes = new ∙ ap (λ (x : Sizes). new_plan x p.txn p.call) sizes

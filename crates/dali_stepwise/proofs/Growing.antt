@@ -5,7 +5,7 @@ use Rattle.dali_record.specs.declared.records.Record.{Record}
 use Rattle.dali_record.specs.declared.records.Record.TheVariants.{Begin, Forward, Done, Commit, Ended, Solo, AuditBegin, Back}
 use Rattle.dali_system.specs.State.{CoreState}
 use Rattle.dali_system.specs.Steps.{audit_record}
-use Rattle.dali_system.specs.Courses.{Begins, Operates, TakesBack, Frees, Answers, Commits, Ends, AuditBegins, AuditEnds, Locks, Refuses, OnRegion, Passes, Dies, Claims, GivesBack, Recovers, Stops, Checkpoints, Takes, Flushes, Faults, ReadFails}
+use Rattle.dali_system.specs.Courses.{Begins, Operates, TakesBack, Frees, Answers, Commits, Ends, AuditBegins, AuditEnds, Locks, Refuses, OnRegion, Passes, Claims, Recovers, Takes, Faults}
 use Rattle.dali_stepwise.specs.Beside.{Grows, StepGrows, LedGrows}
 
 one_more : (L M : List Record) (c d e : CoreState) (x : Record) → M ≡ L ++ x ∷ [] → d ≡ e → e.system.since ≡ c.system.since ++ x ∷ [] → Grows L c M d
@@ -28,16 +28,11 @@ step_grows L M c d (Locks t k m) s = no_more L M c d _ s.2.0 s.2.1 refl
 step_grows L M c d (Refuses t k m h) s = no_more L M c d _ s.2.0 s.2.1 refl
 step_grows L M c d (OnRegion r x) s = no_more L M c d _ s.3.0 s.3.1 refl
 step_grows L M c d (Passes b r) s = no_more L M c d _ s.2.0 s.2.1 refl
-step_grows L M c d (Dies t o) s = no_more L M c d _ s.1.0 s.1.1 refl
 step_grows L M c d (Claims t) s = no_more L M c d _ s.2.0 s.2.1 refl
-step_grows L M c d (GivesBack t o) s = no_more L M c d _ s.1.0 s.1.1 refl
 step_grows L M c d (Recovers r) s = no_more L M c d _ s.3.0 s.3.1 refl
-step_grows L M c d Stops s = no_more L M c d _ s.1.0 s.1.1 refl
-step_grows L M c d (Checkpoints b) s = no_more L M c d _ s.1.0 s.1.1 refl
 step_grows L M c d Takes s = no_more L M c d _ s.0 s.1 refl
-step_grows L M c d Flushes s = no_more L M c d _ s.1.0 s.1.1 refl
 step_grows L M c d (Faults n) s = no_more L M c d _ s.2.0 s.2.1 refl
-step_grows L M c d (ReadFails n) s = no_more L M c d _ s.1.0 s.1.1 refl
+step_grows L M c d _ s = no_more L M c d _ s.1.0 s.1.1 refl
 
 pub led_grows : LedGrows
 led_grows precheck t L M c d [] l = no_more L M c d c (sym l.0) (sym l.1) refl

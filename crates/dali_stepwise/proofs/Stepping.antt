@@ -1,10 +1,11 @@
 -- A plan's next operation, among all regions and in words of the log; and the death in it.
-use Rattle.std.proofs.Common.{◌≡◌, ℕ, Bool, true, false, List, [], ◌∷◌, ◌++◌, Option, Some, IsSomeAnd, OnOk, IfErr, Result, Ok, Err, refl, sym, ap, subst, ◌∙◌, slice_get, slice_set}
+use Rattle.std.proofs.Common.{◌≡◌, ℕ, Bool, true, false, List, [], ◌∷◌, ◌++◌, Option, Some, IsSomeAnd, OnOk, Result, Ok, Err, refl, sym, ap, subst, ◌∙◌, slice_get, slice_set}
 use Rattle.std.specs.Prelude.{◌==◌}
 use Rattle.std.specs.Option.{option_map_or}
 use Rattle.std.specs.FinMap.{get}
 use Rattle.std.proofs.lemmas.Bool.Decides.{Decides-eqb}
-use Rattle.std.proofs.lemmas.List.{append_cancel_left}
+use Rattle.std.proofs.lemmas.List.{append_cancel_left, set-set}
+use Rattle.dali_lists.proofs.Lists.{get_set, get_set_other, set_same}
 use Rattle.dali_record.specs.declared.operations.Block.{Block}
 use Rattle.dali_record.specs.declared.records.Record.{Record}
 use Rattle.dali_region.specs.declared.Hold.{Hold}
@@ -28,7 +29,6 @@ use Rattle.dali_single.specs.Refusals.{IsRefusedOn, IsRefusedIn, IsRefusal}
 use Rattle.dali_single.specs.Stands.{core, IsAtRest, AtPlan}
 use Rattle.dali_single.specs.Single.{Leads, OthersStay}
 use Rattle.dali_single.specs.Advanced.{Advanced}
-use Rattle.dali_single.proofs.Lists.{get_set, get_apart, set_twice, set_same}
 use Rattle.dali_single.proofs.Leading.{leads_there, steps_on}
 use Rattle.dali_single.proofs.Going.{alive, row_apart, one_operated}
 use Rattle.dali_single.proofs.Reaching.{wanted}
@@ -135,7 +135,7 @@ may_die rs y v t r b g opened lives free at is = record {
     by_place : (q : ℕ) (h : Hold) → hold_of (with_region (core rs y v) r opened) q ≡ Some h → h.txn ≡ t → (c : Bool) → (r == q) ≡ c → (let o : Option ℕ = Some r in o ≡ Some q)
     by_place q h held own true i = ap (λ (n : ℕ). let o : Option ℕ = Some n in o) ((Decides-eqb r q).0 i)
     by_place q h held own false i =
-        let before : hold_of (core rs y v) q ≡ Some h = ap hold_in (sym (get_apart rs r opened q (λ same. apart same i))) ∙ held in
+        let before : hold_of (core rs y v) q ≡ Some h = ap hold_in (sym (get_set_other rs r opened q (λ same. apart same i))) ∙ held in
         absurd (let no : (h.txn == t) ≡ false = free q h before in let yes : (h.txn == t) ≡ true = (Decides-eqb h.txn t).1 own in let both : false ≡ true = sym no ∙ yes in cc)
       where
         apart : r ≡ q → (r == q) ≡ false → ⊥
@@ -143,7 +143,7 @@ may_die rs y v t r b g opened lives free at is = record {
 
 dead_there : (rs : List RegionState) (r : ℕ) (g opened : RegionState) → slice_get rs r ≡ Some g → dead_in (slice_set rs r opened) (Some r) ≡ slice_set rs r (dead opened)
 dead_there rs r g opened at =
-    ap (λ (o : Option RegionState). option_map_or (λ (k : RegionState). slice_set (slice_set rs r opened) r (dead k)) o (slice_set rs r opened)) (get_set rs r g opened at) ∙ set_twice rs r opened (dead opened)
+    ap (λ (o : Option RegionState). option_map_or (λ (k : RegionState). slice_set (slice_set rs r opened) r (dead k)) o (slice_set rs r opened)) (get_set rs r g opened at) ∙ set-set rs r opened (dead opened)
 
 dies_in : (precheck : Bool) (rs : List RegionState) (y : SystemState) (p : Planned) (b : Block) (g opened : RegionState) → IsAtRest rs y p → slice_get rs b.region ≡ Some g → IsOpened precheck p g b opened
     → (L : List Record) (v : VaultState) → IsFree (core rs y v) p.txn → DiesIn precheck L (core rs y v) p.txn b.region (core (slice_set rs b.region (dead opened)) (in_state y p.txn (Dead (Some b.region))) v)
@@ -186,10 +186,6 @@ may_mark y p t own lives = ap (state_of y) own ∙ lives
 pub on_ok : {T E : Type 0} (r : Result T E) (P Q : Type 0) → (P → Q) → OnOk r P → OnOk r Q
 on_ok (Ok x) P Q f h = f h
 on_ok (Err e) P Q f h = tt
-
-pub if_err : {T E : Type 0} (r : Result T E) (P Q : E → Type 0) → ((e : E) → P e → Q e) → IfErr r P → IfErr r Q
-if_err (Ok x) P Q f h = tt
-if_err (Err e) P Q f h = f e h
 
 pub same_others : (y z : Served) (p : Planned) → z ≡ y → OthersStay y.state p.txn z.state
 same_others y z p same = subst (λ (x : Served). OthersStay y.state p.txn x.state) (sym same) (λ u e. (refl, λ k. refl))

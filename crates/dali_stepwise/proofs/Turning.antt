@@ -1,33 +1,15 @@
 -- A plan that is refused, and where it ends.
-use Rattle.std.proofs.Common.{◌≡◌, ℕ, Bool, true, false, not, ◌||◌, List, Option, Some, None, refl, sym, ap, ◌∙◌}
-use Rattle.dali_geometry.specs.Sizes.{Sizes}
-use Rattle.dali_record.specs.declared.records.Record.{Record}
+use Rattle.std.proofs.Common.{◌≡◌, ℕ, Bool, true, false, not, ◌||◌, Option, Some, None, refl, sym, ap, ◌∙◌}
 use Rattle.dali_record.specs.declared.operations.Op.{Op}
 use Rattle.dali_core.specs.declared.want.Want.TheVariants.{Region, Nothing}
 use Rattle.dali_calls.specs.declared.plan.Phase.{Phase}
 use Rattle.dali_calls.specs.declared.plan.Phase.TheVariants.{Refused}
 use Rattle.dali_calls.specs.Steps.{is_fresh, answer_of}
-use Rattle.dali_calls.specs.Plans.{Planned, is_answered, is_back, is_back_in, plan_next, want_in, refused}
-use Rattle.dali_calls.specs.Followed.{Follows}
+use Rattle.dali_calls.specs.Plans.{is_answered, is_back, is_back_in, plan_next, want_in}
 use Rattle.dali_calls.proofs.Wholes.{back_next}
 use Rattle.dali_calls.proofs.Following.{nothing_left, refused_rests}
+use Rattle.dali_single.proofs.Calling.{plan_turns as turned_follows}
 use Rattle.dali_stepwise.specs.Beside.{PlanTurns, TurnedEnds}
-
-turned_follows : (s : Sizes) (L : List Record) (p : Planned) → is_answered p.phase ≡ false → Follows s L p → Follows s L (refused p)
-turned_follows s L p e f = record {
-  working = f.working;
-  at_work = f.at_work;
-  before = f.before;
-  undos = f.undos;
-  rests = λ h. f.rests (same ∙ h);
-  progress = λ h. f.progress (same ∙ h);
-  mark = λ h. f.mark (same ∙ h);
-  winds = λ h. f.winds (same ∙ h);
-  onward = λ h g. absurd (cc);
-}
-  where
-    same : not (is_answered p.phase || is_fresh p.stage) ≡ not (false || is_fresh p.stage)
-    same = ap (λ (b : Bool). not (b || is_fresh p.stage)) e
 
 pub plan_turns : PlanTurns
 plan_turns L c p e plan = record { follows = turned_follows c.system.sizes L p e plan.follows; holds = plan.holds; free = plan.free }

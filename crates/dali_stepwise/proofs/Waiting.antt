@@ -1,10 +1,13 @@
 -- What a step leaves to a transaction that it isn't one of.
-use Rattle.std.proofs.Common.{◌≡◌, ℕ, ◌<◌, ◌≤◌, Bool, true, false, not, ◌||◌, ◌&&◌, List, [], ◌∷◌, ◌++◌, Option, Some, None, IsSomeAnd, refl, sym, ap, subst, ◌∙◌, arith, slice_get, slice_set}
+use Rattle.std.proofs.Common.{◌≡◌, ℕ, ◌<◌, ◌≤◌, Bool, true, false, not, ◌||◌, List, [], ◌∷◌, ◌++◌, Option, Some, None, IsSomeAnd, refl, sym, ap, subst, ◌∙◌, arith, slice_get, slice_set}
 use Rattle.std.specs.Prelude.{◌==◌, if◌then◌else◌}
 use Rattle.std.specs.FinMap.{get}
 use Rattle.std.specs.List.{list_all}
 use Rattle.std.proofs.lemmas.Bool.Decides.{Decides-eqb}
 use Rattle.std.proofs.lemmas.List.{length-set}
+use Rattle.std.proofs.lemmas.Bool.{and_parts}
+use Rattle.dali_lists.proofs.Lists.{get_set, get_set_other}
+use Rattle.dali_lists.proofs.Numbers.{eqb_greater}
 use Rattle.dali_geometry.specs.Sizes.{Sizes}
 use Rattle.dali_geometry.specs.Places.{regions}
 use Rattle.dali_record.specs.declared.records.Record.{Record}
@@ -28,7 +31,6 @@ use Rattle.dali_facts.proofs.Ends.{others_leave}
 use Rattle.dali_calls.specs.Steps.{call_key, is_get}
 use Rattle.dali_system.specs.Run.{covers}
 use Rattle.dali_single.specs.Operated.{IsOwn}
-use Rattle.dali_single.proofs.Lists.{get_set, get_apart}
 use Rattle.dali_single.proofs.Going.{row_apart, kept_apart}
 use Rattle.dali_single.proofs.Calling.{lock_apart}
 use Rattle.dali_single.proofs.Undoing.{ended_others}
@@ -42,13 +44,6 @@ other_than u t e = by_test (u == t) e
     by_test : (b : Bool) → not b ≡ true → b ≡ false
     by_test true e = absurd cc
     by_test false e = refl
-
-not_given : (n t : ℕ) → t < n → (n == t) ≡ false
-not_given n t less = by_test (n == t) refl
-  where
-    by_test : (b : Bool) → (n == t) ≡ b → (n == t) ≡ false
-    by_test true q = absurd (let same : n ≡ t = (Decides-eqb n t).0 q in omega (arith, less, same))
-    by_test false q = q
 
 -- ---- the regions
 -- no hold is one of t
@@ -84,7 +79,7 @@ free_set t rs r g k at others free q h held = by_place (r == q) refl
         let same : r ≡ q = (Decides-eqb r q).0 i in
         let here : hold_in (slice_get (slice_set rs r k) q) ≡ k.hold = subst (λ (n : ℕ). hold_in (slice_get (slice_set rs r k) n) ≡ k.hold) same (ap hold_in (get_set rs r g k at)) in
         others h (sym here ∙ held)
-    by_place false i = free q h (ap hold_in (sym (get_apart rs r k q (λ same. apart same i))) ∙ held)
+    by_place false i = free q h (ap hold_in (sym (get_set_other rs r k q (λ same. apart same i))) ∙ held)
 
 -- what stood there was no hold of t
 was_others : (t : ℕ) (c : CoreState) (r : ℕ) (g : RegionState) → slice_get c.regions r ≡ Some g → IsFree c t → IsOthers t g.hold
@@ -153,7 +148,7 @@ state_apart t u y st apart = row_apart y.table u t (with_state st) apart
 
 pub each_leaves : EachLeavesBe
 each_leaves t L M c d Begins less apart s =
-    let new = not_given c.system.next t less in
+    let new = eqb_greater c.system.next t less in
     put_behind t L M (L ++ Begin c.system.next ∷ []) c d (with_system c (begun c.system)) s.1.0 s.1.1
     (beside t L c (begun c.system) (L ++ Begin c.system.next ∷ []) refl (omega arith) (get-added c.system.table c.system.next fresh_row t ∙ ap (λ (b : Bool). if b then Some fresh_row else get c.system.table t) new) (λ k. refl)
     (others_leave c.system.sizes L t (Begin c.system.next) new))
@@ -169,7 +164,7 @@ each_leaves t L M c d (TakesBack u b) less apart s =
     (others_leave c.system.sizes L t (Back u b) other))
 each_leaves t L M c d (Frees u b) less apart s =
     let other = other_than u t apart in
-    let new = not_given c.system.next t less in
+    let new = eqb_greater c.system.next t less in
     put_behind t L M (L ++ Solo c.system.next u b ∷ []) c d (with_touched c (solo_logged c.system u b) b.region s.0) s.2.0 s.2.1
     (on_one t L c (solo_logged c.system u b) (L ++ Solo c.system.next u b ∷ []) b.region s.0 (touched s.0) s.1.at (λ free. none_is t None refl) refl (omega arith) refl (λ k. refl)
     (others_leave c.system.sizes L t (Solo c.system.next u b) (ap (λ (a : Bool). a || (u == t)) new ∙ other)))
@@ -223,7 +218,7 @@ each_leaves t L M c d (Faults n) less apart s = put_behind t L M L c d _ s.2.0 s
 each_leaves t L M c d (ReadFails n) less apart s = put_behind t L M L c d _ s.1.0 s.1.1 (same_system t L c _)
 
 -- ---- one behind another
-further : (t : ℕ) (L K M : List Record) (c m d : CoreState) → LeavesBe t L c K m → LeavesBe t K m M d → LeavesBe t L c M d
+pub further : (t : ℕ) (L K M : List Record) (c m d : CoreState) → LeavesBe t L c K m → LeavesBe t K m M d → LeavesBe t L c M d
 further t L K M c m d a b = record {
   sizes = b.sizes ∙ a.sizes;
   next = let one = a.next in let two = b.next in omega (arith, one, two);
@@ -237,14 +232,10 @@ further t L K M c m d a b = record {
 nothing : (t : ℕ) (L M : List Record) (c d : CoreState) → L ≡ M → c ≡ d → LeavesBe t L c M d
 nothing t L M c d log now = put_behind t L M L c d c (sym log) (sym now) (beside t L c c.system L refl (omega arith) refl (λ k. refl) refl)
 
-both_true : (a b : Bool) → (a && b) ≡ true → (a ≡ true) × (b ≡ true)
-both_true true b e = (refl, e)
-both_true false b e = absurd cc
-
 pub course_leaves : CourseLeavesBe
 course_leaves t m n [] less apart go = nothing t m.log n.log m.core n.core (ap (λ (x : Moment). x.log) go) (ap (λ (x : Moment). x.core) go)
 course_leaves t m n (x ∷ xs) less apart go =
-    let two = both_true (is_apart t x) (list_all (is_apart t) xs) apart in
+    let two = and_parts (is_apart t x) (list_all (is_apart t) xs) apart in
     let one = each_leaves t m.log go.0.log m.core go.0.core x less two.0 go.1.0 in
     let later : t < go.0.core.system.next = let up = one.next in omega (arith, less, up) in
     further t m.log go.0.log n.log m.core go.0.core n.core one (course_leaves t go.0 n xs later two.1 go.2)
@@ -255,42 +246,26 @@ apart_from t u v own apart = ap (λ (n : ℕ). not (n == t)) own ∙ ap not apar
 
 own_on : (t u : ℕ) (x : RegionStep) (g : RegionState) → (u == t) ≡ false → IsOwn u x g → is_apart_on t x ≡ true
 own_on t u (Latch v) g apart own = apart_from t u v own apart
-own_on t u (NoteReads mask) g apart own = refl
-own_on t u (Update word value) g apart own = refl
-own_on t u TakeBack g apart own = refl
-own_on t u (Poke word mask) g apart own = refl
-own_on t u Check g apart own = refl
-own_on t u Die g apart own = refl
-own_on t u (Clean side) g apart own = refl
+own_on t u _ g apart own = refl
 
 own_in : (t u : ℕ) (x : RegionStep) (o : Option RegionState) → (u == t) ≡ false → IsSomeAnd o (IsOwn u x) → is_apart_on t x ≡ true
 own_in t u x None apart own = absurd own
 own_in t u x (Some g) apart own = own_on t u x g apart own
 
 pub own_apart : OwnStepIsApart
-own_apart precheck t u c Begins apart own = refl
 own_apart precheck t u c (Operates v b) apart own = apart_from t u v own.0 apart
 own_apart precheck t u c (TakesBack v b) apart own = apart_from t u v own apart
 own_apart precheck t u c (Frees v b) apart own = apart_from t u v own apart
 own_apart precheck t u c (Answers v call a) apart own = apart_from t u v own apart
 own_apart precheck t u c (Commits v) apart own = apart_from t u v own apart
 own_apart precheck t u c (Ends v) apart own = apart_from t u v own apart
-own_apart precheck t u c AuditBegins apart own = refl
-own_apart precheck t u c (AuditEnds b found) apart own = refl
 own_apart precheck t u c (Locks v k m) apart own = apart_from t u v own apart
 own_apart precheck t u c (Refuses v k m h) apart own = absurd own
 own_apart precheck t u c (OnRegion r x) apart own = own_in t u x (slice_get c.regions r) apart own
-own_apart precheck t u c (Passes b r) apart own = refl
 own_apart precheck t u c (Dies v o) apart own = absurd own
 own_apart precheck t u c (Claims v) apart own = absurd own
 own_apart precheck t u c (GivesBack v o) apart own = absurd own
-own_apart precheck t u c (Recovers r) apart own = refl
-own_apart precheck t u c Stops apart own = refl
-own_apart precheck t u c (Checkpoints b) apart own = refl
-own_apart precheck t u c Takes apart own = refl
-own_apart precheck t u c Flushes apart own = refl
-own_apart precheck t u c (Faults n) apart own = refl
-own_apart precheck t u c (ReadFails n) apart own = refl
+own_apart precheck t u c _ apart own = refl
 
 pub led_leaves : LedLeavesBe
 led_leaves precheck t u L M c d [] apart less l = nothing t L M c d l.0 l.1

@@ -19,11 +19,6 @@ pub if_some_both : {A P : Type 0} (Q : Type 0) (o : Option A) → IfSome o (λ _
 if_some_both Q None p f = tt
 if_some_both Q (Some x) p f = f p
 
--- the same with what is told
-pub if_some_each : {A : Type 0} (P Q : A → Type 0) (o : Option A) → IfSome o P → ((x : A) → P x → Q x) → IfSome o Q
-if_some_each P Q None p f = tt
-if_some_each P Q (Some x) p f = f x p
-
 -- from one store to another that tells its contents exactly where the first does
 pub moved : {A P : Type 0} (Q : Type 0) (o p : Option A) → is_some p ≡ is_some o → IfSome o (λ _. P) → (P → Q) → IfSome p (λ _. Q)
 moved Q None None same h f = tt

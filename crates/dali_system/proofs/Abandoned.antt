@@ -3,10 +3,10 @@
 use Rattle.std.proofs.Common.{◌≡◌, ℕ, zero, suc, ◌≤◌, true, false, List, [], ◌∷◌, ◌++◌, Option, Some, None, refl, ap, sym, subst, ◌∙◌, arith, inl}
 use Rattle.std.specs.FinMap.{get, empty, get-empty}
 use Rattle.std.specs.Prelude.{is_some}
+use Rattle.dali_lists.proofs.Options.{some_same}
 use Rattle.dali_record.specs.declared.operations.Op.TheVariants.{ReviveCell}
 use Rattle.dali_record.specs.declared.records.Record.TheVariants.{Format, Begin, Back, Ended}
 use Rattle.dali_record.specs.Legal.{passes, rules_start}
-use Rattle.dali_counts.proofs.Lists.{some_same}
 use Rattle.dali_record.specs.Spelling.{IsBlock}
 use Rattle.dali_record.proofs.Made.{made_is_block}
 use Rattle.dali_index.specs.Entries.{entries}

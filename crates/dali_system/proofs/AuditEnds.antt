@@ -3,13 +3,15 @@ use Rattle.std.proofs.Common.{◌≡◌, ℕ, zero, suc, ◌<◌, Bool, true, fa
 use Rattle.std.specs.Prelude.{◌==◌, ◌↔◌, ◌&&◌, ◌||◌, not, slice_get, length, nat_lt}
 use Rattle.std.specs.List.{list_all}
 use Rattle.std.proofs.lemmas.Option.{slice_get_within}
-use Rattle.std.proofs.lemmas.Bool.{ltb-true}
+use Rattle.std.proofs.lemmas.Bool.{ltb-true, eqb-true}
+use Rattle.dali_lists.proofs.Numbers.{eqb-self}
+use Rattle.dali_lists.proofs.Options.{some_same}
+use Rattle.dali_lists.proofs.Tests.{left_true, right_true}
 use Rattle.dali_geometry.specs.Places.{regions}
 use Rattle.dali_record.specs.declared.records.Record.{Record}
 use Rattle.dali_record.specs.Damage.{has}
 use Rattle.dali_record.specs.Epochs.{last_epoch}
 use Rattle.dali_region.specs.State.{RegionState}
-use Rattle.dali_counts.proofs.Lists.{equal, self, some_same, and_left, and_right}
 use Rattle.dali_system.specs.State.{CoreState}
 use Rattle.dali_system.specs.Audits.{MayLogEnd, MayEndAudit, Certifies}
 use Rattle.dali_system.specs.Passes.{Pass, Audits, is_find_of, has_passed, has_found, IsVerdict, AuditsRun}
@@ -21,7 +23,7 @@ pass_of (q ∷ ps) r e = by_test (q.region == r) refl e (pass_of ps r)
   where
     by_test : (b : Bool) → (q.region == r) ≡ b → (b || has_passed ps r) ≡ true → (has_passed ps r ≡ true → (p : Pass) × (i : ℕ) × (slice_get ps i ≡ Some p) × (p.region ≡ r))
         → (p : Pass) × (i : ℕ) × (slice_get (q ∷ ps) i ≡ Some p) × (p.region ≡ r)
-    by_test true f g ih = (q, 0, refl, equal q.region r f)
+    by_test true f g ih = (q, 0, refl, eqb-true q.region r f)
     by_test false f g ih = let later = ih g in (later.0, suc later.1, later.2, later.3)
 
 -- a pass that found something
@@ -32,14 +34,14 @@ find_of (q ∷ ps) r e = by_test (q.region == r) refl (q.answer == 0) refl e (fi
     by_test : (b : Bool) → (q.region == r) ≡ b → (z : Bool) → (q.answer == 0) ≡ z → ((b && not z) || has_found ps r) ≡ true
         → (has_found ps r ≡ true → (p : Pass) × (i : ℕ) × (slice_get ps i ≡ Some p) × (p.region ≡ r) × ((p.answer == 0) ≡ false))
         → (p : Pass) × (i : ℕ) × (slice_get (q ∷ ps) i ≡ Some p) × (p.region ≡ r) × ((p.answer == 0) ≡ false)
-    by_test true f false g h ih = (q, 0, refl, equal q.region r f, g)
+    by_test true f false g h ih = (q, 0, refl, eqb-true q.region r f, g)
     by_test true f true g h ih = let later = ih h in (later.0, suc later.1, later.2, later.3, later.4)
     by_test false f z g h ih = let later = ih h in (later.0, suc later.1, later.2, later.3, later.4)
 
 -- and the other way round
 found_at : (ps : List Pass) (i : ℕ) (p : Pass) → slice_get ps i ≡ Some p → (p.answer == 0) ≡ false → has_found ps p.region ≡ true
 found_at [] i p e f = absurd (cc)
-found_at (q ∷ ps) zero p e f = let same : q ≡ p = some_same e in rw (same, self p.region, f) refl
+found_at (q ∷ ps) zero p e f = let same : q ≡ p = some_same e in rw (same, eqb-self p.region, f) refl
 found_at (q ∷ ps) (suc i) p e f = or_right (is_find_of p.region q) (found_at ps i p e f)
   where
     or_right : (b : Bool) {c : Bool} → c ≡ true → (b || c) ≡ true
@@ -65,10 +67,10 @@ found_is ps i p at once = by_answer (p.answer == 0) refl
 -- a number that stands in a list of regions is one of a region
 has_below : (n : ℕ) (rs : List ℕ) (r : ℕ) → list_all (λ q. nat_lt q n) rs ≡ true → has rs r ≡ true → nat_lt r n ≡ true
 has_below n [] r e h = absurd (cc)
-has_below n (q ∷ rs) r e h = by_test (q == r) refl h (has_below n rs r (and_right (nat_lt q n) _ e))
+has_below n (q ∷ rs) r e h = by_test (q == r) refl h (has_below n rs r (right_true (nat_lt q n) _ e))
   where
     by_test : (b : Bool) → (q == r) ≡ b → (b || has rs r) ≡ true → (has rs r ≡ true → nat_lt r n ≡ true) → nat_lt r n ≡ true
-    by_test true f g ih = subst (λ z. nat_lt z n ≡ true) (equal q r f) (and_left (nat_lt q n) _ e)
+    by_test true f g ih = subst (λ z. nat_lt z n ≡ true) (eqb-true q r f) (left_true (nat_lt q n) _ e)
     by_test false f g ih = ih g
 
 pub may_end_audit :
@@ -98,7 +100,7 @@ may_end_audit L c audits b found whole run may verdict = record { may = may; str
 -- ---- clean exactly where no pass found something
 none_named : (rs : List ℕ) → ((r : ℕ) → has rs r ≡ true → ⊥) → rs ≡ []
 none_named [] none = refl
-none_named (q ∷ rs) none = absurd (none q (rw (self q) refl))
+none_named (q ∷ rs) none = absurd (none q (rw (eqb-self q) refl))
 
 pub none_found : (n : ℕ) (ps : List Pass) (found : List ℕ) → ((r : ℕ) → r < n → has found r ≡ has_found ps r) → list_all (λ q. nat_lt q n) found ≡ true → (found ≡ []) ↔ ((r : ℕ) → r < n → has_found ps r ≡ false)
 none_found n ps found named numbers = (

@@ -1,9 +1,11 @@
 -- The steps of an audit keep a run.
-use Rattle.std.proofs.Common.{◌≡◌, ℕ, ◌+◌, ◌-◌, ◌≤◌, Bool, true, false, List, [], ◌∷◌, ◌++◌, length, take, Option, Some, refl, ap, sym, subst, ◌∙◌, inr, ⊎_elim, arith}
+use Rattle.std.proofs.Common.{◌≡◌, ℕ, ◌+◌, ◌-◌, ◌≤◌, Bool, true, false, List, [], ◌∷◌, ◌++◌, length, take, Option, Some, refl, ap, sym, subst, ◌∙◌, inr, arith}
 use Rattle.std.specs.Prelude.{◌==◌, not, ◌&&◌, slice_get, max, nat_lt}
 use Rattle.std.specs.List.{list_all}
-use Rattle.std.proofs.lemmas.List.{take-append-le}
-use Rattle.std.proofs.lemmas.Bool.{cases_lt, le-leb}
+use Rattle.std.proofs.lemmas.List.{take-append-le, length_push}
+use Rattle.std.proofs.lemmas.Bool.{le-leb, or_parts}
+use Rattle.dali_lists.proofs.Numbers.{max_cases}
+use Rattle.dali_lists.proofs.Options.{some_same}
 use Rattle.dali_geometry.specs.Sizes.{Sizes}
 use Rattle.dali_geometry.specs.Places.{regions}
 use Rattle.dali_record.specs.declared.records.Record.{Record}
@@ -20,7 +22,6 @@ use Rattle.dali_system.proofs.OneMoreTouch.{RegionRun-off, blocks_on-take}
 use Rattle.dali_system.proofs.Logging.{RunsOn-logged, no_conflict, regions_quiet}
 use Rattle.dali_system.proofs.Protected.{checked_keeps}
 use Rattle.dali_system.proofs.RecordSteps.{not_failed, rule_of}
-use Rattle.dali_counts.proofs.Lists.{length-push, or_false, some_same}
 use Rattle.dali_att.specs.Table.{Table}
 use Rattle.dali_record.specs.declared.operations.Pending.{Pending}
 
@@ -64,7 +65,7 @@ RegionRun-checked base e r g run = record {
   touches = run.touches;
   sound = run.sound;
   settled = run.settled;
-  certified = λ h. run.certified (or_false g.missed _ h).0;
+  certified = λ h. run.certified (or_parts g.missed _ h).0;
 }
 
 -- a check that answers 0 certifies the blocks so far
@@ -76,7 +77,7 @@ pass_certifies base e b r g run zero_stray h = omega (arith, run.protected.all_s
     first false q f e = refl
 
     unpoked : g.poked ≡ false
-    unpoked = first g.poked (g.stray == 0) (or_false g.missed _ h).1 zero_stray
+    unpoked = first g.poked (g.stray == 0) (or_parts g.missed _ h).1 zero_stray
 
 -- one that doesn't finds a stray write
 pub pass_finds : PassFinds
@@ -91,8 +92,6 @@ pub certifies_stays : CertifiesStays
 certifies_stays e x b r old new within was grows misses h = rw (take-append-le (b - e.first) e.records (x ∷ []) (omega (arith, within))) (omega (arith, was (misses h), grows))
 
 -- ---- the end
-max_cases : (P : ℕ → Type 0) (a b : ℕ) → P a → P b → P (max a b)
-max_cases P a b p q = ⊎_elim (λ h. let e : max a b ≡ b = omega (arith, h) in subst P (sym e) q) (λ h. let e : max a b ≡ a = omega (arith, h) in subst P (sym e) p) (cases_lt a b)
 
 certified-clean :
     (e : Epoch) (b r : ℕ) (g : RegionState) → clean_place e ≤ next_number e → b ≤ next_number e → (g.missed ≡ false → certified_on r e ≤ g.sound) → Certifies e b r g
@@ -110,7 +109,7 @@ certified-fail e b r rs g c old h =
     rw (clean_place-push e (AuditFail b rs), take-append-le (clean_place e - e.first) e.records (AuditFail b rs ∷ []) (omega (arith, c))) (old h)
 
 clean_within : (L : List Record) (x : Record) (n : ℕ) → is_inside x ≡ true → n ≤ next_number (last_epoch L) → clean_step (clean_place (last_epoch L)) x ≡ n → clean_place (last_epoch (L ++ x ∷ [])) ≤ next_number (last_epoch (L ++ x ∷ []))
-clean_within L x n inside h e = rw (last_epoch-push L x inside, clean_place-push (last_epoch L) x, e) (omega (arith, h, length-push (last_epoch L).records x))
+clean_within L x n inside h e = rw (last_epoch-push L x inside, clean_place-push (last_epoch L) x, e) (omega (arith, h, length_push (last_epoch L).records x))
 
 clean_rule : (s : Sizes) (o : Option Rules) (now : Rules) (b : ℕ) → o ≡ Some now → (now.count == 0) ≡ false → now.failed ≡ false → (has now.audits b && not (has now.closed b)) ≡ true → rules_next s o (AuditClean b) ≡ Some (record (passes now (AuditClean b)) { closed = b ∷ now.closed })
 clean_rule s o now b e f g h = rw (e, f, g, h) refl

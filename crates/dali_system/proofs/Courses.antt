@@ -251,19 +251,14 @@ step_goes m n (Locks t k mode) s = goes_on m n _ refl s.0.2
 step_goes m n (Refuses t k mode h) s = goes_on m n _ refl s.0.2
 step_goes m n (OnRegion r x) s = goes_on m n _ refl s.0.3
 step_goes m n (Passes b r) s = goes_on m n _ refl s.0.2
-step_goes m n (Dies t o) s = goes_on m n _ refl s.0.1
 step_goes m n (Claims t) s = goes_on m n _ refl s.0.2
-step_goes m n (GivesBack t o) s = goes_on m n _ refl s.0.1
 step_goes m n (Recovers r) s = goes_on m n _ refl s.0.3
-step_goes m n Stops s = goes_on m n _ refl s.0.1
-step_goes m n (Checkpoints b) s = goes_on m n _ refl s.0.1
 step_goes m n Takes s = goes_on m n _ refl s.0
-step_goes m n Flushes s = goes_on m n _ refl s.0.1
 step_goes m n (Faults k) s = goes_on m n _ refl s.0.2
-step_goes m n (ReadFails k) s = goes_on m n _ refl s.0.1
+step_goes m n _ s = goes_on m n _ refl s.0.1
 
 -- ---- what the audits have passed
-runs_on : (bases : Bases) (before : List Record) (old : Files → Type 0) (m : Moment) → RunsAt bases before old m → RunsOn bases m.log m.core
+pub runs_on : (bases : Bases) (before : List Record) (old : Files → Type 0) (m : Moment) → RunsAt bases before old m → RunsOn bases m.log m.core
 runs_on bases before old m at = subst (λ M. RunsOn bases M m.core) (sym at.log) at.run.runs
 
 later_by : (m n : Moment) (e : CoreState) → n.core ≡ e → AreLater m.core.regions e.regions → AreLater m.core.regions n.core.regions
@@ -273,7 +268,6 @@ later_same : (m n : Moment) (e : CoreState) → n.core ≡ e → e.regions ≡ m
 later_same m n e is same = later_by m n e is (subst (AreLater m.core.regions) (sym same) (later_all m.core.regions))
 
 regions_later : (bases : Bases) (before : List Record) (old : Files → Type 0) (m n : Moment) (x : Step) → RunsAt bases before old m → IsStepAt m x n → AreLater m.core.regions n.core.regions
-regions_later bases before old m n Begins at s = later_same m n _ s.0.1.1 refl
 regions_later bases before old m n (Operates t b) at s = later_by m n _ s.0.3.1 (later_one m.core.regions b.region s.0.0 (touched s.0.0) s.0.2.at (touch_later bases m.log m.core b.region s.0.0 (runs_on bases before old m at) s.0.2.at))
 regions_later bases before old m n (TakesBack t b) at s = later_by m n _ s.0.2.1 (later_one m.core.regions b.region s.0.0 (touched s.0.0) s.0.1.at (touch_later bases m.log m.core b.region s.0.0 (runs_on bases before old m at) s.0.1.at))
 regions_later bases before old m n (Frees p b) at s = later_by m n _ s.0.2.1 (later_one m.core.regions b.region s.0.0 (touched s.0.0) s.0.1.at (touch_later bases m.log m.core b.region s.0.0 (runs_on bases before old m at) s.0.1.at))
@@ -281,21 +275,16 @@ regions_later bases before old m n (Answers t k a) at s = later_same m n _ s.0.3
 regions_later bases before old m n (Commits t) at s = later_same m n _ s.0.2.1 refl
 regions_later bases before old m n (Ends t) at s = later_same m n _ s.0.2.1 refl
 regions_later bases before old m n AuditBegins at s = later_same m n _ s.0.2.1 refl
-regions_later bases before old m n (AuditEnds b found) at s = later_same m n _ s.0.1.1 refl
 regions_later bases before old m n (Locks t k mode) at s = later_same m n _ s.0.2.1 refl
 regions_later bases before old m n (Refuses t k mode h) at s = later_same m n _ s.0.2.1 refl
 regions_later bases before old m n (OnRegion r x) at s = later_by m n _ s.0.3.1 (later_one m.core.regions r s.0.0 (region_after x s.0.0) s.0.1 (after_later x s.0.0))
 regions_later bases before old m n (Passes b r) at s = later_by m n _ s.0.2.1 (later_one m.core.regions r s.0.0 (checked s.0.0) s.0.1 (check_later s.0.0))
 regions_later bases before old m n (Dies t o) at s = later_by m n _ s.0.1.1 (death_later m.core.regions o)
 regions_later bases before old m n (Claims t) at s = later_same m n _ s.0.2.1 refl
-regions_later bases before old m n (GivesBack t o) at s = later_same m n _ s.0.1.1 refl
 regions_later bases before old m n (Recovers r) at s = later_by m n _ s.0.3.1 (later_one m.core.regions r s.0.0 (taken_back s.0.0) s.0.1 (after_later TakeBack s.0.0))
-regions_later bases before old m n Stops at s = later_same m n _ s.0.1.1 refl
-regions_later bases before old m n (Checkpoints b) at s = later_same m n _ s.0.1.1 refl
 regions_later bases before old m n Takes at s = later_same m n _ s.0.1 refl
-regions_later bases before old m n Flushes at s = later_same m n _ s.0.1.1 refl
 regions_later bases before old m n (Faults k) at s = later_same m n _ s.0.2.1 refl
-regions_later bases before old m n (ReadFails k) at s = later_same m n _ s.0.1.1 refl
+regions_later bases before old m n _ at s = later_same m n _ s.0.1.1 refl
 
 -- the audits of a step that passes nothing
 audits_left : (bases : Bases) (before : List Record) (old : Files → Type 0) (m n : Moment) (x : Step) → RunsAt bases before old m → IsStepAt m x n → n.audits ≡ m.audits → AuditsRun n.log n.core n.audits

@@ -2,6 +2,7 @@
 use Rattle.std.proofs.Common.{◌≡◌, ℕ, zero, suc, ◌<◌, true, false, List, [], ◌∷◌, ◌++◌, Option, Some, None, refl, ap, sym, ◌∙◌, subst, arith}
 use Rattle.std.specs.Prelude.{slice_get, replicate, is_some}
 use Rattle.std.specs.FinMap.{get}
+use Rattle.dali_lists.proofs.Options.{some_same}
 use Rattle.dali_geometry.specs.Places.{formatted_image}
 use Rattle.dali_record.specs.declared.operations.Op.TheVariants.{Look}
 use Rattle.dali_record.specs.declared.records.Call.TheVariants.{Get}
@@ -22,7 +23,6 @@ use Rattle.dali_locks.specs.Locks.{stronger_mode}
 use Rattle.dali_locks.proofs.Changes.{get-locks_with}
 use Rattle.dali_att.specs.declared.state.State.TheVariants.{Live}
 use Rattle.dali_att.specs.Table.{fresh_row}
-use Rattle.dali_counts.proofs.Lists.{some_same}
 use Rattle.dali_system.specs.State.{TxnRow, state_of, lock_of}
 use Rattle.dali_system.specs.Run.{log_in, covers, blocks_on, AllAreWords}
 use Rattle.dali_system.specs.Steps.{begun, commit_logged, granted, op_logged, done_logged, taken, audit_begun, audit_ended}
@@ -132,7 +132,7 @@ is_damaged_look : IsBlock damaged_look
 unfolding damaged_look
 is_damaged_look = made_is_block Look 5 0 damaged_words tt (omega arith) (omega arith) are_damaged
 
-shared : (o : Option Mode) → covers (Some (stronger_mode o Shared)) false ≡ true
+pub shared : (o : Option Mode) → covers (Some (stronger_mode o Shared)) false ≡ true
 shared None = refl
 shared (Some Shared) = refl
 shared (Some Exclusive) = refl

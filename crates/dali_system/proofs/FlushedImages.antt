@@ -1,20 +1,17 @@
 -- A flush, and a fault in one, leave images and log as they fit.
-use Rattle.std.proofs.Common.{◌≡◌, ℕ, ◌-◌, ◌≤◌, Bool, false, List, [], ◌∷◌, ◌++◌, take, drop, refl, ap, sym, subst, ◌∙◌, ◌⊎◌, inr, ⊎_elim, arith}
-use Rattle.std.specs.Prelude.{slice_get, fold}
+use Rattle.std.proofs.Common.{◌≡◌, ℕ, ◌-◌, Bool, false, List, [], ◌∷◌, ◌++◌, take, drop, refl, ap, sym, subst, ◌∙◌, ◌⊎◌, inr, ⊎_elim, arith}
+use Rattle.std.specs.Prelude.{slice_get}
 use Rattle.std.specs.List.{list_any}
 use Rattle.std.proofs.lemmas.List.{drop-append-le, length-take-le, take-append-drop}
 use Rattle.std.proofs.lemmas.List.Folds.{list_any-append}
-use Rattle.std.proofs.lemmas.List.Sums.{fold-append}
+use Rattle.std.proofs.lemmas.Bool.{or_parts}
 use Rattle.dali_geometry.specs.Sizes.{Sizes}
 use Rattle.dali_geometry.specs.Places.{formatted_image}
 use Rattle.dali_record.specs.declared.records.Record.{Record}
-use Rattle.dali_record.specs.declared.records.Record.TheVariants.{Format, Begin, Forward, Done, Commit, Ended, Solo, AuditBegin, AuditClean, AuditFail, Restarted, Back}
-use Rattle.dali_record.specs.Epochs.{separates, Epoch, last_epoch, clean_step, clean_place}
+use Rattle.dali_record.specs.Epochs.{separates, Epoch, last_epoch, clean_place}
 use Rattle.dali_record.specs.Settled.{words_in, redo_all, settled_before}
 use Rattle.dali_record.specs.Files.{Files, Fits, with_batch}
-use Rattle.dali_record.proofs.Batches.{fits_more}
-use Rattle.dali_counts.proofs.Lists.{or_false}
-use Rattle.dali_counts.proofs.Tallies.{number_is}
+use Rattle.dali_record.proofs.Batches.{fits_more, clean_longer, number_is_length}
 use Rattle.dali_system.specs.State.{CoreState, taken_to, stable, log_after}
 use Rattle.dali_system.specs.Run.{Bases, log_in, only}
 use Rattle.dali_system.specs.Flushes.{frame_of, with_frame}
@@ -50,28 +47,6 @@ but_words s bases missed K F e fit = record {
   words = λ r h. absurd (omega (arith, h));
 }
 
-step_rises : (n : ℕ) (x : Record) → n ≤ clean_step n x
-step_rises n (Format i h) = omega arith
-step_rises n (Begin t) = omega arith
-step_rises n (Forward t b) = omega arith
-step_rises n (Done t a b) = omega arith
-step_rises n (Commit t) = omega arith
-step_rises n (Ended t) = omega arith
-step_rises n (Solo t p b) = omega arith
-step_rises n AuditBegin = omega arith
-step_rises n (AuditClean b) = omega arith
-step_rises n (AuditFail b rs) = omega arith
-step_rises n (Restarted rs ds) = omega arith
-step_rises n (Back t b) = omega arith
-
--- the clean place only rises
-pub clean_rises : (n : ℕ) (E : List Record) → n ≤ fold clean_step n E
-clean_rises n [] = omega arith
-clean_rises n (x ∷ E) = omega (arith, step_rises n x, clean_rises (clean_step n x) E)
-
-clean_more : (e : Epoch) (B : List Record) → clean_place e ≤ clean_place (record { first = e.first; records = e.records ++ B })
-clean_more e B = subst (λ n. clean_place e ≤ n) (sym (fold-append clean_step e.first e.records B)) (clean_rises (clean_place e) B)
-
 batch_fits : (s : Sizes) (bases : Bases) (missed : ℕ → Bool) (K B : List Record) (D : Files) → list_any separates B ≡ false → FitsBut s bases missed K D (last_epoch K) → FitsBut s bases missed (K ++ B) (with_batch D B) (last_epoch (K ++ B))
 batch_fits s bases missed K B D inside fit =
     let more : Fits nothing (bases (last_epoch K).first) (K ++ B) (with_batch (emptied D) B) (last_epoch (K ++ B)) = fits_more nothing (bases (last_epoch K).first) K B (emptied D) inside (but_words s bases missed K D (last_epoch K) fit) in
@@ -92,7 +67,7 @@ batch_fits s bases missed K B D inside fit =
       certified = more.certified;
       table_is = more.table_is;
       words = λ r h n. subst (λ (d : Epoch). words_in (redo_all D.image (drop (D.first - d.first) (take (clean_place d - d.first) d.records))) r ≡ settled_before (bases d.first) d r (clean_place d)) (sym same)
-          (redone_on (bases e.first) D.image e.records B (D.first - e.first) (clean_place e - e.first) (clean_place longer - e.first) r (omega (arith, fit.certified)) (omega (arith, clean_more e B)) (omega (arith, fit.count, number_is K)) (fit.words r h n));
+          (redone_on (bases e.first) D.image e.records B (D.first - e.first) (clean_place e - e.first) (clean_place longer - e.first) r (omega (arith, fit.certified)) (omega (arith, clean_longer e B)) (omega (arith, fit.count, number_is_length K)) (fit.words r h n));
     }
 
 frame_fits : (s : Sizes) (bases : Bases) (missed : ℕ → Bool) (F D : Files) (frame : List Record) → list_any separates frame ≡ false → F ≡ with_frame D frame → FitsBut s bases missed (log_in D) D (last_epoch (log_in D)) → FitsBut s bases missed (log_in F) F (last_epoch (log_in F))
@@ -127,7 +102,7 @@ frame_inside bases before leave m at =
     let k : ℕ = taken_to m.core.system in
     let both : frame_of L m.core ++ drop k L ≡ drop n L = sym (drop-append-le n (take k L) (drop k L) (omega (arith, at.run.frame, length-take-le k L at.run.taken))) ∙ ap (drop n) (take-append-drop k L) in
     subst (λ M. list_any separates (frame_of M m.core) ≡ false) (sym at.log)
-    (or_false (list_any separates (frame_of L m.core)) (list_any separates (drop k L))
+    (or_parts (list_any separates (frame_of L m.core)) (list_any separates (drop k L))
     (sym (list_any-append separates (frame_of L m.core) (drop k L)) ∙ (ap (list_any separates) both ∙ none_separates L n (omega (arith, at.run.began, at.run.first))))).0
 
 pub flushed_images :

@@ -1,14 +1,13 @@
 -- A frame that is taken, its flush, and a fault in one, keep a run.
 use Rattle.std.proofs.Common.{◌≡◌, ℕ, ◌+◌, ◌*◌, ◌<◌, ◌≤◌, false, List, [], ◌∷◌, ◌++◌, length, take, drop, refl, ap, sym, ◌∙◌, inl, inr, ⊎_elim, arith}
 use Rattle.std.specs.Prelude.{◌^◌, flat_map, sum_by}
-use Rattle.std.proofs.lemmas.List.{take-append-drop, append-nil, length-drop, length-take-le}
+use Rattle.std.proofs.lemmas.List.{take-append-drop, append-nil, length-drop, length-take-le, take-take}
 use Rattle.std.proofs.lemmas.List.Sums.{sum_by_push, sum_by-append}
 use Rattle.std.proofs.lemmas.Grind.{flat_map-append}
 use Rattle.dali_record.specs.declared.records.Record.{Record}
 use Rattle.dali_record.specs.Files.{Files, batch_length}
 use Rattle.dali_record.specs.Spelling.{record_length}
 use Rattle.dali_geometry.specs.Sizes.{Sizes}
-use Rattle.dali_counts.proofs.Lists.{take_take}
 use Rattle.dali_counts.proofs.ShortLogs.{is_short}
 use Rattle.dali_system.specs.State.{VaultState, CoreState, stable, log_after}
 use Rattle.dali_system.specs.Run.{LogRun, CountRun, VaultRun, log_in, IsPrefix, IsFlushed, HasRisen, Bases, RunsOn}
@@ -25,7 +24,7 @@ log_with F D frame e = ap (flat_map (λ b. b)) e ∙ batch_added D.batches frame
 taken_log : (L : List Record) (n m : ℕ) (F D : Files) → n ≤ m → log_in D ≡ take n L → F.batches ≡ with_batch D.batches (drop n (take m L)) → log_in F ≡ take m L
 taken_log L n m F D h was is =
     log_with F D (drop n (take m L)) is
-    ∙ (ap (λ l. l ++ drop n (take m L)) (was ∙ sym (take_take n m L h)) ∙ take-append-drop n (take m L))
+    ∙ (ap (λ l. l ++ drop n (take m L)) (was ∙ sym (take-take n m L h)) ∙ take-append-drop n (take m L))
 
 length-with : (batches : List (List Record)) (frame : List Record) (v : VaultState) → v.end ≡ sum_by batch_length batches → (longer v frame).end ≡ sum_by batch_length (with_batch batches frame)
 length-with batches [] v e = e
@@ -65,10 +64,10 @@ longer_within :
 longer_within L n m v from to short =
     let frame : List Record = drop n (take m L) in
     let whole : sum_by record_length (take m L) ≡ sum_by record_length (take n L) + sum_by record_length frame =
-    ap (sum_by record_length) (sym (ap (λ l. l ++ frame) (sym (take_take n m L from)) ∙ take-append-drop n (take m L))) ∙ sum_by-append record_length (take n L) frame in
+    ap (sum_by record_length) (sym (ap (λ l. l ++ frame) (sym (take-take n m L from)) ∙ take-append-drop n (take m L))) ∙ sum_by-append record_length (take n L) frame in
     omega (arith, short, whole, longer_end v frame, length-frame L n m from to)
 
-longer_stopped : (v : VaultState) (frame : List Record) → (longer v frame).stopped ≡ v.stopped
+pub longer_stopped : (v : VaultState) (frame : List Record) → (longer v frame).stopped ≡ v.stopped
 longer_stopped v [] = refl
 longer_stopped v (r ∷ rs) = refl
 

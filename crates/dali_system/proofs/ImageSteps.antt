@@ -1,7 +1,9 @@
 -- Steps that write no image leave images and log as they fit.
 use Rattle.std.proofs.Common.{◌≡◌, ◌≢◌, ℕ, zero, suc, Bool, true, false, cond, List, [], ◌∷◌, Option, Some, None, refl, ap, sym, subst, ◌∙◌, ⊎_elim}
-use Rattle.std.specs.Prelude.{◌==◌, ◌&&◌, ◌||◌, not, slice_get, slice_set}
-use Rattle.std.proofs.lemmas.Bool.{ne_eqb}
+use Rattle.std.specs.Prelude.{◌==◌, ◌&&◌, not, slice_get, slice_set}
+use Rattle.std.proofs.lemmas.Bool.{ne_eqb, eqb-true, eq-eqb, or_parts}
+use Rattle.dali_lists.proofs.Lists.{set_cases}
+use Rattle.dali_lists.proofs.Tests.{left_false}
 use Rattle.dali_words.specs.Words.{write_under}
 use Rattle.dali_geometry.specs.Sizes.{Sizes}
 use Rattle.dali_record.specs.declared.operations.Block.{Block}
@@ -14,7 +16,7 @@ use Rattle.dali_region.specs.declared.Side.{Side}
 use Rattle.dali_region.specs.declared.Side.TheVariants.{A, B}
 use Rattle.dali_region.specs.State.{RegionState, touched, wrote, dead}
 use Rattle.dali_region.specs.Answers.{is_dirty, cleaned}
-use Rattle.dali_counts.proofs.Lists.{equal, same_number, or_false, set_cases}
+use Rattle.dali_region.proofs.Olds.{write_nothing}
 use Rattle.dali_system.specs.State.{SystemState, CoreState}
 use Rattle.dali_att.specs.declared.state.State.TheVariants.{Dead}
 use Rattle.dali_system.specs.Run.{Bases, log_in, only}
@@ -87,10 +89,6 @@ images_region bases told old new c d y r g h is sizes at clear misses less run =
         let own = clear side (sym (ap (λ (z : RegionState). z.poked) f) ∙ clean) (sym (ap (λ (z : RegionState). is_dirty z side) f) ∙ cleared) in
         ap (told side) e ∙ (run.files side r g at own.0 own.1 ∙ (sym own.2 ∙ sym (ap (λ (z : RegionState). z.back) f)))
 
--- the steps on one region
-or_missed : (a b : Bool) → (a || b) ≡ false → a ≡ false
-or_missed a b e = (or_false a b e).0
-
 clears_after : (x : RegionStep) (g : RegionState) → clears x ≡ false → Clears g (region_after x g)
 clears_after (Latch t) g n A p d = (p, d, refl)
 clears_after (Latch t) g n B p d = (p, d, refl)
@@ -113,32 +111,29 @@ misses_after (NoteReads m) g e = e
 misses_after (Update i v) g e = e
 misses_after TakeBack g e = e
 misses_after (Poke i m) g e = e
-misses_after Check g e = or_missed g.missed _ e
+misses_after Check g e = left_false g.missed _ e
 misses_after Die g e = e
 misses_after (Clean A) g e = e
 misses_after (Clean B) g e = e
 
 -- ---- an operation
-none_written : (news ws : List ℕ) → write_under 0 news ws ≡ ws
-none_written news [] = refl
-none_written news (w ∷ ws) = ap (λ l. w ∷ l) (none_written news ws)
 
 wrote_none : (o : Option Hold) (write : ℕ) (g : RegionState) (owner read xor : ℕ) → g.hold ≡ Some (record { txn = owner; dead = false; read = read; xor = xor; write = write }) → wrote g ≡ false → write ≡ 0
-wrote_none o write g owner read xor e f = equal write 0 (not_not (write == 0) (rw e at f))
+wrote_none o write g owner read xor e f = eqb-true write 0 (not_not (write == 0) (rw e at f))
   where
     not_not : (b : Bool) → not b ≡ false → b ≡ true
     not_not true h = refl
     not_not false h = absurd (cc)
 
 clears_touched : (g : RegionState) (owner : ℕ) (b : Block) → IsOpen g owner b → Clears g (touched g)
-clears_touched g owner b is A p d = let parts = or_false g.dirty_a (wrote g) d in (p, parts.0, is.stands p ∙ untouched b g (wrote_none g.hold b.write g owner b.read b.xor is.hold parts.1))
+clears_touched g owner b is A p d = let parts = or_parts g.dirty_a (wrote g) d in (p, parts.0, is.stands p ∙ untouched b g (wrote_none g.hold b.write g owner b.read b.xor is.hold parts.1))
   where
     untouched : (q : Block) (k : RegionState) → q.write ≡ 0 → rewritten q k.back ≡ k.back
-    untouched q k e = ap (λ m. write_under m q.after k.back) e ∙ none_written q.after k.back
-clears_touched g owner b is B p d = let parts = or_false g.dirty_b (wrote g) d in (p, parts.0, is.stands p ∙ untouched b g (wrote_none g.hold b.write g owner b.read b.xor is.hold parts.1))
+    untouched q k e = ap (λ m. write_under m q.after k.back) e ∙ write_nothing q.after k.back
+clears_touched g owner b is B p d = let parts = or_parts g.dirty_b (wrote g) d in (p, parts.0, is.stands p ∙ untouched b g (wrote_none g.hold b.write g owner b.read b.xor is.hold parts.1))
   where
     untouched : (q : Block) (k : RegionState) → q.write ≡ 0 → rewritten q k.back ≡ k.back
-    untouched q k e = ap (λ m. write_under m q.after k.back) e ∙ none_written q.after k.back
+    untouched q k e = ap (λ m. write_under m q.after k.back) e ∙ write_nothing q.after k.back
 
 -- of whatever a crash leaves
 pub images_kept : (bases : Bases) (told : Told) (leave : Files → Type 0) (m n : Moment) (x : Step) → ImageRun bases leave told m.core → IsStepAt m x n → writes_images x ≡ false → ImageRun bases leave told n.core
@@ -178,7 +173,7 @@ pub images_fewer : (bases : Bases) (told : Told) (old new : Files → Type 0) (c
 images_fewer bases told old new c less run = record { files = run.files; fits = λ F h. run.fits F (less F h) }
 
 -- ---- a copy that was written
-side_self : (side : Side) → same_side side side ≡ true
+pub side_self : (side : Side) → same_side side side ≡ true
 side_self A = refl
 side_self B = refl
 
@@ -203,7 +198,7 @@ copy_kept bases told leave c side r g run at = record {
 }
   where
     own : (s : Side) (q : ℕ) (k : RegionState) → q ≡ r → k ≡ cleaned side g → k.poked ≡ false → is_dirty k s ≡ false → (b : Bool) → same_side s side ≡ b → cond (same_side s side && (q == r)) g.back (told s q) ≡ k.back
-    own s q k e f clean cleared true same = rw (same, same_number q r e, f) (sym (cleaned_back side g).0)
+    own s q k e f clean cleared true same = rw (same, eq-eqb q r e, f) (sym (cleaned_back side g).0)
     own s q k e f clean cleared false same = rw same (ap (told s) e ∙ (run.files s r g at (sym (ap (λ (z : RegionState). z.poked) f ∙ (cleaned_back side g).1) ∙ clean) (sym (ap (λ (z : RegionState). is_dirty z s) f ∙ other_side s side g same) ∙ cleared) ∙ sym (ap (λ (z : RegionState). z.back) f ∙ (cleaned_back side g).0)))
 
     others : (s : Side) (q : ℕ) (k : RegionState) → r ≢ q → slice_get c.regions q ≡ Some k → k.poked ≡ false → is_dirty k s ≡ false → cond (same_side s side && (q == r)) g.back (told s q) ≡ k.back

@@ -2,9 +2,10 @@
 use Rattle.std.proofs.Common.{◌≡◌, ℕ, zero, suc, ◌+◌, ◌-◌, ◌<◌, ◌≤◌, Bool, true, false, List, [], ◌∷◌, ◌++◌, length, drop, Some, refl, ap, sym, subst, ◌∙◌, inl, inr, ◌⊎◌, append_assoc, arith}
 use Rattle.std.specs.Prelude.{◌||◌, nat_le, nat_lt}
 use Rattle.std.specs.List.{AllByRecursion, list_any}
-use Rattle.std.proofs.lemmas.List.{append-nil, drop-append-le, drop_all, drop-drop}
-use Rattle.std.proofs.lemmas.Bool.{leb-true, le-leb, ltb-true, lt-ltb}
+use Rattle.std.proofs.lemmas.List.{append-nil, drop-append-le, drop_all, drop-drop, length_push}
+use Rattle.std.proofs.lemmas.Bool.{leb-true, le-leb, ltb-true, lt-ltb, or_parts}
 use Rattle.std.proofs.lemmas.List.Folds.{list_any-append}
+use Rattle.dali_lists.proofs.Members.{all_push}
 use Rattle.dali_record.specs.declared.records.Record.{Record}
 use Rattle.dali_record.specs.declared.records.Record.TheVariants.{Format, Begin, Forward, Done, Commit, Ended, Solo, AuditBegin, AuditClean, AuditFail, Restarted, Back}
 use Rattle.dali_record.specs.Epochs.{separates, Epoch, Cut, next_number, cut_step, cut, last_epoch, epochs}
@@ -12,14 +13,12 @@ use Rattle.dali_record.specs.Files.{is_epoch_for, epoch_from}
 use Rattle.dali_record.proofs.Ends.{by_push}
 use Rattle.dali_record.proofs.Pushes.{cut_push}
 use Rattle.dali_record.proofs.Batches.{last_push}
-use Rattle.dali_record.proofs.EpochRules.{all_push}
-use Rattle.dali_counts.proofs.Lists.{or_false, length-push}
 
 -- ---- records behind it
 pub last_epoch-append : (L B : List Record) → list_any separates B ≡ false → last_epoch (L ++ B) ≡ record { first = (last_epoch L).first; records = (last_epoch L).records ++ B }
 last_epoch-append L [] h = ap last_epoch (append-nil L) ∙ ap (λ (rs : List Record). record { first = (last_epoch L).first; records = rs }) (sym (append-nil (last_epoch L).records))
 last_epoch-append L (x ∷ B) h =
-    let parts = or_false (separates x) (list_any separates B) h in
+    let parts = or_parts (separates x) (list_any separates B) h in
     ap last_epoch (sym (append_assoc L (x ∷ []) B))
     ∙ (last_epoch-append (L ++ x ∷ []) B parts.1
     ∙ (ap (λ (e : Epoch). record { first = e.first; records = e.records ++ B }) (last_push L x parts.0)
@@ -36,14 +35,14 @@ one_inside : (c : Cut) (L : List Record) (x : Record) → separates x ≡ false 
 one_inside c L x h is = (
   ap (λ l. l ++ x ∷ []) is.0 ∙ sym (drop-append-le c.now.first L (x ∷ []) (omega (arith, is.2))),
   any_push c.now.records x is.1 h,
-  omega (arith, is.2, length-push c.now.records x, length-push L x),
+  omega (arith, is.2, length_push c.now.records x, length_push L x),
 )
 
 one_apart : (closed : List Epoch) (c : Cut) (L : List Record) (x : Record) → IsBehind c L → IsBehind (record { closed = closed; now = record { first = next_number c.now + 1; records = [] } }) (L ++ x ∷ [])
 one_apart closed c L x is = (
-  sym (drop_all (next_number c.now + 1) (L ++ x ∷ []) (omega (arith, is.2, length-push L x))),
+  sym (drop_all (next_number c.now + 1) (L ++ x ∷ []) (omega (arith, is.2, length_push L x))),
   refl,
-  omega (arith, is.2, length-push L x),
+  omega (arith, is.2, length_push L x),
 )
 
 behind_step : (c : Cut) (L : List Record) (x : Record) → IsBehind c L → IsBehind (cut_step c x) (L ++ x ∷ [])
@@ -67,7 +66,7 @@ is_behind L = by_push (λ M. IsBehind (cut M) M) (refl, refl, refl) (λ M x is. 
 any_drop : (n : ℕ) (E : List Record) → list_any separates E ≡ false → list_any separates (drop n E) ≡ false
 any_drop zero E h = h
 any_drop (suc n) [] h = refl
-any_drop (suc n) (x ∷ E) h = any_drop n E (or_false (separates x) (list_any separates E) h).1
+any_drop (suc n) (x ∷ E) h = any_drop n E (or_parts (separates x) (list_any separates E) h).1
 
 -- none of the records from there on separates epochs
 pub none_separates : (L : List Record) (n : ℕ) → (last_epoch L).first ≤ n → list_any separates (drop n L) ≡ false
@@ -87,16 +86,7 @@ before_more m n (e ∷ es) h b = (omega (arith, h, b.0), before_more m n es h b.
 before_step : (c : Cut) (x : Record) → EndBefore c.now.first c.closed → EndBefore (cut_step c x).now.first (cut_step c x).closed
 before_step c (Format i h) b = before_more c.now.first (next_number c.now + 1) c.closed (omega arith) b
 before_step c (Restarted rs ds) b = all_push (λ (e : Epoch). next_number e < next_number c.now + 1) c.closed c.now (before_more c.now.first (next_number c.now + 1) c.closed (omega arith) b) (omega arith)
-before_step c (Begin t) b = b
-before_step c (Forward t k) b = b
-before_step c (Done t k a) b = b
-before_step c (Commit t) b = b
-before_step c (Ended t) b = b
-before_step c (Solo t p k) b = b
-before_step c AuditBegin b = b
-before_step c (AuditClean k) b = b
-before_step c (AuditFail k rs) b = b
-before_step c (Back t k) b = b
+before_step c _ b = b
 
 -- each of them ends before it begins
 pub end_before : (L : List Record) → EndBefore (last_epoch L).first (cut L).closed

@@ -14,8 +14,7 @@ use Rattle.std.specs.List.{AllByRecursion}
 use Rattle.dali_system.specs.Run.{IsRow, is_running, failed_first, blocks_on, RegionRun, base_at, LogRun}
 use Rattle.dali_system.specs.Loads.{LoadRuns, FormatRests, EmptyRests}
 use Rattle.dali_counts.proofs.NewNumbers.{unbegun_above}
-use Rattle.dali_counts.proofs.Lists.{length-push, self, some_same}
-use Rattle.dali_counts.proofs.Tallies.{number_is, tallies}
+use Rattle.dali_counts.proofs.Tallies.{tallies}
 use Rattle.std.specs.FinMap.{get, empty, get-empty}
 use Rattle.std.specs.Ordering.{nat_cmp}
 use Rattle.dali_locks.specs.Locks.{lock_cmp}
@@ -24,9 +23,13 @@ use Rattle.dali_geometry.specs.Sizes.{Sizes}
 use Rattle.dali_record.specs.declared.records.Record.{Record}
 use Rattle.dali_record.proofs.Pushes.{rules_state_push, txn_state_push, cut_push}
 use Rattle.std.proofs.lemmas.Bool.{ne_eqb}
+use Rattle.dali_lists.proofs.Lists.{push-not_nil}
+use Rattle.dali_lists.proofs.Numbers.{eqb-self}
+use Rattle.dali_lists.proofs.Options.{some_same}
 use Rattle.dali_locks.specs.declared.mode.Mode.{Mode}
 use Rattle.dali_record.proofs.Ends.{by_push}
 use Rattle.dali_record.proofs.EpochRules.{format_first}
+use Rattle.dali_record.proofs.Batches.{number_is_length}
 
 idle_row : (o : Option TxnState) → IsSome o → is_running o ≡ false → IsRow o None
 idle_row None h e = absurd (cc)
@@ -117,10 +120,10 @@ format_rests s fits = record {
   log = record {
     format = refl;
     spelled = only fits;
-    legal = record { rules = rw (self s.index, self s.heap) refl; txns = λ t. refl; scans = λ n rs ds e. absurd (no_restart n rs ds e); reads = no_reads };
+    legal = record { rules = rw (eqb-self s.index, eqb-self s.heap) refl; txns = λ t. refl; scans = λ n rs ds e. absurd (no_restart n rs ds e); reads = no_reads };
     locks = (tt, λ i j a b lt p q c. absurd (cc));
   };
-  rules = rw (self s.index, self s.heap) refl;
+  rules = rw (eqb-self s.index, eqb-self s.heap) refl;
   some = refl;
   failed = refl;
   none = refl;
@@ -142,8 +145,6 @@ format_rests s fits = record {
     no_restart (suc n) rs ds e = cc
 
 -- ---- where the last epoch has no record
-not_empty : {X : Type 0} (xs : List X) (x : X) → xs ++ x ∷ [] ≡ [] → ⊥
-not_empty xs x e = omega (arith, length-push xs x, ap length e)
 
 abbrev Idle : Sizes → List Record → Type 0
 Idle s L = (g : Rules) → rules_state s L ≡ Some g → (last_epoch L).records ≡ [] → (g.failed ≡ false) × ((t : ℕ) → is_running (txn_state s t L) ≡ false)
@@ -181,16 +182,16 @@ idle_push s L x g e none = by_kind x g e (sym (ap (λ (c : Cut). c.now.records) 
     by_kind : (y : Record) (h : Rules) → rules_state s (L ++ y ∷ []) ≡ Some h → (cut_step (cut L) y).now.records ≡ [] → (h.failed ≡ false) × ((t : ℕ) → is_running (txn_state s t (L ++ y ∷ [])) ≡ false)
     by_kind (Format i n) h r q = format_idle s L i n h (format_first s L i n h r) r
     by_kind (Restarted rs ds) h r q = (restart_rules s (rules_state s L) rs ds h (sym (rules_state_push s L (Restarted rs ds)) ∙ r), λ t. ap is_running (txn_state_push s t L (Restarted rs ds)) ∙ idle_after s t (txn_state s t L) rs ds)
-    by_kind (Begin t) h r q = absurd (not_empty (cut L).now.records (Begin t) q)
-    by_kind (Forward t b) h r q = absurd (not_empty (cut L).now.records (Forward t b) q)
-    by_kind (Done t c a) h r q = absurd (not_empty (cut L).now.records (Done t c a) q)
-    by_kind (Commit t) h r q = absurd (not_empty (cut L).now.records (Commit t) q)
-    by_kind (Ended t) h r q = absurd (not_empty (cut L).now.records (Ended t) q)
-    by_kind (Solo t p b) h r q = absurd (not_empty (cut L).now.records (Solo t p b) q)
-    by_kind AuditBegin h r q = absurd (not_empty (cut L).now.records AuditBegin q)
-    by_kind (AuditClean b) h r q = absurd (not_empty (cut L).now.records (AuditClean b) q)
-    by_kind (AuditFail b rs) h r q = absurd (not_empty (cut L).now.records (AuditFail b rs) q)
-    by_kind (Back t b) h r q = absurd (not_empty (cut L).now.records (Back t b) q)
+    by_kind (Begin t) h r q = absurd (push-not_nil (cut L).now.records (Begin t) q)
+    by_kind (Forward t b) h r q = absurd (push-not_nil (cut L).now.records (Forward t b) q)
+    by_kind (Done t c a) h r q = absurd (push-not_nil (cut L).now.records (Done t c a) q)
+    by_kind (Commit t) h r q = absurd (push-not_nil (cut L).now.records (Commit t) q)
+    by_kind (Ended t) h r q = absurd (push-not_nil (cut L).now.records (Ended t) q)
+    by_kind (Solo t p b) h r q = absurd (push-not_nil (cut L).now.records (Solo t p b) q)
+    by_kind AuditBegin h r q = absurd (push-not_nil (cut L).now.records AuditBegin q)
+    by_kind (AuditClean b) h r q = absurd (push-not_nil (cut L).now.records (AuditClean b) q)
+    by_kind (AuditFail b rs) h r q = absurd (push-not_nil (cut L).now.records (AuditFail b rs) q)
+    by_kind (Back t b) h r q = absurd (push-not_nil (cut L).now.records (Back t b) q)
 
 idle : (s : Sizes) (L : List Record) → Idle s L
 idle s = by_push (Idle s) (λ g e none. (sym (ap (λ q. q.failed) (some_same e)), λ t. refl)) (λ L x ih. idle_push s L x)
@@ -209,7 +210,7 @@ empty_rests s L g log rules none = record {
   some = some_count s L g log rules;
   failed = (idle s L g rules none).0;
   none = none;
-  number = omega (arith, number_is L, (tallies s L g rules).0, ap length none);
+  number = omega (arith, number_is_length L, (tallies s L g rules).0, ap length none);
   idle = (idle s L g rules none).1;
   fresh = λ t h. unbegun_above s L g t log.legal rules h;
 }

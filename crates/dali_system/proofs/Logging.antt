@@ -3,7 +3,9 @@ use Rattle.std.proofs.Common.{◌≡◌, ℕ, ◌+◌, ◌<◌, ◌≤◌, Bool,
 use Rattle.std.specs.FinMap.{get}
 use Rattle.std.specs.Prelude.{IsSome, ◌==◌, not, ◌&&◌, ◌||◌, slice_get, slice_set, ◌^◌}
 use Rattle.std.proofs.lemmas.Option.{slice_get_within}
-use Rattle.std.proofs.lemmas.Bool.{ne_eqb}
+use Rattle.std.proofs.lemmas.Bool.{ne_eqb, eqb-true, not-true}
+use Rattle.dali_lists.proofs.Lists.{set_cases}
+use Rattle.dali_lists.proofs.Tests.{left_true, right_true}
 use Rattle.dali_geometry.specs.Sizes.{Sizes}
 use Rattle.dali_record.specs.declared.operations.Pending.{Pending}
 use Rattle.dali_record.specs.declared.records.Record.{Record}
@@ -14,6 +16,7 @@ use Rattle.dali_record.specs.Epochs.{last_epoch}
 use Rattle.dali_record.specs.Locks.{conflicts, EndedBetween}
 use Rattle.dali_record.specs.Spelling.{record_length, CanBeSpelled}
 use Rattle.dali_record.specs.Legal.{txn_state, txn_next, concerns, Rules, rules_state, rules_next}
+use Rattle.dali_record.proofs.Batches.{number_is_length}
 use Rattle.dali_region.specs.State.{RegionState, touched}
 use Rattle.dali_locks.specs.declared.mode.Mode.{Mode}
 use Rattle.dali_locks.specs.declared.mode.Mode.TheVariants.{Shared, Exclusive}
@@ -24,10 +27,8 @@ use Rattle.dali_locks.specs.Locks.{Locks, both_shared}
 use Rattle.dali_system.specs.Steps.{logged}
 use Rattle.dali_system.proofs.OneMore.{is_plain, is_inside, one_more, last_epoch-push, plain_inside, TableRun-push, LogRun-push, CountRun-push, clean_stays, LockRun-push}
 use Rattle.dali_system.proofs.OneMoreTouch.{StopRun-push, RegionRun-other, RegionRun-touched}
-use Rattle.dali_counts.proofs.Lists.{and_left, and_right, equal, not_true, set_cases}
 use Rattle.dali_counts.proofs.SmallLogs.{is_small}
 use Rattle.dali_system.proofs.Tables.{Puts}
-use Rattle.dali_counts.proofs.Tallies.{number_is}
 use Rattle.dali_system.specs.Regions.{IsOpen}
 use Rattle.dali_counts.specs.Counts.{next_with}
 
@@ -53,12 +54,12 @@ pub no_conflict :
 no_conflict s L x y run owner i a b p q c = ⊎_elim (λ w. w) (λ holding. absurd (clash holding)) (run.held i a p)
   where
     parts : (k o d : Bool) → ((k && not o) && d) ≡ true → (k ≡ true) × (o ≡ false) × (d ≡ true)
-    parts k o d e = (and_left k (not o) (and_left (k && not o) d e), not_true o (and_right k (not o) (and_left (k && not o) d e)), and_right (k && not o) d e)
+    parts k o d e = (left_true k (not o) (left_true (k && not o) d e), not-true o (right_true k (not o) (left_true (k && not o) d e)), right_true (k && not o) d e)
 
     clash : holds y a.owner a.block ≡ true → ⊥
     clash holding =
         let found : ((a.block.key == b.block.key) ≡ true) × ((a.owner == b.owner) ≡ false) × ((changes_item a.block || changes_item b.block) ≡ true) = parts (a.block.key == b.block.key) (a.owner == b.owner) (changes_item a.block || changes_item b.block) c in
-        let key : a.block.key ≡ b.block.key = equal a.block.key b.block.key found.0 in
+        let key : a.block.key ≡ b.block.key = eqb-true a.block.key b.block.key found.0 in
         let none : (changes_item a.block || changes_item b.block) ≡ false = no_clash (lock_of y a.owner a.block.key) (lock_of y b.owner b.block.key) (changes_item a.block) (changes_item b.block) (λ m n e f. run.apart a.owner b.owner b.block.key m n found.1 (rw key at e) f) holding (owner b q) in
         let some : (changes_item a.block || changes_item b.block) ≡ true = found.2 in
         absurd (cc)
@@ -120,7 +121,7 @@ pub TableRun-one :
     → TableRun s (L ++ x ∷ []) new
 TableRun-one s L x old t row new table puts only here =
     TableRun-push s L x old new table
-    (λ u e. let same : (t == u) ≡ true = sym (only u) ∙ e in rw (puts u, same) (subst (λ v. IsRow (txn_next s v (txn_state s v L) x) row) (equal t u same) here))
+    (λ u e. let same : (t == u) ≡ true = sym (only u) ∙ e in rw (puts u, same) (subst (λ v. IsRow (txn_next s v (txn_state s v L) x) row) (eqb-true t u same) here))
     (λ u e. let apart : (t == u) ≡ false = sym (only u) ∙ e in rw (puts u, apart) refl)
 
 -- a record that is no block leaves the regions
@@ -141,7 +142,7 @@ regions_touched bases L c run x a g owner plain is at is_open r h e =
     (set_cases c.regions a.block.region (touched g) r h e)
   where
     few : length (last_epoch L).records < 2 ^ 40
-    few = omega (arith, is_small c.system.sizes L run.log.legal, number_is L)
+    few = omega (arith, is_small c.system.sizes L run.log.legal, number_is_length L)
 
     inside : a.block.region < length (base_at bases L)
     inside = omega (arith, slice_get_within c.regions a.block.region g at, run.whole, run.base)

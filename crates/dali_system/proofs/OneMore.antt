@@ -2,20 +2,21 @@
 use Rattle.std.proofs.Common.{◌≡◌, ℕ, ◌+◌, ◌<◌, ◌≤◌, Bool, true, false, List, [], ◌∷◌, ◌++◌, length, Option, Some, None, refl, ap, sym, subst, ◌∙◌, ◌⊎◌, inl, inr, ⊎_elim, arith}
 use Rattle.std.specs.Prelude.{◌*◌, IsSome, ◌==◌, not, slice_get, sum_by}
 use Rattle.std.specs.FinMap.{get}
-use Rattle.std.proofs.lemmas.List.{take-append-le}
+use Rattle.std.proofs.lemmas.List.{take-append-le, length_push}
 use Rattle.std.proofs.lemmas.Option.{slice_get_within}
 use Rattle.std.proofs.lemmas.Bool.{ne_eqb}
 use Rattle.std.proofs.lemmas.List.Sums.{fold_push}
+use Rattle.dali_lists.proofs.Lists.{get_push}
 use Rattle.dali_geometry.specs.Sizes.{Sizes}
 use Rattle.dali_record.specs.declared.operations.Pending.{Pending}
 use Rattle.dali_record.specs.declared.records.Record.{Record}
-use Rattle.dali_record.specs.declared.records.Record.TheVariants.{Format, Begin, Forward, Done, Commit, Ended, Solo, AuditBegin, AuditClean, AuditFail, Restarted, Back}
+use Rattle.dali_record.specs.declared.records.Record.TheVariants.{Format, Ended, AuditClean, AuditFail, Restarted}
 use Rattle.dali_record.specs.Log.{Touch, touch_of, touch_at}
 use Rattle.dali_record.specs.Epochs.{Epoch, Cut, cut, cut_step, last_epoch, next_number, clean_place, clean_step}
 use Rattle.dali_record.specs.Locks.{conflicts, EndedBetween}
 use Rattle.dali_record.specs.Legal.{TxnState, Unbegun, Active, Committed as Ending, Over, txn_state, txn_next, concerns, Rules, rules_state, rules_next}
-use Rattle.dali_record.proofs.Ends.{get_old, get_new, get_push_cases}
-use Rattle.dali_record.proofs.Pushes.{txn_state_push, txn_step-other, rules_state_push, cut_push, touch_push_cases, IsLegalFor-push, IsLockLegal-push}
+use Rattle.dali_record.proofs.Ends.{get_old, get_push_cases}
+use Rattle.dali_record.proofs.Pushes.{txn_state_push, txn_step-other, rules_state_push, cut_push, touch_push_cases, IsLegalFor-push, IsLockLegal-push, txn_next-same}
 use Rattle.dali_locks.specs.declared.mode.Mode.{Mode}
 use Rattle.dali_locks.specs.Locks.{IsConflict}
 use Rattle.dali_system.specs.declared.refusals.Refusal.{Refusal}
@@ -24,7 +25,6 @@ use Rattle.dali_system.specs.State.{TxnRow, SystemState, VaultState, row_of, loc
 use Rattle.dali_record.specs.Files.{Files}
 use Rattle.dali_record.specs.Spelling.{record_length, CanBeSpelled}
 use Rattle.dali_system.specs.Run.{LogRun, CountRun, IsRow, TableRun, holds, EndedSince, IsRefusal, LockRun, fail_step, failed_first, on_step, blocks_on, VaultRun, IsPrefix, IsFlushed}
-use Rattle.dali_counts.proofs.Lists.{length-push}
 use Rattle.dali_counts.specs.Counts.{next_with}
 
 -- a record that neither ends an epoch nor ends an audit
@@ -42,17 +42,8 @@ is_inside _ = true
 
 pub step_inside : (c : Cut) (x : Record) → is_inside x ≡ true → cut_step c x ≡ record { closed = c.closed; now = record { first = c.now.first; records = c.now.records ++ x ∷ [] } }
 step_inside c (Format i h) e = absurd (cc)
-step_inside c (Begin t) e = refl
-step_inside c (Forward t b) e = refl
-step_inside c (Done t a b) e = refl
-step_inside c (Commit t) e = refl
-step_inside c (Ended t) e = refl
-step_inside c (Solo t p b) e = refl
-step_inside c AuditBegin e = refl
-step_inside c (AuditClean b) e = refl
-step_inside c (AuditFail b rs) e = refl
 step_inside c (Restarted rs ds) e = absurd (cc)
-step_inside c (Back t b) e = refl
+step_inside c _ e = refl
 
 abbrev pub one_more : Epoch → Record → Epoch
 one_more e x = record { first = e.first; records = e.records ++ x ∷ [] }
@@ -62,31 +53,12 @@ last_epoch-push L x e = ap (λ c. c.now) (cut_push L x ∙ step_inside (cut L) x
 
 pub plain_inside : (x : Record) → is_plain x ≡ true → is_inside x ≡ true
 plain_inside (Format i h) e = absurd (cc)
-plain_inside (Begin t) e = refl
-plain_inside (Forward t b) e = refl
-plain_inside (Done t a b) e = refl
-plain_inside (Commit t) e = refl
-plain_inside (Ended t) e = refl
-plain_inside (Solo t p b) e = refl
-plain_inside AuditBegin e = refl
-plain_inside (AuditClean b) e = refl
-plain_inside (AuditFail b rs) e = refl
 plain_inside (Restarted rs ds) e = absurd (cc)
-plain_inside (Back t b) e = refl
+plain_inside _ e = refl
 
 clean_plain : (n : ℕ) (x : Record) → is_plain x ≡ true → clean_step n x ≡ n
-clean_plain n (Format i h) e = refl
-clean_plain n (Begin t) e = refl
-clean_plain n (Forward t b) e = refl
-clean_plain n (Done t a b) e = refl
-clean_plain n (Commit t) e = refl
-clean_plain n (Ended t) e = refl
-clean_plain n (Solo t p b) e = refl
-clean_plain n AuditBegin e = refl
 clean_plain n (AuditClean b) e = absurd (cc)
-clean_plain n (AuditFail b rs) e = refl
-clean_plain n (Restarted rs ds) e = refl
-clean_plain n (Back t b) e = refl
+clean_plain n _ e = refl
 
 pub clean_place-push : (e : Epoch) (x : Record) → clean_place (one_more e x) ≡ clean_step (clean_place e) x
 clean_place-push e x = fold_push clean_step e.first e.records x
@@ -95,18 +67,8 @@ pub clean_place-plain : (e : Epoch) (x : Record) → is_plain x ≡ true → cle
 clean_place-plain e x h = clean_place-push e x ∙ clean_plain (clean_place e) x h
 
 pub fail_plain : (o : Option ℕ) (x : Record) → is_plain x ≡ true → fail_step o x ≡ o
-fail_plain n (Format i h) e = refl
-fail_plain n (Begin t) e = refl
-fail_plain n (Forward t b) e = refl
-fail_plain n (Done t a b) e = refl
-fail_plain n (Commit t) e = refl
-fail_plain n (Ended t) e = refl
-fail_plain n (Solo t p b) e = refl
-fail_plain n AuditBegin e = refl
-fail_plain n (AuditClean b) e = refl
 fail_plain n (AuditFail b rs) e = absurd (cc)
-fail_plain n (Restarted rs ds) e = refl
-fail_plain n (Back t b) e = refl
+fail_plain n _ e = refl
 
 pub failed_first-push : (E : List Record) (x : Record) → failed_first (E ++ x ∷ []) ≡ fail_step (failed_first E) x
 failed_first-push E x = fold_push fail_step None E x
@@ -122,10 +84,6 @@ row_is (Some (Active w)) row h = refl
 row_is (Some (Ending dead)) row h = refl
 row_is (Some Over) row h = refl
 
-next_other : (s : Sizes) (t : ℕ) (o : Option TxnState) (x : Record) → concerns t x ≡ false → IsSome o → txn_next s t o x ≡ o
-next_other s t None x e h = refl
-next_other s t (Some st) x e h = txn_step-other s t st x e
-
 -- the table with one more record: only the rows of those that it concerns may change
 pub TableRun-push :
     (s : Sizes) (L : List Record) (x : Record) (old new : Table Pending) → TableRun s L old
@@ -136,7 +94,7 @@ TableRun-push s L x old new table here other t = rw (txn_state_push s t L x) (by
   where
     by_concern : (b : Bool) → concerns t x ≡ b → IsRow (txn_next s t (txn_state s t L) x) (get new t)
     by_concern true e = here t e
-    by_concern false e = rw (next_other s t (txn_state s t L) x e (row_is (txn_state s t L) (get old t) (table t)), other t e) (table t)
+    by_concern false e = rw (txn_next-same s t (txn_state s t L) x e (row_is (txn_state s t L) (get old t) (table t)), other t e) (table t)
 
 -- ---- the log
 same_format : (L : List Record) (x y : Record) → slice_get L 0 ≡ Some y → slice_get (L ++ x ∷ []) 0 ≡ Some y
@@ -186,12 +144,12 @@ CountRun-push s L x y run g inside rule count weight next fresh grows clean z zr
 }
   where
     more_number : (e : Epoch) → next_number (one_more e x) ≡ next_number e + 1
-    more_number e = omega (arith, length-push e.records x)
+    more_number e = omega (arith, length_push e.records x)
 
 pub clean_stays :
     (s : Sizes) (L : List Record) (x : Record) (y : SystemState) (run : CountRun s L y) → is_plain x ≡ true
     → clean_place (last_epoch (L ++ x ∷ [])) ≤ next_number (last_epoch (L ++ x ∷ []))
-clean_stays s L x y run plain = rw (last_epoch-push L x (plain_inside x plain), clean_place-plain (last_epoch L) x plain) (omega (arith, run.clean, length-push (last_epoch L).records x))
+clean_stays s L x y run plain = rw (last_epoch-push L x (plain_inside x plain), clean_place-plain (last_epoch L) x plain) (omega (arith, run.clean, length_push (last_epoch L).records x))
 
 -- ---- locks
 pub LockRun-push :
@@ -210,28 +168,28 @@ LockRun-push s L x y z run inside same keeps fewer owner = record {
 }
   where
     in_the_way : (f : Refusal) → f.at ≤ length L → IsConflict y.locks f.txn f.key f.mode f.holder → EndedSince f.holder f.at (L ++ x ∷ []) ⊎ IsConflict z.locks f.txn f.key f.mode f.holder
-    in_the_way f within way = ⊎_elim (λ ends. inl (length L, within, get_new L x ∙ ap Some ends)) (λ stays. inr (record { other = way.other; mode = way.mode; holds = stays ∙ way.holds; clash = way.clash })) (keeps f.holder f.key)
+    in_the_way f within way = ⊎_elim (λ ends. inl (length L, within, get_push L x ∙ ap Some ends)) (λ stays. inr (record { other = way.other; mode = way.mode; holds = stays ∙ way.holds; clash = way.clash })) (keeps f.holder f.key)
 
     refusal : (f : Refusal) → IsRefusal s L y.locks f → IsRefusal s (L ++ x ∷ []) z.locks f
     refusal f old = record {
       older = old.older;
-      within = omega (arith, old.within, length-push L x);
+      within = omega (arith, old.within, length_push L x);
       asking = rw (take-append-le f.at L (x ∷ []) old.within) old.asking;
       running = rw (take-append-le f.at L (x ∷ []) old.within) old.running;
       conflict = ⊎_elim (λ w. inl (w.0, w.1, get_old L x w.0 (slice_get_within L w.0 (Ended f.holder) w.2) ∙ w.2)) (in_the_way f old.within) old.conflict;
     }
 
     longer : (t i : ℕ) → EndedBetween t i (length (last_epoch L).records) (last_epoch L).records → i < length (last_epoch L).records → EndedBetween t i (length ((last_epoch L).records ++ x ∷ [])) ((last_epoch L).records ++ x ∷ [])
-    longer t i w h = (w.0, w.1, omega (arith, w.2, length-push (last_epoch L).records x), get_old (last_epoch L).records x w.0 w.2 ∙ w.3)
+    longer t i w h = (w.0, w.1, omega (arith, w.2, length_push (last_epoch L).records x), get_old (last_epoch L).records x w.0 w.2 ∙ w.3)
 
     ends_here : (t i : ℕ) → i < length (last_epoch L).records → x ≡ Ended t → EndedBetween t i (length ((last_epoch L).records ++ x ∷ [])) ((last_epoch L).records ++ x ∷ [])
-    ends_here t i h e = (length (last_epoch L).records, h, omega (arith, length-push (last_epoch L).records x), get_new (last_epoch L).records x ∙ ap Some e)
+    ends_here t i h e = (length (last_epoch L).records, h, omega (arith, length_push (last_epoch L).records x), get_push (last_epoch L).records x ∙ ap Some e)
 
 -- ---- the vault
 pub VaultRun-push : (leave : Files → Type 0) (L : List Record) (x : Record) (n : ℕ) (v : VaultState) → VaultRun leave L n v → VaultRun leave (L ++ x ∷ []) n v
 VaultRun-push leave L x n v run = record {
-  within = omega (arith, run.within, length-push L x);
-  prefix = λ F h. let old : IsPrefix L n F = run.prefix F h in record { count = old.count; flushed = old.flushed; within = omega (arith, old.within, length-push L x); log = old.log ∙ sym (take-append-le old.count L (x ∷ []) old.within) };
+  within = omega (arith, run.within, length_push L x);
+  prefix = λ F h. let old : IsPrefix L n F = run.prefix F h in record { count = old.count; flushed = old.flushed; within = omega (arith, old.within, length_push L x); log = old.log ∙ sym (take-append-le old.count L (x ∷ []) old.within) };
   exact = λ running F h. let old : IsFlushed L n v F = run.exact running F h in record { log = old.log ∙ sym (take-append-le n L (x ∷ []) run.within); end = old.end };
   short = subst (λ K. v.end ≤ sum_by record_length K + 5 * n) (sym (take-append-le n L (x ∷ []) run.within)) run.short;
   then_fits = run.then_fits;

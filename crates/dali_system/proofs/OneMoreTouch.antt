@@ -108,7 +108,7 @@ step_grows r n x = by_test (on_region r x)
     by_test true = omega arith
     by_test false = omega arith
 
-fold_grows : (r n : ℕ) (E : List Record) → n ≤ fold (on_step r) n E
+pub fold_grows : (r n : ℕ) (E : List Record) → n ≤ fold (on_step r) n E
 fold_grows r n [] = omega arith
 fold_grows r n (x ∷ E) = omega (arith, step_grows r n x, fold_grows r (on_step r n x) E)
 

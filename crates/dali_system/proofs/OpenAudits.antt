@@ -1,7 +1,11 @@
 -- An audit that was just begun is open.
 use Rattle.std.proofs.Common.{◌≡◌, ℕ, ◌+◌, ◌<◌, Bool, true, false, cond, List, [], ◌∷◌, Option, Some, None, refl, ap, sym, subst, ◌∙◌, arith}
 use Rattle.std.specs.Prelude.{◌==◌, ◌&&◌, ◌||◌, not}
-use Rattle.std.proofs.lemmas.Bool.{le-leb}
+use Rattle.std.proofs.lemmas.Bool.{le-leb, eqb-true}
+use Rattle.std.proofs.lemmas.List.{length_push}
+use Rattle.dali_lists.proofs.Numbers.{eqb-self}
+use Rattle.dali_lists.proofs.Options.{some_same}
+use Rattle.dali_lists.proofs.Tests.{left_true, right_true}
 use Rattle.dali_geometry.specs.Sizes.{Sizes}
 use Rattle.dali_record.specs.declared.records.Record.{Record}
 use Rattle.dali_record.specs.declared.records.Record.TheVariants.{Format, Begin, Forward, Done, Commit, Ended, Solo, AuditBegin, AuditClean, AuditFail, Restarted, Back}
@@ -14,7 +18,6 @@ use Rattle.dali_system.specs.Audits.{AuditStarts, AuditGoesOn, ends_audit}
 use Rattle.dali_system.proofs.OneMore.{last_epoch-push, is_inside}
 use Rattle.dali_system.proofs.RecordSteps.{rule_of}
 use Rattle.dali_system.proofs.AuditSteps.{begin_rule}
-use Rattle.dali_counts.proofs.Lists.{and_left, equal, length-push, self, some_same, and_right}
 
 -- every audit that was begun or ended has a number below the count
 abbrev Below : ℕ → List ℕ → Type 0
@@ -46,7 +49,7 @@ cons_below : (n m : ℕ) (xs : List ℕ) → m < n → Below n xs → Below n (m
 cons_below n m xs h k b e = by_test (m == b) refl e
   where
     by_test : (c : Bool) → (m == b) ≡ c → (c || has xs b) ≡ true → b < n
-    by_test true f g = subst (λ z. z < n) (equal m b f) h
+    by_test true f g = subst (λ z. z < n) (eqb-true m b f) h
     by_test false f g = k b g
 
 -- records that leave both lists
@@ -62,8 +65,8 @@ runs_below s g (Commit t) p = holds_some _ (same_lists g (passes g (Commit t)) p
 runs_below s g (Ended t) p = holds_some _ (same_lists g (passes g (Ended t)) p refl refl refl)
 runs_below s g (Solo t q b) p = holds_kept _ _ (λ k. same_lists g (passes g (Solo t q b)) p refl refl refl)
 runs_below s g AuditBegin p = holds_kept _ _ (λ k. (cons_below (g.count + 1) g.count g.audits (omega arith) (more g.count g.audits p.0), more g.count g.closed p.1))
-runs_below s g (AuditClean b) p = holds_kept _ _ (λ k. (more g.count g.audits p.0, cons_below (g.count + 1) b g.closed (omega (arith, p.0 b (and_left (has g.audits b) _ k))) (more g.count g.closed p.1)))
-runs_below s g (AuditFail b rs) p = holds_kept _ _ (λ k. (more g.count g.audits p.0, cons_below (g.count + 1) b g.closed (omega (arith, p.0 b (and_left (has g.audits b) _ (and_left (has g.audits b && not (has g.closed b)) _ k)))) (more g.count g.closed p.1)))
+runs_below s g (AuditClean b) p = holds_kept _ _ (λ k. (more g.count g.audits p.0, cons_below (g.count + 1) b g.closed (omega (arith, p.0 b (left_true (has g.audits b) _ k))) (more g.count g.closed p.1)))
+runs_below s g (AuditFail b rs) p = holds_kept _ _ (λ k. (more g.count g.audits p.0, cons_below (g.count + 1) b g.closed (omega (arith, p.0 b (left_true (has g.audits b) _ (left_true (has g.audits b && not (has g.closed b)) _ k)))) (more g.count g.closed p.1)))
 runs_below s g (Restarted rs ds) p = holds_none
 runs_below s g (Back t b) p = holds_kept _ _ (λ k. same_lists g (passes g (Back t b)) p refl refl refl)
 
@@ -87,17 +90,7 @@ behind_below s g (Back t b) p = if_below g.failed _ (runs_below s g (Back t b) p
 
 first_below : (s : Sizes) (g : Rules) (x : Record) → AreBelow g → Holds (rules_first s g x)
 first_below s g (Format i h) p = holds_kept _ _ (λ k. same_lists g (passes g (Format i h)) p refl refl refl)
-first_below s g (Begin t) p = holds_none
-first_below s g (Forward t b) p = holds_none
-first_below s g (Done t c a) p = holds_none
-first_below s g (Commit t) p = holds_none
-first_below s g (Ended t) p = holds_none
-first_below s g (Solo t q b) p = holds_none
-first_below s g AuditBegin p = holds_none
-first_below s g (AuditClean b) p = holds_none
-first_below s g (AuditFail b rs) p = holds_none
-first_below s g (Restarted rs ds) p = holds_none
-first_below s g (Back t b) p = holds_none
+first_below s g _ p = holds_none
 
 next_below : (s : Sizes) (o : Option Rules) (x : Record) → Holds o → Holds (rules_next s o x)
 next_below s None x h = holds_none
@@ -116,7 +109,7 @@ audits_below s L g e = (all L g e).1
 pub audit_starts : AuditStarts
 audit_starts bases L c run none fits = record {
   named = λ g e. named g (some_same (sym e ∙ (rules_state_push s L AuditBegin ∙ rule)));
-  within = omega (arith, run.counts.records, run.counts.number, ap (λ (q : Epoch). next_number q) (last_epoch-push L AuditBegin refl), length-push (last_epoch L).records AuditBegin);
+  within = omega (arith, run.counts.records, run.counts.number, ap (λ (q : Epoch). next_number q) (last_epoch-push L AuditBegin refl), length_push (last_epoch L).records AuditBegin);
 }
   where
     s : Sizes
@@ -136,7 +129,7 @@ audit_starts bases L c run none fits = record {
         by_test true e = absurd (omega (arith, audits_below s L now run.counts.rules now.count e))
 
     named_now : (has (now.count ∷ now.audits) now.count && not (has now.closed now.count)) ≡ true
-    named_now = rw (self now.count, not_closed) refl
+    named_now = rw (eqb-self now.count, not_closed) refl
 
     named : (g : Rules) → g ≡ record (passes now AuditBegin) { audits = now.count ∷ now.audits } → (has g.audits c.system.records && not (has g.closed c.system.records)) ≡ true
     named g e = subst (λ (h : Rules). (has h.audits c.system.records && not (has h.closed c.system.records)) ≡ true) (sym e) (at_count c.system.records run.counts.records)
@@ -170,7 +163,7 @@ begins_more : (a b : ℕ) (audits closed : List ℕ) → (has audits b && not (h
 begins_more a b audits closed p = by_test (a == b)
   where
     by_test : (c : Bool) → ((c || has audits b) && not (has closed b)) ≡ true
-    by_test true = and_right (has audits b) (not (has closed b)) p
+    by_test true = right_true (has audits b) (not (has closed b)) p
     by_test false = p
 
 ends_other : (a b : ℕ) (audits closed : List ℕ) → (a == b) ≡ false → (has audits b && not (has closed b)) ≡ true → (has audits b && not (has (a ∷ closed) b)) ≡ true
@@ -178,17 +171,13 @@ ends_other a b audits closed e p = rw e p
 
 runs_named : (s : Sizes) (g : Rules) (x : Record) (b : ℕ) → ends_audit b x ≡ false → Named g b → StaysNamed (runs s g x) b
 runs_named s g (Format i h) b n p = stays_none b
-runs_named s g (Begin t) b n p = stays_kept _ _ b p
-runs_named s g (Forward t q) b n p = stays_kept _ _ b p
-runs_named s g (Done t c a) b n p = stays_kept _ _ b p
 runs_named s g (Commit t) b n p = stays_some _ b p
 runs_named s g (Ended t) b n p = stays_some _ b p
-runs_named s g (Solo t u q) b n p = stays_kept _ _ b p
 runs_named s g AuditBegin b n p = stays_kept _ _ b (begins_more g.count b g.audits g.closed p)
 runs_named s g (AuditClean a) b n p = stays_kept _ _ b (ends_other a b g.audits g.closed n p)
 runs_named s g (AuditFail a rs) b n p = stays_kept _ _ b (ends_other a b g.audits g.closed n p)
 runs_named s g (Restarted rs ds) b n p = stays_none b
-runs_named s g (Back t q) b n p = stays_kept _ _ b p
+runs_named s g _ b n p = stays_kept _ _ b p
 
 behind_named : (s : Sizes) (g : Rules) (x : Record) (b : ℕ) → ends_audit b x ≡ false → Named g b → StaysNamed (rules_behind s g x) b
 behind_named s g (Restarted rs ds) b n p = absurd (cc)
@@ -206,17 +195,8 @@ behind_named s g (Back t q) b n p = stays_if g.failed _ b (runs_named s g (Back 
 
 first_named : (s : Sizes) (g : Rules) (x : Record) (b : ℕ) → ends_audit b x ≡ false → StaysNamed (rules_first s g x) b
 first_named s g (Format i h) b n = absurd (cc)
-first_named s g (Begin t) b n = stays_none b
-first_named s g (Forward t q) b n = stays_none b
-first_named s g (Done t c a) b n = stays_none b
-first_named s g (Commit t) b n = stays_none b
-first_named s g (Ended t) b n = stays_none b
-first_named s g (Solo t u q) b n = stays_none b
-first_named s g AuditBegin b n = stays_none b
-first_named s g (AuditClean a) b n = stays_none b
-first_named s g (AuditFail a rs) b n = stays_none b
 first_named s g (Restarted rs ds) b n = absurd (cc)
-first_named s g (Back t q) b n = stays_none b
+first_named s g _ b n = stays_none b
 
 next_named : (s : Sizes) (o : Option Rules) (x : Record) (b : ℕ) → ends_audit b x ≡ false → StaysNamed o b → StaysNamed (rules_next s o x) b
 next_named s None x b n p = stays_none b
@@ -228,20 +208,11 @@ next_named s (Some g) x b n p = by_test (g.count == 0)
 
 goes_inside : (x : Record) (b : ℕ) → ends_audit b x ≡ false → is_inside x ≡ true
 goes_inside (Format i h) b n = absurd (cc)
-goes_inside (Begin t) b n = refl
-goes_inside (Forward t q) b n = refl
-goes_inside (Done t c a) b n = refl
-goes_inside (Commit t) b n = refl
-goes_inside (Ended t) b n = refl
-goes_inside (Solo t u q) b n = refl
-goes_inside AuditBegin b n = refl
-goes_inside (AuditClean a) b n = refl
-goes_inside (AuditFail a rs) b n = refl
 goes_inside (Restarted rs ds) b n = absurd (cc)
-goes_inside (Back t q) b n = refl
+goes_inside _ b n = refl
 
 pub audit_goes_on : AuditGoesOn
 audit_goes_on s L x b at legal n = record {
   named = λ g e. next_named s (rules_state s L) x b n at.named g (sym (rules_state_push s L x) ∙ e);
-  within = omega (arith, at.within, ap (λ (q : Epoch). next_number q) (last_epoch-push L x (goes_inside x b n)), length-push (last_epoch L).records x);
+  within = omega (arith, at.within, ap (λ (q : Epoch). next_number q) (last_epoch-push L x (goes_inside x b n)), length_push (last_epoch L).records x);
 }

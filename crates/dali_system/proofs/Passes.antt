@@ -2,13 +2,17 @@
 use Rattle.std.proofs.Common.{◌≡◌, ℕ, suc, zero, ◌+◌, ◌-◌, ◌<◌, ◌≤◌, ◌^◌, ◌⊎◌, Bool, true, false, cond, List, [], ◌∷◌, ◌++◌, length, Option, Some, None, refl, ap, sym, subst, ◌∙◌, inl, inr, ⊎_elim, arith}
 use Rattle.std.specs.Prelude.{◌==◌, ◌||◌, slice_get, slice_set, min}
 use Rattle.std.specs.Option.{option_map_or}
+use Rattle.std.proofs.lemmas.Bool.{or_parts, eqb-true}
+use Rattle.std.proofs.lemmas.List.{length_push}
+use Rattle.dali_lists.proofs.Lists.{set_cases}
+use Rattle.dali_lists.proofs.Numbers.{eqb-self}
+use Rattle.dali_lists.proofs.Options.{some_same}
 use Rattle.dali_record.specs.declared.records.Record.{Record}
 use Rattle.dali_record.specs.Epochs.{Epoch, last_epoch, next_number}
 use Rattle.dali_record.proofs.Ends.{get_push_cases}
+use Rattle.dali_record.proofs.Batches.{number_is_length}
 use Rattle.dali_region.specs.State.{RegionState, touched, checked, dead}
-use Rattle.dali_counts.proofs.Lists.{set_cases, or_false, equal, self, some_same, length-push}
 use Rattle.dali_counts.proofs.SmallLogs.{is_small}
-use Rattle.dali_counts.proofs.Tallies.{number_is}
 use Rattle.dali_system.specs.State.{CoreState}
 use Rattle.dali_system.specs.Run.{Bases, RunsOn, base_at, RegionRun}
 use Rattle.dali_system.specs.Regions.{RegionStep, region_after, Latch, NoteReads, Update, TakeBack, Poke, Check, Die, Clean}
@@ -43,7 +47,7 @@ later_one gs r g h at later q k e = ⊎_elim
     (set_cases gs r h q k e)
 
 pub check_later : (g : RegionState) → IsLater g (checked g)
-check_later g = record { sound = omega arith; missed = λ e. (or_false g.missed _ e).0; poked = λ e. e }
+check_later g = record { sound = omega arith; missed = λ e. (or_parts g.missed _ e).0; poked = λ e. e }
 
 pub after_later : (x : RegionStep) (g : RegionState) → IsLater g (region_after x g)
 after_later (Latch t) g = record { sound = omega arith; missed = λ e. e; poked = λ e. e }
@@ -76,7 +80,7 @@ touch_later bases L c r g run at = record { sound = counts_up g.poked g.sound fe
     here = run.regions r g at
 
     few : g.sound < 2 ^ 40
-    few = omega (arith, here.protected.within, here.touches, blocks_few r 0 (last_epoch L).records, is_small c.system.sizes L run.log.legal, number_is L)
+    few = omega (arith, here.protected.within, here.touches, blocks_few r 0 (last_epoch L).records, is_small c.system.sizes L run.log.legal, number_is_length L)
 
 -- ---- what was told stays
 -- the log is left, or has one record more
@@ -98,7 +102,7 @@ tells_later L M b p g h (inr more) within later tells = record {
 
 number_later : (L M : List Record) → Longer L M → next_number (last_epoch L) ≤ next_number (last_epoch M)
 number_later L M (inl same) = omega (arith, ap (λ (K : List Record). next_number (last_epoch K)) same)
-number_later L M (inr more) = let e : last_epoch M ≡ one_more (last_epoch L) more.0 = ap last_epoch more.2 ∙ last_epoch-push L more.0 more.1 in omega (arith, ap next_number e, length-push (last_epoch L).records more.0)
+number_later L M (inr more) = let e : last_epoch M ≡ one_more (last_epoch L) more.0 = ap last_epoch more.2 ∙ last_epoch-push L more.0 more.1 in omega (arith, ap next_number e, length_push (last_epoch L).records more.0)
 
 pub audits_later : (L M : List Record) (c d : CoreState) (audits : Audits) → Longer L M → AreLater c.regions d.regions → AuditsRun L c audits → AuditsRun M d audits
 audits_later L M c d audits longer later run = record {
@@ -133,7 +137,7 @@ audits_begin L c audits b run = record {
 -- a region that was passed stands in the list
 pub at_pass : (ps : List Pass) (i : ℕ) (p : Pass) → slice_get ps i ≡ Some p → has_passed ps p.region ≡ true
 at_pass [] i p e = absurd (no_pass i p e)
-at_pass (q ∷ ps) zero p e = let same : q ≡ p = some_same e in rw (same, self p.region) refl
+at_pass (q ∷ ps) zero p e = let same : q ≡ p = some_same e in rw (same, eqb-self p.region) refl
 at_pass (q ∷ ps) (suc i) p e = or_right (is_pass_of p.region q) (at_pass ps i p e)
   where
     or_right : (b : Bool) {c : Bool} → c ≡ true → (b || c) ≡ true
@@ -161,7 +165,7 @@ audits_pass bases L c d audits b r g run old at is may = record {
     later = audits_later L L c d audits (inl refl) (subst (AreLater c.regions) (sym is) (later_one c.regions r g (checked g) at (check_later g))) old
 
     within : (a i : ℕ) (p : Pass) (mine : Bool) → (a == b) ≡ mine → slice_get (cond mine (audits b ++ new ∷ []) (audits a)) i ≡ Some p → a ≤ next_number (last_epoch L)
-    within a i p true m e = omega (arith, equal a b m, may.auditing.within)
+    within a i p true m e = omega (arith, eqb-true a b m, may.auditing.within)
     within a i p false m e = old.within a i p e
 
     -- what the region is now
@@ -172,7 +176,7 @@ audits_pass bases L c d audits b r g run old at is may = record {
     told h e = subst (PassTells (last_epoch L) b new) (now h e) (record { certifies = λ k. pass_certifies (base_at bases L) (last_epoch L) b r g here k; finds = λ k. pass_finds (base_at bases L) (last_epoch L) r g here k })
 
     tells : (a i : ℕ) (p : Pass) (h : RegionState) (mine : Bool) → (a == b) ≡ mine → slice_get (cond mine (audits b ++ new ∷ []) (audits a)) i ≡ Some p → slice_get d.regions p.region ≡ Some h → PassTells (last_epoch L) a p h
-    tells a i p h true m e f = subst (λ z. PassTells (last_epoch L) z p h) (sym (equal a b m)) (⊎_elim
+    tells a i p h true m e f = subst (λ z. PassTells (last_epoch L) z p h) (sym (eqb-true a b m)) (⊎_elim
         (λ k. later.tells b i p h k.1 f)
         (λ k. subst (λ (z : Pass). PassTells (last_epoch L) b z h) k.1 (told h (subst (λ (z : Pass). slice_get d.regions z.region ≡ Some h) (sym k.1) f)))
         (get_push_cases (audits b) new i p e))

@@ -24,16 +24,21 @@ use Rattle.dali_system.specs.Keeps.{with_system, moves_to, GrantKeeps, RefuseKee
 use Rattle.dali_counts.proofs.Tallies.{tallies}
 use Rattle.dali_system.proofs.AuditSteps.{RegionRun-checked}
 use Rattle.dali_system.proofs.Protected.{ReadsFit, noted, wrote_word, dead_keeps, reads_same, cleaned_keeps}
-use Rattle.dali_counts.proofs.Lists.{equal, same_number, set_cases, and_left, and_right, some_same}
 use Rattle.dali_system.proofs.Tables.{changed, Puts, some_changed, still_there}
 use Rattle.dali_system.specs.Regions.{RegionStep, region_after, MayChange, Latch, NoteReads, Update, TakeBack, Poke, Check, Die, Clean}
 use Rattle.dali_att.specs.Table.{Table, with_row, with_state}
 use Rattle.std.specs.Option.{option_map}
 use Rattle.std.specs.FinMap.{get}
+use Rattle.std.proofs.lemmas.Bool.{eqb-true, eq-eqb}
+use Rattle.dali_lists.proofs.Lists.{set_cases}
+use Rattle.dali_lists.proofs.Numbers.{eqb_turned}
+use Rattle.dali_lists.proofs.Options.{some_same}
+use Rattle.dali_lists.proofs.Tests.{left_true, right_true}
 use Rattle.dali_locks.proofs.Changes.{get-locks_with}
 use Rattle.dali_record.specs.declared.operations.Pending.{Pending}
 use Rattle.dali_region.specs.Answers.{cleaned}
 use Rattle.dali_region.specs.declared.Side.TheVariants.{A, B}
+use Rattle.dali_locks.proofs.Kept.{stronger_apart}
 
 -- ---- what no count depends on
 RunsOn-held :
@@ -54,35 +59,22 @@ RunsOn-held bases L c run T K R b table locks = record {
 }
 
 -- ---- a lock that is granted
-stronger_covers : (o : Option Mode) (m : Mode) (d : Bool) → covers o d ≡ true → covers (Some (stronger_mode o m)) d ≡ true
+pub stronger_covers : (o : Option Mode) (m : Mode) (d : Bool) → covers o d ≡ true → covers (Some (stronger_mode o m)) d ≡ true
 stronger_covers None m d e = absurd (cc)
 stronger_covers (Some Shared) Shared d e = e
 stronger_covers (Some Shared) Exclusive d e = refl
 stronger_covers (Some Exclusive) m d e = refl
 
-shared_sym : (m n : Mode) → both_shared m n ≡ true → both_shared n m ≡ true
+pub shared_sym : (m n : Mode) → both_shared m n ≡ true → both_shared n m ≡ true
 shared_sym Shared Shared e = refl
 shared_sym Shared Exclusive e = absurd (cc)
 shared_sym Exclusive n e = absurd (cc)
 
--- the mode that the transaction has then is apart from that of another holder
-stronger_apart : (o : Option Mode) (m n : Mode) → ((p : Mode) → o ≡ Some p → both_shared p n ≡ true) → both_shared m n ≡ true → both_shared (stronger_mode o m) n ≡ true
-stronger_apart None m n h e = e
-stronger_apart (Some Shared) m n h e = e
-stronger_apart (Some Exclusive) m n h e = h Exclusive refl
-
 -- a mode that clashes with another one clashes with a stronger one
-stronger_clash : (n o m : Mode) → both_shared n o ≡ false → both_shared n (stronger_mode (Some o) m) ≡ false
+pub stronger_clash : (n o m : Mode) → both_shared n o ≡ false → both_shared n (stronger_mode (Some o) m) ≡ false
 stronger_clash Shared Shared m e = absurd (cc)
 stronger_clash Shared Exclusive m e = refl
 stronger_clash Exclusive o m e = refl
-
-differ : (t u : ℕ) → (t == u) ≡ false → (u == t) ≡ false
-differ t u e = by_test (u == t) refl
-  where
-    by_test : (b : Bool) → (u == t) ≡ b → b ≡ false
-    by_test false f = refl
-    by_test true f = let g : (t == u) ≡ true = same_number t u (sym (equal u t f)) in absurd (cc)
 
 pub grant_keeps : GrantKeeps
 grant_keeps bases L c t k m run here free = RunsOn-held bases L c run y.table K y.refusals y.checking run.table (record {
@@ -106,7 +98,7 @@ grant_keeps bases L c t k m run here free = RunsOn-held bases L c run y.table K 
     still u l d false h = h
 
     owned : (u l : ℕ) (p : Mode) (b : Bool) → ((t == u) && (k == l)) ≡ b → cond b (Some (stronger_mode (lock_of y u l) m)) (lock_of y u l) ≡ Some p → IsSome (row_of y u)
-    owned u l p true e f = subst (λ v. IsSome (row_of y v)) (equal t u (and_left (t == u) (k == l) e)) here
+    owned u l p true e f = subst (λ v. IsSome (row_of y v)) (eqb-true t u (left_true (t == u) (k == l) e)) here
     owned u l p false e f = run.locks.owned u l p f
 
     -- what was in the way of a request is in its way in a stronger mode too
@@ -133,21 +125,21 @@ grant_keeps bases L c t k m run here free = RunsOn-held bases L c run y.table K 
     -- t has the lock, v another one's
     against : (u v l : ℕ) (p q : Mode) → (u == v) ≡ false → ((t == u) && (k == l)) ≡ true → Some (stronger_mode (lock_of y u l) m) ≡ Some p → lock_of y v l ≡ Some q → both_shared p q ≡ true
     against u v l p q d e f g =
-        let tu : t ≡ u = equal t u (and_left (t == u) (k == l) e) in
-        let kl : k ≡ l = equal k l (and_right (t == u) (k == l) e) in
+        let tu : t ≡ u = eqb-true t u (left_true (t == u) (k == l) e) in
+        let kl : k ≡ l = eqb-true k l (right_true (t == u) (k == l) e) in
         let is : stronger_mode (lock_of y u l) m ≡ p = some_same f in
         let apart_t : (t == v) ≡ false = ap (λ z. z == v) tu ∙ d in
         let at_k : lock_of y v k ≡ Some q = ap (λ z. lock_of y v z) kl ∙ g in
         subst (λ z. both_shared z q ≡ true) is (stronger_apart (lock_of y u l) m q (λ z h. run.locks.apart u v l z q d h g) (free v q apart_t at_k))
 
     apart : (u v l : ℕ) (p q : Mode) → (u == v) ≡ false → (a : Bool) → ((t == u) && (k == l)) ≡ a → (b : Bool) → ((t == v) && (k == l)) ≡ b → cond a (Some (stronger_mode (lock_of y u l) m)) (lock_of y u l) ≡ Some p → cond b (Some (stronger_mode (lock_of y v l) m)) (lock_of y v l) ≡ Some q → both_shared p q ≡ true
-    apart u v l p q d true e true f g h = let same : u ≡ v = sym (equal t u (and_left (t == u) (k == l) e)) ∙ equal t v (and_left (t == v) (k == l) f) in let is : (u == v) ≡ true = same_number u v same in absurd (cc)
+    apart u v l p q d true e true f g h = let same : u ≡ v = sym (eqb-true t u (left_true (t == u) (k == l) e)) ∙ eqb-true t v (left_true (t == v) (k == l) f) in let is : (u == v) ≡ true = eq-eqb u v same in absurd (cc)
     apart u v l p q d true e false f g h = against u v l p q d e g h
-    apart u v l p q d false e true f g h = shared_sym q p (against v u l q p (differ u v d) f h g)
+    apart u v l p q d false e true f g h = shared_sym q p (against v u l q p (eqb_turned u v d) f h g)
     apart u v l p q d false e false f g h = run.locks.apart u v l p q d g h
 
 -- ---- a lock that is refused
-row_running : (o : Option TxnState) (row : Option TxnRow) → IsRow o row → IsSome row → is_running o ≡ true
+pub row_running : (o : Option TxnState) (row : Option TxnRow) → IsRow o row → IsSome row → is_running o ≡ true
 row_running None row r h = absurd r
 row_running (Some Unbegun) row r h = let none : is_some row ≡ false = ap is_some r in absurd (cc)
 row_running (Some (Active w)) row r h = refl
@@ -258,7 +250,7 @@ stop_keeps bases L c run stopped = record {
 }
 
 -- ---- the state of a transaction
-state_row : (o : Option TxnState) (row : Option TxnRow) (r : TxnRow) (st : State) → IsRow o row → row ≡ Some r → is_committed r.state ≡ false → is_committed st ≡ false → IsRow o (option_map (with_state st) row)
+pub state_row : (o : Option TxnState) (row : Option TxnRow) (r : TxnRow) (st : State) → IsRow o row → row ≡ Some r → is_committed r.state ≡ false → is_committed st ≡ false → IsRow o (option_map (with_state st) row)
 state_row None row r st i e f g = absurd i
 state_row (Some Unbegun) row r st i e f g = absurd (cc)
 state_row (Some (Active w)) row r st i e f g = (st, g, ap (option_map (with_state st)) i.2)
@@ -266,7 +258,7 @@ state_row (Some (Ending ps)) row r st i e f g = let same : record { state = Comm
 state_row (Some Over) row r st i e f g = absurd (cc)
 
 -- the state is none of a committed transaction, before and after
-none_committed : (old new : State) → moves_to old new ≡ true → (is_committed old ≡ false) × (is_committed new ≡ false)
+pub none_committed : (old new : State) → moves_to old new ≡ true → (is_committed old ≡ false) × (is_committed new ≡ false)
 none_committed Live Live e = absurd (cc)
 none_committed Live (Dead q) e = (refl, refl)
 none_committed Live (Cleaning q) e = absurd (cc)
@@ -310,7 +302,7 @@ state_keeps bases L c t old st run was moves = RunsOn-held bases L c run T y.loc
     puts = changed y.table t (with_state st)
 
     table : (u : ℕ) (b : Bool) → (t == u) ≡ b → IsRow (txn_state y.sizes u L) (cond b (option_map (with_state st) (row_of y t)) (row_of y u))
-    table u true e = subst (λ v. IsRow (txn_state y.sizes v L) (option_map (with_state st) (row_of y t))) (equal t u e) (state_row (txn_state y.sizes t L) (row_of y t) row.0 st (run.table t) row.1 (ap is_committed row.2 ∙ none.0) none.1)
+    table u true e = subst (λ v. IsRow (txn_state y.sizes v L) (option_map (with_state st) (row_of y t))) (eqb-true t u e) (state_row (txn_state y.sizes t L) (row_of y t) row.0 st (run.table t) row.1 (ap is_committed row.2 ∙ none.0) none.1)
     table u false e = run.table u
 
 -- ---- the flag of a checkpoint

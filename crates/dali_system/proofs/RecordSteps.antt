@@ -2,14 +2,14 @@
 use Rattle.std.proofs.Common.{◌≡◌, ℕ, ◌+◌, ◌<◌, ◌≤◌, Bool, true, false, cond, List, [], ◌∷◌, ◌++◌, Option, Some, None, refl, ap, sym, subst, ◌∙◌, ◌⊎◌, inl, inr, ⊎_elim, arith}
 use Rattle.std.specs.Prelude.{IsSome, is_some, ◌==◌, not, slice_set, ◌^◌}
 use Rattle.std.proofs.lemmas.List.{length-set}
-use Rattle.std.proofs.lemmas.Bool.{cases_lt, ne_eqb, le-leb}
+use Rattle.std.proofs.lemmas.Bool.{cases_lt, ne_eqb, le-leb, eqb-true, or_cases, eq-eqb}
 use Rattle.dali_geometry.specs.Sizes.{Sizes}
 use Rattle.dali_record.specs.declared.operations.Block.{Block}
 use Rattle.dali_record.specs.declared.operations.Pending.{Pending}
 use Rattle.dali_record.specs.declared.records.Call.{Call}
 use Rattle.dali_record.specs.declared.records.Answer.{Answer}
 use Rattle.dali_record.specs.declared.records.Record.{Record}
-use Rattle.dali_record.specs.declared.records.Record.TheVariants.{Format, Begin, Forward, Done, Commit, Ended, Solo, AuditBegin, AuditClean, AuditFail, Restarted, Back}
+use Rattle.dali_record.specs.declared.records.Record.TheVariants.{Format, Begin, Forward, Done, Commit, Ended, Solo, AuditClean, AuditFail, Restarted, Back}
 use Rattle.dali_record.specs.Log.{Touch, undo_added, drop_last, last_of}
 use Rattle.dali_record.specs.Calls.{Progress, Fresh, follow}
 use Rattle.dali_record.specs.Spelling.{record_length}
@@ -26,14 +26,14 @@ use Rattle.dali_system.specs.Steps.{committed_row, undo_kept}
 use Rattle.dali_system.specs.Keeps.{IsNext, BeginKeeps, OpKeeps, BackKeeps, SoloKeeps, DoneKeeps, CommitKeeps, EndedKeeps}
 use Rattle.dali_system.proofs.OneMore.{TableRun-push, is_plain}
 use Rattle.dali_system.proofs.Logging.{RunsOn-logged, TableRun-one, regions_quiet, regions_touched}
-use Rattle.dali_counts.proofs.Lists.{equal, or_cases, same_number, self}
-use Rattle.dali_counts.proofs.SmallLogs.{next_is_small}
+use Rattle.dali_counts.proofs.SmallLogs.{next_is_small, never_solo}
 use Rattle.dali_system.proofs.Tables.{added, changed, dropped, ended, kept, some_changed, some_with, still_there, with_undos}
 use Rattle.std.specs.FinMap.{get, insert, remove}
 use Rattle.std.specs.Option.{option_map}
+use Rattle.dali_lists.proofs.Numbers.{eqb-self}
 use Rattle.dali_att.specs.Table.{Table, fresh_row, with_row, without_last}
 use Rattle.dali_locks.specs.Locks.{locks_without}
-use Rattle.dali_locks.proofs.Changes.{get-locks_without}
+use Rattle.dali_locks.proofs.Kept.{locks_without_at}
 
 -- ---- the rules of the whole log
 -- the engine runs: no audit failed in this epoch
@@ -63,17 +63,10 @@ apart_above t n u h k = ne_eqb t u (λ e. absurd (omega (arith, h, k, e)))
 -- in an epoch without a failed audit, behind the first record
 rule_at : (s : Sizes) (o : Option Rules) (now : Rules) (x : Record) → is_plain x ≡ true → o ≡ Some now → (now.count == 0) ≡ false → now.failed ≡ false → rules_next s o x ≡ runs s now x
 rule_at s o now (Format i h) p e f g = absurd (cc)
-rule_at s o now (Begin t) p e f g = rw (e, f, g) refl
-rule_at s o now (Forward t b) p e f g = rw (e, f, g) refl
-rule_at s o now (Done t a b) p e f g = rw (e, f, g) refl
-rule_at s o now (Commit t) p e f g = rw (e, f, g) refl
-rule_at s o now (Ended t) p e f g = rw (e, f, g) refl
-rule_at s o now (Solo t q b) p e f g = rw (e, f, g) refl
-rule_at s o now AuditBegin p e f g = rw (e, f, g) refl
 rule_at s o now (AuditClean b) p e f g = absurd (cc)
 rule_at s o now (AuditFail b rs) p e f g = absurd (cc)
 rule_at s o now (Restarted rs ds) p e f g = absurd (cc)
-rule_at s o now (Back t b) p e f g = rw (e, f, g) refl
+rule_at s o now _ p e f g = rw (e, f, g) refl
 
 pub rule_of : (bases : Bases) (L : List Record) (c : CoreState) (run : RunsOn bases L c) (x : Record) → is_plain x ≡ true → c.system.stop ≡ None → rules_next c.system.sizes (rules_state c.system.sizes L) x ≡ runs c.system.sizes run.counts.now x
 rule_of bases L c run x plain none = rule_at c.system.sizes (rules_state c.system.sizes L) run.counts.now x plain run.counts.rules run.counts.some (not_failed bases L c run none)
@@ -83,13 +76,13 @@ begin_rule : (s : Sizes) (now : Rules) (t : ℕ) → (t == now.next) ≡ true �
 begin_rule s now t e f = rw (e, f) refl
 
 begin_row : (s : Sizes) (t : ℕ) (o : Option TxnState) → o ≡ Some Unbegun → IsRow (txn_next s t o (Begin t)) (Some (record { state = Live; undos = [] }))
-begin_row s t o e = rw (e, self t) (Live, refl, refl)
+begin_row s t o e = rw (e, eqb-self t) (Live, refl, refl)
 
 pub begin_keeps : BeginKeeps
 begin_keeps bases L c run may = RunsOn-logged bases L c run (Begin t) (insert c.system.table t fresh_row) c.system.locks c.regions (record {
   plain = refl;
   then = record (passes now (Begin t)) { next = now.next + 1 };
-  rule = rule_of bases L c run (Begin t) refl may.runs ∙ begin_rule s now t (same_number t now.next run.counts.next) (has_it bases L c run (Begin t) may.room);
+  rule = rule_of bases L c run (Begin t) refl may.runs ∙ begin_rule s now t (eq-eqb t now.next run.counts.next) (has_it bases L c run (Begin t) may.room);
   count = refl;
   weight = refl;
   next = refl;
@@ -152,44 +145,44 @@ gives_freed : (b : Block) (ps : List Pending) → Gives (Some (record { state = 
 gives_freed b [] h = gives_none (Some (record { state = Committed; undos = [] })) h
 gives_freed b (p ∷ ps) h = gives_allowed (Some (record { state = Committed; undos = [] })) _ (Some (Ending ps)) (λ k. refl) h
 
-never : (c : Bool) (o : Option TxnState) (row : Option TxnRow) → c ≡ true → IsSome (allowed (not c) o) → IsRow (allowed (not c) o) row
+pub never : (c : Bool) (o : Option TxnState) (row : Option TxnRow) → c ≡ true → IsSome (allowed (not c) o) → IsRow (allowed (not c) o) row
 never true o row e h = absurd (cc)
 never false o row e h = absurd (cc)
 
-op_row : (s : Sizes) (t : ℕ) (b : Block) (o : Option TxnState) (row : Option TxnRow) → IsRow o row → IsSome (txn_next s t o (Forward t b)) → IsRow (txn_next s t o (Forward t b)) (with_undos (λ us. us ++ undo_added b b.undo) row)
+pub op_row : (s : Sizes) (t : ℕ) (b : Block) (o : Option TxnState) (row : Option TxnRow) → IsRow o row → IsSome (txn_next s t o (Forward t b)) → IsRow (txn_next s t o (Forward t b)) (with_undos (λ us. us ++ undo_added b b.undo) row)
 op_row s t b None row r h = absurd r
-op_row s t b (Some Unbegun) row r h = never (t == t) _ _ (self t) h
-op_row s t b (Some (Active w)) row r h = let h2 = rw (self t) at h in rw (self t, r.2) (gives_forward s t r.0 r.1 w b h2)
-op_row s t b (Some (Ending ps)) row r h = never (t == t) _ _ (self t) h
-op_row s t b (Some Over) row r h = never (t == t) _ _ (self t) h
+op_row s t b (Some Unbegun) row r h = never (t == t) _ _ (eqb-self t) h
+op_row s t b (Some (Active w)) row r h = let h2 = rw (eqb-self t) at h in rw (eqb-self t, r.2) (gives_forward s t r.0 r.1 w b h2)
+op_row s t b (Some (Ending ps)) row r h = never (t == t) _ _ (eqb-self t) h
+op_row s t b (Some Over) row r h = never (t == t) _ _ (eqb-self t) h
 
-back_row : (s : Sizes) (t : ℕ) (b : Block) (o : Option TxnState) (row : Option TxnRow) → IsRow o row → IsSome (txn_next s t o (Back t b)) → IsRow (txn_next s t o (Back t b)) (with_undos drop_last row)
+pub back_row : (s : Sizes) (t : ℕ) (b : Block) (o : Option TxnState) (row : Option TxnRow) → IsRow o row → IsSome (txn_next s t o (Back t b)) → IsRow (txn_next s t o (Back t b)) (with_undos drop_last row)
 back_row s t b None row r h = absurd r
-back_row s t b (Some Unbegun) row r h = never (t == t) _ _ (self t) h
-back_row s t b (Some (Active w)) row r h = let h2 = rw (self t) at h in rw (self t, r.2) (gives_back r.0 r.1 w b (last_of w.undos) h2)
-back_row s t b (Some (Ending ps)) row r h = never (t == t) _ _ (self t) h
-back_row s t b (Some Over) row r h = never (t == t) _ _ (self t) h
+back_row s t b (Some Unbegun) row r h = never (t == t) _ _ (eqb-self t) h
+back_row s t b (Some (Active w)) row r h = let h2 = rw (eqb-self t) at h in rw (eqb-self t, r.2) (gives_back r.0 r.1 w b (last_of w.undos) h2)
+back_row s t b (Some (Ending ps)) row r h = never (t == t) _ _ (eqb-self t) h
+back_row s t b (Some Over) row r h = never (t == t) _ _ (eqb-self t) h
 
-done_row : (s : Sizes) (t : ℕ) (k : Call) (a : Answer) (o : Option TxnState) (row : Option TxnRow) → IsRow o row → IsSome (txn_next s t o (Done t k a)) → IsRow (txn_next s t o (Done t k a)) row
+pub done_row : (s : Sizes) (t : ℕ) (k : Call) (a : Answer) (o : Option TxnState) (row : Option TxnRow) → IsRow o row → IsSome (txn_next s t o (Done t k a)) → IsRow (txn_next s t o (Done t k a)) row
 done_row s t k a None row r h = absurd r
-done_row s t k a (Some Unbegun) row r h = never (t == t) _ _ (self t) h
-done_row s t k a (Some (Active w)) row r h = let h2 = rw (self t) at h in rw (self t, r.2) (gives_allowed (Some (record { state = r.0; undos = w.undos })) (is_answer s w k a) (Some (rested w)) (λ q. (r.0, r.1, refl)) h2)
-done_row s t k a (Some (Ending ps)) row r h = never (t == t) _ _ (self t) h
-done_row s t k a (Some Over) row r h = never (t == t) _ _ (self t) h
+done_row s t k a (Some Unbegun) row r h = never (t == t) _ _ (eqb-self t) h
+done_row s t k a (Some (Active w)) row r h = let h2 = rw (eqb-self t) at h in rw (eqb-self t, r.2) (gives_allowed (Some (record { state = r.0; undos = w.undos })) (is_answer s w k a) (Some (rested w)) (λ q. (r.0, r.1, refl)) h2)
+done_row s t k a (Some (Ending ps)) row r h = never (t == t) _ _ (eqb-self t) h
+done_row s t k a (Some Over) row r h = never (t == t) _ _ (eqb-self t) h
 
-commit_row : (s : Sizes) (t : ℕ) (o : Option TxnState) (row : Option TxnRow) → IsRow o row → IsSome (txn_next s t o (Commit t)) → IsRow (txn_next s t o (Commit t)) (option_map committed_row row)
+pub commit_row : (s : Sizes) (t : ℕ) (o : Option TxnState) (row : Option TxnRow) → IsRow o row → IsSome (txn_next s t o (Commit t)) → IsRow (txn_next s t o (Commit t)) (option_map committed_row row)
 commit_row s t None row r h = absurd r
-commit_row s t (Some Unbegun) row r h = never (t == t) _ _ (self t) h
-commit_row s t (Some (Active w)) row r h = let h2 = rw (self t) at h in rw (self t, r.2) (gives_allowed (Some (record { state = Committed; undos = [] })) (is_level w) (Some (Ending (dead_of w.undos))) (λ q. refl) h2)
-commit_row s t (Some (Ending ps)) row r h = never (t == t) _ _ (self t) h
-commit_row s t (Some Over) row r h = never (t == t) _ _ (self t) h
+commit_row s t (Some Unbegun) row r h = never (t == t) _ _ (eqb-self t) h
+commit_row s t (Some (Active w)) row r h = let h2 = rw (eqb-self t) at h in rw (eqb-self t, r.2) (gives_allowed (Some (record { state = Committed; undos = [] })) (is_level w) (Some (Ending (dead_of w.undos))) (λ q. refl) h2)
+commit_row s t (Some (Ending ps)) row r h = never (t == t) _ _ (eqb-self t) h
+commit_row s t (Some Over) row r h = never (t == t) _ _ (eqb-self t) h
 
-ended_row : (s : Sizes) (t : ℕ) (o : Option TxnState) (row : Option TxnRow) → IsRow o row → IsSome (txn_next s t o (Ended t)) → IsRow (txn_next s t o (Ended t)) None
+pub ended_row : (s : Sizes) (t : ℕ) (o : Option TxnState) (row : Option TxnRow) → IsRow o row → IsSome (txn_next s t o (Ended t)) → IsRow (txn_next s t o (Ended t)) None
 ended_row s t None row r h = absurd r
-ended_row s t (Some Unbegun) row r h = never (t == t) _ _ (self t) h
-ended_row s t (Some (Active w)) row r h = let h2 = rw (self t) at h in rw (self t) (gives_allowed None (is_none_left w.undos) (Some Over) (λ q. refl) h2)
-ended_row s t (Some (Ending ps)) row r h = let h2 = rw (self t) at h in rw (self t) (gives_allowed None (is_none_left ps) (Some Over) (λ q. refl) h2)
-ended_row s t (Some Over) row r h = never (t == t) _ _ (self t) h
+ended_row s t (Some Unbegun) row r h = never (t == t) _ _ (eqb-self t) h
+ended_row s t (Some (Active w)) row r h = let h2 = rw (eqb-self t) at h in rw (eqb-self t) (gives_allowed None (is_none_left w.undos) (Some Over) (λ q. refl) h2)
+ended_row s t (Some (Ending ps)) row r h = let h2 = rw (eqb-self t) at h in rw (eqb-self t) (gives_allowed None (is_none_left ps) (Some Over) (λ q. refl) h2)
+ended_row s t (Some Over) row r h = never (t == t) _ _ (eqb-self t) h
 
 TableRun-same :
     (s : Sizes) (L : List Record) (x : Record) (table : Table Pending) (t : ℕ) → TableRun s L table
@@ -198,7 +191,7 @@ TableRun-same :
     → TableRun s (L ++ x ∷ []) table
 TableRun-same s L x table t run only here =
     TableRun-push s L x table table run
-    (λ u e. let same : (t == u) ≡ true = sym (only u) ∙ e in subst (λ v. IsRow (txn_next s v (txn_state s v L) x) (get table v)) (equal t u same) here)
+    (λ u e. let same : (t == u) ≡ true = sym (only u) ∙ e in subst (λ v. IsRow (txn_next s v (txn_state s v L) x) (get table v)) (eqb-true t u same) here)
     (λ u e. refl)
 
 of_touch : {t p : ℕ} {b : Block} (y : SystemState) (a : Touch) → Some (record { txn = t; owner = p; block = b }) ≡ Some a → holds y p b ≡ true → holds y a.owner a.block ≡ true
@@ -221,7 +214,7 @@ op_keeps bases L c t b g run has may = RunsOn-logged bases L c run x (undo_kept 
   next = refl;
   failed = refl;
   grows = omega arith;
-  known = λ u h. apart_above t now.next u (given bases L c run t x may.next (rw (self t) refl)) h;
+  known = λ u h. apart_above t now.next u (given bases L c run t x may.next (rw (eqb-self t) refl)) h;
   spelled = may.spelled;
   reads = of_open t t b may.is_open.reads;
   table = TableRun-one s L x c.system.table t _ _ run.table (kept c.system.table t b b.undo) (λ u. refl) (op_row s t b (txn_state s t L) (get c.system.table t) (run.table t) (next_at s L t x may.next));
@@ -255,7 +248,7 @@ back_keeps bases L c t b g run may = RunsOn-logged bases L c run x (with_row c.s
   next = refl;
   failed = refl;
   grows = omega arith;
-  known = λ u h. apart_above t now.next u (given bases L c run t x may.next (rw (self t) refl)) h;
+  known = λ u h. apart_above t now.next u (given bases L c run t x may.next (rw (eqb-self t) refl)) h;
   spelled = may.spelled;
   reads = of_open t t b may.is_open.reads;
   table = TableRun-one s L x c.system.table t _ _ run.table (dropped c.system.table t) (λ u. refl) (back_row s t b (txn_state s t L) (get c.system.table t) (run.table t) (next_at s L t x may.next));
@@ -289,7 +282,7 @@ done_keeps bases L c t k a run may spelled next = RunsOn-logged bases L c run x 
   next = refl;
   failed = refl;
   grows = omega arith;
-  known = λ u h. apart_above t now.next u (given bases L c run t x next (rw (self t) refl)) h;
+  known = λ u h. apart_above t now.next u (given bases L c run t x next (rw (eqb-self t) refl)) h;
   spelled = spelled;
   reads = λ q e. absurd (cc);
   table = TableRun-same s L x c.system.table t run.table (λ u. refl) (done_row s t k a (txn_state s t L) (get c.system.table t) (run.table t) (next_at s L t x next));
@@ -320,7 +313,7 @@ commit_keeps bases L c t run runs next = RunsOn-logged bases L c run x (with_row
   next = refl;
   failed = refl;
   grows = omega arith;
-  known = λ u h. apart_above t now.next u (given bases L c run t x next (rw (self t) refl)) h;
+  known = λ u h. apart_above t now.next u (given bases L c run t x next (rw (eqb-self t) refl)) h;
   spelled = small;
   reads = λ q e. absurd (cc);
   table = TableRun-one s L x c.system.table t _ _ run.table (changed c.system.table t committed_row) (λ u. refl) (commit_row s t (txn_state s t L) (get c.system.table t) (run.table t) (next_at s L t x next));
@@ -341,7 +334,7 @@ commit_keeps bases L c t run runs next = RunsOn-logged bases L c run x (with_row
     x = Commit t
 
     small : t < 2 ^ 64
-    small = omega (arith, given bases L c run t x next (rw (self t) refl), next_is_small s L now run.log.legal run.counts.rules)
+    small = omega (arith, given bases L c run t x next (rw (eqb-self t) refl), next_is_small s L now run.log.legal run.counts.rules)
 
 -- ---- the end of a transaction
 pub ended_keeps : EndedKeeps
@@ -354,7 +347,7 @@ ended_keeps bases L c t run runs next = RunsOn-logged bases L c run x (remove c.
   next = refl;
   failed = refl;
   grows = omega arith;
-  known = λ u h. apart_above t now.next u (given bases L c run t x next (rw (self t) refl)) h;
+  known = λ u h. apart_above t now.next u (given bases L c run t x next (rw (eqb-self t) refl)) h;
   spelled = small;
   reads = λ q e. absurd (cc);
   table = TableRun-one s L x c.system.table t None _ run.table (ended c.system.table t) (λ u. refl) (ended_row s t (txn_state s t L) (get c.system.table t) (run.table t) (next_at s L t x next));
@@ -375,13 +368,13 @@ ended_keeps bases L c t run runs next = RunsOn-logged bases L c run x (remove c.
     x = Ended t
 
     small : t < 2 ^ 64
-    small = omega (arith, given bases L c run t x next (rw (self t) refl), next_is_small s L now run.log.legal run.counts.rules)
+    small = omega (arith, given bases L c run t x next (rw (eqb-self t) refl), next_is_small s L now run.log.legal run.counts.rules)
 
     locks : (u l : ℕ) → get (locks_without c.system.locks t) (u, l) ≡ cond (t == u) None (get c.system.locks (u, l))
-    locks u l = get-locks_without c.system.locks t u l
+    locks u l = locks_without_at c.system.locks t u l
 
     keeps : (u l : ℕ) (b : Bool) → (t == u) ≡ b → (Ended t ≡ Ended u) ⊎ (get (locks_without c.system.locks t) (u, l) ≡ get c.system.locks (u, l))
-    keeps u l true e = inl (ap Ended (equal t u e))
+    keeps u l true e = inl (ap Ended (eqb-true t u e))
     keeps u l false e = inr (locks u l ∙ ap (λ (b : Bool). cond b None (get c.system.locks (u, l))) e)
 
     fewer_at : (u l : ℕ) (m : Mode) (b : Bool) → (t == u) ≡ b → cond b None (get c.system.locks (u, l)) ≡ Some m → (get c.system.locks (u, l) ≡ Some m) × IsSome (cond b None (get c.system.table u))
@@ -396,29 +389,22 @@ solo_rule : (s : Sizes) (now : Rules) (n p : ℕ) (b : Block) → (n == now.next
 solo_rule s now n p b e f = rw (e, f) refl
 
 -- the parent's row
-solo_row : (s : Sizes) (n p : ℕ) (b : Block) (o : Option TxnState) (row : Option TxnRow) → IsRow o row → (n == p) ≡ false → IsSome (txn_next s p o (Solo n p b)) → IsRow (txn_next s p o (Solo n p b)) row
+pub solo_row : (s : Sizes) (n p : ℕ) (b : Block) (o : Option TxnState) (row : Option TxnRow) → IsRow o row → (n == p) ≡ false → IsSome (txn_next s p o (Solo n p b)) → IsRow (txn_next s p o (Solo n p b)) row
 solo_row s n p b None row r e h = absurd r
-solo_row s n p b (Some Unbegun) row r e h = let h2 = rw (e, self p) at h in absurd (cc)
-solo_row s n p b (Some (Active w)) row r e h = let h2 = rw (e, self p) at h in absurd (cc)
-solo_row s n p b (Some (Ending ps)) row r e h = let h2 = rw (e, self p) at h in rw (e, self p, r) (gives_freed b ps h2)
-solo_row s n p b (Some Over) row r e h = let h2 = rw (e, self p) at h in absurd (cc)
+solo_row s n p b (Some Unbegun) row r e h = let h2 = rw (e, eqb-self p) at h in absurd (cc)
+solo_row s n p b (Some (Active w)) row r e h = let h2 = rw (e, eqb-self p) at h in absurd (cc)
+solo_row s n p b (Some (Ending ps)) row r e h = let h2 = rw (e, eqb-self p) at h in rw (e, eqb-self p, r) (gives_freed b ps h2)
+solo_row s n p b (Some Over) row r e h = let h2 = rw (e, eqb-self p) at h in absurd (cc)
 
 -- the solo's own number
 solo_own : (s : Sizes) (n p : ℕ) (b : Block) (o : Option TxnState) (row : Option TxnRow) → o ≡ Some Unbegun → IsRow o row → (p == n) ≡ false → IsRow (txn_next s n o (Solo n p b)) row
-solo_own s n p b o row e r apart = let r2 : row ≡ None = rw e at r in rw (e, self n, apart) r2
-
-solo_never : (s : Sizes) (n p : ℕ) (b : Block) → txn_step s p Unbegun (Solo n p b) ≡ None
-solo_never s n p b = by_test (n == p)
-  where
-    by_test : (c : Bool) → cond c (allowed (not (p == p)) (Some Over)) (allowed (not (p == p)) (Some Unbegun)) ≡ None
-    by_test true = rw (self p) refl
-    by_test false = rw (self p) refl
+solo_own s n p b o row e r apart = let r2 : row ≡ None = rw e at r in rw (e, eqb-self n, apart) r2
 
 pub solo_keeps : SoloKeeps
 solo_keeps bases L c p b g run may = RunsOn-logged bases L c run x c.system.table c.system.locks (slice_set c.regions b.region (touched g)) (record {
   plain = refl;
   then = record (passes now x) { next = now.next + 1 };
-  rule = rule_of bases L c run x refl may.runs ∙ solo_rule s now n p b (same_number n now.next run.counts.next) may.kind;
+  rule = rule_of bases L c run x refl may.runs ∙ solo_rule s now n p b (eq-eqb n now.next run.counts.next) may.kind;
   count = refl;
   weight = refl;
   next = refl;
@@ -429,8 +415,8 @@ solo_keeps bases L c p b g run may = RunsOn-logged bases L c run x c.system.tabl
   reads = of_open n p b may.is_open.reads;
   table = TableRun-push s L x c.system.table c.system.table run.table
       (λ u e. ⊎_elim
-      (λ f. subst (λ v. IsRow (txn_next s v (txn_state s v L) x) (get c.system.table v)) (equal n u f) (solo_own s n p b (txn_state s n L) (get c.system.table n) (run.counts.fresh n (omega (arith, run.counts.next))) (run.table n) (ne_eqb p n (λ k. absurd (omega (arith, k, old, run.counts.next))))))
-      (λ f. subst (λ v. IsRow (txn_next s v (txn_state s v L) x) (get c.system.table v)) (equal p u f) (solo_row s n p b (txn_state s p L) (get c.system.table p) (run.table p) (ne_eqb n p (λ k. absurd (omega (arith, k, old, run.counts.next)))) (next_at s L p x may.next)))
+      (λ f. subst (λ v. IsRow (txn_next s v (txn_state s v L) x) (get c.system.table v)) (eqb-true n u f) (solo_own s n p b (txn_state s n L) (get c.system.table n) (run.counts.fresh n (omega (arith, run.counts.next))) (run.table n) (ne_eqb p n (λ k. absurd (omega (arith, k, old, run.counts.next))))))
+      (λ f. subst (λ v. IsRow (txn_next s v (txn_state s v L) x) (get c.system.table v)) (eqb-true p u f) (solo_row s n p b (txn_state s p L) (get c.system.table p) (run.table p) (ne_eqb n p (λ k. absurd (omega (arith, k, old, run.counts.next)))) (next_at s L p x may.next)))
       (or_cases (n == u) (p == u) e))
       (λ u e. refl);
   keeps = λ u k. inr refl;
@@ -453,4 +439,4 @@ solo_keeps bases L c p b g run may = RunsOn-logged bases L c run x c.system.tabl
     x = Solo n p b
 
     old : p < now.next
-    old = given bases L c run p x may.next (solo_never s n p b)
+    old = given bases L c run p x may.next (never_solo s n p b)

@@ -3,6 +3,8 @@ use Rattle.std.proofs.Common.{◌≡◌, ℕ, zero, suc, ◌≤◌, ◌/◌, Boo
 use Rattle.std.specs.Prelude.{◌==◌, fold}
 use Rattle.std.proofs.lemmas.List.{append-nil, take-append-drop, drop-append-le, ext_get_or}
 use Rattle.std.proofs.lemmas.List.Sums.{fold-append}
+use Rattle.std.proofs.lemmas.Bool.{eqb-true, eq-eqb}
+use Rattle.dali_lists.proofs.Lists.{take_further, length_take_least}
 use Rattle.dali_words.specs.Words.{has_first, first_or, rest_of, write_under}
 use Rattle.dali_words.proofs.Masks.{length-write_under}
 use Rattle.dali_record.specs.declared.records.Record.{Record}
@@ -10,7 +12,6 @@ use Rattle.dali_record.specs.Blocks.{rewritten}
 use Rattle.dali_record.specs.Log.{Touch, touch_of}
 use Rattle.dali_record.specs.Settled.{words_in, redo, redo_touch, redo_all}
 use Rattle.dali_record.proofs.Recovery.{words_redo-same, words_redo-other}
-use Rattle.dali_counts.proofs.Lists.{equal, same_number}
 
 -- ---- one region
 abbrev part_touch : ℕ → List ℕ → Option Touch → List ℕ
@@ -29,8 +30,8 @@ touch_part image None r = refl
 touch_part image (Some a) r = by_test (a.block.region == r) refl
   where
     by_test : (b : Bool) → (a.block.region == r) ≡ b → words_in (redo_touch image (Some a)) r ≡ cond b (rewritten a.block (words_in image r)) (words_in image r)
-    by_test true e = subst (λ q. words_in (redo_touch image (Some a)) q ≡ rewritten a.block (words_in image q)) (equal a.block.region r e) (words_redo-same image a)
-    by_test false e = words_redo-other image a r (λ h. let f : (a.block.region == r) ≡ true = same_number a.block.region r (sym h) in absurd (cc))
+    by_test true e = subst (λ q. words_in (redo_touch image (Some a)) q ≡ rewritten a.block (words_in image q)) (eqb-true a.block.region r e) (words_redo-same image a)
+    by_test false e = words_redo-other image a r (λ h. let f : (a.block.region == r) ≡ true = eq-eqb a.block.region r (sym h) in absurd (cc))
 
 redo_part : (image : List (List ℕ)) (E : List Record) (r : ℕ) → words_in (redo_all image E) r ≡ part r (words_in image r) E
 redo_part image [] r = refl
@@ -104,17 +105,6 @@ redone_twice base image P k r same = redo_part image (drop k P) r ∙ (ap (λ ws
 
 -- ---- and those that follow
 -- more elements of a longer list
-more_taken : {X : Type 0} (m n : ℕ) (E B : List X) → m ≤ n → (Z : List X) × (take n (E ++ B) ≡ take m E ++ Z)
-more_taken zero n E B h = (take n (E ++ B), refl)
-more_taken (suc m) zero E B h = absurd (omega (arith, h))
-more_taken (suc m) (suc n) [] B h = (take (suc n) B, refl)
-more_taken (suc m) (suc n) (x ∷ E) B h = let w = more_taken m n E B (omega (arith, h)) in (w.0, ap (λ zs. x ∷ zs) w.1)
-
-pub long_enough : {X : Type 0} (k m : ℕ) (E : List X) → k ≤ m → k ≤ length E → k ≤ length (take m E)
-long_enough zero m E h g = omega arith
-long_enough (suc k) zero E h g = absurd (omega (arith, h))
-long_enough (suc k) (suc m) [] h g = absurd (omega (arith, g))
-long_enough (suc k) (suc m) (x ∷ E) h g = let w = long_enough k m E (omega (arith, h)) (omega (arith, g)) in omega (arith, w)
 
 -- a region that is right after the records below m is right after those below n
 pub redone_on :
@@ -122,10 +112,10 @@ pub redone_on :
     → words_in (redo_all image (drop k (take m E))) r ≡ words_in (redo_all base (take m E)) r
     → words_in (redo_all image (drop k (take n (E ++ B)))) r ≡ words_in (redo_all base (take n (E ++ B))) r
 redone_on base image E B k m n r km mn within same =
-    let w = more_taken m n E B mn in
+    let w = take_further m n E B mn in
     let X : List Record = take m E in
     let Z : List Record = w.0 in
-    let split : drop k (X ++ Z) ≡ drop k X ++ Z = drop-append-le k X Z (long_enough k m E km within) in
+    let split : drop k (X ++ Z) ≡ drop k X ++ Z = drop-append-le k X Z (length_take_least k m E km within) in
     let left : words_in (redo_all image (drop k (X ++ Z))) r ≡ part r (words_in (redo_all image (drop k X)) r) Z = ap (λ D. words_in (redo_all image D) r) split ∙ (ap (λ im. words_in im r) (fold-append redo image (drop k X) Z) ∙ redo_part (redo_all image (drop k X)) Z r) in
     let right : words_in (redo_all base (X ++ Z)) r ≡ part r (words_in (redo_all base X) r) Z = ap (λ im. words_in im r) (fold-append redo base X Z) ∙ redo_part (redo_all base X) Z r in
     let both : words_in (redo_all image (drop k (X ++ Z))) r ≡ words_in (redo_all base (X ++ Z)) r = left ∙ (ap (λ ws. part r ws Z) same ∙ sym right) in

@@ -1,6 +1,7 @@
 -- The worked run of a removal: the entry is killed too, the transaction commits, what it removed is freed, an audit is clean.
 use Rattle.std.proofs.Common.{◌≡◌, ℕ, zero, suc, ◌<◌, Bool, true, false, List, [], ◌∷◌, ◌++◌, Option, Some, None, refl, subst, ◌∙◌, arith}
 use Rattle.std.specs.Prelude.{not, ◌&&◌}
+use Rattle.dali_lists.proofs.Options.{some_same}
 use Rattle.dali_record.specs.declared.operations.Op.TheVariants.{KillEntry, FreeCell, FreeEntry}
 use Rattle.dali_record.specs.declared.records.Call.TheVariants.{Delete}
 use Rattle.dali_record.specs.declared.records.Answer.TheVariants.{Ok as AnswerOk}
@@ -13,7 +14,6 @@ use Rattle.dali_index.specs.Entries.{entries}
 use Rattle.dali_region.specs.declared.Side.TheVariants.{A}
 use Rattle.dali_region.specs.State.{RegionState, touched, checked}
 use Rattle.dali_region.specs.Answers.{cleaned}
-use Rattle.dali_counts.proofs.Lists.{some_same}
 use Rattle.dali_att.specs.declared.state.State.TheVariants.{Live, Committed}
 use Rattle.dali_system.specs.State.{state_of}
 use Rattle.dali_system.specs.Steps.{op_logged, done_logged, commit_logged, solo_logged, ended_logged, audit_begun, audit_ended, in_checkpoint}

@@ -3,13 +3,14 @@ use Rattle.std.proofs.Common.{◌≡◌, ℕ, Bool, true, false, cond, List, ◌
 use Rattle.std.specs.Prelude.{◌==◌}
 use Rattle.std.specs.Option.{option_map}
 use Rattle.std.specs.FinMap.{get}
+use Rattle.std.proofs.lemmas.Bool.{eqb-true}
+use Rattle.dali_lists.proofs.Numbers.{eqb-self}
 use Rattle.dali_record.specs.declared.operations.Block.{Block}
 use Rattle.dali_record.specs.declared.operations.Pending.{Pending}
 use Rattle.dali_record.specs.Log.{undo_added, drop_last}
 use Rattle.dali_att.specs.declared.state.State.{State}
 use Rattle.dali_att.specs.declared.state.State.TheVariants.{Live, Committed}
 use Rattle.dali_att.specs.Table.{Table, fresh_row, with_state}
-use Rattle.dali_counts.proofs.Lists.{equal, self}
 use Rattle.dali_system.specs.State.{TxnRow, SystemState, row_of, state_in, state_of}
 use Rattle.dali_system.specs.Steps.{committed_row, begun, op_logged, back_logged, commit_logged, in_state}
 use Rattle.dali_system.proofs.Tables.{Puts, with_undos, changed, added, kept, dropped}
@@ -27,7 +28,7 @@ pub puts_same : (old new : Table Pending) (t : ℕ) (row : Option TxnRow) → Pu
 puts_same old new t row puts same u = puts_states old new t row puts u ∙ by_test (t == u) refl
   where
     by_test : (b : Bool) → (t == u) ≡ b → cond b (state_in row) (state_in (get old u)) ≡ state_in (get old u)
-    by_test true e = same ∙ ap (λ v. state_in (get old v)) (equal t u e)
+    by_test true e = same ∙ ap (λ v. state_in (get old v)) (eqb-true t u e)
     by_test false e = refl
 
 pub undos_state : (f : List Pending → List Pending) (o : Option TxnRow) → state_in (with_undos f o) ≡ state_in o
@@ -55,7 +56,7 @@ back_state y t b = puts_same y.table _ t _ (dropped y.table t) (undos_state drop
 
 -- the row whose state changes
 pub turned_state : (y : SystemState) (t : ℕ) (st new : State) → state_of y t ≡ Some st → state_of (in_state y t new) t ≡ Some new
-turned_state y t st new e = puts_states y.table _ t _ (changed y.table t (with_state new)) t ∙ (rw (self t) (state_there (row_of y t) st new e))
+turned_state y t st new e = puts_states y.table _ t _ (changed y.table t (with_state new)) t ∙ (rw (eqb-self t) (state_there (row_of y t) st new e))
 
 pub commit_state : (y : SystemState) (t : ℕ) (st : State) → state_of y t ≡ Some st → state_of (commit_logged y t) t ≡ Some Committed
-commit_state y t st e = puts_states y.table _ t _ (changed y.table t committed_row) t ∙ (rw (self t) (commit_there (row_of y t) st e))
+commit_state y t st e = puts_states y.table _ t _ (changed y.table t committed_row) t ∙ (rw (eqb-self t) (commit_there (row_of y t) st e))

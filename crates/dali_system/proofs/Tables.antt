@@ -4,6 +4,7 @@ use Rattle.std.specs.FinMap.{get, insert, remove}
 use Rattle.std.specs.Option.{option_map}
 use Rattle.std.specs.Prelude.{◌==◌, ◌-◌, IsSome}
 use Rattle.std.proofs.lemmas.List.{append-nil}
+use Rattle.std.proofs.lemmas.Bool.{eqb-true}
 use Rattle.dali_record.specs.declared.operations.Block.{Block}
 use Rattle.dali_record.specs.declared.operations.Pending.{Pending}
 use Rattle.dali_record.specs.declared.operations.Undo.{Undo}
@@ -12,7 +13,6 @@ use Rattle.dali_att.specs.Table.{Table, with_row, with_undo, without_last}
 use Rattle.dali_att.proofs.Changes.{get-added, get-ended, get-with_row}
 use Rattle.dali_system.specs.State.{TxnRow}
 use Rattle.dali_system.specs.Steps.{undo_kept}
-use Rattle.dali_counts.proofs.Lists.{equal}
 
 -- one row of a table is put or removed
 abbrev pub Puts : Table Pending → ℕ → Option TxnRow → Table Pending → Type 0
@@ -40,14 +40,14 @@ with_one b u None = refl
 with_one b u (Some row) = refl
 
 kept_same : (table : Table Pending) (t u : ℕ) (c : Bool) → (t == u) ≡ c → get table u ≡ cond c (with_undos (λ us. us ++ []) (get table t)) (get table u)
-kept_same table t u true e = ap (get table) (sym (equal t u e)) ∙ sym (as_it_is (get table t))
+kept_same table t u true e = ap (get table) (sym (eqb-true t u e)) ∙ sym (as_it_is (get table t))
 kept_same table t u false e = refl
 
 pub kept : (table : Table Pending) (t : ℕ) (b : Block) (o : Option Undo) → Puts table t (with_undos (λ us. us ++ undo_added b o) (get table t)) (undo_kept table t b o)
 kept table t b None u = kept_same table t u (t == u) refl
 kept table t b (Some undo) u = changed table t (with_undo (record { key = b.key; region = b.region; undo = undo })) u ∙ ap (λ row. cond (t == u) row (get table u)) (sym (with_one b undo (get table t)))
 
-but_last : (us : List Pending) → take (length us - 1) us ≡ drop_last us
+pub but_last : (us : List Pending) → take (length us - 1) us ≡ drop_last us
 but_last [] = refl
 but_last (p ∷ []) = refl
 but_last (p ∷ q ∷ us) = let e : length (p ∷ q ∷ us) - 1 ≡ suc (length (q ∷ us) - 1) = omega arith in rw e (ap (λ vs. p ∷ vs) (but_last (q ∷ us)))
@@ -64,7 +64,7 @@ pub still_there : (old : Table Pending) (t : ℕ) (row : Option TxnRow) (new : T
 still_there old t row new puts stays u h = rw (puts u) (by_test (t == u) refl)
   where
     by_test : (b : Bool) → (t == u) ≡ b → IsSome (cond b row (get old u))
-    by_test true e = stays (subst (λ v. IsSome (get old v)) (sym (equal t u e)) h)
+    by_test true e = stays (subst (λ v. IsSome (get old v)) (sym (eqb-true t u e)) h)
     by_test false e = h
 
 pub some_with : (f : List Pending → List Pending) (row : Option TxnRow) → IsSome row → IsSome (with_undos f row)

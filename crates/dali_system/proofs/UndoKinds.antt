@@ -2,9 +2,9 @@
 use Rattle.std.proofs.Common.{◌≡◌, ℕ, Bool, true, false, Some, refl, ◌∙◌}
 use Rattle.dali_geometry.specs.Sizes.{Sizes}
 use Rattle.dali_record.specs.declared.operations.Op.{Op}
-use Rattle.dali_record.specs.declared.operations.Op.TheVariants.{Look, Add, KillEntry, Put, Read, Change, KillCell, FreeCell, ReviveCell, Restore, FreeEntry, ReviveEntry}
+use Rattle.dali_record.specs.declared.operations.Op.TheVariants.{Look, Add, KillEntry, Put, Read, Change, KillCell}
 use Rattle.dali_record.specs.declared.operations.Outcome.{Outcome}
-use Rattle.dali_record.specs.declared.operations.Outcome.TheVariants.{Found, Absent, Added, NoEntry, Killed, Put as PutIn, NoCell, Value, Changed, NotLive, OtherKey, OddLength, Undone}
+use Rattle.dali_record.specs.declared.operations.Outcome.TheVariants.{Added, Killed, Put as PutIn, Changed}
 use Rattle.dali_record.specs.declared.operations.Undo.{Undo}
 use Rattle.dali_record.specs.declared.operations.Undo.TheVariants.{FreeCell as UndoFreeCell, ReviveCell as UndoReviveCell, Restore as UndoRestore, FreeEntry as UndoFreeEntry, ReviveEntry as UndoReviveEntry}
 use Rattle.dali_record.specs.Operations.{undo_op}
@@ -54,79 +54,24 @@ revives_entry_is k (UndoFreeEntry i) e = refl
 revives_entry_is k (UndoReviveEntry i) e = refl
 
 undoes_add_is : (o : Outcome) (u : Undo) → undoes_add o (Some u) ≡ true → is_entry u ≡ true
-undoes_add_is (Found i p) u e = absurd (cc)
-undoes_add_is (Absent o) u e = absurd (cc)
 undoes_add_is (Added i) u e = frees_entry_is i u e
-undoes_add_is NoEntry u e = absurd (cc)
-undoes_add_is Killed u e = absurd (cc)
-undoes_add_is (PutIn c) u e = absurd (cc)
-undoes_add_is NoCell u e = absurd (cc)
-undoes_add_is (Value v) u e = absurd (cc)
-undoes_add_is Changed u e = absurd (cc)
-undoes_add_is (NotLive n) u e = absurd (cc)
-undoes_add_is (OtherKey j) u e = absurd (cc)
-undoes_add_is (OddLength n) u e = absurd (cc)
-undoes_add_is Undone u e = absurd (cc)
+undoes_add_is _ u e = absurd (cc)
 
 undoes_kill_entry_is : (k : ℕ) (o : Outcome) (u : Undo) → undoes_kill_entry k o (Some u) ≡ true → is_entry u ≡ true
-undoes_kill_entry_is k (Found i p) u e = absurd (cc)
-undoes_kill_entry_is k (Absent o) u e = absurd (cc)
-undoes_kill_entry_is k (Added i) u e = absurd (cc)
-undoes_kill_entry_is k NoEntry u e = absurd (cc)
 undoes_kill_entry_is k Killed u e = revives_entry_is k u e
-undoes_kill_entry_is k (PutIn c) u e = absurd (cc)
-undoes_kill_entry_is k NoCell u e = absurd (cc)
-undoes_kill_entry_is k (Value v) u e = absurd (cc)
-undoes_kill_entry_is k Changed u e = absurd (cc)
-undoes_kill_entry_is k (NotLive n) u e = absurd (cc)
-undoes_kill_entry_is k (OtherKey j) u e = absurd (cc)
-undoes_kill_entry_is k (OddLength n) u e = absurd (cc)
-undoes_kill_entry_is k Undone u e = absurd (cc)
+undoes_kill_entry_is k _ u e = absurd (cc)
 
 undoes_put_is : (o : Outcome) (u : Undo) → undoes_put o (Some u) ≡ true → is_entry u ≡ false
-undoes_put_is (Found i p) u e = absurd (cc)
-undoes_put_is (Absent o) u e = absurd (cc)
-undoes_put_is (Added i) u e = absurd (cc)
-undoes_put_is NoEntry u e = absurd (cc)
-undoes_put_is Killed u e = absurd (cc)
 undoes_put_is (PutIn c) u e = frees_cell_is c u e
-undoes_put_is NoCell u e = absurd (cc)
-undoes_put_is (Value v) u e = absurd (cc)
-undoes_put_is Changed u e = absurd (cc)
-undoes_put_is (NotLive n) u e = absurd (cc)
-undoes_put_is (OtherKey j) u e = absurd (cc)
-undoes_put_is (OddLength n) u e = absurd (cc)
-undoes_put_is Undone u e = absurd (cc)
+undoes_put_is _ u e = absurd (cc)
 
 undoes_change_is : (k : ℕ) (o : Outcome) (u : Undo) → undoes_change k o (Some u) ≡ true → is_entry u ≡ false
-undoes_change_is k (Found i p) u e = absurd (cc)
-undoes_change_is k (Absent o) u e = absurd (cc)
-undoes_change_is k (Added i) u e = absurd (cc)
-undoes_change_is k NoEntry u e = absurd (cc)
-undoes_change_is k Killed u e = absurd (cc)
-undoes_change_is k (PutIn c) u e = absurd (cc)
-undoes_change_is k NoCell u e = absurd (cc)
-undoes_change_is k (Value v) u e = absurd (cc)
 undoes_change_is k Changed u e = restores_is k u e
-undoes_change_is k (NotLive n) u e = absurd (cc)
-undoes_change_is k (OtherKey j) u e = absurd (cc)
-undoes_change_is k (OddLength n) u e = absurd (cc)
-undoes_change_is k Undone u e = absurd (cc)
+undoes_change_is k _ u e = absurd (cc)
 
 undoes_kill_cell_is : (k : ℕ) (o : Outcome) (u : Undo) → undoes_kill_cell k o (Some u) ≡ true → is_entry u ≡ false
-undoes_kill_cell_is k (Found i p) u e = absurd (cc)
-undoes_kill_cell_is k (Absent o) u e = absurd (cc)
-undoes_kill_cell_is k (Added i) u e = absurd (cc)
-undoes_kill_cell_is k NoEntry u e = absurd (cc)
 undoes_kill_cell_is k Killed u e = revives_cell_is k u e
-undoes_kill_cell_is k (PutIn c) u e = absurd (cc)
-undoes_kill_cell_is k NoCell u e = absurd (cc)
-undoes_kill_cell_is k (Value v) u e = absurd (cc)
-undoes_kill_cell_is k Changed u e = absurd (cc)
-undoes_kill_cell_is k (NotLive n) u e = absurd (cc)
-undoes_kill_cell_is k (OtherKey j) u e = absurd (cc)
-undoes_kill_cell_is k (OddLength n) u e = absurd (cc)
-undoes_kill_cell_is k Undone u e = absurd (cc)
+undoes_kill_cell_is k _ u e = absurd (cc)
 
 on_entry : (s : Sizes) (r : ℕ) (u : Undo) → is_entry u ≡ true → on_kind s r (undo_op u) ≡ on_kind s r Look
 on_entry s r (UndoFreeCell c) e = absurd (cc)
@@ -143,15 +88,9 @@ on_cell s r (UndoFreeEntry i) e = absurd (cc)
 on_cell s r (UndoReviveEntry i) e = absurd (cc)
 
 pub undo_kind : (s : Sizes) (r : ℕ) (op : Op) (o : Outcome) (u : Undo) → undoes op o (Some u) ≡ true → on_kind s r op ≡ true → on_kind s r (undo_op u) ≡ true
-undo_kind s r Look o u e k = absurd (cc)
 undo_kind s r (Add p) o u e k = on_entry s r u (undoes_add_is o u e) ∙ k
 undo_kind s r (KillEntry i) o u e k = on_entry s r u (undoes_kill_entry_is i o u e) ∙ k
 undo_kind s r (Put v) o u e k = on_cell s r u (undoes_put_is o u e) ∙ k
-undo_kind s r (Read c) o u e k = absurd (cc)
 undo_kind s r (Change c v) o u e k = on_cell s r u (undoes_change_is c o u e) ∙ k
 undo_kind s r (KillCell c) o u e k = on_cell s r u (undoes_kill_cell_is c o u e) ∙ k
-undo_kind s r (FreeCell c) o u e k = absurd (cc)
-undo_kind s r (ReviveCell c) o u e k = absurd (cc)
-undo_kind s r (Restore c n vs) o u e k = absurd (cc)
-undo_kind s r (FreeEntry i) o u e k = absurd (cc)
-undo_kind s r (ReviveEntry i) o u e k = absurd (cc)
+undo_kind s r _ o u e k = absurd (cc)

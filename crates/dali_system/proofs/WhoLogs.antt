@@ -1,80 +1,43 @@
 -- Each record that a step logs is one that its transaction's state allows.
 use Rattle.std.proofs.Common.{◌≡◌, ℕ, true, List, [], ◌∷◌, ◌++◌, length, Option, Some, None, refl, ap, sym, subst, ◌∙◌, arith}
 use Rattle.std.specs.Prelude.{slice_get}
+use Rattle.std.proofs.lemmas.List.{length_push}
+use Rattle.dali_lists.proofs.Lists.{get_push}
+use Rattle.dali_lists.proofs.Options.{some_same}
 use Rattle.dali_record.specs.declared.records.Record.{Record}
-use Rattle.dali_record.specs.declared.records.Record.TheVariants.{Format, Begin, Forward, Done, Commit, Ended, Solo, AuditBegin, AuditClean, AuditFail, Restarted, Back}
+use Rattle.dali_record.specs.declared.records.Record.TheVariants.{Format, Begin, Forward, Done, Commit, Ended, Solo, AuditBegin, Back}
 use Rattle.dali_att.specs.declared.state.State.{State}
 use Rattle.dali_att.specs.declared.state.State.TheVariants.{Live, Dead, Cleaning, Committed}
-use Rattle.dali_counts.proofs.Lists.{some_same, length-push}
 use Rattle.dali_system.specs.State.{CoreState, state_in, state_of}
 use Rattle.dali_system.specs.Steps.{audit_record}
 use Rattle.dali_system.specs.Keeps.{may_log_in}
-use Rattle.dali_system.specs.Courses.{Begins, Operates, TakesBack, Frees, Answers, Commits, Ends, AuditBegins, AuditEnds, Locks, Refuses, OnRegion, Passes, Dies, Claims, GivesBack, Recovers, Stops, Checkpoints, Takes, Flushes, Faults, ReadFails}
+use Rattle.dali_system.specs.Courses.{Begins, Operates, TakesBack, Frees, Answers, Commits, Ends, AuditBegins, AuditEnds, Locks, Refuses, OnRegion, Passes, Claims, Recovers, Takes, Faults}
 use Rattle.dali_system.specs.Wholes.{owner_of, logs_as, WhoLogs}
 use Rattle.dali_system.proofs.WholeSteps.{none_yet}
 
--- what stands behind a list
-at_last : (L : List Record) (x : Record) → slice_get (L ++ x ∷ []) (length L) ≡ Some x
-at_last [] x = refl
-at_last (y ∷ L) x = at_last L x
-
 same_last : (L : List Record) (x r : Record) → L ++ x ∷ [] ≡ L ++ r ∷ [] → x ≡ r
-same_last L x r e = some_same (sym (at_last L x) ∙ (ap (λ l. slice_get l (length L)) e ∙ at_last L r))
+same_last L x r e = some_same (sym (get_push L x) ∙ (ap (λ l. slice_get l (length L)) e ∙ get_push L r))
 
 no_more : (L : List Record) (r : Record) → L ≡ L ++ r ∷ [] → ⊥
-no_more L r e = omega (arith, ap length e, length-push L r)
+no_more L r e = omega (arith, ap length e, length_push L r)
 
 -- a record of a transaction that its state allows
 allowed_as : (o : Option State) (x : Record) → may_log_in o x ≡ true → logs_as o x ≡ true
 allowed_as None x e = absurd (cc)
-allowed_as (Some Live) (Format i h) e = absurd (cc)
-allowed_as (Some Live) (Begin t) e = absurd (cc)
 allowed_as (Some Live) (Forward t b) e = refl
 allowed_as (Some Live) (Done t k a) e = refl
 allowed_as (Some Live) (Commit t) e = refl
 allowed_as (Some Live) (Ended t) e = refl
-allowed_as (Some Live) (Solo t p b) e = absurd (cc)
-allowed_as (Some Live) AuditBegin e = absurd (cc)
-allowed_as (Some Live) (AuditClean n) e = absurd (cc)
-allowed_as (Some Live) (AuditFail n rs) e = absurd (cc)
-allowed_as (Some Live) (Restarted rs ds) e = absurd (cc)
 allowed_as (Some Live) (Back t b) e = refl
+allowed_as (Some Live) _ e = absurd (cc)
 allowed_as (Some (Dead l)) (Format i h) e = absurd (cc)
-allowed_as (Some (Dead l)) (Begin t) e = absurd (cc)
-allowed_as (Some (Dead l)) (Forward t b) e = absurd (cc)
-allowed_as (Some (Dead l)) (Done t k a) e = absurd (cc)
-allowed_as (Some (Dead l)) (Commit t) e = absurd (cc)
-allowed_as (Some (Dead l)) (Ended t) e = absurd (cc)
-allowed_as (Some (Dead l)) (Solo t p b) e = absurd (cc)
-allowed_as (Some (Dead l)) AuditBegin e = absurd (cc)
-allowed_as (Some (Dead l)) (AuditClean n) e = absurd (cc)
-allowed_as (Some (Dead l)) (AuditFail n rs) e = absurd (cc)
-allowed_as (Some (Dead l)) (Restarted rs ds) e = absurd (cc)
-allowed_as (Some (Dead l)) (Back t b) e = absurd (cc)
-allowed_as (Some (Cleaning l)) (Format i h) e = absurd (cc)
-allowed_as (Some (Cleaning l)) (Begin t) e = absurd (cc)
-allowed_as (Some (Cleaning l)) (Forward t b) e = absurd (cc)
-allowed_as (Some (Cleaning l)) (Done t k a) e = absurd (cc)
-allowed_as (Some (Cleaning l)) (Commit t) e = absurd (cc)
+allowed_as (Some (Dead l)) _ e = absurd (cc)
 allowed_as (Some (Cleaning l)) (Ended t) e = refl
-allowed_as (Some (Cleaning l)) (Solo t p b) e = absurd (cc)
-allowed_as (Some (Cleaning l)) AuditBegin e = absurd (cc)
-allowed_as (Some (Cleaning l)) (AuditClean n) e = absurd (cc)
-allowed_as (Some (Cleaning l)) (AuditFail n rs) e = absurd (cc)
-allowed_as (Some (Cleaning l)) (Restarted rs ds) e = absurd (cc)
 allowed_as (Some (Cleaning l)) (Back t b) e = refl
-allowed_as (Some Committed) (Format i h) e = absurd (cc)
-allowed_as (Some Committed) (Begin t) e = absurd (cc)
-allowed_as (Some Committed) (Forward t b) e = absurd (cc)
-allowed_as (Some Committed) (Done t k a) e = absurd (cc)
-allowed_as (Some Committed) (Commit t) e = absurd (cc)
+allowed_as (Some (Cleaning l)) _ e = absurd (cc)
 allowed_as (Some Committed) (Ended t) e = refl
 allowed_as (Some Committed) (Solo t p b) e = refl
-allowed_as (Some Committed) AuditBegin e = absurd (cc)
-allowed_as (Some Committed) (AuditClean n) e = absurd (cc)
-allowed_as (Some Committed) (AuditFail n rs) e = absurd (cc)
-allowed_as (Some Committed) (Restarted rs ds) e = absurd (cc)
-allowed_as (Some Committed) (Back t b) e = absurd (cc)
+allowed_as (Some Committed) _ e = absurd (cc)
 
 -- the record x of u that a step logs
 logged_as : (L M : List Record) (c : CoreState) (x r : Record) (u t : ℕ) → M ≡ L ++ x ∷ [] → M ≡ L ++ r ∷ [] → owner_of x ≡ Some u → owner_of r ≡ Some t → logs_as (state_of c.system u) x ≡ true → logs_as (state_of c.system t) r ≡ true
@@ -108,13 +71,8 @@ who_logs bases L M c d (Locks u k m) r t run s new whose = absurd (no_more L r (
 who_logs bases L M c d (Refuses u k m h) r t run s new whose = absurd (no_more L r (sym s.2.0 ∙ new))
 who_logs bases L M c d (OnRegion q x) r t run s new whose = absurd (no_more L r (sym s.3.0 ∙ new))
 who_logs bases L M c d (Passes b q) r t run s new whose = absurd (no_more L r (sym s.2.0 ∙ new))
-who_logs bases L M c d (Dies u o) r t run s new whose = absurd (no_more L r (sym s.1.0 ∙ new))
 who_logs bases L M c d (Claims u) r t run s new whose = absurd (no_more L r (sym s.2.0 ∙ new))
-who_logs bases L M c d (GivesBack u o) r t run s new whose = absurd (no_more L r (sym s.1.0 ∙ new))
 who_logs bases L M c d (Recovers q) r t run s new whose = absurd (no_more L r (sym s.3.0 ∙ new))
-who_logs bases L M c d Stops r t run s new whose = absurd (no_more L r (sym s.1.0 ∙ new))
-who_logs bases L M c d (Checkpoints b) r t run s new whose = absurd (no_more L r (sym s.1.0 ∙ new))
 who_logs bases L M c d Takes r t run s new whose = absurd (no_more L r (sym s.0 ∙ new))
-who_logs bases L M c d Flushes r t run s new whose = absurd (no_more L r (sym s.1.0 ∙ new))
 who_logs bases L M c d (Faults n) r t run s new whose = absurd (no_more L r (sym s.2.0 ∙ new))
-who_logs bases L M c d (ReadFails n) r t run s new whose = absurd (no_more L r (sym s.1.0 ∙ new))
+who_logs bases L M c d _ r t run s new whose = absurd (no_more L r (sym s.1.0 ∙ new))

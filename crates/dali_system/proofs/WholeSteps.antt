@@ -7,6 +7,9 @@ use Rattle.std.specs.FinMap.{get, empty, get-empty}
 use Rattle.std.specs.Ordering.{nat_cmp}
 use Rattle.std.proofs.lemmas.List.{length-set}
 use Rattle.std.proofs.lemmas.List.Folds.{list_all-append}
+use Rattle.std.proofs.lemmas.Bool.{and_from}
+use Rattle.dali_lists.proofs.Options.{some_same}
+use Rattle.dali_lists.proofs.Tests.{left_true, right_true}
 use Rattle.dali_geometry.specs.Sizes.{Sizes}
 use Rattle.dali_geometry.specs.Places.{regions}
 use Rattle.dali_record.specs.declared.operations.Block.{Block}
@@ -24,7 +27,6 @@ use Rattle.dali_region.specs.State.{RegionState, loaded, touched, checked, taken
 use Rattle.dali_att.specs.declared.state.State.{State}
 use Rattle.dali_att.specs.declared.state.State.TheVariants.{Live, Dead, Cleaning, Committed}
 use Rattle.dali_att.specs.Table.{Table, fresh_row, with_state}
-use Rattle.dali_counts.proofs.Lists.{some_same, and_left, and_right}
 use Rattle.dali_system.specs.State.{TxnRow, CoreState, row_of, state_in, state_of, hold_in, hold_of}
 use Rattle.dali_system.specs.Run.{Bases, RunsOn, IsRow}
 use Rattle.dali_system.specs.Steps.{committed_row}
@@ -86,23 +88,19 @@ undos_kinds : (s : Sizes) (f : List Pending → List Pending) (o : Option TxnRow
 undos_kinds s f None keeps h = tt
 undos_kinds s f (Some row) keeps h = keeps row.undos h
 
-and_both : (a b : Bool) → a ≡ true → b ≡ true → (a && b) ≡ true
-and_both true b e f = f
-and_both false b e f = absurd (cc)
-
-less_kinds : (s : Sizes) (us : List Pending) → list_all (is_of_kind s) us ≡ true → list_all (is_of_kind s) (drop_last us) ≡ true
+pub less_kinds : (s : Sizes) (us : List Pending) → list_all (is_of_kind s) us ≡ true → list_all (is_of_kind s) (drop_last us) ≡ true
 less_kinds s [] e = refl
 less_kinds s (p ∷ []) e = refl
-less_kinds s (p ∷ q ∷ us) e = and_both (is_of_kind s p) _ (and_left (is_of_kind s p) _ e) (less_kinds s (q ∷ us) (and_right (is_of_kind s p) _ e))
+less_kinds s (p ∷ q ∷ us) e = and_from (is_of_kind s p) _ (left_true (is_of_kind s p) _ e) (less_kinds s (q ∷ us) (right_true (is_of_kind s p) _ e))
 
 added_kind : (s : Sizes) (b : Block) (o : Option Undo) → undoes b.op b.outcome o ≡ true → on_kind s b.region b.op ≡ true → list_all (is_of_kind s) (undo_added b o) ≡ true
 added_kind s b None e k = refl
-added_kind s b (Some u) e k = and_both (is_of_kind s (pending b u)) true (undo_kind s b.region b.op b.outcome u e k) refl
+added_kind s b (Some u) e k = and_from (is_of_kind s (pending b u)) true (undo_kind s b.region b.op b.outcome u e k) refl
 
 more_kinds : (s : Sizes) (b : Block) → IsBlock b → on_kind s b.region b.op ≡ true → (us : List Pending) → list_all (is_of_kind s) us ≡ true → list_all (is_of_kind s) (us ++ undo_added b b.undo) ≡ true
-more_kinds s b is k us e = list_all-append (is_of_kind s) us (undo_added b b.undo) ∙ and_both _ _ e (added_kind s b b.undo (and_right (is_within b.write b.read && is_outcome_of b.op b.outcome) (undoes b.op b.outcome b.undo) is.fit) k)
+more_kinds s b is k us e = list_all-append (is_of_kind s) us (undo_added b b.undo) ∙ and_from _ _ e (added_kind s b b.undo (right_true (is_within b.write b.read && is_outcome_of b.op b.outcome) (undoes b.op b.outcome b.undo) is.fit) k)
 
-state_kinds : (s : Sizes) (st : State) (o : Option TxnRow) → AreOfKind s o → AreOfKind s (option_map (with_state st) o)
+pub state_kinds : (s : Sizes) (st : State) (o : Option TxnRow) → AreOfKind s o → AreOfKind s (option_map (with_state st) o)
 state_kinds s st None h = tt
 state_kinds s st (Some row) h = h
 

@@ -1,10 +1,12 @@
 -- Each step keeps a core whole.
 use Rattle.std.proofs.Common.{◌≡◌, ◌≢◌, ℕ, ◌⊎◌, Bool, true, false, cond, Option, Some, None, refl, ap, sym, subst, ◌∙◌, inl, inr, ⊎_elim}
 use Rattle.std.specs.Prelude.{◌==◌}
+use Rattle.std.proofs.lemmas.Bool.{eqb-true, eq-eqb}
+use Rattle.dali_lists.proofs.Options.{some_same}
+use Rattle.dali_lists.proofs.Tests.{not_both_ways}
 use Rattle.dali_region.specs.declared.Hold.{Hold}
 use Rattle.dali_att.specs.declared.state.State.{State}
 use Rattle.dali_att.specs.declared.state.State.TheVariants.{Live, Dead, Cleaning, Committed}
-use Rattle.dali_counts.proofs.Lists.{equal, same_number, some_same}
 use Rattle.dali_system.specs.State.{CoreState, hold_of}
 use Rattle.dali_system.specs.Regions.{is_alive}
 use Rattle.dali_system.specs.Keeps.{Latches, MayGiveBack}
@@ -61,15 +63,15 @@ agrees_state H S T t o one fits a = record {
 }
   where
     dead : (r : ℕ) (h : Hold) → H r ≡ Some h → h.dead ≡ true → (b : Bool) → (t == h.txn) ≡ b → latched_in (cond b o (S h.txn)) ≡ Some r
-    dead r h e d true f = fits.dead r h e (sym (equal t h.txn f)) d
+    dead r h e d true f = fits.dead r h e (sym (eqb-true t h.txn f)) d
     dead r h e d false f = a.dead r h e d
 
     named : (u r : ℕ) (b : Bool) → (t == u) ≡ b → cond b o (S u) ≡ Some (Dead (Some r)) → (h : Hold) × (H r ≡ Some h) × (h.txn ≡ u) × (h.dead ≡ true)
-    named u r true f e = let k = fits.named r e in (k.0, k.1, k.2 ∙ equal t u f, k.3)
+    named u r true f e = let k = fits.named r e in (k.0, k.1, k.2 ∙ eqb-true t u f, k.3)
     named u r false f e = a.named u r e
 
     live : (r : ℕ) (h : Hold) → H r ≡ Some h → h.dead ≡ false → (b : Bool) → (t == h.txn) ≡ b → is_alive (cond b o (S h.txn)) ≡ true
-    live r h e d true f = fits.live r h e (sym (equal t h.txn f)) d
+    live r h e d true f = fits.live r h e (sym (eqb-true t h.txn f)) d
     live r h e d false f = a.live r h e d
 
 -- ---- the holds that a step on one region leaves
@@ -88,9 +90,6 @@ fits_like H S r o like a = record {
 no_hold : {h : Hold} → None ≡ Some h → ⊥
 no_hold e = cc
 
-not_both : {b : Bool} → b ≡ true → b ≡ false → ⊥
-not_both e f = cc
-
 same_hold : {o : Option Hold} {h k : Hold} → o ≡ Some h → o ≡ Some k → h ≡ k
 same_hold e f = some_same (sym e ∙ f)
 
@@ -98,7 +97,7 @@ same_hold e f = some_same (sym e ∙ f)
 pub fits_ended : (H : ℕ → Option Hold) (S : ℕ → Option State) (r : ℕ) (k : Hold) → H r ≡ Some k → k.dead ≡ false → Agrees H S → FitsHold S r None
 fits_ended H S r k at lives a = record {
   dead = λ h e d. absurd (no_hold e);
-  named = λ t e. let q = a.named t r e in absurd (not_both q.3 (ap (λ (z : Hold). z.dead) (same_hold q.1 at) ∙ lives));
+  named = λ t e. let q = a.named t r e in absurd (not_both_ways q.3 (ap (λ (z : Hold). z.dead) (same_hold q.1 at) ∙ lives));
   live = λ h e d. absurd (no_hold e);
 }
 
@@ -116,7 +115,7 @@ fits_recovered H S r k was at claimed a = record {
 -- a new one
 pub fits_latched : (H : ℕ → Option Hold) (S : ℕ → Option State) (r : ℕ) (h : Hold) → H r ≡ None → h.dead ≡ false → is_alive (S h.txn) ≡ true → Agrees H S → FitsHold S r (Some h)
 fits_latched H S r h free lives alive a = record {
-  dead = λ k e d. absurd (not_both d (ap (λ (z : Hold). z.dead) (sym (some_same e)) ∙ lives));
+  dead = λ k e d. absurd (not_both_ways d (ap (λ (z : Hold). z.dead) (sym (some_same e)) ∙ lives));
   named = λ t e. let q = a.named t r e in absurd (no_hold (sym free ∙ q.1));
   live = λ k e d. subst (λ (z : Hold). is_alive (S z.txn) ≡ true) (some_same e) alive;
 }
@@ -136,7 +135,7 @@ none_dead H S t r h a none e is d = let named : latched_in (S t) ≡ Some r = su
 
 -- one that isn't alive has no other hold
 none_live : (H : ℕ → Option Hold) (S : ℕ → Option State) (t r : ℕ) (h : Hold) → Agrees H S → is_alive (S t) ≡ false → H r ≡ Some h → h.txn ≡ t → h.dead ≡ false → ⊥
-none_live H S t r h a none e is d = not_both (subst (λ z. is_alive (S z) ≡ true) is (a.live r h e d)) none
+none_live H S t r h a none e is d = not_both_ways (subst (λ z. is_alive (S z) ≡ true) is (a.live r h e d)) none
 
 not_named : {r : ℕ} → Some Live ≡ Some (Dead (Some r)) → ⊥
 not_named e = cc
@@ -160,9 +159,9 @@ fits_committed H S t was a = record {
 
 pub fits_over : (H : ℕ → Option Hold) (t : ℕ) → ((r : ℕ) (h : Hold) → H r ≡ Some h → (h.txn == t) ≡ false) → FitsState H t None
 fits_over H t free = record {
-  dead = λ r h e is d. absurd (not_both (same_number h.txn t is) (free r h e));
+  dead = λ r h e is d. absurd (not_both_ways (eq-eqb h.txn t is) (free r h e));
   named = λ r e. absurd (apart r e);
-  live = λ r h e is d. absurd (not_both (same_number h.txn t is) (free r h e));
+  live = λ r h e is d. absurd (not_both_ways (eq-eqb h.txn t is) (free r h e));
 }
   where
     apart : (r : ℕ) → None ≡ Some (Dead (Some r)) → ⊥
@@ -222,13 +221,13 @@ agrees_dead_some c J S T t r k lives latches at mine holds states a = record { d
         here w =
             let same : slain k ≡ h = some_same (sym w.1 ∙ e) in
             let is : t ≡ h.txn = sym mine ∙ ap (λ (z : Hold). z.txn) same in
-            rw (same_number t h.txn is) (ap Some (sym w.0))
+            rw (eq-eqb t h.txn is) (ap Some (sym w.0))
 
         there : (q ≢ r) × (J q ≡ hold_of c q) → latched_in (cond (t == h.txn) (Some (Dead (Some r))) (S h.txn)) ≡ Some q
         there w = by_test (t == h.txn) refl
           where
             by_test : (b : Bool) → (t == h.txn) ≡ b → latched_in (cond b (Some (Dead (Some r))) (S h.txn)) ≡ Some q
-            by_test true f = absurd (none_dead (hold_of c) S t q h a (ap latched_in lives) (sym w.1 ∙ e) (sym (equal t h.txn f)) d)
+            by_test true f = absurd (none_dead (hold_of c) S t q h a (ap latched_in lives) (sym w.1 ∙ e) (sym (eqb-true t h.txn f)) d)
             by_test false f = a.dead q h (sym w.1 ∙ e) d
 
     named : (u q : ℕ) → T u ≡ Some (Dead (Some q)) → (h : Hold) × (J q ≡ Some h) × (h.txn ≡ u) × (h.dead ≡ true)
@@ -243,10 +242,10 @@ agrees_dead_some c J S T t r k lives latches at mine holds states a = record { d
         off (inr w) not = w.1
 
         by_test : (b : Bool) → (t == u) ≡ b → cond b (Some (Dead (Some r))) (S u) ≡ Some (Dead (Some q)) → (h : Hold) × (J q ≡ Some h) × (h.txn ≡ u) × (h.dead ≡ true)
-        by_test true f g = let is : Some r ≡ Some q = ap latched_in g in (slain k, here (holds q) (sym (some_same is)), mine ∙ equal t u f, refl)
+        by_test true f g = let is : Some r ≡ Some q = ap latched_in g in (slain k, here (holds q) (sym (some_same is)), mine ∙ eqb-true t u f, refl)
         by_test false f g =
             let h = a.named u q g in
-            (h.0, off (holds q) (λ is. not_both h.3 (ap (λ (z : Hold). z.dead) (same_hold (subst (λ z. hold_of c z ≡ Some h.0) is h.1) at) ∙ lived)) ∙ h.1, h.2, h.3)
+            (h.0, off (holds q) (λ is. not_both_ways h.3 (ap (λ (z : Hold). z.dead) (same_hold (subst (λ z. hold_of c z ≡ Some h.0) is h.1) at) ∙ lived)) ∙ h.1, h.2, h.3)
           where
             lived : k.dead ≡ false
             lived = let w = latches.held r refl in ap (λ (z : Hold). z.dead) (same_hold at w.1) ∙ w.3
@@ -255,11 +254,11 @@ agrees_dead_some c J S T t r k lives latches at mine holds states a = record { d
     live q h e d = subst (λ z. is_alive z ≡ true) (sym (states h.txn)) (⊎_elim here there (holds q))
       where
         here : (q ≡ r) × (J q ≡ Some (slain k)) → is_alive (cond (t == h.txn) (Some (Dead (Some r))) (S h.txn)) ≡ true
-        here w = absurd (not_both (ap (λ (z : Hold). z.dead) (some_same (sym e ∙ w.1)) ∙ refl) d)
+        here w = absurd (not_both_ways (ap (λ (z : Hold). z.dead) (some_same (sym e ∙ w.1)) ∙ refl) d)
 
         there : (q ≢ r) × (J q ≡ hold_of c q) → is_alive (cond (t == h.txn) (Some (Dead (Some r))) (S h.txn)) ≡ true
         there w = by_test (t == h.txn) refl
           where
             by_test : (b : Bool) → (t == h.txn) ≡ b → is_alive (cond b (Some (Dead (Some r))) (S h.txn)) ≡ true
-            by_test true f = absurd (w.0 (sym (some_same (latches.only q h (sym w.1 ∙ e) (sym (equal t h.txn f)) d))))
+            by_test true f = absurd (w.0 (sym (some_same (latches.only q h (sym w.1 ∙ e) (sym (eqb-true t h.txn f)) d))))
             by_test false f = a.live q h (sym w.1 ∙ e) d

@@ -2,6 +2,7 @@
 use Rattle.std.proofs.Common.{◌≡◌, ℕ, zero, suc, ◌<◌, ◌^◌, Bool, true, false, List, [], ◌∷◌, ◌++◌, length, Option, Some, None, refl, ap, sym, subst, ◌∙◌, arith}
 use Rattle.std.specs.Prelude.{sum_by, is_some}
 use Rattle.std.specs.FinMap.{get, empty}
+use Rattle.dali_lists.proofs.Options.{some_same}
 use Rattle.dali_record.specs.declared.operations.Op.TheVariants.{Look, KillCell}
 use Rattle.dali_record.specs.declared.records.Record.{Record}
 use Rattle.dali_record.specs.declared.records.Record.TheVariants.{Format, Begin, Forward}
@@ -17,7 +18,6 @@ use Rattle.dali_locks.specs.declared.mode.Mode.TheVariants.{Shared, Exclusive}
 use Rattle.dali_locks.specs.Locks.{stronger_mode, locks_with}
 use Rattle.dali_locks.proofs.Changes.{get-locks_with}
 use Rattle.dali_att.specs.Table.{fresh_row}
-use Rattle.dali_counts.proofs.Lists.{some_same}
 use Rattle.dali_att.specs.declared.state.State.{State}
 use Rattle.dali_att.specs.declared.state.State.TheVariants.{Live}
 use Rattle.dali_system.specs.State.{TxnRow, SystemState, state_of}
@@ -64,7 +64,7 @@ stored_regions (suc zero) ws e = subst AreWords (some_same e) (are_heap 1 (omega
 stored_regions (suc (suc r)) ws e = absurd (cc)
 
 -- ---- a lock
-strongest : (o : Option Mode) (d : Bool) → covers (Some (stronger_mode o Exclusive)) d ≡ true
+pub strongest : (o : Option Mode) (d : Bool) → covers (Some (stronger_mode o Exclusive)) d ≡ true
 strongest None d = refl
 strongest (Some Shared) d = refl
 strongest (Some Exclusive) d = refl

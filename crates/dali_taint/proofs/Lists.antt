@@ -2,7 +2,7 @@
 use Rattle.std.proofs.Common.{◌≡◌, ℕ, Bool, true, false, cond, List, [], ◌∷◌, ◌++◌, Option, Some, None, IsSome, refl, ap, sym, subst, ◌∙◌, rules}
 use Rattle.std.specs.Prelude.{◌==◌}
 use Rattle.std.specs.Option.{option_map, option_map_or}
-use Rattle.std.proofs.lemmas.Bool.{both_ways}
+use Rattle.std.proofs.lemmas.Bool.{both_ways, eq-eqb, eqb-true}
 use Rattle.std.proofs.lemmas.List.{append-nil}
 use Rattle.std.specs.FinMap.{get, insert, remove}
 use Rattle.dali_att.specs.declared.state.State.{State}
@@ -12,7 +12,6 @@ use Rattle.dali_record.specs.declared.operations.Block.{Block}
 use Rattle.dali_record.specs.declared.operations.Undo.{Undo}
 use Rattle.dali_record.specs.declared.operations.Pending.{Pending}
 use Rattle.dali_record.specs.Log.{drop_last, undo_added}
-use Rattle.dali_record.proofs.Scans.{same_test, test_same}
 use Rattle.dali_system.specs.State.{TxnRow}
 use Rattle.dali_system.proofs.Tables.{Puts, with_undos, added, changed, ended, dropped}
 
@@ -40,7 +39,7 @@ here : (m : Table Pending) (t u : ℕ) (f : List Pending → List Pending) → c
 here m t u f = by_test (t == u) refl
   where
     by_test : (b : Bool) → (t == u) ≡ b → cond b (f (undos_at m t)) (undos_at m u) ≡ cond b (f (undos_at m u)) (undos_at m u)
-    by_test true e = ap (λ x. f (undos_at m x)) (test_same t u e)
+    by_test true e = ap (λ x. f (undos_at m x)) (eqb-true t u e)
     by_test false e = refl
 
 pub entered : (m : Table Pending) (t : ℕ) → get m t ≡ None → (u : ℕ) → undos_at (insert m t fresh_row) u ≡ undos_at m u
@@ -48,7 +47,7 @@ unfolding undos_in
 entered m t none u = put_undos m (insert m t fresh_row) t (Some fresh_row) (added m t fresh_row) u ∙ by_test (t == u) refl
   where
     by_test : (b : Bool) → (t == u) ≡ b → cond b [] (undos_at m u) ≡ undos_at m u
-    by_test true e = sym (at_is m u ∙ ap undos_in (ap (get m) (sym (test_same t u e)) ∙ none))
+    by_test true e = sym (at_is m u ∙ ap undos_in (ap (get m) (sym (eqb-true t u e)) ∙ none))
     by_test false e = refl
 
 pub present : (m : Table Pending) (t : ℕ) → IsSome (get (insert m t fresh_row) t)
@@ -56,7 +55,7 @@ present m t = subst IsSome (sym (added m t fresh_row t)) (by_test (t == t) refl)
   where
     by_test : (b : Bool) → (t == t) ≡ b → IsSome (cond b (Some fresh_row) (get m t))
     by_test true e = search rules
-    by_test false e = absurd (both_ways (t == t) e (same_test t t refl))
+    by_test false e = absurd (both_ways (t == t) e (eq-eqb t t refl))
 
 pub forgotten : (m : Table Pending) (t u : ℕ) → undos_at (remove m t) u ≡ cond (t == u) [] (undos_at m u)
 unfolding undos_in

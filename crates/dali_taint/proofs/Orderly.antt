@@ -2,25 +2,26 @@
 use Rattle.std.proofs.Common.{◌≡◌, ℕ, ◌+◌, ◌^◌, ◌≤◌, ◌<◌, Bool, true, false, cond, [], ◌∷◌, ◌++◌, Option, Some, None, refl, ap, sym, subst, ◌∙◌, ⊎_elim, arith, get_or}
 use Rattle.std.specs.Prelude.{◌&&◌, ◌==◌, nat_le, nat_lt, All}
 use Rattle.std.specs.List.Sorted.{IsStrictlyIncreasing}
-use Rattle.std.proofs.lemmas.Bool.{and_parts, both_ways, or_cases, or_parts, or_left, or_right, or_from, leb-true, ne_eqb, false_from_ne_true, cases_lt}
+use Rattle.std.proofs.lemmas.Bool.{and_parts, both_ways, or_cases, or_parts, or_left, or_right, or_from, leb-true, ne_eqb, false_from_ne_true, cases_lt, eqb-true, eq-eqb, and_from}
 use Rattle.std.proofs.lemmas.List.{append-nil}
 use Rattle.std.proofs.lemmas.List.Elements.{All-from_get_or}
 use Rattle.std.proofs.lemmas.Option.{slice_get-get_or}
+use Rattle.std.proofs.lemmas.Map.Keys.{any_passes_from_place}
+use mathlib.Core.Bool.{or-false}
 use Rattle.dali_geometry.specs.Sizes.{Sizes}
 use Rattle.dali_record.specs.declared.records.Record.{Record}
 use Rattle.dali_record.specs.declared.records.Record.TheVariants.{Format, Begin, Forward, Done, Commit, Ended, Solo, AuditBegin, AuditClean, AuditFail, Restarted, Back}
 use Rattle.dali_record.specs.Log.{Touch, touch_of, undo_step, begun}
 use Rattle.dali_record.specs.Epochs.{separates}
 use Rattle.dali_record.specs.Damage.{Damage, has, any_touch, any_txn}
-use Rattle.dali_record.proofs.Scans.{test_same, same_test}
-use Rattle.dali_record.proofs.Chains.{touch_true, true_touch, and_true, true_and, get_any}
+use Rattle.dali_record.proofs.Chains.{touch_true, true_touch}
 use Rattle.dali_history.proofs.Ascending.{IsStrictlyIncreasing-push}
 use Rattle.dali_resume.specs.Resumed.{Scan, scan_step, is_marked, corrupt_after, items_after, marks_item, begun_by, is_left_out as leaves_out}
 use Rattle.dali_resume.specs.Tests.{Known, allows, is_running, known_next, next_behind, draws_number}
 use Rattle.dali_taint.specs.Tables.{is_block_of, is_commit_of, is_end_of}
 use Rattle.dali_taint.specs.Following.{is_begun, is_committed, IsNew, IsOrderly}
 use Rattle.dali_taint.proofs.Bits.{keys}
-use Rattle.dali_taint.proofs.Steps.{may_touch, was, commit_is, other_step, begun_next, is_begun_next, is_committed_next, or_none}
+use Rattle.dali_taint.proofs.Steps.{may_touch, was, commit_is, other_step, begun_next, is_begun_next, is_committed_next}
 
 -- no block of t
 pub none_of : (r : Record) (t : ℕ) (test : Touch → Bool) → is_block_of t r ≡ false → any_touch (λ b. test b && (b.txn == t)) (touch_of r) ≡ false
@@ -41,8 +42,8 @@ by_block d c r t clear h = ⊎_elim (λ e. absurd (both_ways (c.corrupt t) clear
     new : any_touch (λ b. is_marked d c b && (b.txn == t)) (touch_of r) ≡ true → (b : Touch) × (touch_of r ≡ Some b) × (is_marked d c b ≡ true) × (b.txn ≡ t)
     new e =
         let w = touch_true (λ b. is_marked d c b && (b.txn == t)) (touch_of r) e in
-        let p = and_true (is_marked d c w.0) (w.0.txn == t) w.2 in
-        (w.0, w.1, p.0, test_same w.0.txn t p.1)
+        let p = and_parts (is_marked d c w.0) (w.0.txn == t) w.2 in
+        (w.0, w.1, p.0, eqb-true w.0.txn t p.1)
 
 module _ (s : Sizes) (n : ℕ) (d : Damage) (k : Known) (c : Scan) (r : Record) (o : IsOrderly k c) (ok : allows s n k r ≡ true) (inside : separates r ≡ false) where
   -- a new number hasn't begun
@@ -69,7 +70,7 @@ module _ (s : Sizes) (n : ℕ) (d : Damage) (k : Known) (c : Scan) (r : Record) 
           by_kind : (q : Record) → allows s n k q ≡ true → next_behind k.next q ≤ t → (above : k.next ≤ t) × (has (begun (q ∷ [])) t ≡ false)
           by_kind (Begin u) h e =
               let f : k.next ≤ u = leb-true k.next u (and_parts (nat_lt u (2 ^ 40)) (nat_le k.next u) h).1 in
-              (omega (arith, e, f), or_none (u == t) ∙ ne_eqb u t (λ g. absurd (omega (arith, e, g))))
+              (omega (arith, e, f), or-false (u == t) ∙ ne_eqb u t (λ g. absurd (omega (arith, e, g))))
           by_kind (Solo u p b) h e =
               let f : k.next ≤ u = leb-true k.next u (and_parts (nat_lt u (2 ^ 40)) (nat_le k.next u) (and_parts (draws_number k u) _ h).0).1 in
               (omega (arith, e, f), refl)
@@ -107,7 +108,7 @@ module _ (s : Sizes) (n : ℕ) (d : Damage) (k : Known) (c : Scan) (r : Record) 
       new e =
           let drawn : draws_number k t ≡ true = subst (λ q. allows s n k q ≡ true) e ok in
           let above : k.next ≤ t = leb-true k.next t (and_parts (nat_lt t (2 ^ 40)) (nat_le k.next t) drawn).1 in
-          let here : has (begun (r ∷ [])) t ≡ true = ap (λ q. has (begun (q ∷ [])) t) e ∙ or_left (t == t) false (same_test t t refl) in
+          let here : has (begun (r ∷ [])) t ≡ true = ap (λ q. has (begun (q ∷ [])) t) e ∙ or_left (t == t) false (eq-eqb t t refl) in
           let none : is_commit_of t r ≡ false = ap (λ q. is_commit_of t q) e in
           let old : is_committed k t ≡ false = false_from_ne_true (is_committed k t) (λ f. both_ways (is_begun k t) (o.new t above).unbegun (o.begun t f)) in
           (is_begun_next k r inside t ∙ or_right (is_begun k t) (has (begun (r ∷ [])) t) here, is_committed_next k r inside t ∙ or_from (is_committed k t) (is_commit_of t r) old none)
@@ -121,7 +122,7 @@ module _ (s : Sizes) (n : ℕ) (d : Damage) (k : Known) (c : Scan) (r : Record) 
   -- a block that makes its transaction corrupt is left out
   pub left_by : (b : Touch) → touch_of r ≡ Some b → is_marked d c b ≡ true → leaves_out d c r ≡ true
   left_by b e m = ap (any_txn (corrupt_after d c r)) (may_touch s n k r b ok e).txn
-      ∙ or_right (c.corrupt b.txn) (any_touch (λ a. is_marked d c a && (a.txn == b.txn)) (touch_of r)) (true_touch (λ a. is_marked d c a && (a.txn == b.txn)) (touch_of r) b e (true_and (is_marked d c b) (b.txn == b.txn) m (same_test b.txn b.txn refl)))
+      ∙ or_right (c.corrupt b.txn) (any_touch (λ a. is_marked d c a && (a.txn == b.txn)) (touch_of r)) (true_touch (λ a. is_marked d c a && (a.txn == b.txn)) (touch_of r) b e (and_from (is_marked d c b) (b.txn == b.txn) m (eq-eqb b.txn b.txn refl)))
 
   marked_next : (t i : ℕ) → corrupt_after d c r t ≡ true → has (keys (cond (corrupt_after d c r t) (c.undos t) (undo_step t (c.undos t) r))) i ≡ true → items_after (leaves_out d c r) c (touch_of r) i ≡ true
   marked_next t i h there = by_old (c.corrupt t) refl
@@ -135,7 +136,7 @@ module _ (s : Sizes) (n : ℕ) (d : Damage) (k : Known) (c : Scan) (r : Record) 
           let w = by_block d c r t e h in
           let own : has (keys (c.undos w.0.txn)) i ≡ true = subst (λ u. has (keys (c.undos u)) i ≡ true) (sym w.3) held in
           or_right (c.items i) (leaves_out d c r && any_touch (marks_item c.undos i) (touch_of r))
-          (true_and (leaves_out d c r) (any_touch (marks_item c.undos i) (touch_of r)) (left_by w.0 w.1 w.2) (true_touch (marks_item c.undos i) (touch_of r) w.0 w.1 (or_right _ (has (keys (c.undos w.0.txn)) i) own)))
+          (and_from (leaves_out d c r) (any_touch (marks_item c.undos i) (touch_of r)) (left_by w.0 w.1 w.2) (true_touch (marks_item c.undos i) (touch_of r) w.0 w.1 (or_right _ (has (keys (c.undos w.0.txn)) i) own)))
 
   new_next : (t : ℕ) → next_behind k.next r ≤ t → IsNew (known_next k r) (scan_step d c r) t
   new_next t low =
@@ -165,7 +166,7 @@ module _ (s : Sizes) (n : ℕ) (d : Damage) (k : Known) (c : Scan) (r : Record) 
 
           below : All (λ x. x < u) (begun_by k.table k.seen)
           below = All-from_get_or (λ x. x < u) (begun_by k.table k.seen) 0 (λ i within.
-              let there = get_any (λ z. z == get_or (begun_by k.table k.seen) i 0) (begun_by k.table k.seen) i (get_or (begun_by k.table k.seen) i 0) (slice_get-get_or (begun_by k.table k.seen) i 0 within) (same_test _ _ refl) in
+              let there = any_passes_from_place (λ z. z == get_or (begun_by k.table k.seen) i 0) (begun_by k.table k.seen) i (get_or (begun_by k.table k.seen) i 0) (slice_get-get_or (begun_by k.table k.seen) i 0 within) (eq-eqb _ _ refl) in
               let low : get_or (begun_by k.table k.seen) i 0 < k.next = by_order (get_or (begun_by k.table k.seen) i 0) there in
               omega (arith, above, low))
       by_kind (Format i j) h = plain

@@ -8,12 +8,13 @@ use Rattle.std.specs.BTreeSet.{IsOrdered}
 use Rattle.std.specs.BTreeMap.{is_at}
 use Rattle.std.proofs.lemmas.Bool.Decides.{nat_tests}
 use Rattle.std.specs.Cmp.{nat_cmp_total}
-use Rattle.std.proofs.lemmas.Bool.{or_cases, or_left, or_right, or_from, or_parts, both_ways, false_from_ne_true, and_parts, and_from, lt-ltb}
+use Rattle.std.proofs.lemmas.Bool.{or_cases, or_left, or_right, or_from, or_parts, both_ways, false_from_ne_true, and_parts, and_from, lt-ltb, eqb-true}
 use Rattle.std.proofs.lemmas.List.{append-nil}
 use Rattle.std.proofs.lemmas.List.Kept.{IsStrictlySortedBy-filter}
 use Rattle.std.proofs.lemmas.Map.Keys.{sorted_from_strictly_increasing, sorted_tail, below_from_sorted}
 use Rattle.std.proofs.lemmas.Map.Lookups.{btree_set_from_contains, exact_unsigned}
 use Rattle.std.proofs.lemmas.Option.{get_or_from_slice_get, slice_get_within}
+use mathlib.Core.Bool.{or-false}
 use Rattle.dali_geometry.specs.Sizes.{Sizes}
 use Rattle.dali_geometry.specs.Places.{regions}
 use Rattle.dali_att.specs.Table.{Table, undos_at}
@@ -21,7 +22,6 @@ use Rattle.dali_record.specs.declared.operations.Pending.{Pending}
 use Rattle.dali_record.specs.Damage.{Damage, has}
 use Rattle.dali_record.specs.Files.{Row}
 use Rattle.dali_record.specs.Spelling.{ascends}
-use Rattle.dali_record.proofs.Scans.{test_same}
 use Rattle.dali_record.proofs.Chains.{any_get}
 use Rattle.dali_history.proofs.Members.{has-filter, has-filter_from}
 use Rattle.dali_resume.specs.Resumed.{scan, scan_start, row_undos, row_committed, begun_by, committed_by, deleted_by}
@@ -29,7 +29,6 @@ use Rattle.dali_resume.specs.Tests.{Known, Running, Waiting, is_running, status_
 use Rattle.dali_taint.specs.Tables.{word_set, has_item, has_number}
 use Rattle.dali_taint.specs.Following.{scanned, is_committed, IsOrderly, FollowsScan, Follows, Begins}
 use Rattle.dali_taint.specs.declared.taint.Taint.{Taint}
-use Rattle.dali_taint.proofs.Steps.{or_none}
 
 abbrev txns : List Row → List ℕ
 txns rows = map (λ w. w.txn) rows
@@ -42,7 +41,7 @@ absent x xs sorted = false_from_ne_true (has xs x) there
     there h =
         let w = any_get (λ z. z == x) xs h in
         let in' : w.0 < length xs = slice_get_within xs w.0 w.1 w.2 in
-        let same : get_or xs w.0 0 ≡ x = get_or_from_slice_get xs w.0 w.1 0 w.2 ∙ test_same w.1 x w.3 in
+        let same : get_or xs w.0 0 ≡ x = get_or_from_slice_get xs w.0 w.1 0 w.2 ∙ eqb-true w.1 x w.3 in
         let below : x < get_or xs w.0 0 = below_from_sorted (x ∷ xs) 0 (suc w.0) 0 sorted (omega arith) (omega (arith, in')) in
         absurd (omega (arith, below, same))
 
@@ -58,7 +57,7 @@ running_row (w ∷ ws) t sorted h = by_test (λ g. running_row ws t (sorted_tail
     by_test ih true e = (refl, or_from w.is_committed (row_committed ws t) (live w.is_committed refl) (false_from_ne_true (row_committed ws t) (λ g. both_ways (has (txns ws) t) none (committed_there ws t g))))
       where
         none : has (txns ws) t ≡ false
-        none = subst (λ u. has (txns ws) u ≡ false) (test_same w.txn t e) (absent w.txn (txns ws) sorted)
+        none = subst (λ u. has (txns ws) u ≡ false) (eqb-true w.txn t e) (absent w.txn (txns ws) sorted)
 
         live : (c : Bool) → w.is_committed ≡ c → c ≡ false
         live false g = refl
@@ -85,7 +84,7 @@ module _ (d : Damage) (k : Known) (m : Table Pending) (b : Begins d k m) where
   begun_is = ap (begun_by k.table) b.seen ∙ append-nil (txns k.table)
 
   committed_is : (t : ℕ) → is_committed k t ≡ row_committed k.table t
-  committed_is t = ap (λ R. committed_by k.table R t) b.seen ∙ or_none (row_committed k.table t)
+  committed_is t = ap (λ R. committed_by k.table R t) b.seen ∙ or-false (row_committed k.table t)
 
   sorted : IsStrictlySortedBy nat_cmp (txns k.table)
   sorted = sorted_from_strictly_increasing (txns k.table) b.ascend

@@ -1,9 +1,11 @@
 -- One record more, on the scan and on its tables.
 use Rattle.std.proofs.Common.{◌≡◌, ◌⊎◌, ℕ, ◌+◌, ◌^◌, ◌≤◌, ◌<◌, Bool, true, false, cond, List, [], ◌∷◌, ◌++◌, Some, None, refl, ap, sym, subst, ◌∙◌, inl, inr, arith, append_assoc}
 use Rattle.std.specs.Prelude.{◌&&◌, ◌||◌, ◌==◌, nat_le, nat_lt, map}
-use Rattle.std.proofs.lemmas.Bool.{and_parts, ltb-true, leb-true}
+use Rattle.std.proofs.lemmas.Bool.{and_parts, ltb-true, leb-true, eqb-true}
 use Rattle.std.proofs.lemmas.List.Sums.{fold_push}
 use Rattle.std.proofs.lemmas.List.Elements.{filter_map-append}
+use Rattle.std.proofs.lemmas.Option.{same_Some as some_same}
+use mathlib.Core.Bool.{or-false}
 use Rattle.dali_record.proofs.Stages.{has_committed_push}
 use Rattle.dali_history.proofs.Members.{has_append}
 use Rattle.dali_geometry.specs.Sizes.{Sizes}
@@ -13,12 +15,11 @@ use Rattle.dali_record.specs.declared.operations.Op.{Op}
 use Rattle.dali_record.specs.declared.operations.Op.TheVariants.{Look, Add, KillEntry, Put, Read, Change, KillCell, FreeCell, ReviveCell, Restore, FreeEntry, ReviveEntry}
 use Rattle.dali_record.specs.declared.operations.Pending.{Pending}
 use Rattle.dali_record.specs.declared.records.Record.{Record}
-use Rattle.dali_record.specs.declared.records.Record.TheVariants.{Format, Begin, Forward, Done, Commit, Ended, Solo, AuditBegin, AuditClean, AuditFail, Restarted, Back}
+use Rattle.dali_record.specs.declared.records.Record.TheVariants.{Format, Begin, Forward, Commit, Ended, Solo, Restarted, Back}
 use Rattle.dali_record.specs.Log.{Touch, touch_of, txn_of, undo_step, begun, committed, begin_by, commit_by}
 use Rattle.dali_record.specs.Epochs.{separates}
 use Rattle.dali_record.specs.Damage.{Damage, has}
 use Rattle.dali_record.specs.Legal.{on_kind}
-use Rattle.dali_record.proofs.Scans.{test_same}
 use Rattle.dali_resume.specs.Resumed.{scan, scan_step, scan_start, begun_by, committed_by, row_committed}
 use Rattle.dali_resume.specs.Tests.{Known, Status, Idle, Running, Waiting, allows, may_take_back, is_running, is_waiting, known_next, status_next, next_behind, draws_number}
 use Rattle.dali_taint.specs.Tables.{is_block_of, is_commit_of, is_end_of}
@@ -72,9 +73,6 @@ taking Idle b e = absurd (cc)
 taking (Running us) b e = refl
 taking Waiting b e = absurd (cc)
 
-some_same : {X : Type 0} (x y : X) → Some x ≡ Some y → x ≡ y
-some_same x y e = cc
-
 pub may_touch : (s : Sizes) (n : ℕ) (k : Known) (r : Record) (b : Touch) → allows s n k r ≡ true → touch_of r ≡ Some b → MayTouch s k r b
 may_touch s n k (Forward t c) b h e =
     let p = and_parts (is_running (k.statuses t)) (on_kind s c.region c.op) h in
@@ -88,70 +86,32 @@ may_touch s n k (Solo t o c) b h e =
     let fresh : k.next ≤ t = leb-true k.next t (and_parts (nat_lt t (2 ^ 40)) (nat_le k.next t) p.0).1 in
     subst (MayTouch s k (Solo t o c)) (some_same _ b e) (record { inside = kind_in s c.region c.op q.1; who = inr (fresh, refl); txn = refl; plain = (refl, refl) })
 may_touch s n k (Format i j) b h e = absurd (cc)
-may_touch s n k (Begin t) b h e = absurd (cc)
-may_touch s n k (Done t c a) b h e = absurd (cc)
-may_touch s n k (Commit t) b h e = absurd (cc)
-may_touch s n k (Ended t) b h e = absurd (cc)
-may_touch s n k AuditBegin b h e = absurd (cc)
-may_touch s n k (AuditClean i) b h e = absurd (cc)
-may_touch s n k (AuditFail i rs) b h e = absurd (cc)
-may_touch s n k (Restarted rs ds) b h e = absurd (cc)
+may_touch s n k _ b h e = absurd (cc)
 
 -- ---- what a record tells of one transaction
-pub or_none : (a : Bool) → (a || false) ≡ a
-or_none true = refl
-or_none false = refl
 
 pub commit_is : (r : Record) (t : ℕ) → is_commit_of t r ≡ true → r ≡ Commit t
-commit_is (Commit u) t h = ap Commit (test_same u t (sym (or_none (u == t)) ∙ h))
-commit_is (Format i j) t h = absurd (cc)
-commit_is (Begin u) t h = absurd (cc)
-commit_is (Forward u b) t h = absurd (cc)
-commit_is (Done u c a) t h = absurd (cc)
-commit_is (Ended u) t h = absurd (cc)
-commit_is (Solo u p b) t h = absurd (cc)
-commit_is AuditBegin t h = absurd (cc)
-commit_is (AuditClean i) t h = absurd (cc)
-commit_is (AuditFail i rs) t h = absurd (cc)
-commit_is (Restarted rs ds) t h = absurd (cc)
-commit_is (Back u b) t h = absurd (cc)
+commit_is (Commit u) t h = ap Commit (eqb-true u t (sym (or-false (u == t)) ∙ h))
+commit_is _ t h = absurd (cc)
 
 -- a block of another leaves an undo list
 pub other_step : (r : Record) (t : ℕ) (us : List Pending) → is_block_of t r ≡ false → undo_step t us r ≡ us
 other_step (Forward u b) t us h = rw h refl
 other_step (Back u b) t us h = rw h refl
-other_step (Format i j) t us h = refl
-other_step (Begin u) t us h = refl
-other_step (Done u c a) t us h = refl
-other_step (Commit u) t us h = refl
-other_step (Ended u) t us h = refl
-other_step (Solo u p b) t us h = refl
-other_step AuditBegin t us h = refl
-other_step (AuditClean i) t us h = refl
-other_step (AuditFail i rs) t us h = refl
-other_step (Restarted rs ds) t us h = refl
+other_step _ t us h = refl
 
 -- who is at work behind a record was so before it, unless it begins by it
 abbrev pub Was : ℕ → Status → Record → Type 0
 Was t z r = ((is_running z ≡ true) × (is_end_of t r ≡ false)) ⊎ (r ≡ Begin t)
 
 idle_was : (t : ℕ) (r : Record) → is_running (status_next t Idle r) ≡ true → Was t Idle r
-idle_was t (Begin u) h = inr (ap Begin (test_same u t (by_test (u == t) h)))
+idle_was t (Begin u) h = inr (ap Begin (eqb-true u t (by_test (u == t) h)))
   where
     by_test : (b : Bool) → is_running (cond b (Running []) Idle) ≡ true → b ≡ true
     by_test true e = refl
     by_test false e = absurd (cc)
 idle_was t (Format i j) h = absurd (cc)
-idle_was t (Forward u b) h = absurd (cc)
-idle_was t (Done u c a) h = absurd (cc)
-idle_was t (Commit u) h = absurd (cc)
-idle_was t (Ended u) h = absurd (cc)
-idle_was t (Solo u p b) h = absurd (cc)
-idle_was t AuditBegin h = absurd (cc)
-idle_was t (AuditClean i) h = absurd (cc)
-idle_was t (AuditFail i rs) h = absurd (cc)
-idle_was t (Restarted rs ds) h = absurd (cc)
-idle_was t (Back u b) h = absurd (cc)
+idle_was t _ h = absurd (cc)
 
 waiting_was : (t : ℕ) (r : Record) → is_running (status_next t Waiting r) ≡ true → Was t Waiting r
 waiting_was t (Ended u) h = absurd (by_test (u == t) h)
@@ -160,16 +120,7 @@ waiting_was t (Ended u) h = absurd (by_test (u == t) h)
     by_test true e = cc
     by_test false e = cc
 waiting_was t (Format i j) h = absurd (cc)
-waiting_was t (Begin u) h = absurd (cc)
-waiting_was t (Forward u b) h = absurd (cc)
-waiting_was t (Done u c a) h = absurd (cc)
-waiting_was t (Commit u) h = absurd (cc)
-waiting_was t (Solo u p b) h = absurd (cc)
-waiting_was t AuditBegin h = absurd (cc)
-waiting_was t (AuditClean i) h = absurd (cc)
-waiting_was t (AuditFail i rs) h = absurd (cc)
-waiting_was t (Restarted rs ds) h = absurd (cc)
-waiting_was t (Back u b) h = absurd (cc)
+waiting_was t _ h = absurd (cc)
 
 running_was : (t : ℕ) (us : List Pending) (r : Record) → is_running (status_next t (Running us) r) ≡ true → Was t (Running us) r
 running_was t us (Commit u) h = inl (refl, by_test (u == t) h)
@@ -183,15 +134,7 @@ running_was t us (Ended u) h = inl (refl, by_test (u == t) h)
     by_test true e = absurd (cc)
     by_test false e = refl
 running_was t us (Restarted rs ds) h = absurd (cc)
-running_was t us (Format i j) h = inl (refl, refl)
-running_was t us (Begin u) h = inl (refl, refl)
-running_was t us (Forward u b) h = inl (refl, refl)
-running_was t us (Done u c a) h = inl (refl, refl)
-running_was t us (Solo u p b) h = inl (refl, refl)
-running_was t us AuditBegin h = inl (refl, refl)
-running_was t us (AuditClean i) h = inl (refl, refl)
-running_was t us (AuditFail i rs) h = inl (refl, refl)
-running_was t us (Back u b) h = inl (refl, refl)
+running_was t us _ h = inl (refl, refl)
 
 pub was : (t : ℕ) (z : Status) (r : Record) → is_running (status_next t z r) ≡ true → Was t z r
 was t Idle r h = idle_was t r h

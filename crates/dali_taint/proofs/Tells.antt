@@ -2,7 +2,8 @@
 use Rattle.std.proofs.Common.{◌≡◌, ◌⊎◌, ℕ, ◌^◌, ◌≤◌, ◌<◌, Bool, true, false, cond, List, [], length, Option, Some, None, refl, ap, sym, subst, ◌∙◌, inl, inr, ⊎_elim}
 use Rattle.std.specs.Prelude.{not, ◌&&◌, ◌||◌, ◌==◌, nat_le, nat_lt}
 use Rattle.std.specs.Int.Bits.{bit_or}
-use Rattle.std.proofs.lemmas.Bool.{and_parts, both_ways, or_cases, or_parts, or_left, or_right, leb-true, false_from_ne_true}
+use Rattle.std.proofs.lemmas.Bool.{and_parts, both_ways, or_cases, or_parts, or_left, or_right, leb-true, false_from_ne_true, eqb-true, eq-eqb, and_from}
+use mathlib.Core.Bool.{or-false}
 use Rattle.dali_geometry.specs.Sizes.{Sizes}
 use Rattle.dali_att.specs.Table.{undos_at}
 use Rattle.dali_record.specs.declared.operations.Pending.{Pending}
@@ -13,8 +14,7 @@ use Rattle.dali_record.specs.Log.{Touch, touch_of, txn_of, undo_step}
 use Rattle.dali_record.specs.Epochs.{separates}
 use Rattle.dali_record.specs.Damage.{Damage, has, any_touch, any_txn}
 use Rattle.dali_record.specs.Files.{is_restarted}
-use Rattle.dali_record.proofs.Scans.{test_same, same_test}
-use Rattle.dali_record.proofs.Chains.{touch_true, and_true, true_and}
+use Rattle.dali_record.proofs.Chains.{touch_true}
 use Rattle.dali_resume.specs.Resumed.{Scan, scan_step, is_marked, corrupt_after, items_after, words_after, words_touched, marks_item, is_left_out as leaves_out}
 use Rattle.dali_resume.specs.Tests.{Known, allows, is_running, known_next, draws_number}
 use Rattle.dali_taint.specs.Tables.{word_set, has_number, is_reached, is_left_out, is_block_of, is_commit_of, is_end_of, Drops, Keeps}
@@ -22,7 +22,7 @@ use Rattle.dali_taint.specs.Following.{scanned, is_begun, is_committed, FollowsS
 use Rattle.dali_taint.specs.declared.taint.Taint.{Taint}
 use Rattle.dali_taint.specs.declared.taint.Judgement.TheVariants.{Keep, Drop}
 use Rattle.dali_taint.proofs.Bits.{keys}
-use Rattle.dali_taint.proofs.Steps.{may_touch, was, commit_is, other_step, is_committed_next, or_none, scanned_next}
+use Rattle.dali_taint.proofs.Steps.{may_touch, was, commit_is, other_step, is_committed_next, scanned_next}
 use Rattle.dali_taint.proofs.Orderly.{by_block, left_by, orderly_next, apart}
 
 module _ (s : Sizes) (n : ℕ) (d : Damage) (k : Known) (c : Scan) (r : Record) (x : Taint) (f : FollowsScan s x d k c) (ok : allows s n k r ≡ true) (inside : separates r ≡ false) where
@@ -44,14 +44,14 @@ module _ (s : Sizes) (n : ℕ) (d : Damage) (k : Known) (c : Scan) (r : Record) 
           by_touch None g = refl
           by_touch (Some b) g =
               let same : b.txn ≡ t = some_same b.txn t (sym (may_touch s n k r b ok g).txn ∙ e) in
-              reached_is b ∙ (and_one (is_marked d c b) ∙ ap (λ z. is_marked d c b && z) (sym (same_test b.txn t same)))
+              reached_is b ∙ (and_one (is_marked d c b) ∙ ap (λ z. is_marked d c b && z) (sym (eq-eqb b.txn t same)))
             where
               some_same : (u v : ℕ) → Some u ≡ Some v → u ≡ v
               some_same u v h = cc
 
   -- what a block that is left out tells
   left_block : (b : Touch) → touch_of r ≡ Some b → leaves_out d c r ≡ true → (c.corrupt b.txn ≡ true) ⊎ (is_marked d c b ≡ true)
-  left_block b e h = ⊎_elim (λ w. inl w) (λ w. inr (and_true (is_marked d c b) (b.txn == b.txn) (sym (ap (any_touch (λ a. is_marked d c a && (a.txn == b.txn))) e) ∙ w)).0)
+  left_block b e h = ⊎_elim (λ w. inl w) (λ w. inr (and_parts (is_marked d c b) (b.txn == b.txn) (sym (ap (any_touch (λ a. is_marked d c a && (a.txn == b.txn))) e) ∙ w)).0)
       (or_cases (c.corrupt b.txn) (any_touch (λ a. is_marked d c a && (a.txn == b.txn)) (touch_of r)) (sym (ap (any_txn (corrupt_after d c r)) (may_touch s n k r b ok e).txn) ∙ h))
 
   own_corrupt : (t : ℕ) → leaves_out d c r ≡ false → txn_of r ≡ Some t → c.corrupt t ≡ false
@@ -61,10 +61,10 @@ module _ (s : Sizes) (n : ℕ) (d : Damage) (k : Known) (c : Scan) (r : Record) 
   kept_clear t h = by_touch (touch_of r) refl
     where
       by_touch : (p : Option Touch) → touch_of r ≡ p → (c.corrupt t || any_touch (λ b. is_marked d c b && (b.txn == t)) p) ≡ c.corrupt t
-      by_touch None e = or_none (c.corrupt t)
+      by_touch None e = or-false (c.corrupt t)
       by_touch (Some b) e =
           let clear : is_marked d c b ≡ false = false_from_ne_true (is_marked d c b) (λ m. both_ways (leaves_out d c r) h (left_by s n d k c r f.orderly ok inside b e m)) in
-          rw clear (or_none (c.corrupt t))
+          rw clear (or-false (c.corrupt t))
 
   dropped_corrupt : (t : ℕ) → leaves_out d c r ≡ true → (c.corrupt t || is_block_of t r) ≡ corrupt_after d c r t
   dropped_corrupt t h = by_touch (touch_of r) refl
@@ -88,7 +88,7 @@ module _ (s : Sizes) (n : ℕ) (d : Damage) (k : Known) (c : Scan) (r : Record) 
               none a false = refl
 
               by_test : (y : Bool) → (b.txn == t) ≡ y → (c.corrupt t || y) ≡ (c.corrupt t || (is_marked d c b && y))
-              by_test true g = two (c.corrupt t) (is_marked d c b && true) (subst (λ u. c.corrupt u ≡ true) (test_same b.txn t g) w)
+              by_test true g = two (c.corrupt t) (is_marked d c b && true) (subst (λ u. c.corrupt u ≡ true) (eqb-true b.txn t g) w)
               by_test false g = none (c.corrupt t) (is_marked d c b)
 
   inside_regions : (b : Touch) → touch_of r ≡ Some b → b.block.region < length x.words.items
@@ -133,17 +133,17 @@ module _ (s : Sizes) (n : ℕ) (d : Damage) (k : Known) (c : Scan) (r : Record) 
       same_bools false false g e = refl
 
       by_commit : (y : Bool) → is_commit_of t r ≡ y → ((is_committed k t && c.corrupt t) || is_commit_of t r) ≡ ((is_committed k t || is_commit_of t r) && corrupt_after d c r t)
-      by_commit true e = rw e (or_right (is_committed k t && c.corrupt t) true refl ∙ sym (true_and (is_committed k t || true) (corrupt_after d c r t) (or_right (is_committed k t) true refl) now))
+      by_commit true e = rw e (or_right (is_committed k t && c.corrupt t) true refl ∙ sym (and_from (is_committed k t || true) (corrupt_after d c r t) (or_right (is_committed k t) true refl) now))
         where
           own : c.corrupt t ≡ true
           own =
               let is : r ≡ Commit t = commit_is r t e in
               let left : any_txn (corrupt_after d c (Commit t)) (Some t) ≡ true = subst (λ q. leaves_out d c q ≡ true) is h in
-              sym (or_none (c.corrupt t)) ∙ left
+              sym (or-false (c.corrupt t)) ∙ left
 
           now : corrupt_after d c r t ≡ true
           now = or_left (c.corrupt t) _ own
-      by_commit false e = rw e (or_none (is_committed k t && c.corrupt t) ∙ (by_committed (is_committed k t) refl ∙ ap (λ z. z && corrupt_after d c r t) (sym (or_none (is_committed k t)))))
+      by_commit false e = rw e (or-false (is_committed k t && c.corrupt t) ∙ (by_committed (is_committed k t) refl ∙ ap (λ z. z && corrupt_after d c r t) (sym (or-false (is_committed k t)))))
         where
           by_committed : (y : Bool) → is_committed k t ≡ y → (is_committed k t && c.corrupt t) ≡ (is_committed k t && corrupt_after d c r t)
           by_committed false g = rw g refl
@@ -173,7 +173,7 @@ module _ (s : Sizes) (n : ℕ) (d : Damage) (k : Known) (c : Scan) (r : Record) 
 
       by_commit : (y : Bool) → is_commit_of t r ≡ y → (is_committed k t && c.corrupt t) ≡ ((is_committed k t || is_commit_of t r) && c.corrupt t)
       by_commit true e = rw e (none (is_committed k t) (c.corrupt t) (own_corrupt t h (ap txn_of (commit_is r t e))))
-      by_commit false e = rw e (ap (λ z. z && c.corrupt t) (sym (or_none (is_committed k t))))
+      by_commit false e = rw e (ap (λ z. z && c.corrupt t) (sym (or-false (is_committed k t))))
 
   pub follows_left : (y : Taint) → leaves_out d c r ≡ true → Drops x y r → FollowsScan s y d (known_next k r) (scan_step d c r)
   follows_left y h g = record {
@@ -204,7 +204,7 @@ module _ (s : Sizes) (n : ℕ) (d : Damage) (k : Known) (c : Scan) (r : Record) 
       by_block_of : (t : ℕ) → corrupt_after d c r t ≡ true → (z : Bool) → is_block_of t r ≡ z → cond (is_block_of t r) [] (undos_at x.undos t) ≡ []
       by_block_of t e true q = rw q refl
       by_block_of t e false q =
-          let old : c.corrupt t ≡ true = sym (or_none (c.corrupt t)) ∙ (ap (λ z. c.corrupt t || z) (sym q) ∙ (dropped_corrupt t h ∙ e)) in
+          let old : c.corrupt t ≡ true = sym (or-false (c.corrupt t)) ∙ (ap (λ z. c.corrupt t || z) (sym q) ∙ (dropped_corrupt t h ∙ e)) in
           rw q (f.gone t old)
 
   pub follows_kept : (y : Taint) → leaves_out d c r ≡ false → Keeps x y r → FollowsScan s y d (known_next k r) (scan_step d c r)
@@ -214,7 +214,7 @@ module _ (s : Sizes) (n : ℕ) (d : Damage) (k : Known) (c : Scan) (r : Record) 
     failing = λ q. ap (λ z. has_number z q) g.steady.failing ∙ f.failing q;
     regions = g.steady.regions ∙ f.regions;
     words = λ q. ap (λ ws. word_set ws q) g.words ∙ (f.words q ∙ ap (λ b. words_after b c.words (touch_of r) q) (sym h));
-    items = λ i. g.items i ∙ (f.items i ∙ (sym (or_none (c.items i)) ∙ ap (λ b. items_after b c (touch_of r) i) (sym h)));
+    items = λ i. g.items i ∙ (f.items i ∙ (sym (or-false (c.items i)) ∙ ap (λ b. items_after b c (touch_of r) i) (sym h)));
     corrupt = λ t. ap (λ z. has_number z t) g.corrupt ∙ (f.corrupt t ∙ sym (kept_clear t h));
     undos = λ t w e.
         let p = old_undos t w e in
@@ -238,7 +238,7 @@ module _ (s : Sizes) (n : ℕ) (d : Damage) (k : Known) (c : Scan) (r : Record) 
           own : is_block_of t r ≡ true → ⊥
           own q =
               let w = touch_true (λ b. b.txn == t) (touch_of r) q in
-              both_ways (c.corrupt t) (own_corrupt t h ((may_touch s n k r w.0 ok w.1).txn ∙ ap Some (test_same w.0.txn t w.2))) e
+              both_ways (c.corrupt t) (own_corrupt t h ((may_touch s n k r w.0 ok w.1).txn ∙ ap Some (eqb-true w.0.txn t w.2))) e
 
 pub judged_drop : (x y : Taint) (n : ℕ) (r : Record) → is_left_out x n r ≡ true → Drops x y r → JudgedIn x n r Drop y
 judged_drop x y n r left g s m d k f number may inside =

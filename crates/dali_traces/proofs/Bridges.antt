@@ -6,6 +6,7 @@ use Rattle.std.proofs.lemmas.Option.{IfSome_then}
 use Rattle.std.proofs.lemmas.List.{append-nil}
 use Rattle.std.proofs.lemmas.Grind.{flat_map-append}
 use Rattle.std.proofs.lemmas.List.Sums.{sum_by-cons}
+use Rattle.std.proofs.lemmas.Bool.{eqb-true, eq-eqb}
 use Rattle.dali_record.specs.declared.records.Record.{Record}
 use Rattle.dali_record.specs.declared.records.Record.TheVariants.{Format, Restarted}
 use Rattle.dali_record.specs.Spelling.{CanBeSpelled, spelling, record_length}
@@ -38,7 +39,6 @@ use Rattle.dali_batch.proofs.Unique.{some_bytes, one_log}
 use Rattle.dali_traces.specs.Disks.{IsAnchor, IsImageOf, image_file, image_name, head_of, sizes_in, unchecked, Spells, AllSpell}
 use Rattle.dali_traces.specs.Anchors.{HasMoved, MayHaveMoved}
 use Rattle.dali_traces.specs.Bridges.{IsRightNow, TracedTo, LeavesRightAt, body_at, batches_on, AreRight, HaveOneLog, HaveOneAnchor, StoreStarts, InsideOf, MomentsAreRight, FlushIsRight, WriteIsRight, FlushGoesOn, FaultGoesOn, QuietGoesOn, WriteGoesOn, TurnGoesOn, TurnFaultGoesOn, is_image_write, HoldsNext, FormatStarts, restarted_records, closed_head, IsRestartedBy, RestartStarts, GoesOnBy, StopsBy, IsRightIn, TurnsBy, TurnStopsBy, TurnIsRightIn}
-use Rattle.dali_counts.proofs.Lists.{equal, same_number}
 use Rattle.dali_crash.proofs.Traces.{every_moment_is_right, trace_prefix, moment_prefix, every_trace_is_right, fresh_rests, trace_goes_on, trace_runs}
 use Rattle.dali_traces.proofs.Growth.{point_runs}
 use Rattle.dali_crash.specs.Traces.{IsFreshImage, Start, bases_of, start_point}
@@ -95,20 +95,20 @@ pub frames_spelled : (rs : List Record) → AreSpelled rs → AllByRecursion Are
 frames_spelled [] all = tt
 frames_spelled (r ∷ rs) all = (all, tt)
 
-spelled_behind : (n : ℕ) (L : List Record) → ((i : ℕ) (r : Record) → slice_get L i ≡ Some r → CanBeSpelled r) → AreSpelled (drop n L)
+pub spelled_behind : (n : ℕ) (L : List Record) → ((i : ℕ) (r : Record) → slice_get L i ≡ Some r → CanBeSpelled r) → AreSpelled (drop n L)
 spelled_behind zero [] each = tt
 spelled_behind zero (r ∷ L) each = (each 0 r refl, spelled_behind zero L (λ i s e. each (suc i) s e))
 spelled_behind (suc n) [] each = tt
 spelled_behind (suc n) (r ∷ L) each = spelled_behind n L (λ i s e. each (suc i) s e)
 
-get_in_take : (m : ℕ) (L : List Record) (i : ℕ) (r : Record) → slice_get (take m L) i ≡ Some r → slice_get L i ≡ Some r
+pub get_in_take : (m : ℕ) (L : List Record) (i : ℕ) (r : Record) → slice_get (take m L) i ≡ Some r → slice_get L i ≡ Some r
 get_in_take zero L i r e = absurd (cc)
 get_in_take (suc m) [] i r e = absurd (cc)
 get_in_take (suc m) (x ∷ L) zero r e = e
 get_in_take (suc m) (x ∷ L) (suc i) r e = get_in_take m L i r e
 
 -- ---- the bytes of batches
-body_length : (rs : List Record) → AreSpelled rs → length (body_bytes rs) ≡ sum_by record_length rs
+pub body_length : (rs : List Record) → AreSpelled rs → length (body_bytes rs) ≡ sum_by record_length rs
 body_length [] all = refl
 body_length (r ∷ rs) all = length-append (spelling r) (body_bytes rs) ∙ (ap (λ n. n + length (body_bytes rs)) (length-spelling r all.0) ∙ (ap (λ n. record_length r + n) (body_length rs all.1) ∙ sym (sum_by-cons record_length r rs)))
 
@@ -142,6 +142,7 @@ same_batches s made p q x D F t step same h = same ∙ t.batches (point_runs p q
 
 right_at : (s : Start) (made : List (List Record)) (p : Point) (F : Files) → TracedTo s made p F → LeavesRightAt s p F
 right_at s made p F t = record {
+  came = inl (made, t);
   prefix = trace_prefix s t.first t.starts t.steps p F t.trace;
   right = every_trace_is_right s t.first t.starts t.steps p F t.trace;
 }
@@ -273,6 +274,7 @@ moments_are_right since s p q x step all c left =
       w.0,
       w.1,
       record {
+        came = inr (x, q, step, i);
         prefix = moment_prefix s t.first t.starts t.steps p i.was t.trace x q w.0 step i.inside;
         right = every_moment_is_right s t.first t.starts t.steps p i.was t.trace x q w.0 step i.inside;
       },
@@ -292,12 +294,12 @@ sides_turn n e = by_tests (n % 2 == 1) ((n + 1) % 2 == 1) refl refl e
     clash g h = cc
 
     by_tests : (b d : Bool) → (n % 2 == 1) ≡ b → ((n + 1) % 2 == 1) ≡ d → cond b A B ≡ cond d A B → ⊥
-    by_tests true true p q f = let x : n % 2 ≡ 1 = equal (n % 2) 1 p in let y : (n + 1) % 2 ≡ 1 = equal ((n + 1) % 2) 1 q in omega (arith, x, y)
+    by_tests true true p q f = let x : n % 2 ≡ 1 = eqb-true (n % 2) 1 p in let y : (n + 1) % 2 ≡ 1 = eqb-true ((n + 1) % 2) 1 q in omega (arith, x, y)
     by_tests true false p q f = cc
     by_tests false true p q f = cc
     by_tests false false p q f =
-        let x : n % 2 ≡ 1 → ⊥ = λ w. clash (same_number (n % 2) 1 w) p in
-        let y : (n + 1) % 2 ≡ 1 → ⊥ = λ w. clash (same_number ((n + 1) % 2) 1 w) q in
+        let x : n % 2 ≡ 1 → ⊥ = λ w. clash (eq-eqb (n % 2) 1 w) p in
+        let y : (n + 1) % 2 ≡ 1 → ⊥ = λ w. clash (eq-eqb ((n + 1) % 2) 1 w) q in
         omega (arith, x, y)
 
 pub two_names : (a b : Side) → (a ≡ b → ⊥) → image_name a ≢ image_name b

@@ -25,7 +25,7 @@ some_body : (b : List Record) → IsBody (body_bytes b) → 1 ≤ length b
 some_body [] is = absurd (omega (arith, is.0))
 some_body (r ∷ b) is = omega arith
 
-some_in : (B : List (List Record)) → AllByRecursion IsBody (bodies B) → (i : ℕ) (b : List Record) → slice_get B i ≡ Some b → 1 ≤ length b
+pub some_in : (B : List (List Record)) → AllByRecursion IsBody (bodies B) → (i : ℕ) (b : List Record) → slice_get B i ≡ Some b → 1 ≤ length b
 some_in [] all i b e = absurd (cc)
 some_in (c ∷ B) all zero b e = let same : c ≡ b = cc in subst (λ z. 1 ≤ length z) same (some_body c all.0)
 some_in (c ∷ B) all (suc i) b e = some_in B all.1 i b e

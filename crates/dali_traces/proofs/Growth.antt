@@ -1,11 +1,11 @@
 -- What only grows along steps, what the anchor tells, and what a fault leaves.
 use Rattle.std.proofs.Common.{◌≡◌, ℕ, ◌+◌, true, false, List, [], ◌∷◌, Some, None, refl, ap, sym, subst, ◌∙◌, inl, inr, ⊎_elim, arith}
 use Rattle.std.specs.Prelude.{◌⊎◌, slice_get}
+use Rattle.dali_lists.proofs.Options.{some_same}
 use Rattle.dali_record.specs.declared.records.Record.{Record}
 use Rattle.dali_record.specs.Files.{Files}
 use Rattle.dali_region.specs.State.{RegionState}
 use Rattle.dali_region.specs.Answers.{is_dirty}
-use Rattle.dali_counts.proofs.Lists.{some_same}
 use Rattle.dali_system.specs.State.{CoreState}
 use Rattle.dali_system.specs.Courses.{Step, Flushes, Faults, CameBy}
 use Rattle.dali_system.specs.ImageSteps.{told_with}

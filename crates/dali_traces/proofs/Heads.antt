@@ -1,10 +1,10 @@
 -- The head that is kept for an image fits its fields, where the log is legal.
 use Rattle.std.specs.List.{AllByRecursion, range_with_len}
 use Rattle.std.specs.List.Sorted.{IsStrictlyIncreasing}
-use Rattle.std.specs.Prelude.{IsSome, filter, filter_map, flat_map, is_some, map, nat_lt, not, slice_get, slice_index, sum_by, ◌&&◌, ◌||◌, ◌==◌}
+use Rattle.std.specs.Prelude.{filter, filter_map, flat_map, map, nat_lt, not, slice_get, slice_index, sum_by, ◌&&◌, ◌||◌, ◌==◌}
 use Rattle.std.proofs.Common.{Bool, List, None, Option, Some, ap, arith, cond, drop, false, inl, inr, length, length-append, refl, subst, suc, sym, take, take-append-drop, true, zero, ℕ, ◌≡◌, ◌∷◌, ◌++◌, ◌∙◌, ◌⊎◌, ◌≤◌, ◌^◌, ◌+◌, ◌-◌, ◌<◌, ◌*◌, [], ⊎_elim}
-use Rattle.std.proofs.lemmas.Bool.{and_from, and_parts, both_ways, cases_lt, lt-ltb, or_cases, or_left, or_right}
-use Rattle.std.proofs.lemmas.List.{append-nil, length-map, length-take-le, take-append-le}
+use Rattle.std.proofs.lemmas.Bool.{and_from, and_parts, both_ways, cases_lt, lt-ltb, or_cases, or_left, or_right, eq-eqb, leb-true, eqb-true}
+use Rattle.std.proofs.lemmas.List.{append-nil, length-map, length-take-le, take-append-le, length_push}
 use Rattle.std.proofs.lemmas.List.Elements.{Contains-append_right, filter_map-append}
 use Rattle.std.proofs.lemmas.List.Folds.{list_any-append}
 use Rattle.std.proofs.lemmas.List.Kept.{IsStrictlyIncreasing-filter}
@@ -15,56 +15,49 @@ use Rattle.dali_record.specs.Blocks.{AreWords, pending}
 use Rattle.dali_record.specs.Damage.{has}
 use Rattle.dali_record.specs.Epochs.{Cut, Epoch, cut, last_epoch, separates}
 use Rattle.dali_record.specs.Files.{Row, draws, next_after, row_of, table_before}
-use Rattle.dali_record.specs.Legal.{IsLegalFor, Rules, has_room, kept_if, on_kind, room, rules_behind, rules_first, rules_start, rules_state, rules_step, runs}
+use Rattle.dali_record.specs.Legal.{IsLegalFor, Rules, has_room, on_kind, room, rules_behind, rules_first, rules_start, rules_state, rules_step, runs}
 use Rattle.dali_record.specs.Log.{begin_by, begun, committed, drop_last, ended, undo_added, undo_step, undos_of}
-use Rattle.dali_record.specs.Spelling.{CanBeSpelled, IsBlock, MayBeUndo, ascends, flag_bytes, frees_cell, frees_entry, is_outcome_of, is_within, record_length, restores, revives_cell, revives_entry, undo_bytes, undo_length, undoes, undoes_add, undoes_change, undoes_kill_cell, undoes_kill_entry, undoes_put}
+use Rattle.dali_record.specs.Spelling.{CanBeSpelled, IsBlock, MayBeUndo, ascends, flag_bytes, frees_cell, frees_entry, is_outcome_of, is_within, record_length, restores, revives_cell, revives_entry, undo_bytes, undoes, undoes_add, undoes_change, undoes_kill_cell, undoes_kill_entry, undoes_put}
 use Rattle.dali_record.specs.declared.operations.Block.{Block}
 use Rattle.dali_record.specs.declared.operations.Op.{Op}
-use Rattle.dali_record.specs.declared.operations.Op.TheVariants.{Add, Change, FreeCell, FreeEntry, KillCell, KillEntry, Look, Put, Read, Restore, ReviveCell, ReviveEntry}
+use Rattle.dali_record.specs.declared.operations.Op.TheVariants.{Add, Change, FreeCell, KillCell, KillEntry, Look, Put, Read}
 use Rattle.dali_record.specs.declared.operations.Outcome.{Outcome}
 use Rattle.dali_record.specs.declared.operations.Pending.{Pending}
 use Rattle.dali_record.specs.declared.operations.Undo.{Undo}
 use Rattle.dali_record.specs.declared.records.Record.{Record}
 use Rattle.dali_record.specs.declared.records.Record.TheVariants.{AuditBegin, AuditClean, AuditFail, Back, Begin, Commit, Done, Ended, Format, Forward, Restarted, Solo}
-use Rattle.dali_record.proofs.Batches.{last_push}
-use Rattle.dali_record.proofs.Ends.{by_push, get_new}
+use Rattle.dali_record.proofs.Batches.{last_push, number_is_length}
+use Rattle.dali_record.proofs.Ends.{by_push}
 use Rattle.dali_record.proofs.EpochRules.{rules_before}
-use Rattle.dali_record.proofs.Lengths.{length-undo, number32_is_4, number64_is_8}
+use Rattle.dali_record.proofs.Lengths.{length-undo}
 use Rattle.dali_record.proofs.Pushes.{cut_push, undos_of_push}
-use Rattle.dali_record.proofs.Scans.{same_test, test_le, test_same}
 use Rattle.dali_record.proofs.Survivors.{has_filter}
 use Rattle.dali_history.specs.History.{AreSpelled}
 use Rattle.dali_history.proofs.Ascending.{begun_ascends}
 use Rattle.dali_history.proofs.Prefixes.{IsLegalFor-front}
 use Rattle.dali_history.proofs.Spelled.{AreSpelled-front}
-use Rattle.dali_counts.proofs.Lists.{length-push}
-use Rattle.dali_counts.proofs.SmallLogs.{is_small, some_length}
+use Rattle.dali_counts.proofs.SmallLogs.{is_small, some_length, of_kept}
 use Rattle.dali_counts.proofs.LightLogs.{is_light}
-use Rattle.dali_counts.proofs.Tallies.{number_is, numbers, numbers_drawn, tallies}
+use Rattle.dali_counts.proofs.Tallies.{numbers, numbers_drawn, tallies}
 use Rattle.dali_bytes.specs.Fields.{number32, number64}
 use Rattle.dali_crash.specs.Checkpoints.{head_now, image_in, target}
 use Rattle.dali_crash.specs.StoreRuns.{IsKept}
 use Rattle.dali_crash.proofs.StoreRuns.{current_is_small}
 use Rattle.dali_system.proofs.Flushes.{end_within}
 use Rattle.std.proofs.lemmas.List.FromFn.{length-range_with_len}
+use mathlib.Core.Bool.{or-false}
+use Rattle.dali_lists.proofs.Lists.{get_push}
+use Rattle.dali_lists.proofs.Members.{all_push}
+use Rattle.dali_lists.proofs.Options.{some_of, some_of_test}
+use Rattle.dali_bytes.proofs.Numbers.{length-number32, length-number64}
 use Rattle.dali_system.specs.State.{log_after}
 use Rattle.dali_traces.specs.Disks.{IsPendingIn, IsRowIn, pending_bytes, row_bytes, txn_in, undoes_on}
 use Rattle.dali_traces.specs.Heads.{HeadsFit, KeptFits, StaysFitting, NextFits}
 use Rattle.dali_record.specs.declared.operations.Outcome.TheVariants.{Found, Absent, Added, NoEntry, Killed, Put as PutIn, NoCell, Value, Changed, NotLive, OtherKey, OddLength, Undone}
 use Rattle.dali_record.specs.declared.operations.Undo.TheVariants.{FreeCell as UndoFreeCell, ReviveCell as UndoReviveCell, Restore as UndoRestore, FreeEntry as UndoFreeEntry, ReviveEntry as UndoReviveEntry}
+use Rattle.dali_counts.proofs.ShortLogs.{begun_most, undo_most}
 use Rattle.dali_system.specs.Run.{LogRun, no_image}
-
-or_none : (a : Bool) → (a || false) ≡ a
-or_none true = refl
-or_none false = refl
-
-some_of : {X : Type 0} (o : Option X) → IsSome o → (x : X) × (o ≡ Some x)
-some_of None h = absurd (cc)
-some_of (Some x) h = (x, refl)
-
-kept_true : (c : Bool) (g k : Rules) → kept_if c g ≡ Some k → c ≡ true
-kept_true true g k e = refl
-kept_true false g k e = absurd (cc)
+use Rattle.dali_crash.proofs.RecoveredWords.{all_drop_last}
 
 ran : (s : Sizes) (h k : Rules) (r : Record) → separates r ≡ false → rules_step s h r ≡ Some k → runs s h r ≡ Some k
 ran s h k r w e = by_test (h.count == 0) e
@@ -117,18 +110,18 @@ runs_behind s Y r w legal =
 
 -- ---- lengths
 weighs : (L : List Record) → length L ≤ sum_by record_length L
-weighs = by_push (λ L. length L ≤ sum_by record_length L) (omega arith) (λ L x here. omega (arith, here, some_length x, length-push L x, sum_by_push record_length L x))
+weighs = by_push (λ L. length L ≤ sum_by record_length L) (omega arith) (λ L x here. omega (arith, here, some_length x, length_push L x, sum_by_push record_length L x))
 
 -- a record that uses room: no more records stand then than there is room
 room_left : (s : Sizes) (Y : List Record) (r : Record) (h : Rules) → rules_state s Y ≡ Some h → has_room h r ≡ true → length (Y ++ r ∷ []) ≤ room
 room_left s Y r h e q =
     let w = tallies s Y h e in
-    let le : h.weight + record_length r ≤ room = test_le (h.weight + record_length r) room q in
-    omega (arith, le, w.1, weighs Y, some_length r, length-push Y r)
+    let le : h.weight + record_length r ≤ room = leb-true (h.weight + record_length r) room q in
+    omega (arith, le, w.1, weighs Y, some_length r, length_push Y r)
 
 -- ---- the lists of an epoch
 undos_few : (t : ℕ) (E : List Record) → length (undos_of t E) ≤ length E
-undos_few t = by_push (λ E. length (undos_of t E) ≤ length E) (omega arith) (λ E r here. omega (arith, here, length-push E r, ap length (undos_of_push t E r), one_more (undos_of t E) r))
+undos_few t = by_push (λ E. length (undos_of t E) ≤ length E) (omega arith) (λ E r here. omega (arith, here, length_push E r, ap length (undos_of_push t E r), one_more (undos_of t E) r))
   where
     added : (us : List Pending) (b : Block) (o : Option Undo) → length (us ++ undo_added b o) ≤ length us + 1
     added us b None = omega (arith, length-append us (undo_added b None))
@@ -161,46 +154,20 @@ undos_few t = by_push (λ E. length (undos_of t E) ≤ length E) (omega arith) (
         by_test true = omega (arith, dropped us)
         by_test false = omega arith
 
-begun_few : (E : List Record) → length (begun E) ≤ length E
-begun_few = by_push (λ E. length (begun E) ≤ length E) (omega arith) (λ E r here. omega (arith, here, length-push E r, ap length (filter_map-append begin_by E (r ∷ [])), length-append (begun E) (begun (r ∷ [])), one r))
-  where
-    one : (r : Record) → length (begun (r ∷ [])) ≤ 1
-    one (Format i j) = omega arith
-    one (Begin u) = omega arith
-    one (Forward u b) = omega arith
-    one (Done u c a) = omega arith
-    one (Commit u) = omega arith
-    one (Ended u) = omega arith
-    one (Solo u p b) = omega arith
-    one AuditBegin = omega arith
-    one (AuditClean b) = omega arith
-    one (AuditFail b rs) = omega arith
-    one (Restarted rs ds) = omega arith
-    one (Back u b) = omega arith
-
 -- ---- what holds of each epoch
 abbrev open_records : List Record → List Record
 open_records Y = (last_epoch Y).records
 
 none_now : (Y : List Record) (r : Record) → separates r ≡ true → (last_epoch (Y ++ r ∷ [])).records ≡ []
 none_now Y (Format i j) e = ap (λ (c : Cut). c.now.records) (cut_push Y (Format i j))
-none_now Y (Begin t) e = absurd (cc)
-none_now Y (Forward t b) e = absurd (cc)
-none_now Y (Done t c a) e = absurd (cc)
-none_now Y (Commit t) e = absurd (cc)
-none_now Y (Ended t) e = absurd (cc)
-none_now Y (Solo t p b) e = absurd (cc)
-none_now Y AuditBegin e = absurd (cc)
-none_now Y (AuditClean b) e = absurd (cc)
-none_now Y (AuditFail b rs) e = absurd (cc)
 none_now Y (Restarted rs ds) e = ap (λ (c : Cut). c.now.records) (cut_push Y (Restarted rs ds))
-none_now Y (Back t b) e = absurd (cc)
+none_now Y _ e = absurd (cc)
 
 more_now : (Y : List Record) (r : Record) → separates r ≡ false → (last_epoch (Y ++ r ∷ [])).records ≡ (last_epoch Y).records ++ r ∷ []
 more_now Y r e = ap (λ (z : Epoch). z.records) (last_push Y r e)
 
 inside : (Y : List Record) → length (last_epoch Y).records ≤ length Y
-inside Y = omega (arith, number_is Y)
+inside Y = omega (arith, number_is_length Y)
 
 record Fitting (s : Sizes) (Y : List Record) : Type 0 where
   rows : length (begun (last_epoch Y).records) ≤ room
@@ -215,15 +182,6 @@ fitting_none s Y none = record {
   each = λ t. subst (λ E. AllByRecursion (IsPendingIn s) (undos_of t E)) (sym none) tt;
   drawn = λ t h. let z : has (begun []) t ≡ true = subst (λ E. has (begun E) t ≡ true) none h in absurd (cc);
 }
-
-all_pushed : {X : Type 0} (Q : X → Type 0) (xs : List X) (x : X) → AllByRecursion Q xs → Q x → AllByRecursion Q (xs ++ x ∷ [])
-all_pushed Q [] x h p = (p, tt)
-all_pushed Q (y ∷ xs) x h p = (h.0, all_pushed Q xs x h.1 p)
-
-all_dropped : {X : Type 0} (Q : X → Type 0) (xs : List X) → AllByRecursion Q xs → AllByRecursion Q (drop_last xs)
-all_dropped Q [] h = tt
-all_dropped Q (x ∷ []) h = tt
-all_dropped Q (x ∷ y ∷ xs) h = (h.0, all_dropped Q (y ∷ xs) h.1)
 
 -- the undo of an operation is on a region of its kind
 kind_of : (s : Sizes) (r : ℕ) (op : Op) (o : Outcome) (u : Undo) → on_kind s r op ≡ true → undoes op o (Some u) ≡ true → undoes_on s r u ≡ true
@@ -345,10 +303,7 @@ kind_of s r (KillCell c) o u k h = by_outcome o u h
     by_outcome (OddLength n) v q = absurd (cc)
     by_outcome Undone v q = absurd (cc)
 kind_of s r (FreeCell c) o u k h = absurd (cc)
-kind_of s r (ReviveCell c) o u k h = absurd (cc)
-kind_of s r (Restore c n ws) o u k h = absurd (cc)
-kind_of s r (FreeEntry e) o u k h = absurd (cc)
-kind_of s r (ReviveEntry e) o u k h = absurd (cc)
+kind_of s r _ o u k h = absurd (cc)
 
 -- ---- one record more
 module _ (s : Sizes) (Y : List Record) (r : Record) (plain : separates r ≡ false) (legal : IsLegalFor s (Y ++ r ∷ [])) (w : Fitting s Y) where
@@ -384,12 +339,12 @@ quiet s Y r plain legal w none same = grows s Y r plain legal w (ap length none)
 
 begins : (s : Sizes) (Y : List Record) (u : ℕ) → IsLegalFor s (Y ++ Begin u ∷ []) → Fitting s Y → Fitting s (Y ++ Begin u ∷ [])
 begins s Y u legal w = record {
-  rows = omega (arith, space, begun_few (last_epoch (Y ++ Begin u ∷ [])).records, inside (Y ++ Begin u ∷ []));
+  rows = omega (arith, space, begun_most (last_epoch (Y ++ Begin u ∷ [])).records, inside (Y ++ Begin u ∷ []));
   undos = λ t. omega (arith, w.undos t, ap (λ D. length (undos_of t D)) now, ap length (undos_of_push t E (Begin u)));
   each = λ t. subst (AllByRecursion (IsPendingIn s)) (sym (ap (undos_of t) now ∙ undos_of_push t E (Begin u))) (w.each t);
   drawn = λ t h. ⊎_elim
       (λ a. let lt : t < next_after Y = w.drawn t a in omega (arith, lt, next))
-      (λ a. let same : u ≡ t = test_same u t (sym (or_none (u == t)) ∙ a) in omega (arith, same, next, at))
+      (λ a. let same : u ≡ t = eqb-true u t (sym (or-false (u == t)) ∙ a) in omega (arith, same, next, at))
       (or_cases (has (begun E) t) (has (begun (Begin u ∷ [])) t) (sym (begun_push t) ∙ subst (λ D. has (begun D) t ≡ true) now h));
 }
   where
@@ -406,13 +361,13 @@ begins s Y u legal w = record {
     v = runs_behind s Y (Begin u) refl legal
 
     asked : ((u == v.0.next) && has_room v.0 (Begin u)) ≡ true
-    asked = kept_true ((u == v.0.next) && has_room v.0 (Begin u)) _ v.1 v.4
+    asked = of_kept ((u == v.0.next) && has_room v.0 (Begin u)) _ v.1 v.4
 
     space : length (Y ++ Begin u ∷ []) ≤ room
     space = room_left s Y (Begin u) v.0 v.2 (and_parts (u == v.0.next) (has_room v.0 (Begin u)) asked).1
 
     at : u ≡ next_after Y
-    at = test_same u v.0.next (and_parts (u == v.0.next) (has_room v.0 (Begin u)) asked).0 ∙ ((tallies s Y v.0 v.2).2 ∙ numbers_drawn Y)
+    at = eqb-true u v.0.next (and_parts (u == v.0.next) (has_room v.0 (Begin u)) asked).0 ∙ ((tallies s Y v.0 v.2).2 ∙ numbers_drawn Y)
 
     next : next_after (Y ++ Begin u ∷ []) ≡ next_after Y + 1
     next = omega (arith, ap length (filter_map-append draws Y (Begin u ∷ [])), length-append (filter_map draws Y) (u ∷ []))
@@ -426,7 +381,7 @@ works s Y u b legal spelled w = grows s Y (Forward u b) refl legal w refl (λ t.
     v = runs_behind s Y (Forward u b) refl legal
 
     asked : (on_kind s b.region b.op && has_room v.0 (Forward u b)) ≡ true
-    asked = kept_true (on_kind s b.region b.op && has_room v.0 (Forward u b)) _ v.1 v.4
+    asked = of_kept (on_kind s b.region b.op && has_room v.0 (Forward u b)) _ v.1 v.4
 
     space : length (Y ++ Forward u b ∷ []) ≤ room
     space = room_left s Y (Forward u b) v.0 v.2 (and_parts (on_kind s b.region b.op) (has_room v.0 (Forward u b)) asked).1
@@ -436,7 +391,7 @@ works s Y u b legal spelled w = grows s Y (Forward u b) refl legal w refl (λ t.
 
     added : (us : List Pending) (o : Option Undo) → MayBeUndo o → undoes b.op b.outcome o ≡ true → AllByRecursion (IsPendingIn s) us → AllByRecursion (IsPendingIn s) (us ++ undo_added b o)
     added us None m h all = subst (AllByRecursion (IsPendingIn s)) (sym (append-nil us)) all
-    added us (Some x) m h all = all_pushed (IsPendingIn s) us (pending b x) all (record {
+    added us (Some x) m h all = all_push (IsPendingIn s) us (pending b x) all (record {
       key = is.key;
       region = is.region;
       undo = m;
@@ -463,12 +418,12 @@ takes_back s Y u b legal w = grows s Y (Back u b) refl legal w refl (λ t. refl)
     fewer t false = w.undos t
 
     by_test : (t : ℕ) (k : Bool) → AllByRecursion (IsPendingIn s) (cond k (drop_last (undos_of t (last_epoch Y).records)) (undos_of t (last_epoch Y).records))
-    by_test t true = all_dropped (IsPendingIn s) (undos_of t (last_epoch Y).records) (w.each t)
+    by_test t true = all_drop_last (IsPendingIn s) (undos_of t (last_epoch Y).records) (w.each t)
     by_test t false = w.each t
 
 fitting : (s : Sizes) (L : List Record) → IsLegalFor s L → AreSpelled L → Fitting s L
 fitting s = by_push (λ Y. IsLegalFor s Y → AreSpelled Y → Fitting s Y) (λ legal spelled. fitting_none s [] refl) (λ Y r ih legal spelled.
-    step Y r legal (spelled (length Y) r (get_new Y r)) (ih (IsLegalFor-front s Y (r ∷ []) legal) (AreSpelled-front Y (r ∷ []) spelled)))
+    step Y r legal (spelled (length Y) r (get_push Y r)) (ih (IsLegalFor-front s Y (r ∷ []) legal) (AreSpelled-front Y (r ∷ []) spelled)))
   where
     step : (Y : List Record) (r : Record) → IsLegalFor s (Y ++ r ∷ []) → CanBeSpelled r → Fitting s Y → Fitting s (Y ++ r ∷ [])
     step Y (Format i j) legal c w = fitting_none s (Y ++ Format i j ∷ []) (none_now Y (Format i j) refl)
@@ -485,16 +440,9 @@ fitting s = by_push (λ Y. IsLegalFor s Y → AreSpelled Y → Fitting s Y) (λ 
     step Y (Back u b) legal c w = takes_back s Y u b legal w
 
 -- ---- the bytes of a table
-undo_most : (o : Option Undo) → undo_length o ≤ 50
-undo_most None = omega arith
-undo_most (Some (UndoFreeCell c)) = omega arith
-undo_most (Some (UndoReviveCell c)) = omega arith
-undo_most (Some (UndoRestore c n vs)) = omega arith
-undo_most (Some (UndoFreeEntry e)) = omega arith
-undo_most (Some (UndoReviveEntry e)) = omega arith
 
 pending_most : (s : Sizes) (u : Pending) → IsPendingIn s u → length (pending_bytes u) ≤ 62
-pending_most s u is = omega (arith, length-append (number64 u.key) (number32 u.region ++ undo_bytes (Some u.undo)), length-append (number32 u.region) (undo_bytes (Some u.undo)), number64_is_8 u.key, number32_is_4 u.region, length-undo (Some u.undo) is.undo, undo_most (Some u.undo))
+pending_most s u is = omega (arith, length-append (number64 u.key) (number32 u.region ++ undo_bytes (Some u.undo)), length-append (number32 u.region) (undo_bytes (Some u.undo)), length-number64 u.key, length-number32 u.region, length-undo (Some u.undo) is.undo, undo_most (Some u.undo))
 
 pendings_most : (s : Sizes) (us : List Pending) → AllByRecursion (IsPendingIn s) us → length (flat_map pending_bytes us) ≤ 62 * length us
 pendings_most s [] h = omega arith
@@ -506,11 +454,11 @@ row_most s row h le = omega (
   le,
   pendings_most s row.undos h,
   length-append (number64 row.txn) (flag_bytes row.is_committed ++ (number32 (length row.undos) ++ flat_map pending_bytes row.undos)),
-  number64_is_8 row.txn,
+  length-number64 row.txn,
   length-append (flag_bytes row.is_committed) (number32 (length row.undos) ++ flat_map pending_bytes row.undos),
   flag_is_1 row.is_committed,
   length-append (number32 (length row.undos)) (flat_map pending_bytes row.undos),
-  number32_is_4 (length row.undos),
+  length-number32 (length row.undos),
 )
   where
     flag_is_1 : (b : Bool) → length (flag_bytes b) ≡ 1
@@ -547,7 +495,7 @@ module _ (s : Sizes) (L : List Record) (legal : IsLegalFor s L) (spelled : AreSp
 
   rows_fit : (ts : List ℕ) → ((t : ℕ) → has ts t ≡ true → has (begun (last_epoch L).records) t ≡ true) → AllByRecursion (IsRowIn s (next_after L)) (map (row_of (last_epoch L).records) ts)
   rows_fit [] h = tt
-  rows_fit (t ∷ ts) h = (row_fits t (h t (or_left (t == t) (has ts t) (same_test t t refl))), rows_fit ts (λ u k. h u (or_right (t == u) (has ts u) k)))
+  rows_fit (t ∷ ts) h = (row_fits t (h t (or_left (t == t) (has ts t) (eq-eqb t t refl))), rows_fit ts (λ u k. h u (or_right (t == u) (has ts u) k)))
 
   rows_most : (ts : List ℕ) → length (flat_map row_bytes (map (row_of (last_epoch L).records) ts)) ≤ 16708009997 * length ts
   rows_most [] = omega arith
@@ -583,7 +531,7 @@ module _ (s : Sizes) (L : List Record) (legal : IsLegalFor s L) (spelled : AreSp
           next k l = let same : suc k + 1 ≡ suc (k + 1) = omega arith in subst (λ j. slice_index (y ∷ ys) k < slice_index (x ∷ y ∷ ys) j) same l
 
   whole : table_before (last_epoch L) (length L) ≡ map (row_of (last_epoch L).records) (filter (λ t. not (has (ended (last_epoch L).records) t)) (begun (last_epoch L).records))
-  whole = ap (λ P. map (row_of P) (filter (λ t. not (has (ended P) t)) (begun P))) (take_whole (length L - (last_epoch L).first) N (omega (arith, number_is L)))
+  whole = ap (λ P. map (row_of P) (filter (λ t. not (has (ended P) t)) (begun P))) (take_whole (length L - (last_epoch L).first) N (omega (arith, number_is_length L)))
     where
       take_whole : {X : Type 0} (k : ℕ) (xs : List X) → length xs ≤ k → take k xs ≡ xs
       take_whole zero [] h = refl
@@ -613,7 +561,7 @@ heads_fit s L h image legal spelled some is number place regions_are words = rec
   whole = regions_are;
   words = words;
   count = omega (arith, w.0);
-  size = omega (arith, length-append (number32 (length h.table)) (flat_map row_bytes h.table), number32_is_4 (length h.table), w.0, w.1);
+  size = omega (arith, length-append (number32 (length h.table)) (flat_map row_bytes h.table), length-number32 (length h.table), w.0, w.1);
   rows = subst (λ n. AllByRecursion (IsRowIn s n) h.table) (sym is.next) w.2;
   ascending = w.3;
 }
@@ -629,7 +577,7 @@ heads_fit s L h image legal spelled some is number place regions_are words = rec
     drawn_few = first_of L some legal
       where
         draws_few : (X : List Record) → length (filter_map draws X) ≤ length X
-        draws_few = by_push (λ X. length (filter_map draws X) ≤ length X) (omega arith) (λ X r here. omega (arith, here, length-push X r, ap length (filter_map-append draws X (r ∷ [])), length-append (filter_map draws X) (filter_map draws (r ∷ [])), one r))
+        draws_few = by_push (λ X. length (filter_map draws X) ≤ length X) (omega arith) (λ X r here. omega (arith, here, length_push X r, ap length (filter_map-append draws X (r ∷ [])), length-append (filter_map draws X) (filter_map draws (r ∷ [])), one r))
           where
             one : (r : Record) → length (filter_map draws (r ∷ [])) ≤ 1
             one (Format i j) = omega arith
@@ -686,7 +634,7 @@ kept_fits bases L c image runs number place regions_are words = heads_fit c.syst
     some = by_count runs.counts.now.count refl
       where
         by_count : (m : ℕ) → runs.counts.now.count ≡ m → 0 < length L
-        by_count zero e = absurd (both_ways (runs.counts.now.count == 0) runs.counts.some (same_test runs.counts.now.count 0 e))
+        by_count zero e = absurd (both_ways (runs.counts.now.count == 0) runs.counts.some (eq-eqb runs.counts.now.count 0 e))
         by_count (suc m) e = omega (arith, tally.0, e)
 
 -- ---- a front of the log
@@ -711,12 +659,12 @@ front_epoch L n from to = by_push (λ X. (last_epoch X).first ≤ n → n ≤ le
         D = last_epoch (X ++ r ∷ [])
 
         by_kind : (b : Bool) → separates r ≡ b → n < length (X ++ r ∷ []) → last_epoch (take n (X ++ r ∷ [])) ≡ record { first = (last_epoch (X ++ r ∷ [])).first; records = take (n - (last_epoch (X ++ r ∷ [])).first) (last_epoch (X ++ r ∷ [])).records }
-        by_kind true e lt = absurd (omega (arith, lt, from, number_is (X ++ r ∷ []), ap length (none_now X r e)))
+        by_kind true e lt = absurd (omega (arith, lt, from, number_is_length (X ++ r ∷ []), ap length (none_now X r e)))
         by_kind false e lt =
             let now : last_epoch (X ++ r ∷ []) ≡ record { first = (last_epoch X).first; records = (last_epoch X).records ++ r ∷ [] } = last_push X r e in
-            let le : n ≤ length X = omega (arith, lt, length-push X r) in
+            let le : n ≤ length X = omega (arith, lt, length_push X r) in
             let low : (last_epoch X).first ≤ n = omega (arith, from, ap (λ (z : Epoch). z.first) now) in
-            let within : n - (last_epoch X).first ≤ length (last_epoch X).records = omega (arith, le, number_is X) in
+            let within : n - (last_epoch X).first ≤ length (last_epoch X).records = omega (arith, le, number_is_length X) in
             ap last_epoch (take-append-le n X (r ∷ []) le)
             ∙ (ih low le
             ∙ (ap (λ E. record { first = (last_epoch X).first; records = E }) (sym (take-append-le (n - (last_epoch X).first) (last_epoch X).records (r ∷ []) within))
@@ -724,7 +672,7 @@ front_epoch L n from to = by_push (λ X. (last_epoch X).first ≤ n → n ≤ le
 
         by_size : (n < length (X ++ r ∷ [])) ⊎ (length (X ++ r ∷ []) ≤ n) → last_epoch (take n (X ++ r ∷ [])) ≡ record { first = (last_epoch (X ++ r ∷ [])).first; records = take (n - (last_epoch (X ++ r ∷ [])).first) (last_epoch (X ++ r ∷ [])).records }
         by_size (inl lt) = by_kind (separates r) refl lt
-        by_size (inr ge) = ap last_epoch (all_of n (X ++ r ∷ []) ge) ∙ ap (λ E. record { first = D.first; records = E }) (sym (all_of (n - D.first) D.records (omega (arith, ge, number_is (X ++ r ∷ [])))))
+        by_size (inr ge) = ap last_epoch (all_of n (X ++ r ∷ []) ge) ∙ ap (λ E. record { first = D.first; records = E }) (sym (all_of (n - D.first) D.records (omega (arith, ge, number_is_length (X ++ r ∷ [])))))
 
 -- behind its Format a log's last epoch doesn't begin at 0
 begins_late : (L : List Record) (i h : ℕ) → slice_get L 0 ≡ Some (Format i h) → 0 < (last_epoch L).first
@@ -809,17 +757,13 @@ words_told : (told : ℕ → List ℕ) (k n : ℕ) → ((r : ℕ) → r < k + n 
 words_told told k zero each = tt
 words_told told k (suc n) each = (each k (omega arith), words_told told (k + 1) n (λ r lt. each r (omega (arith, lt))))
 
-some_is : {X : Type 0} (o : Option X) → is_some o ≡ true → (x : X) × (o ≡ Some x)
-some_is None e = absurd (cc)
-some_is (Some x) e = (x, refl)
-
 pub next_fits : NextFits
 next_fits bases before st h run begun copied =
     stays_fitting bases before st h (image_in s st.told (target st)) run begun
     (omega (arith, kept.number, current_is_small bases before st run))
     (omega (arith, kept.weight, kept.short, end_within s st.log h.first h.place log kept.to (omega (arith, kept.weight, kept.short))))
     (length-map (range_with_len 0 (regions s)) (st.told (target st)) ∙ length-range_with_len 0 (regions s))
-    (words_told (st.told (target st)) 0 (regions s) (λ r lt. let k = some_is (st.copies (target st) r) (copied r (omega (arith, lt))) in run.written.copied (target st) r k.0 k.1))
+    (words_told (st.told (target st)) 0 (regions s) (λ r lt. let k = some_of_test (st.copies (target st) r) (copied r (omega (arith, lt))) in run.written.copied (target st) r k.0 k.1))
   where
     s : Sizes
     s = st.core.system.sizes

@@ -1,15 +1,13 @@
 -- The file of the next image, over a whole checkpoint.
-use Rattle.std.proofs.Common.{◌≡◌, ℕ, ◌+◌, ◌<◌, true, false, zero, suc, List, [], ◌∷◌, ◌++◌, length, take, drop, Some, refl, ap, sym, subst, ◌∙◌, arith, append_assoc, length-append}
-use Rattle.std.specs.Prelude.{slice_get, codes}
+use Rattle.std.proofs.Common.{◌≡◌, ℕ, ◌+◌, false, List, ◌++◌, length, take, drop, refl, ap, sym, subst, ◌∙◌, arith, append_assoc, length-append}
+use Rattle.std.specs.Prelude.{codes}
 use Rattle.std.proofs.lemmas.List.{drop_at, length-take-le}
 use Rattle.dali_geometry.specs.Sizes.{Sizes}
 use Rattle.dali_geometry.specs.Places.{regions}
 use Rattle.dali_bytes.specs.Fields.{number32, number64}
-use Rattle.dali_record.proofs.Lengths.{number32_is_4, number64_is_8}
+use Rattle.dali_bytes.proofs.Numbers.{length-number32, length-number64}
 use Rattle.dali_region.specs.declared.Side.{Side}
-use Rattle.dali_region.specs.declared.Side.TheVariants.{A, B}
 use Rattle.dali_store.specs.Store.{Files as Disk}
-use Rattle.dali_system.specs.ImageSteps.{same_side}
 use Rattle.dali_crash.specs.Checkpoints.{Head, Point, StoreStep, Does, Starts, Keeps, Copies, Skips, WritesHead, Syncs, Turns, CopyFails, HeadFails, SyncFails, TurnFails, Finishes, side_of, target, image_in, IsPointStep}
 use Rattle.dali_crash.proofs.StoreStarts.{store_goes}
 use Rattle.dali_traces.specs.Disks.{header_bytes, table_bytes, IsImageOf, image_file}
@@ -20,20 +18,20 @@ use Rattle.dali_traces.proofs.Places.{image_is_read, before_it, there, behind_it
 use Rattle.dali_traces.proofs.Bridges.{file_named}
 
 -- ---- the head
-eight_fields : (a b : List ℕ) (m n : ℕ) → length a ≡ m → length b ≡ n → length (a ++ b) ≡ m + n
+pub eight_fields : (a b : List ℕ) (m n : ℕ) → length a ≡ m → length b ≡ n → length (a ++ b) ≡ m + n
 eight_fields a b m n e f = length-append a b ∙ (ap (λ k. k + length b) e ∙ ap (λ k. m + k) f)
 
 pub header_is_64 : (s : Sizes) (h : Head) → length (header_bytes s h) ≡ 64
 header_is_64 s h =
     eight_fields (codes "DALIIMG1") _ 8 56 refl
-    (eight_fields (number32 s.index) _ 4 52 (number32_is_4 s.index)
-    (eight_fields (number32 s.heap) _ 4 48 (number32_is_4 s.heap)
-    (eight_fields (number64 h.number) _ 8 40 (number64_is_8 h.number)
-    (eight_fields (number64 h.place) _ 8 32 (number64_is_8 h.place)
-    (eight_fields (number64 h.first) _ 8 24 (number64_is_8 h.first)
-    (eight_fields (number64 h.weight) _ 8 16 (number64_is_8 h.weight)
-    (eight_fields (number64 h.next) _ 8 8 (number64_is_8 h.next)
-    (number64_is_8 (length (table_bytes h.table))))))))))
+    (eight_fields (number32 s.index) _ 4 52 (length-number32 s.index)
+    (eight_fields (number32 s.heap) _ 4 48 (length-number32 s.heap)
+    (eight_fields (number64 h.number) _ 8 40 (length-number64 h.number)
+    (eight_fields (number64 h.place) _ 8 32 (length-number64 h.place)
+    (eight_fields (number64 h.first) _ 8 24 (length-number64 h.first)
+    (eight_fields (number64 h.weight) _ 8 16 (length-number64 h.weight)
+    (eight_fields (number64 h.next) _ 8 8 (length-number64 h.next)
+    (length-number64 (length (table_bytes h.table))))))))))
 
 pub head_is_read : HeadIsRead
 head_is_read s h old mid new first inside second = record {
@@ -54,14 +52,6 @@ head_is_read s h old mid new first inside second = record {
     whole = second ∙ append_assoc (take (place_of (regions s)) mid) (table_bytes h.table) (drop (place_of (regions s) + length (table_bytes h.table)) mid)
 
 -- ---- steps
-pub there_is : {X : Type 0} (xs : List X) (r : ℕ) (x : X) → slice_get xs r ≡ Some x → r < length xs
-there_is [] r x e = absurd (cc)
-there_is (y ∷ xs) zero x e = omega arith
-there_is (y ∷ xs) (suc r) x e = omega (arith, there_is xs r x e)
-
-pub same_self : (a : Side) → same_side a a ≡ true
-same_self A = refl
-same_self B = refl
 
 -- sizes, side, words and head of the next image are as before
 pub record IsLike (p q : Point) : Type 0 where

@@ -1,7 +1,10 @@
 -- Image files over the steps of checkpoints.
 use Rattle.std.proofs.Common.{◌≡◌, ℕ, ◌+◌, ◌≤◌, ◌<◌, Bool, true, false, cond, List, ◌++◌, length, take, drop, Option, Some, None, is_some, refl, ap, sym, subst, ◌∙◌, inl, inr, ⊎_elim, ◌⊎◌, arith, take-append-drop, length-append, length-take, length-drop}
 use Rattle.std.specs.Prelude.{◌==◌, ◌&&◌, slice_get}
-use Rattle.std.proofs.lemmas.Bool.{cases_lt}
+use Rattle.std.proofs.lemmas.Bool.{cases_lt, eqb-true, eq-eqb}
+use Rattle.std.proofs.lemmas.Option.{slice_get_within}
+use Rattle.dali_lists.proofs.Options.{some_of_test}
+use Rattle.dali_lists.proofs.Tests.{left_true, right_true}
 use Rattle.dali_geometry.specs.Sizes.{Sizes}
 use Rattle.dali_geometry.specs.Places.{regions}
 use Rattle.dali_record.specs.declared.records.Record.{Record}
@@ -11,15 +14,15 @@ use Rattle.dali_region.specs.declared.Side.{Side}
 use Rattle.dali_region.specs.declared.Side.TheVariants.{A, B}
 use Rattle.dali_region.specs.State.{RegionState}
 use Rattle.dali_region.specs.Answers.{is_dirty}
-use Rattle.dali_counts.proofs.Lists.{equal, same_number, and_left, and_right}
 use Rattle.dali_store.specs.declared.store.FileName.TheVariants.{ImageA, ImageB}
 use Rattle.dali_store.specs.Store.{Files as Disk, SameBut, Holds}
 use Rattle.dali_system.specs.Run.{Bases, RunsOn, no_image}
 use Rattle.dali_system.specs.Images.{Told}
 use Rattle.dali_system.specs.ImageSteps.{same_side, told_with}
+use Rattle.dali_system.proofs.ImageSteps.{side_self}
 use Rattle.dali_crash.specs.Checkpoints.{Head, Copy, Point, StoreStep, Does, Starts, Keeps, Copies, Skips, WritesHead, Syncs, Turns, CopyFails, HeadFails, SyncFails, TurnFails, Finishes, IsPointStep, side_of, target, pass_copy, passes_region, copies_with, copy_at, head_with}
 use Rattle.dali_crash.specs.StoreRuns.{StoreRun}
-use Rattle.dali_crash.proofs.StoreRuns.{side_is, of_some}
+use Rattle.dali_crash.proofs.StoreRuns.{side_is, still_copied}
 use Rattle.dali_crash.proofs.StoreStarts.{store_goes}
 use Rattle.dali_traces.specs.Disks.{header_bytes, table_bytes, image_file, image_name}
 use Rattle.dali_traces.specs.Places.{place_of, SamePlace, ReadsHead, IsWrittenAt}
@@ -27,7 +30,7 @@ use Rattle.dali_traces.specs.Bridges.{is_image_write}
 use Rattle.dali_traces.specs.Images.{next_file, HeadStands}
 use Rattle.dali_traces.specs.NewFiles.{HasCopy, ReadsCopied, ReadsCopies, IsUnderWay, StartReads, QuietReads, HeaderReads, CopyReads, TableReads, HasPlaces, HeaderBegins, CopyContinues, SkipContinues, QuietContinues, TableEnds}
 use Rattle.dali_traces.proofs.Places.{before_it, there, behind_it, write_is_read}
-use Rattle.dali_traces.proofs.Images.{header_is_64, same_self, there_is, head_is_read, words_at, head_at}
+use Rattle.dali_traces.proofs.Images.{header_is_64, head_is_read, words_at, head_at}
 
 -- ---- one file of two
 -- what is so of the file that was written and of each that wasn't
@@ -54,10 +57,6 @@ longer old new bs at within holds =
 some_back : (b : Bool) (o : Option Copy) → is_some (pass_copy b o) ≡ true → is_some o ≡ true
 some_back b None e = absurd (cc)
 some_back b (Some k) e = refl
-
-some_on : (b : Bool) (o : Option Copy) → is_some o ≡ true → is_some (pass_copy b o) ≡ true
-some_on b None e = absurd (cc)
-some_on b (Some k) e = refl
 
 some_with : (b : Bool) (n : ℕ) (o : Option Copy) → is_some o ≡ true → is_some (cond b (Some (copy_at n)) o) ≡ true
 some_with true n o e = refl
@@ -96,8 +95,8 @@ quiet_copies p q (Skips r n) tells s quiet = record {
 
     by_test : (side : Side) (j : ℕ) (b : Bool) → (same_side side (target p) && (j == r)) ≡ b → is_some (cond b (Some (copy_at n)) (p.copies side j)) ≡ true → HasCopy p side j
     by_test side j true f e =
-        let side_same : side ≡ target p = side_is side (target p) (and_left (same_side side (target p)) (j == r) f) in
-        let region_same : j ≡ r = equal j r (and_right (same_side side (target p)) (j == r) f) in
+        let side_same : side ≡ target p = side_is side (target p) (left_true (same_side side (target p)) (j == r) f) in
+        let region_same : j ≡ r = eqb-true j r (right_true (same_side side (target p)) (j == r) f) in
         subst (λ a. is_some (p.copies a j) ≡ true) (sym side_same) (subst (λ i. is_some (p.copies (target p) i) ≡ true) (sym region_same) (tells (target p) r s.0 s.1 s.3))
     by_test side j false f e = e
 quiet_copies p q (WritesHead h) tells s quiet = absurd (cc)
@@ -111,7 +110,7 @@ quiet_copies p q Finishes tells s quiet = copies_stay p q (ap (λ (z : Point). z
 
 -- without a run, places that were written stay so
 quiet_more : (p q : Point) (x : StoreStep) → IsPointStep p x q → is_image_write x ≡ false → (side : Side) (r : ℕ) → HasCopy p side r → HasCopy q side r
-quiet_more p q (Does y) s quiet side r e = subst (λ (c : Side → ℕ → Option Copy). is_some (c side r) ≡ true) (sym (ap (λ (z : Point). z.copies) s.2)) (some_on (passes_region p.core y r) (p.copies side r) e)
+quiet_more p q (Does y) s quiet side r e = subst (λ (c : Side → ℕ → Option Copy). is_some (c side r) ≡ true) (sym (ap (λ (z : Point). z.copies) s.2)) (still_copied (passes_region p.core y r) (p.copies side r) e)
 quiet_more p q Starts s quiet side r e = subst (λ (z : Point). is_some (z.copies side r) ≡ true) (sym s.1) e
 quiet_more p q Keeps s quiet side r e = subst (λ (z : Point). is_some (z.copies side r) ≡ true) (sym s.4) e
 quiet_more p q (Copies k n) s quiet side r e = absurd (cc)
@@ -211,7 +210,7 @@ table_ends p q h old new step reads way table = record {
     heads = ap (λ (z : Point). z.heads) step.1
 
     here : head_with p.heads (target p) h (target p) ≡ h
-    here = ap (λ b. cond b h (p.heads (target p))) (same_self (target p))
+    here = ap (λ b. cond b h (p.heads (target p))) (side_self (target p))
 
     stands : HeadStands p.core.system.sizes h (next_file p old) (next_file p new)
     stands = head_is_read p.core.system.sizes h (next_file p old) (next_file p old) (next_file p new) again way.long table
@@ -222,7 +221,7 @@ module _ (bases : Bases) (before : List Record) (p : Point) (run : StoreRun base
   runs = subst (λ M. RunsOn bases M p.core) (sym run.run.log) run.run.run.runs
 
   count : (r : ℕ) (g : RegionState) → slice_get p.core.regions r ≡ Some g → r < regions p.core.system.sizes
-  count r g at = omega (arith, there_is p.core.regions r g at, runs.whole)
+  count r g at = omega (arith, slice_get_within p.core.regions r g at, runs.whole)
 
   module _ (q : Point) (r n : ℕ) (step : IsPointStep p (Copies r n) q) where
     g : RegionState
@@ -241,7 +240,7 @@ module _ (bases : Bases) (before : List Record) (p : Point) (run : StoreRun base
     copies = ap (λ (z : Point). z.copies) step.5
 
     back_is : q.told (target p) r ≡ step.0.back
-    back_is = ap (λ (t : Told). t (target p) r) told ∙ (ap (λ b. cond (b && (r == r)) step.0.back (p.told (target p) r)) (same_self (target p)) ∙ ap (λ b. cond b step.0.back (p.told (target p) r)) (same_number r r refl))
+    back_is = ap (λ (t : Told). t (target p) r) told ∙ (ap (λ b. cond (b && (r == r)) step.0.back (p.told (target p) r)) (side_self (target p)) ∙ ap (λ b. cond b step.0.back (p.told (target p) r)) (eq-eqb r r refl))
 
     size : length (q.told (target p) r) ≡ 64
     size = ap length back_is ∙ (runs.regions r step.0 step.1).protected.back_size
@@ -251,7 +250,7 @@ module _ (bases : Bases) (before : List Record) (p : Point) (run : StoreRun base
 
     copied_here : HasCopy q (target p) r
     copied_here = subst (λ (c : Side → ℕ → Option Copy). is_some (c (target p) r) ≡ true) (sym copies)
-        (ap (λ b. is_some (cond (b && (r == r)) (Some (copy_at n)) (p.copies (target p) r))) (same_self (target p)) ∙ ap (λ b. is_some (cond b (Some (copy_at n)) (p.copies (target p) r))) (same_number r r refl))
+        (ap (λ b. is_some (cond (b && (r == r)) (Some (copy_at n)) (p.copies (target p) r))) (side_self (target p)) ∙ ap (λ b. is_some (cond b (Some (copy_at n)) (p.copies (target p) r))) (eq-eqb r r refl))
 
     reads_behind : (old new : Disk) → SameBut (image_name (target p)) old new → place_of r ≤ length (next_file p old) → Holds (next_file p old) (place_of r) (words_bytes (q.told (target p) r)) (next_file p new) → ReadsCopies p old → ReadsCopies q new
     reads_behind old new same inside holds reads side j lt e = by_test (same_side side (target p) && (j == r)) refl
@@ -264,13 +263,13 @@ module _ (bases : Bases) (before : List Record) (p : Point) (run : StoreRun base
 
         elsewhere : (same_side side (target p) && (j == r)) ≡ false → SamePlace j (image_file side old) (image_file side new)
         elsewhere = at_side side (target p) old new (λ a b c. (same_side a (target p) && (j == r)) ≡ false → SamePlace j b c) same
-            (λ f. written.others j (ap (λ b. b && (j == r)) (sym (same_self (target p))) ∙ f))
+            (λ f. written.others j (ap (λ b. b && (j == r)) (sym (side_self (target p))) ∙ f))
             (λ a other file f. ap (λ b. take 512 (drop (place_of j) b)) file)
 
         by_test : (b : Bool) → (same_side side (target p) && (j == r)) ≡ b → take 512 (drop (place_of j) (image_file side new)) ≡ words_bytes (q.told side j)
         by_test true f =
-            let side_same : side ≡ target p = side_is side (target p) (and_left (same_side side (target p)) (j == r) f) in
-            let region_same : j ≡ r = equal j r (and_right (same_side side (target p)) (j == r) f) in
+            let side_same : side ≡ target p = side_is side (target p) (left_true (same_side side (target p)) (j == r) f) in
+            let region_same : j ≡ r = eqb-true j r (right_true (same_side side (target p)) (j == r) f) in
             subst (λ a. take 512 (drop (place_of j) (image_file a new)) ≡ words_bytes (q.told a j)) (sym side_same)
             (subst (λ i. take 512 (drop (place_of i) (next_file p new)) ≡ words_bytes (q.told (target p) i)) (sym region_same) written.here)
         by_test false f =
@@ -333,7 +332,7 @@ stands bytes r ws size reads = omega (arith, length-take 512 (drop (place_of r) 
 pub has_places : HasPlaces
 has_places bases before p fs run reads side r g at clear =
     let was : HasCopy p side r = run.written.clean side r g at clear in
-    let copy : (c : Copy) × (p.copies side r ≡ Some c) = of_some (p.copies side r) was in
+    let copy : (c : Copy) × (p.copies side r ≡ Some c) = some_of_test (p.copies side r) was in
     stands (image_file side fs) r (p.told side r) (run.written.copied side r copy.0 copy.1).0 (reads side r (count bases before p run r g at) was)
 
 pub skip_continues : SkipContinues

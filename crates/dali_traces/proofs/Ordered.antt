@@ -15,7 +15,7 @@ use Rattle.dali_traces.proofs.Places.{before_it, there}
 use Rattle.dali_traces.proofs.Images.{header_is_64}
 
 -- a write reaches its own end at least
-reaches : (old new bs : List ℕ) (at : ℕ) → at ≤ length old → Holds old at bs new → at + length bs ≤ length new
+pub reaches : (old new bs : List ℕ) (at : ℕ) → at ≤ length old → Holds old at bs new → at + length bs ≤ length new
 reaches old new bs at within holds =
     let size : length (take at old) ≡ at = length-take-le at old within in
     let whole : length new ≡ (length (take at old) + length bs) + length (drop (at + length bs) old) = ap length holds ∙ (length-append (take at old ++ bs) (drop (at + length bs) old) ∙ ap (λ m. m + length (drop (at + length bs) old)) (length-append (take at old) bs)) in

@@ -2,14 +2,13 @@
 use Rattle.std.proofs.Common.{◌≡◌, ℕ, zero, suc, ◌+◌, ◌<◌, ◌≤◌, Bool, true, false, List, ◌++◌, length, take, drop, refl, ap, sym, ◌∙◌, inl, inr, ⊎_elim, arith, append_assoc, length-append, length-take, length-drop, take-append-drop}
 use Rattle.std.specs.Prelude.{◌⊎◌, ◌==◌, map, flat_map}
 use Rattle.std.specs.List.{range_with_len}
-use Rattle.std.proofs.lemmas.Bool.{cases_lt}
+use Rattle.std.proofs.lemmas.Bool.{cases_lt, eq-eqb}
 use Rattle.std.proofs.lemmas.List.{drop-drop, drop_at, take_at, take-append-le, drop-append-le}
 use Rattle.std.proofs.lemmas.Slice.{drop-append-drop}
 use Rattle.dali_geometry.specs.Sizes.{Sizes}
 use Rattle.dali_geometry.specs.Places.{regions}
 use Rattle.dali_record.specs.Spelling.{words_bytes}
 use Rattle.dali_record.proofs.Lengths.{words_are_8}
-use Rattle.dali_counts.proofs.Lists.{same_number}
 use Rattle.dali_store.specs.Store.{Holds}
 use Rattle.dali_traces.specs.Disks.{header_bytes, table_bytes}
 use Rattle.dali_crash.specs.Checkpoints.{Head}
@@ -98,7 +97,7 @@ write_is_read s old new r ws inside count within holds = record {
     other q (inr more) = ap (take 512) (behind_it old new (words_bytes ws) (place_of r) within holds (place_of q) (omega (arith, more, long)))
 
     apart : (q : ℕ) → (q == r) ≡ false → (q < r) ⊎ (r < q)
-    apart q e = ⊎_elim (λ lt. inl lt) (λ ge. ⊎_elim (λ gt. inr gt) (λ le. absurd (clash (same_number q r (omega (arith, ge, le))) e)) (cases_lt r q)) (cases_lt q r)
+    apart q e = ⊎_elim (λ lt. inl lt) (λ ge. ⊎_elim (λ gt. inr gt) (λ le. absurd (clash (eq-eqb q r (omega (arith, ge, le))) e)) (cases_lt r q)) (cases_lt q r)
       where
         clash : {b : Bool} → b ≡ true → b ≡ false → ⊥
         clash g h = cc

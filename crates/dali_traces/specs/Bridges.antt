@@ -2,7 +2,9 @@
 -- one over real files, may leave anything: so no premise here can be met of it, and that real files behave like
 -- a store that tells is trusted.
 --     TracedTo start B p F     the crash image F came along steps from this start to the point p, and while the vault runs it has the batches B
---     LeavesRightAt start p F  F has the first records of the log, among them those that are flushed; it fits, and restarts right
+--     InsideOf start p x F     it came so to p, and then inside the step x
+--     ComesTo start p F        it came so to p, or inside a next step
+--     LeavesRightAt start p F  F came so, and has the first records of the log, among them those that are flushed; it fits, and restarts right
 --     AreRight                 each disk that a crash may leave spells such files, where it spells files that came so
 --     IsRightNow               so does what reads give, where it is told
 --     HaveOneLog               while the vault runs, the logs of these disks are one row of batches, which ends where the vault says
@@ -17,7 +19,7 @@
 --     IsRestartedBy, RestartStarts     so it is behind a restart
 --     GoesOnBy, StopsBy, IsRightIn     what a call that flushes makes of these: on Ok, in any case, and at each moment of it
 --     TurnsBy, TurnStopsBy, TurnIsRightIn      what a call that moves the anchor makes of them
-use Rattle.std.specs.Prelude.{◌≡◌, ℕ, ◌≤◌, ◌<◌, ◌^◌, Bool, true, false, List, [], ◌∷◌, ◌++◌, length, sum_by, Some, Option, IfSome}
+use Rattle.std.specs.Prelude.{◌≡◌, ◌⊎◌, ℕ, ◌≤◌, ◌<◌, ◌^◌, Bool, true, false, List, [], ◌∷◌, ◌++◌, length, sum_by, Some, Option, IfSome}
 use Rattle.dali_record.specs.declared.records.Record.{Record}
 use Rattle.dali_record.specs.declared.records.Record.TheVariants.{Format, Restarted}
 use Rattle.dali_record.specs.Spelling.{CanBeSpelled, spelling, record_length}
@@ -50,7 +52,18 @@ pub record TracedTo (s : Start) (B : List (List Record)) (p : Point) (F : Files)
   -- whichever steps it came along, until the vault stops
   pub batches : p.core.vault.stopped ≡ false → F.batches ≡ B
 
+-- the crash image F came so inside the step
+pub record InsideOf (s : Start) (p : Point) (x : StoreStep) (F : Files) : Type 0 where
+  pub batches : List (List Record)
+  pub was : Files
+  pub traced : TracedTo s batches p was
+  pub inside : Inside p x was F
+
+abbrev pub ComesTo : Start → Point → Files → Type 0
+ComesTo s p F = ((B : List (List Record)) × TracedTo s B p F) ⊎ ((x : StoreStep) × (q : Point) × IsPointStep p x q × InsideOf s p x F)
+
 pub record LeavesRightAt (s : Start) (p : Point) (F : Files) : Type 0 where
+  pub came : ComesTo s p F
   pub prefix : IsPrefix p.log (stable p.core) F
   pub right : LeavesRight (bases_of s) s.log p.core F
 
@@ -121,13 +134,6 @@ module _ (old : Disk → Type 0) where
   WriteIsRight =
       (s : Start) (B : List (List Record)) (p : Point) → AllSpell old (TracedTo s B p) → p.core.vault.stopped ≡ false
       → AllSpell (λ c. (d : Disk) × old d × SameBut (image_name (target p)) d c) (LeavesRightAt s p)
-
--- the crash image F came so inside the step
-pub record InsideOf (s : Start) (p : Point) (x : StoreStep) (F : Files) : Type 0 where
-  pub batches : List (List Record)
-  pub was : Files
-  pub traced : TracedTo s batches p was
-  pub inside : Inside p x was F
 
 -- `since` is what a crash at some moment inside a step might have left
 module _ (since : Disk → Type 0) where

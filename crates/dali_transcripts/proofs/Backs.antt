@@ -1,9 +1,9 @@
 -- What a call takes back, among its deeds.
 use Rattle.std.proofs.Common.{◌≡◌, ℕ, true, false, List, [], ◌∷◌, ◌++◌, sym, ◌∙◌}
 use Rattle.std.specs.List.{AllByRecursion}
+use Rattle.dali_lists.proofs.Members.{all_append}
 use Rattle.dali_transcripts.specs.Moves.{Receipt}
 use Rattle.dali_transcripts.specs.Causes.{IsNoOperation, is_taking_back, StaysBack}
-use Rattle.dali_transcripts.proofs.Lists.{all_append}
 
 -- nothing was taken back
 pub none_stays : (t : ℕ) (xs : List Receipt) → AllByRecursion (λ x. is_taking_back t x ≡ false) xs → StaysBack t xs

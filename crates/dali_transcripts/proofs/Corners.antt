@@ -8,7 +8,7 @@ use Rattle.dali_record.specs.declared.records.Record.TheVariants.{Begin, Commit,
 use Rattle.dali_region.specs.State.{RegionState, IsLive, loaded}
 use Rattle.dali_system.specs.declared.causes.Cause.TheVariants.{Damage}
 use Rattle.dali_transcripts.specs.Words.{Begins as BeginAct, Calls, Commits as CommitAct, Aborts as AbortAct, Audits as AuditAct, Checkpoints as CheckpointAct, StoppedBy, Full}
-use Rattle.dali_transcripts.specs.World.{Logs, log_of, log_at, state_step, stray_after}
+use Rattle.dali_transcripts.specs.World.{Logs, log_of, log_at, state_step, lock_step, stray_after}
 use Rattle.dali_transcripts.specs.Moves.{Outside, LeftOut, Move, Begins, IsRefusedBegin, Skips, Aborts, Pokes, Audits, IsRefusedCheckpoint, at}
 use Rattle.dali_transcripts.specs.Causes.{IsFull}
 use Rattle.dali_transcripts.specs.Transcripts.{IsSoFar, deeds_of, AreTranscripts}
@@ -16,7 +16,7 @@ use Rattle.dali_transcripts.specs.Rounds.{PokesTell, VerdictsTell, IsAtRest, IsB
 use Rattle.dali_transcripts.specs.Worked.{index_words, heap_words}
 use Rattle.dali_transcripts.specs.Corners.{happened, told_1, told_2, blocks, lines_1, lines_2, world, CornersRun}
 use Rattle.dali_transcripts.proofs.Verdicts.{begin_is, ends_at, found_is}
-use Rattle.dali_transcripts.proofs.Ends.{grew_from, no_row, all_ended, none_claimed, none_failed, not_live, strays_same}
+use Rattle.dali_transcripts.proofs.Ends.{grew_from, no_row, all_ended, all_freed, none_claimed, none_failed, not_live, strays_same}
 
 moves_1 : List Move
 moves_1 =
@@ -146,6 +146,11 @@ ended zero = refl
 ended (suc zero) = refl
 ended (suc (suc t)) = let a : (1 == suc (suc t)) ≡ false = ne_eqb 1 (suc (suc t)) (λ e. absurd (omega (arith, e))) in rw a refl
 
+freed : (t k : ℕ) → fold (lock_step t k) None happened ≡ None
+freed zero k = refl
+freed (suc zero) k = refl
+freed (suc (suc t)) k = let a : (1 == suc (suc t)) ≡ false = ne_eqb 1 (suc (suc t)) (λ e. absurd (omega (arith, e))) in rw a refl
+
 rests : IsAtRest world.core
 rests = record { stopped = λ e. let no : false ≡ true = e in absurd (cc); holds = holds; flag = refl; free = none_claimed world.core.system refl }
 
@@ -174,6 +179,7 @@ corners_run = record {
       pokes = strays;
       verdicts = verdict;
       states = all_ended world refl refl ended;
+      locks = all_freed world refl freed;
       faults = none_failed world refl refl refl refl refl;
       refusals = refl;
       room = refl;

@@ -46,7 +46,6 @@ module _ (w : World) (c : ℕ) where
   asides_silent t (x ∷ xs) h = one_silent x xs (aside_silent t x h.0) (asides_silent t xs h.1)
 
   asking_silent : (t : ℕ) (call : Call) (x : Receipt) → IsAsking w c t call x → line_of_deed x ≡ None
-  asking_silent t call (n, GetsLock u k m) h = refl
   asking_silent t call (n, FindsDead f) h = refl
   asking_silent t call x h = aside_silent t x h
 
@@ -57,6 +56,7 @@ module _ (w : World) (c : ℕ) where
 
   work_silent : (t : ℕ) (call : Call) (x : Receipt) → IsWork w c t call x → line_of_deed x ≡ None
   work_silent t call (n, Logs y) h = refl
+  work_silent t call (n, GetsLock u k m) h = refl
   work_silent t call x h = asking_silent t call x h
 
   works_silent : (t : ℕ) (call : Call) (xs : List Receipt) → AreWork w c t call xs → Silent xs

@@ -1,14 +1,17 @@
 -- What the worked rounds leave: nothing that was there is lost, the table is as the deeds leave it, and no hold is live.
 use Rattle.std.proofs.Common.{◌≡◌, ℕ, ◌≤◌, Bool, true, false, List, [], Option, Some, None, refl, ap, sym, subst, ◌∙◌}
-use Rattle.std.specs.Prelude.{IsSome, IsSomeAnd, is_some, fold, not}
+use Rattle.std.specs.Prelude.{◌==◌, IsSome, IsSomeAnd, is_some, fold, not, take}
 use Rattle.std.specs.List.{list_all}
 use Rattle.std.specs.Ordering.{nat_cmp}
 use Rattle.std.specs.FinMap.{get, empty, get-empty}
 use Rattle.dali_region.specs.declared.Hold.{Hold}
 use Rattle.dali_region.specs.State.{RegionState, IsLive}
-use Rattle.dali_system.specs.State.{SystemState, row_of, state_in, state_of, stable}
+use Rattle.dali_locks.specs.declared.mode.Mode.{Mode}
+use Rattle.dali_locks.specs.Locks.{lock_cmp}
+use Rattle.dali_system.specs.State.{SystemState, row_of, state_in, state_of, lock_of, stable}
 use Rattle.dali_transcripts.specs.Words.{StoreFailed}
-use Rattle.dali_transcripts.specs.World.{Meets, Happening, World, state_step, state_after, is_claimed_in, has_failed, stray_after, poked_after, Grows}
+use Rattle.dali_transcripts.specs.World.{Meets, Happening, World, state_step, state_after, lock_step, lock_after, IsNoWeaker, is_claimed_in, has_failed, stray_after, poked_after, Grows}
+use Rattle.dali_transcripts.specs.Causes.{IsGrantable}
 use Rattle.dali_transcripts.specs.Rounds.{FaultsTell}
 use Rattle.dali_transcripts.proofs.Lists.{none_in}
 use Rattle.dali_transcripts.proofs.Verdicts.{never}
@@ -41,6 +44,19 @@ no_row y e t h = let no : false ≡ true = sym (ap (λ m. is_some (get m t)) e �
 pub all_ended : (w : World) → w.old.system.table ≡ empty → w.core.system.table ≡ empty → ((t : ℕ) → fold (state_step t) None w.happened ≡ None)
     → (t : ℕ) → state_of w.core.system t ≡ state_after w w.happened t
 all_ended w old new ended t = no_state w.core.system new t ∙ sym (ap (λ o. fold (state_step t) o w.happened) (no_state w.old.system old t) ∙ ended t)
+
+-- ---- locks
+pub told_locks : (w : World) → w.old.system.locks ≡ empty → (xs : List Happening) (t k : ℕ) → lock_after w xs t k ≡ fold (lock_step t k) None xs
+told_locks w old xs t k = ap (λ o. fold (lock_step t k) o xs) (ap (λ m. get m (t, k)) old ∙ get-empty lock_cmp (t, k))
+
+-- where each lock of these deeds was given back
+pub all_freed : (w : World) → w.old.system.locks ≡ empty → ((t k : ℕ) → fold (lock_step t k) None w.happened ≡ None) → (t k : ℕ) → IsNoWeaker (lock_of w.core.system t k) (lock_after w w.happened t k)
+all_freed w old freed t k = subst (IsNoWeaker (lock_of w.core.system t k)) (sym (told_locks w old w.happened t k ∙ freed t k)) tt
+
+-- where no other transaction has one of this key
+pub none_in_the_way : (w : World) (i t k : ℕ) (m : Mode) → w.old.system.locks ≡ empty → ((u : ℕ) → (t == u) ≡ false → fold (lock_step u k) None (take i w.happened) ≡ None) → IsGrantable w i t k m
+none_in_the_way w i t k m old none u n other held =
+    let no : None ≡ Some n = sym (told_locks w old (take i w.happened) u k ∙ none u other) ∙ held in absurd (cc)
 
 pub none_claimed : (y : SystemState) → y.table ≡ empty → (t : ℕ) → is_claimed_in (state_of y t) ≡ false
 none_claimed y e t = ap is_claimed_in (no_state y e t)

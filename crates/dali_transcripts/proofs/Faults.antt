@@ -14,9 +14,9 @@ use Rattle.dali_system.specs.declared.causes.Cause.TheVariants.{Store}
 use Rattle.dali_system.specs.State.{row_of, state_in, state_of}
 use Rattle.dali_transcripts.specs.Words.{Begins as BeginAct, Calls, Commits as CommitAct, Aborts as AbortAct, Checkpoints as CheckpointAct, StoppedBy, Damaged, StoreFailed, UnderWay}
 use Rattle.dali_locks.specs.declared.mode.Mode.TheVariants.{Exclusive}
-use Rattle.dali_transcripts.specs.World.{Logs, DiesOn, GetsLock, Meets, Happening, log_at, state_step, is_claimed_in, stray_after}
+use Rattle.dali_transcripts.specs.World.{Logs, DiesOn, GetsLock, Meets, Happening, log_at, state_step, lock_step, is_claimed_in, stray_after}
 use Rattle.dali_transcripts.specs.Moves.{Outside, Move, Begins, IsRefusedBegin, Skips, IsRefusedCall, Commits, CommitFails, StaysOpen, Pokes, Checkpoints, IsRefusedCheckpoint, at}
-use Rattle.dali_transcripts.specs.Causes.{IsDamaged, IsUnderWay}
+use Rattle.dali_transcripts.specs.Causes.{IsDamaged, IsUnderWay, IsGrantable}
 use Rattle.dali_transcripts.specs.Transcripts.{IsSoFar, deeds_of, AreTranscripts}
 use Rattle.dali_transcripts.specs.Rounds.{PokesTell, VerdictsTell, FaultsTell, PrecheckTells, IsAtRest, IsBetween}
 use Rattle.dali_transcripts.specs.Worked.{index_words, heap_words, look, put, insert_a}
@@ -26,7 +26,7 @@ use Rattle.dali_transcripts.proofs.Looks.{looks_now}
 use Rattle.dali_transcripts.proofs.Locked.{keeps_locks}
 use Rattle.dali_transcripts.proofs.Worked.{puts_a}
 use Rattle.dali_transcripts.proofs.Verdicts.{begin_is, ends_at, found_is, never, only_at}
-use Rattle.dali_transcripts.proofs.Ends.{fails, grew_from, no_state, not_live, strays_same}
+use Rattle.dali_transcripts.proofs.Ends.{fails, grew_from, no_state, all_freed, none_in_the_way, not_live, strays_same}
 
 moves_1 : List Move
 moves_1 =
@@ -66,6 +66,7 @@ so_1 = record {
           tt,
           λ e us. append-nil us,
           tt,
+          (tt, λ e. tt),
         ),
         (refl, (omega arith, (inl refl, tt)), refl),
       ),
@@ -185,6 +186,14 @@ none_claimed (suc (suc (suc (suc t)))) =
     let b : (2 == suc (suc (suc (suc t)))) ≡ false = ne_eqb 2 (suc (suc (suc (suc t)))) (λ e. absurd (omega (arith, e))) in
     let d : (3 == suc (suc (suc (suc t)))) ≡ false = ne_eqb 3 (suc (suc (suc (suc t)))) (λ e. absurd (omega (arith, e))) in rw (a, b, d) refl
 
+freed : (t k : ℕ) → fold (lock_step t k) None happened ≡ None
+freed zero k = refl
+freed (suc zero) k = refl
+freed (suc (suc t)) k = let a : (1 == suc (suc t)) ≡ false = ne_eqb 1 (suc (suc t)) (λ e. absurd (omega (arith, e))) in rw a refl
+
+free_1 : IsGrantable world 10 1 5 Exclusive
+free_1 = none_in_the_way world 10 1 5 Exclusive refl (λ u other. refl)
+
 state_is : (t : ℕ) → state_of world.core.system t ≡ fold (state_step t) None happened
 state_is t = ap state_in (row_is t) ∙ kept t
 
@@ -244,13 +253,14 @@ faults_run = record {
     log = refl;
     transcripts = transcripts;
     receipts_are = refl;
-    right = (tt, ((CheckpointAct, None, under_way_1), (refl, (refl, (tt, (tt, (tt, (refl, (refl, (refl, (tt, (refl, ((Calls insert_a, Some 1, damaged_1), (refl, (refl, (refl, (tt, ((BeginAct, None, (tt, refl)), ((BeginAct, None, (tt, refl)), tt)))))))))))))))))));
+    right = (tt, ((CheckpointAct, None, under_way_1), (refl, (refl, (tt, (tt, (tt, (refl, (refl, (refl, ((refl, refl, free_1), (refl, ((Calls insert_a, Some 1, damaged_1), (refl, (refl, (refl, (tt, ((BeginAct, None, (tt, refl)), ((BeginAct, None, (tt, refl)), tt)))))))))))))))))));
     together = record {
       spans = (refl, (refl, tt));
       anchors = (refl, refl);
       pokes = strays;
       verdicts = verdict;
       states = λ t. state_is t ∙ sym (ap (λ o. fold (state_step t) o happened) (no_state world.old.system refl t));
+      locks = all_freed world refl freed;
       faults = failed;
       refusals = refl;
       room = refl;

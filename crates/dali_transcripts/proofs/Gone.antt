@@ -4,7 +4,7 @@ use Rattle.std.specs.Prelude.{if◌then◌else◌}
 use Rattle.std.proofs.lemmas.List.Concat.{flat_map-cons}
 use Rattle.dali_transcripts.specs.Words.{Act, Said, closes}
 use Rattle.dali_transcripts.specs.World.{World}
-use Rattle.dali_transcripts.specs.Moves.{Place, Outside, Again, LeftOut, Gone, Spot, Ending, TakenBack, LeftBehind, Move, Begins, BeginsAgain, IsRefusedBegin, Skips, Rests, Answers, IsRefusedCall, Dies, IsArmed, GivesWay, GivesUp, Commits, CommitFails, IsRefusedCommit, Aborts, IsRefusedAbort, Ends, StaysOpen, Pokes, PokesNothing, Audits, IsRefusedAudit, Checkpoints, FailsCheckpoint, IsRefusedCheckpoint, from, said, own, to, at, end_line}
+use Rattle.dali_transcripts.specs.Moves.{Place, Outside, Again, LeftOut, Gone, Spot, Ending, TakenBack, LeftBehind, Move, Begins, BeginsAgain, IsRefusedBegin, Skips, Rests, Answers, IsRefusedCall, Dies, IsArmed, GivesWay, GivesUp, from, said, own, to, at, end_line}
 use Rattle.dali_transcripts.specs.Causes.{HasCause, MayBegin}
 use Rattle.dali_transcripts.specs.Transcripts.{IsPath, said_by, own_by}
 use Rattle.dali_transcripts.specs.Laws.{GoneIsSilent, FewTries, TriesAreFew, behind_died, NothingAfterDied}
@@ -44,29 +44,12 @@ skips_few s act false = tt
 few : (w : World) (c : ℕ) (x : Move) → HasCause w c x → FewTries (from x).place → FewTries (to x).place
 few w c (Begins t n rest) h old = omega arith
 few w c (BeginsAgain t n tries held rest) h old = old
-few w c (IsRefusedBegin place s n why rest) h old = tt
 few w c (Skips s act rest) h old = skips_few s act (closes act)
-few w c (Rests t act rest) h old = tt
 few w c (Answers t tries cs d xs n call a rest) h old = old
 few w c (IsRefusedCall t tries cs d s xs n ys call why rest) h old = old
-few w c (Dies t tries cs d xs n r call rest) h old = tt
 few w c (IsArmed t tries cs d s count rest) h old = old
 few w c (GivesWay t tries cs d xs call f ys end rest) h old = h.4
-few w c (GivesUp t tries cs d xs call f ys end rest) h old = tt
-few w c (Commits t tries cs d n xs rest) h old = tt
-few w c (CommitFails t tries cs d n m why rest) h old = tt
-few w c (IsRefusedCommit t tries cs d s n why rest) h old = tt
-few w c (Aborts t tries cs d xs n rest) h old = tt
-few w c (IsRefusedAbort t tries cs d s xs n why rest) h old = tt
-few w c (Ends t tries cs d xs n) h old = tt
-few w c (StaysOpen t tries cs d s xs n z) h old = tt
-few w c (Pokes s n r word m rest) h old = tt
-few w c (PokesNothing s r word m rest) h old = tt
-few w c (Audits b n rs failed rest) h old = tt
-few w c (IsRefusedAudit s xs n why rest) h old = tt
-few w c (Checkpoints since b n m until current rest) h old = tt
-few w c (FailsCheckpoint since b n until r rs failed rest) h old = tt
-few w c (IsRefusedCheckpoint s span late xs n why rest) h old = tt
+few w c _ h old = tt
 
 all_few : (w : World) (c : ℕ) (p : Spot) (xs : List Move) (q : Spot) → FewTries p.place → IsPath w c p xs q → FewTries q.place
 all_few w c p [] q old path = subst (λ (s : Spot). FewTries s.place) path old

@@ -4,6 +4,8 @@ use Rattle.std.specs.Prelude.{fold, slice_get, take, sum_by}
 use Rattle.std.proofs.lemmas.List.{append-nil, append_assoc}
 use Rattle.std.proofs.lemmas.List.Elements.{filter_map-append}
 use Rattle.std.proofs.lemmas.Option.{slice_get_within}
+use Rattle.dali_lists.proofs.Lists.{get_front, get_behind}
+use Rattle.dali_lists.proofs.Members.{all_map}
 use Rattle.dali_counts.proofs.Lists.{length-push}
 use Rattle.dali_geometry.specs.Places.{regions}
 use Rattle.dali_record.specs.declared.operations.Block.{Block}
@@ -12,21 +14,16 @@ use Rattle.dali_record.specs.declared.records.Record.{Record}
 use Rattle.dali_record.specs.declared.records.Record.TheVariants.{Commit, Forward, Back, Ended, Solo, AuditBegin, AuditClean, AuditFail}
 use Rattle.dali_record.specs.Epochs.{last_epoch}
 use Rattle.dali_record.specs.Spelling.{record_length}
+use Rattle.dali_locks.specs.declared.mode.Mode.{Mode}
 use Rattle.dali_system.specs.declared.refusals.Refusal.{Refusal}
 use Rattle.dali_system.specs.Run.{failed_first}
-use Rattle.dali_system.specs.State.{CoreState, state_of}
+use Rattle.dali_system.specs.State.{CoreState, state_of, lock_of}
 use Rattle.dali_transcripts.specs.Words.{Act, Begins as BeginAct, Calls, Commits as CommitAct, Aborts as AbortAct, Audits as AuditAct, Checkpoints as CheckpointAct, Why, StoppedBy, Full, Damaged, StoreFailed, UnderWay}
-use Rattle.dali_transcripts.specs.World.{Deed, Logs, DiesOn, Claims, GivesBack, GetsLock, Yields, FindsDead, Meets, Happening, World, record_of, logged_by, log_of, log_at, IsLogged, IsFlushed, IsLost, IsUncommitted, HasDone, state_step, state_after, state_at, is_dead_in, is_claimed_in, HasDiedBy, HasEndedBy, has_failed, cause_of, claimer_step, claimer_at, HasGot, stop_at, under_way, stray_after, Grows}
+use Rattle.dali_transcripts.specs.World.{Deed, Logs, DiesOn, Claims, GivesBack, GetsLock, Yields, FindsDead, Meets, Happening, World, record_of, logged_by, log_of, log_at, IsLogged, IsFlushed, IsLost, IsUncommitted, HasDone, state_step, state_after, state_at, is_dead_in, is_claimed_in, HasDiedBy, HasEndedBy, has_failed, cause_of, claimer_step, claimer_at, HasGot, lock_step, lock_after, lock_at, stop_at, under_way, stray_after, Grows}
 use Rattle.dali_transcripts.specs.Moves.{Receipt, Place, Outside, Within, Again, Spot, Ending, TakenBack, LeftBehind, operations, Move, Begins, BeginsAgain, IsRefusedBegin, Skips, Rests, Answers, IsRefusedCall, Dies, IsArmed, GivesWay, GivesUp, Commits, CommitFails, IsRefusedCommit, Aborts, IsRefusedAbort, Ends, StaysOpen, Pokes, PokesNothing, Audits, IsRefusedAudit, Checkpoints, FailsCheckpoint, IsRefusedCheckpoint, to}
-use Rattle.dali_transcripts.specs.Causes.{IsAnothers, GoesOn, IsRoomFor, limit_of, IsFull, IsDamaged, IsDamagedIn, IsUnderWayIn, IsCause, MetCause, IsCleaning, IsUntouched, HasClaimed, LetsGo, HasGivenBack, HasFoundDead, IsCleanUp, IsAside, AreAside, IsAsking, AreAsking, IsWork, AreWork, IsTried, AreTried, IsBehind, AreBehind, IsCutAudit, IsCutBy, IsAlone, Survives, DiesIn, GetsBusy, WaitsNoMore, FindsFailure, IsEnd, IsCutAside, IsCutWork, IsUnanswered, IsTurnedBack, IsGivingWay, AreUnfinished, HasCause, IsRight, AreRightFrom}
+use Rattle.dali_transcripts.specs.Causes.{IsGrantable, IsHindered, GoesOn, IsRoomFor, limit_of, IsFull, IsDamaged, IsDamagedIn, IsUnderWayIn, IsCause, MetCause, IsCleaning, IsUntouched, HasClaimed, LetsGo, HasGivenBack, HasFoundDead, IsCleanUp, IsAside, AreAside, IsAsking, AreAsking, IsWork, AreWork, IsTried, AreTried, IsBehind, AreBehind, IsCutAudit, IsCutBy, IsAlone, Survives, DiesIn, GetsBusy, WaitsNoMore, FindsFailure, IsEnd, IsCutAside, IsCutWork, IsUnanswered, IsTurnedBack, IsGivingWay, AreUnfinished, HasCause, IsRight, AreRightFrom}
 use Rattle.dali_transcripts.specs.Transcripts.{IsPath}
 use Rattle.dali_transcripts.specs.Laws.{RightGoesOn, WorldGoesOn}
-use Rattle.dali_transcripts.proofs.Lists.{all_map}
-
-get_front : {X : Type 0} (A B : List X) (i : ℕ) (x : X) → slice_get A i ≡ Some x → slice_get (A ++ B) i ≡ Some x
-get_front [] B i x e = absurd (cc)
-get_front (y ∷ A) B zero x e = e
-get_front (y ∷ A) B (suc i) x e = get_front A B i x e
 
 pub get_back : {X : Type 0} (A B : List X) (i : ℕ) (x : X) → i < length A → slice_get (A ++ B) i ≡ Some x → slice_get A i ≡ Some x
 get_back [] B i x h e = absurd (omega (arith, h))
@@ -37,10 +34,6 @@ take_front : {X : Type 0} (A B : List X) (i : ℕ) (x : X) → slice_get A i ≡
 take_front [] B i x e = absurd (cc)
 take_front (y ∷ A) B zero x e = refl
 take_front (y ∷ A) B (suc i) x e = ap (λ l. y ∷ l) (take_front A B i x e)
-
-at_seam : {X : Type 0} (front : List X) (x : X) (rest : List X) → slice_get (front ++ x ∷ rest) (length front) ≡ Some x
-at_seam [] x rest = refl
-at_seam (y ∷ ys) x rest = at_seam ys x rest
 
 module _ (v w : World) (g : Grows v w) where
   -- the log, and the log before a place
@@ -80,6 +73,12 @@ module _ (v w : World) (g : Grows v w) where
   -- what is so before a place stays
   pub states : (i : ℕ) (x : Happening) (t : ℕ) → slice_get v.happened i ≡ Some x → state_at w i t ≡ state_at v i t
   states i x t e = ap (λ l. state_after w l t) (taken i x e) ∙ ap (λ o. fold (state_step t) o (take i v.happened)) (old_state t)
+
+  old_lock : (t k : ℕ) → lock_of w.old.system t k ≡ lock_of v.old.system t k
+  old_lock t k = ap (λ (c : CoreState). lock_of c.system t k) g.old
+
+  pub locks : (i : ℕ) (x : Happening) (t k : ℕ) → slice_get v.happened i ≡ Some x → lock_at w i t k ≡ lock_at v i t k
+  locks i x t k e = ap (λ l. lock_after w l t k) (taken i x e) ∙ ap (λ o. fold (lock_step t k) o (take i v.happened)) (old_lock t k)
 
   pub claimers : (i : ℕ) (x : Happening) (t : ℕ) → slice_get v.happened i ≡ Some x → claimer_at w i t ≡ claimer_at v i t
   claimers i x t e = ap (fold (claimer_step t) None) (taken i x e)
@@ -150,7 +149,6 @@ module _ (v w : World) (g : Grows v w) where
   asides c t xs h = all_map (IsAside v c t) (IsAside w c t) (aside c t) xs h
 
   pub asking : (c t : ℕ) (call : Call) (x : Receipt) → IsAsking v c t call x → IsAsking w c t call x
-  asking c t call (n, GetsLock u key mode) h = h
   asking c t call (n, FindsDead f) h = found_dead c n t call f h
   asking c t call x h = aside c t x h
 
@@ -159,6 +157,7 @@ module _ (v w : World) (g : Grows v w) where
 
   pub work : (c t : ℕ) (call : Call) (x : Receipt) → IsWork v c t call x → IsWork w c t call x
   work c t call (n, Logs (Forward u b)) h = h
+  work c t call (n, GetsLock u key mode) h = h
   work c t call x h = asking c t call x h
 
   pub works : (c t : ℕ) (call : Call) (xs : List Receipt) → AreWork v c t call xs → AreWork w c t call xs
@@ -300,9 +299,9 @@ module _ (v w : World) (g : Grows v w) where
   has_cause c (IsRefusedBegin place s n why rest) h = (h.0, met c n BeginAct None why h.1, waits_no_more place n why h.2)
   has_cause c (Skips s act rest) h = tt
   has_cause c (Rests t act rest) h = tt
-  has_cause c (Answers t tries cs d xs n call a rest) h = (works c t call xs h.0, h.1, h.2)
-  has_cause c (IsRefusedCall t tries cs d s xs n ys call why rest) h = (all_tried c t call xs h.0, (met c n (Calls call) (Some t) why h.1.0, survives c n t call d (operations t xs) why h.1.0 h.1.1), asides c t ys h.2, h.3, h.4)
-  has_cause c (Dies t tries cs d xs n r call rest) h = (works c t call xs h.0, h.1, dies c n t r call h.2)
+  has_cause c (Answers t tries cs d xs n call a rest) h = (works c t call xs h.0, h.1, h.2, h.3)
+  has_cause c (IsRefusedCall t tries cs d s xs n ys call why rest) h = (all_tried c t call xs h.0, (met c n (Calls call) (Some t) why h.1.0, survives c n t call d (operations t xs) why h.1.0 h.1.1), asides c t ys h.2, h.3, h.4, h.5)
+  has_cause c (Dies t tries cs d xs n r call rest) h = (works c t call xs h.0, h.1, dies c n t r call h.2, h.3)
   has_cause c (IsArmed t tries cs d s count rest) h = tt
   has_cause c (GivesWay t tries cs d xs call f ys end rest) h = (askings c t call xs h.0, busy c t call f h.1, asides c t ys h.2, end_is c t call end h.3, h.4)
   has_cause c (GivesUp t tries cs d xs call f ys end rest) h = (askings c t call xs h.0, busy c t call f h.1, asides c t ys h.2, end_is c t call end h.3, h.4)
@@ -331,7 +330,7 @@ module _ (v w : World) (g : Grows v w) where
   cut_work c t call x h = work c t call x h
 
   pub unanswered : (c t : ℕ) (d : Option ℕ) (call : Call) (xs : List Receipt) → IsUnanswered v c t d call xs → IsUnanswered w c t d call xs
-  unanswered c t d call xs h = record { work = all_map (IsCutWork v c t call) (IsCutWork w c t call) (cut_work c t call) xs h.work; spared = h.spared; older = h.older }
+  unanswered c t d call xs h = record { work = all_map (IsCutWork v c t call) (IsCutWork w c t call) (cut_work c t call) xs h.work; spared = h.spared; asks = h.asks; older = h.older }
 
   pub turned_back : (c t : ℕ) (d : Option ℕ) (call : Call) (xs : List Receipt) → IsTurnedBack v c t d call xs → IsTurnedBack w c t d call xs
   turned_back c t d call xs h = record {
@@ -342,6 +341,7 @@ module _ (v w : World) (g : Grows v w) where
     is = h.is;
     tried = all_tried c t call h.work h.tried;
     stays = h.stays;
+    granted = h.granted;
     cause = met c h.at (Calls call) (Some t) h.why h.cause;
     survives = survives c h.at t call d (operations t h.work) h.why h.cause h.survives;
     no_stop = h.no_stop;
@@ -370,9 +370,17 @@ module _ (v w : World) (g : Grows v w) where
   unfinished c (Outside s) (CheckpointAct ∷ rest) xs h = h
   unfinished c place rest xs h = h
 
-  anothers : (c i t k : ℕ) (x : Happening) → slice_get v.happened i ≡ Some x → IsAnothers v c i t k → IsAnothers w c i t k
-  anothers c i t k x e (inl dead) = inl (ap is_dead_in (old_state t) ∙ dead)
-  anothers c i t k x e (inr h) = inr (h.0, h.1, subst (λ xs. HasGot xs h.0 t k) (sym (taken i x e)) h.2)
+  hindered : (c i : ℕ) (f : Refusal) (x : Happening) → slice_get v.happened i ≡ Some x → IsHindered v c i f → IsHindered w c i f
+  hindered c i f x e h = record {
+    mode = h.mode;
+    holds = locks i x f.holder f.key e ∙ h.holds;
+    clash = h.clash;
+    by_another = ⊎_elim (λ dead. inl (ap is_dead_in (old_state f.holder) ∙ dead)) (λ got. inr (got.0, got.1, got.2, subst (λ xs. HasGot xs got.0 f.holder f.key got.1) (sym (taken i x e)) got.3)) h.by_another;
+    unclaimed = λ own. ap is_claimed_in (states i x f.holder e) ∙ h.unclaimed (sym (claimers i x f.holder e) ∙ own);
+  }
+
+  grantable : (i t k : ℕ) (m : Mode) (x : Happening) → slice_get v.happened i ≡ Some x → IsGrantable v i t k m → IsGrantable w i t k m
+  grantable i t k m x e free u n other held = free u n other (sym (locks i x u k e) ∙ held)
 
   -- each deed by itself
   pub right : (c i : ℕ) (x : Deed) → slice_get v.happened i ≡ Some (x, c) → IsRight v c i x → IsRight w c i x
@@ -381,7 +389,8 @@ module _ (v w : World) (g : Grows v w) where
   right c i (Logs x) e h = stops i _ e ∙ h
   right c i (Claims u) e h = ap is_dead_in (states i _ u e) ∙ h
   right c i (GivesBack u latched) e h = (h.0, states i _ u e ∙ h.1, h.2, claimers i _ u e ∙ h.3)
-  right c i (Yields f) e h = (h.0 ∙ ap length (sym (log_at_is i _ e)), ap is_dead_in (states i _ f.holder e) ∙ h.1, stops i _ e ∙ h.2, anothers c i f.holder f.key _ e h.3)
+  right c i (GetsLock t k m) e h = (states i _ t e ∙ h.0, stops i _ e ∙ h.1, grantable i t k m _ e h.2)
+  right c i (Yields f) e h = (h.0 ∙ ap length (sym (log_at_is i _ e)), ap is_dead_in (states i _ f.holder e) ∙ h.1, stops i _ e ∙ h.2, hindered c i f _ e h.3)
   right c i (FindsDead f) e h = (h.0 ∙ ap length (sym (log_at_is i _ e)), ap is_dead_in (states i _ f.holder e) ∙ h.1, stops i _ e ∙ h.2)
   right c i (Meets StoreFailed) e h = tt
   right c i (Meets why) e h = (h.0, h.1, cause c i h.0 h.1 why _ e h.2)
@@ -393,7 +402,7 @@ module _ (v w : World) (g : Grows v w) where
       let end : i ≡ length v.happened = at ∙ ap length (sym (is ∙ append-nil front)) in
       subst (λ k. AreRightFrom w k g.more) (sym end) more
   rights front (x ∷ rest) i at is h more =
-      let here : slice_get v.happened i ≡ Some x = ap (slice_get v.happened) at ∙ (ap (λ l. slice_get l (length front)) is ∙ at_seam front x rest) in
+      let here : slice_get v.happened i ≡ Some x = ap (slice_get v.happened) at ∙ (ap (λ l. slice_get l (length front)) is ∙ get_behind front x rest) in
       let next : i + 1 ≡ length (front ++ x ∷ []) = ap (λ k. k + 1) at ∙ sym (length-push front x) in
       (right x.1 i x.0 here h.0, rights (front ++ x ∷ []) rest (i + 1) next (is ∙ sym (append_assoc front (x ∷ []) rest)) h.1 more)
 

@@ -10,6 +10,7 @@ use Rattle.dali_system.specs.State.{CoreState, VaultState, stable}
 use Rattle.dali_system.specs.Steps.{stop_by_audit, stopped_by}
 use Rattle.dali_system.specs.Flushes.{frame_of, longer}
 use Rattle.dali_system.specs.Courses.{Step, Begins, Operates, TakesBack, Frees, Answers, Commits, Ends, AuditBegins, AuditEnds, Locks, Refuses, OnRegion, Passes, Dies, Claims, GivesBack, Recovers, Stops, Checkpoints, Takes, Flushes, Faults, ReadFails, IsStep, Moment, IsCourse}
+use Rattle.dali_system.proofs.Flushes.{longer_stopped}
 use Rattle.dali_transcripts.specs.World.{Happening, Grows}
 use Rattle.dali_transcripts.specs.Grown.{world_of, StepsGrow, CoursesGrow}
 use Rattle.dali_transcripts.specs.Laws.{GrowsOn}
@@ -27,7 +28,7 @@ record Onward (c d : CoreState) : Type 0 where
 audit_stop : (found : List ℕ) (o : Option Cause) (cause : Cause) → o ≡ None → o ≡ Some cause → stop_by_audit found o ≡ Some cause
 audit_stop found o cause none some = let no : None ≡ Some cause = sym none ∙ some in absurd (cc)
 
-keeps_stop : (o : Option Cause) (cause : Cause) → o ≡ Some cause → stopped_by o ≡ Some cause
+pub keeps_stop : (o : Option Cause) (cause : Cause) → o ≡ Some cause → stopped_by o ≡ Some cause
 keeps_stop None cause e = absurd (cc)
 keeps_stop (Some c) cause e = e
 
@@ -45,10 +46,6 @@ plain c d sizes limit first stop refusals vault =
       stop = λ z e. stop ∙ e;
       refusals = λ f h. rw refusals h;
     }
-
-longer_stopped : (v : VaultState) (frame : List Record) → (longer v frame).stopped ≡ v.stopped
-longer_stopped v [] = refl
-longer_stopped v (r ∷ rs) = refl
 
 longer_flushed : (v : VaultState) (frame : List Record) → v.flushed ≤ (longer v frame).flushed
 longer_flushed v [] = omega arith

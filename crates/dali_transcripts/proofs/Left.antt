@@ -3,6 +3,7 @@ use Rattle.std.proofs.Common.{◌≡◌, ℕ, zero, suc, Bool, true, false, List
 use Rattle.std.specs.Prelude.{◌+◌, ◌==◌, if◌then◌else◌, Contains, IsSome, filter_map, fold, slice_get, take}
 use Rattle.std.specs.List.{list_all}
 use Rattle.std.proofs.lemmas.List.{length-append}
+use Rattle.dali_lists.proofs.Members.{contains_first}
 use Rattle.dali_counts.proofs.Lists.{equal, some_same}
 use Rattle.dali_record.proofs.Chains.{and_true}
 use Rattle.dali_record.specs.declared.records.Record.TheVariants.{Begin, Commit, Ended}
@@ -16,7 +17,6 @@ use Rattle.dali_transcripts.specs.Moves.{Receipt}
 use Rattle.dali_transcripts.specs.Transcripts.{IsTranscript, deeds_of, Told, is_among, EachTells}
 use Rattle.dali_transcripts.specs.Laws.{deed_told, line_of_deed}
 use Rattle.dali_transcripts.specs.Left.{LeftHaveDied}
-use Rattle.dali_transcripts.proofs.Lists.{first_in}
 use Rattle.dali_transcripts.proofs.Deeds.{deeds_are_told}
 use Rattle.dali_transcripts.proofs.Owned.{each_is_owned}
 
@@ -104,7 +104,7 @@ deeds_died (y ∷ ys) n t r (suc k, below, is) = one_more y ys (deeds_died ys n 
 from_died : (lines : List Said) → some_died lines ≡ true → Contains lines Died
 unfolding some_died
 from_died [] e = absurd (cc)
-from_died (Died ∷ lines) e = first_in Died lines
+from_died (Died ∷ lines) e = contains_first Died lines
 from_died (line ∷ lines) e = let h = from_died lines e in (suc h.0, omega (arith, h.1), h.2)
 
 says_so : (w : World) (c : ℕ) (acts : List Act) (lines : List Said) (n t r : ℕ) → IsTranscript w c acts lines (deeds_of w c) → Contains (deeds_of w c) (n, DiesOn t r) → Contains lines Died

@@ -1,5 +1,6 @@
 pub mod Lists
 pub mod Backs
+pub mod Grants
 pub mod Paths
 pub mod Owned
 pub mod Growing

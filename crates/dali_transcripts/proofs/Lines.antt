@@ -2,7 +2,8 @@
 use Rattle.std.proofs.Common.{ℕ, List, [], ◌∷◌, ◌++◌, Option, Some, None, refl, sym, subst, arith}
 use Rattle.std.specs.Prelude.{Contains}
 use Rattle.std.proofs.lemmas.List.Concat.{flat_map-cons}
-use Rattle.std.proofs.lemmas.List.Elements.{Contains-append_left, Contains-append_right}
+use Rattle.std.proofs.lemmas.List.Elements.{Contains-append_left, Contains-append_right, Contains-push}
+use Rattle.dali_lists.proofs.Members.{all_append, contains_first}
 use Rattle.dali_record.specs.declared.records.Call.{Call}
 use Rattle.dali_record.specs.declared.records.Record.TheVariants.{Ended}
 use Rattle.dali_system.specs.declared.refusals.Refusal.{Refusal}
@@ -13,7 +14,7 @@ use Rattle.dali_transcripts.specs.Causes.{MetCause, IsEnd, HasCause}
 use Rattle.dali_transcripts.specs.Transcripts.{IsPath, said_by, own_by}
 use Rattle.dali_transcripts.specs.Table.{TellsRefused, Tells, AllTell}
 use Rattle.dali_transcripts.specs.Laws.{LinesTell, OkIsFlushed}
-use Rattle.dali_transcripts.proofs.Lists.{all_append, all_get, first_in, last_in}
+use Rattle.dali_transcripts.proofs.Lists.{all_get}
 
 Within : List Receipt → List Receipt → Type 0
 Within xs ys = (y : Receipt) → Contains xs y → Contains ys y
@@ -25,7 +26,7 @@ module _ (w : World) (c : ℕ) (did : List Receipt) where
 
   ended : (t : ℕ) (call : Call) (xs : List Receipt) (end : Ending) → IsEnd w c t call end → Within (xs ++ end_own t end) did → Tells w c did (end_line end)
   unfolding Within
-  ended t call xs (TakenBack n) h sub = (t, n, sub _ (last_in xs (n, Logs (Ended t))), h)
+  ended t call xs (TakenBack n) h sub = (t, n, sub _ (Contains-push xs (n, Logs (Ended t))), h)
   ended t call xs (LeftBehind n z) h sub = (Calls call, Some t, n, z, h)
 
   -- as the row has it
@@ -34,25 +35,25 @@ module _ (w : World) (c : ℕ) (did : List Receipt) where
 
   one_tells : (x : Move) → HasCause w c x → Within (own x) did → AllTell w c did (said x)
   unfolding Within
-  one_tells (Begins t n rest) h sub = ((n, sub _ (first_in _ [])), tt)
-  one_tells (BeginsAgain t n tries held rest) h sub = ((n, sub _ (first_in _ [])), tt)
+  one_tells (Begins t n rest) h sub = ((n, sub _ (contains_first _ [])), tt)
+  one_tells (BeginsAgain t n tries held rest) h sub = ((n, sub _ (contains_first _ [])), tt)
   one_tells (IsRefusedBegin place s n why rest) h sub = (refused n BeginAct None why h.1, tt)
   one_tells (Skips s act rest) h sub = tt
   one_tells (Rests t act rest) h sub = tt
-  one_tells (Answers t tries cs d xs n call a rest) h sub = ((t, n, sub _ (last_in xs _)), tt)
+  one_tells (Answers t tries cs d xs n call a rest) h sub = ((t, n, sub _ (Contains-push xs _)), tt)
   one_tells (IsRefusedCall t tries cs d s xs n ys call why rest) h sub = (refused n (Calls call) (Some t) why h.1.0, tt)
-  one_tells (Dies t tries cs d xs n r call rest) h sub = ((t, r, n, sub _ (last_in xs _)), tt)
+  one_tells (Dies t tries cs d xs n r call rest) h sub = ((t, r, n, sub _ (Contains-push xs _)), tt)
   one_tells (IsArmed t tries cs d s count rest) h sub = tt
   one_tells (GivesWay t tries cs d xs call f ys end rest) h sub = (busy_ended t call f xs ys end h.3 sub, tt)
   one_tells (GivesUp t tries cs d xs call f ys end rest) h sub = ((t, call, f, h.1, refl), (busy_ended t call f xs ys end h.3 sub, tt))
-  one_tells (Commits t tries cs d n xs rest) h sub = ((t, n, sub _ (first_in _ xs), h.0), tt)
-  one_tells (CommitFails t tries cs d n m why rest) h sub = ((t, n, sub _ (first_in _ ((m, Meets why) ∷ [])), h.0), tt)
+  one_tells (Commits t tries cs d n xs rest) h sub = ((t, n, sub _ (contains_first _ xs), h.0), tt)
+  one_tells (CommitFails t tries cs d n m why rest) h sub = ((t, n, sub _ (contains_first _ ((m, Meets why) ∷ [])), h.0), tt)
   one_tells (IsRefusedCommit t tries cs d s n why rest) h sub = (refused n CommitAct (Some t) why h, tt)
-  one_tells (Aborts t tries cs d xs n rest) h sub = ((t, n, sub _ (last_in xs _), h.1), tt)
+  one_tells (Aborts t tries cs d xs n rest) h sub = ((t, n, sub _ (Contains-push xs _), h.1), tt)
   one_tells (IsRefusedAbort t tries cs d s xs n why rest) h sub = (refused n AbortAct (Some t) why h.1, tt)
-  one_tells (Ends t tries cs d xs n) h sub = ((t, n, sub _ (last_in xs _), h.1), tt)
+  one_tells (Ends t tries cs d xs n) h sub = ((t, n, sub _ (Contains-push xs _), h.1), tt)
   one_tells (StaysOpen t tries cs d s xs n z) h sub = ((AbortAct, Some t, n, z, h.1), tt)
-  one_tells (Pokes s n r word m rest) h sub = ((n, r, word, m, sub _ (first_in _ [])), tt)
+  one_tells (Pokes s n r word m rest) h sub = ((n, r, word, m, sub _ (contains_first _ [])), tt)
   one_tells (PokesNothing s r word m rest) h sub = (tt, tt)
   one_tells (Audits b n rs None rest) h sub = ((b, n, sub _ (1, omega arith, refl), h), tt)
   one_tells (Audits b n rs (Some m) rest) h sub = ((b, n, sub _ (1, omega arith, refl), h), tt)

@@ -1,8 +1,7 @@
 -- Each record of a transaction that a line has to tell is told by one line, in order.
-use Rattle.std.proofs.Common.{◌≡◌, ℕ, ◌<◌, ◌≤◌, Bool, true, false, List, [], ◌∷◌, ◌++◌, Option, Some, None, refl, ap, sym, subst, ◌∙◌, ⊎_elim}
-use Rattle.std.specs.Prelude.{filter_map, nat_lt, option_to_list, if◌then◌else◌, ◌||◌, ◌+◌, ◌==◌}
-use Rattle.std.proofs.lemmas.Bool.{le-ltb}
-use Rattle.std.proofs.lemmas.Bool.Decides.{Decides-ltb}
+use Rattle.std.proofs.Common.{◌≡◌, ℕ, Bool, true, false, List, [], ◌∷◌, ◌++◌, Option, Some, None, refl, ap, sym, subst, ◌∙◌, ⊎_elim}
+use Rattle.std.specs.Prelude.{filter_map, option_to_list, if◌then◌else◌, ◌||◌, ◌+◌, ◌==◌}
+use Rattle.std.proofs.lemmas.Bool.{le-ltb, lt-ltb}
 use Rattle.std.proofs.lemmas.List.Concat.{flat_map-cons}
 use Rattle.std.proofs.lemmas.List.Elements.{filter_map-append}
 use Rattle.std.proofs.lemmas.List.{append-nil, append_assoc}
@@ -18,12 +17,6 @@ use Rattle.dali_transcripts.specs.Causes.{IsCleanUp, IsAside, AreAside, IsAsking
 use Rattle.dali_transcripts.specs.Transcripts.{IsPath, IsSoFar, IsBeingSaid, said_by, own_by, line_told, is_own, line_of, txn_after, txn_behind, lines_of_records}
 use Rattle.dali_transcripts.specs.Laws.{LinesAreRecords, CutLinesAreRecords}
 use Rattle.dali_transcripts.proofs.Paths.{one_more_step}
-
-is_flushed : (n m : ℕ) → n < m → nat_lt n m ≡ true
-is_flushed n m h = (Decides-ltb n m).1 h
-
-is_waiting : (n m : ℕ) → m ≤ n → nat_lt n m ≡ false
-is_waiting n m h = le-ltb n m h
 
 -- some records leave the client in the same transaction, and no line tells them
 abbrev AreQuiet : World → Option ℕ → List Receipt → Type 0
@@ -80,12 +73,10 @@ module _ (w : World) (c : ℕ) where
   asides_quiet t (x ∷ xs) h = one_quiet (Some t) x (aside_told t x h.0) (aside_in t x h.0) xs (asides_quiet t xs h.1)
 
   asking_told : (t : ℕ) (call : Call) (x : Receipt) → IsAsking w c t call x → line_of (stable w.core) (Some t) x ≡ None
-  asking_told t call (n, GetsLock u k m) h = refl
   asking_told t call (n, FindsDead f) h = refl
   asking_told t call x h = aside_told t x h
 
   asking_in : (t : ℕ) (call : Call) (x : Receipt) → IsAsking w c t call x → txn_after (Some t) x ≡ Some t
-  asking_in t call (n, GetsLock u k m) h = refl
   asking_in t call (n, FindsDead f) h = refl
   asking_in t call x h = aside_in t x h
 
@@ -95,10 +86,12 @@ module _ (w : World) (c : ℕ) where
 
   work_told : (t : ℕ) (call : Call) (x : Receipt) → IsWork w c t call x → line_of (stable w.core) (Some t) x ≡ None
   work_told t call (n, Logs (Forward u b)) h = refl
+  work_told t call (n, GetsLock u k m) h = refl
   work_told t call x h = asking_told t call x h
 
   work_in : (t : ℕ) (call : Call) (x : Receipt) → IsWork w c t call x → txn_after (Some t) x ≡ Some t
   work_in t call (n, Logs (Forward u b)) h = refl
+  work_in t call (n, GetsLock u k m) h = refl
   work_in t call x h = asking_in t call x h
 
   works_quiet : (t : ℕ) (call : Call) (xs : List Receipt) → AreWork w c t call xs → AreQuiet w (Some t) xs
@@ -246,8 +239,8 @@ module _ (w : World) (c : ℕ) where
   one_owes (IsArmed t tries cs d s count rest) o h i = (refl, i)
   one_owes (GivesWay t tries cs d xs call f ys end rest) o h i = rw i (busy_owes t call xs ys (end_own t end) f (end_line end ∷ []) (Again (tries + 1) f.holder (is_open end)) h.0 h.2 (gave_way t end (Again (tries + 1) f.holder (is_open end)) anywhere))
   one_owes (GivesUp t tries cs d xs call f ys end rest) o h i = rw i (busy_owes t call xs ys (end_own t end) f (Busy f.holder ∷ end_line end ∷ []) (Outside (is_open end)) h.0 h.2 (gave_up t f.holder end (Outside (is_open end)) anywhere))
-  one_owes (Commits t tries cs d n xs rest) o h i = let q = behinds_quiet t xs h.1 in (rw (is_flushed n (stable w.core) h.0, q.0) refl, tt)
-  one_owes (CommitFails t tries cs d n m why rest) o h i = let lost = h.0 in (rw (is_waiting n (stable w.core) lost.1) refl, tt)
+  one_owes (Commits t tries cs d n xs rest) o h i = let q = behinds_quiet t xs h.1 in (rw (lt-ltb n (stable w.core) h.0, q.0) refl, tt)
+  one_owes (CommitFails t tries cs d n m why rest) o h i = let lost = h.0 in (rw (le-ltb n (stable w.core) lost.1) refl, tt)
   one_owes (IsRefusedCommit t tries cs d s n why rest) o h i = quietly o (Refused CommitAct why) ((n, Meets why) ∷ []) (Outside true) (untold n CommitAct (Some t) why h) (refl, refl) tt
   one_owes (Aborts t tries cs d xs n rest) o h i = rw i (behind_quiet t xs ((n, Logs (Ended t)) ∷ []) (AbortOk ∷ []) (Outside false) (asides_quiet t xs h.0) (ended t n AbortOk (Outside false) refl anywhere))
   one_owes (IsRefusedAbort t tries cs d s xs n why rest) o h i = rw i (quietly (Some t) (Refused AbortAct why) (xs ++ (n, Meets why) ∷ []) (Outside true) (untold n AbortAct (Some t) why h.1) (met_quiet (Some t) n why xs [] (asides_quiet t xs h.0) (refl, refl)) tt)

@@ -2,11 +2,12 @@
 use Rattle.std.proofs.Common.{◌≡◌, ℕ, Bool, true, false, List, [], ◌∷◌, ◌++◌, Option, Some, None, refl}
 use Rattle.std.specs.Prelude.{not, ◌&&◌}
 use Rattle.std.specs.List.{list_all}
+use Rattle.std.proofs.lemmas.Bool.{and_from}
 use Rattle.dali_record.specs.declared.records.Call.{Call}
 use Rattle.dali_record.specs.declared.records.Record.TheVariants.{Back, Ended, Solo, AuditBegin, AuditClean, AuditFail}
 use Rattle.dali_system.specs.declared.refusals.Refusal.{Refusal}
 use Rattle.dali_transcripts.specs.Words.{Why, StoppedBy, Full, Damaged, StoreFailed, UnderWay}
-use Rattle.dali_transcripts.specs.World.{Logs, Claims, GivesBack, GetsLock, Yields, FindsDead, EndsCheckpoint, Meets, World}
+use Rattle.dali_transcripts.specs.World.{Logs, Claims, GivesBack, Yields, FindsDead, EndsCheckpoint, Meets, World}
 use Rattle.dali_transcripts.specs.Moves.{Receipt, Ending, TakenBack, LeftBehind, IsRefusedCall, Answers, Dies, GivesWay, GivesUp, Commits, CommitFails, Aborts, IsRefusedAbort, Ends, StaysOpen, Audits, IsRefusedAudit, FailsCheckpoint, IsRefusedCheckpoint, end_own, spanned, refused_own}
 use Rattle.dali_transcripts.specs.Causes.{IsAside, AreAside, IsAsking, AreAsking, IsBehind, AreBehind, IsCutAudit, IsCutBy}
 use Rattle.dali_transcripts.specs.Laws.{is_forward, OperationsAreTold}
@@ -14,7 +15,7 @@ use Rattle.dali_transcripts.specs.Laws.{is_forward, OperationsAreTold}
 abbrev none : List Receipt → Bool
 none xs = list_all (λ (y : Receipt). not (is_forward y)) xs
 
-split : (a b c : Bool) → (a && b) ≡ true → (b ≡ true → c ≡ true) → (a && c) ≡ true
+pub split : (a b c : Bool) → (a && b) ≡ true → (b ≡ true → c ≡ true) → (a && c) ≡ true
 split true b c e f = f e
 split false b c e f = absurd (cc)
 
@@ -30,7 +31,6 @@ aside_none w c t (n, GivesBack u latched) h = refl
 aside_none w c t x h = absurd h
 
 asking_none : (w : World) (c t : ℕ) (call : Call) (x : Receipt) → IsAsking w c t call x → not (is_forward x) ≡ true
-asking_none w c t call (n, GetsLock u k m) h = refl
 asking_none w c t call (n, FindsDead f) h = refl
 asking_none w c t call x h = aside_none w c t x h
 
@@ -43,20 +43,17 @@ behind_none w c t (n, Claims u) h = refl
 behind_none w c t (n, GivesBack u latched) h = refl
 behind_none w c t x h = absurd h
 
-both : (a b : Bool) → a ≡ true → b ≡ true → (a && b) ≡ true
-both a b e f = rw (e, f) refl
-
 asides_none : (w : World) (c t : ℕ) (xs : List Receipt) → AreAside w c t xs → none xs ≡ true
 asides_none w c t [] h = refl
-asides_none w c t (x ∷ xs) h = both (not (is_forward x)) (none xs) (aside_none w c t x h.0) (asides_none w c t xs h.1)
+asides_none w c t (x ∷ xs) h = and_from (not (is_forward x)) (none xs) (aside_none w c t x h.0) (asides_none w c t xs h.1)
 
 askings_none : (w : World) (c t : ℕ) (call : Call) (xs : List Receipt) → AreAsking w c t call xs → none xs ≡ true
 askings_none w c t call [] h = refl
-askings_none w c t call (x ∷ xs) h = both (not (is_forward x)) (none xs) (asking_none w c t call x h.0) (askings_none w c t call xs h.1)
+askings_none w c t call (x ∷ xs) h = and_from (not (is_forward x)) (none xs) (asking_none w c t call x h.0) (askings_none w c t call xs h.1)
 
 behinds_none : (w : World) (c t : ℕ) (xs : List Receipt) → AreBehind w c t xs → none xs ≡ true
 behinds_none w c t [] h = refl
-behinds_none w c t (x ∷ xs) h = both (not (is_forward x)) (none xs) (behind_none w c t x h.0) (behinds_none w c t xs h.1)
+behinds_none w c t (x ∷ xs) h = and_from (not (is_forward x)) (none xs) (behind_none w c t x h.0) (behinds_none w c t xs h.1)
 
 cut_none : (w : World) (later : Bool) (xs : List Receipt) → IsCutAudit w later xs → none xs ≡ true
 cut_none w later [] h = refl

@@ -1,8 +1,9 @@
 -- The deeds of one client among those of a round.
 use Rattle.std.proofs.Common.{sym, zero, ◌≡◌, ℕ, suc, ◌+◌, ◌≤◌, Bool, true, false, List, [], ◌∷◌, ◌++◌, length, Option, Some, None, refl, ap, subst, ◌∙◌, arith}
-use Rattle.std.specs.Prelude.{Contains, ◌==◌, slice_get, take}
+use Rattle.std.specs.Prelude.{Contains, ◌==◌, take}
 use Rattle.std.specs.List.{AllByRecursion}
 use Rattle.std.proofs.lemmas.List.{append_assoc}
+use Rattle.dali_lists.proofs.Lists.{get_behind}
 use Rattle.dali_counts.proofs.Lists.{self, equal, some_same, length-push}
 use Rattle.dali_record.specs.declared.records.Record.{Record}
 use Rattle.dali_transcripts.specs.World.{Deed, Logs, Strays, DiesOn, Claims, GivesBack, GetsLock, Yields, FindsDead, StartsCheckpoint, MovesAnchor, EndsCheckpoint, Meets, Happening, logged_by}
@@ -42,17 +43,7 @@ others_go_on c d n (y ∷ ys) x other = ap (λ l. owned_one (y.1 == c) (n, y.0) 
 -- ---- their numbers
 count_above : (n : ℕ) (x : Deed) → n ≤ count_with n x
 count_above n (Logs x) = omega arith
-count_above n (Strays r word mask) = omega arith
-count_above n (DiesOn t r) = omega arith
-count_above n (Claims u) = omega arith
-count_above n (GivesBack u o) = omega arith
-count_above n (Yields f) = omega arith
-count_above n (GetsLock u k m) = omega arith
-count_above n (FindsDead f) = omega arith
-count_above n StartsCheckpoint = omega arith
-count_above n (MovesAnchor k) = omega arith
-count_above n EndsCheckpoint = omega arith
-count_above n (Meets why) = omega arith
+count_above n _ = omega arith
 
 one_ascends : (b : Bool) (m n : ℕ) (x : Deed) (xs : List Receipt) → m ≤ n → AscendFrom (count_with n x) xs → AscendFrom m xs → AscendFrom m (owned_one b (n, x) xs)
 one_ascends true m n x xs h above from = (h, above)
@@ -65,9 +56,6 @@ ascends c m n (y ∷ ys) h =
     one_ascends (y.1 == c) m n y.0 (owned c (count_with n y.0) ys) h (ascends c (count_with n y.0) (count_with n y.0) ys (omega arith)) (ascends c m (count_with n y.0) ys (omega (arith, h, up)))
 
 -- ---- they are the log's
-at_seam : (before : List Record) (x : Record) (rest : List Record) → slice_get (before ++ x ∷ rest) (length before) ≡ Some x
-at_seam [] x rest = refl
-at_seam (y ∷ ys) x rest = at_seam ys x rest
 
 AreIn : List Record → List Receipt → Type 0
 AreIn L xs = AllByRecursion (IsIn L) xs
@@ -88,7 +76,7 @@ are_in c before ((Logs x, d) ∷ ys) =
     let same : (before ++ x ∷ []) ++ logged_by ys ≡ L = append_assoc before (x ∷ []) (logged_by ys) in
     let further : AreIn L (owned c (length (before ++ x ∷ [])) ys) = subst (λ l. AreIn l (owned c (length (before ++ x ∷ [])) ys)) same (are_in c (before ++ x ∷ []) ys) in
     let rest : AreIn L (owned c (length before + 1) ys) = subst (λ k. AreIn L (owned c k ys)) (length-push before x) further in
-    one_in (d == c) L (length before, Logs x) (owned c (length before + 1) ys) (at_seam before x _) rest
+    one_in (d == c) L (length before, Logs x) (owned c (length before + 1) ys) (get_behind before x _) rest
 are_in c before ((Strays r word mask, d) ∷ ys) = one_in (d == c) _ (length before, Strays r word mask) (owned c (length before) ys) tt (are_in c before ys)
 are_in c before ((DiesOn t r, d) ∷ ys) = one_in (d == c) _ (length before, DiesOn t r) (owned c (length before) ys) tt (are_in c before ys)
 are_in c before ((Claims u, d) ∷ ys) = one_in (d == c) _ (length before, Claims u) (owned c (length before) ys) tt (are_in c before ys)

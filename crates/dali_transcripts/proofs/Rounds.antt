@@ -1,7 +1,8 @@
 -- A round goes on by a step of one client.
-use Rattle.std.proofs.Common.{◌≡◌, ℕ, zero, suc, ◌+◌, ◌<◌, ◌≤◌, Bool, true, false, List, [], ◌∷◌, ◌++◌, length, refl, ap, sym, subst, ◌∙◌, ⊎_elim, arith}
+use Rattle.std.proofs.Common.{◌≡◌, ℕ, zero, suc, ◌+◌, ◌<◌, ◌≤◌, false, List, [], ◌∷◌, ◌++◌, length, refl, ap, sym, subst, ◌∙◌, ⊎_elim, arith}
 use Rattle.std.specs.Prelude.{◌==◌, Contains}
 use Rattle.std.proofs.lemmas.List.{append_assoc, append-nil, length-append}
+use Rattle.std.proofs.lemmas.Bool.{false_from_ne_true}
 use Rattle.dali_counts.proofs.Lists.{self, set_cases}
 use Rattle.dali_transcripts.specs.Words.{Act, Said}
 use Rattle.dali_transcripts.specs.World.{Deed, Logs, Strays, DiesOn, Claims, GivesBack, GetsLock, Yields, FindsDead, StartsCheckpoint, MovesAnchor, EndsCheckpoint, Meets, Happening, World, logged_by, log_of, Grows}
@@ -13,7 +14,7 @@ use Rattle.dali_transcripts.proofs.Owned.{one_append, counts, others_go_on}
 use Rattle.dali_transcripts.proofs.Growing.{world_goes_on}
 
 -- the deeds of d are none of c's
-others_stay : (c d n : ℕ) (happened : List Happening) (xs : List Deed) → (d == c) ≡ false → owned c n (happened ++ by d xs) ≡ owned c n happened
+pub others_stay : (c d n : ℕ) (happened : List Happening) (xs : List Deed) → (d == c) ≡ false → owned c n (happened ++ by d xs) ≡ owned c n happened
 others_stay c d n happened [] other = ap (owned c n) (append-nil happened)
 others_stay c d n happened (x ∷ xs) other =
     ap (owned c n) (sym (append_assoc happened ((x, d) ∷ []) (by d xs)))
@@ -23,16 +24,12 @@ others_stay c d n happened (x ∷ xs) other =
 deeds_are : (v w : World) (c : ℕ) (g : Grows v w) → deeds_of w c ≡ owned c (length v.before) (v.happened ++ g.more)
 deeds_are v w c g = ap (λ b. owned c (length b) w.happened) g.before ∙ ap (owned c (length v.before)) g.happened
 
-not_same : (b : Bool) → (b ≡ true → ⊥) → b ≡ false
-not_same true h = absurd (h refl)
-not_same false h = refl
-
 pub round_goes_on : RoundGoesOn
 round_goes_on v w xs ss i s s' grows theirs differ here client all step j u e =
     ⊎_elim
     (λ at_i. subst (λ z. Stands w z) (sym at_i.1) step)
     (λ other.
-    let apart : (s.client == u.client) ≡ false = not_same (s.client == u.client) (λ same. other.0 (differ i j s u here other.1 same)) in
+    let apart : (s.client == u.client) ≡ false = false_from_ne_true (s.client == u.client) (λ same. other.0 (differ i j s u here other.1 same)) in
     let same : deeds_of w u.client ≡ deeds_of v u.client =
     deeds_are v w u.client grows ∙ (ap (λ l. owned u.client (length v.before) (v.happened ++ l)) theirs ∙ others_stay u.client s.client (length v.before) v.happened xs apart) in
     subst (λ l. IsSoFar w u.client u.acts u.lines l u.pending u.spot) (sym same)
@@ -43,7 +40,7 @@ owned_by : (c n : ℕ) (xs : List Deed) → owned c n (by c xs) ≡ receipts_fro
 owned_by c n [] = refl
 owned_by c n (x ∷ xs) = rw (self c) (ap (λ l. (n, x) ∷ l) (owned_by c (count_with n x) xs))
 
-owned_append : (c n : ℕ) (ys zs : List Happening) → owned c n (ys ++ zs) ≡ owned c n ys ++ owned c (n + length (logged_by ys)) zs
+pub owned_append : (c n : ℕ) (ys zs : List Happening) → owned c n (ys ++ zs) ≡ owned c n ys ++ owned c (n + length (logged_by ys)) zs
 owned_append c n [] zs = let e : n + 0 ≡ n = omega arith in rw e refl
 owned_append c n (y ∷ ys) zs =
     ap (λ l. owned_one (y.1 == c) (n, y.0) l) (owned_append c (count_with n y.0) ys zs)

@@ -1,14 +1,16 @@
 -- Behind a line that says that the engine is stopped, no line matches a record.
 use Rattle.std.proofs.Common.{◌≡◌, ℕ, Bool, true, false, List, [], ◌∷◌, ◌++◌, Option, Some, None, refl, ap, sym, subst, ◌∙◌}
-use Rattle.std.specs.Prelude.{not, ◌||◌, ◌&&◌, if◌then◌else◌}
+use Rattle.std.specs.Prelude.{not, if◌then◌else◌}
 use Rattle.std.specs.List.{list_all}
 use Rattle.std.proofs.lemmas.List.Concat.{flat_map-cons}
+use Rattle.std.proofs.lemmas.Bool.{or_left, or_right}
 use Rattle.dali_transcripts.specs.Words.{Act, Begins as BeginAct, Calls, Commits as CommitAct, Aborts as AbortAct, Audits as AuditAct, Checkpoints as CheckpointAct, Why, StoreFailed, Said, Refused, is_stop, closes}
 use Rattle.dali_transcripts.specs.World.{World}
 use Rattle.dali_transcripts.specs.Moves.{Place, Outside, Within, Again, LeftOut, Gone, Spot, Ending, TakenBack, LeftBehind, Move, IsRefusedBegin, Skips, Rests, IsRefusedCall, IsArmed, GivesWay, GivesUp, CommitFails, IsRefusedCommit, IsRefusedAbort, StaysOpen, Pokes, PokesNothing, IsRefusedAudit, IsRefusedCheckpoint, from, said, to, end_line}
 use Rattle.dali_transcripts.specs.Causes.{MayBegin, MetCause, HasCause}
 use Rattle.dali_transcripts.specs.Transcripts.{IsPath, said_by}
 use Rattle.dali_transcripts.specs.Laws.{has_record, behind_stop, NothingAfterStop}
+use Rattle.dali_transcripts.proofs.Operations.{split}
 
 abbrev is_halted : Place → Bool
 is_halted (Outside s) = s
@@ -23,13 +25,9 @@ none_match lines = list_all (λ line. not (has_record line)) lines
 Holds : Move → Type 0
 Holds x = (none_match (said x) ≡ true) × (is_halted (to x).place ≡ true)
 
-both : (a b c : Bool) → (a && b) ≡ true → (b ≡ true → c ≡ true) → (a && c) ≡ true
-both true b c e f = f e
-both false b c e f = absurd (cc)
-
 none_append : (xs ys : List Said) → none_match xs ≡ true → none_match ys ≡ true → none_match (xs ++ ys) ≡ true
 none_append [] ys e f = f
-none_append (x ∷ xs) ys e f = both (not (has_record x)) (none_match xs) (none_match (xs ++ ys)) e (λ g. none_append xs ys g f)
+none_append (x ∷ xs) ys e f = split (not (has_record x)) (none_match xs) (none_match (xs ++ ys)) e (λ g. none_append xs ys g f)
 
 -- a refusal that has a cause matches no record
 no_record : (w : World) (c n : ℕ) (act : Act) (o : Option ℕ) (why : Why) → MetCause w c n act o why → none_match (Refused act why ∷ []) ≡ true
@@ -40,14 +38,6 @@ begins_halted : (place : Place) (s : Bool) → MayBegin place s → is_halted pl
 begins_halted (Outside u) s h = h
 begins_halted (Again tries held u) s h = h
 begins_halted place s h = absurd h
-
-or_left : (s b : Bool) → s ≡ true → (s || b) ≡ true
-or_left true b e = refl
-or_left false b e = absurd (cc)
-
-or_right : (s b : Bool) → b ≡ true → (s || b) ≡ true
-or_right true b e = refl
-or_right false b e = e
 
 skipped_halted : (s b : Bool) → s ≡ true → is_halted (if b then Outside s else LeftOut s) ≡ true
 skipped_halted s true e = e

@@ -11,11 +11,13 @@ use Rattle.dali_record.specs.declared.records.Record.TheVariants.{Forward}
 use Rattle.dali_record.specs.Spelling.{record_length}
 use Rattle.dali_record.proofs.Chains.{true_and, and_true}
 use Rattle.dali_region.specs.State.{RegionState}
+use Rattle.dali_locks.specs.declared.mode.Mode.{Mode}
+use Rattle.dali_locks.specs.declared.mode.Mode.TheVariants.{Shared, Exclusive}
 use Rattle.dali_system.specs.Run.{HasRisen}
-use Rattle.dali_system.specs.State.{CoreState, state_of}
+use Rattle.dali_system.specs.State.{CoreState, state_of, lock_of}
 use Rattle.dali_system.specs.Steps.{audit_record}
 use Rattle.dali_transcripts.specs.Words.{StoreFailed}
-use Rattle.dali_transcripts.specs.World.{Deed, Logs, DiesOn, StartsCheckpoint, MovesAnchor, EndsCheckpoint, Meets, Happening, World, logged_by, log_of, log_at, state_step, state_after, failing, has_failed, span_step, stray_step, stray_after, poked_step, poked_after, refusal_of, refused_by, Grows}
+use Rattle.dali_transcripts.specs.World.{Deed, Logs, DiesOn, StartsCheckpoint, MovesAnchor, EndsCheckpoint, Meets, Happening, World, logged_by, log_of, log_at, state_step, state_after, lock_step, lock_after, IsNoWeaker, failing, has_failed, span_step, stray_step, stray_after, poked_step, poked_after, refusal_of, refused_by, Grows}
 use Rattle.dali_transcripts.specs.Rounds.{AreSpans, AreAnchors, PokesTell, VerdictsTell, FaultsTell, room_for, ends_within, fits, HasLooked, PrecheckTells, HoldsTogether}
 use Rattle.dali_transcripts.specs.Together.{SpanFits, AnchorIs, FaultsBy, RoomBy, RightBy, Owes, TogetherByDeed, HasKept, TogetherByNone, TogetherAtFirst}
 use Rattle.dali_transcripts.specs.Grown.{world_of}
@@ -62,7 +64,7 @@ fits_push limit end now ((Logs y, d) ∷ xs) z e f h =
 fits_push limit end now (y ∷ xs) z e f h = fits_push limit end now xs z e f h
 
 -- where a store call failed at any time, it failed in the end
-stays_failed : (xs : List Happening) → has_failed true xs ≡ true
+pub stays_failed : (xs : List Happening) → has_failed true xs ≡ true
 stays_failed [] = refl
 stays_failed (y ∷ xs) = ap (λ b. has_failed b xs) (keeps y) ∙ stays_failed xs
   where
@@ -142,6 +144,14 @@ module _ (v w : World) (c : ℕ) (x : Deed) (g : Grows v w) (more : g.more ≡ (
       ∙ (ap (λ s. state_step t s (x, c)) (h.states t)
       ∙ (sym (fold-append (state_step t) (state_of v.old.system t) v.happened ((x, c) ∷ []))
       ∙ (ap (λ l. fold (state_step t) (state_of v.old.system t) l) (sym happened) ∙ ap (λ (k : CoreState). fold (state_step t) (state_of k.system t) w.happened) (sym g.old))))
+
+  locks : (t k : ℕ) → IsNoWeaker (lock_of w.core.system t k) (lock_after w w.happened t k)
+  locks t k = subst (IsNoWeaker (lock_of w.core.system t k)) told (o.lock t k (lock_after v v.happened t k) (h.locks t k))
+    where
+      told : lock_step t k (lock_after v v.happened t k) (x, c) ≡ lock_after w w.happened t k
+      told =
+          sym (fold-append (lock_step t k) (lock_of v.old.system t k) v.happened ((x, c) ∷ []))
+          ∙ (ap (λ l. fold (lock_step t k) (lock_of v.old.system t k) l) (sym happened) ∙ ap (λ (j : CoreState). fold (lock_step t k) (lock_of j.system t k) w.happened) (sym g.old))
 
   refusals : w.core.system.refusals ≡ w.old.system.refusals ++ refused_by w.happened
   refusals =
@@ -272,6 +282,7 @@ together_by_deed v w c x g more h o = record {
   pokes = pokes v w c x g more h o;
   verdicts = verdicts v w c x g more h o;
   states = states v w c x g more h o;
+  locks = locks v w c x g more h o;
   faults = ⊎_elim
       (λ is. fails v w c x g more h o (subst (λ y. FaultsBy v w y) is o.fault) is)
       (λ other. runs_on v w c x g more h o (not_failing v w x other.0 o.fault) other.1 other.0)
@@ -298,6 +309,7 @@ still v d h k = record {
   pokes = λ r a b was is. let p = k.poke r b is in let told = h.pokes r a p.0 was p.1 in (p.2 ∙ told.0, p.3 ∙ told.1);
   verdicts = h.verdicts;
   states = λ t. k.states t ∙ h.states t;
+  locks = λ t j. k.locks t j (lock_after v v.happened t j) (h.locks t j);
   faults = record {
     stopped = k.stopped ∙ h.faults.stopped;
     once = h.faults.once;
@@ -317,6 +329,11 @@ together_by_none v w g more h k =
     let same = same_world v w g v.happened (g.happened ∙ (ap (λ l. v.happened ++ l) more ∙ append-nil v.happened)) in
     subst HoldsTogether (sym same) (still v w.core h (subst (λ u. HasKept v u) same k))
 
+itself : (o : Option Mode) → IsNoWeaker o o
+itself None = tt
+itself (Some Shared) = refl
+itself (Some Exclusive) = refl
+
 first : (old : CoreState) (before : List Record) (precheck : Bool) → HoldsTogether (world_of old before precheck [] old)
 first old before precheck = record {
   spans = tt;
@@ -324,6 +341,7 @@ first old before precheck = record {
   pokes = λ r a b was is. let same : b ≡ a = some_same (sym is ∙ was) in (ap (λ (z : RegionState). z.stray) same, ap (λ (z : RegionState). z.poked) same);
   verdicts = λ i b d found e. absurd (cc);
   states = λ t. refl;
+  locks = λ t k. itself (lock_of old.system t k);
   faults = record { stopped = refl; once = λ i d e. absurd (cc); none = λ e. refl; rose = λ e. absurd (cc) };
   refusals = sym (append-nil old.system.refusals);
   room = refl;

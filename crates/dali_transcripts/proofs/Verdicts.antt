@@ -1,7 +1,8 @@
 -- Whether an audit ends in a deed.
 use Rattle.std.proofs.Common.{◌≡◌, ℕ, zero, suc, Bool, true, false, List, [], ◌∷◌, Some, refl, ap, sym, ◌∙◌}
-use Rattle.std.specs.Prelude.{slice_get, take, drop, not, ◌&&◌}
+use Rattle.std.specs.Prelude.{slice_get, take, drop, not}
 use Rattle.std.specs.List.{list_all}
+use Rattle.dali_lists.proofs.Tests.{left_true, right_true}
 use Rattle.dali_counts.proofs.Lists.{some_same}
 use Rattle.dali_record.specs.declared.records.Record.TheVariants.{AuditClean, AuditFail}
 use Rattle.dali_system.specs.Steps.{audit_record}
@@ -19,22 +20,14 @@ pub end_is : (b c : ℕ) (found : List ℕ) → is_end (Logs (audit_record b fou
 end_is b c [] = refl
 end_is b c (r ∷ rs) = refl
 
-first_of : (a b : Bool) → (a && b) ≡ true → a ≡ true
-first_of true b e = refl
-first_of false b e = absurd (cc)
-
-rest_of : (a b : Bool) → (a && b) ≡ true → b ≡ true
-rest_of true b e = e
-rest_of false b e = absurd (cc)
-
 -- a deed of a kind that there is none of
 pub never : (p : Happening → Bool) (xs : List Happening) (i : ℕ) (x : Happening) → list_all (λ y. not (p y)) xs ≡ true → slice_get xs i ≡ Some x → p x ≡ true → ⊥
 never p [] i x h e is = absurd (cc)
 never p (y ∷ ys) zero x h e is =
-    let no = first_of (not (p y)) (list_all (λ z. not (p z)) ys) h in
+    let no = left_true (not (p y)) (list_all (λ z. not (p z)) ys) h in
     let off : not (p y) ≡ false = ap (λ z. not (p z)) (some_same e) ∙ ap not is in
     let clash : false ≡ true = sym off ∙ no in absurd (cc)
-never p (y ∷ ys) (suc i) x h e is = never p ys i x (rest_of (not (p y)) (list_all (λ z. not (p z)) ys) h) e is
+never p (y ∷ ys) (suc i) x h e is = never p ys i x (right_true (not (p y)) (list_all (λ z. not (p z)) ys) h) e is
 
 -- a deed of a kind that stands at place n alone
 pub only_at : (p : Happening → Bool) (n : ℕ) (xs : List Happening) (i : ℕ) (x : Happening) → list_all (λ y. not (p y)) (take n xs) ≡ true → list_all (λ y. not (p y)) (drop (suc n) xs) ≡ true
@@ -43,10 +36,10 @@ only_at p n [] i x front behind e is = absurd (cc)
 only_at p zero (y ∷ ys) zero x front behind e is = refl
 only_at p zero (y ∷ ys) (suc i) x front behind e is = absurd (never p ys i x behind e is)
 only_at p (suc n) (y ∷ ys) zero x front behind e is =
-    let no = first_of (not (p y)) (list_all (λ z. not (p z)) (take n ys)) front in
+    let no = left_true (not (p y)) (list_all (λ z. not (p z)) (take n ys)) front in
     let off : not (p y) ≡ false = ap (λ z. not (p z)) (some_same e) ∙ ap not is in
     let clash : false ≡ true = sym off ∙ no in absurd (cc)
-only_at p (suc n) (y ∷ ys) (suc i) x front behind e is = ap suc (only_at p n ys i x (rest_of (not (p y)) (list_all (λ z. not (p z)) (take n ys)) front) behind e is)
+only_at p (suc n) (y ∷ ys) (suc i) x front behind e is = ap suc (only_at p n ys i x (right_true (not (p y)) (list_all (λ z. not (p z)) (take n ys)) front) behind e is)
 
 pub none_ends : (xs : List Happening) (i b c : ℕ) (found : List ℕ) → list_all is_no_end xs ≡ true → slice_get xs i ≡ Some (Logs (audit_record b found), c) → ⊥
 none_ends xs i b c found h e = never is_end xs i (Logs (audit_record b found), c) h e (end_is b c found)

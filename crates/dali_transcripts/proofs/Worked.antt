@@ -1,8 +1,9 @@
 -- The worked round.
 use Rattle.std.proofs.Common.{◌≡◌, ℕ, zero, suc, Bool, true, false, List, [], ◌∷◌, Some, None, refl, ap, ◌∙◌, inl, inr, arith}
-use Rattle.std.specs.Prelude.{◌+◌, ◌*◌, ◌^◌, ◌≤◌, ◌++◌, fold, replicate, slice_get, ◌==◌, not, ◌&&◌}
+use Rattle.std.specs.Prelude.{take, ◌+◌, ◌*◌, ◌^◌, ◌≤◌, ◌++◌, fold, replicate, slice_get, ◌==◌, not}
 use Rattle.std.specs.List.{list_all}
 use Rattle.std.proofs.lemmas.Bool.{ne_eqb}
+use Rattle.dali_lists.proofs.Tests.{left_true, right_true}
 use Rattle.dali_counts.proofs.Lists.{self, some_same}
 use Rattle.dali_region.specs.State.{RegionState, IsLive, loaded}
 use Rattle.dali_locks.specs.declared.mode.Mode.TheVariants.{Shared, Exclusive}
@@ -18,16 +19,16 @@ use Rattle.dali_record.specs.declared.records.Record.TheVariants.{Forward, Commi
 use Rattle.dali_record.specs.Epochs.{last_epoch}
 use Rattle.dali_system.specs.Keeps.{IsNext}
 use Rattle.dali_transcripts.specs.Words.{Calls, Arms, Commits as CommitAct}
-use Rattle.dali_transcripts.specs.World.{Logs, DiesOn, Claims, GetsLock, FindsDead, log_at, HasDone, HasDiedBy, state_step, IsUncommitted}
+use Rattle.dali_transcripts.specs.World.{Logs, DiesOn, Claims, GetsLock, FindsDead, log_at, HasDone, HasDiedBy, state_step, lock_step, IsUncommitted}
 use Rattle.dali_transcripts.specs.Moves.{Receipt, Outside, Gone, TakenBack, Move, Begins, BeginsAgain, Rests, Answers, Dies, IsArmed, GivesWay, Commits, at}
-use Rattle.dali_transcripts.specs.Causes.{HasClaimed, HasFoundDead, DiesIn, GetsBusy}
+use Rattle.dali_transcripts.specs.Causes.{HasClaimed, HasFoundDead, DiesIn, GetsBusy, IsGrantable, IsHindered}
 use Rattle.dali_transcripts.specs.Transcripts.{IsSoFar, deeds_of, AreTranscripts}
 use Rattle.dali_transcripts.specs.Rounds.{PokesTell, VerdictsTell, IsAtRest, IsBetween}
 use Rattle.dali_transcripts.specs.Worked.{look, put, add, look_again, free_entry, free_cell, insert_a, insert_b, happened, log, told_1, told_2, lines_1, lines_2, refusal, found_dead, small, world, index_words, heap_words, AreMade, Conflict, blocks, ConflictRuns, receipts_1, receipts_2}
 use Rattle.dali_transcripts.proofs.Backs.{none_stays}
 use Rattle.dali_transcripts.proofs.Verdicts.{none_ends}
 use Rattle.dali_transcripts.proofs.Locked.{keeps_locks}
-use Rattle.dali_transcripts.proofs.Ends.{grew_from, no_row, all_ended, none_claimed, none_failed, not_live, strays_same}
+use Rattle.dali_transcripts.proofs.Ends.{grew_from, no_row, all_ended, told_locks, all_freed, none_in_the_way, none_claimed, none_failed, not_live, strays_same}
 
 -- ---- client 1
 work_1 : List Receipt
@@ -72,7 +73,7 @@ unfolding moves_1
 died_1 = record {
   moves = moves_1;
   path =
-      (refl, tt, (refl, (((refl, refl, refl), ((refl, refl, tt), ((refl, refl, refl), ((refl, refl, tt), tt)))), refl, none_stays 1 work_1 (refl, (refl, (refl, (refl, tt))))), (refl, tt, (refl, (((refl, refl, refl), ((refl, refl, tt), tt)), refl, dies_1), (refl, tt, refl)))));
+      (refl, tt, (refl, (((refl, refl, refl), ((refl, refl, tt), ((refl, refl, refl), ((refl, refl, tt), tt)))), refl, none_stays 1 work_1 (refl, (refl, (refl, (refl, tt)))), tt), (refl, tt, (refl, (((refl, refl, refl), ((refl, refl, tt), tt)), refl, dies_1, tt), (refl, tt, refl)))));
   lines_are = refl;
   did_are = refl;
 }
@@ -87,18 +88,10 @@ other_of : (t : ℕ) (x : Record) → x ≡ Commit t → is_other t x ≡ false
 unfolding is_other
 other_of t x e = let same : not (t == t) ≡ false = rw (self t) refl in ap (is_other t) e ∙ same
 
-all_first : (a b : Bool) → (a && b) ≡ true → a ≡ true
-all_first true b e = refl
-all_first false b e = absurd (cc)
-
-all_rest : (a b : Bool) → (a && b) ≡ true → b ≡ true
-all_rest true b e = e
-all_rest false b e = absurd (cc)
-
 none_of : (t : ℕ) (L : List Record) (k : ℕ) → list_all (is_other t) L ≡ true → slice_get L k ≡ Some (Commit t) → ⊥
 none_of t [] k h e = absurd (cc)
-none_of t (x ∷ L) zero h e = let same : x ≡ Commit t = cc in let no = other_of t x same in let yes = all_first (is_other t x) (list_all (is_other t) L) h in absurd (cc)
-none_of t (x ∷ L) (suc k) h e = none_of t L k (all_rest (is_other t x) (list_all (is_other t) L) h) e
+none_of t (x ∷ L) zero h e = let same : x ≡ Commit t = cc in let no = other_of t x same in let yes = left_true (is_other t x) (list_all (is_other t) L) h in absurd (cc)
+none_of t (x ∷ L) (suc k) h e = none_of t L k (right_true (is_other t x) (list_all (is_other t) L) h) e
 
 uncommitted_2 : IsUncommitted world 2 8
 unfolding is_other
@@ -159,6 +152,7 @@ told = record {
             ),
             refl,
             none_stays 3 work_3 (refl, (refl, (refl, (refl, (refl, (refl, (refl, (refl, (refl, tt))))))))),
+            tt,
           ),
           (refl, (omega arith, (inl refl, tt)), refl),
         ),
@@ -248,6 +242,38 @@ ended (suc (suc (suc (suc t)))) =
     let b : (2 == suc (suc (suc (suc t)))) ≡ false = ne_eqb 2 (suc (suc (suc (suc t)))) (λ e. absurd (omega (arith, e))) in
     let d : (3 == suc (suc (suc (suc t)))) ≡ false = ne_eqb 3 (suc (suc (suc (suc t)))) (λ e. absurd (omega (arith, e))) in rw (a, b, d) refl
 
+-- and their locks are free
+freed : (t k : ℕ) → fold (lock_step t k) None happened ≡ None
+freed zero k = refl
+freed (suc zero) k = refl
+freed (suc (suc zero)) k = refl
+freed (suc (suc (suc zero))) k = refl
+freed (suc (suc (suc (suc t)))) k =
+    let a : (1 == suc (suc (suc (suc t)))) ≡ false = ne_eqb 1 (suc (suc (suc (suc t)))) (λ e. absurd (omega (arith, e))) in
+    let b : (2 == suc (suc (suc (suc t)))) ≡ false = ne_eqb 2 (suc (suc (suc (suc t)))) (λ e. absurd (omega (arith, e))) in
+    let d : (3 == suc (suc (suc (suc t)))) ≡ false = ne_eqb 3 (suc (suc (suc (suc t)))) (λ e. absurd (omega (arith, e))) in rw (a, b, d) refl
+
+-- as the dead one's was when client 2 got it
+freed_then : (t : ℕ) → fold (lock_step t 5) None (take 18 happened) ≡ None
+freed_then zero = refl
+freed_then (suc zero) = refl
+freed_then (suc (suc zero)) = refl
+freed_then (suc (suc (suc t))) =
+    let a : (1 == suc (suc (suc t))) ≡ false = ne_eqb 1 (suc (suc (suc t))) (λ e. absurd (omega (arith, e))) in
+    let b : (2 == suc (suc (suc t))) ≡ false = ne_eqb 2 (suc (suc (suc t))) (λ e. absurd (omega (arith, e))) in rw (a, b) refl
+
+free_1 : IsGrantable world 2 1 5 Exclusive
+free_1 = none_in_the_way world 2 1 5 Exclusive refl (λ u other. refl)
+
+free_again : IsGrantable world 8 1 5 Shared
+free_again = none_in_the_way world 8 1 5 Shared refl (λ u other. rw other refl)
+
+free_3 : IsGrantable world 18 3 5 Exclusive
+free_3 = none_in_the_way world 18 3 5 Exclusive refl (λ u other. freed_then u)
+
+hindered_2 : IsHindered world 2 7 refusal
+hindered_2 = record { mode = Exclusive; holds = told_locks world refl (take 7 happened) 1 5; clash = refl; by_another = inr (1, Exclusive, refl, (2, omega arith, refl)); unclaimed = λ own. refl }
+
 rests : IsAtRest world.core
 rests = record { stopped = λ e. let no : false ≡ true = e in absurd (cc); holds = holds; flag = refl; free = none_claimed world.core.system refl }
 
@@ -269,13 +295,14 @@ conflict_runs = record {
     log = refl;
     transcripts = transcripts;
     receipts_are = refl;
-    right = (refl, (refl, (tt, (refl, (refl, (refl, (refl, ((refl, refl, refl, inr (1, refl, (Exclusive, (2, omega arith, refl)))), (tt, (refl, (tt, (refl, (refl, ((refl, refl, refl), (refl, (tt, (tt, (refl, (tt, (refl, (refl, (refl, (refl, (refl, (refl, tt)))))))))))))))))))))))));
+    right = (refl, (refl, ((refl, refl, free_1), (refl, (refl, (refl, (refl, ((refl, refl, refl, hindered_2), ((refl, refl, free_again), (refl, (tt, (refl, (refl, ((refl, refl, refl), (refl, (tt, (tt, (refl, ((refl, refl, free_3), (refl, (refl, (refl, (refl, (refl, (refl, tt)))))))))))))))))))))))));
     together = record {
       spans = tt;
       anchors = refl;
       pokes = no_stray;
       verdicts = no_verdict;
       states = all_ended world refl refl ended;
+      locks = all_freed world refl freed;
       faults = none_failed world refl refl refl refl refl;
       refusals = refl;
       room = refl;

@@ -13,19 +13,23 @@ use Rattle.dali_record.specs.declared.operations.Undo.TheVariants.{FreeCell as U
 use Rattle.dali_record.specs.declared.records.Call.{Call}
 use Rattle.dali_record.specs.declared.records.Record.{Record}
 use Rattle.dali_record.specs.declared.records.Record.TheVariants.{Begin, Forward, Done, Commit, Ended}
+use Rattle.dali_locks.specs.declared.mode.Mode.{Mode}
+use Rattle.dali_locks.specs.declared.mode.Mode.TheVariants.{Shared, Exclusive}
+use Rattle.dali_locks.specs.Locks.{both_shared}
 use Rattle.dali_system.specs.declared.causes.Cause.{Cause}
 use Rattle.dali_system.specs.declared.causes.Cause.TheVariants.{Damage}
+use Rattle.dali_system.specs.declared.refusals.Refusal.{Refusal}
 use Rattle.dali_system.specs.Run.{damage_in, failed_first}
 use Rattle.dali_region.specs.State.{RegionState}
-use Rattle.dali_system.specs.State.{CoreState, state_of, stable}
+use Rattle.dali_system.specs.State.{CoreState, state_of, lock_of, stable}
 use Rattle.dali_system.specs.Steps.{audit_record}
 use Rattle.dali_transcripts.specs.Words.{Act, Calls, Commits as CommitAct, Checkpoints as CheckpointAct, Why, StoppedBy, Full, Damaged, UnderWay, Said, CommitOk, CheckpointSaid, Aborted, LeftOpen, Died, Busy, Refused, is_stop}
 use Rattle.dali_record.specs.Epochs.{last_epoch}
 use Rattle.dali_record.specs.Spelling.{record_length}
 use Rattle.dali_record.specs.Blocks.{pending}
-use Rattle.dali_transcripts.specs.World.{Deed, Logs, Claims, GivesBack, Yields, MovesAnchor, Meets, Happening, World, record_of, logged_by, log_of, log_at, HasDone, state_after, state_at, is_dead_in, has_failed, cause_of, stop_at, stray_after, refused_by}
+use Rattle.dali_transcripts.specs.World.{Deed, Logs, Claims, GivesBack, GetsLock, Yields, MovesAnchor, Meets, Happening, World, record_of, logged_by, log_of, log_at, HasDone, lock_at, IsNoWeaker, state_after, state_at, is_dead_in, has_failed, cause_of, stop_at, stray_after, refused_by}
 use Rattle.dali_transcripts.specs.Moves.{Receipt, TakenBack, LeftBehind, Move, Begins, BeginsAgain, IsRefusedBegin, Skips, Rests, Answers, IsRefusedCall, Dies, IsArmed, GivesWay, GivesUp, Commits, CommitFails, IsRefusedCommit, Aborts, IsRefusedAbort, Ends, StaysOpen, Pokes, PokesNothing, Audits, IsRefusedAudit, Checkpoints, FailsCheckpoint, IsRefusedCheckpoint, said as says, own as does}
-use Rattle.dali_transcripts.specs.Causes.{IsDamaged, MetCause, IsRight, AreRightFrom, AreRight, IsTried, AreTried, undos_behind, spares, IsUnanswered, IsTurnedBack, IsGivingWay, HasCause}
+use Rattle.dali_transcripts.specs.Causes.{IsDamaged, MetCause, IsRight, AreRightFrom, AreRight, IsAsking, AreAsking, IsTried, AreTried, WasGranted, undos_behind, spares, IsUnanswered, IsTurnedBack, IsGivingWay, HasCause}
 use Rattle.dali_transcripts.specs.Transcripts.{IsTranscript, line_told, lines_of_records}
 use Rattle.dali_transcripts.specs.Table.{Tells, TellsRefused}
 use Rattle.dali_transcripts.specs.Rounds.{HasLooked, AreAnchors, VerdictsTell}
@@ -195,6 +199,24 @@ operated w c t call n b (inl h) = one_spared (n, Logs (Forward t b)) (t == t) (s
 operated w c t call n b (inr (inl h)) = let same : Meets h.why ≡ Logs (Forward t b) = alone (h.at, Meets h.why) n t b h.work h.back h.is in absurd (cc)
 operated w c t call n b (inr (inr h)) = let same : Yields h.refusal ≡ Logs (Forward t b) = alone (h.refusal.at, Yields h.refusal) n t b h.work h.back h.is in absurd (cc)
 
+-- an operation that comes first in a call comes before its grant
+not_granted : (n t : ℕ) (b : Block) (more xs : List Receipt) (x : Receipt) (ys : List Receipt) → (n, Logs (Forward t b)) ∷ more ≡ xs ++ x ∷ ys → WasGranted xs → ⊥
+not_granted n t b more [] x ys e h = h
+not_granted n t b more (z ∷ zs) x ys e h = let first : (n, Logs (Forward t b)) ≡ z = cc in subst (λ (y : Receipt). WasGranted (y ∷ zs)) (sym first) h
+
+not_asking : (w : World) (c u : ℕ) (call : Call) (n t : ℕ) (b : Block) (more xs : List Receipt) (m : ℕ) (f : Refusal) (ys : List Receipt)
+    → (n, Logs (Forward t b)) ∷ more ≡ xs ++ (m, Yields f) ∷ ys → AreAsking w c u call xs → ⊥
+not_asking w c u call n t b more [] m f ys e h =
+    let first : (n, Logs (Forward t b)) ≡ (m, Yields f) = cc in
+    let other : Logs (Forward t b) ≡ Yields f = ap (λ (z : Receipt). z.1) first in absurd (cc)
+not_asking w c u call n t b more (z ∷ zs) m f ys e h = let first : (n, Logs (Forward t b)) ≡ z = cc in subst (IsAsking w c u call) (sym first) h.0
+
+cut_first : (w : World) (c t : ℕ) (d : Option ℕ) (call : Call) (n : ℕ) (b : Block) (more : List Receipt)
+    → IsUnanswered w c t d call ((n, Logs (Forward t b)) ∷ more) ⊎ (IsTurnedBack w c t d call ((n, Logs (Forward t b)) ∷ more) ⊎ IsGivingWay w c t call ((n, Logs (Forward t b)) ∷ more)) → ⊥
+cut_first w c t d call n b more (inl h) = h.asks
+cut_first w c t d call n b more (inr (inl h)) = not_granted n t b more h.work (h.at, Meets h.why) h.back h.is h.granted
+cut_first w c t d call n b more (inr (inr h)) = not_asking w c t call n t b more h.work h.refusal.at h.refusal h.back h.is h.asking
+
 -- a look is behind each such place, and finds no damage
 never_looked : (w : World) (c i r k d : ℕ) (x : Deed) (g : RegionState) → HasLooked w c i r g → WasLastAt w k i c r x d → IsDamagedFrom w k i r g → ⊥
 never_looked w c i r k d x g look last damaged = ⊎_elim behind before (cases_lt k look.place)
@@ -206,6 +228,15 @@ never_looked w c i r k d x g look last damaged = ⊎_elim behind before (cases_l
     before from =
         let held = look.held k d x from last.before last.there in
         ⊎_elim (λ own. let no : true ≡ false = sym own ∙ held.0 in absurd (cc)) (λ on. let no : true ≡ false = sym on ∙ held.1 in absurd (cc)) last.wants
+
+shared_conflict : (m n : Mode) (o : Option Mode) → m ≡ Shared → o ≡ Some Shared → o ≡ Some n → both_shared m n ≡ false → ⊥
+shared_conflict Shared Shared o e f g clash = absurd (cc)
+shared_conflict Shared Exclusive o e f g clash = absurd (cc)
+shared_conflict Exclusive n o e f g clash = absurd (cc)
+
+lacks : (o : Option Mode) (m : Mode) → o ≡ None → IsNoWeaker o (Some m) → ⊥
+lacks None m e h = absurd (cc)
+lacks (Some n) m e h = absurd (cc)
 
 pub wrong_ones : WrongOnes
 wrong_ones = record {
@@ -269,7 +300,26 @@ wrong_ones = record {
   live_claimed = λ i c t precheck whole before old new blocks lines receipts round h. let e = sym (right_at round.world i c (Claims t) round.right h.0) ∙ h.1 in absurd (cc);
   given_back_by_another = λ i c t latched precheck whole before old new blocks lines receipts round h. h.1 (right_at round.world i c (GivesBack t latched) round.right h.0).3;
   refused_behind_a_stop = λ i c f precheck whole before old new blocks lines receipts round h. h.1 (right_at round.world i c (Yields f) round.right h.0).2;
-  gave_way_to_none = λ i c f precheck whole before old new blocks lines receipts round h. h.1 (right_at round.world i c (Yields f) round.right h.0).3;
+  gave_way_to_none = λ i c f precheck whole before old new blocks lines receipts round h.
+      let e = sym h.1 ∙ (right_at round.world i c (Yields f) round.right h.0).3.holds in absurd (cc);
+  gave_way_to_a_share = λ i c f precheck whole before old new blocks lines receipts round h.
+      let hindered = (right_at round.world i c (Yields f) round.right h.0).3 in shared_conflict f.mode hindered.mode (lock_at round.world i f.holder f.key) h.1 h.2 hindered.holds hindered.clash;
+  gave_way_to_its_own = λ i c f precheck whole before old new blocks lines receipts round h.
+      ⊎_elim (λ dead. let e = sym dead ∙ h.1 in absurd (cc)) (λ got. let e = sym got.2 ∙ h.2 got.0 got.1 got.3 in absurd (cc)) (right_at round.world i c (Yields f) round.right h.0).3.by_another;
+  gave_way_to_its_claim = λ i c f precheck whole before old new blocks lines receipts round h.
+      let e = sym ((right_at round.world i c (Yields f) round.right h.0).3.unclaimed h.1) ∙ h.2 in absurd (cc);
+  granted_to_none_live = λ i c t k m precheck whole before old new blocks lines receipts round h. h.1 (right_at round.world i c (GetsLock t k m) round.right h.0).0;
+  granted_in_the_way = λ i c t k u m n precheck whole before old new blocks lines receipts round h.
+      let e = sym ((right_at round.world i c (GetsLock t k m) round.right h.0).2 u n h.1 h.2) ∙ h.3 in absurd (cc);
+  granted_behind_a_stop = λ i c t k m precheck whole before old new blocks lines receipts round h. h.1 (right_at round.world i c (GetsLock t k m) round.right h.0).1;
+  granted_and_gave_way = λ w c t tries n k m d call f back end cs rest h. h.0.0;
+  answered_ungranted = λ w c t tries n d call a cs rest h. h.3;
+  operated_ungranted = λ w c t tries n m d s b work back call why cs rest h. h.5.0;
+  operated_and_cut = λ w c t tries n d s b work call cs rest h. cut_first w c t d call n b work h;
+  refused_ungranted = λ w c t tries m d s back call why cs rest no h. h.5.1 no;
+  had_by_nobody = λ t k m precheck whole before old new blocks lines receipts round h.
+      let held : lock_of round.world.core.system t k ≡ None = ap (λ (j : CoreState). lock_of j.system t k) round.core_is ∙ h.1 in
+      lacks (lock_of round.world.core.system t k) m held (subst (IsNoWeaker (lock_of round.world.core.system t k)) h.0 (round.together.locks t k));
   begun_behind_a_stop = λ i c t precheck whole before old new blocks lines receipts round h. h.1 (right_at round.world i c (Logs (Begin t)) round.right h.0);
   answered_behind_a_stop = λ i c t call a precheck whole before old new blocks lines receipts round h. h.1 (right_at round.world i c (Logs (Done t call a)) round.right h.0);
   operated_behind_a_stop = λ i c t b precheck whole before old new blocks lines receipts round h. h.1 (right_at round.world i c (Logs (Forward t b)) round.right h.0);

@@ -10,10 +10,13 @@
 --     MetCause w c n act o why where n records stood it was refused so, and had cause
 --     IsCleanUp w c t x        a deed of a clean-up, by the client c that is in t
 --     IsAside w c t x          such a deed, or a taking back of t
---     IsAsking w c t call x    such a deed, or a request for the lock of the call that is granted, or finds a dead holder
---     IsWork w c t call x      such a deed, or an operation of the call
+--     IsAsking w c t call x    such a deed, or a request for the lock of the call that finds a dead holder
+--     IsWork w c t call x      such a deed, or one that is granted, or an operation of the call
 --     StaysRefused xs          behind the first refusal of a call it makes no operation
 --     StaysBack t xs           behind what it takes back of t it makes no operation
+--     AsksFirst xs             a call makes no operation before it was granted its lock
+--     WasGranted xs            nor has it gone without
+--     AsksUnless why xs        a call that was refused makes none before, and has gone without where a stop refused it alone
 --     undos_behind t us xs     what is left to take back of t behind these deeds, which was us before them
 --     KeepsNothing t why xs    a call that was refused, by no stop, leaves t as it was: all that these deeds changed is taken back
 --     IsBehind w c t x         a deed of a commit behind its Commit
@@ -23,7 +26,9 @@
 --     IsAlone w why span i     a checkpoint that is refused before it starts meets no other
 --     DiesIn w c n t r call    it dies in an operation of the call, on region r
 --     GetsBusy w c t call f    its request for the call's lock was refused, and the holder wasn't dead
+--     IsGrantable w i t k m    before this place no other transaction has a lock of the key k that conflicts with the mode m
 --     IsAnothers w c i t k     before this place another client than c was granted the lock of the key k, for t; or t was dead when the round began
+--     IsHindered w c i f       before this place the holder of the refusal f has a lock that conflicts with its mode, and that is another client's; c doesn't clean it up
 --     AreRight w               each deed of the round has what it asks for at its place
 --     AreUnfinished w c place rest xs  the deeds of a step that the end of the round cut short: of a call, an abort, an audit or a checkpoint
 --     HasCause w c x           what must be so for the step x of client c
@@ -45,12 +50,14 @@ use Rattle.dali_record.specs.Spelling.{record_length, CanBeSpelled}
 use Rattle.dali_record.specs.Locks.{IsLockLegal}
 use Rattle.dali_record.specs.Log.{undo_step}
 use Rattle.dali_region.specs.State.{RegionState}
-use Rattle.dali_att.specs.declared.state.State.TheVariants.{Cleaning}
+use Rattle.dali_locks.specs.declared.mode.Mode.{Mode}
+use Rattle.dali_locks.specs.Locks.{both_shared}
+use Rattle.dali_att.specs.declared.state.State.TheVariants.{Live, Cleaning}
 use Rattle.dali_system.specs.declared.causes.Cause.{Cause}
 use Rattle.dali_system.specs.declared.refusals.Refusal.{Refusal}
 use Rattle.dali_system.specs.Keeps.{IsNext}
 use Rattle.dali_transcripts.specs.Words.{Act, Begins as BeginAct, Calls, Arms, Commits as CommitAct, Aborts as AbortAct, Pokes as PokeAct, Audits as AuditAct, Checkpoints as CheckpointAct, Why, StoppedBy, Full, Damaged, StoreFailed, UnderWay, is_stop, key_of, mode_of}
-use Rattle.dali_transcripts.specs.World.{Deed, Logs, DiesOn, Claims, GivesBack, GetsLock, Yields, FindsDead, StartsCheckpoint, EndsCheckpoint, Meets, Happening, World, log_at, IsFlushed, IsLost, IsUncommitted, HasDone, state_at, is_dead_in, is_claimed_in, claimer_at, HasGot, HasEndedBy, has_failed, stop_at, stray_after, under_way, WasDead}
+use Rattle.dali_transcripts.specs.World.{Deed, Logs, DiesOn, Claims, GivesBack, GetsLock, Yields, FindsDead, StartsCheckpoint, EndsCheckpoint, Meets, Happening, World, log_at, IsFlushed, IsLost, IsUncommitted, HasDone, state_at, is_dead_in, is_claimed_in, claimer_at, HasGot, lock_at, HasEndedBy, has_failed, stop_at, stray_after, under_way, WasDead}
 use Rattle.dali_transcripts.specs.Moves.{Receipt, Place, Outside, Within, Again, Ending, TakenBack, LeftBehind, Move, Begins, BeginsAgain, IsRefusedBegin, Skips, Rests, Answers, IsRefusedCall, Dies, IsArmed, GivesWay, GivesUp, Commits, CommitFails, IsRefusedCommit, Aborts, IsRefusedAbort, Ends, StaysOpen, Pokes, PokesNothing, Audits, IsRefusedAudit, Checkpoints, FailsCheckpoint, IsRefusedCheckpoint, operations}
 
 -- ---- the operations of a call
@@ -202,16 +209,17 @@ IsAside w c t x = IsCleanUp w c t x
 abbrev pub AreAside : World → ℕ → ℕ → List Receipt → Type 0
 AreAside w c t xs = AllByRecursion (IsAside w c t) xs
 
--- or its request is granted, or finds a dead transaction in its way
+-- or its request finds a dead transaction in its way
 abbrev pub IsAsking : World → (client txn : ℕ) → Call → Receipt → Type 0
-IsAsking w c t call (n, GetsLock u key mode) = (u ≡ t) × (key ≡ key_of call) × (mode ≡ mode_of call)
 IsAsking w c t call (n, FindsDead f) = HasFoundDead w c n t call f
 IsAsking w c t call x = IsAside w c t x
 
 abbrev pub AreAsking : World → ℕ → ℕ → Call → List Receipt → Type 0
 AreAsking w c t call xs = AllByRecursion (IsAsking w c t call) xs
 
+-- or it is granted, or an operation of the call is made
 abbrev pub IsWork : World → (client txn : ℕ) → Call → Receipt → Type 0
+IsWork w c t call (n, GetsLock u key mode) = (u ≡ t) × (key ≡ key_of call) × (mode ≡ mode_of call)
 IsWork w c t call (n, Logs (Forward u b)) = (u ≡ t) × (b.key ≡ key_of call) × IsOpOf call b.op
 IsWork w c t call x = IsAsking w c t call x
 
@@ -244,6 +252,24 @@ is_taking_back t x = false
 abbrev pub StaysBack : ℕ → List Receipt → Type 0
 StaysBack t [] = Unit {0}
 StaysBack t (x ∷ xs) = (is_taking_back t x ≡ true → AllByRecursion IsNoOperation xs) × StaysBack t xs
+
+-- it makes none before it was granted its lock
+abbrev pub AsksFirst : List Receipt → Type 0
+AsksFirst [] = Unit {0}
+AsksFirst ((n, GetsLock t k m) ∷ xs) = Unit {0}
+AsksFirst ((n, Logs (Forward t b)) ∷ xs) = ⊥
+AsksFirst (x ∷ xs) = AsksFirst xs
+
+-- and it was granted it
+abbrev pub WasGranted : List Receipt → Type 0
+WasGranted [] = ⊥
+WasGranted ((n, GetsLock t k m) ∷ xs) = Unit {0}
+WasGranted ((n, Logs (Forward t b)) ∷ xs) = ⊥
+WasGranted (x ∷ xs) = WasGranted xs
+
+-- a stop alone refuses a call that was granted nothing
+abbrev pub AsksUnless : Why → List Receipt → Type 0
+AsksUnless why xs = AsksFirst xs × (is_stop why ≡ false → WasGranted xs)
 
 -- whatever there was to take back of t before these deeds, it is so behind them; where the engine is stopped nothing is taken back any more
 abbrev pub undos_by : ℕ → List Pending → Receipt → List Pending
@@ -322,9 +348,19 @@ pub record GetsBusy (w : World) (c t : ℕ) (call : Call) (f : Refusal) : Type 0
   pub runs : is_dead_in (state_at w done.place f.holder) ≡ false
 
 -- ---- each deed by itself
+abbrev pub IsGrantable : World → (place txn key : ℕ) → Mode → Type 0
+IsGrantable w i t k m = (u : ℕ) (n : Mode) → (t == u) ≡ false → lock_at w i u k ≡ Some n → both_shared m n ≡ true
+
 -- one that was dead has its locks until it is cleaned up, while it isn't dead any more
 abbrev pub IsAnothers : World → (client place txn key : ℕ) → Type 0
-IsAnothers w c i t k = WasDead w t ⊎ ((d : ℕ) × ((d == c) ≡ false) × HasGot (take i w.happened) d t k)
+IsAnothers w c i t k = WasDead w t ⊎ ((d : ℕ) × (m : Mode) × ((d == c) ≡ false) × HasGot (take i w.happened) d t k m)
+
+pub record IsHindered (w : World) (c i : ℕ) (f : Refusal) : Type 0 where
+  pub mode : Mode
+  pub holds : lock_at w i f.holder f.key ≡ Some mode
+  pub clash : both_shared f.mode mode ≡ false
+  pub by_another : IsAnothers w c i f.holder f.key
+  pub unclaimed : claimer_at w i f.holder ≡ Some c → is_claimed_in (state_at w i f.holder) ≡ false
 
 -- what must be so where it is done, whichever step it belongs to; behind a stop no request is refused, and nothing is logged but takings back and solos
 abbrev pub IsRight : World → (client place : ℕ) → Deed → Type 0
@@ -333,7 +369,8 @@ IsRight w c i (Logs (Solo t p b)) = Unit {0}
 IsRight w c i (Logs x) = stop_at w i ≡ None
 IsRight w c i (Claims u) = is_dead_in (state_at w i u) ≡ true
 IsRight w c i (GivesBack u latched) = (was : Option ℕ) × (state_at w i u ≡ Some (Cleaning was)) × ((latched ≡ was) ⊎ (latched ≡ None)) × (claimer_at w i u ≡ Some c)
-IsRight w c i (Yields f) = (f.at ≡ length (log_at w i)) × (is_dead_in (state_at w i f.holder) ≡ false) × (stop_at w i ≡ None) × IsAnothers w c i f.holder f.key
+IsRight w c i (GetsLock t k m) = (state_at w i t ≡ Some Live) × (stop_at w i ≡ None) × IsGrantable w i t k m
+IsRight w c i (Yields f) = (f.at ≡ length (log_at w i)) × (is_dead_in (state_at w i f.holder) ≡ false) × (stop_at w i ≡ None) × IsHindered w c i f
 IsRight w c i (FindsDead f) = (f.at ≡ length (log_at w i)) × (is_dead_in (state_at w i f.holder) ≡ true) × (stop_at w i ≡ None)
 IsRight w c i (Meets StoreFailed) = Unit {0}
 IsRight w c i (Meets why) = (act : Act) × (o : Option ℕ) × IsCause w c i act o why
@@ -366,6 +403,7 @@ KeepsOlder t xs = (us : List Pending) → (more : List Pending) × (undos_behind
 pub record IsUnanswered (w : World) (c t : ℕ) (d : Option ℕ) (call : Call) (xs : List Receipt) : Type 0 where
   pub work : AllByRecursion (IsCutWork w c t call) xs
   pub spared : spares d (operations t xs) ≡ true
+  pub asks : AsksFirst xs
   pub older : KeepsOlder t xs
 
 -- one that was refused, by no stop, and isn't taken back yet
@@ -377,6 +415,7 @@ pub record IsTurnedBack (w : World) (c t : ℕ) (d : Option ℕ) (call : Call) (
   pub is : xs ≡ work ++ (at, Meets why) ∷ back
   pub tried : AreTried w c t call work
   pub stays : StaysRefused work
+  pub granted : WasGranted work
   pub cause : MetCause w c at (Calls call) (Some t) why
   pub survives : Survives w c at t call d (operations t work) why cause
   pub no_stop : is_stop why ≡ false
@@ -444,17 +483,16 @@ abbrev pub IsEnd : World → (client txn : ℕ) → Call → Ending → Type 0
 IsEnd w c t call (TakenBack n) = IsUncommitted w t n
 IsEnd w c t call (LeftBehind n cause) = MetCause w c n (Calls call) (Some t) (StoppedBy cause)
 
--- a call asks for its lock before its first operation
 abbrev pub HasCause : World → ℕ → Move → Type 0
 HasCause w c (Begins t n rest) = Unit {0}
 HasCause w c (BeginsAgain t n tries h rest) = HasEndedBy w h n
 HasCause w c (IsRefusedBegin place s n why rest) = MayBegin place s × MetCause w c n BeginAct None why × WaitsNoMore w place n why
 HasCause w c (Skips s act rest) = Unit {0}
 HasCause w c (Rests t act rest) = Unit {0}
-HasCause w c (Answers t tries cs d work n call a rest) = AreWork w c t call work × (spares d (operations t work) ≡ true) × StaysBack t work
+HasCause w c (Answers t tries cs d work n call a rest) = AreWork w c t call work × (spares d (operations t work) ≡ true) × StaysBack t work × WasGranted work
 HasCause w c (IsRefusedCall t tries cs d s work n back call why rest) =
-    AreTried w c t call work × ((met : MetCause w c n (Calls call) (Some t) why) × Survives w c n t call d (operations t work) why met) × AreAside w c t back × KeepsNothing t why (work ++ (n, Meets why) ∷ back) × StaysRefused work
-HasCause w c (Dies t tries cs d work n r call rest) = AreWork w c t call work × (operations t work + 1 ≡ d) × DiesIn w c n t r call
+    AreTried w c t call work × ((met : MetCause w c n (Calls call) (Some t) why) × Survives w c n t call d (operations t work) why met) × AreAside w c t back × KeepsNothing t why (work ++ (n, Meets why) ∷ back) × StaysRefused work × AsksUnless why work
+HasCause w c (Dies t tries cs d work n r call rest) = AreWork w c t call work × (operations t work + 1 ≡ d) × DiesIn w c n t r call × WasGranted work
 HasCause w c (IsArmed t tries cs d s count rest) = Unit {0}
 HasCause w c (GivesWay t tries cs d work call f back end rest) = AreAsking w c t call work × GetsBusy w c t call f × AreAside w c t back × IsEnd w c t call end × (tries + 1 < 1000)
 HasCause w c (GivesUp t tries cs d work call f back end rest) = AreAsking w c t call work × GetsBusy w c t call f × AreAside w c t back × IsEnd w c t call end × (tries + 1 ≡ 1000)

@@ -28,10 +28,10 @@ use Rattle.dali_record.specs.Spelling.{IsCall, record_length}
 use Rattle.dali_region.specs.State.{RegionState, IsLive}
 use Rattle.dali_system.specs.declared.causes.Cause.{Cause}
 use Rattle.dali_system.specs.Run.{HasRisen}
-use Rattle.dali_system.specs.State.{CoreState, row_of, state_of, log_after}
+use Rattle.dali_system.specs.State.{CoreState, row_of, state_of, lock_of, log_after}
 use Rattle.dali_system.specs.Steps.{audit_record}
 use Rattle.dali_transcripts.specs.Words.{Act, Begins, Calls, Arms, Commits, Aborts, Pokes, Audits, Checkpoints, StoreFailed, Said}
-use Rattle.dali_transcripts.specs.World.{Deed, Logs, DiesOn, GivesBack, StartsCheckpoint, MovesAnchor, EndsCheckpoint, Meets, Happening, World, state_after, is_dead_in, is_claimed_in, has_failed, log_of, log_at, stray_after, poked_after, refused_by, Grows}
+use Rattle.dali_transcripts.specs.World.{Deed, Logs, DiesOn, GivesBack, StartsCheckpoint, MovesAnchor, EndsCheckpoint, Meets, Happening, World, state_after, lock_after, IsNoWeaker, is_dead_in, is_claimed_in, has_failed, log_of, log_at, stray_after, poked_after, refused_by, Grows}
 use Rattle.dali_transcripts.specs.Moves.{Receipt, Spot}
 use Rattle.dali_transcripts.specs.Causes.{AreRight}
 use Rattle.dali_transcripts.specs.Transcripts.{IsSoFar, IsOver, IsUnderWay, deeds_of, receipts_of, AreHanded, Told, EachTells, AreTranscripts, round_text}
@@ -181,6 +181,8 @@ pub record HoldsTogether (w : World) : Type 0 where
   pub verdicts : VerdictsTell w
   -- each transaction stands where the deeds leave it
   pub states : (t : ℕ) → state_of w.core.system t ≡ state_after w w.happened t
+  -- and has the locks that they tell
+  pub locks : (t k : ℕ) → IsNoWeaker (lock_of w.core.system t k) (lock_after w w.happened t k)
   pub faults : FaultsTell w
   pub refusals : w.core.system.refusals ≡ w.old.system.refusals ++ refused_by w.happened
   pub room : fits w.old.system.limit (sum_by record_length w.before) w.happened ≡ true

@@ -8,11 +8,12 @@ use Rattle.std.specs.Prelude.{◌≡◌, ◌≢◌, ◌↔◌, ℕ, ◌+◌, ◌
 use Rattle.dali_record.specs.declared.records.Record.TheVariants.{Forward}
 use Rattle.dali_record.specs.Spelling.{record_length}
 use Rattle.dali_region.specs.State.{RegionState}
+use Rattle.dali_locks.specs.declared.mode.Mode.{Mode}
 use Rattle.dali_system.specs.Run.{HasRisen}
-use Rattle.dali_system.specs.State.{state_of}
+use Rattle.dali_system.specs.State.{state_of, lock_of}
 use Rattle.dali_system.specs.Steps.{audit_record}
 use Rattle.dali_transcripts.specs.Words.{StoreFailed}
-use Rattle.dali_transcripts.specs.World.{Deed, Logs, DiesOn, StartsCheckpoint, MovesAnchor, EndsCheckpoint, Meets, Happening, World, log_of, log_at, state_step, stray_step, stray_after, poked_step, refused_by, under_way, Grows}
+use Rattle.dali_transcripts.specs.World.{Deed, Logs, DiesOn, StartsCheckpoint, MovesAnchor, EndsCheckpoint, Meets, Happening, World, log_of, log_at, state_step, lock_step, IsNoWeaker, stray_step, stray_after, poked_step, refused_by, under_way, Grows}
 use Rattle.dali_transcripts.specs.Rounds.{room_for, ends_within, WasRight, HasLooked, PrecheckTells, AreAtOnce, HoldsTogether}
 
 -- ---- what a deed owes
@@ -54,6 +55,7 @@ pub record Owes (v w : World) (c : ℕ) (x : Deed) : Type 0 where
   pub verdict : (b : ℕ) (found : List ℕ) → x ≡ Logs (audit_record b found) → (r : ℕ) (g : RegionState) → slice_get v.old.regions r ≡ Some g
       → (j : ℕ) × (j ≤ length v.happened) × (b < length (log_at v j)) × (Contains found r ↔ (stray_after r g.stray (take j v.happened) ≢ 0))
   pub state : (t : ℕ) → state_of w.core.system t ≡ state_step t (state_of v.core.system t) (x, c)
+  pub lock : (t k : ℕ) (o : Option Mode) → IsNoWeaker (lock_of v.core.system t k) o → IsNoWeaker (lock_of w.core.system t k) (lock_step t k o (x, c))
   pub fault : FaultsBy v w x
   pub refusal : w.core.system.refusals ≡ v.core.system.refusals ++ refused_by ((x, c) ∷ [])
   pub room : RoomBy v x
@@ -67,6 +69,7 @@ pub record HasKept (v w : World) : Type 0 where
   pub anchor : w.core.vault.current ≡ v.core.vault.current
   pub poke : (r : ℕ) (h : RegionState) → slice_get w.core.regions r ≡ Some h → (g : RegionState) × (slice_get v.core.regions r ≡ Some g) × (h.stray ≡ g.stray) × (h.poked ≡ g.poked)
   pub states : (t : ℕ) → state_of w.core.system t ≡ state_of v.core.system t
+  pub locks : (t k : ℕ) (o : Option Mode) → IsNoWeaker (lock_of v.core.system t k) o → IsNoWeaker (lock_of w.core.system t k) o
   pub stopped : w.core.vault.stopped ≡ v.core.vault.stopped
   pub faults : w.core.vault.faults ≡ v.core.vault.faults
   pub refusals : w.core.system.refusals ≡ v.core.system.refusals

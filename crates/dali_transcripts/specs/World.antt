@@ -12,7 +12,9 @@
 --     HasEndedBy w t n         t has ended before record n, or its client died by then
 --     has_failed b xs          a store call has failed behind these deeds, or had before them
 --     claimer_at w i t         who claimed t last, before the deed at place i
---     HasGot xs c t k          among these deeds the client c was granted the lock of the key k, for t
+--     HasGot xs c t k m        among these deeds the client c was granted the lock of the key k in the mode m, for t
+--     lock_after w xs t k, lock_at w i t k     the lock of the key k that t has by these deeds, which it keeps until it ends;  by those before place i
+--     IsNoWeaker held o        the lock that is held is the lock o or a stronger one
 --     failed_at w i            the first region of the epoch's failed audit before the deed at place i, if one has failed
 --     stop_at w i              why the engine is stopped before the deed at place i, if it is
 --     stray_after r s xs       the exclusive-or of the stray writes to region r behind these deeds, which was s before them
@@ -20,18 +22,19 @@
 --     refused_by xs            the refusals of requests among these deeds
 --     under_way xs             whose checkpoint is under way behind these deeds of a round
 --     Grows v w                the world goes on from v to w
-use Rattle.std.specs.Prelude.{◌≡◌, ℕ, ◌<◌, ◌≤◌, ◌⊎◌, Bool, true, false, List, ◌++◌, if◌then◌else◌, ◌==◌, Option, Some, None, Contains, bit_xor, filter_map, fold, length, take, slice_get}
+use Rattle.std.specs.Prelude.{◌≡◌, ℕ, ◌<◌, ◌≤◌, ◌⊎◌, Bool, true, false, List, ◌++◌, if◌then◌else◌, ◌==◌, ◌&&◌, Option, Some, None, Contains, bit_xor, filter_map, fold, length, take, slice_get}
 use Rattle.dali_record.specs.declared.records.Record.{Record}
 use Rattle.dali_record.specs.declared.records.Record.TheVariants.{Begin, Commit, Ended}
 use Rattle.dali_record.specs.Epochs.{last_epoch}
 use Rattle.dali_locks.specs.declared.mode.Mode.{Mode}
+use Rattle.dali_locks.specs.Locks.{stronger_mode}
 use Rattle.dali_att.specs.declared.state.State.{State}
 use Rattle.dali_att.specs.declared.state.State.TheVariants.{Live, Dead, Cleaning, Committed}
 use Rattle.dali_system.specs.declared.causes.Cause.{Cause}
 use Rattle.dali_system.specs.declared.causes.Cause.TheVariants.{Damage, Store}
 use Rattle.dali_system.specs.declared.refusals.Refusal.{Refusal}
 use Rattle.dali_system.specs.Run.{failed_first}
-use Rattle.dali_system.specs.State.{CoreState, state_of, stable}
+use Rattle.dali_system.specs.State.{CoreState, state_of, lock_of, stable}
 use Rattle.dali_transcripts.specs.Words.{Why, StoreFailed}
 
 pub data Deed : Type 0 where
@@ -147,8 +150,24 @@ HasDiedBy w t n = WasDead w t ⊎ ((c r m : ℕ) × HasDone w c m (DiesOn t r) �
 abbrev pub HasEndedBy : World → ℕ → ℕ → Type 0
 HasEndedBy w t n = ((k : ℕ) × (k < n) × IsLogged w k (Ended t)) ⊎ HasDiedBy w t n
 
-abbrev pub HasGot : List Happening → (client txn key : ℕ) → Type 0
-HasGot xs c t k = (m : Mode) × Contains xs (GetsLock t k m, c)
+-- ---- locks, as the deeds tell them
+abbrev pub HasGot : List Happening → (client txn key : ℕ) → Mode → Type 0
+HasGot xs c t k m = Contains xs (GetsLock t k m, c)
+
+abbrev pub lock_step : (txn key : ℕ) → Option Mode → Happening → Option Mode
+lock_step t k o (GetsLock u j m, c) = if (u == t) && (j == k) then Some (stronger_mode o m) else o
+lock_step t k o (Logs (Ended u), c) = if u == t then None else o
+lock_step t k o x = o
+
+abbrev pub lock_after : World → List Happening → (txn key : ℕ) → Option Mode
+lock_after w xs t k = fold (lock_step t k) (lock_of w.old.system t k) xs
+
+abbrev pub lock_at : World → (place txn key : ℕ) → Option Mode
+lock_at w i t k = lock_after w (take i w.happened) t k
+
+abbrev pub IsNoWeaker : Option Mode → Option Mode → Type 0
+IsNoWeaker held None = Unit {0}
+IsNoWeaker held (Some m) = held ≡ Some (stronger_mode held m)
 
 -- ---- the stop, as the deeds leave it
 abbrev pub failing : Bool → Happening → Bool

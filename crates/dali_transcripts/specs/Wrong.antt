@@ -7,18 +7,22 @@ use Rattle.dali_record.specs.declared.records.Answer.TheVariants.{Ok as AnswerOk
 use Rattle.dali_record.specs.declared.records.Record.{Record}
 use Rattle.dali_record.specs.declared.records.Record.TheVariants.{Begin, Forward, Back, Done, Commit, AuditBegin, AuditClean}
 use Rattle.dali_region.specs.State.{RegionState, IsLive}
+use Rattle.dali_att.specs.declared.state.State.TheVariants.{Live}
+use Rattle.dali_locks.specs.declared.mode.Mode.{Mode}
+use Rattle.dali_locks.specs.declared.mode.Mode.TheVariants.{Shared}
+use Rattle.dali_locks.specs.Locks.{both_shared}
 use Rattle.dali_system.specs.declared.causes.Cause.{Cause}
 use Rattle.dali_system.specs.declared.causes.Cause.TheVariants.{Damage}
 use Rattle.dali_system.specs.declared.refusals.Refusal.{Refusal}
 use Rattle.dali_system.specs.Run.{failed_first}
-use Rattle.dali_system.specs.State.{CoreState, state_of, stable}
+use Rattle.dali_system.specs.State.{CoreState, state_of, lock_of, stable}
 use Rattle.dali_system.specs.Steps.{audit_record}
-use Rattle.dali_transcripts.specs.Words.{Act, Calls, Commits, Audits, Checkpoints, StoppedBy, Full, Damaged, UnderWay, Said, Begun, Answered, CommitOk, Aborted, LeftOpen, Died, Busy, CheckpointSaid, Refused}
+use Rattle.dali_transcripts.specs.Words.{Act, Calls, Commits, Audits, Checkpoints, StoppedBy, Full, Damaged, UnderWay, Why, is_stop, Said, Begun, Answered, CommitOk, Aborted, LeftOpen, Died, Busy, CheckpointSaid, Refused}
 use Rattle.dali_record.specs.Epochs.{last_epoch}
 use Rattle.dali_record.specs.Spelling.{record_length}
-use Rattle.dali_transcripts.specs.World.{Deed, Logs, DiesOn, Meets, Claims, GivesBack, Yields, World, log_of, log_at, state_at, is_dead_in, is_claimed_in, claimer_at, stop_at, stray_after, under_way}
-use Rattle.dali_transcripts.specs.Moves.{Receipt, Outside, Within, Move, IsRefusedCall, said as says, own as does}
-use Rattle.dali_transcripts.specs.Causes.{IsAnothers, AreUnfinished, HasCause}
+use Rattle.dali_transcripts.specs.World.{Deed, Logs, DiesOn, Meets, Claims, GivesBack, GetsLock, Yields, World, log_of, log_at, HasGot, lock_after, lock_at, state_at, is_dead_in, is_claimed_in, claimer_at, stop_at, stray_after, under_way}
+use Rattle.dali_transcripts.specs.Moves.{Receipt, Outside, Within, Ending, Move, Answers, IsRefusedCall, GivesWay, said as says, own as does}
+use Rattle.dali_transcripts.specs.Causes.{AreUnfinished, HasCause}
 use Rattle.dali_transcripts.specs.Transcripts.{IsTranscript, Told, EachTells, AreTranscripts}
 use Rattle.dali_transcripts.specs.Rounds.{is_on, IsRound}
 use Rattle.dali_transcripts.specs.Worked.{put, free_cell, world}
@@ -57,6 +61,10 @@ IsDeadThroughout w t = (i : ℕ) → is_dead_in (state_at w i t) ≡ true
 
 abbrev pub RunsThroughout : World → Type 0
 RunsThroughout w = (i : ℕ) → stop_at w i ≡ None
+
+-- before this place no other client than c was granted the lock for t
+abbrev pub IsItsOwn : World → (place client txn key : ℕ) → Type 0
+IsItsOwn w i c t k = (d : ℕ) (m : Mode) → HasGot (take i w.happened) d t k m → (d == c) ≡ true
 
 -- nothing is done in it
 abbrev pub IsIdle : World → Type 0
@@ -121,8 +129,30 @@ pub record WrongOnes : Type 0 where
   pub live_claimed : (i c t : ℕ) → NoRound (λ w new. (slice_get w.happened i ≡ Some (Claims t, c)) × (is_dead_in (state_at w i t) ≡ false))
   pub given_back_by_another : (i c t : ℕ) (latched : Option ℕ) → NoRound (λ w new. (slice_get w.happened i ≡ Some (GivesBack t latched, c)) × (claimer_at w i t ≢ Some c))
   pub refused_behind_a_stop : (i c : ℕ) (f : Refusal) → NoRound (λ w new. (slice_get w.happened i ≡ Some (Yields f, c)) × (stop_at w i ≢ None))
-  -- one that gives way where no other client was granted the lock
-  pub gave_way_to_none : (i c : ℕ) (f : Refusal) → NoRound (λ w new. (slice_get w.happened i ≡ Some (Yields f, c)) × (IsAnothers w c i f.holder f.key → ⊥))
+  -- one that gives way to a holder without a lock, to one that shares the key as it would, to a lock that its own client was granted, or to one that its client cleans up
+  pub gave_way_to_none : (i c : ℕ) (f : Refusal) → NoRound (λ w new. (slice_get w.happened i ≡ Some (Yields f, c)) × (lock_at w i f.holder f.key ≡ None))
+  pub gave_way_to_a_share : (i c : ℕ) (f : Refusal)
+      → NoRound (λ w new. (slice_get w.happened i ≡ Some (Yields f, c)) × (f.mode ≡ Shared) × (lock_at w i f.holder f.key ≡ Some Shared))
+  pub gave_way_to_its_own : (i c : ℕ) (f : Refusal)
+      → NoRound (λ w new. (slice_get w.happened i ≡ Some (Yields f, c)) × (is_dead_in (state_of w.old.system f.holder) ≡ false) × IsItsOwn w i c f.holder f.key)
+  pub gave_way_to_its_claim : (i c : ℕ) (f : Refusal)
+      → NoRound (λ w new. (slice_get w.happened i ≡ Some (Yields f, c)) × (claimer_at w i f.holder ≡ Some c) × (is_claimed_in (state_at w i f.holder) ≡ true))
+  -- one that is granted to a transaction that isn't live, or though another one has a lock that conflicts, or behind a stop, or in a call that gives way; a lock that is told, and that nobody has
+  pub granted_to_none_live : (i c t k : ℕ) (m : Mode) → NoRound (λ w new. (slice_get w.happened i ≡ Some (GetsLock t k m, c)) × (state_at w i t ≢ Some Live))
+  pub granted_in_the_way : (i c t k u : ℕ) (m n : Mode)
+      → NoRound (λ w new. (slice_get w.happened i ≡ Some (GetsLock t k m, c)) × ((t == u) ≡ false) × (lock_at w i u k ≡ Some n) × (both_shared m n ≡ false))
+  pub granted_behind_a_stop : (i c t k : ℕ) (m : Mode) → NoRound (λ w new. (slice_get w.happened i ≡ Some (GetsLock t k m, c)) × (stop_at w i ≢ None))
+  pub granted_and_gave_way : (w : World) (c t tries n k : ℕ) (m : Mode) (d : Option ℕ) (call : Call) (f : Refusal) (back : List Receipt) (end : Ending) (cs rest : List Act)
+      → HasCause w c (GivesWay t tries cs d ((n, GetsLock t k m) ∷ []) call f back end rest) → ⊥
+  -- a call that answers, or is refused by no stop, or makes an operation, whatever refuses it, and in a round that is cut too, and was granted nothing
+  pub answered_ungranted : (w : World) (c t tries n : ℕ) (d : Option ℕ) (call : Call) (a : Answer) (cs rest : List Act) → HasCause w c (Answers t tries cs d [] n call a rest) → ⊥
+  pub operated_ungranted : (w : World) (c t tries n m : ℕ) (d : Option ℕ) (s : Bool) (b : Block) (work back : List Receipt) (call : Call) (why : Why) (cs rest : List Act)
+      → HasCause w c (IsRefusedCall t tries cs d s ((n, Logs (Forward t b)) ∷ work) m back call why rest) → ⊥
+  pub operated_and_cut : (w : World) (c t tries n : ℕ) (d : Option ℕ) (s : Bool) (b : Block) (work : List Receipt) (call : Call) (cs rest : List Act)
+      → AreUnfinished w c (Within t tries cs d s) (Calls call ∷ rest) ((n, Logs (Forward t b)) ∷ work) → ⊥
+  pub refused_ungranted : (w : World) (c t tries m : ℕ) (d : Option ℕ) (s : Bool) (back : List Receipt) (call : Call) (why : Why) (cs rest : List Act)
+      → is_stop why ≡ false → HasCause w c (IsRefusedCall t tries cs d s [] m back call why rest) → ⊥
+  pub had_by_nobody : (t k : ℕ) (m : Mode) → NoRound (λ w new. (lock_after w w.happened t k ≡ Some m) × (lock_of new.system t k ≡ None))
   -- behind a stop a transaction that begins or commits, an operation, or an answer
   pub begun_behind_a_stop : (i c t : ℕ) → NoRound (λ w new. (slice_get w.happened i ≡ Some (Logs (Begin t), c)) × (stop_at w i ≢ None))
   pub answered_behind_a_stop : (i c t : ℕ) (call : Call) (a : Answer) → NoRound (λ w new. (slice_get w.happened i ≡ Some (Logs (Done t call a), c)) × (stop_at w i ≢ None))

@@ -1,10 +1,9 @@
 -- A transaction that is taken back as its client is told, at the end of its block, or since an older one holds the key of its call.
-use Rattle.std.proofs.Common.{◌≡◌, ℕ, ◌+◌, ◌<◌, Bool, true, false, List, [], ◌∷◌, ◌++◌, length, map, Option, Some, None, is_some, refl, ap, sym, subst, ◌∙◌, inl, inr}
+use Rattle.std.proofs.Common.{◌≡◌, ℕ, ◌+◌, ◌<◌, Bool, true, false, List, [], ◌∷◌, ◌++◌, length, map, Option, None, is_some, refl, ap, sym, subst, ◌∙◌, inl, inr}
 use Rattle.std.proofs.lemmas.List.{append_assoc}
 use Rattle.dali_record.specs.declared.records.Record.{Record}
 use Rattle.dali_record.specs.declared.records.Record.TheVariants.{Ended}
 use Rattle.dali_region.specs.State.{RegionState}
-use Rattle.dali_att.specs.declared.state.State.TheVariants.{Live}
 use Rattle.dali_store.specs.Store.{Files as Disk}
 use Rattle.dali_system.specs.State.{SystemState, state_of}
 use Rattle.dali_crash.specs.Checkpoints.{Point}
@@ -31,6 +30,7 @@ use Rattle.dali_turns.specs.Goes.{Went}
 use Rattle.dali_turns.proofs.Rows.{had_row}
 use Rattle.dali_turns.proofs.Doing.{ended, went_on, went_by, went_silent}
 use Rattle.dali_turns.proofs.Closing.{GoesBack, GoesAway}
+use Rattle.dali_rounds.specs.Went.{is_open}
 
 -- behind the end of the open transaction
 placed_behind : (acts : List Act) → IsPlaced true acts → IsPlaced false (behind_close acts)
@@ -62,7 +62,7 @@ module _ {V : Type 0} (told : V → Option Disk) (may_leave : V → Disk → Typ
       spot_is rest next = fits.spot ∙ (ap (λ b. at (IsWithin x.txn x.tries (map act_of x.commands.now) x.deadly b) (rest_of k)) not_said ∙ ap (at (IsWithin x.txn x.tries (map act_of x.commands.now) x.deadly false)) next)
 
       -- ---- as a whole
-      module _ (away : GoesAway told may_leave faults precheck s B p w gs y v a.client (Within x) x.txn q hs z) (rows : (u : ℕ) → state_of z u ≡ Some Live → (state_of y u ≡ Some Live) × (x.txn ≡ u → ⊥)) where
+      module _ (away : GoesAway told may_leave faults precheck s B p w gs y v a.client (Within x) x.txn q hs z) (rows : (u : ℕ) → is_open (state_of z u) ≡ true → (is_open (state_of y u) ≡ true) × (x.txn ≡ u → ⊥)) where
         abbrev deeds : List Deed
         deeds = away.back ++ Logs (Ended x.txn) ∷ []
 
@@ -155,7 +155,7 @@ module _ {V : Type 0} (told : V → Option Disk) (may_leave : V → Disk → Typ
     yield_spot : a.spot ≡ at (IsWithin x.txn x.tries commands x.deadly false) (Calls fits.call ∷ fits.more)
     yield_spot = fits.spot ∙ ap (at (IsWithin x.txn x.tries commands x.deadly false)) fits.calls
 
-    module _ (away : GoesAway told may_leave faults precheck s B p w gs y v a.client (Within x) x.txn q hs z) (rows : (u : ℕ) → state_of z u ≡ Some Live → (state_of y u ≡ Some Live) × (x.txn ≡ u → ⊥)) where
+    module _ (away : GoesAway told may_leave faults precheck s B p w gs y v a.client (Within x) x.txn q hs z) (rows : (u : ℕ) → is_open (state_of z u) ≡ true → (is_open (state_of y u) ≡ true) × (x.txn ≡ u → ⊥)) where
       abbrev given : List Deed
       given = away.back ++ Logs (Ended x.txn) ∷ []
 

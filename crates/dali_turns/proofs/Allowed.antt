@@ -1,5 +1,5 @@
 -- What the rules of the log and the locks allow a plan next.
-use Rattle.std.proofs.Common.{◌≡◌, ℕ, ◌+◌, ◌^◌, ◌<◌, Bool, true, false, not, List, [], ◌∷◌, ◌++◌, Option, Some, None, refl, ap, sym, subst, ◌∙◌, arith}
+use Rattle.std.proofs.Common.{◌≡◌, ℕ, ◌+◌, ◌^◌, ◌<◌, true, false, List, [], ◌∷◌, ◌++◌, Some, None, refl, ap, sym, subst, ◌∙◌, arith}
 use Rattle.std.specs.Prelude.{slice_get}
 use Rattle.std.proofs.lemmas.List.Elements.{recursion_from_All}
 use Rattle.std.proofs.lemmas.Option.{slice_get_within}
@@ -19,7 +19,6 @@ use Rattle.dali_record.specs.Spelling.{Is64, IsCall, CanBeSpelled, record_length
 use Rattle.dali_record.proofs.Made.{made_is_block}
 use Rattle.dali_record.proofs.Pushes.{IsLockLegal-push}
 use Rattle.dali_region.specs.State.{RegionState}
-use Rattle.dali_locks.specs.declared.mode.Mode.{Mode}
 use Rattle.dali_system.specs.State.{SystemState, CoreState, lock_of}
 use Rattle.dali_system.specs.Run.{Bases, RunsOn, covers, holds}
 use Rattle.dali_system.specs.Keeps.{IsNext, with_system}
@@ -31,7 +30,7 @@ use Rattle.dali_calls.specs.Steps.{call_key, is_get, answer_of, IsBlockOf, IsNex
 use Rattle.dali_calls.specs.Plans.{Planned, is_back, plan_next, want_of, GoesOn, IsWhole}
 use Rattle.dali_calls.specs.Followed.{HoldsCall, Follows}
 use Rattle.dali_calls.proofs.Nexts.{next_spelled}
-use Rattle.dali_calls.proofs.Stepping.{state_there, covers_all, done_is_step}
+use Rattle.dali_calls.proofs.Stepping.{state_there, done_is_step, by_get}
 use Rattle.dali_calls.proofs.Following.{onward_follows}
 use Rattle.dali_calls.proofs.Wholes.{get_leaves, onward_of}
 use Rattle.dali_calls.proofs.OnKind.{next_kind}
@@ -52,10 +51,6 @@ owns_it y t b a held e = subst (λ (z : Touch). holds y z.owner z.block ≡ true
 
 locks_allow : (bases : Bases) (L : List Record) (c : CoreState) (t : ℕ) (b : Block) → RunsOn bases L c → holds c.system t b ≡ true → IsLockLegal (L ++ Forward t b ∷ [])
 locks_allow bases L c t b runs held = IsLockLegal-push L (Forward t b) runs.log.locks (no_conflict c.system.sizes L (Forward t b) c.system runs.locks (λ a e. owns_it c.system t b a held e))
-
-by_get : (m : Option Mode) (g c : Bool) → covers m (not g) ≡ true → (g ≡ true → c ≡ false) → covers m c ≡ true
-by_get m true c e f = ap (covers m) (f refl) ∙ e
-by_get m false c e f = covers_all m c e
 
 -- the lock of the call covers the block of its next operation
 next_block : (plan : Planned) (b : Block) → is_back plan ≡ false → plan.phase ≡ IsCalling → IsBlockOf (plan_next plan) (call_key plan.call) b → IsNextBlock plan.geometry plan.txn plan.call plan.stage b

@@ -1,10 +1,10 @@
 -- Calm steps, which call no store and take no frame, made by a client of a round.
-use Rattle.std.proofs.Common.{◌≡◌, ℕ, Bool, true, false, ◌&&◌, List, [], ◌∷◌, ◌++◌, map, Option, Some, None, is_some, refl, ap, sym, subst, ◌∙◌}
+use Rattle.std.proofs.Common.{◌≡◌, ℕ, Bool, true, false, List, [], ◌∷◌, ◌++◌, map, Option, Some, None, is_some, refl, ap, sym, subst, ◌∙◌}
 use Rattle.std.specs.Prelude.{◌==◌}
 use Rattle.std.specs.List.{list_all}
+use Rattle.std.proofs.lemmas.Bool.{and_parts, and_from}
 use Rattle.dali_record.specs.declared.records.Record.{Record}
 use Rattle.dali_region.specs.State.{RegionState}
-use Rattle.dali_att.specs.declared.state.State.TheVariants.{Live, Committed}
 use Rattle.dali_store.specs.Store.{Files as Disk}
 use Rattle.dali_system.specs.declared.causes.Cause.{Cause}
 use Rattle.dali_system.specs.State.{SystemState, CoreState, state_of}
@@ -13,11 +13,10 @@ use Rattle.dali_system.specs.Courses.{Step, Operates, TakesBack, Frees, Locks, O
 use Rattle.dali_crash.specs.Checkpoints.{StoreStep, Does, Point, IsPointCourse, moment_of}
 use Rattle.dali_crash.specs.Traces.{Start, bases_of}
 use Rattle.dali_vault.specs.Vaulted.{Vaulted}
-use Rattle.dali_steps.specs.Courses.{is_quiet}
 use Rattle.dali_clean.specs.Steps.{is_own_change}
 use Rattle.dali_ends.specs.Ended.{AreOfEnd}
 use Rattle.dali_rounds.specs.Went.{is_calm, Went as GoneOn}
-use Rattle.dali_rounds.proofs.Calm.{calm_steps, taken_course}
+use Rattle.dali_rounds.proofs.Calm.{taken_course, calm_quiet}
 use Rattle.dali_transcripts.specs.World.{Deed, World, is_claimed_in}
 use Rattle.dali_deeds.specs.Tells.{after, Goes}
 use Rattle.dali_deeds.specs.Laws.{AreOfCourse}
@@ -29,19 +28,9 @@ use Rattle.dali_turns.proofs.Deeds.{course_tells}
 use Rattle.dali_turns.proofs.Beside.{is_out_of, course_audit, step_image, image_still, image_then}
 use Rattle.dali_turns.proofs.Coursing.{course_flag}
 use Rattle.dali_turns.proofs.Doing.{Did}
+use Rattle.dali_rounds.specs.Went.{is_open}
 
 -- ---- lists
-both_true : (a b : Bool) → (a && b) ≡ true → (a ≡ true) × (b ≡ true)
-both_true true b e = (refl, e)
-both_true false b e = absurd (cc)
-
-pub both_yes : (a b : Bool) → a ≡ true → b ≡ true → (a && b) ≡ true
-both_yes true true e f = refl
-both_yes true false e f = f
-both_yes false b e f = absurd (cc)
-
-pub one_quiet : (x : Step) → is_calm x ≡ true → is_quiet x ≡ true
-one_quiet x e = (both_true (is_quiet x) true (calm_steps (x ∷ []) (both_yes (is_calm x) true e refl))).0
 
 -- the steps of an end are none of an audit
 pub end_out : (b t : ℕ) (xs : List Step) → AreOfEnd t xs → list_all (is_out_of b) (map Does xs) ≡ true
@@ -64,7 +53,7 @@ calm_change t r x e = absurd (cc)
 
 pub end_calm : (t : ℕ) (xs : List Step) → AreOfEnd t xs → list_all is_calm xs ≡ true
 end_calm t [] are = refl
-end_calm t (OnRegion r x ∷ xs) are = both_yes (is_calm (OnRegion r x)) (list_all is_calm xs) (calm_change t r x are.0) (end_calm t xs are.1)
+end_calm t (OnRegion r x ∷ xs) are = and_from (is_calm (OnRegion r x)) (list_all is_calm xs) (calm_change t r x are.0) (end_calm t xs are.1)
 end_calm t (Locks u k m ∷ xs) are = end_calm t xs are.1
 end_calm t (Operates u k ∷ xs) are = end_calm t xs are.1
 end_calm t (TakesBack u k ∷ xs) are = end_calm t xs are.1
@@ -75,7 +64,7 @@ end_calm t (x ∷ xs) are = absurd are
 
 pub out_both : (b : ℕ) (xs ys : List StoreStep) → list_all (is_out_of b) xs ≡ true → list_all (is_out_of b) ys ≡ true → list_all (is_out_of b) (xs ++ ys) ≡ true
 out_both b [] ys e f = f
-out_both b (x ∷ xs) ys e f = let parts = both_true (is_out_of b x) (list_all (is_out_of b) xs) e in both_yes (is_out_of b x) (list_all (is_out_of b) (xs ++ ys)) parts.0 (out_both b xs ys parts.1 f)
+out_both b (x ∷ xs) ys e f = let parts = and_parts (is_out_of b x) (list_all (is_out_of b) xs) e in and_from (is_out_of b x) (list_all (is_out_of b) (xs ++ ys)) parts.0 (out_both b xs ys parts.1 f)
 
 -- a stop stays
 stop_there : (y z : SystemState) → ((cause : Cause) → y.stop ≡ Some cause → z.stop ≡ Some cause) → is_some y.stop ≡ true → is_some z.stop ≡ true
@@ -84,13 +73,6 @@ stop_there y z stays e = by_stop y.stop refl
     by_stop : (o : Option Cause) → y.stop ≡ o → is_some z.stop ≡ true
     by_stop None f = let no : false ≡ true = sym (ap is_some f) ∙ e in absurd (cc)
     by_stop (Some cause) f = ap is_some (stays cause f)
-
-ran_before : (y z : SystemState) → ((cause : Cause) → y.stop ≡ Some cause → z.stop ≡ Some cause) → z.stop ≡ None → y.stop ≡ None
-ran_before y z stays e = by_stop y.stop refl
-  where
-    by_stop : (o : Option Cause) → y.stop ≡ o → y.stop ≡ None
-    by_stop None f = f
-    by_stop (Some cause) f = let no : Some cause ≡ None = sym (stays cause f) ∙ e in absurd (cc)
 
 module _ {V : Type 0} (told : V → Option Disk) (may_leave : V → Disk → Type 0) (faults : V → ℕ) where
   -- ---- another client's checkpoint
@@ -101,33 +83,34 @@ module _ {V : Type 0} (told : V → Option Disk) (may_leave : V → Disk → Typ
       (subst (λ (rs : List RegionState). ImageStays told may_leave faults s B p gs y v B p rs p.core.system v) (sym regions)
       (subst (λ (m : SystemState). ImageStays told may_leave faults s B p gs y v B p gs m v) (sym system) (image_still told may_leave faults s B p gs y v)))
   calm_image s B p q (x ∷ xs) gs y v calm (k, step, course) regions system =
-      let parts = both_true (is_calm x) (list_all is_calm xs) calm in
+      let parts = and_parts (is_calm x) (list_all is_calm xs) calm in
       image_then told may_leave faults s B B B p k q gs k.core.regions q.core.regions y k.core.system q.core.system v v v (λ r. r)
-      (step_image told may_leave faults s B p k x gs y v (one_quiet x parts.0) step (taken_course (moment_of p) (moment_of k) (x ∷ []) (both_yes (is_calm x) true parts.0 refl) (moment_of k, step.1, refl)) system)
+      (step_image told may_leave faults s B p k x gs y v (calm_quiet x parts.0) step (taken_course (moment_of p) (moment_of k) (x ∷ []) (and_from (is_calm x) true parts.0 refl) (moment_of k, step.1, refl)) system)
       (calm_image s B k q xs k.core.regions k.core.system v parts.1 course refl refl)
 
   -- ---- what a client does by them
   module _ (precheck : Bool) (s : Start) (B : List (List Record)) (p : Point) (w : World) (gs : List RegionState) (y : SystemState) (v : Vaulted V) (stood : Stood told may_leave faults s B p w precheck gs y v) (c : ℕ) (state : State) where
     pub did_calm : (t : ℕ) (own : List Record) (hs : List RegionState) (z : SystemState) (g : GoneOn told may_leave faults t own s B p gs hs z v) (ds : List Deed) → AreOfCourse w c p (map Does g.steps) g.to ds
-        → ((u : ℕ) → is_claimed_in (state_of z u) ≡ false) → (y.stop ≡ None → (u : ℕ) → state_of z u ≡ Some Committed → ⊥)
-        → ((u : ℕ) → state_of y u ≡ Some Live → (Owns state u → ⊥) → (t == u) ≡ false) → ((b : ℕ) → list_all (is_out_of b) (map Does g.steps) ≡ true)
+        → ((u : ℕ) → is_claimed_in (state_of z u) ≡ false)
+        → ((u : ℕ) → is_open (state_of y u) ≡ true → (Owns state u → ⊥) → (t == u) ≡ false) → ((b : ℕ) → list_all (is_out_of b) (map Does g.steps) ≡ true)
         → Did told may_leave faults precheck s B p w c state gs y v ds B g.to hs z v
-    did_calm t own hs z g ds are unclaimed settled apart out = record {
+    did_calm t own hs z g ds are unclaimed apart out = record {
       steps = map Does g.steps;
       course = g.course;
       goes = goes;
       stood = record {
         stands = g.stands;
         files = g.places stood.files;
-        quiet = record { unclaimed = unclaimed; settled = λ runs. settled (ran_before y z stays runs) };
+        quiet = record { unclaimed = unclaimed };
         stops = λ e. stop_there y z stays (stood.stops e);
         tells = goes.tells;
         precheck_is = stood.precheck_is;
         began = stood.began;
+        since = stood.since;
         keeps = course_flag p g.to (map Does g.steps) g.course stood.keeps;
       };
       others = record {
-        txns = λ u lives other. g.others u (apart u lives other) (ap (λ (m : SystemState). state_of m u) stood.stands.at.system ∙ lives);
+        txns = λ u lives other. g.others u (apart u lives other) (ap (λ (m : SystemState). is_open (state_of m u)) stood.stands.at.system ∙ lives);
         audits = λ b less other. course_audit (bases_of s) s.log p g.to (map Does g.steps) b stood.stands.at.vault.run g.course (out b) less;
         image = λ flag other.
             subst (λ (rs : List RegionState). ImageStays told may_leave faults s B p gs y v B g.to rs z v) g.stands.at.regions

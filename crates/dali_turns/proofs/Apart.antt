@@ -1,10 +1,11 @@
 -- What a step of another client leaves of one that is in an audit or makes a checkpoint.
-use Rattle.std.proofs.Common.{◌≡◌, ℕ, zero, suc, ◌<◌, Bool, true, false, List, [], ◌∷◌, ◌++◌, length, fold, Option, Some, None, refl, ap, sym, subst, ◌∙◌, arith}
+use Rattle.std.proofs.Common.{◌≡◌, ℕ, ◌<◌, Bool, true, false, List, [], ◌∷◌, ◌++◌, length, fold, Option, Some, None, refl, ap, sym, subst, ◌∙◌, arith}
 use Rattle.std.specs.Prelude.{Contains, slice_get}
 use Rattle.std.proofs.lemmas.List.{append_assoc}
 use Rattle.std.proofs.lemmas.List.Elements.{Contains-append_right, filter_map-append}
 use Rattle.std.proofs.lemmas.List.Sums.{fold-append}
 use Rattle.std.proofs.lemmas.Option.{slice_get_within}
+use Rattle.dali_lists.proofs.Lists.{get_front}
 use Rattle.dali_counts.proofs.Lists.{some_same}
 use Rattle.dali_geometry.specs.Places.{regions}
 use Rattle.dali_record.specs.declared.records.Record.{Record}
@@ -25,7 +26,7 @@ use Rattle.dali_transcripts.specs.Rounds.{Standing, Stands, by, AreSpans}
 use Rattle.dali_transcripts.proofs.Owned.{owned_by_one}
 use Rattle.dali_deeds.specs.Tells.{Goes}
 use Rattle.dali_turns.specs.declared.client.State.{State}
-use Rattle.dali_turns.specs.declared.client.State.TheVariants.{Within, Calling, TakingBack, Outside, LeftOut, Waiting, Auditing, Copying, Certifying, Gone}
+use Rattle.dali_turns.specs.declared.client.State.TheVariants.{Within, Calling, TakingBack, Committing, Outside, LeftOut, Waiting, Auditing, Copying, Certifying, Gone}
 use Rattle.dali_turns.specs.Stood.{Stood}
 use Rattle.dali_turns.specs.Audits.{IsPassing, FitsAuditing}
 use Rattle.dali_turns.specs.Checkpoints.{IsMaking, FitsCopying, FitsCertifying}
@@ -66,10 +67,6 @@ spans_stay c d (MovesAnchor n ∷ ds) other h = spans_stay c d ds other h
 spans_stay c d (Meets why ∷ ds) other h = spans_stay c d ds other h
 
 -- ---- the log goes on
-get_front : {X : Type 0} (A B : List X) (i : ℕ) (x : X) → slice_get A i ≡ Some x → slice_get (A ++ B) i ≡ Some x
-get_front [] B i x e = absurd (cc)
-get_front (y ∷ A) B zero x e = e
-get_front (y ∷ A) B (suc i) x e = get_front A B i x e
 
 pub log_more : (w : World) (more : List Happening) → w.before ++ logged_by (w.happened ++ more) ≡ log_of w ++ logged_by more
 log_more w more = ap (λ l. w.before ++ l) (filter_map-append record_of w.happened more) ∙ sym (append_assoc w.before (logged_by w.happened) (logged_by more))
@@ -99,6 +96,7 @@ module _ {V : Type 0} (told : V → Option Disk) (may_leave : V → Disk → Typ
       by_state (Within t) k none = none
       by_state (Calling t plan) k none = none
       by_state (TakingBack t plan why) k none = none
+      by_state (Committing t number removals next) k none = none
       by_state Outside k none = none
       by_state LeftOut k none = none
       by_state (Waiting tries holder) k none = none
@@ -142,6 +140,7 @@ module _ {V : Type 0} (told : V → Option Disk) (may_leave : V → Disk → Typ
       by_state (Within t) k none = none
       by_state (Calling t plan) k none = none
       by_state (TakingBack t plan why) k none = none
+      by_state (Committing t number removals next) k none = none
       by_state Outside k none = none
       by_state LeftOut k none = none
       by_state (Waiting tries holder) k none = none

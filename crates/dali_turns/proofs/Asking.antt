@@ -9,7 +9,6 @@ use Rattle.dali_record.specs.declared.records.Call.{Call}
 use Rattle.dali_record.specs.declared.records.Record.{Record}
 use Rattle.dali_region.specs.State.{RegionState}
 use Rattle.dali_locks.specs.declared.mode.LockAnswer.TheVariants.{Granted}
-use Rattle.dali_att.specs.declared.state.State.TheVariants.{Live}
 use Rattle.dali_store.specs.Store.{Files as Disk}
 use Rattle.dali_system.specs.declared.causes.Cause.{Cause}
 use Rattle.dali_system.specs.State.{SystemState, VaultState, CoreState, state_of}
@@ -29,6 +28,7 @@ use Rattle.dali_transcripts.specs.World.{Meets, World, log_of}
 use Rattle.dali_transcripts.specs.Moves.{Within as IsWithin, at, Move, IsRefusedCall, left}
 use Rattle.dali_transcripts.specs.Causes.{AreAsking, AreTried, HasCause, AreUnfinished, spares}
 use Rattle.dali_transcripts.specs.Rounds.{Standing, IsPlaced}
+use Rattle.dali_transcripts.proofs.Grants.{idle_asks}
 use Rattle.dali_transcripts.proofs.Growing.{askings, unanswered}
 use Rattle.dali_deeds.specs.Tells.{after}
 use Rattle.dali_clients.specs.declared.command.Command.TheVariants.{Call as IsCall}
@@ -50,8 +50,9 @@ use Rattle.dali_turns.proofs.Refusals.{HasCauseNow, met_now, right_now, stop_now
 use Rattle.dali_turns.proofs.Doing.{Did, did_nothing, did_meet, behind, ended, went_on, went_by, went_silent, vault_stops}
 use Rattle.dali_turns.proofs.Calling.{behind_one, none_so_far}
 use Rattle.dali_turns.proofs.Refusing.{all_tried_of, unrefused}
-use Rattle.dali_turns.proofs.Asked.{works_of, none_yet, left_none, granted_on}
+use Rattle.dali_turns.proofs.Asked.{works_of, none_yet, asked_idle, left_none, granted_on}
 use Rattle.dali_turns.proofs.Cutting.{asked_cut}
+use Rattle.dali_rounds.specs.Went.{is_open}
 
 -- the plan of a call that has made no operation
 abbrev pub new_plan : Sizes → ℕ → Call → Planned
@@ -72,7 +73,7 @@ module _ {V : Type 0} (told : V → Option Disk) (may_leave : V → Disk → Typ
   rows : (new : State) → new ≡ Within x → RowsTell (Within x) y new y
   rows new at_within runs t alive = by_test (x.txn == t) refl
     where
-      by_test : (b : Bool) → (x.txn == t) ≡ b → Owns new t ⊎ ((state_of y t ≡ Some Live) × (Owns (Within x) t → ⊥))
+      by_test : (b : Bool) → (x.txn == t) ≡ b → Owns new t ⊎ ((is_open (state_of y t) ≡ true) × (Owns (Within x) t → ⊥))
       by_test true e = inl (subst (λ (n : State). Owns n t) (sym at_within) (equal x.txn t e))
       by_test false e = inr (alive, λ same. let one : (x.txn == t) ≡ true = same_number x.txn t same in let no : true ≡ false = sym one ∙ e in absurd (cc))
 
@@ -116,7 +117,7 @@ module _ {V : Type 0} (told : V → Option Disk) (may_leave : V → Disk → Typ
         due = fits.due;
         lives = fits.lives;
         free = fits.free;
-        locks = still_got p p w still did_none.goes.grows a.client x.txn (λ n h. h) fits.locks;
+        locks = still_got p p w still did_none.goes.grows a.client x.txn (λ n. refl) fits.locks;
         may_call = fits.may_call;
       }
 
@@ -143,6 +144,7 @@ module _ {V : Type 0} (told : V → Option Disk) (may_leave : V → Disk → Typ
       tt,
       λ e. absurd (cc),
       unrefused w a.client x.txn call a.pending (works_of w a.client x.txn call a.pending asking),
+      (idle_asks a.pending (asked_idle w a.client x.txn call a.pending asking), λ e. absurd (cc)),
     )
 
     stopped_behind : (rest : List Act) → rest ≡ more → FitsWithin p now (ended a move) rest x
@@ -158,7 +160,7 @@ module _ {V : Type 0} (told : V → Option Disk) (may_leave : V → Disk → Typ
       due = fits.due;
       lives = fits.lives;
       free = fits.free;
-      locks = still_got p p w now did_stop.goes.grows a.client x.txn (λ n h. h) fits.locks;
+      locks = still_got p p w now did_stop.goes.grows a.client x.txn (λ n. refl) fits.locks;
       may_call = λ e. let some : Some stop ≡ None = sym stopped ∙ (ap (λ (m : SystemState). m.stop) (sym stood.stands.at.system) ∙ e) in absurd (cc);
     }
 

@@ -1,6 +1,7 @@
 -- The step functions of an audit, by what the calls in them say.
-use Rattle.std.proofs.Common.{◌≡◌, ℕ, ◌+◌, ◌<◌, ◌≤◌, ◌^◌, Bool, true, false, List, [], ◌∷◌, length, replicate, map, drop, Option, Some, None, is_some, Result, Ok, Err, IfErr, IfSome, refl, ap, sym, subst, ◌∙◌, arith}
+use Rattle.std.proofs.Common.{◌≡◌, ℕ, ◌+◌, ◌<◌, ◌≤◌, ◌^◌, Bool, true, false, List, [], ◌∷◌, length, replicate, map, drop, Option, Some, None, Result, Ok, Err, IfErr, IfSome, refl, ap, sym, subst, ◌∙◌, arith}
 use Rattle.std.specs.Prelude.{slice_get, slice_set}
+use Rattle.std.proofs.lemmas.Option.{same_Some}
 use Rattle.dali_geometry.specs.Places.{regions}
 use Rattle.dali_record.specs.declared.records.Record.TheVariants.{AuditBegin}
 use Rattle.dali_region.specs.State.{RegionState, checked}
@@ -37,16 +38,12 @@ use Rattle.dali_turns.proofs.Passing.{all_passed}
 use Rattle.dali_turns.proofs.Auditing.{has_room, RefusesAudit, audit_why, begins, refusal, refused_begin, silent_begin, no_begin, passes}
 use Rattle.dali_turns.proofs.Ending.{ends, ends_silent, fails_end, fails_silent, stops_end, stops_silent, no_end}
 
--- an error is the one that is told
-some_error : (a b : SystemError) → Some a ≡ Some b → a ≡ b
-some_error a b same = cc
-
 same_error : {T : Type 0} (r : Result T SystemError) (a b : SystemError) → r ≡ Err a → r ≡ Err b → a ≡ b
 same_error r a b e f = cc
 
 pub of_told : {T : Type 0} (r : Result T SystemError) (o : Option SystemError) (e : SystemError) → r ≡ Err e → IfSome o (λ f. r ≡ Err f) → (f : SystemError) → o ≡ Some f → e ≡ f
 of_told r None e is told f some = absurd (cc)
-of_told r (Some g) e is told f some = same_error r e g is told ∙ some_error g f some
+of_told r (Some g) e is told f some = same_error r e g is told ∙ same_Some g f some
 
 pub in_err : {T : Type 0} (P : SystemError → Type 0) (r : Result T SystemError) (e : SystemError) → r ≡ Err e → IfErr r P → P e
 in_err P (Err f) e is h = subst P (error_same f e is) h

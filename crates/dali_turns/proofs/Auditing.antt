@@ -12,6 +12,7 @@ use Rattle.dali_region.specs.State.{RegionState, checked}
 use Rattle.dali_store.specs.Store.{Files as Disk}
 use Rattle.dali_system.specs.declared.causes.Cause.{Cause}
 use Rattle.std.specs.FinMap as map
+use Rattle.dali_lists.proofs.Lists.{get_push}
 use Rattle.dali_system.specs.State.{SystemState, state_in}
 use Rattle.dali_system.specs.Steps.{audit_begun}
 use Rattle.dali_system.specs.Keeps.{with_system, with_region}
@@ -28,7 +29,7 @@ use Rattle.dali_crash.specs.Traces.{Start, bases_of}
 use Rattle.dali_vault.specs.Vaulted.{Vaulted}
 use Rattle.dali_audit.specs.declared.audit.Finding.{Finding}
 use Rattle.dali_audit.specs.declared.audit.Finding.TheVariants.{Waiting}
-use Rattle.dali_audit.specs.Findings.{Audited, finding_of, is_passed, is_damaged}
+use Rattle.dali_audit.specs.Findings.{Audited, finding_of}
 use Rattle.dali_audit.specs.Stepped.{AreFindings, behind_pass}
 use Rattle.dali_audit.proofs.Stepping.{pass_is_step}
 use Rattle.dali_checkpoint.proofs.Audited.{audits_at}
@@ -44,6 +45,7 @@ use Rattle.dali_deeds.specs.Laws.{IsNoFault}
 use Rattle.dali_clients.specs.declared.line.Why.{Why}
 use Rattle.dali_clients.specs.declared.line.Why.TheVariants.{Stopped as IsStopped, LogFull as IsFull}
 use Rattle.dali_clients.specs.Told.{reason_of}
+use Rattle.dali_checkpoint.proofs.Whole.{none_found}
 use Rattle.dali_turns.specs.declared.client.Client.{Client}
 use Rattle.dali_turns.specs.declared.client.State.{State}
 use Rattle.dali_turns.specs.declared.client.State.TheVariants.{Outside, Auditing}
@@ -56,10 +58,7 @@ use Rattle.dali_turns.specs.Goes.{RowsTell, Went}
 use Rattle.dali_turns.proofs.Refusals.{records_are, runs_on_log, HasCauseNow, met_now, right_now, full_audit, stop_now, runs_there, full_now, may_say_more}
 use Rattle.dali_turns.proofs.Passing.{passed, dead_checked, places_checked, passed_one}
 use Rattle.dali_turns.proofs.Doing.{vault_stops, Did, did_nothing, did_meet, did_quietly, behind, ended, went_on, went_by, went_silent}
-
-get_last : {X : Type 0} (xs : List X) (x : X) → slice_get (xs ++ x ∷ []) (length xs) ≡ Some x
-get_last [] x = refl
-get_last (y ∷ xs) x = get_last xs x
+use Rattle.dali_rounds.specs.Went.{is_open}
 
 get_same : {X : Type 0} (n r : ℕ) (x : X) → r < n → slice_get (replicate n x) r ≡ Some x
 get_same zero r x less = absurd (omega (arith, less))
@@ -70,9 +69,6 @@ only_waits : (n r : ℕ) (f : Finding) → slice_get (replicate n Waiting) r ≡
 only_waits zero r f e = absurd (cc)
 only_waits (suc n) zero f e = sym (some_same e)
 only_waits (suc n) (suc r) f e = only_waits n r f e
-
-none_found : (n : ℕ) → AreFindings [] (replicate n Waiting)
-none_found n = record { passed = λ r f e. ap is_passed (sym (only_waits n r f e)); found = λ r f e. ap is_damaged (sym (only_waits n r f e)) }
 
 -- ---- why an audit's begin is refused
 some_why : (a b : Why) → Some b ≡ Some a → b ≡ a
@@ -110,7 +106,7 @@ audit_why y e why memory refused is = by_stop y.stop refl
 
 -- ---- a core of which one step changes no row
 pub rows_same : (old new : State) (y z : SystemState) → z.table ≡ y.table → ((t : ℕ) → Owns old t → ⊥) → RowsTell old y new z
-rows_same old new y z same none runs t lives = inr (ap (λ m. state_in (map.get m t)) (sym same) ∙ lives, none t)
+rows_same old new y z same none runs t lives = inr (ap (λ m. is_open (state_in (map.get m t))) (sym same) ∙ lives, none t)
 
 -- ---- the begin, whoever makes it
 abbrev pub begun_point : Point → Point
@@ -141,7 +137,7 @@ module _ {V : Type 0} (told : V → Option Disk) (may_leave : V → Disk → Typ
     did_begin = did_quietly told may_leave faults precheck s B p w gs y v stood c state (begun_point p) AuditBegins (Logs AuditBegin ∷ []) (audit_begun y) gs refl begun_step refl
         (runs_there (bases_of s) s.log w c p stood.stands.at.vault.run stood.tells (vault_stops told may_leave faults precheck s B p w gs y v stood) (Logs AuditBegin) (begun_point p).core stop_there, tt)
         (ap audit_begun stood.stands.at.system) stood.stands.at.regions
-        refl stood.stands.dead (λ fs held. held) (record { unclaimed = stood.quiet.unclaimed; settled = stood.quiet.settled }) (λ e. e) (λ t lives other. refl) (λ b other. refl)
+        refl stood.stands.dead (λ fs held. held) (record { unclaimed = stood.quiet.unclaimed }) (λ e. e) (λ t lives other. refl) (λ b other. refl)
 
     -- the number of its begin
     number_there : p.core.system.records ≡ y.records
@@ -151,7 +147,7 @@ module _ {V : Type 0} (told : V → Option Disk) (may_leave : V → Disk → Typ
       began : BeganHere (after w c (Logs AuditBegin ∷ []) (begun_point p).core) audit.begin
       began = record {
         since = omega (arith, begin, numbers, length-append w.before (logged_by w.happened));
-        began = subst (λ (L : List Record). slice_get L audit.begin ≡ Some AuditBegin) did_begin.goes.tells.log (subst (λ (n : ℕ). slice_get (p.log ++ AuditBegin ∷ []) n ≡ Some AuditBegin) (sym (begin ∙ (numbers ∙ ap length (sym stood.tells.log)))) (get_last p.log AuditBegin));
+        began = subst (λ (L : List Record). slice_get L audit.begin ≡ Some AuditBegin) did_begin.goes.tells.log (subst (λ (n : ℕ). slice_get (p.log ++ AuditBegin ∷ []) n ≡ Some AuditBegin) (sym (begin ∙ (numbers ∙ ap length (sym stood.tells.log)))) (get_push p.log AuditBegin));
       }
 
       pub begun_passing : IsPassing (begun_point p) (after w c (Logs AuditBegin ∷ []) (begun_point p).core) audit 0

@@ -10,7 +10,7 @@ use Rattle.dali_record.specs.Spelling.{record_length}
 use Rattle.dali_region.specs.declared.Hold.{Hold}
 use Rattle.dali_region.specs.State.{RegionState}
 use Rattle.dali_att.specs.declared.state.State.{State as RowState}
-use Rattle.dali_att.specs.declared.state.State.TheVariants.{Live, Committed}
+use Rattle.dali_att.specs.declared.state.State.TheVariants.{Live}
 use Rattle.dali_store.specs.Store.{Files as Disk}
 use Rattle.dali_system.specs.declared.causes.Cause.{Cause}
 use Rattle.dali_system.specs.State.{SystemState, CoreState, TxnRow, row_of, state_in, state_of, hold_of, lock_of}
@@ -36,7 +36,7 @@ use Rattle.dali_clients.specs.declared.line.Why.{Why}
 use Rattle.dali_clients.specs.declared.line.Why.TheVariants.{Stopped as IsStopped, LogFull as IsFull}
 use Rattle.dali_clients.specs.declared.line.Line.TheVariants.{Begun, Refused}
 use Rattle.dali_clients.specs.Told.{act_of, reason_of}
-use Rattle.dali_transcripts.specs.Words.{Act, Begins as BeginAct, Calls, Why as Reason, StoppedBy, Full, is_stop, Said, Begun as SaidBegun}
+use Rattle.dali_transcripts.specs.Words.{Act, Begins as BeginAct, Why as Reason, StoppedBy, Full, is_stop, Said, Begun as SaidBegun}
 use Rattle.dali_transcripts.specs.World.{Deed, Logs, Meets, World, log_of, is_claimed_in, HasEndedBy}
 use Rattle.dali_transcripts.specs.Moves.{Receipt, Place, Outside as IsOutside, Within as IsWithin, Again, LeftOut as IsLeftOut, Move, Begins, BeginsAgain, IsRefusedBegin, from, to, own, said, at}
 use Rattle.dali_transcripts.specs.Causes.{MayBegin, WaitsNoMore, HasCause, spares, undos_behind}
@@ -61,6 +61,8 @@ use Rattle.dali_turns.proofs.Doing.{vault_stops, ended, Did, did_meet, did_quiet
 use Rattle.dali_turns.proofs.Poking.{went_nowhere}
 use Rattle.dali_turns.proofs.Refusals.{runs_on_log, end_is as end_of_log, log_there, HasCauseNow, met_now, right_now, stop_now, runs_there, may_say_more}
 use Rattle.dali_turns.proofs.Rows.{gone_by}
+use Rattle.dali_turns.proofs.Calling.{none_so_far}
+use Rattle.dali_rounds.specs.Went.{is_open}
 
 -- ---- rows
 has_row : (o : Option TxnRow) → is_some (state_in o) ≡ true → is_some o ≡ true
@@ -75,14 +77,6 @@ alive_some : (o : Option RowState) → is_alive o ≡ true → is_some o ≡ tru
 alive_some None e = absurd (cc)
 alive_some (Some st) e = refl
 
-none_so_far : (w : World) (c t : ℕ) (rest : List Act) → AreSoFar w c t rest []
-none_so_far w c t (Calls call ∷ rest) = tt
-none_so_far w c t rest = refl
-
-some_at : (o : Option Mode) → is_some o ≡ true → (m : Mode) × (o ≡ Some m)
-some_at None e = absurd (cc)
-some_at (Some m) e = (m, refl)
-
 -- an engine that runs isn't said to be stopped
 not_said : (y : SystemState) (b : Bool) → MaySay y b → y.stop ≡ None → b ≡ false
 not_said y false may up = refl
@@ -91,23 +85,16 @@ not_said y true may up = let stopped : is_some y.stop ≡ true = may refl in let
 -- ---- the system behind a begin
 module _ (y : SystemState) where
   quiet_then : IsQuiet y → IsQuiet (begun y)
-  quiet_then quiet = record {
-    unclaimed = λ t. ap is_claimed_in (begun_state y.table y.next t) ∙ unclaimed (y.next == t) t;
-    settled = λ up t e. settled (y.next == t) t up (sym (begun_state y.table y.next t) ∙ e);
-  }
+  quiet_then quiet = record { unclaimed = λ t. ap is_claimed_in (begun_state y.table y.next t) ∙ unclaimed (y.next == t) t }
     where
       unclaimed : (b : Bool) (t : ℕ) → is_claimed_in (if b then Some Live else state_of y t) ≡ false
       unclaimed true t = refl
       unclaimed false t = quiet.unclaimed t
 
-      settled : (b : Bool) (t : ℕ) → y.stop ≡ None → (if b then Some Live else state_of y t) ≡ Some Committed → ⊥
-      settled true t up e = absurd (cc)
-      settled false t up e = quiet.settled up t e
-
   rows_then : (state : State) (x : Transaction) → x.txn ≡ y.next → ((t : ℕ) → Owns state t → ⊥) → RowsTell state y (Within x) (begun y)
-  rows_then state x number apart up t lives = by_test (y.next == t) refl (sym (begun_state y.table y.next t) ∙ lives)
+  rows_then state x number apart up t lives = by_test (y.next == t) refl (ap is_open (sym (begun_state y.table y.next t)) ∙ lives)
     where
-      by_test : (b : Bool) → (y.next == t) ≡ b → (if b then Some Live else state_of y t) ≡ Some Live → (x.txn ≡ t) ⊎ ((state_of y t ≡ Some Live) × (Owns state t → ⊥))
+      by_test : (b : Bool) → (y.next == t) ≡ b → is_open (if b then Some Live else state_of y t) ≡ true → (x.txn ≡ t) ⊎ ((is_open (state_of y t) ≡ true) × (Owns state t → ⊥))
       by_test true e is = inl (number ∙ equal y.next t e)
       by_test false e is = inr (is, apart t)
 
@@ -159,9 +146,8 @@ module _ {V : Type 0} (told : V → Option Disk) (may_leave : V → Disk → Typ
     free : IsFree q.core x.txn
     free r h held = ne_eqb h.txn x.txn (λ e. absurd (omega (arith, holder_is_older r h held, e, own_number)))
 
-    no_lock : (n : ℕ) → IsSome (lock_of q.core.system x.txn n) → ⊥
-    no_lock n has =
-        let (mode, held) = some_at (lock_of p.core.system x.txn n) has in
+    no_lock : (n : ℕ) (mode : Mode) → lock_of q.core.system x.txn n ≡ Some mode → ⊥
+    no_lock n mode held =
         absurd (omega (arith, rows_are_older (bases_of s) p.log p.core runs x.txn (runs.locks.owned x.txn n mode held), own_number))
 
     may_call : MayCall q.log q.core x.txn
@@ -200,7 +186,7 @@ module _ {V : Type 0} (told : V → Option Disk) (may_leave : V → Disk → Typ
       due = ap (λ (d : Option ℕ). spares d 0) deadly;
       lives = lives;
       free = free;
-      locks = λ n has. absurd (no_lock n has);
+      locks = λ n mode held. absurd (no_lock n mode held);
       may_call = λ up. may_call;
     }
 

@@ -1,8 +1,10 @@
 -- What a step of a core leaves to audits and to a checkpoint that aren't its own.
 use Rattle.std.proofs.Common.{◌≡◌, ℕ, ◌<◌, ◌≤◌, Bool, true, false, not, List, [], ◌∷◌, ◌++◌, length, Option, refl, ap, sym, subst, ◌∙◌, ◌⊎◌, inl, inr, arith, is_some, length-append}
-use Rattle.std.specs.Prelude.{◌==◌, ◌&&◌, slice_get}
+use Rattle.std.specs.Prelude.{◌==◌, slice_get}
 use Rattle.std.specs.List.{list_all}
-use Rattle.dali_counts.proofs.Lists.{equal, self}
+use Rattle.std.proofs.lemmas.Bool.{and_parts, not-true}
+use Rattle.dali_lists.proofs.Numbers.{eqb_turned}
+use Rattle.dali_counts.proofs.Lists.{equal}
 use Rattle.dali_counts.proofs.Tallies.{tallies}
 use Rattle.dali_geometry.specs.Sizes.{Sizes}
 use Rattle.dali_record.specs.declared.records.Record.{Record}
@@ -29,7 +31,7 @@ use Rattle.dali_crash.proofs.StoreRuns.{bare_store_course_keeps}
 use Rattle.dali_crash.proofs.Flags.{flag_changes}
 use Rattle.dali_vault.specs.Vaulted.{Vaulted}
 use Rattle.dali_stepwise.specs.Beside.{is_apart, LeavesBe}
-use Rattle.dali_stepwise.proofs.Waiting.{each_leaves}
+use Rattle.dali_stepwise.proofs.Waiting.{each_leaves, further}
 use Rattle.dali_steps.specs.Courses.{is_quiet}
 use Rattle.dali_checkpoint.proofs.Audited.{audits_at}
 use Rattle.dali_checkpoint.proofs.Others.{others_keep}
@@ -41,13 +43,6 @@ abbrev pub is_in_audit : ℕ → Step → Bool
 is_in_audit b (Passes a r) = a == b
 is_in_audit b (AuditEnds a found) = a == b
 is_in_audit b x = false
-
-other_way : (a b : ℕ) → (a == b) ≡ false → (b == a) ≡ false
-other_way a b e = by_test (b == a) refl
-  where
-    by_test : (t : Bool) → (b == a) ≡ t → (b == a) ≡ false
-    by_test true f = let same : (a == b) ≡ true = ap (λ n. n == b) (sym (equal b a f)) ∙ self b in let no : true ≡ false = sym same ∙ e in absurd (cc)
-    by_test false f = f
 
 below : (b n : ℕ) → b < n → (b == n) ≡ false
 below b n less = by_test (b == n) refl
@@ -92,28 +87,9 @@ adds_little b L M c d (ReadFails n) e s = inl s.1.0
 -- it leaves that audit's passes
 passes_stay : (b : ℕ) (old new : Audits) (L : List Record) (c : CoreState) (x : Step) → is_in_audit b x ≡ false → b < c.system.records → AuditsBy old new L c x → new b ≡ old b
 passes_stay b old new L c AuditBegins e less s = audits_at c.system.records b old new [] s false (below b c.system.records less)
-passes_stay b old new L c (Passes a r) e less s = audits_at a b old new (old a ++ pass_now c r) s.1 false (other_way a b e)
+passes_stay b old new L c (Passes a r) e less s = audits_at a b old new (old a ++ pass_now c r) s.1 false (eqb_turned a b e)
 passes_stay b old new L c (AuditEnds a found) e less s = ap (λ z. z b) s.1
-passes_stay b old new L c Begins e less s = ap (λ z. z b) s
-passes_stay b old new L c (Operates t k) e less s = ap (λ z. z b) s
-passes_stay b old new L c (TakesBack t k) e less s = ap (λ z. z b) s
-passes_stay b old new L c (Frees t k) e less s = ap (λ z. z b) s
-passes_stay b old new L c (Answers t k a) e less s = ap (λ z. z b) s
-passes_stay b old new L c (Commits t) e less s = ap (λ z. z b) s
-passes_stay b old new L c (Ends t) e less s = ap (λ z. z b) s
-passes_stay b old new L c (Locks t k m) e less s = ap (λ z. z b) s
-passes_stay b old new L c (Refuses t k m h) e less s = ap (λ z. z b) s
-passes_stay b old new L c (OnRegion r x) e less s = ap (λ z. z b) s
-passes_stay b old new L c (Dies t o) e less s = ap (λ z. z b) s
-passes_stay b old new L c (Claims t) e less s = ap (λ z. z b) s
-passes_stay b old new L c (GivesBack t o) e less s = ap (λ z. z b) s
-passes_stay b old new L c (Recovers r) e less s = ap (λ z. z b) s
-passes_stay b old new L c Stops e less s = ap (λ z. z b) s
-passes_stay b old new L c (Checkpoints u) e less s = ap (λ z. z b) s
-passes_stay b old new L c Takes e less s = ap (λ z. z b) s
-passes_stay b old new L c Flushes e less s = ap (λ z. z b) s
-passes_stay b old new L c (Faults n) e less s = ap (λ z. z b) s
-passes_stay b old new L c (ReadFails n) e less s = ap (λ z. z b) s
+passes_stay b old new L c _ e less s = ap (λ z. z b) s
 
 pub audit_still : (p : Point) (b : ℕ) → AuditStays p p b
 audit_still p b = record { same = refl; opened = λ is. is }
@@ -175,18 +151,13 @@ is_beside t x = true
 
 pub step_audit : (bases : Bases) (before : List Record) (p q : Point) (x : StoreStep) (b : ℕ) → StoreRun bases before no_image p → IsPointStep p x q → is_in b x ≡ false → b < length p.log → AuditStays p q b
 step_audit bases before p q (Does x) b run step e less = does_audit bases before p q x run step b e less
-step_audit bases before p q Starts b run step e less = as_it_was p q b _ step.1 refl refl refl
 step_audit bases before p q KeepsAll b run step e less = as_it_was p q b _ step.4 refl refl refl
 step_audit bases before p q (Copies r n) b run step e less = as_it_was p q b _ step.5 refl refl refl
 step_audit bases before p q (Skips r n) b run step e less = as_it_was p q b _ step.5 refl refl refl
-step_audit bases before p q (WritesHead h) b run step e less = as_it_was p q b _ step.1 refl refl refl
-step_audit bases before p q Syncs b run step e less = as_it_was p q b _ step.1 refl refl refl
 step_audit bases before p q Turns b run step e less = as_it_was p q b _ step.5 refl refl refl
 step_audit bases before p q (CopyFails r ws n) b run step e less = as_it_was p q b _ step.4 refl refl refl
-step_audit bases before p q (HeadFails h n) b run step e less = as_it_was p q b _ step.1 refl refl refl
-step_audit bases before p q (SyncFails n) b run step e less = as_it_was p q b _ step.1 refl refl refl
 step_audit bases before p q (TurnFails n) b run step e less = as_it_was p q b _ step.5 refl refl refl
-step_audit bases before p q Finishes b run step e less = as_it_was p q b _ step.1 refl refl refl
+step_audit bases before p q _ b run step e less = as_it_was p q b _ step.1 refl refl refl
 
 -- the same system, but for the flag of a checkpoint, and regions with the same holds
 same_system : (t : ℕ) (L M : List Record) (c d : CoreState) → M ≡ L → d.system ≡ c.system → d.regions ≡ c.regions → LeavesBe t L c M d
@@ -242,41 +213,23 @@ step_longer p q (TurnFails n) step = log_longer p q _ step.5 refl
 step_longer p q Finishes step = log_longer p q _ step.1 refl
 
 -- ---- lists of steps
-both_true : (a b : Bool) → (a && b) ≡ true → (a ≡ true) × (b ≡ true)
-both_true true b e = (refl, e)
-both_true false b e = absurd (cc)
 
 abbrev pub is_out_of : ℕ → StoreStep → Bool
 is_out_of b x = not (is_in b x)
 
-not_true : (b : Bool) → not b ≡ true → b ≡ false
-not_true true e = absurd (cc)
-not_true false e = refl
-
-pub further : (t : ℕ) (L K M : List Record) (c m d : CoreState) → LeavesBe t L c K m → LeavesBe t K m M d → LeavesBe t L c M d
-further t L K M c m d a b = record {
-  sizes = b.sizes ∙ a.sizes;
-  next = omega (arith, a.next, b.next);
-  row = b.row ∙ a.row;
-  locks = λ k. b.locks k ∙ a.locks k;
-  rules = subst (λ (s : Sizes). txn_state s t M ≡ txn_state s t K) a.sizes b.rules ∙ a.rules;
-  free = λ free. b.free (a.free free);
-  count = b.count ∙ a.count;
-}
-
 pub course_leaves : (t : ℕ) (p q : Point) (xs : List StoreStep) → t < p.core.system.next → list_all (is_beside t) xs ≡ true → IsPointCourse p xs q → LeavesBe t p.log p.core q.log q.core
 course_leaves t p q [] less e course = by_core t p q p (sym course) (same_system t p.log p.log p.core p.core refl refl refl)
 course_leaves t p q (x ∷ xs) less e course =
-    let parts = both_true (is_beside t x) (list_all (is_beside t) xs) e in
+    let parts = and_parts (is_beside t x) (list_all (is_beside t) xs) e in
     let one = step_leaves t p course.0 x less parts.0 course.1 in
     further t p.log course.0.log q.log p.core course.0.core q.core one (course_leaves t course.0 q xs (omega (arith, less, one.next)) parts.1 course.2)
 
 pub course_audit : (bases : Bases) (before : List Record) (p q : Point) (xs : List StoreStep) (b : ℕ) → StoreRun bases before no_image p → IsPointCourse p xs q → list_all (is_out_of b) xs ≡ true → b < length p.log → AuditStays p q b
 course_audit bases before p q [] b run course e less = subst (λ (z : Point). AuditStays p z b) course (audit_still p b)
 course_audit bases before p q (x ∷ xs) b run course e less =
-    let parts = both_true (is_out_of b x) (list_all (is_out_of b) xs) e in
+    let parts = and_parts (is_out_of b x) (list_all (is_out_of b) xs) e in
     let longer = step_longer p course.0 x course.1 in
-    audit_then p course.0 q b (step_audit bases before p course.0 x b run course.1 (not_true (is_in b x) parts.0) less)
+    audit_then p course.0 q b (step_audit bases before p course.0 x b run course.1 (not-true (is_in b x) parts.0) less)
     (course_audit bases before course.0 q xs b (run_behind bases before p course.0 x run course.1) course.2 parts.1 (omega (arith, less, longer)))
 
 pub course_longer : (p q : Point) (xs : List StoreStep) → IsPointCourse p xs q → length p.log ≤ length q.log

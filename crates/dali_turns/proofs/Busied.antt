@@ -1,14 +1,16 @@
 -- An older transaction holds the key of a client's next call: its request is refused, and the refusal is kept.
 use Rattle.std.proofs.Common.{◌≡◌, ℕ, Bool, true, false, not, List, [], ◌∷◌, ◌++◌, length, map, Option, Some, None, is_some, refl, ap, sym, subst, ◌∙◌, inl, inr, ⊎_elim, arith}
-use Rattle.std.specs.Prelude.{◌==◌, fold}
+use Rattle.std.specs.Prelude.{◌==◌, fold, take}
+use Rattle.dali_lists.proofs.Members.{all_append}
 use Rattle.dali_counts.proofs.Lists.{equal}
 use Rattle.dali_record.specs.declared.records.Call.{Call}
 use Rattle.dali_record.specs.declared.records.Record.{Record}
 use Rattle.dali_region.specs.State.{RegionState}
 use Rattle.dali_att.specs.declared.state.State.{State as RowState}
 use Rattle.dali_att.specs.declared.state.State.TheVariants.{Live, Dead, Cleaning, Committed}
+use Rattle.dali_locks.specs.declared.mode.Mode.{Mode}
 use Rattle.dali_locks.specs.declared.mode.LockAnswer.TheVariants.{Busy}
-use Rattle.dali_locks.specs.Locks.{IsAnswer}
+use Rattle.dali_locks.specs.Locks.{both_shared, IsAnswer}
 use Rattle.dali_store.specs.Store.{Files as Disk}
 use Rattle.dali_system.specs.declared.refusals.Refusal.{Refusal}
 use Rattle.dali_system.specs.State.{SystemState, VaultState, CoreState, TxnRow, row_of, lock_of, state_in, state_of}
@@ -23,16 +25,16 @@ use Rattle.dali_single.specs.Single.{MayCall}
 use Rattle.dali_single.specs.Stands.{core, IsAtRest}
 use Rattle.dali_stepwise.specs.Stepwise.{IsNew, IsAsked}
 use Rattle.dali_transcripts.specs.Words.{Act, Calls}
-use Rattle.dali_transcripts.specs.World.{Deed, Yields, FindsDead, Happening, World, log_of, log_at, HasGot, state_step, state_at, stop_at, is_dead_in, is_claimed_in}
+use Rattle.dali_transcripts.specs.World.{Deed, Yields, FindsDead, Happening, World, log_of, log_at, HasGot, lock_after, state_step, state_at, stop_at, is_dead_in, is_claimed_in}
 use Rattle.dali_transcripts.specs.Moves.{Spot, Within as IsWithin, at}
-use Rattle.dali_transcripts.specs.Causes.{IsAsking, AreAsking, IsRight, HasFoundDead, GetsBusy}
+use Rattle.dali_transcripts.specs.Causes.{IsAsking, AreAsking, IsHindered, IsRight, HasFoundDead, GetsBusy}
 use Rattle.dali_transcripts.specs.Rounds.{Standing}
-use Rattle.dali_transcripts.proofs.Lists.{all_append}
 use Rattle.dali_transcripts.proofs.Growing.{askings}
 use Rattle.dali_deeds.specs.Deeds.{AreOf, refusal_now}
 use Rattle.dali_deeds.specs.Tells.{after}
 use Rattle.dali_clients.specs.Told.{act_of}
 use Rattle.dali_clients.specs.declared.command.Command.TheVariants.{Call as IsCall}
+use Rattle.dali_rounds.specs.Went.{is_open}
 use Rattle.dali_turns.specs.declared.client.Client.{Client}
 use Rattle.dali_turns.specs.declared.client.State.TheVariants.{Within}
 use Rattle.dali_turns.specs.declared.client.Transaction.{Transaction}
@@ -42,7 +44,7 @@ use Rattle.dali_turns.specs.Within.{AreSoFar, FitsWithin, FitsYielding}
 use Rattle.dali_turns.specs.Fits.{rest_of, InTxn, IsOf, Owns}
 use Rattle.dali_turns.specs.Goes.{Went, StepGoes, YieldGoes}
 use Rattle.dali_turns.proofs.Asked.{same_key, same_mode}
-use Rattle.dali_turns.proofs.Locking.{still_got, others_on}
+use Rattle.dali_turns.proofs.Locking.{still_got, others_on, got_lock, none_ended, clashing}
 use Rattle.dali_turns.proofs.Commands.{next_act, behind_next}
 use Rattle.dali_turns.proofs.Undoing.{undone_on}
 use Rattle.dali_turns.proofs.Refusals.{runs_on_log, records_are, front, log_there, done_last, runs_there}
@@ -50,13 +52,13 @@ use Rattle.dali_turns.proofs.Doing.{Did, did_quietly, did_went, still_ran, behin
 use Rattle.dali_turns.proofs.Walking.{point_behind}
 use Rattle.dali_turns.proofs.Asking.{new_plan, rest_now, core_there, asking}
 
--- who has a row, isn't dead, claimed or committed, is live
-live_one : (o : Option RowState) → is_some o ≡ true → is_dead_in o ≡ false → is_claimed_in o ≡ false → (o ≡ Some Committed → ⊥) → o ≡ Some Live
-live_one None some dead claimed committed = absurd (cc)
-live_one (Some Live) some dead claimed committed = refl
-live_one (Some (Dead l)) some dead claimed committed = absurd (cc)
-live_one (Some (Cleaning l)) some dead claimed committed = absurd (cc)
-live_one (Some Committed) some dead claimed committed = absurd (committed refl)
+-- who has a row, and isn't dead or claimed, is live or committed
+pub open_one : (o : Option RowState) → is_some o ≡ true → is_dead_in o ≡ false → is_claimed_in o ≡ false → is_open o ≡ true
+open_one None some dead claimed = absurd (cc)
+open_one (Some Live) some dead claimed = refl
+open_one (Some (Dead l)) some dead claimed = absurd (cc)
+open_one (Some (Cleaning l)) some dead claimed = absurd (cc)
+open_one (Some Committed) some dead claimed = refl
 
 row_there : (o : Option TxnRow) → is_some o ≡ true → is_some (state_in o) ≡ true
 row_there (Some row) e = refl
@@ -134,7 +136,7 @@ module _ {V : Type 0} (told : V → Option Disk) (may_leave : V → Disk → Typ
 
     did : Did told may_leave faults precheck s B p w a.client (Within x) gs y v (deed ∷ []) B q gs z v
     did = did_quietly told may_leave faults precheck s B p w gs y v stood a.client (Within x) q step (deed ∷ []) z gs refl (refl, (asked.0, refl), refl) are (right, tt) refl stood.stands.at.regions
-        refl stood.stands.dead (λ fs held. held) (record { unclaimed = stood.quiet.unclaimed; settled = stood.quiet.settled }) (λ e. e)
+        refl stood.stands.dead (λ fs held. held) (record { unclaimed = stood.quiet.unclaimed }) (λ e. e)
         (λ t lives other. apart_from t other) (λ b other. refl)
       where
         apart_from : (t : ℕ) → (Owns (Within x) t → ⊥) → not (x.txn == t) ≡ true
@@ -155,7 +157,7 @@ module _ {V : Type 0} (told : V → Option Disk) (may_leave : V → Disk → Typ
       client = is.client;
       lines = is.lines;
       stands = so_far told may_leave faults precheck s B B p q w a (Within x) gs gs y z v v (deed ∷ []) k k is did;
-      others = others_on w now a (behind a w (deed ∷ [])) did.goes.grows y z system_there refl refl refl (λ e. e) (λ t lives. (lives, λ n h. h)) is.others;
+      others = others_on w now a (behind a w (deed ∷ [])) did.goes.grows y z system_there refl refl refl (λ e. e) (λ t lives. (lives, λ n. refl)) is.others;
     }
 
     -- and then the step goes on from there
@@ -168,17 +170,38 @@ module _ {V : Type 0} (told : V → Option Disk) (may_leave : V → Disk → Typ
     abbrev yields : World
     yields = after w a.client (Yields refusal ∷ []) there
 
+    holder_open : is_open (state_of p.core.system holder) ≡ true
+    holder_open = ap (λ (m : SystemState). is_open (state_of m holder)) stood.stands.at.system ∙ open_one (state_of y holder) has_row alive (stood.quiet.unclaimed holder)
+
     -- another client was granted its lock, since this one is in another transaction
-    anothers : (d : ℕ) × ((d == a.client) ≡ false) × HasGot w.happened d holder (call_key call)
+    anothers : (d : ℕ) × ((d == a.client) ≡ false) × HasGot w.happened d holder (call_key call) answer.0.conflict.mode
     anothers = ⊎_elim
         (λ own. let same : x.txn ≡ holder = subst (λ (q : Spot). InTxn q.place holder) fits.spot own in absurd (omega (arith, answer.1, same)))
         (λ got. got)
-        (is.others (ap (λ (m : SystemState). m.stop) system_there ∙ runs) holder (call_key call)
-        (ap (λ (m : SystemState). state_of m holder) system_there ∙ live_one (state_of y holder) has_row alive (stood.quiet.unclaimed holder) (stood.quiet.settled runs holder))
-        (ap (λ (m : SystemState). is_some (lock_of m holder (call_key call))) system_there ∙ ap is_some answer.0.conflict.holds))
+        (is.others (ap (λ (m : SystemState). m.stop) system_there ∙ runs) holder (call_key call) answer.0.conflict.mode
+        (ap (λ (c : CoreState). is_open (state_of c.system holder)) stood.tells.core ∙ holder_open)
+        (ap (λ (m : SystemState). lock_of m holder (call_key call)) system_there ∙ answer.0.conflict.holds))
+
+    front_is : take (length w.happened) yields.happened ≡ w.happened
+    front_is = front w a.client (Yields refusal) there
+
+    -- it has that lock still, since it hasn't ended
+    held : (h : Mode) × (lock_after w w.happened holder (call_key call) ≡ Some h) × (both_shared (mode_of call) h ≡ false)
+    held = clashing (lock_after w w.happened holder (call_key call)) (mode_of call) answer.0.conflict.mode
+        (got_lock holder (call_key call) anothers.0 answer.0.conflict.mode w.happened (lock_of w.old.system holder (call_key call)) (none_ended (bases_of s) s.log w p stood.stands.at.vault.run stood.tells stood.since holder holder_open) anothers.2)
+        answer.0.conflict.clash
+
+    hindered : IsHindered yields a.client (length w.happened) refusal
+    hindered = record {
+      mode = held.0;
+      holds = ap (λ (xs : List Happening). lock_after w xs holder (call_key call)) front_is ∙ held.1;
+      clash = held.2;
+      by_another = inr (anothers.0, answer.0.conflict.mode, anothers.1, subst (λ (xs : List Happening). HasGot xs anothers.0 holder (call_key call) answer.0.conflict.mode) (sym front_is) anothers.2);
+      unclaimed = λ own. ap is_claimed_in (state_then (Yields refusal)) ∙ stood.quiet.unclaimed holder;
+    }
 
     yield_right : IsRight yields a.client (length w.happened) (Yields refusal)
-    yield_right = (number_then (Yields refusal), ap is_dead_in (state_then (Yields refusal)) ∙ alive, runs_then (Yields refusal), inr (anothers.0, anothers.1, subst (λ xs. HasGot xs anothers.0 holder (call_key call)) (sym (front w a.client (Yields refusal) there)) anothers.2))
+    yield_right = (number_then (Yields refusal), ap is_dead_in (state_then (Yields refusal)) ∙ alive, runs_then (Yields refusal), hindered)
 
     busy : GetsBusy yields a.client x.txn call refusal
     busy = record {
@@ -248,7 +271,7 @@ module _ {V : Type 0} (told : V → Option Disk) (may_leave : V → Disk → Typ
       due = fits.due;
       lives = ap (λ (m : SystemState). state_of m x.txn) (sym stood.stands.at.system) ∙ fits.lives;
       free = asked.1.free;
-      locks = still_got p q w finds (did (FindsDead refusal) (inr refl) find_right).goes.grows a.client x.txn (λ n h. ap (λ (m : SystemState). is_some (lock_of m x.txn n)) stood.stands.at.system ∙ h) fits.locks;
+      locks = still_got p q w finds (did (FindsDead refusal) (inr refl) find_right).goes.grows a.client x.txn (λ n. sym (ap (λ (m : SystemState). lock_of m x.txn n) stood.stands.at.system)) fits.locks;
       may_call = λ e. asked.1;
     }
 

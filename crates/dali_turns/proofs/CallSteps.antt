@@ -45,7 +45,7 @@ use Rattle.dali_turns.specs.declared.client.Transaction.{Transaction}
 use Rattle.dali_turns.specs.Clients.{next_of, Passes, Finishes, RefusesCall, Stays}
 use Rattle.dali_turns.specs.Calls.{TurnsBack, IsRefusedBy, IsDeadly, IsFurther, call_in}
 use Rattle.dali_clients.specs.Told.{act_of, said_of}
-use Rattle.dali_turns.specs.Fits.{rest_of, Fits}
+use Rattle.dali_turns.specs.Fits.{Fits}
 use Rattle.dali_turns.specs.Goes.{Went, StepGoes}
 use Rattle.dali_turns.specs.Whys.{why_in}
 use Rattle.dali_turns.proofs.Here.{MayStep}

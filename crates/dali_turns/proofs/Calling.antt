@@ -41,6 +41,7 @@ use Rattle.dali_turns.specs.Stood.{IsQuiet, Stood}
 use Rattle.dali_turns.specs.Within.{AreSoFar, FitsWithin, FitsCalling}
 use Rattle.dali_turns.specs.Fits.{rest_of, IsOf, Owns, Fits}
 use Rattle.dali_turns.specs.Goes.{RowsTell, Went}
+use Rattle.dali_rounds.specs.Went.{is_open}
 use Rattle.dali_turns.proofs.Locking.{still_got}
 use Rattle.dali_turns.proofs.Refusals.{runs_there}
 use Rattle.dali_turns.proofs.Returning.{stays_of}
@@ -122,7 +123,7 @@ module _ {V : Type 0} (told : V → Option Disk) (may_leave : V → Disk → Typ
     same_deed = ap (λ t. Logs (Done t fits.call given) ∷ []) (sym fits.plan_is.txn) ∙ ap (λ c. Logs (Done plan.txn c given) ∷ []) (sym fits.plan_is.call_is)
 
     calm : IsQuiet z
-    calm = subst IsQuiet (sym logged) (record { unclaimed = stood.quiet.unclaimed; settled = stood.quiet.settled })
+    calm = subst IsQuiet (sym logged) (record { unclaimed = stood.quiet.unclaimed })
 
     did_answer : Did told may_leave faults precheck s B p w a.client (Calling x plan) gs y v deeds B q gs z v
     did_answer = did_quietly told may_leave faults precheck s B p w gs y v stood a.client (Calling x plan) q step_at deeds z gs refl (refl, (at_core.step, refl), refl) same_deed
@@ -135,7 +136,7 @@ module _ {V : Type 0} (told : V → Option Disk) (may_leave : V → Disk → Typ
     move = Answers x.txn x.tries (map act_of x.commands.now) fits.deadly a.pending (length (log_of w)) fits.call given fits.more
 
     cause : HasCause (after w a.client deeds q.core) a.client move
-    cause = (works w (after w a.client deeds q.core) did_answer.goes.grows a.client x.txn fits.call a.pending fits.work, fits.spared, stays_of (goes_back (answer_of plan.geometry plan.call plan.stage)) x.txn a.pending fits.turned)
+    cause = (works w (after w a.client deeds q.core) did_answer.goes.grows a.client x.txn fits.call a.pending fits.work, fits.spared, stays_of (goes_back (answer_of plan.geometry plan.call plan.stage)) x.txn a.pending fits.turned, fits.granted)
 
     may : MayCall q.log q.core x.txn
     may =
@@ -157,16 +158,16 @@ module _ {V : Type 0} (told : V → Option Disk) (may_leave : V → Disk → Typ
       lives = ap (λ (m : SystemState). state_of m x.txn) (did_answer.stood.stands.at.system ∙ logged) ∙ subst (λ (m : SystemState). state_of m x.txn ≡ Some Live) system_is (subst (λ t. state_of p.core.system t ≡ Some Live) fits.plan_is.txn fits.plan_is.rest.lives);
       free = may.free;
       locks = still_got p q w (after w a.client deeds q.core) did_answer.goes.grows a.client x.txn
-          (λ n h. ap (λ (m : SystemState). is_some (lock_of m x.txn n)) system_is ∙ (ap (λ (m : SystemState). is_some (lock_of m x.txn n)) (sym (did_answer.stood.stands.at.system ∙ logged)) ∙ h)) fits.locks;
+          (λ n. sym (ap (λ (m : SystemState). lock_of m x.txn n) system_is ∙ ap (λ (m : SystemState). lock_of m x.txn n) (sym (did_answer.stood.stands.at.system ∙ logged)))) fits.locks;
       may_call = λ e. may;
     }
 
     rows : (new : State) → new ≡ Within x → RowsTell (Calling x plan) y new z
     rows new at_within runs t lives = by_test (x.txn == t) refl
       where
-        by_test : (b : Bool) → (x.txn == t) ≡ b → Owns new t ⊎ ((state_of y t ≡ Some Live) × (Owns (Calling x plan) t → ⊥))
+        by_test : (b : Bool) → (x.txn == t) ≡ b → Owns new t ⊎ ((is_open (state_of y t) ≡ true) × (Owns (Calling x plan) t → ⊥))
         by_test true e = inl (subst (λ (n : State). Owns n t) (sym at_within) (equal x.txn t e))
-        by_test false e = inr (ap (λ (m : SystemState). state_of m t) (sym logged) ∙ lives, λ same. let yes : (x.txn == t) ≡ true = ap (λ n. n == t) same ∙ self t in let no : true ≡ false = sym yes ∙ e in absurd (cc))
+        by_test false e = inr (ap (λ (m : SystemState). is_open (state_of m t)) (sym logged) ∙ lives, λ same. let yes : (x.txn == t) ≡ true = ap (λ n. n == t) same ∙ self t in let no : true ≡ false = sym yes ∙ e in absurd (cc))
 
     pub answer_said : Finishes k (Within x) (Answered fits.call given) j → Went told may_leave faults precheck s B p w a (Calling x plan) gs y v true j gs z v
     answer_said f =

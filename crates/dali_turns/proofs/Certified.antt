@@ -239,7 +239,7 @@ module _ {V : Type 0} (told : V → Option Disk) (may_leave : V → Disk → Typ
         ),
         refl,
       )
-          t.is.at stood.stands.dead (places_stay (told v.store) (told u.store) gs longer stood.files) (record { unclaimed = one.stood.quiet.unclaimed; settled = one.stood.quiet.settled })
+          t.is.at stood.stands.dead (places_stay (told v.store) (told u.store) gs longer stood.files) (record { unclaimed = one.stood.quiet.unclaimed })
           (λ e. let no : true ≡ false = sym e ∙ said.turned.ok.runs in absurd (cc)) (λ n lives other. refl) (λ b other. refl) (λ flag other. absurd (other tt))
 
       abbrev ds : List Deed

@@ -2,6 +2,7 @@
 use Rattle.std.proofs.Common.{◌≡◌, ℕ, ◌+◌, ◌<◌, ◌≤◌, Bool, true, false, List, [], ◌∷◌, ◌++◌, length, drop, Option, Some, None, IfSome, IfErr, IfOk, OnOk, OnErr, IsErrOf, is_some, Result, Ok, Err, refl, ap, sym, subst, ◌∙◌, ◌⊎◌, inl, inr, arith, length-append, length-drop}
 use Rattle.std.specs.Prelude.{slice_get, slice_set, IsSomeAnd}
 use Rattle.std.proofs.lemmas.List.Elements.{Contains-push}
+use Rattle.std.proofs.lemmas.Option.{same_Some}
 use Rattle.dali_record.specs.declared.records.Record.{Record}
 use Rattle.dali_record.specs.declared.records.Record.TheVariants.{AuditBegin}
 use Rattle.dali_region.specs.State.{RegionState, checked}
@@ -45,7 +46,6 @@ use Rattle.dali_turns.proofs.AuditSteps.{behind_is, of_told, in_err}
 use Rattle.dali_turns.proofs.Guarding.{Always}
 use Rattle.dali_turns.proofs.Passing.{all_passed}
 use Rattle.dali_turns.proofs.Ending.{vault_runs}
-use Rattle.dali_turns.proofs.CopySteps.{same_line}
 use Rattle.dali_turns.proofs.Finishing.{refusal_stop, given_up as gives_up, given_up_silent, given_up_none}
 use Rattle.dali_turns.proofs.Certified.{certify_passes, makes, makes_silent}
 use Rattle.dali_turns.proofs.Uncertified.{verdict_fails, verdict_silent, last_flush_fails, last_flush_fails_silent, sync_fails, sync_fails_silent, move_fails, move_fails_silent}
@@ -190,7 +190,20 @@ module _ {V : Type 0} (told : V → Option Disk) (may_leave : V → Disk → Typ
           by_made (Err e) is = by_found e is (subst (λ (x : Result ℕ CheckpointError). Certifies told may_leave faults c found ending v x z u) is facts) found refl
 
     line_is : (r : Result ℕ CheckpointError) (line other : Line) → made ≡ r → line_in made ≡ Some line → line_in r ≡ Some other → line ≡ other
-    line_is r line other is given there = same_line line other (sym given ∙ (ap line_in is ∙ there))
+    line_is r line other is given there = same_Some line other (sym given ∙ (ap line_in is ∙ there))
+
+    -- nothing more was logged
+    pub since_is : v.stopped ≡ false → (s : Start) (B : List (List Record)) (p : Point) (w : World) → Stood told may_leave faults s B p w precheck gs y v → z.since ≡ m.since
+    since_is ran s B p w stood = by_outcome (outcome ran (waits s B p w stood))
+      where
+        left : (n : SystemState) → z ≡ n → n.since ≡ ending.since → z.since ≡ m.since
+        left n is same = ap (λ (x : SystemState). x.since) is ∙ (same ∙ ap (λ (x : SystemState). x.since) (sym logs))
+
+        by_outcome : Outcome → z.since ≡ m.since
+        by_outcome (inl (n, is, clean, number, said, z_is)) = left (in_checkpoint (taken ending) false) z_is refl
+        by_outcome (inr (inl (r, rs, is, bad, said, z_is))) = left (in_checkpoint (taken ending) false) z_is refl
+        by_outcome (inr (inr (inl (is, said, z_is)))) = left fallen z_is refl
+        by_outcome (inr (inr (inr (is, clean, said, z_is)))) = left fallen z_is refl
 
     pub ends_goes : SaysEnd k made j → StepGoes told may_leave faults precheck (Certifying c audit next) k gs y v true j gs z u
     ends_goes (line, given, f) s B p w a stood of fits = by_outcome (outcome ran (waits s B p w stood))
@@ -277,7 +290,7 @@ module _ {V : Type 0} (told : V → Option Disk) (may_leave : V → Disk → Typ
       where
         by_refusal : Unended → StepGoes told may_leave faults precheck (Certifying c audit next) k gs y v true j gs z v
         by_refusal (inl (cause, stop, is)) = λ s B p w a stood of fits.
-            let g : Finishes k Outside (IsRefused IsCheckpoint (IsStopped cause)) j = subst (λ l. Finishes k Outside l j) (same_line line (IsRefused IsCheckpoint (IsStopped cause)) (sym given ∙ ap (λ (n : SystemError). line_in (Err (checkpoint_error n))) is)) h in
+            let g : Finishes k Outside (IsRefused IsCheckpoint (IsStopped cause)) j = subst (λ l. Finishes k Outside l j) (same_Some line (IsRefused IsCheckpoint (IsStopped cause)) (sym given ∙ ap (λ (n : SystemError). line_in (Err (checkpoint_error n))) is)) h in
             to_end true s B p w a fits.sound
             (gives_up told may_leave faults precheck s B p w a (Certifying c audit next) gs y v k j stood of tt (λ t none. none) so_far fits.making (StoppedBy cause)
             (refusal_stop told may_leave faults precheck s B p w a (Certifying c audit next) gs y v k j stood of tt (λ t none. none) so_far fits.making cause stop (λ l. tt))

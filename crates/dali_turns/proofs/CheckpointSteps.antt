@@ -1,5 +1,6 @@
 -- The step functions of a checkpoint, by what the calls in them say.
-use Rattle.std.proofs.Common.{◌≡◌, ℕ, ◌+◌, ◌<◌, ◌^◌, Bool, true, false, List, Option, Some, None, is_some, Result, Ok, Err, IfErr, IfSome, IsErrOf, refl, ap, sym, subst, ◌∙◌, ◌⊎◌, inl, inr}
+use Rattle.std.proofs.Common.{◌≡◌, ℕ, ◌+◌, Bool, true, false, List, Option, Some, None, is_some, Result, Ok, Err, IfErr, IfSome, IsErrOf, refl, ap, sym, subst, ◌∙◌, ◌⊎◌, inl, inr}
+use Rattle.std.proofs.lemmas.Option.{same_Some}
 use Rattle.dali_region.specs.State.{RegionState}
 use Rattle.dali_store.specs.Store.{Files as Disk}
 use Rattle.dali_system.specs.declared.causes.Cause.{Cause}
@@ -18,8 +19,8 @@ use Rattle.dali_clients.specs.declared.line.Line.{Line}
 use Rattle.dali_clients.specs.declared.line.Line.TheVariants.{Refused as IsRefused}
 use Rattle.dali_clients.specs.declared.line.Why.TheVariants.{Stopped as IsStopped, StoreStopped, InProgress as IsInProgress}
 use Rattle.dali_transcripts.specs.Words.{StoppedBy, UnderWay}
+use Rattle.dali_checkpoint.proofs.Results.{has_cause}
 use Rattle.dali_turns.specs.declared.client.Client.{Client}
-use Rattle.dali_turns.specs.declared.client.State.{State}
 use Rattle.dali_turns.specs.declared.client.State.TheVariants.{Outside, Copying}
 use Rattle.dali_turns.specs.Clients.{next_of, Finishes}
 use Rattle.dali_turns.specs.Endings.{line_in, SaysEnd, Unsaid}
@@ -33,13 +34,6 @@ use Rattle.dali_turns.proofs.Unstarted.{flush_fails_start, flush_fails_start_sil
 -- ---- answers
 same_error : {T : Type 0} (a b : CheckpointError) → (let r : Result T CheckpointError = Err a in r ≡ Err b) → a ≡ b
 same_error a b e = cc
-
-same_line : (a b : Line) → Some a ≡ Some b → a ≡ b
-same_line a b e = cc
-
--- a system that runs, over a vault that runs with it
-pub no_cause : {V : Type 0} (y : SystemState) (v : Vaulted V) → y.stop ≡ None → v.stopped ≡ false → cause_of y v ≡ None
-no_cause y v stop runs = ap (λ (o : Option Cause). cause_in o v.stopped) stop ∙ ap (cause_in None) runs
 
 one_cause : {V : Type 0} (y : SystemState) (v : Vaulted V) (cause : Cause) → y.stop ≡ Some cause → cause_of y v ≡ Some cause
 one_cause y v cause stop = ap (λ (o : Option Cause). cause_in o v.stopped) stop
@@ -127,7 +121,7 @@ module _ {V : Type 0} (told : V → Option Disk) (may_leave : V → Disk → Typ
       unchanged ok left goes = subst (λ (m : SystemState). StepGoes told may_leave faults precheck Outside k gs y v ok j gs m u) (sym left.0) (subst (λ (n : Vaulted V). StepGoes told may_leave faults precheck Outside k gs y v ok j gs y n) (sym left.1) goes)
 
       told_line : (f : CheckpointError) (line other : Line) → e ≡ f → line_in (Err e) ≡ Some line → line_in (Err f) ≡ Some other → line ≡ other
-      told_line f line other is given there = same_line line other (sym given ∙ (ap (λ (x : CheckpointError). line_in (Err x)) is ∙ there))
+      told_line f line other is given there = same_Some line other (sym given ∙ (ap (λ (x : CheckpointError). line_in (Err x)) is ∙ there))
 
       stop_none : (stops : v.stopped ≡ true → is_some y.stop ≡ true) → cause_of y v ≡ None → y.stop ≡ None
       stop_none stops is = by_stop y.stop refl
@@ -141,7 +135,7 @@ module _ {V : Type 0} (told : V → Option Disk) (may_leave : V → Disk → Typ
         where
           by_stop : (o : Option Cause) → y.stop ≡ o → y.stop ≡ Some cause
           by_stop (Some c) stop = stop ∙ (sym (one_cause y v c stop) ∙ is)
-          by_stop None stop = let never : None ≡ Some cause = sym (no_cause y v stop (vault_runs v.stopped (is_some y.stop) stops (ap is_some stop))) ∙ is in absurd (cc)
+          by_stop None stop = let never : None ≡ Some cause = sym (has_cause y v stop (vault_runs v.stopped (is_some y.stop) stops (ap is_some stop))) ∙ is in absurd (cc)
 
       said_none : (o : Option Cause) (said : Bool) → o ≡ None → (said ≡ true → is_some o ≡ true) → said ≡ false
       said_none o true none may = let some : is_some o ≡ true = may refl in let never : is_some o ≡ false = ap is_some none in absurd (cc)

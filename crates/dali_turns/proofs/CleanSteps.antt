@@ -43,27 +43,28 @@ use Rattle.dali_turns.proofs.CallSteps.{vault_still, back_wants, unasked_goes, u
 use Rattle.dali_turns.proofs.Cutting.{asked_cut, called_cut, turned_cut}
 use Rattle.dali_turns.proofs.Hindered.{stopped_said, stopped_unsaid}
 use Rattle.dali_turns.proofs.Reasons.{refused_on, dead_latch}
+use Rattle.dali_rounds.specs.Went.{is_open}
 
--- ---- no transaction becomes live in it
-live_row : (gs : List RegionState) (y : SystemState) (n : ℕ) (hs : List RegionState) (z : SystemState) → RowStays gs y n hs z → state_of z n ≡ Some Live → state_of y n ≡ Some Live
-live_row gs y n hs z (inl same) e = ap state_in (sym same) ∙ e
-live_row gs y n hs z (inr (dead, freed, row)) e = absurd (by_row (row_of y n) (sym (ap state_in row) ∙ e))
+-- ---- no transaction becomes live or committed in it
+live_row : (gs : List RegionState) (y : SystemState) (n : ℕ) (hs : List RegionState) (z : SystemState) → RowStays gs y n hs z → is_open (state_of z n) ≡ true → is_open (state_of y n) ≡ true
+live_row gs y n hs z (inl same) e = ap (λ (r : Option TxnRow). is_open (state_in r)) (sym same) ∙ e
+live_row gs y n hs z (inr (dead, freed, row)) e = absurd (by_row (row_of y n) (sym (ap (λ (r : Option TxnRow). is_open (state_in r)) row) ∙ e))
   where
-    by_row : (o : Option TxnRow) → state_in (option_map (with_state (Dead None)) o) ≡ Some Live → ⊥
+    by_row : (o : Option TxnRow) → is_open (state_in (option_map (with_state (Dead None)) o)) ≡ true → ⊥
     by_row None f = absurd (cc)
-    by_row (Some r) f = let both : Some (Dead None) ≡ Some Live = f in absurd (cc)
+    by_row (Some r) f = absurd (cc)
 
-lived : (gs : List RegionState) (y : SystemState) (t : ℕ) (hs : List RegionState) (z : SystemState) (o : Option RowState) → OthersStay gs y t hs z → state_of z t ≡ o → (o ≡ Some Live → ⊥) → (n : ℕ) → state_of z n ≡ Some Live → state_of y n ≡ Some Live
+lived : (gs : List RegionState) (y : SystemState) (t : ℕ) (hs : List RegionState) (z : SystemState) (o : Option RowState) → OthersStay gs y t hs z → state_of z t ≡ o → (is_open o ≡ true → ⊥) → (n : ℕ) → is_open (state_of z n) ≡ true → is_open (state_of y n) ≡ true
 lived gs y t hs z o others there never n e = by_test (t == n) refl
   where
-    by_test : (b : Bool) → (t == n) ≡ b → state_of y n ≡ Some Live
-    by_test true f = absurd (never (sym there ∙ (ap (state_of z) (equal t n f) ∙ e)))
+    by_test : (b : Bool) → (t == n) ≡ b → is_open (state_of y n) ≡ true
+    by_test true f = absurd (never (ap is_open (sym there) ∙ (ap (λ (m : ℕ). is_open (state_of z m)) (equal t n f) ∙ e)))
     by_test false f = live_row gs y n hs z (others.rows n f) e
 
 module _ {V : Type 0} (told : V → Option Disk) (may_leave : V → Disk → Type 0) (faults : V → ℕ) (precheck : Bool) (gs hs : List RegionState) (y z : SystemState) (v : Vaulted V) (k j : Client) (x : Transaction) (t : ℕ) (was : IsDead (state_of y t)) where
   -- ---- it is gone
   module _ (up : IsCleanedUp t gs y hs z) where
-    gone_lived : (n : ℕ) → state_of z n ≡ Some Live → state_of y n ≡ Some Live
+    gone_lived : (n : ℕ) → is_open (state_of z n) ≡ true → is_open (state_of y n) ≡ true
     gone_lived = lived gs y t hs z None up.others (ap state_in up.gone.0) (λ e. absurd (cc))
 
     pub call_again : (call : Call) → next_of k ≡ Some (IsCall call) → Stays k (Within x) j → StepGoes told may_leave faults precheck (Within x) k gs y v true j hs z v
@@ -89,7 +90,7 @@ module _ {V : Type 0} (told : V → Option Disk) (may_leave : V → Disk → Typ
 
   -- ---- it is dead again
   module _ (left : IsLeftDead t gs y hs z) where
-    left_lived : (n : ℕ) → state_of z n ≡ Some Live → state_of y n ≡ Some Live
+    left_lived : (n : ℕ) → is_open (state_of z n) ≡ true → is_open (state_of y n) ≡ true
     left_lived = lived gs y t hs z (Some (Dead None)) left.others left.again (λ e. absurd (cc))
 
     -- since the engine is stopped

@@ -3,13 +3,17 @@ use Rattle.std.proofs.Common.{◌≡◌, ℕ, ◌+◌, Bool, true, false, ◌&&�
 use Rattle.std.specs.Prelude.{◌==◌, if◌then◌else◌, slice_get}
 use Rattle.std.specs.List.{AllByRecursion, list_all}
 use Rattle.std.proofs.lemmas.List.{append_assoc, append_cancel_right, length-append, map-append}
+use Rattle.std.proofs.lemmas.Bool.{ne_eqb}
+use Rattle.std.proofs.lemmas.Option.{none-some, same_Some}
+use Rattle.dali_lists.proofs.Members.{all_map}
+use Rattle.dali_lists.proofs.Tests.{not_both_ways}
 use Rattle.dali_counts.proofs.Lists.{equal, self}
 use Rattle.dali_record.specs.declared.operations.Pending.{Pending}
 use Rattle.dali_record.specs.declared.records.Record.{Record}
 use Rattle.dali_record.specs.declared.records.Record.TheVariants.{Ended}
 use Rattle.dali_region.specs.declared.Hold.{Hold}
 use Rattle.dali_region.specs.State.{RegionState, taken_back}
-use Rattle.dali_att.specs.declared.state.State.TheVariants.{Live, Dead, Cleaning, Committed}
+use Rattle.dali_att.specs.declared.state.State.TheVariants.{Live, Dead, Cleaning}
 use Rattle.dali_store.specs.Store.{Files as Disk}
 use Rattle.dali_system.specs.declared.causes.Cause.{Cause}
 use Rattle.dali_system.specs.State.{SystemState, CoreState, row_of, state_in, state_of, hold_in, hold_of}
@@ -33,23 +37,24 @@ use Rattle.dali_transcripts.specs.Moves.{Receipt}
 use Rattle.dali_transcripts.specs.Causes.{LetsGo, IsAside, AreAside, IsCutAside, undos_behind}
 use Rattle.dali_transcripts.specs.Laws.{receipts_from}
 use Rattle.dali_transcripts.specs.Rounds.{by}
-use Rattle.dali_transcripts.proofs.Lists.{all_map}
 use Rattle.dali_transcripts.proofs.Growing.{asides}
 use Rattle.dali_deeds.specs.Deeds.{AreOf}
 use Rattle.dali_deeds.specs.Tells.{after, AreRightThen, Goes}
 use Rattle.dali_deeds.specs.Laws.{AreOfCourse}
 use Rattle.dali_deeds.proofs.Told.{log_is}
+use Rattle.dali_deeds.proofs.Courses.{after_after}
 use Rattle.dali_turns.specs.declared.client.State.{State}
 use Rattle.dali_turns.specs.Stood.{Stood}
 use Rattle.dali_turns.proofs.Deeds.{course_tells, stop_is_told}
 use Rattle.dali_turns.proofs.Beside.{is_out_of}
 use Rattle.dali_turns.proofs.Doing.{Did, vault_stops}
 use Rattle.dali_turns.proofs.Refusals.{done_last, stop_there}
-use Rattle.dali_turns.proofs.Sides.{At, InHand, Sided, AreBacks, HasNoDead, sided, one_goes, at_next, joined, state_here, claimer_here, state_then, claimer_then, receipts_then, after_both, course_split, courses_told, logged_is, backs_sides, asides_of, ended_right}
+use Rattle.dali_turns.proofs.Sides.{At, InHand, Sided, AreBacks, HasNoDead, sided, one_goes, at_next, joined, state_here, claimer_here, state_then, claimer_then, receipts_then, course_split, courses_told, logged_is, backs_sides, asides_of, ended_right}
 use Rattle.dali_turns.proofs.Undoing.{undone_on, undone_apart}
 use Rattle.dali_turns.proofs.Along.{end_out, out_both, did_calm}
-use Rattle.dali_turns.proofs.Closing.{unclaimed_then, settled_then}
+use Rattle.dali_turns.proofs.Closing.{unclaimed_then}
 use Rattle.dali_turns.proofs.Cutting.{cut_of}
+use Rattle.dali_rounds.specs.Went.{is_open}
 
 -- ---- the steps
 pub back_end : (t : ℕ) (xs : List Step) → AreBack t xs → AreOfEnd t xs
@@ -64,22 +69,6 @@ clean_out : (b t : ℕ) (o : Option ℕ) (back : List Step) (x : Step) → AreOf
 clean_out b t None back x are e = subst (λ xs. list_all (is_out_of b) xs ≡ true) (sym (map-append Does back (x ∷ []))) (out_both b (map Does back) (Does x ∷ []) (end_out b t back are) (ap (λ c. c && true) e))
 clean_out b t (Some r) back x are e = subst (λ xs. list_all (is_out_of b) xs ≡ true) (sym (map-append Does back (x ∷ []))) (out_both b (map Does back) (Does x ∷ []) (end_out b t back are) (ap (λ c. c && true) e))
 
-none_some : {A : Type 0} (x : A) → (let n : Option A = None in n ≡ Some x) → ⊥
-none_some x e = cc
-
-some_is : {A : Type 0} (x y : A) → (let o : Option A = Some x in o ≡ Some y) → x ≡ y
-some_is x y e = cc
-
-clash : {b : Bool} → b ≡ true → b ≡ false → ⊥
-clash e f = cc
-
-apart_of : (u v : ℕ) → (u ≡ v → ⊥) → (u == v) ≡ false
-apart_of u v differs = by_test (u == v) refl
-  where
-    by_test : (b : Bool) → (u == v) ≡ b → (u == v) ≡ false
-    by_test true e = absurd (differs (equal u v e))
-    by_test false e = e
-
 -- ---- what the client does
 module _ {V : Type 0} (told : V → Option Disk) (may_leave : V → Disk → Type 0) (faults : V → ℕ)
     (precheck : Bool) (s : Start) (B : List (List Record)) (p : Point) (w : World) (gs : List RegionState) (y : SystemState) (v : Vaulted V) (c : ℕ) (state : State) (m : ℕ) (to : Point) (hs : List RegionState) (z : SystemState) where
@@ -89,7 +78,7 @@ module _ {V : Type 0} (told : V → Option Disk) (may_leave : V → Disk → Typ
     pub did : Did told may_leave faults precheck s B p w c state gs y v deeds B to hs z v
     pub aside : AreAside (after w c deeds to.core) c m (receipts_from (length (log_of w)) deeds)
     pub still : (us : List Pending) → undos_behind m us (receipts_from (length (log_of w)) deeds) ≡ us
-    pub leaves : (u : ℕ) → state_of y u ≡ Some Live → LeavesBe u p.log p.core to.log to.core
+    pub leaves : (u : ℕ) → is_open (state_of y u) ≡ true → LeavesBe u p.log p.core to.log to.core
 
   -- memory was refused
   pub record CleansHalf : Type 0 where
@@ -111,7 +100,7 @@ module _ {V : Type 0} (told : V → Option Disk) (may_leave : V → Disk → Typ
   was_here = here t ∙ was
 
   not_own : (t == m) ≡ false
-  not_own = apart_of t m (λ same. let no : Some Live ≡ Some (Dead latched) = sym lives ∙ (ap (λ (n : ℕ). state_of y n) (sym same) ∙ was) in absurd (cc))
+  not_own = ne_eqb t m (λ same. let no : Some Live ≡ Some (Dead latched) = sym lives ∙ (ap (λ (n : ℕ). state_of y n) (sym same) ∙ was) in absurd (cc))
 
   -- a dead hold of t is on the region that its row names
   named : (r : ℕ) (h : Hold) → hold_of p.core r ≡ Some h → h.txn ≡ t → h.dead ≡ true → latched ≡ Some r
@@ -151,13 +140,13 @@ module _ {V : Type 0} (told : V → Option Disk) (may_leave : V → Disk → Typ
       where
         by_test : (u : ℕ) (b : Bool) → (t == u) ≡ b → is_claimed_in (state_of n.core.system u) ≡ true → u ≡ t
         by_test u true e is = sym (equal t u e)
-        by_test u false e is = absurd (clash is (ap is_claimed_in (states u ∙ (other1 u e ∙ here u)) ∙ stood.quiet.unclaimed u))
+        by_test u false e is = absurd (not_both_ways is (ap is_claimed_in (states u ∙ (other1 u e ∙ here u)) ∙ stood.quiet.unclaimed u))
 
     claim_side : AllByRecursion (IsAside w1 c m) ((length (log_of w), ClaimsTxn t) ∷ [])
     claim_side = ((not_own, record { done = done_last w c (ClaimsTxn t) k.core; dead = dead_then }), tt)
 
     free_then : (d : CoreState) → d.regions ≡ k.core.regions → k.core.regions ≡ p.core.regions → latched ≡ None → HasNoDead t d
-    free_then d e f none r h held own dead = none_some r (sym none ∙ named r h (ap (λ (rs : List RegionState). hold_in (slice_get rs r)) (sym (e ∙ f)) ∙ held) own dead)
+    free_then d e f none r h held own dead = none-some r (sym none ∙ named r h (ap (λ (rs : List RegionState). hold_in (slice_get rs r)) (sym (e ∙ f)) ∙ held) own dead)
 
   -- ---- and what is taken back behind it
   module _ (mid : Point) (records : List Record) (backs : AreBacks t records) (log : mid.log ≡ p.log ++ records) (back : List Step) (are : AreOfEnd t back) where
@@ -184,7 +173,7 @@ module _ {V : Type 0} (told : V → Option Disk) (may_leave : V → Disk → Typ
         free : HasNoDead t n.core
         free q h held own dead =
             let there = held_of k.core.regions r next.1.0.0 (taken_back next.1.0.0) q h next.1.0.1 refl (ap (λ (d : CoreState). hold_of d q) (sym next.1.0.3.1) ∙ held) in
-            there.0 (some_is r q (sym is ∙ named q h (ap (λ (rs : List RegionState). hold_in (slice_get rs q)) (sym (ap (λ (d : CoreState). d.regions) step.1.0.2.1)) ∙ there.1) own dead))
+            there.0 (same_Some r q (sym is ∙ named q h (ap (λ (rs : List RegionState). hold_in (slice_get rs q)) (sym (ap (λ (d : CoreState). d.regions) step.1.0.2.1)) ∙ there.1) own dead))
 
     pub claimed_first : IsPointCourse p (map Does (Claims t ∷ (recovers latched ++ back))) mid → Sided (bases_of s) s.log c m t w p (Claims t ∷ (recovers latched ++ back)) mid
     claimed_first = by_latch latched refl
@@ -211,14 +200,14 @@ module _ {V : Type 0} (told : V → Option Disk) (may_leave : V → Disk → Typ
     last_step : IsPointStep mid (Does x) g.to
     last_step = subst (λ (k : Point). IsPointStep mid (Does x) k) parts.2.2 parts.2.1
 
-    apart_from : (u : ℕ) → state_of y u ≡ Some Live → (t == u) ≡ false
-    apart_from u lives = apart_of t u (λ same. let no : Some Live ≡ Some (Dead latched) = sym lives ∙ (ap (λ (n : ℕ). state_of y n) (sym same) ∙ was) in absurd (cc))
+    apart_from : (u : ℕ) → is_open (state_of y u) ≡ true → (t == u) ≡ false
+    apart_from u lives = ne_eqb t u (λ same. let no : true ≡ false = sym lives ∙ ap is_open (ap (λ (n : ℕ). state_of y n) (sym same) ∙ was) in absurd (cc))
 
     out : (b : ℕ) → is_out_of b (Does x) ≡ true → list_all (is_out_of b) (map Does g.steps) ≡ true
     out b e = subst (λ xs. list_all (is_out_of b) (map Does xs) ≡ true) (sym steps_are) (clean_out b t latched back x (back_end t back undone) e)
 
-    leaves_each : (u : ℕ) → state_of y u ≡ Some Live → LeavesBe u p.log p.core g.to.log g.to.core
-    leaves_each u lives = g.others u (apart_from u lives) (here u ∙ lives)
+    leaves_each : (u : ℕ) → is_open (state_of y u) ≡ true → LeavesBe u p.log p.core g.to.log g.to.core
+    leaves_each u lives = g.others u (apart_from u lives) (ap is_open (here u) ∙ lives)
 
     module _ (mid_log : mid.log ≡ p.log ++ records) where
       abbrev first : Sided (bases_of s) s.log c m t w p front mid
@@ -238,7 +227,7 @@ module _ {V : Type 0} (told : V → Option Disk) (may_leave : V → Disk → Typ
         late = after w c (first.ds ++ one ∷ []) g.to.core
 
         same_late : after between c (one ∷ []) g.to.core ≡ late
-        same_late = after_both w c first.ds (one ∷ []) mid.core g.to.core
+        same_late = after_after w c first.ds (one ∷ []) mid.core g.to.core
 
         last_goes : Goes between c mid (one ∷ []) late g.to
         last_goes = subst (λ (n : World). Goes between c mid (one ∷ []) n g.to) same_late (one_goes (bases_of s) s.log c between mid g.to x (one ∷ []) first.at last_step told_by right)
@@ -249,9 +238,9 @@ module _ {V : Type 0} (told : V → Option Disk) (may_leave : V → Disk → Typ
             (subst (λ xs. AreOfCourse w c p xs g.to (first.ds ++ one ∷ [])) (sym (map-append Does front (x ∷ [])))
             (courses_told w c p mid g.to (map Does front) (Does x ∷ []) first.ds (one ∷ []) stood.tells.core first.are (g.to, one ∷ [], [], last_step, told_by, right, (refl, refl), refl)))
 
-        did_all : is_claimed_in (state_of z t) ≡ false → (state_of z t ≡ Some Committed → ⊥) → ((b : ℕ) → is_out_of b (Does x) ≡ true) → Did told may_leave faults precheck s B p w c state gs y v (first.ds ++ one ∷ []) B g.to hs z v
-        did_all unclaimed uncommitted e = did_calm told may_leave faults precheck s B p w gs y v stood c state t own hs z g (first.ds ++ one ∷ []) told_all
-            (unclaimed_then gs hs y z t others stood.quiet unclaimed) (settled_then gs hs y z t others stood.quiet uncommitted) (λ u lives other. apart_from u lives) (λ b. out b (e b))
+        did_all : is_claimed_in (state_of z t) ≡ false → ((b : ℕ) → is_out_of b (Does x) ≡ true) → Did told may_leave faults precheck s B p w c state gs y v (first.ds ++ one ∷ []) B g.to hs z v
+        did_all unclaimed e = did_calm told may_leave faults precheck s B p w gs y v stood c state t own hs z g (first.ds ++ one ∷ []) told_all
+            (unclaimed_then gs hs y z t others stood.quiet unclaimed) (λ u lives other. apart_from u lives) (λ b. out b (e b))
 
         receipts_all : receipts_from (length (log_of w)) (first.ds ++ one ∷ []) ≡ receipts_from (length (log_of w)) first.ds ++ (length (log_of between), one) ∷ []
         receipts_all = receipts_then c (length (log_of w)) first.ds (one ∷ []) ∙ ap (λ n. receipts_from (length (log_of w)) first.ds ++ (n, one) ∷ []) (sym count)
@@ -297,8 +286,7 @@ module _ {V : Type 0} (told : V → Option Disk) (may_leave : V → Disk → Typ
         let here = claimed_mid own hs z g others back undone records backs (Ends t) steps_are logged_there in
         record {
           deeds = side.ds ++ Logs (Ended t) ∷ [];
-          did = did_all own hs z g others back undone records backs (Ends t) steps_are logged_there (Logs (Ended t)) refl ended_there (ap (λ r. is_claimed_in (state_in r)) gone)
-              (λ e. let no : None ≡ Some Committed = sym (ap state_in gone) ∙ e in absurd (cc)) (λ b. refl);
+          did = did_all own hs z g others back undone records backs (Ends t) steps_are logged_there (Logs (Ended t)) refl ended_there (ap (λ r. is_claimed_in (state_in r)) gone) (λ b. refl);
           aside = asides_all own hs z g others back undone records backs (Ends t) steps_are logged_there (Logs (Ended t)) refl ended_there
               (subst (λ (n : World). IsAside n c m (length (log_of (between own hs z g others back undone records backs (Ends t) steps_are logged_there)), Logs (Ended t))) (same_late own hs z g others back undone records backs (Ends t) steps_are logged_there (Logs (Ended t)) refl ended_there)
               (record {
@@ -348,7 +336,7 @@ module _ {V : Type 0} (told : V → Option Disk) (may_leave : V → Disk → Typ
     right = ((may.was, state_here before_it c gift g.to.core end t side.at.tells ∙ may.claimed, inr refl, claimer_here before_it c gift g.to.core t ∙ (claimed_mid own hs z g others back undone records backs (GivesBack t None) steps_are logged_mid).1), tt)
 
     did_gift : Did told may_leave faults precheck s B p w c state gs y v (side.ds ++ gift ∷ []) B g.to hs z v
-    did_gift = did_all own hs z g others back undone records backs (GivesBack t None) steps_are logged_mid gift refl right (ap is_claimed_in again) (λ e. let no : Some (Dead None) ≡ Some Committed = sym again ∙ e in absurd (cc)) (λ b. refl)
+    did_gift = did_all own hs z g others back undone records backs (GivesBack t None) steps_are logged_mid gift refl right (ap is_claimed_in again) (λ b. refl)
 
     same_world : after before_it c (gift ∷ []) g.to.core ≡ after w c (side.ds ++ gift ∷ []) g.to.core
     same_world = same_late own hs z g others back undone records backs (GivesBack t None) steps_are logged_mid gift refl right

@@ -2,6 +2,7 @@
 use Rattle.std.proofs.Common.{◌≡◌, ℕ, Bool, true, false, List, ◌∷◌, ◌++◌, length, map, Option, Some, None, is_some, refl, ap, sym, subst, ◌∙◌, ◌⊎◌, inl, inr}
 use Rattle.std.specs.Prelude.{◌==◌}
 use Rattle.std.proofs.lemmas.List.{append_assoc}
+use Rattle.dali_lists.proofs.Members.{all_append, all_map}
 use Rattle.dali_counts.proofs.Lists.{equal, same_number}
 use Rattle.dali_record.specs.declared.records.Call.{Call}
 use Rattle.dali_record.specs.declared.records.Record.{Record}
@@ -20,12 +21,12 @@ use Rattle.dali_calls.specs.Steps.{answer_of}
 use Rattle.dali_stepwise.specs.Beside.{LeavesBe}
 use Rattle.dali_stepwise.proofs.Waiting.{plan_waits, call_waits, rest_waits}
 use Rattle.dali_transcripts.specs.Words.{Act, Calls}
-use Rattle.dali_transcripts.specs.World.{GetsLock, FindsDead, Meets, World, log_of}
+use Rattle.dali_transcripts.specs.World.{FindsDead, Meets, World, log_of}
 use Rattle.dali_transcripts.specs.Moves.{Receipt, Within as IsWithin, at, operations, left}
 use Rattle.dali_transcripts.specs.Causes.{IsAside, IsAsking, IsWork, IsUnanswered, IsTurnedBack, AreUnfinished, IsNoOperation, spares}
 use Rattle.dali_transcripts.specs.Laws.{receipts_from}
 use Rattle.dali_transcripts.specs.Rounds.{Standing}
-use Rattle.dali_transcripts.proofs.Lists.{all_append, all_map}
+use Rattle.dali_transcripts.proofs.Grants.{granted_more}
 use Rattle.dali_transcripts.proofs.Growing.{askings, works, asides, all_tried, met, survives, unanswered, turned_back}
 use Rattle.dali_deeds.specs.Tells.{after}
 use Rattle.dali_clients.specs.Told.{act_of, reason_of}
@@ -48,10 +49,10 @@ use Rattle.dali_turns.proofs.Undoing.{undone_on}
 use Rattle.dali_turns.proofs.Cutting.{more_none, more_cut}
 use Rattle.dali_turns.proofs.Asked.{work_of}
 use Rattle.dali_turns.proofs.Turned.{asides_none}
+use Rattle.dali_rounds.specs.Went.{is_open}
 
 -- ---- what was cleaned up is part of whatever the call did
 aside_asking : (w : World) (c t : ℕ) (call : Call) (x : Receipt) → IsAside w c t x → IsAsking w c t call x
-aside_asking w c t call (n, GetsLock u k m) h = absurd h
 aside_asking w c t call (n, FindsDead f) h = absurd h
 aside_asking w c t call x h = h
 
@@ -69,7 +70,7 @@ module _ {V : Type 0} (told : V → Option Disk) (may_leave : V → Disk → Typ
   done = receipts_from (length (log_of w)) cleans.deeds
 
   be : LeavesBe x.txn p.log p.core to.log to.core
-  be = cleans.leaves x.txn lives
+  be = cleans.leaves x.txn (ap is_open lives)
 
   -- the engine stays stopped, and ran before where it runs
   pub stop_there : (cause : Cause) → p.core.system.stop ≡ Some cause → to.core.system.stop ≡ Some cause
@@ -105,7 +106,7 @@ module _ {V : Type 0} (told : V → Option Disk) (may_leave : V → Disk → Typ
     due = f.due;
     lives = ap state_in be.row ∙ f.lives;
     free = be.free f.free;
-    locks = still_got p to w now cleans.did.goes.grows a.client x.txn (λ n h. ap is_some (sym (be.locks n)) ∙ h) f.locks;
+    locks = still_got p to w now cleans.did.goes.grows a.client x.txn be.locks f.locks;
     may_call = λ up. call_waits p.log to.log p.core to.core x.txn be (f.may_call (ran_before up));
   }
 
@@ -134,6 +135,7 @@ module _ {V : Type 0} (told : V → Option Disk) (may_leave : V → Disk → Typ
     spot = f.spot;
     work = all_append (IsWork now a.client x.txn f.call) a.pending done (works w now cleans.did.goes.grows a.client x.txn f.call a.pending f.work)
         (all_map (IsAside now a.client x.txn) (IsWork now a.client x.txn f.call) (aside_work now a.client x.txn f.call) done cleans.aside);
+    granted = granted_more a.pending done f.granted;
     turned = turned_then (goes_back (answer_of plan.geometry plan.call plan.stage)) x.txn a.pending done f.turned (all_map (IsAside now a.client x.txn) IsNoOperation (no_operations now a.client x.txn) done cleans.aside)
         (none_asked now a.client x.txn f.call done (all_map (IsAside now a.client x.txn) (IsAsking now a.client x.txn f.call) (aside_asking now a.client x.txn f.call) done cleans.aside) cleans.still);
     undone = λ us. undone_on x.txn us (us ++ plan.changes) a.pending done (f.undone us) cleans.still;
@@ -142,7 +144,7 @@ module _ {V : Type 0} (told : V → Option Disk) (may_leave : V → Disk → Typ
     placed = f.placed;
     again = f.again;
     plan_is = at_call plan f.call IsCalling f.plan_is;
-    locks = still_got p to w now cleans.did.goes.grows a.client x.txn (λ n h. ap is_some (sym (be.locks n)) ∙ h) f.locks;
+    locks = still_got p to w now cleans.did.goes.grows a.client x.txn be.locks f.locks;
   }
 
   pub back_behind : (plan : Planned) (why : Why) → FitsTakingBack p w a (rest_of k) x plan why → FitsTakingBack to now (behind a w cleans.deeds) (rest_of k) x plan why
@@ -158,6 +160,7 @@ module _ {V : Type 0} (told : V → Option Disk) (may_leave : V → Disk → Typ
     pending = ap (λ l. l ++ done) f.pending ∙ append_assoc f.work ((f.met, Meets (reason_of why)) ∷ f.back) done;
     tried = all_tried w now cleans.did.goes.grows a.client x.txn f.call f.work f.tried;
     stays = f.stays;
+    granted = f.granted;
     cause = met w now cleans.did.goes.grows a.client f.met (Calls f.call) (Some x.txn) (reason_of why) f.cause;
     survives = survives w now cleans.did.goes.grows a.client f.met x.txn f.call f.deadly (operations x.txn f.work) (reason_of why) f.cause f.survives;
     no_stop = f.no_stop;
@@ -168,11 +171,11 @@ module _ {V : Type 0} (told : V → Option Disk) (may_leave : V → Disk → Typ
     placed = f.placed;
     again = f.again;
     plan_is = at_call plan f.call IsRefused f.plan_is;
-    locks = still_got p to w now cleans.did.goes.grows a.client x.txn (λ n h. ap is_some (sym (be.locks n)) ∙ h) f.locks;
+    locks = still_got p to w now cleans.did.goes.grows a.client x.txn be.locks f.locks;
   }
 
   -- ---- the step ends there, or goes on
-  module _ (lived : (n : ℕ) → state_of z n ≡ Some Live → state_of y n ≡ Some Live) where
+  module _ (lived : (n : ℕ) → is_open (state_of z n) ≡ true → is_open (state_of y n) ≡ true) where
     clean_of : IsOf now (behind a w cleans.deeds) k
     clean_of = record {
       client = is.client;
@@ -182,9 +185,9 @@ module _ {V : Type 0} (told : V → Option Disk) (may_leave : V → Disk → Typ
           (λ up. ap (λ (m : SystemState). m.stop) (sym stood.stands.at.system) ∙ ran_before (ap (λ (m : SystemState). m.stop) cleans.did.stood.stands.at.system ∙ up))
           (λ n alive. (
             lived n alive,
-            λ key has.
-                let same : is_some (lock_of p.core.system n key) ≡ is_some (lock_of to.core.system n key) = ap is_some (sym ((cleans.leaves n (lived n alive)).locks key)) in
-                ap (λ (m : SystemState). is_some (lock_of m n key)) (sym stood.stands.at.system) ∙ (same ∙ (ap (λ (m : SystemState). is_some (lock_of m n key)) cleans.did.stood.stands.at.system ∙ has)),
+            λ key.
+                ap (λ (m : SystemState). lock_of m n key) (sym cleans.did.stood.stands.at.system)
+                ∙ ((cleans.leaves n (lived n alive)).locks key ∙ ap (λ (m : SystemState). lock_of m n key) stood.stands.at.system),
           ))
           is.others;
     }
@@ -200,7 +203,7 @@ module _ {V : Type 0} (told : V → Option Disk) (may_leave : V → Disk → Typ
         rows : RowsTell state y state z
         rows runs n alive = by_test (x.txn == n) refl
           where
-            by_test : (b : Bool) → (x.txn == n) ≡ b → Owns state n ⊎ ((state_of y n ≡ Some Live) × (Owns state n → ⊥))
+            by_test : (b : Bool) → (x.txn == n) ≡ b → Owns state n ⊎ ((is_open (state_of y n) ≡ true) × (Owns state n → ⊥))
             by_test true e = inl (owns n (equal x.txn n e))
             by_test false e = inr (lived n alive, λ own. let same : (x.txn == n) ≡ true = same_number x.txn n (only n own) in let both : true ≡ false = sym same ∙ e in absurd (cc))
 

@@ -33,6 +33,7 @@ use Rattle.dali_turns.proofs.Closing.{GoesBack, GoesAway, lived}
 use Rattle.dali_turns.proofs.Coming.{away_of, back_of}
 use Rattle.dali_turns.proofs.Aborting.{aborted, aborted_unsaid, ended_block, ended_unsaid, abort_left, end_left, gives_way, gives_way_unsaid, gives_up, gives_up_unsaid, yield_left}
 use Rattle.dali_turns.proofs.Stopping.{abort_refused, abort_unsaid, end_refused, end_unsaid}
+use Rattle.dali_rounds.specs.Went.{is_open}
 
 -- ---- the clauses, by the cause of a stop
 abbrev pub StaysWhere : List RegionState → SystemState → List RegionState → SystemState → Type 0
@@ -60,8 +61,8 @@ module _ {V : Type 0} (told : V → Option Disk) (may_leave : V → Disk → Typ
     lives_now : (p : Point) → p.core.system ≡ y → state_of p.core.system x.txn ≡ Some Live → state_of y x.txn ≡ Some Live
     lives_now p same lives = ap (λ (m : SystemState). state_of m x.txn) (sym same) ∙ lives
 
-    gone_rows : IsTakenBack told may_leave faults x.txn gs y v hs z → (n : ℕ) → state_of z n ≡ Some Live → (state_of y n ≡ Some Live) × (x.txn ≡ n → ⊥)
-    gone_rows t = lived gs hs y z x.txn t.others (λ e. let no : None ≡ Some Live = sym (ap state_in t.gone.0) ∙ e in absurd (cc))
+    gone_rows : IsTakenBack told may_leave faults x.txn gs y v hs z → (n : ℕ) → is_open (state_of z n) ≡ true → (is_open (state_of y n) ≡ true) × (x.txn ≡ n → ⊥)
+    gone_rows t = lived gs hs y z x.txn t.others (λ e. let no : false ≡ true = sym (ap (λ r. is_open (state_in r)) t.gone.0) ∙ e in absurd (cc))
 
     -- ---- by the run
     module _ (s : Start) (B : List (List Record)) (p : Point) (w : World) (a : Standing) (stood : Stood told may_leave faults s B p w precheck gs y v) (lives : state_of p.core.system x.txn ≡ Some Live) where

@@ -1,15 +1,15 @@
 -- A transaction of a client is taken back, as a whole or in part: what the client does by that.
-use Rattle.std.proofs.Common.{◌≡◌, ℕ, zero, suc, ◌+◌, Bool, true, false, List, [], ◌∷◌, ◌++◌, length, map, Option, Some, None, refl, ap, sym, subst, ◌∙◌, ◌⊎◌, inl, inr, ⊎_elim, arith, option_map}
-use Rattle.std.specs.Prelude.{◌==◌, Contains, slice_get}
+use Rattle.std.proofs.Common.{◌≡◌, ℕ, zero, suc, ◌+◌, Bool, true, false, List, [], ◌∷◌, ◌++◌, length, map, Option, Some, None, refl, ap, sym, subst, ◌∙◌, inl, inr, ⊎_elim, arith, option_map}
+use Rattle.std.specs.Prelude.{◌==◌, slice_get}
 use Rattle.std.specs.List.{AllByRecursion, list_all}
 use Rattle.std.proofs.lemmas.List.{append_assoc, append_cancel_right, length-append, map-append}
-use Rattle.std.proofs.lemmas.List.Elements.{Contains-get_or}
-use Rattle.std.proofs.lemmas.Option.{slice_get_within, get_or_from_slice_get}
+use Rattle.dali_lists.proofs.Lists.{get_append_cases, get_push}
+use Rattle.dali_lists.proofs.Members.{contains_from_get}
 use Rattle.dali_counts.proofs.Lists.{equal}
 use Rattle.dali_record.specs.declared.records.Record.{Record}
 use Rattle.dali_record.specs.declared.records.Record.TheVariants.{Ended, Commit}
 use Rattle.dali_region.specs.State.{RegionState}
-use Rattle.dali_att.specs.declared.state.State.TheVariants.{Live, Dead, Committed}
+use Rattle.dali_att.specs.declared.state.State.TheVariants.{Live, Dead}
 use Rattle.dali_att.specs.Table.{with_state}
 use Rattle.dali_store.specs.Store.{Files as Disk}
 use Rattle.dali_system.specs.State.{TxnRow, SystemState, row_of, state_in, state_of}
@@ -30,14 +30,16 @@ use Rattle.dali_transcripts.specs.Rounds.{by}
 use Rattle.dali_transcripts.proofs.Growing.{get_back, asides}
 use Rattle.dali_deeds.specs.Tells.{after, AreRightThen, Goes}
 use Rattle.dali_deeds.specs.Laws.{AreOfCourse}
+use Rattle.dali_deeds.proofs.Courses.{after_after}
 use Rattle.dali_turns.specs.declared.client.State.{State}
 use Rattle.dali_turns.specs.Stood.{IsQuiet, Stood}
 use Rattle.dali_turns.specs.Fits.{Owns}
 use Rattle.dali_turns.proofs.Beside.{is_out_of}
 use Rattle.dali_turns.proofs.Doing.{Did, vault_stops}
-use Rattle.dali_turns.proofs.Refusals.{get_last, runs_on_log}
-use Rattle.dali_turns.proofs.Sides.{At, InHand, Sided, AreBacks, sided, one_goes, receipts_then, after_both, course_split, courses_told, logged_is, backs_sides, asides_of, ended_right}
+use Rattle.dali_turns.proofs.Refusals.{runs_on_log}
+use Rattle.dali_turns.proofs.Sides.{At, InHand, Sided, AreBacks, sided, one_goes, receipts_then, course_split, courses_told, logged_is, backs_sides, asides_of, ended_right}
 use Rattle.dali_turns.proofs.Along.{end_out, out_both, did_calm}
+use Rattle.dali_rounds.specs.Went.{is_open}
 
 -- ---- lists
 pub all_at : {X : Type 0} (P : X → Type 0) (xs : List X) (i : ℕ) (x : X) → AllByRecursion P xs → slice_get xs i ≡ Some x → P x
@@ -45,25 +47,13 @@ all_at P [] i x h e = absurd (cc)
 all_at P (y ∷ xs) zero x h e = let same : y ≡ x = cc in subst P same h.0
 all_at P (y ∷ xs) (suc i) x h e = all_at P xs i x h.1 e
 
-pub in_parts : {X : Type 0} (xs ys : List X) (i : ℕ) (x : X) → slice_get (xs ++ ys) i ≡ Some x → (slice_get xs i ≡ Some x) ⊎ ((j : ℕ) × (slice_get ys j ≡ Some x))
-in_parts [] ys i x e = inr (i, e)
-in_parts (y ∷ xs) ys zero x e = inl e
-in_parts (y ∷ xs) ys (suc i) x e = in_parts xs ys i x e
-
-pub is_in : {X : Type 0} (xs : List X) (i : ℕ) (x : X) → slice_get xs i ≡ Some x → Contains xs x
-is_in xs i x e = subst (λ y. Contains xs y) (get_or_from_slice_get xs i x x e) (Contains-get_or xs i x (slice_get_within xs i x e))
-
 -- ---- rows behind an end
 module _ (gs hs : List RegionState) (y z : SystemState) (t : ℕ) (others : OthersStay gs y t hs z) where
   claimed_row : (row : Option TxnRow) → is_claimed_in (state_in (option_map (with_state (Dead None)) row)) ≡ false
   claimed_row None = refl
   claimed_row (Some row) = refl
 
-  committed_row : (row : Option TxnRow) → state_in (option_map (with_state (Dead None)) row) ≡ Some Committed → ⊥
-  committed_row None e = absurd (cc)
-  committed_row (Some row) e = absurd (cc)
-
-  live_row : (row : Option TxnRow) → state_in (option_map (with_state (Dead None)) row) ≡ Some Live → ⊥
+  live_row : (row : Option TxnRow) → is_open (state_in (option_map (with_state (Dead None)) row)) ≡ true → ⊥
   live_row None e = absurd (cc)
   live_row (Some row) e = absurd (cc)
 
@@ -78,28 +68,21 @@ module _ (gs hs : List RegionState) (y z : SystemState) (t : ℕ) (others : Othe
       by_test true e = subst (λ (n : ℕ). is_claimed_in (state_of z n) ≡ false) (equal t u e) own
       by_test false e = by_row (others.rows u e)
 
-  pub settled_then : IsQuiet y → (state_of z t ≡ Some Committed → ⊥) → y.stop ≡ None → (u : ℕ) → state_of z u ≡ Some Committed → ⊥
-  settled_then quiet own runs u e = by_test (t == u) refl
+  -- another one that is live or committed was so
+  pub was_open : (u : ℕ) → (t == u) ≡ false → is_open (state_of z u) ≡ true → is_open (state_of y u) ≡ true
+  was_open u apart e = by_row (others.rows u apart)
     where
-      by_row : RowStays gs y u hs z → ⊥
-      by_row (inl same) = quiet.settled runs u (ap state_in (sym same) ∙ e)
-      by_row (inr dead) = committed_row (row_of y u) (ap state_in (sym dead.2) ∙ e)
+      by_row : RowStays gs y u hs z → is_open (state_of y u) ≡ true
+      by_row (inl same) = ap (λ (r : Option TxnRow). is_open (state_in r)) (sym same) ∙ e
+      by_row (inr dead) = absurd (live_row (row_of y u) (ap (λ (r : Option TxnRow). is_open (state_in r)) (sym dead.2) ∙ e))
 
-      by_test : (b : Bool) → (t == u) ≡ b → ⊥
-      by_test true f = own (subst (λ (n : ℕ). state_of z n ≡ Some Committed) (sym (equal t u f)) e)
-      by_test false f = by_row (others.rows u f)
-
-  -- who is live was so
-  pub lived : (state_of z t ≡ Some Live → ⊥) → (u : ℕ) → state_of z u ≡ Some Live → (state_of y u ≡ Some Live) × (t ≡ u → ⊥)
+  -- so was each, where this one is no more
+  pub lived : (is_open (state_of z t) ≡ true → ⊥) → (u : ℕ) → is_open (state_of z u) ≡ true → (is_open (state_of y u) ≡ true) × (t ≡ u → ⊥)
   lived own u e = by_test (t == u) refl
     where
-      by_row : RowStays gs y u hs z → state_of y u ≡ Some Live
-      by_row (inl same) = ap state_in (sym same) ∙ e
-      by_row (inr dead) = absurd (live_row (row_of y u) (ap state_in (sym dead.2) ∙ e))
-
-      by_test : (b : Bool) → (t == u) ≡ b → (state_of y u ≡ Some Live) × (t ≡ u → ⊥)
-      by_test true f = absurd (own (subst (λ (n : ℕ). state_of z n ≡ Some Live) (sym (equal t u f)) e))
-      by_test false f = (by_row (others.rows u f), λ same. own (subst (λ (n : ℕ). state_of z n ≡ Some Live) (sym same) e))
+      by_test : (b : Bool) → (t == u) ≡ b → (is_open (state_of y u) ≡ true) × (t ≡ u → ⊥)
+      by_test true f = absurd (own (subst (λ (n : ℕ). is_open (state_of z n) ≡ true) (sym (equal t u f)) e))
+      by_test false f = (was_open u f e, λ same. own (subst (λ (n : ℕ). is_open (state_of z n) ≡ true) (sym same) e))
 
 -- ---- a transaction of the client's own
 module _ {V : Type 0} (told : V → Option Disk) (may_leave : V → Disk → Type 0) (faults : V → ℕ)
@@ -139,7 +122,7 @@ module _ {V : Type 0} (told : V → Option Disk) (may_leave : V → Disk → Typ
     holds = inl refl;
   }
 
-  apart_from : (u : ℕ) → state_of y u ≡ Some Live → (Owns state u → ⊥) → (t == u) ≡ false
+  apart_from : (u : ℕ) → is_open (state_of y u) ≡ true → (Owns state u → ⊥) → (t == u) ≡ false
   apart_from u _ other = by_test (t == u) refl
     where
       by_test : (b : Bool) → (t == u) ≡ b → (t == u) ≡ false
@@ -162,7 +145,6 @@ module _ {V : Type 0} (told : V → Option Disk) (may_leave : V → Disk → Typ
       part_did : Did told may_leave faults precheck s B p w c state gs y v part_deeds B g.to hs z v
       part_did = did_calm told may_leave faults precheck s B p w gs y v stood c state t own hs z g part.ds (subst (λ xs. AreOfCourse w c p (map Does xs) g.to part.ds) (sym steps_are) part.are)
           (unclaimed_then gs hs y z t others stood.quiet (ap is_claimed_in still))
-          (settled_then gs hs y z t others stood.quiet (λ e. let no : Some Live ≡ Some Committed = sym still ∙ e in absurd (cc)))
           apart_from (λ b. subst (λ xs. list_all (is_out_of b) (map Does xs) ≡ true) (sym steps_are) (end_out b t front are))
 
       part_aside : AreAside (after w c part_deeds g.to.core) c t (receipts_from (length (log_of w)) part_deeds)
@@ -202,7 +184,7 @@ module _ {V : Type 0} (told : V → Option Disk) (may_leave : V → Disk → Typ
       late = after w c (first.ds ++ Logs (Ended t) ∷ []) g.to.core
 
       same_late : after between c (Logs (Ended t) ∷ []) g.to.core ≡ late
-      same_late = after_both w c first.ds (Logs (Ended t) ∷ []) mid.core g.to.core
+      same_late = after_after w c first.ds (Logs (Ended t) ∷ []) mid.core g.to.core
 
       ended_there : AreRightThen between c (Logs (Ended t) ∷ []) g.to.core
       ended_there = ended_right (bases_of s) s.log c t t w p mid front at_first (vault_stops told may_leave faults precheck s B p w gs y v stood) first t g.to end_step
@@ -228,7 +210,6 @@ module _ {V : Type 0} (told : V → Option Disk) (may_leave : V → Disk → Typ
       whole_did : Did told may_leave faults precheck s B p w c state gs y v (whole_deeds ++ Logs (Ended t) ∷ []) B g.to hs z v
       whole_did = did_calm told may_leave faults precheck s B p w gs y v stood c state t own hs z g (first.ds ++ Logs (Ended t) ∷ []) told_all
           (unclaimed_then gs hs y z t others stood.quiet (ap is_claimed_in none_there))
-          (settled_then gs hs y z t others stood.quiet (λ e. let no : None ≡ Some Committed = sym none_there ∙ e in absurd (cc)))
           apart_from all_out
 
       backs_logged : logged_by (by c first.ds) ≡ records
@@ -253,12 +234,12 @@ module _ {V : Type 0} (told : V → Option Disk) (may_leave : V → Disk → Typ
 
       whole_uncommitted : IsUncommitted (after w c (whole_deeds ++ Logs (Ended t) ∷ []) g.to.core) t end_number
       whole_uncommitted = (
-        subst (λ l. slice_get l end_number ≡ Some (Ended t)) (sym log_late) (subst (λ n. slice_get ((p.log ++ records) ++ Ended t ∷ []) n ≡ Some (Ended t)) (sym number_is) (get_last (p.log ++ records) (Ended t))),
+        subst (λ l. slice_get l end_number ≡ Some (Ended t)) (sym log_late) (subst (λ n. slice_get ((p.log ++ records) ++ Ended t ∷ []) n ≡ Some (Ended t)) (sym number_is) (get_push (p.log ++ records) (Ended t))),
         λ k below has.
             ⊎_elim
-            (λ before. live_is_uncommitted (bases_of s) p.log p.core t (runs_on_log (bases_of s) s.log p stood.stands.at.vault.run) lives_here (is_in p.log k (Commit t) before))
+            (λ before. live_is_uncommitted (bases_of s) p.log p.core t (runs_on_log (bases_of s) s.log p stood.stands.at.vault.run) lives_here (contains_from_get p.log k (Commit t) before))
             (λ among. all_at (IsBackOf t) records among.0 (Commit t) backs among.1)
-            (in_parts p.log records k (Commit t) (get_back (p.log ++ records) (Ended t ∷ []) k (Commit t) (omega (arith, below, number_is)) (subst (λ l. slice_get l k ≡ Some (Commit t)) log_late has))),
+            (get_append_cases p.log records k (Commit t) (get_back (p.log ++ records) (Ended t ∷ []) k (Commit t) (omega (arith, below, number_is)) (subst (λ l. slice_get l k ≡ Some (Commit t)) log_late has))),
       )
 
       pub goes_away : GoesAway told may_leave faults precheck s B p w gs y v c state t g.to hs z

@@ -81,7 +81,7 @@ pub due_at : (q : Spot) (place : Place) (rest : List Act) → q ≡ at place res
 due_at q place rest e due = subst (λ (z : Spot). IsDue z.place) (sym e) due
 
 none_unfinished : (w : World) (c : ℕ) (place : Place) (rest : List Act) → IsDue place → AreUnfinished w c place rest []
-none_unfinished w c (Within t tries cs d s) (Calls call ∷ rest) due = inl (record { work = tt; spared = due; older = λ us. ([], sym (append-nil us)) })
+none_unfinished w c (Within t tries cs d s) (Calls call ∷ rest) due = inl (record { work = tt; spared = due; asks = tt; older = λ us. ([], sym (append-nil us)) })
 none_unfinished w c (Within t tries cs d s) (AbortAct ∷ rest) due = tt
 none_unfinished w c (Within t tries cs d s) [] due = tt
 none_unfinished w c (Outside s) (AuditAct ∷ rest) due = tt

@@ -1,78 +1,63 @@
--- A commit by its function.
-use Rattle.std.proofs.Common.{◌≡◌, ℕ, Bool, true, false, List, map, Option, Some, None, Result, Ok, IfSome, IfOk, refl, ap, sym, subst, ◌∙◌}
+-- A commit by its functions.
+use Rattle.std.proofs.Common.{◌≡◌, ℕ, zero, suc, ◌+◌, ◌<◌, ◌≤◌, Bool, true, false, List, [], ◌∷◌, ◌++◌, length, map, drop, Option, Some, None, Result, Err, is_some, is_ok, refl, ap, sym, subst, ◌∙◌, arith}
+use Rattle.std.specs.Prelude.{slice_get}
+use Rattle.std.specs.List.{AllByRecursion}
+use Rattle.std.proofs.lemmas.List.{append-nil}
+use Rattle.dali_single.proofs.Lists.{all_both}
+use Rattle.dali_record.specs.declared.operations.Pending.{Pending}
 use Rattle.dali_record.specs.declared.records.Record.{Record}
+use Rattle.dali_record.specs.declared.records.Record.TheVariants.{Ended}
+use Rattle.dali_geometry.specs.Sizes.{Sizes}
 use Rattle.dali_region.specs.State.{RegionState}
+use Rattle.dali_att.specs.declared.state.State.TheVariants.{Committed}
 use Rattle.dali_store.specs.Store.{Files as Disk}
 use Rattle.dali_system.specs.declared.causes.Cause.{Cause}
-use Rattle.dali_system.specs.State.{SystemState}
+use Rattle.dali_system.specs.State.{SystemState, row_of, state_of}
+use Rattle.dali_system.specs.Steps.{commit_logged, ended_logged, store_stopped, taken}
 use Rattle.dali_crash.specs.Checkpoints.{Point}
-use Rattle.dali_crash.specs.Traces.{Start}
+use Rattle.dali_crash.specs.Traces.{Start, bases_of}
 use Rattle.dali_vault.specs.Vaulted.{Vaulted}
-use Rattle.dali_single.specs.Single.{MayCall}
-use Rattle.dali_ends.specs.Stands.{IsBetween}
+use Rattle.dali_vault.specs.declared.error.VaultError.{VaultError}
+use Rattle.dali_vault.specs.declared.error.VaultError.TheVariants.{Stopped as VaultStopped}
+use Rattle.dali_facts.specs.Ends.{IsEnding}
+use Rattle.dali_single.specs.Settling.{IsSoloOf}
+use Rattle.dali_clean.specs.Others.{OthersStay}
+use Rattle.dali_clean.proofs.Others.{ended_others, ended_gone}
+use Rattle.dali_whole.specs.Cores.{IsWholeCore}
+use Rattle.dali_whole.specs.Flushed.{FlushesAll, FlushFails}
+use Rattle.dali_ends.specs.Ended.{Comes}
+use Rattle.dali_ends.specs.Left.{none_of}
+use Rattle.dali_ends.specs.Steps.{CommitLogs, RemovalFrees, CommitEnds}
+use Rattle.dali_rounds.specs.Calls.{IsOfEnd}
+use Rattle.dali_rounds.proofs.Committing.{solos_of, solos_go}
+use Rattle.dali_clients.specs.declared.command.Command.{Command}
 use Rattle.dali_clients.specs.declared.command.Command.TheVariants.{Commit}
 use Rattle.dali_clients.specs.declared.line.Line.TheVariants.{CommitOk, Refused}
-use Rattle.dali_clients.specs.declared.line.Why.{Why}
-use Rattle.dali_clients.specs.Told.{act_of}
 use Rattle.dali_clients.specs.declared.line.Why.TheVariants.{Stopped, StoreStopped}
-use Rattle.dali_transcripts.specs.World.{World}
+use Rattle.dali_clients.specs.Told.{act_of}
+use Rattle.dali_transcripts.specs.Words.{Act}
+use Rattle.dali_transcripts.specs.World.{World, log_of, IsFlushed}
 use Rattle.dali_transcripts.specs.Moves.{Within as IsWithin}
 use Rattle.dali_transcripts.specs.Rounds.{Standing}
 use Rattle.dali_turns.specs.declared.client.Client.{Client}
+use Rattle.dali_turns.specs.declared.client.State.{State}
 use Rattle.dali_turns.specs.declared.client.State.TheVariants.{Outside, Within}
 use Rattle.dali_turns.specs.declared.client.Transaction.{Transaction}
-use Rattle.dali_turns.specs.Clients.{next_of, Passes, Finishes}
+use Rattle.dali_turns.specs.Clients.{next_of, Passes, Finishes, Stays}
 use Rattle.dali_turns.specs.Stood.{Stood}
-use Rattle.dali_turns.specs.Ends.{IsCommitted, IsUncommitted}
-use Rattle.dali_turns.specs.Within.{AreSoFar, FitsWithin}
-use Rattle.dali_turns.specs.Fits.{rest_of}
-use Rattle.dali_turns.specs.Goes.{Went, StepGoes}
-use Rattle.dali_turns.proofs.Commands.{next_act, behind_next, finished_rest, finished_lines, finished_client, due_at}
+use Rattle.dali_turns.specs.Within.{AreSoFar}
+use Rattle.dali_turns.specs.Commits.{FitsCommitting}
+use Rattle.dali_turns.specs.Fits.{rest_of, Owns, Fits}
+use Rattle.dali_turns.specs.Goes.{StepGoes}
+use Rattle.dali_turns.proofs.Refusals.{records_are}
+use Rattle.dali_turns.proofs.Commands.{behind_next, next_act, finished_rest, finished_lines, finished_client, due_at}
 use Rattle.dali_turns.proofs.Poking.{went_nowhere}
-use Rattle.dali_turns.proofs.Committing.{commits_said, commits_unsaid, commit_fails, commit_fails_unsaid}
 use Rattle.dali_turns.proofs.Stopping.{commit_refused, commit_unsaid}
+use Rattle.dali_turns.proofs.Awaiting.{stable_is}
+use Rattle.dali_turns.proofs.Committing.{commit_logged_to, flush_to, flush_fails, flush_fails_unsaid, found_failed, found_failed_unsaid, ok_where_it_stopped, ok_unsaid, freed_on, unfreed, ended_ok, ended_unsaid}
 
 module _ {V : Type 0} (told : V → Option Disk) (may_leave : V → Disk → Type 0) (faults : V → ℕ)
     (precheck : Bool) (x : Transaction) (k j : Client) (gs : List RegionState) (y : SystemState) (v : Vaulted V) (next : next_of k ≡ Some Commit) where
-  -- it may call, wherever the engine runs
-  may_call : (p : Point) (w : World) (a : Standing) → p.core.system ≡ y → FitsWithin p w a (rest_of k) x → y.stop ≡ None → MayCall p.log p.core x.txn
-  may_call p w a same fits runs = fits.may_call (ap (λ (m : SystemState). m.stop) same ∙ runs)
-
-  between : (s : Start) (B : List (List Record)) (p : Point) (w : World) (a : Standing) → Stood told may_leave faults s B p w precheck gs y v → FitsWithin p w a (rest_of k) x → y.stop ≡ None → IsBetween told may_leave faults gs y v x.txn
-  between s B p w a stood fits runs = record { up = record { start = s; batches = B; point = p; stands = stood.stands }; may = may_call p w a stood.stands.at.system fits runs }
-
-  -- ---- committed
-  module _ (runs : y.stop ≡ None) (hs : List RegionState) (z : SystemState) (u : Vaulted V) (done : IsCommitted told may_leave faults x.txn gs y v hs z u) where
-    pub commit_goes : Finishes k Outside CommitOk j → StepGoes told may_leave faults precheck (Within x) k gs y v true j hs z u
-    commit_goes f s B p w a stood is fits =
-        commits_said told may_leave faults precheck s B p w a gs y v k j x stood is fits runs (behind_next k) (next_act k Commit next) hs z u
-        (done.goes s B p stood.stands (may_call p w a stood.stands.at.system fits runs)) done.others done.gone.0 (done.whole (between s B p w a stood fits runs))
-        (finished_client k j Outside CommitOk f) (finished_lines k j Outside CommitOk f) (finished_rest k j Outside CommitOk f) f.stands
-
-    pub commit_silent_goes : Passes k Outside j → StepGoes told may_leave faults precheck (Within x) k gs y v false j hs z u
-    commit_silent_goes f s B p w a stood is fits =
-        commits_unsaid told may_leave faults precheck s B p w a gs y v k j x stood is fits runs (behind_next k) (next_act k Commit next) hs z u
-        (done.goes s B p stood.stands (may_call p w a stood.stands.at.system fits runs)) done.others done.gone.0 (done.whole (between s B p w a stood fits runs)) f.transcript
-
-  -- ---- the store failed
-  module _ (runs : y.stop ≡ None) (hs : List RegionState) (z : SystemState) (u : Vaulted V) (lost : IsUncommitted told may_leave faults x.txn gs y v hs z u) where
-    on_regions : {ok : Bool} {s : Start} {B : List (List Record)} {p : Point} {w : World} {a : Standing}
-        → (IsUncommitted told may_leave faults x.txn gs y v gs z u → Went told may_leave faults precheck s B p w a (Within x) gs y v ok j gs z u) → Went told may_leave faults precheck s B p w a (Within x) gs y v ok j hs z u
-    on_regions {ok} {s} {B} {p} {w} {a} went =
-        subst (λ (rs : List RegionState). Went told may_leave faults precheck s B p w a (Within x) gs y v ok j rs z u) (sym lost.regions)
-        (went (subst (λ (rs : List RegionState). IsUncommitted told may_leave faults x.txn gs y v rs z u) lost.regions lost))
-
-    pub fault_goes : Finishes k Outside (Refused Commit StoreStopped) j → StepGoes told may_leave faults precheck (Within x) k gs y v true j hs z u
-    fault_goes f s B p w a stood is fits = on_regions (λ here.
-        commit_fails told may_leave faults precheck s B p w a gs y v k j x stood is fits runs (behind_next k) (next_act k Commit next) z u
-        (here.fails s B p stood.stands (may_call p w a stood.stands.at.system fits runs)) here.stopped here.others (here.whole (between s B p w a stood fits runs))
-        (finished_client k j Outside (Refused Commit StoreStopped) f) (finished_lines k j Outside (Refused Commit StoreStopped) f) (finished_rest k j Outside (Refused Commit StoreStopped) f) f.stands)
-
-    pub fault_silent_goes : Passes k Outside j → StepGoes told may_leave faults precheck (Within x) k gs y v false j hs z u
-    fault_silent_goes f s B p w a stood is fits = on_regions (λ here.
-        commit_fails_unsaid told may_leave faults precheck s B p w a gs y v k j x stood is fits runs (behind_next k) (next_act k Commit next) z u
-        (here.fails s B p stood.stands (may_call p w a stood.stands.at.system fits runs)) here.stopped here.others (here.whole (between s B p w a stood fits runs)) f.transcript)
-
   -- ---- the engine is stopped
   module _ (cause : Cause) (stop : y.stop ≡ Some cause) where
     pub stop_goes : Finishes k Outside (Refused Commit (Stopped cause)) j → StepGoes told may_leave faults precheck (Within x) k gs y v true j gs y v
@@ -84,59 +69,194 @@ module _ {V : Type 0} (told : V → Option Disk) (may_leave : V → Disk → Typ
     stop_silent_goes f s B p w a stood is fits = commit_unsaid told may_leave faults precheck s B p w a gs y v k j x stood is fits cause stop (behind_next k) (next_act k Commit next) f.transcript
 
   -- ---- memory was refused
-  pub no_commit_goes : j.transcript ≡ k.transcript → StepGoes told may_leave faults precheck (Within x) k gs y v false j gs y v
+  no_commit_goes : j.transcript ≡ k.transcript → StepGoes told may_leave faults precheck (Within x) k gs y v false j gs y v
   no_commit_goes same s B p w a stood is fits =
-      went_nowhere told may_leave faults precheck (Within x) s B p w a gs y v k j stood is (due_at a.spot (IsWithin x.txn x.tries (map act_of x.commands.now) x.deadly fits.said) (rest_of k) fits.spot fits.due) (subst (λ acts. AreSoFar w a.client x.txn acts a.pending) (next_act k Commit next) fits.so_far) same
+      went_nowhere told may_leave faults precheck (Within x) s B p w a gs y v k j stood is (due_at a.spot (IsWithin x.txn x.tries (map act_of x.commands.now) x.deadly fits.said) (rest_of k) fits.spot fits.due)
+      (subst (λ acts. AreSoFar w a.client x.txn acts a.pending) (next_act k Commit next) fits.so_far) same
 
--- ---- by the clauses of the call
-refused_before : {E : Type 0} (o : Option Cause) (result : Result (Option Why) E) (P : Type 0) → IfSome o (λ cause. (result ≡ Ok (Some (Stopped cause))) × P) → result ≡ Ok None → o ≡ None
-refused_before None result P h e = refl
-refused_before (Some cause) result P h e = let no : Ok (Some (Stopped cause)) ≡ Ok None = sym h.0 ∙ e in absurd (cc)
+  pub unlogged_goes : (ok : Bool) (hs : List RegionState) (z : SystemState) (u : Vaulted V) → ok ≡ false → hs ≡ gs → z ≡ y → u ≡ v → j.transcript ≡ k.transcript → StepGoes told may_leave faults precheck (Within x) k gs y v ok j hs z u
+  unlogged_goes ok hs z u unsaid regions system vault same =
+      subst (λ (b : Bool). StepGoes told may_leave faults precheck (Within x) k gs y v b j hs z u) (sym unsaid)
+      (subst (λ (rs : List RegionState). StepGoes told may_leave faults precheck (Within x) k gs y v false j rs z u) (sym regions)
+      (subst (λ (m : SystemState). StepGoes told may_leave faults precheck (Within x) k gs y v false j gs m u) (sym system)
+      (subst (λ (t : Vaulted V). StepGoes told may_leave faults precheck (Within x) k gs y v false j gs y t) (sym vault) (no_commit_goes same))))
 
-module _ {V : Type 0} (told : V → Option Disk) (may_leave : V → Disk → Type 0) (faults : V → ℕ) {C : Type 0} (new old : C) (regions : C → List RegionState) (system : C → SystemState) (vault : C → Vaulted V)
-    (precheck : Bool) (x : Transaction) (k j : Client) (next : next_of k ≡ Some Commit) where
-  pub unchanged_goes : new ≡ old → j.transcript ≡ k.transcript → StepGoes told may_leave faults precheck (Within x) k (regions old) (system old) (vault old) false j (regions new) (system new) (vault new)
-  unchanged_goes same silent = subst (λ (n : C). StepGoes told may_leave faults precheck (Within x) k (regions old) (system old) (vault old) false j (regions n) (system n) (vault n)) (sym same)
-      (no_commit_goes told may_leave faults precheck x k j (regions old) (system old) (vault old) next silent)
+  -- ---- its record
+  module _ (runs : y.stop ≡ None) (us : List Pending) (logs : CommitLogs told may_leave faults gs y v x.txn us) (others : OthersStay gs y x.txn gs (commit_logged y x.txn)) (number : ℕ) (is_number : number ≡ y.records) (st : State) (f : Stays k st j)
+      (fits_as : (s : Start) (B : List (List Record)) (p : Point) (w : World) (gs : List RegionState) (y : SystemState) (v : Vaulted V) (a : Standing) (rest : List Act) → FitsCommitting p w a rest x number us 0 → Fits told may_leave faults s B p w gs y v a rest st)
+      (owns : (n : ℕ) → x.txn ≡ n → Owns st n) where
+    here_goes : StepGoes told may_leave faults precheck (Within x) k gs y v true j gs (commit_logged y x.txn) v
+    here_goes s B p w a stood is fits =
+        let l = logs s B p stood.stands (fits.may_call (ap (λ (m : SystemState). m.stop) stood.stands.at.system ∙ runs)) in
+        let count : number ≡ length (log_of w) = is_number ∙ (ap (λ (m : SystemState). m.records) (sym stood.stands.at.system) ∙ records_are (bases_of s) s.log w p stood.stands.at.vault.run stood.tells) in
+        commit_logged_to told may_leave faults precheck s B p w a gs y v k j x stood is fits runs (behind_next k) (next_act k Commit next) us l others number count st f
+        (λ h. fits_as s B _ _ gs (commit_logged y x.txn) v _ (rest_of j) h) owns
 
-  module _ {E : Type 0} (result : Result (Option Why) E) (stopped : IfSome (system old).stop (λ cause. (result ≡ Ok (Some (Stopped cause))) × (new ≡ old))) where
-    -- committed
-    module _ (is : result ≡ Ok None) (ok : (system old).stop ≡ None → result ≡ Ok None → IsCommitted told may_leave faults x.txn (regions old) (system old) (vault old) (regions new) (system new) (vault new)) where
-      ran : (system old).stop ≡ None
-      ran = refused_before (system old).stop result (new ≡ old) stopped is
+    pub logged_goes : (hs : List RegionState) (z : SystemState) (u : Vaulted V) → hs ≡ gs → z ≡ commit_logged y x.txn → u ≡ v → StepGoes told may_leave faults precheck (Within x) k gs y v true j hs z u
+    logged_goes hs z u regions system vault =
+        subst (λ (rs : List RegionState). StepGoes told may_leave faults precheck (Within x) k gs y v true j rs z u) (sym regions)
+        (subst (λ (m : SystemState). StepGoes told may_leave faults precheck (Within x) k gs y v true j gs m u) (sym system)
+        (subst (λ (t : Vaulted V). StepGoes told may_leave faults precheck (Within x) k gs y v true j gs (commit_logged y x.txn) t) (sym vault) here_goes))
 
-      pub said_goes : Finishes k Outside CommitOk j → StepGoes told may_leave faults precheck (Within x) k (regions old) (system old) (vault old) true j (regions new) (system new) (vault new)
-      said_goes = commit_goes told may_leave faults precheck x k j (regions old) (system old) (vault old) next ran (regions new) (system new) (vault new) (ok ran is)
+pub none_there : {X : Type 0} (o : Option X) → is_some o ≡ false → o ≡ None
+none_there None e = refl
+none_there (Some x) e = absurd (cc)
 
-      pub unsaid_commit_goes : Passes k Outside j → StepGoes told may_leave faults precheck (Within x) k (regions old) (system old) (vault old) false j (regions new) (system new) (vault new)
-      unsaid_commit_goes = commit_silent_goes told may_leave faults precheck x k j (regions old) (system old) (vault old) next ran (regions new) (system new) (vault new) (ok ran is)
+-- what a record leaves to others, by the call's clauses
+pub others_there : (gs hs : List RegionState) (y z m : SystemState) (t : ℕ) → hs ≡ gs → z ≡ m → OthersStay gs y t hs z → OthersStay gs y t gs m
+others_there gs hs y z m t regions system others = subst (λ (x : SystemState). OthersStay gs y t gs x) system (subst (λ (rs : List RegionState). OthersStay gs y t rs z) regions others)
 
-    -- refused
-    module _ (why : Why) (is : result ≡ Ok (Some why)) (fault : (system old).stop ≡ None → IfOk result (λ o. IfSome o (λ why. (why ≡ StoreStopped) × IsUncommitted told may_leave faults x.txn (regions old) (system old) (vault old) (regions new) (system new) (vault new)))) where
-      lost : (system old).stop ≡ None → (why ≡ StoreStopped) × IsUncommitted told may_leave faults x.txn (regions old) (system old) (vault old) (regions new) (system new) (vault new)
-      lost runs = subst (λ r. IfOk r (λ o. IfSome o (λ why. (why ≡ StoreStopped) × IsUncommitted told may_leave faults x.txn (regions old) (system old) (vault old) (regions new) (system new) (vault new)))) is (fault runs)
+-- behind an end
+pub others_ended : (gs hs : List RegionState) (y z : SystemState) (t : ℕ) → hs ≡ gs → z ≡ ended_logged y t → OthersStay gs y t hs z
+others_ended gs hs y z t regions system = subst (λ (rs : List RegionState). OthersStay gs y t rs z) (sym regions) (ended_others gs y z t system)
 
-      why_is : (cause : Cause) → result ≡ Ok (Some (Stopped cause)) → why ≡ Stopped cause
-      why_is cause e = let both : Ok (Some why) ≡ Ok (Some (Stopped cause)) = sym is ∙ e in cc
+pub ended_row : (y z : SystemState) (t : ℕ) → z ≡ ended_logged y t → row_of z t ≡ None
+ended_row y z t system = (ended_gone y z t system).0
 
-      pub refused_goes : Finishes k Outside (Refused Commit why) j → StepGoes told may_leave faults precheck (Within x) k (regions old) (system old) (vault old) true j (regions new) (system new) (vault new)
-      refused_goes f = by_stop (system old).stop refl
-        where
-          by_stop : (o : Option Cause) → (system old).stop ≡ o → StepGoes told may_leave faults precheck (Within x) k (regions old) (system old) (vault old) true j (regions new) (system new) (vault new)
-          by_stop None e =
-              let l = lost e in
-              fault_goes told may_leave faults precheck x k j (regions old) (system old) (vault old) next e (regions new) (system new) (vault new) l.1 (subst (λ (n : Why). Finishes k Outside (Refused Commit n) j) l.0 f)
-          by_stop (Some cause) e =
-              let s = subst (λ (o : Option Cause). IfSome o (λ cause. (result ≡ Ok (Some (Stopped cause))) × (new ≡ old))) e stopped in
-              subst (λ (n : C). StepGoes told may_leave faults precheck (Within x) k (regions old) (system old) (vault old) true j (regions n) (system n) (vault n)) (sym s.1)
-              (stop_goes told may_leave faults precheck x k j (regions old) (system old) (vault old) next cause e (subst (λ (n : Why). Finishes k Outside (Refused Commit n) j) (why_is cause s.0) f))
+-- a flush that was made ran
+pub flush_ran : {T : Type 0} (r : Result T VaultError) (old new : Bool) (P : Type 0) → new ≡ old → (old ≡ true → (r ≡ Err VaultStopped) × P) → is_ok r ≡ true → new ≡ false
+flush_ran r true new P same stopped ok = let no : is_ok r ≡ false = ap is_ok (stopped refl).0 in let both : true ≡ false = sym ok ∙ no in absurd (cc)
+flush_ran r false new P same stopped ok = same
 
-      pub refused_silent_goes : Passes k Outside j → StepGoes told may_leave faults precheck (Within x) k (regions old) (system old) (vault old) false j (regions new) (system new) (vault new)
-      refused_silent_goes f = by_stop (system old).stop refl
-        where
-          by_stop : (o : Option Cause) → (system old).stop ≡ o → StepGoes told may_leave faults precheck (Within x) k (regions old) (system old) (vault old) false j (regions new) (system new) (vault new)
-          by_stop None e = fault_silent_goes told may_leave faults precheck x k j (regions old) (system old) (vault old) next e (regions new) (system new) (vault new) (lost e).1 f
-          by_stop (Some cause) e =
-              let s = subst (λ (o : Option Cause). IfSome o (λ cause. (result ≡ Ok (Some (Stopped cause))) × (new ≡ old))) e stopped in
-              subst (λ (n : C). StepGoes told may_leave faults precheck (Within x) k (regions old) (system old) (vault old) false j (regions n) (system n) (vault n)) (sym s.1)
-              (stop_silent_goes told may_leave faults precheck x k j (regions old) (system old) (vault old) next cause e f)
+-- ---- behind it
+behind_is : (cs : List Command) (act : Act) (more : List Act) → map act_of cs ≡ act ∷ more → map act_of (drop 1 cs) ≡ more
+behind_is [] act more e = absurd (cc)
+behind_is (c ∷ cs) act more e = ap (drop 1) e
+
+drops : {X : Type 0} (xs : List X) (i : ℕ) (x : X) → slice_get xs i ≡ Some x → drop i xs ≡ x ∷ drop (i + 1) xs
+drops [] i x e = absurd (cc)
+drops (y ∷ xs) zero x e = let same : y ≡ x = cc in ap (λ z. z ∷ xs) same
+drops (y ∷ xs) (suc i) x e = let one : suc (i + 1) ≡ suc i + 1 = omega arith in drops xs i x e ∙ ap (λ n. x ∷ drop n (y ∷ xs)) one
+
+drops_none : {X : Type 0} (xs : List X) (i : ℕ) → slice_get xs i ≡ None → drop i xs ≡ []
+drops_none [] zero e = refl
+drops_none [] (suc i) e = refl
+drops_none (y ∷ xs) zero e = absurd (cc)
+drops_none (y ∷ xs) (suc i) e = drops_none xs i e
+
+none_solos : (t : ℕ) (xs : List Record) → AllByRecursion none_of xs → AllByRecursion (IsSoloOf t) xs
+none_solos t [] are = tt
+none_solos t (x ∷ xs) are = absurd are.0
+
+module _ {V : Type 0} (told : V → Option Disk) (may_leave : V → Disk → Type 0) (faults : V → ℕ)
+    (precheck : Bool) (x : Transaction) (number : ℕ) (us : List Pending) (next : ℕ) (st : State)
+    (fits_of : (s : Start) (B : List (List Record)) (p : Point) (w : World) (gs : List RegionState) (y : SystemState) (v : Vaulted V) (a : Standing) (rest : List Act) → Fits told may_leave faults s B p w gs y v a rest st → FitsCommitting p w a rest x number us next)
+    (owns : (n : ℕ) → x.txn ≡ n → Owns st n) (only : (n : ℕ) → Owns st n → x.txn ≡ n)
+    (k j : Client) (gs : List RegionState) (y : SystemState) (v : Vaulted V) where
+  abbrev GoesTo : Bool → List RegionState → SystemState → Vaulted V → Type 0
+  GoesTo ok hs z u = StepGoes told may_leave faults precheck st k gs y v ok j hs z u
+
+  pub commit_unsaid_goes : (ok : Bool) (hs : List RegionState) (z : SystemState) (u : Vaulted V) → ok ≡ false → GoesTo false hs z u → GoesTo ok hs z u
+  commit_unsaid_goes ok hs z u e goes = subst (λ (b : Bool). GoesTo b hs z u) (sym e) goes
+
+  with_vault : (ok : Bool) (hs : List RegionState) (z : SystemState) (u : Vaulted V) → u ≡ v → GoesTo ok hs z v → GoesTo ok hs z u
+  with_vault ok hs z u e goes = subst (λ (t : Vaulted V). GoesTo ok hs z t) (sym e) goes
+
+  with_regions : (ok : Bool) (hs : List RegionState) (z : SystemState) (u : Vaulted V) → hs ≡ gs → GoesTo ok gs z u → GoesTo ok hs z u
+  with_regions ok hs z u e goes = subst (λ (rs : List RegionState). GoesTo ok rs z u) (sym e) goes
+
+  with_core : (ok : Bool) (hs : List RegionState) (z : SystemState) (u : Vaulted V) → hs ≡ gs → z ≡ y → u ≡ v → GoesTo ok gs y v → GoesTo ok hs z u
+  with_core ok hs z u regions system vault goes = with_regions ok hs z u regions (subst (λ (m : SystemState). GoesTo ok gs m u) (sym system) (with_vault ok gs y u vault goes))
+
+  -- ---- the flush
+  module _ (hs : List RegionState) (z : SystemState) (u : Vaulted V) (regions : hs ≡ gs) (keeps : IsWholeCore told gs y v → IsWholeCore told hs z u) where
+    whole : IsWholeCore told gs y v → IsWholeCore told gs z u
+    whole h = subst (λ (rs : List RegionState). IsWholeCore told rs z u) regions (keeps h)
+
+    pub flush_goes : z ≡ taken y → u.stopped ≡ false → FlushesAll told may_leave faults gs y v z u → Stays k st j
+        → ((s : Start) (B : List (List Record)) (p : Point) (w : World) (gs : List RegionState) (y : SystemState) (v : Vaulted V) (a : Standing) (rest : List Act) → FitsCommitting p w a rest x number us next → Fits told may_leave faults s B p w gs y v a rest st)
+        → GoesTo true hs z u
+    flush_goes z_is ran flushes f fits_as = with_regions true hs z u regions (λ s B p w a stood is fits.
+        flush_to told may_leave faults precheck s B p w a gs y v k j x st stood is number us next (fits_of s B p w gs y v a (rest_of k) fits) owns only z u z_is ran whole (flushes s B p stood.stands.at) st f
+        (λ h. fits_as s _ _ _ gs z u _ (rest_of j) h) owns)
+
+    module _ (unflushed : y.first + v.flushed ≤ number) (z_is : z ≡ store_stopped (taken y)) (stopped : u.stopped ≡ true) (same : u.flushed ≡ v.flushed) (fails : FlushFails told may_leave faults gs y v z u) where
+      pub fault_goes : Finishes k Outside (Refused Commit StoreStopped) j → GoesTo true hs z u
+      fault_goes f = with_regions true hs z u regions (λ s B p w a stood is fits.
+          let c = fits_of s B p w gs y v a (rest_of k) fits in
+          flush_fails told may_leave faults precheck s B p w a gs y v k j x st stood is number us next c owns only unflushed z u z_is stopped same whole (fails s B p stood.stands.at)
+          (finished_client k j Outside (Refused Commit StoreStopped) f) (finished_lines k j Outside (Refused Commit StoreStopped) f) (finished_rest k j Outside (Refused Commit StoreStopped) f ∙ behind_is k.rest.now _ c.more c.commits) f.stands)
+
+      pub fault_silent_goes : Passes k Outside j → GoesTo false hs z u
+      fault_silent_goes f = with_regions false hs z u regions (λ s B p w a stood is fits.
+          flush_fails_unsaid told may_leave faults precheck s B p w a gs y v k j x st stood is number us next (fits_of s B p w gs y v a (rest_of k) fits) owns only unflushed z u z_is stopped same whole (fails s B p stood.stands.at) f.transcript)
+
+  -- ---- the store had failed
+  module _ (unflushed : y.first + v.flushed ≤ number) (had : v.stopped ≡ true) (hs : List RegionState) (z : SystemState) (u : Vaulted V) (regions : hs ≡ gs) (system : z ≡ y) (vault : u ≡ v) where
+    pub found_goes : Finishes k Outside (Refused Commit StoreStopped) j → GoesTo true hs z u
+    found_goes f = with_core true hs z u regions system vault (λ s B p w a stood is fits.
+        let c = fits_of s B p w gs y v a (rest_of k) fits in
+        found_failed told may_leave faults precheck s B p w a gs y v k j x st stood is number us next c owns only unflushed had
+        (finished_client k j Outside (Refused Commit StoreStopped) f) (finished_lines k j Outside (Refused Commit StoreStopped) f) (finished_rest k j Outside (Refused Commit StoreStopped) f ∙ behind_is k.rest.now _ c.more c.commits) f.stands)
+
+    pub found_silent_goes : Passes k Outside j → GoesTo false hs z u
+    found_silent_goes f = with_core false hs z u regions system vault (λ s B p w a stood is fits.
+        found_failed_unsaid told may_leave faults precheck s B p w a gs y v k j x st stood is number us next (fits_of s B p w gs y v a (rest_of k) fits) owns only unflushed had f.transcript)
+
+  -- ---- behind the flush
+  module _ (flushed : number < y.first + v.flushed) where
+    flushed_at : (s : Start) (B : List (List Record)) (p : Point) (w : World) (a : Standing) → Stood told may_leave faults s B p w precheck gs y v → IsFlushed w number
+    flushed_at s B p w a stood = subst (λ n. number < n) (sym (stable_is told may_leave faults precheck s B p w a gs y v st stood)) flushed
+
+    -- the engine is stopped
+    pub ok_goes : is_some y.stop ≡ true → Finishes k Outside CommitOk j → GoesTo true gs y v
+    ok_goes stop f s B p w a stood is fits =
+        let c = fits_of s B p w gs y v a (rest_of k) fits in
+        ok_where_it_stopped told may_leave faults precheck s B p w a gs y v k j x st stood is number us next c owns only (flushed_at s B p w a stood) stop
+        (finished_client k j Outside CommitOk f) (finished_lines k j Outside CommitOk f) (finished_rest k j Outside CommitOk f ∙ behind_is k.rest.now _ c.more c.commits) f.stands
+
+    -- nothing was done, and nothing said
+    pub ok_silent_goes : j.transcript ≡ k.transcript → GoesTo false gs y v
+    ok_silent_goes silent s B p w a stood is fits = ok_unsaid told may_leave faults precheck s B p w a gs y v k j x st stood is number us next (fits_of s B p w gs y v a (rest_of k) fits) owns only (flushed_at s B p w a stood) silent
+
+    pub unended_goes : (hs : List RegionState) (z : SystemState) (u : Vaulted V) → hs ≡ gs → z ≡ y → u ≡ v → j.transcript ≡ k.transcript → GoesTo false hs z u
+    unended_goes hs z u regions system vault silent = with_core false hs z u regions system vault (ok_silent_goes silent)
+
+    module _ (runs : y.stop ≡ None) (hs : List RegionState) (z : SystemState) (u : Vaulted V) (vault : u ≡ v) (others : OthersStay gs y x.txn hs z) where
+      sizes_there : (s : Start) (B : List (List Record)) (p : Point) (w : World) (a : Standing) → Stood told may_leave faults s B p w precheck gs y v → (rest : List Act) → FitsCommitting p w a rest x number us next → IsEnding y.sizes p.log x.txn (drop next us)
+      sizes_there s B p w a stood rest c = subst (λ (n : Sizes). IsEnding n p.log x.txn (drop next us)) (ap (λ (m : SystemState). m.sizes) stood.stands.at.system) (c.ending (ap (λ (m : SystemState). m.stop) stood.stands.at.system ∙ runs))
+
+      -- ---- a removal
+      module _ (still : state_of z x.txn ≡ state_of y x.txn) where
+        committed_then : (s : Start) (B : List (List Record)) (p : Point) (w : World) (a : Standing) → Stood told may_leave faults s B p w precheck gs y v → (rest : List Act) → FitsCommitting p w a rest x number us next → state_of z x.txn ≡ Some Committed
+        committed_then s B p w a stood rest c = still ∙ (ap (λ (m : SystemState). state_of m x.txn) (sym stood.stands.at.system) ∙ c.committed)
+
+        pub freed_goes : (r : Pending) → slice_get us next ≡ Some r → z.locks ≡ y.locks → RemovalFrees told may_leave faults x.txn r gs y v hs z → (dest : State) → Stays k dest j
+            → ((s : Start) (B : List (List Record)) (p : Point) (w : World) (gs : List RegionState) (y : SystemState) (v : Vaulted V) (a : Standing) (rest : List Act) → FitsCommitting p w a rest x number us (next + 1) → Fits told may_leave faults s B p w gs y v a rest dest)
+            → ((n : ℕ) → x.txn ≡ n → Owns dest n) → GoesTo true hs z u
+        freed_goes r at locks frees dest f fits_as there = with_vault true hs z u vault (λ s B p w a stood is fits.
+            let c = fits_of s B p w gs y v a (rest_of k) fits in
+            let e = frees (drop (next + 1) us) s B p stood.stands (subst (λ ps. IsEnding y.sizes p.log x.txn ps) (drops us next r at) (sizes_there s B p w a stood (rest_of k) c)) in
+            let g = solos_go told may_leave faults [] (IsSoloOf x.txn) s B p gs hs y z v x.txn stood.stands e.come (subst (λ rs. AllByRecursion (IsOfEnd x.txn) rs) (sym (append-nil e.come.records)) (solos_of x.txn e.come.records e.come.are)) others in
+            freed_on told may_leave faults precheck s B p w a gs y v k j x st stood is number us next c owns only (flushed_at s B p w a stood) runs (e.come.records ++ []) hs z g.0 others e.come.front e.come.by e.come.records e.come.are
+            (g.2 ∙ (e.come.is ∙ append-nil e.come.front)) (append-nil e.come.records) (committed_then s B p w a stood (rest_of k) c) locks
+            (subst (λ (q : Point). IsEnding z.sizes q.log x.txn (drop (next + 1) us)) (sym g.1) e.ending) dest f (λ h. fits_as s B _ _ hs z v _ (rest_of j) h) there)
+
+        pub unfreed_goes : Comes told may_leave faults x.txn none_of [] gs y v hs z → j.transcript ≡ k.transcript → GoesTo false hs z u
+        unfreed_goes comes silent = with_vault false hs z u vault (λ s B p w a stood is fits.
+            let c = fits_of s B p w gs y v a (rest_of k) fits in
+            let e = comes s B p stood.stands in
+            let solos = none_solos x.txn e.records e.are in
+            let g = solos_go told may_leave faults [] none_of s B p gs hs y z v x.txn stood.stands e (subst (λ rs. AllByRecursion (IsOfEnd x.txn) rs) (sym (append-nil e.records)) (solos_of x.txn e.records solos)) others in
+            unfreed told may_leave faults precheck s B p w a gs y v k j x st stood is number us next c owns only (flushed_at s B p w a stood) runs (e.records ++ []) hs z g.0 others e.front e.by e.records solos
+            (g.2 ∙ (e.is ∙ append-nil e.front)) (append-nil e.records) (committed_then s B p w a stood (rest_of k) c) silent)
+
+      -- ---- its end
+      module _ (none : slice_get us next ≡ None) (ends : CommitEnds told may_leave faults x.txn gs y v hs z) (gone : row_of z x.txn ≡ None) where
+        pub ended_goes : Finishes k Outside CommitOk j → GoesTo true hs z u
+        ended_goes f = with_vault true hs z u vault (λ s B p w a stood is fits.
+            let c = fits_of s B p w gs y v a (rest_of k) fits in
+            let e = ends s B p stood.stands (subst (λ ps. IsEnding y.sizes p.log x.txn ps) (drops_none us next none) (sizes_there s B p w a stood (rest_of k) c)) in
+            let solos = none_solos x.txn e.records e.are in
+            let g = solos_go told may_leave faults (Ended x.txn ∷ []) none_of s B p gs hs y z v x.txn stood.stands e (all_both (IsOfEnd x.txn) e.records (Ended x.txn ∷ []) (solos_of x.txn e.records solos) (refl, tt)) others in
+            ended_ok told may_leave faults precheck s B p w a gs y v k j x st stood is number us next c owns only (flushed_at s B p w a stood) runs (e.records ++ Ended x.txn ∷ []) hs z g.0 others e.front e.by e.records solos
+            (g.2 ∙ e.is) refl gone (finished_client k j Outside CommitOk f) (finished_lines k j Outside CommitOk f) (finished_rest k j Outside CommitOk f ∙ behind_is k.rest.now _ c.more c.commits) f.stands)
+
+        pub ended_silent_goes : j.transcript ≡ k.transcript → GoesTo false hs z u
+        ended_silent_goes silent = with_vault false hs z u vault (λ s B p w a stood is fits.
+            let c = fits_of s B p w gs y v a (rest_of k) fits in
+            let e = ends s B p stood.stands (subst (λ ps. IsEnding y.sizes p.log x.txn ps) (drops_none us next none) (sizes_there s B p w a stood (rest_of k) c)) in
+            let solos = none_solos x.txn e.records e.are in
+            let g = solos_go told may_leave faults (Ended x.txn ∷ []) none_of s B p gs hs y z v x.txn stood.stands e (all_both (IsOfEnd x.txn) e.records (Ended x.txn ∷ []) (solos_of x.txn e.records solos) (refl, tt)) others in
+            ended_unsaid told may_leave faults precheck s B p w a gs y v k j x st stood is number us next c owns only (flushed_at s B p w a stood) runs (e.records ++ Ended x.txn ∷ []) hs z g.0 others e.front e.by e.records solos
+            (g.2 ∙ e.is) refl gone silent)

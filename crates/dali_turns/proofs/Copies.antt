@@ -7,13 +7,12 @@ use Rattle.dali_counts.proofs.Lists.{set_cases}
 use Rattle.dali_record.specs.declared.records.Record.{Record}
 use Rattle.dali_record.specs.Spelling.{words_bytes}
 use Rattle.dali_region.specs.declared.Side.{Side}
-use Rattle.dali_region.specs.declared.Side.TheVariants.{A, B as SideB}
 use Rattle.dali_region.specs.declared.Hold.{Hold}
 use Rattle.dali_region.specs.State.{RegionState}
 use Rattle.dali_region.specs.Answers.{is_dirty, cleaned}
 use Rattle.dali_store.specs.Store.{Files as Disk}
 use Rattle.dali_system.specs.State.{SystemState}
-use Rattle.dali_system.specs.Steps.{store_stopped, stopped_by, in_checkpoint}
+use Rattle.dali_system.specs.Steps.{store_stopped, in_checkpoint}
 use Rattle.dali_crash.specs.Checkpoints.{StoreStep, Does, Copies as CopiesRegion, Skips as SkipsRegion, CopyFails, Finishes, Point, target}
 use Rattle.dali_crash.specs.Traces.{Start}
 use Rattle.dali_system.specs.Courses.{Stops}
@@ -38,6 +37,7 @@ use Rattle.dali_transcripts.specs.Moves.{Receipt, Outside as IsOutside, at, Move
 use Rattle.dali_transcripts.specs.Causes.{IsCutAudit, MetCause}
 use Rattle.dali_transcripts.specs.Laws.{receipts_from}
 use Rattle.dali_transcripts.specs.Rounds.{Standing, IsPlaced}
+use Rattle.dali_during.proofs.Points.{cleaned_hold}
 use Rattle.dali_deeds.specs.Deeds.{AreOf}
 use Rattle.dali_deeds.specs.Tells.{after}
 use Rattle.dali_turns.specs.declared.client.Client.{Client}
@@ -58,13 +58,10 @@ use Rattle.dali_turns.proofs.Finishing.{stop_point, finish_point, stops_there, s
 use Rattle.dali_turns.proofs.Starting.{under_then}
 
 -- ---- a region whose flag is cleared keeps its hold
-same_hold : (side : Side) (g : RegionState) → (cleaned side g).hold ≡ g.hold
-same_hold A g = refl
-same_hold SideB g = refl
 
 pub dead_cleaned : (gs : List RegionState) (r : ℕ) (side : Side) (g : RegionState) → slice_get gs r ≡ Some g → AreDead gs → AreDead (slice_set gs r (cleaned side g))
 dead_cleaned gs r side g at dead q h there = ⊎_elim
-    (λ same. subst (λ (o : Option Hold). IfSome o (λ (k : Hold). k.dead ≡ true)) (sym (ap (λ (x : RegionState). x.hold) same.1 ∙ same_hold side g)) (dead r g at))
+    (λ same. subst (λ (o : Option Hold). IfSome o (λ (k : Hold). k.dead ≡ true)) (sym (ap (λ (x : RegionState). x.hold) same.1 ∙ cleaned_hold side g)) (dead r g at))
     (λ other. dead q h other.1)
     (set_cases gs r (cleaned side g) q h there)
 
@@ -231,10 +228,7 @@ module _ {V : Type 0} (told : V → Option Disk) (may_leave : V → Disk → Typ
           refl,
         )
         (finished_at told may_leave faults s B (stop_point goes.to) gs (store_stopped y) u two set) stood.stands.dead (places_stay (told v.store) (told u.store) gs files stood.files)
-        (record {
-          unclaimed = stood.quiet.unclaimed;
-          settled = λ ran. let none : is_some (stopped_by y.stop) ≡ false = ap is_some ran in let some : is_some (stopped_by y.stop) ≡ true = has_stop y.stop in absurd (cc);
-        })
+        (record { unclaimed = stood.quiet.unclaimed })
         (λ e. has_stop y.stop) (λ t lives other. refl) (λ b other. refl) (λ flag other. absurd (other tt))
 
     own_is : a.pending ++ receipts_from number ds ≡ spanned (Some (fits.making.since, number)) ([] ++ (number, Meets StoreFailed) ∷ [])

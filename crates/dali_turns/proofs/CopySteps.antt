@@ -1,20 +1,20 @@
 -- A step function of a checkpoint that copies: by what the calls in it say.
-use Rattle.std.proofs.Common.{◌≡◌, ℕ, zero, suc, ◌+◌, ◌<◌, ◌≤◌, Bool, true, false, List, [], ◌∷◌, length, Option, Some, None, is_some, Result, Ok, Err, refl, ap, sym, subst, ◌∙◌, inl, inr, arith}
+use Rattle.std.proofs.Common.{◌≡◌, ℕ, ◌+◌, ◌<◌, Bool, true, false, List, [], length, Option, Some, None, is_some, Result, Ok, Err, refl, ap, sym, subst, ◌∙◌, inl, inr, arith}
 use Rattle.std.specs.Prelude.{slice_get, slice_set}
-use Rattle.std.proofs.lemmas.Option.{IfSome_then}
+use Rattle.std.proofs.lemmas.Option.{same_Some}
+use Rattle.dali_lists.proofs.Lists.{set_same}
 use Rattle.dali_geometry.specs.Places.{regions}
 use Rattle.dali_record.specs.declared.records.Record.{Record}
 use Rattle.dali_record.specs.Spelling.{words_bytes}
-use Rattle.dali_region.specs.declared.Side.{Side}
 use Rattle.dali_region.specs.State.{RegionState}
 use Rattle.dali_region.specs.Answers.{is_dirty, cleaned}
 use Rattle.dali_store.specs.Store.{Files as Disk}
 use Rattle.dali_system.specs.declared.causes.Cause.{Cause}
 use Rattle.dali_system.specs.State.{SystemState}
 use Rattle.dali_system.specs.Steps.{in_checkpoint}
-use Rattle.dali_crash.specs.Checkpoints.{Point, target}
+use Rattle.dali_crash.specs.Checkpoints.{Point}
 use Rattle.dali_crash.specs.Traces.{Start}
-use Rattle.dali_traces.specs.Disks.{image_file, image_name}
+use Rattle.dali_traces.specs.Disks.{image_name}
 use Rattle.dali_traces.specs.Places.{place_of}
 use Rattle.dali_vault.specs.Vaulted.{Vaulted}
 use Rattle.dali_steps.specs.Said.{HasWritten, WriteHasFailed}
@@ -22,12 +22,9 @@ use Rattle.dali_image.specs.declared.header.Header.{Header}
 use Rattle.dali_checkpoint.specs.Kept.{Checkpointed, side_in, given_up}
 use Rattle.dali_checkpoint.specs.Done.{Reaches}
 use Rattle.dali_whole.specs.Cores.{IsNoShorter}
-use Rattle.dali_checkpoint.specs.Running.{IsCopying}
 use Rattle.dali_checkpoint.specs.declared.error.CheckpointError.{CheckpointError}
 use Rattle.dali_checkpoint.specs.declared.error.CheckpointError.TheVariants.{Stopped, Fault}
-use Rattle.dali_checkpoint.proofs.Calls.{side_is_next}
 use Rattle.dali_clients.specs.declared.command.Command.TheVariants.{Checkpoint as IsCheckpoint}
-use Rattle.dali_clients.specs.declared.line.Line.{Line}
 use Rattle.dali_clients.specs.declared.line.Line.TheVariants.{Refused as IsRefused}
 use Rattle.dali_clients.specs.declared.line.Why.TheVariants.{Stopped as IsStopped, StoreStopped}
 use Rattle.dali_transcripts.specs.Words.{Checkpoints as CheckpointAct, StoppedBy}
@@ -46,17 +43,9 @@ use Rattle.dali_turns.proofs.Ending.{vault_runs}
 use Rattle.dali_turns.proofs.Finishing.{refusal_stop, given_up as gives_up, given_up_silent}
 use Rattle.dali_turns.proofs.Copies.{copies, skips, copy_fails, copy_fails_silent}
 
-pub same_line : (a b : Line) → Some a ≡ Some b → a ≡ b
-same_line a b e = cc
-
 -- a call that fails isn't done
 pub never_ok : {T E : Type 0} (e : E) (x : T) → (let r : Result T E = Err e in r ≡ Ok x) → ⊥
 never_ok e x is = cc
-
-pub set_self : (gs : List RegionState) (r : ℕ) (g : RegionState) → slice_get gs r ≡ Some g → slice_set gs r g ≡ gs
-set_self [] r g at = refl
-set_self (x ∷ gs) zero g at = let same : x ≡ g = cc in ap (λ z. z ∷ gs) (sym same)
-set_self (x ∷ gs) (suc r) g at = ap (λ l. x ∷ l) (set_self gs r g at)
 
 module _ {V : Type 0} (told : V → Option Disk) (may_leave : V → Disk → Type 0) (faults : V → ℕ) (precheck : Bool) (k j : Client) (gs : List RegionState) (y : SystemState) (v : Vaulted V)
     (c : Checkpointed) (next : ℕ) where
@@ -84,7 +73,7 @@ module _ {V : Type 0} (told : V → Option Disk) (may_leave : V → Disk → Typ
             (copies told may_leave faults precheck s B p w a gs y v k j stood of c next fits runs_here g there u dirty (written dirty) longer reaches (ap (λ (x : Client). x.transcript) now) (ap rest_of now) state_is)
         by_flag false clean =
             let same = clear clean in
-            subst (λ (l : List RegionState). Went told may_leave faults precheck s B p w a (Copying c next) gs y v true j l y u) (sym (left ∙ (ap (slice_set gs next) same.0 ∙ set_self gs next g there)))
+            subst (λ (l : List RegionState). Went told may_leave faults precheck s B p w a (Copying c next) gs y v true j l y u) (sym (left ∙ (ap (slice_set gs next) same.0 ∙ set_same gs next g there)))
             (subst (λ (x : Vaulted V). Went told may_leave faults precheck s B p w a (Copying c next) gs y v true j gs y x) (sym same.1)
             (skips told may_leave faults precheck s B p w a gs y v k j stood of c next fits runs_here g there clean (subst (λ (x : Vaulted V). Reaches told (side_in c) (next + 1) x) same.1 reaches) (ap (λ (x : Client). x.transcript) now) (ap rest_of now) state_is))
 
@@ -100,7 +89,7 @@ module _ {V : Type 0} (told : V → Option Disk) (may_leave : V → Disk → Typ
           by_flag false is = absurd (dirty is)
 
       regions_are : hs ≡ gs
-      regions_are = left ∙ (ap (slice_set gs next) stays ∙ set_self gs next g there)
+      regions_are = left ∙ (ap (slice_set gs next) stays ∙ set_same gs next g there)
 
       to_left : (ok : Bool) (f : Bool) → d.faulted ≡ f → StepGoes told may_leave faults precheck (Copying c next) k gs y v ok j gs (given_up f y) u → StepGoes told may_leave faults precheck (Copying c next) k gs y v ok j hs z u
       to_left ok f is goes = subst (λ (l : List RegionState). StepGoes told may_leave faults precheck (Copying c next) k gs y v ok j l z u) (sym regions_are)
@@ -109,7 +98,7 @@ module _ {V : Type 0} (told : V → Option Disk) (may_leave : V → Disk → Typ
       pub copy_fails_goes : v.stopped ≡ false → SaysEnd k (Err e) j → StepGoes told may_leave faults precheck (Copying c next) k gs y v true j hs z u
       copy_fails_goes ran (line, given, f) =
           let failed = fault ran in
-          let g1 : Finishes k Outside (IsRefused IsCheckpoint StoreStopped) j = subst (λ l. Finishes k Outside l j) (same_line line (IsRefused IsCheckpoint StoreStopped) (sym given ∙ ap (λ (x : CheckpointError). line_in (Err x)) failed.0)) f in
+          let g1 : Finishes k Outside (IsRefused IsCheckpoint StoreStopped) j = subst (λ l. Finishes k Outside l j) (same_Some line (IsRefused IsCheckpoint StoreStopped) (sym given ∙ ap (λ (x : CheckpointError). line_in (Err x)) failed.0)) f in
           to_left true true (ap (λ (x : Checkpointed). x.faulted) failed.1) (λ s B p w a stood of fits.
           copy_fails told may_leave faults precheck s B p w a gs y v k j stood of c next fits ran g there u is_set failed.2 longer
           (finished_client k j Outside _ g1) (finished_lines k j Outside _ g1) (finished_rest k j Outside _ g1 ∙ behind_is k fits.making.more CheckpointAct fits.making.makes) g1.stands)
@@ -131,7 +120,7 @@ module _ {V : Type 0} (told : V → Option Disk) (may_leave : V → Disk → Typ
 
     pub stopped_goes : SaysEnd k (Err (Stopped cause)) j → StepGoes told may_leave faults precheck (Copying c next) k gs y v true j gs z v
     stopped_goes (line, given, f) s B p w a stood of fits =
-        let g : Finishes k Outside (IsRefused IsCheckpoint (IsStopped cause)) j = subst (λ l. Finishes k Outside l j) (same_line line (IsRefused IsCheckpoint (IsStopped cause)) (sym given)) f in
+        let g : Finishes k Outside (IsRefused IsCheckpoint (IsStopped cause)) j = subst (λ l. Finishes k Outside l j) (same_Some line (IsRefused IsCheckpoint (IsStopped cause)) (sym given)) f in
         to_end true s B p w a fits.sound
         (gives_up told may_leave faults precheck s B p w a (Copying c next) gs y v k j stood of tt (λ t none. none) [] fits.making (StoppedBy cause)
         (refusal_stop told may_leave faults precheck s B p w a (Copying c next) gs y v k j stood of tt (λ t none. none) [] fits.making cause stop (λ l. tt))

@@ -1,9 +1,8 @@
 -- A list of steps of a core with its store, made by a client of a round.
-use Rattle.std.proofs.Common.{◌≡◌, ℕ, Bool, true, List, [], ◌∷◌, Option, Some, IfSome, is_some, subst}
+use Rattle.std.proofs.Common.{◌≡◌, ℕ, Bool, true, List, [], ◌∷◌, Option, IfSome, is_some, subst}
 use Rattle.std.specs.List.{list_all}
 use Rattle.dali_record.specs.declared.records.Record.{Record}
 use Rattle.dali_region.specs.State.{RegionState}
-use Rattle.dali_att.specs.declared.state.State.TheVariants.{Live}
 use Rattle.dali_store.specs.Store.{Files as Disk}
 use Rattle.dali_system.specs.State.{SystemState, state_of}
 use Rattle.dali_crash.specs.Checkpoints.{StoreStep, Point, IsPointCourse}
@@ -24,6 +23,7 @@ use Rattle.dali_turns.specs.Others.{ImageStays}
 use Rattle.dali_turns.proofs.Deeds.{course_tells}
 use Rattle.dali_turns.proofs.Beside.{is_beside, is_out_of, course_leaves, course_audit}
 use Rattle.dali_turns.proofs.Doing.{Did, older}
+use Rattle.dali_rounds.specs.Went.{is_open}
 
 -- the flag tells whether a checkpoint keeps something, along any steps
 pub course_flag : (p q : Point) (xs : List StoreStep) → IsPointCourse p xs q → FlagTells p → FlagTells q
@@ -35,7 +35,7 @@ module _ {V : Type 0} (told : V → Option Disk) (may_leave : V → Disk → Typ
     (c : ℕ) (state : State) where
   pub did_course : (xs : List StoreStep) (ds : List Deed) (C : List (List Record)) (q : Point) (hs : List RegionState) (z : SystemState) (u : Vaulted V) → IsPointCourse p xs q → AreOfCourse w c p xs q ds
       → IsCoreAt told may_leave faults s C q hs z u → AreDead hs → IfSome (told u.store) (HoldsPlaces hs) → IsQuiet z → (u.stopped ≡ true → is_some z.stop ≡ true)
-      → ((t : ℕ) → state_of y t ≡ Some Live → (Owns state t → ⊥) → list_all (is_beside t) xs ≡ true) → ((b : ℕ) → (Audits state b → ⊥) → list_all (is_out_of b) xs ≡ true)
+      → ((t : ℕ) → is_open (state_of y t) ≡ true → (Owns state t → ⊥) → list_all (is_beside t) xs ≡ true) → ((b : ℕ) → (Audits state b → ⊥) → list_all (is_out_of b) xs ≡ true)
       → (y.checking ≡ true → (Makes state → ⊥) → ImageStays told may_leave faults s B p gs y v C q hs z u)
       → Did told may_leave faults precheck s B p w c state gs y v ds C q hs z u
   did_course xs ds C q hs z u course are at dead files calm stops apart out image = record {
@@ -50,6 +50,7 @@ module _ {V : Type 0} (told : V → Option Disk) (may_leave : V → Disk → Typ
       tells = goes.tells;
       precheck_is = stood.precheck_is;
       began = stood.began;
+      since = stood.since;
       keeps = course_flag p q xs course stood.keeps;
     };
     others = record {

@@ -1,8 +1,7 @@
 -- What a client does in a step: deeds, which tell steps of the core, and then a line or none.
-use Rattle.std.proofs.Common.{◌≡◌, ℕ, ◌<◌, ◌≤◌, Bool, true, false, List, [], ◌∷◌, ◌++◌, length, map, Option, Some, is_some, refl, ap, sym, subst, ◌∙◌, inl, inr, ⊎_elim, arith}
+use Rattle.std.proofs.Common.{◌≡◌, ℕ, ◌<◌, ◌≤◌, Bool, true, false, List, [], ◌∷◌, ◌++◌, length, map, Option, is_some, refl, ap, sym, subst, ◌∙◌, inl, inr, ⊎_elim, arith}
 use Rattle.dali_record.specs.declared.records.Record.{Record}
 use Rattle.dali_region.specs.State.{RegionState}
-use Rattle.dali_att.specs.declared.state.State.TheVariants.{Live}
 use Rattle.dali_store.specs.Store.{Files as Disk}
 use Rattle.std.specs.FinMap as finmap
 use Rattle.dali_system.specs.State.{SystemState, CoreState, state_in, state_of}
@@ -23,6 +22,7 @@ use Rattle.dali_transcripts.specs.Rounds.{Standing, Stands}
 use Rattle.dali_transcripts.specs.Laws.{receipts_from}
 use Rattle.dali_transcripts.proofs.Paths.{one_more_step}
 use Rattle.dali_transcripts.proofs.Rounds.{deeds_are_done}
+use Rattle.dali_stepwise.proofs.Waiting.{further}
 use Rattle.dali_deeds.specs.Deeds.{AreOf}
 use Rattle.dali_deeds.specs.Tells.{after, AreRightThen, Goes}
 use Rattle.dali_deeds.specs.Laws.{IsNoFault}
@@ -34,8 +34,9 @@ use Rattle.dali_turns.specs.Others.{LeavesOthers}
 use Rattle.dali_turns.specs.Goes.{RowsTell, Came, Went}
 use Rattle.dali_turns.proofs.Deeds.{course_tells, meets_tells, goes_on}
 use Rattle.dali_clients.specs.Told.{said_of}
-use Rattle.dali_turns.proofs.Beside.{is_in_audit, audit_still, audit_then, image_still, image_then, course_leaves, course_longer, further}
+use Rattle.dali_turns.proofs.Beside.{is_in_audit, audit_still, audit_then, image_still, image_then, course_leaves, course_longer}
 use Rattle.dali_turns.proofs.Quietly.{is_older, quiet_deeds, quiet_stands, quiet_others}
+use Rattle.dali_rounds.specs.Went.{is_open}
 
 -- the client behind some deeds of the step that is under way
 abbrev pub behind : Standing → World → List Deed → Standing
@@ -61,7 +62,7 @@ module _ {V : Type 0} (told : V → Option Disk) (may_leave : V → Disk → Typ
 
   -- ---- nothing
   others_still : (state : State) (s : Start) (B : List (List Record)) (p : Point) (gs : List RegionState) (y : SystemState) (v : Vaulted V)
-      → ((t : ℕ) → state_of y t ≡ Some Live → t < p.core.system.next) → LeavesOthers told may_leave faults state s B p gs y v B p gs y v
+      → ((t : ℕ) → is_open (state_of y t) ≡ true → t < p.core.system.next) → LeavesOthers told may_leave faults state s B p gs y v B p gs y v
   others_still state s B p gs y v older = record {
     txns = λ t lives other. course_leaves t p p [] (older t lives) refl refl;
     audits = λ b less other. audit_still p b;
@@ -70,8 +71,8 @@ module _ {V : Type 0} (told : V → Option Disk) (may_leave : V → Disk → Typ
 
   module _ (precheck : Bool) (s : Start) (B : List (List Record)) (p : Point) (w : World) (gs : List RegionState) (y : SystemState) (v : Vaulted V) (stood : Stood told may_leave faults s B p w precheck gs y v)
       (c : ℕ) (state : State) where
-    pub older : (t : ℕ) → state_of y t ≡ Some Live → t < p.core.system.next
-    older t lives = is_older (bases_of s) s.log p t stood.stands.at.vault.run (ap (λ (z : SystemState). state_of z t) stood.stands.at.system ∙ lives)
+    pub older : (t : ℕ) → is_open (state_of y t) ≡ true → t < p.core.system.next
+    older t lives = is_older (bases_of s) s.log p t stood.stands.at.vault.run (ap (λ (z : SystemState). is_open (state_of z t)) stood.stands.at.system ∙ lives)
 
     still_stood : (ds : List Deed) → Goes w c p ds (after w c ds p.core) p → Stood told may_leave faults s B p (after w c ds p.core) precheck gs y v
     still_stood ds goes = record {
@@ -82,6 +83,7 @@ module _ {V : Type 0} (told : V → Option Disk) (may_leave : V → Disk → Typ
       tells = goes.tells;
       precheck_is = stood.precheck_is;
       began = stood.began;
+      since = stood.since;
       keeps = stood.keeps;
     }
 
@@ -104,7 +106,7 @@ module _ {V : Type 0} (told : V → Option Disk) (may_leave : V → Disk → Typ
     -- ---- a step that calls no store
     pub did_quietly : (q : Point) (x : Step) (ds : List Deed) (z : SystemState) (hs : List RegionState) → is_quiet x ≡ true → IsPointStep p (Does x) q → AreOf w c p (Does x) ds → AreRightThen w c ds q.core → q.core.system ≡ z → q.core.regions ≡ hs
         → z.taken ≡ y.taken → AreDead hs → ((fs : Disk) → HoldsPlaces gs fs → HoldsPlaces hs fs) → IsQuiet z → (is_some y.stop ≡ true → is_some z.stop ≡ true)
-        → ((t : ℕ) → state_of y t ≡ Some Live → (Owns state t → ⊥) → is_apart t x ≡ true) → ((b : ℕ) → (Audits state b → ⊥) → is_in_audit b x ≡ false)
+        → ((t : ℕ) → is_open (state_of y t) ≡ true → (Owns state t → ⊥) → is_apart t x ≡ true) → ((b : ℕ) → (Audits state b → ⊥) → is_in_audit b x ≡ false)
         → Did precheck s B p w c state gs y v ds B q hs z v
     did_quietly q x ds z hs quiet step are right system regions taken dead places calm stop apart out =
         subst (λ (rs : List RegionState). Did precheck s B p w c state gs y v ds B q rs z v) regions
@@ -122,13 +124,13 @@ module _ {V : Type 0} (told : V → Option Disk) (may_leave : V → Disk → Typ
         same = ap (λ (m : SystemState). m.taken) system ∙ (taken ∙ ap (λ (m : SystemState). m.taken) (sym stood.stands.at.system))
 
   -- ---- one behind another
-  others_then : (state : State) (s : Start) (B C D : List (List Record)) (p q r : Point) (gs hs ks : List RegionState) (y z x : SystemState) (v u t : Vaulted V) → p.core.system ≡ y → q.core.system ≡ z → length p.log ≤ length q.log → (t.stopped ≡ false → u.stopped ≡ false)
+  pub others_then : (state : State) (s : Start) (B C D : List (List Record)) (p q r : Point) (gs hs ks : List RegionState) (y z x : SystemState) (v u t : Vaulted V) → p.core.system ≡ y → q.core.system ≡ z → length p.log ≤ length q.log → (t.stopped ≡ false → u.stopped ≡ false)
       → LeavesOthers told may_leave faults state s B p gs y v C q hs z u → LeavesOthers told may_leave faults state s C q hs z u D r ks x t → LeavesOthers told may_leave faults state s B p gs y v D r ks x t
   others_then state s B C D p q r gs hs ks y z x v u t is_y is_z longer ran f g = record {
     txns = λ n lives other.
         let one = f.txns n lives other in
         further n p.log q.log r.log p.core q.core r.core one
-        (g.txns n (ap (λ (m : SystemState). state_of m n) (sym is_z) ∙ (ap state_in one.row ∙ (ap (λ (m : SystemState). state_of m n) is_y ∙ lives))) other);
+        (g.txns n (ap (λ (m : SystemState). is_open (state_of m n)) (sym is_z) ∙ (ap (λ r. is_open (state_in r)) one.row ∙ (ap (λ (m : SystemState). is_open (state_of m n)) is_y ∙ lives))) other);
     audits = λ b less other. audit_then p q r b (f.audits b less other) (g.audits b (omega (arith, less, longer)) other);
     image = λ flag other. let one = f.image flag other in image_then told may_leave faults s B C D p q r gs hs ks y z x v u t ran one (g.image (one.flag ∙ flag) other);
   }
@@ -149,7 +151,7 @@ module _ {V : Type 0} (told : V → Option Disk) (may_leave : V → Disk → Typ
 
   -- and then the client ends its step, or stays in it
   pub did_went_live : (precheck : Bool) (s : Start) (B C : List (List Record)) (p q : Point) (w : World) (a : Standing) (state : State) (gs hs ks : List RegionState) (y z x : SystemState) (v u t : Vaulted V) (ds : List Deed) (ok : Bool) (j : Client)
-      → Stood told may_leave faults s B p w precheck gs y v → (t.stopped ≡ false → u.stopped ≡ false) → ((n : ℕ) → state_of z n ≡ Some Live → state_of y n ≡ Some Live) → Did precheck s B p w a.client state gs y v ds C q hs z u
+      → Stood told may_leave faults s B p w precheck gs y v → (t.stopped ≡ false → u.stopped ≡ false) → ((n : ℕ) → is_open (state_of z n) ≡ true → is_open (state_of y n) ≡ true) → Did precheck s B p w a.client state gs y v ds C q hs z u
       → Went told may_leave faults precheck s C q (after w a.client ds q.core) (behind a w ds) state hs z u ok j ks x t → Went told may_leave faults precheck s B p w a state gs y v ok j ks x t
   did_went_live precheck s B C p q w a state gs hs ks y z x v u t ds ok j stood ran lived one two = record {
     to = two.to;
@@ -173,7 +175,7 @@ module _ {V : Type 0} (told : V → Option Disk) (may_leave : V → Disk → Typ
       → Stood told may_leave faults s B p w precheck gs y v → (t.stopped ≡ false → u.stopped ≡ false) → z.table ≡ y.table → Did precheck s B p w a.client state gs y v ds C q hs z u
       → Went told may_leave faults precheck s C q (after w a.client ds q.core) (behind a w ds) state hs z u ok j ks x t → Went told may_leave faults precheck s B p w a state gs y v ok j ks x t
   did_went precheck s B C p q w a state gs hs ks y z x v u t ds ok j stood ran same one two =
-      did_went_live precheck s B C p q w a state gs hs ks y z x v u t ds ok j stood ran (λ n lives. ap (λ m. state_in (finmap.get m n)) (sym same) ∙ lives) one two
+      did_went_live precheck s B C p q w a state gs hs ks y z x v u t ds ok j stood ran (λ n lives. ap (λ m. is_open (state_in (finmap.get m n))) (sym same) ∙ lives) one two
 
   -- a vault that runs in the end ran in between
   pub still_ran : (precheck : Bool) (s : Start) (B : List (List Record)) (p : Point) (w : World) (a : Standing) (state : State) (gs ks : List RegionState) (y x : SystemState) (v t : Vaulted V) (ok : Bool) (j : Client)

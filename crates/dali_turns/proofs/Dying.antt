@@ -4,11 +4,12 @@ use Rattle.std.specs.Prelude.{◌==◌, ◌&&◌, slice_get, slice_set}
 use Rattle.std.specs.List.{list_all}
 use Rattle.std.specs.Option.{option_map_or}
 use Rattle.std.proofs.lemmas.List.{append-nil, append_assoc, map-append, append_cancel_left}
-use Rattle.dali_counts.proofs.Lists.{equal, same_number, some_same}
+use Rattle.std.proofs.lemmas.Bool.{and_parts, ne_eqb}
+use Rattle.dali_counts.proofs.Lists.{same_number, some_same}
 use Rattle.dali_record.specs.declared.records.Record.{Record}
 use Rattle.dali_region.specs.State.{RegionState, dead}
 use Rattle.dali_att.specs.declared.state.State.{State as RowState}
-use Rattle.dali_att.specs.declared.state.State.TheVariants.{Live, Dead, Committed}
+use Rattle.dali_att.specs.declared.state.State.TheVariants.{Live, Dead}
 use Rattle.dali_att.specs.Table.{with_state}
 use Rattle.dali_store.specs.Store.{Files as Disk}
 use Rattle.dali_system.specs.State.{SystemState, VaultState, CoreState, state_of}
@@ -58,6 +59,7 @@ use Rattle.dali_turns.proofs.Doing.{Did, vault_stops, ended, went_by, went_silen
 use Rattle.dali_turns.proofs.Coursing.{did_course}
 use Rattle.dali_turns.proofs.Walking.{point_behind, Led, led}
 use Rattle.dali_turns.proofs.Allowed.{words_are, may_go_on}
+use Rattle.dali_rounds.specs.Went.{is_open}
 
 -- ---- steps that log nothing, and then a death
 dies_behind : (t r c : ℕ) (w : World) (p mid q : Point) (xs : List StoreStep) (ds : List Deed) → AreOfCourse w c p xs mid ds → IsPointStep mid (Does (DiesStep t (Some r))) q → (w.precheck ≡ true → IfSome (slice_get mid.core.regions r) (λ (g : RegionState). g.stray ≡ 0))
@@ -68,25 +70,14 @@ dies_behind t r c w p mid q [] ds (same, none) step right =
 dies_behind t r c w p mid q (x ∷ xs) ds (next, own, more, one, are, due, rest, whole) step right =
     (next, own, more ++ DiesOn t r ∷ [], one, are, due, dies_behind t r c (after w c own next.core) next mid q xs more rest step right, ap (λ es. es ++ DiesOn t r ∷ []) whole ∙ append_assoc own more (DiesOn t r ∷ []))
 
-parts_true : (m n : Bool) → (m && n) ≡ true → (m ≡ true) × (n ≡ true)
-parts_true true n e = (refl, e)
-parts_true false n e = absurd (cc)
-
 all_then : {X : Type 0} (f : X → Bool) (xs : List X) (x : X) → list_all f xs ≡ true → f x ≡ true → list_all f (xs ++ x ∷ []) ≡ true
 all_then f [] x h e = ap (λ b. b && true) e
-all_then f (y ∷ ys) x h e = let parts = parts_true (f y) (list_all f ys) h in ap (λ b. b && list_all f (ys ++ x ∷ [])) parts.0 ∙ all_then f ys x parts.1 e
+all_then f (y ∷ ys) x h e = let parts = and_parts (f y) (list_all f ys) h in ap (λ b. b && list_all f (ys ++ x ∷ [])) parts.0 ∙ all_then f ys x parts.1 e
 
 -- ---- the death that was due
 deadly_is : (o : Option ℕ) (n : ℕ) → left o n ≡ Some 1 → (d : ℕ) × (o ≡ Some d) × (n + 1 ≡ d)
 deadly_is None n e = absurd (cc)
 deadly_is (Some d) n e = (d, refl, let less : d - n ≡ 1 = some_same e in omega (arith, less))
-
-differ : (m n : ℕ) → (m ≡ n → ⊥) → (m == n) ≡ false
-differ m n apart = by_test (m == n) refl
-  where
-    by_test : (b : Bool) → (m == n) ≡ b → (m == n) ≡ false
-    by_test true e = absurd (apart (equal m n e))
-    by_test false e = e
 
 module _ {V : Type 0} (told : V → Option Disk) (may_leave : V → Disk → Type 0) (faults : V → ℕ)
     (precheck : Bool) (s : Start) (B : List (List Record)) (p : Point) (w : World) (a : Standing) (gs hs : List RegionState) (y z : SystemState) (v : Vaulted V) (k j : Client)
@@ -168,13 +159,10 @@ module _ {V : Type 0} (told : V → Option Disk) (may_leave : V → Disk → Typ
       by_test false = there
 
   calm : IsQuiet z
-  calm = record {
-    unclaimed = λ n. by_txn (λ o. is_claimed_in o ≡ false) n refl (stood.quiet.unclaimed n);
-    settled = λ e n. by_txn (λ o. o ≡ Some Committed → ⊥) n (λ f. absurd (cc)) (stood.quiet.settled (ap (λ (m : SystemState). m.stop) (sym death.system) ∙ e) n);
-  }
+  calm = record { unclaimed = λ n. by_txn (λ o. is_claimed_in o ≡ false) n refl (stood.quiet.unclaimed n) }
 
   not_mine : (n : ℕ) → (Owns (Calling x plan) n → ⊥) → (plan.txn == n) ≡ false
-  not_mine n other = differ plan.txn n (λ e. other (sym fits.plan_is.txn ∙ e))
+  not_mine n other = ne_eqb plan.txn n (λ e. other (sym fits.plan_is.txn ∙ e))
 
   did_die : Did told may_leave faults precheck s B p w a.client (Calling x plan) gs y v (DiesOn plan.txn r ∷ []) B q hs z v
   did_die =
@@ -216,17 +204,18 @@ module _ {V : Type 0} (told : V → Option Disk) (may_leave : V → Disk → Typ
     works w (after w a.client deeds q.core) did.goes.grows a.client x.txn fits.call a.pending fits.work,
     due.2,
     record { done = done_last w a.client (DiesOn x.txn r) q.core; next = death.block; on_region = refl; goes_on = may },
+    fits.granted,
   )
 
   rows : RowsTell (Calling x plan) y Gone z
   rows e n lives = by_test (plan.txn == n) refl
     where
-      by_test : (b : Bool) → (plan.txn == n) ≡ b → Owns Gone n ⊎ ((state_of y n ≡ Some Live) × (Owns (Calling x plan) n → ⊥))
+      by_test : (b : Bool) → (plan.txn == n) ≡ b → Owns Gone n ⊎ ((is_open (state_of y n) ≡ true) × (Owns (Calling x plan) n → ⊥))
       by_test true f =
           let is_dead : state_of z n ≡ Some (Dead (Some r)) = states n ∙ ap (λ (b : Bool). if b then Some (Dead (Some r)) else state_of y n) f in
-          let both : Some (Dead (Some r)) ≡ Some Live = sym is_dead ∙ lives in absurd (cc)
+          let both : false ≡ true = sym (ap is_open is_dead) ∙ lives in absurd (cc)
       by_test false f = inr (
-        sym (states n ∙ ap (λ (b : Bool). if b then Some (Dead (Some r)) else state_of y n) f) ∙ lives,
+        ap is_open (sym (states n ∙ ap (λ (b : Bool). if b then Some (Dead (Some r)) else state_of y n) f)) ∙ lives,
         λ own. let same : (plan.txn == n) ≡ true = same_number plan.txn n (fits.plan_is.txn ∙ own) in let both : true ≡ false = sym same ∙ f in absurd (cc),
       )
 

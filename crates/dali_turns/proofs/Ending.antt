@@ -102,7 +102,7 @@ module _ {V : Type 0} (told : V → Option Disk) (may_leave : V → Disk → Typ
         tt,
       )
       (ap (λ (m : SystemState). audit_ended m audit.begin (damaged audit.findings)) stood.stands.at.system) stood.stands.at.regions refl stood.stands.dead (λ fs held. held)
-      (record { unclaimed = stood.quiet.unclaimed; settled = λ stop. stood.quiet.settled runs })
+      (record { unclaimed = stood.quiet.unclaimed })
       (λ some. let none : is_some y.stop ≡ false = ap is_some runs in absurd (cc))
       (λ t lives other. refl) (λ b other. ne_eqb audit.begin b (mine b other))
 

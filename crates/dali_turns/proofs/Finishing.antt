@@ -106,7 +106,7 @@ module _ {V : Type 0} (told : V → Option Disk) (may_leave : V → Disk → Typ
     did_finish makes set under = did_course told may_leave faults precheck s B p w gs y v stood c state (Finishes ∷ []) (EndsCheckpoint ∷ []) B (finish_point p) gs (in_checkpoint y false) v
         (finish_point p, finishes_there told may_leave faults s B p gs y v stood.stands.at set, refl)
         (finish_point p, EndsCheckpoint ∷ [], [], finishes_there told may_leave faults s B p gs y v stood.stands.at set, (refl, under), (tt, tt), (refl, refl), refl)
-        (finished_at told may_leave faults s B p gs y v stood.stands.at set) stood.stands.dead stood.files (record { unclaimed = stood.quiet.unclaimed; settled = stood.quiet.settled }) stood.stops
+        (finished_at told may_leave faults s B p gs y v stood.stands.at set) stood.stands.dead stood.files (record { unclaimed = stood.quiet.unclaimed }) stood.stops
         (λ t lives other. refl) (λ b other. refl) (λ flag other. absurd (other makes))
 
   -- ---- it is refused, and ends

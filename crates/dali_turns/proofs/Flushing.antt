@@ -1,7 +1,5 @@
 -- A flush of all records, made by a client of a round.
 use Rattle.std.proofs.Common.{◌≡◌, ℕ, Bool, true, false, List, [], ◌∷◌, length, Option, Some, None, is_some, refl, ap, sym, subst, ◌∙◌, arith}
-use Rattle.dali_geometry.specs.Sizes.{Sizes}
-use Rattle.dali_geometry.specs.Places.{regions}
 use Rattle.dali_record.specs.declared.records.Record.{Record}
 use Rattle.dali_region.specs.State.{RegionState}
 use Rattle.dali_store.specs.Store.{Files as Disk}
@@ -10,51 +8,32 @@ use Rattle.dali_system.specs.State.{SystemState, VaultState}
 use Rattle.dali_system.specs.Steps.{taken, store_stopped, stopped_by}
 use Rattle.dali_system.specs.Wholes.{IsWhole}
 use Rattle.dali_system.specs.Courses.{Takes, Flushes, Faults, Stops}
-use Rattle.dali_crash.specs.Checkpoints.{Head, Does, Point, IsPointCourse, target}
+use Rattle.dali_crash.specs.Checkpoints.{Does, Point, target}
 use Rattle.dali_crash.specs.Traces.{Start}
 use Rattle.dali_vault.specs.Vaulted.{Vaulted}
 use Rattle.dali_whole.specs.Cores.{IsWholeCore}
 use Rattle.dali_whole.specs.Flushed.{AllFlushed, HasStopped}
-use Rattle.dali_checkpoint.specs.Running.{AreCopied, PassesTell}
-use Rattle.dali_checkpoint.proofs.Audited.{passes_go_on}
-use Rattle.dali_checkpoint.proofs.Stays.{Stays, takes_stays, flushes_stays, both_stay, all_copied_on, is_of_on, same_target}
+use Rattle.dali_checkpoint.proofs.Stays.{Stays, both_stay, all_copied_on, is_of_on, same_target}
 use Rattle.dali_transcripts.specs.Words.{StoreFailed}
 use Rattle.dali_transcripts.specs.World.{Meets, World}
+use Rattle.dali_checkpoint.proofs.Calls.{both_heads}
+use Rattle.dali_checkpoint.proofs.Flushing.{same_regions, tells_on}
 use Rattle.dali_turns.specs.declared.client.State.{State}
 use Rattle.dali_turns.specs.Stood.{IsQuiet, Stood}
 use Rattle.dali_turns.specs.Others.{ImageStays}
 use Rattle.dali_turns.proofs.Doing.{Did}
 use Rattle.dali_turns.proofs.Coursing.{did_course}
 
--- the regions of a point's sizes
-same_regions : (p q : Point) (h : Head) (n : ℕ) → Stays p q → AreCopied p h n (regions p.core.system.sizes) → AreCopied q h n (regions q.core.system.sizes)
-same_regions p q h n stay copies = subst (λ (z : Sizes). AreCopied q h n (regions z)) (sym stay.sizes) (all_copied_on p q h n n (regions p.core.system.sizes) stay (omega arith) copies)
-
--- what an audit has told, a flush leaves
-tells_on : (p q : Point) (h : Head) (n b : ℕ) → IsPointCourse p (Does Takes ∷ Does Flushes ∷ []) q → AreCopied p h n (regions p.core.system.sizes) → PassesTell p b → PassesTell q b
-tells_on p q h n b course copies tells =
-    let m = course.0 in
-    let stay = takes_stays p m course.1 in
-    let mid = passes_go_on p m Takes h n b course.1 stay copies tells in
-    let late = passes_go_on m course.2.0 Flushes h n b course.2.1 (flushes_stays m course.2.0 course.2.1) (same_regions p m h n stay copies) mid in
-    subst (λ (z : Point). PassesTell z b) course.2.2 late
-
-same_heads : (p q : Point) → IsPointCourse p (Does Takes ∷ Does Flushes ∷ []) q → q.heads ≡ p.heads
-same_heads p q course = ap (λ (z : Point). z.heads) (sym course.2.2) ∙ (ap (λ (z : Point). z.heads) course.2.1.2 ∙ ap (λ (z : Point). z.heads) course.1.2)
-
 -- rows are left
 quiet_taken : (y z : SystemState) → z ≡ taken y → IsQuiet y → IsQuiet z
-quiet_taken y z is quiet = subst IsQuiet (sym is) (record { unclaimed = quiet.unclaimed; settled = quiet.settled })
+quiet_taken y z is quiet = subst IsQuiet (sym is) (record { unclaimed = quiet.unclaimed })
 
 pub has_stop : (o : Option Cause) → is_some (stopped_by o) ≡ true
 has_stop None = refl
 has_stop (Some c) = refl
 
 quiet_stopped : (y z : SystemState) → z ≡ store_stopped (taken y) → IsQuiet y → IsQuiet z
-quiet_stopped y z is quiet = subst IsQuiet (sym is) (record {
-  unclaimed = quiet.unclaimed;
-  settled = λ runs. let none : is_some (stopped_by y.stop) ≡ false = ap is_some runs in let some : is_some (stopped_by y.stop) ≡ true = has_stop y.stop in absurd (cc);
-})
+quiet_stopped y z is quiet = subst IsQuiet (sym is) (record { unclaimed = quiet.unclaimed })
 
 -- a checkpoint of another client
 module _ {V : Type 0} (told : V → Option Disk) (may_leave : V → Disk → Type 0) (faults : V → ℕ)
@@ -79,7 +58,7 @@ module _ {V : Type 0} (told : V → Option Disk) (may_leave : V → Disk → Typ
       settled = k.settled;
       within = omega (arith, k.within, stay.longer);
       copies = same_regions p f.to h n stay k.copies;
-      head = ap f.to.heads (same_target p f.to stay.current) ∙ (ap (λ heads. heads (target p)) (same_heads p f.to f.course) ∙ k.head);
+      head = ap f.to.heads (same_target p f.to stay.current) ∙ (ap (λ heads. heads (target p)) (both_heads p f.to f.course) ∙ k.head);
       whole = f.keeps.whole k.whole;
     };
     passes = λ _ c h n b k tell. tells_on p f.to h n b f.course k.copies tell;

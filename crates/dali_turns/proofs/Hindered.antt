@@ -43,6 +43,7 @@ use Rattle.dali_transcripts.specs.Causes.{GoesOn as MayGoOn, IsRoomFor, AreUnfin
 use Rattle.dali_transcripts.specs.Rounds.{Standing}
 use Rattle.dali_transcripts.proofs.Growing.{unanswered}
 use Rattle.dali_deeds.specs.Tells.{after}
+use Rattle.dali_steps.proofs.Courses.{both_true}
 use Rattle.dali_turns.specs.declared.client.Client.{Client}
 use Rattle.dali_turns.specs.declared.client.State.TheVariants.{Within, Calling}
 use Rattle.dali_turns.specs.declared.client.Transaction.{Transaction}
@@ -66,10 +67,6 @@ there_too [] (z ∷ ys) i y e at = absurd (cc)
 there_too (x ∷ xs) [] i y e at = absurd (cc)
 there_too (x ∷ xs) (z ∷ ys) zero y e at = (x, refl)
 there_too (x ∷ xs) (z ∷ ys) (suc i) y e at = there_too xs ys i y (omega (arith, e)) at
-
-way_forward : (b c : Bool) → (not b && c) ≡ true → (b ≡ false) × (c ≡ true)
-way_forward false c e = (refl, e)
-way_forward true c e = absurd (cc)
 
 module _ {V : Type 0} (told : V → Option Disk) (may_leave : V → Disk → Type 0) (faults : V → ℕ)
     (precheck : Bool) (s : Start) (B : List (List Record)) (p : Point) (w : World) (a : Standing) (gs : List RegionState) (y : SystemState) (v : Vaulted V) (k j : Client)
@@ -205,7 +202,7 @@ module _ {V : Type 0} (told : V → Option Disk) (may_leave : V → Disk → Typ
       latch = damaged_latch (not (is_back plan) && precheck) g codeword found on.2
 
       way : (is_back plan ≡ false) × (precheck ≡ true)
-      way = way_forward (is_back plan) precheck latch.checks
+      way = both_true (is_back plan) precheck latch.checks
 
       wants : (op : Op) × (plan_next plan ≡ Some (region, op))
       wants = wanted plan region (sym want)

@@ -13,7 +13,7 @@ use Rattle.dali_record.specs.declared.operations.Outcome.TheVariants.{Found, Abs
 use Rattle.dali_record.specs.declared.records.Call.{Call}
 use Rattle.dali_record.specs.declared.records.Call.TheVariants.{Insert, Update, Delete, Get}
 use Rattle.dali_record.specs.declared.records.Answer.TheVariants.{Ok as AnswerOk, Got, FullHeap, FullIndex, Odd}
-use Rattle.dali_record.specs.Calls.{Progress, when, on_item, look_next, put_next, store_next, add_next, after_look, after_put, after_add, after_read, after_change, after_kill_cell, after_kill_entry, follow}
+use Rattle.dali_record.specs.Calls.{Progress, when, look_next, put_next, store_next, add_next, after_look, after_put, after_add, after_read, after_change, after_kill_cell, after_kill_entry, follow}
 use Rattle.dali_record.specs.Log.{undo_added}
 use Rattle.dali_record.specs.Spelling.{is_look_outcome, is_put_outcome, is_add_outcome, is_read_outcome, is_change_outcome, is_kill_cell_outcome, is_kill_entry_outcome}
 use Rattle.dali_calls.specs.declared.stage.Stage.{Stage}
@@ -22,7 +22,7 @@ use Rattle.dali_calls.specs.declared.plan.Phase.{Phase}
 use Rattle.dali_calls.specs.declared.plan.Phase.TheVariants.{Calling, Refused, Answered}
 use Rattle.dali_calls.specs.Steps.{call_key, progress_of, next_op, after_cell, is_cell_outcome, is_fresh, IsAt, IsBlockOf, IsNextBlock}
 use Rattle.dali_calls.specs.Plans.{Planned, is_back, plan_next, onward_next, GoesOn, IsWhole}
-use Rattle.dali_calls.proofs.Follows.{facts, somewhere_outcome, somewhere_follows, removing_follows}
+use Rattle.dali_calls.proofs.Follows.{facts, somewhere_outcome, somewhere_follows, removing_follows, on_it, none_next}
 use Rattle.dali_calls.proofs.Wholes.{onward_of}
 
 -- the stage behind a block
@@ -34,9 +34,6 @@ record Comes (s : Sizes) (t : ℕ) (call : Call) (stage : Stage) (b : Block) : T
 -- what comes of an outcome
 abbrev Leads : Call → Option Progress → Type 0
 Leads call o = (after : Stage) × (o ≡ Some (progress_of call after)) × (is_fresh after ≡ false)
-
-on_it : (key region : ℕ) (b : Block) → b.key ≡ key → b.region ≡ region → on_item key region b ≡ true
-on_it key region b k r = ap (λ (c : Bool). c && (b.region == region)) (eq-eqb b.key key k) ∙ eq-eqb b.region region r
 
 look_leads : (s : Sizes) (call : Call) (region looked : ℕ) (o : Outcome) → is_look_outcome o ≡ true → Leads call (after_look s (call_key call) region looked o)
 look_leads s call region looked (Found entry at) e = (Somewhere region entry at, refl, refl)
@@ -104,9 +101,6 @@ entry_leads place Killed e = record { after = Finished AnswerOk; follows = λ ke
 entry_leads place (NotLive n) e = record { after = Finished (Odd place); follows = λ key. refl; begun = refl }
 entry_leads place (OtherKey n) e = record { after = Finished (Odd place); follows = λ key. refl; begun = refl }
 entry_leads place o e = absurd (cc)
-
-none_next : (p : ℕ × Op) → None ≡ Some p → ⊥
-none_next p e = absurd (cc)
 
 -- ---- by the stage
 came : (s : Sizes) (t : ℕ) (call : Call) (stage : Stage) (b : Block) (o : Option Progress) → follow s t (progress_of call stage) b ≡ o → Leads call o → Comes s t call stage b

@@ -17,7 +17,6 @@ use Rattle.dali_record.specs.declared.records.Record.{Record}
 use Rattle.dali_record.specs.declared.records.Record.TheVariants.{Forward, Back}
 use Rattle.dali_record.specs.Log.{last_of, undo_step}
 use Rattle.dali_region.specs.State.{RegionState}
-use Rattle.dali_att.specs.declared.state.State.TheVariants.{Live}
 use Rattle.dali_calls.specs.declared.stage.Stage.{Stage}
 use Rattle.dali_calls.specs.declared.stage.Stage.TheVariants.{Fresh, Walking, Nowhere, Somewhere, Storing, Adding, Removing, Finished}
 use Rattle.dali_att.specs.Table.{without_last}
@@ -38,7 +37,7 @@ use Rattle.dali_transcripts.specs.World.{Logs, Meets, World, log_of, is_claimed_
 use Rattle.dali_transcripts.specs.Moves.{Receipt, Within as IsWithin, at, is_operation, operations, left}
 use Rattle.dali_transcripts.specs.Causes.{IsOpOf, IsAside, IsWork, AreWork, spares, undos_behind}
 use Rattle.dali_transcripts.specs.Rounds.{Standing, IsPlaced}
-use Rattle.dali_transcripts.proofs.Lists.{all_append}
+use Rattle.dali_transcripts.proofs.Grants.{granted_more}
 use Rattle.dali_transcripts.proofs.Growing.{works, asides, all_tried, met, survives}
 use Rattle.dali_deeds.specs.Tells.{after}
 use Rattle.dali_deeds.proofs.States.{kept_state, undone_state}
@@ -47,6 +46,7 @@ use Rattle.dali_rounds.proofs.Calls.{operate_goes}
 use Rattle.dali_clients.specs.declared.line.Why.{Why}
 use Rattle.dali_clients.specs.Told.{act_of, reason_of}
 use Rattle.std.specs.FinMap.{get}
+use Rattle.dali_lists.proofs.Members.{all_append}
 use Rattle.dali_turns.specs.declared.client.Client.{Client}
 use Rattle.dali_turns.specs.declared.client.State.{State}
 use Rattle.dali_turns.specs.declared.client.State.TheVariants.{Calling, TakingBack}
@@ -61,13 +61,10 @@ use Rattle.dali_turns.proofs.Returning.{back_answered, unanswered, turned_forwar
 use Rattle.dali_turns.proofs.Undoing.{undone_then, undone_once}
 use Rattle.dali_turns.proofs.Doing.{Did, vault_stops, behind, went_on}
 use Rattle.dali_turns.proofs.Walking.{Led, led, did_led}
+use Rattle.dali_turns.proofs.Asked.{same_key}
+use Rattle.dali_rounds.specs.Went.{is_open}
 
 -- ---- the operations of a call
-same_key : (call : Call) → call_key call ≡ key_of call
-same_key (Insert key v) = refl
-same_key (Update key v) = refl
-same_key (Delete key) = refl
-same_key (Get key) = refl
 
 look_of : (call : Call) → IsOpOf call Look
 look_of (Insert key v) = tt
@@ -159,10 +156,7 @@ logged_states false plan b y z q h = subst (SameStates y) (sym h.0) (record { st
 logged_states true plan b y z q h = subst (SameStates y) (sym h.0) (record { states = λ t. kept_state y.table plan.txn without_last (λ row. refl) t; stop = refl; locks = refl })
 
 still_quiet : (y z : SystemState) → SameStates y z → IsQuiet y → IsQuiet z
-still_quiet y z same quiet = record {
-  unclaimed = λ t. ap is_claimed_in (same.states t) ∙ quiet.unclaimed t;
-  settled = λ e t is. quiet.settled (sym same.stop ∙ e) t (sym (same.states t) ∙ is);
-}
+still_quiet y z same quiet = record { unclaimed = λ t. ap is_claimed_in (same.states t) ∙ quiet.unclaimed t }
 
 -- ---- what the plan wants next, on its way
 pub onward_op : (plan : Planned) (r : ℕ) (op : Op) → is_back plan ≡ false → plan.phase ≡ IsCalling → plan_next plan ≡ Some (r, op) → next_op plan.geometry plan.txn plan.call plan.stage ≡ Some (r, op)
@@ -206,9 +200,9 @@ module _ {V : Type 0} (told : V → Option Disk) (may_leave : V → Disk → Typ
   pub locks_behind : (c u : ℕ) → AreGot p w c u → AreGot walked.to (after w a.client (Logs R ∷ []) walked.to.core) c u
   locks_behind c u got =
       still_got p walked.to w (after w a.client (Logs R ∷ []) walked.to.core) did_operate.goes.grows c u
-      (λ n h.
-      ap (λ (m : SystemState). is_some (lock_of m u n)) stood.stands.at.system
-      ∙ (ap (λ l. is_some (get l (u, n))) (sym same.locks) ∙ (ap (λ (k : CoreState). is_some (lock_of k.system u n)) (sym walked.core_there) ∙ h)))
+      (λ n.
+      sym (ap (λ (m : SystemState). lock_of m u n) stood.stands.at.system
+      ∙ (ap (λ l. get l (u, n)) (sym same.locks) ∙ ap (λ (k : CoreState). lock_of k.system u n) (sym walked.core_there))))
       got
 
   -- the plan behind it
@@ -224,9 +218,9 @@ module _ {V : Type 0} (told : V → Option Disk) (may_leave : V → Disk → Typ
   pub rows_behind : (new : State) → ((n : ℕ) → t ≡ n → Owns new n) → ((n : ℕ) → Owns state n → t ≡ n) → RowsTell state y new z
   rows_behind new owns_new only e n lives = by_test (t == n) refl
     where
-      by_test : (b : Bool) → (t == n) ≡ b → Owns new n ⊎ ((state_of y n ≡ Some Live) × (Owns state n → ⊥))
+      by_test : (b : Bool) → (t == n) ≡ b → Owns new n ⊎ ((is_open (state_of y n) ≡ true) × (Owns state n → ⊥))
       by_test true g = inl (owns_new n (equal t n g))
-      by_test false g = inr (sym (same.states n) ∙ lives, λ one. let yes : (t == n) ≡ true = same_number t n (only n one) in let no : true ≡ false = sym yes ∙ g in absurd (cc))
+      by_test false g = inr (ap is_open (sym (same.states n)) ∙ lives, λ one. let yes : (t == n) ≡ true = same_number t n (only n one) in let no : true ≡ false = sym yes ∙ g in absurd (cc))
 
 -- ---- onward, or back before its answer
 module _ {V : Type 0} (told : V → Option Disk) (may_leave : V → Disk → Type 0) (faults : V → ℕ)
@@ -316,6 +310,7 @@ module _ {V : Type 0} (told : V → Option Disk) (may_leave : V → Disk → Typ
             ∙ (ap (λ cs. at (IsWithin x'.txn x'.tries (map act_of cs) fits.deadly false) (rest_of k)) (sym f.commands)
             ∙ ap (at (IsWithin x'.txn x'.tries (map act_of x'.commands.now) fits.deadly false)) (sym same_rest))));
         work = subst (λ t. AreWork here a.client t fits.call (a.pending ++ (length (log_of w), Logs rec) ∷ [])) (sym f.txn) works_behind;
+        granted = granted_more a.pending ((length (log_of w), Logs rec) ∷ []) fits.granted;
         turned = subst (λ t. HasTurned (goes_back (answer_of q.geometry q.call q.stage)) t (a.pending ++ (length (log_of w), Logs rec) ∷ [])) (sym f.txn) turned_behind;
         undone = λ us. ap (λ t. undos_behind t us (a.pending ++ (length (log_of w), Logs rec) ∷ [])) f.txn ∙ undone_behind us;
         nearer = f.deadly ∙ (nearer_behind (is_back plan) ∙ ap (λ t. left fits.deadly (operations t (a.pending ++ (length (log_of w), Logs rec) ∷ []))) (sym f.txn));
@@ -383,6 +378,7 @@ module _ {V : Type 0} (told : V → Option Disk) (may_leave : V → Disk → Typ
         pending = ap (λ l. l ++ (length (log_of w), Logs back_rec) ∷ []) fits.pending ∙ append_assoc fits.work ((fits.met, Meets (reason_of why)) ∷ fits.back) ((length (log_of w), Logs back_rec) ∷ []);
         tried = all_tried w there did_back.goes.grows a.client x.txn fits.call fits.work fits.tried;
         stays = fits.stays;
+        granted = fits.granted;
         cause = met w there did_back.goes.grows a.client fits.met (Calls fits.call) (Some x.txn) (reason_of why) fits.cause;
         survives = survives w there did_back.goes.grows a.client fits.met x.txn fits.call fits.deadly (operations x.txn fits.work) (reason_of why) fits.cause fits.survives;
         no_stop = fits.no_stop;

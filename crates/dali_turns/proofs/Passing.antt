@@ -1,6 +1,6 @@
 -- What an audit has passed, behind one pass more and behind steps of others.
-use Rattle.std.proofs.Common.{◌≡◌, ◌≢◌, ℕ, ◌+◌, ◌<◌, ◌≤◌, Bool, true, false, List, length, Some, IfSome, refl, ap, sym, subst, ◌∙◌, ⊎_elim, arith}
-use Rattle.std.specs.Prelude.{◌==◌, if◌then◌else◌, slice_get, slice_set}
+use Rattle.std.proofs.Common.{◌≡◌, ◌≢◌, ℕ, ◌+◌, ◌<◌, ◌≤◌, true, List, length, Some, IfSome, ap, sym, subst, ◌∙◌, ⊎_elim, arith}
+use Rattle.std.specs.Prelude.{slice_get, slice_set}
 use Rattle.std.proofs.lemmas.List.{length-set}
 use Rattle.std.proofs.lemmas.Bool.{cases_lt}
 use Rattle.std.proofs.lemmas.Option.{slice_get_within}
@@ -10,8 +10,6 @@ use Rattle.dali_geometry.specs.Sizes.{Sizes}
 use Rattle.dali_geometry.specs.Places.{regions}
 use Rattle.dali_record.specs.declared.records.Record.{Record}
 use Rattle.dali_record.specs.declared.records.Record.TheVariants.{AuditBegin}
-use Rattle.dali_region.specs.declared.Side.{Side}
-use Rattle.dali_region.specs.declared.Side.TheVariants.{A, B as SideB}
 use Rattle.dali_region.specs.declared.Hold.{Hold}
 use Rattle.dali_region.specs.State.{RegionState, checked}
 use Rattle.dali_region.specs.Answers.{is_dirty}
@@ -22,18 +20,16 @@ use Rattle.dali_system.specs.Audits.{IsAuditing}
 use Rattle.dali_crash.specs.Checkpoints.{Point}
 use Rattle.dali_clean.specs.Cleaned.{AreDead}
 use Rattle.dali_whole.specs.Cores.{HoldsPlaces}
-use Rattle.dali_audit.specs.declared.audit.Finding.TheVariants.{Clean, Damaged}
 use Rattle.dali_audit.specs.Findings.{Audited, finding_of, is_passed, AllPassed}
 use Rattle.dali_audit.specs.Stepped.{AreFindings}
 use Rattle.dali_transcripts.specs.World.{World, log_of, IsLogged}
 use Rattle.dali_deeds.specs.Deeds.{BeganHere}
+use Rattle.dali_audit.proofs.Three.{found_is_passed}
+use Rattle.dali_checkpoint.proofs.Results.{checked_dirty}
 use Rattle.dali_turns.specs.Others.{AuditStays}
 use Rattle.dali_turns.specs.Audits.{IsPassing}
 
 -- ---- a region that is checked keeps its hold and its flags
-same_flags : (g : RegionState) (side : Side) → is_dirty (checked g) side ≡ is_dirty g side
-same_flags g A = refl
-same_flags g SideB = refl
 
 pub dead_checked : (gs : List RegionState) (r : ℕ) (g : RegionState) → slice_get gs r ≡ Some g → AreDead gs → AreDead (slice_set gs r (checked g))
 dead_checked gs r g at dead q h there = ⊎_elim
@@ -44,17 +40,11 @@ dead_checked gs r g at dead q h there = ⊎_elim
 pub places_checked : (gs : List RegionState) (r : ℕ) (g : RegionState) (fs : Disk) → slice_get gs r ≡ Some g → HoldsPlaces gs fs → HoldsPlaces (slice_set gs r (checked g)) fs
 places_checked gs r g fs at places side q h there clean = ⊎_elim
     (λ same. subst (λ n. place_of (n + 1) ≤ length (image_file side fs)) (sym same.0)
-    (places side r g at (sym (same_flags g side) ∙ (ap (λ (x : RegionState). is_dirty x side) (sym same.1) ∙ clean))))
+    (places side r g at (sym (checked_dirty g side) ∙ (ap (λ (x : RegionState). is_dirty x side) (sym same.1) ∙ clean))))
     (λ other. places side q h other.1 clean)
     (set_cases gs r (checked g) q h there)
 
 -- ---- one region more
-passed_finding : (n : ℕ) → is_passed (finding_of n) ≡ true
-passed_finding n = by_test (n == 0)
-  where
-    by_test : (b : Bool) → is_passed (if b then Clean else Damaged) ≡ true
-    by_test true = refl
-    by_test false = refl
 
 abbrev pub passed : Audited → ℕ → RegionState → Audited
 passed audit r g = record audit { findings = slice_set audit.findings r (finding_of g.stray) }
@@ -69,7 +59,7 @@ passed_one p q v w audit next g is log sizes before same findings = record {
   auditing = subst (λ (s : Sizes). IsAuditing s q.log audit.begin) (sym sizes) (subst (λ (l : List Record). IsAuditing p.core.system.sizes l audit.begin) (sym log) is.auditing);
   findings = findings;
   count = length-set audit.findings next (finding_of g.stray) ∙ (is.count ∙ ap regions (sym sizes));
-  passed = λ r f less at. ⊎_elim (λ here. ap is_passed here.1 ∙ passed_finding g.stray) (λ other. is.passed r f (smaller r less other.0) other.1) (set_cases audit.findings next (finding_of g.stray) r f at);
+  passed = λ r f less at. ⊎_elim (λ here. ap is_passed here.1 ∙ found_is_passed g.stray) (λ other. is.passed r f (smaller r less other.0) other.1) (set_cases audit.findings next (finding_of g.stray) r f at);
   waits = λ r le less. get_apart audit.findings next (finding_of g.stray) r (λ e. absurd (omega (arith, le, e))) ∙ is.waits r (omega (arith, le)) (omega (arith, less, length-set audit.findings next (finding_of g.stray)));
   fits = is.fits;
   few = omega (arith, is.few, length-set audit.findings next (finding_of g.stray));

@@ -1,5 +1,5 @@
 -- What a step leaves of the image files' places, by what it did with the regions and with the vault.
-use Rattle.std.proofs.Common.{◌≡◌, ℕ, ◌+◌, Bool, false, List, Option, Some, None, IfSome, IsErrOf, Err, true, refl, ap, sym, subst, ◌∙◌, inl, inr}
+use Rattle.std.proofs.Common.{◌≡◌, ℕ, ◌+◌, Bool, false, List, Option, Some, IfSome, IsErrOf, Err, true, refl, ap, sym, subst, ◌∙◌, inl, inr}
 use Rattle.std.specs.Prelude.{slice_get, slice_set}
 use Rattle.std.proofs.lemmas.Option.{IfSome_then}
 use Rattle.dali_region.specs.declared.Side.{Side}
@@ -16,13 +16,13 @@ use Rattle.dali_checkpoint.proofs.Lengths.{same_length, places_stay, copied_plac
 use Rattle.dali_turns.specs.declared.client.Client.{Client}
 use Rattle.dali_turns.specs.declared.client.State.{State}
 use Rattle.dali_turns.specs.declared.client.State.TheVariants.{Outside, Copying}
-use Rattle.dali_turns.specs.Clients.{Passes, Finishes}
 use Rattle.dali_turns.specs.Endings.{SaysEnd, Unsaid}
-use Rattle.dali_turns.specs.Places.{ReachesNext, HasPlaces, PlacesGo}
+use Rattle.dali_turns.specs.Places.{ReachesNext, KeepsRegions, PlacesGo}
+use Rattle.dali_turns.proofs.Placed.{keeps_same}
 use Rattle.dali_checkpoint.specs.declared.error.CheckpointError.{CheckpointError}
 use Rattle.std.specs.Prelude.{Result}
+use Rattle.dali_lists.proofs.Lists.{set_same}
 use Rattle.dali_turns.proofs.Passing.{places_checked}
-use Rattle.dali_turns.proofs.CopySteps.{set_self}
 
 -- ---- where the client stands
 pub ends_outside : (k j : Client) (made : Result ℕ CheckpointError) → SaysEnd k made j → j.state ≡ Outside
@@ -48,18 +48,18 @@ module _ {V : Type 0} (told : V → Option Disk) (state state' : State) (gs : Li
 
   -- ---- it stands outside, or where nothing is to be reached
   module _ (hs : List RegionState) (u : Vaulted V) (longer : IsNoShorter told v u) (places : IfSome (told v.store) (HoldsPlaces gs) → IfSome (told u.store) (HoldsPlaces hs)) where
-    pub places_go : (ReachesNext told state v → ReachesNext told state' u) → PlacesGo told state gs v state' hs u
-    places_go next = record { longer = longer; places = λ has. record { files = places has.files; next = next has.next } }
+    pub places_go : (ReachesNext told state v → ReachesNext told state' u) → KeepsRegions state' gs hs → PlacesGo told state gs v state' hs u
+    places_go next regions = record { longer = longer; places = λ has. record { files = places has.files; next = next has.next }; regions = regions }
 
     pub go_outside : state' ≡ Outside → PlacesGo told state gs v state' hs u
-    go_outside is = places_go (λ reaches. subst (λ (x : State). ReachesNext told x u) (sym is) tt)
+    go_outside is = places_go (λ reaches. subst (λ (x : State). ReachesNext told x u) (sym is) tt) (subst (λ (x : State). KeepsRegions x gs hs) (sym is) tt)
 
   -- nothing was written
   pub still_outside : state' ≡ Outside → PlacesGo told state gs v state' gs v
   still_outside is = go_outside gs v stays_long (λ places. places) is
 
   pub still : ReachesNext told state' v → PlacesGo told state gs v state' gs v
-  still reaches = places_go gs v stays_long (λ places. places) (λ before. reaches)
+  still reaches = places_go gs v stays_long (λ places. places) (λ before. reaches) (keeps_same state' gs gs refl)
 
   -- no region was written
   pub longer_outside : (hs : List RegionState) (u : Vaulted V) → hs ≡ gs → IsNoShorter told v u → state' ≡ Outside → PlacesGo told state gs v state' hs u
@@ -67,26 +67,26 @@ module _ {V : Type 0} (told : V → Option Disk) (state state' : State) (gs : Li
       (λ places. subst (λ (l : List RegionState). IfSome (told u.store) (HoldsPlaces l)) (sym same) (places_stay (told v.store) (told u.store) gs longer places)) is
 
   pub longer_go : (u : Vaulted V) → IsNoShorter told v u → ReachesNext told state' u → PlacesGo told state gs v state' gs u
-  longer_go u longer reaches = places_go gs u longer (places_stay (told v.store) (told u.store) gs longer) (λ before. reaches)
+  longer_go u longer reaches = places_go gs u longer (places_stay (told v.store) (told u.store) gs longer) (λ before. reaches) (keeps_same state' gs gs refl)
 
   -- a region was checked
-  pub checked_go : (r : ℕ) (g h : RegionState) → slice_get gs r ≡ Some g → h ≡ checked g → ReachesNext told state' v → PlacesGo told state gs v state' (slice_set gs r h) v
-  checked_go r g h at is reaches = places_go (slice_set gs r h) v stays_long
+  pub checked_go : (r : ℕ) (g h : RegionState) → slice_get gs r ≡ Some g → h ≡ checked g → ReachesNext told state' v → KeepsRegions state' gs (slice_set gs r h) → PlacesGo told state gs v state' (slice_set gs r h) v
+  checked_go r g h at is reaches keeps = places_go (slice_set gs r h) v stays_long
       (λ places. subst (λ (x : RegionState). IfSome (told v.store) (HoldsPlaces (slice_set gs r x))) (sym is) (IfSome_then (told v.store) places (λ fs held. places_checked gs r g fs at held)))
-      (λ before. reaches)
+      (λ before. reaches) keeps
 
 -- a region was to be copied, and wasn't
 pub gave_up_outside : {V : Type 0} (told : V → Option Disk) (state state' : State) (gs : List RegionState) (v : Vaulted V) (r : ℕ) (g h : RegionState) (hs : List RegionState) (u t : Vaulted V) → hs ≡ slice_set gs r h → t ≡ u → slice_get gs r ≡ Some g → h ≡ g
     → IsNoShorter told v u → state' ≡ Outside → PlacesGo told state gs v state' hs t
 gave_up_outside told state state' gs v r g h hs u t left same at is longer outside =
-    longer_outside told state state' gs v hs t (left ∙ (ap (slice_set gs r) is ∙ set_self gs r g at)) (longer_vault told v u t same longer) outside
+    longer_outside told state state' gs v hs t (left ∙ (ap (slice_set gs r) is ∙ set_same gs r g at)) (longer_vault told v u t same longer) outside
 
 -- a region was copied
 pub copied_go : {V : Type 0} (told : V → Option Disk) (state : State) (c d : Checkpointed) (gs : List RegionState) (r : ℕ) (g h : RegionState) (v u : Vaulted V) → slice_get gs r ≡ Some g → h ≡ cleaned (side_in c) g → d ≡ record c { copied = r + 1 }
     → IsNoShorter told v u → Reaches told (side_in c) (r + 1) u → PlacesGo told state gs v (Copying d (r + 1)) (slice_set gs r h) u
 copied_go told state c d gs r g h v u at cleans is longer reaches = places_go told state (Copying d (r + 1)) gs v (slice_set gs r h) u longer
     (λ places. subst (λ (x : RegionState). IfSome (told u.store) (HoldsPlaces (slice_set gs r x))) (sym cleans) (copied_places (told v.store) (told u.store) gs r (side_in c) g at longer reaches places))
-    (λ before. subst (λ (x : Checkpointed). Reaches told (side_in x) (r + 1) u) (sym is) reaches)
+    (λ before. subst (λ (x : Checkpointed). Reaches told (side_in x) (r + 1) u) (sym is) reaches) tt
 
 -- a flush that fails writes no region
 pub flush_keeps : {T : Type 0} (e : VaultError) (b : Bool) (hs gs : List RegionState) → (IsErrOf {T = T} (Err e) VaultStopped → b ≡ true) → (b ≡ true → hs ≡ gs) → (IsErrOf {T = T} (Err e) VaultFault → hs ≡ gs) → hs ≡ gs

@@ -1,5 +1,5 @@
 -- A client that makes no step stands where it stood, for a reason.
-use Rattle.std.proofs.Common.{◌≡◌, ℕ, Bool, true, false, List, ◌++◌, length, Option, Some, None, Result, Ok, Err, IsErr, refl, ap, sym, subst, ◌∙◌, ◌⊎◌, inl, inr, arith}
+use Rattle.std.proofs.Common.{◌≡◌, ℕ, Bool, true, false, List, ◌++◌, length, Option, Some, None, Result, Ok, Err, IsErr, refl, ap, subst, ◌∙◌, inl, inr, arith}
 use Rattle.std.specs.Prelude.{◌==◌, ◌-◌, IfOk}
 use Rattle.std.specs.List.{range_with_len}
 use Rattle.std.proofs.lemmas.List.{append-nil}
@@ -14,7 +14,7 @@ use Rattle.dali_turns.specs.declared.client.State.TheVariants.{Outside, LeftOut,
 use Rattle.dali_turns.specs.declared.client.Transaction.{Transaction}
 use Rattle.dali_turns.specs.Calls.{MustWait}
 use Rattle.dali_turns.specs.Clients.{next_of, Passes, Stays, left_behind}
-use Rattle.dali_turns.specs.Waits.{MakesNone, StaysPut}
+use Rattle.dali_turns.specs.Waits.{StaysPut}
 use Rattle.dali_turns.proofs.Commands.{none_of}
 
 pub never_went : {E X : Type 0} (r : Result Bool E) → IfOk r (λ went. went ≡ true) → r ≡ Ok false → X

@@ -3,10 +3,8 @@ use Rattle.std.proofs.Common.{◌≡◌, ℕ, ◌<◌, Bool, true, false, List, 
 use Rattle.std.proofs.lemmas.Option.{IfSome_then}
 use Rattle.dali_record.specs.declared.records.Record.{Record}
 use Rattle.dali_region.specs.State.{RegionState}
-use Rattle.dali_att.specs.declared.state.State.{State as RowState}
-use Rattle.dali_att.specs.declared.state.State.TheVariants.{Live}
 use Rattle.dali_store.specs.Store.{Files as Disk}
-use Rattle.dali_system.specs.State.{SystemState, TxnRow, row_of, state_in, state_of}
+use Rattle.dali_system.specs.State.{TxnRow, state_in, SystemState, row_of, state_of}
 use Rattle.dali_system.specs.Run.{Bases, RunsOn, no_image}
 use Rattle.dali_system.specs.Flushes.{frame_of}
 use Rattle.dali_system.specs.Courses.{Step}
@@ -33,14 +31,15 @@ use Rattle.dali_turns.specs.Stood.{IsQuiet, Stood}
 use Rattle.dali_turns.specs.Fits.{Owns, Audits}
 use Rattle.dali_turns.specs.Others.{LeavesOthers}
 use Rattle.dali_turns.proofs.Beside.{is_in_audit, step_audit, step_leaves, step_image}
+use Rattle.dali_rounds.specs.Went.{is_open}
 
-has_row : (o : Option TxnRow) (s : RowState) → state_in o ≡ Some s → is_some o ≡ true
-has_row (Some row) s e = refl
-has_row None s e = absurd (cc)
+has_row : (o : Option TxnRow) → is_open (state_in o) ≡ true → is_some o ≡ true
+has_row (Some row) e = refl
+has_row None e = absurd (cc)
 
--- who is live has an older number than the next one
-pub is_older : (bases : Bases) (before : List Record) (p : Point) (t : ℕ) → StoreRun bases before no_image p → state_of p.core.system t ≡ Some Live → t < p.core.system.next
-is_older bases before p t run lives = rows_are_older bases _ p.core run.run.run.runs t (has_row (row_of p.core.system t) Live lives)
+-- who is live or committed has an older number than the next one
+pub is_older : (bases : Bases) (before : List Record) (p : Point) (t : ℕ) → StoreRun bases before no_image p → is_open (state_of p.core.system t) ≡ true → t < p.core.system.next
+is_older bases before p t run lives = rows_are_older bases _ p.core run.run.run.runs t (has_row (row_of p.core.system t) lives)
 
 module _ {V : Type 0} (told : V → Option Disk) (may_leave : V → Disk → Type 0) (faults : V → ℕ)
     (s : Start) (B : List (List Record)) (p q : Point) (w : World) (precheck : Bool) (gs : List RegionState) (y : SystemState) (v : Vaulted V)
@@ -79,14 +78,15 @@ module _ {V : Type 0} (told : V → Option Disk) (may_leave : V → Disk → Typ
     tells = (quiet_deeds c ds are right).tells;
     precheck_is = stood.precheck_is;
     began = stood.began;
+    since = stood.since;
     keeps = flag_stays p q (Does x) stood.keeps step;
   }
 
   -- what it leaves to others
-  pub quiet_others : (state : State) → ((t : ℕ) → state_of y t ≡ Some Live → (Owns state t → ⊥) → is_apart t x ≡ true) → ((b : ℕ) → (Audits state b → ⊥) → is_in_audit b x ≡ false)
+  pub quiet_others : (state : State) → ((t : ℕ) → is_open (state_of y t) ≡ true → (Owns state t → ⊥) → is_apart t x ≡ true) → ((b : ℕ) → (Audits state b → ⊥) → is_in_audit b x ≡ false)
       → q.core.system.taken ≡ p.core.system.taken → LeavesOthers told may_leave faults state s B p gs y v B q q.core.regions q.core.system v
   quiet_others state apart out taken = record {
-    txns = λ t lives other. step_leaves t p q (Does x) (is_older (bases_of s) s.log p t run (ap (λ (z : SystemState). state_of z t) stood.stands.at.system ∙ lives)) (apart t lives other) step;
+    txns = λ t lives other. step_leaves t p q (Does x) (is_older (bases_of s) s.log p t run (ap (λ (z : SystemState). is_open (state_of z t)) stood.stands.at.system ∙ lives)) (apart t lives other) step;
     audits = λ b less other. step_audit (bases_of s) s.log p q (Does x) b run step (out b other) less;
     image = λ flag other. step_image told may_leave faults s B p q x gs y v quiet step taken stood.stands.at.system;
   }

@@ -134,6 +134,10 @@ command_is (Audit ∷ xs) call more e = absurd (cc)
 command_is (Checkpoint ∷ xs) call more e = absurd (cc)
 
 -- why a clean-up is refused
+pub clean_runs : {T : Type 0} (o : Option Cause) (r : Result T CleanError) (t : T) → r ≡ Ok t → IfSome o (λ cause. r ≡ Err (CleanStopped cause)) → o ≡ None
+clean_runs None r t ok h = refl
+clean_runs (Some cause) r t ok h = let both : Ok t ≡ Err (CleanStopped cause) = sym ok ∙ h in absurd (cc)
+
 pub clean_stop : {T : Type 0} (o : Option Cause) (r : Result T CleanError) (e : CleanError) (cause : Cause) → r ≡ Err e → e ≡ CleanStopped cause → IfSome o (λ c. r ≡ Err (CleanStopped c)) → (o ≡ None → e ≡ CleanMemory) → o ≡ Some cause
 clean_stop {T} (Some c) r e cause is stopped same memory = let both : Err (CleanStopped c) ≡ Err e = sym same ∙ is in let one : CleanStopped c ≡ CleanStopped cause = cc in let two : c ≡ cause = cc in ap Some two
 clean_stop {T} None r e cause is stopped same memory = let both : CleanStopped cause ≡ CleanMemory = sym stopped ∙ memory refl in absurd (cc)

@@ -1,7 +1,8 @@
 -- Why a client is refused, at the place where it is.
 use Rattle.std.proofs.Common.{◌≡◌, ℕ, ◌+◌, ◌<◌, Bool, true, false, List, [], ◌∷◌, ◌++◌, length, take, sum_by, take_all, Option, Some, None, is_some, refl, ap, sym, subst, ◌∙◌, arith}
-use Rattle.std.specs.Prelude.{◌||◌, slice_get}
+use Rattle.std.specs.Prelude.{◌||◌}
 use Rattle.std.proofs.lemmas.List.{take_at}
+use Rattle.dali_lists.proofs.Lists.{get_push}
 use Rattle.dali_record.specs.declared.records.Record.{Record}
 use Rattle.dali_record.specs.declared.records.Record.TheVariants.{AuditBegin}
 use Rattle.dali_record.specs.Epochs.{last_epoch}
@@ -18,10 +19,6 @@ use Rattle.dali_transcripts.specs.Causes.{CanStop, IsCause, MetCause, IsAlone}
 use Rattle.dali_deeds.specs.Tells.{after, AreRightThen, Tells}
 use Rattle.dali_turns.proofs.Deeds.{stop_is_told}
 use Rattle.dali_turns.specs.Outside.{MaySay}
-
-pub get_last : {X : Type 0} (xs : List X) (x : X) → slice_get (xs ++ x ∷ []) (length xs) ≡ Some x
-get_last [] x = refl
-get_last (y ∷ xs) x = get_last xs x
 
 -- ---- counts of the log
 pub runs_on_log : (bases : Bases) (before : List Record) (p : Point) → StoreRun bases before no_image p → RunsOn bases p.log p.core
@@ -42,7 +39,7 @@ module _ (w : World) (c : ℕ) (x : Deed) (d : CoreState) where
   log_there = ap (λ (xs : List Happening). w.before ++ logged_by xs) front
 
   abbrev pub done_last : HasDone (after w c (x ∷ []) d) c (length (log_of w)) x
-  done_last = record { place = length w.happened; there = get_last w.happened (x, c); number = ap length log_there }
+  done_last = record { place = length w.happened; there = get_push w.happened (x, c); number = ap length log_there }
 
   whole_front : take (length w.happened) (w.happened ++ (x, c) ∷ []) ≡ take (length w.happened) w.happened
   whole_front = front ∙ sym (take_all (length w.happened) w.happened (omega arith))
@@ -67,10 +64,7 @@ right_now w c d act o UnderWay cause = ((act, o, cause), tt)
 -- a checkpoint that has started was alone
 pub alone_behind : (w : World) (why : Why) (span : ℕ × ℕ) (i : ℕ) → IsAlone w why (Some span) i
 alone_behind w (StoppedBy z) span i = tt
-alone_behind w (Full end limit) span i = tt
-alone_behind w (Damaged r codeword found) span i = tt
-alone_behind w StoreFailed span i = tt
-alone_behind w UnderWay span i = tt
+alone_behind w _ span i = tt
 
 -- an audit's begin would pass this limit
 abbrev pub full_audit : SystemState → Why

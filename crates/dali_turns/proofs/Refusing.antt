@@ -2,6 +2,7 @@
 use Rattle.std.proofs.Common.{◌≡◌, ℕ, Bool, true, false, List, [], ◌∷◌, ◌++◌, length, map, Option, Some, is_some, refl, ap, sym, subst, ◌∙◌, inl, inr}
 use Rattle.std.specs.Prelude.{◌==◌, ◌⊎◌}
 use Rattle.std.proofs.lemmas.List.{map-append}
+use Rattle.dali_lists.proofs.Members.{all_append, all_map}
 use Rattle.dali_counts.proofs.Lists.{equal, same_number}
 use Rattle.dali_record.specs.declared.records.Call.{Call}
 use Rattle.dali_record.specs.declared.records.Record.TheVariants.{Forward}
@@ -21,7 +22,7 @@ use Rattle.dali_transcripts.specs.World.{Logs, GetsLock, FindsDead, Meets, World
 use Rattle.dali_transcripts.specs.Moves.{Receipt, Within as IsWithin, at, Move, IsRefusedCall, operations}
 use Rattle.dali_transcripts.specs.Causes.{IsAside, IsWork, IsTried, AreAside, AreWork, AreTried, IsNoOperation, StaysRefused, Survives, HasCause, spares}
 use Rattle.dali_transcripts.specs.Rounds.{Standing, IsPlaced}
-use Rattle.dali_transcripts.proofs.Lists.{all_append, all_map}
+use Rattle.dali_transcripts.proofs.Grants.{granted_asks}
 use Rattle.dali_transcripts.proofs.Growing.{works}
 use Rattle.dali_deeds.specs.Tells.{after}
 use Rattle.dali_deeds.specs.Laws.{IsNoFault}
@@ -43,6 +44,7 @@ use Rattle.dali_turns.proofs.Undoing.{undone_on}
 use Rattle.dali_turns.proofs.Refusals.{HasCauseNow, met_now, right_now}
 use Rattle.dali_turns.proofs.Doing.{Did, did_meet, behind, ended, went_on, went_by, went_silent}
 use Rattle.dali_turns.proofs.Calling.{behind_one, none_so_far, due_left}
+use Rattle.dali_rounds.specs.Went.{is_open}
 
 -- ---- the work of a call, once it is refused
 pub tried_of : (w : World) (c t : ℕ) (call : Call) (x : Receipt) → IsWork w c t call x → IsTried w c t call x
@@ -109,6 +111,7 @@ module _ {V : Type 0} (told : V → Option Disk) (may_leave : V → Disk → Typ
           pending = refl;
           tried = tried;
           stays = unrefused w a.client x.txn fits.call a.pending fits.work;
+          granted = fits.granted;
           cause = met_now w a.client p.core (Calls fits.call) (Some x.txn) (reason_of why) cause;
           survives = lives;
           no_stop = no_stop;
@@ -125,13 +128,13 @@ module _ {V : Type 0} (told : V → Option Disk) (may_leave : V → Disk → Typ
             rest = record { sizes = fits.plan_is.rest.sizes; whole = fits.plan_is.rest.whole; lives = fits.plan_is.rest.lives; closed = fits.plan_is.rest.closed };
             stands = plan_turns p.log p.core plan (ap is_answered fits.plan_is.phase_is) fits.plan_is.stands;
           };
-          locks = still_got p p w now did.goes.grows a.client x.txn (λ n h. h) fits.locks;
+          locks = still_got p p w now did.goes.grows a.client x.txn (λ n. refl) fits.locks;
         }
 
         rows : RowsTell (Calling x plan) y j.state y
         rows e t lives = by_test (x.txn == t) refl
           where
-            by_test : (b : Bool) → (x.txn == t) ≡ b → Owns j.state t ⊎ ((state_of y t ≡ Some Live) × (Owns (Calling x plan) t → ⊥))
+            by_test : (b : Bool) → (x.txn == t) ≡ b → Owns j.state t ⊎ ((is_open (state_of y t) ≡ true) × (Owns (Calling x plan) t → ⊥))
             by_test true g = inl (subst (λ (n : State). Owns n t) (sym f.stands) (equal x.txn t g))
             by_test false g = inr (lives, λ one. let yes : (x.txn == t) ≡ true = same_number x.txn t one in let no : true ≡ false = sym yes ∙ g in absurd (cc))
 
@@ -144,7 +147,7 @@ module _ {V : Type 0} (told : V → Option Disk) (may_leave : V → Disk → Typ
       spot = fits.spot ∙ ap (at (IsWithin x.txn x.tries (map act_of x.commands.now) fits.deadly false)) fits.calls
 
       has_cause : HasCause now a.client move
-      has_cause = (tried, (met_now w a.client p.core (Calls fits.call) (Some x.txn) (reason_of why) cause, lives), tt, λ e. let both : true ≡ false = sym stops ∙ e in absurd (cc), unrefused w a.client x.txn fits.call a.pending fits.work)
+      has_cause = (tried, (met_now w a.client p.core (Calls fits.call) (Some x.txn) (reason_of why) cause, lives), tt, λ e. let both : true ≡ false = sym stops ∙ e in absurd (cc), unrefused w a.client x.txn fits.call a.pending fits.work, (granted_asks a.pending fits.granted, λ e. fits.granted))
 
       fits_behind : (rest : List Act) → rest ≡ fits.more → FitsWithin p now (ended a move) rest x
       fits_behind rest same = record {
@@ -158,7 +161,7 @@ module _ {V : Type 0} (told : V → Option Disk) (may_leave : V → Disk → Typ
         due = ap (λ d. spares d 0) fits.nearer ∙ due_left fits.deadly (operations x.txn a.pending) fits.spared;
         lives = subst (λ t. state_of p.core.system t ≡ Some Live) fits.plan_is.txn fits.plan_is.rest.lives;
         free = subst (IsFree p.core) fits.plan_is.txn fits.plan_is.stands.free;
-        locks = still_got p p w now did.goes.grows a.client x.txn (λ n h. h) fits.locks;
+        locks = still_got p p w now did.goes.grows a.client x.txn (λ n. refl) fits.locks;
         may_call = λ e. let none : is_some p.core.system.stop ≡ false = ap is_some e in let some : is_some p.core.system.stop ≡ true = ap (λ (m : SystemState). is_some m.stop) stood.stands.at.system ∙ stopped in let no : true ≡ false = sym some ∙ none in absurd (cc);
       }
 

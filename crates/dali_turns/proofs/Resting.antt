@@ -1,5 +1,6 @@
 -- What a step of another client leaves of one that is outside a transaction, in one, or in a call.
-use Rattle.std.proofs.Common.{◌≡◌, ℕ, Bool, true, List, ◌∷◌, Option, Some, None, is_some, refl, ap, sym, subst, ◌∙◌}
+use Rattle.std.proofs.Common.{◌≡◌, ◌≤◌, ℕ, Bool, true, List, ◌∷◌, length, Option, Some, None, is_some, refl, ap, sym, subst, ◌∙◌, inl, inr, ⊎_elim, drop, arith}
+use Rattle.std.proofs.lemmas.List.{length-append}
 use Rattle.dali_record.specs.declared.records.Record.{Record}
 use Rattle.dali_record.specs.declared.records.Call.{Call}
 use Rattle.dali_region.specs.State.{RegionState}
@@ -16,11 +17,16 @@ use Rattle.dali_calls.specs.Plans.{Planned}
 use Rattle.dali_stepwise.specs.Beside.{LeavesBe}
 use Rattle.dali_stepwise.proofs.Waiting.{plan_waits, call_waits, rest_waits}
 use Rattle.dali_transcripts.specs.Words.{Act, Calls}
-use Rattle.dali_transcripts.specs.World.{Deed, World}
+use Rattle.dali_transcripts.specs.World.{Deed, World, log_of, logged_by}
 use Rattle.dali_transcripts.specs.Moves.{Receipt, operations}
-use Rattle.dali_transcripts.specs.Rounds.{Standing}
-use Rattle.dali_transcripts.proofs.Growing.{askings, works, all_tried, asides, met, survives}
+use Rattle.dali_transcripts.specs.Rounds.{Standing, by}
+use Rattle.dali_transcripts.proofs.Growing.{askings, works, all_tried, asides, behinds, flushed, met, survives}
+use Rattle.dali_geometry.specs.Sizes.{Sizes}
+use Rattle.dali_record.specs.declared.operations.Pending.{Pending}
+use Rattle.dali_facts.specs.Ends.{IsEnding}
+use Rattle.dali_turns.specs.Commits.{FitsCommitting}
 use Rattle.dali_deeds.specs.Tells.{Goes}
+use Rattle.dali_deeds.proofs.Told.{log_is}
 use Rattle.dali_clients.specs.declared.line.Why.{Why}
 use Rattle.dali_clients.specs.Told.{reason_of}
 use Rattle.dali_turns.specs.declared.client.Transaction.{Transaction}
@@ -32,6 +38,7 @@ use Rattle.dali_turns.specs.Fits.{Owns}
 use Rattle.dali_turns.specs.Others.{LeavesOthers}
 use Rattle.dali_turns.proofs.Locking.{still_got}
 use Rattle.dali_turns.proofs.Rows.{had_row}
+use Rattle.dali_rounds.specs.Went.{is_open}
 
 module _ {V : Type 0} (told : V → Option Disk) (may_leave : V → Disk → Type 0) (faults : V → ℕ)
     (s : Start) (B C : List (List Record)) (p q : Point) (w x : World) (gs hs : List RegionState) (y z : SystemState) (v u : Vaulted V) (precheck : Bool) (a b : Standing) (ds : List Deed) (yours : State)
@@ -85,7 +92,7 @@ module _ {V : Type 0} (told : V → Option Disk) (may_leave : V → Disk → Typ
 
   -- ---- in a transaction
   left_be : (t : ℕ) → state_of p.core.system t ≡ Some Live → (Owns yours t → ⊥) → LeavesBe t p.log p.core q.log q.core
-  left_be t lives other = leaves.txns t (ap (λ (m : SystemState). state_of m t) (sym stood.stands.at.system) ∙ lives) other
+  left_be t lives other = leaves.txns t (ap (λ (m : SystemState). is_open (state_of m t)) (sym stood.stands.at.system) ∙ ap is_open lives) other
 
   so_far_still : (t : ℕ) (rest : List Act) (pending : List Receipt) → AreSoFar w a.client t rest pending → AreSoFar x a.client t rest pending
   so_far_still t (Calls call ∷ rest) pending h = askings w x goes.grows a.client t call pending h
@@ -103,7 +110,7 @@ module _ {V : Type 0} (told : V → Option Disk) (may_leave : V → Disk → Typ
     due = k.due;
     lives = ap state_in be.row ∙ k.lives;
     free = be.free k.free;
-    locks = still_got p q w x goes.grows a.client t.txn (λ n h. ap is_some (sym (be.locks n)) ∙ h) k.locks;
+    locks = still_got p q w x goes.grows a.client t.txn be.locks k.locks;
     may_call = λ up. call_waits p.log q.log p.core q.core t.txn be (k.may_call (ran_before up));
   }
     where
@@ -124,7 +131,7 @@ module _ {V : Type 0} (told : V → Option Disk) (may_leave : V → Disk → Typ
       be = left_be plan.txn k.rest.lives (λ owns. other (subst (Owns yours) k.txn owns))
 
   locks_wait : (plan : Planned) (t : ℕ) (call : Call) (phase : Phase) → (Owns yours t → ⊥) → IsAtCall p plan t call phase → AreGot p w a.client t → AreGot q x a.client t
-  locks_wait plan t call phase other k got = still_got p q w x goes.grows a.client t (λ n h. ap is_some (sym (be.locks n)) ∙ h) got
+  locks_wait plan t call phase other k got = still_got p q w x goes.grows a.client t be.locks got
     where
       be : LeavesBe t p.log p.core q.log q.core
       be = left_be t (subst (λ n. state_of p.core.system n ≡ Some Live) k.txn k.rest.lives) other
@@ -137,6 +144,7 @@ module _ {V : Type 0} (told : V → Option Disk) (may_leave : V → Disk → Typ
     deadly = k.deadly;
     spot = k.spot;
     work = works w x goes.grows a.client t.txn k.call a.pending k.work;
+    granted = k.granted;
     turned = k.turned;
     undone = k.undone;
     nearer = k.nearer;
@@ -160,6 +168,7 @@ module _ {V : Type 0} (told : V → Option Disk) (may_leave : V → Disk → Typ
     pending = k.pending;
     tried = all_tried w x goes.grows a.client t.txn k.call k.work k.tried;
     stays = k.stays;
+    granted = k.granted;
     cause = met w x goes.grows a.client k.met (Calls k.call) (Some t.txn) (reason_of why) k.cause;
     survives = survives w x goes.grows a.client k.met t.txn k.call k.deadly (operations t.txn k.work) (reason_of why) k.cause k.survives;
     no_stop = k.no_stop;
@@ -172,3 +181,28 @@ module _ {V : Type 0} (told : V → Option Disk) (may_leave : V → Disk → Typ
     plan_is = at_call_waits plan t.txn k.call IsRefused other k.plan_is;
     locks = locks_wait plan t.txn k.call IsRefused other k.plan_is k.locks;
   }
+
+  -- ---- in a commit
+  pub committing_waits : (rest : List Act) (t : Transaction) (number : ℕ) (removals : List Pending) (next : ℕ) → (Owns yours t.txn → ⊥) → FitsCommitting p w a rest t number removals next → FitsCommitting q x a rest t number removals next
+  committing_waits rest t number removals next other k = record {
+    more = k.more;
+    commits = k.commits;
+    spot = k.spot;
+    placed = k.placed;
+    behind = k.behind;
+    pending = k.pending;
+    are = behinds w x goes.grows a.client t.txn k.behind k.are;
+    first = ⊎_elim (λ none. inl none) (λ flushed_then. inr (flushed w x goes.grows number flushed_then)) k.first;
+    below = omega (arith, k.below, log_longer);
+    committed = ap state_in be.row ∙ k.committed;
+    locks = still_got p q w x goes.grows a.client t.txn be.locks k.locks;
+    ending = λ up. subst (λ (n : Sizes). IsEnding n q.log t.txn (drop next removals)) (sym be.sizes) (be.rules ∙ k.ending (ran_before up));
+  }
+    where
+      log_longer : length (log_of w) ≤ length (log_of x)
+      log_longer =
+          let e = ap (λ (l : World). length (log_of l)) goes.is ∙ ap length (log_is w b.client ds q.core) in
+          omega (arith, e, length-append (log_of w) (logged_by (by b.client ds)))
+
+      be : LeavesBe t.txn p.log p.core q.log q.core
+      be = leaves.txns t.txn (ap (λ (m : SystemState). is_open (state_of m t.txn)) (sym stood.stands.at.system) ∙ ap is_open k.committed) other

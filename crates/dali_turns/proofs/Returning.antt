@@ -1,7 +1,8 @@
 -- What a call that has its lock has taken back of itself.
-use Rattle.std.proofs.Common.{◌≡◌, ℕ, ◌≤◌, Bool, true, false, not, List, [], ◌∷◌, ◌++◌, length, Option, Some, None, if◌then◌else◌, refl, ap, sym, subst, ◌∙◌, arith}
-use Rattle.std.specs.Prelude.{◌&&◌}
+use Rattle.std.proofs.Common.{◌≡◌, ℕ, ◌≤◌, Bool, true, false, not, List, [], ◌∷◌, ◌++◌, length, Option, Some, None, if◌then◌else◌, refl, ap, sym, ◌∙◌, arith}
 use Rattle.std.specs.List.{AllByRecursion}
+use Rattle.dali_lists.proofs.Members.{all_append}
+use Rattle.dali_lists.proofs.Tests.{left_true}
 use Rattle.dali_geometry.specs.Sizes.{Sizes}
 use Rattle.dali_geometry.specs.Places.{is_place, region_at, cell_at}
 use Rattle.dali_record.specs.declared.operations.Block.{Block}
@@ -25,7 +26,6 @@ use Rattle.dali_transcripts.specs.World.{Logs, World}
 use Rattle.dali_transcripts.specs.Moves.{Receipt}
 use Rattle.dali_transcripts.specs.Causes.{IsAsking, AreAsking, IsNoOperation, is_taking_back, StaysBack, undos_by, undos_behind}
 use Rattle.dali_transcripts.proofs.Backs.{none_stays, stays_then}
-use Rattle.dali_transcripts.proofs.Lists.{all_append}
 use Rattle.dali_turns.specs.Within.{TookNothing, HasTurned}
 
 pub stays_of : (b : Bool) (t : ℕ) (xs : List Receipt) → HasTurned b t xs → StaysBack t xs
@@ -76,13 +76,10 @@ none_asked w c t call (x ∷ xs) h still = by_back (none_asked w c t call xs h.1
     by_back later false e = (e, later (λ us. ap (λ vs. undos_behind t vs xs) (sym (keeps w c t call us x h.0 e)) ∙ still us))
 
 -- ---- a plan that takes back has its answer; one that has an operation before it has none
-first_true : (b d : Bool) → (b && d) ≡ true → b ≡ true
-first_true true d e = refl
-first_true false d e = absurd (cc)
 
 pub back_answered : (phase : Phase) (a : Option Answer) (us : List Pending) → phase ≡ Calling → is_back_in phase a us ≡ true → goes_back a ≡ true
 back_answered Calling None us at e = absurd (cc)
-back_answered Calling (Some a) us at e = first_true (goes_back (Some a)) (not (is_none_left us)) e
+back_answered Calling (Some a) us at e = left_true (goes_back (Some a)) (not (is_none_left us)) e
 back_answered phase a us at e = absurd (cc)
 
 in_cell_unanswered : (s : Sizes) (call : Call) (place : ℕ) (b : Bool) (x : ℕ × Op) → (if b then in_cell call (region_at place) (cell_at place) else None) ≡ Some x → goes_back (if b then None else Some (Odd place)) ≡ false

@@ -5,6 +5,7 @@ use Rattle.std.proofs.lemmas.List.{append_assoc, take-append-le}
 use Rattle.std.proofs.lemmas.List.Elements.{filter_map-append}
 use Rattle.std.proofs.lemmas.List.Sums.{fold-append}
 use Rattle.std.proofs.lemmas.Option.{slice_get_within}
+use Rattle.dali_lists.proofs.Lists.{get_front}
 use Rattle.dali_counts.proofs.Lists.{equal}
 use Rattle.dali_record.specs.declared.records.Record.{Record}
 use Rattle.dali_record.specs.declared.records.Record.TheVariants.{Begin, Commit, Ended}
@@ -18,16 +19,7 @@ use Rattle.dali_transcripts.specs.Rounds.{by, IsBetween}
 use Rattle.dali_deeds.specs.Tells.{after, Tells, Goes}
 use Rattle.dali_turns.specs.Stood.{HadRow}
 use Rattle.dali_turns.specs.Outside.{HasGone}
-
--- ---- lists
-get_front : {X : Type 0} (A B : List X) (i : ℕ) (x : X) → slice_get A i ≡ Some x → slice_get (A ++ B) i ≡ Some x
-get_front [] B i x e = absurd (cc)
-get_front (y ∷ A) B zero x e = e
-get_front (y ∷ A) B (suc i) x e = get_front A B i x e
-
-get_behind : {X : Type 0} (A B : List X) (n : ℕ) (x : X) → slice_get B n ≡ Some x → (m : ℕ) × (slice_get (A ++ B) m ≡ Some x)
-get_behind [] B n x e = (n, e)
-get_behind (y ∷ A) B n x e = let h = get_behind A B n x e in (suc h.0, h.1)
+use Rattle.dali_turns.proofs.Locking.{get_behind}
 
 -- ---- who had a row has it, or has ended
 chosen : (b : Bool) (p o : Option State) → is_some p ≡ true → is_some o ≡ true → is_some (if b then p else o) ≡ true

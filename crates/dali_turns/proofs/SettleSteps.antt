@@ -2,6 +2,7 @@
 use Rattle.std.proofs.Common.{◌≡◌, ℕ, ◌+◌, ◌<◌, ◌≤◌, ◌^◌, Bool, true, false, List, length, replicate, Option, Some, None, IfSome, IfErr, is_some, Result, Err, refl, ap, sym, subst, ◌∙◌, ◌⊎◌, inl, inr, arith}
 use Rattle.std.specs.Prelude.{nat_lt, if◌then◌else◌}
 use Rattle.std.proofs.lemmas.Bool.{ltb-true}
+use Rattle.std.proofs.lemmas.Option.{same_Some}
 use Rattle.dali_geometry.specs.Places.{regions}
 use Rattle.dali_record.specs.declared.records.Record.{Record}
 use Rattle.dali_record.specs.declared.records.Record.TheVariants.{AuditBegin}
@@ -46,7 +47,6 @@ use Rattle.dali_turns.proofs.AuditSteps.{behind_is, of_told, in_err}
 use Rattle.dali_turns.proofs.Auditing.{has_room}
 use Rattle.dali_turns.proofs.Guarding.{Always}
 use Rattle.dali_turns.proofs.Ending.{vault_runs}
-use Rattle.dali_turns.proofs.CopySteps.{same_line}
 use Rattle.dali_turns.proofs.Settling.{full_settle, full_silent, no_audit, certifies, flush_fails_settle, flush_fails_silent, table_fails_settle, table_fails_silent}
 
 module _ {V : Type 0} (told : V → Option Disk) (may_leave : V → Disk → Type 0) (faults : V → ℕ) (precheck : Bool) (k j : Client) (gs : List RegionState) (y : SystemState) (v : Vaulted V)
@@ -86,7 +86,7 @@ module _ {V : Type 0} (told : V → Option Disk) (may_leave : V → Disk → Typ
     settle_fails_goes (line, given, f) = by_fault said
       where
         g : Finishes k Outside (IsRefused IsCheckpoint StoreStopped) j
-        g = subst (λ l. Finishes k Outside l j) (same_line line (IsRefused IsCheckpoint StoreStopped) (sym given ∙ ap (λ (m : CheckpointError). line_in (Err m)) is)) f
+        g = subst (λ l. Finishes k Outside l j) (same_Some line (IsRefused IsCheckpoint StoreStopped) (sym given ∙ ap (λ (m : CheckpointError). line_in (Err m)) is)) f
 
         by_fault : FailsToWrite told may_leave faults y v (image_name (side_in c)) (place_of c.copied) (length c.table) u → StepGoes told may_leave faults precheck (Copying c next) k gs y v true j gs z u
         by_fault (inl h) s B p w a stood of fits = to_end true s B p w a fits.sound (flush_fails_settle told may_leave faults precheck s B p w a gs y v k j stood of c next fits (runs_here s B p w stood) u longer h
@@ -133,7 +133,7 @@ module _ {V : Type 0} (told : V → Option Disk) (may_leave : V → Disk → Typ
       where
         by_case : Case → StepGoes told may_leave faults precheck (Copying c next) k gs y v true j gs z u
         by_case (inl full) = λ s B p w a stood of fits.
-            let g : Finishes k Outside (IsRefused IsCheckpoint (IsFullLog y.end (y.limit + 1048576))) j = subst (λ l. Finishes k Outside l j) (same_line line (IsRefused IsCheckpoint (IsFullLog y.end (y.limit + 1048576))) (sym given ∙ ap (λ (n : SystemError). line_in (Err (checkpoint_error n))) full.0)) h in
+            let g : Finishes k Outside (IsRefused IsCheckpoint (IsFullLog y.end (y.limit + 1048576))) j = subst (λ l. Finishes k Outside l j) (same_Some line (IsRefused IsCheckpoint (IsFullLog y.end (y.limit + 1048576))) (sym given ∙ ap (λ (n : SystemError). line_in (Err (checkpoint_error n))) full.0)) h in
             to_rest true s B p w a fits.sound (full_settle told may_leave faults precheck s B p w a gs y v k j stood of c next fits (runs_here s B p w stood) u all said longer stop full.1
             (finished_client k j Outside _ g) (finished_lines k j Outside _ g) (finished_rest k j Outside _ g ∙ behind_is k fits.making.more CheckpointAct fits.making.makes) g.stands)
         by_case (inr none) = let never : None ≡ Some line = ap (λ (n : SystemError). line_in (Err (checkpoint_error n))) (sym none) ∙ given in absurd (cc)

@@ -8,7 +8,7 @@ use Rattle.dali_region.specs.declared.Side.{Side}
 use Rattle.dali_region.specs.State.{RegionState}
 use Rattle.dali_store.specs.Store.{Files as Disk}
 use Rattle.dali_system.specs.State.{SystemState, CoreState}
-use Rattle.dali_system.specs.Steps.{taken, store_stopped, stopped_by, in_checkpoint, audit_begun}
+use Rattle.dali_system.specs.Steps.{taken, store_stopped, in_checkpoint, audit_begun}
 use Rattle.dali_system.specs.Courses.{Takes, Flushes, Faults, Stops, AuditBegins}
 use Rattle.dali_crash.specs.Checkpoints.{Does, WritesHead, HeadFails, Finishes, Point, IsPointStep}
 use Rattle.dali_crash.specs.Traces.{Start}
@@ -56,12 +56,9 @@ use Rattle.dali_turns.proofs.Finishing.{Refusal, refusal_full, given_up, given_u
 use Rattle.dali_turns.proofs.Starting.{under_then}
 use Rattle.dali_turns.proofs.Copies.{store_failed, store_failed_silent, met_store}
 
--- rows are left, and the engine is stopped
+-- rows are left
 pub quiet_failed : (y : SystemState) → IsQuiet y → IsQuiet (in_checkpoint (store_stopped (taken y)) false)
-quiet_failed y quiet = record {
-  unclaimed = quiet.unclaimed;
-  settled = λ ran. let none : is_some (stopped_by y.stop) ≡ false = ap is_some ran in let some : is_some (stopped_by y.stop) ≡ true = has_stop y.stop in absurd (cc);
-}
+quiet_failed y quiet = record { unclaimed = quiet.unclaimed }
 
 module _ {V : Type 0} (told : V → Option Disk) (may_leave : V → Disk → Type 0) (faults : V → ℕ)
     (precheck : Bool) (s : Start) (B : List (List Record)) (p : Point) (w : World) (a : Standing) (gs : List RegionState) (y : SystemState) (v : Vaulted V) (k j : Client)
@@ -99,7 +96,7 @@ module _ {V : Type 0} (told : V → Option Disk) (may_leave : V → Disk → Typ
     pub did_settle : Did told may_leave faults precheck s B p w a.client state gs y v [] st.batches st.to gs (taken y) u
     did_settle = did_course told may_leave faults precheck s B p w gs y v stood a.client state (Does Takes ∷ Does Flushes ∷ WritesHead fits.head ∷ []) [] st.batches st.to gs (taken y) u st.course
         (st.course.0, [], [], st.course.1, refl, tt, (st.course.2.0, [], [], st.course.2.1, refl, tt, (st.course.2.2.0, [], [], st.course.2.2.1, refl, tt, (st.course.2.2.2, refl), refl), refl), refl)
-        st.is.at stood.stands.dead (places_stay (told v.store) (told u.store) gs longer stood.files) (record { unclaimed = stood.quiet.unclaimed; settled = stood.quiet.settled })
+        st.is.at stood.stands.dead (places_stay (told v.store) (told u.store) gs longer stood.files) (record { unclaimed = stood.quiet.unclaimed })
         (λ e. let no : true ≡ false = sym e ∙ ran in absurd (cc)) (λ t lives other. refl) (λ b other. refl) (λ flag other. absurd (other tt))
 
     pub under_mid : under_way mid.happened ≡ Some a.client
@@ -176,7 +173,7 @@ module _ {V : Type 0} (told : V → Option Disk) (may_leave : V → Disk → Typ
       client = is.client;
       lines = is.lines;
       stands = so_far told may_leave faults precheck s B st.batches p st.to w a state gs gs y (taken y) v u [] k j is did_settle;
-      others = others_on w mid a (behind a w []) did_settle.goes.grows y (taken y) (ap (λ (c : CoreState). c.system) stood.tells.core ∙ stood.stands.at.system) st.is.at.system refl refl (λ up. up) (λ t lives. (lives, λ n h. h)) is.others;
+      others = others_on w mid a (behind a w []) did_settle.goes.grows y (taken y) (ap (λ (c : CoreState). c.system) stood.tells.core ∙ stood.stands.at.system) st.is.at.system refl refl (λ up. up) (λ t lives. (lives, λ n. refl)) is.others;
     }
 
     goes_on_with : (ok : Bool) → Went told may_leave faults precheck s st.batches st.to mid (behind a w []) state gs (taken y) u ok j gs (in_checkpoint (taken y) false) u → Went told may_leave faults precheck s B p w a state gs y v ok j gs (in_checkpoint (taken y) false) u

@@ -1,9 +1,13 @@
 -- Steps by which a client ends a transaction, or takes back what dead clients left: the deeds that tell them, each right at its place.
-use Rattle.std.proofs.Common.{◌≡◌, ℕ, ◌+◌, Bool, true, false, not, ◌&&◌, List, [], ◌∷◌, ◌++◌, length, map, fold, Option, Some, None, is_some, refl, ap, sym, subst, ◌∙◌, ◌⊎◌, inl, inr, ⊎_elim, arith}
+use Rattle.std.proofs.Common.{◌≡◌, ℕ, ◌+◌, Bool, true, false, List, [], ◌∷◌, ◌++◌, length, map, fold, Option, Some, None, is_some, refl, ap, sym, subst, ◌∙◌, ◌⊎◌, inl, inr, ⊎_elim, arith}
 use Rattle.std.specs.Prelude.{◌==◌, slice_get, slice_set, if◌then◌else◌}
 use Rattle.std.specs.List.{AllByRecursion}
 use Rattle.std.proofs.lemmas.List.{append-nil, append_assoc, append_cancel_left, length-append}
 use Rattle.std.proofs.lemmas.List.Sums.{fold-append}
+use Rattle.std.proofs.lemmas.Bool.{ne_eqb}
+use Rattle.std.proofs.lemmas.Option.{none-some, same_Some}
+use Rattle.dali_lists.proofs.Members.{all_map}
+use Rattle.dali_lists.proofs.Tests.{not_both_ways}
 use Rattle.dali_counts.proofs.Lists.{equal, self}
 use Rattle.dali_record.specs.declared.operations.Block.{Block}
 use Rattle.dali_record.specs.declared.records.Record.{Record}
@@ -36,13 +40,14 @@ use Rattle.dali_transcripts.specs.Causes.{IsCleaning, HasClaimed, HasGivenBack, 
 use Rattle.dali_transcripts.specs.Transcripts.{count_with}
 use Rattle.dali_transcripts.specs.Laws.{receipts_from}
 use Rattle.dali_transcripts.specs.Rounds.{by}
-use Rattle.dali_transcripts.proofs.Lists.{all_map}
 use Rattle.dali_transcripts.proofs.Owned.{counts}
 use Rattle.dali_transcripts.proofs.Growing.{placed, cleaning, has_claimed, given_back as given_back_on}
+use Rattle.dali_clean.proofs.Cleaning.{holds_at}
 use Rattle.dali_deeds.specs.Deeds.{AreOf}
 use Rattle.dali_deeds.specs.Tells.{after, AreRightThen, Tells, Goes}
 use Rattle.dali_deeds.specs.Laws.{AreOfCourse}
 use Rattle.dali_deeds.proofs.Told.{log_is}
+use Rattle.dali_deeds.proofs.Courses.{after_after}
 use Rattle.dali_turns.proofs.Deeds.{step_tells, course_tells, goes_on}
 use Rattle.dali_turns.proofs.Refusals.{front, done_last, runs_on_log, runs_there}
 
@@ -133,29 +138,6 @@ pub record InHand (w : World) (p : Point) (c m t : ℕ) : Type 0 where
   pub holds : IsInHand w p c m t
 
 -- ---- small facts
-none_some : {A : Type 0} (x : A) → (let n : Option A = None in n ≡ Some x) → ⊥
-none_some x e = cc
-
-clash : {b : Bool} → b ≡ true → b ≡ false → ⊥
-clash e f = cc
-
-some_is : {A : Type 0} (x y : A) → (let o : Option A = Some x in o ≡ Some y) → x ≡ y
-some_is x y e = cc
-
-both_yes : (a b : Bool) → a ≡ true → b ≡ true → (a && b) ≡ true
-both_yes true true e f = refl
-both_yes true false e f = f
-both_yes false b e f = absurd (cc)
-
-apart_of : (u v : ℕ) → (u ≡ v → ⊥) → (u == v) ≡ false
-apart_of u v differs = by_test (u == v) refl
-  where
-    by_test : (b : Bool) → (u == v) ≡ b → (u == v) ≡ false
-    by_test true e = absurd (differs (equal u v e))
-    by_test false e = e
-
-not_of : (b : Bool) → b ≡ false → not b ≡ true
-not_of b e = ap not e
 
 -- a region changes
 free_set : (t : ℕ) (gs : List RegionState) (r : ℕ) (g h : RegionState) → slice_get gs r ≡ Some g → ((k : Hold) → h.hold ≡ Some k → k.txn ≡ t → k.dead ≡ true → ⊥)
@@ -163,7 +145,7 @@ free_set : (t : ℕ) (gs : List RegionState) (r : ℕ) (g h : RegionState) → s
 free_set t gs r g h at here there q k held own dead = by_test (r == q) refl
   where
     differ : (r == q) ≡ false → r ≡ q → ⊥
-    differ e same = clash (subst (λ (n : ℕ). (r == n) ≡ true) same (self r)) e
+    differ e same = not_both_ways (subst (λ (n : ℕ). (r == n) ≡ true) same (self r)) e
 
     by_test : (b : Bool) → (r == q) ≡ b → ⊥
     by_test true e =
@@ -173,23 +155,20 @@ free_set t gs r g h at here there q k held own dead = by_test (r == q) refl
 
 mapped_dead : (t : ℕ) (o : Option Hold) (f : Hold → Hold) → ((h : Hold) → (f h).txn ≡ h.txn) → ((h : Hold) → (f h).dead ≡ h.dead) → ((k : Hold) → o ≡ Some k → k.txn ≡ t → k.dead ≡ true → ⊥)
     → (k : Hold) → map_hold f o ≡ Some k → k.txn ≡ t → k.dead ≡ true → ⊥
-mapped_dead t None f txn gone was k e own dead = none_some k e
+mapped_dead t None f txn gone was k e own dead = none-some k e
 mapped_dead t (Some h) f txn gone was k e own dead =
-    let same : f h ≡ k = some_is (f h) k e in
+    let same : f h ≡ k = same_Some (f h) k e in
     was h refl (sym (txn h) ∙ (ap (λ (x : Hold). x.txn) same ∙ own)) (sym (gone h) ∙ (ap (λ (x : Hold). x.dead) same ∙ dead))
 
 change_free : (t : ℕ) (x : RegionStep) (g : RegionState) → is_own_change t x ≡ true → ((k : Hold) → g.hold ≡ Some k → k.txn ≡ t → k.dead ≡ true → ⊥)
     → (k : Hold) → (region_after x g).hold ≡ Some k → k.txn ≡ t → k.dead ≡ true → ⊥
 change_free t (Latch u) g e was k held own dead =
     let here : Hold = record { txn = u; dead = false; read = 0; xor = 0; write = 0 } in
-    clash dead (sym (ap (λ (x : Hold). x.dead) (some_is here k held)))
+    not_both_ways dead (sym (ap (λ (x : Hold). x.dead) (same_Some here k held)))
 change_free t (NoteReads mask) g e was k held own dead = mapped_dead t g.hold (reading mask g.words) (λ h. refl) (λ h. refl) was k held own dead
 change_free t (Update word value) g e was k held own dead = mapped_dead t g.hold (writing word) (λ h. refl) (λ h. refl) was k held own dead
-change_free t TakeBack g e was k held own dead = none_some k held
+change_free t TakeBack g e was k held own dead = none-some k held
 change_free t x g e was k held own dead = absurd (cc)
-
-hold_there : (gs : List RegionState) (r : ℕ) (g : RegionState) (k : Hold) → slice_get gs r ≡ Some g → g.hold ≡ Some k → hold_in (slice_get gs r) ≡ Some k
-hold_there gs r g k at e = ap hold_in at ∙ e
 
 same_free : (t : ℕ) (c d e : CoreState) → d ≡ e → e.regions ≡ c.regions → HasNoDead t c → HasNoDead t d
 same_free t c d e is regions was r h held = was r h (ap (λ (gs : List RegionState). hold_in (slice_get gs r)) (sym (ap (λ (k : CoreState). k.regions) is ∙ regions)) ∙ held)
@@ -402,7 +381,7 @@ module _ (bases : Bases) (before : List Record) (c : ℕ) where
       may = st2.1.0.2
 
       named : latched_in (state_of k1.core.system may.hold.txn) ≡ Some r
-      named = at1.whole.dead r may.hold (hold_there k1.core.regions r g may.hold st2.1.0.1 may.at) may.dead
+      named = at1.whole.dead r may.hold (holds_at k1.core.regions r g may.hold st2.1.0.1 may.at) may.dead
 
       regions1 : k1.core.regions ≡ p.core.regions
       regions1 = ap (λ (k : CoreState). k.regions) st1.1.0.2.1
@@ -416,7 +395,7 @@ module _ (bases : Bases) (before : List Record) (c : ℕ) where
           by_test false e =
               let same : state_of k1.core.system may.hold.txn ≡ state_of p.core.system may.hold.txn =
               state1 may.hold.txn ∙ ap (λ (b : Bool). if b then claimed (state_of p.core.system may.hold.txn) else state_of p.core.system may.hold.txn) e in
-              absurd (hand.free r may.hold (ap (λ (gs : List RegionState). hold_in (slice_get gs r)) (sym regions1) ∙ hold_there k1.core.regions r g may.hold st2.1.0.1 may.at)
+              absurd (hand.free r may.hold (ap (λ (gs : List RegionState). hold_in (slice_get gs r)) (sym regions1) ∙ holds_at k1.core.regions r g may.hold st2.1.0.1 may.at)
               (hand.others may.hold.txn (ap is_claimed_in (sym same ∙ may.claimed))) may.dead)
 
       latched_is : latched ≡ Some r
@@ -441,7 +420,7 @@ module _ (bases : Bases) (before : List Record) (c : ℕ) where
       at3 = at_next w2 k2 k3 (GivesBack u None) (GivesTxnBack u None ∷ []) at2 st3 refl right3
 
       not_own : (u == m) ≡ false
-      not_own = apart_of u m (λ same. clash (ap is_dead_in was) (subst (λ (n : ℕ). is_dead_in (state_of p.core.system n) ≡ false) (sym same) hand.lives))
+      not_own = ne_eqb u m (λ same. not_both_ways (ap is_dead_in was) (subst (λ (n : ℕ). is_dead_in (state_of p.core.system n) ≡ false) (sym same) hand.lives))
 
       goes2 : Goes w1 c k1 [] w2 k2
       goes2 = one_goes w1 k1 k2 (Recovers r) [] at1 st2 refl tt
@@ -483,7 +462,7 @@ module _ (bases : Bases) (before : List Record) (c : ℕ) where
 
       free3 : HasNoDead t k3.core
       free3 = same_free t k2.core k3.core _ st3.1.0.1.1 refl
-          (set_free t k1.core k2.core _ r g (taken_back g) st2.1.0.3.1 refl st2.1.0.1 (λ k held. absurd (none_some k held)) (same_free t p.core k1.core _ st1.1.0.2.1 refl hand.free))
+          (set_free t k1.core k2.core _ r g (taken_back g) st2.1.0.3.1 refl st2.1.0.1 (λ k held. absurd (none-some k held)) (same_free t p.core k1.core _ st1.1.0.2.1 refl hand.free))
 
       claimer3 : fold (claimer_step t) None w3.happened ≡ fold (claimer_step t) None w.happened
       claimer3 =
@@ -500,7 +479,7 @@ module _ (bases : Bases) (before : List Record) (c : ℕ) where
       }
         where
           by_test : (v : ℕ) (b : Bool) → (u == v) ≡ b → is_claimed_in (state_of k3.core.system v) ≡ true → v ≡ t
-          by_test v true e is = absurd (clash is (ap (λ (n : ℕ). is_claimed_in (state_of k3.core.system n)) (sym (equal u v e)) ∙ ap is_claimed_in own_state))
+          by_test v true e is = absurd (not_both_ways is (ap (λ (n : ℕ). is_claimed_in (state_of k3.core.system n)) (sym (equal u v e)) ∙ ap is_claimed_in own_state))
           by_test v false e is = hand.others v (ap is_claimed_in (sym (other_state v e)) ∙ is)
 
       log3 : k3.log ≡ p.log
@@ -516,7 +495,7 @@ module _ (bases : Bases) (before : List Record) (c : ℕ) where
     no_recovery : (w : World) (p k : Point) (r : ℕ) → InHand w p c m t → IsPointStep p (Does (Recovers r)) k → ⊥
     no_recovery w p k r hand step =
         let may = step.1.0.2 in
-        hand.free r may.hold (hold_there p.core.regions r step.1.0.0 may.hold step.1.0.1 may.at) (hand.others may.hold.txn (ap is_claimed_in may.claimed)) may.dead
+        hand.free r may.hold (holds_at p.core.regions r step.1.0.0 may.hold step.1.0.1 may.at) (hand.others may.hold.txn (ap is_claimed_in may.claimed)) may.dead
 
     change_told : (x : RegionStep) (w : World) (p : Point) (r : ℕ) → is_own_change t x ≡ true → AreOf w c p (Does (OnRegion r x)) []
     change_told (Latch u) w p r e = refl
@@ -531,7 +510,7 @@ module _ (bases : Bases) (before : List Record) (c : ℕ) where
     sided (OnRegion r x ∷ xs) w p q rest are at hand (k, step, course) log records =
         silent w p k q (OnRegion r x) xs at hand step (change_told x w p r are.0)
         (set_free t p.core k.core _ r step.1.0.0 (region_after x step.1.0.0) step.1.0.3.1 refl step.1.0.1
-        (change_free t x step.1.0.0 are.0 (λ h held. hand.free r h (hold_there p.core.regions r step.1.0.0 h step.1.0.1 held))) hand.free)
+        (change_free t x step.1.0.0 are.0 (λ h held. hand.free r h (holds_at p.core.regions r step.1.0.0 h step.1.0.1 held))) hand.free)
         (λ next now. sided xs (after w c [] k.core) k q rest are.1 next now course (log ∙ ap (λ l. l ++ rest) (sym step.1.0.3.0)) records)
     sided (Locks u key mode ∷ xs) w p q rest are at hand (k, step, course) log records =
         silent w p k q (Locks u key mode) xs at hand step (inl refl) (same_free t p.core k.core _ step.1.0.2.1 refl hand.free)
@@ -543,14 +522,14 @@ module _ (bases : Bases) (before : List Record) (c : ℕ) where
         let first = first_logged p k q xs (Back u b) rest step.1.0.2.0 course log in
         let more = subst (λ rs. AllByRecursion (IsSideRecord t) rs) first.1 records in
         logging w p k q (TakesBack u b) xs (Back u b) at hand step refl (λ n o. refl)
-        (set_free t p.core k.core _ b.region step.1.0.0 (touched step.1.0.0) step.1.0.2.1 refl step.1.0.1.at (λ h held. absurd (none_some h held)) hand.free)
+        (set_free t p.core k.core _ b.region step.1.0.0 (touched step.1.0.0) step.1.0.2.1 refl step.1.0.1.at (λ h held. absurd (none-some h held)) hand.free)
         (back_side w p k.core u b at hand are.0)
         (λ next now. sided xs (after w c (Logs (Back u b) ∷ []) k.core) k q first.0 are.1 next now course first.2 more.1)
     sided (Frees u b ∷ xs) w p q rest are at hand (k, step, course) log records =
         let first = first_logged p k q xs (Solo p.core.system.next u b) rest step.1.0.2.0 course log in
         let more = subst (λ rs. AllByRecursion (IsSideRecord t) rs) first.1 records in
         logging w p k q (Frees u b) xs (Solo p.core.system.next u b) at hand step refl (λ n o. refl)
-        (set_free t p.core k.core _ b.region step.1.0.0 (touched step.1.0.0) step.1.0.2.1 refl step.1.0.1.at (λ h held. absurd (none_some h held)) hand.free)
+        (set_free t p.core k.core _ b.region step.1.0.0 (touched step.1.0.0) step.1.0.2.1 refl step.1.0.1.at (λ h held. absurd (none-some h held)) hand.free)
         (solo_side w p k.core p.core.system.next u b hand are.0 step.1.0.1.by)
         (λ next now. sided xs (after w c (Logs (Solo p.core.system.next u b) ∷ []) k.core) k q first.0 are.1 next now course first.2 more.1)
     sided (Claims u ∷ Recovers r ∷ GivesBack v o ∷ xs) w p q rest are at hand (k1, st1, (k2, st2, (k3, st3, course))) log records =
@@ -561,12 +540,6 @@ module _ (bases : Bases) (before : List Record) (c : ℕ) where
     sided (x ∷ xs) w p q rest are at hand course log records = absurd are
 
 -- ---- one list behind another
-by_both : (c : ℕ) (ds es : List Deed) → by c (ds ++ es) ≡ by c ds ++ by c es
-by_both c [] es = refl
-by_both c (d ∷ ds) es = ap (λ l. (d, c) ∷ l) (by_both c ds es)
-
-pub after_both : (w : World) (c : ℕ) (ds es : List Deed) (d e : CoreState) → after (after w c ds d) c es e ≡ after w c (ds ++ es) e
-after_both w c ds es d e = ap (λ l. record w { happened = l; core = e }) (append_assoc w.happened (by c ds) (by c es) ∙ ap (λ l. w.happened ++ l) (sym (by_both c ds es)))
 
 pub course_split : (p q : Point) (xs ys : List Step) → IsPointCourse p (map Does (xs ++ ys)) q → (k : Point) × IsPointCourse p (map Does xs) k × IsPointCourse k (map Does ys) q
 course_split p q [] ys course = (p, refl, course)
@@ -586,7 +559,7 @@ courses_told w c p k q (x ∷ xs) ys ds es here (m, own, more, step, are, right,
   are,
   right,
   courses_told (after w c own m.core) c m k q xs ys more es refl rest
-      (subst (λ (v : World). AreOfCourse v c k ys q es) (sym (after_both w c own more m.core k.core)) (subst (λ l. AreOfCourse (after w c l k.core) c k ys q es) is second)),
+      (subst (λ (v : World). AreOfCourse v c k ys q es) (sym (after_after w c own more m.core k.core)) (subst (λ l. AreOfCourse (after w c l k.core) c k ys q es) is second)),
   ap (λ l. l ++ es) is ∙ append_assoc own more es,
 )
 

@@ -98,7 +98,6 @@ module _ (w : World) (c : ℕ) where
   asides_plain t (x ∷ xs) h = plain_one x xs (aside_plain t x h.0) (asides_plain t xs h.1)
 
   pub asking_plain : (t : ℕ) (call : Call) (x : Receipt) → IsAsking w c t call x → (b : Bool) → marked b x ≡ b
-  asking_plain t call (n, GetsLock u k m) h b = refl
   asking_plain t call (n, FindsDead f) h b = refl
   asking_plain t call x h b = aside_plain t x h b
 
@@ -108,6 +107,7 @@ module _ (w : World) (c : ℕ) where
 
   pub work_plain : (t : ℕ) (call : Call) (x : Receipt) → IsWork w c t call x → (b : Bool) → marked b x ≡ b
   work_plain t call (n, Logs y) h b = refl
+  work_plain t call (n, GetsLock u k m) h b = refl
   work_plain t call x h b = asking_plain t call x h b
 
   works_plain : (t : ℕ) (call : Call) (xs : List Receipt) → AreWork w c t call xs → Plain xs

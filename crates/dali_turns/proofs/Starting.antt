@@ -3,6 +3,7 @@ use Rattle.std.proofs.Common.{◌≡◌, ℕ, Bool, true, false, List, [], ◌�
 use Rattle.std.specs.Prelude.{◌||◌}
 use Rattle.std.proofs.lemmas.Bool.{ne_eqb}
 use Rattle.std.proofs.lemmas.List.Sums.{fold-append}
+use Rattle.dali_lists.proofs.Options.{none_of_test, some_of_test}
 use Rattle.dali_record.specs.declared.records.Record.{Record}
 use Rattle.dali_region.specs.State.{RegionState}
 use Rattle.dali_store.specs.Store.{Files as Disk}
@@ -45,14 +46,6 @@ use Rattle.dali_turns.proofs.Spans.{none_under_way}
 pub under_then : (w : World) (c : ℕ) (ds : List Deed) (d : CoreState) → under_way (after w c ds d).happened ≡ fold span_step (under_way w.happened) (by c ds)
 under_then w c ds d = fold-append span_step None w.happened (by c ds)
 
-no_some : {X : Type 0} (o : Option X) → is_some o ≡ false → o ≡ None
-no_some None e = refl
-no_some (Some x) e = absurd (cc)
-
-some_of : {X : Type 0} (o : Option X) → is_some o ≡ true → (x : X) × (o ≡ Some x)
-some_of (Some x) e = (x, refl)
-some_of None e = absurd (cc)
-
 module _ {V : Type 0} (told : V → Option Disk) (may_leave : V → Disk → Type 0) (faults : V → ℕ)
     (precheck : Bool) (s : Start) (B : List (List Record)) (p : Point) (w : World) (a : Standing) (gs : List RegionState) (y : SystemState) (v : Vaulted V) (k j : Client)
     (stood : Stood told may_leave faults s B p w precheck gs y v) (is : IsOf w a k)
@@ -65,7 +58,7 @@ module _ {V : Type 0} (told : V → Option Disk) (may_leave : V → Disk → Typ
 
   -- the flag is clear: nothing is kept
   pub idle : y.checking ≡ false → IsIdle told may_leave faults s B p gs y v
-  idle clear = record { at = stood.stands.at; flag = clear; begun = no_some p.begun (by_flag (is_some p.begun) refl) }
+  idle clear = record { at = stood.stands.at; flag = clear; begun = none_of_test p.begun (by_flag (is_some p.begun) refl) }
     where
       by_flag : (b : Bool) → is_some p.begun ≡ b → is_some p.begun ≡ false
       by_flag false e = e
@@ -114,7 +107,7 @@ module _ {V : Type 0} (told : V → Option Disk) (may_leave : V → Disk → Typ
       ),
       refl,
     )
-        st.is.at stood.stands.dead (places_stay (told v.store) (told u.store) gs files stood.files) (record { unclaimed = stood.quiet.unclaimed; settled = stood.quiet.settled })
+        st.is.at stood.stands.dead (places_stay (told v.store) (told u.store) gs files stood.files) (record { unclaimed = stood.quiet.unclaimed })
         (λ e. let no : true ≡ false = sym e ∙ runs in absurd (cc)) (λ t lives other. refl) (λ b other. refl) (λ set. let no : true ≡ false = sym set ∙ clear in absurd (cc))
 
     silent : fits.said ≡ false
@@ -163,7 +156,7 @@ module _ {V : Type 0} (told : V → Option Disk) (may_leave : V → Disk → Typ
   refusal_stop cause stop clear = record {
     no_fault = tt;
     cause = stop_now (bases_of s) s.log w a.client p stood.stands.at.vault.run stood.tells (vault_stops told may_leave faults precheck s B p w gs y v stood) CheckpointAct None cause tt (ap (λ (m : SystemState). m.stop) stood.stands.at.system ∙ stop);
-    alone = ap under_way (front w a.client (Meets (StoppedBy cause)) p.core) ∙ no_some (under_way w.happened) (sym flag_is ∙ clear);
+    alone = ap under_way (front w a.client (Meets (StoppedBy cause)) p.core) ∙ none_of_test (under_way w.happened) (sym flag_is ∙ clear);
     stops = λ e. ap is_some stop;
     cut = λ l. tt;
   }
@@ -183,7 +176,7 @@ module _ {V : Type 0} (told : V → Option Disk) (may_leave : V → Disk → Typ
   }
     where
       whose : (c : ℕ) × (under_way w.happened ≡ Some c)
-      whose = some_of (under_way w.happened) (sym flag_is ∙ set)
+      whose = some_of_test (under_way w.happened) (sym flag_is ∙ set)
 
   module _ (r : Reason) (h : Refusal r) where
     met_did : Did told may_leave faults precheck s B p w a.client Outside gs y v (Meets r ∷ []) B p gs y v

@@ -1,9 +1,9 @@
 -- A client that fits a world fits it behind a step of another one.
 use Rattle.std.proofs.Common.{ℕ, Option, refl}
 use Rattle.dali_store.specs.Store.{Files as Disk}
-use Rattle.dali_turns.specs.declared.client.State.TheVariants.{Outside, LeftOut, Within, Calling, TakingBack, Waiting, Auditing, Copying, Certifying, Gone}
+use Rattle.dali_turns.specs.declared.client.State.TheVariants.{Outside, LeftOut, Within, Calling, TakingBack, Committing, Waiting, Auditing, Copying, Certifying, Gone}
 use Rattle.dali_turns.specs.Others.{OthersFit}
-use Rattle.dali_turns.proofs.Resting.{outside_waits, left_out_waits, waiting_waits, within_waits, calling_waits, taking_back_waits}
+use Rattle.dali_turns.proofs.Resting.{outside_waits, left_out_waits, waiting_waits, within_waits, calling_waits, taking_back_waits, committing_waits}
 use Rattle.dali_turns.proofs.Apart.{auditing_waits, copying_waits, certifying_waits}
 
 module _ {V : Type 0} (told : V → Option Disk) (may_leave : V → Disk → Type 0) (faults : V → ℕ) where
@@ -18,6 +18,8 @@ module _ {V : Type 0} (told : V → Option Disk) (may_leave : V → Disk → Typ
       calling_waits told may_leave faults s B C p q w x gs hs y z v u precheck a b ds yours stood late goes leaves rest t plan (λ owns. apart t.txn refl owns) fits
   others_fit (TakingBack t plan why) yours s B C p q w x gs hs y z v u precheck a b rest ds stood late stands theirs fits their_fits other apart goes leaves =
       taking_back_waits told may_leave faults s B C p q w x gs hs y z v u precheck a b ds yours stood late goes leaves rest t plan why (λ owns. apart t.txn refl owns) fits
+  others_fit (Committing t number removals next) yours s B C p q w x gs hs y z v u precheck a b rest ds stood late stands theirs fits their_fits other apart goes leaves =
+      committing_waits told may_leave faults s B C p q w x gs hs y z v u precheck a b ds yours stood late goes leaves rest t number removals.items next (λ owns. apart t.txn refl owns) fits
   others_fit (Waiting tries holder) yours s B C p q w x gs hs y z v u precheck a b rest ds stood late stands theirs fits their_fits other apart goes leaves =
       waiting_waits told may_leave faults s B C p q w x gs hs y z v u precheck a b ds yours stood late goes leaves rest tries holder fits
   others_fit (Auditing audit next) yours s B C p q w x gs hs y z v u precheck a b rest ds stood late stands theirs fits their_fits other apart goes leaves =

@@ -7,14 +7,13 @@ use Rattle.std.proofs.lemmas.Bool.{lt-ltb}
 use Rattle.dali_record.specs.declared.records.Call.{Call as Called}
 use Rattle.dali_region.specs.State.{RegionState}
 use Rattle.dali_store.specs.Store.{Files as Disk}
-use Rattle.dali_att.specs.declared.state.State.TheVariants.{Live}
 use Rattle.dali_system.specs.State.{SystemState, state_of}
 use Rattle.dali_vault.specs.Vaulted.{Vaulted}
 use Rattle.dali_clients.specs.declared.command.Command.{Command}
 use Rattle.dali_clients.specs.declared.command.Command.TheVariants.{Begin, Call, Die, Commit, Abort, Poke, Audit, Checkpoint}
 use Rattle.dali_clients.specs.Said.{Transcribed}
 use Rattle.dali_clients.specs.Told.{act_of, said_of}
-use Rattle.dali_transcripts.specs.Words.{Act, Begins, Calls, Arms}
+use Rattle.dali_transcripts.specs.Words.{Act, Begins, Arms}
 use Rattle.dali_transcripts.specs.World.{World}
 use Rattle.dali_transcripts.specs.Moves.{Receipt, Outside as IsOutside, Within as IsWithin, Move, IsArmed, at}
 use Rattle.dali_transcripts.specs.Causes.{spares}
@@ -34,6 +33,8 @@ use Rattle.dali_bytes.specs.declared.error.OutOfMemory.{OutOfMemory}
 use Rattle.dali_turns.proofs.Commands.{next_act, behind_next}
 use Rattle.dali_turns.proofs.Leaving.{rests_goes, skips_goes}
 use Rattle.dali_turns.proofs.Doing.{behind, ended, did_nothing, went_on, went_by}
+use Rattle.dali_turns.proofs.Calling.{none_so_far}
+use Rattle.dali_rounds.specs.Went.{is_open}
 
 -- another client, but for its state
 pub record TellsSame (k j : Client) : Type 0 where
@@ -45,10 +46,6 @@ next_begin : (cs : List Command) (more : List Act) → map act_of cs ≡ Begins 
 next_begin [] more e = absurd (cc)
 next_begin (Begin ∷ cs) more e = refl
 next_begin (c ∷ cs) more e = absurd (cc)
-
-so_far_none : (w : World) (c t : ℕ) (rest : List Act) → AreSoFar w c t rest []
-so_far_none w c t (Calls call ∷ rest) = tt
-so_far_none w c t rest = refl
 
 spared_first : (n : ℕ) → 1 ≤ n → spares (Some n) 0 ≡ true
 spared_first n h = lt-ltb 0 n (omega (arith, h))
@@ -69,7 +66,7 @@ not_within Abort rest h a b c d = d refl
 not_within command rest h a b c d = absurd h
 
 module _ {V : Type 0} (told : V → Option Disk) (may_leave : V → Disk → Type 0) (faults : V → ℕ) where
-  is_told : (w : World) (a : Standing) (k j : Client) → TellsSame k j → IsOf w a k → IsOf w a j
+  pub is_told : (w : World) (a : Standing) (k j : Client) → TellsSame k j → IsOf w a k → IsOf w a j
   is_told w a k j same is = record { client = is.client ∙ sym same.client; lines = is.lines ∙ ap (map said_of) (sym same.lines); stands = is.stands; others = is.others }
 
   pub stepped : (precheck ok : Bool) (gs hs : List RegionState) (y z : SystemState) (v u : Vaulted V) (k j n : Client) (state : State) → k.state ≡ state → TellsSame k j → StepGoes told may_leave faults precheck state j gs y v ok n hs z u
@@ -128,14 +125,14 @@ module _ {V : Type 0} (told : V → Option Disk) (may_leave : V → Disk → Typ
           said = fits.said;
           may = fits.may;
           spot = ap (at (IsWithin x.txn x.tries (map act_of x.commands.now) (Some count) fits.said)) (sym rest_is);
-          so_far = so_far_none (after w a.client [] p.core) a.client x.txn (rest_of j);
+          so_far = none_so_far (after w a.client [] p.core) a.client x.txn (rest_of j);
           undone = λ us. refl;
           placed = subst (IsPlaced true) (sym rest_is) placed.1;
           again = record { more = fits.again.more; begins = fits.again.begins; placed = fits.again.placed; few = fits.again.few };
           due = spared_first count placed.0;
           lives = fits.lives;
           free = fits.free;
-          locks = still_got p p w (after w a.client [] p.core) (did_nothing told may_leave faults precheck s B p w gs y v stood a.client (Within x)).goes.grows a.client x.txn (λ n h. h) fits.locks;
+          locks = still_got p p w (after w a.client [] p.core) (did_nothing told may_leave faults precheck s B p w gs y v stood a.client (Within x)).goes.grows a.client x.txn (λ n. refl) fits.locks;
           may_call = fits.may_call;
         }))
         owned
@@ -161,6 +158,6 @@ module _ {V : Type 0} (told : V → Option Disk) (may_leave : V → Disk → Typ
         owned : RowsTell (Within x) y j.state y
         owned up t lives = by_number (x.txn == t) refl
           where
-            by_number : (b : Bool) → (x.txn == t) ≡ b → Owns j.state t ⊎ ((state_of y t ≡ Some Live) × (Owns (Within x) t → ⊥))
+            by_number : (b : Bool) → (x.txn == t) ≡ b → Owns j.state t ⊎ ((is_open (state_of y t) ≡ true) × (Owns (Within x) t → ⊥))
             by_number true e = inl (subst (λ (st : State). Owns st t) (sym (f.stands ∙ ap Within is_z)) (equal x.txn t e))
             by_number false e = inr (lives, λ same. let no_way : true ≡ false = sym (same_number x.txn t same) ∙ e in absurd (cc))

@@ -1,7 +1,8 @@
 -- A refused call of a client has gone all its way back, or is stopped on it.
-use Rattle.std.proofs.Common.{◌≡◌, ℕ, ◌+◌, Bool, true, false, List, [], ◌∷◌, ◌++◌, length, map, Option, Some, None, is_some, if◌then◌else◌, refl, ap, sym, subst, ◌∙◌, ◌⊎◌, inl, inr}
+use Rattle.std.proofs.Common.{◌≡◌, ℕ, Bool, true, false, List, [], ◌∷◌, ◌++◌, length, map, Option, Some, None, is_some, if◌then◌else◌, refl, ap, sym, subst, ◌∙◌, ◌⊎◌, inl, inr}
 use Rattle.std.specs.Prelude.{◌==◌, filter}
 use Rattle.std.proofs.lemmas.List.{append-nil, map-append}
+use Rattle.dali_lists.proofs.Members.{all_append, all_map}
 use Rattle.dali_counts.proofs.Lists.{equal, same_number}
 use Rattle.dali_record.specs.declared.operations.Pending.{Pending}
 use Rattle.dali_record.specs.declared.records.Call.{Call}
@@ -23,9 +24,9 @@ use Rattle.dali_stepwise.proofs.Turning.{turned_ends}
 use Rattle.dali_transcripts.specs.Words.{Act, Calls, StoppedBy, is_stop}
 use Rattle.dali_transcripts.specs.World.{Logs, GetsLock, FindsDead, Meets, World, log_of}
 use Rattle.dali_transcripts.specs.Moves.{Receipt, Within as IsWithin, at, Move, IsRefusedCall, is_operation, operations, left}
-use Rattle.dali_transcripts.specs.Causes.{IsAside, AreAside, IsTried, AreTried, StaysRefused, HasCause, AreUnfinished, spares, undos_behind}
+use Rattle.dali_transcripts.specs.Causes.{IsAside, AreAside, IsTried, AreTried, StaysRefused, WasGranted, HasCause, AreUnfinished, spares, undos_behind}
 use Rattle.dali_transcripts.specs.Rounds.{Standing, IsPlaced}
-use Rattle.dali_transcripts.proofs.Lists.{all_append, all_map}
+use Rattle.dali_transcripts.proofs.Grants.{granted_asks, granted_more}
 use Rattle.dali_transcripts.proofs.Growing.{all_tried, asides, met, survives, turned_back}
 use Rattle.dali_deeds.specs.Tells.{after}
 use Rattle.dali_clients.specs.declared.command.Command.TheVariants.{Call as IsCall}
@@ -49,6 +50,7 @@ use Rattle.dali_turns.proofs.Calling.{behind_one, none_so_far, due_left}
 use Rattle.dali_turns.proofs.Reasons.{command_is}
 use Rattle.dali_turns.proofs.Refusing.{stays_back}
 use Rattle.dali_turns.proofs.Cutting.{more_none, turned_cut}
+use Rattle.dali_rounds.specs.Went.{is_open}
 
 -- ---- what was taken back, or cleaned up
 pub aside_tried : (w : World) (c t : ℕ) (call : Call) (x : Receipt) → IsAside w c t x → IsTried w c t call x
@@ -90,7 +92,7 @@ module _ {V : Type 0} (told : V → Option Disk) (may_leave : V → Disk → Typ
   rows : (new : State) → new ≡ Within x → RowsTell (TakingBack x plan why) y new y
   rows new at_within runs t alive = by_test (x.txn == t) refl
     where
-      by_test : (b : Bool) → (x.txn == t) ≡ b → Owns new t ⊎ ((state_of y t ≡ Some Live) × (Owns (TakingBack x plan why) t → ⊥))
+      by_test : (b : Bool) → (x.txn == t) ≡ b → Owns new t ⊎ ((is_open (state_of y t) ≡ true) × (Owns (TakingBack x plan why) t → ⊥))
       by_test true e = inl (subst (λ (n : State). Owns n t) (sym at_within) (equal x.txn t e))
       by_test false e = inr (alive, λ same. let one : (x.txn == t) ≡ true = same_number x.txn t same in let no : true ≡ false = sym one ∙ e in absurd (cc))
 
@@ -131,6 +133,7 @@ module _ {V : Type 0} (told : V → Option Disk) (may_leave : V → Disk → Typ
       asides w still did_none.goes.grows a.client x.txn fits.back fits.aside,
       λ e. undone,
       fits.stays,
+      (granted_asks fits.work fits.granted, λ e. fits.granted),
     )
 
     fits_behind : (rest : List Act) → rest ≡ fits.more → FitsWithin p still (ended a move) rest x
@@ -146,7 +149,7 @@ module _ {V : Type 0} (told : V → Option Disk) (may_leave : V → Disk → Typ
       due = ap (λ d. spares d 0) fits.nearer ∙ due_left fits.deadly (operations x.txn fits.work) fits.spared;
       lives = lives;
       free = may.free;
-      locks = still_got p p w still did_none.goes.grows a.client x.txn (λ n h. h) fits.locks;
+      locks = still_got p p w still did_none.goes.grows a.client x.txn (λ n. refl) fits.locks;
       may_call = λ e. may;
     }
 
@@ -183,6 +186,7 @@ module _ {V : Type 0} (told : V → Option Disk) (may_leave : V → Disk → Typ
       tt,
       λ e. absurd (cc),
       subst StaysRefused (sym fits.pending) (stays_back w a.client x.txn fits.met (reason_of why) fits.work fits.back fits.stays fits.aside),
+      (granted_asks a.pending (subst WasGranted (sym fits.pending) (granted_more fits.work ((fits.met, Meets (reason_of why)) ∷ fits.back) fits.granted)), λ e. absurd (cc)),
     )
 
     stopped_behind : (rest : List Act) → rest ≡ fits.more → FitsWithin p now (ended a stop_move) rest x
@@ -198,7 +202,7 @@ module _ {V : Type 0} (told : V → Option Disk) (may_leave : V → Disk → Typ
       due = ap (λ d. spares d 0) fits.nearer ∙ due_left fits.deadly (operations x.txn fits.work) fits.spared;
       lives = lives;
       free = subst (IsFree p.core) fits.plan_is.txn fits.plan_is.stands.free;
-      locks = still_got p p w now did_stop.goes.grows a.client x.txn (λ n h. h) fits.locks;
+      locks = still_got p p w now did_stop.goes.grows a.client x.txn (λ n. refl) fits.locks;
       may_call = λ e. let some : Some stop ≡ None = sym stopped ∙ (ap (λ (m : SystemState). m.stop) (sym stood.stands.at.system) ∙ e) in absurd (cc);
     }
 

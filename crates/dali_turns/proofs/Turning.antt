@@ -17,14 +17,18 @@ use Rattle.dali_transcripts.specs.Laws.{receipts_from}
 use Rattle.dali_transcripts.proofs.Owned.{own_goes_on}
 use Rattle.dali_clients.specs.Said.{Transcribed, logged}
 use Rattle.dali_clients.specs.Told.{said_of, act_of}
+use Rattle.dali_deeds.specs.Tells.{Goes}
 use Rattle.dali_turns.specs.declared.client.Client.{Client}
 use Rattle.dali_turns.specs.declared.client.State.{State}
 use Rattle.dali_turns.specs.Stood.{Stood}
 use Rattle.dali_turns.specs.Fits.{rest_of, IsOf, Speaks, Fits}
 use Rattle.dali_turns.specs.Goes.{Came, RowsTell, Went, StepGoes}
-use Rattle.dali_turns.specs.Turns.{own_numbers, AreReceipts, TurnGoes}
+use Rattle.dali_turns.specs.Turns.{own_numbers, AreReceipts, Turned, TurnGoes, Halted, HaltGoes}
 use Rattle.dali_turns.proofs.Refusals.{records_are}
-use Rattle.dali_turns.proofs.Cutting.{fits_under_way}
+use Rattle.dali_checkpoint.proofs.Calls.{course_join}
+use Rattle.dali_turns.proofs.Beside.{course_longer}
+use Rattle.dali_turns.proofs.Deeds.{goes_on}
+use Rattle.dali_turns.proofs.Doing.{others_then, still_ran}
 
 -- ---- the client's own deeds
 one_counts : (m : ℕ) (xs : List Happening) (x : Deed) (c : ℕ) → m + length (logged_by (xs ++ (x, c) ∷ [])) ≡ count_with (m + length (logged_by xs)) x
@@ -103,7 +107,7 @@ pub record LooksSame (k j : Client) : Type 0 where
   pub lines : j.transcript.lines ≡ k.transcript.lines
 
 module _ {V : Type 0} (told : V → Option Disk) (may_leave : V → Disk → Type 0) (faults : V → ℕ) where
-  is_same : (w : World) (a : Standing) (k j : Client) → LooksSame k j → IsOf w a k → IsOf w a j
+  pub is_same : (w : World) (a : Standing) (k j : Client) → LooksSame k j → IsOf w a k → IsOf w a j
   is_same w a k j same is = record { client = is.client ∙ sym same.client; lines = is.lines ∙ ap (map said_of) (sym same.lines); stands = is.stands; others = is.others }
 
   speaks_same : (w : World) (a : Standing) (k j : Client) → LooksSame k j → Speaks w a k → Speaks w a j
@@ -120,14 +124,6 @@ module _ {V : Type 0} (told : V → Option Disk) (may_leave : V → Disk → Typ
   came_same true s B p w gs y v a k j same came = fits_same s B p w gs y v a k j same came
   came_same false s B p w gs y v a k j same came = came
 
-  -- the step is cut short behind its end, for want of memory for a receipt
-  came_cut : (ok cut : Bool) (s : Start) (B : List (List Record)) (p : Point) (w : World) (gs : List RegionState) (y : SystemState) (v : Vaulted V) (a : Standing) (k : Client) → (cut ≡ true → ok ≡ true)
-      → Came told may_leave faults ok s B p w gs y v a k → Came told may_leave faults cut s B p w gs y v a k
-  came_cut true true s B p w gs y v a k less came = came
-  came_cut true false s B p w gs y v a k less came = fits_under_way told may_leave faults s B p w gs y v a (rest_of k) k.state came
-  came_cut false true s B p w gs y v a k less came = let no_way : false ≡ true = less refl in absurd (cc)
-  came_cut false false s B p w gs y v a k less came = came
-
   -- the log grows
   records_grow : (precheck : Bool) (k before behind : Client) (gs hs : List RegionState) (y z : SystemState) (v u : Vaulted V) (ok : Bool) → LooksSame k before → StepGoes told may_leave faults precheck before.state before gs y v ok behind hs z u
       → (s : Start) (B : List (List Record)) (p : Point) (w : World) (a : Standing) → Stood told may_leave faults s B p w precheck gs y v → IsOf w a k → Fits told may_leave faults s B p w gs y v a (rest_of k) k.state → y.records ≤ z.records
@@ -143,16 +139,16 @@ module _ {V : Type 0} (told : V → Option Disk) (may_leave : V → Disk → Typ
   never_shrinks precheck k before behind j gs hs y z v u ok cut same goes less s B p w a stood is fits handed =
       let grows : y.records ≤ z.records = records_grow precheck k before behind gs hs y z v u ok same goes s B p w a stood is fits in absurd (omega (arith, grows, less))
 
-  module _ (precheck : Bool) (k before behind j : Client) (gs hs : List RegionState) (y z : SystemState) (v u : Vaulted V) (ok cut : Bool)
-      (same : LooksSame k before) (goes : StepGoes told may_leave faults precheck before.state before gs y v ok behind hs z u) (also : LooksSame behind j) (less : cut ≡ true → ok ≡ true)
-      (upto : ℕ) (notes : NotesTo k j y.records upto z.records) (all : cut ≡ true → upto ≡ z.records) where
+  module _ (precheck : Bool) (k before behind j : Client) (gs hs : List RegionState) (y z : SystemState) (v u : Vaulted V) (ok : Bool)
+      (same : LooksSame k before) (goes : StepGoes told may_leave faults precheck before.state before gs y v ok behind hs z u) (also : LooksSame behind j)
+      (upto : ℕ) (notes : NotesTo k j y.records upto z.records) where
     module _ (s : Start) (B : List (List Record)) (p : Point) (w : World) (a : Standing) (stood : Stood told may_leave faults s B p w precheck gs y v) (is : IsOf w a k)
         (fits : Fits told may_leave faults s B p w gs y v a (rest_of k) k.state) (handed : AreReceipts true w k) where
       abbrev went : Went told may_leave faults precheck s B p w a k.state gs y v ok behind hs z u
       went = subst (λ (st : State). Went told may_leave faults precheck s B p w a st gs y v ok behind hs z u) same.state (goes s B p w a stood (is_same w a k before same is) (fits_same s B p w gs y v a k before same fits))
 
-      abbrev cut_short : Went told may_leave faults precheck s B p w a k.state gs y v cut j hs z u
-      cut_short = record {
+      abbrev noted : Went told may_leave faults precheck s B p w a k.state gs y v ok j hs z u
+      noted = record {
         to = went.to;
         batches = went.batches;
         steps = went.steps;
@@ -165,8 +161,8 @@ module _ {V : Type 0} (told : V → Option Disk) (may_leave : V → Disk → Typ
         client = went.client;
         acts = went.acts;
         is = speaks_same went.world went.standing behind j also went.is;
-        came = came_same cut s went.batches went.to went.world hs z u went.standing behind j also (came_cut ok cut s went.batches went.to went.world hs z u went.standing behind less went.came);
-        rows = λ e. subst (λ (st : State). RowsTell k.state y st z) (sym also.state) (went.rows (less e));
+        came = came_same ok s went.batches went.to went.world hs z u went.standing behind j also went.came;
+        rows = λ e. subst (λ (st : State). RowsTell k.state y st z) (sym also.state) (went.rows e);
         others = went.others;
       }
 
@@ -183,7 +179,7 @@ module _ {V : Type 0} (told : V → Option Disk) (may_leave : V → Disk → Typ
       longer = log_grown w went.world a.client went.deeds went.goes.grows went.goes.more
 
       client_is : j.transcript.client ≡ a.client
-      client_is = sym cut_short.is.client ∙ went.client
+      client_is = sym noted.is.client ∙ went.client
 
       -- all that it has logged now
       numbers : own_numbers went.world j ≡ k.transcript.receipts ++ range_with_len y.records (z.records - y.records)
@@ -195,9 +191,8 @@ module _ {V : Type 0} (told : V → Option Disk) (may_leave : V → Disk → Typ
           ∙ ap (λ l. k.transcript.receipts ++ l) (numbers_from (length (log_of w)) a.client went.deeds
           ∙ (ap (λ n. range_with_len n many) (sym first_is) ∙ ap (range_with_len y.records) (let e : many ≡ z.records - y.records = omega (arith, first_is, behind_is, longer) in e))))))
 
-      by_cut : (c : Bool) → (c ≡ true → upto ≡ z.records) → AreReceipts c went.world j
-      by_cut true e = notes.receipts ∙ (ap (λ n. k.transcript.receipts ++ range_with_len y.records (n - y.records)) (e refl) ∙ sym numbers)
-      by_cut false e = (
+      some_numbers : AreReceipts false went.world j
+      some_numbers = (
         range_with_len upto (z.records - upto),
         numbers
             ∙ (ap (λ l. k.transcript.receipts ++ l)
@@ -207,27 +202,86 @@ module _ {V : Type 0} (told : V → Option Disk) (may_leave : V → Disk → Typ
             ∙ (sym (append_assoc k.transcript.receipts (range_with_len y.records (upto - y.records)) (range_with_len upto (z.records - upto))) ∙ ap (λ l. l ++ range_with_len upto (z.records - upto)) (sym notes.receipts))),
       )
 
-    pub turn_goes : TurnGoes told may_leave faults precheck k gs y v cut j hs z u
-    turn_goes s B p w a stood is fits handed = record { went = cut_short s B p w a stood is fits handed; receipts = by_cut s B p w a stood is fits handed cut all }
+      by_ok : (c : Bool) → (c ≡ true → upto ≡ z.records) → AreReceipts c went.world j
+      by_ok true e = notes.receipts ∙ (ap (λ n. k.transcript.receipts ++ range_with_len y.records (n - y.records)) (e refl) ∙ sym numbers)
+      by_ok false e = some_numbers
+
+    pub turn_goes : (ok ≡ true → upto ≡ z.records) → TurnGoes told may_leave faults precheck k gs y v ok j hs z u
+    turn_goes all s B p w a stood is fits handed = record { went = noted s B p w a stood is fits handed; receipts = by_ok s B p w a stood is fits handed ok all }
+
+    -- the step was made, and memory for a receipt is refused: the client is halted
+    module _ (done : ok ≡ true) (is : List RegionState) (x : SystemState) (t : Vaulted V) (halts : HaltGoes told may_leave faults j hs z u is x t)
+        (s : Start) (B : List (List Record)) (p : Point) (w : World) (a : Standing) (stood : Stood told may_leave faults s B p w precheck gs y v) (of : IsOf w a k)
+        (fits : Fits told may_leave faults s B p w gs y v a (rest_of k) k.state) (handed : AreReceipts true w k) where
+      abbrev one : Went told may_leave faults precheck s B p w a k.state gs y v ok j hs z u
+      one = noted s B p w a stood of fits handed
+
+      abbrev two : Halted told may_leave faults precheck k.state s one.batches one.to one.world one.standing j hs z u is x t
+      two = halts precheck k.state s one.batches one.to one.world one.standing one.stood one.is (subst (λ (b : Bool). Came told may_leave faults b s one.batches one.to one.world hs z u one.standing j) done one.came)
+
+      some : AreReceipts false one.world j
+      some = some_numbers s B p w a stood of fits handed
+
+      halted_there : Turned told may_leave faults precheck s B p w a k gs y v false j is x t
+      halted_there = record {
+        went = record {
+          to = two.went.to;
+          batches = two.went.batches;
+          steps = one.steps ++ two.went.steps;
+          course = course_join p one.to two.went.to one.steps two.went.steps one.course two.went.course;
+          deeds = one.deeds ++ two.went.deeds;
+          world = two.went.world;
+          goes = goes_on w one.world two.went.world a.client p one.to two.went.to one.deeds two.went.deeds one.goes (subst (λ c. Goes one.world c one.to two.went.deeds two.went.world two.went.to) one.client two.went.goes);
+          stood = two.went.stood;
+          standing = two.went.standing;
+          client = two.went.client ∙ one.client;
+          acts = two.went.acts ∙ one.acts;
+          is = two.went.is;
+          came = two.went.came;
+          rows = λ e. absurd (cc);
+          others = others_then told may_leave faults k.state s B one.batches two.went.batches p one.to two.went.to gs hs is y z x v u t stood.stands.at.system one.stood.stands.at.system (course_longer p one.to one.steps one.course)
+              (still_ran told may_leave faults precheck s one.batches one.to one.world one.standing k.state hs is z x u t false j one.stood two.went) one.others two.went.others;
+        };
+        receipts = (some.0, two.numbers ∙ some.1);
+      }
+
+    pub halted_goes : ok ≡ true → (is : List RegionState) (x : SystemState) (t : Vaulted V) → HaltGoes told may_leave faults j hs z u is x t → TurnGoes told may_leave faults precheck k gs y v false j is x t
+    halted_goes done is x t halts s B p w a stood of fits handed = halted_there done is x t halts s B p w a stood of fits handed
 
   -- ---- as the code does it: the receipts stand apart during the step
   pub looks_put : (k : Client) (t : Transcribed) (rs : List ℕ) → t ≡ record k.transcript { receipts = rs } → LooksSame k (record k { transcript = t })
   looks_put k t rs e = record { state = refl; rest = refl; client = ap (λ (x : Transcribed). x.client) e; lines = ap (λ (x : Transcribed). x.lines) e }
 
+  also_same : (behind : Client) (t2 t3 : Transcribed) (rs : List ℕ) (first upto : ℕ) → t2 ≡ record behind.transcript { receipts = rs } → t3 ≡ logged t2 first upto → LooksSame behind (record behind { transcript = t3 })
+  also_same behind t2 t3 rs first upto back noted =
+      record { state = refl; rest = refl; client = ap (λ (x : Transcribed). x.client) noted ∙ ap (λ (x : Transcribed). x.client) back; lines = ap (λ (x : Transcribed). x.lines) noted ∙ ap (λ (x : Transcribed). x.lines) back }
+
+  notes_to : (k behind : Client) (t2 t3 : Transcribed) (rs : List ℕ) (y z : SystemState) (first last upto : ℕ) → rs ≡ k.transcript.receipts → t2 ≡ record behind.transcript { receipts = rs } → first ≡ y.records → last ≡ z.records → t3 ≡ logged t2 first upto
+      → first ≤ upto → upto ≤ last → NotesTo k (record behind { transcript = t3 }) y.records upto z.records
+  notes_to k behind t2 t3 rs y z first last upto taken back is_first is_last noted from to = record {
+    from = omega (arith, from, is_first);
+    to = omega (arith, to, is_last);
+    receipts =
+        ap (λ (x : Transcribed). x.receipts) noted
+        ∙ (ap (λ l. l ++ range_with_len first (upto - first)) (ap (λ (x : Transcribed). x.receipts) back ∙ taken) ∙ ap (λ n. k.transcript.receipts ++ range_with_len n (upto - n)) is_first);
+  }
+
   pub turned : (precheck : Bool) (k behind : Client) (t1 t2 t3 : Transcribed) (none rs : List ℕ) (gs hs : List RegionState) (y z : SystemState) (v u : Vaulted V) (ok cut : Bool) (first last upto : ℕ)
       → t1 ≡ record k.transcript { receipts = none } → rs ≡ k.transcript.receipts
       → StepGoes told may_leave faults precheck k.state (record k { transcript = t1 }) gs y v ok behind hs z u
-      → t2 ≡ record behind.transcript { receipts = rs } → first ≡ y.records → last ≡ z.records → t3 ≡ logged t2 first upto → first ≤ upto → upto ≤ last → (cut ≡ true → ok ≡ true) → (cut ≡ true → upto ≡ last)
+      → t2 ≡ record behind.transcript { receipts = rs } → first ≡ y.records → last ≡ z.records → t3 ≡ logged t2 first upto → first ≤ upto → upto ≤ last → cut ≡ ok → (ok ≡ true → upto ≡ last)
       → TurnGoes told may_leave faults precheck k gs y v cut (record behind { transcript = t3 }) hs z u
-  turned precheck k behind t1 t2 t3 none rs gs hs y z v u ok cut first last upto put taken goes back is_first is_last noted from to less all =
-      turn_goes precheck k (record k { transcript = t1 }) behind (record behind { transcript = t3 }) gs hs y z v u ok cut (looks_put k t1 none put) goes
-      (record { state = refl; rest = refl; client = ap (λ (x : Transcribed). x.client) noted ∙ ap (λ (x : Transcribed). x.client) back; lines = ap (λ (x : Transcribed). x.lines) noted ∙ ap (λ (x : Transcribed). x.lines) back })
-      less upto
-      (record {
-        from = omega (arith, from, is_first);
-        to = omega (arith, to, is_last);
-        receipts =
-            ap (λ (x : Transcribed). x.receipts) noted
-            ∙ (ap (λ l. l ++ range_with_len first (upto - first)) (ap (λ (x : Transcribed). x.receipts) back ∙ taken) ∙ ap (λ n. k.transcript.receipts ++ range_with_len n (upto - n)) is_first);
-      })
-      (λ e. all e ∙ is_last)
+  turned precheck k behind t1 t2 t3 none rs gs hs y z v u ok cut first last upto put taken goes back is_first is_last noted from to same_ok all =
+      subst (λ (b : Bool). TurnGoes told may_leave faults precheck k gs y v b (record behind { transcript = t3 }) hs z u) (sym same_ok)
+      (turn_goes precheck k (record k { transcript = t1 }) behind (record behind { transcript = t3 }) gs hs y z v u ok (looks_put k t1 none put) goes (also_same behind t2 t3 rs first upto back noted)
+      upto (notes_to k behind t2 t3 rs y z first last upto taken back is_first is_last noted from to) (λ e. all e ∙ is_last))
+
+  pub halted : (precheck : Bool) (k behind : Client) (t1 t2 t3 : Transcribed) (none rs : List ℕ) (gs hs is : List RegionState) (y z x : SystemState) (v u t : Vaulted V) (ok cut : Bool) (first last upto : ℕ)
+      → t1 ≡ record k.transcript { receipts = none } → rs ≡ k.transcript.receipts
+      → StepGoes told may_leave faults precheck k.state (record k { transcript = t1 }) gs y v ok behind hs z u
+      → t2 ≡ record behind.transcript { receipts = rs } → first ≡ y.records → last ≡ z.records → t3 ≡ logged t2 first upto → first ≤ upto → upto ≤ last → cut ≡ false → ok ≡ true
+      → HaltGoes told may_leave faults (record behind { transcript = t3 }) hs z u is x t → TurnGoes told may_leave faults precheck k gs y v cut (record behind { transcript = t3 }) is x t
+  halted precheck k behind t1 t2 t3 none rs gs hs is y z x v u t ok cut first last upto put taken goes back is_first is_last noted from to unsaid done halts =
+      subst (λ (b : Bool). TurnGoes told may_leave faults precheck k gs y v b (record behind { transcript = t3 }) is x t) (sym unsaid)
+      (halted_goes precheck k (record k { transcript = t1 }) behind (record behind { transcript = t3 }) gs hs y z v u ok (looks_put k t1 none put) goes (also_same behind t2 t3 rs first upto back noted)
+      upto (notes_to k behind t2 t3 rs y z first last upto taken back is_first is_last noted from to) done is x t halts)

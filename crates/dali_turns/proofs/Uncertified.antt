@@ -130,7 +130,7 @@ module _ {V : Type 0} (told : V → Option Disk) (may_leave : V → Disk → Typ
         (f.course.0, f.course.1, (f.course.2.0, f.course.2.1, (to, finishes, refl)))
         (f.course.0, [], EndsCheckpoint ∷ [], f.course.1, refl, tt, (f.course.2.0, [], EndsCheckpoint ∷ [], f.course.2.1, refl, tt, (to, EndsCheckpoint ∷ [], [], finishes, (refl, under), (tt, tt), (refl, refl), refl), refl), refl)
         (finished_at told may_leave faults s f.batches f.to gs (taken z) u f.at set) stood.stands.dead (places_stay (told v.store) (told u.store) gs longer stood.files)
-        (record { unclaimed = one.stood.quiet.unclaimed; settled = one.stood.quiet.settled })
+        (record { unclaimed = one.stood.quiet.unclaimed })
         (λ e. let no : true ≡ false = sym e ∙ said.2.ok.runs in absurd (cc)) (λ n lives other. refl) (λ b other. refl) (λ flag other. absurd (other tt))
 
     abbrev ds : List Deed

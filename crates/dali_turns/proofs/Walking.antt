@@ -1,8 +1,9 @@
 -- Steps of a transaction's own that call no store, in the midst of a step of its client, and the deeds that tell them: those of the records that they log.
-use Rattle.std.proofs.Common.{◌≡◌, ℕ, ◌+◌, Bool, true, false, not, List, [], ◌∷◌, ◌++◌, map, Option, Some, None, IfSome, is_some, refl, ap, sym, subst, ◌∙◌, inl}
-use Rattle.std.specs.Prelude.{◌==◌, ◌&&◌, IsSomeAnd, slice_get}
+use Rattle.std.proofs.Common.{◌≡◌, ℕ, Bool, true, false, not, List, [], ◌∷◌, ◌++◌, map, Option, Some, None, IfSome, is_some, refl, ap, sym, subst, ◌∙◌, inl}
+use Rattle.std.specs.Prelude.{◌==◌, IsSomeAnd, slice_get}
 use Rattle.std.specs.List.{list_all}
 use Rattle.std.proofs.lemmas.List.{append-nil, append_assoc, map-append}
+use Rattle.std.proofs.lemmas.Bool.{and_from}
 use Rattle.dali_counts.proofs.Lists.{equal}
 use Rattle.dali_record.specs.declared.records.Record.{Record}
 use Rattle.dali_record.specs.declared.records.Record.TheVariants.{Forward, Back, Solo}
@@ -95,14 +96,8 @@ own_step precheck t L c x M d st own e = absurd own
 
 -- the deeds that tell it
 on_told : (t r : ℕ) (x : RegionStep) (w : World) (c : ℕ) (p : Point) → IsSomeAnd (slice_get p.core.regions r) (IsOwn t x) → AreOf w c p (Does (OnRegion r x)) []
-on_told t r (Latch u) w c p own = refl
-on_told t r (NoteReads mask) w c p own = refl
-on_told t r (Update word value) w c p own = refl
-on_told t r TakeBack w c p own = refl
 on_told t r (Poke word mask) w c p own = absurd (no_region (slice_get p.core.regions r) own)
-on_told t r Check w c p own = refl
-on_told t r Die w c p own = refl
-on_told t r (Clean side) w c p own = refl
+on_told t r _ w c p own = refl
 
 own_told : (precheck : Bool) (t : ℕ) (x : Step) (w : World) (c : ℕ) (p : Point) → w.precheck ≡ precheck → IsOwnStep precheck t p.core x → is_end x ≡ false → AreOf w c p (Does x) (map Logs (logged_of p.core.system x))
 own_told precheck t (Operates u b) w c p same own e = (refl, λ on. own.1 (sym same ∙ on))
@@ -125,11 +120,6 @@ audits_same precheck t A L c (Answers u k a) own = refl
 audits_same precheck t A L c (Commits u) own = refl
 audits_same precheck t A L c (Ends u) own = refl
 audits_same precheck t A L c x own = absurd own
-
-both_yes : (a b : Bool) → a ≡ true → b ≡ true → (a && b) ≡ true
-both_yes true true e f = refl
-both_yes true false e f = f
-both_yes false b e f = absurd (cc)
 
 other_of : (t u : ℕ) (state : State) → ((n : ℕ) → t ≡ n → Owns state n) → (Owns state u → ⊥) → (t == u) ≡ false
 other_of t u state owns other = by_test (t == u) refl
@@ -213,8 +203,8 @@ module _ {V : Type 0} (told : V → Option Disk) (may_leave : V → Disk → Typ
         at = rest.at;
         image = image_then told may_leave faults s B B B p (point_behind p x K e) rest.to gs e.regions d.regions y e.system d.system v v v (λ r. r)
             (step_image told may_leave faults s B p (point_behind p x K e) x gs y v is.quiet point_step is.taken here.system) rest.image;
-        beside = λ u other. both_yes (is_apart u x) (list_all (is_beside u) rest.steps) (own_apart precheck u t p.core x other own) (rest.beside u other);
-        out = λ b. both_yes (not (is_in_audit b x)) (list_all (is_out_of b) rest.steps) (ap not (is.out b)) (rest.out b);
+        beside = λ u other. and_from (is_apart u x) (list_all (is_beside u) rest.steps) (own_apart precheck u t p.core x other own) (rest.beside u other);
+        out = λ b. and_from (not (is_in_audit b x)) (list_all (is_out_of b) rest.steps) (ap not (is.out b)) (rest.out b);
       }
 
     pub led : (xs : List Step) (p : Point) (w : World) (gs : List RegionState) (y : SystemState) (M : List Record) (d : CoreState) → IsCoreAt told may_leave faults s B p gs y v → w.precheck ≡ precheck

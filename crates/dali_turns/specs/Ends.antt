@@ -1,11 +1,10 @@
 -- What the ends of a transaction leave of the core, and the lines that tell it.
 --     IsTakenBack, IsHalfBack  all undos of t were performed, and its end logged; or some were, and it stands as it did
---     IsCommitted, IsUncommitted   its commit was flushed and settled; or the store failed in its flush
 --     IsCleanedUp, IsLeftDead  a dead transaction was cleaned up; or it was refused, and is dead again
 --     abort_line, end_line     the lines, by the cause of the stop, if the engine is stopped
 --     SaysAlso k rest state lines j    the client goes on with these commands, stands in this state, and has said these lines
 --     GoesSilent k j           it has said nothing
-use Rattle.std.specs.Prelude.{◌≡◌, ℕ, true, List, [], ◌∷◌, Option, Some, None}
+use Rattle.std.specs.Prelude.{◌≡◌, ℕ, List, [], ◌∷◌, Option, Some, None}
 use Rattle.dali_record.specs.declared.records.Record.TheVariants.{Ended}
 use Rattle.dali_region.specs.State.{RegionState}
 use Rattle.dali_att.specs.declared.state.State.TheVariants.{Dead}
@@ -16,10 +15,7 @@ use Rattle.dali_vault.specs.Vaulted.{Vaulted}
 use Rattle.dali_single.specs.Ending.{IsBackOf}
 use Rattle.dali_clean.specs.Cleaned.{AreDead, Ends, GivesBack}
 use Rattle.dali_clean.specs.Others.{OthersStay, IsGone}
-use Rattle.dali_whole.specs.Cores.{IsWholeCore}
-use Rattle.dali_ends.specs.Stands.{IsBetween}
 use Rattle.dali_ends.specs.Ended.{Comes}
-use Rattle.dali_ends.specs.Committed.{CommitGoes, CommitFails}
 use Rattle.dali_clients.specs.declared.command.Command.{Command}
 use Rattle.dali_clients.specs.declared.command.Command.TheVariants.{Abort}
 use Rattle.dali_clients.specs.declared.line.Line.{Line}
@@ -39,19 +35,6 @@ module _ {V : Type 0} (told : V → Option Disk) (may_leave : V → Disk → Typ
     pub comes : Comes told may_leave faults t (IsBackOf t) [] gs y v hs z
     pub lives : state_of z t ≡ state_of y t
     pub others : OthersStay gs y t hs z
-
-  pub record IsCommitted (t : ℕ) (gs : List RegionState) (y : SystemState) (v : Vaulted V) (hs : List RegionState) (z : SystemState) (u : Vaulted V) : Type 0 where
-    pub goes : CommitGoes told may_leave faults gs y v t hs z u
-    pub gone : IsGone z t
-    pub others : OthersStay gs y t hs z
-    pub whole : IsBetween told may_leave faults gs y v t → IsWholeCore told gs y v → IsWholeCore told hs z u
-
-  pub record IsUncommitted (t : ℕ) (gs : List RegionState) (y : SystemState) (v : Vaulted V) (hs : List RegionState) (z : SystemState) (u : Vaulted V) : Type 0 where
-    pub fails : CommitFails told may_leave faults gs y v t z u
-    pub regions : hs ≡ gs
-    pub stopped : u.stopped ≡ true
-    pub others : OthersStay gs y t hs z
-    pub whole : IsBetween told may_leave faults gs y v t → IsWholeCore told gs y v → IsWholeCore told hs z u
 
 pub record IsCleanedUp (t : ℕ) (gs : List RegionState) (y : SystemState) (hs : List RegionState) (z : SystemState) : Type 0 where
   pub ends : Ends gs y t hs z

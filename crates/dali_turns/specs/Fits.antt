@@ -2,21 +2,22 @@
 --     rest_of k, lines_of k    its commands that are left, and its lines, in words of transcripts
 --     Speaks w a k             this standing of the world is the client's
 --     InTxn place t            a client that stands there is in the transaction t
---     OthersGot w a            while the engine runs, the locks of each other transaction that is live were granted to another client
+--     OthersGot w a            while the engine runs, the locks of each other transaction that is live or committed were granted to another client
 --     IsOf w a k               the client's standing, before a step of it
 --     Fits s B p w gs y v a rest state     and it stands so
 --     Owns state t             the transaction t is its open one
 --     Audits state b           it is in the audit that began at record b
 --     Makes state              it makes a checkpoint
-use Rattle.std.specs.Prelude.{◌≡◌, ◌⊎◌, ℕ, ◌==◌, false, List, Option, Some, None, IsSome, map}
+use Rattle.std.specs.Prelude.{◌≡◌, ◌⊎◌, ℕ, ◌==◌, true, false, List, Option, Some, None, map}
 use Rattle.dali_record.specs.declared.records.Record.{Record}
 use Rattle.dali_region.specs.State.{RegionState}
 use Rattle.dali_store.specs.Store.{Files as Disk}
-use Rattle.dali_att.specs.declared.state.State.TheVariants.{Live}
+use Rattle.dali_locks.specs.declared.mode.Mode.{Mode}
 use Rattle.dali_system.specs.State.{SystemState, state_of, lock_of}
 use Rattle.dali_crash.specs.Checkpoints.{Point}
 use Rattle.dali_crash.specs.Traces.{Start}
 use Rattle.dali_vault.specs.Vaulted.{Vaulted}
+use Rattle.dali_rounds.specs.Went.{is_open}
 use Rattle.dali_transcripts.specs.Words.{Act, Said}
 use Rattle.dali_transcripts.specs.World.{World, HasGot}
 use Rattle.dali_transcripts.specs.Moves.{Place, Within as IsWithin}
@@ -24,11 +25,12 @@ use Rattle.dali_transcripts.specs.Rounds.{Standing, Stands}
 use Rattle.dali_clients.specs.Told.{act_of, said_of}
 use Rattle.dali_turns.specs.declared.client.Client.{Client}
 use Rattle.dali_turns.specs.declared.client.State.{State}
-use Rattle.dali_turns.specs.declared.client.State.TheVariants.{Outside, LeftOut, Within, Calling, TakingBack, Waiting, Auditing, Copying, Certifying, Gone}
+use Rattle.dali_turns.specs.declared.client.State.TheVariants.{Outside, LeftOut, Within, Calling, TakingBack, Committing, Waiting, Auditing, Copying, Certifying, Gone}
 use Rattle.dali_turns.specs.Outside.{FitsOutside, FitsLeftOut, FitsWaiting, FitsGone}
 use Rattle.dali_turns.specs.Within.{FitsWithin, FitsCalling, FitsTakingBack}
 use Rattle.dali_turns.specs.Audits.{FitsAuditing}
 use Rattle.dali_turns.specs.Checkpoints.{FitsCopying, FitsCertifying}
+use Rattle.dali_turns.specs.Commits.{FitsCommitting}
 
 abbrev pub rest_of : Client → List Act
 rest_of k = map act_of k.rest.now
@@ -47,8 +49,8 @@ InTxn place u = ⊥
 
 abbrev pub OthersGot : World → Standing → Type 0
 OthersGot w a =
-    w.core.system.stop ≡ None → (t k : ℕ) → state_of w.core.system t ≡ Some Live → IsSome (lock_of w.core.system t k)
-    → InTxn a.spot.place t ⊎ ((d : ℕ) × ((d == a.client) ≡ false) × HasGot w.happened d t k)
+    w.core.system.stop ≡ None → (t k : ℕ) (m : Mode) → is_open (state_of w.core.system t) ≡ true → lock_of w.core.system t k ≡ Some m
+    → InTxn a.spot.place t ⊎ ((d : ℕ) × ((d == a.client) ≡ false) × HasGot w.happened d t k m)
 
 pub record IsOf (w : World) (a : Standing) (k : Client) : Type 0 where
   pub client : a.client ≡ k.transcript.client
@@ -60,6 +62,7 @@ abbrev pub Owns : State → ℕ → Type 0
 Owns (Within x) t = x.txn ≡ t
 Owns (Calling x plan) t = x.txn ≡ t
 Owns (TakingBack x plan why) t = x.txn ≡ t
+Owns (Committing x number removals next) t = x.txn ≡ t
 Owns state t = ⊥
 
 abbrev pub Audits : State → ℕ → Type 0
@@ -79,6 +82,7 @@ module _ {V : Type 0} (told : V → Option Disk) (may_leave : V → Disk → Typ
   Fits s B p w gs y v a rest (Within x) = FitsWithin p w a rest x
   Fits s B p w gs y v a rest (Calling x plan) = FitsCalling p w a rest x plan
   Fits s B p w gs y v a rest (TakingBack x plan why) = FitsTakingBack p w a rest x plan why
+  Fits s B p w gs y v a rest (Committing x number removals next) = FitsCommitting p w a rest x number removals.items next
   Fits s B p w gs y v a rest (Waiting tries holder) = FitsWaiting w y a rest tries holder
   Fits s B p w gs y v a rest (Auditing audit next) = FitsAuditing p w a rest audit next
   Fits s B p w gs y v a rest (Copying c next) = FitsCopying told may_leave faults s B p w gs y v a rest c next

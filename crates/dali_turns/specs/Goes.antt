@@ -1,18 +1,18 @@
 -- What each step function of a client owes, and nothing else.
---     RowsTell ..              behind the step each live transaction is the client's, or was live and isn't
+--     RowsTell ..              behind the step each transaction that is live or committed is the client's, or was so and isn't
 --     Came ok ..               it stands where its state says, or, where memory was wanted, in a step that was cut short
 --     Went ..                  steps of the core lead from the one world to the other, told by deeds of the client
 --     StepGoes ..              so they do from each run, world and standing
 --     YieldGoes                the same where it gives way to an older transaction, in the midst of a step
-use Rattle.std.specs.Prelude.{◌≡◌, ◌⊎◌, ℕ, Bool, true, false, List, [], Option, Some, None}
+use Rattle.std.specs.Prelude.{◌≡◌, ◌⊎◌, ℕ, Bool, true, false, List, [], Option, None}
 use Rattle.dali_record.specs.declared.records.Record.{Record}
 use Rattle.dali_region.specs.State.{RegionState}
-use Rattle.dali_att.specs.declared.state.State.TheVariants.{Live}
 use Rattle.dali_store.specs.Store.{Files as Disk}
 use Rattle.dali_system.specs.State.{SystemState, state_of}
 use Rattle.dali_crash.specs.Checkpoints.{StoreStep, Point, IsPointCourse}
 use Rattle.dali_crash.specs.Traces.{Start}
 use Rattle.dali_vault.specs.Vaulted.{Vaulted}
+use Rattle.dali_rounds.specs.Went.{is_open}
 use Rattle.dali_transcripts.specs.World.{Deed, World}
 use Rattle.dali_transcripts.specs.Transcripts.{IsUnderWay}
 use Rattle.dali_transcripts.specs.Rounds.{Standing}
@@ -27,7 +27,7 @@ use Rattle.dali_turns.specs.Fits.{rest_of, Speaks, IsOf, Owns, Fits}
 use Rattle.dali_turns.specs.Others.{LeavesOthers}
 
 abbrev pub RowsTell : State → SystemState → State → SystemState → Type 0
-RowsTell old y new z = z.stop ≡ None → (t : ℕ) → state_of z t ≡ Some Live → Owns new t ⊎ ((state_of y t ≡ Some Live) × (Owns old t → ⊥))
+RowsTell old y new z = z.stop ≡ None → (t : ℕ) → is_open (state_of z t) ≡ true → Owns new t ⊎ ((is_open (state_of y t) ≡ true) × (Owns old t → ⊥))
 
 module _ {V : Type 0} (told : V → Option Disk) (may_leave : V → Disk → Type 0) (faults : V → ℕ) where
   abbrev pub Came : Bool → Start → List (List Record) → Point → World → List RegionState → SystemState → Vaulted V → Standing → Client → Type 0

@@ -6,6 +6,7 @@ pub mod Outside
 pub mod Within
 pub mod Audits
 pub mod Checkpoints
+pub mod Commits
 pub mod Fits
 pub mod Others
 pub mod Goes
@@ -15,3 +16,7 @@ pub mod Turns
 pub mod Past
 pub mod Places
 pub mod Waits
+pub mod Moments
+pub mod Refuses
+pub mod Wanted
+pub mod Paces

@@ -1,11 +1,10 @@
 -- What a step of one client leaves to the others.
 --     AuditStays p q b         what the audit from record b has passed, and that it is open
---     LeavesOthers ..          the live transactions that aren't the client's, the audits that it isn't in, and a checkpoint that it doesn't make
+--     LeavesOthers ..          the transactions that are live or committed and aren't the client's, the audits that it isn't in, and a checkpoint that it doesn't make
 --     OthersFit                so a client that fits a world fits it behind a step of another one
-use Rattle.std.specs.Prelude.{◌≡◌, ℕ, ◌<◌, Bool, true, false, List, Option, Some, length}
+use Rattle.std.specs.Prelude.{◌≡◌, ℕ, ◌<◌, Bool, true, false, List, Option, length}
 use Rattle.dali_record.specs.declared.records.Record.{Record}
 use Rattle.dali_region.specs.State.{RegionState}
-use Rattle.dali_att.specs.declared.state.State.TheVariants.{Live}
 use Rattle.dali_store.specs.Store.{Files as Disk}
 use Rattle.dali_system.specs.State.{SystemState, state_of}
 use Rattle.dali_system.specs.Audits.{IsAuditing}
@@ -15,6 +14,7 @@ use Rattle.dali_vault.specs.Vaulted.{Vaulted}
 use Rattle.dali_checkpoint.specs.Kept.{Checkpointed}
 use Rattle.dali_checkpoint.specs.Running.{PassesTell, IsCopying, IsSettled}
 use Rattle.dali_stepwise.specs.Beside.{LeavesBe}
+use Rattle.dali_rounds.specs.Went.{is_open}
 use Rattle.dali_transcripts.specs.Words.{Act}
 use Rattle.dali_transcripts.specs.World.{World, Deed}
 use Rattle.dali_transcripts.specs.Rounds.{Standing, Stands}
@@ -36,7 +36,7 @@ module _ {V : Type 0} (told : V → Option Disk) (may_leave : V → Disk → Typ
 
   -- by the state of the client before its step
   pub record LeavesOthers (state : State) (s : Start) (B : List (List Record)) (p : Point) (gs : List RegionState) (y : SystemState) (v : Vaulted V) (C : List (List Record)) (q : Point) (hs : List RegionState) (z : SystemState) (u : Vaulted V) : Type 0 where
-    pub txns : (t : ℕ) → state_of y t ≡ Some Live → (Owns state t → ⊥) → LeavesBe t p.log p.core q.log q.core
+    pub txns : (t : ℕ) → is_open (state_of y t) ≡ true → (Owns state t → ⊥) → LeavesBe t p.log p.core q.log q.core
     pub audits : (b : ℕ) → b < length p.log → (Audits state b → ⊥) → AuditStays p q b
     pub image : y.checking ≡ true → (Makes state → ⊥) → ImageStays s B p gs y v C q hs z u
 

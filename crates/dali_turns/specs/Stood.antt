@@ -1,12 +1,11 @@
 -- Where the core of a round stands between two steps of its clients.
 --     HadRow w t               the transaction has a row, or has ended
---     IsQuiet y                no transaction is claimed, and while the engine runs none is committed
+--     IsQuiet y                no transaction is claimed
 --     Stood s B p w precheck gs y v    a run from the start s has come to the point p with this core, of which the world w tells
-use Rattle.std.specs.Prelude.{◌≡◌, ◌⊎◌, ℕ, Bool, true, false, List, Option, Some, None, IfSome, IsSome}
+use Rattle.std.specs.Prelude.{◌≡◌, ◌⊎◌, ℕ, Bool, true, false, List, Option, IfSome, IsSome, length, ◌≤◌}
 use Rattle.dali_record.specs.declared.records.Record.{Record}
 use Rattle.dali_record.specs.declared.records.Record.TheVariants.{Ended}
 use Rattle.dali_region.specs.State.{RegionState}
-use Rattle.dali_att.specs.declared.state.State.TheVariants.{Committed}
 use Rattle.dali_store.specs.Store.{Files as Disk}
 use Rattle.dali_system.specs.State.{SystemState, state_of}
 use Rattle.dali_crash.specs.Checkpoints.{Point}
@@ -24,7 +23,6 @@ HadRow w t = IsSome (state_of w.core.system t) ⊎ ((n : ℕ) × IsLogged w n (E
 
 pub record IsQuiet (y : SystemState) : Type 0 where
   pub unclaimed : (t : ℕ) → is_claimed_in (state_of y t) ≡ false
-  pub settled : y.stop ≡ None → (t : ℕ) → state_of y t ≡ Some Committed → ⊥
 
 module _ {V : Type 0} (told : V → Option Disk) (may_leave : V → Disk → Type 0) (faults : V → ℕ) where
   pub record Stood (s : Start) (B : List (List Record)) (p : Point) (w : World) (precheck : Bool) (gs : List RegionState) (y : SystemState) (v : Vaulted V) : Type 0 where
@@ -36,5 +34,7 @@ module _ {V : Type 0} (told : V → Option Disk) (may_leave : V → Disk → Typ
     pub tells : Tells w p
     pub precheck_is : w.precheck ≡ precheck
     pub began : IsBetween w.old
+    -- the round began behind the log from which the run goes
+    pub since : length s.log ≤ length w.before
     -- the flag tells whether a checkpoint keeps something
     pub keeps : FlagTells p

@@ -2,16 +2,17 @@
 --     IsTry t tries begun      a transaction that was tried so often, and is tried again with these acts
 --     FitsWithin x             it is in the transaction x, and in no operation
 --     IsAtCall plan t call     the plan of its call stands there
---     AreGot p w c t           each lock that t has was granted to the client c, in this round
+--     AreGot p w c t           each lock that t has was granted to the client c, in this round and in this mode
 --     TookNothing t xs         it took nothing of t back
 --     HasTurned back t pending it took nothing back of its call; or its answer takes back, and since then it made no operation
 --     FitsCalling x plan       its call has its lock
 --     FitsTakingBack x plan why    its call is refused, and is taken back
 --     FitsYielding x holder    an older transaction holds the key of its call
-use Rattle.std.specs.Prelude.{◌≡◌, ℕ, ◌<◌, Bool, true, false, List, [], ◌∷◌, ◌++◌, Option, Some, None, IsSome, map}
+use Rattle.std.specs.Prelude.{◌≡◌, ℕ, ◌<◌, Bool, true, false, List, [], ◌∷◌, ◌++◌, Option, Some, None, map}
 use Rattle.std.specs.List.{AllByRecursion}
 use Rattle.dali_record.specs.declared.operations.Pending.{Pending}
 use Rattle.dali_record.specs.declared.records.Call.{Call}
+use Rattle.dali_locks.specs.declared.mode.Mode.{Mode}
 use Rattle.dali_att.specs.declared.state.State.TheVariants.{Live}
 use Rattle.dali_system.specs.declared.refusals.Refusal.{Refusal}
 use Rattle.dali_system.specs.State.{state_of, lock_of}
@@ -26,7 +27,7 @@ use Rattle.dali_single.specs.Single.{MayCall}
 use Rattle.dali_transcripts.specs.Words.{Act, Begins, Calls, is_stop}
 use Rattle.dali_transcripts.specs.World.{World, Meets, Yields, HasGot}
 use Rattle.dali_transcripts.specs.Moves.{Receipt, Within, at, operations, left}
-use Rattle.dali_transcripts.specs.Causes.{AreAsking, AreAside, AreWork, AreTried, MetCause, GetsBusy, Survives, spares, undos_behind, StaysRefused, is_taking_back, StaysBack}
+use Rattle.dali_transcripts.specs.Causes.{AreAsking, AreAside, AreWork, AreTried, MetCause, GetsBusy, Survives, spares, undos_behind, StaysRefused, WasGranted, is_taking_back, StaysBack}
 use Rattle.dali_transcripts.specs.Rounds.{Standing, IsPlaced}
 use Rattle.dali_clients.specs.declared.line.Why.{Why}
 use Rattle.dali_clients.specs.Told.{act_of, reason_of}
@@ -46,7 +47,7 @@ AreSoFar w c t (Calls call ∷ rest) pending = AreAsking w c t call pending
 AreSoFar w c t rest pending = pending ≡ []
 
 abbrev pub AreGot : Point → World → (client txn : ℕ) → Type 0
-AreGot p w c t = (k : ℕ) → IsSome (lock_of p.core.system t k) → HasGot w.happened c t k
+AreGot p w c t = (k : ℕ) (m : Mode) → lock_of p.core.system t k ≡ Some m → HasGot w.happened c t k m
 
 pub record FitsWithin (p : Point) (w : World) (a : Standing) (rest : List Act) (x : Transaction) : Type 0 where
   pub said : Bool
@@ -88,6 +89,7 @@ pub record FitsCalling (p : Point) (w : World) (a : Standing) (rest : List Act) 
   pub deadly : Option ℕ
   pub spot : a.spot ≡ at (Within x.txn x.tries (map act_of x.commands.now) deadly false) rest
   pub work : AreWork w a.client x.txn call a.pending
+  pub granted : WasGranted a.pending
   pub turned : HasTurned (goes_back (answer_of plan.geometry plan.call plan.stage)) x.txn a.pending
   -- what is to be taken back of it is what the plan has noted
   pub undone : (us : List Pending) → undos_behind x.txn us a.pending ≡ us ++ plan.changes
@@ -110,6 +112,7 @@ pub record FitsTakingBack (p : Point) (w : World) (a : Standing) (rest : List Ac
   pub pending : a.pending ≡ work ++ (met, Meets (reason_of why)) ∷ back
   pub tried : AreTried w a.client x.txn call work
   pub stays : StaysRefused work
+  pub granted : WasGranted work
   pub cause : MetCause w a.client met (Calls call) (Some x.txn) (reason_of why)
   pub survives : Survives w a.client met x.txn call deadly (operations x.txn work) (reason_of why) cause
   -- a stop is told at once

@@ -1,7 +1,7 @@
 //! A client of a round, as a machine that makes one step at a time.
 ghost use Rattle.std.specs.Prelude.{◌≡◌, ◌+◌, ◌-◌, ◌^◌, ◌&&◌, ◌==◌, length, min, slice_get, IsSome, OnOk, OnErr};
 ghost use Rattle.dali_clients.specs.Said.{silent};
-ghost use Rattle.dali_turns.specs.declared.client.State.TheVariants.{Outside as IsOutside, Within as IsWithin};
+ghost use Rattle.dali_turns.specs.declared.client.State.TheVariants.{Outside as IsOutside, Within as IsWithin, Gone as IsGone};
 ghost use Rattle.dali_turns.specs.Clients.{Passes, Finishes, RefusesCall, is_over};
 
 use crate::plan::BoxedPlan;
@@ -9,6 +9,7 @@ use dali_audit::Audit;
 use dali_bytes::OutOfMemory;
 use dali_checkpoint::Checkpoint;
 use dali_clients::{Block, Command, Line, Transcript, Why};
+use dali_record::Pending;
 use std::alloc::Global;
 
 /// A client's open transaction.
@@ -44,6 +45,13 @@ pub(crate) enum State<'a> {
         transaction: Transaction<'a>,
         plan: BoxedPlan,
         why: Why,
+    },
+    /// The commit of the transaction is record `number`. Behind its flush the removals below `next` are freed.
+    Committing {
+        transaction: Transaction<'a>,
+        number: u64,
+        removals: Vec<Pending>,
+        next: usize,
     },
     /// So many tries got Busy, and the last one's transaction is taken back: the next one begins when this holder has
     /// ended or is dead, or when the engine is stopped.
@@ -121,6 +129,13 @@ impl<'a> Client<'a> {
             State::Outside | State::LeftOut => self.rest.is_empty(),
             _ => false,
         }
+    }
+
+    /// It does no more: its round ends in the midst of its step.
+    pub fn leave(&mut self)
+        ensures { self.new ≡ record self.old { state = IsGone } }
+    {
+        self.state = State::Gone;
     }
 
     /// The command that is under way, or is next.

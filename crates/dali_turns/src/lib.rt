@@ -7,10 +7,13 @@
 
 mod client;
 pub mod laws;
+mod operations;
+mod paces;
 mod plan;
 mod run;
 mod steps;
 mod why;
 
 pub use client::Client;
-pub use steps::{Setting, turn};
+pub use paces::Paces;
+pub use steps::{Setting, halt, turn};

@@ -4,21 +4,26 @@ mod audits;
 mod calls;
 mod checkpoints;
 mod cleaning;
+mod committing;
 mod outside;
 mod transactions;
 
 ghost use Rattle.std.specs.Prelude.{◌≡◌, ◌==◌, Bool, false, true, None, IfSome, Ok, IfOk, is_ok, length};
 ghost use Rattle.dali_turns.specs.declared.client.State.TheVariants.{Outside as IsOutside, Within as IsWithin};
-ghost use Rattle.dali_turns.specs.Clients.{is_over};
+ghost use Rattle.dali_turns.specs.Clients.{next_of, is_over};
 ghost use Rattle.dali_turns.specs.Past.{IsPast};
 ghost use Rattle.dali_turns.specs.Goes.{StepGoes};
 ghost use Rattle.dali_turns.specs.Turns.{TurnGoes};
 ghost use Rattle.dali_turns.specs.Places.{HasPlaces, PlacesGo};
 ghost use Rattle.dali_turns.specs.Waits.{StaysPut};
+ghost use Rattle.dali_turns.specs.Moments.{StepLeavesRight, TurnLeavesRight};
+ghost use Rattle.dali_turns.specs.Refuses.{RefusesIn, Refuses};
 
 use crate::client::{Client, State, Transaction};
 use crate::run::no_run;
 pub(crate) use cleaning::clean_up;
+pub use committing::halt;
+pub(crate) use committing::is_flushed;
 use dali_bytes::OutOfMemory;
 use dali_clients::Command;
 use dali_stepwise::Gate;
@@ -49,6 +54,8 @@ pub fn turn<V: Store, G: Gate>(
     ensures places { PlacesGo V.told client.old.state core.old.regions.items core.old.vault client.new.state core.new.regions.items core.new.vault }
     ensures idle { result ≡ Ok false → StaysPut core.old.system.state client.old.state client.old client.new × (core.new ≡ core.old) }
     ensures over { is_over client.old.state (length client.old.rest.now == 0) ≡ true → result ≡ Ok false }
+    ensures any_moment { TurnLeavesRight V.told V.may_leave V.faults V.moment V.left_since setting.now.precheck client.old core.old.regions.items core.old.system.state core.old.vault core.new.system.state core.new.vault }
+    ensures refuses { Refuses setting.now.precheck client.old.state client.old core.old.regions.items core.old.system.state core.old.vault.flushed result client.new core.new.vault.stopped }
 {
     let first = core.system.records();
     // no step sees the receipts
@@ -62,8 +69,16 @@ pub fn turn<V: Store, G: Gate>(
     if behind < first {
         return no_run(); // a log grows
     }
-    client.transcript.log(first, behind)?;
-    stepped
+    match client.transcript.log(first, behind) {
+        Ok(()) => stepped,
+        Err(error) => match stepped {
+            Ok(_) => {
+                halt(client, core, setting.alloc);
+                Err(error)
+            }
+            Err(_) => Err(error),
+        },
+    }
 }
 
 // The step of a client by where it stands. One that only goes to the next region is made where the state stands.
@@ -77,6 +92,8 @@ fn step<V: Store, G: Gate>(
     ensures places { PlacesGo V.told client.old.state core.old.regions.items core.old.vault client.new.state core.new.regions.items core.new.vault }
     ensures idle { result ≡ Ok false → StaysPut core.old.system.state client.old.state client.old client.new × (core.new ≡ core.old) }
     ensures over { is_over client.old.state (length client.old.rest.now == 0) ≡ true → result ≡ Ok false }
+    ensures any_moment { StepLeavesRight V.told V.may_leave V.faults V.moment V.left_since client.old.state client.old core.old.regions.items core.old.system.state core.old.vault core.new.system.state core.new.vault }
+    ensures refuses { Refuses setting.now.precheck client.old.state client.old core.old.regions.items core.old.system.state core.old.vault.flushed result client.new core.new.vault.stopped }
 {
     match next_region(client, core) {
         Some(stepped) => stepped,
@@ -95,6 +112,8 @@ fn next_region<V: Store>(
     ensures on { IfSome result (λ stepped. IfOk stepped (λ went. went ≡ true)) }
     ensures busy { IfSome result (λ stepped. (none : Bool) → is_over client.old.state none ≡ false) }
     ensures past { result ≡ None → (client.new ≡ client.old) × (core.new ≡ core.old) × IsPast client.old.state core.old.regions.items core.old.system.state }
+    ensures any_moment { IfSome result (λ stepped. StepLeavesRight V.told V.may_leave V.faults V.moment V.left_since client.old.state client.old core.old.regions.items core.old.system.state core.old.vault core.new.system.state core.new.vault) }
+    ensures refuses { IfSome result (λ stepped. (precheck : Bool) → Refuses precheck client.old.state client.old core.old.regions.items core.old.system.state core.old.vault.flushed stepped client.new core.new.vault.stopped) }
 {
     match client.state {
         State::Auditing { .. } => audits::audit_next(client, core),
@@ -116,6 +135,8 @@ fn step_on<V: Store, G: Gate>(
     ensures places { PlacesGo V.told client.old.state core.old.regions.items core.old.vault client.new.state core.new.regions.items core.new.vault }
     ensures idle { result ≡ Ok false → StaysPut core.old.system.state client.old.state client.old client.new × (core.new ≡ core.old) }
     ensures over { is_over client.old.state (length client.old.rest.now == 0) ≡ true → result ≡ Ok false }
+    ensures any_moment { StepLeavesRight V.told V.may_leave V.faults V.moment V.left_since client.old.state client.old core.old.regions.items core.old.system.state core.old.vault core.new.system.state core.new.vault }
+    ensures refuses { Refuses setting.now.precheck client.old.state client.old core.old.regions.items core.old.system.state core.old.vault.flushed result client.new core.new.vault.stopped }
 {
     match mem::replace(&mut client.state, State::Outside) {
         State::Outside => next(client, core, setting),
@@ -129,6 +150,20 @@ fn step_on<V: Store, G: Gate>(
             plan,
             why,
         } => calls::take_back(client, transaction, plan, why, core, setting),
+        State::Committing {
+            transaction,
+            number,
+            removals,
+            next,
+        } => committing::go_on(
+            client,
+            transaction,
+            number,
+            removals,
+            next,
+            core,
+            setting.alloc,
+        ),
         State::Waiting { tries, holder } => outside::wait(client, tries, holder, core),
         State::Auditing { audit, next } => audits::end(client, audit, next, setting.alloc, core),
         State::Copying { checkpoint, next } => {
@@ -157,6 +192,8 @@ fn next<V: Store, G: Gate>(
     ensures places { PlacesGo V.told IsOutside core.old.regions.items core.old.vault client.new.state core.new.regions.items core.new.vault }
     ensures idle { result ≡ Ok false → StaysPut core.old.system.state IsOutside client.old client.new × (core.new ≡ core.old) }
     ensures over { (length client.old.rest.now == 0) ≡ true → result ≡ Ok false }
+    ensures any_moment { StepLeavesRight V.told V.may_leave V.faults V.moment V.left_since IsOutside client.old core.old.regions.items core.old.system.state core.old.vault core.new.system.state core.new.vault }
+    ensures refuses { Refuses setting.now.precheck IsOutside client.old core.old.regions.items core.old.system.state core.old.vault.flushed result client.new core.new.vault.stopped }
 {
     match client.command() {
         None => Ok(false),
@@ -182,6 +219,8 @@ fn within<'a, V: Store, G: Gate>(
     ensures goes { StepGoes V.told V.may_leave V.faults setting.now.precheck (IsWithin transaction.entry) client.old core.old.regions.items core.old.system.state core.old.vault (is_ok result) client.new core.new.regions.items core.new.system.state core.new.vault }
     ensures places { PlacesGo V.told (IsWithin transaction.entry) core.old.regions.items core.old.vault client.new.state core.new.regions.items core.new.vault }
     ensures idle { result ≡ Ok false → StaysPut core.old.system.state (IsWithin transaction.entry) client.old client.new × (core.new ≡ core.old) }
+    ensures any_moment { StepLeavesRight V.told V.may_leave V.faults V.moment V.left_since (IsWithin transaction.entry) client.old core.old.regions.items core.old.system.state core.old.vault core.new.system.state core.new.vault }
+    ensures refuses { RefusesIn core.old.system.state transaction.entry (next_of client.old) client.old result client.new }
 {
     match client.command() {
         None => transactions::end(client, transaction, core),
@@ -197,7 +236,7 @@ fn within<'a, V: Store, G: Gate>(
                 };
                 Ok(true)
             }
-            Command::Commit => transactions::commit(client, transaction, core, setting),
+            Command::Commit => committing::commit(client, transaction, core, setting.alloc),
             Command::Abort => transactions::abort(client, transaction, core),
             // no block has another command here
             _ => no_run(),

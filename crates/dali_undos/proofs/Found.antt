@@ -5,6 +5,7 @@ use Rattle.std.proofs.Math.ListN.{drop_of_length-le}
 use Rattle.std.proofs.lemmas.List.{reverse-append, length-append, take-append-drop}
 use Rattle.std.proofs.lemmas.Bool.{eq-eqb}
 use Rattle.std.proofs.lemmas.Bool.Decides.{eqb_tells}
+use Rattle.dali_lists.proofs.Lists.{get_push}
 use Rattle.dali_words.specs.Values.{packed}
 use Rattle.dali_geometry.specs.Sizes.{Sizes}
 use Rattle.dali_record.specs.declared.operations.Pending.{Pending}
@@ -22,7 +23,7 @@ use Rattle.dali_record.specs.Log.{undos_of, undo_added, committed, drop_last}
 use Rattle.dali_record.specs.Damage.{has}
 use Rattle.dali_record.specs.Legal.{on_kind}
 use Rattle.dali_record.specs.Settled.{words_in, redo_all}
-use Rattle.dali_record.proofs.Ends.{by_push, get_new}
+use Rattle.dali_record.proofs.Ends.{by_push}
 use Rattle.dali_record.proofs.Scans.{take_get}
 use Rattle.dali_index.specs.Invariant.{IsImage}
 use Rattle.dali_index.proofs.Worlds.{World, Flags, part, flags, put_at, put_at-same}
@@ -297,4 +298,4 @@ backs_find s base cuts K kept i t b at = record {
     last = ap length back.split ∙ length-append (drop_last (undos_of t (take i K))) (back.undo ∷ [])
 
     is : slice_get (undos_of t (take i K)) (length (drop_last (undos_of t (take i K)))) ≡ Some back.undo
-    is = ap (λ us. slice_get us (length (drop_last (undos_of t (take i K))))) back.split ∙ get_new (drop_last (undos_of t (take i K))) back.undo
+    is = ap (λ us. slice_get us (length (drop_last (undos_of t (take i K))))) back.split ∙ get_push (drop_last (undos_of t (take i K))) back.undo

@@ -1,7 +1,7 @@
-mod After
+pub mod After
 mod Listed
 mod Words
-mod Stepped
+pub mod Stepped
 mod Left
 pub mod Found
 pub mod Restarts

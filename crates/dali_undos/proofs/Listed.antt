@@ -5,6 +5,7 @@ use Rattle.std.proofs.Math.Seq.{take-append_seam}
 use Rattle.std.proofs.lemmas.List.{length-append, take-append-le, take_all}
 use Rattle.std.proofs.lemmas.Bool.{eqb-true, cases_lt}
 use Rattle.std.proofs.lemmas.Option.{slice_get_within}
+use Rattle.dali_lists.proofs.Lists.{get_push}
 use Rattle.dali_record.specs.declared.operations.Pending.{Pending}
 use Rattle.dali_record.specs.declared.operations.Block.{Block}
 use Rattle.dali_record.specs.declared.operations.Undo.{Undo}
@@ -12,7 +13,7 @@ use Rattle.dali_record.specs.declared.records.Record.{Record}
 use Rattle.dali_record.specs.declared.records.Record.TheVariants.{Format, Begin, Forward, Done, Commit, Ended, Solo, AuditBegin, AuditClean, AuditFail, Restarted, Back}
 use Rattle.dali_record.specs.Log.{undos_of, undo_step, undo_added, drop_last}
 use Rattle.dali_record.proofs.Pushes.{undos_of_push}
-use Rattle.dali_record.proofs.Ends.{get_old, get_new, get_push_cases}
+use Rattle.dali_record.proofs.Ends.{get_old, get_push_cases}
 use Rattle.dali_undos.specs.AsLeft.{IsPushed, OneBlockLeaves}
 
 -- ---- lists
@@ -97,7 +98,7 @@ pushed_on t J r n i b p h more = record {
 -- the block itself
 pub pushed_now : (t : ℕ) (J : List Record) (b : Block) (p : Pending) → undo_added b b.undo ≡ p ∷ [] → length (undos_of t J) < length (undos_of t (J ++ Forward t b ∷ [])) → IsPushed t (J ++ Forward t b ∷ []) (length (undos_of t J)) (length J) b p
 pushed_now t J b p adds more = record {
-  block = get_new J (Forward t b);
+  block = get_push J (Forward t b);
   adds = adds;
   below = ap (λ K. length (undos_of t K)) (take-append_seam J (Forward t b ∷ []));
   stands = λ j a l. let same : j ≡ length J + 1 = omega (arith, a, l, length-append J (Forward t b ∷ [])) in subst (λ K. length (undos_of t J) < length (undos_of t K)) (sym (ap (λ z. take z (J ++ Forward t b ∷ [])) same ∙ whole J (Forward t b))) more;

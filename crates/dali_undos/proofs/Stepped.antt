@@ -5,6 +5,7 @@ use Rattle.std.proofs.Common.{◌≡◌, ℕ, Bool, true, false, List, [], ◌�
 use Rattle.std.specs.Prelude.{◌==◌, ◌||◌}
 use Rattle.std.proofs.lemmas.Bool.Decides.{eqb_tells}
 use Rattle.std.proofs.lemmas.Bool.{ne_eqb, both_ways}
+use Rattle.dali_lists.proofs.Options.{some_of}
 use Rattle.dali_geometry.specs.Sizes.{Sizes}
 use Rattle.dali_record.specs.declared.operations.Undo.{Undo}
 use Rattle.dali_record.specs.declared.operations.Pending.{Pending}
@@ -34,7 +35,7 @@ use Rattle.dali_kept.proofs.Invariant.{Knows, yields_left}
 use Rattle.dali_kept.proofs.OperationsKeep.{Forwards, forward_is}
 use Rattle.dali_kept.proofs.BacksKeep.{BackStep, back_finds, taken_back}
 use Rattle.dali_kept.proofs.SolosKeep.{frees_dead}
-use Rattle.dali_kept.proofs.InvariantAlong.{state_beside, forward_state, back_state, region_within, image_region, does_of, is_of_is, some_is}
+use Rattle.dali_kept.proofs.InvariantAlong.{state_beside, forward_state, back_state, region_within, image_region, does_of, is_of_is}
 use Rattle.dali_kept.proofs.InvariantSteps.{Fine, Along, fine_before, state_step, sound_changes, undone_changes, frees_is, solo_state, frees_slot}
 use Rattle.dali_kept.proofs.KnownTxns.{back_is, committed_has}
 use Rattle.dali_undos.proofs.After.{one, one_on, one_off}
@@ -60,7 +61,7 @@ nobody_else s base cuts J r a t k h along holds at apart key =
 
 -- ---- an operation
 pub forward_op : (s : Sizes) (base : List (List ℕ)) (cuts : List ℕ) (J : List Record) (u : ℕ) (b : Block) → Fine s base cuts (J ++ Forward u b ∷ []) → IsForward b.op
-forward_op s base cuts J u b h = go (some_is (kept_state s u J) ((fine_before s base cuts J (Forward u b) h).calls.txns u)) (some_is (kept_state s u (J ++ Forward u b ∷ [])) (h.calls.txns u))
+forward_op s base cuts J u b h = go (some_of (kept_state s u J) ((fine_before s base cuts J (Forward u b) h).calls.txns u)) (some_of (kept_state s u (J ++ Forward u b ∷ [])) (h.calls.txns u))
   where
     go : (x : TxnState) × (kept_state s u J ≡ Some x) → (y : TxnState) × (kept_state s u (J ++ Forward u b ∷ []) ≡ Some y) → IsForward b.op
     go x y = run (forward_state s u x.0 y.0 b (state_step s u J (Forward u b) x.0 y.0 x.1 y.1))
@@ -128,7 +129,7 @@ pub record TakesBack (s : Sizes) (base : List (List ℕ)) (J : List Record) (u :
   pub undoes : Undoes (part s (redo_all base J)) (part s (redo_all base (J ++ Back u b ∷ []))) undo
 
 pub takes_back : (s : Sizes) (base : List (List ℕ)) (cuts : List ℕ) (J : List Record) (u : ℕ) (b : Block) → Fine s base cuts (J ++ Back u b ∷ []) → Along s base cuts J → TakesBack s base J u b
-takes_back s base cuts J u b h along = go (some_is (kept_state s u J) (old.calls.txns u)) (some_is (kept_state s u (J ++ Back u b ∷ [])) (h.calls.txns u))
+takes_back s base cuts J u b h along = go (some_of (kept_state s u J) (old.calls.txns u)) (some_of (kept_state s u (J ++ Back u b ∷ [])) (h.calls.txns u))
   where
     old : Fine s base cuts J
     old = fine_before s base cuts J (Back u b) h
@@ -217,7 +218,7 @@ stays_committed t J r h = go (has (committed J) t) (sym (committed_has t J r) �
 solo_step :
     (s : Sizes) (base : List (List ℕ)) (cuts : List ℕ) (J : List Record) (x u : ℕ) (b : Block) → Fine s base cuts (J ++ Solo x u b ∷ []) → Along s base cuts J
     → (t k : ℕ) → has (committed J) t ≡ false → (NoneOn k (left t J) → ⊥) → Stepped k t J (Solo x u b) (part s (redo_all base J) k) (part s (redo_all base (J ++ Solo x u b ∷ [])) k)
-solo_step s base cuts J x u b h along t k un holds = go (some_is (kept_state s u J) (old.calls.txns u)) (some_is (kept_state s u (J ++ Solo x u b ∷ [])) (h.calls.txns u))
+solo_step s base cuts J x u b h along t k un holds = go (some_of (kept_state s u J) (old.calls.txns u)) (some_of (kept_state s u (J ++ Solo x u b ∷ [])) (h.calls.txns u))
   where
     old : Fine s base cuts J
     old = fine_before s base cuts J (Solo x u b) h

@@ -1,7 +1,7 @@
 -- Rows of memory beside those of a map, and a replay beside what the log told.
-use Rattle.std.proofs.Common.{◌≡◌, ◌≢◌, ◌⊎◌, inl, inr, ℕ, ◌<◌, Bool, true, false, true≢false, List, [], ◌∷◌, refl, sym, ◌∙◌, ap, subst, cond, Option, Some, None}
+use Rattle.std.proofs.Common.{◌≡◌, ◌≢◌, ◌⊎◌, inl, inr, ℕ, Bool, true, false, true≢false, List, [], ◌∷◌, refl, sym, ◌∙◌, ap, subst, Some}
 use Rattle.std.proofs.lemmas.Bool.Decides.{eqb_tells}
-use Rattle.std.specs.Prelude.{◌↔◌, nat_eq, Contains, ◌==◌, ◌&&◌, is_some, IsTrue, Result, Ok, Err, IfOk}
+use Rattle.std.specs.Prelude.{◌↔◌, nat_eq, Contains, ◌==◌, ◌&&◌, IsTrue, Result, Ok, Err, IfOk}
 use Rattle.std.specs.declared.cmp.Ordering.TheVariants.{Less}
 use Rattle.std.specs.declared.cmp.Ordering.{Ordering}
 use Rattle.std.specs.Ordering.{nat_cmp, ordering_then}
@@ -13,34 +13,31 @@ use Rattle.std.specs.Map.{keys_of, lookup}
 use Rattle.std.specs.BTreeMap.{BTreeMap, IsOrdered, is_at}
 use Rattle.std.specs.BTreeSet.{BTreeSet}
 use Rattle.std.specs.BTreeSet as keys
-use Rattle.std.specs.FinMap.{FinMap, from_entries, get, find, get-from_entries}
-use Rattle.std.proofs.Math.ListN.{get_or-map}
-use Rattle.std.proofs.lemmas.List.{length-map}
+use Rattle.std.specs.FinMap.{FinMap, from_entries, get, get-from_entries}
 use Rattle.std.proofs.lemmas.Map.Keys.{sorted_from_strictly_increasing}
 use Rattle.std.proofs.lemmas.Map.Lookups.{CmpEqualImpliesEq, exact_unsigned, exact_bytes, exact_pairs, btree_set_from_contains}
 use Rattle.std.proofs.lemmas.Map.Views.{btree_map_get_iff, btree_set_contains_iff}
+use Rattle.dali_lists.proofs.Options.{some_of_test}
+use Rattle.dali_lists.proofs.Tests.{same_tests}
 use Rattle.dali_geometry.specs.Sizes.{Sizes}
 use Rattle.dali_index.specs.Records.{records}
 use Rattle.dali_record.specs.declared.records.Record.{Record}
-use Rattle.dali_history.specs.Serial.{Map, expected}
+use Rattle.dali_history.specs.Serial.{expected}
 use Rattle.dali_replay.specs.Replayed.{Replayed, IsReplay}
+use Rattle.dali_replay.proofs.Replays.{find_lookup}
 use Rattle.dali_listing.specs.declared.Listed.{Listed}
 use Rattle.dali_listing.specs.Listing.{pair_of, pairs_of, order, IsListing}
+use Rattle.dali_listing.proofs.Sorted.{in_pairs, pairs_in, one_row}
 use Rattle.dali_verify.specs.Verified.{told_deleted, HoldsJust, IsVerified}
 
 -- ---- lists that ascend and have the same members
-same_test : (a b : Bool) → (a ≡ true → b ≡ true) → (b ≡ true → a ≡ true) → a ≡ b
-same_test true true f g = refl
-same_test true false f g = sym (f refl)
-same_test false true f g = g refl
-same_test false false f g = refl
 
 pub same_sorted : {K : Type 0} {R : K → K → Ordering} → IsTotalOrder R → CmpEqualImpliesEq R → (xs ys : List K) → IsStrictlySortedBy R xs → IsStrictlySortedBy R ys → ((k : K) → Contains xs k ↔ Contains ys k) → xs ≡ ys
 same_sorted {K = K} {R = R} total exact xs ys up vp same =
     let s : BTreeSet K = record { keys = xs } in
     let t : BTreeSet K = record { keys = ys } in
     btree_set_from_contains total s t up vp
-    (λ q. same_test (keys.contains R s q) (keys.contains R t q)
+    (λ q. same_tests (keys.contains R s q) (keys.contains R t q)
     (λ is. (btree_set_contains_iff total exact t q).1 ((same q).0 ((btree_set_contains_iff total exact s q).0 is)))
     (λ is. (btree_set_contains_iff total exact s q).1 ((same q).1 ((btree_set_contains_iff total exact t q).0 is))))
     exact
@@ -49,17 +46,8 @@ same_sorted {K = K} {R = R} total exact xs ys up vp same =
 abbrev row_of : ℕ × List ℕ → Listed
 row_of p = record { key = p.0; value = p.1 }
 
-in_pairs : (rows : List Listed) (row : Listed) → Contains rows row → Contains (pairs_of rows) (pair_of row)
-in_pairs rows row h = (h.0, subst (λ n. h.0 < n) (sym (length-map rows pair_of)) h.1, get_or-map pair_of rows h.0 row ∙ ap pair_of h.2)
-
-pairs_in : (rows : List Listed) (row : Listed) → Contains (pairs_of rows) (pair_of row) → Contains rows row
-pairs_in rows row h = (h.0, subst (λ n. h.0 < n) (length-map rows pair_of) h.1, ap row_of (sym (get_or-map pair_of rows h.0 row) ∙ h.2))
-
 abbrev alike : Listed → Listed → Bool
 alike x y = (x.key == y.key) && pointwise nat_eq x.value y.value
-
-one_row : (x y : Listed) → x.key ≡ y.key → x.value ≡ y.value → x ≡ y
-one_row x y k v i = record { key = k i; value = v i }
 
 alike_is_one : (x y : Listed) → alike x y ≡ true → x ≡ y
 alike_is_one x y h = one_row x y (same_key (eqb_tells x.key y.key)) ((bytes_decides x.value y.value).0 (second_so (x.key == y.key) (pointwise nat_eq x.value y.value) h))
@@ -94,10 +82,6 @@ unfolding IsStrictlySortedBy
 rows_ascend [] h = tt
 rows_ascend (row ∷ rows) h = (all_behind row rows h.0, rows_ascend rows h.1)
 
-find_lookup : (es : List (ℕ × List ℕ)) (q : ℕ) → find nat_cmp q es ≡ lookup (is_at (nat_cmp q)) es
-find_lookup [] q = refl
-find_lookup (e ∷ es) q = ap (cond (is_at (nat_cmp q) e.0) (Some e.1)) (find_lookup es q)
-
 -- what a map has at a key is an entry
 entry_at : (m : BTreeMap ℕ (List ℕ)) → IsOrdered nat_cmp m → (k : ℕ) (v : List ℕ) → (get (from_entries {R = nat_cmp} m.entries) k ≡ Some v) ↔ Contains m.entries (k, v)
 entry_at m ordered k v =
@@ -124,9 +108,6 @@ stores_just s image rows wanted m listing pairs ordered = (λ same k v. there sa
         ))
 
 -- ---- a replay
-some_of : (o : Option Map) → is_some o ≡ true → (m : Map) × (o ≡ Some m)
-some_of None e = absurd (cc)
-some_of (Some m) e = (m, refl)
 
 pub told_as_replayed : (s : Sizes) (image : List (List ℕ)) (L : List Record) (r : Replayed) → IsReplay L r → IsVerified s image L → told_deleted L ≡ r.deleted
 told_as_replayed s image L r replay is =
@@ -138,7 +119,7 @@ holds_as_replayed s image L r replay is = λ k v. (λ h. replay.map is.map is.an
 
 pub verified : (s : Sizes) (image : List (List ℕ)) (L : List Record) (r : Replayed) → IsReplay L r → r.agrees ≡ true → told_deleted L ≡ r.deleted → HoldsJust s image (get r.map) → IsVerified s image L
 verified s image L r replay agrees told just =
-    let some = some_of (expected L) (sym replay.agrees ∙ agrees) in
+    let some = some_of_test (expected L) (sym replay.agrees ∙ agrees) in
     record {
       map = some.0;
       answers = some.1;

@@ -1,5 +1,5 @@
 -- What was read of a log, and what waits behind it.
-use Rattle.std.proofs.Common.{◌≡◌, inl, inr, ℕ, ◌+◌, ◌-◌, ◌≤◌, ◌<◌, Bool, true, false, List, [], ◌∷◌, ◌++◌, length, take, drop, refl, sym, ◌∙◌, ap, subst, arith, append_assoc, length-append, take-append-drop, eq-eqb, Option, Some, None, IfSome}
+use Rattle.std.proofs.Common.{◌≡◌, inl, inr, ℕ, ◌+◌, ◌-◌, ◌≤◌, ◌<◌, Bool, true, false, List, [], ◌∷◌, ◌++◌, length, take, drop, refl, sym, ◌∙◌, ap, subst, arith, append_assoc, length-append, take-append-drop, eq-eqb}
 use Rattle.std.specs.Prelude.{◌==◌}
 use Rattle.std.proofs.lemmas.List.{drop_at, take_all}
 use Rattle.std.proofs.lemmas.Grind.{flat_map-append}
@@ -19,10 +19,6 @@ use Rattle.dali_vault.specs.Vaulted.{Vaulted, with_store}
 use Rattle.dali_verify.specs.Errors.{read_as}
 use Rattle.dali_verify.specs.Verified.{Spell, IsInFile, IsWholeLog}
 use Rattle.dali_verify.specs.declared.error.VerifyError.TheVariants as errors
-
-pub if_some_then : {A : Type 0} (P Q : A → Type 0) (o : Option A) → IfSome o P → ((x : A) → P x → Q x) → IfSome o Q
-if_some_then P Q None p f = tt
-if_some_then P Q (Some x) p f = f x p
 
 -- ---- the records that wait
 parts : (t : ℕ) (since : List Record) → body_bytes since ≡ body_bytes (take t since) ++ body_bytes (drop t since)

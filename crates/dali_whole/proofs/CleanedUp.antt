@@ -1,7 +1,8 @@
 -- A clean-up leaves the vault, and what is flushed.
-use Rattle.std.proofs.Common.{◌≡◌, ℕ, length, take, drop, Bool, true, false, ◌&&◌, List, [], ◌∷◌, ◌++◌, Option, None, Result, Ok, Err, IfErr, refl, ap, sym, subst, ◌∙◌}
+use Rattle.std.proofs.Common.{◌≡◌, ℕ, length, take, drop, true, ◌&&◌, List, [], ◌∷◌, ◌++◌, Option, None, Result, Ok, Err, IfErr, refl, ap, sym, subst, ◌∙◌}
 use Rattle.std.specs.List.{list_all}
 use Rattle.std.proofs.lemmas.Bool.Decides.{Decides-eqb}
+use Rattle.std.proofs.lemmas.Bool.{and_parts}
 use Rattle.dali_record.specs.declared.records.Record.{Record}
 use Rattle.dali_record.specs.declared.records.Record.TheVariants.{Ended}
 use Rattle.dali_region.specs.State.{RegionState}
@@ -47,18 +48,14 @@ own_leaves_taken t L M c d (GivesBack u o) e s = ap (λ (k : CoreState). k.syste
 own_leaves_taken t L M c d (OnRegion r x) e s = ap (λ (k : CoreState). k.system.taken) s.3.1
 own_leaves_taken t L M c d x e s = absurd cc
 
-and_true : (a b : Bool) → (a && b) ≡ true → (a ≡ true) × (b ≡ true)
-and_true true b e = (refl, e)
-and_true false b e = absurd cc
-
 all_quiet : (t : ℕ) (xs : List Step) → list_all (is_own_step t) xs ≡ true → list_all is_quiet xs ≡ true
 all_quiet t [] e = refl
-all_quiet t (x ∷ xs) e = let both = and_true (is_own_step t x) (list_all (is_own_step t) xs) e in ap (λ b. b && list_all is_quiet xs) (own_is_quiet t x both.0) ∙ all_quiet t xs both.1
+all_quiet t (x ∷ xs) e = let both = and_parts (is_own_step t x) (list_all (is_own_step t) xs) e in ap (λ b. b && list_all is_quiet xs) (own_is_quiet t x both.0) ∙ all_quiet t xs both.1
 
 all_leave_taken : (t : ℕ) (m n : Moment) (xs : List Step) → list_all (is_own_step t) xs ≡ true → IsCourse m xs n → n.core.system.taken ≡ m.core.system.taken
 all_leave_taken t m n [] e course = ap (λ (k : Moment). k.core.system.taken) (sym course)
 all_leave_taken t m n (x ∷ xs) e course =
-    let both = and_true (is_own_step t x) (list_all (is_own_step t) xs) e in
+    let both = and_parts (is_own_step t x) (list_all (is_own_step t) xs) e in
     all_leave_taken t course.0 n xs both.1 course.2 ∙ own_leaves_taken t m.log course.0.log m.core course.0.core x both.0 course.1.0
 
 module _ {V : Type 0} (told : V → Option Disk) (may_leave : V → Disk → Type 0) (faults : V → ℕ) where

@@ -5,7 +5,7 @@ use Rattle.std.proofs.lemmas.Bool.{ne_eqb}
 use Rattle.std.proofs.lemmas.Option.{IfSome_then}
 use Rattle.std.proofs.lemmas.List.{append-nil}
 use Rattle.dali_record.specs.declared.records.Record.{Record}
-use Rattle.dali_record.specs.declared.records.Record.TheVariants.{Format, Begin, Forward, Done, Commit, Ended, Solo, AuditBegin, AuditClean, AuditFail, Restarted, Back}
+use Rattle.dali_record.specs.declared.records.Record.TheVariants.{Format}
 use Rattle.dali_record.specs.Spelling.{spelling}
 use Rattle.dali_store.specs.Store.{Files as Disk, LeavesOnly}
 use Rattle.dali_batch.specs.Appending.{SomeAdded, Adds, bodies_of}
@@ -58,17 +58,7 @@ none_added may at more c left = record { others = (c, left, λ g other. refl); l
 -- ---- how many calls
 some_bytes : (r : Record) → 1 ≤ length (spelling r)
 some_bytes (Format i n) = omega arith
-some_bytes (Begin t) = omega arith
-some_bytes (Forward t b) = omega arith
-some_bytes (Done t c a) = omega arith
-some_bytes (Commit t) = omega arith
-some_bytes (Ended t) = omega arith
-some_bytes (Solo t p b) = omega arith
-some_bytes AuditBegin = omega arith
-some_bytes (AuditClean b) = omega arith
-some_bytes (AuditFail b rs) = omega arith
-some_bytes (Restarted rs ds) = omega arith
-some_bytes (Back t b) = omega arith
+some_bytes _ = omega arith
 
 some : (n : ℕ) → 1 ≤ n → (n == 0) ≡ false
 some n le = ne_eqb n 0 (λ e. omega (arith, e, le))
@@ -101,4 +91,4 @@ module _ {V : Type 0} (told : V → Option Disk) (may_leave : V → Disk → Typ
       let untaken : IsUntaken p.core.system f = subst (λ (x : SystemState). IsUntaken x f) (sym at.system) (record { body = refl; records = refl }) in
       let fr = frame_at told may_leave faults s B p v f at.vault (at.none_in_hand runs ∙ ap (λ (x : SystemState). x.taken) (sym at.system)) untaken in
       IfSome_then (told v.store) (flush_is_right_in told may_leave faults s B (take_point p) v f (took told may_leave faults s B p v at.vault) fr runs)
-      (λ fs all c left. let D = all c left in (D.0, D.1, record { to = take_point p; steps = Does Takes ∷ []; course = (take_point p, takes p, refl); same = refl; right = D.2 }))
+      (λ fs all c left. let D = all c left in (D.0, D.1, record { to = take_point p; steps = Does Takes ∷ []; course = (take_point p, takes p, refl); same = refl; regions = refl; right = D.2 }))

@@ -2,7 +2,7 @@
 --     flush_calls y            a flush of all records makes no call where none waits, else four
 --     FlushLeaves y v c        the disk c is left at a moment of one
 --     Within .. v w P          a crash at any moment from v to w leaves disks that have P, where the store tells what its reads give
---     IsRightWithin s p F      the files F restart right at a point to which steps that log nothing lead from p
+--     IsRightWithin s p F      the files F restart right at a point to which steps that log nothing and leave the regions lead from p
 --     FlushIsRight             so does what each disk spells that a crash inside a flush leaves
 use Rattle.std.specs.Prelude.{◌≡◌, ◌==◌, ℕ, false, if◌then◌else◌, List, Option, IfSome, length, drop}
 use Rattle.dali_record.specs.declared.records.Record.{Record}
@@ -33,6 +33,7 @@ pub record IsRightWithin (s : Start) (p : Point) (F : Files) : Type 0 where
   pub steps : List StoreStep
   pub course : IsPointCourse p steps to
   pub same : to.log ≡ p.log
+  pub regions : to.core.regions ≡ p.core.regions
   pub right : LeavesRightAt s to F
 
 module _ {V : Type 0} (told : V → Option Disk) (may_leave : V → Disk → Type 0) (faults : V → ℕ) where

@@ -42,7 +42,7 @@ packs count bs ws v few long whole is five read =
     words_are bs ws long five read ∙ ap (λ xs. word_at xs 0 ∷ word_at xs 1 ∷ word_at xs 2 ∷ word_at xs 3 ∷ word_at xs 4 ∷ []) same
 
 -- ---- the fields of a value
-size_is : (n : ℕ) → 1 ≤ n → n ≤ 40 → is_size n ≡ true
+pub size_is : (n : ℕ) → 1 ≤ n → n ≤ 40 → is_size n ≡ true
 size_is n some few = grind (arith, nat_tests)
 
 pub field_value : (count : ℕ) (bs v : List ℕ) → take count bs ≡ v → 1 ≤ count → count ≤ 40 → length bs ≡ 40 → All (λ b. b < 256) (take count bs) → IsValue v

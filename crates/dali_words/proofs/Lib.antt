@@ -5,4 +5,4 @@ pub mod Dependence
 pub mod Rows
 pub mod Bytes
 pub mod Lowest
-mod Fields
+pub mod Fields

@@ -22,13 +22,13 @@ pub xor_under-nothing : (ws : List ℕ) → xor_under 0 ws ≡ 0
 xor_under-nothing ws = ap parity_of (nothing_under ws)
 
 -- ---- the lowest word, and the others
-even_left : (m : ℕ) → 0 < m → bit_and m (m - 1) % 2 ≡ 0
+pub even_left : (m : ℕ) → 0 < m → bit_and m (m - 1) % 2 ≡ 0
 even_left m some = omega (arith, and_step m (m - 1))
 
-no_first : (m : ℕ) → m % 2 ≡ 0 → has_first m ≡ false
+pub no_first : (m : ℕ) → m % 2 ≡ 0 → has_first m ≡ false
 no_first m e = ap (λ d. d == 1) e
 
-some_first : (m d : ℕ) → m % 2 ≡ suc d → has_first m ≡ true
+pub some_first : (m d : ℕ) → m % 2 ≡ suc d → has_first m ≡ true
 some_first m d e = let one : m % 2 ≡ 1 = omega (arith, e) in ap (λ n. n == 1) one
 
 at_first : (m : ℕ) (w : ℕ) (ws : List ℕ) (d t : ℕ) → 0 < m → m % 2 ≡ d

@@ -9,7 +9,7 @@ use Rattle.dali_words.specs.Effects.{write_all}
 use Rattle.dali_words.proofs.Masks.{IsIn, length-write_all}
 
 -- one word more of a row
-row_push : (k n : ℕ) → row_of k (suc n) ≡ row_of k n ++ (k + n) ∷ []
+pub row_push : (k n : ℕ) → row_of k (suc n) ≡ row_of k n ++ (k + n) ∷ []
 row_push k zero = let e : k + 0 ≡ k = omega arith in ap (λ i. i ∷ []) (sym e)
 row_push k (suc n) = let e : k + 1 + n ≡ k + suc n = omega arith in ap (λ is. k ∷ is) (row_push (k + 1) n) ∙ ap (λ i. k ∷ (row_of (k + 1) n ++ i ∷ [])) e
 
@@ -40,7 +40,7 @@ part_written k n ws mid news room size same = ap (λ xs. take k ws ++ (xs ++ dro
 or_zero : (a : ℕ) → bit_or a 0 ≡ a
 or_zero a = same_from_bits (bit_or a 0) a (λ i. omega (arith, bit_at_or a 0 i, bit_at-zero i))
 
-or_assoc : (a b c : ℕ) → bit_or (bit_or a b) c ≡ bit_or a (bit_or b c)
+pub or_assoc : (a b c : ℕ) → bit_or (bit_or a b) c ≡ bit_or a (bit_or b c)
 or_assoc a b c = same_from_bits (bit_or (bit_or a b) c) (bit_or a (bit_or b c)) (λ i. omega (arith, bit_at_or (bit_or a b) c i, bit_at_or a b i, bit_at_or a (bit_or b c) i, bit_at_or b c i))
 
 mask_from : (a : ℕ) (is : List ℕ) → fold (λ m i. bit_or m (2 ^ i)) a is ≡ bit_or a (mask_of is)

@@ -4,7 +4,7 @@ ghost use Rattle.dali_bytes.specs.Reading.{Reads, number64_at};
 ghost use Rattle.dali_record.specs.Spelling;
 ghost use Rattle.dali_record.specs.Spelling.{CanBeSpelled, Begins, spelling, has_list};
 ghost use Rattle.dali_record.specs.declared.records.Record.{Record};
-ghost use Rattle.dali_record.specs.Reading.{Gives, Fills, HasList, Passes, is_above, cell_at, entry_at, flag_at, value_at, numbers_at, counted32_at, counted64_at, op_at, outcome_at, undo_at, block_at, block_of_at, call_at, answer_at, done_at, format_at, audit_fail_at, restarted_at, record_at, two, three};
+ghost use Rattle.dali_record.specs.Reading.{Gives, Puts, Fills, HasList, Passes, is_above, cell_at, entry_at, flag_at, value_at, numbers_at, counted32_at, counted64_at, op_at, outcome_at, undo_at, block_at, block_of_at, call_at, answer_at, done_at, format_at, audit_fail_at, restarted_at, record_at, one, two, three};
 
 use crate::codec::VERSION;
 use crate::codec::failure::{Failure, NoSpelling};
@@ -266,23 +266,6 @@ fn words(reader: &mut Reader, count: u32, into: &mut Words) -> Result<(), NoSpel
     Ok(())
 }
 
-/// A block without new words, whose fields are then filled in place: a block is large, and so is moved only once.
-fn blank() -> Block
-    ensures { result.after ≡ [] }
-{
-    Block {
-        key: 0,
-        region: 0,
-        op: Op::Look,
-        read: 0,
-        xor: 0,
-        write: 0,
-        after: Words::new(),
-        outcome: Outcome::NoEntry,
-        undo: None,
-    }
-}
-
 /// A block, into one without new words.
 #[tactic(auto, unfolding(crate::specs::Reading::block_at))]
 fn block(reader: &mut Reader, into: &mut Block) -> Result<(), NoSpelling>
@@ -351,55 +334,90 @@ fn solo(reader: &mut Reader, into: &mut Block) -> Result<(), NoSpelling>
     Ok(())
 }
 
-/// An operation of a transaction's call.
+/// An operation of a transaction's call, into a place: the block stays where it is, where one lies there.
 #[inline(never)]
-fn operation(reader: &mut Reader) -> Result<Record, Failure>
+fn operation(reader: &mut Reader, into: &mut Record) -> Result<(), Failure>
     ensures same { reader.new.all ≡ reader.old.all }
     ensures later { reader.old.at ≤ reader.new.at }
-    ensures read { Gives result (left reader.new) (two Record.Forward number64_at (block_of_at Spelling.is_forward) (left reader.old)) }
+    ensures read { Puts result into.new (left reader.new) (two Record.Forward number64_at (block_of_at Spelling.is_forward) (left reader.old)) }
     ensures known { IsErrOf result Failure.OutOfMemory → ⊥ }
 {
-    let txn = reader.number64()?;
-    let mut block = blank();
-    forward(reader, &mut block)?;
-    Ok(Record::Forward { txn, block })
+    let number = reader.number64()?;
+    match into {
+        Record::Forward { txn, block } => {
+            *txn = number;
+            block.after.clear();
+            forward(reader, block)?;
+        }
+        _ => {
+            let mut block = Block::blank();
+            forward(reader, &mut block)?;
+            *into = Record::Forward { txn: number, block };
+        }
+    }
+    Ok(())
 }
 
 /// A block that is a transaction of its own.
 #[inline(never)]
-fn freeing(reader: &mut Reader) -> Result<Record, Failure>
+fn freeing(reader: &mut Reader, into: &mut Record) -> Result<(), Failure>
     ensures same { reader.new.all ≡ reader.old.all }
     ensures later { reader.old.at ≤ reader.new.at }
-    ensures read { Gives result (left reader.new) (three Record.Solo number64_at number64_at (block_of_at Spelling.is_solo) (left reader.old)) }
+    ensures read { Puts result into.new (left reader.new) (three Record.Solo number64_at number64_at (block_of_at Spelling.is_solo) (left reader.old)) }
     ensures known { IsErrOf result Failure.OutOfMemory → ⊥ }
 {
-    let txn = reader.number64()?;
-    let parent = reader.number64()?;
-    let mut block = blank();
-    solo(reader, &mut block)?;
-    Ok(Record::Solo { txn, parent, block })
+    let number = reader.number64()?;
+    let of = reader.number64()?;
+    match into {
+        Record::Solo { txn, parent, block } => {
+            *txn = number;
+            *parent = of;
+            block.after.clear();
+            solo(reader, block)?;
+        }
+        _ => {
+            let mut block = Block::blank();
+            solo(reader, &mut block)?;
+            *into = Record::Solo {
+                txn: number,
+                parent: of,
+                block,
+            };
+        }
+    }
+    Ok(())
 }
 
 /// An operation that takes back.
 #[inline(never)]
-fn taking_back(reader: &mut Reader) -> Result<Record, Failure>
+fn taking_back(reader: &mut Reader, into: &mut Record) -> Result<(), Failure>
     ensures same { reader.new.all ≡ reader.old.all }
     ensures later { reader.old.at ≤ reader.new.at }
-    ensures read { Gives result (left reader.new) (two Record.Back number64_at (block_of_at Spelling.is_back) (left reader.old)) }
+    ensures read { Puts result into.new (left reader.new) (two Record.Back number64_at (block_of_at Spelling.is_back) (left reader.old)) }
     ensures known { IsErrOf result Failure.OutOfMemory → ⊥ }
 {
-    let txn = reader.number64()?;
-    let mut block = blank();
-    back(reader, &mut block)?;
-    Ok(Record::Back { txn, block })
+    let number = reader.number64()?;
+    match into {
+        Record::Back { txn, block } => {
+            *txn = number;
+            block.after.clear();
+            back(reader, block)?;
+        }
+        _ => {
+            let mut block = Block::blank();
+            back(reader, &mut block)?;
+            *into = Record::Back { txn: number, block };
+        }
+    }
+    Ok(())
 }
 
 #[tactic(auto, unfolding(crate::specs::Reading::done_at))]
 #[inline(never)]
-fn done(reader: &mut Reader) -> Result<Record, Failure>
+fn done(reader: &mut Reader, into: &mut Record) -> Result<(), Failure>
     ensures same { reader.new.all ≡ reader.old.all }
     ensures later { reader.old.at ≤ reader.new.at }
-    ensures read { Gives result (left reader.new) (done_at (left reader.old)) }
+    ensures read { Puts result into.new (left reader.new) (done_at (left reader.old)) }
     ensures known { IsErrOf result Failure.OutOfMemory → ⊥ }
 {
     let txn = reader.number64()?;
@@ -408,15 +426,16 @@ fn done(reader: &mut Reader) -> Result<Record, Failure>
     if !is_answer_of(&call, &answer) {
         return Err(Failure::NoSpelling);
     }
-    Ok(Record::Done { txn, call, answer })
+    *into = Record::Done { txn, call, answer };
+    Ok(())
 }
 
 #[tactic(auto, unfolding(crate::specs::Reading::format_at, crate::specs::Reading::version_at))]
 #[inline(never)]
-fn format(reader: &mut Reader) -> Result<Record, Failure>
+fn format(reader: &mut Reader, into: &mut Record) -> Result<(), Failure>
     ensures same { reader.new.all ≡ reader.old.all }
     ensures later { reader.old.at ≤ reader.new.at }
-    ensures read { Gives result (left reader.new) (format_at (left reader.old)) }
+    ensures read { Puts result into.new (left reader.new) (format_at (left reader.old)) }
     ensures known { IsErrOf result Failure.OutOfMemory → ⊥ }
 {
     if reader.byte()? != VERSION {
@@ -430,7 +449,8 @@ fn format(reader: &mut Reader) -> Result<Record, Failure>
     if heap < 1 || MAX_HEAP < heap {
         return Err(Failure::NoSpelling);
     }
-    Ok(Record::Format { index, heap })
+    *into = Record::Format { index, heap };
+    Ok(())
 }
 
 /// Whether the number may follow the last one of an ascending list.
@@ -515,10 +535,10 @@ fn regions(alloc: Global, reader: &mut Reader) -> Result<Regions, Failure>
 
 #[tactic(auto, unfolding(crate::specs::Reading::audit_fail_at))]
 #[inline(never)]
-fn audit_fail(alloc: Global, reader: &mut Reader) -> Result<Record, Failure>
+fn audit_fail(alloc: Global, reader: &mut Reader, into: &mut Record) -> Result<(), Failure>
     ensures same { reader.new.all ≡ reader.old.all }
     ensures later { reader.old.at ≤ reader.new.at }
-    ensures read { Gives result (left reader.new) (audit_fail_at (left reader.old)) }
+    ensures read { Puts result into.new (left reader.new) (audit_fail_at (left reader.old)) }
 {
     let begin = reader.number64()?;
     let start = reader.at();
@@ -527,15 +547,16 @@ fn audit_fail(alloc: Global, reader: &mut Reader) -> Result<Record, Failure>
     }
     reader.go_back(start);
     let regions = regions(alloc, reader)?;
-    Ok(Record::AuditFail { begin, regions })
+    *into = Record::AuditFail { begin, regions };
+    Ok(())
 }
 
 #[tactic(auto, unfolding(crate::specs::Reading::restarted_at))]
 #[inline(never)]
-fn restarted(alloc: Global, reader: &mut Reader) -> Result<Record, Failure>
+fn restarted(alloc: Global, reader: &mut Reader, into: &mut Record) -> Result<(), Failure>
     ensures same { reader.new.all ≡ reader.old.all }
     ensures later { reader.old.at ≤ reader.new.at }
-    ensures read { Gives result (left reader.new) (restarted_at (left reader.old)) }
+    ensures read { Puts result into.new (left reader.new) (restarted_at (left reader.old)) }
 {
     let start = reader.at();
     pass64(reader)?;
@@ -543,43 +564,130 @@ fn restarted(alloc: Global, reader: &mut Reader) -> Result<Record, Failure>
     reader.go_back(start);
     let rolled_back = numbers(alloc, reader)?;
     let deleted = numbers(alloc, reader)?;
-    Ok(Record::Restarted {
+    *into = Record::Restarted {
         rolled_back,
         deleted,
-    })
+    };
+    Ok(())
 }
 
-/// The record that begins at the reader, if one does.
-#[tactic(auto, unfolding(crate::specs::Reading::record_at), using(crate::proofs::Spelled::audit_fail_lists, crate::proofs::Spelled::restarted_lists))]
+// Each kind of record has a function of its own, which clears room for that kind alone.
+
+/// The record of a begin.
 #[inline(never)]
-fn record(alloc: Global, reader: &mut Reader) -> Result<Record, Failure>
+fn begin(reader: &mut Reader, into: &mut Record) -> Result<(), Failure>
     ensures same { reader.new.all ≡ reader.old.all }
     ensures later { reader.old.at ≤ reader.new.at }
-    ensures read { Gives result (left reader.new) (record_at (left reader.old)) }
+    ensures read { Puts result into.new (left reader.new) (one Record.Begin number64_at (left reader.old)) }
+    ensures known { IsErrOf result Failure.OutOfMemory → ⊥ }
+{
+    let txn = reader.number64()?;
+    *into = Record::Begin { txn };
+    Ok(())
+}
+
+/// The record of a commit.
+#[inline(never)]
+fn commit(reader: &mut Reader, into: &mut Record) -> Result<(), Failure>
+    ensures same { reader.new.all ≡ reader.old.all }
+    ensures later { reader.old.at ≤ reader.new.at }
+    ensures read { Puts result into.new (left reader.new) (one Record.Commit number64_at (left reader.old)) }
+    ensures known { IsErrOf result Failure.OutOfMemory → ⊥ }
+{
+    let txn = reader.number64()?;
+    *into = Record::Commit { txn };
+    Ok(())
+}
+
+/// The record of an end.
+#[inline(never)]
+fn ended(reader: &mut Reader, into: &mut Record) -> Result<(), Failure>
+    ensures same { reader.new.all ≡ reader.old.all }
+    ensures later { reader.old.at ≤ reader.new.at }
+    ensures read { Puts result into.new (left reader.new) (one Record.Ended number64_at (left reader.old)) }
+    ensures known { IsErrOf result Failure.OutOfMemory → ⊥ }
+{
+    let txn = reader.number64()?;
+    *into = Record::Ended { txn };
+    Ok(())
+}
+
+/// The record of an audit that found nothing.
+#[inline(never)]
+fn audit_clean(reader: &mut Reader, into: &mut Record) -> Result<(), Failure>
+    ensures same { reader.new.all ≡ reader.old.all }
+    ensures later { reader.old.at ≤ reader.new.at }
+    ensures read { Puts result into.new (left reader.new) (one Record.AuditClean number64_at (left reader.old)) }
+    ensures known { IsErrOf result Failure.OutOfMemory → ⊥ }
+{
+    let begin = reader.number64()?;
+    *into = Record::AuditClean { begin };
+    Ok(())
+}
+
+/// The record of an audit's beginning.
+#[inline(never)]
+fn audit_begin(into: &mut Record)
+    ensures { into.new ≡ Record.AuditBegin }
+{
+    *into = Record::AuditBegin;
+}
+
+/// The record that begins at the reader, if one does, into a place.
+#[tactic(auto, unfolding(crate::specs::Reading::record_at), using(crate::proofs::Spelled::audit_fail_lists, crate::proofs::Spelled::restarted_lists))]
+#[inline(never)]
+fn record(alloc: Global, reader: &mut Reader, into: &mut Record) -> Result<(), Failure>
+    ensures same { reader.new.all ≡ reader.old.all }
+    ensures later { reader.old.at ≤ reader.new.at }
+    ensures read { Puts result into.new (left reader.new) (record_at (left reader.old)) }
     ensures lists { IsErrOf result Failure.OutOfMemory → HasList (record_at (left reader.old)) }
 {
     match reader.byte()? {
-        1 => format(reader),
-        2 => Ok(Record::Begin {
-            txn: reader.number64()?,
-        }),
-        3 => operation(reader),
-        4 => done(reader),
-        5 => Ok(Record::Commit {
-            txn: reader.number64()?,
-        }),
-        6 => Ok(Record::Ended {
-            txn: reader.number64()?,
-        }),
-        7 => freeing(reader),
-        8 => Ok(Record::AuditBegin),
-        9 => Ok(Record::AuditClean {
-            begin: reader.number64()?,
-        }),
-        10 => audit_fail(alloc, reader),
-        11 => restarted(alloc, reader),
-        12 => taking_back(reader),
+        1 => format(reader, into),
+        2 => begin(reader, into),
+        3 => operation(reader, into),
+        4 => done(reader, into),
+        5 => commit(reader, into),
+        6 => ended(reader, into),
+        7 => freeing(reader, into),
+        8 => {
+            audit_begin(into);
+            Ok(())
+        }
+        9 => audit_clean(reader, into),
+        10 => audit_fail(alloc, reader, into),
+        11 => restarted(alloc, reader, into),
+        12 => taking_back(reader, into),
         _ => Err(Failure::NoSpelling),
+    }
+}
+
+/// Reads the record whose spelling begins at the reader into a place, and leaves the reader behind it. What the place had
+/// is let go; after an error nothing is said of it. The errors are those of `decode`. A caller that lends the same place for
+/// each record doesn't move them.
+pub fn decode_into(alloc: Global, reader: &mut Reader, into: &mut Record) -> Result<(), DecodeError>
+    // A record that can be spelled, and the reader is behind its spelling.
+    ensures record { OnOk result (CanBeSpelled into.new × (left reader.old ≡ spelling into.new ++ left reader.new)) }
+    ensures same { reader.new.all ≡ reader.old.all }
+
+    // No record is spelled at the front of what is left.
+    ensures bad { IsErrOf result (DecodeError.BadRecord reader.old.at) ↔ ((r : Record) → Begins (left reader.old) r → ⊥) }
+    // A record with a list is.
+    ensures memory { IsErrOf result DecodeError.OutOfMemory → (r : Record) × Begins (left reader.old) r × (has_list r ≡ true) }
+    ensures errors { IfErr result (λ e. (e ≡ DecodeError.BadRecord reader.old.at) ⊎ (e ≡ DecodeError.OutOfMemory)) }
+    ensures unchanged { OnErr result (reader.new ≡ reader.old) }
+{
+    let start = reader.at();
+    match record(alloc, reader, into) {
+        Ok(()) => Ok(()),
+        Err(Failure::NoSpelling) => {
+            reader.go_back(start);
+            Err(DecodeError::BadRecord { at: start })
+        }
+        Err(Failure::OutOfMemory) => {
+            reader.go_back(start);
+            Err(DecodeError::OutOfMemory)
+        }
     }
 }
 
@@ -588,8 +696,6 @@ fn record(alloc: Global, reader: &mut Reader) -> Result<Record, Failure>
 /// BadRecord comes exactly where no spelling begins there, and names its first byte. Only the lists
 /// of AuditFail and Restarted take memory, and only once the whole record was found good. After an
 /// error the reader stands where it was.
-// Inlined, so that the record isn't moved once more.
-#[inline(always)]
 pub fn decode(alloc: Global, reader: &mut Reader) -> Result<Record, DecodeError>
     // A record that can be spelled, and the reader is behind its spelling.
     ensures record { IfOk result (λ r. CanBeSpelled r × (left reader.old ≡ spelling r ++ left reader.new)) }
@@ -602,16 +708,9 @@ pub fn decode(alloc: Global, reader: &mut Reader) -> Result<Record, DecodeError>
     ensures errors { IfErr result (λ e. (e ≡ DecodeError.BadRecord reader.old.at) ⊎ (e ≡ DecodeError.OutOfMemory)) }
     ensures unchanged { OnErr result (reader.new ≡ reader.old) }
 {
-    let start = reader.at();
-    match record(alloc, reader) {
-        Ok(found) => Ok(found),
-        Err(Failure::NoSpelling) => {
-            reader.go_back(start);
-            Err(DecodeError::BadRecord { at: start })
-        }
-        Err(Failure::OutOfMemory) => {
-            reader.go_back(start);
-            Err(DecodeError::OutOfMemory)
-        }
+    let mut found = Record::AuditBegin;
+    match decode_into(alloc, reader, &mut found) {
+        Ok(()) => Ok(found),
+        Err(error) => Err(error),
     }
 }

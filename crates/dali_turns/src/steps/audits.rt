@@ -12,6 +12,8 @@ ghost use Rattle.dali_clients.specs.declared.line.Line.TheVariants.{Refused as I
 ghost use Rattle.dali_turns.specs.declared.client.State.TheVariants.{Outside as IsOutside, Auditing as IsAuditing};
 ghost use Rattle.dali_turns.specs.Clients.{next_of, Passes, Finishes};
 ghost use Rattle.dali_turns.specs.Goes.{StepGoes};
+ghost use Rattle.dali_turns.specs.Moments.{StepLeavesRight};
+ghost use Rattle.dali_turns.specs.Refuses.{SaysStop, RefusesNow, Refuses};
 ghost use Rattle.dali_turns.specs.Places.{PlacesGo};
 
 use crate::client::{Client, State};
@@ -70,6 +72,8 @@ pub(crate) fn start<V: Store>(
     ensures goes { (precheck : Bool) → StepGoes V.told V.may_leave V.faults precheck IsOutside client.old core.old.regions.items core.old.system.state core.old.vault (is_ok result) client.new core.new.regions.items core.new.system.state core.new.vault }
     ensures places { PlacesGo V.told IsOutside core.old.regions.items core.old.vault client.new.state core.new.regions.items core.new.vault }
     ensures on { IfOk result (λ went. went ≡ true) }
+    ensures vault { core.new.vault ≡ core.old.vault }
+    ensures refuses { RefusesNow core.old.system.state IsAudit client.old result client.new }
 {
     match begin(alloc, &mut core.system) {
         Ok(audit) => {
@@ -93,6 +97,8 @@ pub(crate) fn audit_next<V: Store>(
     ensures places { IfSome result (λ stepped. PlacesGo V.told client.old.state core.old.regions.items core.old.vault client.new.state core.new.regions.items core.new.vault) }
     ensures on { IfSome result (λ stepped. IfOk stepped (λ went. went ≡ true)) }
     ensures past { result ≡ None → (client.new ≡ client.old) × (core.new ≡ core.old) × ((audit : Audited) (next : ℕ) → client.old.state ≡ IsAuditing audit next → length core.old.regions.items ≤ next) }
+    ensures any_moment { IfSome result (λ stepped. StepLeavesRight V.told V.may_leave V.faults V.moment V.left_since client.old.state client.old core.old.regions.items core.old.system.state core.old.vault core.new.system.state core.new.vault) }
+    ensures refuses { IfSome result (λ stepped. (precheck : Bool) → Refuses precheck client.old.state client.old core.old.regions.items core.old.system.state core.old.vault.flushed stepped client.new core.new.vault.stopped) }
 {
     let State::Auditing { audit, next } = &mut client.state else {
         return None;
@@ -121,6 +127,8 @@ pub(crate) fn end<V: Store>(
     ensures goes { (precheck : Bool) → StepGoes V.told V.may_leave V.faults precheck (IsAuditing audit next) client.old core.old.regions.items core.old.system.state core.old.vault (is_ok result) client.new core.new.regions.items core.new.system.state core.new.vault }
     ensures places { PlacesGo V.told (IsAuditing audit next) core.old.regions.items core.old.vault client.new.state core.new.regions.items core.new.vault }
     ensures on { IfOk result (λ went. went ≡ true) }
+    ensures any_moment { StepLeavesRight V.told V.may_leave V.faults V.moment V.left_since (IsAuditing audit next) client.old core.old.regions.items core.old.system.state core.old.vault core.new.system.state core.new.vault }
+    ensures refuses { SaysStop core.old.system.state IsOutside IsAudit client.old result client.new }
 {
     if !audit.has_passed_all() || !has_room(&core.vault) {
         return no_run();

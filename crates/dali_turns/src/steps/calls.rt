@@ -8,6 +8,7 @@ ghost use Rattle.dali_single.specs.Refusals.{IsRefusal, IsLatched};
 ghost use Rattle.dali_single.specs.Stands.{IsAtRest};
 ghost use Rattle.dali_region.specs.declared.LatchError.TheVariants.{Damaged};
 ghost use Rattle.dali_core.specs.declared.error.SystemError.{SystemError as Refused};
+ghost use Rattle.dali_single.specs.declared.error.StepError.{StepError as MayRefuse};
 ghost use Rattle.dali_single.specs.declared.error.StepError.TheVariants.{Latch as ByLatch, System as BySystem};
 ghost use Rattle.dali_stepwise.specs.Stepwise.{OneFurther, IsDeath};
 ghost use Rattle.dali_att.specs.declared.state.State.TheVariants.{Live};
@@ -20,6 +21,7 @@ ghost use Rattle.dali_turns.specs.declared.client.State.TheVariants.{Outside as 
 ghost use Rattle.dali_turns.specs.Clients.{next_of, next_point, Stays};
 ghost use Rattle.dali_turns.specs.Calls.{TurnsBack, IsRefusedBy, IsDeadly, IsFurther, MustWait, call_in};
 ghost use Rattle.dali_turns.specs.Goes.{StepGoes};
+ghost use Rattle.dali_turns.specs.Refuses.{IsMet, IsMetBack, SaysStop, Refuses};
 ghost use Rattle.dali_turns.specs.Places.{PlacesGo};
 
 use crate::client::{Client, State, Transaction};
@@ -55,6 +57,8 @@ pub(crate) fn ask<'a, V: Store>(
     ensures goes { (precheck : Bool) → StepGoes V.told V.may_leave V.faults precheck (IsWithin transaction.entry) client.old core.old.regions.items core.old.system.state core.old.vault (is_ok result) client.new core.new.regions.items core.new.system.state core.new.vault }
     ensures places { PlacesGo V.told (IsWithin transaction.entry) core.old.regions.items core.old.vault client.new.state core.new.regions.items core.new.vault }
     ensures waits { IfOk result (λ went. went ≡ false → Stays client.old (IsWithin transaction.entry) client.new × (core.new ≡ core.old) × (core.old.system.state.stop ≡ None) × MustWait core.old.system.state transaction.entry.txn call) }
+    ensures vault { core.new.vault ≡ core.old.vault }
+    ensures refuses { SaysStop core.old.system.state (IsWithin transaction.entry) (IsCall call) client.old result client.new }
 {
     let fresh = Plan::new(core.system.geometry(), transaction.txn, call);
     let plan = BoxedPlan::new(alloc, fresh)?;
@@ -105,6 +109,7 @@ fn clean_holder<'a, V: Store>(
     ensures goes { (precheck : Bool) → StepGoes V.told V.may_leave V.faults precheck (IsWithin transaction.entry) client.old core.old.regions.items core.old.system.state core.old.vault (is_ok result) client.new core.new.regions.items core.new.system.state core.new.vault }
     ensures places { PlacesGo V.told (IsWithin transaction.entry) core.old.regions.items core.old.vault client.new.state core.new.regions.items core.new.vault }
     ensures on { IfOk result (λ went. went ≡ true) }
+    ensures vault { core.new.vault ≡ core.old.vault }
 {
     match clean_up(core, holder)? {
         None => {
@@ -163,6 +168,8 @@ pub(crate) fn call<'a, V: Store, G: Gate>(
     ensures goes { StepGoes V.told V.may_leave V.faults setting.now.precheck (IsCalling transaction.entry plan) client.old core.old.regions.items core.old.system.state core.old.vault (is_ok result) client.new core.new.regions.items core.new.system.state core.new.vault }
     ensures places { PlacesGo V.told (IsCalling transaction.entry plan) core.old.regions.items core.old.vault client.new.state core.new.regions.items core.new.vault }
     ensures on { IfOk result (λ went. went ≡ true) }
+    ensures vault { core.new.vault ≡ core.old.vault }
+    ensures refuses { Refuses setting.now.precheck (IsCalling transaction.entry plan) client.old core.old.regions.items core.old.system.state core.old.vault.flushed result client.new core.new.vault.stopped }
 {
     let Some(call) = called(client) else {
         return no_run(); // a call is under way
@@ -257,6 +264,8 @@ fn operate<'a, V: Store, G: Gate>(
     ensures goes { StepGoes V.told V.may_leave V.faults setting.now.precheck (IsCalling transaction.entry plan) client.old core.old.regions.items core.old.system.state core.old.vault (is_ok result) client.new core.new.regions.items core.new.system.state core.new.vault }
     ensures places { PlacesGo V.told (IsCalling transaction.entry plan) core.old.regions.items core.old.vault client.new.state core.new.regions.items core.new.vault }
     ensures on { IfOk result (λ went. went ≡ true) }
+    ensures vault { core.new.vault ≡ core.old.vault }
+    ensures met { (e : MayRefuse) → IsRefusal setting.now.precheck plan core.old.regions.items core.old.system.state e → OnOk result (IsMet e core.old.system.state.stop client.old transaction.entry plan client.new) }
 {
     let mut plan = plan;
     match make_next(&mut plan, core, client, setting) {
@@ -302,6 +311,8 @@ fn die<'a, V: Store, G: Gate>(
     ensures goes { StepGoes V.told V.may_leave V.faults setting.now.precheck (IsCalling transaction.entry plan) client.old core.old.regions.items core.old.system.state core.old.vault (is_ok result) client.new core.new.regions.items core.new.system.state core.new.vault }
     ensures places { PlacesGo V.told (IsCalling transaction.entry plan) core.old.regions.items core.old.vault client.new.state core.new.regions.items core.new.vault }
     ensures on { IfOk result (λ went. went ≡ true) }
+    ensures vault { core.new.vault ≡ core.old.vault }
+    ensures met { (e : MayRefuse) → IsRefusal setting.now.precheck plan core.old.regions.items core.old.system.state e → IsLatched e → OnOk result (IsMet e core.old.system.state.stop client.old transaction.entry plan client.new) }
 {
     let mut plan = plan;
     match die_next(&mut plan, core, client, setting) {
@@ -347,6 +358,8 @@ fn answer<'a, V: Store>(
     ensures goes { (precheck : Bool) → StepGoes V.told V.may_leave V.faults precheck (IsCalling transaction.entry plan) client.old core.old.regions.items core.old.system.state core.old.vault (is_ok result) client.new core.new.regions.items core.new.system.state core.new.vault }
     ensures places { PlacesGo V.told (IsCalling transaction.entry plan) core.old.regions.items core.old.vault client.new.state core.new.regions.items core.new.vault }
     ensures on { IfOk result (λ went. went ≡ true) }
+    ensures vault { core.new.vault ≡ core.old.vault }
+    ensures met { (precheck : Bool) (e : MayRefuse) → IsRefusal precheck plan core.old.regions.items core.old.system.state e → OnOk result (IsMet e core.old.system.state.stop client.old transaction.entry plan client.new) }
 {
     let mut plan = plan;
     match dali_stepwise::answer(&mut plan.plan, &mut core.system) {
@@ -381,6 +394,8 @@ fn hindered<'a, V: Store>(
     ensures on { IfOk result (λ went. went ≡ true) }
     ensures damaged { (codeword found : ℕ) → error ≡ ByLatch (Damaged codeword found) → TurnsBack client.old transaction.entry plan (IsDamaged region codeword found) client.new }
     ensures points { (cause : Refused) → error ≡ BySystem cause → client.new.points ≡ next_point client.old.points }
+    ensures vault { core.new.vault ≡ core.old.vault }
+    ensures met { OnOk result (IsMet error core.old.system.state.stop client.old transaction.entry plan client.new) }
 {
     match error {
         StepError::Latch { cause } => match cause {
@@ -467,6 +482,8 @@ pub(crate) fn take_back<'a, V: Store, G: Gate>(
     ensures goes { StepGoes V.told V.may_leave V.faults setting.now.precheck (IsTakingBack transaction.entry plan why) client.old core.old.regions.items core.old.system.state core.old.vault (is_ok result) client.new core.new.regions.items core.new.system.state core.new.vault }
     ensures places { PlacesGo V.told (IsTakingBack transaction.entry plan why) core.old.regions.items core.old.vault client.new.state core.new.regions.items core.new.vault }
     ensures on { IfOk result (λ went. went ≡ true) }
+    ensures vault { core.new.vault ≡ core.old.vault }
+    ensures refuses { Refuses setting.now.precheck (IsTakingBack transaction.entry plan why) client.old core.old.regions.items core.old.system.state core.old.vault.flushed result client.new core.new.vault.stopped }
 {
     if !is_called(client) {
         return no_run(); // a call is under way
@@ -502,6 +519,8 @@ fn go_back<'a, V: Store, G: Gate>(
     ensures goes { StepGoes V.told V.may_leave V.faults setting.now.precheck (IsTakingBack transaction.entry plan why) client.old core.old.regions.items core.old.system.state core.old.vault (is_ok result) client.new core.new.regions.items core.new.system.state core.new.vault }
     ensures places { PlacesGo V.told (IsTakingBack transaction.entry plan why) core.old.regions.items core.old.vault client.new.state core.new.regions.items core.new.vault }
     ensures on { IfOk result (λ went. went ≡ true) }
+    ensures vault { core.new.vault ≡ core.old.vault }
+    ensures met { (e : MayRefuse) → IsRefusal setting.now.precheck plan core.old.regions.items core.old.system.state e → OnOk result (IsMetBack e core.old.system.state.stop client.old transaction.entry client.new) }
 {
     let mut plan = plan;
     match make_next(&mut plan, core, client, setting) {
@@ -535,6 +554,8 @@ fn stuck<'a, V: Store>(
     ensures goes { (precheck : Bool) → IsRefusal precheck plan core.old.regions.items core.old.system.state error → StepGoes V.told V.may_leave V.faults precheck (IsTakingBack transaction.entry plan why) client.old core.old.regions.items core.old.system.state core.old.vault (is_ok result) client.new core.new.regions.items core.new.system.state core.new.vault }
     ensures places { PlacesGo V.told (IsTakingBack transaction.entry plan why) core.old.regions.items core.old.vault client.new.state core.new.regions.items core.new.vault }
     ensures on { IfOk result (λ went. went ≡ true) }
+    ensures vault { core.new.vault ≡ core.old.vault }
+    ensures met { OnOk result (IsMetBack error core.old.system.state.stop client.old transaction.entry client.new) }
 {
     match error {
         StepError::Latch { cause } => match cause {

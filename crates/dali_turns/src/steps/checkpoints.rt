@@ -1,6 +1,8 @@
 //! The steps of a checkpoint.
-ghost use Rattle.std.specs.Prelude.{◌≡◌, ℕ, ◌+◌, ◌<◌, ◌≤◌, ◌^◌, Bool, true, Some, None, Err, is_ok, IfOk, IfSome, OnOk, OnErr, IsSomeAnd, length};
+ghost use Rattle.std.specs.Prelude.{◌≡◌, ℕ, ◌+◌, ◌<◌, ◌≤◌, ◌^◌, Bool, true, Some, None, Err, is_ok, IfOk, IfSome, OnOk, OnErr, IsSome, IsSomeAnd, length};
 ghost use Rattle.dali_geometry.specs.Places.{regions as regions_of};
+ghost use Rattle.dali_record.specs.declared.records.Record.TheVariants.{AuditBegin};
+ghost use Rattle.dali_core.specs.Audits.{audit_refusal};
 ghost use Rattle.dali_checkpoint.specs.Kept.{Checkpointed, given_up};
 ghost use Rattle.dali_audit.specs.Findings.{Audited};
 ghost use Rattle.dali_clients.specs.declared.command.Command.TheVariants.{Checkpoint as IsCheckpoint};
@@ -8,6 +10,8 @@ ghost use Rattle.dali_turns.specs.declared.client.State.TheVariants.{Outside as 
 ghost use Rattle.dali_turns.specs.Endings.{line_in, SaysEnd, Unsaid};
 ghost use Rattle.dali_turns.specs.Clients.{next_of};
 ghost use Rattle.dali_turns.specs.Goes.{StepGoes};
+ghost use Rattle.dali_turns.specs.Moments.{StepLeavesRight};
+ghost use Rattle.dali_turns.specs.Refuses.{SaysStop, RefusesNow, GivesUp, Refuses};
 ghost use Rattle.dali_turns.specs.Places.{HasPlaces, PlacesGo};
 
 use crate::client::{Client, State};
@@ -109,6 +113,8 @@ pub(crate) fn start<V: Store>(
     ensures goes { (precheck : Bool) → StepGoes V.told V.may_leave V.faults precheck IsOutside client.old core.old.regions.items core.old.system.state core.old.vault (is_ok result) client.new core.new.regions.items core.new.system.state core.new.vault }
     ensures places { PlacesGo V.told IsOutside core.old.regions.items core.old.vault client.new.state core.new.regions.items core.new.vault }
     ensures on { IfOk result (λ went. went ≡ true) }
+    ensures any_moment { StepLeavesRight V.told V.may_leave V.faults V.moment V.left_since IsOutside client.old core.old.regions.items core.old.system.state core.old.vault core.new.system.state core.new.vault }
+    ensures refuses { RefusesNow core.old.system.state IsCheckpoint client.old result client.new }
 {
     if !has_room(&core.vault) {
         return no_run();
@@ -156,6 +162,8 @@ pub(crate) fn copy_next<V: Store>(
     ensures places { IfSome result (λ stepped. PlacesGo V.told client.old.state core.old.regions.items core.old.vault client.new.state core.new.regions.items core.new.vault) }
     ensures on { IfSome result (λ stepped. IfOk stepped (λ went. went ≡ true)) }
     ensures past { result ≡ None → (client.new ≡ client.old) × (core.new ≡ core.old) × ((checkpoint : Checkpointed) (next : ℕ) → client.old.state ≡ IsCopying checkpoint next → core.old.system.state.stop ≡ None → length core.old.regions.items ≤ next) }
+    ensures any_moment { IfSome result (λ stepped. StepLeavesRight V.told V.may_leave V.faults V.moment V.left_since client.old.state client.old core.old.regions.items core.old.system.state core.old.vault core.new.system.state core.new.vault) }
+    ensures refuses { IfSome result (λ stepped. (precheck : Bool) → Refuses precheck client.old.state client.old core.old.regions.items core.old.system.state core.old.vault.flushed stepped client.new core.new.vault.stopped) }
 {
     let State::Copying { checkpoint, next } = &mut client.state else {
         return None;
@@ -192,6 +200,8 @@ pub(crate) fn copy<V: Store>(
     ensures goes { (precheck : Bool) → StepGoes V.told V.may_leave V.faults precheck (IsCopying checkpoint next) client.old core.old.regions.items core.old.system.state core.old.vault (is_ok result) client.new core.new.regions.items core.new.system.state core.new.vault }
     ensures places { PlacesGo V.told (IsCopying checkpoint next) core.old.regions.items core.old.vault client.new.state core.new.regions.items core.new.vault }
     ensures on { IfOk result (λ went. went ≡ true) }
+    ensures any_moment { StepLeavesRight V.told V.may_leave V.faults V.moment V.left_since (IsCopying checkpoint next) client.old core.old.regions.items core.old.system.state core.old.vault core.new.system.state core.new.vault }
+    ensures refuses { (precheck : Bool) → Refuses precheck (IsCopying checkpoint next) client.old core.old.regions.items core.old.system.state core.old.vault.flushed result client.new core.new.vault.stopped }
 {
     if let Some(cause) = core.system.stopped() {
         give_up(client, checkpoint, CheckpointError::Stopped { cause }, core)?;
@@ -215,6 +225,8 @@ fn settle<V: Store>(
     ensures goes { (precheck : Bool) → StepGoes V.told V.may_leave V.faults precheck (IsCopying checkpoint next) client.old core.old.regions.items core.old.system.state core.old.vault (is_ok result) client.new core.new.regions.items core.new.system.state core.new.vault }
     ensures places { PlacesGo V.told (IsCopying checkpoint next) core.old.regions.items core.old.vault client.new.state core.new.regions.items core.new.vault }
     ensures on { IfOk result (λ went. went ≡ true) }
+    ensures any_moment { StepLeavesRight V.told V.may_leave V.faults V.moment V.left_since (IsCopying checkpoint next) client.old core.old.regions.items core.old.system.state core.old.vault core.new.system.state core.new.vault }
+    ensures refuses { IsSome (audit_refusal core.old.system.state AuditBegin) → OnOk result (GivesUp client.old client.new) }
 {
     if !may_settle(&checkpoint, next) || !has_room(&core.vault) {
         return no_run();
@@ -253,6 +265,8 @@ pub(crate) fn certify_next<V: Store>(
     ensures places { IfSome result (λ stepped. PlacesGo V.told client.old.state core.old.regions.items core.old.vault client.new.state core.new.regions.items core.new.vault) }
     ensures on { IfSome result (λ stepped. IfOk stepped (λ went. went ≡ true)) }
     ensures past { result ≡ None → (client.new ≡ client.old) × (core.new ≡ core.old) × ((checkpoint : Checkpointed) (audit : Audited) (next : ℕ) → client.old.state ≡ IsCertifying checkpoint audit next → length core.old.regions.items ≤ next) }
+    ensures any_moment { IfSome result (λ stepped. StepLeavesRight V.told V.may_leave V.faults V.moment V.left_since client.old.state client.old core.old.regions.items core.old.system.state core.old.vault core.new.system.state core.new.vault) }
+    ensures refuses { IfSome result (λ stepped. (precheck : Bool) → Refuses precheck client.old.state client.old core.old.regions.items core.old.system.state core.old.vault.flushed stepped client.new core.new.vault.stopped) }
 {
     let State::Certifying { audit, next, .. } = &mut client.state else {
         return None;
@@ -282,6 +296,8 @@ pub(crate) fn finish_audit<V: Store>(
     ensures goes { (precheck : Bool) → StepGoes V.told V.may_leave V.faults precheck (IsCertifying checkpoint audit next) client.old core.old.regions.items core.old.system.state core.old.vault (is_ok result) client.new core.new.regions.items core.new.system.state core.new.vault }
     ensures places { PlacesGo V.told (IsCertifying checkpoint audit next) core.old.regions.items core.old.vault client.new.state core.new.regions.items core.new.vault }
     ensures on { IfOk result (λ went. went ≡ true) }
+    ensures any_moment { StepLeavesRight V.told V.may_leave V.faults V.moment V.left_since (IsCertifying checkpoint audit next) client.old core.old.regions.items core.old.system.state core.old.vault core.new.system.state core.new.vault }
+    ensures refuses { SaysStop core.old.system.state IsOutside IsCheckpoint client.old result client.new }
 {
     if !audit.has_passed_all() || !may_certify(&checkpoint, &audit) || !has_room(&core.vault) {
         return no_run();

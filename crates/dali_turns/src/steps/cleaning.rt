@@ -19,6 +19,7 @@ pub(crate) fn clean_up<V: Store>(core: &mut Core<V>, txn: u64) -> Result<Option<
     ensures vault { core.new.vault ≡ core.old.vault }
     ensures flags { FlagsStay core.old.regions.items core.new.regions.items }
     ensures cleaned { result ≡ Ok None → IsCleanedUp txn core.old.regions.items core.old.system.state core.new.regions.items core.new.system.state }
+    ensures runs { result ≡ Ok None → core.old.system.state.stop ≡ None }
     ensures refused { IfOk result (λ o. IfSome o (λ why. (cause : IsCause) × (why ≡ IsStopped cause) × (core.old.system.state.stop ≡ Some cause)
         × (MayClean core.old.regions.items core.old.system.state txn → IsLeftDead txn core.old.regions.items core.old.system.state core.new.regions.items core.new.system.state))) }
     ensures memory { OnErr result (MayClean core.old.regions.items core.old.system.state txn → IsDead (state_of core.old.system.state txn)

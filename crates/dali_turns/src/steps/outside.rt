@@ -8,6 +8,7 @@ ghost use Rattle.dali_turns.specs.declared.client.State.TheVariants.{Outside as 
 ghost use Rattle.dali_turns.specs.Clients.{next_of, Passes, Stays, left_behind};
 ghost use Rattle.dali_turns.specs.Outside.{HasGone, BeginsFrom};
 ghost use Rattle.dali_turns.specs.Goes.{StepGoes};
+ghost use Rattle.dali_turns.specs.Refuses.{RefusesNow, Refuses};
 ghost use Rattle.dali_turns.specs.Places.{PlacesGo};
 ghost use Rattle.dali_turns.specs.Waits.{StaysPut};
 
@@ -33,6 +34,8 @@ pub(crate) fn begin<V: Store>(
         → StepGoes V.told V.may_leave V.faults precheck state client.old core.old.regions.items core.old.system.state core.old.vault (is_ok result) client.new core.new.regions.items core.new.system.state core.new.vault }
     ensures places { (state : Place) → PlacesGo V.told state core.old.regions.items core.old.vault client.new.state core.new.regions.items core.new.vault }
     ensures on { IfOk result (λ went. went ≡ true) }
+    ensures vault { core.new.vault ≡ core.old.vault }
+    ensures refuses { RefusesNow core.old.system.state IsBegin client.old result client.new }
 {
     let commands = client.rest;
     match core.system.begin() {
@@ -67,6 +70,8 @@ pub(crate) fn wait<V: Store>(
     ensures goes { (precheck : Bool) → StepGoes V.told V.may_leave V.faults precheck (IsWaiting tries holder) client.old core.old.regions.items core.old.system.state core.old.vault (is_ok result) client.new core.new.regions.items core.new.system.state core.new.vault }
     ensures places { PlacesGo V.told (IsWaiting tries holder) core.old.regions.items core.old.vault client.new.state core.new.regions.items core.new.vault }
     ensures idle { result ≡ Ok false → StaysPut core.old.system.state (IsWaiting tries holder) client.old client.new × (core.new ≡ core.old) }
+    ensures vault { core.new.vault ≡ core.old.vault }
+    ensures refuses { (precheck : Bool) → Refuses precheck (IsWaiting tries holder) client.old core.old.regions.items core.old.system.state core.old.vault.flushed result client.new core.new.vault.stopped }
 {
     if !begins_next(client) {
         return no_run(); // a transaction that is tried again begins
@@ -137,6 +142,7 @@ pub(crate) fn poke<V: Store>(
     ensures places { PlacesGo V.told IsOutside core.old.regions.items core.old.vault client.new.state core.new.regions.items core.new.vault }
     ensures on { IfOk result (λ went. went ≡ true) }
     ensures word { (was : RegionState) → slice_get core.old.regions.items region ≡ Some was → OnOk result (core.new.regions.items ≡ slice_set core.old.regions.items region (poked word mask was)) }
+    ensures vault { core.new.vault ≡ core.old.vault }
 {
     if !is_stray(word, mask) {
         return no_run(); // each block's stray writes are so

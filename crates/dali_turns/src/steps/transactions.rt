@@ -1,78 +1,28 @@
 //! How transactions end.
-ghost use Rattle.std.specs.Prelude.{◌≡◌, ◌+◌, ◌<◌, [], ◌∷◌, Bool, true, false, Some, None, Ok, Err, IsErr, is_ok, map, OnOk, OnErr, IfOk, IfErr, IfSome};
+ghost use Rattle.std.specs.Prelude.{◌≡◌, ◌+◌, ◌<◌, [], ◌∷◌, Bool, true, Some, None, Ok, Err, is_ok, map, OnOk, OnErr, IfOk, IfSome, IsSome};
 ghost use Rattle.dali_calls.specs.Flags.{FlagsStay};
-ghost use Rattle.dali_whole.specs.Cores.{IsNoShorter};
-ghost use Rattle.dali_clients.specs.declared.command.Command.TheVariants.{Commit as IsCommit, Abort as IsAbort};
-ghost use Rattle.dali_clients.specs.declared.line.Why.TheVariants.{Stopped as IsStopped, StoreStopped as IsStoreStopped};
-ghost use Rattle.dali_clients.specs.declared.line.Line.TheVariants.{Busy as IsBusy};
+ghost use Rattle.dali_clients.specs.declared.command.Command.TheVariants.{Abort as IsAbort};
+ghost use Rattle.dali_clients.specs.declared.line.Line.TheVariants.{Busy as IsBusy, LeftOpen as IsLeftOpen};
 ghost use Rattle.dali_clients.specs.Told.{act_of};
 ghost use Rattle.dali_transcripts.specs.Moves.{behind_close as acts_behind};
 ghost use Rattle.dali_turns.specs.declared.client.State.TheVariants.{Outside as IsOutside, Within as IsWithin, Waiting as IsWaiting};
 ghost use Rattle.dali_turns.specs.Clients.{next_of};
-ghost use Rattle.dali_turns.specs.Ends.{IsTakenBack, IsHalfBack, IsCommitted, IsUncommitted, abort_line, end_line as line_of, SaysAlso, GoesSilent};
+ghost use Rattle.dali_turns.specs.Ends.{IsTakenBack, IsHalfBack, abort_line, end_line as line_of, SaysAlso, GoesSilent};
 ghost use Rattle.dali_turns.specs.Goes.{StepGoes, YieldGoes};
 ghost use Rattle.dali_turns.specs.Places.{PlacesGo};
+ghost use Rattle.dali_turns.specs.Refuses.{SaysLine, SaysStop};
 
 use crate::client::{Client, State, Transaction};
 use crate::run::no_run;
-use crate::steps::Setting;
 use dali_bytes::OutOfMemory;
 use dali_clients::{Command, Line, Why};
-use dali_ends::{AbortError, CommitError};
-use dali_stepwise::Gate;
+use dali_ends::AbortError;
 use dali_store::Store;
 use dali_system::Cause;
 use dali_whole::Core;
-use std::alloc::Global;
 
 // How often a transaction is tried that gets Busy.
 const MAX_TRIES: u32 = 1000;
-
-// Commits a transaction of a core. Answers why not: a transaction whose call was cut by a stop can't commit any more, so the
-// engine is asked first.
-fn commit_in<V: Store>(
-    core: &mut Core<V>,
-    alloc: Global,
-    txn: u64,
-) -> Result<Option<Why>, OutOfMemory>
-    ensures stopped { IfSome core.old.system.state.stop (λ cause. (result ≡ Ok (Some (IsStopped cause))) × (core.new ≡ core.old)) }
-    ensures ok { core.old.system.state.stop ≡ None → result ≡ Ok None → IsCommitted V.told V.may_leave V.faults txn core.old.regions.items core.old.system.state core.old.vault core.new.regions.items core.new.system.state core.new.vault }
-    ensures fault { core.old.system.state.stop ≡ None → IfOk result (λ o. IfSome o (λ why. (why ≡ IsStoreStopped) × IsUncommitted V.told V.may_leave V.faults txn core.old.regions.items core.old.system.state core.old.vault core.new.regions.items core.new.system.state core.new.vault)) }
-    ensures memory { OnErr result (core.new ≡ core.old) }
-    ensures flags { FlagsStay core.old.regions.items core.new.regions.items }
-    ensures files { IsNoShorter V.told core.old.vault core.new.vault }
-{
-    if let Some(cause) = core.system.stopped() {
-        return Ok(Some(Why::Stopped { cause }));
-    }
-    match dali_ends::commit(core, alloc, txn) {
-        Ok(()) => Ok(None),
-        Err(CommitError::Stopped { .. }) => no_run(), // the vault runs with the engine
-        Err(CommitError::Fault) => Ok(Some(Why::StoreStopped)),
-        Err(CommitError::OutOfMemory) => Err(OutOfMemory),
-    }
-}
-
-/// Commits the transaction: its record is flushed where the line is `commit ok`.
-pub(crate) fn commit<V: Store, G: Gate>(
-    client: &mut Client<'_>,
-    transaction: Transaction<'_>,
-    core: &mut Core<V>,
-    setting: &Setting<'_, G>,
-) -> Result<bool, OutOfMemory>
-    requires stands { client.old.state ≡ IsOutside }
-    requires next { next_of client.old ≡ Some IsCommit }
-    ensures goes { StepGoes V.told V.may_leave V.faults setting.now.precheck (IsWithin transaction.entry) client.old core.old.regions.items core.old.system.state core.old.vault (is_ok result) client.new core.new.regions.items core.new.system.state core.new.vault }
-    ensures places { PlacesGo V.told (IsWithin transaction.entry) core.old.regions.items core.old.vault client.new.state core.new.regions.items core.new.vault }
-    ensures on { IfOk result (λ went. went ≡ true) }
-{
-    let command = Command::Commit;
-    match commit_in(core, setting.alloc, transaction.txn)? {
-        None => client.finish(State::Outside, Line::CommitOk)?,
-        Some(why) => client.finish(State::Outside, Line::Refused { command, why })?,
-    }
-    Ok(true)
-}
 
 // Takes a transaction of a core back. Answers why not, where the engine is stopped.
 fn take_back<V: Store>(core: &mut Core<V>, txn: u64) -> Result<Option<Cause>, OutOfMemory>
@@ -122,6 +72,8 @@ pub(crate) fn abort<V: Store>(
     ensures goes { (precheck : Bool) → StepGoes V.told V.may_leave V.faults precheck (IsWithin transaction.entry) client.old core.old.regions.items core.old.system.state core.old.vault (is_ok result) client.new core.new.regions.items core.new.system.state core.new.vault }
     ensures places { PlacesGo V.told (IsWithin transaction.entry) core.old.regions.items core.old.vault client.new.state core.new.regions.items core.new.vault }
     ensures on { IfOk result (λ went. went ≡ true) }
+    ensures vault { core.new.vault ≡ core.old.vault }
+    ensures refuses { SaysStop core.old.system.state IsOutside IsAbort client.old result client.new }
 {
     let left = take_back(core, transaction.txn)?;
     client.finish(State::Outside, told_line(left))?;
@@ -139,6 +91,8 @@ pub(crate) fn end<V: Store>(
     ensures goes { (precheck : Bool) → StepGoes V.told V.may_leave V.faults precheck (IsWithin transaction.entry) client.old core.old.regions.items core.old.system.state core.old.vault (is_ok result) client.new core.new.regions.items core.new.system.state core.new.vault }
     ensures places { PlacesGo V.told (IsWithin transaction.entry) core.old.regions.items core.old.vault client.new.state core.new.regions.items core.new.vault }
     ensures on { IfOk result (λ went. went ≡ true) }
+    ensures vault { core.new.vault ≡ core.old.vault }
+    ensures refuses { IsSome core.old.system.state.stop → OnOk result (SaysLine client.old IsOutside IsLeftOpen client.new) }
 {
     let left = take_back(core, transaction.txn)?;
     client.finish(State::Outside, end_line(left))?;
@@ -186,6 +140,7 @@ pub(crate) fn give_way<'a, V: Store>(
     ensures on { IfOk result (λ went. went ≡ true) }
     ensures goes { (precheck : Bool) → YieldGoes V.told V.may_leave V.faults precheck transaction.entry holder client.old core.old.regions.items core.old.system.state core.old.vault (is_ok result) client.new core.new.regions.items core.new.system.state core.new.vault }
     ensures places { PlacesGo V.told (IsWithin transaction.entry) core.old.regions.items core.old.vault client.new.state core.new.regions.items core.new.vault }
+    ensures vault { core.new.vault ≡ core.old.vault }
 {
     if transaction.tries >= MAX_TRIES {
         return no_run(); // no transaction is tried so often

@@ -1,6 +1,7 @@
 use Rattle.std.proofs.Common.{[], ◌∷◌, refl}
 use Rattle.dali_checkpoint.specs.Kept.{side_in}
-use Rattle.dali_checkpoint_tests.proofs.Places.{place_there, first_copied, second_copied}
+use Rattle.dali_checkpoint.proofs.Results.{place_there}
+use Rattle.dali_checkpoint_tests.proofs.Places.{first_copied, second_copied}
 use Rattle.dali_checkpoint_tests.proofs.tests.copy_both.Goals as goal
 
 pub copy-requires-clause-holds : goal.copy-requires-clause-holds

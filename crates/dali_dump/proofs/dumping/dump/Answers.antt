@@ -1,6 +1,7 @@
-use Rattle.std.proofs.Common.{rules, ◌≡◌, ◌++◌, ◌∙◌, ℕ, List, [], Option, Some, None, ap, arith}
-use Rattle.std.specs.Prelude.{IfSome, IsNone}
+use Rattle.std.proofs.Common.{rules, ◌≡◌, ◌++◌, ◌∙◌, ℕ, List, [], ap, arith}
+use Rattle.std.specs.Prelude.{IsNone}
 use Rattle.std.proofs.lemmas.Result.{err_from_is_err_and}
+use Rattle.dali_lists.proofs.Options.{if_some_then}
 use Rattle.dali_batch.proofs.Finds.{if_some_two, if_some_same}
 use Rattle.dali_batch.proofs.Readings.{reads_then}
 use Rattle.dali_dump.proofs.Causes.{log_bad}
@@ -8,10 +9,6 @@ use Rattle.dali_dump.proofs.Numbered.{first_dumped, dumped_on, all_dumped, dump_
 use Rattle.dali_record.specs.declared.records.Record.TheVariants.{Format}
 use Rattle.dali_dump.specs.Lines.{record_line}
 use Rattle.dali_dump.proofs.dumping.dump.Goals as goal
-
-if_some_then : {A : Type 0} (P Q : A → Type 0) (o : Option A) → IfSome o P → ((x : A) → P x → Q x) → IfSome o Q
-if_some_then P Q None has f = tt
-if_some_then P Q (Some x) has f = f x has
 
 pub returns-in_err-next-clause-bad : goal.returns-in_err-next-clause-bad
 returns-in_err-next-clause-bad g c =

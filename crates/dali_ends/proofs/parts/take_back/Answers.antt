@@ -1,6 +1,5 @@
 use Rattle.std.proofs.Common.{◌≡◌, ◌∙◌, refl, ap, sym, [], length, rules}
 use Rattle.std.proofs.lemmas.List.{length-set}
-use Rattle.dali_single.proofs.Lists.{get_here}
 use Rattle.dali_single.specs.Ending.{IsBackOf}
 use Rattle.dali_geometry.specs.Places.{regions}
 use Rattle.dali_att.specs.Table.{undos_at}
@@ -10,6 +9,7 @@ use Rattle.dali_ends.specs.Refused.{abort_error}
 use Rattle.dali_core.specs.TakenBack.{next_undo}
 use Rattle.dali_calls.proofs.Flags.{flags_same, flags_further, flags_set}
 use Rattle.std.specs.List.{list_any}
+use Rattle.std.proofs.lemmas.Option.{slice_get-get_or}
 use Rattle.dali_clean.proofs.Courses.{undos_in}
 use Rattle.dali_ends.specs.Left.{is_on}
 use Rattle.dali_ends.proofs.Guarding.{released_here}
@@ -99,7 +99,7 @@ loop-cause-preserved c =
     let covered = c.in-Err-Latch.ensures.again.covered inv.covered in
     let one = some_undone c.loop-cause.regions c.abort.new.regions c.loop-cause.system c.abort.new.system c.args.txn inv.lives c.in-Err-Latch.ensures.err c.in-Err-Latch.ensures.others c.in-Err-Latch.ensures.promises c.in-Err-Latch.ensures.holds in
     let within = undo_within c.abort.new.regions c.abort.new.system.state c.args.txn c.in-Some.undo whole covered (sym c.in-Some.ensures.last) in
-    let at = get_here c.abort.new.regions c.in-Some.undo.region _ within in
+    let at = slice_get-get_or c.abort.new.regions c.in-Some.undo.region _ within in
     let lives = c.in-Err-Latch.ensures.again.state ∙ inv.lives in
     let two = cleared c.abort.new.regions c.abort.new.system c.release.new.system c.args.txn c.in-Some.undo.region _ c.release.new.region (ap is_alive lives) at c.release.ensures.released c.release.ensures.promised in
     record {

@@ -1,6 +1,6 @@
 use Rattle.std.proofs.Common.{◌≡◌, ◌∙◌, ◌≤◌, Err, length, subst, ap, arith}
+use Rattle.dali_lists.proofs.Options.{if_some_then}
 use Rattle.dali_store.specs.Store.{file_of}
-use Rattle.dali_store.proofs.Moments.{if_some_each}
 use Rattle.dali_traces.specs.Disks.{image_name}
 use Rattle.dali_traces.specs.Places
 use Rattle.dali_image.specs.Decoding.{Fails, table_in}
@@ -17,7 +17,7 @@ overflow_add-result g c =
 
 pub returns-in-Ok-clause-ok : goal.returns-in-Ok-clause-ok
 returns-in-Ok-clause-ok g c =
-    if_some_each _ _ (g.V.Store.told c.args.store.now) c.in_ok-bytes.ensures.ok
+    if_some_then _ _ (g.V.Store.told c.args.store.now) c.in_ok-bytes.ensures.ok
     (λ fs read. table_read (file_of (image_name c.args.side) fs) c.args.header.now c.in-Ok.att c.deref.result.now c.place_of-place.result (c.place_of-place.ensures ∙ ap Places.place_of c.regions.ensures.count) read.0 (c.deref.ensures.value ∙ read.1) c.in-Ok.ensures.fits c.in-Ok.ensures.read)
 
 pub returns-in-Ok-clause-undos : goal.returns-in-Ok-clause-undos

@@ -23,6 +23,6 @@ returns-in-Ok-clause-exits g c =
           runs_survive g.V.Store.told g.V.Store.may_leave g.V.Store.moment g.V.Store.left_since g.V.Store.faults met.reads_now met.counts_now g.V.Store.cuts
           _ _ c.run-status.result.0 base own ended honest;
       headline = λ base own.
-          acknowledged_survive g.V.Store.told g.V.Store.may_leave g.V.Store.moment g.V.Store.left_since g.V.Store.faults met.reads_now met.counts_now g.V.Store.cuts
+          acknowledged_survive g.V.Store.told g.V.Store.may_leave g.V.Store.moment g.V.Store.left_since g.V.Store.faults met.reads_now met.counts_now met.only_now g.V.Store.cuts
           _ _ c.run-status.result.0 base own ended;
     }))

@@ -1,6 +1,7 @@
 use Rattle.std.proofs.Common.{ap, sym, subst, ◌∙◌, take, IsSome}
 use Rattle.std.specs.FinMap.{get}
-use Rattle.dali_redo.proofs.Copies.{others_stay, apart, stays_there, added_more, on_err_any}
+use Rattle.dali_lists.proofs.Options.{on_err_any}
+use Rattle.dali_redo.proofs.Copies.{others_stay, apart, stays_there, added_more}
 use Rattle.dali_redo.proofs.tables.add_all.Goals as goal
 
 pub returns-in_err-push-clause-err : goal.returns-in_err-push-clause-err

@@ -6,9 +6,9 @@ use Rattle.dali_redo.proofs.Statuses.{adds_one}
 use Rattle.dali_redo.proofs.Cleared.{added_cleared}
 use Rattle.dali_redo.proofs.tables.add_undo.Goals as goal
 
-pub returns-in-Some-clause-ok : goal.returns-in-Some-clause-ok
-returns-in-Some-clause-ok c = on_ok c.push.result (λ e. subst (λ n. Advances c.args.table.now n (Forward c.args.txn c.args.block.now)) (sym e) (adds_one c.args.table.now c.args.txn c.args.block.now c.in-Some.undo (sym c.is_active.ensures ∙ c.if-not-is_active.false) c.in-Some.is)) c.push.ensures.ok
+pub returns-clause-ok : goal.returns-clause-ok
+returns-clause-ok c = on_ok c.push.result (λ e. subst (λ n. Advances c.args.table.now n (Forward c.args.txn c.args.block.now)) (sym e) (adds_one c.args.table.now c.args.txn c.args.block.now c.in-Some.undo (sym c.is_active.ensures ∙ c.if-not-is_active.false) c.in-Some.is)) c.push.ensures.ok
 
-pub returns-in-Some-clause-cleared : goal.returns-in-Some-clause-cleared
-returns-in-Some-clause-cleared c =
+pub returns-clause-cleared : goal.returns-clause-cleared
+returns-clause-cleared c =
     on_ok c.push.result (λ e. subst (λ n. IsCleared c.args.table.now → IsCleared n) (sym e) (added_cleared c.args.table.now c.args.txn (record { key = c.args.block.now.key; region = c.args.block.now.region; undo = c.in-Some.undo }) (sym c.is_active.ensures ∙ c.if-not-is_active.false))) c.push.ensures.ok

@@ -1,5 +1,4 @@
 use Rattle.std.proofs.Common.{◌≡◌, ◌<◌, ◌^◌, true, rules, Err, inl, inr, ap, refl, sym, subst, arith}
-use Rattle.std.specs.Prelude.{IsNone}
 use Rattle.std.proofs.lemmas.Result.{err_from_is_err_and}
 use Rattle.dali_batch.proofs.Finds.{if_some_any, if_some_same, if_some_two}
 use Rattle.dali_batch.proofs.Readings.{reads_then}
@@ -20,79 +19,76 @@ records-init g c = record {
   kept = refl;
 }
 
-pub returns-in_err-given-clause-bad : goal.returns-in_err-given-clause-bad
-returns-in_err-given-clause-bad g c =
+pub returns-in_err-next_into-clause-bad : goal.returns-in_err-next_into-clause-bad
+returns-in_err-next_into-clause-bad g c =
     let p = err_from_is_err_and c.from_residual.result c.from_residual.ensures.1 in
     rw (p.1, p.2) (λ at e.
-    if_some_two _ _ _ (g.V.Store.told c.args.store.now) c.records.invariant.read (if_some_same _ _ _ c.records.invariant.reads.same (c.in_err-given.ensures.bad at (bad_of c.in_err-given.field-0.0 at (λ q. c.in_err-given.ensures.formatted (ap (λ z. Err z) q)) e)))
+    if_some_two _ _ _ (g.V.Store.told c.args.store.now) c.records.invariant.read (if_some_same _ _ _ c.records.invariant.reads.same (c.in_err-next_into.ensures.bad at (bad_of c.in_err-next_into.field-0.0 at (λ q. c.in_err-next_into.ensures.formatted (ap (λ z. Err z) q)) e)))
     (λ fs pass is s F image. inl (bad_there fs.log s F c.records.reader c.records.reader c.records.recovery c.records.counts (pass s F image).0 at is)))
 
 pub records-preserved : goal.records-preserved
 records-preserved g c =
-    let goes = rw c.in-Some.is at c.in_ok-given.ensures.read in
-    let can = rw c.in-Some.is at c.in_ok-given.ensures.spelled in
-    let further : c.records.reader.at < c.next.new.self.at = search rules in
-    let small : c.next.new.self.at < 2 ^ 62 = omega (arith, c.next.ensures.whole.small, c.next.ensures.whole.inside, c.next.ensures.whole.ordered) in
+    let goes = c.in_ok-next_into.ensures.read c.if-branch.true in
+    let can = c.in_ok-next_into.ensures.spelled c.if-branch.true in
+    let further : c.records.reader.at < c.next_into.new.self.at = search rules in
+    let small : c.next_into.new.self.at < 2 ^ 62 = omega (arith, c.next_into.ensures.whole.small, c.next_into.ensures.whole.inside, c.next_into.ensures.whole.ordered) in
     record {
       read = if_some_two _ _ _ (g.V.Store.told c.args.store.now) c.records.invariant.read (if_some_same _ _ _ c.records.invariant.reads.same goes)
-          (λ fs pass is s F image. pass_on fs.log s F c.args.known.now c.records.reader c.next.new.self c.records.recovery c.scan_known.new.recovery c.take_next.new.recovery c.records.counts c.in-Ok.more c.in-Some.given (pass s F image)
+          (λ fs pass is s F image. pass_on fs.log s F c.args.known.now c.records.reader c.next_into.new.self c.records.recovery c.scan_known.new.recovery c.take_next.new.recovery c.records.counts c.in-Ok.more c.next_into.new.into (pass s F image)
           c.in_ok-scan_known.ensures.ok is c.in-Ok.ensures.ok.0 further small can c.in-Ok.ensures.ok.1);
       ordered = λ s o. c.in-Ok.ensures.ordered s (c.in_ok-scan_known.ensures.ordered s (c.records.invariant.ordered s o));
-      reads = reads_then _ _ _ _ _ _ _ c.records.invariant.reads c.next.ensures.reads;
+      reads = reads_then _ _ _ _ _ _ _ c.records.invariant.reads c.next_into.ensures.reads;
       passes = search rules;
       kept = search rules;
     }
 
 pub returns-in-Err-Unscanned-clause-damaged : goal.returns-in-Err-Unscanned-clause-damaged
 returns-in-Err-Unscanned-clause-damaged g c =
-    let goes = rw c.in-Some.is at c.in_ok-given.ensures.read in
-    let refused : RefusesAt c.scan_known.new.recovery c.take_next.new.recovery c.in-Some.given Unscanned =
+    let goes = c.in_ok-next_into.ensures.read c.if-branch.true in
+    let refused : RefusesAt c.scan_known.new.recovery c.take_next.new.recovery c.next_into.new.into Unscanned =
     rw c.in-Err-Unscanned.field-0-is at c.in-Err-Unscanned.ensures.err in
     if_some_two _ _ _ (g.V.Store.told c.args.store.now) c.records.invariant.read (if_some_same _ _ _ c.records.invariant.reads.same goes)
     (λ fs pass is s F image found.
-    pass_finds fs.log s F c.args.known.now c.records.reader c.next.new.self c.records.recovery c.scan_known.new.recovery c.take_next.new.recovery c.records.counts c.records.counts c.in-Some.given (pass s F image)
+    pass_finds fs.log s F c.args.known.now c.records.reader c.next_into.new.self c.records.recovery c.scan_known.new.recovery c.take_next.new.recovery c.records.counts c.records.counts c.next_into.new.into (pass s F image)
     c.in_ok-scan_known.ensures.ok is refused.0 refused.1 c.into_damage.result c.into_damage.ensures found)
 
 pub returns-in-Err-Unscanned-clause-window : goal.returns-in-Err-Unscanned-clause-window
 returns-in-Err-Unscanned-clause-window g c =
-    let goes = rw c.in-Some.is at c.in_ok-given.ensures.read in
+    let goes = c.in_ok-next_into.ensures.read c.if-branch.true in
     if_some_two _ _ _ (g.V.Store.told c.args.store.now) c.records.invariant.read (if_some_same _ _ _ c.records.invariant.reads.same goes)
     (λ fs pass is s F image.
-    window_here fs.log s F c.args.known.now c.records.reader c.next.new.self c.records.recovery c.scan_known.new.recovery c.take_next.new.recovery c.records.counts c.records.counts c.in-Some.given (pass s F image)
+    window_here fs.log s F c.args.known.now c.records.reader c.next_into.new.self c.records.recovery c.scan_known.new.recovery c.take_next.new.recovery c.records.counts c.records.counts c.next_into.new.into (pass s F image)
     c.in_ok-scan_known.ensures.ok is)
 
 pub returns-in-Err-clause-bad : goal.returns-in-Err-clause-bad
 returns-in-Err-clause-bad g c =
-    let goes = rw c.in-Some.is at c.in_ok-given.ensures.read in
+    let goes = c.in_ok-next_into.ensures.read c.if-branch.true in
     λ at e.
-    let refused : RefusesAt c.scan_known.new.recovery c.take_next.new.recovery c.in-Some.given (BadLog at) =
-    subst (RefusesAt c.scan_known.new.recovery c.take_next.new.recovery c.in-Some.given) e c.in-Err.ensures.err in
+    let refused : RefusesAt c.scan_known.new.recovery c.take_next.new.recovery c.next_into.new.into (BadLog at) =
+    subst (RefusesAt c.scan_known.new.recovery c.take_next.new.recovery c.next_into.new.into) e c.in-Err.ensures.err in
     if_some_two _ _ _ (g.V.Store.told c.args.store.now) c.records.invariant.read (if_some_same _ _ _ c.records.invariant.reads.same goes)
     (λ fs pass is s F image.
-    inr (pass_fails fs.log s F c.args.known.now c.records.reader c.next.new.self c.records.recovery c.scan_known.new.recovery c.take_next.new.recovery c.records.counts c.records.counts c.in-Some.given (pass s F image)
+    inr (pass_fails fs.log s F c.args.known.now c.records.reader c.next_into.new.self c.records.recovery c.scan_known.new.recovery c.take_next.new.recovery c.records.counts c.records.counts c.next_into.new.into (pass s F image)
     c.in_ok-scan_known.ensures.ok is at refused.0 refused.1))
 
 pub returns-then-is_unscanned-clause-damaged : goal.returns-then-is_unscanned-clause-damaged
 returns-then-is_unscanned-clause-damaged g c =
-    let nothing : IsNone c.in_ok-given.field-0 = search rules in
     let bad : is_unscanned c.records.recovery ≡ true = search rules in
-    if_some_two _ _ _ (g.V.Store.told c.args.store.now) c.records.invariant.read (if_some_same _ _ _ c.records.invariant.reads.same (c.in_ok-given.ensures.ends nothing))
+    if_some_two _ _ _ (g.V.Store.told c.args.store.now) c.records.invariant.read (if_some_same _ _ _ c.records.invariant.reads.same (c.in_ok-next_into.ensures.ends c.if-branch.false))
     (λ fs pass is s F image found.
-    end_finds fs.log s F c.args.known.now c.records.reader c.next.new.self c.records.recovery c.records.counts (pass s F image) is bad c.into_damage-then-is_unscanned.result c.into_damage-then-is_unscanned.ensures found)
+    end_finds fs.log s F c.args.known.now c.records.reader c.next_into.new.self c.records.recovery c.records.counts (pass s F image) is bad c.into_damage-then-is_unscanned.result c.into_damage-then-is_unscanned.ensures found)
 
 pub returns-then-is_unscanned-clause-window : goal.returns-then-is_unscanned-clause-window
 returns-then-is_unscanned-clause-window g c =
-    let nothing : IsNone c.in_ok-given.field-0 = search rules in
-    if_some_two _ _ _ (g.V.Store.told c.args.store.now) c.records.invariant.read (if_some_same _ _ _ c.records.invariant.reads.same (c.in_ok-given.ensures.ends nothing))
-    (λ fs pass is s F image. window_end fs.log s F c.records.reader c.next.new.self c.records.recovery c.records.counts (pass s F image).0 is)
+    if_some_two _ _ _ (g.V.Store.told c.args.store.now) c.records.invariant.read (if_some_same _ _ _ c.records.invariant.reads.same (c.in_ok-next_into.ensures.ends c.if-branch.false))
+    (λ fs pass is s F image. window_end fs.log s F c.records.reader c.next_into.new.self c.records.recovery c.records.counts (pass s F image).0 is)
 
 pub returns-clause-ok : goal.returns-clause-ok
 returns-clause-ok g c =
-    let nothing : IsNone c.in_ok-given.field-0 = search rules in
-    if_some_two _ _ _ (g.V.Store.told c.args.store.now) c.records.invariant.read (if_some_same _ _ _ c.records.invariant.reads.same (c.in_ok-given.ensures.ends nothing))
+    if_some_two _ _ _ (g.V.Store.told c.args.store.now) c.records.invariant.read (if_some_same _ _ _ c.records.invariant.reads.same (c.in_ok-next_into.ensures.ends c.if-branch.false))
     (λ fs pass is s F image.
-    reloaded fs.log s F c.records.reader c.next.new.self c.records.recovery c.records.counts (pass s F image).0 is _ c.in_ok-recovered.ensures.ok c.at-end.ensures
-    (c.up_to.ensures.stays (subst (AreUpTo c.records.counts) (sym c.at-end.ensures) (up_to_end fs.log s F c.records.reader c.next.new.self c.records.recovery c.records.counts (pass s F image).0 is))))
+    reloaded fs.log s F c.records.reader c.next_into.new.self c.records.recovery c.records.counts (pass s F image).0 is _ c.in_ok-recovered.ensures.ok c.at-end.ensures
+    (c.up_to.ensures.stays (subst (AreUpTo c.records.counts) (sym c.at-end.ensures) (up_to_end fs.log s F c.records.reader c.next_into.new.self c.records.recovery c.records.counts (pass s F image).0 is))))
 
 pub returns-clause-ordered : goal.returns-clause-ordered
 returns-clause-ordered g c = λ s o. c.in_ok-recovered.ensures.ordered s (c.records.invariant.ordered s o)

@@ -1,8 +1,9 @@
 use Rattle.std.proofs.Common.{◌≡◌, ℕ, ◌≤◌, ◌-◌, ◌++◌, List, [], ◌∷◌, length, take, drop, get_or, arith}
 use Rattle.std.specs.Prelude.{flat_map}
 use Rattle.std.proofs.lemmas.Grind.{common_steps}
+use Rattle.dali_lists.proofs.Options.{on_err_any}
 use Rattle.dali_report.specs.Texts.{list_of}
-use Rattle.dali_report.proofs.Fronts.{front_of, on_err}
+use Rattle.dali_report.proofs.Fronts.{front_of}
 use Rattle.dali_report.proofs.leaves.put_list.Goals as goal
 
 -- the first number, and those behind it
@@ -19,13 +20,13 @@ all_of text (number ∷ numbers) first old begun all count some is one more end 
 pub returns-in_err-put_text-2-clause-err : goal.returns-in_err-put_text-2-clause-err
 returns-in_err-put_text-2-clause-err g c =
     let within_loop = front_of _ _ _ _ c.loop-number.invariant c.in_err-put_text-2.ensures.err in
-    on_err _ (front_of _ _ _ _ c.in_ok-put_text.ensures.ok within_loop)
+    on_err_any _ (front_of _ _ _ _ c.in_ok-put_text.ensures.ok within_loop)
 
 pub returns-in_err-put_text-3-clause-err : goal.returns-in_err-put_text-3-clause-err
 returns-in_err-put_text-3-clause-err g c =
     let behind_blank = front_of _ _ _ _ c.in_ok-put_text-2.ensures.ok c.in_err-put_text-3.ensures.err in
     let within_loop = front_of _ _ _ _ c.loop-number.invariant behind_blank in
-    on_err _ (front_of _ _ _ _ c.in_ok-put_text.ensures.ok within_loop)
+    on_err_any _ (front_of _ _ _ _ c.in_ok-put_text.ensures.ok within_loop)
 
 pub returns-clause-ok : goal.returns-clause-ok
 returns-clause-ok g c =

@@ -1,6 +1,6 @@
 use Rattle.std.proofs.Common.{inl, inr, sym, ◌∙◌}
+use Rattle.dali_lists.proofs.Options.{if_some_then}
 use Rattle.dali_geometry.specs.Sizes.{Sizes}
-use Rattle.dali_store.proofs.Moments.{if_some_each}
 use Rattle.dali_batch.proofs.Finds.{if_some_two, if_some_same}
 use Rattle.dali_restart.proofs.Causes.{log_bad, image_bad}
 use Rattle.dali_restart.proofs.Finding.{begins_with}
@@ -9,7 +9,7 @@ use Rattle.dali_restart.proofs.opening.read_first.Goals as goal
 pub returns-in-Err-clause-bad : goal.returns-in-Err-clause-bad
 returns-in-Err-clause-bad g c file at h =
     let b = log_bad c.in-Err.error file at (sym c.into.ensures ∙ h) in
-    if_some_each _ _ (g.V.Store.told c.args.store.now) (c.in-Err.ensures.bad at b.1) (λ fs bad. inl (record { name = b.0; bad = bad }))
+    if_some_then _ _ (g.V.Store.told c.args.store.now) (c.in-Err.ensures.bad at b.1) (λ fs bad. inl (record { name = b.0; bad = bad }))
 
 pub returns-in-Err-current-clause-bad : goal.returns-in-Err-current-clause-bad
 returns-in-Err-current-clause-bad g c file at h =

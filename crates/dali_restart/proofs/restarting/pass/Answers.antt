@@ -1,5 +1,5 @@
 use Rattle.std.proofs.Common.{inl, sym, ◌∙◌}
-use Rattle.dali_store.proofs.Moments.{if_some_each}
+use Rattle.dali_lists.proofs.Options.{if_some_then}
 use Rattle.dali_batch.proofs.Finds.{if_some_same, if_some_two}
 use Rattle.dali_restart.proofs.Passing.{finds_next, read_in, reload_bad, tail_bad}
 use Rattle.dali_restart.proofs.restarting.pass.Goals as goal
@@ -24,7 +24,7 @@ returns-in-Ok-Damaged-clause-damaged g c =
     (λ fs begun finds. finds_next fs _ _ _ _ begun _ _ c.in-Ok.ensures.in_order.0 finds)
 
 pub returns-in-Err-clause-bad : goal.returns-in-Err-clause-bad
-returns-in-Err-clause-bad g c file at h = if_some_each _ _ (g.V.Store.told c.args.store.now) (c.in-Err.ensures.bad file at h) (λ fs bad. inl bad)
+returns-in-Err-clause-bad g c file at h = if_some_then _ _ (g.V.Store.told c.args.store.now) (c.in-Err.ensures.bad file at h) (λ fs bad. inl bad)
 
 pub returns-clause-bad : goal.returns-clause-bad
 returns-clause-bad g c file at h =

@@ -1,5 +1,5 @@
 use Rattle.std.proofs.Common.{Err, map, sym, ap, subst, ◌∙◌}
-use Rattle.dali_store.proofs.Moments.{if_some_each}
+use Rattle.dali_lists.proofs.Options.{if_some_then}
 use Rattle.dali_batch.specs.Reads.{OnlyReads}
 use Rattle.dali_batch.proofs.Finds.{if_some_any, if_some_same, if_some_two}
 use Rattle.dali_recovery.specs.Laws.{outcome_of}
@@ -22,7 +22,7 @@ returns-in-Err-clause-none g c = if_some_any _ (g.V.Store.told c.args.store) (λ
 -- nothing is written that is due, or not all of it
 pub returns-in-Err-settle-clause-long : goal.returns-in-Err-settle-clause-long
 returns-in-Err-settle-clause-long g c h =
-    if_some_each _ _ (g.V.Store.told c.args.store) c.in-Ok.ensures.ok
+    if_some_then _ _ (g.V.Store.told c.args.store) c.in-Ok.ensures.ok
     (λ fs is. (outcome_of c.in-Ok.found.reloaded.recovered, reads_in fs _ c.in-Ok.found is, c.in-Err-settle.ensures.long (ap Err h)))
 
 pub returns-in-Err-settle-clause-reads : goal.returns-in-Err-settle-clause-reads
@@ -30,7 +30,7 @@ returns-in-Err-settle-clause-reads g c no_fault no_memory =
     subst (OnlyReads g.V.Store.told g.V.Store.moment g.V.Store.left_since g.V.Store.may_leave c.args.store) (sym (c.in-Err-settle.ensures.untouched (λ q. no_fault (err_same c.in-Err-settle.error errors.Fault q)))) c.read.ensures.reads
 
 pub returns-in-Err-settle-clause-none : goal.returns-in-Err-settle-clause-none
-returns-in-Err-settle-clause-none g c = if_some_each _ _ (g.V.Store.told c.args.store) c.in-Ok.ensures.ok (λ fs is without. absurd (none_read fs _ c.in-Ok.found is without))
+returns-in-Err-settle-clause-none g c = if_some_then _ _ (g.V.Store.told c.args.store) c.in-Ok.ensures.ok (λ fs is without. absurd (none_read fs _ c.in-Ok.found is without))
 
 pub returns-in-Err-settle-clause-any_moment : goal.returns-in-Err-settle-clause-any_moment
 returns-in-Err-settle-clause-any_moment g c =
@@ -47,20 +47,20 @@ returns-clause-any_moment g c =
     c.read.ensures.reads c.in-Ok.found c.in-Ok.ensures.ok c.settle.ensures.any_moment c.settle.ensures.tells c.read.ensures.later c.settle.ensures.later c.read.ensures.passes c.settle.ensures.passes)
 
 pub returns-clause-none : goal.returns-clause-none
-returns-clause-none g c = if_some_each _ _ (g.V.Store.told c.args.store) c.in-Ok.ensures.ok (λ fs is without. absurd (none_read fs _ c.in-Ok.found is without))
+returns-clause-none g c = if_some_then _ _ (g.V.Store.told c.args.store) c.in-Ok.ensures.ok (λ fs is without. absurd (none_read fs _ c.in-Ok.found is without))
 
 -- the core
 pub returns-in-Ok-rise-clause-gives : goal.returns-in-Ok-rise-clause-gives
 returns-in-Ok-rise-clause-gives g c =
     let gs = c.in-Ok-rise.core.regions.items in
     let made = c.in-Ok-rise.ensures.core.regions ∙ ap (map loaded) c.deref.ensures.value in
-    if_some_each _ _ (g.V.Store.told c.args.store) c.in-Ok.ensures.ok (λ fs is. gives_in fs _ c.in-Ok.found gs is made)
+    if_some_then _ _ (g.V.Store.told c.args.store) c.in-Ok.ensures.ok (λ fs is. gives_in fs _ c.in-Ok.found gs is made)
 
 pub returns-in-Ok-rise-clause-read : goal.returns-in-Ok-rise-clause-read
 returns-in-Ok-rise-clause-read g c =
     let gs = c.in-Ok-rise.core.regions.items in
     let made = c.in-Ok-rise.ensures.core.regions ∙ ap (map loaded) c.deref.ensures.value in
-    if_some_each _ _ (g.V.Store.told c.args.store) c.in-Ok.ensures.ok (λ fs is. reads_out fs _ c.in-Ok.found gs is made)
+    if_some_then _ _ (g.V.Store.told c.args.store) c.in-Ok.ensures.ok (λ fs is. reads_out fs _ c.in-Ok.found gs is made)
 
 pub returns-in-Ok-rise-clause-begins : goal.returns-in-Ok-rise-clause-begins
 returns-in-Ok-rise-clause-begins g c =
@@ -99,10 +99,10 @@ returns-in-Ok-rise-clause-any_moment g c =
 
 pub returns-in-Ok-rise-clause-idle : goal.returns-in-Ok-rise-clause-idle
 returns-in-Ok-rise-clause-idle g c =
-    if_some_each _ _ (g.V.Store.told c.args.store) c.in-Ok.ensures.ok
+    if_some_then _ _ (g.V.Store.told c.args.store) c.in-Ok.ensures.ok
     (λ fs is F spells finds rests.
     subst (OnlyReads g.V.Store.told g.V.Store.moment g.V.Store.left_since g.V.Store.may_leave c.args.store)
     (sym (ap (λ v. v.store) c.in-Ok-rise.ensures.core.vault ∙ c.settle.ensures.idle (rests_idle fs F c.in-Ok.found spells finds is.reads rests))) c.read.ensures.reads)
 
 pub returns-in-Ok-rise-clause-none : goal.returns-in-Ok-rise-clause-none
-returns-in-Ok-rise-clause-none g c = if_some_each _ _ (g.V.Store.told c.args.store) c.in-Ok.ensures.ok (λ fs is. none_read fs _ c.in-Ok.found is)
+returns-in-Ok-rise-clause-none g c = if_some_then _ _ (g.V.Store.told c.args.store) c.in-Ok.ensures.ok (λ fs is. none_read fs _ c.in-Ok.found is)

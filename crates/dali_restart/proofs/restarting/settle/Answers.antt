@@ -1,5 +1,6 @@
 use Rattle.std.proofs.Common.{◌≡◌, inl, sym, ap, subst, ◌∙◌}
-use Rattle.dali_store.proofs.Moments.{if_some_each, started}
+use Rattle.dali_lists.proofs.Options.{if_some_then}
+use Rattle.dali_store.proofs.Moments.{started}
 use Rattle.dali_batch.proofs.Finds.{if_some_any, if_some_two}
 use Rattle.dali_renewal.specs.Renewed.{AreReady}
 use Rattle.dali_restart.specs.declared.restarting.Due.TheVariants as dues
@@ -11,7 +12,7 @@ use Rattle.dali_restart.proofs.restarting.settle.Goals as goal
 -- nothing is written
 pub returns-in-Nothing-clause-ready : goal.returns-in-Nothing-clause-ready
 returns-in-Nothing-clause-ready g c =
-    if_some_each _ _ (g.V.Store.told c.args.store.now) c.requires.read
+    if_some_then _ _ (g.V.Store.told c.args.store.now) c.requires.read
     (λ fs is. subst (λ r. AreReady (g.V.Store.may_leave c.args.store.now) r.end r.current) (sym (c.rest_at.ensures ∙ ap resting_of c.end_of.ensures)) (are_ready fs _ c.args.found.now is))
 
 pub returns-in-Nothing-clause-small : goal.returns-in-Nothing-clause-small
@@ -22,7 +23,7 @@ pub returns-in-Nothing-clause-settles : goal.returns-in-Nothing-clause-settles
 returns-in-Nothing-clause-settles g c =
     let x = c.args.found.now in
     let may = g.V.Store.may_leave c.args.store.now in
-    if_some_each _ _ (g.V.Store.told c.args.store.now) c.requires.read
+    if_some_then _ _ (g.V.Store.told c.args.store.now) c.requires.read
     (λ fs is. subst (λ r. Settles fs x r may) (sym (c.rest_at.ensures ∙ ap resting_of c.end_of.ensures)) (settles_nothing fs x may (sym c.decide.ensures ∙ c.in-Nothing.is) is.only))
 
 pub returns-in-Nothing-clause-any_moment : goal.returns-in-Nothing-clause-any_moment

@@ -1,5 +1,5 @@
 use Rattle.std.proofs.Common.{[], Some, IfSome, refl, sym, ap, subst}
-use Rattle.dali_store.proofs.Moments.{if_some_each}
+use Rattle.dali_lists.proofs.Options.{if_some_then}
 use Rattle.dali_batch.specs.Batch.{IsClosedAt}
 use Rattle.dali_traces.specs.Anchors.{AreAnchored}
 use Rattle.dali_renewal.specs.Renewed.{Renews, Stops}
@@ -8,12 +8,12 @@ use Rattle.dali_restart.proofs.restarting.write_image.Goals as goal
 
 pub renew-requires-clause-closed : goal.renew-requires-clause-closed
 renew-requires-clause-closed g c =
-    if_some_each _ _ (g.V.Store.told c.args.store.now) c.requires.read
+    if_some_then _ _ (g.V.Store.told c.args.store.now) c.requires.read
     (λ fs is d left. subst (λ p. IsClosedAt p.place d.log) (sym c.end_of-whole.ensures) (is_closed fs _ c.args.found.now is d left))
 
 pub renew-requires-clause-anchored : goal.renew-requires-clause-anchored
 renew-requires-clause-anchored g c =
-    if_some_each _ _ (g.V.Store.told c.args.store.now) c.requires.read
+    if_some_then _ _ (g.V.Store.told c.args.store.now) c.requires.read
     (λ fs is. subst (AreAnchored (g.V.Store.may_leave c.args.store.now)) (sym (same_current c.args.found.now c.args.standing.now c.requires.due)) (are_anchored fs _ c.args.found.now is))
 
 pub returns-in-Ok-clause-written : goal.returns-in-Ok-clause-written

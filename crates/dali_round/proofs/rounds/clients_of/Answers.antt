@@ -1,6 +1,5 @@
 use Rattle.std.proofs.Common.{take, subst, sym, ◌+◌}
 use Rattle.dali_turns.proofs.Commands.{lent_there}
-use Rattle.dali_turns.specs.declared.client.Client.{Client}
 use Rattle.dali_round.specs.Played.{AreNew}
 use Rattle.dali_round.proofs.Made.{one_made, all_made}
 use Rattle.dali_round.proofs.rounds.clients_of.Goals as goal

@@ -1,21 +1,25 @@
-use Rattle.std.proofs.Common.{true, false, is_ok, ◌≡◌, Bool, Ok, refl, ap, ◌∙◌}
+use Rattle.std.proofs.Common.{true, false, is_ok, Ok, refl, ap, sym, subst, ◌∙◌}
 use Rattle.dali_turns.proofs.Commands.{err_false}
+use Rattle.dali_round.specs.Idle.{IsOrder}
 use Rattle.dali_round.proofs.GoingOn.{idle_are_over}
 use Rattle.dali_round.proofs.Keeping.{as_long, longer_on}
 use Rattle.dali_round.proofs.Playing.{goes_on, goes_cut, goes_as}
+use Rattle.dali_round.proofs.Moments.{ends_here, ends_on, ends_cut, ends_short, ends_as}
 use Rattle.dali_round.proofs.rounds.run.Goals as goal
 
 pub loop-init : goal.loop-init
-loop-init g c = record { goes = λ s p bs f. f; places = c.requires; longer = as_long g.V.Store.told c.args.core.now.vault }
+loop-init g c = record { goes = λ s p bs f. f; places = c.requires.places; longer = as_long g.V.Store.told c.args.core.now.vault; size = refl; moments = ends_here g.V.Store.told g.V.Store.may_leave g.V.Store.faults g.V.Store.moment g.V.Store.left_since c.args.setting.now.precheck c.args.clients.now c.args.core.now.regions.items c.args.core.now.system.state c.args.core.now.vault (λ d past. g.met.V.Store.only_now c.args.core.now.vault.store d past) }
 
 pub make_turns-requires : goal.make_turns-requires
-make_turns-requires g c = c.loop.invariant.places
+make_turns-requires g c = record { places = c.loop.invariant.places; order = subst (IsOrder c.args.order.now) (sym c.loop.invariant.size) c.requires.order }
 
 pub loop-preserved : goal.loop-preserved
 loop-preserved g c = record {
   goes = goes_on g.V.Store.told g.V.Store.may_leave g.V.Store.faults _ _ _ _ _ _ _ _ _ _ _ _ _ true c.loop.invariant.goes c.in_ok-make_turns.ensures.goes;
   places = c.in_ok-make_turns.ensures.places;
   longer = longer_on g.V.Store.told c.args.core.now.vault c.loop.core.vault c.make_turns.new.core.vault c.loop.invariant.longer c.in_ok-make_turns.ensures.longer;
+  size = c.make_turns.auto.clients ∙ c.loop.invariant.size;
+  moments = ends_on g.V.Store.told g.V.Store.may_leave g.V.Store.faults g.V.Store.moment g.V.Store.left_since c.args.setting.now.precheck _ _ _ _ _ _ _ _ _ _ _ _ c.loop.invariant.longer c.loop.invariant.moments c.in_ok-make_turns.ensures.any_moment;
 }
 
 pub returns-in_err-make_turns-clause-goes : goal.returns-in_err-make_turns-clause-goes
@@ -44,3 +48,14 @@ returns-clause-longer g c = c.loop.invariant.longer
 
 pub returns-then-not-branch-clause-longer : goal.returns-then-not-branch-clause-longer
 returns-then-not-branch-clause-longer g c = longer_on g.V.Store.told c.args.core.now.vault c.loop.core.vault c.make_turns.new.core.vault c.loop.invariant.longer c.in_ok-make_turns.ensures.longer
+
+pub returns-clause-any_moment : goal.returns-clause-any_moment
+returns-clause-any_moment g c = ends_short g.V.Store.told g.V.Store.may_leave g.V.Store.faults g.V.Store.moment g.V.Store.left_since c.args.setting.now.precheck _ _ _ _ _ _ _ _ c.loop.invariant.moments
+
+pub returns-then-not-branch-clause-any_moment : goal.returns-then-not-branch-clause-any_moment
+returns-then-not-branch-clause-any_moment g c = ends_on g.V.Store.told g.V.Store.may_leave g.V.Store.faults g.V.Store.moment g.V.Store.left_since c.args.setting.now.precheck _ _ _ _ _ _ _ _ _ _ _ _ c.loop.invariant.longer c.loop.invariant.moments c.in_ok-make_turns.ensures.any_moment
+
+pub returns-in_err-make_turns-clause-any_moment : goal.returns-in_err-make_turns-clause-any_moment
+returns-in_err-make_turns-clause-any_moment g c =
+    ends_as g.V.Store.told g.V.Store.may_leave g.V.Store.faults g.V.Store.moment g.V.Store.left_since c.args.setting.now.precheck _ _ _ _ _ _ _ _ false (is_ok c.from_residual.result) (err_false c.from_residual.result c.from_residual.ensures.0)
+    (ends_cut g.V.Store.told g.V.Store.may_leave g.V.Store.faults g.V.Store.moment g.V.Store.left_since c.args.setting.now.precheck _ _ c.make_turns.new.clients _ _ _ _ _ _ _ _ _ c.loop.invariant.longer c.loop.invariant.moments c.in_err-make_turns.ensures.any_moment)

@@ -1,4 +1,4 @@
-use Rattle.std.proofs.Common.{◌≡◌, ◌∙◌, ℕ, List, rules, ap, subst, sym}
+use Rattle.std.proofs.Common.{◌∙◌, ℕ, List, rules, ap}
 use Rattle.std.specs.Prelude.{filter}
 use Rattle.std.specs.FinMap as finite
 use Rattle.std.proofs.lemmas.Fn.{filter_same}

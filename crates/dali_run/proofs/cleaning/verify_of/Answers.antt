@@ -1,13 +1,13 @@
 use Rattle.std.proofs.Common.{◌∙◌, sym}
+use Rattle.std.proofs.lemmas.Result.{IfOk-weaker}
 use Rattle.dali_run.specs.declared.program.Program.TheVariants.{Up}
 use Rattle.dali_run.specs.Steps.{EndsComparison, VerifyIn}
 use Rattle.dali_run.proofs.Comparisons.{verify_none}
-use Rattle.dali_run.proofs.RoundCalls.{lift_ok}
 use Rattle.dali_run.proofs.cleaning.verify_of.Goals as goal
 
 pub returns-in_ok-clean_dead-in-None-clause-steps : goal.returns-in_ok-clean_dead-in-None-clause-steps
 returns-in_ok-clean_dead-in-None-clause-steps g c =
-    lift_ok c.compare.result
+    IfOk-weaker c.compare.result
     (λ text. EndsComparison g.V.Store.told g.V.Store.may_leave g.V.Store.moment g.V.Store.left_since g.V.Store.faults c.clean_dead.new.core text.items c.compare.new.core)
     (λ text. VerifyIn g.V.Store.told g.V.Store.may_leave g.V.Store.moment g.V.Store.left_since g.V.Store.faults c.args.core.now.system.state.stop c.args.core.now text.items (Up c.compare.new.core))
     (λ text ends. verify_none g.V.Store.told g.V.Store.may_leave g.V.Store.moment g.V.Store.left_since g.V.Store.faults c.args.core.now.system.state.stop c.args.core.now c.clean_dead.new.core c.compare.new.core text.items

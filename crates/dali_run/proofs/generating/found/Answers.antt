@@ -2,14 +2,15 @@ use Rattle.std.proofs.Common.{refl, inl}
 use Rattle.dali_script.specs.declared.commands.Command.TheVariants.{Restart}
 use Rattle.dali_run.specs.Program.{store_of}
 use Rattle.dali_run.proofs.Generated.{fails_in, not_restarted, restarts}
-use Rattle.dali_run.proofs.RoundCalls.{err_holds, ok_holds}
+use Rattle.dali_run.proofs.RoundCalls.{ok_holds}
 use Rattle.dali_run.proofs.generating.found.Goals as goal
+use Rattle.dali_run.proofs.Courses.{err_of}
 
 pub returns-in-Err-clause-fails : goal.returns-in-Err-clause-fails
 returns-in-Err-clause-fails g c =
     inl (fails_in g.V.Store.told g.V.Store.may_leave g.V.Store.moment g.V.Store.left_since g.V.Store.faults c.in-Err.halt c.leave.result.halt Restart Restart c.args.program
     (store_of c.open-program.result.0) c.leave.result.store c.args.setting.now.precheck c.requires.unchecked refl
-    (err_holds _ c.open-program.result.1 c.in-Err.halt c.in-Err.is c.open-program.ensures.fails) c.leave.ensures.halt c.leave.ensures.store)
+    (err_of _ c.open-program.result.1 c.in-Err.halt c.in-Err.is c.open-program.ensures.fails) c.leave.ensures.halt c.leave.ensures.store)
 
 pub returns-in-Up-clause-finds : goal.returns-in-Up-clause-finds
 returns-in-Up-clause-finds g c =

@@ -1,10 +1,8 @@
-use Rattle.std.proofs.Common.{◌≡◌, ℕ, List, refl, sym, ◌∙◌, ap, subst, inl, inr}
+use Rattle.std.proofs.Common.{◌≡◌, refl, sym, ◌∙◌, ap, subst, inr}
 use Rattle.dali_memstore.specs.Fuse.{inner}
 use Rattle.dali_memstore.specs.declared.fuse.Fuse.{Fuse}
-use Rattle.dali_store.specs.Faults.{Rose}
-use Rattle.dali_streams.specs.Streams.{Appends, AppendsSome}
+use Rattle.dali_streams.specs.Streams.{Appends}
 use Rattle.dali_run.specs.declared.halt.Halt.{Halt}
-use Rattle.dali_run.specs.declared.halt.Halt.TheVariants.{WriteFault}
 use Rattle.dali_run.specs.Ends.{Generates}
 use Rattle.dali_run.specs.Stops.{GeneratorHalts}
 use Rattle.std.proofs.lemmas.Result.{IfErr-weaker, on_ok_weaker}

@@ -1,12 +1,12 @@
 use Rattle.std.proofs.Common.{◌≡◌, refl, subst}
 use Rattle.dali_generator.specs.Generated.{index_regions, heap_regions}
-use Rattle.dali_memstore.specs.declared.fuse.Fuse.{Fuse}
 use Rattle.dali_script.specs.declared.commands.Command.TheVariants.{Size}
 use Rattle.dali_run.specs.declared.program.Program.{Program}
 use Rattle.dali_run.specs.Program.{HoldsImages, store_of}
 use Rattle.dali_run.proofs.Generated.{fails_in, is_made}
-use Rattle.dali_run.proofs.RoundCalls.{err_holds, ok_holds}
+use Rattle.dali_run.proofs.RoundCalls.{ok_holds}
 use Rattle.dali_run.proofs.generating.made.Goals as goal
+use Rattle.dali_run.proofs.Courses.{err_of}
 
 pub returns-in-Err-clause-fails : goal.returns-in-Err-clause-fails
 returns-in-Err-clause-fails g c =
@@ -17,7 +17,7 @@ returns-in-Err-clause-fails g c =
       fails_in g.V.Store.told g.V.Store.may_leave g.V.Store.moment g.V.Store.left_since g.V.Store.faults c.in-Err.halt c.leave.result.halt
           (Size c.index_regions.result c.heap_regions.result) (Size (index_regions c.args.clients c.args.size) (heap_regions c.args.clients c.args.size)) c.down.result
           (store_of c.size-program.result.0) c.leave.result.store c.args.setting.now.precheck c.requires.unchecked same
-          (err_holds _ c.size-program.result.1 c.in-Err.halt c.in-Err.is c.size-program.ensures.fails) c.leave.ensures.halt c.leave.ensures.store,
+          (err_of _ c.size-program.result.1 c.in-Err.halt c.in-Err.is c.size-program.ensures.fails) c.leave.ensures.halt c.leave.ensures.store,
     )
 
 pub returns-clause-made : goal.returns-clause-made

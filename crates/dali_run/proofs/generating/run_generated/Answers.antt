@@ -1,4 +1,4 @@
-use Rattle.std.proofs.Common.{◌≡◌, ℕ, List, None, sym, ◌∙◌, ap, subst, map, inl, inr}
+use Rattle.std.proofs.Common.{ℕ, List, None, sym, ◌∙◌, ap, subst, map, inl, inr}
 use Rattle.std.proofs.lemmas.Result.{err_from_is_err_and, IfErr-weaker, IfOk-weaker}
 use Rattle.dali_generator.proofs.Right.{right_round}
 use Rattle.dali_generator.specs.Generated.{generated}

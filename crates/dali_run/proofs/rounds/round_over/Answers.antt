@@ -1,4 +1,6 @@
-use Rattle.std.proofs.Common.{◌≡◌, ◌∙◌, ℕ, List, true, map, sym, ap, subst}
+use Rattle.std.proofs.Common.{◌≡◌, ◌∙◌, List, true, map, sym, ap, subst}
+use Rattle.std.proofs.lemmas.Result.{IfOk-weaker}
+use Rattle.dali_lists.proofs.Options.{on_err_any}
 use Rattle.dali_clients.specs.declared.command.Block.{Block}
 use Rattle.dali_clients.specs.Said.{Transcribed}
 use Rattle.dali_clients.specs.Told.{told_of}
@@ -7,8 +9,7 @@ use Rattle.dali_transcripts.specs.Rounds.{AreBlocks}
 use Rattle.dali_run.specs.Steps.{Plays, RunsRound, TellAll}
 use Rattle.dali_run.specs.Texts.{said_texts}
 use Rattle.dali_run.specs.Told.{told_by}
-use Rattle.dali_run.proofs.Fronts.{on_err}
-use Rattle.dali_run.proofs.RoundCalls.{lift_ok, ok_holds, played_whole, runs_round}
+use Rattle.dali_run.proofs.RoundCalls.{ok_holds, played_whole, runs_round}
 use Rattle.dali_run.proofs.rounds.round_over.Goals as goal
 
 pub play-core-requires : goal.play-core-requires
@@ -27,10 +28,10 @@ returns-in-Ok-transcripts-clause-runs g c =
     (ok_holds _ c.play-core.result.1 c.in-Ok-transcripts.transcripts c.in-Ok-transcripts.is c.play-core.ensures.plays) in
     let tell : TellAll blocks ts =
     subst (λ (b : List Told). TellAll b ts) same (ok_holds _ c.play-core.result.1 c.in-Ok-transcripts.transcripts c.in-Ok-transcripts.is c.play-core.ensures.tell) in
-    lift_ok c.text_of_round-text.result (λ text. text.items ≡ said_texts c.deref-in-Ok-transcripts.result.now)
-    (λ text. RunsRound g.V.Store.told g.V.Store.may_leave g.V.Store.faults c.args.setting.now.precheck blocks c.args.core text.items c.play-core.result.0)
-    (λ text is. runs_round g.V.Store.told g.V.Store.may_leave g.V.Store.faults c.args.setting.now.precheck blocks c.args.core c.play-core.result.0 ts text.items plays tell
-    c.play-core.ensures.longer c.play-core.ensures.places (is ∙ ap (λ (l : List Transcribed). said_texts l) c.deref-in-Ok-transcripts.ensures.value))
+    IfOk-weaker c.text_of_round-text.result (λ text. text.items ≡ said_texts c.deref-in-Ok-transcripts.result.now)
+    (λ text. RunsRound g.V.Store.told g.V.Store.may_leave g.V.Store.moment g.V.Store.left_since g.V.Store.faults c.args.setting.now.precheck blocks c.args.core text.items c.play-core.result.0)
+    (λ text is. runs_round g.V.Store.told g.V.Store.may_leave g.V.Store.moment g.V.Store.left_since g.V.Store.faults c.args.setting.now.precheck blocks c.args.core c.play-core.result.0 ts text.items plays tell
+    c.play-core.ensures.longer c.play-core.ensures.any_moment c.play-core.ensures.places (is ∙ ap (λ (l : List Transcribed). said_texts l) c.deref-in-Ok-transcripts.ensures.value))
     c.text_of_round-text.ensures.text
 
 pub returns-in-Ok-transcripts-clause-lost : goal.returns-in-Ok-transcripts-clause-lost
@@ -38,7 +39,7 @@ returns-in-Ok-transcripts-clause-lost g c =
     let blocks = map told_by c.args.told.now in
     let ts = c.in-Ok-transcripts.transcripts.items in
     let same : map told_of c.deref.result.now ≡ blocks = ap (λ (bs : List Block). map told_of bs) c.deref.ensures.value ∙ c.in-Ok.ensures in
-    on_err c.text_of_round-text.result
-    (played_whole g.V.Store.told g.V.Store.may_leave g.V.Store.faults c.args.setting.now.precheck blocks c.args.core c.play-core.result.0 ts
+    on_err_any c.text_of_round-text.result
+    (played_whole g.V.Store.told g.V.Store.may_leave g.V.Store.moment g.V.Store.left_since g.V.Store.faults c.args.setting.now.precheck blocks c.args.core c.play-core.result.0 ts
     (subst (λ (b : List Told). Plays g.V.Store.told g.V.Store.may_leave g.V.Store.faults c.args.setting.now.precheck true b c.args.core ts c.play-core.result.0) same
-    (ok_holds _ c.play-core.result.1 c.in-Ok-transcripts.transcripts c.in-Ok-transcripts.is c.play-core.ensures.plays)) c.play-core.ensures.longer)
+    (ok_holds _ c.play-core.result.1 c.in-Ok-transcripts.transcripts c.in-Ok-transcripts.is c.play-core.ensures.plays)) c.play-core.ensures.longer c.play-core.ensures.any_moment)

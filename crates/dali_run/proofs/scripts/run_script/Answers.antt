@@ -1,12 +1,10 @@
-use Rattle.std.proofs.Common.{◌≡◌, ◌<◌, ◌+◌, ◌∙◌, List, length, get_or, refl, sym, subst, arith}
+use Rattle.std.proofs.Common.{◌≡◌, ◌<◌, ◌∙◌, List, length, get_or, refl, sym, subst, arith}
 use Rattle.dali_script.specs.declared.commands.Command.{Command}
-use Rattle.dali_run.specs.Program.{HoldsImages}
 use Rattle.dali_run.specs.Told.{IsFit}
 use Rattle.dali_run.specs.declared.halt.Halt.{Halt}
 use Rattle.dali_run.specs.declared.halt.Halt.TheVariants.{WriteFault}
 use Rattle.dali_run.specs.Stops.{CommandStops}
-use Rattle.dali_run.specs.declared.program.Program.{Program}
-use Rattle.dali_run.proofs.Courses.{Reached, begins, goes_on, stops_in, is_whole, ok_of, err_of, ok_is_no_err, holds_down, inner_of, sized}
+use Rattle.dali_run.proofs.Courses.{begins, goes_on, stops_in, is_whole, ok_of, err_of, ok_is_no_err, holds_down, inner_of, sized}
 use Rattle.dali_run.proofs.scripts.run_script.Goals as goal
 
 pub loop-command-init : goal.loop-command-init

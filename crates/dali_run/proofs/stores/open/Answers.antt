@@ -1,4 +1,5 @@
 use Rattle.std.proofs.Common.{◌≡◌, ◌<◌, ◌∷◌, [], subst}
+use Rattle.std.proofs.lemmas.Result.{IfOk-weaker}
 use Rattle.dali_memstore.specs.Fuse.{failed_of}
 use Rattle.dali_memstore.specs.declared.fuse.Fuse.{Fuse}
 use Rattle.dali_report.specs.Lines.{texts}
@@ -10,7 +11,6 @@ use Rattle.dali_run.specs.Program.{store_of}
 use Rattle.dali_run.specs.Steps.{StepsRestart}
 use Rattle.dali_run.specs.declared.program.Program.TheVariants.{Up, Down}
 use Rattle.dali_run.proofs.Alone.{ends}
-use Rattle.dali_run.proofs.RoundCalls.{lift_ok}
 use Rattle.dali_run.proofs.StoreCalls.{Restored, restart_fails_over, restart_steps, restart_stops_over, restored_fails}
 use Rattle.dali_run.proofs.stores.open.Goals as goal
 
@@ -31,7 +31,7 @@ returns-in-Ok-clause-steps g c =
       left = made.any_moment;
       kept = made.kept;
     }) in
-    lift_ok c.text_of_restart-text.result (λ text. text.items ≡ texts (lines.RolledBack c.in-Ok.report.rolled_back.items ∷ lines.Deleted c.in-Ok.report.deleted.items ∷ []))
+    IfOk-weaker c.text_of_restart-text.result (λ text. text.items ≡ texts (lines.RolledBack c.in-Ok.report.rolled_back.items ∷ lines.Deleted c.in-Ok.report.deleted.items ∷ []))
     (λ text. StepsRestart g.V.Store.told g.V.Store.may_leave g.V.Store.moment g.V.Store.left_since g.V.Store.faults c.args.setting.now.limit c.args.program text.items (Up c.in-Ok.core))
     (λ text printed. restart_steps g.V.Store.told g.V.Store.may_leave g.V.Store.moment g.V.Store.left_since g.V.Store.faults c.args.setting.now.limit c.args.program c.in-Ok.core c.in-Ok.report text.items printed restored)
     c.text_of_restart-text.ensures.text
@@ -63,7 +63,7 @@ pub returns-in-Err-clause-steps : goal.returns-in-Err-clause-steps
 returns-in-Err-clause-steps g c =
     let r = c.in-Err.ensures in
     let f = c.in-Err.refused.store in
-    lift_ok c.refusal-printed.result (λ text. (c.in-Err.refused.error ≡ Fault) × (c.failed-failed.result < failed_of f) × (text.items ≡ texts (lines.RestartStoreStopped ∷ [])))
+    IfOk-weaker c.refusal-printed.result (λ text. (c.in-Err.refused.error ≡ Fault) × (c.failed-failed.result < failed_of f) × (text.items ≡ texts (lines.RestartStoreStopped ∷ [])))
     (λ text. StepsRestart g.V.Store.told g.V.Store.may_leave g.V.Store.moment g.V.Store.left_since g.V.Store.faults c.args.setting.now.limit c.args.program text.items (Down f))
     (λ text w.
     restart_stops_over g.V.Store.told g.V.Store.may_leave g.V.Store.moment g.V.Store.left_since g.V.Store.faults c.args.setting.now.limit c.args.program c.into_store-store.result f c.failed-failed.result text.items c.into_store-store.ensures c.failed-failed.ensures w.1

@@ -1,8 +1,8 @@
 use Rattle.std.proofs.Common.{ap, refl, ◌∙◌}
+use Rattle.std.proofs.lemmas.Option.{slice_get-get_or}
 use Rattle.dali_core.specs.declared.take_back.TakeBack.{TakeBack}
 use Rattle.dali_calls.proofs.Flags.{flags_same, flags_set, flags_further}
 use Rattle.dali_single.proofs.Flags.{undone_flag, left_flag}
-use Rattle.dali_single.proofs.Lists.{get_here}
 use Rattle.dali_single.proofs.Refusing.{undo_stuck}
 use Rattle.dali_single.proofs.Undoing.{nothing_undone, undo_region, undo_further, undo_fewer, undo_next, none_wanted, undo_refused}
 use Rattle.dali_single.proofs.ending.take_back.Goals as goal
@@ -30,10 +30,10 @@ loop-region-preserved c =
     let there = undo_region c.args.regions.now c.loop-region.regions c.args.system.now.state c.loop-region.system.state c.args.txn c.in-Region.region c.loop-region.back.next c.loop-region.invariant.goes c.loop-region.invariant.next c.in-Region.ensures in
     let one = c.in-Ok.ensures.ok in
     record {
-      goes = undo_further c.args.regions.now c.loop-region.regions c.args.system.now.state c.loop-region.system.state c.undo.new.system.state c.args.txn c.in-Region.region c.loop-region.back c.undo.new.back _ c.undo.new.region c.ranges.txn.fits c.loop-region.invariant.goes c.loop-region.invariant.txn c.loop-region.invariant.next c.in-Region.ensures (get_here c.loop-region.regions c.in-Region.region _ there) one;
+      goes = undo_further c.args.regions.now c.loop-region.regions c.args.system.now.state c.loop-region.system.state c.undo.new.system.state c.args.txn c.in-Region.region c.loop-region.back c.undo.new.back _ c.undo.new.region c.ranges.txn.fits c.loop-region.invariant.goes c.loop-region.invariant.txn c.loop-region.invariant.next c.in-Region.ensures (slice_get-get_or c.loop-region.regions c.in-Region.region _ there) one;
       promised = c.undo.ensures.promised ∙ c.loop-region.invariant.promised;
       flags = flags_further c.args.regions.now c.loop-region.regions _ c.loop-region.invariant.flags
-          (flags_set c.loop-region.regions c.in-Region.region _ c.undo.new.region (get_here c.loop-region.regions c.in-Region.region _ there) (undone_flag c.loop-region.back c.undo.new.back _ c.undo.new.region c.loop-region.system.state c.undo.new.system.state one));
+          (flags_set c.loop-region.regions c.in-Region.region _ c.undo.new.region (slice_get-get_or c.loop-region.regions c.in-Region.region _ there) (undone_flag c.loop-region.back c.undo.new.back _ c.undo.new.region c.loop-region.system.state c.undo.new.system.state one));
       txn = ap (λ (b : TakeBack). b.txn) one.next ∙ c.loop-region.invariant.txn;
       down = ap (λ (b : TakeBack). b.down_to) one.next ∙ c.loop-region.invariant.down;
       next = undo_next c.loop-region.system.state c.undo.new.system.state c.args.txn c.loop-region.back c.undo.new.back _ c.undo.new.region c.loop-region.invariant.txn c.loop-region.invariant.down one;
@@ -44,7 +44,7 @@ loop-region-preserved c =
 pub returns-in-Err-clause-goes : goal.returns-in-Err-clause-goes
 returns-in-Err-clause-goes c =
     let there = undo_region c.args.regions.now c.loop-region.regions c.args.system.now.state c.loop-region.system.state c.args.txn c.in-Region.region c.loop-region.back.next c.loop-region.invariant.goes c.loop-region.invariant.next c.in-Region.ensures in
-    undo_refused c.args.regions.now c.loop-region.regions c.args.system.now.state c.loop-region.system c.undo.new.system c.args.txn c.in-Region.region c.loop-region.back _ c.undo.new.region c.loop-region.invariant.goes c.loop-region.invariant.txn (get_here c.loop-region.regions c.in-Region.region _ there) c.in-Err.ensures.err.1 c.in-Err.ensures.err.2
+    undo_refused c.args.regions.now c.loop-region.regions c.args.system.now.state c.loop-region.system c.undo.new.system c.args.txn c.in-Region.region c.loop-region.back _ c.undo.new.region c.loop-region.invariant.goes c.loop-region.invariant.txn (slice_get-get_or c.loop-region.regions c.in-Region.region _ there) c.in-Err.ensures.err.1 c.in-Err.ensures.err.2
 
 pub returns : goal.returns
 returns c = record {
@@ -58,10 +58,10 @@ returns c = record {
 pub returns-in-Err-clause-cause : goal.returns-in-Err-clause-cause
 returns-in-Err-clause-cause c =
     let there = undo_region c.args.regions.now c.loop-region.regions c.args.system.now.state c.loop-region.system.state c.args.txn c.in-Region.region c.loop-region.back.next c.loop-region.invariant.goes c.loop-region.invariant.next c.in-Region.ensures in
-    undo_stuck c.loop-region.regions c.loop-region.system c.undo.new.system c.args.txn c.in-Region.region c.loop-region.back.next _ c.undo.new.region c.in-Err.cause c.loop-region.invariant.next c.in-Region.ensures (get_here c.loop-region.regions c.in-Region.region c.undo.new.region there) c.in-Err.ensures.err.1 c.in-Err.ensures.cause
+    undo_stuck c.loop-region.regions c.loop-region.system c.undo.new.system c.args.txn c.in-Region.region c.loop-region.back.next _ c.undo.new.region c.in-Err.cause c.loop-region.invariant.next c.in-Region.ensures (slice_get-get_or c.loop-region.regions c.in-Region.region c.undo.new.region there) c.in-Err.ensures.err.1 c.in-Err.ensures.cause
 
 pub returns-in-Err-clause-flags : goal.returns-in-Err-clause-flags
 returns-in-Err-clause-flags c =
     let there = undo_region c.args.regions.now c.loop-region.regions c.args.system.now.state c.loop-region.system.state c.args.txn c.in-Region.region c.loop-region.back.next c.loop-region.invariant.goes c.loop-region.invariant.next c.in-Region.ensures in
     flags_further c.args.regions.now c.loop-region.regions _ c.loop-region.invariant.flags
-    (flags_set c.loop-region.regions c.in-Region.region _ c.undo.new.region (get_here c.loop-region.regions c.in-Region.region _ there) (left_flag c.loop-region.back.txn _ c.undo.new.region c.in-Err.ensures.err.2))
+    (flags_set c.loop-region.regions c.in-Region.region _ c.undo.new.region (slice_get-get_or c.loop-region.regions c.in-Region.region _ there) (left_flag c.loop-region.back.txn _ c.undo.new.region c.in-Err.ensures.err.2))

@@ -1,7 +1,7 @@
 use Rattle.std.proofs.Common.{refl, arith}
+use Rattle.std.proofs.lemmas.Option.{slice_get-get_or}
 use Rattle.dali_calls.proofs.Flags.{flags_same, flags_set, flags_further}
 use Rattle.dali_single.proofs.Flags.{freed_flag, left_flag}
-use Rattle.dali_single.proofs.Lists.{get_here}
 use Rattle.dali_single.proofs.Settled.{none_freed, next_further, those_left, removal_stuck, promised_further, promised_still, promised_one, removal_there, free_there, free_further, free_refused}
 use Rattle.dali_single.proofs.Promising.{promises_further}
 use Rattle.dali_single.proofs.settling.free_all.Goals as goal
@@ -19,7 +19,7 @@ pub returns-in-Err-clause-err : goal.returns-in-Err-clause-err
 returns-in-Err-clause-err c =
     let goes = removal_there c.args.regions.now c.loop-removal.regions c.args.system.now.state c.loop-removal.system.state c.args.txn c.loop-removal.removal-index c.args.removals.now _ c.loop-removal-test.true c.loop-removal.invariant.goes in
     let there = free_there c.args.regions.now c.loop-removal.regions c.args.system.now.state c.loop-removal.system.state c.args.txn c.args.removals.now _ _ goes in
-    let left = free_refused c.args.regions.now c.loop-removal.regions c.args.system.now.state c.loop-removal.system c.free.new.system c.args.txn _ c.args.removals.now _ _ c.free.new.region goes (get_here c.loop-removal.regions _ _ there) c.in-Err.ensures.err.0 c.in-Err.ensures.err.1 in
+    let left = free_refused c.args.regions.now c.loop-removal.regions c.args.system.now.state c.loop-removal.system c.free.new.system c.args.txn _ c.args.removals.now _ _ c.free.new.region goes (slice_get-get_or c.loop-removal.regions _ _ there) c.in-Err.ensures.err.0 c.in-Err.ensures.err.1 in
     those_left c.args.regions.now _ c.args.system.now.state c.loop-removal.system c.free.new.system c.args.txn c.loop-removal.removal-index c.args.removals.now _ c.loop-removal-test.true c.loop-removal.invariant.next c.in-Err.ensures.err.0 left
 
 pub loop-removal-preserved : goal.loop-removal-preserved
@@ -27,19 +27,19 @@ loop-removal-preserved c =
     let goes = removal_there c.args.regions.now c.loop-removal.regions c.args.system.now.state c.loop-removal.system.state c.args.txn c.loop-removal.removal-index c.args.removals.now _ c.loop-removal-test.true c.loop-removal.invariant.goes in
     let there = free_there c.args.regions.now c.loop-removal.regions c.args.system.now.state c.loop-removal.system.state c.args.txn c.args.removals.now _ _ goes in
     record {
-      goes = free_further c.args.regions.now c.loop-removal.regions c.args.system.now.state c.loop-removal.system.state c.free.new.system.state c.args.txn c.args.removals.now _ _ _ c.free.new.region c.ranges.txn.fits goes (get_here c.loop-removal.regions _ _ there) c.in-Ok.ensures.ok.1;
+      goes = free_further c.args.regions.now c.loop-removal.regions c.args.system.now.state c.loop-removal.system.state c.free.new.system.state c.args.txn c.args.removals.now _ _ _ c.free.new.region c.ranges.txn.fits goes (slice_get-get_or c.loop-removal.regions _ _ there) c.in-Ok.ensures.ok.1;
       next = next_further c.args.system.now.state c.loop-removal.system.state c.free.new.system.state c.args.txn c.loop-removal.removal-index _ _ c.free.new.region c.loop-removal.invariant.next c.in-Ok.ensures.ok.1;
       promised = λ h. promised_further c.loop-removal.system c.free.new.system c.args.txn c.loop-removal.removal-index c.args.removals.now c.loop-removal-test.true (c.loop-removal.invariant.promised h) c.in-Ok.ensures.kept;
       promises = promises_further c.args.system.now c.loop-removal.system c.free.new.system c.args.txn c.loop-removal.invariant.promises c.free.ensures.promises;
       flags = flags_further c.args.regions.now c.loop-removal.regions _ c.loop-removal.invariant.flags
-          (flags_set c.loop-removal.regions _ _ c.free.new.region (get_here c.loop-removal.regions _ _ there) (freed_flag _ _ c.free.new.region c.loop-removal.system.state c.free.new.system.state c.args.txn c.in-Ok.ensures.ok.1));
+          (flags_set c.loop-removal.regions _ _ c.free.new.region (slice_get-get_or c.loop-removal.regions _ _ there) (freed_flag _ _ c.free.new.region c.loop-removal.system.state c.free.new.system.state c.args.txn c.in-Ok.ensures.ok.1));
     }
 
 pub returns-in-Err-clause-cause : goal.returns-in-Err-clause-cause
 returns-in-Err-clause-cause c =
     let goes = removal_there c.args.regions.now c.loop-removal.regions c.args.system.now.state c.loop-removal.system.state c.args.txn c.loop-removal.removal-index c.args.removals.now _ c.loop-removal-test.true c.loop-removal.invariant.goes in
     let there = free_there c.args.regions.now c.loop-removal.regions c.args.system.now.state c.loop-removal.system.state c.args.txn c.args.removals.now _ _ goes in
-    removal_stuck c.loop-removal.regions c.args.system.now.state c.loop-removal.system c.free.new.system c.loop-removal.removal-index c.args.removals.now _ _ c.free.new.region c.in-Err.cause c.loop-removal-test.true c.loop-removal.invariant.next c.in-Err.ensures.err.0 (get_here c.loop-removal.regions _ c.free.new.region there) c.in-Err.ensures.cause
+    removal_stuck c.loop-removal.regions c.args.system.now.state c.loop-removal.system c.free.new.system c.loop-removal.removal-index c.args.removals.now _ _ c.free.new.region c.in-Err.cause c.loop-removal-test.true c.loop-removal.invariant.next c.in-Err.ensures.err.0 (slice_get-get_or c.loop-removal.regions _ c.free.new.region there) c.in-Err.ensures.cause
 
 pub returns-in-Err-clause-promised : goal.returns-in-Err-clause-promised
 returns-in-Err-clause-promised c = λ h. c.in-Err.ensures.promised (promised_one c.loop-removal.system c.args.txn c.loop-removal.removal-index c.args.removals.now c.loop-removal-test.true (c.loop-removal.invariant.promised h))
@@ -55,4 +55,4 @@ returns-in-Err-clause-flags c =
     let goes = removal_there c.args.regions.now c.loop-removal.regions c.args.system.now.state c.loop-removal.system.state c.args.txn c.loop-removal.removal-index c.args.removals.now _ c.loop-removal-test.true c.loop-removal.invariant.goes in
     let there = free_there c.args.regions.now c.loop-removal.regions c.args.system.now.state c.loop-removal.system.state c.args.txn c.args.removals.now _ _ goes in
     flags_further c.args.regions.now c.loop-removal.regions _ c.loop-removal.invariant.flags
-    (flags_set c.loop-removal.regions _ _ c.free.new.region (get_here c.loop-removal.regions _ _ there) (left_flag c.args.txn _ c.free.new.region c.in-Err.ensures.err.1))
+    (flags_set c.loop-removal.regions _ _ c.free.new.region (slice_get-get_or c.loop-removal.regions _ _ there) (left_flag c.args.txn _ c.free.new.region c.in-Err.ensures.err.1))

@@ -1,4 +1,4 @@
-use Rattle.std.proofs.Common.{refl, sym, ◌∙◌}
+use Rattle.std.proofs.Common.{refl, sym, ◌∙◌, ◌≡◌, Some, None, ap}
 use Rattle.dali_turns.specs.declared.client.State.TheVariants.{Outside}
 use Rattle.dali_turns.proofs.Here.{in_no_run}
 use Rattle.dali_turns.proofs.Commands.{behind_next}
@@ -6,6 +6,10 @@ use Rattle.dali_turns.proofs.Stepping.{none_goes, not_outside, outside_placed}
 use Rattle.dali_turns.proofs.Putting.{never_went, outside_put}
 use Rattle.dali_turns.proofs.Over.{some_next}
 use Rattle.dali_turns.proofs.Placed.{places_still, at_state}
+use Rattle.dali_turns.proofs.Moments.{leaves_still}
+use Rattle.dali_clients.specs.declared.command.Command.TheVariants.{Begin, Poke, Audit, Checkpoint}
+use Rattle.dali_turns.proofs.Meeting.{on_no_ok}
+use Rattle.dali_turns.proofs.AtOnce.{refuses_next}
 use Rattle.dali_turns.proofs.steps.next.Goals as goal
 
 pub returns-in_default-clause-goes : goal.returns-in_default-clause-goes
@@ -20,10 +24,10 @@ returns-in-None-clause-goes g c =
     none_goes g.V.Store.told g.V.Store.may_leave g.V.Store.faults c.args.setting.now.precheck c.args.core.now.regions.items c.args.core.now.system.state c.args.core.now.vault c.args.client.now c.args.client.now (record { rest = refl; stands = c.requires.stands; points = refl; transcript = refl })
 
 pub returns-in_default-clause-places : goal.returns-in_default-clause-places
-returns-in_default-clause-places g c = places_still g.V.Store.told Outside c.args.client.now.state c.args.core.now.regions.items c.args.core.now.regions.items c.args.core.now.vault c.args.core.now.vault refl refl (at_state g.V.Store.told c.args.client.now.state Outside c.args.core.now.vault c.requires.stands tt)
+returns-in_default-clause-places g c = places_still g.V.Store.told Outside c.args.client.now.state c.args.core.now.regions.items c.args.core.now.regions.items c.args.core.now.vault c.args.core.now.vault refl refl (at_state g.V.Store.told _ _ c.args.client.now.state Outside c.args.core.now.vault c.requires.stands tt)
 
 pub returns-in-None-clause-places : goal.returns-in-None-clause-places
-returns-in-None-clause-places g c = places_still g.V.Store.told Outside c.args.client.now.state c.args.core.now.regions.items c.args.core.now.regions.items c.args.core.now.vault c.args.core.now.vault refl refl (at_state g.V.Store.told c.args.client.now.state Outside c.args.core.now.vault c.requires.stands tt)
+returns-in-None-clause-places g c = places_still g.V.Store.told Outside c.args.client.now.state c.args.core.now.regions.items c.args.core.now.regions.items c.args.core.now.vault c.args.core.now.vault refl refl (at_state g.V.Store.told _ _ c.args.client.now.state Outside c.args.core.now.vault c.requires.stands tt)
 
 pub returns-in-Begin-clause-places : goal.returns-in-Begin-clause-places
 returns-in-Begin-clause-places g c = c.begin.ensures.places Outside
@@ -57,3 +61,38 @@ returns-in-Audit-clause-over g c = λ none. some_next c.args.client.now c.in-Som
 
 pub returns-in-Checkpoint-clause-over : goal.returns-in-Checkpoint-clause-over
 returns-in-Checkpoint-clause-over g c = λ none. some_next c.args.client.now c.in-Some.command (sym c.command.ensures ∙ c.in-Some.is) none
+
+pub returns-in_default-clause-any_moment : goal.returns-in_default-clause-any_moment
+returns-in_default-clause-any_moment g c = leaves_still g.V.Store.told g.V.Store.may_leave g.V.Store.faults g.V.Store.moment g.V.Store.left_since Outside c.args.client.now c.args.core.now.regions.items c.args.core.now.system.state _ c.args.core.now.vault _ (λ d past. g.met.V.Store.only_now c.args.core.now.vault.store d past) refl
+
+pub returns-in-None-clause-any_moment : goal.returns-in-None-clause-any_moment
+returns-in-None-clause-any_moment g c = leaves_still g.V.Store.told g.V.Store.may_leave g.V.Store.faults g.V.Store.moment g.V.Store.left_since Outside c.args.client.now c.args.core.now.regions.items c.args.core.now.system.state _ c.args.core.now.vault _ (λ d past. g.met.V.Store.only_now c.args.core.now.vault.store d past) refl
+
+pub returns-in-Begin-clause-any_moment : goal.returns-in-Begin-clause-any_moment
+returns-in-Begin-clause-any_moment g c = leaves_still g.V.Store.told g.V.Store.may_leave g.V.Store.faults g.V.Store.moment g.V.Store.left_since Outside c.args.client.now c.args.core.now.regions.items c.args.core.now.system.state _ c.args.core.now.vault _ (λ d past. g.met.V.Store.only_now c.args.core.now.vault.store d past) c.begin.ensures.vault
+
+pub returns-in-Poke-clause-any_moment : goal.returns-in-Poke-clause-any_moment
+returns-in-Poke-clause-any_moment g c = leaves_still g.V.Store.told g.V.Store.may_leave g.V.Store.faults g.V.Store.moment g.V.Store.left_since Outside c.args.client.now c.args.core.now.regions.items c.args.core.now.system.state _ c.args.core.now.vault _ (λ d past. g.met.V.Store.only_now c.args.core.now.vault.store d past) c.poke.ensures.vault
+
+pub returns-in-Audit-clause-any_moment : goal.returns-in-Audit-clause-any_moment
+returns-in-Audit-clause-any_moment g c = leaves_still g.V.Store.told g.V.Store.may_leave g.V.Store.faults g.V.Store.moment g.V.Store.left_since Outside c.args.client.now c.args.core.now.regions.items c.args.core.now.system.state _ c.args.core.now.vault _ (λ d past. g.met.V.Store.only_now c.args.core.now.vault.store d past) c.start.ensures.vault
+
+pub returns-in_default-clause-refuses : goal.returns-in_default-clause-refuses
+returns-in_default-clause-refuses g c = λ command next why is. on_no_ok _ c.no_run.result c.no_run.ensures
+
+pub returns-in-None-clause-refuses : goal.returns-in-None-clause-refuses
+returns-in-None-clause-refuses g c = λ command next. let none : None ≡ Some command = sym c.in-None.is ∙ (c.command.ensures ∙ next) in absurd (cc)
+
+pub returns-in-Begin-clause-refuses : goal.returns-in-Begin-clause-refuses
+returns-in-Begin-clause-refuses g c = λ command next. refuses_next c.args.core.now.system.state c.args.client.now c.begin.new.client c.begin.result command Begin next (sym c.command.ensures ∙ (c.in-Some.is ∙ ap Some c.in-Begin.is)) c.begin.ensures.refuses
+
+pub returns-in-Poke-clause-refuses : goal.returns-in-Poke-clause-refuses
+returns-in-Poke-clause-refuses g c = λ command next.
+    refuses_next c.args.core.now.system.state c.args.client.now c.poke.new.client c.poke.result command (Poke c.in-Poke.region c.in-Poke.word c.in-Poke.mask) next (sym c.command.ensures ∙ (c.in-Some.is ∙ ap Some c.in-Poke.is)) (λ why is. absurd (cc))
+
+pub returns-in-Audit-clause-refuses : goal.returns-in-Audit-clause-refuses
+returns-in-Audit-clause-refuses g c = λ command next. refuses_next c.args.core.now.system.state c.args.client.now c.start.new.client c.start.result command Audit next (sym c.command.ensures ∙ (c.in-Some.is ∙ ap Some c.in-Audit.is)) c.start.ensures.refuses
+
+pub returns-in-Checkpoint-clause-refuses : goal.returns-in-Checkpoint-clause-refuses
+returns-in-Checkpoint-clause-refuses g c = λ command next.
+    refuses_next c.args.core.now.system.state c.args.client.now c.start-in-Checkpoint.new.client c.start-in-Checkpoint.result command Checkpoint next (sym c.command.ensures ∙ (c.in-Some.is ∙ ap Some c.in-Checkpoint.is)) c.start-in-Checkpoint.ensures.refuses

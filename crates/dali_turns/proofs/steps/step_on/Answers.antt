@@ -1,9 +1,11 @@
-use Rattle.std.proofs.Common.{true, is_ok, refl, sym}
-use Rattle.dali_turns.specs.declared.client.State.TheVariants.{Outside, LeftOut, Within, Calling, TakingBack, Waiting, Auditing, Copying, Certifying, Gone}
+use Rattle.std.proofs.Common.{true, is_ok, refl, sym, Ok, false}
+use Rattle.dali_turns.specs.declared.client.State.TheVariants.{Outside, LeftOut, Within, Calling, TakingBack, Committing, Waiting, Auditing, Copying, Certifying, Gone}
 use Rattle.dali_turns.proofs.Stepping.{stepped, left_goes, gone_goes}
 use Rattle.dali_turns.proofs.Over.{over_in, not_over, none_next}
 use Rattle.dali_turns.proofs.Putting.{never_went, put_from, gone_put, left_out_put}
-use Rattle.dali_turns.proofs.Placed.{places_from, holds_from, places_still, at_state, left_reaches}
+use Rattle.dali_turns.proofs.Placed.{places_from, holds_from, places_still, left_reaches}
+use Rattle.dali_turns.proofs.Moments.{leaves_still, leaves_stepped}
+use Rattle.dali_turns.proofs.AtOnce.{refuses_from}
 use Rattle.dali_turns.proofs.steps.step_on.Goals as goal
 
 pub returns-in-Within-clause-goes : goal.returns-in-Within-clause-goes
@@ -20,6 +22,11 @@ pub returns-in-TakingBack-clause-goes : goal.returns-in-TakingBack-clause-goes
 returns-in-TakingBack-clause-goes g c =
     stepped g.V.Store.told g.V.Store.may_leave g.V.Store.faults c.args.setting.now.precheck (is_ok c.take_back.result) c.args.core.now.regions.items c.take_back.new.core.regions.items c.args.core.now.system.state c.take_back.new.core.system.state c.args.core.now.vault c.take_back.new.core.vault
     c.args.client.now (record c.args.client.now { state = c.replace.new.dest }) c.take_back.new.client (TakingBack c.in-TakingBack.transaction c.in-TakingBack.plan c.in-TakingBack.why) (sym c.in-TakingBack.ensures.value) (record { rest = refl; client = refl; lines = refl }) c.take_back.ensures.goes
+
+pub returns-in-Committing-clause-goes : goal.returns-in-Committing-clause-goes
+returns-in-Committing-clause-goes g c =
+    stepped g.V.Store.told g.V.Store.may_leave g.V.Store.faults c.args.setting.now.precheck (is_ok c.go_on.result) c.args.core.now.regions.items c.go_on.new.core.regions.items c.args.core.now.system.state c.go_on.new.core.system.state c.args.core.now.vault c.go_on.new.core.vault
+    c.args.client.now (record c.args.client.now { state = c.replace.new.dest }) c.go_on.new.client (Committing c.in-Committing.transaction c.in-Committing.number c.in-Committing.removals c.in-Committing.next) (sym c.in-Committing.ensures.value) (record { rest = refl; client = refl; lines = refl }) (c.go_on.ensures.goes c.args.setting.now.precheck)
 
 pub returns-in-Waiting-clause-goes : goal.returns-in-Waiting-clause-goes
 returns-in-Waiting-clause-goes g c =
@@ -67,6 +74,9 @@ returns-in-Calling-clause-places g c = places_from g.V.Store.told c.args.client.
 pub returns-in-TakingBack-clause-places : goal.returns-in-TakingBack-clause-places
 returns-in-TakingBack-clause-places g c = places_from g.V.Store.told c.args.client.now.state (TakingBack c.in-TakingBack.transaction c.in-TakingBack.plan c.in-TakingBack.why) c.take_back.new.client.state c.args.core.now.regions.items c.take_back.new.core.regions.items c.args.core.now.vault c.take_back.new.core.vault (sym c.in-TakingBack.ensures.value) c.take_back.ensures.places
 
+pub returns-in-Committing-clause-places : goal.returns-in-Committing-clause-places
+returns-in-Committing-clause-places g c = places_from g.V.Store.told c.args.client.now.state (Committing c.in-Committing.transaction c.in-Committing.number c.in-Committing.removals c.in-Committing.next) c.go_on.new.client.state c.args.core.now.regions.items c.go_on.new.core.regions.items c.args.core.now.vault c.go_on.new.core.vault (sym c.in-Committing.ensures.value) c.go_on.ensures.places
+
 pub returns-in-Waiting-clause-places : goal.returns-in-Waiting-clause-places
 returns-in-Waiting-clause-places g c = places_from g.V.Store.told c.args.client.now.state (Waiting c.in-Waiting.tries c.in-Waiting.holder) c.wait.new.client.state c.args.core.now.regions.items c.wait.new.core.regions.items c.args.core.now.vault c.wait.new.core.vault (sym c.in-Waiting.ensures.value) c.wait.ensures.places
 
@@ -87,7 +97,7 @@ copy-requires-clause-places g c = holds_from g.V.Store.told c.args.client.now.st
 
 pub returns-in-LeftOut-clause-places : goal.returns-in-LeftOut-clause-places
 returns-in-LeftOut-clause-places g c =
-    places_still g.V.Store.told c.args.client.now.state c.left_out.new.client.state c.args.core.now.regions.items c.args.core.now.regions.items c.args.core.now.vault c.args.core.now.vault refl refl (left_reaches g.V.Store.told (record c.args.client.now { state = c.replace.new.dest }) c.left_out.new.client c.left_out.result c.args.core.now.vault c.left_out.ensures.done c.left_out.ensures.passed)
+    places_still g.V.Store.told c.args.client.now.state c.left_out.new.client.state c.args.core.now.regions.items c.args.core.now.regions.items c.args.core.now.vault c.args.core.now.vault refl refl (left_reaches g.V.Store.told _ _ (record c.args.client.now { state = c.replace.new.dest }) c.left_out.new.client c.left_out.result c.args.core.now.vault c.left_out.ensures.done c.left_out.ensures.passed)
 
 pub returns-in-Gone-clause-places : goal.returns-in-Gone-clause-places
 returns-in-Gone-clause-places g c = places_still g.V.Store.told c.args.client.now.state Gone c.args.core.now.regions.items c.args.core.now.regions.items c.args.core.now.vault c.args.core.now.vault refl refl tt
@@ -112,6 +122,9 @@ returns-in-Calling-clause-idle g c = λ e. never_went c.call.result c.call.ensur
 
 pub returns-in-TakingBack-clause-idle : goal.returns-in-TakingBack-clause-idle
 returns-in-TakingBack-clause-idle g c = λ e. never_went c.take_back.result c.take_back.ensures.on e
+
+pub returns-in-Committing-clause-idle : goal.returns-in-Committing-clause-idle
+returns-in-Committing-clause-idle g c = λ e. never_went c.go_on.result c.go_on.ensures.on e
 
 pub returns-in-Auditing-clause-idle : goal.returns-in-Auditing-clause-idle
 returns-in-Auditing-clause-idle g c = λ e. never_went c.end.result c.end.ensures.on e
@@ -142,6 +155,9 @@ returns-in-Calling-clause-over g c = λ over. not_over (Calling c.in-Calling.tra
 pub returns-in-TakingBack-clause-over : goal.returns-in-TakingBack-clause-over
 returns-in-TakingBack-clause-over g c = λ over. not_over (TakingBack c.in-TakingBack.transaction c.in-TakingBack.plan c.in-TakingBack.why) c.args.client.now.state _ c.in-TakingBack.ensures.value refl over
 
+pub returns-in-Committing-clause-over : goal.returns-in-Committing-clause-over
+returns-in-Committing-clause-over g c = λ over. not_over (Committing c.in-Committing.transaction c.in-Committing.number c.in-Committing.removals c.in-Committing.next) c.args.client.now.state _ c.in-Committing.ensures.value refl over
+
 pub returns-in-Waiting-clause-over : goal.returns-in-Waiting-clause-over
 returns-in-Waiting-clause-over g c = λ over. not_over (Waiting c.in-Waiting.tries c.in-Waiting.holder) c.args.client.now.state _ c.in-Waiting.ensures.value refl over
 
@@ -159,3 +175,75 @@ returns-in-Outside-clause-over g c = λ over. c.next.ensures.over (over_in Outsi
 
 pub returns-in-LeftOut-clause-over : goal.returns-in-LeftOut-clause-over
 returns-in-LeftOut-clause-over g c = λ over. (c.left_out.ensures.done (none_next (record c.args.client.now { state = c.replace.new.dest }) (over_in LeftOut c.args.client.now.state _ c.in-LeftOut.ensures.value over))).0
+
+pub returns-in-Calling-clause-any_moment : goal.returns-in-Calling-clause-any_moment
+returns-in-Calling-clause-any_moment g c = leaves_still g.V.Store.told g.V.Store.may_leave g.V.Store.faults g.V.Store.moment g.V.Store.left_since c.args.client.now.state c.args.client.now c.args.core.now.regions.items c.args.core.now.system.state _ c.args.core.now.vault _ (λ d past. g.met.V.Store.only_now c.args.core.now.vault.store d past) c.call.ensures.vault
+
+pub returns-in-TakingBack-clause-any_moment : goal.returns-in-TakingBack-clause-any_moment
+returns-in-TakingBack-clause-any_moment g c = leaves_still g.V.Store.told g.V.Store.may_leave g.V.Store.faults g.V.Store.moment g.V.Store.left_since c.args.client.now.state c.args.client.now c.args.core.now.regions.items c.args.core.now.system.state _ c.args.core.now.vault _ (λ d past. g.met.V.Store.only_now c.args.core.now.vault.store d past) c.take_back.ensures.vault
+
+pub returns-in-Waiting-clause-any_moment : goal.returns-in-Waiting-clause-any_moment
+returns-in-Waiting-clause-any_moment g c = leaves_still g.V.Store.told g.V.Store.may_leave g.V.Store.faults g.V.Store.moment g.V.Store.left_since c.args.client.now.state c.args.client.now c.args.core.now.regions.items c.args.core.now.system.state _ c.args.core.now.vault _ (λ d past. g.met.V.Store.only_now c.args.core.now.vault.store d past) c.wait.ensures.vault
+
+pub returns-in-LeftOut-clause-any_moment : goal.returns-in-LeftOut-clause-any_moment
+returns-in-LeftOut-clause-any_moment g c = leaves_still g.V.Store.told g.V.Store.may_leave g.V.Store.faults g.V.Store.moment g.V.Store.left_since c.args.client.now.state c.args.client.now c.args.core.now.regions.items c.args.core.now.system.state _ c.args.core.now.vault _ (λ d past. g.met.V.Store.only_now c.args.core.now.vault.store d past) refl
+
+pub returns-in-Gone-clause-any_moment : goal.returns-in-Gone-clause-any_moment
+returns-in-Gone-clause-any_moment g c = leaves_still g.V.Store.told g.V.Store.may_leave g.V.Store.faults g.V.Store.moment g.V.Store.left_since c.args.client.now.state c.args.client.now c.args.core.now.regions.items c.args.core.now.system.state _ c.args.core.now.vault _ (λ d past. g.met.V.Store.only_now c.args.core.now.vault.store d past) refl
+
+pub returns-in-Within-clause-any_moment : goal.returns-in-Within-clause-any_moment
+returns-in-Within-clause-any_moment g c =
+    leaves_stepped g.V.Store.told g.V.Store.may_leave g.V.Store.faults g.V.Store.moment g.V.Store.left_since c.args.core.now.regions.items c.args.core.now.system.state c.within.new.core.system.state c.args.core.now.vault c.within.new.core.vault c.args.client.now (record c.args.client.now { state = c.replace.new.dest }) (Within c.in-Within.transaction) (sym c.in-Within.ensures.value) (record { rest = refl; client = refl; lines = refl }) c.within.ensures.any_moment
+
+pub returns-in-Committing-clause-any_moment : goal.returns-in-Committing-clause-any_moment
+returns-in-Committing-clause-any_moment g c =
+    leaves_stepped g.V.Store.told g.V.Store.may_leave g.V.Store.faults g.V.Store.moment g.V.Store.left_since c.args.core.now.regions.items c.args.core.now.system.state c.go_on.new.core.system.state c.args.core.now.vault c.go_on.new.core.vault c.args.client.now (record c.args.client.now { state = c.replace.new.dest }) (Committing c.in-Committing.transaction c.in-Committing.number c.in-Committing.removals c.in-Committing.next) (sym c.in-Committing.ensures.value) (record { rest = refl; client = refl; lines = refl }) c.go_on.ensures.any_moment
+
+pub returns-in-Auditing-clause-any_moment : goal.returns-in-Auditing-clause-any_moment
+returns-in-Auditing-clause-any_moment g c =
+    leaves_stepped g.V.Store.told g.V.Store.may_leave g.V.Store.faults g.V.Store.moment g.V.Store.left_since c.args.core.now.regions.items c.args.core.now.system.state c.end.new.core.system.state c.args.core.now.vault c.end.new.core.vault c.args.client.now (record c.args.client.now { state = c.replace.new.dest }) (Auditing c.in-Auditing.audit c.in-Auditing.next) (sym c.in-Auditing.ensures.value) (record { rest = refl; client = refl; lines = refl }) c.end.ensures.any_moment
+
+pub returns-in-Copying-clause-any_moment : goal.returns-in-Copying-clause-any_moment
+returns-in-Copying-clause-any_moment g c =
+    leaves_stepped g.V.Store.told g.V.Store.may_leave g.V.Store.faults g.V.Store.moment g.V.Store.left_since c.args.core.now.regions.items c.args.core.now.system.state c.copy.new.core.system.state c.args.core.now.vault c.copy.new.core.vault c.args.client.now (record c.args.client.now { state = c.replace.new.dest }) (Copying c.in-Copying.checkpoint c.in-Copying.next) (sym c.in-Copying.ensures.value) (record { rest = refl; client = refl; lines = refl }) c.copy.ensures.any_moment
+
+pub returns-in-Certifying-clause-any_moment : goal.returns-in-Certifying-clause-any_moment
+returns-in-Certifying-clause-any_moment g c =
+    leaves_stepped g.V.Store.told g.V.Store.may_leave g.V.Store.faults g.V.Store.moment g.V.Store.left_since c.args.core.now.regions.items c.args.core.now.system.state c.finish_audit.new.core.system.state c.args.core.now.vault c.finish_audit.new.core.vault c.args.client.now (record c.args.client.now { state = c.replace.new.dest }) (Certifying c.in-Certifying.checkpoint c.in-Certifying.audit c.in-Certifying.next) (sym c.in-Certifying.ensures.value) (record { rest = refl; client = refl; lines = refl }) c.finish_audit.ensures.any_moment
+
+pub returns-in-Outside-clause-any_moment : goal.returns-in-Outside-clause-any_moment
+returns-in-Outside-clause-any_moment g c =
+    leaves_stepped g.V.Store.told g.V.Store.may_leave g.V.Store.faults g.V.Store.moment g.V.Store.left_since c.args.core.now.regions.items c.args.core.now.system.state c.next.new.core.system.state c.args.core.now.vault c.next.new.core.vault c.args.client.now (record c.args.client.now { state = c.replace.new.dest }) Outside (sym c.in-Outside.ensures.value) (record { rest = refl; client = refl; lines = refl }) c.next.ensures.any_moment
+
+pub returns-in-Within-clause-refuses : goal.returns-in-Within-clause-refuses
+returns-in-Within-clause-refuses g c = refuses_from c.args.core.now.vault.flushed c.within.new.core.vault.stopped c.args.setting.now.precheck c.args.client.now c.within.new.client c.args.core.now.regions.items c.args.core.now.system.state c.within.result (Within c.in-Within.transaction) c.replace.new.dest c.in-Within.ensures.value c.within.ensures.refuses
+
+pub returns-in-TakingBack-clause-refuses : goal.returns-in-TakingBack-clause-refuses
+returns-in-TakingBack-clause-refuses g c = refuses_from c.args.core.now.vault.flushed c.take_back.new.core.vault.stopped c.args.setting.now.precheck c.args.client.now c.take_back.new.client c.args.core.now.regions.items c.args.core.now.system.state c.take_back.result (TakingBack c.in-TakingBack.transaction c.in-TakingBack.plan c.in-TakingBack.why) c.replace.new.dest c.in-TakingBack.ensures.value c.take_back.ensures.refuses
+
+pub returns-in-Committing-clause-refuses : goal.returns-in-Committing-clause-refuses
+returns-in-Committing-clause-refuses g c = refuses_from c.args.core.now.vault.flushed c.go_on.new.core.vault.stopped c.args.setting.now.precheck c.args.client.now c.go_on.new.client c.args.core.now.regions.items c.args.core.now.system.state c.go_on.result (Committing c.in-Committing.transaction c.in-Committing.number c.in-Committing.removals c.in-Committing.next) c.replace.new.dest c.in-Committing.ensures.value c.go_on.ensures.refuses
+
+pub returns-in-Waiting-clause-refuses : goal.returns-in-Waiting-clause-refuses
+returns-in-Waiting-clause-refuses g c = refuses_from c.args.core.now.vault.flushed c.wait.new.core.vault.stopped c.args.setting.now.precheck c.args.client.now c.wait.new.client c.args.core.now.regions.items c.args.core.now.system.state c.wait.result (Waiting c.in-Waiting.tries c.in-Waiting.holder) c.replace.new.dest c.in-Waiting.ensures.value (c.wait.ensures.refuses c.args.setting.now.precheck)
+
+pub returns-in-Auditing-clause-refuses : goal.returns-in-Auditing-clause-refuses
+returns-in-Auditing-clause-refuses g c = refuses_from c.args.core.now.vault.flushed c.end.new.core.vault.stopped c.args.setting.now.precheck c.args.client.now c.end.new.client c.args.core.now.regions.items c.args.core.now.system.state c.end.result (Auditing c.in-Auditing.audit c.in-Auditing.next) c.replace.new.dest c.in-Auditing.ensures.value (λ all. c.end.ensures.refuses)
+
+pub returns-in-Copying-clause-refuses : goal.returns-in-Copying-clause-refuses
+returns-in-Copying-clause-refuses g c = refuses_from c.args.core.now.vault.flushed c.copy.new.core.vault.stopped c.args.setting.now.precheck c.args.client.now c.copy.new.client c.args.core.now.regions.items c.args.core.now.system.state c.copy.result (Copying c.in-Copying.checkpoint c.in-Copying.next) c.replace.new.dest c.in-Copying.ensures.value (c.copy.ensures.refuses c.args.setting.now.precheck)
+
+pub returns-in-Certifying-clause-refuses : goal.returns-in-Certifying-clause-refuses
+returns-in-Certifying-clause-refuses g c = refuses_from c.args.core.now.vault.flushed c.finish_audit.new.core.vault.stopped c.args.setting.now.precheck c.args.client.now c.finish_audit.new.client c.args.core.now.regions.items c.args.core.now.system.state c.finish_audit.result (Certifying c.in-Certifying.checkpoint c.in-Certifying.audit c.in-Certifying.next) c.replace.new.dest c.in-Certifying.ensures.value (λ all. c.finish_audit.ensures.refuses)
+
+pub returns-in-LeftOut-clause-refuses : goal.returns-in-LeftOut-clause-refuses
+returns-in-LeftOut-clause-refuses g c = refuses_from c.args.core.now.vault.flushed c.args.core.now.vault.stopped c.args.setting.now.precheck c.args.client.now c.left_out.new.client c.args.core.now.regions.items c.args.core.now.system.state c.left_out.result LeftOut c.replace.new.dest c.in-LeftOut.ensures.value tt
+
+pub returns-in-Calling-clause-refuses : goal.returns-in-Calling-clause-refuses
+returns-in-Calling-clause-refuses g c = refuses_from c.args.core.now.vault.flushed c.call.new.core.vault.stopped c.args.setting.now.precheck c.args.client.now c.call.new.client c.args.core.now.regions.items c.args.core.now.system.state c.call.result (Calling c.in-Calling.transaction c.in-Calling.plan) c.replace.new.dest c.in-Calling.ensures.value c.call.ensures.refuses
+
+pub returns-in-Outside-clause-refuses : goal.returns-in-Outside-clause-refuses
+returns-in-Outside-clause-refuses g c = refuses_from c.args.core.now.vault.flushed c.next.new.core.vault.stopped c.args.setting.now.precheck c.args.client.now c.next.new.client c.args.core.now.regions.items c.args.core.now.system.state c.next.result Outside c.replace.new.dest c.in-Outside.ensures.value c.next.ensures.refuses
+
+pub returns-in-Gone-clause-refuses : goal.returns-in-Gone-clause-refuses
+returns-in-Gone-clause-refuses g c = refuses_from c.args.core.now.vault.flushed c.args.core.now.vault.stopped c.args.setting.now.precheck c.args.client.now (record c.args.client.now { state = Gone }) c.args.core.now.regions.items c.args.core.now.system.state (Ok false) Gone c.replace.new.dest c.in-Gone.ensures.value tt

@@ -1,10 +1,13 @@
-use Rattle.std.proofs.Common.{◌≡◌, Some, refl, ap, sym, ◌∙◌}
+use Rattle.std.proofs.Common.{◌≡◌, true, Some, Ok, refl, ap, sym, subst, ◌∙◌}
 use Rattle.dali_turns.specs.declared.client.State.TheVariants.{Outside, Within}
 use Rattle.dali_turns.proofs.Here.{in_no_run}
 use Rattle.dali_turns.proofs.Commands.{behind_next}
 use Rattle.dali_turns.proofs.Stepping.{armed_goes, not_within, within_placed}
 use Rattle.dali_turns.proofs.Putting.{never_went, asked_put}
 use Rattle.dali_turns.proofs.Placed.{places_still, at_state}
+use Rattle.dali_turns.proofs.Moments.{leaves_still}
+use Rattle.dali_turns.specs.Refuses.{RefusesIn}
+use Rattle.dali_turns.proofs.AtOnce.{none_in}
 use Rattle.dali_turns.proofs.steps.within.Goals as goal
 
 pub returns-in_default-clause-goes : goal.returns-in_default-clause-goes
@@ -21,7 +24,7 @@ returns-in-Die-clause-goes g c =
     (record { rest = c.pass_command.ensures.rest; stands = refl; points = c.pass_command.ensures.points; transcript = c.pass_command.ensures.transcript })
 
 pub returns-in_default-clause-places : goal.returns-in_default-clause-places
-returns-in_default-clause-places g c = places_still g.V.Store.told (Within c.args.transaction) c.args.client.now.state c.args.core.now.regions.items c.args.core.now.regions.items c.args.core.now.vault c.args.core.now.vault refl refl (at_state g.V.Store.told c.args.client.now.state Outside c.args.core.now.vault c.requires.stands tt)
+returns-in_default-clause-places g c = places_still g.V.Store.told (Within c.args.transaction) c.args.client.now.state c.args.core.now.regions.items c.args.core.now.regions.items c.args.core.now.vault c.args.core.now.vault refl refl (at_state g.V.Store.told _ _ c.args.client.now.state Outside c.args.core.now.vault c.requires.stands tt)
 
 pub returns-in-Die-clause-places : goal.returns-in-Die-clause-places
 returns-in-Die-clause-places g c = places_still g.V.Store.told (Within c.args.transaction) _ c.args.core.now.regions.items c.args.core.now.regions.items c.args.core.now.vault c.args.core.now.vault refl refl tt
@@ -37,3 +40,39 @@ returns-in-Commit-clause-idle g c = λ e. never_went c.commit.result c.commit.en
 
 pub returns-in-Abort-clause-idle : goal.returns-in-Abort-clause-idle
 returns-in-Abort-clause-idle g c = λ e. never_went c.abort.result c.abort.ensures.on e
+
+pub returns-in_default-clause-any_moment : goal.returns-in_default-clause-any_moment
+returns-in_default-clause-any_moment g c = leaves_still g.V.Store.told g.V.Store.may_leave g.V.Store.faults g.V.Store.moment g.V.Store.left_since (Within c.args.transaction) c.args.client.now c.args.core.now.regions.items c.args.core.now.system.state _ c.args.core.now.vault _ (λ d past. g.met.V.Store.only_now c.args.core.now.vault.store d past) refl
+
+pub returns-in-None-clause-any_moment : goal.returns-in-None-clause-any_moment
+returns-in-None-clause-any_moment g c = leaves_still g.V.Store.told g.V.Store.may_leave g.V.Store.faults g.V.Store.moment g.V.Store.left_since (Within c.args.transaction) c.args.client.now c.args.core.now.regions.items c.args.core.now.system.state _ c.args.core.now.vault _ (λ d past. g.met.V.Store.only_now c.args.core.now.vault.store d past) c.end.ensures.vault
+
+pub returns-in-Call-clause-any_moment : goal.returns-in-Call-clause-any_moment
+returns-in-Call-clause-any_moment g c = leaves_still g.V.Store.told g.V.Store.may_leave g.V.Store.faults g.V.Store.moment g.V.Store.left_since (Within c.args.transaction) c.args.client.now c.args.core.now.regions.items c.args.core.now.system.state _ c.args.core.now.vault _ (λ d past. g.met.V.Store.only_now c.args.core.now.vault.store d past) c.ask.ensures.vault
+
+pub returns-in-Die-clause-any_moment : goal.returns-in-Die-clause-any_moment
+returns-in-Die-clause-any_moment g c = leaves_still g.V.Store.told g.V.Store.may_leave g.V.Store.faults g.V.Store.moment g.V.Store.left_since (Within c.args.transaction) c.args.client.now c.args.core.now.regions.items c.args.core.now.system.state _ c.args.core.now.vault _ (λ d past. g.met.V.Store.only_now c.args.core.now.vault.store d past) refl
+
+pub returns-in-Abort-clause-any_moment : goal.returns-in-Abort-clause-any_moment
+returns-in-Abort-clause-any_moment g c = leaves_still g.V.Store.told g.V.Store.may_leave g.V.Store.faults g.V.Store.moment g.V.Store.left_since (Within c.args.transaction) c.args.client.now c.args.core.now.regions.items c.args.core.now.system.state _ c.args.core.now.vault _ (λ d past. g.met.V.Store.only_now c.args.core.now.vault.store d past) c.abort.ensures.vault
+
+pub returns-in-None-clause-refuses : goal.returns-in-None-clause-refuses
+returns-in-None-clause-refuses g c = subst (λ o. RefusesIn c.args.core.now.system.state c.args.transaction o c.args.client.now c.end.result c.end.new.client) (sym c.in-None.is ∙ c.command.ensures) c.end.ensures.refuses
+
+pub returns-in-Call-clause-refuses : goal.returns-in-Call-clause-refuses
+returns-in-Call-clause-refuses g c = subst (λ o. RefusesIn c.args.core.now.system.state c.args.transaction o c.args.client.now c.ask.result c.ask.new.client) (sym (ap Some c.in-Call.is) ∙ (sym c.in-Some.is ∙ c.command.ensures)) c.ask.ensures.refuses
+
+pub returns-in-Die-clause-refuses : goal.returns-in-Die-clause-refuses
+returns-in-Die-clause-refuses g c = subst (λ o. RefusesIn c.args.core.now.system.state c.args.transaction o c.args.client.now (Ok true) (record c.pass_command.new.self { state = Within (record c.args.transaction { deadly = Some c.in-Die.operation }) })) (sym (ap Some c.in-Die.is) ∙ (sym c.in-Some.is ∙ c.command.ensures)) tt
+
+pub returns-in-Commit-clause-refuses : goal.returns-in-Commit-clause-refuses
+returns-in-Commit-clause-refuses g c = subst (λ o. RefusesIn c.args.core.now.system.state c.args.transaction o c.args.client.now c.commit.result c.commit.new.client) (sym (ap Some c.in-Commit.is) ∙ (sym c.in-Some.is ∙ c.command.ensures)) c.commit.ensures.refuses
+
+pub returns-in-Abort-clause-refuses : goal.returns-in-Abort-clause-refuses
+returns-in-Abort-clause-refuses g c = subst (λ o. RefusesIn c.args.core.now.system.state c.args.transaction o c.args.client.now c.abort.result c.abort.new.client) (sym (ap Some c.in-Abort.is) ∙ (sym c.in-Some.is ∙ c.command.ensures)) c.abort.ensures.refuses
+
+pub returns-in_default-clause-refuses : goal.returns-in_default-clause-refuses
+returns-in_default-clause-refuses g c = none_in c.args.core.now.system.state c.args.transaction _ c.args.client.now c.args.client.now c.no_run.result c.no_run.ensures
+
+pub returns-in-Commit-clause-any_moment : goal.returns-in-Commit-clause-any_moment
+returns-in-Commit-clause-any_moment g c = leaves_still g.V.Store.told g.V.Store.may_leave g.V.Store.faults g.V.Store.moment g.V.Store.left_since (Within c.args.transaction) c.args.client.now c.args.core.now.regions.items c.args.core.now.system.state _ c.args.core.now.vault _ (λ d past. g.met.V.Store.only_now c.args.core.now.vault.store d past) c.commit.ensures.vault

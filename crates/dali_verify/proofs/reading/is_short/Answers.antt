@@ -1,4 +1,5 @@
-use Rattle.dali_verify.proofs.Logs.{if_some_then, long_found, short_bad}
+use Rattle.dali_lists.proofs.Options.{if_some_then}
+use Rattle.dali_verify.proofs.Logs.{long_found, short_bad}
 use Rattle.dali_verify.proofs.reading.is_short.Goals.{in-Ok, in-Err-BadLog, in-Err}
 use Rattle.dali_verify.proofs.reading.is_short.Goals as goal
 

@@ -1,4 +1,5 @@
-use Rattle.dali_verify.proofs.Logs.{if_some_then, whole}
+use Rattle.dali_lists.proofs.Options.{if_some_then}
+use Rattle.dali_verify.proofs.Logs.{whole}
 use Rattle.dali_verify.proofs.reading.whole_log.Goals as goal
 
 pub returns-clause-log : goal.returns-clause-log

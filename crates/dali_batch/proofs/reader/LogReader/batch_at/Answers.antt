@@ -1,6 +1,6 @@
 use Rattle.std.proofs.Common.{◌≡◌, ◌∙◌, ◌⊎◌, inl, inr, sym, refl, arith, ◌+◌, ◌^◌, ◌<◌, take, drop, length}
+use Rattle.dali_lists.proofs.Options.{if_some_then}
 use Rattle.dali_store.specs.Store.{Files}
-use Rattle.dali_store.proofs.Moments.{if_some_each}
 use Rattle.dali_batch.specs.Stream.{IsWindow}
 use Rattle.dali_batch.proofs.Finds.{if_some_two, if_some_same, open_read, cut_length, bad_length, batch_read}
 use Rattle.dali_batch.proofs.Streaming.{part_of, closed_read}
@@ -9,7 +9,7 @@ use Rattle.dali_batch.proofs.reader.LogReader.batch_at.Goals as goal
 
 pub returns-then-part-clause-none : goal.returns-then-part-clause-none
 returns-then-part-clause-none g c = λ none.
-    if_some_each _ _ (g.V.Store.told c.args.store.now) c.in_ok-need.ensures.window (λ fs opens window.
+    if_some_then _ _ (g.V.Store.told c.args.store.now) c.in_ok-need.ensures.window (λ fs opens window.
     let p = part_of fs.log c.need.new.self c.args.at 1 (opens window) (c.in_ok-need.ensures.whole c.if-not-branch.false).0 in
     closed_read fs.log c.part.result.now c.args.at p.0 (c.part.ensures ∙ p.1) c.if-part.true)
 

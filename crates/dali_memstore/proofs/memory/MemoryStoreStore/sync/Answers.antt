@@ -1,12 +1,13 @@
 use Rattle.std.proofs.Common.{ap, Some, subst}
+use Rattle.std.proofs.lemmas.Result.{on_ok_weaker}
 use Rattle.dali_memstore.proofs.Events.{synced_told, synced_crash, synced_durable, elapses_happened, elapses_same}
 use Rattle.dali_memstore.specs.Memory.{History, disks, seen_of, IsCrash}
 use Rattle.dali_memstore.specs.declared.event.Event.TheVariants.{Synced}
-use Rattle.dali_memstore.proofs.Results.{on_ok, by_result}
+use Rattle.dali_memstore.proofs.Results.{by_result}
 use Rattle.dali_memstore.proofs.memory.MemoryStoreStore.sync.Goals as goal
 
 pub returns-clause-durable : goal.returns-clause-durable
-returns-clause-durable c = on_ok c.sync.result (synced_durable c.args.file _ _) c.sync.ensures.synced
+returns-clause-durable c = on_ok_weaker c.sync.result (synced_durable c.args.file _ _) c.sync.ensures.synced
 
 pub returns-clause-told : goal.returns-clause-told
 returns-clause-told c =

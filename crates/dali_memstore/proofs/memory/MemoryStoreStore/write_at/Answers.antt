@@ -1,11 +1,12 @@
 use Rattle.dali_memstore.proofs.Events.{wrote_law, wrote_torn, wrote_crash, torn_told, torn_crash, elapses_push, elapses_same}
 use Rattle.dali_memstore.specs.declared.event.Event.TheVariants.{Wrote}
-use Rattle.dali_memstore.proofs.Results.{on_ok, by_result}
+use Rattle.dali_memstore.proofs.Results.{by_result}
 use Rattle.std.proofs.Common.{length}
+use Rattle.std.proofs.lemmas.Result.{on_ok_weaker}
 use Rattle.dali_memstore.proofs.memory.MemoryStoreStore.write_at.Goals as goal
 
 pub returns-clause-written : goal.returns-clause-written
-returns-clause-written c = on_ok c.write_at.result (wrote_law c.args.file c.args.at c.args.bytes.now _ _) c.write_at.ensures.written
+returns-clause-written c = on_ok_weaker c.write_at.result (wrote_law c.args.file c.args.at c.args.bytes.now _ _) c.write_at.ensures.written
 
 pub returns-clause-torn : goal.returns-clause-torn
 returns-clause-torn c =

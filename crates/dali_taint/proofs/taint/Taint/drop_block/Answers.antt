@@ -1,10 +1,10 @@
 use Rattle.std.proofs.Common.{◌≡◌, sym, ap, ◌∙◌, length, take, ◌++◌, drop, Bool, cond, ◌<◌, arith, rules}
 use Rattle.std.specs.Int.Bits.{bit_or}
 use Rattle.std.specs.Prelude.{◌||◌, ◌==◌, map}
+use mathlib.Core.Bool.{or-false}
 use Rattle.dali_record.specs.Damage.{has}
 use Rattle.dali_taint.specs.Tables.{word_set}
 use Rattle.dali_taint.proofs.Blocks.{put_back, other_way}
-use Rattle.dali_taint.proofs.Steps.{or_none}
 use Rattle.dali_taint.proofs.taint.Taint.drop_block.Goals as goal
 
 ap2 : {a b p q : Bool} → a ≡ b → p ≡ q → (a || p) ≡ (b || q)
@@ -27,5 +27,5 @@ returns-clause-ok c = record {
   items = λ k. other_way _ _ _ _ _ (c.mark_changed.ensures k) (c.mark_undone.ensures.marked k ∙ ap2 (c.make_room.ensures.same k) (ap (λ us. has (map (λ u. u.key) us) k) c.undos-undos.ensures));
   corrupt = λ t. (c.in_ok-note.ensures).ok t;
   undos = λ t. c.forget.ensures t;
-  deleted = λ t. sym (or_none _);
+  deleted = λ t. sym (or-false _);
 }

@@ -9,6 +9,9 @@ use Rattle.dali_turns.proofs.Asking.{new_plan}
 use Rattle.dali_turns.proofs.CallSteps.{ran_there, asked_says, stop_why, unasked_goes, unasked_silently, unasked_nowhere}
 use Rattle.dali_turns.proofs.Requests.{granted_then, waits_then, yield_then, clean_behind}
 use Rattle.dali_turns.proofs.Placed.{places_still, at_state, call_refused}
+use Rattle.dali_clients.specs.declared.command.Command.TheVariants.{Call as IsCall}
+use Rattle.dali_turns.proofs.Meeting.{on_no_ok}
+use Rattle.dali_turns.proofs.AtOnce.{never_up, stop_told}
 use Rattle.dali_turns.proofs.steps.calls.ask.Goals as goal
 
 pub returns-in-Granted-clause-goes : goal.returns-in-Granted-clause-goes
@@ -52,13 +55,43 @@ pub returns-else-is_dead-clause-places : goal.returns-else-is_dead-clause-places
 returns-else-is_dead-clause-places g c = places_still g.V.Store.told (Within c.args.transaction) _ c.args.core.now.regions.items c.args.core.now.regions.items c.args.core.now.vault c.args.core.now.vault refl refl tt
 
 pub returns-in_err-plan-clause-places : goal.returns-in_err-plan-clause-places
-returns-in_err-plan-clause-places g c = places_still g.V.Store.told (Within c.args.transaction) c.args.client.now.state c.args.core.now.regions.items c.args.core.now.regions.items c.args.core.now.vault c.args.core.now.vault refl refl (at_state g.V.Store.told c.args.client.now.state Outside c.args.core.now.vault c.requires.stands tt)
+returns-in_err-plan-clause-places g c = places_still g.V.Store.told (Within c.args.transaction) c.args.client.now.state c.args.core.now.regions.items c.args.core.now.regions.items c.args.core.now.vault c.args.core.now.vault refl refl (at_state g.V.Store.told _ _ c.args.client.now.state Outside c.args.core.now.vault c.requires.stands tt)
 
 pub returns-in_err-why_of-in-Err-clause-places : goal.returns-in_err-why_of-in-Err-clause-places
-returns-in_err-why_of-in-Err-clause-places g c = places_still g.V.Store.told (Within c.args.transaction) c.args.client.now.state c.args.core.now.regions.items c.args.core.now.regions.items c.args.core.now.vault c.args.core.now.vault refl refl (at_state g.V.Store.told c.args.client.now.state Outside c.args.core.now.vault c.requires.stands tt)
+returns-in_err-why_of-in-Err-clause-places g c = places_still g.V.Store.told (Within c.args.transaction) c.args.client.now.state c.args.core.now.regions.items c.args.core.now.regions.items c.args.core.now.vault c.args.core.now.vault refl refl (at_state g.V.Store.told _ _ c.args.client.now.state Outside c.args.core.now.vault c.requires.stands tt)
 
 pub returns-in_err-refuse_call-in-Err-clause-places : goal.returns-in_err-refuse_call-in-Err-clause-places
-returns-in_err-refuse_call-in-Err-clause-places g c = places_still g.V.Store.told (Within c.args.transaction) c.refuse_call.new.self.state c.args.core.now.regions.items c.args.core.now.regions.items c.args.core.now.vault c.args.core.now.vault refl refl (at_state g.V.Store.told c.refuse_call.new.self.state (Within c.args.transaction) c.args.core.now.vault c.in_err-refuse_call-in-Err.ensures.err.stands tt)
+returns-in_err-refuse_call-in-Err-clause-places g c = places_still g.V.Store.told (Within c.args.transaction) c.refuse_call.new.self.state c.args.core.now.regions.items c.args.core.now.regions.items c.args.core.now.vault c.args.core.now.vault refl refl (at_state g.V.Store.told _ _ c.refuse_call.new.self.state (Within c.args.transaction) c.args.core.now.vault c.in_err-refuse_call-in-Err.ensures.err.stands tt)
 
 pub returns-in_ok-refuse_call-in-Err-clause-places : goal.returns-in_ok-refuse_call-in-Err-clause-places
-returns-in_ok-refuse_call-in-Err-clause-places g c = places_still g.V.Store.told (Within c.args.transaction) c.refuse_call.new.self.state c.args.core.now.regions.items c.args.core.now.regions.items c.args.core.now.vault c.args.core.now.vault refl refl (at_state g.V.Store.told c.refuse_call.new.self.state (Within c.args.transaction) c.args.core.now.vault (call_refused c.args.client.now c.args.transaction _ c.refuse_call.new.self (ap is_some c.requires.next) c.in_ok-refuse_call-in-Err.ensures.ok) tt)
+returns-in_ok-refuse_call-in-Err-clause-places g c = places_still g.V.Store.told (Within c.args.transaction) c.refuse_call.new.self.state c.args.core.now.regions.items c.args.core.now.regions.items c.args.core.now.vault c.args.core.now.vault refl refl (at_state g.V.Store.told _ _ c.refuse_call.new.self.state (Within c.args.transaction) c.args.core.now.vault (call_refused c.args.client.now c.args.transaction _ c.refuse_call.new.self (ap is_some c.requires.next) c.in_ok-refuse_call-in-Err.ensures.ok) tt)
+
+-- ---- a stop is told at once
+pub returns-in-Granted-clause-refuses : goal.returns-in-Granted-clause-refuses
+returns-in-Granted-clause-refuses g c = λ cause up. never_up c.args.core.now.system.state.stop cause (ran_there c.args.core.now.system.state c.ask.result c.in-Ok.answer c.in-Ok.is c.ask.ensures.refused) up
+
+pub returns-then-is_dead-clause-refuses : goal.returns-then-is_dead-clause-refuses
+returns-then-is_dead-clause-refuses g c = λ cause up. never_up c.args.core.now.system.state.stop cause (ran_there c.args.core.now.system.state c.ask.result c.in-Ok.answer c.in-Ok.is c.ask.ensures.refused) up
+
+pub returns-else-is_dead-clause-refuses : goal.returns-else-is_dead-clause-refuses
+returns-else-is_dead-clause-refuses g c = λ cause up. never_up c.args.core.now.system.state.stop cause (ran_there c.args.core.now.system.state c.ask.result c.in-Ok.answer c.in-Ok.is c.ask.ensures.refused) up
+
+pub returns-then-is_dead-2-clause-refuses : goal.returns-then-is_dead-2-clause-refuses
+returns-then-is_dead-2-clause-refuses g c = λ cause up. never_up c.args.core.now.system.state.stop cause (ran_there c.args.core.now.system.state c.ask.result c.in-Ok.answer c.in-Ok.is c.ask.ensures.refused) up
+
+pub returns-else-is_dead-2-clause-refuses : goal.returns-else-is_dead-2-clause-refuses
+returns-else-is_dead-2-clause-refuses g c = λ cause up. never_up c.args.core.now.system.state.stop cause (ran_there c.args.core.now.system.state c.ask.result c.in-Ok.answer c.in-Ok.is c.ask.ensures.refused) up
+
+pub returns-in_err-plan-clause-refuses : goal.returns-in_err-plan-clause-refuses
+returns-in_err-plan-clause-refuses g c = λ cause up. on_no_ok _ c.from_residual.result c.from_residual.ensures.0
+
+pub returns-in_err-why_of-in-Err-clause-refuses : goal.returns-in_err-why_of-in-Err-clause-refuses
+returns-in_err-why_of-in-Err-clause-refuses g c = λ cause up. on_no_ok _ c.from_residual-in_err-why_of-in-Err.result c.from_residual-in_err-why_of-in-Err.ensures.0
+
+pub returns-in_err-refuse_call-in-Err-clause-refuses : goal.returns-in_err-refuse_call-in-Err-clause-refuses
+returns-in_err-refuse_call-in-Err-clause-refuses g c = λ cause up. on_no_ok _ c.from_residual-in_err-refuse_call-in-Err.result c.from_residual-in_err-refuse_call-in-Err.ensures.0
+
+pub returns-in_ok-refuse_call-in-Err-clause-refuses : goal.returns-in_ok-refuse_call-in-Err-clause-refuses
+returns-in_ok-refuse_call-in-Err-clause-refuses g c =
+    let stop = stop_why c.args.core.now.system.state.stop c.in-Err.error c.in_ok-why_of-in-Err.field-0 (asked_says c.args.core.now.system.state c.ask.result c.in-Err.error c.in-Err.is c.ask.ensures.refused c.ask.ensures.memory) c.in_ok-why_of-in-Err.ensures.given in
+    stop_told c.args.core.now.system.state (Within c.args.transaction) (IsCall c.args.call) c.args.client.now c.refuse_call.new.self stop.0 c.in_ok-why_of-in-Err.field-0 stop.2 stop.1 (c.in_ok-refuse_call-in-Err.ensures.ok (IsCall c.args.call) c.requires.next)

@@ -6,6 +6,7 @@ use Rattle.dali_turns.specs.Calls.{call_in}
 use Rattle.dali_turns.proofs.Here.{in_no_run}
 use Rattle.dali_turns.proofs.CallSteps.{at_rest, command_there, calling_more}
 use Rattle.dali_turns.proofs.Placed.{places_still, at_state}
+use Rattle.dali_turns.proofs.Meeting.{on_no_ok}
 use Rattle.dali_turns.proofs.steps.calls.call.Goals as goal
 
 pub returns-in_default-clause-goes : goal.returns-in_default-clause-goes
@@ -24,10 +25,22 @@ returns-in-Nothing-clause-goes g c =
     (λ may. calling_more c.args.plan may.fits.plan_is.phase_is (sym (ap want_of c.get-held.ensures) ∙ (sym c.wants.ensures.wants ∙ c.in-Nothing.is)))
 
 pub returns-in_default-clause-places : goal.returns-in_default-clause-places
-returns-in_default-clause-places g c = places_still g.V.Store.told (Calling c.args.transaction c.args.plan) c.args.client.now.state c.args.core.now.regions.items c.args.core.now.regions.items c.args.core.now.vault c.args.core.now.vault refl refl (at_state g.V.Store.told c.args.client.now.state Outside c.args.core.now.vault c.requires.stands tt)
+returns-in_default-clause-places g c = places_still g.V.Store.told (Calling c.args.transaction c.args.plan) c.args.client.now.state c.args.core.now.regions.items c.args.core.now.regions.items c.args.core.now.vault c.args.core.now.vault refl refl (at_state g.V.Store.told _ _ c.args.client.now.state Outside c.args.core.now.vault c.requires.stands tt)
 
 pub returns-then-not-is_at_rest-clause-places : goal.returns-then-not-is_at_rest-clause-places
-returns-then-not-is_at_rest-clause-places g c = places_still g.V.Store.told (Calling c.args.transaction c.args.plan) c.args.client.now.state c.args.core.now.regions.items c.args.core.now.regions.items c.args.core.now.vault c.args.core.now.vault refl refl (at_state g.V.Store.told c.args.client.now.state Outside c.args.core.now.vault c.requires.stands tt)
+returns-then-not-is_at_rest-clause-places g c = places_still g.V.Store.told (Calling c.args.transaction c.args.plan) c.args.client.now.state c.args.core.now.regions.items c.args.core.now.regions.items c.args.core.now.vault c.args.core.now.vault refl refl (at_state g.V.Store.told _ _ c.args.client.now.state Outside c.args.core.now.vault c.requires.stands tt)
 
 pub returns-in-Nothing-clause-places : goal.returns-in-Nothing-clause-places
-returns-in-Nothing-clause-places g c = places_still g.V.Store.told (Calling c.args.transaction c.args.plan) c.args.client.now.state c.args.core.now.regions.items c.args.core.now.regions.items c.args.core.now.vault c.args.core.now.vault refl refl (at_state g.V.Store.told c.args.client.now.state Outside c.args.core.now.vault c.requires.stands tt)
+returns-in-Nothing-clause-places g c = places_still g.V.Store.told (Calling c.args.transaction c.args.plan) c.args.client.now.state c.args.core.now.regions.items c.args.core.now.regions.items c.args.core.now.vault c.args.core.now.vault refl refl (at_state g.V.Store.told _ _ c.args.client.now.state Outside c.args.core.now.vault c.requires.stands tt)
+
+pub returns-in_default-clause-refuses : goal.returns-in_default-clause-refuses
+returns-in_default-clause-refuses g c = λ e why lives. on_no_ok _ _ c.no_run.ensures
+
+pub returns-then-not-is_at_rest-clause-refuses : goal.returns-then-not-is_at_rest-clause-refuses
+returns-then-not-is_at_rest-clause-refuses g c = λ e why lives. on_no_ok _ _ c.no_run-then-not-is_at_rest.ensures
+
+pub returns-in-Nothing-clause-refuses : goal.returns-in-Nothing-clause-refuses
+returns-in-Nothing-clause-refuses g c = λ e why lives. on_no_ok _ _ c.no_run-in-Nothing.ensures
+
+pub returns-in-Done-clause-refuses : goal.returns-in-Done-clause-refuses
+returns-in-Done-clause-refuses g c = λ e why lives. c.answer.ensures.met c.args.setting.now.precheck e why

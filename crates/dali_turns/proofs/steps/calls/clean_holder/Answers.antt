@@ -35,15 +35,15 @@ returns-in-None-clause-goes g c = λ precheck.
 
 pub returns-in_err-clean_up-clause-places : goal.returns-in_err-clean_up-clause-places
 returns-in_err-clean_up-clause-places g c =
-    places_beside g.V.Store.told (Within c.args.transaction) c.args.client.now.state c.args.core.now.regions.items c.clean_up.new.core.regions.items c.args.core.now.vault c.clean_up.new.core.vault c.in_err-clean_up.ensures.flags c.in_err-clean_up.ensures.vault (at_state g.V.Store.told c.args.client.now.state Outside c.clean_up.new.core.vault c.requires.stands tt)
+    places_beside g.V.Store.told (Within c.args.transaction) c.args.client.now.state c.args.core.now.regions.items c.clean_up.new.core.regions.items c.args.core.now.vault c.clean_up.new.core.vault c.in_err-clean_up.ensures.flags c.in_err-clean_up.ensures.vault (at_state g.V.Store.told _ _ c.args.client.now.state Outside c.clean_up.new.core.vault c.requires.stands tt)
 
 pub returns-in_err-refuse_call-in-Some-clause-places : goal.returns-in_err-refuse_call-in-Some-clause-places
 returns-in_err-refuse_call-in-Some-clause-places g c =
-    places_beside g.V.Store.told (Within c.args.transaction) c.refuse_call.new.self.state c.args.core.now.regions.items c.clean_up.new.core.regions.items c.args.core.now.vault c.clean_up.new.core.vault c.in_ok-clean_up.ensures.flags c.in_ok-clean_up.ensures.vault (at_state g.V.Store.told c.refuse_call.new.self.state (Within c.args.transaction) c.clean_up.new.core.vault c.in_err-refuse_call-in-Some.ensures.err.stands tt)
+    places_beside g.V.Store.told (Within c.args.transaction) c.refuse_call.new.self.state c.args.core.now.regions.items c.clean_up.new.core.regions.items c.args.core.now.vault c.clean_up.new.core.vault c.in_ok-clean_up.ensures.flags c.in_ok-clean_up.ensures.vault (at_state g.V.Store.told _ _ c.refuse_call.new.self.state (Within c.args.transaction) c.clean_up.new.core.vault c.in_err-refuse_call-in-Some.ensures.err.stands tt)
 
 pub returns-in_ok-refuse_call-in-Some-clause-places : goal.returns-in_ok-refuse_call-in-Some-clause-places
 returns-in_ok-refuse_call-in-Some-clause-places g c =
-    places_beside g.V.Store.told (Within c.args.transaction) c.refuse_call.new.self.state c.args.core.now.regions.items c.clean_up.new.core.regions.items c.args.core.now.vault c.clean_up.new.core.vault c.in_ok-clean_up.ensures.flags c.in_ok-clean_up.ensures.vault (at_state g.V.Store.told c.refuse_call.new.self.state (Within c.args.transaction) c.clean_up.new.core.vault (call_refused c.args.client.now c.args.transaction c.in-Some.why c.refuse_call.new.self (ap is_some c.requires.next.1) c.in_ok-refuse_call-in-Some.ensures.ok) tt)
+    places_beside g.V.Store.told (Within c.args.transaction) c.refuse_call.new.self.state c.args.core.now.regions.items c.clean_up.new.core.regions.items c.args.core.now.vault c.clean_up.new.core.vault c.in_ok-clean_up.ensures.flags c.in_ok-clean_up.ensures.vault (at_state g.V.Store.told _ _ c.refuse_call.new.self.state (Within c.args.transaction) c.clean_up.new.core.vault (call_refused c.args.client.now c.args.transaction c.in-Some.why c.refuse_call.new.self (ap is_some c.requires.next.1) c.in_ok-refuse_call-in-Some.ensures.ok) tt)
 
 pub returns-in-None-clause-places : goal.returns-in-None-clause-places
 returns-in-None-clause-places g c =

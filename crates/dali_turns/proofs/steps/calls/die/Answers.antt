@@ -1,4 +1,4 @@
-use Rattle.std.proofs.Common.{is_ok, ap, refl, sym, subst, ◌∙◌}
+use Rattle.std.proofs.Common.{is_ok, ap, refl, sym, subst, ◌∙◌, OnOk}
 use Rattle.dali_calls.specs.Plans.{Planned, IsWhole, want_of}
 use Rattle.dali_single.specs.Refusals.{IsRefusal}
 use Rattle.dali_single.specs.declared.error.StepError.TheVariants.{Latch}
@@ -7,6 +7,9 @@ use Rattle.dali_turns.specs.declared.client.State.TheVariants.{Calling as IsCall
 use Rattle.dali_turns.proofs.Commands.{err_false}
 use Rattle.dali_turns.proofs.CallSteps.{dies_goes, dies_silently, some_next, rest_still, goes_still, vault_still}
 use Rattle.dali_turns.proofs.Placed.{places_beside, places_then}
+use Rattle.dali_system.specs.State.{SystemState}
+use Rattle.dali_turns.specs.Refuses.{IsMet}
+use Rattle.dali_turns.proofs.Meeting.{death_met, met_by, on_no_ok}
 use Rattle.dali_turns.proofs.steps.calls.die.Goals as goal
 
 pub die_next-requires-clause-wants : goal.die_next-requires-clause-wants
@@ -62,3 +65,16 @@ returns-in_err-say-in-Ok-clause-places g c = places_beside g.V.Store.told (IsCal
 
 pub returns-in-Err-clause-places : goal.returns-in-Err-clause-places
 returns-in-Err-clause-places g c = places_then g.V.Store.told (IsCalling c.args.transaction c.args.plan) (IsCalling c.args.transaction c.die_next.new.plan) c.hindered.new.client.state c.args.core.now.regions.items c.die_next.new.core.regions.items c.hindered.new.core.regions.items c.args.core.now.vault c.die_next.new.core.vault c.hindered.new.core.vault c.in-Err.ensures.err.1 c.in-Err.ensures.vault tt c.hindered.ensures.places
+
+pub returns-in_ok-say-in-Ok-clause-met : goal.returns-in_ok-say-in-Ok-clause-met
+returns-in_ok-say-in-Ok-clause-met g c = λ e why latched.
+    death_met c.args.setting.now.precheck c.args.plan c.args.core.now.system.state c.args.client.now _ c.args.transaction c.args.core.now.regions.items e why c.die_next.new.core.regions.items c.die_next.new.core.system.state c.in-Ok.ensures.dies latched
+
+pub returns-in_err-say-in-Ok-clause-met : goal.returns-in_err-say-in-Ok-clause-met
+returns-in_err-say-in-Ok-clause-met g c = λ e why latched. on_no_ok _ c.from_residual.result c.from_residual.ensures.0
+
+pub returns-in-Err-clause-met : goal.returns-in-Err-clause-met
+returns-in-Err-clause-met g c = λ e why latched.
+    met_by c.args.setting.now.precheck c.args.plan c.args.core.now.system.state c.args.client.now c.hindered.new.client c.args.transaction c.args.core.now.regions.items e why (Latch c.in-Err.cause) c.hindered.result c.in-Err.ensures.cause
+    (subst (λ (y : SystemState). OnOk c.hindered.result (IsMet (Latch c.in-Err.cause) y.stop c.args.client.now c.args.transaction c.args.plan c.hindered.new.client)) c.in-Err.ensures.err.2
+    (subst (λ (m : Planned). OnOk c.hindered.result (IsMet (Latch c.in-Err.cause) c.die_next.new.core.system.state.stop c.args.client.now c.args.transaction m c.hindered.new.client)) c.in-Err.ensures.err.0 c.hindered.ensures.met))

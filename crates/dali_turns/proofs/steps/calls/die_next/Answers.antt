@@ -2,10 +2,11 @@ use Rattle.std.proofs.Common.{◌≡◌, ◌∙◌, List, OnOk, length, ap, sym,
 use Rattle.dali_calls.specs.Plans.{Planned}
 use Rattle.dali_core.specs.Served.{Served}
 use Rattle.dali_region.specs.State.{RegionState}
+use Rattle.dali_calls.proofs.Flags.{flags_equal}
 use Rattle.dali_stepwise.specs.Stepwise.{IsDeath}
 use Rattle.dali_whole.proofs.CleanedUp.{put_back}
 use Rattle.dali_turns.proofs.CallSteps.{on_err}
-use Rattle.dali_turns.proofs.Flags.{flags_equal, flags_of, death_flags}
+use Rattle.dali_turns.proofs.Flags.{flags_of, death_flags}
 use Rattle.dali_turns.proofs.steps.calls.die_next.Goals as goal
 
 pub returns-clause-dies : goal.returns-clause-dies

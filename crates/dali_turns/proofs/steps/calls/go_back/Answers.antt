@@ -1,10 +1,13 @@
-use Rattle.std.proofs.Common.{is_some, is_ok, ap, refl, sym, subst, ◌∙◌}
+use Rattle.std.proofs.Common.{is_some, is_ok, ap, refl, sym, subst, ◌∙◌, OnOk}
 use Rattle.dali_calls.specs.Plans.{Planned, plan_next}
 use Rattle.dali_single.specs.Refusals.{IsRefusal}
 use Rattle.dali_turns.specs.Goes.{StepGoes}
 use Rattle.dali_turns.specs.declared.client.State.TheVariants.{TakingBack as IsTakingBack}
 use Rattle.dali_turns.proofs.CallSteps.{goes_back, goes_still, vault_still}
 use Rattle.dali_turns.proofs.Placed.{places_beside, places_then}
+use Rattle.dali_turns.proofs.Meeting.{further_met_back, met_back_by}
+use Rattle.dali_system.specs.State.{SystemState}
+use Rattle.dali_turns.specs.Refuses.{IsMetBack}
 use Rattle.dali_turns.proofs.steps.calls.go_back.Goals as goal
 
 pub stuck-requires-clause-wants : goal.stuck-requires-clause-wants
@@ -39,3 +42,12 @@ returns-in-Ok-clause-places g c = places_beside g.V.Store.told (IsTakingBack c.a
 
 pub returns-in-Err-clause-places : goal.returns-in-Err-clause-places
 returns-in-Err-clause-places g c = places_then g.V.Store.told (IsTakingBack c.args.transaction c.args.plan c.args.why) (IsTakingBack c.args.transaction c.make_next.new.plan c.args.why) c.stuck.new.client.state c.args.core.now.regions.items c.make_next.new.core.regions.items c.stuck.new.core.regions.items c.args.core.now.vault c.make_next.new.core.vault c.stuck.new.core.vault c.in-Err.ensures.err.1 c.in-Err.ensures.vault tt c.stuck.ensures.places
+
+pub returns-in-Ok-clause-met : goal.returns-in-Ok-clause-met
+returns-in-Ok-clause-met g c = λ e why.
+    further_met_back c.args.setting.now.precheck c.args.plan c.args.core.now.system.state c.args.client.now _ c.args.transaction c.args.core.now.regions.items e why c.make_next.new.plan c.make_next.new.core.regions.items c.make_next.new.core.system.state c.in-Ok.ensures.further
+
+pub returns-in-Err-clause-met : goal.returns-in-Err-clause-met
+returns-in-Err-clause-met g c = λ e why.
+    met_back_by c.args.setting.now.precheck c.args.plan c.args.core.now.system.state c.args.client.now c.stuck.new.client c.args.transaction c.args.core.now.regions.items e why c.in-Err.error c.stuck.result c.in-Err.ensures.cause
+    (subst (λ (y : SystemState). OnOk c.stuck.result (IsMetBack c.in-Err.error y.stop c.args.client.now c.args.transaction c.stuck.new.client)) c.in-Err.ensures.err.2 c.stuck.ensures.met)

@@ -1,4 +1,5 @@
 use Rattle.std.proofs.Common.{◌≡◌, Some, Ok, ap, refl, subst, ◌∙◌}
+use Rattle.std.proofs.lemmas.Result.{on_ok_weaker}
 use Rattle.dali_system.specs.declared.causes.Cause.{Cause as IsCause}
 use Rattle.dali_clean.specs.Cleaned.{MayClean}
 use Rattle.dali_clients.specs.declared.line.Why.{Why}
@@ -13,6 +14,8 @@ use Rattle.dali_turns.proofs.Commands.{err_false}
 use Rattle.dali_turns.proofs.CallSteps.{some_command, points_there, before_operation, not_held, damage_refuses, system_refuses, by_lines}
 use Rattle.dali_turns.proofs.CleanSteps.{is_some_at, cleans_in, holder_is_dead, operate_again, operate_stopped, operate_stopped_silently, operate_half}
 use Rattle.dali_turns.proofs.Placed.{places_beside, places_still, at_state, call_refused, refused_reaches}
+use Rattle.dali_turns.proofs.Meeting.{holder_met, held_not, held_by, damaged_met, refused_met, on_no_ok}
+use Rattle.dali_turns.proofs.AtOnce.{met}
 use Rattle.dali_turns.proofs.steps.calls.hindered.Goals as goal
 
 pub refuse_call-requires : goal.refuse_call-requires
@@ -73,26 +76,48 @@ returns-in-None-clause-goes g c = λ precheck why.
 
 pub returns-in_err-clean_up-in-DeadHolder-clause-places : goal.returns-in_err-clean_up-in-DeadHolder-clause-places
 returns-in_err-clean_up-in-DeadHolder-clause-places g c =
-    places_beside g.V.Store.told (Calling c.args.transaction c.args.plan) c.args.client.now.state c.args.core.now.regions.items c.clean_up.new.core.regions.items c.args.core.now.vault c.clean_up.new.core.vault c.in_err-clean_up-in-DeadHolder.ensures.flags c.in_err-clean_up-in-DeadHolder.ensures.vault (at_state g.V.Store.told c.args.client.now.state Outside c.clean_up.new.core.vault c.requires.stands tt)
+    places_beside g.V.Store.told (Calling c.args.transaction c.args.plan) c.args.client.now.state c.args.core.now.regions.items c.clean_up.new.core.regions.items c.args.core.now.vault c.clean_up.new.core.vault c.in_err-clean_up-in-DeadHolder.ensures.flags c.in_err-clean_up-in-DeadHolder.ensures.vault (at_state g.V.Store.told _ _ c.args.client.now.state Outside c.clean_up.new.core.vault c.requires.stands tt)
 
 pub returns-in_err-refuse_call-in-Some-clause-places : goal.returns-in_err-refuse_call-in-Some-clause-places
 returns-in_err-refuse_call-in-Some-clause-places g c =
-    places_beside g.V.Store.told (Calling c.args.transaction c.args.plan) c.refuse_call.new.self.state c.args.core.now.regions.items c.clean_up.new.core.regions.items c.args.core.now.vault c.clean_up.new.core.vault c.in_ok-clean_up-in-DeadHolder.ensures.flags c.in_ok-clean_up-in-DeadHolder.ensures.vault (at_state g.V.Store.told c.refuse_call.new.self.state (Within c.args.transaction) c.clean_up.new.core.vault c.in_err-refuse_call-in-Some.ensures.err.stands tt)
+    places_beside g.V.Store.told (Calling c.args.transaction c.args.plan) c.refuse_call.new.self.state c.args.core.now.regions.items c.clean_up.new.core.regions.items c.args.core.now.vault c.clean_up.new.core.vault c.in_ok-clean_up-in-DeadHolder.ensures.flags c.in_ok-clean_up-in-DeadHolder.ensures.vault (at_state g.V.Store.told _ _ c.refuse_call.new.self.state (Within c.args.transaction) c.clean_up.new.core.vault c.in_err-refuse_call-in-Some.ensures.err.stands tt)
 
 pub returns-in_ok-refuse_call-in-Some-clause-places : goal.returns-in_ok-refuse_call-in-Some-clause-places
 returns-in_ok-refuse_call-in-Some-clause-places g c =
-    places_beside g.V.Store.told (Calling c.args.transaction c.args.plan) c.refuse_call.new.self.state c.args.core.now.regions.items c.clean_up.new.core.regions.items c.args.core.now.vault c.clean_up.new.core.vault c.in_ok-clean_up-in-DeadHolder.ensures.flags c.in_ok-clean_up-in-DeadHolder.ensures.vault (at_state g.V.Store.told c.refuse_call.new.self.state (Within c.args.transaction) c.clean_up.new.core.vault (call_refused c.args.client.now c.args.transaction c.in-Some.why c.refuse_call.new.self (some_command (next_of c.args.client.now) c.requires.called) c.in_ok-refuse_call-in-Some.ensures.ok) tt)
+    places_beside g.V.Store.told (Calling c.args.transaction c.args.plan) c.refuse_call.new.self.state c.args.core.now.regions.items c.clean_up.new.core.regions.items c.args.core.now.vault c.clean_up.new.core.vault c.in_ok-clean_up-in-DeadHolder.ensures.flags c.in_ok-clean_up-in-DeadHolder.ensures.vault (at_state g.V.Store.told _ _ c.refuse_call.new.self.state (Within c.args.transaction) c.clean_up.new.core.vault (call_refused c.args.client.now c.args.transaction c.in-Some.why c.refuse_call.new.self (some_command (next_of c.args.client.now) c.requires.called) c.in_ok-refuse_call-in-Some.ensures.ok) tt)
 
 pub returns-in-None-clause-places : goal.returns-in-None-clause-places
 returns-in-None-clause-places g c =
     places_beside g.V.Store.told (Calling c.args.transaction c.args.plan) _ c.args.core.now.regions.items c.clean_up.new.core.regions.items c.args.core.now.vault c.clean_up.new.core.vault c.in_ok-clean_up-in-DeadHolder.ensures.flags c.in_ok-clean_up-in-DeadHolder.ensures.vault tt
 
 pub returns-in-Latched-clause-places : goal.returns-in-Latched-clause-places
-returns-in-Latched-clause-places g c = places_still g.V.Store.told (Calling c.args.transaction c.args.plan) c.args.client.now.state c.args.core.now.regions.items c.args.core.now.regions.items c.args.core.now.vault c.args.core.now.vault refl refl (at_state g.V.Store.told c.args.client.now.state Outside c.args.core.now.vault c.requires.stands tt)
+returns-in-Latched-clause-places g c = places_still g.V.Store.told (Calling c.args.transaction c.args.plan) c.args.client.now.state c.args.core.now.regions.items c.args.core.now.regions.items c.args.core.now.vault c.args.core.now.vault refl refl (at_state g.V.Store.told _ _ c.args.client.now.state Outside c.args.core.now.vault c.requires.stands tt)
 
 pub returns-in-Damaged-clause-places : goal.returns-in-Damaged-clause-places
-returns-in-Damaged-clause-places g c = places_still g.V.Store.told (Calling c.args.transaction c.args.plan) c.turn_back.new.client.state c.args.core.now.regions.items c.args.core.now.regions.items c.args.core.now.vault c.args.core.now.vault refl refl (at_state g.V.Store.told c.turn_back.new.client.state _ c.args.core.now.vault c.turn_back.ensures.stands tt)
+returns-in-Damaged-clause-places g c = places_still g.V.Store.told (Calling c.args.transaction c.args.plan) c.turn_back.new.client.state c.args.core.now.regions.items c.args.core.now.regions.items c.args.core.now.vault c.args.core.now.vault refl refl (at_state g.V.Store.told _ _ c.turn_back.new.client.state _ c.args.core.now.vault c.turn_back.ensures.stands tt)
 
 pub returns-in-System-clause-places : goal.returns-in-System-clause-places
 returns-in-System-clause-places g c =
-    places_still g.V.Store.told (Calling c.args.transaction c.args.plan) c.refused.new.client.state c.args.core.now.regions.items c.args.core.now.regions.items c.args.core.now.vault c.args.core.now.vault refl refl (refused_reaches g.V.Store.told c.in-System.cause _ c.args.transaction c.args.plan c.refused.result c.refused.new.client c.args.core.now.vault c.requires.stands (some_command (next_of c.args.client.now) c.requires.called) c.refused.ensures)
+    places_still g.V.Store.told (Calling c.args.transaction c.args.plan) c.refused.new.client.state c.args.core.now.regions.items c.args.core.now.regions.items c.args.core.now.vault c.args.core.now.vault refl refl (refused_reaches g.V.Store.told _ _ c.in-System.cause _ c.args.transaction c.args.plan c.refused.result c.refused.new.client c.args.core.now.vault c.requires.stands (some_command (next_of c.args.client.now) c.requires.called) c.refused.ensures)
+
+pub returns-in_err-clean_up-in-DeadHolder-clause-met : goal.returns-in_err-clean_up-in-DeadHolder-clause-met
+returns-in_err-clean_up-in-DeadHolder-clause-met g c = on_no_ok _ c.from_residual.result c.from_residual.ensures.0
+
+pub returns-in_err-refuse_call-in-Some-clause-met : goal.returns-in_err-refuse_call-in-Some-clause-met
+returns-in_err-refuse_call-in-Some-clause-met g c = on_no_ok _ c.from_residual-in_err-refuse_call-in-Some.result c.from_residual-in_err-refuse_call-in-Some.ensures.0
+
+pub returns-in_ok-refuse_call-in-Some-clause-met : goal.returns-in_ok-refuse_call-in-Some-clause-met
+returns-in_ok-refuse_call-in-Some-clause-met g c =
+    let r = is_some_at c.in_ok-clean_up-in-DeadHolder.field-0 c.in-Some.why (λ (o : Why). (stop : IsCause) × (o ≡ IsStopped stop) × (c.args.core.now.system.state.stop ≡ Some stop) × (MayClean c.args.core.now.regions.items c.args.core.now.system.state c.in-DeadHolder.txn → IsLeftDead c.in-DeadHolder.txn c.args.core.now.regions.items c.args.core.now.system.state c.clean_up.new.core.regions.items c.clean_up.new.core.system.state)) c.in-Some.is c.in_ok-clean_up-in-DeadHolder.ensures.refused in
+    holder_met c.args.core.now.system.state.stop c.args.client.now c.refuse_call.new.self c.args.transaction c.args.plan c.args.error c.in-DeadHolder.txn (c.in-Latch.is ∙ ap Latch c.in-DeadHolder.is) (held_by c.args.core.now.system.state.stop c.args.client.now c.refuse_call.new.self c.args.transaction c.args.plan r.0 c.in-Some.why r.1 r.2 c.in_ok-refuse_call-in-Some.ensures.ok)
+
+pub returns-in-None-clause-met : goal.returns-in-None-clause-met
+returns-in-None-clause-met g c = holder_met c.args.core.now.system.state.stop c.args.client.now (record c.args.client.now { state = Calling c.args.transaction c.args.plan }) c.args.transaction c.args.plan c.args.error c.in-DeadHolder.txn (c.in-Latch.is ∙ ap Latch c.in-DeadHolder.is) (held_not c.args.core.now.system.state.stop c.args.client.now (record c.args.client.now { state = Calling c.args.transaction c.args.plan }) c.args.transaction c.args.plan (c.in_ok-clean_up-in-DeadHolder.ensures.runs (ap Ok c.in-None.is)))
+
+pub returns-in-Damaged-clause-met : goal.returns-in-Damaged-clause-met
+returns-in-Damaged-clause-met g c = damaged_met c.args.core.now.system.state.stop c.args.client.now c.turn_back.new.client c.args.transaction c.args.plan c.args.error c.args.region _ _ (c.in-Latch.is ∙ ap Latch c.in-Damaged.is) c.requires.wants c.turn_back.ensures
+
+pub returns-in-System-clause-met : goal.returns-in-System-clause-met
+returns-in-System-clause-met g c =
+    on_ok_weaker c.refused.result (met c.args.client.now _ c.refused.new.client c.refused.new.client refl refl refl refl refl c.args.error c.args.core.now.system.state.stop c.args.transaction c.args.plan)
+    (refused_met c.args.core.now.system.state.stop _ c.refused.new.client c.args.transaction c.args.plan c.args.error c.in-System.cause c.refused.result c.in-System.is c.refused.ensures)

@@ -1,10 +1,13 @@
-use Rattle.std.proofs.Common.{not, is_ok, ap, refl, sym, subst, ◌∙◌}
+use Rattle.std.proofs.Common.{not, is_ok, ap, refl, sym, subst, ◌∙◌, OnOk}
 use Rattle.dali_calls.specs.Plans.{Planned, IsWhole, is_back, want_of}
 use Rattle.dali_single.specs.Refusals.{IsRefusal}
 use Rattle.dali_turns.specs.Goes.{StepGoes}
 use Rattle.dali_turns.specs.declared.client.State.TheVariants.{Calling as IsCalling}
 use Rattle.dali_turns.proofs.CallSteps.{operated_goes, some_next, rest_still, goes_still, vault_still}
 use Rattle.dali_turns.proofs.Placed.{places_beside, places_then}
+use Rattle.dali_system.specs.State.{SystemState}
+use Rattle.dali_turns.specs.Refuses.{IsMet}
+use Rattle.dali_turns.proofs.Meeting.{further_met, met_by}
 use Rattle.dali_turns.proofs.steps.calls.operate.Goals as goal
 
 pub make_next-requires-clause-wants : goal.make_next-requires-clause-wants
@@ -51,3 +54,13 @@ returns-in-Ok-clause-places g c = places_beside g.V.Store.told (IsCalling c.args
 
 pub returns-in-Err-clause-places : goal.returns-in-Err-clause-places
 returns-in-Err-clause-places g c = places_then g.V.Store.told (IsCalling c.args.transaction c.args.plan) (IsCalling c.args.transaction c.make_next.new.plan) c.hindered.new.client.state c.args.core.now.regions.items c.make_next.new.core.regions.items c.hindered.new.core.regions.items c.args.core.now.vault c.make_next.new.core.vault c.hindered.new.core.vault c.in-Err.ensures.err.1 c.in-Err.ensures.vault tt c.hindered.ensures.places
+
+pub returns-in-Ok-clause-met : goal.returns-in-Ok-clause-met
+returns-in-Ok-clause-met g c = λ e why.
+    further_met c.args.setting.now.precheck c.args.plan c.args.core.now.system.state c.args.client.now _ c.args.transaction c.args.core.now.regions.items e why c.make_next.new.plan c.make_next.new.core.regions.items c.make_next.new.core.system.state c.in-Ok.ensures.further
+
+pub returns-in-Err-clause-met : goal.returns-in-Err-clause-met
+returns-in-Err-clause-met g c = λ e why.
+    met_by c.args.setting.now.precheck c.args.plan c.args.core.now.system.state c.args.client.now c.hindered.new.client c.args.transaction c.args.core.now.regions.items e why c.in-Err.error c.hindered.result c.in-Err.ensures.cause
+    (subst (λ (y : SystemState). OnOk c.hindered.result (IsMet c.in-Err.error y.stop c.args.client.now c.args.transaction c.args.plan c.hindered.new.client)) c.in-Err.ensures.err.2
+    (subst (λ (m : Planned). OnOk c.hindered.result (IsMet c.in-Err.error c.make_next.new.core.system.state.stop c.args.client.now c.args.transaction m c.hindered.new.client)) c.in-Err.ensures.err.0 c.hindered.ensures.met))

@@ -13,6 +13,7 @@ use Rattle.dali_turns.proofs.Commands.{err_false}
 use Rattle.dali_turns.proofs.CallSteps.{some_command, back_not_held, back_clean, back_says, goes_back_now, stop_why, stuck_goes, stuck_silently, stuck_nowhere}
 use Rattle.dali_turns.proofs.CleanSteps.{is_some_at, cleans_in, back_holder_is_dead, back_again, back_stopped, back_stopped_silently, back_half}
 use Rattle.dali_turns.proofs.Placed.{places_beside, places_still, at_state, call_refused}
+use Rattle.dali_turns.proofs.Meeting.{holder_met_back, held_not, held_by, stop_met_back, on_no_ok}
 use Rattle.dali_turns.proofs.steps.calls.stuck.Goals as goal
 
 pub refuse_call-requires : goal.refuse_call-requires
@@ -80,31 +81,60 @@ returns-in-None-clause-goes g c = λ precheck why.
 
 pub returns-in_err-clean_up-in-DeadHolder-clause-places : goal.returns-in_err-clean_up-in-DeadHolder-clause-places
 returns-in_err-clean_up-in-DeadHolder-clause-places g c =
-    places_beside g.V.Store.told (TakingBack c.args.transaction c.args.plan c.args.why) c.args.client.now.state c.args.core.now.regions.items c.clean_up.new.core.regions.items c.args.core.now.vault c.clean_up.new.core.vault c.in_err-clean_up-in-DeadHolder.ensures.flags c.in_err-clean_up-in-DeadHolder.ensures.vault (at_state g.V.Store.told c.args.client.now.state Outside c.clean_up.new.core.vault c.requires.stands tt)
+    places_beside g.V.Store.told (TakingBack c.args.transaction c.args.plan c.args.why) c.args.client.now.state c.args.core.now.regions.items c.clean_up.new.core.regions.items c.args.core.now.vault c.clean_up.new.core.vault c.in_err-clean_up-in-DeadHolder.ensures.flags c.in_err-clean_up-in-DeadHolder.ensures.vault (at_state g.V.Store.told _ _ c.args.client.now.state Outside c.clean_up.new.core.vault c.requires.stands tt)
 
 pub returns-in_err-refuse_call-in-Some-clause-places : goal.returns-in_err-refuse_call-in-Some-clause-places
 returns-in_err-refuse_call-in-Some-clause-places g c =
-    places_beside g.V.Store.told (TakingBack c.args.transaction c.args.plan c.args.why) c.refuse_call.new.self.state c.args.core.now.regions.items c.clean_up.new.core.regions.items c.args.core.now.vault c.clean_up.new.core.vault c.in_ok-clean_up-in-DeadHolder.ensures.flags c.in_ok-clean_up-in-DeadHolder.ensures.vault (at_state g.V.Store.told c.refuse_call.new.self.state (Within c.args.transaction) c.clean_up.new.core.vault c.in_err-refuse_call-in-Some.ensures.err.stands tt)
+    places_beside g.V.Store.told (TakingBack c.args.transaction c.args.plan c.args.why) c.refuse_call.new.self.state c.args.core.now.regions.items c.clean_up.new.core.regions.items c.args.core.now.vault c.clean_up.new.core.vault c.in_ok-clean_up-in-DeadHolder.ensures.flags c.in_ok-clean_up-in-DeadHolder.ensures.vault (at_state g.V.Store.told _ _ c.refuse_call.new.self.state (Within c.args.transaction) c.clean_up.new.core.vault c.in_err-refuse_call-in-Some.ensures.err.stands tt)
 
 pub returns-in_ok-refuse_call-in-Some-clause-places : goal.returns-in_ok-refuse_call-in-Some-clause-places
 returns-in_ok-refuse_call-in-Some-clause-places g c =
-    places_beside g.V.Store.told (TakingBack c.args.transaction c.args.plan c.args.why) c.refuse_call.new.self.state c.args.core.now.regions.items c.clean_up.new.core.regions.items c.args.core.now.vault c.clean_up.new.core.vault c.in_ok-clean_up-in-DeadHolder.ensures.flags c.in_ok-clean_up-in-DeadHolder.ensures.vault (at_state g.V.Store.told c.refuse_call.new.self.state (Within c.args.transaction) c.clean_up.new.core.vault (call_refused c.args.client.now c.args.transaction c.in-Some.why c.refuse_call.new.self (some_command (next_of c.args.client.now) c.requires.called) c.in_ok-refuse_call-in-Some.ensures.ok) tt)
+    places_beside g.V.Store.told (TakingBack c.args.transaction c.args.plan c.args.why) c.refuse_call.new.self.state c.args.core.now.regions.items c.clean_up.new.core.regions.items c.args.core.now.vault c.clean_up.new.core.vault c.in_ok-clean_up-in-DeadHolder.ensures.flags c.in_ok-clean_up-in-DeadHolder.ensures.vault (at_state g.V.Store.told _ _ c.refuse_call.new.self.state (Within c.args.transaction) c.clean_up.new.core.vault (call_refused c.args.client.now c.args.transaction c.in-Some.why c.refuse_call.new.self (some_command (next_of c.args.client.now) c.requires.called) c.in_ok-refuse_call-in-Some.ensures.ok) tt)
 
 pub returns-in-None-clause-places : goal.returns-in-None-clause-places
 returns-in-None-clause-places g c =
     places_beside g.V.Store.told (TakingBack c.args.transaction c.args.plan c.args.why) _ c.args.core.now.regions.items c.clean_up.new.core.regions.items c.args.core.now.vault c.clean_up.new.core.vault c.in_ok-clean_up-in-DeadHolder.ensures.flags c.in_ok-clean_up-in-DeadHolder.ensures.vault tt
 
 pub returns-in-Latched-clause-places : goal.returns-in-Latched-clause-places
-returns-in-Latched-clause-places g c = places_still g.V.Store.told (TakingBack c.args.transaction c.args.plan c.args.why) c.args.client.now.state c.args.core.now.regions.items c.args.core.now.regions.items c.args.core.now.vault c.args.core.now.vault refl refl (at_state g.V.Store.told c.args.client.now.state Outside c.args.core.now.vault c.requires.stands tt)
+returns-in-Latched-clause-places g c = places_still g.V.Store.told (TakingBack c.args.transaction c.args.plan c.args.why) c.args.client.now.state c.args.core.now.regions.items c.args.core.now.regions.items c.args.core.now.vault c.args.core.now.vault refl refl (at_state g.V.Store.told _ _ c.args.client.now.state Outside c.args.core.now.vault c.requires.stands tt)
 
 pub returns-in-Damaged-clause-places : goal.returns-in-Damaged-clause-places
-returns-in-Damaged-clause-places g c = places_still g.V.Store.told (TakingBack c.args.transaction c.args.plan c.args.why) c.args.client.now.state c.args.core.now.regions.items c.args.core.now.regions.items c.args.core.now.vault c.args.core.now.vault refl refl (at_state g.V.Store.told c.args.client.now.state Outside c.args.core.now.vault c.requires.stands tt)
+returns-in-Damaged-clause-places g c = places_still g.V.Store.told (TakingBack c.args.transaction c.args.plan c.args.why) c.args.client.now.state c.args.core.now.regions.items c.args.core.now.regions.items c.args.core.now.vault c.args.core.now.vault refl refl (at_state g.V.Store.told _ _ c.args.client.now.state Outside c.args.core.now.vault c.requires.stands tt)
 
 pub returns-in_err-why_of-in-System-clause-places : goal.returns-in_err-why_of-in-System-clause-places
-returns-in_err-why_of-in-System-clause-places g c = places_still g.V.Store.told (TakingBack c.args.transaction c.args.plan c.args.why) c.args.client.now.state c.args.core.now.regions.items c.args.core.now.regions.items c.args.core.now.vault c.args.core.now.vault refl refl (at_state g.V.Store.told c.args.client.now.state Outside c.args.core.now.vault c.requires.stands tt)
+returns-in_err-why_of-in-System-clause-places g c = places_still g.V.Store.told (TakingBack c.args.transaction c.args.plan c.args.why) c.args.client.now.state c.args.core.now.regions.items c.args.core.now.regions.items c.args.core.now.vault c.args.core.now.vault refl refl (at_state g.V.Store.told _ _ c.args.client.now.state Outside c.args.core.now.vault c.requires.stands tt)
 
 pub returns-in_err-refuse_call-in-System-clause-places : goal.returns-in_err-refuse_call-in-System-clause-places
-returns-in_err-refuse_call-in-System-clause-places g c = places_still g.V.Store.told (TakingBack c.args.transaction c.args.plan c.args.why) c.refuse_call-in-System.new.self.state c.args.core.now.regions.items c.args.core.now.regions.items c.args.core.now.vault c.args.core.now.vault refl refl (at_state g.V.Store.told c.refuse_call-in-System.new.self.state (Within c.args.transaction) c.args.core.now.vault c.in_err-refuse_call-in-System.ensures.err.stands tt)
+returns-in_err-refuse_call-in-System-clause-places g c = places_still g.V.Store.told (TakingBack c.args.transaction c.args.plan c.args.why) c.refuse_call-in-System.new.self.state c.args.core.now.regions.items c.args.core.now.regions.items c.args.core.now.vault c.args.core.now.vault refl refl (at_state g.V.Store.told _ _ c.refuse_call-in-System.new.self.state (Within c.args.transaction) c.args.core.now.vault c.in_err-refuse_call-in-System.ensures.err.stands tt)
 
 pub returns-in_ok-refuse_call-in-System-clause-places : goal.returns-in_ok-refuse_call-in-System-clause-places
-returns-in_ok-refuse_call-in-System-clause-places g c = places_still g.V.Store.told (TakingBack c.args.transaction c.args.plan c.args.why) c.refuse_call-in-System.new.self.state c.args.core.now.regions.items c.args.core.now.regions.items c.args.core.now.vault c.args.core.now.vault refl refl (at_state g.V.Store.told c.refuse_call-in-System.new.self.state (Within c.args.transaction) c.args.core.now.vault (call_refused c.args.client.now c.args.transaction _ c.refuse_call-in-System.new.self (some_command (next_of c.args.client.now) c.requires.called) c.in_ok-refuse_call-in-System.ensures.ok) tt)
+returns-in_ok-refuse_call-in-System-clause-places g c = places_still g.V.Store.told (TakingBack c.args.transaction c.args.plan c.args.why) c.refuse_call-in-System.new.self.state c.args.core.now.regions.items c.args.core.now.regions.items c.args.core.now.vault c.args.core.now.vault refl refl (at_state g.V.Store.told _ _ c.refuse_call-in-System.new.self.state (Within c.args.transaction) c.args.core.now.vault (call_refused c.args.client.now c.args.transaction _ c.refuse_call-in-System.new.self (some_command (next_of c.args.client.now) c.requires.called) c.in_ok-refuse_call-in-System.ensures.ok) tt)
+
+pub returns-in_err-clean_up-in-DeadHolder-clause-met : goal.returns-in_err-clean_up-in-DeadHolder-clause-met
+returns-in_err-clean_up-in-DeadHolder-clause-met g c = on_no_ok _ c.from_residual.result c.from_residual.ensures.0
+
+pub returns-in_err-refuse_call-in-Some-clause-met : goal.returns-in_err-refuse_call-in-Some-clause-met
+returns-in_err-refuse_call-in-Some-clause-met g c = on_no_ok _ c.from_residual-in_err-refuse_call-in-Some.result c.from_residual-in_err-refuse_call-in-Some.ensures.0
+
+pub returns-in_ok-refuse_call-in-Some-clause-met : goal.returns-in_ok-refuse_call-in-Some-clause-met
+returns-in_ok-refuse_call-in-Some-clause-met g c =
+    let r = is_some_at c.in_ok-clean_up-in-DeadHolder.field-0 c.in-Some.why (λ (o : Why). (stop : IsCause) × (o ≡ IsStopped stop) × (c.args.core.now.system.state.stop ≡ Some stop) × (MayClean c.args.core.now.regions.items c.args.core.now.system.state c.in-DeadHolder.txn → IsLeftDead c.in-DeadHolder.txn c.args.core.now.regions.items c.args.core.now.system.state c.clean_up.new.core.regions.items c.clean_up.new.core.system.state)) c.in-Some.is c.in_ok-clean_up-in-DeadHolder.ensures.refused in
+    holder_met_back c.args.core.now.system.state.stop c.args.client.now c.refuse_call.new.self c.args.transaction c.args.plan c.args.error c.in-DeadHolder.txn (c.in-Latch.is ∙ ap Latch c.in-DeadHolder.is) (held_by c.args.core.now.system.state.stop c.args.client.now c.refuse_call.new.self c.args.transaction c.args.plan r.0 c.in-Some.why r.1 r.2 c.in_ok-refuse_call-in-Some.ensures.ok)
+
+pub returns-in-None-clause-met : goal.returns-in-None-clause-met
+returns-in-None-clause-met g c = holder_met_back c.args.core.now.system.state.stop c.args.client.now (record c.args.client.now { state = TakingBack c.args.transaction c.args.plan c.args.why }) c.args.transaction c.args.plan c.args.error c.in-DeadHolder.txn (c.in-Latch.is ∙ ap Latch c.in-DeadHolder.is) (held_not c.args.core.now.system.state.stop c.args.client.now (record c.args.client.now { state = TakingBack c.args.transaction c.args.plan c.args.why }) c.args.transaction c.args.plan (c.in_ok-clean_up-in-DeadHolder.ensures.runs (ap Ok c.in-None.is)))
+
+pub returns-in-Latched-clause-met : goal.returns-in-Latched-clause-met
+returns-in-Latched-clause-met g c = on_no_ok _ _ c.no_run.ensures
+
+pub returns-in-Damaged-clause-met : goal.returns-in-Damaged-clause-met
+returns-in-Damaged-clause-met g c = on_no_ok _ _ c.no_run-in-Damaged.ensures
+
+pub returns-in_err-why_of-in-System-clause-met : goal.returns-in_err-why_of-in-System-clause-met
+returns-in_err-why_of-in-System-clause-met g c = on_no_ok _ c.from_residual-in_err-why_of-in-System.result c.from_residual-in_err-why_of-in-System.ensures.0
+
+pub returns-in_err-refuse_call-in-System-clause-met : goal.returns-in_err-refuse_call-in-System-clause-met
+returns-in_err-refuse_call-in-System-clause-met g c = on_no_ok _ c.from_residual-in_err-refuse_call-in-System.result c.from_residual-in_err-refuse_call-in-System.ensures.0
+
+pub returns-in_ok-refuse_call-in-System-clause-met : goal.returns-in_ok-refuse_call-in-System-clause-met
+returns-in_ok-refuse_call-in-System-clause-met g c = stop_met_back c.args.core.now.system.state.stop c.args.client.now c.refuse_call-in-System.new.self c.args.transaction c.args.plan c.args.error c.in-System.cause c.in_ok-why_of-in-System.field-0 c.in-System.is c.in_ok-why_of-in-System.ensures.given c.in_ok-refuse_call-in-System.ensures.ok

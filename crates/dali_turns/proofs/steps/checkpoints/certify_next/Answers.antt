@@ -4,6 +4,8 @@ use Rattle.dali_turns.proofs.Commands.{lent_there}
 use Rattle.dali_turns.proofs.CertifySteps.{certify_passes_goes}
 use Rattle.dali_turns.proofs.Placing.{checked_go}
 use Rattle.dali_turns.proofs.Stepping.{stepped}
+use Rattle.dali_turns.proofs.Moments.{leaves_still}
+use Rattle.dali_turns.proofs.AtOnce.{certifies_on, refuses_none}
 use Rattle.dali_turns.proofs.steps.checkpoints.certify_next.Goals as goal
 
 pub returns-clause-goes : goal.returns-clause-goes
@@ -18,4 +20,19 @@ returns-clause-goes g c = λ precheck.
 pub returns-clause-places : goal.returns-clause-places
 returns-clause-places g c =
     let within : c.in-Certifying.next < length c.args.core.now.regions.items = search rules in
-    checked_go _ _ _ _ _ c.in-Certifying.next c.index_mut.result.now c.pass.new.region (lent_there c.args.core.now.regions.items c.in-Certifying.next c.index_mut.result.now within c.index_mut.ensures.value) c.pass.ensures.region tt
+    checked_go _ _ _ _ _ c.in-Certifying.next c.index_mut.result.now c.pass.new.region (lent_there c.args.core.now.regions.items c.in-Certifying.next c.index_mut.result.now within c.index_mut.ensures.value) c.pass.ensures.region tt tt
+
+pub returns-clause-any_moment : goal.returns-clause-any_moment
+returns-clause-any_moment g c = leaves_still g.V.Store.told g.V.Store.may_leave g.V.Store.faults g.V.Store.moment g.V.Store.left_since c.args.client.now.state c.args.client.now c.args.core.now.regions.items c.args.core.now.system.state _ c.args.core.now.vault _ (λ d past. g.met.V.Store.only_now c.args.core.now.vault.store d past) refl
+
+pub returns-then-not-waits-clause-any_moment : goal.returns-then-not-waits-clause-any_moment
+returns-then-not-waits-clause-any_moment g c = leaves_still g.V.Store.told g.V.Store.may_leave g.V.Store.faults g.V.Store.moment g.V.Store.left_since c.args.client.now.state c.args.client.now c.args.core.now.regions.items c.args.core.now.system.state _ c.args.core.now.vault _ (λ d past. g.met.V.Store.only_now c.args.core.now.vault.store d past) refl
+
+pub returns-clause-refuses : goal.returns-clause-refuses
+returns-clause-refuses g c = λ precheck.
+    let within : c.in-Certifying.next < length c.args.core.now.regions.items = search rules in
+    let at : c.args.client.now.state ≡ IsCertifying c.in-Certifying.checkpoint c.in-Certifying.audit c.in-Certifying.next = search rules in
+    certifies_on _ _ precheck c.args.client.now _ c.args.core.now.regions.items c.args.core.now.system.state _ c.in-Certifying.checkpoint c.in-Certifying.audit c.in-Certifying.next at within
+
+pub returns-then-not-waits-clause-refuses : goal.returns-then-not-waits-clause-refuses
+returns-then-not-waits-clause-refuses g c = λ precheck. refuses_none _ _ precheck c.args.client.now _ c.args.core.now.regions.items c.args.core.now.system.state c.no_run.result c.no_run.ensures c.args.client.now.state

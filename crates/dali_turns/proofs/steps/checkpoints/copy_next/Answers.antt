@@ -1,4 +1,7 @@
-use Rattle.std.proofs.Common.{◌≡◌, ◌+◌, ◌<◌, ◌^◌, true, false, length, Option, Some, None, is_some, Err, refl, ap, rules}
+use Rattle.std.proofs.Common.{◌≡◌, ◌+◌, ◌<◌, ◌^◌, true, false, length, None, is_some, Err, refl, ap, rules}
+use Rattle.dali_lists.proofs.Options.{none_of_test}
+use Rattle.dali_record.specs.Spelling.{words_bytes}
+use Rattle.dali_traces.specs.Places.{place_of}
 use Rattle.dali_checkpoint.specs.declared.error.CheckpointError.TheVariants.{Fault}
 use Rattle.dali_turns.specs.declared.client.State.TheVariants.{Outside as IsOutside, Copying as IsCopying}
 use Rattle.dali_turns.proofs.Commands.{lent_there, so_left}
@@ -7,11 +10,10 @@ use Rattle.dali_turns.proofs.CopySteps.{never_ok, copied_goes, copy_fails_goes, 
 use Rattle.dali_turns.proofs.Guarding.{goes_from, still_runs}
 use Rattle.dali_turns.proofs.Placing.{gave_up_outside, copied_go, ends_outside, unsaid_outside}
 use Rattle.dali_turns.proofs.Stepping.{stepped}
+use Rattle.dali_turns.proofs.Moments.{leaves_still, leaves_at}
+use Rattle.dali_turns.proofs.CheckpointMoments.{copy_leaves}
+use Rattle.dali_turns.proofs.AtOnce.{copies_on, refuses_none}
 use Rattle.dali_turns.proofs.steps.checkpoints.copy_next.Goals as goal
-
-no_stop : {X : Type 0} (o : Option X) → is_some o ≡ false → o ≡ None
-no_stop None e = refl
-no_stop (Some x) e = absurd (cc)
 
 pub overflow_add-next : goal.overflow_add-next
 overflow_add-next g c =
@@ -25,7 +27,7 @@ returns-in-Ok-clause-goes g c = λ precheck.
     let within : c.in-Copying.next < length c.args.core.now.regions.items = search rules in
     let at : c.args.client.now.state ≡ IsCopying c.in-Copying.checkpoint c.in-Copying.next = search rules in
     let runs : is_some c.args.core.now.system.state.stop ≡ false = search rules in
-    let stop : c.args.core.now.system.state.stop ≡ None = no_stop _ runs in
+    let stop : c.args.core.now.system.state.stop ≡ None = none_of_test _ runs in
     stepped g.V.Store.told g.V.Store.may_leave g.V.Store.faults precheck true c.args.core.now.regions.items _ c.args.core.now.system.state c.args.core.now.system.state c.args.core.now.vault c.copy.new.vault
     c.args.client.now c.args.client.now _ (IsCopying c.in-Copying.checkpoint c.in-Copying.next) at (record { rest = refl; client = refl; lines = refl })
     (copied_goes g.V.Store.told g.V.Store.may_leave g.V.Store.faults precheck c.args.client.now _ c.args.core.now.regions.items c.args.core.now.system.state c.args.core.now.vault c.in-Copying.checkpoint c.in-Copying.next c.index_mut.result.now c.copy.new.region (lent_there c.args.core.now.regions.items c.in-Copying.next c.index_mut.result.now within c.index_mut.ensures.value) stop _ refl
@@ -42,7 +44,7 @@ returns-in-Ok-fail_copy-clause-goes g c = λ precheck.
     let within : c.in-Copying.next < length c.args.core.now.regions.items = search rules in
     let at : c.args.client.now.state ≡ IsCopying c.in-Copying.checkpoint c.in-Copying.next = search rules in
     let runs : is_some c.args.core.now.system.state.stop ≡ false = search rules in
-    let stop : c.args.core.now.system.state.stop ≡ None = no_stop _ runs in
+    let stop : c.args.core.now.system.state.stop ≡ None = none_of_test _ runs in
     let ended = c.fail_copy.ensures.system c.copy.new.self c.in-Copying.next refl in
     stepped g.V.Store.told g.V.Store.may_leave g.V.Store.faults precheck true c.args.core.now.regions.items c.fail_copy.new.core.regions.items c.args.core.now.system.state c.fail_copy.new.core.system.state c.args.core.now.vault c.fail_copy.new.core.vault
     c.args.client.now (record c.args.client.now { state = IsOutside }) c.fail_copy.new.client (IsCopying c.in-Copying.checkpoint c.in-Copying.next) at (record { rest = refl; client = refl; lines = refl })
@@ -65,7 +67,7 @@ returns-in-Err-fail_copy-clause-goes g c = λ precheck.
     let within : c.in-Copying.next < length c.args.core.now.regions.items = search rules in
     let at : c.args.client.now.state ≡ IsCopying c.in-Copying.checkpoint c.in-Copying.next = search rules in
     let runs : is_some c.args.core.now.system.state.stop ≡ false = search rules in
-    let stop : c.args.core.now.system.state.stop ≡ None = no_stop _ runs in
+    let stop : c.args.core.now.system.state.stop ≡ None = none_of_test _ runs in
     let ended = c.fail_copy.ensures.system c.copy.new.self c.in-Copying.next refl in
     stepped g.V.Store.told g.V.Store.may_leave g.V.Store.faults precheck false c.args.core.now.regions.items c.fail_copy.new.core.regions.items c.args.core.now.system.state c.fail_copy.new.core.system.state c.args.core.now.vault c.fail_copy.new.core.vault
     c.args.client.now (record c.args.client.now { state = IsOutside }) c.fail_copy.new.client (IsCopying c.in-Copying.checkpoint c.in-Copying.next) at (record { rest = refl; client = refl; lines = refl })
@@ -82,3 +84,50 @@ returns-in-Err-fail_copy-clause-places g c =
     let ended = c.fail_copy.ensures.system c.copy.new.self c.in-Copying.next refl in
     gave_up_outside _ _ _ _ _ c.in-Copying.next c.index_mut.result.now c.copy.new.region _ _ _ (ap (λ k. k.regions.items) ended) (ap (λ k. k.vault) ended) (lent_there c.args.core.now.regions.items c.in-Copying.next c.index_mut.result.now within c.index_mut.ensures.value) c.in-Err.ensures.region c.copy.ensures.files
     (unsaid_outside (record c.args.client.now { state = IsOutside }) c.fail_copy.new.client (Err c.in-Err.error) refl c.in-Err-fail_copy.ensures.err)
+
+pub returns-in-Ok-clause-any_moment : goal.returns-in-Ok-clause-any_moment
+returns-in-Ok-clause-any_moment g c =
+    let at : c.args.client.now.state ≡ IsCopying c.in-Copying.checkpoint c.in-Copying.next = search rules in
+    let runs : is_some c.args.core.now.system.state.stop ≡ false = search rules in
+    let stop : c.args.core.now.system.state.stop ≡ None = none_of_test _ runs in
+    leaves_at g.V.Store.told g.V.Store.may_leave g.V.Store.faults g.V.Store.moment g.V.Store.left_since c.args.client.now.state c.args.client.now c.args.core.now.regions.items c.args.core.now.system.state c.args.core.now.system.state c.args.core.now.vault c.copy.new.vault (IsCopying c.in-Copying.checkpoint c.in-Copying.next) at
+    (copy_leaves g.V.Store.told g.V.Store.may_leave g.V.Store.faults g.V.Store.moment g.V.Store.left_since c.args.client.now c.args.core.now.regions.items c.args.core.now.system.state c.args.core.now.system.state c.args.core.now.vault c.copy.new.vault (λ d past. g.met.V.Store.only_now c.args.core.now.vault.store d past) c.in-Copying.checkpoint c.in-Copying.next stop c.index_mut.result.now (place_of c.in-Copying.next) (length (words_bytes c.index_mut.result.now.back)) c.copy.new.vault refl (λ clean. let same = c.in-Ok.ensures.clean clean in same.2) c.in-Ok.ensures.any_moment)
+
+pub returns-in-Ok-fail_copy-clause-any_moment : goal.returns-in-Ok-fail_copy-clause-any_moment
+returns-in-Ok-fail_copy-clause-any_moment g c =
+    let at : c.args.client.now.state ≡ IsCopying c.in-Copying.checkpoint c.in-Copying.next = search rules in
+    let runs : is_some c.args.core.now.system.state.stop ≡ false = search rules in
+    let stop : c.args.core.now.system.state.stop ≡ None = none_of_test _ runs in
+    let ended = c.fail_copy.ensures.system c.copy.new.self c.in-Copying.next refl in
+    leaves_at g.V.Store.told g.V.Store.may_leave g.V.Store.faults g.V.Store.moment g.V.Store.left_since c.args.client.now.state c.args.client.now c.args.core.now.regions.items c.args.core.now.system.state c.fail_copy.new.core.system.state c.args.core.now.vault c.fail_copy.new.core.vault (IsCopying c.in-Copying.checkpoint c.in-Copying.next) at
+    (copy_leaves g.V.Store.told g.V.Store.may_leave g.V.Store.faults g.V.Store.moment g.V.Store.left_since c.args.client.now c.args.core.now.regions.items c.args.core.now.system.state c.fail_copy.new.core.system.state c.args.core.now.vault c.fail_copy.new.core.vault (λ d past. g.met.V.Store.only_now c.args.core.now.vault.store d past) c.in-Copying.checkpoint c.in-Copying.next stop c.index_mut.result.now (place_of c.in-Copying.next) (length (words_bytes c.index_mut.result.now.back)) c.copy.new.vault (ap (λ k. k.vault) ended) (λ clean. absurd (never_ok _ _ (c.in-Err.ensures.clean clean).0)) c.in-Err.ensures.any_moment)
+
+pub returns-in-Err-fail_copy-clause-any_moment : goal.returns-in-Err-fail_copy-clause-any_moment
+returns-in-Err-fail_copy-clause-any_moment g c =
+    let at : c.args.client.now.state ≡ IsCopying c.in-Copying.checkpoint c.in-Copying.next = search rules in
+    let runs : is_some c.args.core.now.system.state.stop ≡ false = search rules in
+    let stop : c.args.core.now.system.state.stop ≡ None = none_of_test _ runs in
+    let ended = c.fail_copy.ensures.system c.copy.new.self c.in-Copying.next refl in
+    leaves_at g.V.Store.told g.V.Store.may_leave g.V.Store.faults g.V.Store.moment g.V.Store.left_since c.args.client.now.state c.args.client.now c.args.core.now.regions.items c.args.core.now.system.state c.fail_copy.new.core.system.state c.args.core.now.vault c.fail_copy.new.core.vault (IsCopying c.in-Copying.checkpoint c.in-Copying.next) at
+    (copy_leaves g.V.Store.told g.V.Store.may_leave g.V.Store.faults g.V.Store.moment g.V.Store.left_since c.args.client.now c.args.core.now.regions.items c.args.core.now.system.state c.fail_copy.new.core.system.state c.args.core.now.vault c.fail_copy.new.core.vault (λ d past. g.met.V.Store.only_now c.args.core.now.vault.store d past) c.in-Copying.checkpoint c.in-Copying.next stop c.index_mut.result.now (place_of c.in-Copying.next) (length (words_bytes c.index_mut.result.now.back)) c.copy.new.vault (ap (λ k. k.vault) ended) (λ clean. absurd (never_ok _ _ (c.in-Err.ensures.clean clean).0)) c.in-Err.ensures.any_moment)
+
+pub returns-then-not-may_copy-clause-any_moment : goal.returns-then-not-may_copy-clause-any_moment
+returns-then-not-may_copy-clause-any_moment g c = leaves_still g.V.Store.told g.V.Store.may_leave g.V.Store.faults g.V.Store.moment g.V.Store.left_since c.args.client.now.state c.args.client.now c.args.core.now.regions.items c.args.core.now.system.state _ c.args.core.now.vault _ (λ d past. g.met.V.Store.only_now c.args.core.now.vault.store d past) refl
+
+-- ---- nothing refuses it
+pub returns-in-Ok-clause-refuses : goal.returns-in-Ok-clause-refuses
+returns-in-Ok-clause-refuses g c = λ precheck.
+    let within : c.in-Copying.next < length c.args.core.now.regions.items = search rules in
+    let at : c.args.client.now.state ≡ IsCopying c.in-Copying.checkpoint c.in-Copying.next = search rules in
+    let runs : is_some c.args.core.now.system.state.stop ≡ false = search rules in
+    copies_on _ _ precheck c.args.client.now _ c.args.core.now.regions.items c.args.core.now.system.state _ c.in-Copying.checkpoint c.in-Copying.next at (none_of_test _ runs) within
+
+pub returns-in-Ok-fail_copy-clause-refuses : goal.returns-in-Ok-fail_copy-clause-refuses
+returns-in-Ok-fail_copy-clause-refuses g c = λ precheck.
+    let within : c.in-Copying.next < length c.args.core.now.regions.items = search rules in
+    let at : c.args.client.now.state ≡ IsCopying c.in-Copying.checkpoint c.in-Copying.next = search rules in
+    let runs : is_some c.args.core.now.system.state.stop ≡ false = search rules in
+    copies_on _ _ precheck c.args.client.now _ c.args.core.now.regions.items c.args.core.now.system.state _ c.in-Copying.checkpoint c.in-Copying.next at (none_of_test _ runs) within
+
+pub returns-in-Err-fail_copy-clause-refuses : goal.returns-in-Err-fail_copy-clause-refuses
+returns-in-Err-fail_copy-clause-refuses g c = λ precheck. refuses_none _ _ precheck c.args.client.now _ c.args.core.now.regions.items c.args.core.now.system.state _ refl c.args.client.now.state

@@ -1,4 +1,4 @@
-use Rattle.std.proofs.Common.{◌≡◌, ◌<◌, ◌≤◌, ◌^◌, true, Err, refl, ap, subst, rules}
+use Rattle.std.proofs.Common.{◌≡◌, ◌<◌, ◌≤◌, ◌^◌, true, Err, refl, ap, subst, rules, ◌∙◌, sym}
 use Rattle.std.specs.Prelude.{IsSomeAnd}
 use Rattle.dali_core.specs.Served.{Served}
 use Rattle.dali_core.specs.Refused.{stop_of}
@@ -11,6 +11,11 @@ use Rattle.dali_turns.proofs.Commands.{err_false, so_left}
 use Rattle.dali_turns.proofs.CertifySteps.{may_finish, may_certify, certify_asks, certifies_made, ends_goes, ends_silent_goes, unended_goes, unended_silent_goes}
 use Rattle.dali_turns.proofs.Guarding.{never_goes, both, vault_small}
 use Rattle.dali_turns.proofs.Placing.{still_outside, longer_outside, same_vault, ends_outside, unsaid_outside}
+use Rattle.dali_turns.proofs.Moments.{leaves_still}
+use Rattle.dali_turns.proofs.CheckpointMoments.{certify_leaves}
+use Rattle.dali_turns.proofs.Meeting.{on_no_ok}
+use Rattle.dali_turns.proofs.CallSteps.{asked_says}
+use Rattle.dali_turns.proofs.AtOnce.{never_up, unended}
 use Rattle.dali_turns.proofs.steps.checkpoints.finish_audit.Goals.{then-not-has_passed_all-via-then-not-has_passed_all, then-not-has_passed_all-via-else-not-has_passed_all+then-not-may_certify, then-not-has_passed_all-via-else-not-has_passed_all+else-not-may_certify+then-not-has_room}
 use Rattle.dali_turns.proofs.steps.checkpoints.finish_audit.Goals as goal
 
@@ -31,6 +36,12 @@ returns-in_err-end-in-Ok g c = record {
       _ (err_false c.from_residual.result c.from_residual.ensures.0) c.in_err-end-in-Ok.ensures.err;
   places = longer_outside _ _ _ _ _ _ _ refl c.certify-made.ensures.files (unsaid_outside _ _ c.certify-made.result c.requires.stands c.in_err-end-in-Ok.ensures.err);
   on = err_on c.from_residual.result c.from_residual.ensures.0;
+  any_moment =
+      certify_leaves g.V.Store.told g.V.Store.may_leave g.V.Store.faults g.V.Store.moment g.V.Store.left_since c.args.client.now c.args.core.now.regions.items c.args.core.now.system.state _ c.args.core.now.vault _ (λ d past. g.met.V.Store.only_now c.args.core.now.vault.store d past) c.args.checkpoint c.args.audit c.args.next c.requires.all c.in-Ok.ensures.runs c.end.new.system.state (ap (λ (x : Served). x.state) c.in-Ok.ensures.ok) c.certify-made.result
+      (certifies_made g.V.Store.told g.V.Store.may_leave g.V.Store.faults c.args.checkpoint c.in-Ok.verdict.failing (damaged c.args.audit.findings) c.end.new.system c.certify-made.new.system c.args.core.now.vault c.certify-made.new.vault c.certify-made.result (ap (λ (x : Judged). x.failing) c.in-Ok.ensures.verdict)
+      c.certify-made.ensures.ok c.certify-made.ensures.turned c.certify-made.ensures.flag c.certify-made.ensures.kept c.certify-made.ensures.failed c.certify-made.ensures.fault c.certify-made.ensures.files)
+      (λ clean. c.certify-made.ensures.any_moment (ap (λ (x : Judged). x.failing) c.in-Ok.ensures.verdict ∙ clean)) (λ bad. c.certify-made.ensures.failing_moment (λ none. bad (sym (ap (λ (x : Judged). x.failing) c.in-Ok.ensures.verdict) ∙ none)));
+  refuses = λ cause up. on_no_ok _ c.from_residual.result c.from_residual.ensures.0;
 }
 
 pub returns-in_ok-end-in-Ok : goal.returns-in_ok-end-in-Ok
@@ -43,6 +54,12 @@ returns-in_ok-end-in-Ok g c = record {
       c.in_ok-end-in-Ok.ensures.ok;
   places = longer_outside _ _ _ _ _ _ _ refl c.certify-made.ensures.files (ends_outside _ _ c.certify-made.result c.in_ok-end-in-Ok.ensures.ok);
   on = refl;
+  any_moment =
+      certify_leaves g.V.Store.told g.V.Store.may_leave g.V.Store.faults g.V.Store.moment g.V.Store.left_since c.args.client.now c.args.core.now.regions.items c.args.core.now.system.state _ c.args.core.now.vault _ (λ d past. g.met.V.Store.only_now c.args.core.now.vault.store d past) c.args.checkpoint c.args.audit c.args.next c.requires.all c.in-Ok.ensures.runs c.end.new.system.state (ap (λ (x : Served). x.state) c.in-Ok.ensures.ok) c.certify-made.result
+      (certifies_made g.V.Store.told g.V.Store.may_leave g.V.Store.faults c.args.checkpoint c.in-Ok.verdict.failing (damaged c.args.audit.findings) c.end.new.system c.certify-made.new.system c.args.core.now.vault c.certify-made.new.vault c.certify-made.result (ap (λ (x : Judged). x.failing) c.in-Ok.ensures.verdict)
+      c.certify-made.ensures.ok c.certify-made.ensures.turned c.certify-made.ensures.flag c.certify-made.ensures.kept c.certify-made.ensures.failed c.certify-made.ensures.fault c.certify-made.ensures.files)
+      (λ clean. c.certify-made.ensures.any_moment (ap (λ (x : Judged). x.failing) c.in-Ok.ensures.verdict ∙ clean)) (λ bad. c.certify-made.ensures.failing_moment (λ none. bad (sym (ap (λ (x : Judged). x.failing) c.in-Ok.ensures.verdict) ∙ none)));
+  refuses = λ cause up. never_up c.args.core.now.system.state.stop cause c.in-Ok.ensures.runs up;
 }
 
 -- ---- the audit's end is refused
@@ -55,6 +72,8 @@ returns-in_err-give_up-in-Err g c = record {
       _ (err_false c.from_residual-in_err-give_up-in-Err.result c.from_residual-in_err-give_up-in-Err.ensures.0) (subst (λ (e : CheckpointError). Unsaid c.args.client.now (Err e) c.give_up.new.client) c.into.ensures c.in_err-give_up-in-Err.ensures.err));
   places = longer_outside _ _ _ _ _ _ _ (ap (λ k. k.regions.items) c.give_up.ensures.system) (same_vault g.V.Store.told c.args.core.now.vault c.give_up.new.core.vault (ap (λ k. k.vault) c.give_up.ensures.system)) (unsaid_outside _ _ (Err c.into.result) c.requires.stands c.in_err-give_up-in-Err.ensures.err);
   on = err_on c.from_residual-in_err-give_up-in-Err.result c.from_residual-in_err-give_up-in-Err.ensures.0;
+  any_moment = leaves_still g.V.Store.told g.V.Store.may_leave g.V.Store.faults g.V.Store.moment g.V.Store.left_since (IsCertifying c.args.checkpoint c.args.audit c.args.next) c.args.client.now c.args.core.now.regions.items c.args.core.now.system.state _ c.args.core.now.vault _ (λ d past. g.met.V.Store.only_now c.args.core.now.vault.store d past) (ap (λ k. k.vault) c.give_up.ensures.system);
+  refuses = λ cause up. on_no_ok _ c.from_residual-in_err-give_up-in-Err.result c.from_residual-in_err-give_up-in-Err.ensures.0;
 }
 
 pub returns-in_ok-give_up-in-Err : goal.returns-in_ok-give_up-in-Err
@@ -66,6 +85,8 @@ returns-in_ok-give_up-in-Err g c = record {
       (subst (λ (e : CheckpointError). SaysEnd c.args.client.now (Err e) c.give_up.new.client) c.into.ensures c.in_ok-give_up-in-Err.ensures.ok));
   places = longer_outside _ _ _ _ _ _ _ (ap (λ k. k.regions.items) c.give_up.ensures.system) (same_vault g.V.Store.told c.args.core.now.vault c.give_up.new.core.vault (ap (λ k. k.vault) c.give_up.ensures.system)) (ends_outside _ _ (Err c.into.result) c.in_ok-give_up-in-Err.ensures.ok);
   on = refl;
+  any_moment = leaves_still g.V.Store.told g.V.Store.may_leave g.V.Store.faults g.V.Store.moment g.V.Store.left_since (IsCertifying c.args.checkpoint c.args.audit c.args.next) c.args.client.now c.args.core.now.regions.items c.args.core.now.system.state _ c.args.core.now.vault _ (λ d past. g.met.V.Store.only_now c.args.core.now.vault.store d past) (ap (λ k. k.vault) c.give_up.ensures.system);
+  refuses = unended c.args.core.now.system.state c.args.client.now c.give_up.new.client c.in-Err.error c.into.result c.into.ensures (asked_says c.args.core.now.system.state c.end.result c.in-Err.error c.in-Err.is c.end.ensures.refused c.end.ensures.memory) c.in_ok-give_up-in-Err.ensures.ok;
 }
 
 pub returns-then-not-has_passed_all : goal.returns-then-not-has_passed_all
@@ -76,4 +97,6 @@ returns-then-not-has_passed_all g c = record {
       (λ h. elim c.then-not-has_passed_all.branch as (λ x. ⊥) [ then-not-has_passed_all-via-then-not-has_passed_all w ↦ let passed : c.has_passed_all.result ≡ true = c.has_passed_all.ensures.told h.0.0 in search rules | then-not-has_passed_all-via-else-not-has_passed_all+then-not-may_certify w ↦ let behind : w.may_certify.result ≡ true = w.may_certify.ensures.told h.0.1 in search rules | then-not-has_passed_all-via-else-not-has_passed_all+else-not-may_certify+then-not-has_room w ↦ let room : w.has_room.result ≡ true = w.has_room.ensures.told h.1 in search rules ]);
   places = still_outside _ _ _ _ _ c.requires.stands;
   on = err_on _ c.no_run.ensures;
+  any_moment = leaves_still g.V.Store.told g.V.Store.may_leave g.V.Store.faults g.V.Store.moment g.V.Store.left_since (IsCertifying c.args.checkpoint c.args.audit c.args.next) c.args.client.now c.args.core.now.regions.items c.args.core.now.system.state _ c.args.core.now.vault _ (λ d past. g.met.V.Store.only_now c.args.core.now.vault.store d past) refl;
+  refuses = λ cause up. on_no_ok _ _ c.no_run.ensures;
 }

@@ -1,18 +1,26 @@
-use Rattle.std.proofs.Common.{◌≡◌, ◌∙◌, ◌<◌, ◌^◌, true, false, Err, refl, ap, sym, subst, rules}
+use Rattle.std.proofs.Common.{◌≡◌, ◌∙◌, ◌<◌, ◌^◌, true, false, Err, refl, ap, sym, subst, rules, length}
 use Rattle.dali_geometry.specs.Places.{regions}
 use Rattle.dali_core.specs.Served.{Served}
-use Rattle.dali_checkpoint.specs.Kept.{Checkpointed, side_in, given_up}
+use Rattle.dali_checkpoint.specs.Kept.{Checkpointed, side_in, given_up, cause_of}
 use Rattle.dali_checkpoint.specs.Done.{Reaches}
 use Rattle.dali_checkpoint.specs.declared.error.CheckpointError.{CheckpointError}
 use Rattle.dali_checkpoint.specs.declared.error.CheckpointError.TheVariants.{Fault}
+use Rattle.dali_traces.specs.Places.{place_of}
 use Rattle.dali_turns.specs.declared.client.State.TheVariants.{Copying as IsCopying}
 use Rattle.dali_turns.specs.Endings.{SaysEnd, Unsaid}
 use Rattle.dali_turns.proofs.Putting.{err_on}
 use Rattle.dali_turns.proofs.Commands.{err_false, so_left}
-use Rattle.dali_turns.proofs.CheckpointSteps.{err_is, no_cause}
+use Rattle.dali_turns.proofs.CheckpointSteps.{err_is}
 use Rattle.dali_turns.proofs.SettleSteps.{may_settle, certifies_goes, settle_fails_goes, settle_fails_silent_goes, no_audit_goes, no_audit_silent_goes}
 use Rattle.dali_turns.proofs.Guarding.{goes_from, never_goes, both, vault_small, still_runs}
 use Rattle.dali_turns.proofs.Placing.{still_outside, longer_outside, longer_go, longer_vault, ends_outside, unsaid_outside}
+use Rattle.dali_turns.proofs.Moments.{leaves_still}
+use Rattle.dali_turns.proofs.CheckpointMoments.{settle_leaves}
+use Rattle.dali_record.specs.declared.records.Record.TheVariants.{AuditBegin}
+use Rattle.dali_core.specs.Audits.{audit_refusal}
+use Rattle.dali_checkpoint.proofs.Results.{has_cause}
+use Rattle.dali_turns.proofs.Meeting.{on_no_ok}
+use Rattle.dali_turns.proofs.AtOnce.{unsettled, unbegun, is_there}
 use Rattle.dali_turns.proofs.steps.checkpoints.settle.Goals.{then-not-may_settle-via-then-not-may_settle, then-not-may_settle-via-else-not-may_settle+then-not-has_room}
 use Rattle.dali_turns.proofs.steps.checkpoints.settle.Goals as goal
 
@@ -34,13 +42,15 @@ returns-in_err-give_up-in-Err g c =
     record {
       goes = λ precheck.
           goes_from g.V.Store.told g.V.Store.may_leave g.V.Store.faults precheck (IsCopying c.args.checkpoint c.args.next) c.args.client.now c.args.core.now.regions.items c.args.core.now.system.state c.args.core.now.vault (c.args.core.now.vault.stopped ≡ false) _ _ _ _ _ (still_runs g.V.Store.told g.V.Store.may_leave g.V.Store.faults precheck (IsCopying c.args.checkpoint c.args.next) c.args.client.now c.args.core.now.regions.items c.args.core.now.system.state c.args.core.now.vault c.requires.runs) (λ running.
-          let said = c.in-Err.ensures.fault (no_cause c.args.core.now.system.state c.args.core.now.vault c.requires.runs running) in
+          let said = c.in-Err.ensures.fault (has_cause c.args.core.now.system.state c.args.core.now.vault c.requires.runs running) in
           so_left g.V.Store.told g.V.Store.may_leave g.V.Store.faults precheck (IsCopying c.args.checkpoint c.args.next) c.args.client.now c.give_up.new.client c.args.core.now.regions.items c.args.core.now.system.state c.args.core.now.vault _ _ _ _ _ _ _ (ap (λ k. k.regions.items) c.give_up.ensures.system) (ap (λ k. k.system.state) c.give_up.ensures.system) (ap (λ k. k.vault) c.give_up.ensures.system)
           (settle_fails_silent_goes g.V.Store.told g.V.Store.may_leave g.V.Store.faults precheck c.args.client.now c.give_up.new.client c.args.core.now.regions.items c.args.core.now.system.state c.args.core.now.vault c.args.checkpoint c.args.next c.requires.runs c.in-Err.error (err_is _ c.in-Err.error Fault refl said.0)
           c.settle.new.system.state _ c.settle.new.vault (ap (λ (x : Served). x.state) said.1) (ap (λ (d : Checkpointed). given_up d.faulted c.settle.new.system.state) c.in-Err.ensures.same) said.2 c.settle.ensures.files
           _ (err_false c.from_residual.result c.from_residual.ensures.0) c.in_err-give_up-in-Err.ensures.err));
       places = longer_outside _ _ _ _ _ _ _ (ap (λ k. k.regions.items) c.give_up.ensures.system) (longer_vault g.V.Store.told c.args.core.now.vault c.settle.new.vault c.give_up.new.core.vault (ap (λ k. k.vault) c.give_up.ensures.system) c.settle.ensures.files) (unsaid_outside _ _ (Err c.in-Err.error) c.requires.stands c.in_err-give_up-in-Err.ensures.err);
       on = err_on c.from_residual.result c.from_residual.ensures.0;
+      any_moment = settle_leaves g.V.Store.told g.V.Store.may_leave g.V.Store.faults g.V.Store.moment g.V.Store.left_since c.args.client.now c.args.core.now.regions.items c.args.core.now.system.state _ c.args.core.now.vault _ (λ d past. g.met.V.Store.only_now c.args.core.now.vault.store d past) c.args.checkpoint c.args.next c.requires.runs (place_of c.args.checkpoint.copied) (length c.args.checkpoint.table) c.settle.new.vault (ap (λ k. k.vault) c.give_up.ensures.system) c.settle.ensures.any_moment;
+      refuses = λ full. on_no_ok _ c.from_residual.result c.from_residual.ensures.0;
     }
 
 pub returns-in-Err : goal.returns-in-Err
@@ -48,13 +58,16 @@ returns-in-Err g c =
     record {
       goes = λ precheck.
           goes_from g.V.Store.told g.V.Store.may_leave g.V.Store.faults precheck (IsCopying c.args.checkpoint c.args.next) c.args.client.now c.args.core.now.regions.items c.args.core.now.system.state c.args.core.now.vault (c.args.core.now.vault.stopped ≡ false) _ _ _ _ _ (still_runs g.V.Store.told g.V.Store.may_leave g.V.Store.faults precheck (IsCopying c.args.checkpoint c.args.next) c.args.client.now c.args.core.now.regions.items c.args.core.now.system.state c.args.core.now.vault c.requires.runs) (λ running.
-          let said = c.in-Err.ensures.fault (no_cause c.args.core.now.system.state c.args.core.now.vault c.requires.runs running) in
+          let said = c.in-Err.ensures.fault (has_cause c.args.core.now.system.state c.args.core.now.vault c.requires.runs running) in
           so_left g.V.Store.told g.V.Store.may_leave g.V.Store.faults precheck (IsCopying c.args.checkpoint c.args.next) c.args.client.now c.give_up.new.client c.args.core.now.regions.items c.args.core.now.system.state c.args.core.now.vault _ _ _ _ _ _ _ (ap (λ k. k.regions.items) c.give_up.ensures.system) (ap (λ k. k.system.state) c.give_up.ensures.system) (ap (λ k. k.vault) c.give_up.ensures.system)
           (settle_fails_goes g.V.Store.told g.V.Store.may_leave g.V.Store.faults precheck c.args.client.now c.give_up.new.client c.args.core.now.regions.items c.args.core.now.system.state c.args.core.now.vault c.args.checkpoint c.args.next c.requires.runs c.in-Err.error (err_is _ c.in-Err.error Fault refl said.0)
           c.settle.new.system.state _ c.settle.new.vault (ap (λ (x : Served). x.state) said.1) (ap (λ (d : Checkpointed). given_up d.faulted c.settle.new.system.state) c.in-Err.ensures.same) said.2 c.settle.ensures.files
           c.in_ok-give_up-in-Err.ensures.ok));
       places = longer_outside _ _ _ _ _ _ _ (ap (λ k. k.regions.items) c.give_up.ensures.system) (longer_vault g.V.Store.told c.args.core.now.vault c.settle.new.vault c.give_up.new.core.vault (ap (λ k. k.vault) c.give_up.ensures.system) c.settle.ensures.files) (ends_outside _ _ (Err c.in-Err.error) c.in_ok-give_up-in-Err.ensures.ok);
       on = refl;
+      any_moment = settle_leaves g.V.Store.told g.V.Store.may_leave g.V.Store.faults g.V.Store.moment g.V.Store.left_since c.args.client.now c.args.core.now.regions.items c.args.core.now.system.state _ c.args.core.now.vault _ (λ d past. g.met.V.Store.only_now c.args.core.now.vault.store d past) c.args.checkpoint c.args.next c.requires.runs (place_of c.args.checkpoint.copied) (length c.args.checkpoint.table) c.settle.new.vault (ap (λ k. k.vault) c.give_up.ensures.system) c.settle.ensures.any_moment;
+      refuses = λ full. unsettled c.args.client.now c.give_up.new.client (cause_of c.args.core.now.system.state c.args.core.now.vault) (Err c.in-Err.error) c.in-Err.error refl (c.settle.new.system ≡ c.args.core.now.system) (c.settle.new.vault ≡ c.args.core.now.vault)
+          c.in-Err.ensures.stopped (λ none. (c.in-Err.ensures.fault none).0) c.in_ok-give_up-in-Err.ensures.ok;
     }
 
 -- ---- its audit
@@ -69,6 +82,8 @@ returns-in-Ok-begin g c =
           c.in-Ok.ensures.settled.0 (ap (λ (x : Served). x.state) c.in-Ok.ensures.settled.1) c.in-Ok-begin.ensures.audit c.in-Ok-begin.ensures.room c.begin.ensures.number c.begin.ensures.count (ap (λ (x : Served). x.state) c.in-Ok-begin.ensures.ok) refl;
       places = longer_go _ _ _ _ _ _ c.settle.ensures.files tt;
       on = refl;
+      any_moment = settle_leaves g.V.Store.told g.V.Store.may_leave g.V.Store.faults g.V.Store.moment g.V.Store.left_since c.args.client.now c.args.core.now.regions.items c.args.core.now.system.state _ c.args.core.now.vault _ (λ d past. g.met.V.Store.only_now c.args.core.now.vault.store d past) c.args.checkpoint c.args.next c.requires.runs (place_of c.args.checkpoint.copied) (length c.args.checkpoint.table) c.settle.new.vault refl c.settle.ensures.any_moment;
+      refuses = λ full. is_there (audit_refusal c.args.core.now.system.state AuditBegin) (ap (λ (x : Served). audit_refusal x.state AuditBegin) (sym c.in-Ok.ensures.settled.1) ∙ c.in-Ok-begin.ensures.room) full;
     }
 
 pub returns-in_err-give_up-in-Err-begin : goal.returns-in_err-give_up-in-Err-begin
@@ -84,6 +99,8 @@ returns-in_err-give_up-in-Err-begin g c =
           _ (err_false c.from_residual-in_err-give_up-in-Err-begin.result c.from_residual-in_err-give_up-in-Err-begin.ensures.0) (subst (λ (e : CheckpointError). Unsaid c.args.client.now (Err e) c.give_up-in-Err-begin.new.client) c.into.ensures c.in_err-give_up-in-Err-begin.ensures.err));
       places = longer_outside _ _ _ _ _ _ _ (ap (λ k. k.regions.items) c.give_up-in-Err-begin.ensures.system) (longer_vault g.V.Store.told c.args.core.now.vault c.settle.new.vault c.give_up-in-Err-begin.new.core.vault (ap (λ k. k.vault) c.give_up-in-Err-begin.ensures.system) c.settle.ensures.files) (unsaid_outside _ _ (Err c.into.result) c.requires.stands c.in_err-give_up-in-Err-begin.ensures.err);
       on = err_on c.from_residual-in_err-give_up-in-Err-begin.result c.from_residual-in_err-give_up-in-Err-begin.ensures.0;
+      any_moment = settle_leaves g.V.Store.told g.V.Store.may_leave g.V.Store.faults g.V.Store.moment g.V.Store.left_since c.args.client.now c.args.core.now.regions.items c.args.core.now.system.state _ c.args.core.now.vault _ (λ d past. g.met.V.Store.only_now c.args.core.now.vault.store d past) c.args.checkpoint c.args.next c.requires.runs (place_of c.args.checkpoint.copied) (length c.args.checkpoint.table) c.settle.new.vault (ap (λ k. k.vault) c.give_up-in-Err-begin.ensures.system) c.settle.ensures.any_moment;
+      refuses = λ full. on_no_ok _ c.from_residual-in_err-give_up-in-Err-begin.result c.from_residual-in_err-give_up-in-Err-begin.ensures.0;
     }
 
 pub returns-in_ok-give_up-in-Err-begin : goal.returns-in_ok-give_up-in-Err-begin
@@ -99,6 +116,8 @@ returns-in_ok-give_up-in-Err-begin g c =
           (subst (λ (e : CheckpointError). SaysEnd c.args.client.now (Err e) c.give_up-in-Err-begin.new.client) c.into.ensures c.in_ok-give_up-in-Err-begin.ensures.ok));
       places = longer_outside _ _ _ _ _ _ _ (ap (λ k. k.regions.items) c.give_up-in-Err-begin.ensures.system) (longer_vault g.V.Store.told c.args.core.now.vault c.settle.new.vault c.give_up-in-Err-begin.new.core.vault (ap (λ k. k.vault) c.give_up-in-Err-begin.ensures.system) c.settle.ensures.files) (ends_outside _ _ (Err c.into.result) c.in_ok-give_up-in-Err-begin.ensures.ok);
       on = refl;
+      any_moment = settle_leaves g.V.Store.told g.V.Store.may_leave g.V.Store.faults g.V.Store.moment g.V.Store.left_since c.args.client.now c.args.core.now.regions.items c.args.core.now.system.state _ c.args.core.now.vault _ (λ d past. g.met.V.Store.only_now c.args.core.now.vault.store d past) c.args.checkpoint c.args.next c.requires.runs (place_of c.args.checkpoint.copied) (length c.args.checkpoint.table) c.settle.new.vault (ap (λ k. k.vault) c.give_up-in-Err-begin.ensures.system) c.settle.ensures.any_moment;
+      refuses = λ full. unbegun c.args.client.now c.give_up-in-Err-begin.new.client c.into.result c.in-Err-begin.error c.into.ensures c.in_ok-give_up-in-Err-begin.ensures.ok;
     }
 
 pub returns-then-not-may_settle : goal.returns-then-not-may_settle
@@ -109,4 +128,6 @@ returns-then-not-may_settle g c = record {
       (λ h. elim c.then-not-may_settle.branch as (λ x. ⊥) [ then-not-may_settle-via-then-not-may_settle w ↦ let all : c.may_settle.result ≡ true = c.may_settle.ensures.told h.0 in search rules | then-not-may_settle-via-else-not-may_settle+then-not-has_room w ↦ let room : w.has_room.result ≡ true = w.has_room.ensures.told h.1 in search rules ]);
   places = still_outside _ _ _ _ _ c.requires.stands;
   on = err_on _ c.no_run.ensures;
+  any_moment = leaves_still g.V.Store.told g.V.Store.may_leave g.V.Store.faults g.V.Store.moment g.V.Store.left_since (IsCopying c.args.checkpoint c.args.next) c.args.client.now c.args.core.now.regions.items c.args.core.now.system.state _ c.args.core.now.vault _ (λ d past. g.met.V.Store.only_now c.args.core.now.vault.store d past) refl;
+  refuses = λ full. on_no_ok _ _ c.no_run.ensures;
 }

@@ -34,16 +34,16 @@ returns-then-not-is_stray-clause-goes g c = λ precheck.
     (λ may. let stray : true ≡ false = sym (c.is_stray.ensures.told (pokes_may g.V.Store.told g.V.Store.may_leave g.V.Store.faults c.args.core.now.regions.items c.args.core.now.system.state c.args.core.now.vault c.args.client.now c.args.region c.args.word c.args.mask may c.requires.next)) ∙ c.if-not-is_stray.true in absurd (cc))
 
 pub returns-then-not-is_stray-clause-places : goal.returns-then-not-is_stray-clause-places
-returns-then-not-is_stray-clause-places g c = places_still g.V.Store.told Outside c.args.client.now.state c.args.core.now.regions.items c.args.core.now.regions.items c.args.core.now.vault c.args.core.now.vault refl refl (at_state g.V.Store.told c.args.client.now.state Outside c.args.core.now.vault c.requires.stands tt)
+returns-then-not-is_stray-clause-places g c = places_still g.V.Store.told Outside c.args.client.now.state c.args.core.now.regions.items c.args.core.now.regions.items c.args.core.now.vault c.args.core.now.vault refl refl (at_state g.V.Store.told _ _ c.args.client.now.state Outside c.args.core.now.vault c.requires.stands tt)
 
 pub returns-in_err-finish-in-Some-clause-places : goal.returns-in_err-finish-in-Some-clause-places
-returns-in_err-finish-in-Some-clause-places g c = places_still g.V.Store.told Outside c.finish.new.self.state c.args.core.now.regions.items _ c.args.core.now.vault c.args.core.now.vault (lent_same c.args.core.now.regions.items c.args.region c.in-Some.region.now c.in-Some.ensures.value) refl (at_state g.V.Store.told c.finish.new.self.state Outside c.args.core.now.vault c.in_err-finish-in-Some.ensures.err.stands tt)
+returns-in_err-finish-in-Some-clause-places g c = places_still g.V.Store.told Outside c.finish.new.self.state c.args.core.now.regions.items _ c.args.core.now.vault c.args.core.now.vault (lent_same c.args.core.now.regions.items c.args.region c.in-Some.region.now c.in-Some.ensures.value) refl (at_state g.V.Store.told _ _ c.finish.new.self.state Outside c.args.core.now.vault c.in_err-finish-in-Some.ensures.err.stands tt)
 
 pub returns-in_err-finish-in-None-clause-places : goal.returns-in_err-finish-in-None-clause-places
-returns-in_err-finish-in-None-clause-places g c = places_still g.V.Store.told Outside c.finish-in-None.new.self.state c.args.core.now.regions.items c.args.core.now.regions.items c.args.core.now.vault c.args.core.now.vault refl refl (at_state g.V.Store.told c.finish-in-None.new.self.state Outside c.args.core.now.vault c.in_err-finish-in-None.ensures.err.stands tt)
+returns-in_err-finish-in-None-clause-places g c = places_still g.V.Store.told Outside c.finish-in-None.new.self.state c.args.core.now.regions.items c.args.core.now.regions.items c.args.core.now.vault c.args.core.now.vault refl refl (at_state g.V.Store.told _ _ c.finish-in-None.new.self.state Outside c.args.core.now.vault c.in_err-finish-in-None.ensures.err.stands tt)
 
 pub returns-in_ok-finish-in-Some-clause-places : goal.returns-in_ok-finish-in-Some-clause-places
-returns-in_ok-finish-in-Some-clause-places g c = places_beside g.V.Store.told Outside c.finish.new.self.state c.args.core.now.regions.items _ c.args.core.now.vault c.args.core.now.vault (poked_flags c.args.core.now.regions.items c.args.region c.args.word c.args.mask c.in-Some.region.now c.poke.new.self (lent_there c.args.core.now.regions.items c.args.region c.in-Some.region.now c.in-Some.ensures.item.3.0 c.in-Some.ensures.value) c.poke.ensures) refl (at_state g.V.Store.told c.finish.new.self.state Outside c.args.core.now.vault c.in_ok-finish-in-Some.ensures.ok.stands tt)
+returns-in_ok-finish-in-Some-clause-places g c = places_beside g.V.Store.told Outside c.finish.new.self.state c.args.core.now.regions.items _ c.args.core.now.vault c.args.core.now.vault (poked_flags c.args.core.now.regions.items c.args.region c.args.word c.args.mask c.in-Some.region.now c.poke.new.self (lent_there c.args.core.now.regions.items c.args.region c.in-Some.region.now c.in-Some.ensures.item.3.0 c.in-Some.ensures.value) c.poke.ensures) refl (at_state g.V.Store.told _ _ c.finish.new.self.state Outside c.args.core.now.vault c.in_ok-finish-in-Some.ensures.ok.stands tt)
 
 pub returns-in_ok-finish-in-None-clause-places : goal.returns-in_ok-finish-in-None-clause-places
-returns-in_ok-finish-in-None-clause-places g c = places_still g.V.Store.told Outside c.finish-in-None.new.self.state c.args.core.now.regions.items c.args.core.now.regions.items c.args.core.now.vault c.args.core.now.vault refl refl (at_state g.V.Store.told c.finish-in-None.new.self.state Outside c.args.core.now.vault c.in_ok-finish-in-None.ensures.ok.stands tt)
+returns-in_ok-finish-in-None-clause-places g c = places_still g.V.Store.told Outside c.finish-in-None.new.self.state c.args.core.now.regions.items c.args.core.now.regions.items c.args.core.now.vault c.args.core.now.vault refl refl (at_state g.V.Store.told _ _ c.finish-in-None.new.self.state Outside c.args.core.now.vault c.in_ok-finish-in-None.ensures.ok.stands tt)

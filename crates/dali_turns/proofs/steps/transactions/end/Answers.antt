@@ -5,6 +5,8 @@ use Rattle.dali_turns.specs.Clients.{Finishes}
 use Rattle.dali_turns.proofs.Commands.{err_false, unsaid_goes}
 use Rattle.dali_turns.proofs.CloseSteps.{stays_by, end_goes, end_silent_goes, end_half_goes}
 use Rattle.dali_turns.proofs.Placed.{places_beside, at_state}
+use Rattle.dali_turns.proofs.Meeting.{on_no_ok}
+use Rattle.dali_turns.proofs.AtOnce.{open_told}
 use Rattle.dali_turns.proofs.steps.transactions.end.Goals as goal
 
 pub returns-in_err-left-clause-goes : goal.returns-in_err-left-clause-goes
@@ -25,10 +27,20 @@ returns-clause-goes g c = λ precheck.
     (subst (λ (l : Line). Finishes c.args.client.now Outside l c.finish.new.self) c.end_line.ensures c.in_ok-finish.ensures.ok)
 
 pub returns-in_err-left-clause-places : goal.returns-in_err-left-clause-places
-returns-in_err-left-clause-places g c = places_beside g.V.Store.told (Within c.args.transaction) c.args.client.now.state c.args.core.now.regions.items c.take_back.new.core.regions.items c.args.core.now.vault c.take_back.new.core.vault c.take_back.ensures.flags c.take_back.ensures.vault (at_state g.V.Store.told c.args.client.now.state Outside c.take_back.new.core.vault c.requires.stands tt)
+returns-in_err-left-clause-places g c = places_beside g.V.Store.told (Within c.args.transaction) c.args.client.now.state c.args.core.now.regions.items c.take_back.new.core.regions.items c.args.core.now.vault c.take_back.new.core.vault c.take_back.ensures.flags c.take_back.ensures.vault (at_state g.V.Store.told _ _ c.args.client.now.state Outside c.take_back.new.core.vault c.requires.stands tt)
 
 pub returns-in_err-finish-clause-places : goal.returns-in_err-finish-clause-places
-returns-in_err-finish-clause-places g c = places_beside g.V.Store.told (Within c.args.transaction) c.finish.new.self.state c.args.core.now.regions.items c.take_back.new.core.regions.items c.args.core.now.vault c.take_back.new.core.vault c.take_back.ensures.flags c.take_back.ensures.vault (at_state g.V.Store.told c.finish.new.self.state Outside c.take_back.new.core.vault c.in_err-finish.ensures.err.stands tt)
+returns-in_err-finish-clause-places g c = places_beside g.V.Store.told (Within c.args.transaction) c.finish.new.self.state c.args.core.now.regions.items c.take_back.new.core.regions.items c.args.core.now.vault c.take_back.new.core.vault c.take_back.ensures.flags c.take_back.ensures.vault (at_state g.V.Store.told _ _ c.finish.new.self.state Outside c.take_back.new.core.vault c.in_err-finish.ensures.err.stands tt)
 
 pub returns-clause-places : goal.returns-clause-places
-returns-clause-places g c = places_beside g.V.Store.told (Within c.args.transaction) c.finish.new.self.state c.args.core.now.regions.items c.take_back.new.core.regions.items c.args.core.now.vault c.take_back.new.core.vault c.take_back.ensures.flags c.take_back.ensures.vault (at_state g.V.Store.told c.finish.new.self.state Outside c.take_back.new.core.vault c.in_ok-finish.ensures.ok.stands tt)
+returns-clause-places g c = places_beside g.V.Store.told (Within c.args.transaction) c.finish.new.self.state c.args.core.now.regions.items c.take_back.new.core.regions.items c.args.core.now.vault c.take_back.new.core.vault c.take_back.ensures.flags c.take_back.ensures.vault (at_state g.V.Store.told _ _ c.finish.new.self.state Outside c.take_back.new.core.vault c.in_ok-finish.ensures.ok.stands tt)
+
+pub returns-in_err-left-clause-refuses : goal.returns-in_err-left-clause-refuses
+returns-in_err-left-clause-refuses g c = λ up. on_no_ok _ c.from_residual.result c.from_residual.ensures.0
+
+pub returns-in_err-finish-clause-refuses : goal.returns-in_err-finish-clause-refuses
+returns-in_err-finish-clause-refuses g c = λ up. on_no_ok _ c.from_residual-in_err-finish.result c.from_residual-in_err-finish.ensures.0
+
+pub returns-clause-refuses : goal.returns-clause-refuses
+returns-clause-refuses g c =
+    open_told c.args.core.now.system.state c.args.client.now c.finish.new.self c.in_ok-left.left c.in_ok-left.ensures.known (subst (λ (l : Line). Finishes c.args.client.now Outside l c.finish.new.self) c.end_line.ensures c.in_ok-finish.ensures.ok)

@@ -44,19 +44,19 @@ returns-then-transaction-ge-MAX_TRIES-clause-goes g c precheck =
     (λ may. let few : c.args.transaction.tries < 1000 = may.fits.again.few in let many : c.args.transaction.tries < 1000 → ⊥ = grind (arith, c.if-transaction-ge-MAX_TRIES.true) in many few)
 
 pub returns-then-transaction-ge-MAX_TRIES-clause-places : goal.returns-then-transaction-ge-MAX_TRIES-clause-places
-returns-then-transaction-ge-MAX_TRIES-clause-places g c = places_still g.V.Store.told (Within c.args.transaction) c.args.client.now.state c.args.core.now.regions.items c.args.core.now.regions.items c.args.core.now.vault c.args.core.now.vault refl refl (at_state g.V.Store.told c.args.client.now.state Outside c.args.core.now.vault c.requires.stands tt)
+returns-then-transaction-ge-MAX_TRIES-clause-places g c = places_still g.V.Store.told (Within c.args.transaction) c.args.client.now.state c.args.core.now.regions.items c.args.core.now.regions.items c.args.core.now.vault c.args.core.now.vault refl refl (at_state g.V.Store.told _ _ c.args.client.now.state Outside c.args.core.now.vault c.requires.stands tt)
 
 pub returns-in_err-take_back-clause-places : goal.returns-in_err-take_back-clause-places
-returns-in_err-take_back-clause-places g c = places_beside g.V.Store.told (Within c.args.transaction) c.args.client.now.state c.args.core.now.regions.items c.take_back.new.core.regions.items c.args.core.now.vault c.take_back.new.core.vault c.take_back.ensures.flags c.take_back.ensures.vault (at_state g.V.Store.told c.args.client.now.state Outside c.take_back.new.core.vault c.requires.stands tt)
+returns-in_err-take_back-clause-places g c = places_beside g.V.Store.told (Within c.args.transaction) c.args.client.now.state c.args.core.now.regions.items c.take_back.new.core.regions.items c.args.core.now.vault c.take_back.new.core.vault c.take_back.ensures.flags c.take_back.ensures.vault (at_state g.V.Store.told _ _ c.args.client.now.state Outside c.take_back.new.core.vault c.requires.stands tt)
 
 pub returns-in_err-wait_for-clause-places : goal.returns-in_err-wait_for-clause-places
-returns-in_err-wait_for-clause-places g c = places_beside g.V.Store.told (Within c.args.transaction) c.wait_for.new.client.state c.args.core.now.regions.items c.take_back.new.core.regions.items c.args.core.now.vault c.take_back.new.core.vault c.take_back.ensures.flags c.take_back.ensures.vault (at_state g.V.Store.told c.wait_for.new.client.state (Waiting (c.args.transaction.tries + 1) c.args.holder) c.take_back.new.core.vault c.wait_for.ensures.stands tt)
+returns-in_err-wait_for-clause-places g c = places_beside g.V.Store.told (Within c.args.transaction) c.wait_for.new.client.state c.args.core.now.regions.items c.take_back.new.core.regions.items c.args.core.now.vault c.take_back.new.core.vault c.take_back.ensures.flags c.take_back.ensures.vault (at_state g.V.Store.told _ _ c.wait_for.new.client.state (Waiting (c.args.transaction.tries + 1) c.args.holder) c.take_back.new.core.vault c.wait_for.ensures.stands tt)
 
 pub returns-then-tries-lt-MAX_TRIES-clause-places : goal.returns-then-tries-lt-MAX_TRIES-clause-places
-returns-then-tries-lt-MAX_TRIES-clause-places g c = places_beside g.V.Store.told (Within c.args.transaction) c.wait_for.new.client.state c.args.core.now.regions.items c.take_back.new.core.regions.items c.args.core.now.vault c.take_back.new.core.vault c.take_back.ensures.flags c.take_back.ensures.vault (at_state g.V.Store.told c.wait_for.new.client.state (Waiting (c.args.transaction.tries + 1) c.args.holder) c.take_back.new.core.vault c.wait_for.ensures.stands tt)
+returns-then-tries-lt-MAX_TRIES-clause-places g c = places_beside g.V.Store.told (Within c.args.transaction) c.wait_for.new.client.state c.args.core.now.regions.items c.take_back.new.core.regions.items c.args.core.now.vault c.take_back.new.core.vault c.take_back.ensures.flags c.take_back.ensures.vault (at_state g.V.Store.told _ _ c.wait_for.new.client.state (Waiting (c.args.transaction.tries + 1) c.args.holder) c.take_back.new.core.vault c.wait_for.ensures.stands tt)
 
 pub returns-in_err-leave-clause-places : goal.returns-in_err-leave-clause-places
-returns-in_err-leave-clause-places g c = places_beside g.V.Store.told (Within c.args.transaction) c.leave.new.client.state c.args.core.now.regions.items c.take_back.new.core.regions.items c.args.core.now.vault c.take_back.new.core.vault c.take_back.ensures.flags c.take_back.ensures.vault (at_state g.V.Store.told c.leave.new.client.state Outside c.take_back.new.core.vault c.leave.ensures.stands tt)
+returns-in_err-leave-clause-places g c = places_beside g.V.Store.told (Within c.args.transaction) c.leave.new.client.state c.args.core.now.regions.items c.take_back.new.core.regions.items c.args.core.now.vault c.take_back.new.core.vault c.take_back.ensures.flags c.take_back.ensures.vault (at_state g.V.Store.told _ _ c.leave.new.client.state Outside c.take_back.new.core.vault c.leave.ensures.stands tt)
 
 pub returns-clause-places : goal.returns-clause-places
-returns-clause-places g c = places_beside g.V.Store.told (Within c.args.transaction) c.leave.new.client.state c.args.core.now.regions.items c.take_back.new.core.regions.items c.args.core.now.vault c.take_back.new.core.vault c.take_back.ensures.flags c.take_back.ensures.vault (at_state g.V.Store.told c.leave.new.client.state Outside c.take_back.new.core.vault c.leave.ensures.stands tt)
+returns-clause-places g c = places_beside g.V.Store.told (Within c.args.transaction) c.leave.new.client.state c.args.core.now.regions.items c.take_back.new.core.regions.items c.args.core.now.vault c.take_back.new.core.vault c.take_back.ensures.flags c.take_back.ensures.vault (at_state g.V.Store.told _ _ c.leave.new.client.state Outside c.take_back.new.core.vault c.leave.ensures.stands tt)

@@ -1,4 +1,0 @@
-pub mod Made
-pub mod Going
-pub mod Shown
-pub mod Verifying

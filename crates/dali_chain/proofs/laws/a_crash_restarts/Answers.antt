@@ -1,5 +1,0 @@
-use Rattle.dali_chain.proofs.Going.{crash_restarts}
-use Rattle.dali_chain.proofs.laws.a_crash_restarts.Goals as goal
-
-pub returns : goal.returns
-returns g c = crash_restarts g.V.Store.told g.V.Store.may_leave g.V.Store.faults

@@ -1,5 +1,0 @@
-use Rattle.dali_chain.proofs.Made.{format_begins}
-use Rattle.dali_chain.proofs.laws.a_format_begins.Goals as goal
-
-pub returns : goal.returns
-returns g c = format_begins g.V.Store.told g.V.Store.may_leave g.V.Store.faults

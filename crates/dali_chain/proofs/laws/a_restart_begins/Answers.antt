@@ -1,5 +1,0 @@
-use Rattle.dali_chain.proofs.Made.{restart_begins}
-use Rattle.dali_chain.proofs.laws.a_restart_begins.Goals as goal
-
-pub returns : goal.returns
-returns g c = restart_begins g.V.Store.told g.V.Store.may_leave g.V.Store.faults
