@@ -22,14 +22,17 @@ const TRANSACTION: usize = 9 + 49 + 118 + 82 + 23 + 9;
 /// Ended of the transaction before too.
 const BATCH: usize = 5 + ENDED + TRANSACTION;
 
-fn write_batch(log: &File, gate: u64, batch: &[u8]) -> io::Result<()> {
+/// How a file is made durable.
+type Sync = fn(&File) -> io::Result<()>;
+
+fn write_batch(log: &File, gate: u64, batch: &[u8], sync: Sync) -> io::Result<()> {
     log.write_all_at(batch, gate + 1)?;
-    log.sync_data()?;
+    sync(log)?;
     log.write_all_at(&[OPEN], gate)?;
-    log.sync_data()
+    sync(log)
 }
 
-fn time_commits(log: &File, count: u64) -> Option<Timing> {
+fn time_commits(log: &File, count: u64, sync: Sync) -> Option<Timing> {
     log.write_all_at(&[1; MADE], 0).ok()?;
     log.sync_data().ok()?;
     let batch: [u8; BATCH] = std::array::from_fn(|place| place as u8);
@@ -37,7 +40,7 @@ fn time_commits(log: &File, count: u64) -> Option<Timing> {
     let timing = timed(count, "commits", || {
         for place in 0..count {
             let batch = if place == 0 { &batch[ENDED..] } else { &batch[..] };
-            write_batch(log, gate, black_box(batch)).ok()?;
+            write_batch(log, gate, black_box(batch), sync).ok()?;
             gate += batch.len() as u64;
         }
         Some(())
@@ -47,13 +50,22 @@ fn time_commits(log: &File, count: u64) -> Option<Timing> {
 
 /// The four store calls of a commit, so many times, on a file of its own in the folder.
 pub fn commit(count: u64, folder: &Path) -> Option<Timing> {
+    commit_by(count, File::sync_data, folder)
+}
+
+/// The same with all that the system keeps of a file.
+pub fn commit_all(count: u64, folder: &Path) -> Option<Timing> {
+    commit_by(count, File::sync_all, folder)
+}
+
+fn commit_by(count: u64, sync: Sync, folder: &Path) -> Option<Timing> {
     let path = folder.join(format!("bare.{}.log", std::process::id()));
     let log = OpenOptions::new()
         .write(true)
         .create_new(true)
         .open(&path)
         .ok()?;
-    let timing = time_commits(&log, count);
+    let timing = time_commits(&log, count, sync);
     fs::remove_file(path).ok()?;
     timing
 }
@@ -136,9 +148,9 @@ pub fn settle(regions: u64, copied: &[u64], folder: &Path) -> Option<Timing> {
                     .ok()?;
             }
             black_box(black_box(&words).iter().fold(0, |all, word| all ^ word));
-            write_batch(&log, place * batch.len() as u64, &batch).ok()?;
+            write_batch(&log, place * batch.len() as u64, &batch, File::sync_data).ok()?;
             image.sync_data().ok()?;
-            write_batch(&anchor, place, &[0]).ok()?;
+            write_batch(&anchor, place, &[0], File::sync_data).ok()?;
         }
         Some(())
     });

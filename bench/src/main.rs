@@ -39,13 +39,14 @@ fn time(words: &[&str]) -> Option<Timing> {
         ["clean", count, folder] => files::settle(count.parse().ok()?, &[], Path::new(folder)),
         ["dirty", count, folder] => files::settle(count.parse().ok()?, &[0], Path::new(folder)),
         ["commit", count, folder] => files::commit(count.parse().ok()?, Path::new(folder)),
+        ["fsync", count, folder] => files::commit_all(count.parse().ok()?, Path::new(folder)),
         ["recover", folder] => files::read_behind(Path::new(folder)),
         _ => None,
     }
 }
 
 const USAGE: &str = "usage: bench codec|locks|update|check|parse|claims|notes|insert|get|change|delete|tens|uncoded|audit|apart COUNT, \
-    bench commit|checkpoint|clean|dirty COUNT FOLDER, bench recover FOLDER, bench gen CLIENTS SIZE NUMBER FLUSHES FOLDER, bench read FOLDER, \
+    bench commit|fsync|checkpoint|clean|dirty COUNT FOLDER, bench recover FOLDER, bench gen CLIENTS SIZE NUMBER FLUSHES FOLDER, bench read FOLDER, \
     bench copy COUNT REGIONS, bench table PROGRAM SCRIPT FOLDER [ROW..], or bench whole PROGRAM FOLDER MEMORY [ROW..]";
 
 /// The floor of the generated round.

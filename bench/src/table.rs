@@ -7,7 +7,7 @@ use std::process::{Child, Command, Stdio};
 /// How many turns most rows have. It is odd, as are those of each row, so that one run is the median.
 const TURNS: usize = 5;
 
-/// How many turns the commits, the growth and the script have. A disk varies from moment to moment by more than the goal allows, and
+/// How many turns commits, checkpoints, syncs, codewords, growth and the script have. A disk varies from moment to moment by more than the goal allows, and
 /// so does a run of some 50 milliseconds: many short turns meet the machine in the same moments on both sides.
 const SHORT_TURNS: usize = 25;
 
@@ -361,6 +361,9 @@ const GROWTH: [u64; 3] = [1_000, 10_000, 100_000];
 
 const MOST_GROWTH: f64 = 1.3;
 
+/// How many commits the row of syncs has.
+const SYNCED: u64 = 500;
+
 /// The transactions of the script, which has nearly a MiB.
 const SCRIPTED: u64 = 6_000;
 
@@ -594,7 +597,7 @@ fn print_machine(folder: &Path) -> io::Result<()> {
         .find_map(|line| line.strip_prefix("model name")?.split_once(": "))
         .map_or("an unknown processor", |(_, model)| model);
     println!("{cores} cores of {model}; files on {}.", disk_of(folder)?);
-    println!("Medians of {TURNS} runs each, of commits, checkpoints, codewords, growth and the script {SHORT_TURNS}. `half of the turns` says");
+    println!("Medians of {TURNS} runs each, of commits, checkpoints, syncs, codewords, growth and the script {SHORT_TURNS}. `half of the turns` says");
     println!("between which two ratios half of them lie.");
     println!("Rates are a second.");
     println!("Memory is the most that was resident, in MiB (2^20 bytes). Near 2 or 3 MiB it says nothing, since what this");
@@ -781,6 +784,32 @@ fn print_codewords(sides: &Sides) -> io::Result<()> {
     Ok(())
 }
 
+/// What `fdatasync` takes beside `fsync`, by this program alone.
+fn print_syncs(sides: &Sides) -> io::Result<()> {
+    let mut runs = [const { Vec::new() }; 2];
+    for turn in 0..SHORT_TURNS {
+        for place in 0..2 {
+            let side = if turn % 2 == 0 { place } else { 1 - place };
+            let mut command = Command::new(&sides.beside);
+            command.arg(["commit", "fsync"][side]).arg(SYNCED.to_string()).arg(&sides.new);
+            runs[side].push(run(&mut command)?);
+        }
+    }
+    compare("syncs", runs.iter().flatten())?;
+    let [data, all] = &runs;
+    let rates = [median(data), median(all)];
+    println!(
+        "| the bare four store calls of {SYNCED} commits, by `fdatasync`, real files | the same by `fsync` | {} commits | {} | {:.2} times | {} | none | | {} | {} |",
+        in_threes(rates[0].rate),
+        in_threes(rates[1].rate),
+        ratio_of(&Goal::Unset, rates[0].rate, rates[1].rate),
+        middle_half(&Goal::Unset, data, all),
+        mebibytes(rates[0]),
+        mebibytes(rates[1]),
+    );
+    Ok(())
+}
+
 fn print_growths(sides: &Sides) -> io::Result<()> {
     let mut grown = [const { Vec::new() }; GROWTH.len()];
     for turn in 0..SHORT_TURNS {
@@ -816,9 +845,21 @@ fn print_scripts(sides: &Sides) -> io::Result<()> {
     Ok(())
 }
 
+/// The names of rows that stand in a function of their own.
+const OTHERS: [&str; 4] = ["syncs", "codewords", "growth", "script"];
+
+/// Refuses names that no row has.
+pub fn know(names: &[&str], is_known: impl Fn(&str) -> bool) -> io::Result<()> {
+    match names.iter().find(|name| !is_known(name)) {
+        Some(name) => Err(io::Error::other(format!("no row is named {name}"))),
+        None => Ok(()),
+    }
+}
+
 /// Runs dali's two programs and this one in turn, with files in a new folder within this one, and prints the table, or the rows with
-/// these names alone: those of `ROWS`, and `codewords`, `growth` and `script`.
+/// these names alone: those of `ROWS` and of `OTHERS`.
 pub fn print(program: &Path, script: &Path, folder: &Path, names: &[&str]) -> io::Result<()> {
+    know(names, |name| OTHERS.contains(&name) || ROWS.iter().any(|row| row.name == name))?;
     let own = OwnFolder::make(folder)?;
     let sides = Sides {
         dali: program,
@@ -833,6 +874,9 @@ pub fn print(program: &Path, script: &Path, folder: &Path, names: &[&str]) -> io
     println!("{HEAD}");
     let is_asked = |name: &str| names.is_empty() || names.contains(&name);
     print_rows(&sides, is_asked)?;
+    if is_asked("syncs") {
+        print_syncs(&sides)?;
+    }
     if is_asked("codewords") {
         print_codewords(&sides)?;
     }

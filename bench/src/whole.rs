@@ -9,19 +9,22 @@ use std::path::{Path, PathBuf};
 use std::process::{Command, Stdio};
 use std::time::{Duration, Instant};
 
-/// How many turns a row has. Over real files a round takes a minute and more.
+/// How many turns a row has, and one of rounds over real files, each of which takes some seconds.
 const TURNS: usize = 9;
-const LONG_TURNS: usize = 3;
+const FILE_TURNS: usize = 5;
 
 /// The words of the generated round: 64 clients with 1,000 transactions each, on 19,202 regions.
 const ROUND: [&str; 4] = ["gen", "64", "1000", "7"];
+const TRANSACTIONS: u64 = 64_000;
 const REGIONS: u64 = 19_202;
 
 /// The bytes of a region's words.
 const REGION: u64 = 512;
 
-/// How often a script repeats what is timed of it.
+/// How often a script repeats what is timed of it. The first two checkpoints behind a restart write all regions, one to each image;
+/// those behind them none.
 const REPEATS: u32 = 50;
+const WHOLE_CHECKPOINTS: u32 = 2;
 
 /// The transactions of the script with and without prechecks, which has nearly a MiB.
 const SCRIPTED: u32 = 6_000;
@@ -30,11 +33,17 @@ const HEAD: &str = "\
 | what is timed | beside | dali | the other | ratio | half of the turns | goal | met | dali's MiB | the other's MiB |
 |---|---|---|---|---|---|---|---|---|---|";
 
-/// One run: how long it took, how much was resident at most, and the check number of what it printed.
+/// What a line has that tells of an audit or a checkpoint that failed or wasn't made.
+const FAILURES: [&str; 5] = [" failed", " stopped", " full", " in progress", " down"];
+
+/// One run: how long it took, how much was resident at most, and of what it printed the check number, the count of lines, and the
+/// count of those that tell of a failure or a refusal.
 struct Run {
     time: Duration,
     kibibytes: i64,
     check: u64,
+    lines: u64,
+    failures: u64,
 }
 
 /// How dali's time is compared with that of the other side.
@@ -43,6 +52,8 @@ enum Goal {
     Times(f64),
     /// Its rate is at least so much of the other's.
     Share(f64),
+    /// None: its rate is told by the other's.
+    Unset,
 }
 
 struct Programs {
@@ -63,8 +74,19 @@ fn run(program: &Path, words: &[&str], input: &str, folder: &Path) -> io::Result
     let child = command.spawn()?;
     let kibibytes = wait(&child, &format!("{command:?}"))?;
     let time = start.elapsed();
-    let check = mix_bytes(&fs::read(printed)?);
-    Ok(Run { time, kibibytes, check })
+    let printed = fs::read(printed)?;
+    let check = mix_bytes(&printed);
+    let text = String::from_utf8_lossy(&printed);
+    let lines = text.lines().count() as u64;
+    let tells_failure = |line: &&str| FAILURES.iter().any(|words| line.contains(words));
+    let failures = text.lines().filter(tells_failure).count() as u64;
+    Ok(Run {
+        time,
+        kibibytes,
+        check,
+        lines,
+        failures,
+    })
 }
 
 fn copy(from: &Path, to: &Path) -> io::Result<()> {
@@ -100,7 +122,7 @@ fn times(runs: &[Run]) -> Vec<f64> {
 fn print_row(what: &str, beside: &str, goal: Goal, dali: &[f64], other: &[f64], resident: [String; 2]) {
     let ratio = |dali: f64, other: f64| match goal {
         Goal::Times(_) => dali / other,
-        Goal::Share(_) => other / dali,
+        Goal::Share(_) | Goal::Unset => other / dali,
     };
     let mut ratios: Vec<f64> = dali
         .iter()
@@ -116,19 +138,19 @@ fn print_row(what: &str, beside: &str, goal: Goal, dali: &[f64], other: &[f64], 
         Goal::Times(most) => (
             format!("{ratio:.2} times"),
             format!("at most {most} times"),
-            ratio <= most,
+            if ratio <= most { "yes" } else { "no" },
         ),
         Goal::Share(least) => (
             format!("{ratio:.2} of its rate"),
             format!("at least {least} of its rate"),
-            ratio >= least,
+            if ratio >= least { "yes" } else { "no" },
         ),
+        Goal::Unset => (format!("{ratio:.2} of its rate"), "none".to_string(), ""),
     };
     println!(
-        "| {what} | {beside} | {} | {} | {ratio} | {half} | {goal} | {} | {} | {} |",
+        "| {what} | {beside} | {} | {} | {ratio} | {half} | {goal} | {is_met} | {} | {} |",
         milliseconds(dali),
         milliseconds(other),
-        if is_met { "yes" } else { "no" },
         resident[0],
         resident[1],
     );
@@ -153,46 +175,68 @@ fn in_turn<T>(
     Ok(runs)
 }
 
-/// Both sides print the same, and leave logs of one length but for one part in a thousand: where clients take turns, other
-/// records stand behind the last commit, which are lost, and some index regions fill, which the other side has none of. The
-/// other side flushes as often: two batches of dali's log are none of commits, its first one and the restart's.
-fn print_round(programs: &Programs, what: &str, least: f64, turns: usize, folder: &Path) -> io::Result<()> {
-    let (new, bare) = (folder.join("new"), folder.join("bare"));
-    let (dali, other) = in_turn(
-        turns,
-        || {
-            make_anew(&new)?;
-            run(&programs.dali, &ROUND, "", &new)
-        },
-        || {
-            let batches = floor::batches(&new).ok_or_else(|| io::Error::other("dali's log doesn't end"))?;
-            let flushes = batches.saturating_sub(2).to_string();
-            make_anew(&bare)?;
-            run(
-                &programs.beside,
-                &[ROUND[0], ROUND[1], ROUND[2], ROUND[3], &flushes, "."],
-                "",
-                &bare,
-            )
-        },
-    )?;
+/// Runs the round by dali, by the other side that flushes as often, and by the other side that flushes each transaction by itself; all
+/// print the same. The first two leave logs of one length but for one part in a thousand: where clients take turns, other records
+/// stand behind the last commit, which are lost, and some index regions fill, which the other side has none of. Two batches of
+/// dali's log are none of commits, its first one and the restart's.
+fn print_round(programs: &Programs, where_to: &str, least: f64, turns: usize, folder: &Path) -> io::Result<()> {
+    let [new, bare, each] = ["new", "bare", "each"].map(|name| folder.join(name));
+    let beside = |flushes: u64, at: &Path| {
+        make_anew(at)?;
+        let flushes = flushes.to_string();
+        run(
+            &programs.beside,
+            &[ROUND[0], ROUND[1], ROUND[2], ROUND[3], &flushes, "."],
+            "",
+            at,
+        )
+    };
+    let mut runs = [const { Vec::new() }; 3];
+    for turn in 0..turns {
+        for place in 0..3 {
+            // The order is turned around every other turn, so that what one run leaves to the next falls on all.
+            let side = if turn % 2 == 0 { place } else { 2 - place };
+            runs[side].push(match side {
+                0 => {
+                    make_anew(&new)?;
+                    run(&programs.dali, &ROUND, "", &new)?
+                }
+                1 => {
+                    let batches = floor::batches(&new).ok_or_else(|| io::Error::other("dali's log doesn't end"))?;
+                    beside(batches.saturating_sub(2), &bare)?
+                }
+                _ => beside(TRANSACTIONS, &each)?,
+            });
+        }
+    }
+    let [dali, other, serial] = &runs;
     let lengths = [&new, &bare].map(|folder| fs::metadata(folder.join("dali.log")).map(|it| it.len()));
     let [Ok(length), Ok(bare_length)] = lengths else {
         return Err(io::Error::other("a log lacks"));
     };
-    if dali.iter().chain(&other).any(|run| run.check != dali[0].check) || length.abs_diff(bare_length) > length / 1000 {
+    if runs.iter().flatten().any(|run| run.check != dali[0].check) || length.abs_diff(bare_length) > length / 1000 {
         return Err(io::Error::other(format!(
-            "the two rounds differ: {length} and {bare_length} bytes of log"
+            "the rounds differ: {length} and {bare_length} bytes of log"
         )));
     }
-    print_row(
-        what,
-        "plain Rust with a hash map, the same calls on files, log bytes of the same kinds",
-        Goal::Share(least),
-        &times(&dali),
-        &times(&other),
-        [mebibytes(&dali), mebibytes(&other)],
-    );
+    let what = format!("`gen 64 1000 7`, {where_to}");
+    for (beside, goal, other) in [
+        (
+            "plain Rust with a hash map, the same calls on files, log bytes of the same kinds",
+            Goal::Share(least),
+            other,
+        ),
+        ("the same with a flush for each transaction", Goal::Unset, serial),
+    ] {
+        print_row(
+            &what,
+            beside,
+            goal,
+            &times(dali),
+            &times(other),
+            [mebibytes(dali), mebibytes(other)],
+        );
+    }
     Ok(())
 }
 
@@ -203,21 +247,33 @@ fn copy_log(from: &Path, to: &Path) -> io::Result<()> {
     fs::write(to.join("dali.a"), [])
 }
 
-fn print_restart(programs: &Programs, made: &Path, folder: &Path) -> io::Result<()> {
+/// A restart of files that the round left, copied so. The other side prints how many bytes it read.
+fn print_restart(
+    programs: &Programs,
+    what: &str,
+    copy: fn(&Path, &Path) -> io::Result<()>,
+    made: &Path,
+    folder: &Path,
+) -> io::Result<()> {
     let at = folder.join("copy");
     let (dali, other) = in_turn(
         TURNS,
         || {
-            copy_log(made, &at)?;
+            copy(made, &at)?;
             run(&programs.dali, &["run"], "open\n", &at)
         },
         || {
-            copy_log(made, &at)?;
+            copy(made, &at)?;
             run(&programs.beside, &["read", "."], "", &at)
         },
     )?;
+    for runs in [&dali, &other] {
+        if runs.iter().any(|run| run.check != runs[0].check || run.failures > 0) {
+            return Err(io::Error::other(format!("{what}: the runs printed different texts")));
+        }
+    }
     print_row(
-        "restart from its whole log, without an image, in memory",
+        what,
         "reading the files once",
         Goal::Times(4.0),
         &times(&dali),
@@ -227,14 +283,21 @@ fn print_restart(programs: &Programs, made: &Path, folder: &Path) -> io::Result<
     Ok(())
 }
 
-/// How many milliseconds this line of a script takes, as the difference of a script that has it often and one that lacks it.
-fn once(programs: &Programs, line: &str, made: &Path, at: &Path) -> io::Result<f64> {
+/// How many milliseconds this line of a script takes, as the difference of a script that has it so often and one that lacks it.
+/// Each of them has printed a line, and none that it failed.
+fn once(programs: &Programs, line: &str, repeats: u32, made: &Path, at: &Path) -> io::Result<f64> {
     copy(made, at)?;
     let without = run(&programs.dali, &["run"], "open\n", at)?;
     copy(made, at)?;
-    let script = format!("open\n{}", format!("{line}\n").repeat(REPEATS as usize));
+    let script = format!("open\n{}", format!("{line}\n").repeat(repeats as usize));
     let with = run(&programs.dali, &["run"], &script, at)?;
-    Ok((with.time.as_secs_f64() - without.time.as_secs_f64()) * 1000.0 / f64::from(REPEATS))
+    if with.lines != without.lines + u64::from(repeats) || with.failures > 0 {
+        return Err(io::Error::other(format!(
+            "{line}: {} lines with it, {} without, and {} of a failure",
+            with.lines, without.lines, with.failures
+        )));
+    }
+    Ok((with.time.as_secs_f64() - without.time.as_secs_f64()) * 1000.0 / f64::from(repeats))
 }
 
 /// How many milliseconds the other side takes for so many things, by the rate that it prints.
@@ -243,19 +306,38 @@ fn spent(programs: &Programs, words: &[&str], count: u64) -> io::Result<f64> {
     Ok(count as f64 * 1000.0 / rate as f64)
 }
 
+/// A line of a script that is repeated so often, as this tells.
+struct Line {
+    line: &'static str,
+    repeats: u32,
+    told: &'static str,
+    beside: &'static str,
+    goal: Goal,
+}
+
 fn print_line(
     programs: &Programs,
-    line: &str,
-    beside: &str,
-    goal: Goal,
+    line: Line,
     other: impl FnMut() -> io::Result<f64>,
     made: &Path,
     folder: &Path,
 ) -> io::Result<()> {
     let at = folder.join("copy");
-    let (dali, other) = in_turn(TURNS, || once(programs, line, made, &at), other)?;
-    let what = format!("`{line}` behind it, {} regions, in memory", in_threes(REGIONS));
-    print_row(&what, beside, goal, &dali, &other, [String::new(), String::new()]);
+    let (dali, other) = in_turn(TURNS, || once(programs, line.line, line.repeats, made, &at), other)?;
+    let what = format!(
+        "`{}` behind it, {} regions, {}in memory",
+        line.line,
+        in_threes(REGIONS),
+        line.told
+    );
+    print_row(
+        &what,
+        line.beside,
+        line.goal,
+        &dali,
+        &other,
+        [String::new(), String::new()],
+    );
     Ok(())
 }
 
@@ -296,9 +378,13 @@ fn print_precheck(programs: &Programs, folder: &Path) -> io::Result<()> {
     Ok(())
 }
 
+/// The names of the rows.
+const NAMES: [&str; 6] = ["gen", "memory", "restart", "audit", "checkpoint", "precheck"];
+
 /// Prints the rows, or those with these names: `gen`, `memory`, `restart`, `audit`, `checkpoint`, `precheck`. The second folder
 /// is one whose files lie in memory.
 pub fn print(program: &Path, folder: &Path, memory: &Path, names: &[&str]) -> io::Result<()> {
+    table::know(names, |name| NAMES.contains(&name))?;
     let (own, own_memory) = (OwnFolder::make(folder)?, OwnFolder::make(memory)?);
     let programs = Programs {
         dali: fs::canonicalize(program)?,
@@ -306,13 +392,13 @@ pub fn print(program: &Path, folder: &Path, memory: &Path, names: &[&str]) -> io
     };
     let (disk, memory) = (fs::canonicalize(&own.path)?, fs::canonicalize(&own_memory.path)?);
     let asked = |name: &str| names.is_empty() || names.contains(&name);
-    println!("Medians of {TURNS} runs each, over real files {LONG_TURNS}. Memory is the most that was resident, in MiB (2^20 bytes). Near 2 or 3 MiB");
+    println!("Medians of {TURNS} runs each, over real files {FILE_TURNS}. Memory is the most that was resident, in MiB (2^20 bytes). Near 2 or 3 MiB");
     println!("it says nothing, since what this program has resident is counted in each that it starts.\n\n{HEAD}");
     if asked("gen") {
-        print_round(&programs, "`gen 64 1000 7`, real files", 0.9, LONG_TURNS, &disk)?;
+        print_round(&programs, "real files", 0.9, FILE_TURNS, &disk)?;
     }
     if asked("memory") {
-        print_round(&programs, "`gen 64 1000 7`, in memory", 0.5, TURNS, &memory)?;
+        print_round(&programs, "in memory", 0.5, TURNS, &memory)?;
     }
     let made = memory.join("made");
     if ["restart", "audit", "checkpoint"].into_iter().any(asked) {
@@ -320,33 +406,35 @@ pub fn print(program: &Path, folder: &Path, memory: &Path, names: &[&str]) -> io
         run(&programs.dali, &ROUND, "", &made)?;
     }
     if asked("restart") {
-        print_restart(&programs, &made, &memory)?;
+        print_restart(&programs, "restart of the files that it left, in memory", copy, &made, &memory)?;
+        let whole = "restart from its whole log, without an image, in memory";
+        print_restart(&programs, whole, copy_log, &made, &memory)?;
     }
     if asked("audit") {
         let words = ["copy", &REPEATS.to_string(), &REGIONS.to_string()];
         let other = || spent(&programs, &words, REGIONS * REGION);
-        print_line(
-            &programs,
-            "audit",
-            "copying its regions' words",
-            Goal::Times(2.0),
-            other,
-            &made,
-            &memory,
-        )?;
+        let audit = Line {
+            line: "audit",
+            repeats: REPEATS,
+            told: "",
+            beside: "copying its regions' words",
+            goal: Goal::Times(2.0),
+        };
+        print_line(&programs, audit, other, &made, &memory)?;
     }
     if asked("checkpoint") {
         let words = ["checkpoint", &REGIONS.to_string(), &memory.to_string_lossy()];
-        let other = || spent(&programs, &words, REGIONS);
-        print_line(
-            &programs,
-            "checkpoint",
-            "writing the bytes of an image in one piece",
-            Goal::Times(2.0),
-            other,
-            &made,
-            &memory,
-        )?;
+        let checkpoint = |repeats, told, goal| Line {
+            line: "checkpoint",
+            repeats,
+            told,
+            beside: "writing the bytes of an image in one piece",
+            goal,
+        };
+        let whole = checkpoint(WHOLE_CHECKPOINTS, "all of which it writes, ", Goal::Times(2.0));
+        print_line(&programs, whole, || spent(&programs, &words, REGIONS), &made, &memory)?;
+        let most = checkpoint(REPEATS, "most of fifty with nothing to write, ", Goal::Unset);
+        print_line(&programs, most, || spent(&programs, &words, REGIONS), &made, &memory)?;
     }
     if asked("precheck") {
         print_precheck(&programs, &memory)?;

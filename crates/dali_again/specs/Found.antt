@@ -6,7 +6,7 @@
 --     StartHasPlace            and that of a run's start, where it has no checkpoint's image or its log has a record behind the format
 --     KeepsPlace               so it stays along any steps
 --     CrashIsFound             so it is of each crash image that came along steps from a start, and of each moment inside a step, whether its log is a
---                              history or not: where no stray write was missed its files fit its log, which is lawful
+--                              history or not. Where no stray write was missed its files fit its log, which is lawful
 use Rattle.std.specs.Prelude.{◌≡◌, ◌⊎◌, ◌<◌, ◌≤◌, ◌+◌, ◌^◌, ℕ, false, List, [], ◌∷◌, Some, length, slice_get}
 use Rattle.dali_geometry.specs.Sizes.{Sizes}
 use Rattle.dali_record.specs.declared.records.Record.{Record}

@@ -1,14 +1,14 @@
 -- The stages of a restart, as crash images. The log L that is found has the batches B and a record in its last epoch, and n gates of its anchor are open.
 -- Where the last epoch has none a restart logs nothing. It writes nothing either where no record stands from the image's place on, of which no law here
--- speaks, or Restarted alone, as at the third stage; else the log ends with the batch of Restarted, and the restart goes on from the second stage.
+-- speaks, or Restarted alone, as at the third stage. Else the log ends with the batch of Restarted, and the restart goes on from the second stage.
 --     IsRestarting L B         what is asked of the log, honest or not: but for what a restart hands out, which is said of a history
 --     HasPlace F               the image stands behind the first batch, and its number is hardly above that of the records before it
 --     IsFound L B n F          the files as they are found: their image fits a front of the log at its last epoch, whose batches are the first of the
---                              disk's, and any batches stand behind these, where each Restarted is the first record of its batch
+--                              disk's. Any batches stand behind these, where each Restarted is the first record of its batch
 --     IsLogged L B n F         with the batch of Restarted
 --     IsTurned L B n F         with the image that the restart came to as the current one; it stands before that batch
---     AnswersAs L F            a restart from these files hands out what L says, the recovered image and the two lists: of the records behind the
---                              image, and, with the test of the batches too, of the batches from the image's place on
+--     AnswersAs L F            a restart from these files hands out what L says, the recovered image and the two lists. So it is of the records
+--                              behind the image, and, with the test of the batches too, of the batches from the image's place on
 --     EveryStageAnswers        so it is at each of the three
 --     StartsBehind             behind the third a run may start
 --     FoundLogged              files that end with that batch, and without it are at the first stage, are at the second: a restart that finds them goes
@@ -120,7 +120,7 @@ closing_bodies L = bodies ((closing L ∷ []) ∷ [])
 abbrev pub HoldsImage : List Record → List (List Record) → ℕ → Disk → Type 0
 HoldsImage L B n d = IsImageOf (sizes_of L) (image_file (side_of (n + 1)) d) (closed_head (n + 1) B) (recovered (sizes_of L) L)
 
--- An append asks that each disk has a closed gate where its batch goes, and the anchor's move that each has as many open gates as its number: so behind a
+-- An append asks that each disk has a closed gate where its batch goes, and the anchor's move that each has as many open gates as its number. So behind a
 -- fault without a crash they are made again only where no disk has what they add; else a sync comes first.
 module _ (old : Disk → Type 0) where
   abbrev pub AppendStages : Type 0

@@ -7,10 +7,10 @@ ghost use Rattle.dali_again.specs.Runs.{RunLeaves};
 
 use dali_store::Store;
 
-/// From the files as they were found, from those with the batch of Restarted, and from those whose anchor names the image
-/// that the restart wrote, a restart hands out the same records and the same lists, by the rules on records and by that on
-/// batches, where the log is a history. Behind it a run may start, over any lawful log; and one that finds the batch of
-/// Restarted at the log's end goes on from there.
+/// A restart hands out the same image and the same lists from the files as they were found, from those with the batch of
+/// Restarted, and from those whose anchor names the image that the restart wrote. So it is by the rules on records and by
+/// that on batches, where the log is a history. Behind it a run may start, over any lawful log; and one that finds the
+/// batch of Restarted at the log's end goes on from there.
 pub fn each_stage_of_a_restart_answers_alike()
     ensures answers { EveryStageAnswers }
     ensures starts { StartsBehind }
@@ -40,9 +40,9 @@ pub fn a_move_in_a_restart_leaves_a_stage<V: Store>()
     ensures settles { (v w : V) → AnchorSettles (V.may_leave v) (V.may_leave w) }
 {}
 
-/// What a crash of a run with its store leaves, at any moment, inside a step too, is what a restart finds, whether its log is a
-/// history or not: where no stray write was missed the files fit their log, which is lawful, so each stage behind them is one of
-/// the above.
+/// Where no stray write was missed, what a crash of a run with its store leaves is what a restart finds: at any moment, inside a
+/// step too, whether its log is a history or not. The files fit their log, which is lawful, so each stage behind them is one of
+/// the above. The image of the run's start is to stand in its place, as `an_image_keeps_its_place` says of it.
 pub fn a_crash_image_is_found()
     ensures { CrashIsFound }
 {}
@@ -58,13 +58,14 @@ pub fn an_image_keeps_its_place()
 {}
 
 /// Whatever a crash leaves at any moment of a run of calls, it might have left before the run, or may leave behind one of the
-/// calls: so what is known of each of these disks, in whatever terms, is known of it.
+/// calls. So what is known of each of these disks, in whatever terms, is known of it.
 pub fn a_run_of_calls_leaves_what_its_calls_leave<V: Store>()
     ensures { RunLeaves V.moment V.left_since V.may_leave }
 {}
 
-/// What stands behind the image tells at which stage files are that are found and that a disk spells: where the last epoch has a record a restart is to
-/// begin; where nothing stands there or a Restarted alone the files rest; and else a Restarted ends the log, as a restart left it.
+/// What stands behind the image tells at which stage files are that are found and that a disk spells. A restart is to begin where the last epoch has a
+/// record, and so has the log behind the image. Where nothing stands there or a Restarted alone the files rest. Else a Restarted ends the log, as a
+/// restart left it.
 pub fn what_stands_behind_an_image_tells_the_stage()
     ensures { TellsStage }
 {}

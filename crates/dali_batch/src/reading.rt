@@ -22,10 +22,11 @@ pub struct Log {
 }
 
 /// The records of the whole log, and the place where it ends. `Unformatted` exactly where the log has fewer than two
-/// bytes or its first gate is closed; `BadLog` exactly where the bytes are no log, with the first bad place: a place
-/// without a gate, a length that isn't 1 to 2^30 with so many bytes behind it, a place in a batch where no record
-/// begins, or the first batch's first byte of records where it holds anything but one Format. `Fault` exactly where the
-/// store's count of faults rose. It takes memory for all records; a `LogReader` hands them out one by one.
+/// bytes or its first gate is closed. `BadLog` exactly where the bytes are no log, with the first bad place. That is a
+/// place without a gate, a length that isn't 1 to 2^30 with so many bytes behind it, or a place in a batch where no
+/// record begins. Or it is the first batch's first byte of records, where that batch holds anything but one Format.
+/// `Fault` exactly where the store's count of faults rose. It takes memory for all records; a `LogReader` hands them
+/// out one by one.
 pub fn read_log<V: Store>(alloc: Global, store: &mut V) -> Result<Log, LogError>
     ensures log { IfOk result (λ log. IfSome (V.told store.old) (λ fs.
         (L : List (List Record)) × LogOf fs.log L log.end × (log.records.items ≡ records_in L))) }

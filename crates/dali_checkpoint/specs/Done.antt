@@ -3,8 +3,8 @@
 --     Writes, FailsToWrite     all records are flushed and these bytes written to a file, or one of the two met a fault
 --     HasStarted y v c w       a checkpoint c started
 --     HasTurnedTo, FailsToTurn all records are flushed, the image is synced and the anchor moved, or one of the three met a fault
---     IsKept y v z w           what an audit that failed logged is flushed
---     IsLost y v z w e         it waits, since the vault was stopped before or stops now, and e tells which
+--     IsKept y v z w           what an audit that failed logged is flushed, or doesn't wait any more
+--     IsLost y v z w e         or the vault was stopped before, or its flush met a fault, and e tells which
 --     HasEnded y v z w         one of both
 use Rattle.std.specs.Prelude.{◌≡◌, ℕ, ◌≤◌, true, false, ◌⊎◌, List, [], drop, length, Option, Some, None, IfSome}
 use Rattle.dali_region.specs.declared.Side.{Side}
@@ -74,13 +74,13 @@ module _ {V : Type 0} (told : V → Option Disk) (may_leave : V → Disk → Typ
   FailsToTurn y v side w = FailsFrame told may_leave faults y v w ⊎ (SyncFails y v w ⊎ TurnFails y v side w)
 
   -- ---- a flush behind an audit that failed
-  -- what it logged was flushed by another, or is now
+  -- what it logged was taken by another, or is flushed now
   abbrev pub IsKept : SystemState → Vaulted V → SystemState → Vaulted V → Type 0
   IsKept y v z w =
       ((drop y.taken y.since ≡ []) × (w ≡ v) × (z ≡ in_checkpoint y false))
       ⊎ ((v.stopped ≡ false) × FlushesFrame told may_leave faults y v w × (z ≡ in_checkpoint (taken y) false))
 
-  -- or it waits, and the vault was stopped before, or stops now
+  -- or the vault was stopped before, or its flush met a fault
   abbrev pub IsLost : SystemState → Vaulted V → SystemState → Vaulted V → CheckpointError → Type 0
   IsLost y v z w (Stopped cause) = (cause_of y v ≡ Some cause) × (v.stopped ≡ true) × (w ≡ v) × (z ≡ in_checkpoint y false)
   IsLost y v z w Fault = (v.stopped ≡ false) × FailsFrame told may_leave faults y v w × (z ≡ in_checkpoint (store_stopped (taken y)) false)

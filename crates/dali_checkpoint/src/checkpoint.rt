@@ -35,10 +35,9 @@ use std::marker::Model;
 
 /// A checkpoint under way: what its start kept of the log and of the table, and how far it has come.
 ///
-/// After `start` each region is copied, in the order of their numbers, one by one (`copy`) or in runs (`copy_run`), then
-/// `settle` ends the image; behind it an audit of all regions is made, and `certify` moves the anchor to the image where that
-/// audit found nothing. Between these calls others may log records, flush them and change regions. The image is the one that isn't current (ping-pong checkpointing: Bohannon et
-/// al., TKDE 2003; Jagadish et al., VLDB 1994).
+/// After `start` each region is copied, in the order of their numbers, one by one (`copy`) or in runs (`copy_run`), then `settle` ends the image. Behind it an audit of all
+/// regions is made, and `certify` moves the anchor to the image where that audit found nothing. Between these calls others may log records, flush them and change regions. The
+/// image is the one that isn't current (ping-pong checkpointing: Bohannon et al., TKDE 2003; Jagadish et al., VLDB 1994).
 #[derive(Drop)]
 pub struct Checkpoint {
     header: Header,
@@ -175,10 +174,10 @@ fn keep_failure<V: Store>(
 }
 
 impl Checkpoint {
-    /// Starts a checkpoint: all records are flushed, what they come to is kept with the table of running transactions, and the
-    /// header is written to the image that isn't the current one. `InProgress` exactly where another checkpoint is under way,
-    /// else `Stopped` exactly where the engine is stopped, with that cause; `OutOfMemory` where memory for the table, or for
-    /// the 64 KiB of a run, is refused: then nothing changes. `Fault` only where the store's count of faults rose; then vault and engine stop.
+    /// Starts a checkpoint: all records are flushed, what they come to is kept with the table of running transactions, and the header is
+    /// written to the image that isn't the current one. `InProgress` exactly where another checkpoint is under way, else `Stopped` exactly
+    /// where engine or vault is stopped, with that cause; `OutOfMemory` where memory for the table, or for the 64 KiB of a run, is refused:
+    /// then nothing changes. `Fault` only where the store's count of faults rose; then vault and engine stop.
     pub fn start<V: Store>(
         alloc: Global,
         system: &mut System,
@@ -218,7 +217,7 @@ impl Checkpoint {
     /// Copies the region with this number, which is the next one, to the image: its words are written without the updates of
     /// an open operation, and its flag for that image is cleared. Where the flag is clear the image has these words already,
     /// and nothing is written. `Stopped` exactly where the flag is set and the vault was stopped before, and then nothing
-    /// changes; `Fault` only where the store's count of faults rose: then the vault stops, the region is as it was, and
+    /// changes. `Fault` only where the store's count of faults rose: then the vault stops, the region is as it was, and
     /// `give_up` stops the engine. It takes no memory beyond the store's own.
     pub fn copy<V: Store>(
         &mut self,
@@ -335,9 +334,9 @@ impl Checkpoint {
     }
 
     /// Ends the image, once each region was copied: all records are flushed, and the table is written behind the regions. An
-    /// audit that begins behind it may certify the image. `Stopped` exactly where the engine was stopped before, and then
-    /// nothing changes; `Fault` only where the store's count of faults rose, and then vault and engine stop. It never fails
-    /// for want of memory.
+    /// audit that begins behind it may certify the image. `Stopped` exactly where engine or vault was stopped before, and
+    /// then nothing changes; `Fault` only where the store's count of faults rose, and then vault and engine stop. It never
+    /// fails for want of memory.
     #[tactic(auto, using(crate::proofs::Joined::writes, crate::proofs::Joined::write_fails))]
     pub fn settle<V: Store>(
         &mut self,
@@ -376,13 +375,13 @@ impl Checkpoint {
         Ok(())
     }
 
-    /// Ends the checkpoint by the verdict of an audit of this system that began behind `settle` and whose end is in its log:
-    /// where it names no region, all records are
-    /// flushed, the image is synced and the anchor moves to it. It answers the number of the image, which is the current one
-    /// then. Where the verdict names regions what the audit logged is flushed, and it answers `Failed`; only where that record
-    /// waits and can't be flushed it answers why: `Stopped` where the vault was stopped before, else `Fault`. For a clean
-    /// verdict `Stopped` comes exactly where the engine was stopped before; `Fault` only where the store's count of faults
-    /// rose, and then vault and engine stop. No checkpoint is under way behind any answer. It never fails for want of memory.
+    /// Ends the checkpoint by the verdict of an audit of this system that began behind `settle` and whose end is in its log.
+    /// Where it names no region, all records are flushed, the image is synced and the anchor moves to it. It answers the
+    /// number of the image, which is the current one then. Where the verdict names regions it answers `Failed`, and what the
+    /// audit logged is flushed, unless another had taken it. Else it answers `Stopped`, where the vault was stopped before,
+    /// or `Fault`, where that flush met a fault. For a clean verdict `Stopped` comes exactly where engine or vault was
+    /// stopped before. `Fault` comes only where the store's count of faults rose, and then vault and engine stop. No
+    /// checkpoint is under way behind any answer. It never fails for want of memory.
     pub fn certify<V: Store>(
         self,
         alloc: Global,

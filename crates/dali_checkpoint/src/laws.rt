@@ -4,9 +4,9 @@ ghost use Rattle.dali_checkpoint.specs.Moments.{StartIsRight, CopyIsRight, Settl
 
 use dali_store::Store;
 
-/// Where no checkpoint is under way and the image files read as the run says, what a start leaves on Ok is behind steps: its
-/// own start, a taking and a flush, the keeping of what the records come to, and the write of the header. Nothing is copied
-/// yet then.
+/// Let no checkpoint be under way, and the image files read as the run says. Then what a start leaves on Ok is behind steps:
+/// its own start, a taking and a flush, the keeping of what the records come to, and the write of the header. Nothing is
+/// copied yet then.
 pub fn a_start_makes_steps<V: Store>()
     ensures { StartGoes V.told V.may_leave V.faults }
 {}
@@ -41,7 +41,7 @@ pub fn an_audit_certifies_the_copies<V: Store>()
 {}
 
 /// What a certified settlement leaves on Ok is behind a taking and a flush, the image's sync, the anchor's move and the
-/// checkpoint's end; then no checkpoint is under way and the image files read as the run says, so the next one may start.
+/// checkpoint's end. Then no checkpoint is under way and the image files read as the run says, so the next one may start.
 /// The current image has the head that the start kept.
 pub fn a_certification_makes_steps<V: Store>()
     ensures { CertifyGoes V.told V.may_leave V.faults }
@@ -75,7 +75,7 @@ pub fn a_crash_inside_a_checkpoint_is_right<V: Store>()
 {}
 
 /// Where a checkpoint has ended, given up ones and those with a fault among them, none is under way, and the next one may
-/// start: so it is behind `give_up`, behind a start that failed, and behind each answer of `certify`.
+/// start. So it is behind `give_up`, behind a start that failed, and behind each answer of `certify`.
 pub fn a_checkpoint_that_ended_leaves_none_under_way<V: Store>()
     ensures told { PointsTell V.told V.may_leave V.faults }
     ensures ends { EndsIdle V.told V.may_leave V.faults }

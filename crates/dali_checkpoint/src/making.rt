@@ -178,14 +178,14 @@ fn make<V: Store>(alloc: Global, core: &mut Core<V>) -> Result<u64, CheckpointEr
 /// is the current one then. The flags of all regions for it are clear, and the log has an audit's begin and end behind what
 /// stood there.
 ///
-/// `InProgress` exactly where a checkpoint is under way, else `Stopped` exactly where the engine is stopped, with that cause,
-/// and nothing changes then. `Failed` with the regions whose words differ from their codeword: the audit's end names them,
-/// and the engine stops for the least of them. `LogFull` where the log has no room for an audit's begin, `OutOfMemory` where
-/// memory for the table or the audit is refused: then the engine runs on. `Fault` only where the store's count of faults
-/// rose, and then vault and engine stop. Behind each of these four the current image is the one that was, and no checkpoint
-/// is under way. A whole core is whole behind every answer, and the log's end is at most 3 * 2^31 bytes further on, so that
-/// who knows where it was knows whether the next checkpoint may be asked for. Behind `Failed` all records are flushed, those
-/// of the audit among them.
+/// `InProgress` exactly where a checkpoint is under way, else `Stopped` exactly where engine or vault is stopped, with that
+/// cause, and nothing changes then. `Failed` with the regions whose words differ from their codeword: the audit's end names
+/// them, and the engine stops for the least of them. `LogFull` where the log has no room for an audit's begin, `OutOfMemory`
+/// where memory for the table or the audit is refused: then the engine runs on. `Fault` only where the store's count of
+/// faults rose, and then vault and engine stop. Behind each of these four the current image is the one that was, and no
+/// checkpoint is under way. A whole core is whole behind every answer, and the log's end is at most 3 * 2^31 bytes further
+/// on, so that who knows where it was knows whether the next checkpoint may be asked for. Behind `Failed` all records are
+/// flushed, those of the audit among them.
 pub fn make_checkpoint<V: Store>(core: &mut Core<V>, alloc: Global) -> Result<u64, CheckpointError>
     requires whole { IsWholeCore V.told core.old.regions.items core.old.system.state core.old.vault }
     requires end { core.old.vault.end < 2 ^ 61 }

@@ -241,8 +241,8 @@ fn checkpoints(
     Some((last, seen(&small)))
 }
 
-// A start flushes the begin by four calls, and writes the header by one; two regions and the table are written by one each; and
-// a certification flushes the audit's records by four, syncs by one, and moves the anchor by four.
+// A start flushes the begin by four calls, and writes the header by one. Two regions and the table are written by one each. A
+// certification flushes the audit's records by four, syncs by one, and moves the anchor by four.
 #[test]
 fn each_failing_call_stops_the_engine(rt: HostRuntime) -> Result<(), Fail> {
     let alloc = rt.alloc();

@@ -1,6 +1,6 @@
 -- Which steps a clean-up makes, one behind another.
 --     is_own_change t x        the step x on a region is one of an operation of t
---     AreBack t xs             undos of t are performed, and nobody's claim is left: what another dead client left open in the way is taken back
+--     AreBack t xs             undos of t are performed, and nobody's claim is left. What another dead client left open in the way is taken back
 --                              under a claim of its transaction that is given back at once, or under the claim that another thread has on it
 --     recovers latched         what was left open on this region is taken back, if a region is named
 --     IsClaim y t xs           t, dead in the system y, is claimed, and right behind that what its client left open is taken back

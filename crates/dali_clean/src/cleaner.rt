@@ -98,8 +98,9 @@ fn finish(regions: &mut [Region], system: &mut System, txn: u64) -> Result<(), S
 /// client's transaction is dead as before, with no region latched. Nothing else of other transactions changes.
 ///
 /// `NotDead` exactly where the transaction isn't dead, and then nothing changes. `Stopped` exactly where it is and the
-/// engine is stopped, with that cause, else `OutOfMemory` where memory for a record is refused: what was taken back
-/// stays so, the transaction is dead again, and the clean-up may be asked for again. It takes memory for its records.
+/// engine is stopped, with that cause, else `OutOfMemory` where memory for a record is refused. Behind either what was
+/// taken back stays so, the transaction is dead again, and the clean-up may be asked for again. It takes memory for its
+/// records.
 pub fn clean(regions: &mut [Region], system: &mut System, txn: u64) -> Result<(), CleanError>
     requires { MayClean regions.old system.old.state txn }
     ensures ok { OnOk result (Ends regions.old system.old.state txn regions.new system.new.state) }

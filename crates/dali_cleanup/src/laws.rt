@@ -1,9 +1,9 @@
 //! A law of clean-ups over lists of records, the contract of a function that does nothing.
 ghost use Rattle.dali_cleanup.specs.Stepped.{DeadLeaves, ClaimIsStep, RecoverIsStep, CleanIsStep, EndIsStep, GiveBackIsStep};
 
-/// What each call of a clean-up leaves is a step of a core, with no rule of the log for the caller to prove: the claim,
-/// the latch that takes the client's operation back, each commit, the end, and what a refusal gives back. In a whole core
-/// the region that a dead transaction's row names is as that latch asks for.
+/// What each call of a clean-up leaves is a step of a core, with no rule of the log for the caller to prove. So it is of
+/// the claim, the latch that takes the client's operation back, each commit, the end, and what a refusal gives back. In a
+/// whole core the region that a dead transaction's row names is as that latch asks for.
 pub fn a_clean_up_makes_steps()
     ensures claim { ClaimIsStep }
     ensures left { DeadLeaves }

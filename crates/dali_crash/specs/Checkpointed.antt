@@ -1,6 +1,6 @@
--- A worked checkpoint: a store of one index region and one heap region is formatted; transaction 1 begins, commits
--- and ends; a checkpoint starts, flushes the log and copies region 0; an audit begins; the checkpoint copies region 1,
--- which no block has changed since the start, and writes its head; the audit passes both regions and ends clean; its end is flushed, the image synced, and the anchor moves.
+-- A worked checkpoint. A store of one index region and one heap region is formatted; transaction 1 begins, commits and ends. A checkpoint starts, flushes the log and copies
+-- region 0; an audit begins. The checkpoint copies region 1, which no block has changed since the start, and writes its head. The audit passes both regions and ends clean;
+-- its end is flushed, the image synced, and the anchor moves.
 --     batches_2, batches_3     the batches behind the first flush, and behind the second
 --     checkpoint_from, checkpoint_start, checkpoint_steps   the store right after the format, and the steps
 --     WorkedCheckpoint         a crash image comes along them from that of the format: it has the checkpoint's image, from which a restart

@@ -60,8 +60,8 @@ pub record Start : Type 0 where
   pub heads : Side → Head
   pub synced : Side → Bool
 
--- the vault runs and has flushed nothing yet, and its counts of faults are in order; the log's file is no longer than its records, with a frame
--- for each, and the anchor has at most 2^61 open gates more than there are records: so it may be moved, and files that were handed in may have more
+-- the vault runs and has flushed nothing yet, and its counts of faults are in order. The log's file is no longer than its records, with a frame for
+-- each, and the anchor has at most 2^61 open gates more than there are records. So it may be moved, and files that were handed in may have more
 -- gates than records
 pub record MayRun (L : List Record) (v : VaultState) : Type 0 where
   pub runs : v.stopped ≡ false

@@ -1,5 +1,5 @@
--- A worked run: a store of one index region and one heap region is formatted; transaction 1 begins, commits without a call and is
--- taken to be flushed; transaction 2 begins; then the first one is flushed; transaction 2 gets a shared lock on key 5, looks for it in region 0, finds nothing and is answered so.
+-- A worked run. A store of one index region and one heap region is formatted; transaction 1 begins, commits without a call and is taken to be flushed; transaction 2 begins. Then
+-- the first one is flushed; transaction 2 gets a shared lock on key 5, looks for it in region 0, finds nothing and is answered so.
 --     look                     the block of the look
 --     steps                    the steps
 --     WorkedRun                a crash image that came along them has the first commit, and restarts right

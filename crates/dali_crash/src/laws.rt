@@ -28,17 +28,17 @@ pub fn without_stray_writes_none_escapes()
     ensures { UnpokedEscapesNone }
 {}
 
-/// The log of a crash image is legal, lock-legal and honest in its last epoch.
+/// Where no damage escapes, the log of a crash image is legal, lock-legal and honest in its last epoch.
 pub fn the_log_of_a_crash_image()
     ensures { CrashLogs }
 {}
 
-/// A log that was just formatted has the formatted regions as its base.
+/// Of a log that was just formatted the formatted regions are the right base.
 pub fn a_format_has_the_right_base()
     ensures { FormatHasRightBase }
 {}
 
-/// A log that was just restarted has the recovered image as its base.
+/// Of a log that was just restarted, from a history, the recovered image is the right base.
 pub fn a_restart_has_the_right_base()
     ensures { RestartHasRightBase }
 {}
@@ -53,7 +53,8 @@ pub fn a_restart_after_a_crash_is_right()
     ensures { CrashIsRight }
 {}
 
-/// Whatever a crash of a run leaves, each image by itself: a restart is right and keeps each commit that was acknowledged, unless a chain deletes it.
+/// Whatever a crash of a run leaves, each image by itself, where no damage escapes and none escaped before: a restart
+/// is right and keeps each commit that was acknowledged, unless a chain deletes it.
 pub fn a_run_may_crash_anywhere()
     ensures { RunIsRight }
 {}
@@ -110,7 +111,7 @@ pub fn fresh_files_fit()
     ensures { FreshFits }
 {}
 
-/// The log that a restart leaves is a history without a record in its last epoch: so a core may be made
+/// The log that a restart of a history leaves is a history without a record in its last epoch: so a core may be made
 /// over it again. It is lawful where the log that the restart found is, honest or not.
 pub fn a_restart_starts_a_run()
     ensures starts { RestartStarts }
@@ -129,9 +130,9 @@ pub fn each_list_of_store_steps_keeps_a_run()
     ensures bare { BareStoreCourseKeeps }
 {}
 
-/// In a run with its store the number of the current image is below 2^62, whatever is known of the store, for a start asks
-/// for 2^61 open gates more than records at most, and each move of the anchor behind it stands behind records of its own:
-/// so the anchor may move once more.
+/// In a run with its store the number of the current image is below 2^62, whatever is known of the store. For a start asks
+/// for 2^61 open gates more than records at most, and each move of the anchor behind it stands behind records of its own.
+/// So the anchor may move once more.
 pub fn the_anchor_may_always_move()
     ensures { CurrentIsSmall }
 {}
@@ -154,8 +155,8 @@ pub fn a_flag_tells_its_checkpoint()
 {}
 
 /// Where no checkpoint keeps anything, as before its start and behind its anchor's move, a step leaves what the image
-/// files read, their heads, which of them is synced and the number of the current one, brings no place up to date, and
-/// a crash image has all but its batches from before.
+/// files read, their heads, which of them is synced and the number of the current one. It brings no place up to date,
+/// and a crash image has all but its batches from before.
 pub fn without_a_checkpoint_no_image_is_written()
     ensures { IdleLeavesImages }
 {}
@@ -209,9 +210,10 @@ pub fn a_store_at_rest_is_a_run()
     ensures bare { BareStartRuns }
 {}
 
-/// From any crash image on that fits a lawful log whose last epoch is empty, as a format and a restart leave one, each
-/// crash image that came along any steps, those of checkpoints too, fits its log but for missed regions; and where that
-/// lawful log is a history and no damage escapes, a restart from it gives exactly the records of the survivors.
+/// A run starts at any crash image that fits a lawful log whose last epoch is empty, as a format and a restart leave
+/// one. Each crash image that came from it along any steps, those of checkpoints too, fits its log but for missed
+/// regions. Where that lawful log is a history and no damage escapes, a restart from what came so gives exactly the
+/// records of the survivors.
 pub fn every_trace_is_right()
     ensures { EveryTraceIsRight }
 {}
@@ -258,9 +260,10 @@ pub fn a_worked_checkpoint()
     ensures { WorkedCheckpoint }
 {}
 
-/// The same checkpoint up to a fault in a copy, in the head, in the sync or in the anchor's move, with a region
-/// that is skipped, and given up behind the first of these; and given up without a fault, with another one that
-/// starts behind it: the premises of these steps are met, and a crash then leaves files that restart right.
+/// The same checkpoint up to a fault in a copy, in the head, in the sync or in the anchor's move. Before the fault in a
+/// copy a region is skipped, and behind it the checkpoint is given up. And the same one given up without a fault, with
+/// another one that starts behind it. The premises of these steps are met, and a crash image that came along them
+/// restarts right.
 pub fn worked_checkpoints_that_fail()
     ensures { WorkedFaults }
 {}

@@ -17,7 +17,6 @@
 
 mod dumping;
 mod error;
-mod leaves;
 mod lines;
 
 pub use dumping::dump;

@@ -5,10 +5,11 @@ ghost use Rattle.dali_script.specs.Names.{text_of as name_text};
 ghost use Rattle.dali_report.specs.Said.{call_name};
 ghost use Rattle.dali_dump.specs.Lines.{op_name, key_of, block_text, done_text, record_text, record_line};
 
-use crate::leaves::{put_text, put_with_hex, put_with_list, put_with_number};
 use dali_clients::Line;
 use dali_record::{Answer, Block, Call, Op, Record};
-use dali_report::said_line;
+use dali_report::{
+    put_text, put_with_hex, put_with_number, put_with_numbers, put_with_regions, said_line,
+};
 use std::alloc::AllocError;
 
 fn name_of(op: &Op) -> &'static str
@@ -134,15 +135,15 @@ fn put_record(logged: &Record, into: &mut Vec<u8>) -> Result<(), AllocError>
         Record::AuditClean { begin } => end_with_number(b"audit clean ", *begin, into),
         Record::AuditFail { begin, regions } => {
             put_with_number(b"audit fail ", *begin, into)?;
-            put_with_list(b" ", regions.as_slice(), into)?;
+            put_with_regions(b" ", regions, into)?;
             put_text(b"\n", into)
         }
         Record::Restarted {
             rolled_back,
             deleted,
         } => {
-            put_with_list(b"restarted rolled back ", rolled_back.as_slice(), into)?;
-            put_with_list(b" deleted ", deleted.as_slice(), into)?;
+            put_with_numbers(b"restarted rolled back ", rolled_back, into)?;
+            put_with_numbers(b" deleted ", deleted, into)?;
             put_text(b"\n", into)
         }
         Record::Back { txn, block } => end_with_block(b"back ", *txn, block, into),

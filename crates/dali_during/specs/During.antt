@@ -10,9 +10,9 @@
 --     TakenBackSince, TakenBackAtItsEnd      those that the regions had then, and once its Ended is logged
 --     ShowsWhatIsExpected      where no transaction runs, the regions have the records that the log is expected to leave
 --     UnpokedCourses           from a core that a format or a restart hands out, after any steps without a stray write, all of this holds,
---                              each undo finds its slot as its transaction left it; no region is poked, and the epoch's base is right, which
---                              is what the laws above ask for; memory is what the epoch's records write over what the start recovered;
---                              and where no audit failed before, nobody is deleted in any epoch
+--                              and each undo finds its slot as its transaction left it. No region is poked, and the epoch's base is right,
+--                              which is what the laws above ask for. Memory is what the epoch's records write over what the start recovered.
+--                              Where no audit failed before, nobody is deleted in any epoch
 --     AllSurvive               where no audit failed in any epoch of a log, every commit in it survives
 --     UnpokedCoreTraces        nor in any epoch of a crash image that came along these steps
 --     UnpokedPointCourses, UnpokedTraces   so it is of a core with its store, with the steps of checkpoints among the others

@@ -1,6 +1,6 @@
--- A worked life, from a format on: transaction 1 inserts key 5, commits and ends; transaction 2 deletes it, commits, frees cell and entry, and
--- ends; transaction 5 puts a cell for the key again and aborts; the client of transaction 6 dies in an operation, and its transaction is claimed
--- and ended; a checkpoint with a clean audit is made, and all is flushed; then the store fails and the engine stops.
+-- A worked life, from a format on. Transaction 1 inserts key 5, commits and ends; transaction 2 deletes it, commits, frees cell and entry, and
+-- ends. Transaction 5 puts a cell for the key again and aborts. The client of transaction 6 dies in an operation, and its transaction is claimed
+-- and ended. A checkpoint with a clean audit is made, and all is flushed; then the store fails and the engine stops.
 --     look_free, put_again, unput          the blocks of transactions 5 and 6
 --     before_checkpoint, life              the steps
 --     WorkedLife               they are a course, without a stray write; a crash then leaves the checkpoint's image and all records, and restarts

@@ -12,24 +12,25 @@ pub fn a_run_stands_on_a_right_base()
     ensures { RightBases }
 {}
 
-/// At each moment the index's invariant holds, but for gaps of keys on which a running transaction has an undo.
+/// On a right base and without a stray write the index's invariant holds at each moment, but for gaps of keys on which
+/// a running transaction has an undo.
 pub fn a_run_keeps_the_index()
     ensures { IndexedInRuns }
 {}
 
-/// No answer is Odd, and each block finds the slot that it looks for.
+/// There no answer is Odd, and each block finds the slot that it looks for.
 pub fn a_run_finds_nothing_amiss()
     ensures { QuietInRuns }
 {}
 
-/// A transaction that has taken all back leaves each of its keys the records from before it.
+/// There a transaction that has taken all back leaves each of its keys the records from before it.
 pub fn a_transaction_is_taken_back_whole()
     ensures now { TakenBackInRuns }
     ensures since { TakenBackSince }
     ensures ended { TakenBackAtItsEnd }
 {}
 
-/// At each moment each undo finds its slot as its transaction left it, in whatever order the transactions are
+/// There each undo finds its slot at each moment as its transaction left it, in whatever order the transactions are
 /// taken back, and so did each block that took one back.
 pub fn a_run_finds_each_slot_as_it_was_left()
     ensures any_order { UndosFindInRuns }
@@ -38,7 +39,8 @@ pub fn a_run_finds_each_slot_as_it_was_left()
     ensures backs { BacksFindInRuns }
 {}
 
-/// Where no transaction runs, the regions have the records that the log is expected to leave.
+/// Behind epochs from which no damage escaped, without a stray write, and where no audit of the last epoch failed and
+/// no transaction runs, the regions have the records that the log is expected to leave.
 pub fn a_run_shows_what_is_expected()
     ensures { ShowsWhatIsExpected }
 {}
@@ -48,8 +50,8 @@ pub fn where_no_audit_failed_all_survive()
     ensures { AllSurvive }
 {}
 
-/// From a format or a restart on, whatever steps are taken without a stray write, all of this holds, and nobody is
-/// deleted in any epoch.
+/// From a format or a restart of a history on, whatever steps are taken without a stray write, all of this holds, and
+/// where no audit failed before, nobody is deleted in any epoch.
 pub fn without_stray_writes_a_run_is_as_expected()
     ensures course { UnpokedCourses }
     ensures image { UnpokedCoreTraces }
@@ -62,7 +64,7 @@ pub fn without_stray_writes_a_run_with_its_store_is_as_expected()
 {}
 
 /// Each step of a core with its store keeps the core whole, those of a checkpoint too, and so does each list of steps, in
-/// whatever order: dead holds, the rows that name their regions, and holds of who is alive go together.
+/// whatever order. Dead holds, the rows that name their regions, and holds of who is alive go together.
 pub fn each_store_step_keeps_a_core_whole()
     ensures step { PointWholeKeeps }
     ensures course { PointWholeCourseKeeps }
@@ -108,8 +110,9 @@ pub fn a_cut_off_run_finds_its_slots()
     ensures below { FindsBelow }
 {}
 
-/// From a format on an insert, a delete with its removals, an abort, a death, a checkpoint and a stop: the premises of
-/// each step are met, and a crash then leaves a checkpoint's image with records behind it, and restarts right.
+/// From a format on an insert, a delete with its removals, an abort, a death, a checkpoint and a stop. The premises of
+/// each step are met, and a crash image that came along them has the checkpoint's image with records behind it, and
+/// restarts right.
 pub fn a_worked_life()
     ensures { WorkedLife }
 {}

@@ -1,5 +1,5 @@
 -- Steps of a core that end a transaction and call no store.
---     AreOfEnd t xs            the steps xs are t's own, and no end of a call or of t; and what dead clients left open in the way is taken back among them,
+--     AreOfEnd t xs            the steps xs are t's own, and no end of a call or of t. What dead clients left open in the way is taken back among them,
 --                              each under a claim of its transaction that is given back at once, or under the claim that another thread has on it
 --     ends_of t last           the step that logs the end of t, where a last record is logged
 --     Walked t own last m hs z     such steps, and t's end behind them where it is logged, lead from the moment m to these regions and this system; behind

@@ -68,9 +68,9 @@ pub fn logs_that_break_the_rules_on_calls()
     ensures change_stands { is_ruled change_stands_log (1 ∷ []) ≡ false }
 {}
 
-/// Logs that break the rules on taking back: after a block that takes back a change of an answered call no Commit follows, and
-/// after one that takes back a change of the present call neither a forward block of it nor the answer Ok. All before the record
-/// that breaks the rule is allowed.
+/// Logs that break the rules on taking back. After a block that takes back a change of an answered call no Commit follows. After
+/// one that takes back a change of the present call neither a forward block of it follows, nor the answer Ok. All before the
+/// record that breaks the rule is allowed.
 pub fn logs_that_break_the_rules_on_taking_back()
     ensures whole { is_ruled taken_back_whole_log (1 ∷ []) ≡ false }
     ensures whole_front { is_ruled (take 8 taken_back_whole_log) (1 ∷ []) ≡ true }

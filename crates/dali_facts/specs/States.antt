@@ -9,8 +9,8 @@ use Rattle.dali_system.specs.State.{CoreState, state_of}
 use Rattle.dali_system.specs.Run.{Bases, RunsOn}
 use Rattle.dali_system.specs.Courses.{Step, IsStep}
 
--- a row is Live only where it was or is new; Dead only where it was with the same region, or was Live or claimed; claimed only where it was, or
--- was Dead, and with the same region; and Committed only where it was, or was Live
+-- a row is Live only where it was or is new. It is Dead only where it was with the same region, or was Live or claimed. It is claimed only
+-- where it was, or was Dead, and with the same region; and Committed only where it was, or was Live
 abbrev pub CameFrom : Option State → State → Type 0
 CameFrom before Live = (before ≡ Some Live) ⊎ (before ≡ None)
 CameFrom before (Dead latched) = (before ≡ Some (Dead latched)) ⊎ ((before ≡ Some Live) ⊎ ((was : Option ℕ) × (before ≡ Some (Cleaning was))))

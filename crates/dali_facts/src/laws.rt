@@ -11,7 +11,7 @@ pub fn a_run_holds_its_keys()
     ensures { HoldsItsKeys }
 {}
 
-/// The table has the undo lists of the log.
+/// Each row without a Commit has the undo list of the log.
 pub fn a_run_has_its_undos()
     ensures { HasItsUndos }
 {}
@@ -73,8 +73,8 @@ pub fn a_run_tells_its_words()
     ensures { RegionsTell }
 {}
 
-/// A row is Live only where it was or is new, Dead only where it was or was Live or claimed, claimed only where it was or was Dead, with the
-/// region that is still latched, and Committed only where it was or was Live.
+/// A row is Live only where it was or is new. It is Dead only where it was with the same region, or was Live or claimed. It is claimed only
+/// where it was or was Dead, with the same region. It is Committed only where it was or was Live.
 pub fn states_come_from_states()
     ensures { StatesComeFrom }
 {}

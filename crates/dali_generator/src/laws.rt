@@ -5,9 +5,9 @@ ghost use Rattle.dali_script.specs.Scripts.{IsRightRound};
 ghost use Rattle.dali_generator.specs.Generated.{AreWithin, generated, sizes_of};
 ghost use Rattle.dali_generator.specs.Left.{LeavesThem, HasTheirKeys};
 
-/// A generated round is such as a script may have: its clients are numbered from 1 to 64 and have one block each, and
-/// each command stands where it may, with keys below 2^64 and values of 1 to 40 bytes. The regions that it runs on are as
-/// many as a database may have.
+/// A generated round is such as a script may have: its clients are numbered from 1 to 64 and have one block each. Each
+/// command stands where it may, with keys below 2^64 and values of 1 to 40 bytes. The regions that it runs on are as many
+/// as a database may have.
 pub fn generated_rounds_are_right()
     ensures round { (clients size number : ℕ) → AreWithin clients size → IsRightRound (generated clients size number) }
     ensures sizes { (clients size : ℕ) → AreWithin clients size → AreInRange (sizes_of clients size) }

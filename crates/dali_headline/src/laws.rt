@@ -29,13 +29,15 @@ pub fn every_restart_is_right()
     ensures { (log : List Record) → IsHistory log → RestartIsRight log }
 {}
 
-/// What a restart recovers is an image that keeps the index's invariant, with the records of the expected map.
+/// What a restart of a history recovers is an image that keeps the index's invariant, with the records of the expected
+/// map.
 pub fn what_is_recovered_holds_what_is_expected()
     ensures { (log : List Record) → IsHistory log
         → (m : Map) × (expected log ≡ Some m) × Holds (sizes_of log) (recovered (sizes_of log) log) m }
 {}
 
-/// In whatever order the transactions are rolled back, each undo finds its slot, and the image is the recovered one.
+/// In whatever order the transactions of a history are rolled back, each undo finds its slot, and the image is the
+/// recovered one.
 pub fn undos_may_come_in_any_order()
     ensures epoch { (log : List Record) → IsHistory log → (e : Epoch) → Contains (epochs log) e
         → (base : List (List ℕ)) (m : Map) → IsHonestIn base e → Holds (sizes_of log) base m
@@ -63,7 +65,7 @@ pub fn a_restart_may_be_stopped()
         → recovered (sizes_of log) (log ++ Restarted rs ds ∷ []) ≡ recovered (sizes_of log) log }
 {}
 
-/// Where no audit failed, every record is kept, every commit survives and every block is sound.
+/// Where no audit failed, every record is kept, every commit survives and every block of an honest epoch is sound.
 pub fn without_damage_all_is_kept()
     ensures kept { (e : Epoch) → failing e ≡ [] → kept_of e ≡ e.records }
     ensures deleted { (e : Epoch) → failing e ≡ [] → deleted_list e ≡ [] }

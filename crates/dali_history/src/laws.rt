@@ -21,8 +21,8 @@ ghost use Rattle.dali_history.specs.Blocks.{HasValues, HasWholeBlocks};
 ghost use Rattle.dali_history.specs.History.{AreSpelled, IsHistory};
 ghost use Rattle.dali_history.specs.Acknowledged.{KeepsCommitted};
 
-/// Calls on a map are calls on each of its keys: what the calls lead to at a key, those on this key alone lead to from what
-/// stands there, and they are allowed on the map where they are allowed on each key.
+/// Calls on a map are calls on each of its keys. What the calls lead to at a key, those on this key alone lead to from what
+/// stands there. They are allowed on the map where they are allowed on each key.
 pub fn calls_are_calls_on_each_key()
     ensures each { (m n : Map) (cs : List (Call × Answer)) → calls_after (Some m) cs ≡ Some n → (k : ℕ) → values_after (Some (m k)) (on_key k cs) ≡ Some (n k) }
     ensures allowed { (m : Map) (cs : List (Call × Answer)) → ((k : ℕ) → IsSome (values_after (Some (m k)) (on_key k cs))) → IsSome (calls_after (Some m) cs) }

@@ -146,10 +146,10 @@ impl Header {
     }
 
     /// Tests a header that was read from this side's image as that of the current image. `BadImage` of its file exactly
-    /// where it is wrong, at the first place that is: the sizes are others, the number is another, the place in the log
-    /// is below 15 or not below the log's length, the records before it, the sum of their lengths or the next
-    /// transaction's number are 2^40 or more, or no record stands before the place, or that number is 0. Where it
-    /// passes, none is (`IsWanted`). It takes no memory.
+    /// where it is wrong, at the first place that is. It is wrong where the sizes are others, the number is another, or the
+    /// place in the log is below 15 or not below the log's length. So it is where the records before it, the sum of their
+    /// lengths or the next transaction's number are 2^40 or more, where that number is 0, or where no record stands before
+    /// the place. Where it passes, none is (`IsWanted`). It takes no memory.
     pub fn check(&self, side: Side, expected: &Expected) -> Result<(), ImageError>
         ensures ok { OnOk result (bad_header self.now expected.now ≡ None) }
         ensures wanted { OnOk result (IsWanted self.now expected.now) }

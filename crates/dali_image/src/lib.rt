@@ -1,8 +1,8 @@
 //! The bytes of an image file and of the anchor, read and written.
 //!
 //! An image file is a header of 64 bytes, the 64 words of each region, and the table of the transactions that had begun
-//! and not ended, with their undos. The anchor has one open gate for each completed checkpoint, and a closed one behind
-//! them. All numbers are big-endian.
+//! and not ended, with their undos. The anchor has one open gate for each completed checkpoint or image of a restart,
+//! and a closed one behind them. All numbers are big-endian.
 #![tactic(auto)]
 
 mod anchor;

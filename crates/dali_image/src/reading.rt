@@ -132,11 +132,11 @@ pub fn read_region<V: Store>(
     Ok(words[0])
 }
 
-/// The table of this side's image, whose header this is. `BadImage` of its file exactly where there is none: at 56 where
-/// the file is shorter than its header says, else at the first field of the table that is wrong, or behind its last field
-/// where bytes are left over. A region of the wrong kind is bad at the region, which is so once the undo's kind is known.
-/// Its undos have cells, entries and words in range (`AreUndos`), whatever the store tells.
-/// `Fault` exactly where the store's count of faults rose. It takes memory for the bytes and the table.
+/// The table of this side's image, whose header this is. `BadImage` of its file exactly where there is none. It is at 56
+/// where the file is shorter than its header says, else at the first field of the table that is wrong, or behind its last
+/// field where bytes are left over. A region of the wrong kind is bad at the region, which is so once the undo's kind is
+/// known. Its undos have cells, entries and words in range (`AreUndos`), whatever the store tells. `Fault` exactly where
+/// the store's count of faults rose. It takes memory for the bytes and the table.
 pub fn read_table<V: Store>(
     alloc: Global,
     store: &mut V,

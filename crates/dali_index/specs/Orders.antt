@@ -3,7 +3,8 @@
 --     passed_before ws e         the words that a look reads of the entries before e: the state of each, and the key of each live one
 --     LookReads, AddReads        a look or an add reads these of the entries before the one that it ends at, and that entry whole; where it ends at none, those of all entries and the overflow flag
 --     OperationsCommute          operations on two entries do and find the same in either order
---     StaysFound us key d o      where the words of entry d are as in us, and all others as before, a look still ends as o says: entry d isn't the one that was found, and stands behind it or isn't a live one of the key
+--     StaysFound us key d o      where the words of entry d are as in us, and all others as before, a look still ends as o says. That is: entry d isn't the one that was found, and stands behind it or isn't a live one
+--                                of the key
 --     StaysPassed ws us d o      entry d stands behind the one that was found, or is live in both ws and us or in neither
 --     LookFinds                  a look finds the same after an operation on another entry that leaves it so
 --     LookCommutes               they do and find the same in either order, where the look reads the same words of that entry

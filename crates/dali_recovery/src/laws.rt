@@ -34,8 +34,8 @@ pub fn a_recovery_answers_over_batches()
     ensures hands_out { HandsOutOverBatches }
 {}
 
-/// From files whose image fitted a front of a legal log no record is a misfit, and what is handed out is what the whole log says:
-/// of a history exactly the records of the survivors.
+/// From files whose image fitted a front of a legal log no record is a misfit, and what is handed out is what the whole log says.
+/// Of a history that is, where a record stands behind the image, exactly the records of the survivors.
 pub fn a_recovery_recovers_the_log()
     ensures fits { NoneIsMisfit }
     ensures legal { RecoversLegal }

@@ -23,7 +23,7 @@ use dali_redo::Redo;
 use std::alloc::{AllocError, Global};
 use std::collections::BTreeSet;
 
-/// What a restart knows between two records of the log, from a checkpoint's image on: it tests each record against those before
+/// What a restart knows between two records of the log, from a checkpoint's image on. It tests each record against those before
 /// it, makes it again, and at each record of a restart behind the image's place recovers the epoch that ends there. So it is done
 /// in one pass, where no audit failed.
 ///

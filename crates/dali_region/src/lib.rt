@@ -1,9 +1,9 @@
 //! A region of 64 words with its codeword, its latch and its dirty flags.
 //!
-//! The codeword and its audits are those of Bohannon, Rastogi, Seshadri, Silberschatz and Sudarshan,
-//! "Detection and recovery techniques for database corruption" (IEEE TKDE 15(5), 2003): an update that goes
-//! through the region changes the codeword by the difference of the old and the new word, so a word that is
-//! changed in any other way leaves the two apart.
+//! The codeword and its audits are those of Bohannon, Rastogi, Seshadri, Silberschatz and Sudarshan, "Detection and
+//! recovery techniques for database corruption" (IEEE TKDE 15(5), 2003). An update that goes through the region changes
+//! the codeword by the difference of the old and the new word. So a word that is changed in any other way leaves the
+//! two apart, unless several such changes cancel.
 #![tactic(auto)]
 
 ghost use Rattle.std.specs.Prelude.{◌≡◌, ◌≢◌, ◌<◌, IsSome, OnOk, OnErr};

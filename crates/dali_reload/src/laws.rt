@@ -1,15 +1,15 @@
 //! Laws over the definitions, each the contract of a function that does nothing.
 ghost use Rattle.dali_reload.specs.Laws.{ReadsLegal, ReadsHistory, OneReading, OneBadPlace, FindsLater};
 
-/// Of a legal log whose image fitted a front of it no place is bad, and what is handed out at its end is what the whole log says:
-/// of a history exactly the records of the survivors, and the right lists.
+/// Of a legal log whose image fitted a front of it no place is bad, and what is handed out at its end is what the whole log says.
+/// Of a history, where a record stands behind the image, that is exactly the records of the survivors, and the right lists.
 pub fn a_log_is_read_whole()
     ensures legal { ReadsLegal }
     ensures histories { ReadsHistory }
 {}
 
-/// A log that is read to an end is read as one thing only: its batches, its end and its answer are the only ones, and no place of it
-/// is bad behind the image, nor does a record stand there that may not.
+/// A log that is read to an end is read as one thing only: its batches, its end and its answer are the only ones. No place of it is
+/// bad behind the image, nor does a record stand there that may not.
 pub fn a_log_is_read_as_one_thing()
     ensures { OneReading }
 {}

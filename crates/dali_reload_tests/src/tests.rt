@@ -71,9 +71,9 @@ fn log_of(rt: &HostRuntime, batches: &[&[&[u8]]], cut: usize) -> Result<Vec<u8>>
     Ok(log)
 }
 
-// What is told of a log: the sums of the numbers of those who are rolled back and of those who are deleted, the numbers of the
-// next record and transaction, the place of the log's end, how many records were read and the sum of their lengths, and what
-// stands before a last record of a restart.
+// What is told of a log. First come the sums of the numbers of those who are rolled back and of those who are deleted. Then
+// come the numbers of the next record and transaction, the place of the log's end, how many records were read and the sum of
+// their lengths. Last is what stands before a last record of a restart.
 type Told = (u64, u64, u64, u64, u64, u64, u64, Option<(u64, u64)>);
 
 // What a pass comes to: a log that is read to its end, or the damage of an epoch, by its first record, its clean place and the

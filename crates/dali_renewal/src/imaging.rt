@@ -142,10 +142,10 @@ pub(crate) fn room_for(alloc: Global, regions: usize) -> Result<Vec<u8>, Renewal
     Ok(buffer)
 }
 
-/// Writes an image whole to the file of this side, and syncs that file: this header, the words of the regions, 128 of them in
-/// a write, and a table without a row, whatever length of a table the header says. On Ok each disk that a crash may leave
-/// holds this image, where it fits its fields. A crash at any moment, also behind a fault, leaves a disk that might have
-/// been left before, but for this file.
+/// Writes an image whole to the file of this side, and syncs that file. It is this header, the words of the regions, 128 of
+/// them in a write, and a table without a row, whatever length of a table the header says. On Ok each disk that a crash may
+/// leave holds this image, where it fits its fields. A crash at any moment, also behind a fault, leaves a disk that might
+/// have been left before, but for this file.
 ///
 /// `OutOfMemory` where memory for one write is refused; then nothing is written. `Fault` exactly where the store's count of
 /// faults rose. It takes the bytes of 128 regions at most, and gives them back.

@@ -173,14 +173,14 @@ fn renew_stages<V: Store>(
 }
 
 /// Writes what a restart came to, and answers where the log ends then. Where the record Restarted stands in the log already,
-/// `logged` says where the log ends behind it, and the lists aren't looked at; else the record is added to the log with
+/// `logged` says where the log ends behind it, and the lists aren't looked at. Else the record is added to the log with
 /// these lists of the transactions that were rolled back and deleted. Then the words of the regions are written as an image
 /// with an empty table into the file that the anchor doesn't name: its number is the next one, and it stands before that
 /// record. That file is synced, and the anchor moves to it.
 ///
-/// Where each disk that a crash may leave spells files from which the restart of a log came to these words, numbers and lists,
-/// each is at one of the stages of that restart, at any moment: as it was found, with the record, or with the new image. A
-/// record that stood there already stays. So a restart that follows a stop in here hands out the same records and the same
+/// Let each disk that a crash may leave spell files from which the restart of a log came to these words, numbers and lists.
+/// Then each is at one of the stages of that restart, at any moment: as it was found, with the record, or with the new image.
+/// A record that stood there already stays. So a restart that follows a stop in here hands out the same records and the same
 /// lists. After Ok each has the new image, and a vault may be made over the store.
 ///
 /// `TooLong` exactly where the record is to be logged and has more than 2^30 bytes; then, and where memory is refused

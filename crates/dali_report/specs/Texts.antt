@@ -4,15 +4,13 @@
 --                                 all others as a backslash, x and two hexadecimal digits
 --     list_text ns                numbers with a blank between two of them, or none
 --     IsFront front whole         the bytes begin so
-use Rattle.std.specs.Prelude.{◌≡◌, ℕ, ◌+◌, ◌/◌, ◌%◌, Bool, ◌&&◌, not, nat_le, nat_lt, ◌==◌, if◌then◌else◌, List, [], ◌∷◌, ◌++◌, length, take, codes, flat_map}
+use Rattle.std.specs.Prelude.{◌≡◌, ℕ, ◌/◌, ◌%◌, Bool, ◌&&◌, not, nat_le, ◌==◌, if◌then◌else◌, List, [], ◌∷◌, ◌++◌, length, take, codes, flat_map}
+use Rattle.std.specs.Char.{digit_char}
 use Rattle.std.specs.Fmt.{decimal}
 use Rattle.dali_bytes.specs.Fields.{number64}
 
-abbrev pub hex_digit : ℕ → ℕ
-hex_digit n = if nat_lt n 10 then 48 + n else 87 + n
-
 abbrev pub hex_byte : ℕ → List ℕ
-hex_byte byte = hex_digit (byte / 16) ∷ hex_digit (byte % 16) ∷ []
+hex_byte byte = digit_char (byte / 16) ∷ digit_char (byte % 16) ∷ []
 
 abbrev pub hex_text : ℕ → List ℕ
 hex_text n = flat_map hex_byte (number64 n)

@@ -1,8 +1,9 @@
 //! The parts of a line. Where memory is refused, what stood before is still the front of the text.
 ghost use Rattle.std.specs.Prelude.{◌≡◌, ◌<◌, ◌++◌, flat_map, OnOk, OnErr};
+ghost use Rattle.std.specs.Char.{digit_char};
 ghost use Rattle.std.specs.Fmt.{decimal};
 ghost use Rattle.dali_script.specs.Names.{text_of as name_text};
-ghost use Rattle.dali_report.specs.Texts.{hex_digit, hex_byte, hex_text, byte_text, value_text, list_of, list_text, IsFront};
+ghost use Rattle.dali_report.specs.Texts.{hex_byte, hex_text, byte_text, value_text, list_of, list_text, IsFront};
 
 use byteorder::{BigEndian, ByteOrder};
 use dali_record::{Numbers, Regions};
@@ -11,6 +12,7 @@ use dali_words::Value;
 use itoa::{Buffer, Integer};
 use std::alloc::AllocError;
 
+/// Adds a text.
 pub fn put_text(text: &[u8], into: &mut Vec<u8>) -> Result<(), AllocError>
     ensures ok { OnOk result (into.new.items ≡ into.old.items ++ text.now) }
     ensures err { OnErr result (IsFront into.old.items into.new.items) }
@@ -27,13 +29,9 @@ pub fn put_number(number: u64, into: &mut Vec<u8>) -> Result<(), AllocError>
 
 fn hex(digit: u8) -> u8
     requires { digit < 16 }
-    ensures { result ≡ hex_digit digit }
+    ensures { result ≡ digit_char digit }
 {
-    if digit < 10 {
-        b'0' + digit
-    } else {
-        b'a' + digit - 10
-    }
+    char::from_digit(digit as u32, 16).unwrap() as u8
 }
 
 fn put_hex_byte(byte: u8, into: &mut Vec<u8>) -> Result<(), AllocError>
@@ -54,7 +52,7 @@ fn put_hex_bytes(bytes: &[u8], into: &mut Vec<u8>) -> Result<(), AllocError>
 }
 
 #[tactic(auto, unfolding(dali_bytes::specs::Fields::number64))]
-pub fn put_hex(number: u64, into: &mut Vec<u8>) -> Result<(), AllocError>
+fn put_hex(number: u64, into: &mut Vec<u8>) -> Result<(), AllocError>
     ensures ok { OnOk result (into.new.items ≡ into.old.items ++ hex_text number) }
     ensures err { OnErr result (IsFront into.old.items into.new.items) }
 {
@@ -99,12 +97,23 @@ pub fn put_list<N: Integer>(numbers: &[N], into: &mut Vec<u8>) -> Result<(), All
     Ok(())
 }
 
+/// Adds a text and a decimal number.
 pub fn put_with_number(text: &[u8], number: u64, into: &mut Vec<u8>) -> Result<(), AllocError>
     ensures ok { OnOk result (into.new.items ≡ into.old.items ++ (text.now ++ decimal number)) }
     ensures err { OnErr result (IsFront into.old.items into.new.items) }
 {
     put_text(text, into)?;
     put_number(number, into)?;
+    Ok(())
+}
+
+/// Adds a text and a number's sixteen hexadecimal digits.
+pub fn put_with_hex(text: &[u8], number: u64, into: &mut Vec<u8>) -> Result<(), AllocError>
+    ensures ok { OnOk result (into.new.items ≡ into.old.items ++ (text.now ++ hex_text number)) }
+    ensures err { OnErr result (IsFront into.old.items into.new.items) }
+{
+    put_text(text, into)?;
+    put_hex(number, into)?;
     Ok(())
 }
 
@@ -117,6 +126,7 @@ pub fn put_with_value(text: &[u8], value: &Value, into: &mut Vec<u8>) -> Result<
     Ok(())
 }
 
+/// Adds a text and a list of numbers.
 pub fn put_with_numbers(
     text: &[u8],
     numbers: &Numbers,
@@ -130,6 +140,7 @@ pub fn put_with_numbers(
     Ok(())
 }
 
+/// Adds a text and a list of regions.
 pub fn put_with_regions(
     text: &[u8],
     regions: &Regions,

@@ -20,7 +20,7 @@
 //! | `fuse`, `crash` | `fuse N`, `crash N` |
 //! | `show` | `KEY VALUE`, `records COUNT` |
 //! | `verify` | `verify ok`, `verify differs`, `verify store stopped` |
-//! | any command while the program is down | `NAME down`; a round, `round down` |
+//! | any other single command than `fuse`, `crash`, `restart` and `next`, while the program is down | `NAME down`; a round, `round down` |
 //!
 //! Numbers are decimal; codewords are sixteen lower-case hexadecimal digits. A value is printed byte by byte: those from
 //! 0x21 to 0x7e but the backslash as they are, all others as a backslash, `x` and two lower-case hexadecimal digits. A
@@ -33,6 +33,7 @@ mod lines;
 mod printed;
 mod said;
 
+pub use leaves::{put_text, put_with_hex, put_with_number, put_with_numbers, put_with_regions};
 pub use lines::{client_line, line, said_line};
 pub use printed::Line;
 

@@ -6,7 +6,8 @@ ghost use Rattle.dali_report.specs.Texts.{IsFront};
 ghost use Rattle.dali_report.specs.Said.{call_name, act_name, answer_text, stop_text, reason_text, clean_or_failed, said_text};
 
 use crate::leaves::{
-    put_hex, put_number, put_text, put_with_name, put_with_number, put_with_regions, put_with_value,
+    put_number, put_text, put_with_hex, put_with_name, put_with_number, put_with_regions,
+    put_with_value,
 };
 use dali_clients::{Command, Line, Why};
 use dali_record::{Answer, Call, Regions};
@@ -94,10 +95,8 @@ fn put_refusal(name: Name, why: &Why, into: &mut Vec<u8>) -> Result<(), AllocErr
         } => {
             put_with_name(name, b" damaged ", into)?;
             put_number(u64::from(*region), into)?;
-            put_text(b" ", into)?;
-            put_hex(*codeword, into)?;
-            put_text(b" ", into)?;
-            put_hex(*found, into)?;
+            put_with_hex(b" ", *codeword, into)?;
+            put_with_hex(b" ", *found, into)?;
             Ok(())
         }
         Why::StoreStopped => put_with_name(name, b" store stopped", into),

@@ -3,8 +3,8 @@
 --     IsInRoom b                its numbers are in range, whatever a store tells
 --     ReadsAll fs x            so it is for the files that the disk has before the first record behind the image, and the log from there on is read as theirs
 --     at_end x                 where a restart stands at the end of the log that was read
---     due_of x                 what is to be written: nothing where no record was read or one of a restart alone; behind another record of a restart, which
---                              ends the log, the image that stands before it; else a record of its own and the image
+--     due_of x                 what is to be written: nothing where no record was read or one of a restart alone. Behind another record of a restart, which
+--                              ends the log, it is the image that stands before it; else a record of its own and the image
 --     resting_of p             where a core begins over a log that ends so
 --     LogsRecord x r           where it begins behind the record of this restart
 --     WritesImage x r          and where it begins where that record stood there already

@@ -27,9 +27,9 @@ pub fn a_restart_has_one_answer()
     ensures bad { IsBadOnce }
 {}
 
-/// Files that a crash of a run left, or of a restart at any of its calls, are nowhere bad, their log has its first batch, and the
-/// record of their restart fits a batch. So of a disk that spells such a restart answers neither `BadStore` nor `Unformatted`, nor
-/// `TooLong`.
+/// Files that a crash of a run left in which no audit missed a stray write, or of a restart at any of its calls, are nowhere bad.
+/// Their log has its first batch, and the record of their restart fits a batch. So of a disk that spells such a restart answers
+/// neither `BadStore` nor `Unformatted`, nor `TooLong`.
 pub fn what_is_found_is_nowhere_bad()
     ensures { FoundIsGood }
 {}
@@ -41,12 +41,13 @@ pub fn files_that_fit_are_found()
     ensures { FitIsFound }
 {}
 
-/// A run with its store may crash anywhere, also within a step, and the restart behind it may be stopped, any number of times:
-/// where no audit missed a stray write, what a restart then hands out is what the log of the crash says. Where the run began with a
-/// history and no damage escapes, that log is a history, the records are exactly those that serial replay of its survivors leaves,
-/// and each transaction whose commit was acknowledged survives, or was deleted since a chain led from damage to it. Without a stray
-/// write nobody of the last epoch is deleted. The lists of the report are those of the recovered epoch where a record stands behind
-/// the image, and else they are empty.
+/// A run with its store may crash anywhere, also within a step, and the restart behind it may be stopped, any number of times.
+/// Where no audit missed a stray write, what a restart then hands out is what the log of the crash says. Where the run began with a
+/// history and no damage escapes, that log is a history, and the records are exactly those that serial replay of its survivors
+/// leaves. Each transaction whose commit was acknowledged survives then, or was deleted since a chain led from damage to it. The
+/// run's start has no checkpoint's image, or a record behind the format in its log. Without a stray write nobody of the last epoch
+/// is deleted. The lists of the report are those of the recovered epoch where a record stands behind the image, and else they are
+/// empty.
 pub fn a_crash_of_a_run_restarts_right()
     ensures right { CrashRestartsRight }
     ensures again { OnWayGoesOn }

@@ -264,9 +264,9 @@ fn read_first<V: Store>(
     }
 }
 
-/// What stands in the files of a store before the first record behind the current image: the sizes in the log's first
-/// record, the number of the current image, the image with its table, and a reader that goes on at its place. All files
-/// are synced first. No byte of the log between the first batch and the image's place is read.
+/// What stands in the files of a store before the first record behind the current image. It is the sizes in the log's
+/// first record, the number of the current image, the image with its table, and a reader that goes on at its place. All
+/// files are synced first. No byte of the log between the first batch and the image's place is read.
 ///
 /// `Unformatted` exactly where the log has fewer than two bytes or its first gate is closed. `BadStore` exactly where the
 /// files are bad, at the first place that is: in the log's first batch, else in the anchor, else in the current image.

@@ -383,10 +383,12 @@ fn settle<V: Store>(alloc: Global, store: &mut V, found: &Found) -> Result<Resti
 /// image, unless no record stands behind that one, or a restart's alone. The limit is that of the records' bytes, at most
 /// 268,435,456.
 ///
-/// Of files that a crash of a run left, or of another restart at any of its calls, it hands out exactly the records of the
-/// surviving transactions, replayed one after another in commit order, and names exactly the rolled back and the deleted (`gives`).
-/// A stop at any moment of it leaves files of which a restart hands out the same, or what a crash might have left before it; the
-/// store that comes back, with an error or in the core, reads as such files (`any_moment`).
+/// Of files that a crash of a run left in which no audit missed a stray write, or another restart at any of its calls, it hands
+/// out what their log says. Where that is a history the records are exactly those of the surviving transactions, replayed one
+/// after another in commit order. Where a record stands behind the image it names exactly the rolled back and the deleted, and
+/// else nobody (`gives`). A stop at any moment of it leaves files of which a restart hands out the same, or what a crash might
+/// have left before it. The store that comes back, with an error or in the core, reads as files of which a restart hands out the
+/// same (`any_moment`).
 ///
 /// `Unformatted` exactly where the log has fewer than two bytes or its first gate is closed; such files are only read, whatever is
 /// answered (`none`). `BadStore` exactly where the files are bad: in the log's first batch, else in the anchor, else in the

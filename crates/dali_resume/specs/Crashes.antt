@@ -1,7 +1,7 @@
 -- What a crash of a run with its store leaves, given to a restart.
 --     EveryHistoryResumes      the files of a history that fit at its last epoch pass the tests, and what is handed out is right
 --     CrashResumes             where a restart of the log is right, its files pass the tests, the image that is handed out of them is the recovered
---                              one, and the lists are those of the recovered epoch; where that epoch is the last one, it may be made again
+--                              one, and the lists are those of the recovered epoch. Where that epoch is the last one, it may be made again
 use Rattle.std.specs.Prelude.{◌≡◌, ℕ, List, [], ◌∷◌, IsSome, drop}
 use Rattle.dali_record.specs.declared.records.Record.{Record}
 use Rattle.dali_record.specs.declared.records.Record.TheVariants.{Restarted}

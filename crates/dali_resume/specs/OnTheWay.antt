@@ -1,5 +1,5 @@
--- On the way behind further restarts, too, each undo finds its slot as its transaction left it: at the end of the log, and at each Restarted where an epoch
--- is recovered, whose front of the log a restart has come through then.
+-- On the way behind further restarts, too, each undo finds its slot as its transaction left it. So it is at the end of the log, and at each Restarted where
+-- an epoch is recovered, whose front of the log a restart has come through then.
 --     rewritten_by c           what the scan of the present epoch keeps, written over the words over which it began
 --     WritesOnTheWay           that is what the kept records of the epoch come to over its base
 --     FindsOnTheWay            there each undo finds its slot as it was left, whichever transaction comes first

@@ -78,15 +78,15 @@ pub fn the_first_bad_record_is_found()
     ensures { FindsFirstBad }
 {}
 
-/// A restart may be stopped at any of its store calls and made again: the files as they are, those with
-/// the batch of its record, however much of the other image is written, and those behind the turn of
-/// the anchor each fit their log, and hand out the same image and the same lists.
+/// A restart of a history with a record in its last epoch may be stopped at any of its store calls and made again. The
+/// files as they are, those with the batch of its record, however much of the other image is written, and those behind
+/// the turn of the anchor each fit their log. All three hand out the same image and the same lists.
 pub fn a_restart_may_be_made_again()
     ensures { RestartsAgain }
 {}
 
-/// From the files of a history a restart hands out exactly the records of the survivors, and reports
-/// who was rolled back and who was deleted.
+/// From the files of a history with a record in its last epoch a restart hands out exactly the records of the
+/// survivors, and reports who was rolled back and who was deleted.
 pub fn a_restart_from_an_image_is_right()
     ensures { ResumeGives }
 {}
@@ -119,9 +119,9 @@ pub fn every_history_resumes()
     ensures { EveryHistoryResumes }
 {}
 
-/// The records that the scan keeps, written over the image, come to what the kept records of the whole
-/// epoch come to over its base; and there each undo that the scan keeps finds its slot as its transaction
-/// left it, word by word, in any order of the transactions.
+/// The records that the scan keeps, written over the image, come to what the kept records of the whole epoch come to
+/// over its base. There each undo that the scan keeps finds its slot as its transaction left it, word by word, in any
+/// order of the transactions.
 pub fn undos_find_their_slots_in_an_image()
     ensures written { WritesAlike }
     ensures found { FindsFromImage }
@@ -138,8 +138,8 @@ pub fn a_restart_goes_on_behind_restarts()
     ensures lists { ListsAreTested }
 {}
 
-/// From a history, with an image anywhere in it, the records of the survivors are handed out, and the
-/// lists of the recovered epoch.
+/// From a history, with an image anywhere in it and a record behind that, the records of the survivors are handed out,
+/// and the lists of the recovered epoch.
 pub fn every_history_resumes_behind_restarts()
     ensures { ResumesHistories }
 {}
@@ -197,7 +197,7 @@ pub fn a_restarted_is_first_in_its_batch()
     ensures front { FrontAnswersOverBatches }
 {}
 
-/// The image of files that fit stands behind a record, where its place is above 0: a restart tests that the place isn't below
+/// The image of files that fit stands behind a record, where its place is above 0. A restart tests that the place isn't below
 /// that of the second batch, so no law that asks for a record number above 0 is left to its caller.
 pub fn an_image_stands_behind_a_record()
     ensures { NumberIsSome }
@@ -214,7 +214,7 @@ pub fn a_resting_image_is_free()
 {}
 
 /// Behind any number of restarts behind the image, at the end of the log and wherever an epoch is recovered on the way, what
-/// the scan keeps comes to what the epoch's kept records come to over its base; and there each undo finds its slot as its
+/// the scan keeps comes to what the epoch's kept records come to over its base. There each undo finds its slot as its
 /// transaction left it, in any order of the transactions.
 pub fn undos_find_their_slots_on_the_way()
     ensures written { WritesOnTheWay }

@@ -2,7 +2,7 @@
 --     system_at r limit        its system: no transaction, no lock, no record since
 --     IsRisen r words limit store gs y v       its core: regions with these words, this system, and a vault over this store, which runs
 --     IsAtLog M g r words      the log M, which the rules allow and come to g, has no record in its last epoch; these are its numbers, and these words it
---                              comes to; its end and the number of its image are no greater than its records allow
+--                              comes to. Its end and the number of its image are no greater than its records allow
 --     start_at                 the start of a run over that log
 --     RunBegins                a run begins with this core, where each disk spells files from which it may start, whatever it takes the words, heads and
 --                              syncs of the image files for, which aren't read before a checkpoint

@@ -1,8 +1,8 @@
 -- Where a core stands behind steps of one client, and what they leave of the others.
 --     is_calm x                the step x calls no store, takes no frame, and is none of a checkpoint
 --     is_open o                a row of a transaction that is live or committed
---     Went t own s B p gs hs z v       such steps lead from the point p, with the regions gs, to one where the core stands with these regions and this system,
---                              and the vault as it was; behind the log stand these records; and each transaction but t that is live or committed is left where it was
+--     Went t own s B p gs hs z v       such steps lead from the point p, with the regions gs, to one where the core stands with these regions and this system, and
+--                              the vault as it was. Behind the log stand these records; and each transaction but t that is live or committed is left where it was
 --     CourseGoes               so it is of each list of such steps that leaves no live hold
 --     AreBetween gs y v        some run has come to a point where the core stands, and the rules of its log have each live transaction between two calls
 --     BetweenEach              so each of these may commit

@@ -8,14 +8,14 @@ ghost use Rattle.dali_rounds.specs.Runs.{GoneHasEnded, LiveIsUncommitted, EndedS
 use dali_store::Store;
 
 /// Where a core stands at a point of a run, steps that call no store, take no frame and are none of a checkpoint lead to a
-/// point where it stands again, if they leave no live hold; its image files stay whole, and whoever has no step among them is
+/// point where it stands again, if they leave no live hold. Its image files stay whole, and whoever has no step among them is
 /// left where it was.
 pub fn a_course_goes<V: Store>()
     ensures { CourseGoes V.told V.may_leave V.faults }
 {}
 
 /// So it is of a begin, of a request for a lock, of one operation of a plan, of a death in one, of an answer, and of a whole
-/// call: the plan, or the transaction, stands behind it as its clauses say.
+/// call. The plan, or the transaction, stands behind it as its clauses say.
 pub fn a_call_goes<V: Store>()
     ensures begin { BeginGoes V.told V.may_leave V.faults }
     ensures ask { AskGoes V.told V.may_leave V.faults }

@@ -1,6 +1,7 @@
 -- What numbers, masks and values of a script can be.
 use Rattle.std.proofs.Common.{◌≡◌, ℕ, zero, suc, ◌+◌, ◌-◌, ◌*◌, ◌^◌, ◌<◌, ◌≤◌, Bool, true, false, cond, ◌||◌, List, [], ◌∷◌, length, Option, Some, None, refl, ap, subst, ◌∙◌, arith}
 use Rattle.std.specs.Prelude.{Ok, Err, ok_or, nat_lt, ◌==◌, All}
+use Rattle.std.specs.Char.{digit_value}
 use Rattle.std.proofs.lemmas.Bool.Decides.{nat_tests}
 use Rattle.std.proofs.lemmas.List.Elements.{All-nil, All-cons}
 use Rattle.std.proofs.Math.Nat.{pow-le-pow_right}
@@ -55,19 +56,13 @@ key_fits text n e = small (digits_from 0 text) n (unless ((length text == 0) || 
 
 -- ---- hexadecimal digits
 hex_small : (byte digit : ℕ) → hex_of byte ≡ Some digit → digit < 16
-hex_small byte digit e = by_digit (within 48 57 byte) refl e
+hex_small byte digit e = below (digit_value byte) e
   where
-    by_upper : (b : Bool) → within 65 70 byte ≡ b → cond b (Some (byte - 55)) None ≡ Some digit → digit < 16
-    by_upper true is f = let same : byte - 55 ≡ digit = cc in omega (arith, (between 65 70 byte is).1, same)
-    by_upper false is f = absurd (cc)
-
-    by_lower : (b : Bool) → within 97 102 byte ≡ b → cond b (Some (byte - 87)) (cond (within 65 70 byte) (Some (byte - 55)) None) ≡ Some digit → digit < 16
-    by_lower true is f = let same : byte - 87 ≡ digit = cc in omega (arith, (between 97 102 byte is).1, same)
-    by_lower false is f = by_upper (within 65 70 byte) refl f
-
-    by_digit : (b : Bool) → within 48 57 byte ≡ b → cond b (Some (byte - 48)) (cond (within 97 102 byte) (Some (byte - 87)) (cond (within 65 70 byte) (Some (byte - 55)) None)) ≡ Some digit → digit < 16
-    by_digit true is f = let same : byte - 48 ≡ digit = cc in omega (arith, (between 48 57 byte is).1, same)
-    by_digit false is f = by_lower (within 97 102 byte) refl f
+    below : (n : ℕ) → cond (nat_lt n 16) (Some n) None ≡ Some digit → digit < 16
+    below n f =
+        let so = where_so (nat_lt n 16) (Some n) digit f in
+        let same : n ≡ digit = cc in
+        subst (λ (k : ℕ). k < 16) same (grind (arith, nat_tests, so.0))
 
 hex_bounded : (text : List ℕ) (n i m : ℕ) → n < 2 ^ (4 * i) → hex_from n text ≡ Some m → m < 2 ^ (4 * (i + length text))
 hex_bounded [] n i m below e =

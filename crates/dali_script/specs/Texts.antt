@@ -4,6 +4,7 @@
 --     value_in text      the one to forty bytes that a text stands for
 --     o >>= f            f of what is in o, where something is
 use Rattle.std.specs.Prelude.{ℕ, zero, suc, ◌+◌, ◌-◌, ◌*◌, ◌^◌, Bool, nat_lt, ◌==◌, ◌||◌, not, List, [], ◌∷◌, length, Option, Some, None, if◌then◌else◌}
+use Rattle.std.specs.Char.{digit_value}
 use Rattle.dali_words.specs.Values.{value_of}
 
 infixl 10 ◌>>=◌
@@ -27,7 +28,7 @@ abbrev pub number_of : List ℕ → Option ℕ
 number_of text = if (length text == 0) || nat_lt 20 (length text) then None else digits_from 0 text >>= fits
 
 abbrev pub hex_of : ℕ → Option ℕ
-hex_of byte = if within 48 57 byte then Some (byte - 48) else (if within 97 102 byte then Some (byte - 87) else (if within 65 70 byte then Some (byte - 55) else None))
+hex_of byte = if nat_lt (digit_value byte) 16 then Some (digit_value byte) else None
 
 -- hexadecimal digits behind the number n
 abbrev pub hex_from : ℕ → List ℕ → Option ℕ

@@ -25,9 +25,9 @@
 //!
 //! A transaction goes from `begin` to the next `commit`, `abort` or `end`.
 //!
-//! A number is 1 to 20 decimal digits with a value below 2^64; a mask is 1 to 16 hexadecimal digits of either case, not
-//! 0. A value is 1 to 40 bytes: a byte from 0x21 to 0x7e other than the backslash stands for itself, and a backslash,
-//! `x` and two hexadecimal digits of either case stand for that byte.
+//! A number is 1 to 20 decimal digits with a value below 2^64; a mask is 1 to 16 hexadecimal digits of either case that
+//! aren't all 0. A value is 1 to 40 bytes: a byte from 0x21 to 0x7e other than the backslash stands for itself, and a
+//! backslash, `x` and two hexadecimal digits of either case stand for that byte.
 #![tactic(auto)]
 
 mod commands;

@@ -228,7 +228,7 @@ fn read(alloc: Global, bytes: &[u8]) -> Result<Script, ScriptError>
 /// `BadLine` names the first line that is wrong, from 1 on, and the first test that it fails, in the order of `Kind`.
 /// A script without a command is wrong behind its last line feed, and an unended block at its `client`.
 ///
-/// It takes time in proportion to the bytes, and at most 64 bytes of memory for each.
+/// It takes time in proportion to the bytes, and at most 64 bytes of memory for each; no clause says so.
 pub fn parse(alloc: Global, bytes: &[u8]) -> Result<Script, ScriptError>
     // A script is given only where the bytes spell it, and where they do, unless memory runs out.
     ensures spelled { IfOk result (λ script. IsSpelled bytes.now script) }

@@ -33,12 +33,8 @@ fn hex_digit(byte: u8) -> Option<u8>
     ensures digit { result ≡ hex_of byte }
     ensures small { IfSome result (λ n. n < 16) }
 {
-    match byte {
-        b'0'..=b'9' => Some(byte - b'0'),
-        b'a'..=b'f' => Some(byte - b'a' + 10),
-        b'A'..=b'F' => Some(byte - b'A' + 10),
-        _ => None,
-    }
+    let digit = char::from(byte).to_digit(16)?;
+    Some(digit as u8)
 }
 
 /// One to sixteen hexadecimal digits of either case that spell a number other than 0.

@@ -5,7 +5,8 @@ ghost use Rattle.dali_served.specs.Generates.{GeneratedAreServed, SummariesFollo
 ghost use Rattle.dali_served.specs.Served.{ServedRounds};
 ghost use Rattle.dali_served.specs.Steady.{NoneIsClaimed, OwnIsSteady, LogIsSteady};
 
-/// Of a round of which each line says that all went well, what was committed is what its clients were told.
+/// Of a round of whole transactions behind the format alone, of which each line says that all went well, what was
+/// committed is what its clients were told.
 pub fn a_served_round_made_all()
     ensures { ServedRounds }
 {}
@@ -16,8 +17,8 @@ pub fn a_served_summary_follows()
     ensures { SummariesFollow }
 {}
 
-/// Where no transaction is claimed for a clean-up, a client of which each line tells that a transaction began, that a call
-/// was answered or that the commit is ok made no operation behind what it took back, before it had answered.
+/// Where no transaction is claimed for a clean-up, take a client of which each line tells that a transaction began, that a
+/// call was answered or that the commit is ok. It made no operation behind what it took back, before it had answered.
 pub fn an_answered_client_is_steady()
     ensures { OwnIsSteady }
 {}
@@ -38,8 +39,9 @@ pub fn no_request_gives_way()
     ensures { NoneGivesWay }
 {}
 
-/// Where such a round began with no transaction, with fewer inserts than cells and entries, and neither a latch compares nor
-/// the engine is stopped in the end, each line says that all went well, unless one says that the log is full.
+/// Let such a round have begun behind the format alone with no transaction, with fewer inserts than cells and entries. Let
+/// no latch compare, and the engine not be stopped in the end. Where its log is a history, each line says that all went
+/// well, unless one says that the log is full.
 pub fn a_free_round_is_served()
     ensures { RoundsAreServed }
 {}

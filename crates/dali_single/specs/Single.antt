@@ -1,7 +1,7 @@
 -- A core that one thread has alone, and what a whole call makes of it.
 --     is_end x                 the step x logs the answer of a call, a commit or an end
 --     IsOwnStep precheck t c x         the step x is one of t's: it asks for a lock and is granted it, makes an operation on a region, or logs a record
---                              of t; with precheck an operation that goes on with a call is logged only where the codeword tells no damage
+--                              of t. With precheck an operation that goes on with a call is logged only where the codeword tells no damage
 --     Leads precheck t L c xs M d      these steps of t, none of which is such an end, lead from the log L and the core c to the log M and the core d
 --     OthersStay y t z         each other transaction has the row and the locks that it had
 --     HoldsStay t c d          it has the regions latched that it had

@@ -16,8 +16,8 @@ pub fn the_undos_of_a_run_are_covered()
 {}
 
 /// What a committed transaction may free, and the memory that it is promised for that, stay whatever the calls of another
-/// one do, and so does where the rules of the log have it behind the other's own steps: `commit`, calls and ends of others,
-/// and `settle` may come in this order.
+/// one do, and so does where the rules of the log have it behind the other's own steps. So `commit`, calls and ends of
+/// others, and `settle` may come in this order.
 pub fn a_settling_may_wait()
     ensures settling { SettlingWaits }
     ensures committed { CommittedWaits }

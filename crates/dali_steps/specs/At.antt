@@ -1,8 +1,8 @@
 -- A vault at a point of a run.
 --     IsVault v u              a run says u of the vault v
---     IsAt s B p v             a run from the start s has come to the point p with the vault v; where the store tells what its reads give, each disk
---                              that a crash may leave spells files that came along its steps, and while the vault runs they have the batches B,
---                              and each place that was written since the load reads the words that the run says, in both image files
+--     IsAt s B p v             a run from the start s has come to the point p with the vault v. Where the store tells what its reads give, each disk
+--                              that a crash may leave spells files that came along its steps. While the vault runs they have the batches B, and each
+--                              place that was written since the load reads the words that the run says, in both image files
 --     Goes s p x B w           the step x leads from the point p to one where the vault is w
 use Rattle.std.specs.Prelude.{◌≡◌, ℕ, false, List, Option, IfSome}
 use Rattle.dali_record.specs.declared.records.Record.{Record}

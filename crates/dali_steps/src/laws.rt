@@ -73,7 +73,7 @@ pub fn what_a_crash_leaves_of_a_vault_is_right<V: Store>()
 {}
 
 /// A vault of a run may be asked for a flush and for the anchor's move: its log's end and its current number are below 2^62.
-/// And where a region's flag for a side is clear, the file of that side has its place.
+/// And while it runs, where a region's flag for a side is clear, the file of that side has its place.
 pub fn the_places_of_a_vault_may_be_asked_for<V: Store>()
     ensures small { PlacesAreSmall V.told V.may_leave V.faults }
     ensures stand { PlacesStand V.told V.may_leave V.faults }

@@ -1,7 +1,7 @@
 -- A call, one step at a time, beside other clients: its request, each operation, the death in one, and its answer.
 --     IsNew p                  the plan p has made no operation
---     IsAsked a L c p d        the lock table answered a to the plan p: a lock that is granted is one step, behind which p is where its transaction begins it;
---                              one that must wait changes nothing; a Busy is a step too, and the transaction may call as before
+--     IsAsked a L c p d        the lock table answered a to the plan p: a lock that is granted is one step, behind which p is where its transaction begins it.
+--                              One that must wait changes nothing; a Busy is a step too, and the transaction may call as before
 --     OneFurther precheck p rs y q rs' y'      the next operation of p was made: one region has it, the system has its record, the plan goes on as q
 --     LeadsOnce precheck L c p b d q   steps of the transaction lead there, and the log L has one record more: that of the block b
 --     IsDeath precheck p rs y rs' y'   the client of p died in its next operation: all words of it are written, its region's hold is dead, and the row names it

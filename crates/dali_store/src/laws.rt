@@ -5,8 +5,8 @@ ghost use Rattle.dali_store.specs.Store.{Files};
 
 use crate::Store;
 
-/// A crash at any moment of a run of calls: where each crash since the start leaves files that pass some test,
-/// and after each further call a crash may leave only such files, then each crash since the start still does.
+/// A crash at any moment of a run of calls. Let each crash since the start leave files that pass some test, and let a
+/// crash after each further call leave only such files. Then each crash since the start still does.
 pub fn runs_go_on<V: Store>()
     ensures { (test : Files → Bool) → ARunGoesOn V.moment V.left_since V.may_leave (λ c. IsTrue (test c)) }
 {}

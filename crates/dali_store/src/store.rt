@@ -16,7 +16,7 @@ pub enum FileName {
     ImageA,
     /// The image that the checkpoints of even number write.
     ImageB,
-    /// The anchor: one gate for each completed checkpoint.
+    /// The anchor: one gate for each completed checkpoint or image of a restart.
     Anchor,
 }
 
@@ -43,13 +43,13 @@ pub struct StoreFault;
 
 /// Four files under one clock. A file that was never written has length 0.
 ///
-/// Between two syncs of a file each written range, and the part past the old end, may hold any bytes after a crash;
-/// the length is anything from the one at the last sync to the present one; all other bytes stay. A write that
-/// fails counts as written in any part. After a sync that succeeds, a crash leaves what reads give.
+/// Between two syncs of a file each written range, and the part past the old end, may hold any bytes after a crash. The
+/// length is anything from the one at the last sync to the present one. All other bytes stay. A write that fails counts
+/// as written in any part. After a sync that succeeds, a crash leaves what reads give.
 ///
-/// A store tells what its reads give, as one in memory does, or it doesn't, as one over real files. Every call,
-/// one that fails among them, leaves this as it is. What is said of a crash is of use only where a store tells what
-/// its reads give: a store that doesn't tell names all files as what a crash may leave, so that a caller learns nothing
+/// A store tells what its reads give, as one in memory does, or it doesn't, as one over real files. Every call, one
+/// that fails among them, leaves this as it is. What is said of a crash is of use only where a store tells what its
+/// reads give: a store that doesn't tell may name all files as what a crash may leave, so that a caller learns nothing
 /// of it. That real files behave like a store that tells them is trusted.
 ///
 /// A call answers Ok exactly where the count of faults stayed, and an error where it rose (or stands at its type's
@@ -57,7 +57,7 @@ pub struct StoreFault;
 ///
 /// A store may count the calls that it still makes before it fails each, as a fuse does. Each call takes one off the
 /// count, which stands still at 0. Where it stood above four, a clause that four are fewer says that just four calls
-/// were made, and one of at most four that no more were made; else, and of a store that counts nothing, neither says
+/// were made, and one of at most four that no more were made. Else, and of a store that counts nothing, neither says
 /// how many.
 pub trait Store {
     /// What reads of the four files give, where the store tells it.

@@ -1,9 +1,9 @@
 -- A whole core: what its regions and its table say of each other.
 --     latched_in o             the region that the row names as still latched, if there is one
 --     AreOfKind s us           each of these undos is on a region of its kind
---     IsWhole c                the core has the regions of its system's sizes; each undo of the table is on a region of its kind; each dead hold
---                              is on the region that its transaction's row names; the region that the row of a dead transaction names has
---                              its dead hold; and each hold that isn't dead is of a transaction that is alive
+--     IsWhole c                the core has the regions of its system's sizes; each undo of the table is on a region of its kind. Each dead hold
+--                              is on the region that its transaction's row names, and the region that the row of a dead transaction names has
+--                              its dead hold. Each hold that isn't dead is of a transaction that is alive
 --     WholeKeeps, WholeCourseKeeps   each step, and each list of steps, keeps it so
 --     LoadIsWhole              a core that was just made is whole
 --     owner_of x               whose record it is: a solo is its parent's

@@ -45,10 +45,10 @@ pub fn move_anchor<V: Store>(store: &mut V, number: u64) -> Result<(), StoreFaul
     Ok(())
 }
 
-/// The same as a step. Where each disk that a crash may leave spells files that came along steps to a point, with this
-/// number as its current one, and holds the next image as the point says: after Ok they have come along the anchor's
-/// move too; after a fault, along the fault; and at each moment of the call a crash leaves files that restart right. All
-/// this holds of a store that tells what its reads give.
+/// The same as a step. Let each disk that a crash may leave spell files that came along steps to a point, with this
+/// number as its current one, and hold the next image as the point says. After Ok they have come along the anchor's move
+/// too; after a fault, along the fault. At each moment of the call a crash leaves files that restart right. All this
+/// holds of a store that tells what its reads give.
 pub fn turn<V: Store>(store: &mut V, number: u64) -> Result<(), StoreFault>
     requires small { number < 2 ^ 62 }
     requires anchored { IfSome (V.told store.old) (λ _. AreAnchored (V.may_leave store.old) number) }

@@ -9,10 +9,10 @@ ghost use Rattle.dali_traces.specs.Bridges.{GoesOnBy, StopsBy, IsRightIn};
 use dali_batch::Frame;
 use dali_store::{Store, StoreFault};
 
-/// Flushes a frame at the end of the log. Where each disk that a crash may leave spells files that came along steps to
-/// a point, the log ends where its vault says, and the frame has the records that were taken there to be flushed: after
-/// Ok, they have come along the flush too; after a fault, along the fault; and at each moment of the call a crash leaves
-/// files that restart right. All this holds of a store that tells what its reads give.
+/// Flushes a frame at the end of the log. Let each disk that a crash may leave spell files that came along steps to a
+/// point. Let the log end where its vault says, and the frame have the records that were taken there to be flushed.
+/// After Ok they have come along the flush too; after a fault, along the fault. At each moment of the call a crash
+/// leaves files that restart right. All this holds of a store that tells what its reads give.
 pub fn flush<V: Store>(store: &mut V, at: u64, frame: &Frame) -> Result<u64, StoreFault>
     requires small { at < 2 ^ 62 }
     requires closed { IfSome (V.told store.old) (λ _. (c : Files) → V.may_leave store.old c → IsClosedAt at c.log) }

@@ -38,7 +38,7 @@ pub fn a_disk_has_one_reading()
 {}
 
 /// Where each disk that a crash may leave of a store spells files that came along steps, each spells files that have the
-/// flushed records, fit their log and restart right; and where the store tells what reads give, this spells such files.
+/// flushed records, fit their log and restart right. Where the store tells what reads give, this spells such files.
 pub fn what_a_store_leaves_is_right<V: Store>()
     ensures each { (v : V) → AreRight (V.may_leave v) }
     ensures some { (v : V) → IsRightNow (V.told v) (V.may_leave v) }
@@ -94,9 +94,9 @@ pub fn what_a_store_leaves_goes_on_in_a_checkpoint<V: Store>()
     ensures turn_fault { (v w : V) → TurnFaultGoesOn (V.may_leave v) (V.may_leave w) }
 {}
 
-/// A file whose header, places and table read so spells an image; a region's words written in its place are read there,
-/// and all else as before, wherever the file ended; and a header and a table written in their places are read there, and
-/// each region as before.
+/// A file whose header, places and table read so spells an image, where it fits its fields. A region's words written in
+/// its place are read there, and all else as before, unless the file ended before that place. A header and a table
+/// written in their places, in a file that reaches them, are read there, and each region as before.
 pub fn images_are_read_by_places()
     ensures image { ImageIsRead }
     ensures write { WriteIsRead }
@@ -104,8 +104,8 @@ pub fn images_are_read_by_places()
 {}
 
 /// The head that a checkpoint or a restart keeps of a legal log fits the fields of an image: its numbers, its rows in
-/// order and in range, and their undos; and so it does as long as a checkpoint keeps it. Only the bounds of its own
-/// number and place, and of the words, are asked for; and once each region has a copy, none of them.
+/// order and in range, and their undos. So it does as long as a checkpoint keeps it. Only the bounds of its own number
+/// and place, and of the words, are asked for; and once each region has a copy, none of them.
 pub fn a_kept_head_fits_its_fields()
     ensures fits { HeadsFit }
     ensures kept { KeptFits }
@@ -113,8 +113,8 @@ pub fn a_kept_head_fits_its_fields()
     ensures next { NextFits }
 {}
 
-/// An image file of any length, an empty one too, is written in order, its header first, then its regions, and its table
-/// last: no write begins behind the file's end, and all of it is read as it was written.
+/// Let an image file of any length, an empty one too, be written in order, its header first, then its regions, and its
+/// table last. Then no write begins behind the file's end, and all of it is read as it was written.
 pub fn a_new_image_is_written_in_order()
     ensures { OrderedIsRead }
 {}
@@ -126,8 +126,8 @@ pub fn the_next_image_is_read_as_the_point_says()
 {}
 
 /// Behind a sync of that file each disk that a crash may leave holds the head and the words that reads give of it, where
-/// they fit their fields; and it goes on to hold them behind every other step that leaves the file in each disk, up to
-/// the anchor's move.
+/// they fit their fields. It goes on to hold them behind every other step that leaves the file in each disk, up to the
+/// anchor's move.
 pub fn a_synced_image_is_held<V: Store>()
     ensures sync { (v : V) → SyncHolds (V.may_leave v) }
     ensures goes_on { (v w : V) → HeldGoesOn (V.may_leave v) (V.may_leave w) }
@@ -142,8 +142,9 @@ pub fn a_log_ends_below_its_limit<V: Store>()
     ensures framed { LogIsFramed }
 {}
 
-/// Files go on to be spelled whatever is written to the file of the image that the anchor doesn't name; with more batches
-/// where the log has them; and with that other image, where the anchor has one gate more and the file spells it.
+/// Files go on to be spelled whatever is written to the file of the image that the anchor doesn't name. So they do with
+/// more batches, where the log has them, and with that other image, where the anchor has one gate more and the file
+/// spells it.
 pub fn a_disk_is_read_behind_a_change()
     ensures other { SpellsBeside }
     ensures log { SpellsLonger }

@@ -2,15 +2,16 @@
 ghost use Rattle.dali_undos.specs.AsLeft.{OneBlockLeaves, KeptUndosFind, OwnUndosFind, BacksFind, EpochUndosFind, EpochMomentsFind, EpochBacksFind, RestartUndosFind};
 ghost use Rattle.dali_undos.specs.Worked.{EntryIsAsLeft, ChangeIsAsLeft};
 
-/// At each moment, in whatever order the transactions without a Commit are taken back, each undo finds its slot
-/// as the block that left it made it: state, key, length and value of a cell, state, key and place of an entry.
+/// At each moment of a row of kept records, in whatever order the transactions without a Commit are taken back, each
+/// undo finds its slot as the block that left it made it. That is state, key, length and value of a cell, and state,
+/// key and place of an entry.
 pub fn an_undo_finds_its_slot_as_it_was_left()
     ensures any_order { KeptUndosFind }
     ensures by_itself { OwnUndosFind }
     ensures one_block { OneBlockLeaves }
 {}
 
-/// Each logged block that took an undo back found the slot so.
+/// Each block among these that took an undo back found the slot so.
 pub fn a_taking_back_found_its_slot_as_it_was_left()
     ensures { BacksFind }
 {}

@@ -97,14 +97,14 @@ impl<V: Store> Vault<V> {
         self.flushed
     }
 
-    /// The number of the current image: how often a checkpoint moved the anchor.
+    /// The number of the current image: how often a checkpoint or a restart moved the anchor.
     pub fn current(&self) -> u64
         ensures { result ≡ self.now.current }
     {
         self.current
     }
 
-    /// Whether a call of the store has failed.
+    /// Whether it has stopped: a flush, a write or a sync of an image, or a move of the anchor met a fault.
     pub fn stopped(&self) -> bool
         ensures { result ≡ self.now.stopped }
     {

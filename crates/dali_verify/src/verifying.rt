@@ -16,9 +16,9 @@ use dali_store::Store;
 use dali_whole::Core;
 use std::alloc::Global;
 
-/// Whether the engine's memory is what a plain replay of its whole log comes to, records that wait to be flushed among them: each
-/// call that a surviving transaction logged gives its logged answer there, the words of the regions store just the records that
-/// are left then, and the deleted lists of all restarts, one behind the other, are the transactions that the log deletes,
+/// Whether the engine's memory is what a plain replay of its whole log comes to, records that wait to be flushed among them. Each
+/// call that a surviving transaction logged gives its logged answer there, and the words of the regions store just the records
+/// that are left then. The deleted lists of all restarts, one behind the other, are the transactions that the log deletes,
 /// ascending. The store is only read, and the engine stays as it was.
 ///
 /// The log is read from its first byte. Batches and records are tested, and that the first batch holds the one record Format;

@@ -66,14 +66,13 @@ fn clean_up<V: Store>(
     dali_clean::clean(regions, system, txn)
 }
 
-/// Cleans up a transaction whose client died, and leaves the vault: `dali_clean::clean` over the regions and the system,
-/// where these have what it asks, as a whole core without a live hold does; it looks at each region for that. `NotDead` exactly
-/// where the transaction isn't dead, and then nothing changes. `Stopped` exactly where it is and the engine is stopped, with
-/// that cause, else `OutOfMemory` where memory for a record is refused: then the transaction is dead again, the core is whole
-/// again, and the clean-up may be asked for again. Where regions and system haven't what it asks, it is refused as where
-/// memory is wanting, and nothing changes.
-/// Every other transaction keeps its row, its locks and the memory that it was promised; a dead one whose region was in the way
-/// has it latched no more.
+/// Cleans up a transaction whose client died, and leaves the vault: `dali_clean::clean` over the regions and the system, where
+/// these have what it asks, as a whole core without a live hold does; it looks at each region for that. `NotDead` exactly where
+/// the transaction isn't dead, and then nothing changes. `Stopped` exactly where it is and the engine is stopped, with that
+/// cause, else `OutOfMemory` where memory for a record is refused. Behind either the transaction is dead again, the core is
+/// whole again, and the clean-up may be asked for again. Where regions and system haven't what it asks, it is refused as where
+/// memory is wanting, and nothing changes. Every other transaction keeps its row, its locks and the memory that it was
+/// promised; a dead one whose region was in the way has it latched no more.
 pub fn clean<V: Store>(core: &mut Core<V>, txn: u64) -> Result<(), CleanError>
     ensures ok { OnOk result (Ends core.old.regions.items core.old.system.state txn core.new.regions.items core.new.system.state) }
     ensures goes { OnOk result (EndsAt V.told V.may_leave V.faults core.old.regions.items core.old.system.state core.old.vault txn core.new.regions.items core.new.system.state) }

@@ -10,8 +10,8 @@ pub fn a_flushed_commit_is_in_each_crash_image<V: Store>()
     ensures { CommittedStands V.told V.may_leave V.faults }
 {}
 
-/// Where a core stands at a point of a run, each disk that a crash inside `flush` leaves spells files that restart right:
-/// they have what was flushed before, and maybe the records that are flushed now.
+/// Where a core stands at a point of a run, and its vault runs, each disk that a crash inside `flush` leaves spells files
+/// that restart right. They have what was flushed before, and maybe the records that are flushed now.
 pub fn a_crash_inside_a_flush_is_right<V: Store>()
     ensures { FlushIsRight V.told V.may_leave V.faults }
 {}

@@ -1,4 +1,5 @@
-//! What no clause says: that a core is flushed with ample memory, and what is left where each call of the store fails.
+//! What no clause says: that a core is flushed with ample memory, what is left where each call of the store fails, and
+//! that a core and its parts may be given to a thread.
 ghost use Rattle.std.specs.Prelude.{◌≡◌, ◌<◌, true, length};
 ghost use Rattle.std.specs.List.{list_all};
 ghost use Rattle.dali_system.specs.Wholes.{is_of_kind, latched_in};
@@ -131,6 +132,35 @@ fn a_fault_stops_vault_and_system(rt: HostRuntime) -> Result<(), Fail> {
             Some((first, second, told, there))
         );
     }
+    Ok(())
+}
+
+fn sent<T: Send>(value: T) -> T
+    ensures { result ≡ value }
+{
+    value
+}
+
+// Threads may be given a core, and its regions, its system and its vault, whatever store it has that may be given itself.
+fn crosses_threads<V: Store + Send>(core: Core<V>) -> Core<V>
+    ensures { result ≡ core }
+{
+    let Core {
+        regions,
+        system,
+        vault,
+    } = sent(core);
+    Core {
+        regions: sent(regions),
+        system: sent(system),
+        vault: sent(vault),
+    }
+}
+
+#[test]
+fn a_core_may_be_given_to_a_thread(rt: HostRuntime) -> Result<(), Fail> {
+    let core = crosses_threads(begun(rt.alloc(), 50).ok_or("no core")?);
+    assert_eq!(rt; seen(&core), (None, false, 0, 9, 15));
     Ok(())
 }
 
